@@ -1,0 +1,168 @@
+-- What scan finds is what is read, and the other way round.
+use Rattle.std.proofs.Common.{◌≡◌, ℕ, zero, suc, ◌+◌, ◌-◌, ◌<◌, inl, inr, Bool, true, false, cond, ◌==◌, nat_lt, max, ◌&&◌, List, [], ◌∷◌, length, take, drop, Some, Result, Ok, refl, sym, ap, ◌∙◌, subst, arith}
+use Rattle.std.proofs.lemmas.Option.{none-some, same_Some}
+use Rattle.std.proofs.lemmas.Bool.{cond-false, false_from_ne_true}
+use Rattle.graphql_lexical.specs.Characters.{is_digit, is_line_end}
+use Rattle.graphql_lexical.specs.Kinds.{Kind, Name, Float, Int, EndOfFile, LexicalError, UnexpectedCharacter, UnterminatedString, UnknownCharacterInString, UnknownEscapeSequence}
+use Rattle.graphql_lexical.specs.Tokens.{Spells, Starts, IsZero, text_of}
+use Rattle.graphql_lexical.specs.Reading.{counted, Longest, BeginsWithDigit, ReadsToken, Reads}
+use Rattle.graphql_lexical.specs.Scan.{State, Start, Done, Dot, Dots, InName, Minus, Zero, Digits, Point, Fraction, Mark, Sign, Exponent, Units, Backslash, Hex0, Hex1, HexD, Hex2, Hex3, step, reach, Found, Missed, found, missed, stopped, after_zero, after_dots, after_units, after_backslash, after_u, answer, scan}
+use Rattle.graphql_lexical.proofs.Runs.{Reaches, reach_is, Longest_same}
+use Rattle.graphql_lexical.proofs.History.{IsRead, read_run}
+use Rattle.graphql_lexical.proofs.Spelled.{Goes, accepts, accepts_spells, spells_run, starts_from, starts_run}
+
+abbrev pub Reached : List ℕ → ℕ → State → Type 0
+Reached rest n q = Reaches step Start rest n q
+
+pub reached : (rest : List ℕ) → Reached rest (reach step Start rest).0 (reach step Start rest).1
+reached rest = reach_is step Start rest
+
+-- the longest front that begins a token is how far the steps go
+pub starts_longest : (rest : List ℕ) (n : ℕ) (q : State) → Reached rest n q → Longest Starts rest n
+starts_longest rest n q h = record {
+  within = h.within;
+  holds = starts_from (take n rest) q h.runs;
+  most = λ m l x. let r = starts_run (take m rest) x in h.most m r.0 l r.1;
+}
+
+pub front_read : (rest : List ℕ) (n : ℕ) (q : State) → Reached rest n q → IsRead q (take n rest)
+front_read rest n q h = read_run Start [] (take n rest) q refl h.runs
+
+pub same_state : (t : List ℕ) (p q : State) → Goes Start t p → Goes Start t q → p ≡ q
+same_state t p q a b = same_Some p q (sym a ∙ b)
+
+-- what spells a token has led to a state that is this token
+pub spells_accepts : (t : List ℕ) (q : State) (kind : Kind) → Goes Start t q → Spells t kind → accepts q ≡ Some kind
+spells_accepts t q kind e s =
+    let r = spells_run t kind s in
+    ap accepts (same_state t q r.state e r.runs) ∙ r.accepted
+
+pub zero_state : (t : List ℕ) (q : State) → Goes Start t q → IsZero t → q ≡ Zero
+zero_state t q e (inl z) = same_state t q Zero e (rw z)
+zero_state t q e (inr z) = same_state t q Zero e (rw z)
+
+-- ---- what an answer that finds says
+
+pub record Finds (q : State) (n : ℕ) (rest : List ℕ) (f : Found) : Type 0 where
+  pub accepted : accepts q ≡ Some f.kind
+  pub size_is : n ≡ f.size
+  pub text_is : f.text ≡ text_of f.kind (take n rest)
+  pub alone : q ≡ Zero → BeginsWithDigit (drop n rest) → ⊥
+
+same_Ok : (x y : Found) → ◌≡◌ {A = Result Found Missed} (Ok x) (Ok y) → x ≡ y
+same_Ok x y e = cc
+
+found_finds : (q : State) (n : ℕ) (kind : Kind) (rest : List ℕ) (f : Found) → accepts q ≡ Some kind → (q ≡ Zero → BeginsWithDigit (drop n rest) → ⊥) → found n kind rest ≡ Ok f → Finds q n rest f
+found_finds q n kind rest f a z e =
+    let d = same_Ok (record { size = n; kind = kind; text = text_of kind (take n rest) }) f e in
+    subst (λ (x : Found). Finds q n rest x) d (record { accepted = a; size_is = refl; text_is = refl; alone = z })
+
+pub not_Ok : (n : ℕ) (e : LexicalError) (f : Found) → missed n e ≡ Ok f → ⊥
+not_Ok n e f h = cc
+
+stopped_not : (n : ℕ) (b : List ℕ) (f : Found) → stopped n b ≡ Ok f → ⊥
+stopped_not n [] f e = cc
+stopped_not n (c ∷ b) f e = cc
+
+dots_not : (n : ℕ) (b : List ℕ) (f : Found) → after_dots n b ≡ Ok f → ⊥
+dots_not n [] f e = cc
+dots_not n (c ∷ b) f e = cc
+
+cond_not : (b : Bool) (x y : Result Found Missed) (f : Found) → (x ≡ Ok f → ⊥) → (y ≡ Ok f → ⊥) → cond b x y ≡ Ok f → ⊥
+cond_not true x y f g h e = g e
+cond_not false x y f g h e = h e
+
+units_not : (n : ℕ) (b : List ℕ) (f : Found) → after_units n b ≡ Ok f → ⊥
+units_not n [] f e = cc
+units_not n (c ∷ b) f e = cond_not (is_line_end c) (missed n UnterminatedString) (missed n (UnknownCharacterInString c)) f (not_Ok n UnterminatedString f) (not_Ok n (UnknownCharacterInString c) f) e
+
+backslash_not : (n : ℕ) (b : List ℕ) (f : Found) → after_backslash n b ≡ Ok f → ⊥
+backslash_not n [] f e = cc
+backslash_not n (c ∷ b) f e = cc
+
+u_not : (n : ℕ) (b : List ℕ) (f : Found) → after_u n b ≡ Ok f → ⊥
+u_not n b f e = cond_not (nat_lt (counted b) 4 && counted b == length b) (missed (suc n + length b) UnterminatedString) (missed n (UnknownEscapeSequence (92 ∷ 117 ∷ take (max 1 (counted b)) b))) f (not_Ok _ _ f) (not_Ok _ _ f) e
+
+cond_zero : (b : Bool) (x y : Result Found Missed) (f : Found) → (x ≡ Ok f → ⊥) → cond b x y ≡ Ok f → (b ≡ false) × (y ≡ Ok f)
+cond_zero true x y f g e = absurd (g e)
+cond_zero false x y f g e = (refl, e)
+
+zero_finds : (n : ℕ) (rest b : List ℕ) (f : Found) → after_zero n rest b ≡ Ok f → (found n Int rest ≡ Ok f) × (BeginsWithDigit b → ⊥)
+zero_finds n rest [] f e = (e, λ d. d)
+zero_finds n rest (c ∷ b) f e =
+    let h = cond_zero (is_digit c) (missed n (UnexpectedCharacter c)) (found n Int rest) f (not_Ok n (UnexpectedCharacter c) f) e in
+    (h.1, λ d. let g = sym d ∙ h.0 in absurd cc)
+
+pub answer_finds : (q : State) (n c : ℕ) (cs : List ℕ) (f : Found) → answer q n (c ∷ cs) ≡ Ok f → Finds q n (c ∷ cs) f
+answer_finds Start n c cs f e = absurd (not_Ok _ _ f e)
+answer_finds (Done kind) n c cs f e = found_finds (Done kind) n kind (c ∷ cs) f refl (λ z. absurd cc) e
+answer_finds Dot n c cs f e = absurd (dots_not _ _ f e)
+answer_finds Dots n c cs f e = absurd (dots_not _ _ f e)
+answer_finds InName n c cs f e = found_finds InName n Name (c ∷ cs) f refl (λ z. absurd cc) e
+answer_finds Minus n c cs f e = absurd (stopped_not _ _ f e)
+answer_finds Zero n c cs f e = let h = zero_finds n (c ∷ cs) (drop n (c ∷ cs)) f e in found_finds Zero n Int (c ∷ cs) f refl (λ z. h.1) h.0
+answer_finds Digits n c cs f e = found_finds Digits n Int (c ∷ cs) f refl (λ z. absurd cc) e
+answer_finds Point n c cs f e = absurd (stopped_not _ _ f e)
+answer_finds Fraction n c cs f e = found_finds Fraction n Float (c ∷ cs) f refl (λ z. absurd cc) e
+answer_finds Mark n c cs f e = absurd (stopped_not _ _ f e)
+answer_finds Sign n c cs f e = absurd (stopped_not _ _ f e)
+answer_finds Exponent n c cs f e = found_finds Exponent n Float (c ∷ cs) f refl (λ z. absurd cc) e
+answer_finds Units n c cs f e = absurd (units_not n (drop n (c ∷ cs)) f e)
+answer_finds Backslash n c cs f e = absurd (backslash_not _ _ f e)
+answer_finds Hex0 n c cs f e = absurd (u_not (n - 1) (drop (n - 0) (c ∷ cs)) f e)
+answer_finds Hex1 n c cs f e = absurd (u_not (n - 2) (drop (n - 1) (c ∷ cs)) f e)
+answer_finds HexD n c cs f e = absurd (u_not (n - 2) (drop (n - 1) (c ∷ cs)) f e)
+answer_finds Hex2 n c cs f e = absurd (u_not (n - 3) (drop (n - 2) (c ∷ cs)) f e)
+answer_finds Hex3 n c cs f e = absurd (u_not (n - 4) (drop (n - 3) (c ∷ cs)) f e)
+
+-- ---- what is accepted is answered
+
+zero_found : (n : ℕ) (rest b : List ℕ) → (BeginsWithDigit b → ⊥) → after_zero n rest b ≡ found n Int rest
+zero_found n rest [] h = refl
+zero_found n rest (c ∷ b) h = cond-false (is_digit c) _ _ (false_from_ne_true (is_digit c) h)
+
+pub accepts_answer : (q : State) (n : ℕ) (rest : List ℕ) (kind : Kind) → accepts q ≡ Some kind → (q ≡ Zero → BeginsWithDigit (drop n rest) → ⊥) → answer q n rest ≡ found n kind rest
+accepts_answer (Done k) n rest kind e z = ap (λ (x : Kind). found n x rest) (same_Some k kind e)
+accepts_answer InName n rest kind e z = ap (λ (x : Kind). found n x rest) (same_Some Name kind e)
+accepts_answer Zero n rest kind e z = zero_found n rest (drop n rest) (z refl) ∙ ap (λ (x : Kind). found n x rest) (same_Some Int kind e)
+accepts_answer Digits n rest kind e z = ap (λ (x : Kind). found n x rest) (same_Some Int kind e)
+accepts_answer Fraction n rest kind e z = ap (λ (x : Kind). found n x rest) (same_Some Float kind e)
+accepts_answer Exponent n rest kind e z = ap (λ (x : Kind). found n x rest) (same_Some Float kind e)
+accepts_answer _ n rest kind e z = absurd (none-some kind e)
+
+-- ---- both ways
+
+some_read : (rest : List ℕ) (n : ℕ) (q : State) (kind : Kind) → Reached rest n q → accepts q ≡ Some kind → 0 < n
+some_read rest zero q kind h a = let e = same_Some Start q h.runs in absurd (none-some kind (ap accepts e ∙ a))
+some_read rest (suc n) q kind h a = omega arith
+
+finds_reads : (rest : List ℕ) (n : ℕ) (q : State) (f : Found) → Reached rest n q → Finds q n rest f → ReadsToken rest f.size f.kind f.text
+finds_reads rest n q f h g =
+    subst (λ (k : ℕ). ReadsToken rest k f.kind f.text) g.size_is (record {
+      longest = starts_longest rest n q h;
+      some = some_read rest n q f.kind h g.accepted;
+      spells = accepts_spells q f.kind (take n rest) g.accepted (front_read rest n q h);
+      text_is = g.text_is;
+      alone = λ z. g.alone (zero_state (take n rest) q h.runs z);
+    })
+
+pub scan_reads : (rest : List ℕ) (f : Found) → scan rest ≡ Ok f → Reads rest f.size f.kind f.text
+scan_reads [] f e =
+    subst (λ (x : Found). Reads [] x.size x.kind x.text) (same_Ok (record { size = 0; kind = EndOfFile; text = [] }) f e) (refl, refl, refl)
+scan_reads (c ∷ cs) f e =
+    let r = reach step Start (c ∷ cs) in
+    finds_reads (c ∷ cs) r.0 r.1 f (reached (c ∷ cs)) (answer_finds r.1 r.0 c cs f e)
+
+reads_answer : (rest : List ℕ) (m n : ℕ) (q : State) (kind : Kind) (text : List ℕ) → ReadsToken rest n kind text → Reached rest m q → answer q m rest ≡ Ok (record { size = n; kind = kind; text = text })
+reads_answer rest m n q kind text r h =
+    let same : n ≡ m = Longest_same Starts rest n m r.longest (starts_longest rest m q h) in
+    let spelled : Spells (take m rest) kind = subst (λ (k : ℕ). Spells (take k rest) kind) same r.spells in
+    let a = spells_accepts (take m rest) q kind h.runs spelled in
+    let alone : q ≡ Zero → BeginsWithDigit (drop m rest) → ⊥ = λ z. subst (λ (k : ℕ). IsZero (take k rest) → BeginsWithDigit (drop k rest) → ⊥) same r.alone (subst (λ (x : State). IsRead x (take m rest)) z (front_read rest m q h)) in
+    accepts_answer q m rest kind a alone ∙ rw (r.text_is, ← same)
+
+pub reads_scan : (rest : List ℕ) (n : ℕ) (kind : Kind) (text : List ℕ) → Reads rest n kind text → scan rest ≡ Ok (record { size = n; kind = kind; text = text })
+reads_scan [] n kind text r = rw (r.0, r.1, r.2)
+reads_scan (c ∷ cs) n kind text r =
+    let x = reach step Start (c ∷ cs) in
+    reads_answer (c ∷ cs) x.0 n x.1 kind text r (reached (c ∷ cs))

@@ -1,0 +1,198 @@
+-- What the tables say is what scan misses.
+use Rattle.std.proofs.Common.{◌≡◌, ℕ, zero, suc, ◌+◌, ◌<◌, ◌≤◌, ◌⊎◌, inl, inr, Bool, true, false, eqb, not, ◌&&◌, List, [], ◌∷◌, ◌++◌, length, take, drop, Option, Some, None, Result, IsTrue, IsFalse, refl, sym, ap, ap₂, ◌∙◌, subst, arith, take-append-drop}
+use Rattle.std.proofs.lemmas.List.{length-take-le}
+use Rattle.std.proofs.lemmas.Bool.{cond-true, cond-false, ne_eqb}
+use Rattle.std.proofs.lemmas.Bool.Decides.{nat_tests}
+use Rattle.std.proofs.lemmas.Option.{none-some}
+use Rattle.graphql_lexical.specs.Characters.{is_digit, is_nonzero_digit, is_line_end, is_source, is_plain, is_escape}
+use Rattle.graphql_lexical.specs.Kinds.{Kind, Name, Float, Int, LexicalError, UnexpectedCharacter, UnterminatedString, UnknownEscapeSequence}
+use Rattle.graphql_lexical.specs.Tokens.{Starts, IsZero, IsNumber, StartsNumber, AreUnits}
+use Rattle.graphql_lexical.specs.Reading.{Longest, counted, BeginsNumber, StringFails, at_end, at_line_end, at_control, lone_backslash, wrong_escape, short_unicode, wrong_unicode, no_unicode, Fails, number_ends, number_stops, zero_goes_on, string_fails, dot_ends, dots_end, dot_stops, dots_stop, unknown}
+use Rattle.graphql_lexical.specs.Scan.{State, Start, Done, Dot, Dots, InName, Minus, Zero, Digits, Point, Fraction, Mark, Sign, Exponent, Units, Backslash, Hex0, Hex1, HexD, Hex2, Hex3, step, reach, onward, Found, Missed, missed, stopped, after_zero, after_units, after_backslash, after_u, answer, scan}
+use Rattle.graphql_lexical.proofs.Runs.{reach_on, Longest_same}
+use Rattle.graphql_lexical.proofs.History.{IsRead, IsOpen}
+use Rattle.graphql_lexical.proofs.Spelled.{Goes, accepts, accepts_spells, starts_from, units_run}
+use Rattle.graphql_lexical.proofs.Readings.{Reached, reached, starts_longest, front_read, zero_state}
+use Rattle.graphql_lexical.proofs.Units.{NoUnit, longest_no_unit, no_unit_scalar}
+use Rattle.graphql_lexical.proofs.NumberFronts.{not_number, longest_number, spells_number}
+use Rattle.graphql_lexical.proofs.Escapes.{u_short, u_wrong, u_none}
+use Rattle.graphql_lexical.proofs.HexPlaces.{further, hex_place, hex_answer}
+
+-- ---- numbers
+
+digit_starts : (c : ℕ) → IsTrue (is_digit c) → (b : Bool) → is_nonzero_digit c ≡ b → Starts (c ∷ [])
+digit_starts c d true e = ([], Int, inr (inl (c, [], refl, e, tt)))
+digit_starts c d false e = let z = zero_is c d e in ([], Int, inl (inl (ap (λ (x : ℕ). x ∷ []) z)))
+  where
+    zero_is : (c : ℕ) → IsTrue (is_digit c) → is_nonzero_digit c ≡ false → c ≡ 48
+    zero_is c d e = grind (arith, nat_tests)
+
+number_begins : (rest : List ℕ) (m : ℕ) → BeginsNumber rest → Longest Starts rest m → BeginsNumber (take m rest)
+number_begins [] m b l = absurd b
+number_begins (c ∷ cs) m b l = with_one m (l.most 1 (omega arith) (one b))
+  where
+    one : (c ≡ 45) ⊎ IsTrue (is_digit c) → Starts (c ∷ [])
+    one (inl e) = (48 ∷ [], Int, inl (inr (ap (λ (x : ℕ). x ∷ 48 ∷ []) e)))
+    one (inr d) = digit_starts c d (is_nonzero_digit c) refl
+
+    with_one : (m : ℕ) → 1 ≤ m → BeginsNumber (take m (c ∷ cs))
+    with_one zero h = absurd (omega arith)
+    with_one (suc m) h = b
+
+open_no_number : (tail t : List ℕ) → IsOpen tail t → BeginsNumber t → ⊥
+open_no_number tail t o b = not_number 34 (o.units ++ tail) t refl o.text_is b
+
+number_answer : (q : State) (m : ℕ) (rest : List ℕ) → IsRead q (take m rest) → BeginsNumber (take m rest) → accepts q ≡ None → answer q m rest ≡ stopped m (drop m rest)
+number_answer Start m rest r b a = absurd (subst BeginsNumber r b)
+number_answer (Done k) m rest r b a = absurd (none-some k (sym a))
+number_answer Dot m rest r b a = absurd (not_number 46 [] (take m rest) refl r b)
+number_answer Dots m rest r b a = absurd (not_number 46 (46 ∷ []) (take m rest) refl r b)
+number_answer InName m rest r b a = absurd (none-some Name (sym a))
+number_answer Minus m rest r b a = refl
+number_answer Zero m rest r b a = absurd (none-some Int (sym a))
+number_answer Digits m rest r b a = absurd (none-some Int (sym a))
+number_answer Point m rest r b a = refl
+number_answer Fraction m rest r b a = absurd (none-some Float (sym a))
+number_answer Mark m rest r b a = refl
+number_answer Sign m rest r b a = refl
+number_answer Exponent m rest r b a = absurd (none-some Float (sym a))
+number_answer Units m rest r b a = absurd (open_no_number [] (take m rest) r b)
+number_answer Backslash m rest r b a = absurd (open_no_number (92 ∷ []) (take m rest) r b)
+number_answer Hex0 m rest r b a = absurd (open_no_number (92 ∷ 117 ∷ []) (take m rest) r b)
+number_answer Hex1 m rest r b a = absurd (open_no_number (92 ∷ 117 ∷ r.0 ∷ []) (take m rest) r.3 b)
+number_answer HexD m rest r b a = absurd (open_no_number (92 ∷ 117 ∷ r.0 ∷ []) (take m rest) r.2 b)
+number_answer Hex2 m rest r b a = absurd (open_no_number (92 ∷ 117 ∷ r.0 ∷ r.1 ∷ []) (take m rest) r.3 b)
+number_answer Hex3 m rest r b a = absurd (open_no_number (92 ∷ 117 ∷ r.0 ∷ r.1 ∷ r.2 ∷ []) (take m rest) r.5 b)
+
+accepts_not : (o : Option Kind) → ((k : Kind) → o ≡ Some k → ⊥) → o ≡ None
+accepts_not None n = refl
+accepts_not (Some k) n = absurd (n k refl)
+
+number_stopped : (rest : List ℕ) (n m : ℕ) (q : State) → Reached rest m q → BeginsNumber rest → Longest StartsNumber rest n → (IsNumber (take n rest) → ⊥) → answer q m rest ≡ stopped n (drop n rest)
+number_stopped rest n m q h b l none =
+    let s = starts_longest rest m q h in
+    let front = number_begins rest m b s in
+    let same : m ≡ n = Longest_same StartsNumber rest m n (longest_number rest m front s) l in
+    let r = front_read rest m q h in
+    let a : accepts q ≡ None = accepts_not (accepts q) (λ k e. none (subst (λ (x : ℕ). IsNumber (take x rest)) same (spells_number (take m rest) k front (accepts_spells q k (take m rest) e r)))) in
+    number_answer q m rest r front a ∙ ap (λ (x : ℕ). stopped x (drop x rest)) same
+
+zero_stopped : (rest : List ℕ) (n m c : ℕ) (after : List ℕ) (q : State) → Reached rest m q → BeginsNumber rest → Longest StartsNumber rest n → IsZero (take n rest) → drop n rest ≡ c ∷ after → IsTrue (is_digit c) → answer q m rest ≡ missed n (UnexpectedCharacter c)
+zero_stopped rest n m c after q h b l z d x =
+    let s = starts_longest rest m q h in
+    let front = number_begins rest m b s in
+    let same : m ≡ n = Longest_same StartsNumber rest m n (longest_number rest m front s) l in
+    let is_zero : q ≡ Zero = zero_state (take m rest) q h.runs (subst (λ (k : ℕ). IsZero (take k rest)) (sym same) z) in
+    ap (λ (p : State). answer p m rest) is_zero ∙ (ap (λ (k : ℕ). after_zero k rest (drop k rest)) same ∙ (ap (after_zero n rest) d ∙ cond-true (is_digit c) _ _ x))
+
+-- ---- strings
+
+line_end_is : (c : ℕ) → IsTrue (is_line_end c) → (c ≡ 10) ⊎ (c ≡ 13)
+line_end_is c h = grind (arith, nat_tests)
+
+line_end_stops : (c : ℕ) → IsTrue (is_line_end c) → step Units c ≡ None
+line_end_stops c h = elim (line_end_is c h) [ inl e ↦ rw e | inr e ↦ rw e ]
+
+control_below : (c : ℕ) → IsFalse (is_source c) → c < 32
+control_below c h = grind (arith, nat_tests)
+
+control_no_end : (c : ℕ) → IsFalse (is_source c) → is_line_end c ≡ false
+control_no_end c h = grind (arith, nat_tests)
+
+not_plain : (s x y : Bool) → s ≡ false → ((s && x) && y) ≡ false
+not_plain s x y e = rw e
+
+control_stops : (c : ℕ) → IsFalse (is_source c) → step Units c ≡ None
+control_stops c h =
+    let l = control_below c h in
+    let p : is_plain c ≡ false = not_plain (is_source c) (not (is_line_end c)) (not (eqb c 34) && not (eqb c 92)) h in
+    let a : eqb c 34 ≡ false = ne_eqb c 34 (λ e. omega arith) in
+    let b : eqb c 92 ≡ false = ne_eqb c 92 (λ e. omega arith) in
+    cond-false (is_plain c) _ _ p ∙ (cond-false (eqb c 34) _ _ a ∙ cond-false (eqb c 92) _ _ b)
+
+wrong_stops : (c : ℕ) → is_escape c ≡ false → (c ≡ 117 → ⊥) → step Backslash c ≡ None
+wrong_stops c h n = cond-false (is_escape c) _ _ h ∙ cond-false (eqb c 117) _ _ (ne_eqb c 117 n)
+
+-- where the steps stop, when the next makes none
+stop_reach : (q : State) (c : ℕ) (t : List ℕ) → step q c ≡ None → reach step q (c ∷ t) ≡ (0, q)
+stop_reach q c t e = ap (onward q (λ p. reach step p t)) e
+
+-- the answer behind a front of p characters
+abbrev AnswerAfter : List ℕ → List ℕ → ℕ → ℕ × State → Result Found Missed
+AnswerAfter front after p r = answer r.1 (p + r.0) (front ++ after)
+
+units_answer : (front after : List ℕ) (p : ℕ) → length front ≡ p → answer Units (p + 0) (front ++ after) ≡ after_units (p + 0) after
+units_answer front after p e = ap (after_units (p + 0)) (further front after p 0 (p + 0) e refl)
+
+backslash_answer : (front after : List ℕ) (p : ℕ) → length front ≡ p → answer Backslash (p + 1) (front ++ 92 ∷ after) ≡ after_backslash (p + 1) after
+backslash_answer front after p e = ap (after_backslash (p + 1)) (further front (92 ∷ after) p 1 (p + 1) e refl)
+
+unicode_answer : (front after : List ℕ) (p : ℕ) → length front ≡ p → NoUnit (92 ∷ 117 ∷ after) → AnswerAfter front (92 ∷ 117 ∷ after) p (reach step Units (92 ∷ 117 ∷ after)) ≡ after_u (suc p) after
+unicode_answer front after p e none =
+    let r = reach step Hex0 after in
+    hex_answer r.1 (0 + r.0) p front after (p + suc (suc r.0)) (hex_place after (no_unit_scalar after none)) e (places p r.0)
+  where
+    places : (p k : ℕ) → p + suc (suc k) ≡ p + (2 + (0 + k))
+    places p k = omega arith
+
+string_answer : (front after : List ℕ) (m : ℕ) (error : LexicalError) (p : ℕ) → length front ≡ p → NoUnit after → StringFails after m error → AnswerAfter front after p (reach step Units after) ≡ missed (p + m) error
+string_answer front _ _ _ p e none at_end = units_answer front [] p e
+string_answer front _ _ _ p e none (at_line_end {c} {after} h) =
+    ap (AnswerAfter front (c ∷ after) p) (stop_reach Units c after (line_end_stops c h)) ∙ (units_answer front (c ∷ after) p e ∙ cond-true (is_line_end c) _ _ h)
+string_answer front _ _ _ p e none (at_control {c} {after} h) =
+    ap (AnswerAfter front (c ∷ after) p) (stop_reach Units c after (control_stops c h)) ∙ (units_answer front (c ∷ after) p e ∙ cond-false (is_line_end c) _ _ (control_no_end c h))
+string_answer front _ _ _ p e none lone_backslash = backslash_answer front [] p e
+string_answer front _ _ _ p e none (wrong_escape {c} {after} h n) =
+    ap (λ (r : ℕ × State). AnswerAfter front (92 ∷ c ∷ after) p (suc r.0, r.1)) (stop_reach Backslash c after (wrong_stops c h n)) ∙ backslash_answer front (c ∷ after) p e
+string_answer front _ _ _ p e none (short_unicode {after} l s) =
+    unicode_answer front after p e none ∙ (u_short (suc p) after l s ∙ ap (λ (k : ℕ). missed k UnterminatedString) (places p (length after)))
+  where
+    places : (p k : ℕ) → suc (suc p) + k ≡ p + (2 + k)
+    places p k = omega arith
+string_answer front _ _ _ p e none (wrong_unicode {after} l s) =
+    unicode_answer front after p e none ∙ (u_wrong (suc p) after l s ∙ ap (λ (k : ℕ). missed k (UnknownEscapeSequence (92 ∷ 117 ∷ take (counted after) after))) (one_more p))
+  where
+    one_more : (p : ℕ) → suc p ≡ p + 1
+    one_more p = omega arith
+string_answer front _ _ _ p e none (no_unicode {c} {after} z) =
+    unicode_answer front (c ∷ after) p e none ∙ (u_none (suc p) c after z ∙ ap (λ (k : ℕ). missed k (UnknownEscapeSequence (92 ∷ 117 ∷ c ∷ []))) (one_more p))
+  where
+    one_more : (p : ℕ) → suc p ≡ p + 1
+    one_more p = omega arith
+
+string_scan : (more : List ℕ) (k m : ℕ) (error : LexicalError) → Longest AreUnits more k → StringFails (drop k more) m error → scan (34 ∷ more) ≡ missed (suc k + m) error
+string_scan more k m error l f =
+    let front : List ℕ = 34 ∷ take k more in
+    let after : List ℕ = drop k more in
+    let whole : front ++ after ≡ 34 ∷ more = ap (λ (x : List ℕ). 34 ∷ x) (take-append-drop k more) in
+    let size : length front ≡ suc k = ap suc (length-take-le k more l.within) in
+    let goes : Goes Start front Units = units_run (take k more) l.holds in
+    let r = reach_on step Start Units front after goes in
+    let answered = string_answer front after m error (suc k) size (longest_no_unit more k l) f in
+    sym (ap scan whole) ∙ (ap₂ (λ (n : ℕ) (q : State). answer q n (front ++ after)) (r.0 ∙ ap (λ (n : ℕ). n + (reach step Units after).0) size) r.1 ∙ answered)
+
+-- ---- all of them
+
+unknown_stops : (c : ℕ) → (Starts (c ∷ []) → ⊥) → step Start c ≡ None
+unknown_stops c n = by_step (step Start c) refl
+  where
+    by_step : (o : Option State) → step Start c ≡ o → o ≡ None
+    by_step None e = refl
+    by_step (Some p) e = absurd (n (starts_from (c ∷ []) p (rw e)))
+
+pub fails_scan : (rest : List ℕ) (n : ℕ) (error : LexicalError) → Fails rest n error → scan rest ≡ missed n error
+fails_scan _ _ _ (number_ends {rest} {n} b l none d) =
+    let r = reach step Start rest in
+    number_stopped rest n r.0 r.1 (reached rest) b l none ∙ ap (stopped n) d
+fails_scan _ _ _ (number_stops {rest} {n} b l none d) =
+    let r = reach step Start rest in
+    number_stopped rest n r.0 r.1 (reached rest) b l none ∙ ap (stopped n) d
+fails_scan _ _ _ (zero_goes_on {rest} {n} {c} {after} b l z d x) =
+    let r = reach step Start rest in
+    zero_stopped rest n r.0 c after r.1 (reached rest) b l z d x
+fails_scan _ _ _ (string_fails {more} {k} {m} {error} l f) = string_scan more k m error l f
+fails_scan _ _ _ dot_ends = refl
+fails_scan _ _ _ dots_end = refl
+fails_scan _ _ _ (dot_stops {c} {after} n) = ap (λ (r : ℕ × State). answer r.1 (suc r.0) (46 ∷ c ∷ after)) (stop_reach Dot c after (cond-false (eqb c 46) _ _ (ne_eqb c 46 n)))
+fails_scan _ _ _ (dots_stop {c} {after} n) = ap (λ (r : ℕ × State). answer r.1 (suc (suc r.0)) (46 ∷ 46 ∷ c ∷ after)) (stop_reach Dots c after (cond-false (eqb c 46) _ _ (ne_eqb c 46 n)))
+fails_scan _ _ _ (unknown {c} {after} n) = ap (λ (r : ℕ × State). answer r.1 r.0 (c ∷ after)) (stop_reach Start c after (unknown_stops c n))

@@ -1,0 +1,30 @@
+-- How a token and a lexical error are shown.
+use Rattle.std.specs.Prelude.{ℕ, List, [], ◌∷◌, ◌++◌, codes, if◌then◌else◌, ◌||◌, ◌==◌, flat_map}
+use Rattle.graphql_lexical.specs.Kinds.{Kind, String, EndOfFile, LexicalError, UnknownCharacter, UnexpectedCharacter, UnterminatedString, UnknownCharacterInString, UnknownEscapeSequence, UnexpectedEndOfFile, InvalidNumber}
+
+-- a text between quotes
+abbrev pub quoted : List ℕ → List ℕ
+quoted cs = 34 ∷ (cs ++ 34 ∷ [])
+
+-- a quote and a backslash have a backslash before them
+abbrev pub escape : ℕ → List ℕ
+escape c = if c == 34 || c == 92 then 92 ∷ c ∷ [] else c ∷ []
+
+abbrev pub escaped : List ℕ → List ℕ
+escaped cs = flat_map escape cs
+
+-- What is shown of a token of that kind and text.
+abbrev pub shown : Kind → List ℕ → List ℕ
+shown String text = quoted (escaped text)
+shown EndOfFile text = codes "End of file"
+shown _ text = text
+
+-- What is shown of a lexical error.
+abbrev pub error_text : LexicalError → List ℕ
+error_text (UnknownCharacter c) = codes "Unknown character " ++ quoted (c ∷ [])
+error_text (UnexpectedCharacter c) = codes "Unexpected character " ++ quoted (c ∷ [])
+error_text UnterminatedString = codes "Unterminated string literal"
+error_text (UnknownCharacterInString c) = codes "Unknown character " ++ quoted (c ∷ []) ++ codes " in string literal"
+error_text (UnknownEscapeSequence s) = codes "Unknown escape sequence " ++ quoted s ++ codes " in string"
+error_text UnexpectedEndOfFile = codes "Unexpected end of input"
+error_text InvalidNumber = codes "Invalid number literal"

@@ -1,0 +1,36 @@
+-- Texts that are put together.
+use Rattle.std.specs.Prelude.{◌≡◌, ℕ, ◌⊎◌, Bool, true, false, List, [], ◌∷◌, ◌++◌, length, IsTrue}
+use Rattle.graphql_lexical.specs.Characters.{is_white}
+use Rattle.graphql_lexical.specs.Place.{place}
+use Rattle.graphql_lexical.specs.Kinds.{Kind, Name, String, Float, Int, Ellipsis, EndOfFile}
+use Rattle.graphql_lexical.specs.Tokens.{Spells}
+use Rattle.graphql_lexical.specs.Cutting.{Lexeme, Cut}
+
+-- a punctuator of one character
+abbrev pub is_lone : Kind → Bool
+is_lone Name = false
+is_lone String = false
+is_lone Float = false
+is_lone Int = false
+is_lone Ellipsis = false
+is_lone EndOfFile = false
+is_lone _ = true
+
+-- empty, or beginning with a white character or a punctuator of one character
+abbrev pub BeginsApart : List ℕ → Type 0
+BeginsApart [] = Unit {0}
+BeginsApart (c ∷ cs) = IsTrue (is_white c) ⊎ ((kind : Kind) × IsTrue (is_lone kind) × Spells (c ∷ []) kind)
+
+-- equal in kinds and texts
+abbrev pub AreAlike : List Lexeme → List Lexeme → Type 0
+AreAlike [] [] = Unit {0}
+AreAlike (x ∷ xs) (y ∷ ys) = (x.kind ≡ y.kind) × (x.text ≡ y.text) × AreAlike xs ys
+AreAlike _ _ = ⊥
+
+-- a is empty, or its last token before the end stops at its end and can't go on in b
+abbrev pub IsSeam : List ℕ → List Lexeme → List ℕ → Type 0
+IsSeam a front b = (a ≡ []) ⊎ ((some : List Lexeme) × (x : Lexeme) × (front ≡ some ++ x ∷ []) × (x.span.end ≡ place a (length a)) × (IsTrue (is_lone x.kind) ⊎ BeginsApart b))
+
+-- the tokens of a without the end, and then tokens alike with those of b
+abbrev pub Joins : List ℕ → List ℕ → Type 0
+Joins a b = (front : List Lexeme) (last : Lexeme) (us : List Lexeme) → Cut a (front ++ last ∷ []) → Cut b us → IsSeam a front b → (vs : List Lexeme) × Cut (a ++ b) (front ++ vs) × AreAlike vs us

@@ -1,0 +1,56 @@
+-- What is claimed of the definitions.
+use Rattle.std.specs.Prelude.{◌≡◌, ◌≢◌, ℕ, ◌≤◌, List, [], ◌∷◌, ◌++◌, length, ◌⊎◌, ◌↔◌, Ok, Err}
+use Rattle.std.specs.List.{AllByRecursion}
+use Rattle.graphql_lexical.specs.Kinds.{Kind, EndOfFile, LexicalError}
+use Rattle.graphql_lexical.specs.Place.{Place}
+use Rattle.graphql_lexical.specs.Reading.{Reads, Fails}
+use Rattle.graphql_lexical.specs.Cutting.{Lexeme, Cut, Breaks}
+use Rattle.graphql_lexical.specs.Scan.{Found, Missed, Broken, scan, cut_of}
+
+-- what scan finds is what is read
+abbrev pub FindsWhatReads : List ℕ → Type 0
+FindsWhatReads rest = (f : Found) → (scan rest ≡ Ok f) ↔ Reads rest f.size f.kind f.text
+
+-- what scan misses is what fails
+abbrev pub MissesWhatFails : List ℕ → Type 0
+MissesWhatFails rest = (m : Missed) → (scan rest ≡ Err m) ↔ Fails rest m.at m.error
+
+-- this is read, nothing else is, and nothing fails
+pub record IsOnlyReading (rest : List ℕ) (n : ℕ) (kind : Kind) (text : List ℕ) : Type 0 where
+  pub reads : Reads rest n kind text
+  pub alone : (m : ℕ) (k : Kind) (t : List ℕ) → Reads rest m k t → (m ≡ n) × (k ≡ kind) × (t ≡ text)
+  pub no_fault : (m : ℕ) (error : LexicalError) → Fails rest m error → ⊥
+
+-- this fails, nothing else does, and nothing is read
+pub record IsOnlyFault (rest : List ℕ) (n : ℕ) (error : LexicalError) : Type 0 where
+  pub fails : Fails rest n error
+  pub alone : (m : ℕ) (e : LexicalError) → Fails rest m e → (m ≡ n) × (e ≡ error)
+  pub no_reading : (m : ℕ) (k : Kind) (t : List ℕ) → Reads rest m k t → ⊥
+
+-- a rest has exactly one of both
+abbrev pub HasOneAnswer : List ℕ → Type 0
+HasOneAnswer rest = ((n : ℕ) × (kind : Kind) × (text : List ℕ) × IsOnlyReading rest n kind text) ⊎ ((n : ℕ) × (error : LexicalError) × IsOnlyFault rest n error)
+
+abbrev pub CutsWhatIsCut : List ℕ → Type 0
+CutsWhatIsCut source = (xs : List Lexeme) → (cut_of source ≡ Ok xs) ↔ Cut source xs
+
+abbrev pub BreaksWhatIsBroken : List ℕ → Type 0
+BreaksWhatIsBroken source = (b : Broken) → (cut_of source ≡ Err b) ↔ Breaks source b.error b.at
+
+pub record IsOnlyCut (source : List ℕ) (lexemes : List Lexeme) : Type 0 where
+  pub cut : Cut source lexemes
+  pub alone : (xs : List Lexeme) → Cut source xs → xs ≡ lexemes
+  pub no_break : (error : LexicalError) (at : Place) → Breaks source error at → ⊥
+
+pub record IsOnlyBreak (source : List ℕ) (error : LexicalError) (at : Place) : Type 0 where
+  pub breaks : Breaks source error at
+  pub alone : (e : LexicalError) (p : Place) → Breaks source e p → (e ≡ error) × (p ≡ at)
+  pub no_cut : (xs : List Lexeme) → Cut source xs → ⊥
+
+-- a source has exactly one cut or one break
+abbrev pub HasOneEnd : List ℕ → Type 0
+HasOneEnd source = ((lexemes : List Lexeme) × IsOnlyCut source lexemes) ⊎ ((error : LexicalError) × (at : Place) × IsOnlyBreak source error at)
+
+-- a source of n characters has at most n + 1 tokens, the last the end and no other
+abbrev pub HasFewTokens : List ℕ → Type 0
+HasFewTokens source = (front : List Lexeme) (last : Lexeme) → Cut source (front ++ last ∷ []) → (length front ≤ length source) × (last.kind ≡ EndOfFile) × AllByRecursion (λ x. x.kind ≢ EndOfFile) front

@@ -1,0 +1,11 @@
+pub mod Characters
+pub mod Place
+pub mod Kinds
+pub mod Display
+pub mod Tokens
+pub mod Reading
+pub mod Cutting
+pub mod Scan
+pub mod Rows
+pub mod Laws
+pub mod Joining

@@ -1,0 +1,210 @@
+-- The same, computed: one token at the front of a rest, and a whole source.
+use Rattle.std.specs.Prelude.{ℕ, zero, suc, ◌+◌, ◌-◌, Bool, true, false, ◌&&◌, ◌||◌, List, [], ◌∷◌, length, take, drop, ◌==◌, nat_lt, nat_le, if◌then◌else◌, Option, Some, None, Result, Ok, Err, max, option_map}
+use Rattle.graphql_lexical.specs.Characters.{is_white, is_comment_character, is_line_end, is_digit, is_nonzero_digit, is_name_start, is_name_character, is_exponent_mark, is_sign, is_hex, is_plain, is_escape}
+use Rattle.graphql_lexical.specs.Place.{Place, place}
+use Rattle.graphql_lexical.specs.Kinds.{Kind, Name, String, Float, Int, ExclamationMark, Dollar, ParenOpen, ParenClose, BracketOpen, BracketClose, CurlyOpen, CurlyClose, Ellipsis, Colon, Equals, At, Pipe, EndOfFile, LexicalError, UnknownCharacter, UnexpectedCharacter, UnterminatedString, UnknownCharacterInString, UnknownEscapeSequence, UnexpectedEndOfFile}
+use Rattle.graphql_lexical.specs.Tokens.{text_of}
+use Rattle.graphql_lexical.specs.Reading.{counted}
+use Rattle.graphql_lexical.specs.Cutting.{Lexeme}
+
+-- How far the steps go from a state, and the state there.
+abbrev pub onward : {S : Type 0} → S → (S → ℕ × S) → Option S → ℕ × S
+onward q go None = (0, q)
+onward q go (Some p) = let r = go p in (suc r.0, r.1)
+
+abbrev pub reach : {S : Type 0} → (S → ℕ → Option S) → S → List ℕ → ℕ × S
+reach step q [] = (0, q)
+reach step q (c ∷ cs) = onward q (λ p. reach step p cs) (step q c)
+
+-- ---- tokens
+
+-- What has been read of a token.
+pub data State : Type 0 where
+  Start : State
+  Done : (kind : Kind) → State
+  Dot : State
+  Dots : State
+  InName : State
+  Minus : State
+  Zero : State
+  Digits : State
+  Point : State
+  Fraction : State
+  Mark : State
+  Sign : State
+  Exponent : State
+  Units : State
+  Backslash : State
+  Hex0 : State
+  Hex1 : State
+  HexD : State
+  Hex2 : State
+  Hex3 : State
+
+abbrev pub punctuator : ℕ → Option Kind
+punctuator c =
+    if c == 33 then Some ExclamationMark
+    else (if c == 36 then Some Dollar
+    else (if c == 40 then Some ParenOpen
+    else (if c == 41 then Some ParenClose
+    else (if c == 91 then Some BracketOpen
+    else (if c == 93 then Some BracketClose
+    else (if c == 123 then Some CurlyOpen
+    else (if c == 125 then Some CurlyClose
+    else (if c == 58 then Some Colon
+    else (if c == 61 then Some Equals
+    else (if c == 64 then Some At
+    else (if c == 124 then Some Pipe
+    else None)))))))))))
+
+-- the digit of hexadecimal 13, which a surrogate's number begins with
+abbrev pub is_hex_d : ℕ → Bool
+is_hex_d c = c == 68 || c == 100
+
+-- a digit below 8
+abbrev pub is_octal : ℕ → Bool
+is_octal c = nat_le 48 c && nat_le c 55
+
+abbrev pub step : State → ℕ → Option State
+step Start c =
+    if is_nonzero_digit c then Some Digits
+    else (if is_name_start c then Some InName
+    else (if c == 48 then Some Zero
+    else (if c == 45 then Some Minus
+    else (if c == 46 then Some Dot
+    else (if c == 34 then Some Units
+    else option_map Done (punctuator c))))))
+step (Done kind) c = None
+step Dot c = if c == 46 then Some Dots else None
+step Dots c = if c == 46 then Some (Done Ellipsis) else None
+step InName c = if is_name_character c then Some InName else None
+step Minus c = if is_nonzero_digit c then Some Digits else (if c == 48 then Some Zero else None)
+step Zero c = if c == 46 then Some Point else (if is_exponent_mark c then Some Mark else None)
+step Digits c = if is_digit c then Some Digits else (if c == 46 then Some Point else (if is_exponent_mark c then Some Mark else None))
+step Point c = if is_digit c then Some Fraction else None
+step Fraction c = if is_digit c then Some Fraction else (if is_exponent_mark c then Some Mark else None)
+step Mark c = if is_digit c then Some Exponent else (if is_sign c then Some Sign else None)
+step Sign c = if is_digit c then Some Exponent else None
+step Exponent c = if is_digit c then Some Exponent else None
+step Units c = if is_plain c then Some Units else (if c == 34 then Some (Done String) else (if c == 92 then Some Backslash else None))
+step Backslash c = if is_escape c then Some Units else (if c == 117 then Some Hex0 else None)
+step Hex0 c = if is_hex_d c then Some HexD else (if is_hex c then Some Hex1 else None)
+step Hex1 c = if is_hex c then Some Hex2 else None
+step HexD c = if is_octal c then Some Hex2 else None
+step Hex2 c = if is_hex c then Some Hex3 else None
+step Hex3 c = if is_hex c then Some Units else None
+
+pub record Found : Type 0 where
+  pub size : ℕ
+  pub kind : Kind
+  pub text : List ℕ
+
+pub record Missed : Type 0 where
+  pub at : ℕ
+  pub error : LexicalError
+
+abbrev pub found : ℕ → Kind → List ℕ → Result Found Missed
+found n kind rest = Ok (record { size = n; kind = kind; text = text_of kind (take n rest) })
+
+abbrev pub missed : ℕ → LexicalError → Result Found Missed
+missed n error = Err (record { at = n; error = error })
+
+-- a number that is none
+abbrev pub stopped : ℕ → List ℕ → Result Found Missed
+stopped n [] = missed n UnexpectedEndOfFile
+stopped n (c ∷ after) = missed n (UnexpectedCharacter c)
+
+-- a zero is alone
+abbrev pub after_zero : ℕ → List ℕ → List ℕ → Result Found Missed
+after_zero n rest [] = found n Int rest
+after_zero n rest (c ∷ after) = if is_digit c then missed n (UnexpectedCharacter c) else found n Int rest
+
+abbrev pub after_dots : ℕ → List ℕ → Result Found Missed
+after_dots n [] = missed n UnexpectedEndOfFile
+after_dots n (c ∷ after) = missed 0 (UnexpectedCharacter 46)
+
+abbrev pub after_units : ℕ → List ℕ → Result Found Missed
+after_units n [] = missed n UnterminatedString
+after_units n (c ∷ after) = if is_line_end c then missed n UnterminatedString else missed n (UnknownCharacterInString c)
+
+abbrev pub after_backslash : ℕ → List ℕ → Result Found Missed
+after_backslash n [] = missed n UnterminatedString
+after_backslash n (c ∷ after) = missed n (UnknownEscapeSequence (92 ∷ c ∷ []))
+
+-- after the `u` at place u
+abbrev pub after_u : ℕ → List ℕ → Result Found Missed
+after_u u after =
+    if nat_lt (counted after) 4 && counted after == length after then missed (suc u + length after) UnterminatedString
+    else missed u (UnknownEscapeSequence (92 ∷ 117 ∷ take (max 1 (counted after)) after))
+
+abbrev pub answer : State → ℕ → List ℕ → Result Found Missed
+answer Start n [] = found 0 EndOfFile []
+answer Start n (c ∷ cs) = missed 0 (UnknownCharacter c)
+answer (Done kind) n rest = found n kind rest
+answer Dot n rest = after_dots n (drop n rest)
+answer Dots n rest = after_dots n (drop n rest)
+answer InName n rest = found n Name rest
+answer Minus n rest = stopped n (drop n rest)
+answer Zero n rest = after_zero n rest (drop n rest)
+answer Digits n rest = found n Int rest
+answer Point n rest = stopped n (drop n rest)
+answer Fraction n rest = found n Float rest
+answer Mark n rest = stopped n (drop n rest)
+answer Sign n rest = stopped n (drop n rest)
+answer Exponent n rest = found n Float rest
+answer Units n rest = after_units n (drop n rest)
+answer Backslash n rest = after_backslash n (drop n rest)
+answer Hex0 n rest = after_u (n - 1) (drop (n - 0) rest)
+answer Hex1 n rest = after_u (n - 2) (drop (n - 1) rest)
+answer HexD n rest = after_u (n - 2) (drop (n - 1) rest)
+answer Hex2 n rest = after_u (n - 3) (drop (n - 2) rest)
+answer Hex3 n rest = after_u (n - 4) (drop (n - 3) rest)
+
+-- the token at the front of the rest, or the fault there
+abbrev pub scan : List ℕ → Result Found Missed
+scan rest = let r = reach step Start rest in answer r.1 r.0 rest
+
+-- ---- sources
+
+-- whether a gap stands within a comment
+abbrev pub gap_step : Bool → ℕ → Option Bool
+gap_step true c = if is_comment_character c then Some true else (if is_white c then Some false else (if c == 35 then Some true else None))
+gap_step false c = if is_white c then Some false else (if c == 35 then Some true else None)
+
+abbrev pub gap_size : List ℕ → ℕ
+gap_size rest = (reach gap_step false rest).0
+
+pub record Broken : Type 0 where
+  pub at : Place
+  pub error : LexicalError
+
+abbrev pub with_first : Lexeme → Result (List Lexeme) Broken → Result (List Lexeme) Broken
+with_first x (Ok xs) = Ok (x ∷ xs)
+with_first x (Err e) = Err e
+
+abbrev pub is_end : Kind → Bool
+is_end EndOfFile = true
+is_end _ = false
+
+abbrev pub lexeme_at : List ℕ → ℕ → Found → Lexeme
+lexeme_at source j f = record { kind = f.kind; text = f.text; span = record { start = place source j; end = place source (j + f.size) } }
+
+-- the token at place j, and what goes on behind it
+abbrev pub last_or : List ℕ → ℕ → (ℕ → Result (List Lexeme) Broken) → Found → Bool → Result (List Lexeme) Broken
+last_or source j go f true = Ok (lexeme_at source j f ∷ [])
+last_or source j go f false = with_first (lexeme_at source j f) (go (j + f.size))
+
+abbrev pub next_cut : List ℕ → ℕ → (ℕ → Result (List Lexeme) Broken) → Result Found Missed → Result (List Lexeme) Broken
+next_cut source j go (Ok f) = last_or source j go f (is_end f.kind)
+next_cut source j go (Err m) = Err (record { at = place source (j + m.at); error = m.error })
+
+-- from place k on, in at most this many tokens
+abbrev pub cut_from : ℕ → List ℕ → ℕ → Result (List Lexeme) Broken
+cut_from zero source k = Ok []
+cut_from (suc fuel) source k =
+    let j = k + gap_size (drop k source) in
+    next_cut source j (λ next. cut_from fuel source next) (scan (drop j source))
+
+-- the source's tokens, or its first fault
+abbrev pub cut_of : List ℕ → Result (List Lexeme) Broken
+cut_of source = cut_from (suc (length source)) source 0

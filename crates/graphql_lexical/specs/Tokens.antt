@@ -1,0 +1,129 @@
+-- Which texts are tokens.
+use Rattle.std.specs.Prelude.{◌≡◌, ℕ, ◌+◌, ◌-◌, ◌*◌, ◌<◌, ◌⊎◌, List, [], ◌∷◌, ◌++◌, length, take, drop, IsTrue, nat_le, if◌then◌else◌}
+use Rattle.std.specs.List.{AllByRecursion, concat}
+use Rattle.graphql_lexical.specs.Characters.{is_digit, is_nonzero_digit, is_name_start, is_name_character, is_exponent_mark, is_sign, is_hex, is_plain, is_escape}
+use Rattle.graphql_lexical.specs.Kinds.{Kind, Name, String, Float, Int, ExclamationMark, Dollar, ParenOpen, ParenClose, BracketOpen, BracketClose, CurlyOpen, CurlyClose, Ellipsis, Colon, Equals, At, Pipe, EndOfFile}
+
+-- the text is pieces of this kind, one after another
+abbrev pub IsMadeOf : (List ℕ → Type 0) → List ℕ → Type 0
+IsMadeOf IsPiece text = (pieces : List (List ℕ)) × AllByRecursion IsPiece pieces × (text ≡ concat pieces)
+
+-- ---- names
+
+-- a letter or `_`, then letters, digits and `_`
+abbrev pub IsName : List ℕ → Type 0
+IsName text = (c : ℕ) × (cs : List ℕ) × (text ≡ c ∷ cs) × IsTrue (is_name_start c) × AllByRecursion (λ d. IsTrue (is_name_character d)) cs
+
+-- ---- numbers
+
+abbrev pub AreDigits : List ℕ → Type 0
+AreDigits = AllByRecursion (λ d. IsTrue (is_digit d))
+
+-- one or more digits
+abbrev pub AreSomeDigits : List ℕ → Type 0
+AreSomeDigits text = (0 < length text) × AreDigits text
+
+-- `0` or `-0`
+abbrev pub IsZero : List ℕ → Type 0
+IsZero text = (text ≡ 48 ∷ []) ⊎ (text ≡ 45 ∷ 48 ∷ [])
+
+-- a digit from 1 on, then any digits
+abbrev pub IsCounting : List ℕ → Type 0
+IsCounting text = (d : ℕ) × (ds : List ℕ) × (text ≡ d ∷ ds) × IsTrue (is_nonzero_digit d) × AreDigits ds
+
+-- an optional `-`, and such digits
+abbrev pub IsLongInteger : List ℕ → Type 0
+IsLongInteger text = IsCounting text ⊎ ((ds : List ℕ) × (text ≡ 45 ∷ ds) × IsCounting ds)
+
+abbrev pub IsInteger : List ℕ → Type 0
+IsInteger text = IsZero text ⊎ IsLongInteger text
+
+-- `.` and digits
+abbrev pub IsFraction : List ℕ → Type 0
+IsFraction text = (ds : List ℕ) × (text ≡ 46 ∷ ds) × AreSomeDigits ds
+
+-- an optional sign
+abbrev pub IsOptionalSign : List ℕ → Type 0
+IsOptionalSign text = (text ≡ []) ⊎ ((s : ℕ) × (text ≡ s ∷ []) × IsTrue (is_sign s))
+
+-- `e` or `E`, an optional sign, and digits
+abbrev pub IsExponent : List ℕ → Type 0
+IsExponent text = (e : ℕ) × (sign : List ℕ) × (ds : List ℕ) × (text ≡ e ∷ sign ++ ds) × IsTrue (is_exponent_mark e) × IsOptionalSign sign × AreSomeDigits ds
+
+-- an integer part and a fraction
+abbrev pub IsDecimal : List ℕ → Type 0
+IsDecimal text = (whole : List ℕ) × (fraction : List ℕ) × (text ≡ whole ++ fraction) × IsInteger whole × IsFraction fraction
+
+-- a decimal, or an exponent after an integer part or a decimal
+abbrev pub IsFloat : List ℕ → Type 0
+IsFloat text = IsDecimal text ⊎ ((base : List ℕ) × (exponent : List ℕ) × (text ≡ base ++ exponent) × (IsInteger base ⊎ IsDecimal base) × IsExponent exponent)
+
+-- ---- strings
+
+abbrev pub hex_value : ℕ → ℕ
+hex_value c = if nat_le c 57 then c - 48 else (if nat_le c 70 then c - 55 else c - 87)
+
+-- the number that four hexadecimal digits write
+abbrev pub hex_number : ℕ → ℕ → ℕ → ℕ → ℕ
+hex_number h i j k = 4096 * hex_value h + (256 * hex_value i + (16 * hex_value j + hex_value k))
+
+-- four hexadecimal digits, whose number isn't from D800 to DFFF
+pub record IsScalar (h i j k : ℕ) : Type 0 where
+  pub first : IsTrue (is_hex h)
+  pub second : IsTrue (is_hex i)
+  pub third : IsTrue (is_hex j)
+  pub fourth : IsTrue (is_hex k)
+  pub whole : (hex_number h i j k < 55296) ⊎ (57343 < hex_number h i j k)
+
+-- what a string is made of
+pub data IsUnit : List ℕ → Type 0 where
+  plain : {c : ℕ} → IsTrue (is_plain c) → IsUnit (c ∷ [])
+  escape : {c : ℕ} → IsTrue (is_escape c) → IsUnit (92 ∷ c ∷ [])
+  unicode : {h i j k : ℕ} → IsScalar h i j k → IsUnit (92 ∷ 117 ∷ h ∷ i ∷ j ∷ k ∷ [])
+
+abbrev pub AreUnits : List ℕ → Type 0
+AreUnits = IsMadeOf IsUnit
+
+-- a quote, units, a quote
+abbrev pub IsString : List ℕ → Type 0
+IsString text = (units : List ℕ) × (text ≡ 34 ∷ units ++ 34 ∷ []) × AreUnits units
+
+-- ---- tokens
+
+-- the whole text is a token of this kind
+abbrev pub Spells : List ℕ → Kind → Type 0
+Spells text Name = IsName text
+Spells text Int = IsInteger text
+Spells text Float = IsFloat text
+Spells text String = IsString text
+Spells text ExclamationMark = text ≡ 33 ∷ []
+Spells text Dollar = text ≡ 36 ∷ []
+Spells text ParenOpen = text ≡ 40 ∷ []
+Spells text ParenClose = text ≡ 41 ∷ []
+Spells text BracketOpen = text ≡ 91 ∷ []
+Spells text BracketClose = text ≡ 93 ∷ []
+Spells text CurlyOpen = text ≡ 123 ∷ []
+Spells text CurlyClose = text ≡ 125 ∷ []
+Spells text Ellipsis = text ≡ 46 ∷ 46 ∷ 46 ∷ []
+Spells text Colon = text ≡ 58 ∷ []
+Spells text Equals = text ≡ 61 ∷ []
+Spells text At = text ≡ 64 ∷ []
+Spells text Pipe = text ≡ 124 ∷ []
+Spells text EndOfFile = ⊥
+
+-- the token's text: for a string what stands between its quotes
+abbrev pub text_of : Kind → List ℕ → List ℕ
+text_of String whole = take (length whole - 2) (drop 1 whole)
+text_of _ whole = whole
+
+-- some token begins with the text
+abbrev pub Starts : List ℕ → Type 0
+Starts text = (more : List ℕ) × (kind : Kind) × Spells (text ++ more) kind
+
+-- the whole text is an Int or a Float
+abbrev pub IsNumber : List ℕ → Type 0
+IsNumber text = IsInteger text ⊎ IsFloat text
+
+-- some Int or Float begins with the text
+abbrev pub StartsNumber : List ℕ → Type 0
+StartsNumber text = (more : List ℕ) × IsNumber (text ++ more)

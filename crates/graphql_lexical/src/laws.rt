@@ -1,0 +1,37 @@
+//! Laws of the lexical grammar.
+ghost use Rattle.std.specs.Prelude.{ℕ, List, ◌≡◌};
+ghost use Rattle.graphql_lexical.specs.Laws.{FindsWhatReads, MissesWhatFails, HasOneAnswer, CutsWhatIsCut, BreaksWhatIsBroken, HasOneEnd, HasFewTokens};
+ghost use Rattle.graphql_lexical.specs.Joining.{Joins};
+
+/// A rest has exactly one token or one fault.
+pub fn one_answer()
+    ensures { (rest : List ℕ) → HasOneAnswer rest }
+{}
+
+/// The computed token or fault is the one of the definitions.
+#[tactic(auto, using(crate::proofs::Answers::finds_what_reads, crate::proofs::Answers::misses_what_fails))]
+pub fn scan_is_exact()
+    ensures found { (rest : List ℕ) → FindsWhatReads rest }
+    ensures missed { (rest : List ℕ) → MissesWhatFails rest }
+{}
+
+/// A source has exactly one cut or one break.
+pub fn one_end()
+    ensures { (source : List ℕ) → HasOneEnd source }
+{}
+
+/// The computed cut or break is the one of the definitions.
+pub fn cut_is_exact()
+    ensures cut { (source : List ℕ) → CutsWhatIsCut source }
+    ensures broken { (source : List ℕ) → BreaksWhatIsBroken source }
+{}
+
+/// Where two texts are put together that can't run into each other, the cut goes on.
+pub fn joined_texts()
+    ensures { (a b : List ℕ) → Joins a b }
+{}
+
+/// The lexer ends.
+pub fn few_tokens()
+    ensures { (source : List ℕ) → HasFewTokens source }
+{}
