@@ -1,0 +1,3 @@
+pub mod Texts
+pub mod FixedTexts
+pub mod Steps

@@ -1,0 +1,51 @@
+-- Errors of the code, as the definitions see them, and how they are shown.
+use Rattle.std.specs.Prelude.{ℕ, List, ◌++◌, codes}
+use Rattle.std.specs.Str.{chars}
+use Rattle.std.specs.String.{string_bytes}
+use Rattle.graphql_lexical.specs.Place.{Span}
+use Rattle.graphql_lexical.specs.Kinds.{LexicalError}
+use Rattle.graphql_lexical.specs.Kinds as kinds
+use Rattle.graphql_lexical.specs.Display.{quoted, error_text as lexical_text}
+use Rattle.juniper_tokens.specs.declared.span.Spanning.{Spanning}
+use Rattle.juniper_tokens.specs.declared.error.LexerError.{LexerError}
+use Rattle.juniper_tokens.specs.declared.error.LexerError.TheVariants as lexer
+use Rattle.juniper_tokens.specs.declared.error.ParseError.{ParseError}
+use Rattle.juniper_tokens.specs.declared.error.ParseError.TheVariants as parse
+use Rattle.juniper_tokens.specs.Spans.{view_span}
+
+-- why a text is refused
+pub data Error : Type 0 where
+  UnexpectedToken : List ℕ → Error
+  UnexpectedEndOfFile : Error
+  Lexical : LexicalError → Error
+  ExpectedScalar : List ℕ → Error
+
+-- an error and its place
+pub record Fault : Type 0 where
+  pub error : Error
+  pub span : Span
+
+abbrev pub view_lexer_error : LexerError → LexicalError
+view_lexer_error (lexer.UnknownCharacter c) = kinds.UnknownCharacter c
+view_lexer_error (lexer.UnexpectedCharacter c) = kinds.UnexpectedCharacter c
+view_lexer_error lexer.UnterminatedString = kinds.UnterminatedString
+view_lexer_error (lexer.UnknownCharacterInString c) = kinds.UnknownCharacterInString c
+view_lexer_error (lexer.UnknownEscapeSequence s) = kinds.UnknownEscapeSequence (chars (string_bytes s))
+view_lexer_error lexer.UnexpectedEndOfFile = kinds.UnexpectedEndOfFile
+view_lexer_error lexer.InvalidNumber = kinds.InvalidNumber
+
+abbrev pub view_error : ParseError → Error
+view_error (parse.UnexpectedToken s) = UnexpectedToken (chars (string_bytes s))
+view_error parse.UnexpectedEndOfFile = UnexpectedEndOfFile
+view_error (parse.LexerError e) = Lexical (view_lexer_error e)
+view_error (parse.ExpectedScalarError t) = ExpectedScalar (chars t.now)
+
+abbrev pub view_fault : Spanning ParseError → Fault
+view_fault s = record { error = view_error s.item; span = view_span s.span }
+
+-- what is shown of an error
+abbrev pub error_text : Error → List ℕ
+error_text (UnexpectedToken t) = codes "Unexpected " ++ quoted t
+error_text UnexpectedEndOfFile = codes "Unexpected end of input"
+error_text (Lexical e) = lexical_text e
+error_text (ExpectedScalar t) = t

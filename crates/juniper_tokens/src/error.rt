@@ -1,0 +1,137 @@
+//! Why a text is refused.
+ghost use Rattle.std.specs.Prelude.{◌≡◌, Some, IfOk};
+ghost use Rattle.std.specs.Str.{encode_utf8_all};
+
+use crate::span::Spanning;
+use crate::token::{Token, write_text};
+use std::alloc::{AllocError, AllocFailed, Global};
+use std::fmt;
+
+/// Why a text is no token.
+#[derive(Debug, Drop, PartialEq, Eq)]
+pub enum LexerError {
+    /// The character begins no token.
+    UnknownCharacter(char),
+    /// What stood before this character begins a token, and does not go on with it.
+    UnexpectedCharacter(char),
+    /// The source or the line ends within a string.
+    UnterminatedString,
+    /// The character may not stand in a string.
+    UnknownCharacterInString(char),
+    /// This text, which begins with a backslash, is no escape.
+    UnknownEscapeSequence(String),
+    /// The source ends within a token.
+    UnexpectedEndOfFile,
+    /// Kept from juniper. The lexer never answers it.
+    InvalidNumber,
+}
+
+/// Why a text is refused.
+#[derive(Debug, Drop, PartialEq, Eq)]
+pub enum ParseError {
+    /// No document goes on with this token, which is told as it is displayed.
+    UnexpectedToken(String),
+    /// The source ends within a document.
+    UnexpectedEndOfFile,
+    /// The source has no token here.
+    LexerError(LexerError),
+    /// The scalar type does not read this literal.
+    ExpectedScalarError(&'static str),
+}
+
+/// Why a lexer gave no token.
+#[derive(Debug, Drop)]
+pub enum LexFailure {
+    /// The text is no token. The fault has zero width.
+    Fault(Spanning<LexerError>),
+    /// Memory ran out.
+    Memory,
+}
+
+/// Why a parser gave nothing.
+#[derive(Debug, Drop)]
+pub enum ParseFailure {
+    /// The text is refused.
+    Refused(Spanning<ParseError>),
+    /// Memory ran out.
+    Memory,
+}
+
+/// An item with its place, or why there is none.
+pub type ParseResult<T> = Result<Spanning<T>, ParseFailure>;
+
+/// An item without a place, or why there is none.
+pub type UnlocatedParseResult<T> = Result<T, ParseFailure>;
+
+/// An item with its place, if it stands there, or why the text is refused.
+pub type OptionParseResult<T> = Result<Option<Spanning<T>>, ParseFailure>;
+
+impl From<AllocError> for ParseFailure {
+    ghost use Rattle.juniper_tokens.specs.declared.error.ParseFailure.TheVariants.{Memory};
+
+    ghost from_gives = { λ _ e. e ≡ Memory };
+
+    fn from(_error: AllocError) -> ParseFailure {
+        ParseFailure::Memory
+    }
+}
+
+impl<T: Drop> From<AllocFailed<T>> for ParseFailure {
+    ghost use Rattle.juniper_tokens.specs.declared.error.ParseFailure.TheVariants.{Memory};
+
+    ghost from_gives = { λ _ e. e ≡ Memory };
+
+    fn from(_error: AllocFailed<T>) -> ParseFailure {
+        ParseFailure::Memory
+    }
+}
+
+impl fmt::Display for LexerError {
+    ghost use Rattle.graphql_lexical.specs.Display.{error_text};
+    ghost use Rattle.juniper_tokens.specs.Errors.{view_lexer_error};
+
+    ghost output = { λ e. Some (encode_utf8_all (error_text (view_lexer_error e))) };
+
+    fn fmt<W: fmt::Write>(&self, f: &mut fmt::Formatter<W>) -> fmt::Result {
+        match self {
+            LexerError::UnknownCharacter(c) => write!(f, "Unknown character \"{c}\""),
+            LexerError::UnexpectedCharacter(c) => write!(f, "Unexpected character \"{c}\""),
+            LexerError::UnterminatedString => write!(f, "Unterminated string literal"),
+            LexerError::UnknownCharacterInString(c) => {
+                write!(f, "Unknown character \"{c}\" in string literal")
+            }
+            LexerError::UnknownEscapeSequence(s) => {
+                write!(f, "Unknown escape sequence \"{s}\" in string")
+            }
+            LexerError::UnexpectedEndOfFile => write!(f, "Unexpected end of input"),
+            LexerError::InvalidNumber => write!(f, "Invalid number literal"),
+        }
+    }
+}
+
+impl fmt::Display for ParseError {
+    ghost use Rattle.juniper_tokens.specs.Errors.{view_error, error_text};
+
+    ghost output = { λ e. Some (encode_utf8_all (error_text (view_error e))) };
+
+    fn fmt<W: fmt::Write>(&self, f: &mut fmt::Formatter<W>) -> fmt::Result {
+        match self {
+            ParseError::UnexpectedToken(text) => write!(f, "Unexpected \"{text}\""),
+            ParseError::UnexpectedEndOfFile => write!(f, "Unexpected end of input"),
+            ParseError::LexerError(error) => fmt::Display::fmt(error, f),
+            ParseError::ExpectedScalarError(text) => write_text(f, text),
+        }
+    }
+}
+
+impl ParseError {
+    ghost use Rattle.juniper_tokens.specs.Tokens.{shown_token};
+    ghost use Rattle.juniper_tokens.specs.Errors.{view_error, UnexpectedToken};
+
+    /// The error that tells a token as unexpected, by the token's display.
+    pub fn unexpected_token(alloc: Global, token: Token<'_>) -> Result<Self, AllocError>
+        ensures { IfOk result (λ e. view_error e ≡ UnexpectedToken (shown_token token.entry)) }
+    {
+        Ok(ParseError::UnexpectedToken(token.to_string(alloc)?))
+    }
+}

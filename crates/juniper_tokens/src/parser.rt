@@ -1,0 +1,175 @@
+//! The cursor over the tokens of a source.
+ghost use Rattle.std.specs.Prelude.{◌≡◌, ◌<◌, ◌≤◌, ◌∷◌, drop, false, length, option_map, OnOk};
+ghost use Rattle.graphql_lexical.specs.declared.kind.Kind.TheVariants.{EndOfFile};
+ghost use Rattle.graphql_lexical.specs.Kinds.{same_kind};
+ghost use Rattle.graphql_lexical.specs.Cutting.{Lexeme};
+ghost use Rattle.juniper_tokens.specs.Tokens.{token_kind, token_text, view_token, view_tokens, view_name};
+ghost use Rattle.juniper_tokens.specs.Cursor.{Gives, OnMemory, Unmoved, EndsOnce, first_of, kind_at, is_wanted, next_at, refused_at, expect_at, expect_name_at, skip_at};
+
+use crate::error::{OptionParseResult, ParseError, ParseFailure, ParseResult};
+use crate::span::Spanning;
+use crate::token::Token;
+use std::alloc::Global;
+use std::marker::Model;
+
+/// The tokens of a source that are left, the last of which and no other is the end.
+///
+/// The end is never taken: at the end each call answers `UnexpectedEndOfFile` with the end's place.
+#[derive(Drop)]
+pub struct Parser<'a> {
+    alloc: Global,
+    tokens: Vec<Spanning<Token<'a>>>,
+    taken: usize,
+}
+
+impl<'a> Model for Parser<'a> {
+    ghost use Rattle.std.specs.Prelude.{List, ◌<◌, length, drop};
+    ghost use Rattle.graphql_lexical.specs.Cutting.{Lexeme};
+    ghost use Rattle.juniper_tokens.specs.Tokens.{view_tokens};
+    ghost use Rattle.juniper_tokens.specs.Cursor.{EndsOnce};
+
+    ghost Value = { List Lexeme };
+
+    ghost view = { λ p. view_tokens (drop p.taken p.tokens.items) };
+
+    ghost invariant = { λ p. (p.taken < length p.tokens.items) × EndsOnce (view_tokens (drop p.taken p.tokens.items)) };
+}
+
+impl<'a> Parser<'a> {
+    // A cursor at the first of these tokens.
+    pub(crate) fn from_tokens(alloc: Global, tokens: Vec<Spanning<Token<'a>>>) -> Self
+        requires { EndsOnce (view_tokens tokens.items) }
+        ensures { result ≡ view_tokens tokens.entry.items }
+    {
+        Parser {
+            alloc,
+            tokens,
+            taken: 0,
+        }
+    }
+
+    /// The allocator of the lexer that gave the tokens.
+    pub fn allocator(&self) -> Global {
+        self.alloc
+    }
+
+    /// The next token, which is left there.
+    pub fn peek(&self) -> &Spanning<Token<'a>>
+        ensures first { view_token result.now ≡ first_of self.now }
+        ensures ended { EndsOnce self.now }
+    {
+        &self.tokens[self.taken]
+    }
+
+    // A copy of the next token.
+    fn front(&self) -> Spanning<Token<'a>>
+        ensures first { view_token result ≡ first_of self.now }
+        ensures ended { EndsOnce self.now }
+    {
+        let token = self.peek();
+        Spanning::new(token.span, token.item)
+    }
+
+    // Goes past the next token, which is not the end.
+    fn advance(&mut self)
+        requires { same_kind (kind_at self.old) EndOfFile ≡ false }
+        ensures { self.new ≡ drop 1 self.old }
+    {
+        self.taken += 1;
+    }
+
+    /// Takes the next token. At the end it answers `UnexpectedEndOfFile`, and nothing is taken.
+    pub fn next_token(&mut self) -> ParseResult<Token<'a>>
+        ensures gives { Gives view_token result self.new (next_at self.old) }
+        ensures shorter { OnOk result (length self.new < length self.old) }
+        ensures memory { OnMemory result ⊥ }
+    {
+        let token = self.front();
+        if token.item.is_end() {
+            return Err(ParseFailure::Refused(Spanning::new(
+                token.span,
+                ParseError::UnexpectedEndOfFile,
+            )));
+        }
+        self.advance();
+        Ok(token)
+    }
+
+    // Takes the next token, and tells that it is unexpected.
+    fn refuse<T: Drop>(&mut self) -> Result<T, ParseFailure>
+        ensures gives { Gives (λ x. x) result self.new (refused_at self.old) }
+        ensures never { OnOk result ⊥ }
+        ensures memory { OnMemory result (Unmoved {A = Lexeme} self.old self.new (refused_at self.old)) }
+    {
+        let token = self.front();
+        if token.item.is_end() {
+            return Err(ParseFailure::Refused(Spanning::new(
+                token.span,
+                ParseError::UnexpectedEndOfFile,
+            )));
+        }
+        let error = ParseError::unexpected_token(self.alloc, token.item)?;
+        self.advance();
+        Err(ParseFailure::Refused(Spanning::new(token.span, error)))
+    }
+
+    /// Takes the next token, which has to equal the wanted one in kind and text.
+    ///
+    /// Another token is taken too, and told as `UnexpectedToken`. At the end, whatever was wanted, it answers
+    /// `UnexpectedEndOfFile`, and nothing is taken. Want of memory, for the text of a refusal, leaves all as it was.
+    pub fn expect(&mut self, wanted: &Token<'_>) -> ParseResult<Token<'a>>
+        ensures gives { Gives view_token result self.new (expect_at wanted.now self.old) }
+        ensures shorter { OnOk result (length self.new < length self.old) }
+        ensures memory { OnMemory result (Unmoved self.old self.new (expect_at wanted.now self.old)) }
+    {
+        if self.is_next(wanted) {
+            self.next_token()
+        } else {
+            self.refuse()
+        }
+    }
+
+    // Whether the next token equals the wanted one in kind and text.
+    fn is_next(&self, wanted: &Token<'_>) -> bool
+        ensures { result ≡ is_wanted (token_kind wanted.now) (token_text wanted.now) (first_of self.now) }
+    {
+        self.peek().item == *wanted
+    }
+
+    /// Takes the next token if it equals the wanted one, and else answers None and takes nothing.
+    ///
+    /// At the end, whatever was wanted, it answers `UnexpectedEndOfFile`, and nothing is taken.
+    pub fn skip(&mut self, wanted: &Token<'_>) -> OptionParseResult<Token<'a>>
+        ensures gives { Gives (option_map view_token) result self.new (skip_at wanted.now self.old) }
+        ensures not_longer { OnOk result (length self.new ≤ length self.old) }
+        ensures memory { OnMemory result ⊥ }
+    {
+        if self.is_next(wanted) {
+            return Ok(Some(self.next_token()?));
+        }
+        let token = self.front();
+        if token.item.is_end() {
+            return Err(ParseFailure::Refused(Spanning::new(
+                token.span,
+                ParseError::UnexpectedEndOfFile,
+            )));
+        }
+        Ok(None)
+    }
+
+    /// Takes the next token, which has to be a Name, and gives its text. Refusals are those of `expect`.
+    pub fn expect_name(&mut self) -> ParseResult<&'a str>
+        ensures gives { Gives view_name result self.new (expect_name_at self.old) }
+        ensures shorter { OnOk result (length self.new < length self.old) }
+        ensures memory { OnMemory result (Unmoved self.old self.new (expect_name_at self.old)) }
+    {
+        let token = self.front();
+        match token.item {
+            Token::Name(name) => {
+                self.advance();
+                Ok(Spanning::new(token.span, name))
+            }
+            _ => self.refuse(),
+        }
+    }
+}

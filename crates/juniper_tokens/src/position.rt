@@ -1,0 +1,112 @@
+//! Places in a source text.
+ghost use Rattle.std.specs.Prelude.{◌≡◌, ℕ, ◌+◌, ◌<◌, ◌≤◌, ◌^◌, Some};
+ghost use Rattle.graphql_lexical.specs.Place.{Place};
+ghost use Rattle.juniper_tokens.specs.Positions.{origin, next_column, next_line, columns_on, position_text};
+
+use std::fmt;
+use std::marker::Model;
+
+/// A place in a source text, counted in characters and not in bytes.
+///
+/// A line ends at a line feed alone. All three numbers count from 0, and the line and the column together
+/// are never above the index.
+#[derive(Clone, Copy, Debug, PartialEq, Eq, PartialOrd, Ord, Hash)]
+pub struct SourcePosition {
+    index: usize,
+    line: usize,
+    col: usize,
+}
+
+impl Model for SourcePosition {
+    ghost Value = { Place };
+
+    ghost view = { λ p. record { index = p.index; line = p.line; column = p.col } };
+
+    ghost invariant = { λ p. p.line + p.col ≤ p.index };
+
+    ghost inverse = { λ p. record { index = p.index; line = p.line; col = p.column } };
+}
+
+impl SourcePosition {
+    /// The place behind `index` characters, at column `col` of line `line`.
+    pub fn new(index: usize, line: usize, col: usize) -> Self
+        requires { line + col ≤ index }
+        ensures { result ≡ record { index = index; line = line; column = col } }
+    {
+        SourcePosition { index, line, col }
+    }
+
+    /// The place where a source begins.
+    pub fn new_origin() -> Self
+        ensures { result ≡ origin }
+    {
+        SourcePosition {
+            index: 0,
+            line: 0,
+            col: 0,
+        }
+    }
+
+    /// Goes past a character that is no line feed.
+    pub fn advance_col(&mut self)
+        requires { self.old.index < usize.MAX }
+        ensures { self.new ≡ next_column self.old }
+    {
+        self.index += 1;
+        self.col += 1;
+    }
+
+    /// Goes past a line feed.
+    pub fn advance_line(&mut self)
+        requires { self.old.index < usize.MAX }
+        ensures { self.new ≡ next_line self.old }
+    {
+        self.index += 1;
+        self.line += 1;
+        self.col = 0;
+    }
+
+    /// The place `count` characters on in the same line.
+    pub(crate) fn columns_on(self, count: usize) -> Self
+        requires { self.index + count < 2 ^ 64 }
+        ensures { result ≡ columns_on count self }
+    {
+        SourcePosition {
+            index: self.index + count,
+            line: self.line,
+            col: self.col + count,
+        }
+    }
+
+    /// How many characters stand before this place.
+    pub fn index(&self) -> usize
+        ensures { result ≡ self.now.index }
+    {
+        self.index
+    }
+
+    /// How many line feeds stand before this place.
+    pub fn line(&self) -> usize
+        ensures { result ≡ self.now.line }
+    {
+        self.line
+    }
+
+    /// How many characters stand between the last line feed and this place.
+    pub fn column(&self) -> usize
+        ensures { result ≡ self.now.column }
+    {
+        self.col
+    }
+}
+
+/// Displays the line, a colon and the column, as `2:7`.
+impl fmt::Display for SourcePosition {
+    ghost output = { λ p. Some (position_text p) };
+
+    fn fmt<W: fmt::Write>(&self, f: &mut fmt::Formatter<W>) -> fmt::Result {
+        let line = self.line;
+        let col = self.col;
+        write!(f, "{line}:{col}")
+    }
+}

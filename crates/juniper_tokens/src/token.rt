@@ -1,0 +1,248 @@
+//! Tokens.
+ghost use Rattle.std.specs.Prelude.{◌≡◌, Some, nat_eq};
+ghost use Rattle.std.specs.Cmp.Lexicographic.{pointwise};
+ghost use Rattle.std.specs.Fmt.{DisplaysOnOk};
+ghost use Rattle.std.specs.Str.{chars, encode_utf8_all};
+ghost use Rattle.graphql_lexical.specs.Display.{quoted, escaped, escape};
+
+use graphql_lexical::Kind;
+use std::fmt;
+
+/// A token that spells a scalar, with its text as it stands in the source.
+///
+/// The text of a String is what stands between its quotes, escapes not replaced.
+#[derive(Clone, Copy, Debug)]
+pub enum ScalarToken<'a> {
+    String(&'a str),
+    Float(&'a str),
+    Int(&'a str),
+}
+
+/// A token of the language (GraphQL specification, October 2021, section 2.1).
+#[derive(Clone, Copy, Debug)]
+pub enum Token<'a> {
+    Name(&'a str),
+    Scalar(ScalarToken<'a>),
+    ExclamationMark,
+    Dollar,
+    ParenOpen,
+    ParenClose,
+    BracketOpen,
+    BracketClose,
+    CurlyOpen,
+    CurlyClose,
+    Ellipsis,
+    Colon,
+    Equals,
+    At,
+    Pipe,
+    /// The end of the source.
+    EndOfFile,
+}
+
+// Whether two texts have the same characters.
+fn same_text(a: &str, b: &str) -> bool
+    ensures { result ≡ pointwise nat_eq (chars a.now) (chars b.now) }
+{
+    a == b
+}
+
+impl<'a> ScalarToken<'a> {
+    ghost use Rattle.juniper_tokens.specs.Tokens.{scalar_kind, scalar_text};
+
+    /// The token without its text.
+    pub fn kind(&self) -> Kind
+        ensures { result ≡ scalar_kind self.now }
+    {
+        match self {
+            ScalarToken::String(_) => Kind::String,
+            ScalarToken::Float(_) => Kind::Float,
+            ScalarToken::Int(_) => Kind::Int,
+        }
+    }
+
+    /// The token's text.
+    pub fn text(&self) -> &'a str
+        ensures { chars result.now ≡ scalar_text self.now }
+    {
+        match self {
+            ScalarToken::String(text) => text,
+            ScalarToken::Float(text) => text,
+            ScalarToken::Int(text) => text,
+        }
+    }
+}
+
+impl<'a> Token<'a> {
+    ghost use Rattle.juniper_tokens.specs.Tokens.{token_kind, token_text};
+    ghost use Rattle.graphql_lexical.specs.declared.kind.Kind.TheVariants.{EndOfFile};
+    ghost use Rattle.graphql_lexical.specs.Kinds.{same_kind};
+
+    /// The token without its text.
+    pub fn kind(&self) -> Kind
+        ensures { result ≡ token_kind self.now }
+    {
+        match self {
+            Token::Name(_) => Kind::Name,
+            Token::Scalar(scalar) => scalar.kind(),
+            Token::ExclamationMark => Kind::ExclamationMark,
+            Token::Dollar => Kind::Dollar,
+            Token::ParenOpen => Kind::ParenOpen,
+            Token::ParenClose => Kind::ParenClose,
+            Token::BracketOpen => Kind::BracketOpen,
+            Token::BracketClose => Kind::BracketClose,
+            Token::CurlyOpen => Kind::CurlyOpen,
+            Token::CurlyClose => Kind::CurlyClose,
+            Token::Ellipsis => Kind::Ellipsis,
+            Token::Colon => Kind::Colon,
+            Token::Equals => Kind::Equals,
+            Token::At => Kind::At,
+            Token::Pipe => Kind::Pipe,
+            Token::EndOfFile => Kind::EndOfFile,
+        }
+    }
+
+    /// The token's text: of a String what stands between its quotes, of the end nothing, else the whole token.
+    #[tactic(auto, using(crate::proofs::FixedTexts::fixed_texts))]
+    pub fn text(&self) -> &'a str
+        ensures { chars result.now ≡ token_text self.now }
+    {
+        match self {
+            Token::Name(text) => text,
+            Token::Scalar(scalar) => scalar.text(),
+            Token::ExclamationMark => "!",
+            Token::Dollar => "$",
+            Token::ParenOpen => "(",
+            Token::ParenClose => ")",
+            Token::BracketOpen => "[",
+            Token::BracketClose => "]",
+            Token::CurlyOpen => "{",
+            Token::CurlyClose => "}",
+            Token::Ellipsis => "...",
+            Token::Colon => ":",
+            Token::Equals => "=",
+            Token::At => "@",
+            Token::Pipe => "|",
+            Token::EndOfFile => "",
+        }
+    }
+
+    pub(crate) fn is_end(&self) -> bool
+        ensures { result ≡ same_kind (token_kind self.now) EndOfFile }
+    {
+        self.kind() == Kind::EndOfFile
+    }
+}
+
+impl<'a> PartialEq for Token<'a> {
+    ghost use Rattle.juniper_tokens.specs.Tokens.{same_token};
+    ghost use Rattle.juniper_tokens.specs.TokenLaws.{same_token-laws};
+
+    ghost eq = { same_token };
+
+    ghost laws = { same_token-laws };
+
+    fn eq(&self, other: &Token<'a>) -> bool {
+        self.kind() == other.kind() && same_text(self.text(), other.text())
+    }
+}
+
+impl<'a> Eq for Token<'a> {
+    ghost use Rattle.juniper_tokens.specs.TokenLaws.{same_token-equiv};
+
+    ghost laws = { same_token-equiv };
+}
+
+impl<'a> PartialEq for ScalarToken<'a> {
+    ghost use Rattle.juniper_tokens.specs.Tokens.{same_scalar};
+    ghost use Rattle.juniper_tokens.specs.TokenLaws.{same_scalar-laws};
+
+    ghost eq = { same_scalar };
+
+    ghost laws = { same_scalar-laws };
+
+    fn eq(&self, other: &ScalarToken<'a>) -> bool {
+        self.kind() == other.kind() && same_text(self.text(), other.text())
+    }
+}
+
+impl<'a> Eq for ScalarToken<'a> {
+    ghost use Rattle.juniper_tokens.specs.TokenLaws.{same_scalar-equiv};
+
+    ghost laws = { same_scalar-equiv };
+}
+
+// Writes the text as it stands.
+pub(crate) fn write_text<W: fmt::Write>(f: &mut fmt::Formatter<W>, text: &str) -> fmt::Result
+    ensures { DisplaysOnOk W.write_str_gives f.old result (Some (encode_utf8_all (chars text.now))) f.new }
+{
+    f.write_str(text)
+}
+
+// Writes the text between quotes, with a backslash before each quote and each backslash.
+fn write_string<W: fmt::Write>(f: &mut fmt::Formatter<W>, text: &str) -> fmt::Result
+    ensures { DisplaysOnOk W.write_str_gives f.old result (Some (encode_utf8_all (quoted (escaped (chars text.now))))) f.new }
+{
+    f.write_str("\"")?;
+    write_escaped(f, text)?;
+    f.write_str("\"")
+}
+
+fn write_escaped<W: fmt::Write>(f: &mut fmt::Formatter<W>, text: &str) -> fmt::Result
+    ensures { DisplaysOnOk W.write_str_gives f.old result (Some (encode_utf8_all (escaped (chars text.now)))) f.new }
+{
+    for c in text.chars() {
+        write_escaped_char(f, c)?;
+    }
+    Ok(())
+}
+
+fn write_escaped_char<W: fmt::Write>(f: &mut fmt::Formatter<W>, c: char) -> fmt::Result
+    ensures { DisplaysOnOk W.write_str_gives f.old result (Some (encode_utf8_all (escape c))) f.new }
+{
+    if c == '"' || c == '\\' {
+        f.write_str("\\")?;
+    }
+    f.write_char(c)
+}
+
+impl<'a> fmt::Display for ScalarToken<'a> {
+    ghost use Rattle.juniper_tokens.specs.Tokens.{shown_scalar};
+
+    ghost output = { λ t. Some (encode_utf8_all (shown_scalar t)) };
+
+    fn fmt<W: fmt::Write>(&self, f: &mut fmt::Formatter<W>) -> fmt::Result {
+        match self {
+            ScalarToken::String(text) => write_string(f, text),
+            ScalarToken::Float(text) => write_text(f, text),
+            ScalarToken::Int(text) => write_text(f, text),
+        }
+    }
+}
+
+impl<'a> fmt::Display for Token<'a> {
+    ghost use Rattle.juniper_tokens.specs.Tokens.{shown_token};
+
+    ghost output = { λ t. Some (encode_utf8_all (shown_token t)) };
+
+    fn fmt<W: fmt::Write>(&self, f: &mut fmt::Formatter<W>) -> fmt::Result {
+        match self {
+            Token::Name(text) => write_text(f, text),
+            Token::Scalar(scalar) => fmt::Display::fmt(scalar, f),
+            Token::ExclamationMark => f.write_str("!"),
+            Token::Dollar => f.write_str("$"),
+            Token::ParenOpen => f.write_str("("),
+            Token::ParenClose => f.write_str(")"),
+            Token::BracketOpen => f.write_str("["),
+            Token::BracketClose => f.write_str("]"),
+            Token::CurlyOpen => f.write_str("{"),
+            Token::CurlyClose => f.write_str("}"),
+            Token::Ellipsis => f.write_str("..."),
+            Token::Colon => f.write_str(":"),
+            Token::Equals => f.write_str("="),
+            Token::At => f.write_str("@"),
+            Token::Pipe => f.write_str("|"),
+            Token::EndOfFile => f.write_str("End of file"),
+        }
+    }
+}
