@@ -1,11 +1,17 @@
 -- What is claimed of the definitions.
-use Rattle.std.specs.Prelude.{◌≡◌, ◌≢◌, ℕ, ◌≤◌, List, [], ◌∷◌, ◌++◌, length, ◌⊎◌, ◌↔◌, Ok, Err}
+use Rattle.std.specs.Prelude.{◌≡◌, ◌≢◌, ℕ, ◌-◌, ◌≤◌, ◌+◌, List, [], ◌∷◌, ◌++◌, length, slice_get, take, drop, ◌⊎◌, ◌↔◌, Some, Ok, Err}
 use Rattle.std.specs.List.{AllByRecursion}
 use Rattle.graphql_lexical.specs.Kinds.{Kind, EndOfFile, LexicalError}
-use Rattle.graphql_lexical.specs.Place.{Place}
+use Rattle.graphql_lexical.specs.Place.{Place, Span, place, origin, past_character}
+use Rattle.graphql_lexical.specs.Tokens.{text_of}
 use Rattle.graphql_lexical.specs.Reading.{Reads, Fails}
 use Rattle.graphql_lexical.specs.Cutting.{Lexeme, Cut, Breaks}
 use Rattle.graphql_lexical.specs.Scan.{Found, Missed, Broken, scan, cut_of}
+
+-- the first place of a source is the origin, and each further one follows from the one before by the character between
+pub record StepsByCharacters (source : List ℕ) : Type 0 where
+  pub first : place source 0 ≡ origin
+  pub next : (k c : ℕ) → slice_get source k ≡ Some c → place source (k + 1) ≡ past_character (place source k) c
 
 -- what scan finds is what is read
 abbrev pub FindsWhatReads : List ℕ → Type 0
@@ -54,3 +60,26 @@ HasOneEnd source = ((lexemes : List Lexeme) × IsOnlyCut source lexemes) ⊎ ((e
 -- a source of n characters has at most n + 1 tokens, the last the end and no other
 abbrev pub HasFewTokens : List ℕ → Type 0
 HasFewTokens source = (front : List Lexeme) (last : Lexeme) → Cut source (front ++ last ∷ []) → (length front ≤ length source) × (last.kind ≡ EndOfFile) × AllByRecursion (λ x. x.kind ≢ EndOfFile) front
+
+-- the characters from one place to another
+abbrev pub slice_of : List ℕ → Span → List ℕ
+slice_of source span = take (span.end.index - span.start.index) (drop span.start.index source)
+
+-- The token stands at or behind character k: its places are places of the source, and its text is what stands
+-- between them, of a String without the quotes.
+pub record IsSliceFrom (source : List ℕ) (k : ℕ) (x : Lexeme) : Type 0 where
+  pub behind : k ≤ x.span.start.index
+  pub forward : x.span.start.index ≤ x.span.end.index
+  pub within : x.span.end.index ≤ length source
+  pub start : x.span.start ≡ place source x.span.start.index
+  pub end : x.span.end ≡ place source x.span.end.index
+  pub text : x.text ≡ text_of x.kind (slice_of source x.span)
+
+-- each token stands behind the one before it
+abbrev pub AreSlicesFrom : List ℕ → ℕ → List Lexeme → Type 0
+AreSlicesFrom source k [] = Unit {0}
+AreSlicesFrom source k (x ∷ xs) = IsSliceFrom source k x × AreSlicesFrom source x.span.end.index xs
+
+-- the tokens of a source are slices of it, one behind the other
+abbrev pub HasSlicesInOrder : List ℕ → Type 0
+HasSlicesInOrder source = (lexemes : List Lexeme) → Cut source lexemes → AreSlicesFrom source 0 lexemes

@@ -1,7 +1,15 @@
 //! Laws of the lexical grammar.
 ghost use Rattle.std.specs.Prelude.{ℕ, List, ◌≡◌};
-ghost use Rattle.graphql_lexical.specs.Laws.{FindsWhatReads, MissesWhatFails, HasOneAnswer, CutsWhatIsCut, BreaksWhatIsBroken, HasOneEnd, HasFewTokens};
+ghost use Rattle.graphql_lexical.specs.Laws.{StepsByCharacters, FindsWhatReads, MissesWhatFails, HasOneAnswer, CutsWhatIsCut, BreaksWhatIsBroken, HasOneEnd, HasFewTokens, HasSlicesInOrder};
 ghost use Rattle.graphql_lexical.specs.Joining.{Joins};
+
+/// The place of a source's beginning is the origin, and each further place follows from the one before it by
+/// the character between: a line feed begins a line, and any other character, a carriage return too, goes one
+/// column on.
+#[tactic(auto, using(crate::proofs::Places::steps_by_characters))]
+pub fn places_step_by_characters()
+    ensures { (source : List ℕ) → StepsByCharacters source }
+{}
 
 /// A rest has exactly one token or one fault.
 pub fn one_answer()
@@ -31,7 +39,13 @@ pub fn joined_texts()
     ensures { (a b : List ℕ) → Joins a b }
 {}
 
-/// The lexer ends.
+/// A token's text is the slice of the source between its places, of a String without the quotes. Each token
+/// stands behind the one before it.
+pub fn slices_in_order()
+    ensures { (source : List ℕ) → HasSlicesInOrder source }
+{}
+
+/// A source of n characters that can be cut has at most n + 1 tokens, the last of which and no other is the end.
 pub fn few_tokens()
     ensures { (source : List ℕ) → HasFewTokens source }
 {}
