@@ -1,0 +1,123 @@
+//! The tree of an executable document.
+
+use crate::values::{InputValue, Type};
+use juniper_tokens::Spanning;
+
+/// What a variable is declared as (GraphQL specification, October 2021, section 2.10).
+#[derive(Drop)]
+pub struct VariableDefinition<'a, S: Drop> {
+    pub var_type: Spanning<Type<&'a str>>,
+    pub default_value: Option<Spanning<InputValue<S>>>,
+    pub directives: Option<Vec<Spanning<Directive<'a, S>>>>,
+}
+
+/// The variables of an operation, by their names, without the `$`
+/// (GraphQL specification, October 2021, section 2.10).
+#[derive(Drop)]
+pub struct VariableDefinitions<'a, S: Drop> {
+    pub items: Vec<(Spanning<&'a str>, VariableDefinition<'a, S>)>,
+}
+
+/// The arguments of a field or a directive, in the order in which they are written
+/// (GraphQL specification, October 2021, section 2.6).
+#[derive(Drop)]
+pub struct Arguments<'a, S: Drop> {
+    pub items: Vec<(Spanning<&'a str>, Spanning<InputValue<S>>)>,
+}
+
+/// A field of a selection set (GraphQL specification, October 2021, section 2.5).
+#[derive(Drop)]
+#[cycle(ast)]
+pub struct Field<'a, S: Drop> {
+    /// The name that the answer uses in place of the field's own.
+    pub alias: Option<Spanning<&'a str>>,
+    pub name: Spanning<&'a str>,
+    pub arguments: Option<Spanning<Arguments<'a, S>>>,
+    /// None where there is none, and else not empty.
+    pub directives: Option<Vec<Spanning<Directive<'a, S>>>>,
+    /// None where there is none, and else not empty.
+    pub selection_set: Option<Vec<Selection<'a, S>>>,
+}
+
+/// The use of a fragment by its name (GraphQL specification, October 2021, section 2.8).
+#[derive(Drop)]
+pub struct FragmentSpread<'a, S: Drop> {
+    pub name: Spanning<&'a str>,
+    /// None where there is none, and else not empty.
+    pub directives: Option<Vec<Spanning<Directive<'a, S>>>>,
+}
+
+/// Selections that stand under a type condition or under directives
+/// (GraphQL specification, October 2021, section 2.8.2).
+#[derive(Drop)]
+#[cycle(ast)]
+pub struct InlineFragment<'a, S: Drop> {
+    /// The type on which the selections apply; None where they apply on any.
+    pub type_condition: Option<Spanning<&'a str>>,
+    /// None where there is none, and else not empty.
+    pub directives: Option<Vec<Spanning<Directive<'a, S>>>>,
+    pub selection_set: Vec<Selection<'a, S>>,
+}
+
+/// An entry of a selection set (GraphQL specification, October 2021, section 2.4).
+#[derive(Drop)]
+#[cycle(ast)]
+pub enum Selection<'a, S: Drop> {
+    Field(Spanning<Field<'a, S>>),
+    FragmentSpread(Spanning<FragmentSpread<'a, S>>),
+    InlineFragment(Spanning<InlineFragment<'a, S>>),
+}
+
+/// A directive (GraphQL specification, October 2021, section 2.12).
+#[derive(Drop)]
+pub struct Directive<'a, S: Drop> {
+    /// The name, without its `@`.
+    pub name: Spanning<&'a str>,
+    pub arguments: Option<Spanning<Arguments<'a, S>>>,
+}
+
+/// What an operation does (GraphQL specification, October 2021, section 2.3).
+#[derive(Clone, Copy, Debug, PartialEq, Eq)]
+pub enum OperationType {
+    /// A fetch that only reads. A selection set alone is a query too.
+    Query,
+    /// A write, and a fetch after it.
+    Mutation,
+    /// A request that stays, and fetches at each event of its source.
+    Subscription,
+}
+
+/// An operation (GraphQL specification, October 2021, section 2.3).
+#[derive(Drop)]
+pub struct Operation<'a, S: Drop> {
+    pub operation_type: OperationType,
+    pub name: Option<Spanning<&'a str>>,
+    pub variable_definitions: Option<Spanning<VariableDefinitions<'a, S>>>,
+    /// None where there is none, and else not empty.
+    pub directives: Option<Vec<Spanning<Directive<'a, S>>>>,
+    pub selection_set: Vec<Selection<'a, S>>,
+}
+
+/// The definition of a fragment (GraphQL specification, October 2021, section 2.8).
+#[derive(Drop)]
+pub struct Fragment<'a, S: Drop> {
+    pub name: Spanning<&'a str>,
+    /// The type on which the fragment applies.
+    pub type_condition: Spanning<&'a str>,
+    /// None where there is none, and else not empty.
+    pub directives: Option<Vec<Spanning<Directive<'a, S>>>>,
+    pub selection_set: Vec<Selection<'a, S>>,
+}
+
+/// A definition of an executable document (GraphQL specification, October 2021, section 2.2).
+#[derive(Drop)]
+pub enum Definition<'a, S: Drop> {
+    Operation(Spanning<Operation<'a, S>>),
+    Fragment(Spanning<Fragment<'a, S>>),
+}
+
+/// The definitions of a document, in the order in which they are written
+/// (GraphQL specification, October 2021, section 2.2).
+///
+/// What only reads a document takes it as `&[Definition<'a, S>]`.
+pub type OwnedDocument<'a, S> = Vec<Definition<'a, S>>;
