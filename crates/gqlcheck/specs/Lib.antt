@@ -1,0 +1,4 @@
+pub mod Plain
+pub mod Lines
+pub mod Report
+pub mod Watched
