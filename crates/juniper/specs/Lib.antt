@@ -1,2 +1,5 @@
 pub mod Tree
 pub mod View
+pub mod Grammar
+pub mod Reading
+pub mod Answer

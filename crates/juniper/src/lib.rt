@@ -2,6 +2,10 @@
 #![tactic(auto)]
 
 mod ast;
+mod document;
+pub mod laws;
+mod next;
+mod selection;
 mod values;
 
 pub use ast::{
