@@ -5,3 +5,9 @@ pub mod Tokens
 pub mod TokenLaws
 pub mod Errors
 pub mod Cursor
+pub mod ByteClasses
+pub mod ByteRuns
+pub mod Machine
+pub mod Borders
+pub mod Walks
+pub mod Scans

@@ -1,12 +1,16 @@
 //! Positions, tokens, the lexer and the cursor of GraphQL's language.
 #![tactic(auto)]
 
+mod byte_classes;
 mod error;
+pub mod laws;
+mod lexer;
 mod parser;
 mod position;
 mod span;
 mod token;
 
+pub use byte_classes::{ByteClass, byte_class};
 pub use error::{
     LexFailure, LexerError, OptionParseResult, ParseError, ParseFailure, ParseResult,
     UnlocatedParseResult,

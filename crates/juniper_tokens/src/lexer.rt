@@ -1,0 +1,6 @@
+//! The lexer.
+
+mod machine;
+mod scan;
+mod text;
+mod walk;
