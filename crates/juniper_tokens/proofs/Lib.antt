@@ -8,3 +8,5 @@ pub mod Walks
 pub mod Stops
 pub mod EscapeFaults
 pub mod Places
+pub mod Lexing
+pub mod LexingByScan

@@ -11,3 +11,5 @@ pub mod Machine
 pub mod Borders
 pub mod Walks
 pub mod Scans
+pub mod Lexing
+pub mod LexingByScan

@@ -16,6 +16,7 @@ pub use error::{
     UnlocatedParseResult,
 };
 pub use graphql_lexical::Kind;
+pub use lexer::{Lexer, LexerResult};
 pub use parser::Parser;
 pub use position::SourcePosition;
 pub use span::{Span, Spanning};
