@@ -1,7 +1,7 @@
 -- Where a character begins in a text.
 use Rattle.std.proofs.Common.{◌≡◌, ℕ, zero, suc, ◌+◌, ◌-◌, ◌≤◌, ◌<◌, Bool, true, false, cond, ◌&&◌, inl, inr, append-nil, get_or, drop-cons, add-one, List, [], ◌∷◌, ◌++◌, length, take, drop, refl, sym, ap, subst, ◌∙◌, arith, length-append, take-append-drop}
 use Rattle.std.specs.Str.{chars, IsUtf8, IsCharBoundary}
-use Rattle.std.proofs.lemmas.Str.{encodes-chars, encodes-append, chars-encodes, scalars-chars, encode_ascii, chars-append, IsCharBoundary-at_seam, length-le-encodes}
+use Rattle.std.proofs.lemmas.Str.{encodes-chars, encodes-append, chars-encodes, scalars-chars, encode_ascii, chars-append, IsCharBoundary-at_seam}
 use Rattle.std.proofs.Math.Seq.{take-append_seam, drop-append_seam}
 use lib.Utf8.{scalar, scalars, encode, encodes}
 use Rattle.std.specs.Prelude.{take_while, ◌||◌}
@@ -77,9 +77,9 @@ letters_are : (n : ℕ) (cs : List ℕ) → length (take_while is_alphanumeric (
 letters_are zero cs = refl
 letters_are (suc n) [] = refl
 letters_are (suc n) (c ∷ cs) = elim (is_alphanumeric c) as (λ b. length (take (cond b (1 + prefix_len is_alphanumeric (take n cs)) 0) (c ∷ take n cs)) ≡ cond b (suc (letters n cs)) 0) [
-    true ↦ ap (λ k. length (take k (c ∷ take n cs))) (one_plus (prefix_len is_alphanumeric (take n cs))) ∙ ap suc (letters_are n cs)
+  | true ↦ ap (λ k. length (take k (c ∷ take n cs))) (one_plus (prefix_len is_alphanumeric (take n cs))) ∙ ap suc (letters_are n cs)
   | false ↦ refl
-  ]
+]
 
 letter_low : (c : ℕ) → 128 ≤ c → is_alphanumeric c ≡ false
 letter_low c l = grind arith
@@ -88,9 +88,9 @@ letters_in_bytes : (n : ℕ) (cs : List ℕ) → letters n (encodes cs) ≡ lett
 letters_in_bytes zero cs = refl
 letters_in_bytes (suc n) [] = refl
 letters_in_bytes (suc n) (c ∷ cs) = elim (low_or_high c) [
-    inl l ↦ rw (encode_ascii c l) (ap (λ k. cond (is_alphanumeric c) (suc k) 0) (letters_in_bytes n cs))
+  | inl l ↦ rw (encode_ascii c l) (ap (λ k. cond (is_alphanumeric c) (suc k) 0) (letters_in_bytes n cs))
   | inr h ↦ let w = wide c h in rw (w.is, letter_low c h, letter_low w.lead (omega (arith, w.high))) refl
-  ]
+]
 
 letter_is_low : (c : ℕ) → is_alphanumeric c ≡ true → c < 128
 letter_is_low c e = grind arith
@@ -100,8 +100,8 @@ letters_border zero cs = refl
 letters_border (suc n) [] = refl
 letters_border (suc n) (c ∷ cs) =
     (elim (is_alphanumeric c) as (λ b. is_alphanumeric c ≡ b → cond b (suc (letters n cs)) 0 ≡ byte_at (cond b (suc (letters n cs)) 0) (c ∷ cs)) [
-      true ↦ λ e. rw (encode_ascii c (letter_is_low c e)) (ap suc (letters_border n cs))
-    | false ↦ λ e. refl
+      | true ↦ λ e. rw (encode_ascii c (letter_is_low c e)) (ap suc (letters_border n cs))
+      | false ↦ λ e. refl
     ]) refl
 
 pub counted_from_bytes : (k : ℕ) (t bs : List ℕ) → IsUtf8 t → bs ≡ t → k ≡ letters 4 bs → k ≡ counted (chars t)

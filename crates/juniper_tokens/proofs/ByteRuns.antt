@@ -1,14 +1,13 @@
 -- A machine on characters goes over their bytes as over them.
-use Rattle.std.proofs.Common.{◌≡◌, ℕ, zero, suc, ◌+◌, ◌-◌, ◌*◌, ◌≤◌, ◌<◌, ◌⊎◌, inl, inr, Bool, true, false, cond, List, [], ◌∷◌, ◌++◌, length, take, drop, drop-cons, add-one, get_or, Option, Some, None, IsTrue, refl, sym, ap, ap₂, ◌∙◌, subst, arith, length-append, append_assoc}
-use Rattle.std.specs.Prelude.{option_map, nat_lt, ◌/◌, ◌%◌}
+use Rattle.std.proofs.Common.{◌≡◌, ℕ, suc, ◌+◌, ◌≤◌, ◌<◌, ◌⊎◌, inl, inr, Bool, true, false, cond, List, [], ◌∷◌, ◌++◌, length, take, drop, drop-cons, add-one, get_or, Option, Some, None, refl, sym, ap, ap₂, ◌∙◌, arith, length-append}
+use Rattle.std.specs.Prelude.{option_map, ◌/◌, ◌%◌}
 use Rattle.std.specs.List.{AllByRecursion, fold}
 use Rattle.std.proofs.lemmas.Str.{encode_ascii}
-use Rattle.std.proofs.lemmas.Bool.{cases_Bool}
 use Rattle.std.proofs.lemmas.List.{drop_all}
 use Rattle.graphql_lexical.specs.Scan.{onward, reach}
 use lib.Utf8.{encode, encodes, next}
 use lib.Dec.{ltb}
-use Rattle.juniper_tokens.specs.ByteRuns.{is_inner, byte_step, IsSamePastAscii, GoesOverBytes, byte_at, with_value, byte_change}
+use Rattle.juniper_tokens.specs.ByteRuns.{is_inner, byte_step, IsSamePastAscii, byte_at, with_value, byte_change}
 
 abbrev AreInner : List ℕ → Type 0
 AreInner = AllByRecursion (λ b. is_inner b ≡ true)
@@ -86,16 +85,16 @@ low_or_high c = grind arith
 
 char_stops : {S : Type 0} (step : S → ℕ → Option S) → IsSamePastAscii step → (q : S) (c : ℕ) (r : List ℕ) → step q c ≡ None → reach (byte_step step) q (encode c ++ r) ≡ pair 0 q
 char_stops step same q c r e = elim (low_or_high c) [
-    inl l ↦ rw (encode_ascii c l) (byte_stops step q c r (inner_low c l) e)
+  | inl l ↦ rw (encode_ascii c l) (byte_stops step q c r (inner_low c l) e)
   | inr h ↦ let w = wide c h in rw w.is (byte_stops step q w.lead (w.inners ++ r) (inner_high w.lead w.high) (same q w.lead c (omega (arith, w.high)) h ∙ e))
-  ]
+]
 
 char_goes : {S : Type 0} (step : S → ℕ → Option S) → IsSamePastAscii step → (q p : S) (c : ℕ) (r : List ℕ) → step q c ≡ Some p → reach (byte_step step) q (encode c ++ r) ≡ on (length (encode c)) (reach (byte_step step) p r)
 char_goes {S} step same q p c r e = elim (low_or_high c) [
-    inl l ↦ rw (encode_ascii c l) (byte_goes step q p c r (inner_low c l) e ∙ one_on (reach (byte_step step) p r))
+  | inl l ↦ rw (encode_ascii c l) (byte_goes step q p c r (inner_low c l) e ∙ one_on (reach (byte_step step) p r))
   | inr h ↦ let w = wide c h in rw w.is (byte_goes step q p w.lead (w.inners ++ r) (inner_high w.lead w.high) (same q w.lead c (omega (arith, w.high)) h ∙ e)
       ∙ (ap (λ (x : ℕ × S). pair (suc x.0) x.1) (past_inner step p w.inners r w.inner) ∙ on_next (length w.inners) (reach (byte_step step) p r)))
-  ]
+]
   where
     suc_one : (n : ℕ) → suc n ≡ 1 + n
     suc_one n = omega arith
@@ -130,9 +129,9 @@ same_with_value step f s g q c d l m = ap₂ (λ o y. option_map (λ p. (p, y)) 
 
 pub bytes_with_value : {S X : Type 0} (step : S → ℕ → Option S) (f : X → ℕ → X) (q : S) (x : X) (b : ℕ) → byte_step (with_value step f) (q, x) b ≡ option_map (λ p. (p, byte_change f x b)) (byte_step step q b)
 bytes_with_value step f q x b = elim (is_inner b) as (λ i. cond i (Some (q, x)) (with_value step f (q, x) b) ≡ option_map (λ p. (p, cond i x (f x b))) (cond i (Some q) (step q b))) [
-      | true ↦ refl
-      | false ↦ refl
-    ]
+  | true ↦ refl
+  | false ↦ refl
+]
 
 -- ---- a loop over a list
 

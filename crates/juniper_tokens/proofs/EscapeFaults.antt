@@ -1,5 +1,5 @@
 -- The texts of escapes that are none.
-use Rattle.std.proofs.Common.{◌≡◌, ℕ, suc, ◌+◌, ◌-◌, ◌≤◌, ◌<◌, inl, inr, List, [], ◌∷◌, ◌++◌, length, take, drop, refl, sym, ap, subst, ◌∙◌, arith, length-drop}
+use Rattle.std.proofs.Common.{◌≡◌, ℕ, ◌+◌, ◌≤◌, ◌<◌, inl, inr, List, [], ◌∷◌, ◌++◌, length, take, drop, refl, sym, ap, ◌∙◌, arith, length-drop}
 use Rattle.std.specs.Str.{chars}
 use Rattle.graphql_lexical.specs.Kinds.{UnterminatedString, UnknownEscapeSequence}
 use Rattle.graphql_lexical.specs.Reading.{counted}

@@ -1,5 +1,5 @@
 -- Each item brings the end nearer.
-use Rattle.std.proofs.Common.{◌≡◌, ℕ, ◌+◌, ◌-◌, ◌<◌, ◌≤◌, Bool, true, false, cond, inl, inr, drop, length, ap, ◌∙◌, sym, arith, length-drop}
+use Rattle.std.proofs.Common.{◌≡◌, ◌+◌, ◌-◌, ◌<◌, true, false, cond, inl, inr, drop, length, ap, ◌∙◌, sym, arith, length-drop}
 use Rattle.std.specs.Prelude.{Some, Result, Ok, Err}
 use Rattle.std.proofs.lemmas.Bool.{cases_Bool}
 use Rattle.graphql_lexical.specs.Cutting.{Lexeme, Stands}
@@ -10,7 +10,7 @@ use Rattle.juniper_tokens.specs.declared.token.Token.{Token}
 use Rattle.juniper_tokens.specs.declared.error.LexFailure.{LexFailure}
 use Rattle.juniper_tokens.specs.declared.error.LexFailure.TheVariants as failure
 use Rattle.juniper_tokens.specs.Tokens.{view_token}
-use Rattle.juniper_tokens.specs.Lexing.{LexerState, GivesToken, Gives, lexer_steps, items_left}
+use Rattle.juniper_tokens.specs.Lexing.{LexerState, Gives, lexer_steps, items_left}
 
 left_open : (s : LexerState) → s.ended ≡ false → items_left s ≡ (length s.source - s.index) + 1
 left_open s e = ap (λ b. cond b 0 ((length s.source - s.index) + 1)) e
@@ -30,9 +30,9 @@ gives_ended s failure.Memory t h = h.ends
 
 pub items_fewer : (s : LexerState) (item : Result (Spanning Token) LexFailure) (t : LexerState) → lexer_steps s (Some item) t → items_left t < items_left s
 items_fewer s (Ok token) t h = elim (cases_Bool t.ended) [
-    inl y ↦ omega (arith, left_open s h.0, left_ended t y)
+  | inl y ↦ omega (arith, left_open s h.0, left_ended t y)
   | inr n ↦
-    let near = stands_nearer s t (view_token token) h.2.stands (λ e. let z : true ≡ false = sym (h.2.ends.1 e) ∙ n in cc) in
-    omega (arith, left_open s h.0, left_open t n, ap length h.1, near)
-  ]
+      let near = stands_nearer s t (view_token token) h.2.stands (λ e. let z : true ≡ false = sym (h.2.ends.1 e) ∙ n in cc) in
+      omega (arith, left_open s h.0, left_open t n, ap length h.1, near)
+]
 items_fewer s (Err f) t h = omega (arith, left_open s h.0, left_ended t (gives_ended s f t h.2))

@@ -1,6 +1,6 @@
 -- From the computed scan to the definitions, and from place to place of a source.
-use Rattle.std.proofs.Common.{◌≡◌, ℕ, ◌+◌, ◌-◌, ◌≤◌, ◌<◌, ◌^◌, Bool, true, false, List, length, take, drop, refl, sym, ap, ap₂, subst, ◌∙◌, arith, rules, length-append, take-add, length-drop}
-use Rattle.std.specs.Prelude.{Some, Result, Ok, Err, ◌↔◌}
+use Rattle.std.proofs.Common.{◌≡◌, ℕ, ◌+◌, ◌≤◌, ◌<◌, ◌^◌, true, false, List, length, take, drop, refl, sym, ap, ap₂, subst, ◌∙◌, arith, rules, length-append, take-add, length-drop}
+use Rattle.std.specs.Prelude.{Result, Ok, Err, ◌↔◌}
 use Rattle.std.specs.List.{fold}
 use Rattle.std.specs.Str.{chars, IsUtf8}
 use Rattle.std.proofs.lemmas.List.{length-take-le}
@@ -27,9 +27,9 @@ use Rattle.juniper_tokens.specs.Tokens.{token_kind, view_token}
 use Rattle.juniper_tokens.specs.Errors.{view_lexer_error}
 use Rattle.juniper_tokens.specs.ByteRuns.{byte_at}
 use Rattle.juniper_tokens.specs.Walks.{EndsGap}
-use Rattle.juniper_tokens.specs.Scans.{IsEscape} 
+use Rattle.juniper_tokens.specs.Scans.{IsEscape}
 use Rattle.juniper_tokens.specs.Scans as scans
-use Rattle.juniper_tokens.specs.Lexing.{LexerState, BreaksAt, WantsMemory, Gives, lexer_steps}
+use Rattle.juniper_tokens.specs.Lexing.{LexerState, BreaksAt, WantsMemory, Gives}
 use Rattle.juniper_tokens.specs.LexingByScan.{IsPlaced, past_gap, Scanned, Ends}
 use Rattle.juniper_tokens.proofs.Borders.{byte_at_within}
 use Rattle.juniper_tokens.proofs.Places.{place_on, token_end}
@@ -44,13 +44,15 @@ place_index cs k l = length-take-le k cs l
 pub placed_on : (source : List ℕ) (at g n : ℕ) (p q : Place) → IsPlaced source at p → g ≤ length (drop p.index (chars source)) → n ≡ byte_at g (drop p.index (chars source)) → q ≡ place (chars source) (p.index + g) → (q.index ≡ p.index + g) × IsPlaced source (at + n) q
 placed_on source at g n p q h l e s =
     let within : p.index + g ≤ length (chars source) = omega (arith, l, h.within, length-drop p.index (chars source)) in
-    let index : q.index ≡ p.index + g = ap (λ (x : Place). x.index) s ∙ place_index (chars source) (p.index + g) within in
-    (index, record {
-      byte_is = ap₂ (λ a b. a + b) h.byte_is e ∙ (byte_at_on p.index g (chars source) ∙ ap (λ k. byte_at k (chars source)) (sym index));
-      place_is = s ∙ ap (place (chars source)) (sym index);
-      within = subst (λ k. k ≤ length (chars source)) (sym index) within;
-      room = h.room;
-    })
+    let index : q.index ≡ p.index + g = ap (λ (x : Place). x.index) s ∙ place_index (chars source) (p.index + g) within in (
+      index,
+      record {
+        byte_is = ap₂ (λ a b. a + b) h.byte_is e ∙ (byte_at_on p.index g (chars source) ∙ ap (λ k. byte_at k (chars source)) (sym index));
+        place_is = s ∙ ap (place (chars source)) (sym index);
+        within = subst (λ k. k ≤ length (chars source)) (sym index) within;
+        room = h.room;
+      },
+    )
 
 pub chars_room : (at n : ℕ) (p : Place) (source rest : List ℕ) → IsPlaced source at p → at + length rest ≡ length source → IsUtf8 rest → chars rest ≡ drop p.index (chars source) → p.index + length rest < 2 ^ 64
 chars_room at n p source rest h e u c = omega (arith, e, h.room, h.byte_is, length-le-encodes (take p.index (chars source)), length-take-le p.index (chars source) h.within)
@@ -59,15 +61,15 @@ pub gap_placed : (source rest : List ℕ) (at n : ℕ) (p q : Place) → IsPlace
 gap_placed source rest at n p q h c e =
     let d = drop p.index (chars source) in
     placed_on source at (gap_size d) n p q h (reach_is gap_step false d).within
-      (e.bytes_is ∙ ap (λ t. byte_at (gap_size t) t) c)
-      (e.position_is ∙ (ap₂ (λ s t. fold past_character s (take (gap_size t) t)) h.place_is c ∙ place_on (chars source) p.index (gap_size d)))
+    (e.bytes_is ∙ ap (λ t. byte_at (gap_size t) t) c)
+    (e.position_is ∙ (ap₂ (λ s t. fold past_character s (take (gap_size t) t)) h.place_is c ∙ place_on (chars source) p.index (gap_size d)))
 
 pub token_placed : (source rest : List ℕ) (at n k : ℕ) (p : Place) → IsPlaced source at p → chars rest ≡ drop p.index (chars source) → n ≡ byte_at k (chars rest) → k ≤ (reach step Start (chars rest)).0 → ((columns_on k p).index ≡ p.index + k) × IsPlaced source (at + n) (columns_on k p)
 token_placed source rest at n k p h c e l =
     let d = drop p.index (chars source) in
     let m : k ≤ (reach step Start d).0 = subst (λ t. k ≤ (reach step Start t).0) c l in
     placed_on source at k n p (columns_on k p) h (omega (arith, m, (reach_is step Start d).within)) (e ∙ ap (byte_at k) c)
-      (ap (columns_on k) h.place_is ∙ token_end (chars source) p.index k m)
+    (ap (columns_on k) h.place_is ∙ token_end (chars source) p.index k m)
 
 pub sum_room : (source rest : List ℕ) (at n k : ℕ) → at + length rest ≡ length source → length source < 2 ^ 64 → IsUtf8 rest → n ≡ byte_at k (chars rest) → at + n < 2 ^ 64
 sum_room source rest at n k e r u b = omega (arith, e, r, byte_at_within k n rest u b)
@@ -80,7 +82,7 @@ fault_placed source rest at k p h c = ap₂ (λ s t. fold past_character s (take
 
 -- ---- in the words of the definitions
 
-same_end : (kind : Kind) → (same_kind kind EndOfFile ≡ true) ↔ (kind ≡ EndOfFile)
+pub same_end : (kind : Kind) → (same_kind kind EndOfFile ≡ true) ↔ (kind ≡ EndOfFile)
 same_end kind = (λ e. same_true the_type (search rules) kind EndOfFile e, λ e. ap (λ k. same_kind k EndOfFile) e)
 
 stands_by_scan : (s : LexerState) (token : Spanning Token) (index : ℕ) → Scanned (Ok token) index s.source (past_gap s).index (scan (drop (past_gap s).index s.source)) → Stands s.source s.index (view_token token) index

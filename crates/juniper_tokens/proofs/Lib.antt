@@ -10,3 +10,4 @@ pub mod EscapeFaults
 pub mod Places
 pub mod Lexing
 pub mod LexingByScan
+pub mod Gathering

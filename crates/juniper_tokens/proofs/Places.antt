@@ -1,5 +1,5 @@
 -- Places of a source.
-use Rattle.std.proofs.Common.{◌≡◌, ℕ, zero, suc, ◌+◌, ◌-◌, ◌≤◌, ◌<◌, Bool, true, false, cond, ◌==◌, List, [], ◌∷◌, ◌++◌, length, take, drop, reverse, refl, sym, ap, ap₂, subst, ◌∙◌, arith, length-append, append_assoc, append-nil, Option, Some, None, take-add, drop-drop}
+use Rattle.std.proofs.Common.{◌≡◌, ℕ, zero, suc, ◌+◌, ◌≤◌, Bool, true, false, cond, ◌==◌, List, [], ◌∷◌, ◌++◌, length, take, drop, reverse, refl, sym, ap, ap₂, ◌∙◌, arith, length-append, append_assoc, append-nil, Some, None, take-add}
 use Rattle.std.specs.Prelude.{count_by, take_while, not}
 use Rattle.std.specs.List.{AllByRecursion, fold, prefix_len}
 use Rattle.std.proofs.lemmas.Option.{none-some}

@@ -1,18 +1,17 @@
 -- Some characters back from a place.
-use Rattle.std.proofs.Common.{◌≡◌, ℕ, zero, suc, ◌+◌, ◌-◌, ◌≤◌, ◌<◌, Bool, true, false, List, [], ◌∷◌, ◌++◌, length, take, drop, IsTrue, refl, sym, ap, ap₂, subst, ◌∙◌, arith, length-append, take-append-drop, append_assoc, append-nil, zero-le}
+use Rattle.std.proofs.Common.{◌≡◌, ℕ, ◌+◌, ◌-◌, ◌≤◌, ◌<◌, true, List, [], ◌∷◌, ◌++◌, length, take, drop, IsTrue, refl, sym, ap, ap₂, subst, ◌∙◌, arith, length-append, take-append-drop, append_assoc}
 use Rattle.std.proofs.Math.Seq.{take-append_seam}
 use Rattle.std.proofs.lemmas.List.{length-take-le}
 use Rattle.std.proofs.lemmas.Str.{encodes-append, encode_ascii, length-le-encodes}
 use lib.Utf8.{encode, encodes}
-use Rattle.std.specs.Prelude.{Result, Ok, Err}
+use Rattle.std.specs.Prelude.{Result, Ok}
 use Rattle.graphql_lexical.specs.Characters.{is_hex}
 use Rattle.graphql_lexical.specs.declared.kind.Kind.{Kind}
 use Rattle.graphql_lexical.specs.declared.kind.Kind.TheVariants.{String}
 use Rattle.graphql_lexical.specs.Tokens.{text_of, IsString, Spells}
-use Rattle.graphql_lexical.specs.Scan.{State, Start, Done, Hex0, Hex1, HexD, Hex2, Hex3, step, reach, answer, scan, Found, Missed, is_hex_d, is_octal}
+use Rattle.graphql_lexical.specs.Scan.{State, Start, Done, Hex0, Hex1, HexD, Hex2, Hex3, step, reach, answer, scan, Found, Missed, is_hex_d}
 use Rattle.graphql_lexical.proofs.Runs.{reach_is}
 use Rattle.graphql_lexical.proofs.History.{IsRead, read_run, IsOpen}
-use Rattle.graphql_lexical.proofs.Numbers.{IsPair}
 use Rattle.juniper_tokens.specs.ByteRuns.{byte_at}
 use Rattle.juniper_tokens.specs.declared.lexer.text.Border.{Border}
 use Rattle.juniper_tokens.specs.declared.lexer.machine.Punctuator.{Punctuator}
@@ -107,9 +106,10 @@ hex_tail _ t h r = absurd h
 
 pub read_at : (cs : List ℕ) (q : State) (b n : ℕ) → HasReached cs q b n → (n ≤ length cs) × IsRead q (take n cs)
 read_at cs q b n h =
-    let r = reach_is step Start cs in
-    (subst (λ k. k ≤ length cs) (sym h.characters_is) r.within,
-     subst (λ k. IsRead q (take k cs)) (sym h.characters_is) (subst (λ p. IsRead p (take (reach step Start cs).0 cs)) (sym h.state_is) (read_run Start [] (take (reach step Start cs).0 cs) (reach step Start cs).1 refl r.runs)))
+    let r = reach_is step Start cs in (
+      subst (λ k. k ≤ length cs) (sym h.characters_is) r.within,
+      subst (λ k. IsRead q (take k cs)) (sym h.characters_is) (subst (λ p. IsRead p (take (reach step Start cs).0 cs)) (sym h.state_is) (read_run Start [] (take (reach step Start cs).0 cs) (reach step Start cs).1 refl r.runs)),
+    )
 
 pub scan_at : (cs : List ℕ) (q : State) (b n : ℕ) → HasReached cs q b n → answer q n cs ≡ scan cs
 scan_at cs q b n h = ap₂ (λ p k. answer p k cs) h.state_is h.characters_is

@@ -1,5 +1,5 @@
 -- What the loops of the lexer reach.
-use Rattle.std.proofs.Common.{◌≡◌, ℕ, zero, suc, ◌+◌, ◌≤◌, ◌<◌, Bool, true, false, ◌==◌, List, [], ◌∷◌, length, take, Option, Some, None, refl, sym, ap, subst, ◌∙◌, arith}
+use Rattle.std.proofs.Common.{◌≡◌, ℕ, zero, suc, ◌+◌, ◌≤◌, ◌<◌, Bool, true, false, ◌==◌, List, [], ◌∷◌, length, take, Option, Some, None, refl, sym, ap, ◌∙◌, arith}
 use Rattle.std.specs.Prelude.{option_map, if◌then◌else◌}
 use Rattle.std.specs.Str.{chars, IsUtf8}
 use Rattle.std.proofs.lemmas.Str.{encodes-chars}
@@ -13,7 +13,7 @@ use Rattle.graphql_lexical.proofs.Runs.{reach_is}
 use Rattle.juniper_tokens.specs.Positions.{past_character}
 use Rattle.juniper_tokens.specs.ByteRuns.{byte_step, byte_change, IsSamePastAscii, byte_at, with_value, count_one}
 use Rattle.juniper_tokens.specs.Walks.{HasReached, EndsGap, left_step}
-use Rattle.juniper_tokens.proofs.ByteRuns.{reach_bytes, reach_with_value, same_with_value, bytes_with_value, in_bytes, Walked}
+use Rattle.juniper_tokens.proofs.ByteRuns.{reach_bytes, reach_with_value, same_with_value, bytes_with_value, in_bytes}
 
 pub value_goes : {S X : Type 0} (step : S → ℕ → Option S) (f : X → ℕ → X) (q p : S) (x : X) (b : ℕ) → byte_step step q b ≡ Some p → byte_step (with_value step f) (q, x) b ≡ Some (p, byte_change f x b)
 value_goes step f q p x b e = bytes_with_value step f q x b ∙ ap (option_map (λ p. (p, byte_change f x b))) e
@@ -31,7 +31,7 @@ pub gone : {S X : Type 0} (step : S → ℕ → Option S) (f : X → ℕ → X) 
 gone {S} {X} step f s g q0 q x0 x text i u e =
     let cs = chars text in
     let h : (i, (q, x)) ≡ in_bytes cs ((reach step q0 cs).0, ((reach step q0 cs).1, fold f x0 (take (reach step q0 cs).0 cs))) =
-        sym e ∙ (ap (reach (byte_step (with_value step f)) (q0, x0)) (sym (encodes-chars text u)) ∙ (reach_bytes (with_value step f) (same_with_value step f s g) (q0, x0) cs ∙ ap (in_bytes cs) (reach_with_value step f q0 x0 cs))) in
+    sym e ∙ (ap (reach (byte_step (with_value step f)) (q0, x0)) (sym (encodes-chars text u)) ∙ (reach_bytes (with_value step f) (same_with_value step f s g) (q0, x0) cs ∙ ap (in_bytes cs) (reach_with_value step f q0 x0 cs))) in
     record { bytes = ap (λ (r : ℕ × (S × X)). r.0) h; state = ap (λ (r : ℕ × (S × X)). r.1.0) h; more = ap (λ (r : ℕ × (S × X)). r.1.1) h }
 
 -- ---- gaps and tokens

@@ -13,3 +13,4 @@ pub mod Walks
 pub mod Scans
 pub mod Lexing
 pub mod LexingByScan
+pub mod Gathering

@@ -64,6 +64,10 @@ impl<'a> Lexer<'a> {
         }
     }
 
+    pub(crate) fn allocator(&self) -> Global {
+        self.alloc
+    }
+
     // Goes past white space and comments.
     fn skip_gap(&mut self)
         ensures { self.new ≡ past_gap self.old }

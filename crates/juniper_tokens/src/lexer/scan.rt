@@ -129,11 +129,7 @@ fn digits_fault(alloc: Global, text: &str, end: Border, digits: usize) -> Missed
         bytes: end.bytes - digits,
         characters: end.characters - digits,
     };
-    unicode_fault(
-        alloc,
-        text_from(text, start),
-        end.characters - (digits + 1),
-    )
+    unicode_fault(alloc, text_from(text, start), end.characters - (digits + 1))
 }
 
 // After `0` or `-0`, which no digit may follow.
@@ -146,10 +142,7 @@ fn scan_zero<'a>(text: &'a str, end: Border) -> Result<Found<'a>, Missed>
     match first_character(text_from(text, end)) {
         Some(c) => {
             if c.is_ascii_digit() {
-                Err(Missed::Fault(
-                    LexerError::UnexpectedCharacter(c),
-                    end.characters,
-                ))
+                Err(Missed::Fault(LexerError::UnexpectedCharacter(c), end.characters))
             } else {
                 Ok(Found { token, end })
             }
@@ -211,11 +204,7 @@ fn scan_reached<'a>(alloc: Global, text: &'a str, reached: Reached) -> Result<Fo
             Err(number_fault(text_from(text, end), end.characters))
         }
         State::InString => Err(string_fault(text_from(text, end), end.characters)),
-        State::Backslash => Err(backslash_fault(
-            alloc,
-            text_from(text, end),
-            end.characters,
-        )),
+        State::Backslash => Err(backslash_fault(alloc, text_from(text, end), end.characters)),
         State::NoHexDigit => Err(digits_fault(alloc, text, end, 0)),
         State::OneHexDigit => Err(digits_fault(alloc, text, end, 1)),
         State::HexDigitD => Err(digits_fault(alloc, text, end, 1)),

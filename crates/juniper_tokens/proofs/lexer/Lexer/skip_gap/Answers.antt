@@ -1,4 +1,4 @@
-use Rattle.std.proofs.Common.{◌≡◌, ℕ, drop, sym, ap, ◌∙◌, arith}
+use Rattle.std.proofs.Common.{ℕ, drop, ap, ◌∙◌, arith}
 use Rattle.std.specs.Str.{chars}
 use Rattle.juniper_tokens.specs.Lexing.{LexerState}
 use Rattle.juniper_tokens.specs.LexingByScan.{past_gap}

@@ -1,4 +1,4 @@
-use Rattle.std.proofs.Common.{◌≡◌, ℕ, ◌+◌, drop, sym, ap, subst, ◌∙◌, arith}
+use Rattle.std.proofs.Common.{◌+◌, drop, sym, ap, subst, ◌∙◌, arith}
 use Rattle.std.specs.Prelude.{Result, Ok, Err}
 use Rattle.std.specs.Str.{chars}
 use Rattle.graphql_lexical.specs.Place.{place}
@@ -31,12 +31,13 @@ returns-in-Ok-clause-gives c =
     let v = c.self.view_is in
     let n = c.in-Ok.found.end.characters in
     let made : Token → Result Found Missed = λ t. Ok (record { size = n; kind = token_kind t; text = token_text t }) in
-    let p = token_placed _ _ _ _ _ _ c.self.invariant d c.in-Ok.ensures.gives.1 c.in-Ok.ensures.most in
-    (n,
-     ap scan (sym (d ∙ ap (λ w. drop w.index w.source) v)) ∙ (c.in-Ok.ensures.gives.0 ∙ ap made (sym (ap (λ s. s.item) c.start_end.ensures))),
-     ap (λ q. q.index) c.columns_on-self-inside.ensures ∙ (p.0 ∙ ap (λ w. w.index + n) v),
-     ap (λ s. s.span.start) c.start_end.ensures ∙ (c.self.invariant.place_is ∙ ap (λ w. place w.source w.index) v),
-     ap (λ s. s.span.end) c.start_end.ensures ∙ (c.columns_on-self-inside.ensures ∙ (p.1.place_is ∙ (ap (place (chars c.self.inside.source.now)) p.0 ∙ ap (λ w. place w.source (w.index + n)) v))))
+    let p = token_placed _ _ _ _ _ _ c.self.invariant d c.in-Ok.ensures.gives.1 c.in-Ok.ensures.most in (
+      n,
+      ap scan (sym (d ∙ ap (λ w. drop w.index w.source) v)) ∙ (c.in-Ok.ensures.gives.0 ∙ ap made (sym (ap (λ s. s.item) c.start_end.ensures))),
+      ap (λ q. q.index) c.columns_on-self-inside.ensures ∙ (p.0 ∙ ap (λ w. w.index + n) v),
+      ap (λ s. s.span.start) c.start_end.ensures ∙ (c.self.invariant.place_is ∙ ap (λ w. place w.source w.index) v),
+      ap (λ s. s.span.end) c.start_end.ensures ∙ (c.columns_on-self-inside.ensures ∙ (p.1.place_is ∙ (ap (place (chars c.self.inside.source.now)) p.0 ∙ ap (λ w. place w.source (w.index + n)) v))),
+    )
 
 pub returns-in-Err-Fault-clause-gives : goal.returns-in-Err-Fault-clause-gives
 returns-in-Err-Fault-clause-gives c =
@@ -44,8 +45,9 @@ returns-in-Err-Fault-clause-gives c =
     let v = c.self.view_is in
     let n = c.in-Err-Fault.at in
     let made : LexicalError → Result Found Missed = λ e. Err (record { at = n; error = e }) in
-    let f = c.walk_characters-place.ensures ∙ (fault_placed _ _ _ n _ c.self.invariant d ∙ ap (λ w. place w.source (w.index + n)) v) in
-    (n,
-     ap scan (sym (d ∙ ap (λ w. drop w.index w.source) v)) ∙ ((rw c.in-Err-Fault.field-0-is at c.in-Err-Fault.ensures.gives) ∙ ap (λ s. made (view_lexer_error s.item)) (sym c.zero_width.ensures)),
-     ap (λ s. s.span.start) c.zero_width.ensures ∙ f,
-     ap (λ s. s.span.end) c.zero_width.ensures ∙ sym (ap (λ s. s.span.start) c.zero_width.ensures))
+    let f = c.walk_characters-place.ensures ∙ (fault_placed _ _ _ n _ c.self.invariant d ∙ ap (λ w. place w.source (w.index + n)) v) in (
+      n,
+      ap scan (sym (d ∙ ap (λ w. drop w.index w.source) v)) ∙ ((rw c.in-Err-Fault.field-0-is at c.in-Err-Fault.ensures.gives) ∙ ap (λ s. made (view_lexer_error s.item)) (sym c.zero_width.ensures)),
+      ap (λ s. s.span.start) c.zero_width.ensures ∙ f,
+      ap (λ s. s.span.end) c.zero_width.ensures ∙ sym (ap (λ s. s.span.start) c.zero_width.ensures),
+    )

@@ -1,5 +1,5 @@
-use Rattle.std.proofs.Common.{◌≡◌, ap, sym, ◌∙◌, rules, Some, false}
-use Rattle.juniper_tokens.specs.Lexing.{LexerState, lexer_steps}
+use Rattle.std.proofs.Common.{◌≡◌, ap, sym, ◌∙◌, rules, false}
+use Rattle.juniper_tokens.specs.Lexing.{LexerState}
 use Rattle.juniper_tokens.proofs.Lexing.{items_fewer}
 use Rattle.juniper_tokens.proofs.lexer.LexerIterator.next.Goals as goal
 

@@ -1,4 +1,4 @@
-use Rattle.std.proofs.Common.{ap, refl}
+use Rattle.std.proofs.Common.{ap}
 use Rattle.graphql_lexical.specs.Scan.{Hex0, Hex1, HexD, Hex2, Hex3}
 use Rattle.juniper_tokens.specs.Machine.{view_state}
 use Rattle.juniper_tokens.proofs.Stops.{after_hex, ends_string, found_mark}

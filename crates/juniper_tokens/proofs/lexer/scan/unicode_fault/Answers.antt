@@ -1,6 +1,5 @@
 use Rattle.std.proofs.Common.{◌≡◌, drop, sym, subst, ◌∙◌, ap, arith}
 use Rattle.std.specs.Str.{chars}
-use Rattle.graphql_lexical.specs.Reading.{counted}
 use Rattle.juniper_tokens.specs.ByteRuns.{byte_at}
 use Rattle.juniper_tokens.specs.Scans.{Misses}
 use Rattle.juniper_tokens.proofs.Borders.{counted_border}

@@ -1,5 +1,5 @@
-use Rattle.std.proofs.Common.{◌≡◌, Bool, true, false, get_or, sym, ◌∙◌, ap, arith}
-use Rattle.juniper_tokens.proofs.Borders.{is_alphanumeric, letters_on, letters_stop, letters_end, letters_four, counted_from_bytes}
+use Rattle.std.proofs.Common.{sym, ◌∙◌}
+use Rattle.juniper_tokens.proofs.Borders.{letters_on, letters_stop, letters_end, letters_four, counted_from_bytes}
 use Rattle.juniper_tokens.proofs.lexer.text.count_alphanumerics.Goals as goal
 
 pub loop-count-preserved : goal.loop-count-preserved

@@ -1,4 +1,4 @@
-use Rattle.std.proofs.Common.{◌≡◌, length, ◌-◌, ◌≤◌, ◌+◌, drop}
+use Rattle.std.proofs.Common.{◌≡◌, ◌-◌, ◌+◌, drop}
 use Rattle.juniper_tokens.proofs.Borders.{letters}
 use Rattle.juniper_tokens.proofs.lexer.text.count_alphanumerics.Given as goal
 

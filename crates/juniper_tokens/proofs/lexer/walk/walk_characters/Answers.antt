@@ -1,4 +1,4 @@
-use Rattle.std.proofs.Common.{◌≡◌, sym, ap, ◌∙◌, arith, ◌<◌, get_or, Some}
+use Rattle.std.proofs.Common.{sym, ap, ◌∙◌, arith, ◌<◌, get_or, Some}
 use Rattle.juniper_tokens.specs.Walks.{left_step}
 use Rattle.juniper_tokens.specs.Positions.{past_character}
 use Rattle.juniper_tokens.proofs.ByteRuns.{walked_on, walked_stop, walked_end}

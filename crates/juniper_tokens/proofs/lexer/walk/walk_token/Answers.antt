@@ -1,6 +1,6 @@
-use Rattle.std.proofs.Common.{◌≡◌, sym, ap, ◌∙◌, arith, ◌<◌, get_or, Some}
+use Rattle.std.proofs.Common.{sym, ap, ◌∙◌, arith, ◌<◌, get_or, Some}
 use Rattle.std.specs.Prelude.{option_map}
-use Rattle.graphql_lexical.specs.Scan.{step, Start}
+use Rattle.graphql_lexical.specs.Scan.{step}
 use Rattle.juniper_tokens.specs.ByteRuns.{count_one}
 use Rattle.juniper_tokens.specs.Machine.{view_state}
 use Rattle.juniper_tokens.proofs.ByteRuns.{walked_on, walked_stop, walked_end}
