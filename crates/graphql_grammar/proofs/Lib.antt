@@ -1,0 +1,15 @@
+pub mod Rules
+pub mod TokenTests
+pub mod Values
+pub mod Found
+pub mod Faulty
+pub mod DocumentRules
+pub mod SelectionRules
+pub mod DocumentFound
+pub mod SelectionFound
+pub mod Ends
+pub mod Readers
+pub mod Fuel
+pub mod Turns
+pub mod Named
+pub mod Spelled

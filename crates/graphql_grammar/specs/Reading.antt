@@ -1,0 +1,240 @@
+-- Reading token lists from the front.
+use Rattle.std.specs.Prelude.{ℕ, zero, suc, Bool, true, false, ◌&&◌, ◌||◌, List, [], ◌∷◌, codes, Result, Ok, Err, cond, bytes_eq, if◌then◌else◌, Option, Some, None, not, ◌-◌, take, length}
+use Rattle.graphql_lexical.specs.Place.{Span}
+use Rattle.graphql_lexical.specs.declared.kind.Kind.{Kind}
+use Rattle.graphql_lexical.specs.declared.kind.Kind.TheVariants.{ParenOpen, ParenClose, At, Ellipsis, Equals, Name, String, Float, Int, Dollar, BracketOpen, BracketClose, CurlyOpen, CurlyClose, Colon, ExclamationMark, EndOfFile}
+use Rattle.graphql_lexical.specs.Cutting.{Lexeme}
+use Rattle.graphql_grammar.specs.Tokens.{Word, word_of, Text, over, span_of, Test, of, word, passes}
+use Rattle.graphql_grammar.specs.Tree.{Scalars, Value, Null, Scalar, Enum, Variable, ListOf, Object, Items, no_items, item, Fields, no_fields, field, TypeRef, named, list, non_null, Argument, Arguments, Directive, VariableDefinition, Variables, Selection, a_field, a_spread, an_inline, Selections, no_selections, selection, Definition, operation, fragment}
+
+-- F is the type of the reading's own faults.
+pub data Fault (F : Type 0) : Type 0 where
+  UnexpectedEndOfFile : Fault F
+  UnexpectedToken : Kind → Text → Fault F
+  Unread : F → Fault F
+
+-- Took: what was read and the tokens after it. Refused: the tokens from the reported one on. Out: the number was too small.
+pub data Read (F A : Type 0) : Type 0 where
+  Took : A → List Lexeme → Read F A
+  Refused : List Lexeme → Fault F → Read F A
+  Out : Read F A
+
+abbrev pub Reader : Type 0 → Type 0 → Type 0
+Reader F A = List Lexeme → Read F A
+
+abbrev pub after : {F A B : Type 0} → Read F A → (A → Reader F B) → Read F B
+after (Took a rest) k = k a rest
+after (Refused rest e) k = Refused rest e
+after Out k = Out
+
+unfoldable pub seq : {F A B : Type 0} → Reader F A → (A → Reader F B) → Reader F B
+seq f k ts = after (f ts) k
+
+unfoldable pub ret : {F A : Type 0} → A → Reader F A
+ret a ts = Took a ts
+
+unfoldable pub fault_of : {F : Type 0} → Kind → Text → Fault F
+fault_of kind text = cond (of EndOfFile kind text) UnexpectedEndOfFile (UnexpectedToken kind text)
+
+unfoldable pub refuse : {F A : Type 0} → Reader F A
+refuse [] = Refused [] UnexpectedEndOfFile
+refuse (t ∷ ts) = Refused (t ∷ ts) (fault_of t.kind t.text)
+
+abbrev pub pick : {F A : Type 0} → Bool → (Lexeme → Reader F A) → Reader F A → Lexeme → List Lexeme → Read F A
+pick true k g t ts = k t ts
+pick false k g t ts = g (t ∷ ts)
+
+-- takes a token that passes, and goes on by k; else by g
+unfoldable pub on : {F A : Type 0} → Test → (Lexeme → Reader F A) → Reader F A → Reader F A
+on test k g [] = g []
+on test k g (t ∷ ts) = pick (passes test t) k g t ts
+
+unfoldable pub want : {F : Type 0} → Test → Reader F Lexeme
+want test = on test ret refuse
+
+-- items up to the closing token, and that token
+unfoldable pub many : {F A : Type 0} → Test → Reader F A → ℕ → Reader F (List A × Lexeme)
+many close read_item zero ts = Out
+many close read_item (suc n) ts = on close (λ t. ret ([], t)) (seq read_item (λ x. seq (many close read_item n) (λ r. ret (x ∷ r.0, r.1)))) ts
+
+abbrev pub read_as : {C F : Type 0} → Lexeme → List Lexeme → Result C F → Read F (Value C)
+read_as t ts (Ok c) = Took (Scalar c t.span) ts
+read_as t ts (Err e) = Refused (t ∷ ts) (Unread e)
+
+abbrev pub scalar_token : Test
+scalar_token kind text = of String kind text || of Float kind text || of Int kind text
+
+-- a scalar token at the front, by the scalar type's reading
+unfoldable pub literal : {C F : Type 0} → Scalars C F → Reader F (Value C)
+literal S [] = Refused [] UnexpectedEndOfFile
+literal S (t ∷ ts) = cond (passes scalar_token t) (read_as t ts (S.read t.kind t.text)) (refuse (t ∷ ts))
+
+abbrev pub by_name : {C F : Type 0} → Scalars C F → Text → Span → Value C
+by_name S w p = if bytes_eq w (codes "true") then Scalar (S.of_bool true) p
+  else if bytes_eq w (codes "false") then Scalar (S.of_bool false) p
+  else if bytes_eq w (codes "null") then Null p
+  else Enum w p
+
+abbrev pub items_of : {C : Type 0} → List (Value C) → Items C
+items_of [] = no_items
+items_of (v ∷ vs) = item v (items_of vs)
+
+abbrev pub fields_of : {C : Type 0} → List (Word × Value C) → Fields C
+fields_of [] = no_fields
+fields_of (x ∷ xs) = field x.0.text x.0.span x.1 (fields_of xs)
+
+abbrev pub variable_start : Bool → Test
+variable_start free kind text = free && of Dollar kind text
+
+unfoldable pub object_field : {C F : Type 0} → Reader F (Value C) → Reader F (Word × Value C)
+object_field value = seq (want (of Name)) (λ k. seq (want (of Colon)) (λ c. seq value (λ v. ret (word_of k, v))))
+
+unfoldable pub value_at : {C F : Type 0} → Scalars C F → Bool → ℕ → Reader F (Value C)
+value_at S free zero ts = Out
+value_at S free (suc n) ts =
+  on (of BracketOpen) (λ o. seq (many (of BracketClose) (value_at S free n) n) (λ r. ret (ListOf (items_of r.0) (over o r.1))))
+  (on (of CurlyOpen) (λ o. seq (many (of CurlyClose) (object_field (value_at S free n)) n) (λ r. ret (Object (fields_of r.0) (over o r.1))))
+  (on (variable_start free) (λ o. seq (want (of Name)) (λ w. ret (Variable w.text (over o w))))
+  (on (of Name) (λ t. ret (by_name S t.text t.span))
+  (literal S)))) ts
+
+-- with as much fuel as the list needs
+unfoldable pub fully : {F A : Type 0} → (ℕ → Reader F A) → Reader F A
+fully f ts = f (suc (length ts)) ts
+
+abbrev pub value_of : {C F : Type 0} → Scalars C F → Bool → Reader F (Value C)
+value_of S free = fully (value_at S free)
+
+abbrev pub items_at : {C F : Type 0} → Scalars C F → Bool → ℕ → Reader F (List (Value C) × Lexeme)
+items_at S free n = many (of BracketClose) (value_at S free n) n
+
+abbrev pub fields_at : {C F : Type 0} → Scalars C F → Bool → ℕ → Reader F (List (Word × Value C) × Lexeme)
+fields_at S free n = many (of CurlyClose) (object_field (value_at S free n)) n
+
+-- the tokens of ts before rest
+abbrev pub front : List Lexeme → List Lexeme → List Lexeme
+front ts rest = take (length ts - length rest) ts
+
+abbrev pub give_span : {F A : Type 0} → List Lexeme → (Span → A) → Reader F A
+give_span ts k rest = Took (k (span_of (front ts rest))) rest
+
+-- hands what was read the span of its tokens
+unfoldable pub with_span : {F A : Type 0} → Reader F (Span → A) → Reader F A
+with_span f ts = after (f ts) (give_span ts)
+
+unfoldable pub name_word : {F : Type 0} → Reader F Word
+name_word = seq (want (of Name)) (λ t. ret (word_of t))
+
+unfoldable pub bang : {F : Type 0} → TypeRef → Reader F TypeRef
+bang x = on (of ExclamationMark) (λ b. ret (non_null x)) (ret x)
+
+unfoldable pub plain_type : {F : Type 0} → Reader F TypeRef → Reader F TypeRef
+plain_type inner = on (of Name) (λ t. ret (named t.text))
+  (seq (want (of BracketOpen)) (λ o. seq inner (λ x. seq (want (of BracketClose)) (λ c. ret (list x)))))
+
+unfoldable pub type_at : {F : Type 0} → ℕ → Reader F TypeRef
+type_at zero ts = Out
+type_at (suc n) ts = seq (plain_type (type_at n)) bang ts
+
+unfoldable pub spanned_type : {F : Type 0} → ℕ → Reader F (TypeRef × Span)
+spanned_type n = with_span (seq (type_at n) (λ x. ret (λ p. (x, p))))
+
+-- one item or more, after the opening token
+unfoldable pub items1 : {F A : Type 0} → Test → Reader F A → ℕ → Reader F (List A)
+items1 close f n = seq f (λ x. seq (many close f n) (λ r. ret (x ∷ r.0)))
+
+abbrev pub choose : {F A : Type 0} → Bool → Reader F A → Reader F A → Reader F A
+choose true f g ts = f ts
+choose false f g ts = g ts
+
+-- f where the first token passes, else g
+unfoldable pub look : {F A : Type 0} → Test → Reader F A → Reader F A → Reader F A
+look test f g [] = g []
+look test f g (t ∷ ts) = choose (passes test t) f g (t ∷ ts)
+
+abbrev pub other_than_on : Test
+other_than_on kind text = of Name kind text && not (bytes_eq text (codes "on"))
+
+-- items as long as the first token passes
+unfoldable pub star : {F A : Type 0} → Test → Reader F A → ℕ → Reader F (List A)
+star test f zero ts = Out
+star test f (suc n) ts = look test (seq f (λ x. seq (star test f n) (λ xs. ret (x ∷ xs)))) (ret []) ts
+
+-- what f reads, if the first token passes
+unfoldable pub maybe : {F A : Type 0} → Test → Reader F A → Reader F (Option A)
+maybe test f = look test (seq f (λ a. ret (Some a))) (ret None)
+
+abbrev pub selections_of : {C : Type 0} → List (Selection C) → Selections C
+selections_of [] = no_selections
+selections_of (s ∷ ss) = selection s (selections_of ss)
+
+unfoldable pub braces : {C F : Type 0} → Reader F (Selection C) → ℕ → Reader F (Selections C)
+braces f n = seq (want (of CurlyOpen)) (λ o. seq (items1 (of CurlyClose) f n) (λ xs. ret (selections_of xs)))
+
+module _ {C F : Type 0} (S : Scalars C F) (n : ℕ) where
+  unfoldable pub argument : Reader F (Argument C)
+  argument = seq (want (of Name)) (λ k. seq (want (of Colon)) (λ c. seq (value_at S true n) (λ v. ret (record { name = word_of k; value = v }))))
+
+  unfoldable pub arguments : Reader F (Arguments C)
+  arguments = with_span (seq (want (of ParenOpen)) (λ o. seq (items1 (of ParenClose) argument n) (λ xs. ret (λ p. record { items = xs; span = p }))))
+
+  unfoldable pub directive : Reader F (Directive C)
+  directive = with_span (seq (want (of At)) (λ a. seq (want (of Name)) (λ t. seq (maybe (of ParenOpen) arguments) (λ xs. ret (λ p. record { name = word_of t; arguments = xs; span = p })))))
+
+  unfoldable pub directives : Reader F (List (Directive C))
+  directives = star (of At) directive n
+
+  unfoldable pub default_value : Reader F (Value C)
+  default_value = seq (want (of Equals)) (λ e. value_at S false n)
+
+  unfoldable pub variable_definition : Reader F (VariableDefinition C)
+  variable_definition = seq (want (of Dollar)) (λ d. seq (want (of Name)) (λ t. seq (want (of Colon)) (λ c.
+    seq (spanned_type n) (λ x. seq (maybe (of Equals) default_value) (λ v. seq directives (λ ds.
+    ret (record { name = record { text = t.text; span = over d t }; of_type = x.0; type_span = x.1; default = v; directives = ds })))))))
+
+  unfoldable pub variables : Reader F (Variables C)
+  variables = with_span (seq (want (of ParenOpen)) (λ o. seq (items1 (of ParenClose) variable_definition n) (λ xs. ret (λ p. record { items = xs; span = p }))))
+
+  -- The name, after an alias if a colon follows.
+  unfoldable pub field_name : Reader F (Option Word × Word)
+  field_name = seq (want (of Name)) (λ a. on (of Colon) (λ c. seq (want (of Name)) (λ t. ret (Some (word_of a), word_of t))) (ret (None, word_of a)))
+
+  unfoldable pub may_select : Reader F (Selection C) → Reader F (Selections C)
+  may_select f = look (of CurlyOpen) (braces f n) (ret no_selections)
+
+  unfoldable pub field_with : Reader F (Selection C) → Reader F (Span → Selection C)
+  field_with f = seq field_name (λ h. seq (maybe (of ParenOpen) arguments) (λ xs. seq directives (λ ds. seq (may_select f) (λ ss. ret (a_field h.0 h.1 xs ds ss)))))
+
+  unfoldable pub inline_tail : Option Word → Reader F (Selection C) → Reader F (Span → Selection C)
+  inline_tail w f = seq directives (λ ds. seq (braces f n) (λ ss. ret (an_inline w ds ss)))
+
+  unfoldable pub spread_with : Reader F (Selection C) → Reader F (Span → Selection C)
+  spread_with f = seq (want (of Ellipsis)) (λ e.
+    on (word (codes "on")) (λ o. seq (want (of Name)) (λ t. inline_tail (Some (word_of t)) f))
+    (on other_than_on (λ t. seq directives (λ ds. ret (a_spread (word_of t) ds)))
+    (inline_tail None f)))
+
+unfoldable pub selection_at : {C F : Type 0} → Scalars C F → ℕ → Reader F (Selection C)
+selection_at S zero ts = Out
+selection_at S (suc n) ts = with_span (look (of Ellipsis) (spread_with S n (selection_at S n)) (field_with S n (selection_at S n))) ts
+
+abbrev pub operation_word : Test
+operation_word kind text = word (codes "query") kind text || word (codes "mutation") kind text || word (codes "subscription") kind text
+
+module _ {C F : Type 0} (S : Scalars C F) (n : ℕ) where
+  unfoldable pub operation_with : Lexeme → Reader F (Span → Definition C)
+  operation_with w = seq (maybe (of Name) name_word) (λ name. seq (maybe (of ParenOpen) (variables S n)) (λ vars.
+    seq (directives S n) (λ ds. seq (braces (selection_at S n) n) (λ ss. ret (operation w.text name vars ds ss)))))
+
+  unfoldable pub fragment_with : Reader F (Span → Definition C)
+  fragment_with = seq (want other_than_on) (λ name. seq (want (word (codes "on"))) (λ o. seq (want (of Name)) (λ t.
+    seq (directives S n) (λ ds. seq (braces (selection_at S n) n) (λ ss. ret (fragment (word_of name) (word_of t) ds ss))))))
+
+  unfoldable pub definition : Reader F (Definition C)
+  definition = with_span
+    (on operation_word operation_with
+    (on (word (codes "fragment")) (λ w. fragment_with)
+    (seq (braces (selection_at S n) n) (λ ss. ret (operation (codes "query") None None [] ss)))))
+
+  unfoldable pub document : Reader F (List (Definition C))
+  document = items1 (of EndOfFile) definition n

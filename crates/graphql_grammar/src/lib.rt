@@ -1,0 +1,4 @@
+//! The document grammar of GraphQL.
+#![tactic(auto)]
+
+pub mod laws;
