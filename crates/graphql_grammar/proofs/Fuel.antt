@@ -1,11 +1,12 @@
 -- More fuel changes no answer, and with enough of it a reader is its own step.
 use Rattle.std.proofs.Common.{ℕ, zero, suc, Bool, true, false, ◌≡◌, ◌≤◌, ◌<◌, ◌∷◌, [], List, length, refl, sym, ap, ◌∙◌, arith, ◌⊎◌, inl, inr, le_refl}
-use Rattle.graphql_lexical.specs.declared.kind.Kind.TheVariants.{BracketOpen, BracketClose, CurlyOpen, CurlyClose, Name, Colon}
+use Rattle.graphql_lexical.specs.declared.kind.Kind.TheVariants.{BracketOpen, BracketClose, CurlyOpen, CurlyClose, Name}
 use Rattle.graphql_lexical.specs.Cutting.{Lexeme}
-use Rattle.graphql_grammar.specs.Tokens.{Word, word_of, Test, passes, of, over, filler}
+use Rattle.graphql_grammar.specs.Tokens.{Word, over}
+use Rattle.graphql_grammar.specs.Reading.{Test, passes, of, Read, Took, Refused, Out, Reader, after, seq, done, on, pick, want, many, literal, by_name, items_of, fields_of, variable_start, key_and_value, value_at, fully, value_of, items_at, fields_at}
+use Rattle.graphql_grammar.specs.Samples.{sample}
 use Rattle.graphql_grammar.specs.Tree.{Scalars, Value, ListOf, Object, Variable}
 use Rattle.graphql_grammar.specs.Grammar.{IsValue}
-use Rattle.graphql_grammar.specs.Reading.{Read, Took, Refused, Out, Reader, after, seq, ret, on, pick, want, many, literal, by_name, items_of, fields_of, variable_start, object_field, value_at, fully, value_of, items_at, fields_at}
 use Rattle.graphql_grammar.proofs.Rules.{Meets, Rule, Closed, many_rule}
 use Rattle.graphql_grammar.proofs.Values.{value_rule, value_takes, IsField, field_rule, field_takes}
 
@@ -50,10 +51,10 @@ unfolding many
 many_under close f g p zero m le = record { at = λ ts. inl refl }
 many_under close f g p (suc n) zero le = absurd (omega arith)
 many_under close f g p (suc n) (suc m) le =
-  on_under close _ _ _ _ (λ t. under_refl _) (seq_under f g _ _ p (λ x. seq_under _ _ _ _ (many_under close f g p n m (omega arith)) (λ r. under_refl _)))
+    on_under close _ _ _ _ (λ t. under_refl _) (seq_under f g _ _ p (λ x. seq_under _ _ _ _ (many_under close f g p n m (omega arith)) (λ r. under_refl _)))
 
-pub field_under : {C F : Type 0} (f g : Reader F (Value C)) → Under f g → Under (object_field f) (object_field g)
-unfolding object_field
+pub field_under : {C F : Type 0} (f g : Reader F (Value C)) → Under f g → Under (key_and_value f) (key_and_value g)
+unfolding key_and_value
 field_under f g p = seq_under _ _ _ _ (under_refl _) (λ k. seq_under _ _ _ _ (under_refl _) (λ c. seq_under f g _ _ p (λ v. under_refl _)))
 
 pub value_under : {C F : Type 0} (S : Scalars C F) (free : Bool) (n m : ℕ) → n ≤ m → Under (value_at S free n) (value_at S free m)
@@ -61,9 +62,9 @@ unfolding value_at
 value_under S free zero m le = record { at = λ ts. inl refl }
 value_under S free (suc n) zero le = absurd (omega arith)
 value_under S free (suc n) (suc m) le =
-  on_under (of BracketOpen) _ _ _ _ (λ o. seq_under _ _ _ _ (many_under (of BracketClose) _ _ (value_under S free n m (omega arith)) n m (omega arith)) (λ r. under_refl _))
-  (on_under (of CurlyOpen) _ _ _ _ (λ o. seq_under _ _ _ _ (many_under (of CurlyClose) _ _ (field_under _ _ (value_under S free n m (omega arith))) n m (omega arith)) (λ r. under_refl _))
-  (under_refl _))
+    on_under (of BracketOpen) _ _ _ _ (λ o. seq_under _ _ _ _ (many_under (of BracketClose) _ _ (value_under S free n m (omega arith)) n m (omega arith)) (λ r. under_refl _))
+    (on_under (of CurlyOpen) _ _ _ _ (λ o. seq_under _ _ _ _ (many_under (of CurlyClose) _ _ (field_under _ _ (value_under S free n m (omega arith))) n m (omega arith)) (λ r. under_refl _))
+    (under_refl _))
 
 -- A reader that answers wherever the fuel exceeds the list.
 pub record Grows {F A : Type 0} (f : ℕ → Reader F A) : Type 0 where
@@ -114,26 +115,28 @@ module _ {C F : Type 0} (S : Scalars C F) (free : Bool) where
   pub items_grow : Grows (items_at S free)
   items_grow = record {
     under = λ n m le. many_under (of BracketClose) _ _ (value_under S free n m le) n m le;
-    answers = λ n ts le. not_out n _ _ (Closed (of BracketClose) (IsValue S free)) (many_rule (of BracketClose) (filler BracketClose) refl (inl refl) (IsValue S free) (value_takes S free) _ _ n n n (le_refl n) (le_refl n) (value_rule S free n n (le_refl n))) ts le }
+    answers = λ n ts le. not_out n _ _ (Closed (of BracketClose) (IsValue S free)) (many_rule (of BracketClose) (sample BracketClose) refl (inl refl) (IsValue S free) (value_takes S free) _ _ n n n (le_refl n) (le_refl n) (value_rule S free n n (le_refl n))) ts le;
+  }
 
   pub fields_grow : Grows (fields_at S free)
   fields_grow = record {
     under = λ n m le. many_under (of CurlyClose) _ _ (field_under _ _ (value_under S free n m le)) n m le;
-    answers = λ n ts le. not_out n _ _ (Closed (of CurlyClose) (IsField S free)) (many_rule (of CurlyClose) (filler CurlyClose) refl (inl refl) (IsField S free) (field_takes S free) _ _ n n n (le_refl n) (le_refl n) (field_rule S free n _ _ (value_rule S free n n (le_refl n)))) ts le }
+    answers = λ n ts le. not_out n _ _ (Closed (of CurlyClose) (IsField S free)) (many_rule (of CurlyClose) (sample CurlyClose) refl (inl refl) (IsField S free) (field_takes S free) _ _ n n n (le_refl n) (le_refl n) (field_rule S free n _ _ (value_rule S free n n (le_refl n)))) ts le;
+  }
 
   abbrev pub value_body : Reader F (Value C)
   value_body =
-    on (of BracketOpen) (λ o. seq (fully (items_at S free)) (λ r. ret (ListOf (items_of r.0) (over o r.1))))
-    (on (of CurlyOpen) (λ o. seq (fully (fields_at S free)) (λ r. ret (Object (fields_of r.0) (over o r.1))))
-    (on (variable_start free) (λ o. seq (want (of Name)) (λ w. ret (Variable w.text (over o w))))
-    (on (of Name) (λ t. ret (by_name S t.text t.span))
-    (literal S))))
+      on (of BracketOpen) (λ o. seq (fully (items_at S free)) (λ r. done (ListOf (items_of r.0) (over o r.1))))
+      (on (of CurlyOpen) (λ o. seq (fully (fields_at S free)) (λ r. done (Object (fields_of r.0) (over o r.1))))
+      (on (variable_start free) (λ o. seq (want (of Name)) (λ w. done (Variable w.text (over o w))))
+      (on (of Name) (λ t. done (by_name S t.text t.span))
+      (literal S))))
 
   pub value_steps : (ts : List Lexeme) → value_of S free ts ≡ value_body ts
   unfolding value_at
   value_steps ts = steps (value_at S free) value_grows value_body ts
-    ((on_under (of BracketOpen) _ _ _ _ (λ o. seq_under _ _ _ _ (settled (items_at S free) items_grow (length ts)) (λ r. under_refl _))
-     (on_under (of CurlyOpen) _ _ _ _ (λ o. seq_under _ _ _ _ (settled (fields_at S free) fields_grow (length ts)) (λ r. under_refl _)) (under_refl _))).at ts)
+      ((on_under (of BracketOpen) _ _ _ _ (λ o. seq_under _ _ _ _ (settled (items_at S free) items_grow (length ts)) (λ r. under_refl _))
+      (on_under (of CurlyOpen) _ _ _ _ (λ o. seq_under _ _ _ _ (settled (fields_at S free) fields_grow (length ts)) (λ r. under_refl _)) (under_refl _))).at ts)
 
   below_trans : {A : Type 0} (a b c : Read F A) → Below a b → Below b c → Below a c
   below_trans a b c (inl e) q = inl e
@@ -144,21 +147,21 @@ module _ {C F : Type 0} (S : Scalars C F) (free : Bool) where
   under_trans f g h p q = record { at = λ ts. below_trans (f ts) (g ts) (h ts) (p.at ts) (q.at ts) }
 
   abbrev pub items_body : Reader F (List (Value C) × Lexeme)
-  items_body = on (of BracketClose) (λ t. ret ([], t)) (seq (value_of S free) (λ x. seq (fully (items_at S free)) (λ r. ret (x ∷ r.0, r.1))))
+  items_body = on (of BracketClose) (λ t. done ([], t)) (seq (value_of S free) (λ x. seq (fully (items_at S free)) (λ r. done (x ∷ r.0, r.1))))
 
   pub items_step : (ts : List Lexeme) → fully (items_at S free) ts ≡ items_body ts
   unfolding many
   items_step ts = steps (items_at S free) items_grow items_body ts
-    ((on_under (of BracketClose) _ _ _ _ (λ t. under_refl _)
+      ((on_under (of BracketClose) _ _ _ _ (λ t. under_refl _)
       (seq_under _ _ _ _ (settled (value_at S free) value_grows (suc (length ts)))
-        (λ x. seq_under _ _ _ _ (under_trans _ _ _ (many_under (of BracketClose) _ _ (under_refl (value_at S free (suc (length ts)))) (length ts) (suc (length ts)) (omega arith)) (settled (items_at S free) items_grow (suc (length ts)))) (λ r. under_refl _)))).at ts)
+      (λ x. seq_under _ _ _ _ (under_trans _ _ _ (many_under (of BracketClose) _ _ (under_refl (value_at S free (suc (length ts)))) (length ts) (suc (length ts)) (omega arith)) (settled (items_at S free) items_grow (suc (length ts)))) (λ r. under_refl _)))).at ts)
 
   abbrev pub fields_body : Reader F (List (Word × Value C) × Lexeme)
-  fields_body = on (of CurlyClose) (λ t. ret ([], t)) (seq (object_field (value_of S free)) (λ x. seq (fully (fields_at S free)) (λ r. ret (x ∷ r.0, r.1))))
+  fields_body = on (of CurlyClose) (λ t. done ([], t)) (seq (key_and_value (value_of S free)) (λ x. seq (fully (fields_at S free)) (λ r. done (x ∷ r.0, r.1))))
 
   pub fields_step : (ts : List Lexeme) → fully (fields_at S free) ts ≡ fields_body ts
   unfolding many
   fields_step ts = steps (fields_at S free) fields_grow fields_body ts
-    ((on_under (of CurlyClose) _ _ _ _ (λ t. under_refl _)
+      ((on_under (of CurlyClose) _ _ _ _ (λ t. under_refl _)
       (seq_under _ _ _ _ (field_under _ _ (settled (value_at S free) value_grows (suc (length ts))))
-        (λ x. seq_under _ _ _ _ (under_trans _ _ _ (many_under (of CurlyClose) _ _ (under_refl (object_field (value_at S free (suc (length ts))))) (length ts) (suc (length ts)) (omega arith)) (settled (fields_at S free) fields_grow (suc (length ts)))) (λ r. under_refl _)))).at ts)
+      (λ x. seq_under _ _ _ _ (under_trans _ _ _ (many_under (of CurlyClose) _ _ (under_refl (key_and_value (value_at S free (suc (length ts))))) (length ts) (suc (length ts)) (omega arith)) (settled (fields_at S free) fields_grow (suc (length ts)))) (λ r. under_refl _)))).at ts)

@@ -1,15 +1,14 @@
 -- Tests of tokens.
-use Rattle.std.proofs.Common.{Bool, true, false, ◌≡◌, ◌∷◌, [], List, refl, sym, ap, ◌∙◌, ◌⊎◌, inl, inr, get_or, eqb-true, ◌&&◌, ◌||◌, bytes_eq, codes, not, rules}
+use Rattle.std.proofs.Common.{Bool, true, false, ◌≡◌, refl, ◌⊎◌, inl, inr, ◌&&◌, ◌||◌, bytes_eq, codes, not, rules}
 use Rattle.std.proofs.lemmas.Slice.Eq.{bytes_eq-Decides}
 use denote.Enum.Bare.{same_true}
 use Rattle.graphql_lexical.specs.contracts.kind.Kind.{the_type}
-use Rattle.graphql_lexical.specs.Kinds.{rank}
 use Rattle.graphql_lexical.specs.declared.kind.Kind.{Kind}
-use Rattle.graphql_lexical.specs.declared.kind.Kind.TheVariants.{Name, String, Float, Int, ExclamationMark, Dollar, ParenOpen, ParenClose, BracketOpen, BracketClose, CurlyOpen, CurlyClose, Ellipsis, Colon, Equals, At, Pipe, EndOfFile}
+use Rattle.graphql_lexical.specs.declared.kind.Kind.TheVariants.{Name, String, Float, Int}
 use Rattle.graphql_lexical.specs.Cutting.{Lexeme}
-use Rattle.graphql_grammar.specs.Tokens.{Text, passes, of, word}
+use Rattle.graphql_grammar.specs.Tokens.{Text}
+use Rattle.graphql_grammar.specs.Reading.{passes, of, word, scalar_token, other_than_on}
 use Rattle.graphql_grammar.specs.Grammar.{IsScalarKind, Says}
-use Rattle.graphql_grammar.specs.Reading.{scalar_token, other_than_on}
 
 pub of_kind : (k : Kind) (t : Lexeme) → passes (of k) t ≡ true → t.kind ≡ k
 of_kind k t e = same_true the_type tt t.kind k e

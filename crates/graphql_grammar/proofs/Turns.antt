@@ -1,15 +1,16 @@
 -- Where a scalar token is refused as such: what the reader says to an opening bracket in its place.
-use Rattle.std.proofs.Common.{ℕ, zero, suc, Bool, true, false, cond, ◌≡◌, ◌≤◌, ◌<◌, ◌∷◌, [], List, ◌++◌, length, refl, sym, ap, ◌∙◌, arith, append_assoc, subst, length-append, ◌⊎◌, inl, inr, Result, Ok, Err, codes, Option, Some, None}
+use Rattle.std.proofs.Common.{ℕ, zero, suc, Bool, true, false, ◌≡◌, ◌<◌, ◌∷◌, [], List, ◌++◌, length, refl, sym, ap, ◌∙◌, arith, append_assoc, subst, length-append, ◌⊎◌, inl, inr, Result, Ok, Err, codes, Option, Some, None}
 use Rattle.graphql_lexical.specs.Place.{Span}
 use Rattle.graphql_lexical.specs.declared.kind.Kind.{Kind}
 use Rattle.graphql_lexical.specs.declared.kind.Kind.TheVariants.{Name, String, Float, Int, ExclamationMark, Dollar, ParenOpen, ParenClose, BracketOpen, BracketClose, CurlyOpen, CurlyClose, Ellipsis, Colon, Equals, At, EndOfFile}
 use Rattle.graphql_lexical.specs.Cutting.{Lexeme}
-use Rattle.graphql_grammar.specs.Tokens.{Word, word_of, Text, Test, passes, of, word, over, span_of}
-use Rattle.graphql_grammar.specs.Tree.{Scalars, Value, TypeRef, Selection, Definition}
+use Rattle.graphql_grammar.specs.Tokens.{Word, word_of, Text, span_of}
+use Rattle.graphql_grammar.specs.Reading.{Test, passes, of, word, Read, Took, Refused, Out, Reader, after, seq, done, fault_of, refuse, pick, on, want, many, look, choose, with_span, give_span, front, maybe, one_or_more, repeated, literal, scalar_token, value_at, key_and_value, variable_start, name_word, maybe_non_null, plain_type, type_at, spanned_type, other_than_on, braces, argument, arguments, directive, directives, default_value, variable_definition, variables, field_name, may_select, field_with, inline_tail, spread_with, selection_at, operation_word, operation_with, fragment_with, definition, document}
+use Rattle.graphql_grammar.specs.Tree.{Scalars, Value, TypeRef, Selection}
 use Rattle.graphql_grammar.specs.Grammar.{IsScalarKind}
-use Rattle.graphql_grammar.specs.Reading.{Fault, UnexpectedEndOfFile, UnexpectedToken, Unread, Read, Took, Refused, Out, Reader, after, seq, ret, fault_of, refuse, pick, on, want, many, look, choose, with_span, give_span, front, maybe, items1, star, literal, scalar_token, value_at, object_field, variable_start, name_word, bang, plain_type, type_at, spanned_type, other_than_on, braces, argument, arguments, directive, directives, default_value, variable_definition, variables, field_name, may_select, field_with, inline_tail, spread_with, selection_at, operation_word, operation_with, fragment_with, definition, document}
+use Rattle.graphql_grammar.specs.Faults.{Fault, ScalarError}
 use Rattle.graphql_grammar.proofs.Rules.{on_passed, on_failed, front_is}
-use Rattle.graphql_grammar.proofs.TokenTests.{of_kind, is_scalar_kind}
+use Rattle.graphql_grammar.proofs.TokenTests.{is_scalar_kind}
 use Rattle.graphql_grammar.proofs.Values.{literal_ok, literal_bad, literal_other}
 use Rattle.graphql_grammar.proofs.Found.{seq_took, at_literal_kind}
 
@@ -32,17 +33,17 @@ Stops {F} f us rest = (x : Fault F) × (f (us ++ rest) ≡ Refused rest x)
 abbrev pub Off : {F A : Type 0} → Bool → Reader F A → List Lexeme → Type 0
 Off b f us = ((rest : List Lexeme) → Starts BracketOpen rest → Stops f us rest) ⊎ ((b ≡ true → 0 < length us) × ((rest : List Lexeme) → Starts CurlyOpen rest → Stops f us rest))
 
-exch : (vs last other : List Lexeme) → Exchange last other → Exchange (vs ++ last) (vs ++ other)
-exch [] last other x = x
-exch (v ∷ vs) last other x = inl refl
+exchanged : (vs last other : List Lexeme) → Exchange last other → Exchange (vs ++ last) (vs ++ other)
+exchanged [] last other x = x
+exchanged (v ∷ vs) last other x = inl refl
 
-exch_some : (vs last other : List Lexeme) → 0 < length vs → Exchange (vs ++ last) (vs ++ other)
-exch_some [] last other x = absurd (omega (arith, x))
-exch_some (v ∷ vs) last other x = inl refl
+exchanged_some : (vs last other : List Lexeme) → 0 < length vs → Exchange (vs ++ last) (vs ++ other)
+exchanged_some [] last other x = absurd (omega (arith, x))
+exchanged_some (v ∷ vs) last other x = inl refl
 
-exch_bracket : (t : Lexeme) (ts other : List Lexeme) → IsScalarKind t.kind → Starts BracketOpen other → Exchange (t ∷ ts) other
-exch_bracket t ts [] s x = absurd x
-exch_bracket t ts (u ∷ us) s x = inr (s, x)
+exchanged_bracket : (t : Lexeme) (ts other : List Lexeme) → IsScalarKind t.kind → Starts BracketOpen other → Exchange (t ∷ ts) other
+exchanged_bracket t ts [] s x = absurd x
+exchanged_bracket t ts (u ∷ us) s x = inr (s, x)
 
 -- What a rule asks of a token sees no scalar token and no opening bracket.
 pub record Blind (test : Test) : Type 0 where
@@ -59,7 +60,7 @@ blind test a b c d = record { scalar = by_kind; bracket = d }
 
 module _ {C F : Type 0} (S : Scalars C F) where
   abbrev pub Own : Lexeme → Fault F → Type 0
-  Own t x = (y : F) × (x ≡ Unread y) × IsScalarKind t.kind × (S.read t.kind t.text ≡ Err y)
+  Own t x = (y : F) × (x ≡ ScalarError y) × IsScalarKind t.kind × (S.read t.kind t.text ≡ Err y)
 
   abbrev pub Turn : {A : Type 0} → Bool → Reader F A → List Lexeme → Read F A → Type 0
   Turn b f ts (Took a rest) = (us : List Lexeme) × (ts ≡ us ++ rest) × ((other : List Lexeme) → Exchange rest other → f (us ++ other) ≡ Took a other)
@@ -72,20 +73,20 @@ module _ {C F : Type 0} (S : Scalars C F) where
 
   -- A reader that goes as another does.
   same_turn : {A : Type 0} (b : Bool) (g h : Reader F A) (ts : List Lexeme) (r : Read F A) → ((other : List Lexeme) → Exchange ts other → h other ≡ g other)
-    → (b ≡ false → (other : List Lexeme) → Starts CurlyOpen other → h other ≡ g other) → Turn b g ts r → Turn b h ts r
-  same_turn b g h ts (Took a rest) x y (us, e, p) = (us, e, λ other q. x (us ++ other) (rw e (exch us rest other q)) ∙ p other q)
+      → (b ≡ false → (other : List Lexeme) → Starts CurlyOpen other → h other ≡ g other) → Turn b g ts r → Turn b h ts r
+  same_turn b g h ts (Took a rest) x y (us, e, p) = (us, e, λ other q. x (us ++ other) (rw e (exchanged us rest other q)) ∙ p other q)
   same_turn b g h ts (Refused [] z) x y p = tt
   same_turn b g h ts (Refused (t ∷ rest) z) x y (us, e, inl o) = (us, e, inl o)
   same_turn {A} b g h ts (Refused (t ∷ rest) z) x y (us, e, inr (q, off)) = (us, e, inr (q, λ s. by_off s (off s)))
     where
       by_front : (b : Bool) (vs other : List Lexeme) → (b ≡ true → 0 < length vs) → Starts CurlyOpen other → ((o : List Lexeme) → Exchange (vs ++ (t ∷ rest)) o → h o ≡ g o)
-        → (b ≡ false → (o : List Lexeme) → Starts CurlyOpen o → h o ≡ g o) → h (vs ++ other) ≡ g (vs ++ other)
-      by_front true vs other n st x' y' = x' (vs ++ other) (exch_some vs (t ∷ rest) other (n refl))
+          → (b ≡ false → (o : List Lexeme) → Starts CurlyOpen o → h o ≡ g o) → h (vs ++ other) ≡ g (vs ++ other)
+      by_front true vs other n st x' y' = x' (vs ++ other) (exchanged_some vs (t ∷ rest) other (n refl))
       by_front false [] other n st x' y' = y' refl other st
       by_front false (v ∷ vs) other n st x' y' = x' (v ∷ vs ++ other) (inl refl)
 
       by_off : IsScalarKind t.kind → Off b g us → Off b h us
-      by_off s (inl p) = inl (λ other st. ((p other st).0, x (us ++ other) (rw e (exch us (t ∷ rest) other (exch_bracket t rest other s st))) ∙ (p other st).1))
+      by_off s (inl p) = inl (λ other st. ((p other st).0, x (us ++ other) (rw e (exchanged us (t ∷ rest) other (exchanged_bracket t rest other s st))) ∙ (p other st).1))
       by_off s (inr (n, p)) = inr (n, λ other st. ((p other st).0, by_front b us other n st (λ o c. x o (rw e c)) y ∙ (p other st).1))
   same_turn b g h ts Out x y p = tt
 
@@ -106,9 +107,9 @@ module _ {C F : Type 0} (S : Scalars C F) where
   pub weak : {A : Type 0} (f : Reader F A) → Turns true f → Turns false f
   weak f r = record { at = λ ts. weak_turn f ts (f ts) (r.at ts) }
 
-  pub ret_turns : {A : Type 0} (b : Bool) (a : A) → Turns b (ret a)
-  unfolding ret
-  ret_turns b a = record { at = λ ts. ([], refl, λ other x. refl) }
+  pub done_turns : {A : Type 0} (b : Bool) (a : A) → Turns b (done a)
+  unfolding done
+  done_turns b a = record { at = λ ts. ([], refl, λ other x. refl) }
 
   refuse_stops : {A : Type 0} (k : Kind) (rest : List Lexeme) → Starts k rest → Stops {F = F} {A = A} refuse [] rest
   unfolding refuse
@@ -133,14 +134,14 @@ module _ {C F : Type 0} (S : Scalars C F) where
     goes us vs mid last other a q x h = ap (seq f k) (append_assoc us vs other) ∙ seq_took f k (us ++ (vs ++ other)) (vs ++ other) a (h (vs ++ other) (rw q x))
 
     second : (ts us mid : List Lexeme) (a : A) → ts ≡ us ++ mid → ((o : List Lexeme) → Exchange mid o → f (us ++ o) ≡ Took a o) → (r : Read F B) → Turn true (k a) mid r → Turn b (seq f k) ts r
-    second ts us mid a e h (Took y last) (vs, q, g) = (us ++ vs, e ∙ ap (λ z. us ++ z) q ∙ sym (append_assoc us vs last), λ other x. goes us vs mid last other a q (exch vs last other x) h ∙ g other x)
+    second ts us mid a e h (Took y last) (vs, q, g) = (us ++ vs, e ∙ ap (λ z. us ++ z) q ∙ sym (append_assoc us vs last), λ other x. goes us vs mid last other a q (exchanged vs last other x) h ∙ g other x)
     second ts us mid a e h (Refused [] x) g = tt
     second ts us mid a e h (Refused (t ∷ last) x) (vs, q, inl o) = (us ++ vs, e ∙ ap (λ z. us ++ z) q ∙ sym (append_assoc us vs (t ∷ last)), inl o)
     second ts us mid a e h (Refused (t ∷ last) x) (vs, q, inr (xe, off)) = (us ++ vs, e ∙ ap (λ z. us ++ z) q ∙ sym (append_assoc us vs (t ∷ last)), inr (xe, λ s. by_off s (off s)))
       where
         by_off : IsScalarKind t.kind → Off true (k a) vs → Off b (seq f k) (us ++ vs)
-        by_off s (inl p) = inl (λ other st. ((p other st).0, goes us vs mid (t ∷ last) other a q (exch vs (t ∷ last) other (exch_bracket t last other s st)) h ∙ (p other st).1))
-        by_off s (inr (n, p)) = inr ((λ c. let l = n refl in rw (length-append us vs) (omega (arith, l))), λ other st. ((p other st).0, goes us vs mid (t ∷ last) other a q (exch_some vs (t ∷ last) other (n refl)) h ∙ (p other st).1))
+        by_off s (inl p) = inl (λ other st. ((p other st).0, goes us vs mid (t ∷ last) other a q (exchanged vs (t ∷ last) other (exchanged_bracket t last other s st)) h ∙ (p other st).1))
+        by_off s (inr (n, p)) = inr ((λ c. let l = n refl in rw (length-append us vs) (omega (arith, l))), λ other st. ((p other st).0, goes us vs mid (t ∷ last) other a q (exchanged_some vs (t ∷ last) other (n refl)) h ∙ (p other st).1))
     second ts us mid a e h Out g = tt
 
     seq_turn : (ts : List Lexeme) (r : Read F A) → Turn b f ts r → ((a : A) → Turns true (k a)) → Turn b (seq f k) ts (after r k)
@@ -173,7 +174,7 @@ module _ {C F : Type 0} (S : Scalars C F) where
 
     -- at one list
     on_at : (t : Lexeme) (ts : List Lexeme) (v : Bool) → passes test t ≡ v → (IsScalarKind t.kind → (w : Text) → test BracketOpen w ≡ false) → (b ≡ false → (w : Text) → test CurlyOpen w ≡ false)
-      → ((u : Lexeme) → passes test u ≡ true → Turns false (k u)) → Turn b g (t ∷ ts) (g (t ∷ ts)) → Turn b (on test k g) (t ∷ ts) (on test k g (t ∷ ts))
+        → ((u : Lexeme) → passes test u ≡ true → Turns false (k u)) → Turn b g (t ∷ ts) (g (t ∷ ts)) → Turn b (on test k g) (t ∷ ts) (on test k g (t ∷ ts))
     on_at t ts true e br cu hk hg = subst (λ z. Turn b (on test k g) (t ∷ ts) z) (sym (on_passed test k g t ts e)) (push t ts (k t ts) e ((hk t e).at ts))
     on_at t ts false e br cu hk hg = subst (λ z. Turn b (on test k g) (t ∷ ts) z) (sym (on_failed test k g t ts e)) (same_turn b g (on test k g) (t ∷ ts) (g (t ∷ ts)) by_head by_curly hg)
       where
@@ -210,11 +211,11 @@ module _ {C F : Type 0} (S : Scalars C F) where
 
   -- a token that is wanted, and then
   want_on : {A : Type 0} (test : Test) (k : Lexeme → Reader F A) (ts : List Lexeme) → seq (want test) k ts ≡ on test k refuse ts
-  unfolding seq want on ret refuse
+  unfolding seq want on done refuse
   want_on test k [] = refl
   want_on test k (t ∷ ts) = by_test (passes test t)
     where
-      by_test : (b : Bool) → after (pick b ret refuse t ts) k ≡ pick b k refuse t ts
+      by_test : (b : Bool) → after (pick b done refuse t ts) k ≡ pick b k refuse t ts
       by_test true = refl
       by_test false = refl
 
@@ -285,20 +286,20 @@ module _ {C F : Type 0} (S : Scalars C F) where
   pub many_turns : {A : Type 0} (close : Test) (f : Reader F A) (n : ℕ) → Blind close → Turns true f → Turns true (many close f n)
   unfolding many
   many_turns close f zero bl r = out_turns (many close f zero) (λ ts. refl)
-  many_turns close f (suc n) bl r = on_turns close _ _ bl (λ t. ret_turns true _) (seq_turns true f _ r (λ x. seq_turns true _ _ (many_turns close f n bl r) (λ q. ret_turns true _)))
+  many_turns close f (suc n) bl r = on_turns close _ _ bl (λ t. done_turns true _) (seq_turns true f _ r (λ x. seq_turns true _ _ (many_turns close f n bl r) (λ q. done_turns true _)))
 
-  pub items1_turns : {A : Type 0} (close : Test) (f : Reader F A) (n : ℕ) → Blind close → Turns true f → Turns true (items1 close f n)
-  unfolding items1
-  items1_turns close f n bl r = seq_turns true f _ r (λ x. seq_turns true _ _ (many_turns close f n bl r) (λ q. ret_turns true _))
+  pub one_or_more_turns : {A : Type 0} (close : Test) (f : Reader F A) (n : ℕ) → Blind close → Turns true f → Turns true (one_or_more close f n)
+  unfolding one_or_more
+  one_or_more_turns close f n bl r = seq_turns true f _ r (λ x. seq_turns true _ _ (many_turns close f n bl r) (λ q. done_turns true _))
 
-  pub star_turns : {A : Type 0} (test : Test) (f : Reader F A) (n : ℕ) → Blind test → Turns true f → Turns true (star test f n)
-  unfolding star
-  star_turns test f zero bl r = out_turns (star test f zero) (λ ts. refl)
-  star_turns test f (suc n) bl r = look_turns test _ _ bl (seq_turns true f _ r (λ x. seq_turns true _ _ (star_turns test f n bl r) (λ q. ret_turns true _))) (ret_turns true _)
+  pub repeated_turns : {A : Type 0} (test : Test) (f : Reader F A) (n : ℕ) → Blind test → Turns true f → Turns true (repeated test f n)
+  unfolding repeated
+  repeated_turns test f zero bl r = out_turns (repeated test f zero) (λ ts. refl)
+  repeated_turns test f (suc n) bl r = look_turns test _ _ bl (seq_turns true f _ r (λ x. seq_turns true _ _ (repeated_turns test f n bl r) (λ q. done_turns true _))) (done_turns true _)
 
   pub maybe_turns : {A : Type 0} (test : Test) (f : Reader F A) → Blind test → Turns true f → Turns true (maybe test f)
   unfolding maybe
-  maybe_turns test f bl r = look_turns test _ _ bl (seq_turns true f _ r (λ x. ret_turns true _)) (ret_turns true _)
+  maybe_turns test f bl r = look_turns test _ _ bl (seq_turns true f _ r (λ x. done_turns true _)) (done_turns true _)
 
   -- values
   literal_turn : (h : Reader F (Value C)) (t : Lexeme) (ts : List Lexeme) (z : Result C F) → passes scalar_token t ≡ true → S.read t.kind t.text ≡ z → ((us : List Lexeme) → h (t ∷ us) ≡ literal S (t ∷ us)) → Turn true h (t ∷ ts) (h (t ∷ ts))
@@ -329,19 +330,19 @@ module _ {C F : Type 0} (S : Scalars C F) where
   blind_of_colon : Blind (of Colon)
   blind_of_colon = blind (of Colon) (λ w. refl) (λ w. refl) (λ w. refl) (λ w. refl)
 
-  pub field_turns : (f : Reader F (Value C)) → Turns true f → Turns true (object_field f)
-  unfolding object_field
-  field_turns f r = want_turns (of Name) _ blind_name (λ k. want_turns (of Colon) _ blind_of_colon (λ c. seq_turns true f _ r (λ v. ret_turns true _)))
+  pub field_turns : (f : Reader F (Value C)) → Turns true f → Turns true (key_and_value f)
+  unfolding key_and_value
+  field_turns f r = want_turns (of Name) _ blind_name (λ k. want_turns (of Colon) _ blind_of_colon (λ c. seq_turns true f _ r (λ v. done_turns true _)))
 
   value_one : (free : Bool) (n : ℕ) (r : Turns true (value_at S free n)) (t : Lexeme) (ts : List Lexeme) (v : Bool) → passes scalar_token t ≡ v → Turn true (value_at S free (suc n)) (t ∷ ts) (value_at S free (suc n) (t ∷ ts))
   unfolding value_at
   value_one free n r t ts true e = literal_turn (value_at S free (suc n)) t ts (S.read t.kind t.text) e refl (value_literal free n t (is_scalar_kind t e))
   value_one free n r t ts false e =
-    on_at true (of BracketOpen) _ _ t ts (passes (of BracketOpen) t) refl (λ s. absurd (not_scalar t e s)) (λ c. no_curly c) (λ u q. weak _ (seq_turns true _ _ (many_turns (of BracketClose) _ n (blind (of BracketClose) (λ w. refl) (λ w. refl) (λ w. refl) (λ w. refl)) r) (λ x. ret_turns true _)))
-    (on_at true (of CurlyOpen) _ _ t ts (passes (of CurlyOpen) t) refl (λ s. absurd (not_scalar t e s)) (λ c. no_curly c) (λ u q. weak _ (seq_turns true _ _ (many_turns (of CurlyClose) _ n (blind (of CurlyClose) (λ w. refl) (λ w. refl) (λ w. refl) (λ w. refl)) (field_turns _ r)) (λ x. ret_turns true _)))
-    (on_at true (variable_start free) _ _ t ts (passes (variable_start free) t) refl (λ s. absurd (not_scalar t e s)) (λ c. no_curly c) (λ u q. weak _ (want_turns (of Name) _ blind_name (λ x. ret_turns true _)))
-    (on_at true (of Name) _ _ t ts (passes (of Name) t) refl (λ s. absurd (not_scalar t e s)) (λ c. no_curly c) (λ u q. ret_turns false _)
-    (other_literal t ts e))))
+      on_at true (of BracketOpen) _ _ t ts (passes (of BracketOpen) t) refl (λ s. absurd (not_scalar t e s)) (λ c. no_curly c) (λ u q. weak _ (seq_turns true _ _ (many_turns (of BracketClose) _ n (blind (of BracketClose) (λ w. refl) (λ w. refl) (λ w. refl) (λ w. refl)) r) (λ x. done_turns true _)))
+      (on_at true (of CurlyOpen) _ _ t ts (passes (of CurlyOpen) t) refl (λ s. absurd (not_scalar t e s)) (λ c. no_curly c) (λ u q. weak _ (seq_turns true _ _ (many_turns (of CurlyClose) _ n (blind (of CurlyClose) (λ w. refl) (λ w. refl) (λ w. refl) (λ w. refl)) (field_turns _ r)) (λ x. done_turns true _)))
+      (on_at true (variable_start free) _ _ t ts (passes (variable_start free) t) refl (λ s. absurd (not_scalar t e s)) (λ c. no_curly c) (λ u q. weak _ (want_turns (of Name) _ blind_name (λ x. done_turns true _)))
+      (on_at true (of Name) _ _ t ts (passes (of Name) t) refl (λ s. absurd (not_scalar t e s)) (λ c. no_curly c) (λ u q. done_turns false _)
+      (other_literal t ts e))))
 
   value_list : (free : Bool) (n : ℕ) (r : Turns true (value_at S free n)) (ts : List Lexeme) → Turn true (value_at S free (suc n)) ts (value_at S free (suc n) ts)
   unfolding value_at on literal
@@ -367,23 +368,23 @@ module _ {C F : Type 0} (S : Scalars C F) where
           by_rest [] st = absurd st
           by_rest (u ∷ us) st = (fault_of u.kind u.text, on_failed (of BracketOpen) k refuse u us (ap (λ (z : Kind). of BracketOpen z u.text) st))
 
-  bang_turns : (x : TypeRef) → Turns true (bang {F = F} x)
-  unfolding bang
-  bang_turns x = on_turns (of ExclamationMark) _ _ (blind (of ExclamationMark) (λ w. refl) (λ w. refl) (λ w. refl) (λ w. refl)) (λ u. ret_turns true _) (ret_turns true _)
+  maybe_non_null_turns : (x : TypeRef) → Turns true (maybe_non_null {F = F} x)
+  unfolding maybe_non_null
+  maybe_non_null_turns x = on_turns (of ExclamationMark) _ _ (blind (of ExclamationMark) (λ w. refl) (λ w. refl) (λ w. refl) (λ w. refl)) (λ u. done_turns true _) (done_turns true _)
 
   plain_turns : (inner : Reader F TypeRef) → Turns false inner → Turns false (plain_type inner)
   unfolding plain_type
-  plain_turns inner r = on_turns_by false (of Name) _ _ blind_name (λ c w. refl) (λ u e. ret_turns false _)
-    (same_turns false (on (of BracketOpen) _ refuse) _ (want_on (of BracketOpen) _) (record { at = λ ts. bracket_on _ ts (λ o. seq_turns false inner _ r (λ x. want_turns (of BracketClose) _ (blind (of BracketClose) (λ w. refl) (λ w. refl) (λ w. refl) (λ w. refl)) (λ c. ret_turns true _))) }))
+  plain_turns inner r = on_turns_by false (of Name) _ _ blind_name (λ c w. refl) (λ u e. done_turns false _)
+      (same_turns false (on (of BracketOpen) _ refuse) _ (want_on (of BracketOpen) _) (record { at = λ ts. bracket_on _ ts (λ o. seq_turns false inner _ r (λ x. want_turns (of BracketClose) _ (blind (of BracketClose) (λ w. refl) (λ w. refl) (λ w. refl) (λ w. refl)) (λ c. done_turns true _))) }))
 
   pub type_turns : (n : ℕ) → Turns false (type_at {F = F} n)
   unfolding type_at
   type_turns zero = record { at = λ ts. tt }
-  type_turns (suc n) = seq_turns false _ _ (plain_turns (type_at n) (type_turns n)) (λ x. bang_turns x)
+  type_turns (suc n) = seq_turns false _ _ (plain_turns (type_at n) (type_turns n)) (λ x. maybe_non_null_turns x)
 
   spanned_turns : (n : ℕ) → Turns false (spanned_type {F = F} n)
   unfolding spanned_type
-  spanned_turns n = span_turns false _ (seq_turns false _ _ (type_turns n) (λ x. ret_turns true _))
+  spanned_turns n = span_turns false _ (seq_turns false _ _ (type_turns n) (λ x. done_turns true _))
 
   -- documents
   module _ (n : ℕ) where
@@ -404,19 +405,19 @@ module _ {C F : Type 0} (S : Scalars C F) where
 
     argument_turns : Turns true (argument S n)
     unfolding argument
-    argument_turns = want_turns (of Name) _ blind_name (λ k. want_turns (of Colon) _ blind_colon (λ c. seq_turns true _ _ (value_turns true n) (λ v. ret_turns true _)))
+    argument_turns = want_turns (of Name) _ blind_name (λ k. want_turns (of Colon) _ blind_colon (λ c. seq_turns true _ _ (value_turns true n) (λ v. done_turns true _)))
 
     arguments_turns : Turns true (arguments S n)
     unfolding arguments
-    arguments_turns = span_turns true _ (want_turns (of ParenOpen) _ blind_paren (λ o. seq_turns true _ _ (items1_turns (of ParenClose) _ n blind_close argument_turns) (λ xs. ret_turns true _)))
+    arguments_turns = span_turns true _ (want_turns (of ParenOpen) _ blind_paren (λ o. seq_turns true _ _ (one_or_more_turns (of ParenClose) _ n blind_close argument_turns) (λ xs. done_turns true _)))
 
     directive_turns : Turns true (directive S n)
     unfolding directive
-    directive_turns = span_turns true _ (want_turns (of At) _ blind_at (λ a. want_turns (of Name) _ blind_name (λ t. seq_turns true _ _ (maybe_turns (of ParenOpen) _ blind_paren arguments_turns) (λ xs. ret_turns true _))))
+    directive_turns = span_turns true _ (want_turns (of At) _ blind_at (λ a. want_turns (of Name) _ blind_name (λ t. seq_turns true _ _ (maybe_turns (of ParenOpen) _ blind_paren arguments_turns) (λ xs. done_turns true _))))
 
     directives_turns : Turns true (directives S n)
     unfolding directives
-    directives_turns = star_turns (of At) _ n blind_at directive_turns
+    directives_turns = seq_turns true _ _ (repeated_turns (of At) _ n blind_at directive_turns) (λ ds. done_turns true _)
 
     default_turns : Turns true (default_value S n)
     unfolding default_value
@@ -426,39 +427,39 @@ module _ {C F : Type 0} (S : Scalars C F) where
     variable_turns : Turns true (variable_definition S n)
     unfolding variable_definition
     variable_turns = want_turns (of Dollar) _ (blind (of Dollar) (λ w. refl) (λ w. refl) (λ w. refl) (λ w. refl)) (λ d. want_turns (of Name) _ blind_name (λ t. want_type (of Colon) _ blind_colon (λ c.
-      seq_turns false _ _ (spanned_turns n) (λ x. seq_turns true _ _ (maybe_turns (of Equals) _ (blind (of Equals) (λ w. refl) (λ w. refl) (λ w. refl) (λ w. refl)) default_turns) (λ v. seq_turns true _ _ directives_turns (λ ds. ret_turns true _))))))
+        seq_turns false _ _ (spanned_turns n) (λ x. seq_turns true _ _ (maybe_turns (of Equals) _ (blind (of Equals) (λ w. refl) (λ w. refl) (λ w. refl) (λ w. refl)) default_turns) (λ v. seq_turns true _ _ directives_turns (λ ds. done_turns true _))))))
 
     variables_turns : Turns true (variables S n)
     unfolding variables
-    variables_turns = span_turns true _ (want_turns (of ParenOpen) _ blind_paren (λ o. seq_turns true _ _ (items1_turns (of ParenClose) _ n blind_close variable_turns) (λ xs. ret_turns true _)))
+    variables_turns = span_turns true _ (want_turns (of ParenOpen) _ blind_paren (λ o. seq_turns true _ _ (one_or_more_turns (of ParenClose) _ n blind_close variable_turns) (λ xs. done_turns true _)))
 
     field_name_turns : Turns true (field_name S n)
     unfolding field_name
-    field_name_turns = want_turns (of Name) _ blind_name (λ a. on_turns (of Colon) _ _ blind_colon (λ c. want_turns (of Name) _ blind_name (λ t. ret_turns true _)) (ret_turns true _))
+    field_name_turns = want_turns (of Name) _ blind_name (λ a. on_turns (of Colon) _ _ blind_colon (λ c. want_turns (of Name) _ blind_name (λ t. done_turns true _)) (done_turns true _))
 
     module _ (f : Reader F (Selection C)) (r : Turns true f) where
       braces_turns : Turns true (braces f n)
       unfolding braces
-      braces_turns = want_turns (of CurlyOpen) _ blind_curly (λ o. seq_turns true _ _ (items1_turns (of CurlyClose) _ n (blind (of CurlyClose) (λ w. refl) (λ w. refl) (λ w. refl) (λ w. refl)) r) (λ xs. ret_turns true _))
+      braces_turns = want_turns (of CurlyOpen) _ blind_curly (λ o. seq_turns true _ _ (one_or_more_turns (of CurlyClose) _ n (blind (of CurlyClose) (λ w. refl) (λ w. refl) (λ w. refl) (λ w. refl)) r) (λ xs. done_turns true _))
 
       may_turns : Turns true (may_select S n f)
       unfolding may_select
-      may_turns = look_turns (of CurlyOpen) _ _ blind_curly braces_turns (ret_turns true _)
+      may_turns = look_turns (of CurlyOpen) _ _ blind_curly (seq_turns true _ _ braces_turns (λ ss. done_turns true _)) (done_turns true _)
 
       field_with_turns : Turns true (field_with S n f)
       unfolding field_with
-      field_with_turns = seq_turns true _ _ field_name_turns (λ h. seq_turns true _ _ (maybe_turns (of ParenOpen) _ blind_paren arguments_turns) (λ xs. seq_turns true _ _ directives_turns (λ ds. seq_turns true _ _ may_turns (λ ss. ret_turns true _))))
+      field_with_turns = seq_turns true _ _ field_name_turns (λ h. seq_turns true _ _ (maybe_turns (of ParenOpen) _ blind_paren arguments_turns) (λ xs. seq_turns true _ _ directives_turns (λ ds. seq_turns true _ _ may_turns (λ ss. done_turns true _))))
 
       inline_turns : (w : Option Word) → Turns true (inline_tail S n w f)
       unfolding inline_tail
-      inline_turns w = seq_turns true _ _ directives_turns (λ ds. seq_turns true _ _ braces_turns (λ ss. ret_turns true _))
+      inline_turns w = seq_turns true _ _ directives_turns (λ ds. seq_turns true _ _ braces_turns (λ ss. done_turns true _))
 
       spread_turns : Turns true (spread_with S n f)
       unfolding spread_with
       spread_turns = want_turns (of Ellipsis) _ (blind (of Ellipsis) (λ w. refl) (λ w. refl) (λ w. refl) (λ w. refl)) (λ e.
-        on_turns (word (codes "on")) _ _ (blind (word (codes "on")) (λ w. refl) (λ w. refl) (λ w. refl) (λ w. refl)) (λ o. want_turns (of Name) _ blind_name (λ t. inline_turns (Some (word_of t))))
-        (on_turns other_than_on _ _ (blind other_than_on (λ w. refl) (λ w. refl) (λ w. refl) (λ w. refl)) (λ t. seq_turns true _ _ directives_turns (λ ds. ret_turns true _))
-        (inline_turns None)))
+          on_turns (word (codes "on")) _ _ (blind (word (codes "on")) (λ w. refl) (λ w. refl) (λ w. refl) (λ w. refl)) (λ o. want_turns (of Name) _ blind_name (λ t. inline_turns (Some (word_of t))))
+          (on_turns other_than_on _ _ (blind other_than_on (λ w. refl) (λ w. refl) (λ w. refl) (λ w. refl)) (λ t. seq_turns true _ _ directives_turns (λ ds. done_turns true _))
+          (inline_turns None)))
 
   selection_turns : (n : ℕ) → Turns true (selection_at S n)
   unfolding selection_at
@@ -471,24 +472,24 @@ module _ {C F : Type 0} (S : Scalars C F) where
 
     name_turns : Turns true (name_word {F = F})
     unfolding name_word
-    name_turns = want_turns (of Name) _ blind_name (λ t. ret_turns true _)
+    name_turns = want_turns (of Name) _ blind_name (λ t. done_turns true _)
 
     operation_turns : (w : Lexeme) → Turns true (operation_with S n w)
     unfolding operation_with
-    operation_turns w = seq_turns true _ _ (maybe_turns (of Name) _ blind_name name_turns) (λ name. seq_turns true _ _ (maybe_turns (of ParenOpen) _ (blind_paren n) (variables_turns n)) (λ vars. seq_turns true _ _ (directives_turns n) (λ ds. seq_turns true _ _ body_turns (λ ss. ret_turns true _))))
+    operation_turns w = seq_turns true _ _ (maybe_turns (of Name) _ blind_name name_turns) (λ name. seq_turns true _ _ (maybe_turns (of ParenOpen) _ (blind_paren n) (variables_turns n)) (λ vars. seq_turns true _ _ (directives_turns n) (λ ds. seq_turns true _ _ body_turns (λ ss. done_turns true _))))
 
     fragment_turns : Turns true (fragment_with S n)
     unfolding fragment_with
     fragment_turns = want_turns other_than_on _ (blind other_than_on (λ w. refl) (λ w. refl) (λ w. refl) (λ w. refl)) (λ a. want_turns (word (codes "on")) _ (blind (word (codes "on")) (λ w. refl) (λ w. refl) (λ w. refl) (λ w. refl)) (λ o. want_turns (of Name) _ blind_name (λ t.
-      seq_turns true _ _ (directives_turns n) (λ ds. seq_turns true _ _ body_turns (λ ss. ret_turns true _)))))
+        seq_turns true _ _ (directives_turns n) (λ ds. seq_turns true _ _ body_turns (λ ss. done_turns true _)))))
 
     definition_turns : Turns true (definition S n)
     unfolding definition
     definition_turns = span_turns true _
-      (on_turns operation_word _ _ (blind operation_word (λ w. refl) (λ w. refl) (λ w. refl) (λ w. refl)) operation_turns
-      (on_turns (word (codes "fragment")) _ _ (blind (word (codes "fragment")) (λ w. refl) (λ w. refl) (λ w. refl) (λ w. refl)) (λ w. fragment_turns)
-      (seq_turns true _ _ body_turns (λ ss. ret_turns true _))))
+        (on_turns operation_word _ _ (blind operation_word (λ w. refl) (λ w. refl) (λ w. refl) (λ w. refl)) operation_turns
+        (on_turns (word (codes "fragment")) _ _ (blind (word (codes "fragment")) (λ w. refl) (λ w. refl) (λ w. refl) (λ w. refl)) (λ w. fragment_turns)
+        (seq_turns true _ _ body_turns (λ ss. done_turns true _))))
 
     pub document_turns : Turns true (document S n)
     unfolding document
-    document_turns = items1_turns (of EndOfFile) _ n (blind (of EndOfFile) (λ w. refl) (λ w. refl) (λ w. refl) (λ w. refl)) definition_turns
+    document_turns = one_or_more_turns (of EndOfFile) _ n (blind (of EndOfFile) (λ w. refl) (λ w. refl) (λ w. refl) (λ w. refl)) definition_turns

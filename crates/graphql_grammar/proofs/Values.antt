@@ -1,18 +1,15 @@
 -- What the reading of a value keeps.
 use Rattle.std.proofs.Common.{ℕ, zero, suc, Bool, true, false, ◌≡◌, ◌≤◌, ◌<◌, ◌∷◌, [], List, ◌++◌, length, refl, sym, ap, ap₂, ◌∙◌, arith, append-nil, subst, Result, Ok, Err, zero-le, le_refl, codes, inl, inr, cond, bytes_eq, if◌then◌else◌}
-use Rattle.graphql_lexical.specs.declared.kind.Kind.{Kind}
 use Rattle.graphql_lexical.specs.declared.kind.Kind.TheVariants.{Name, Dollar, BracketOpen, BracketClose, CurlyOpen, CurlyClose, Colon}
 use Rattle.graphql_lexical.specs.Cutting.{Lexeme}
-use Rattle.graphql_grammar.specs.Tokens.{Word, word_of, nowhere, Text, filler, over, Alike, passes, of}
+use Rattle.graphql_grammar.specs.Tokens.{Word, word_of, Text, over, Alike}
+use Rattle.graphql_grammar.specs.Samples.{sample, token_of}
+use Rattle.graphql_grammar.specs.Reading.{passes, of, Took, Refused, Reader, refuse, want, literal, read_as, scalar_token, by_name, items_of, fields_of, variable_start, key_and_value, value_at}
 use Rattle.graphql_grammar.specs.Tree.{Scalars, Value, Null, Scalar, Enum, Variable, ListOf, Object, no_items, no_fields}
 use Rattle.graphql_grammar.specs.Grammar.{IsScalarKind, IsToken, IsValue, AreItems, AreFields, Each}
-use Rattle.graphql_grammar.specs.Reading.{Unread, Took, Refused, Reader, refuse, want, literal, read_as, scalar_token, by_name, items_of, fields_of, variable_start, object_field, value_at}
-use Rattle.graphql_grammar.specs.Faults.{IsOpener}
-use Rattle.graphql_grammar.proofs.Rules.{SameHead, less, Agrees, Fails, Meets, Rule, Some_of, ret_rule, seq_rule, turn, weaken, refuse_rule, want_rule, on_rule, many_rule, Closed, less_below, More}
+use Rattle.graphql_grammar.specs.Faults.{ScalarError}
+use Rattle.graphql_grammar.proofs.Rules.{SameHead, less, Agrees, Fails, Meets, Rule, Some_of, done_rule, seq_rule, turn, weaken, refuse_rule, want_rule, on_rule, many_rule, Closed, less_below, IsOpener, More}
 use Rattle.graphql_grammar.proofs.TokenTests.{of_kind, both, is_scalar_kind, text_yes, text_no}
-
-abbrev pub token_of : Kind → Text → Lexeme
-token_of kind text = record { kind = kind; text = text; span = nowhere }
 
 -- a literal
 module _ {C F : Type 0} (S : Scalars C F) where
@@ -20,7 +17,7 @@ module _ {C F : Type 0} (S : Scalars C F) where
   unfolding literal
   literal_ok t ts c e h = ap₂ (λ b z. cond b (read_as t ts z) (refuse (t ∷ ts))) e h
 
-  pub literal_bad : (t : Lexeme) (ts : List Lexeme) (x : F) → passes scalar_token t ≡ true → S.read t.kind t.text ≡ Err x → literal S (t ∷ ts) ≡ Refused (t ∷ ts) (Unread x)
+  pub literal_bad : (t : Lexeme) (ts : List Lexeme) (x : F) → passes scalar_token t ≡ true → S.read t.kind t.text ≡ Err x → literal S (t ∷ ts) ≡ Refused (t ∷ ts) (ScalarError x)
   unfolding literal
   literal_bad t ts x e h = ap₂ (λ b z. cond b (read_as t ts z) (refuse (t ∷ ts))) e h
 
@@ -48,7 +45,7 @@ module _ {C F : Type 0} (S : Scalars C F) where
   ok_agrees t ts c e h (u ∷ []) rest' p q = (Scalar c u.span, literal_ok u rest' c (pass_alike t u p.0 ∙ e) (read_alike t u p.0 ∙ h))
   ok_agrees t ts c e h (u ∷ v ∷ us) rest' p q = absurd p.1
 
-  bad_fails : (t : Lexeme) (ts : List Lexeme) (x : F) → passes scalar_token t ≡ true → S.read t.kind t.text ≡ Err x → Fails [] (t ∷ ts) (Unread x) (literal S)
+  bad_fails : (t : Lexeme) (ts : List Lexeme) (x : F) → passes scalar_token t ≡ true → S.read t.kind t.text ≡ Err x → Fails [] (t ∷ ts) (ScalarError x) (literal S)
   bad_fails t ts x e h [] [] p q = absurd q
   bad_fails t ts x e h [] (u ∷ rest') p q = literal_bad u rest' x (pass_alike t u q ∙ e) (read_alike t u q ∙ h)
   bad_fails t ts x e h (u ∷ us) rest' p q = absurd p
@@ -61,7 +58,7 @@ module _ {C F : Type 0} (S : Scalars C F) where
     literal_case : (t : Lexeme) (ts : List Lexeme) (b : Bool) → passes scalar_token t ≡ b → Meets n Q (literal S) (t ∷ ts) (literal S (t ∷ ts))
     literal_case t ts true e = literal_read t ts e (S.read t.kind t.text) refl
     literal_case t ts false e = subst (λ r. Meets n Q (literal S) (t ∷ ts) r) (sym (literal_other t ts e))
-      (turn n Q refuse (literal S) (t ∷ ts) (refuse (t ∷ ts)) (λ other. other_alike t ts other e) ((refuse_rule n Q some).at (t ∷ ts)))
+        (turn n Q refuse (literal S) (t ∷ ts) (refuse (t ∷ ts)) (λ other. other_alike t ts other e) ((refuse_rule n Q some).at (t ∷ ts)))
 
     literal_meets : (ts : List Lexeme) → Meets n Q (literal S) ts (literal S ts)
     literal_meets [] = subst (λ r. Meets n Q (literal S) [] r) (sym (literal_empty [] tt)) (turn n Q refuse (literal S) [] (refuse []) literal_empty ((refuse_rule n Q some).at []))
@@ -111,8 +108,8 @@ module _ {C F : Type 0} (S : Scalars C F) (free : Bool) where
   some_value = (null_token ∷ [], Null (null_token.span), record { token = null_token; whole = refl; kind_is = refl; text_is = refl; spans = refl }, (inr (inl (refl, refl)), tt))
 
   value_opens : (w : Lexeme) → IsOpener w → More (IsValue S free) [] w
-  value_opens w (inl e) = (filler BracketClose ∷ [], ListOf no_items (over w (filler BracketClose)), ([], record { first = w; last = filler BracketClose; whole = refl; opens = e; closes = refl; spans = refl }, refl), (inl refl, tt))
-  value_opens w (inr (inl e)) = (filler CurlyClose ∷ [], Object no_fields (over w (filler CurlyClose)), ([], record { first = w; last = filler CurlyClose; whole = refl; opens = e; closes = refl; spans = refl }, refl), (inl refl, tt))
+  value_opens w (inl e) = (sample BracketClose ∷ [], ListOf no_items (over w (sample BracketClose)), ([], record { first = w; last = sample BracketClose; whole = refl; opens = e; closes = refl; spans = refl }, refl), (inl refl, tt))
+  value_opens w (inr (inl e)) = (sample CurlyClose ∷ [], Object no_fields (over w (sample CurlyClose)), ([], record { first = w; last = sample CurlyClose; whole = refl; opens = e; closes = refl; spans = refl }, refl), (inl refl, tt))
   value_opens w (inr (inr e)) = ([], Null w.span, record { token = w; whole = refl; kind_is = e.0; text_is = e.1; spans = refl }, tt)
 
   name_is : (t : Lexeme) → passes (of Name) t ≡ true → IsValue S free (t ∷ []) (by_name S t.text t.span)
@@ -122,19 +119,19 @@ module _ {C F : Type 0} (S : Scalars C F) (free : Bool) where
       token w e = record { token = t; whole = refl; kind_is = of_kind Name t p; text_is = e; spans = refl }
 
       cases : (a b c : Bool) → bytes_eq t.text (codes "true") ≡ a → bytes_eq t.text (codes "false") ≡ b → bytes_eq t.text (codes "null") ≡ c
-        → IsValue S free (t ∷ []) (if a then Scalar (S.of_bool true) t.span else if b then Scalar (S.of_bool false) t.span else if c then Null t.span else Enum t.text t.span)
+          → IsValue S free (t ∷ []) (if a then Scalar (S.of_bool true) t.span else if b then Scalar (S.of_bool false) t.span else if c then Null t.span else Enum t.text t.span)
       cases true b c x y z = inr (inl (token _ (text_yes _ _ x), refl))
       cases false true c x y z = inr (inr (token _ (text_yes _ _ y), refl))
       cases false false true x y z = token _ (text_yes _ _ z)
       cases false false false x y z = (token _ refl, (text_no _ _ x, text_no _ _ y, text_no _ _ z))
 
-  pub field_rule : (n : ℕ) (f g : Reader F (Value C)) → Rule n f g (IsValue S free) → Rule n (object_field f) (object_field g) IsField
-  unfolding object_field
+  pub field_rule : (n : ℕ) (f g : Reader F (Value C)) → Rule n f g (IsValue S free) → Rule n (key_and_value f) (key_and_value g) IsField
+  unfolding key_and_value
   field_rule n f g r =
-    seq_rule n (want (of Name)) (want (of Name)) _ _ IsField (want_rule F n (of Name) _ (filler Name) refl (inl refl) (λ k p k'.
-      seq_rule (less n (k ∷ [])) (want (of Colon)) (want (of Colon)) _ _ _ (want_rule F (less n (k ∷ [])) (of Colon) _ (filler Colon) refl (inl refl) (λ c q c'.
-        seq_rule _ f g _ _ _ (weaken n _ f g (IsValue S free) _ (omega (arith, less_below n (k ∷ []), less_below (less n (k ∷ [])) (c ∷ []))) (λ us v h v'.
-          ret_rule _ (word_of k, v) (word_of k', v') _ (k, c, us, ap (λ z. k ∷ c ∷ z) (append-nil us), of_kind Name k p, refl, of_kind Colon c q, h)) r)))))
+      seq_rule n (want (of Name)) (want (of Name)) _ _ IsField (want_rule F n (of Name) _ (sample Name) refl (inl refl) (λ k p k'.
+      seq_rule (less n (k ∷ [])) (want (of Colon)) (want (of Colon)) _ _ _ (want_rule F (less n (k ∷ [])) (of Colon) _ (sample Colon) refl (inl refl) (λ c q c'.
+      seq_rule _ f g _ _ _ (weaken n _ f g (IsValue S free) _ (omega (arith, less_below n (k ∷ []), less_below (less n (k ∷ [])) (c ∷ []))) (λ us v h v'.
+      done_rule _ (word_of k, v) (word_of k', v') _ (k, c, us, ap (λ z. k ∷ c ∷ z) (append-nil us), of_kind Name k p, refl, of_kind Colon c q, h)) r)))))
 
   pub field_takes : (ts : List Lexeme) (x : Word × Value C) → IsField ts x → 0 < length ts
   field_takes ts x h = nonempty ts _ _ h.3
@@ -144,19 +141,19 @@ module _ {C F : Type 0} (S : Scalars C F) (free : Bool) where
   value_rule zero m le = record { at = λ ts. (zero-le, [], ts, refl, some_value) }
   value_rule (suc n) zero le = absurd (omega arith)
   value_rule (suc n) (suc m) le =
-    on_rule (suc n) (of BracketOpen) _ _ _ _ (IsValue S free)
+      on_rule (suc n) (of BracketOpen) _ _ _ _ (IsValue S free)
       (λ t u p. seq_rule n _ _ _ _ _ (weaken n n _ _ _ _ (le_refl n)
-        (λ us r h r'. ret_rule _ (ListOf (items_of r.0) (over t r.1)) (ListOf (items_of r'.0) (over u r'.1)) _ (rw append-nil (list_is t us r p h)))
-        (many_rule (of BracketClose) (filler BracketClose) refl (inl refl) (IsValue S free) value_takes _ _ n m n (omega arith) (le_refl n) (value_rule n m (omega arith)))))
-    (on_rule (suc n) (of CurlyOpen) _ _ _ _ (IsValue S free)
+      (λ us r h r'. done_rule _ (ListOf (items_of r.0) (over t r.1)) (ListOf (items_of r'.0) (over u r'.1)) _ (rw append-nil (list_is t us r p h)))
+      (many_rule (of BracketClose) (sample BracketClose) refl (inl refl) (IsValue S free) value_takes _ _ n m n (omega arith) (le_refl n) (value_rule n m (omega arith)))))
+      (on_rule (suc n) (of CurlyOpen) _ _ _ _ (IsValue S free)
       (λ t u p. seq_rule n _ _ _ _ _ (weaken n n _ _ _ _ (le_refl n)
-        (λ us r h r'. ret_rule _ (Object (fields_of r.0) (over t r.1)) (Object (fields_of r'.0) (over u r'.1)) _ (rw append-nil (object_is t us r p h)))
-        (many_rule (of CurlyClose) (filler CurlyClose) refl (inl refl) IsField field_takes _ _ n m n (omega arith) (le_refl n) (field_rule n _ _ (value_rule n m (omega arith))))))
-    (on_rule (suc n) (variable_start free) _ _ _ _ (IsValue S free)
-      (λ t u p. seq_rule n _ _ _ _ _ (want_rule F n (of Name) _ (filler Name) refl (inl refl)
-        (λ w q w'. ret_rule _ (Variable w.text (over t w)) (Variable w'.text (over u w')) _
-          ((both _ _ p).0, record { dollar = t; word = w; whole = refl; dollar_is = of_kind Dollar t (both _ _ p).1; word_is = of_kind Name w q; names = refl; spans = refl }))))
-    (on_rule (suc n) (of Name) _ _ _ _ (IsValue S free)
-      (λ t u p. ret_rule _ (by_name S t.text t.span) (by_name S u.text u.span) _ (name_is t p))
-    (literal_rule S (suc n) (IsValue S free) some_value value_opens
+      (λ us r h r'. done_rule _ (Object (fields_of r.0) (over t r.1)) (Object (fields_of r'.0) (over u r'.1)) _ (rw append-nil (object_is t us r p h)))
+      (many_rule (of CurlyClose) (sample CurlyClose) refl (inl refl) IsField field_takes _ _ n m n (omega arith) (le_refl n) (field_rule n _ _ (value_rule n m (omega arith))))))
+      (on_rule (suc n) (variable_start free) _ _ _ _ (IsValue S free)
+      (λ t u p. seq_rule n _ _ _ _ _ (want_rule F n (of Name) _ (sample Name) refl (inl refl)
+      (λ w q w'. done_rule _ (Variable w.text (over t w)) (Variable w'.text (over u w')) _
+      ((both _ _ p).0, record { dollar = t; word = w; whole = refl; dollar_is = of_kind Dollar t (both _ _ p).1; word_is = of_kind Name w q; names = refl; spans = refl }))))
+      (on_rule (suc n) (of Name) _ _ _ _ (IsValue S free)
+      (λ t u p. done_rule _ (by_name S t.text t.span) (by_name S u.text u.span) _ (name_is t p))
+      (literal_rule S (suc n) (IsValue S free) some_value value_opens
       (λ t c k h. inl (t.kind, t.text, record { token = t; whole = refl; kind_is = refl; text_is = refl; spans = refl }, k, h))))))

@@ -1,102 +1,86 @@
-//! Laws of the grammar. Each function's contract is one law; the functions do nothing.
-
-ghost use Rattle.std.specs.Prelude.{◌≡◌, ◌⊎◌, ◌++◌, ◌∷◌, ℕ, List, [], Bool, length, suc, drop, ◌<◌};
-ghost use Rattle.graphql_lexical.specs.Cutting.{Lexeme};
-ghost use Rattle.graphql_grammar.specs.Tokens.{AllFiller};
+//! Laws of the document grammar.
+ghost use Rattle.std.specs.Prelude.{◌≡◌, ◌⊎◌, ◌++◌, ℕ, List, [], Bool, take};
+ghost use Rattle.std.specs.List.{AllByRecursion};
+ghost use Rattle.graphql_lexical.specs.Cutting.{Lexeme, Cut};
+ghost use Rattle.graphql_grammar.specs.Tokens.{Alike, AllAlike, IsSpelled};
 ghost use Rattle.graphql_grammar.specs.Tree.{Scalars, Value, TypeRef, Definition};
 ghost use Rattle.graphql_grammar.specs.Grammar.{IsValue, IsType, IsDocument};
-ghost use Rattle.graphql_grammar.specs.Faults.{AtFault, EndsOnce, NamedError, ValueMayStand};
-ghost use Rattle.graphql_grammar.specs.Reading.{Took, Refused, Fault, Unread, document, value_at};
+ghost use Rattle.graphql_grammar.specs.Faults.{Fault, EndsOnce, AtFault, DocumentRefusedAt, ValueRefusedAt, TypeRefusedAt};
+ghost use Rattle.graphql_grammar.specs.Unlocated.{SameDocument, SameValue};
+ghost use Rattle.graphql_grammar.specs.Samples.{IsSample, AreSamples};
+ghost use Rattle.graphql_grammar.specs.Reading.{document, value_of, type_at, fully, GivesWhole, GivesFront};
 
-/// No token list has two trees.
+/// No list of tokens is two documents.
 pub fn one_document<C, F>()
     ensures { (S : Scalars C F) (ts : List Lexeme) (a b : List (Definition C)) → IsDocument S ts a → IsDocument S ts b → a ≡ b }
-{
-}
+{}
 
-/// No token list has two values.
+/// No list of tokens is two values.
 pub fn one_value<C, F>()
     ensures { (S : Scalars C F) (free : Bool) (ts : List Lexeme) (a b : Value C) → IsValue S free ts a → IsValue S free ts b → a ≡ b }
-{
-}
+{}
 
-/// No token list has two types.
+/// No list of tokens is two types.
 pub fn one_type()
     ensures { (ts : List Lexeme) (a b : TypeRef) → IsType ts a → IsType ts b → a ≡ b }
-{
-}
+{}
 
-/// No value's token list is a proper front of another's.
+/// No value's list of tokens is a proper front of another's.
 pub fn value_front<C, F>()
     ensures { (S : Scalars C F) (free : Bool) (us vs : List Lexeme) (v w : Value C) → IsValue S free us v → IsValue S free (us ++ vs) w → vs ≡ [] }
-{
-}
+{}
 
-/// A list with one end, at its end, is a document or has a fault, one and never both.
+/// Tokens that a text spells, with one end, the last, are a document or are refused at one place, and never both.
 pub fn document_or_fault<C, F>()
-    ensures either { (S : Scalars C F) (ts : List Lexeme) → EndsOnce ts → ((ds : List (Definition C)) × IsDocument S ts ds) ⊎ ((i : ℕ) × AtFault (IsDocument S) ts i) }
-    ensures one { (S : Scalars C F) (ts : List Lexeme) (i j : ℕ) → AtFault (IsDocument S) ts i → AtFault (IsDocument S) ts j → i ≡ j }
-    ensures never_both { (S : Scalars C F) (ts : List Lexeme) (ds : List (Definition C)) (i : ℕ) → IsDocument S ts ds → AtFault (IsDocument S) ts i → ⊥ }
-{
-}
+    ensures either { (S : Scalars C F) (ts : List Lexeme) → AllByRecursion IsSpelled ts → EndsOnce ts → ((ds : List (Definition C)) × IsDocument S ts ds) ⊎ ((i : ℕ) × (t : Lexeme) × (e : Fault F) × DocumentRefusedAt S ts i t e) }
+    ensures one { (S : Scalars C F) (ts : List Lexeme) (i j : ℕ) → AtFault IsSpelled (IsDocument S) ts i → AtFault IsSpelled (IsDocument S) ts j → i ≡ j }
+    ensures never_both { (S : Scalars C F) (ts : List Lexeme) (ds : List (Definition C)) (i : ℕ) → AllByRecursion IsSpelled ts → IsDocument S ts ds → AtFault IsSpelled (IsDocument S) ts i → ⊥ }
+{}
 
-/// Where the reading of a list refuses, there is the fault.
-pub fn document_fault<C, F>()
-    ensures { (S : Scalars C F) (n : ℕ) (ts rest : List Lexeme) (t : Lexeme) (e : Fault F) → document S n ts ≡ Refused (t ∷ rest) e
-        → (us : List Lexeme) × (ts ≡ us ++ (t ∷ rest)) × AtFault (IsDocument S) ts (length us) }
-{
-}
+/// A refused list of tokens has one number, one token and one error.
+pub fn one_refusal<C, F>()
+    ensures { (S : Scalars C F) (ts : List Lexeme) (i j : ℕ) (t u : Lexeme) (e d : Fault F) → DocumentRefusedAt S ts i t e → DocumentRefusedAt S ts j u d → (i ≡ j) × (t ≡ u) × (e ≡ d) }
+{}
 
-/// What is a document is read, with its one tree.
-pub fn document_read<C, F>()
-    ensures { (S : Scalars C F) (n : ℕ) (ts : List Lexeme) (ds : List (Definition C)) → length ts < n → IsDocument S ts ds → document S n ts ≡ Took ds [] }
-{
-}
+/// The tokens before the refused one are completed to a document by sample tokens alone.
+pub fn fault_completed<C, F>()
+    ensures { (S : Scalars C F) (ts : List Lexeme) (i : ℕ) → AllByRecursion IsSpelled ts → EndsOnce ts → AtFault IsSpelled (IsDocument S) ts i → (more : List Lexeme) × (ds : List (Definition C)) × AreSamples more × IsDocument S (take i ts ++ more) ds }
+{}
 
-/// A list with one end is refused at its fault.
-pub fn document_refused<C, F>()
-    ensures { (S : Scalars C F) (ts : List Lexeme) (i : ℕ) → EndsOnce ts → AtFault (IsDocument S) ts i → (e : Fault F) × (document S (suc (length ts)) ts ≡ Refused (drop i ts) e) }
-{
-}
+/// Lists that are alike both are documents, whose trees differ in spans alone, or are both refused at the same number
+/// with the same error.
+pub fn alike_documents<C, F>()
+    ensures accepted { (S : Scalars C F) (ts us : List Lexeme) (a : List (Definition C)) → AllAlike ts us → IsDocument S ts a → (b : List (Definition C)) × IsDocument S us b × SameDocument a b }
+    ensures refused { (S : Scalars C F) (ts us : List Lexeme) (i : ℕ) (t : Lexeme) (e : Fault F) → AllAlike ts us → DocumentRefusedAt S ts i t e → (u : Lexeme) × Alike t u × DocumentRefusedAt S us i u e }
+{}
 
-/// The tokens before a refused one are completed to a document by a few fixed tokens.
-pub fn document_completed<C, F>()
-    ensures { (S : Scalars C F) (n : ℕ) (ts rest : List Lexeme) (t : Lexeme) (e : Fault F) → document S n ts ≡ Refused (t ∷ rest) e
-        → (us : List Lexeme) × (ts ≡ us ++ (t ∷ rest)) × ((more : List Lexeme) × (ds : List (Definition C)) × IsDocument S (us ++ more) ds × AllFiller more) }
-{
-}
+/// Lists that are alike both are values, which differ in spans alone, or are both none.
+pub fn alike_values<C, F>()
+    ensures { (S : Scalars C F) (free : Bool) (ts us : List Lexeme) (a : Value C) → AllAlike ts us → IsValue S free ts a → (b : Value C) × IsValue S free us b × SameValue a b }
+{}
 
-/// The reading's own fault is the answer only where a value may stand.
-pub fn unread_stands<C, F>()
-    ensures { (S : Scalars C F) (n : ℕ) (ts rest : List Lexeme) (t : Lexeme) (x : F) → document S n ts ≡ Refused (t ∷ rest) (Unread x)
-        → (us : List Lexeme) × (ts ≡ us ++ (t ∷ rest)) × ValueMayStand (IsDocument S) us }
-{
-}
+/// The tokens that a source is cut into are spelled, and the last one and no other is the end.
+pub fn cut_is_spelled()
+    ensures spelled { (source : List ℕ) (ts : List Lexeme) → Cut source ts → AllByRecursion IsSpelled ts }
+    ensures ended { (source : List ℕ) (ts : List Lexeme) → Cut source ts → EndsOnce ts }
+{}
 
-/// Where the reading of a value refuses, there is the fault.
-pub fn value_fault<C, F>()
-    ensures { (S : Scalars C F) (free : Bool) (n : ℕ) (ts rest : List Lexeme) (t : Lexeme) (e : Fault F) → value_at S free n ts ≡ Refused (t ∷ rest) e
-        → (us : List Lexeme) × (ts ≡ us ++ (t ∷ rest)) × AtFault (IsValue S free) ts (length us) }
-{
-}
+/// Each sample token is spelled by some text.
+pub fn samples_are_spelled()
+    ensures { (t : Lexeme) → IsSample t → IsSpelled t }
+{}
 
-/// What is read is a document, and the tree its meaning.
-pub fn document_sound<C, F>()
-    ensures { (S : Scalars C F) (n : ℕ) (ts rest : List Lexeme) (ds : List (Definition C)) → document S n ts ≡ Took ds rest
-        → (us : List Lexeme) × (ts ≡ us ++ rest) × IsDocument S us ds }
-{
-}
+/// The reading of a document gives the one tree, or refuses where the definitions do.
+pub fn document_is_read<C, F>()
+    ensures { (S : Scalars C F) (ts : List Lexeme) → AllByRecursion IsSpelled ts → EndsOnce ts → GivesWhole (IsDocument S) (DocumentRefusedAt S ts) ts (fully (document S) ts) }
+{}
 
-/// The fault that the reading of a document names is the one of the definition.
-pub fn document_names<C, F>()
-    ensures { (S : Scalars C F) (n : ℕ) (ts rest : List Lexeme) (t : Lexeme) (e : Fault F) → document S n ts ≡ Refused (t ∷ rest) e
-        → (us : List Lexeme) × (ts ≡ us ++ (t ∷ rest)) × NamedError S (IsDocument S) us t e }
-{
-}
+/// The reading of a value gives the one front that is a value, or refuses where the definitions do.
+pub fn value_is_read<C, F>()
+    ensures { (S : Scalars C F) (free : Bool) (ts : List Lexeme) → EndsOnce ts → GivesFront (IsValue S free) (ValueRefusedAt S free ts) ts (value_of S free ts) }
+{}
 
-/// The fault that the reading of a value names is the one of the definition.
-pub fn value_names<C, F>()
-    ensures { (S : Scalars C F) (free : Bool) (n : ℕ) (ts rest : List Lexeme) (t : Lexeme) (e : Fault F) → value_at S free n ts ≡ Refused (t ∷ rest) e
-        → (us : List Lexeme) × (ts ≡ us ++ (t ∷ rest)) × NamedError S (IsValue S free) us t e }
-{
-}
+/// The reading of a type gives the longest front that is a type, or refuses where the definitions do.
+pub fn type_is_read<F>()
+    ensures { (ts : List Lexeme) → EndsOnce ts → GivesFront IsType (TypeRefusedAt ts) ts (fully (type_at {F = F}) ts) }
+{}

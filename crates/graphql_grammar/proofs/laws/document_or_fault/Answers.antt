@@ -1,4 +1,4 @@
-use Rattle.graphql_grammar.proofs.Readers.{document_or_fault, never_both, one_fault}
+use Rattle.graphql_grammar.proofs.OneFault.{document_or_fault, one_fault, never_both}
 use Rattle.graphql_grammar.proofs.laws.document_or_fault.Goals as goal
 
 pub returns-clause-either : goal.returns-clause-either
