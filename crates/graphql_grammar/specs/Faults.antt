@@ -58,7 +58,8 @@ module _ (Allowed : Lexeme → Type 0) where
   NamedError S R before t (UnexpectedToken kind text) = (kind ≡ t.kind) × (text ≡ t.text) × (t.kind ≡ EndOfFile → ⊥)
       × (IsScalarKind t.kind → IsErr (S.read t.kind t.text) → ValueMayStand R before → ⊥)
 
-  -- The list is refused at its token i, which is t, with this error. `Error` says which error t has after the tokens before it.
+  -- The list is refused at its token i, which is t, with this error. `Error` says which error t has after the tokens
+  -- before it.
   pub record RefusedAt {F A : Type 0} (R : List Lexeme → A → Type 0) (Error : List Lexeme → Lexeme → Fault F → Type 0) (ts : List Lexeme) (i : ℕ) (t : Lexeme) (e : Fault F) : Type 0 where
     pub before : List Lexeme
     pub after : List Lexeme
