@@ -17,16 +17,16 @@ use Rattle.graphql_grammar.proofs.Turns.{Turn, Turns, Off, Own}
 use Rattle.std.specs.List.{AllByRecursion}
 use Rattle.graphql_grammar.proofs.Alike.{alike_sym, alike_join}
 
-not_unread : {F : Type 0} (b : Bool) (t : Lexeme) (y : F) → cond b UnexpectedEndOfFile (UnexpectedToken t.kind t.text) ≡ ScalarError y → ⊥
-not_unread true t y e = absurd (cc e)
-not_unread false t y e = absurd (cc e)
+not_scalar_error : {F : Type 0} (b : Bool) (t : Lexeme) (y : F) → cond b UnexpectedEndOfFile (UnexpectedToken t.kind t.text) ≡ ScalarError y → ⊥
+not_scalar_error true t y e = absurd (cc e)
+not_scalar_error false t y e = absurd (cc e)
 
 pub drop_next : (us rest : List Lexeme) (t : Lexeme) → drop (suc (length us)) (us ++ (t ∷ rest)) ≡ rest
 drop_next [] rest t = refl
 drop_next (u ∷ us) rest t = drop_next us rest t
 
 module _ {C F A : Type 0} (S : Scalars C F) (f : ℕ → Reader F A) (R : List Lexeme → A → Type 0) (r : Reads f R) (strict : Bool) (turns : (n : ℕ) → Turns S strict (f n)) (Allowed : Lexeme → Type 0) (fills : (t : Lexeme) → IsSample t → Allowed t) where
-  -- What begins so is read to its end with much fuel.
+  -- What begins so is read to its end, with enough fuel.
   begun : (us : List Lexeme) (w : Lexeme) → Begins Allowed R (us ++ (w ∷ [])) → (N : ℕ) × (more : List Lexeme) × ((m : ℕ) → N ≤ m → (b : A) × (f m (us ++ (w ∷ more)) ≡ Took b []))
   begun us w (vs, more, a, h, k, al) = (suc (length (vs ++ more)), more, λ m le. by_agrees m (subst (λ z. Meets m R (f m) (vs ++ more) z) (r.finds m (vs ++ more) a (omega arith) k) ((r.keeps m m (le_refl m)).at (vs ++ more))))
     where
@@ -67,7 +67,7 @@ module _ {C F A : Type 0} (S : Scalars C F) (f : ℕ → Reader F A) (R : List L
           absurd (cc z)
 
       by_turn : Turn S strict (f m) (us ++ (t ∷ rest)) (Refused (t ∷ rest) e) → ⊥
-      by_turn (vs, h, inl o) = not_unread (of EndOfFile t.kind t.text) t o.0 (sym xe ∙ o.1)
+      by_turn (vs, h, inl o) = not_scalar_error (of EndOfFile t.kind t.text) t o.0 (sym xe ∙ o.1)
       by_turn (vs, h, inr o) = by_off vs (append_cancel_right vs us (t ∷ rest) (sym h)) (o.1 s)
 
   -- The reader's fault is the one of the definition.

@@ -457,7 +457,7 @@ maybe_rule n test f g R r = look_rule n test _ _ _ _ (Optional R)
     (step n n f g _ _ R (Optional R) (le_refl n) r (λ us a b h. done_rule _ (Some a) (Some b) _ (rw append-nil h)))
     (done_rule n None None (Optional R) refl)
 
--- items1 and star
+-- one_or_more and repeated
 each_more : {A : Type 0} (R : List Lexeme → A → Type 0) (us vs : List Lexeme) (x : A) (xs : List A) → R us x → Each R vs xs → Each R (us ++ vs) (x ∷ xs)
 each_more R us vs x xs h k = (us, vs, refl, h, k)
 

@@ -1,8 +1,8 @@
 -- A device of the proofs, and no definition: what a front of a list of tokens gives, read from left to right.
 --
 -- The laws say that these functions and the definitions in Grammar and Faults agree. So code that is proved to give what
--- they give meets the definitions. A reader takes a number, `n`, which bounds how far it reads; a number above the length of
--- its list is enough.
+-- they give meets the definitions. A reader takes a number, its fuel, which bounds how deep it calls itself; a number above
+-- the length of its list is enough.
 use Rattle.std.specs.Prelude.{◌≡◌, ◌++◌, ◌≤◌, drop, ℕ, zero, suc, Bool, true, false, ◌&&◌, ◌||◌, List, [], ◌∷◌, codes, Result, Ok, Err, cond, bytes_eq, if◌then◌else◌, Option, Some, None, not, ◌-◌, take, length}
 use Rattle.graphql_lexical.specs.Kinds.{same_kind}
 use Rattle.graphql_lexical.specs.declared.kind.Kind.{Kind}
@@ -30,7 +30,7 @@ passes test t = test t.kind t.text
 
 -- ---- what is read
 
--- Took: what was read and the tokens after it. Refused: the tokens from the reported one on. Out: the number was too small.
+-- Took: what was read and the tokens after it. Refused: the tokens from the reported one on. Out: there was too little fuel.
 pub data Read (F A : Type 0) : Type 0 where
   Took : A → List Lexeme → Read F A
   Refused : List Lexeme → Fault F → Read F A
