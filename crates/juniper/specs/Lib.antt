@@ -3,3 +3,4 @@ pub mod View
 pub mod Grammar
 pub mod Reading
 pub mod Answer
+pub mod Promise

@@ -12,6 +12,7 @@ pub use ast::{
     Arguments, Definition, Directive, Field, Fragment, FragmentSpread, InlineFragment, Operation,
     OperationType, OwnedDocument, Selection, VariableDefinition, VariableDefinitions,
 };
+pub use document::parse_document_source;
 pub use juniper_tokens::{
     Kind, LexFailure, LexerError, OptionParseResult, ParseError, ParseFailure, ParseResult, Parser,
     ScalarToken, SourcePosition, Span, Spanning, Token, UnlocatedParseResult,
