@@ -1,13 +1,20 @@
 -- From the tokens of a text to the text.
-use Rattle.std.proofs.Common.{◌≡◌, ℕ, List, inl, inr, refl, sym, ap, ap₂, subst, ◌∙◌}
+use Rattle.std.proofs.Common.{◌≡◌, ℕ, List, inl, inr, refl, sym, ap, ap₂, subst, ◌∙◌, Result, Ok, Err, IfOk}
 use Rattle.graphql_lexical.specs.Place.{Place}
 use Rattle.graphql_lexical.specs.Kinds.{LexicalError}
-use Rattle.graphql_lexical.specs.Cutting.{Lexeme, Cut, Breaks}
+use Rattle.graphql_lexical.specs.Cutting.{Lexeme, CutFrom, BreaksFrom, Cut, Breaks}
 use Rattle.graphql_lexical.proofs.Cuts.{one_end}
-use Rattle.juniper_tokens.specs.Errors.{Fault, Lexical}
+use Rattle.juniper_tokens.specs.declared.error.ParseFailure.{ParseFailure}
+use Rattle.juniper_tokens.specs.declared.error.ParseFailure.TheVariants as failure
+use Rattle.juniper_tokens.specs.declared.error.LexerError.{LexerError}
+use Rattle.juniper_tokens.specs.declared.error.ParseError.TheVariants as parse
+use Rattle.juniper_tokens.specs.declared.span.Spanning.{Spanning}
+use Rattle.juniper_tokens.specs.Errors.{Fault, Lexical, view_fault, view_lexer_error}
+use Rattle.juniper_tokens.specs.Lexing.{LexerState, started}
 use Rattle.juniper.specs.Tree.{Definition}
 use Rattle.juniper.specs.Grammar.{IsDocument}
-use Rattle.juniper.specs.Promise.{HasTree, IsRefusal}
+use Rattle.juniper.specs.Answer.{AnswersDocument}
+use Rattle.juniper.specs.Promise.{HasTree, IsRefusal, IfRefused}
 
 -- a text has one cut
 pub same_cut : (source : List ℕ) (xs ys : List Lexeme) → Cut source xs → Cut source ys → xs ≡ ys
@@ -53,3 +60,24 @@ lexical source error at fault b e = record {
   no_document = λ lexemes tree c d. cut_or_break source lexemes error at c b;
   lexical = λ other place c. let s = same_break source error other at place b c in e ∙ ap₂ fault_at s.0 s.1;
 }
+
+-- what is answered for the tokens is answered for the text
+pub accepts : {X : Type 0} (view : X → List Definition) (source : List ℕ) (lexemes : List Lexeme) (result : Result X ParseFailure) → Cut source lexemes → AnswersDocument view result lexemes → IfOk result (λ x. HasTree source (view x))
+accepts view source lexemes (Ok x) c a = has_tree source lexemes (view x) c a.0 a.1
+accepts view source lexemes (Err e) c a = tt
+
+pub refuses : {X : Type 0} (view : X → List Definition) (source : List ℕ) (lexemes : List Lexeme) (result : Result X ParseFailure) → Cut source lexemes → AnswersDocument view result lexemes → IfRefused result (λ fault. IsRefusal source (view_fault fault))
+refuses view source lexemes (Ok x) c a = tt
+refuses view source lexemes (Err (failure.Refused fault)) c a = grammatical source lexemes (view_fault fault) c a
+refuses view source lexemes (Err failure.Memory) c a = tt
+
+-- a lexer that was just made stands at the beginning
+pub cut_from_start : (state : LexerState) (source : List ℕ) (lexemes : List Lexeme) → state ≡ started source → CutFrom state.source state.index lexemes → Cut source lexemes
+cut_from_start state source lexemes e c = subst (λ (s : LexerState). CutFrom s.source s.index lexemes) e c
+
+pub break_from_start : (state : LexerState) (source : List ℕ) (error : LexicalError) (at : Place) → state ≡ started source → BreaksFrom state.source state.index error at → Breaks source error at
+break_from_start state source error at e b = subst (λ (s : LexerState). BreaksFrom s.source s.index error at) e b
+
+-- a lexical fault of zero width, as the parser tells it
+pub lexical_fault : (fault : Spanning LexerError) → fault.span.end ≡ fault.span.start → view_fault (record { item = parse.LexerError fault.item; span = fault.span }) ≡ record { error = Lexical (view_lexer_error fault.item); span = record { start = fault.span.start; end = fault.span.start } }
+lexical_fault fault e = ap (λ (end : Place). record { error = Lexical (view_lexer_error fault.item); span = record { start = fault.span.start; end = end } }) e
