@@ -4,7 +4,7 @@ ghost use Rattle.juniper.specs.View.{view_selection, view_selections, view_field
 ghost use Rattle.gqlcheck.specs.Plain.{is_plain_operation, is_plain_field};
 ghost use Rattle.gqlcheck.specs.Lines.{kind_text, line, named_line, selection_lines, selections_lines, definition_lines, document_lines};
 
-use juniper::{Definition, Field, Operation, OperationType, Selection, Spanning};
+use juniper::{Definition, Field, Operation, OperationType, Selection, Span, Spanning};
 use std::alloc::AllocError;
 
 /// The first word of a line.
@@ -27,7 +27,25 @@ impl LineKind {
 }
 
 // Writes a line of a kind and the indexes of a span.
-fn write_line(
+fn write_line(out: &mut String, kind: LineKind, span: &Span) -> Result<(), AllocError>
+    ensures { OnOk result (string_bytes out.new ≡ string_bytes out.old ++ encode_utf8_all (line (kind_text kind) span.now.start.index span.now.end.index)) }
+{
+    write_indexes(out, kind, span.start.index(), span.end.index())
+}
+
+// Writes a line of a kind, the indexes of a span and a name.
+fn write_named_line(
+    out: &mut String,
+    kind: LineKind,
+    span: &Span,
+    name: &str,
+) -> Result<(), AllocError>
+    ensures { OnOk result (string_bytes out.new ≡ string_bytes out.old ++ encode_utf8_all (named_line (kind_text kind) span.now.start.index span.now.end.index (chars name.now))) }
+{
+    write_indexes_and_name(out, kind, span.start.index(), span.end.index(), name)
+}
+
+fn write_indexes(
     out: &mut String,
     kind: LineKind,
     start: usize,
@@ -39,8 +57,7 @@ fn write_line(
     writeln!(out, "{word} {start} {end}")
 }
 
-// Writes a line of a kind, the indexes of a span and a name.
-fn write_named_line(
+fn write_indexes_and_name(
     out: &mut String,
     kind: LineKind,
     start: usize,
@@ -78,8 +95,7 @@ fn write_definition<S: Drop>(
             if !is_shorthand(&operation.item) {
                 return Ok(());
             }
-            let span = &operation.span;
-            write_line(out, LineKind::Query, span.start.index(), span.end.index())?;
+            write_line(out, LineKind::Query, &operation.span)?;
             write_selections(out, &operation.item.selection_set)
         }
         Definition::Fragment(_) => Ok(()),
@@ -122,18 +138,13 @@ fn write_selection<S: Drop>(
 }
 
 #[cycle(lines)]
-fn write_field<S: Drop>(
-    out: &mut String,
-    field: &Spanning<Field<'_, S>>,
-) -> Result<(), AllocError>
+fn write_field<S: Drop>(out: &mut String, field: &Spanning<Field<'_, S>>) -> Result<(), AllocError>
     ensures { OnOk result (string_bytes out.new ≡ string_bytes out.old ++ encode_utf8_all (selection_lines (view_field field.now))) }
 {
     if !is_plain(&field.item) {
         return Ok(());
     }
-    let span = &field.span;
-    let name = field.item.name.item;
-    write_named_line(out, LineKind::Field, span.start.index(), span.end.index(), name)?;
+    write_named_line(out, LineKind::Field, &field.span, field.item.name.item)?;
     match &field.item.selection_set {
         None => Ok(()),
         Some(selections) => write_selections(out, selections),

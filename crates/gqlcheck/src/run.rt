@@ -2,11 +2,12 @@
 ghost use Rattle.std.specs.Prelude.{◌≡◌, ℕ, ◌↔◌, ◌⊎◌, true, false, not, List, take, IfOk, IsTrue, length, string_bytes};
 ghost use Rattle.std.specs.Io.KnownBytes.{Appends, Consumes, IsAtEnd, Keeps};
 ghost use Rattle.gqlcheck.specs.Watched.{inner_of, has_failed};
-ghost use Rattle.gqlcheck.specs.Report.{Report, IsReportEnd};
+ghost use Rattle.juniper_tokens.specs.Errors.{view_fault};
+ghost use Rattle.gqlcheck.specs.Report.{Report, IsReportEnd, fault_line};
 
 use crate::lines::write_document;
 use crate::watched::Watched;
-use juniper::{DefaultScalarValue, ParseFailure, parse_document_source};
+use juniper::{DefaultScalarValue, ParseError, ParseFailure, Spanning, parse_document_source};
 use std::alloc::{AllocError, Global};
 use std::io::{Read, Write};
 
@@ -137,9 +138,14 @@ fn report(alloc: Global, bytes: &[u8]) -> Result<(RunEnd, String), AllocError>
             write_document(&mut text, &document)?;
             Ok((RunEnd::Tree, text))
         }
-        Err(ParseFailure::Refused(fault)) => {
-            Ok((RunEnd::Refused, format!(in alloc; "{fault}\n")?))
-        }
+        Err(ParseFailure::Refused(fault)) => Ok((RunEnd::Refused, fault_text(alloc, &fault)?)),
         Err(ParseFailure::Memory) => Err(AllocError),
     }
+}
+
+// The line that tells a fault.
+fn fault_text(alloc: Global, fault: &Spanning<ParseError>) -> Result<String, AllocError>
+    ensures { IfOk result (λ text. string_bytes text ≡ fault_line (view_fault fault.now)) }
+{
+    format!(in alloc; "{fault}\n")
 }

@@ -14,7 +14,8 @@ pub use ast::{
 };
 pub use document::parse_document_source;
 pub use juniper_tokens::{
-    Kind, LexFailure, LexerError, OptionParseResult, ParseError, ParseFailure, ParseResult, Parser,
-    ScalarToken, SourcePosition, Span, Spanning, Token, UnlocatedParseResult,
+    ByteClass, Kind, LexFailure, Lexer, LexerError, LexerResult, OptionParseResult, ParseError,
+    ParseFailure, ParseResult, Parser, ScalarToken, SourcePosition, Span, Spanning, Token,
+    UnlocatedParseResult, byte_class,
 };
 pub use values::{DefaultScalarValue, InputValue, NameText, Type, TypeModifier, TypeModifiers};
