@@ -15,6 +15,7 @@ use juniper_tokens::{Kind, Parser, Spanning, UnlocatedParseResult};
 /// `Document = Definition+ EndOfFile`
 ///
 /// The end is left there.
+#[tactic(auto, using(crate::proofs::DocumentLaws::answers))]
 pub(crate) fn parse_document<'a, S: Drop>(
     parser: &mut Parser<'a>,
 ) -> UnlocatedParseResult<OwnedDocument<'a, S>>
