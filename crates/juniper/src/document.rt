@@ -14,7 +14,7 @@ use juniper_tokens::{Kind, Parser, Spanning, UnlocatedParseResult};
 
 /// `Document = Definition+ EndOfFile`
 ///
-/// The end is left there.
+/// The end is left there. A source without any other token is refused with no need of memory.
 #[tactic(auto, using(crate::proofs::DocumentLaws::answers))]
 pub(crate) fn parse_document<'a, S: Drop>(
     parser: &mut Parser<'a>,
