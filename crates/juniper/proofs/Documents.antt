@@ -64,10 +64,6 @@ document_unfold ts =
 abbrev pub with_front : List Definition → Read (List Definition) → Read (List Definition)
 with_front front read = read >>= λ x. Ok (front ++ x.0, x.1)
 
-pub no_front : (read : Read (List Definition)) → with_front [] read ≡ read
-no_front (Ok x) = refl
-no_front (Err e) = refl
-
 regroup : (front : List Definition) (d : Definition) (read : Read (List Definition)) → with_front front (read >>= λ others. Ok (d ∷ others.0, others.1)) ≡ with_front (front ++ d ∷ []) read
 regroup front d (Ok x) = ap (λ (ds : List Definition). Ok (ds, x.1)) (simp append_assoc)
 regroup front d (Err e) = refl

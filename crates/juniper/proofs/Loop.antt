@@ -20,10 +20,6 @@ append (more first rest) others = more first (append rest others)
 abbrev pub with_front : Selections → Read SelectionSet → Read SelectionSet
 with_front front read = read >>= λ x. Ok (record { selections = append front x.0.selections; span = x.0.span }, x.1)
 
-pub no_front : (read : Read SelectionSet) → with_front no_more read ≡ read
-no_front (Ok x) = refl
-no_front (Err e) = refl
-
 append_one : {S : Type 0} (items : List (SelectionOf S)) (s : SelectionOf S) (others : Selections) → append (view_selections (items ++ s ∷ [])) others ≡ append (view_selections items) (more (view_selection s) others)
 append_one [] s others = refl
 append_one (i ∷ items) s others = ap (more (view_selection i)) (append_one items s others)

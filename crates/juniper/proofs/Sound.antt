@@ -47,24 +47,22 @@ ReadsSelections f = (ts : List Lexeme) (x : SelectionSet × List Lexeme) → f t
 abbrev pub ReadsSets : (List Lexeme → Read SelectionSet) → Type 0
 ReadsSets f = (ts : List Lexeme) (x : SelectionSet × List Lexeme) → f ts ≡ Ok x → SetRead ts x.0 x.1
 
+set_is : (ts mid : List Lexeme) (t : Lexeme) (s : SelectionSet) (rest : List Lexeme) → t.kind ≡ CurlyOpen → ts ≡ t ∷ mid → SelectionsRead mid s rest → SetRead ts (record { selections = s.selections; span = from_to t.span s.span }) rest
+set_is ts mid t s rest k parts read = record {
+  front = t ∷ (read.inner ++ read.closing ∷ []);
+  parts = parts ∙ ap (λ (us : List Lexeme). t ∷ us) (read.parts ∙ sym (append_assoc read.inner (read.closing ∷ []) rest));
+  is = (record { opening = t; inner = read.inner; closing = read.closing; parts = refl; opens = k; closes = read.closes; inside = read.inside }, read.some);
+  span = ap (λ (p : Span). from_to t.span p) read.span ∙ ap (λ (l : Lexeme). from_to t.span l.span) (sym (last_is (t ∷ read.inner) read.closing));
+}
+
 sets_read : (f : List Lexeme → Read SelectionSet) → ReadsSelections f → ReadsSets (set_with f)
 unfolding set_with
 sets_read f h ts x e =
     let a = bind_ok (expect_at token.CurlyOpen ts) (λ opening. f opening.1 >>= λ inner. Ok (record { selections = inner.0.selections; span = from_to opening.0.span inner.0.span }, inner.1)) x e in
     let b = bind_ok (f a.0.1) (λ inner. Ok (record { selections = inner.0.selections; span = from_to a.0.0.span inner.0.span }, inner.1)) x a.2 in
     let opening = taken_is CurlyOpen ts a.0 a.1 in
-    let inner = h a.0.1 b.0 b.1 in
-    let front : List Lexeme = a.0.0 ∷ (inner.inner ++ inner.closing ∷ []) in
-    let parts : ts ≡ front ++ b.0.1 = opening.1 ∙ ap (λ (us : List Lexeme). a.0.0 ∷ us) (inner.parts ∙ sym (append_assoc inner.inner (inner.closing ∷ []) b.0.1)) in
-    let made : SelectionSet × List Lexeme = (record { selections = b.0.0.selections; span = from_to a.0.0.span b.0.0.span }, b.0.1) in
-    let span : from_to a.0.0.span b.0.0.span ≡ whole front = ap (λ (s : Span). from_to a.0.0.span s) inner.span ∙ ap (λ (t : Lexeme). from_to a.0.0.span t.span) (sym (last_is (a.0.0 ∷ inner.inner) inner.closing)) in
-    let read : SetRead ts made.0 made.1 = record {
-      front = front;
-      parts = parts;
-      is = (record { opening = a.0.0; inner = inner.inner; closing = inner.closing; parts = refl; opens = opening.0; closes = inner.closes; inside = inner.inside }, inner.some);
-      span = span;
-    } in
-    subst (λ (y : SelectionSet × List Lexeme). SetRead ts y.0 y.1) (ok_is made x b.2) read
+    let read = set_is ts a.0.1 a.0.0 b.0.0 b.0.1 opening.0 opening.1 (h a.0.1 b.0 b.1) in
+    subst (λ (y : SelectionSet × List Lexeme). SetRead ts y.0 y.1) (ok_is (record { selections = b.0.0.selections; span = from_to a.0.0.span b.0.0.span }, b.0.1) x b.2) read
 
 -- a selection set at the front, or nothing
 abbrev SetOrNone : List Lexeme → Option SelectionSet → List Lexeme → Type 0

@@ -7,9 +7,8 @@ use Rattle.graphql_lexical.specs.declared.kind.Kind.{Kind}
 use Rattle.graphql_lexical.specs.declared.kind.Kind.TheVariants.{At, EndOfFile}
 use Rattle.graphql_lexical.specs.Kinds.{same_kind}
 use Rattle.graphql_lexical.specs.Cutting.{Lexeme}
-use Rattle.graphql_lexical.specs.Display.{shown}
-use Rattle.juniper_tokens.specs.Errors.{Fault, UnexpectedToken, UnexpectedEndOfFile}
-use Rattle.juniper_tokens.specs.Cursor.{Read, ◌>>=◌, first_of, kind_at, next_at, refused_at, next_if, skip_if, WantsText}
+use Rattle.juniper_tokens.specs.Errors.{Fault, UnexpectedEndOfFile}
+use Rattle.juniper_tokens.specs.Cursor.{Read, ◌>>=◌, first_of, kind_at, next_at, refused_at, next_if, skip_if}
 
 pub kinds_alike : (a b : Kind) → same_kind a b ≡ true → a ≡ b
 kinds_alike a b e = same_true the_type (search rules) a b e
@@ -81,21 +80,3 @@ skipped_left k ts (Some t) rest h = omega (arith, ap length h.1)
 pub kind_front : (k : Kind) (front rest : List Lexeme) → same_kind At k ≡ false → kind_at front ≡ k → kind_at (front ++ rest) ≡ k
 kind_front k [] rest other h = let alike : same_kind At At ≡ same_kind At k = ap (same_kind At) h in absurd cc
 kind_front k (t ∷ front) rest other h = h
-
--- where the text of a refusal is wanted, a token stands there
-wants_next : (b : Bool) (t : Lexeme) (ts : List Lexeme) → WantsText (cond b (Err (record { error = UnexpectedEndOfFile; span = t.span }, t ∷ ts)) (Ok (t, ts))) → ⊥
-wants_next true t ts h = h
-wants_next false t ts h = h
-
-abbrev refused : Lexeme × List Lexeme → Read Lexeme
-refused x = Err (record { error = UnexpectedToken (shown x.0.kind x.0.text); span = x.0.span }, x.1)
-
-wants_refused : (b : Bool) (t : Lexeme) (ts : List Lexeme) → WantsText (cond b (Err (record { error = UnexpectedEndOfFile; span = t.span }, t ∷ ts)) (Ok (t, ts)) >>= refused) → b ≡ false
-wants_refused true t ts h = absurd h
-wants_refused false t ts h = refl
-
-pub wants_token : (passes : Bool) (ts : List Lexeme) → WantsText (next_if passes ts) → same_kind (kind_at ts) EndOfFile ≡ false
-wants_token true [] h = absurd h
-wants_token false [] h = absurd h
-wants_token true (t ∷ ts) h = absurd (wants_next (same_kind t.kind EndOfFile) t ts h)
-wants_token false (t ∷ ts) h = wants_refused (same_kind t.kind EndOfFile) t ts h

@@ -23,6 +23,8 @@ abbrev pub field_of : {Alias Arguments Directives : Type 0} → Option Alias →
 field_of None name None None selections span = field name selections span
 field_of _ name _ _ selections span = other_selection
 
+-- Held-Field-selection_set and Row_of-Selection are what the checker makes of the optional list of selections in a
+-- selection: to view_held and view_row they are what an Option and a List are to view_set and view_selections.
 abbrev mutual
   pub view_selection : {S : Type 0} → code.Selection S → Selection
   view_selection (code.Field' alias name arguments directives selections span) = field_of alias (view_word name) arguments directives (view_held selections) (view_span span)

@@ -47,7 +47,8 @@ pub fn parse_document_source<'a, S: Drop>(
 
 /// `Document = Definition+ EndOfFile`
 ///
-/// The end is left there.
+/// The end is left there. A source without any other token is refused with no need of memory.
+#[tactic(auto, using(crate::proofs::DocumentLaws::answers))]
 fn parse_document<'a, S: Drop>(
     parser: &mut Parser<'a>,
 ) -> UnlocatedParseResult<OwnedDocument<'a, S>>

@@ -1,4 +1,8 @@
-//! The tree of an executable GraphQL document, and the parser that gives it.
+//! The tree of an executable GraphQL document, and the parser that gives it
+//! (GraphQL specification, October 2021, section 2).
+//!
+//! So far the parser reads fields and selection sets: a definition is a selection set alone, and a field a name, with or
+//! without a selection set.
 #![tactic(auto)]
 
 mod ast;

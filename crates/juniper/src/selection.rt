@@ -34,6 +34,7 @@ pub(crate) fn parse_selection_set<'a, S: Drop>(
 
 /// `Selection = Field`
 #[cycle(selection)]
+#[tactic(auto, using(crate::proofs::Views::view_of_field))]
 fn parse_selection<'a, S: Drop>(parser: &mut Parser<'a>) -> UnlocatedParseResult<Selection<'a, S>>
     ensures gives { Gives view_selection result parser.new (field_at parser.old) }
     ensures shorter { OnOk result (length parser.new < length parser.old) }

@@ -37,6 +37,7 @@ pub enum TypeModifier {
 /// Modifiers of a type, the innermost first.
 #[derive(Debug, Drop)]
 pub enum TypeModifiers {
+    /// A list that takes no memory.
     Static(&'static [TypeModifier]),
     Dynamic(Vec<TypeModifier>),
 }
@@ -46,6 +47,7 @@ pub trait NameText {
     /// The bytes of the name.
     ghost name_text: { Self → List ℕ };
 
+    /// The name.
     fn text(&self) -> &str
         ensures { result.now ≡ name_text self.now };
 }
@@ -54,7 +56,7 @@ impl NameText for &str {
     ghost name_text = { λ name. name.now };
 
     fn text(&self) -> &str {
-        self
+        *self
     }
 }
 
@@ -70,8 +72,10 @@ impl NameText for String {
 /// (GraphQL specification, October 2021, section 2.11).
 #[derive(Drop)]
 pub struct TypeLiteral<N: NameText> {
+    // The innermost name.
     name: N,
     modifiers: TypeModifiers,
 }
 
+/// The name by which juniper has it. Contracts say `TypeLiteral`, since `Type` is a word of theirs.
 pub type Type<N> = TypeLiteral<N>;

@@ -3,13 +3,8 @@ use Rattle.std.proofs.lemmas.Result.{err_from_is_err_and}
 use Rattle.juniper_tokens.specs.Tokens.{view_token}
 use Rattle.juniper.specs.Reading.{selections_at}
 use Rattle.juniper.specs.View.{view_selection, view_selections}
-use Rattle.juniper.proofs.Views.{view_of_field}
 use Rattle.juniper.proofs.Loop.{goes_on, ends, first_fails, closing_fails, set_fails, set_ends}
 use Rattle.juniper.proofs.selection.+selection.Goals as goal
-
-pub parse_selection-returns-clause-gives : goal.parse_selection-returns-clause-gives
-parse_selection-returns-clause-gives g t c =
-    rw (view_of_field c.in_ok-parse_field.field-0) c.in_ok-parse_field.ensures.gives
 
 pub parse_selection_set-returns-in_err-parse_selection-clause-gives :
     goal.parse_selection_set-returns-in_err-parse_selection-clause-gives
