@@ -1,16 +1,17 @@
 -- The steps of a cursor on the lexemes that are left.
-use Rattle.std.specs.Prelude.{◌≡◌, ℕ, Bool, true, false, ◌&&◌, List, [], ◌∷◌, Result, Ok, Err, Option, Some, None, if◌then◌else◌}
+use Rattle.std.specs.Prelude.{◌≡◌, ℕ, Bool, true, false, ◌&&◌, List, [], ◌∷◌, drop, Result, Ok, Err, Option, Some, None, if◌then◌else◌}
 use Rattle.graphql_lexical.specs.Place.{Span}
 use Rattle.graphql_lexical.specs.declared.kind.Kind.{Kind}
 use Rattle.graphql_lexical.specs.declared.kind.Kind.TheVariants.{Name, String, Float, Int, At, EndOfFile}
 use Rattle.graphql_lexical.specs.Kinds.{same_kind}
 use Rattle.graphql_lexical.specs.Cutting.{Lexeme}
 use Rattle.graphql_lexical.specs.Display.{shown}
+use Rattle.juniper_tokens.specs.declared.span.Spanning.{Spanning}
 use Rattle.juniper_tokens.specs.declared.token.Token.{Token}
 use Rattle.juniper_tokens.specs.declared.error.ParseFailure.{ParseFailure}
 use Rattle.juniper_tokens.specs.declared.error.ParseFailure.TheVariants as failures
 use Rattle.juniper_tokens.specs.Positions.{origin}
-use Rattle.juniper_tokens.specs.Tokens.{token_kind, token_text, same_text}
+use Rattle.juniper_tokens.specs.Tokens.{token_kind, token_text, same_text, view_token}
 use Rattle.juniper_tokens.specs.Errors.{UnexpectedToken, UnexpectedEndOfFile, Fault, view_fault}
 
 -- What a step gives: a value, or a fault, and the lexemes that are left.
@@ -69,6 +70,12 @@ is_wanted kind text t = if has_text kind then same_kind t.kind kind && same_text
 abbrev pub next_at : List Lexeme → Read Lexeme
 next_at [] = Err (record { error = UnexpectedEndOfFile; span = nowhere }, [])
 next_at (t ∷ ts) = if same_kind t.kind EndOfFile then Err (record { error = UnexpectedEndOfFile; span = t.span }, t ∷ ts) else Ok (t, ts)
+
+-- The result is the next lexeme, which is not the end, or the refusal at the end.
+abbrev pub FrontGives : Result (Spanning Token) ParseFailure → List Lexeme → Type 0
+FrontGives (Ok token) ts = (next_at ts ≡ Ok (view_token token, drop 1 ts)) × (same_kind (kind_at ts) EndOfFile ≡ false) × EndsOnce ts
+FrontGives (Err (failures.Refused e)) ts = (next_at ts ≡ Err (view_fault e, ts)) × (same_kind (kind_at ts) EndOfFile ≡ true)
+FrontGives (Err failures.Memory) ts = ⊥
 
 -- The next lexeme is taken, and told as unexpected; at the end it stays.
 abbrev pub refused_at : {A : Type 0} → List Lexeme → Read A

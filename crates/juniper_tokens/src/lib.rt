@@ -8,6 +8,8 @@ mod lexer;
 mod parser;
 mod position;
 mod span;
+#[cfg(test)]
+mod tests;
 mod token;
 
 pub use byte_classes::{ByteClass, byte_class};

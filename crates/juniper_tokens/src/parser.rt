@@ -6,7 +6,7 @@ ghost use Rattle.graphql_lexical.specs.Cutting.{Lexeme, CutFrom, BreaksFrom};
 ghost use Rattle.juniper_tokens.specs.Errors.{view_lexer_error};
 ghost use Rattle.juniper_tokens.specs.Gathering.{IfFault, IfMemory, StandsLaterOrEnded};
 ghost use Rattle.juniper_tokens.specs.Tokens.{token_kind, token_text, view_token, view_tokens, view_name};
-ghost use Rattle.juniper_tokens.specs.Cursor.{Gives, OnMemory, Unmoved, EndsOnce, first_of, kind_at, is_wanted, next_at, refused_at, expect_at, expect_name_at, skip_at};
+ghost use Rattle.juniper_tokens.specs.Cursor.{Gives, FrontGives, OnMemory, Unmoved, EndsOnce, first_of, kind_at, is_wanted, next_at, refused_at, expect_at, expect_name_at, skip_at};
 
 use crate::error::{LexFailure, OptionParseResult, ParseError, ParseFailure, ParseResult};
 use crate::lexer::Lexer;
@@ -97,6 +97,18 @@ impl<'a> Parser<'a> {
         Spanning::new(token.span, token.item)
     }
 
+    // A copy of the next token. At the end it answers `UnexpectedEndOfFile`.
+    fn front_before_end(&self) -> ParseResult<Token<'a>>
+        ensures { FrontGives result self.now }
+    {
+        let token = self.front();
+        if token.item.is_end() {
+            Err(ParseFailure::Refused(Spanning::new(token.span, ParseError::UnexpectedEndOfFile)))
+        } else {
+            Ok(token)
+        }
+    }
+
     // Goes past the next token, which is not the end.
     fn advance(&mut self)
         requires { same_kind (kind_at self.old) EndOfFile ≡ false }
@@ -111,13 +123,7 @@ impl<'a> Parser<'a> {
         ensures shorter { OnOk result (length self.new < length self.old) }
         ensures memory { OnMemory result ⊥ }
     {
-        let token = self.front();
-        if token.item.is_end() {
-            return Err(ParseFailure::Refused(Spanning::new(
-                token.span,
-                ParseError::UnexpectedEndOfFile,
-            )));
-        }
+        let token = self.front_before_end()?;
         self.advance();
         Ok(token)
     }
@@ -128,13 +134,7 @@ impl<'a> Parser<'a> {
         ensures never { OnOk result ⊥ }
         ensures memory { OnMemory result (Unmoved {A = Lexeme} self.old self.new (refused_at self.old)) }
     {
-        let token = self.front();
-        if token.item.is_end() {
-            return Err(ParseFailure::Refused(Spanning::new(
-                token.span,
-                ParseError::UnexpectedEndOfFile,
-            )));
-        }
+        let token = self.front_before_end()?;
         let error = ParseError::unexpected_token(self.alloc, token.item)?;
         self.advance();
         Err(ParseFailure::Refused(Spanning::new(token.span, error)))
@@ -174,13 +174,7 @@ impl<'a> Parser<'a> {
         if self.is_next(wanted) {
             return Ok(Some(self.next_token()?));
         }
-        let token = self.front();
-        if token.item.is_end() {
-            return Err(ParseFailure::Refused(Spanning::new(
-                token.span,
-                ParseError::UnexpectedEndOfFile,
-            )));
-        }
+        self.front_before_end()?;
         Ok(None)
     }
 
