@@ -19,16 +19,16 @@ use Rattle.juniper.specs.Promise.{HasTree, IsRefusal, IfRefused}
 -- a text has one cut
 pub same_cut : (source : List ℕ) (xs ys : List Lexeme) → Cut source xs → Cut source ys → xs ≡ ys
 same_cut source xs ys c d = elim (one_end source) [
-    inl cut ↦ cut.1.alone xs c ∙ sym (cut.1.alone ys d)
+  | inl cut ↦ cut.1.alone xs c ∙ sym (cut.1.alone ys d)
   | inr break ↦ absurd (break.2.no_cut xs c)
-  ]
+]
 
 -- and no break beside it
 pub cut_or_break : (source : List ℕ) (xs : List Lexeme) (error : LexicalError) (at : Place) → Cut source xs → Breaks source error at → ⊥
 cut_or_break source xs error at c b = elim (one_end source) [
-    inl cut ↦ cut.1.no_break error at b
+  | inl cut ↦ cut.1.no_break error at b
   | inr break ↦ break.2.no_cut xs c
-  ]
+]
 
 fault_at : LexicalError → Place → Fault
 fault_at error at = record { error = Lexical error; span = record { start = at; end = at } }
@@ -36,9 +36,9 @@ fault_at error at = record { error = Lexical error; span = record { start = at; 
 -- or one break
 pub same_break : (source : List ℕ) (d e : LexicalError) (p q : Place) → Breaks source d p → Breaks source e q → (d ≡ e) × (p ≡ q)
 same_break source d e p q b c = elim (one_end source) [
-    inl cut ↦ absurd (cut.1.no_break d p b)
+  | inl cut ↦ absurd (cut.1.no_break d p b)
   | inr break ↦ let x = break.2.alone d p b in let y = break.2.alone e q c in (x.0 ∙ sym y.0, x.1 ∙ sym y.1)
-  ]
+]
 
 pub has_tree : (source : List ℕ) (lexemes : List Lexeme) (tree : List Definition) → Cut source lexemes → IsDocument lexemes tree → ((other : List Definition) → IsDocument lexemes other → other ≡ tree) → HasTree source tree
 has_tree source lexemes tree c d alone = record {
