@@ -1,0 +1,11 @@
+pub mod Text
+pub mod Default
+pub mod DefaultLaws
+pub mod Display
+pub mod Escapes
+pub mod Operations
+pub mod Same
+pub mod Scalar
+pub mod TypeLiteral
+pub mod Value
+pub mod View
