@@ -1,5 +1,5 @@
 -- The characters of the fixed texts of tokens.
-use Rattle.std.proofs.Common.{◌≡◌, ℕ, List, [], ◌∷◌, refl}
+use Rattle.std.proofs.Common.{◌≡◌, [], ◌∷◌, refl}
 use Rattle.std.specs.Str.{chars}
 
 pub chars-exclamation_mark : chars (33 ∷ []) ≡ 33 ∷ []

@@ -1,3 +1,13 @@
 pub mod Texts
 pub mod FixedTexts
 pub mod Steps
+pub mod ByteClasses
+pub mod ByteRuns
+pub mod Borders
+pub mod Walks
+pub mod Stops
+pub mod EscapeFaults
+pub mod Places
+pub mod Lexing
+pub mod LexingByScan
+pub mod Gathering

@@ -1,14 +1,14 @@
 -- The cursor's steps on the tokens that it holds.
-use Rattle.std.proofs.Common.{◌≡◌, ℕ, zero, suc, ◌+◌, ◌<◌, ◌≤◌, Bool, true, false, cond, List, [], ◌∷◌, length, drop, map, Result, Ok, Err, refl, sym, ap, ◌∙◌, subst, arith, add-one, length-drop}
+use Rattle.std.proofs.Common.{◌≡◌, ℕ, zero, suc, ◌+◌, ◌<◌, true, false, List, [], ◌∷◌, length, drop, Ok, Err, refl, sym, ap, ◌∙◌, subst, arith, add-one, length-drop}
 use Rattle.graphql_lexical.specs.declared.kind.Kind.{Kind}
 use Rattle.graphql_lexical.specs.declared.kind.Kind.TheVariants.{EndOfFile}
 use Rattle.graphql_lexical.specs.Kinds.{same_kind}
 use Rattle.graphql_lexical.specs.Cutting.{Lexeme}
 use Rattle.juniper_tokens.specs.declared.span.Spanning.{Spanning}
 use Rattle.juniper_tokens.specs.declared.token.Token.{Token}
-use Rattle.juniper_tokens.specs.Errors.{Fault, UnexpectedEndOfFile}
-use Rattle.juniper_tokens.specs.Tokens.{view_token, view_tokens}
-use Rattle.juniper_tokens.specs.Cursor.{Read, next_at, first_of, kind_at, EndsOnce}
+use Rattle.juniper_tokens.specs.Errors.{UnexpectedEndOfFile}
+use Rattle.juniper_tokens.specs.Tokens.{view_tokens}
+use Rattle.juniper_tokens.specs.Cursor.{next_at, first_of, kind_at, EndsOnce}
 
 -- the next token, which is not the end
 pub next_taken : (ts : List Lexeme) (t : Lexeme) → EndsOnce ts → t ≡ first_of ts → same_kind t.kind EndOfFile ≡ false → next_at ts ≡ Ok (t, drop 1 ts)

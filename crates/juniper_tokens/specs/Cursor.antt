@@ -11,7 +11,7 @@ use Rattle.juniper_tokens.specs.declared.error.ParseFailure.{ParseFailure}
 use Rattle.juniper_tokens.specs.declared.error.ParseFailure.TheVariants as failures
 use Rattle.juniper_tokens.specs.Positions.{origin}
 use Rattle.juniper_tokens.specs.Tokens.{token_kind, token_text, same_text}
-use Rattle.juniper_tokens.specs.Errors.{Error, UnexpectedToken, UnexpectedEndOfFile, Fault, view_fault}
+use Rattle.juniper_tokens.specs.Errors.{UnexpectedToken, UnexpectedEndOfFile, Fault, view_fault}
 
 -- What a step gives: a value, or a fault, and the lexemes that are left.
 abbrev pub Read : Type 0 → Type 0

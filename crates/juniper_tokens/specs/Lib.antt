@@ -5,3 +5,12 @@ pub mod Tokens
 pub mod TokenLaws
 pub mod Errors
 pub mod Cursor
+pub mod ByteClasses
+pub mod ByteRuns
+pub mod Machine
+pub mod Borders
+pub mod Walks
+pub mod Scans
+pub mod Lexing
+pub mod LexingByScan
+pub mod Gathering

@@ -1,17 +1,22 @@
 //! Positions, tokens, the lexer and the cursor of GraphQL's language.
 #![tactic(auto)]
 
+mod byte_classes;
 mod error;
+pub mod laws;
+mod lexer;
 mod parser;
 mod position;
 mod span;
 mod token;
 
+pub use byte_classes::{ByteClass, byte_class};
 pub use error::{
     LexFailure, LexerError, OptionParseResult, ParseError, ParseFailure, ParseResult,
     UnlocatedParseResult,
 };
 pub use graphql_lexical::Kind;
+pub use lexer::{Lexer, LexerResult};
 pub use parser::Parser;
 pub use position::SourcePosition;
 pub use span::{Span, Spanning};

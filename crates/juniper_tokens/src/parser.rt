@@ -1,12 +1,15 @@
 //! The cursor over the tokens of a source.
-ghost use Rattle.std.specs.Prelude.{◌≡◌, ◌<◌, ◌≤◌, ◌∷◌, drop, false, length, option_map, OnOk};
+ghost use Rattle.std.specs.Prelude.{◌≡◌, ◌<◌, ◌≤◌, ◌∷◌, drop, false, true, length, option_map, OnOk, IfOk};
 ghost use Rattle.graphql_lexical.specs.declared.kind.Kind.TheVariants.{EndOfFile};
 ghost use Rattle.graphql_lexical.specs.Kinds.{same_kind};
-ghost use Rattle.graphql_lexical.specs.Cutting.{Lexeme};
+ghost use Rattle.graphql_lexical.specs.Cutting.{Lexeme, CutFrom, BreaksFrom};
+ghost use Rattle.juniper_tokens.specs.Errors.{view_lexer_error};
+ghost use Rattle.juniper_tokens.specs.Gathering.{IfFault, IfMemory, StandsLaterOrEnded};
 ghost use Rattle.juniper_tokens.specs.Tokens.{token_kind, token_text, view_token, view_tokens, view_name};
 ghost use Rattle.juniper_tokens.specs.Cursor.{Gives, OnMemory, Unmoved, EndsOnce, first_of, kind_at, is_wanted, next_at, refused_at, expect_at, expect_name_at, skip_at};
 
-use crate::error::{OptionParseResult, ParseError, ParseFailure, ParseResult};
+use crate::error::{LexFailure, OptionParseResult, ParseError, ParseFailure, ParseResult};
+use crate::lexer::Lexer;
 use crate::span::Spanning;
 use crate::token::Token;
 use std::alloc::Global;
@@ -36,8 +39,32 @@ impl<'a> Model for Parser<'a> {
 }
 
 impl<'a> Parser<'a> {
+    /// A cursor at the first of the tokens that a lexer has left, of which all are taken first.
+    ///
+    /// So the lexer's first fault is the answer, whatever tokens stand before it. `Memory` says that the list of
+    /// tokens, or the text of a fault, could not grow. Unless memory ran out the lexer has ended. The cursor keeps the
+    /// lexer's allocator.
+    pub fn new(lexer: &mut Lexer<'a>) -> Result<Self, LexFailure>
+        requires { lexer.old.ended ≡ false }
+        ensures tokens { IfOk result (λ tokens. CutFrom lexer.old.source lexer.old.index tokens) }
+        ensures fault { IfFault result (λ fault. BreaksFrom lexer.old.source lexer.old.index (view_lexer_error fault.item) fault.span.start) }
+        ensures zero_width { IfFault result (λ fault. fault.span.end ≡ fault.span.start) }
+        ensures source { lexer.new.source ≡ lexer.old.source }
+        ensures lexer { IfMemory result (StandsLaterOrEnded lexer.old lexer.new) (lexer.new.ended ≡ true) }
+    {
+        let alloc = lexer.allocator();
+        let mut tokens = Vec::new(alloc);
+        while let Some(item) = lexer.next() {
+            let token = item?;
+            if tokens.push(token).is_err() {
+                return Err(LexFailure::Memory);
+            }
+        }
+        Ok(Parser::from_tokens(alloc, tokens))
+    }
+
     // A cursor at the first of these tokens.
-    pub(crate) fn from_tokens(alloc: Global, tokens: Vec<Spanning<Token<'a>>>) -> Self
+    fn from_tokens(alloc: Global, tokens: Vec<Spanning<Token<'a>>>) -> Self
         requires { EndsOnce (view_tokens tokens.items) }
         ensures { result ≡ view_tokens tokens.entry.items }
     {

@@ -1,4 +1,4 @@
-use Rattle.std.proofs.Common.{rules, ◌∙◌}
+use Rattle.std.proofs.Common.{◌∙◌}
 use Rattle.juniper_tokens.proofs.Texts.{pointwise-chars}
 use Rattle.juniper_tokens.proofs.token.same_text.Goals as goal
 

@@ -1,0 +1,136 @@
+-- What readers give on a list that ends in its one end.
+use Rattle.std.proofs.Common.{ℕ, suc, Bool, ◌≡◌, ◌≤◌, ◌<◌, ◌∷◌, [], List, ◌++◌, length, drop, refl, sym, ap, ◌∙◌, arith, append_assoc, append-nil, subst, length-append, inl, inr, le_refl, Ok, Bool, true, false, cond, ◌+◌}
+use Rattle.std.proofs.lemmas.List.{append_cancel_right}
+use Rattle.std.specs.List.{AllByRecursion}
+use Rattle.graphql_lexical.specs.declared.kind.Kind.{Kind}
+use Rattle.graphql_lexical.specs.declared.kind.Kind.TheVariants.{EndOfFile}
+use Rattle.graphql_lexical.specs.Cutting.{Lexeme}
+use Rattle.graphql_grammar.specs.Tokens.{IsSpelled}
+use Rattle.graphql_grammar.specs.Tree.{Scalars}
+use Rattle.graphql_grammar.specs.Grammar.{IsValue, IsType, IsDocument}
+use Rattle.graphql_grammar.specs.Faults.{Fault, UnexpectedEndOfFile, UnexpectedToken, AnyToken, NoEnd, EndsOnce, DocumentRefusedAt, ValueRefusedAt, TypeRefusedAt, TypeError}
+use Rattle.graphql_grammar.specs.Reading.{of, Read, Took, Refused, Out, Reader, fault_of, value_at, type_at, document, fully, value_of, GivesWhole, GivesFront}
+use Rattle.graphql_grammar.proofs.Elements.{all_front, all_each}
+use Rattle.graphql_grammar.proofs.TokenTests.{of_kind}
+use Rattle.graphql_grammar.proofs.Rules.{Meets}
+use Rattle.graphql_grammar.proofs.Found.{value_found}
+use Rattle.graphql_grammar.proofs.Ends.{values, types, document_ends}
+use Rattle.graphql_grammar.proofs.Faulty.{Reads, cut_front, at_fault}
+use Rattle.graphql_grammar.proofs.Turns.{Turn, value_turns, type_turns, document_turns}
+use Rattle.graphql_grammar.proofs.Readers.{value_reads, type_reads, document_reads}
+use Rattle.graphql_grammar.proofs.Named.{refused_at, drop_next}
+use Rattle.graphql_grammar.proofs.Spelling.{sample_spelled}
+use Rattle.graphql_grammar.proofs.DocumentFound.{type_covers}
+
+module _ {F A : Type 0} (f : ℕ → Reader F A) (R : List Lexeme → A → Type 0) (r : Reads f R) (Refuses : ℕ → Lexeme → Fault F → Type 0) (ts : List Lexeme) (ends : EndsOnce ts)
+    (refused : (rest : List Lexeme) (t : Lexeme) (e : Fault F) → f (suc (length ts)) ts ≡ Refused (t ∷ rest) e → (i : ℕ) × (rest ≡ drop (suc i) ts) × Refuses i t e) where
+  n : ℕ
+  n = suc (length ts)
+
+  meets : (z : Read F A) → f n ts ≡ z → Meets n R (f n) ts z
+  meets z e = subst (λ y. Meets n R (f n) ts y) e ((r.keeps n n (le_refl n)).at ts)
+
+  never_out : f n ts ≡ Out → ⊥
+  unfolding n
+  never_out e = absurd (omega (arith, (meets Out e).0))
+
+  module _ (ended : (us : List Lexeme) (a : A) → R us a → EndsOnce us) where
+    by_whole : (z : Read F A) → f n ts ≡ z → Meets n R (f n) ts z → GivesWhole R Refuses ts z
+    unfolding n
+    by_whole (Took a rest) e (us, p, h, s) =
+        let none : rest ≡ [] = cut_front us rest (ended us a h) (subst EndsOnce p ends) in
+        (subst (λ l. R l a) (sym (p ∙ ap (λ l. us ++ l) none ∙ append-nil us)) h, none)
+    by_whole (Refused [] x) e (us, p, (more, a, h, w), s, y) =
+        let q : ts ≡ us = p ∙ append-nil us in
+        let m : more ≡ [] = cut_front us more (subst EndsOnce q ends) (ended _ a h) in
+        let whole : R ts a = subst (λ l. R l a) (ap (λ l. us ++ l) m ∙ append-nil us ∙ sym q) h in
+        let took = sym (r.finds n ts a (omega arith) whole) ∙ e in
+        absurd (cc took)
+    by_whole (Refused (t ∷ rest) x) e m = refused rest t x e
+    by_whole Out e m = absurd (never_out e)
+
+    pub whole_given : GivesWhole R Refuses ts (fully f ts)
+    unfolding fully n
+    whole_given = by_whole (f n ts) refl (meets (f n ts) refl)
+
+  ended_has : (us : List Lexeme) (end : Lexeme) → end.kind ≡ EndOfFile → NoEnd (us ++ (end ∷ [])) → ⊥
+  ended_has [] end e h = absurd (h.0 e)
+  ended_has (t ∷ us) end e h = ended_has us end e h.1
+
+  module _ (inner : (us : List Lexeme) (a : A) → R us a → NoEnd us)
+      (covers : (us vs : List Lexeme) (b : A) → R us b → (m : ℕ) → length (us ++ vs) < m → (a : A) × (more rest : List Lexeme) × (f m (us ++ vs) ≡ Took a rest) × (vs ≡ more ++ rest)) where
+    covered : (us vs : List Lexeme) (b : A) → ts ≡ us ++ vs → R us b → (a : A) × (more rest : List Lexeme) × (f n ts ≡ Took a rest) × (vs ≡ more ++ rest)
+    unfolding n
+    covered us vs b e h = let c = covers us vs b h (suc (length ts)) (rw e (omega arith)) in (c.0, c.1, c.2, ap (f (suc (length ts))) e ∙ c.3, c.4)
+
+    longest : (front rest us vs : List Lexeme) (a b : A) → f n ts ≡ Took a rest → ts ≡ front ++ rest → ts ≡ us ++ vs → R us b → length us ≤ length front
+    longest front rest us vs a b e p q h =
+        let c = covered us vs b q h in
+        let both : Took a rest ≡ Took c.0 c.2 = sym e ∙ c.3 in
+        let same : rest ≡ c.2 = cc in
+        let whole : front ++ c.2 ≡ (us ++ c.1) ++ c.2 = ap (λ l. front ++ l) (sym same) ∙ sym p ∙ q ∙ ap (λ l. us ++ l) c.4 ∙ sym (append_assoc us c.1 c.2) in
+        let l : length front ≡ length us + length c.1 = ap length (append_cancel_right front (us ++ c.1) c.2 whole) ∙ length-append us c.1 in
+        omega arith
+
+    none : (t : Lexeme) (rest us vs : List Lexeme) (x : Fault F) (b : A) → f n ts ≡ Refused (t ∷ rest) x → ts ≡ us ++ vs → R us b → ⊥
+    none t rest us vs x b e q h = let c = covered us vs b q h in let both = sym e ∙ c.3 in absurd (cc both)
+
+    by_front : (z : Read F A) → f n ts ≡ z → Meets n R (f n) ts z → GivesFront R Refuses ts z
+    unfolding n
+    by_front (Took a rest) e (us, p, h, s) = (us, p, h, λ vs ws b q k. longest us rest vs ws a b e p q k)
+    by_front (Refused [] x) e (us, p, (more, a, h, w), s, y) =
+        let q : us ≡ ends.inner ++ (ends.end ∷ []) = sym (append-nil us) ∙ sym p ∙ ends.whole in
+        absurd (ended_has ends.inner ends.end ends.is_end (subst NoEnd q (all_front (λ (t : Lexeme). t.kind ≡ EndOfFile → ⊥) us more (inner (us ++ more) a h))))
+    by_front (Refused (t ∷ rest) x) e m = ((λ us vs b q h. none t rest us vs x b e q h), refused rest t x e)
+    by_front Out e m = absurd (never_out e)
+
+    pub front_given : GivesFront R Refuses ts (fully f ts)
+    unfolding fully n
+    front_given = by_front (f n ts) refl (meets (f n ts) refl)
+
+any_allowed : (ts : List Lexeme) → AllByRecursion AnyToken ts
+any_allowed ts = all_each AnyToken (λ t. tt) ts
+
+module _ {C F : Type 0} (S : Scalars C F) where
+  pub document_given : (ts : List Lexeme) → AllByRecursion IsSpelled ts → EndsOnce ts → GivesWhole (IsDocument S) (DocumentRefusedAt S ts) ts (fully (document S) ts)
+  document_given ts spelled ends = whole_given (document S) (IsDocument S) (document_reads S) (DocumentRefusedAt S ts) ts ends
+      (λ rest t e. refused_at S (document S) (IsDocument S) (document_reads S) true (document_turns S) IsSpelled sample_spelled (suc (length ts)) ts rest t e spelled) (document_ends S)
+
+  pub value_given : (free : Bool) (ts : List Lexeme) → EndsOnce ts → GivesFront (IsValue S free) (ValueRefusedAt S free ts) ts (value_of S free ts)
+  value_given free ts ends = front_given (value_at S free) (IsValue S free) (value_reads S free) (ValueRefusedAt S free ts) ts ends
+      (λ rest t e. refused_at S (value_at S free) (IsValue S free) (value_reads S free) true (value_turns S free) AnyToken (λ u h. tt) (suc (length ts)) ts rest t e (any_allowed ts))
+      (values S free) (λ us vs v h m le. (v, [], vs, value_found S free m us vs v (let l = length-append us vs in omega (arith, l)) h, refl))
+
+-- ---- types
+
+module _ (F : Type 0) where
+  -- a scalar type that refuses nothing: the reading of a type asks none
+  every_scalar : Scalars (Unit {0}) F
+  every_scalar = record { read = λ kind text. Ok tt; of_bool = λ b. tt }
+
+  type_error : (t : Lexeme) (b : Bool) → of EndOfFile t.kind t.text ≡ b → TypeError {F = F} t (cond b UnexpectedEndOfFile (UnexpectedToken t.kind t.text))
+  type_error t true e = of_kind EndOfFile t e
+  type_error t false e = (refl, refl, λ k. let same : of EndOfFile t.kind t.text ≡ true = ap (λ (z : Kind). of EndOfFile z t.text) k in absurd (cc (sym e ∙ same)))
+
+  type_refused : (ts rest : List Lexeme) (t : Lexeme) (e : Fault F) → type_at (suc (length ts)) ts ≡ Refused (t ∷ rest) e → (i : ℕ) × (rest ≡ drop (suc i) ts) × TypeRefusedAt ts i t e
+  unfolding every_scalar fault_of
+  type_refused ts rest t e p = by_turn (subst (λ z. Turn every_scalar false (type_at (suc (length ts))) ts z) p ((type_turns every_scalar (suc (length ts))).at ts))
+    where
+      by_turn : Turn every_scalar false (type_at (suc (length ts))) ts (Refused (t ∷ rest) e) → (i : ℕ) × (rest ≡ drop (suc i) ts) × TypeRefusedAt ts i t e
+      by_turn (us, q, inl (y, x, s, d)) = absurd (cc d)
+      by_turn (us, q, inr o) =
+          let a = at_fault (type_at {F = F}) IsType (type_reads F) AnyToken (λ u h. tt) (suc (length ts)) ts rest t e (any_allowed ts) p in (
+            length a.0,
+            sym (ap (drop (suc (length a.0))) a.1 ∙ drop_next a.0 rest t),
+            record {
+              before = a.0;
+              after = rest;
+              whole = a.1;
+              number = refl;
+              fault = a.2;
+              named = rw o.0 (type_error t (of EndOfFile t.kind t.text) refl);
+            },
+          )
+
+  pub type_given : (ts : List Lexeme) → EndsOnce ts → GivesFront IsType (TypeRefusedAt ts) ts (fully (type_at {F = F}) ts)
+  type_given ts ends = front_given (type_at {F = F}) IsType (type_reads F) (TypeRefusedAt ts) ts ends (type_refused ts) types (λ us vs x h n le. type_covers us vs x h n le)

@@ -1,0 +1,87 @@
+-- Where a list of tokens is refused, and with which error.
+--
+-- R says which whole lists of tokens are something, and what: documents, values or types. `Allowed` says of which
+-- tokens the lists are that are asked about: of all tokens, or of those that a text spells.
+use Rattle.std.specs.Prelude.{ℕ, suc, Bool, ◌≡◌, ◌<◌, codes, Err, IsErr, List, [], ◌∷◌, ◌++◌, take, length}
+use Rattle.std.specs.List.{AllByRecursion}
+use Rattle.graphql_lexical.specs.declared.kind.Kind.{Kind}
+use Rattle.graphql_lexical.specs.declared.kind.Kind.TheVariants.{EndOfFile, BracketOpen, CurlyOpen, Name}
+use Rattle.graphql_lexical.specs.Cutting.{Lexeme}
+use Rattle.graphql_grammar.specs.Tokens.{Text, AllAlike, IsSpelled}
+use Rattle.graphql_grammar.specs.Samples.{token_of}
+use Rattle.graphql_grammar.specs.Tree.{Scalars}
+use Rattle.graphql_grammar.specs.Grammar.{IsScalarKind, IsValue, IsType, IsDocument}
+
+-- Why a token is refused. The last is the error of the scalar type's own reading.
+pub data Fault (F : Type 0) : Type 0 where
+  UnexpectedEndOfFile : Fault F
+  UnexpectedToken : Kind → Text → Fault F
+  ScalarError : F → Fault F
+
+-- none of these tokens is the end
+abbrev pub NoEnd : List Lexeme → Type 0
+NoEnd = AllByRecursion (λ t. t.kind ≡ EndOfFile → ⊥)
+
+-- The last token and no other is the end.
+pub record EndsOnce (ts : List Lexeme) : Type 0 where
+  pub inner : List Lexeme
+  pub end : Lexeme
+  pub whole : ts ≡ inner ++ (end ∷ [])
+  pub no_end : NoEnd inner
+  pub is_end : end.kind ≡ EndOfFile
+
+abbrev pub AnyToken : Lexeme → Type 0
+AnyToken t = Unit {0}
+
+module _ (Allowed : Lexeme → Type 0) where
+  -- Some list of allowed tokens that R admits has a front that is alike with ts.
+  abbrev pub Begins : {A : Type 0} → (List Lexeme → A → Type 0) → List Lexeme → Type 0
+  Begins {A} R ts = (front more : List Lexeme) × (a : A) × AllAlike ts front × R (front ++ more) a × AllByRecursion Allowed (front ++ more)
+
+  -- The first i tokens begin something, the first i + 1 don't.
+  pub record AtFault {A : Type 0} (R : List Lexeme → A → Type 0) (ts : List Lexeme) (i : ℕ) : Type 0 where
+    pub inside : i < length ts
+    pub begins : Begins R (take i ts)
+    pub ends : Begins R (take (suc i) ts) → ⊥
+
+  -- A value may stand after these tokens: each of the Name null, `[` and `{` may.
+  pub record ValueMayStand {A : Type 0} (R : List Lexeme → A → Type 0) (before : List Lexeme) : Type 0 where
+    pub null : Begins R (before ++ token_of Name (codes "null") ∷ [])
+    pub bracket : Begins R (before ++ token_of BracketOpen (codes "[") ∷ [])
+    pub curly : Begins R (before ++ token_of CurlyOpen (codes "{") ∷ [])
+
+  -- The error of t, which is refused after the tokens before it. It is the reading's own where t is a scalar token
+  -- that the reading refuses and a value may stand there.
+  abbrev pub NamedError : {C F A : Type 0} → Scalars C F → (List Lexeme → A → Type 0) → List Lexeme → Lexeme → Fault F → Type 0
+  NamedError S R before t UnexpectedEndOfFile = t.kind ≡ EndOfFile
+  NamedError S R before t (ScalarError e) = IsScalarKind t.kind × (S.read t.kind t.text ≡ Err e) × ValueMayStand R before
+  NamedError S R before t (UnexpectedToken kind text) = (kind ≡ t.kind) × (text ≡ t.text) × (t.kind ≡ EndOfFile → ⊥)
+      × (IsScalarKind t.kind → IsErr (S.read t.kind t.text) → ValueMayStand R before → ⊥)
+
+  -- The list is refused at its token i, which is t, with this error. `Error` says which error t has after the tokens
+  -- before it.
+  pub record RefusedAt {F A : Type 0} (R : List Lexeme → A → Type 0) (Error : List Lexeme → Lexeme → Fault F → Type 0) (ts : List Lexeme) (i : ℕ) (t : Lexeme) (e : Fault F) : Type 0 where
+    pub before : List Lexeme
+    pub after : List Lexeme
+    pub whole : ts ≡ before ++ t ∷ after
+    pub number : length before ≡ i
+    pub fault : AtFault R ts i
+    pub named : Error before t e
+
+-- ---- documents, values and types
+
+-- A document is asked about among lists of tokens that a text spells.
+abbrev pub DocumentRefusedAt : {C F : Type 0} → Scalars C F → List Lexeme → ℕ → Lexeme → Fault F → Type 0
+DocumentRefusedAt S = RefusedAt IsSpelled (IsDocument S) (NamedError IsSpelled S (IsDocument S))
+
+abbrev pub ValueRefusedAt : {C F : Type 0} → Scalars C F → Bool → List Lexeme → ℕ → Lexeme → Fault F → Type 0
+ValueRefusedAt S free = RefusedAt AnyToken (IsValue S free) (NamedError AnyToken S (IsValue S free))
+
+-- The error of a token that no type has there.
+abbrev pub TypeError : {F : Type 0} → Lexeme → Fault F → Type 0
+TypeError t UnexpectedEndOfFile = t.kind ≡ EndOfFile
+TypeError t (UnexpectedToken kind text) = (kind ≡ t.kind) × (text ≡ t.text) × (t.kind ≡ EndOfFile → ⊥)
+TypeError t (ScalarError e) = ⊥
+
+abbrev pub TypeRefusedAt : {F : Type 0} → List Lexeme → ℕ → Lexeme → Fault F → Type 0
+TypeRefusedAt = RefusedAt AnyToken IsType (λ before. TypeError)

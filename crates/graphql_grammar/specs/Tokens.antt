@@ -1,0 +1,51 @@
+-- Tokens, as the grammar sees them.
+use Rattle.std.specs.Prelude.{ℕ, ◌≡◌, ◌⊎◌, List, [], ◌∷◌}
+use Rattle.graphql_lexical.specs.declared.kind.Kind.TheVariants.{EndOfFile}
+use Rattle.graphql_lexical.specs.Place.{Span}
+use Rattle.graphql_lexical.specs.Tokens.{Spells, text_of}
+use Rattle.graphql_lexical.specs.Cutting.{Lexeme}
+
+abbrev pub Text : Type 0
+Text = List ℕ
+
+-- the text of a Name, and where it stands
+pub record Word : Type 0 where
+  pub text : Text
+  pub span : Span
+
+abbrev pub word_of : Lexeme → Word
+word_of t = record { text = t.text; span = t.span }
+
+-- from the start of one token to the end of another
+abbrev pub over : Lexeme → Lexeme → Span
+over first last = record { start = first.span.start; end = last.span.end }
+
+-- the last of one or more tokens
+abbrev pub last_of : Lexeme → List Lexeme → Lexeme
+last_of t [] = t
+last_of t (u ∷ us) = last_of u us
+
+-- where no token stands
+abbrev pub nowhere : Span
+nowhere = record { start = record { index = 0; line = 0; column = 0 }; end = record { index = 0; line = 0; column = 0 } }
+
+-- From the start of the first token to the end of the last. No node of a tree is an empty list of tokens.
+abbrev pub span_of : List Lexeme → Span
+span_of [] = nowhere
+span_of (t ∷ ts) = over t (last_of t ts)
+
+-- equal in kind and text, whatever the span
+pub record Alike (a b : Lexeme) : Type 0 where
+  pub kind : a.kind ≡ b.kind
+  pub text : a.text ≡ b.text
+
+-- as many tokens, each alike with the one in its place
+abbrev pub AllAlike : List Lexeme → List Lexeme → Type 0
+AllAlike [] [] = Unit {0}
+AllAlike [] (b ∷ bs) = ⊥
+AllAlike (a ∷ as') [] = ⊥
+AllAlike (a ∷ as') (b ∷ bs) = Alike a b × AllAlike as' bs
+
+-- Some text spells the token, or it is the end, which has no text.
+abbrev pub IsSpelled : Lexeme → Type 0
+IsSpelled t = ((whole : Text) × Spells whole t.kind × (t.text ≡ text_of t.kind whole)) ⊎ ((t.kind ≡ EndOfFile) × (t.text ≡ []))

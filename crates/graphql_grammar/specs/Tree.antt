@@ -1,0 +1,99 @@
+-- The syntax tree. C is the type of a scalar's content.
+use Rattle.std.specs.Prelude.{ℕ, Bool, List, Option, Result, codes}
+use Rattle.graphql_lexical.specs.declared.kind.Kind.{Kind}
+use Rattle.graphql_lexical.specs.Place.{Span}
+use Rattle.graphql_grammar.specs.Tokens.{Text, Word}
+
+-- What a scalar type states: the content or the error that it reads from a scalar token's kind and text, and
+-- the content of true and false. F is the type of its errors.
+pub record Scalars (C F : Type 0) : Type 0 where
+  pub read : Kind → Text → Result C F
+  pub of_bool : Bool → C
+
+-- Each value ends in its span. The fields of an object are in their order, doubled keys kept.
+mutual
+  pub data Value (C : Type 0) : Type 0 where
+    Null : Span → Value C
+    Scalar : C → Span → Value C
+    Enum : Text → Span → Value C
+    Variable : Text → Span → Value C
+    ListOf : Items C → Span → Value C
+    Object : ObjectFields C → Span → Value C
+
+  pub data Items (C : Type 0) : Type 0 where
+    no_items : Items C
+    item : Value C → Items C → Items C
+
+  -- a key, its span, its value, and the fields after it
+  pub data ObjectFields (C : Type 0) : Type 0 where
+    no_fields : ObjectFields C
+    object_field : Text → Span → Value C → ObjectFields C → ObjectFields C
+
+-- A list type can have a size, which no document writes.
+pub data TypeRef : Type 0 where
+  NamedType : Text → TypeRef
+  ListType : Option ℕ → TypeRef → TypeRef
+  NonNullType : TypeRef → TypeRef
+
+pub record Argument (C : Type 0) : Type 0 where
+  pub name : Word
+  pub value : Value C
+
+pub record Arguments (C : Type 0) : Type 0 where
+  pub items : List (Argument C)
+  pub span : Span
+
+pub record Directive (C : Type 0) : Type 0 where
+  pub name : Word
+  pub arguments : Option (Arguments C)
+  pub span : Span
+
+-- where there is no directive, None
+abbrev pub Directives : Type 0 → Type 0
+Directives C = Option (List (Directive C))
+
+-- The span of the name has the `$` in it.
+pub record VariableDefinition (C : Type 0) : Type 0 where
+  pub name : Word
+  pub of_type : TypeRef
+  pub type_span : Span
+  pub default : Option (Value C)
+  pub directives : Directives C
+
+pub record Variables (C : Type 0) : Type 0 where
+  pub items : List (VariableDefinition C)
+  pub span : Span
+
+mutual
+  pub data Selection (C : Type 0) : Type 0 where
+    -- alias, name, arguments, directives, selection set
+    Field : Option Word → Word → Option (Arguments C) → Directives C → OptionalSelections C → Span → Selection C
+    -- name, directives
+    FragmentSpread : Word → Directives C → Span → Selection C
+    -- type condition, directives, selection set
+    InlineFragment : Option Word → Directives C → Selections C → Span → Selection C
+
+  pub data Selections (C : Type 0) : Type 0 where
+    no_selections : Selections C
+    selection : Selection C → Selections C → Selections C
+
+  -- a selection set that may be absent
+  pub data OptionalSelections (C : Type 0) : Type 0 where
+    absent : OptionalSelections C
+    present : Selections C → OptionalSelections C
+
+pub data OperationType : Type 0 where
+  Query : OperationType
+  Mutation : OperationType
+  Subscription : OperationType
+
+abbrev pub operation_name : OperationType → Text
+operation_name Query = codes "query"
+operation_name Mutation = codes "mutation"
+operation_name Subscription = codes "subscription"
+
+pub data Definition (C : Type 0) : Type 0 where
+  -- type, name, variable definitions, directives, selection set
+  Operation : OperationType → Option Word → Option (Variables C) → Directives C → Selections C → Span → Definition C
+  -- name, type condition, directives, selection set
+  Fragment : Word → Word → Directives C → Selections C → Span → Definition C

@@ -1,0 +1,86 @@
+//! Laws of the document grammar.
+ghost use Rattle.std.specs.Prelude.{◌≡◌, ◌⊎◌, ◌++◌, ℕ, List, [], Bool, take};
+ghost use Rattle.std.specs.List.{AllByRecursion};
+ghost use Rattle.graphql_lexical.specs.Cutting.{Lexeme, Cut};
+ghost use Rattle.graphql_grammar.specs.Tokens.{Alike, AllAlike, IsSpelled};
+ghost use Rattle.graphql_grammar.specs.Tree.{Scalars, Value, TypeRef, Definition};
+ghost use Rattle.graphql_grammar.specs.Grammar.{IsValue, IsType, IsDocument};
+ghost use Rattle.graphql_grammar.specs.Faults.{Fault, EndsOnce, AtFault, DocumentRefusedAt, ValueRefusedAt, TypeRefusedAt};
+ghost use Rattle.graphql_grammar.specs.Unlocated.{SameDocument, SameValue};
+ghost use Rattle.graphql_grammar.specs.Samples.{IsSample, AreSamples};
+ghost use Rattle.graphql_grammar.specs.Reading.{document, value_of, type_at, fully, GivesWhole, GivesFront};
+
+/// No list of tokens is two documents.
+pub fn one_document<C, F>()
+    ensures { (S : Scalars C F) (ts : List Lexeme) (a b : List (Definition C)) → IsDocument S ts a → IsDocument S ts b → a ≡ b }
+{}
+
+/// No list of tokens is two values.
+pub fn one_value<C, F>()
+    ensures { (S : Scalars C F) (free : Bool) (ts : List Lexeme) (a b : Value C) → IsValue S free ts a → IsValue S free ts b → a ≡ b }
+{}
+
+/// No list of tokens is two types.
+pub fn one_type()
+    ensures { (ts : List Lexeme) (a b : TypeRef) → IsType ts a → IsType ts b → a ≡ b }
+{}
+
+/// No value's list of tokens is a proper front of another's.
+pub fn value_front<C, F>()
+    ensures { (S : Scalars C F) (free : Bool) (us vs : List Lexeme) (v w : Value C) → IsValue S free us v → IsValue S free (us ++ vs) w → vs ≡ [] }
+{}
+
+/// Tokens that a text spells, with one end, the last, are a document or are refused at one place, and never both.
+pub fn document_or_fault<C, F>()
+    ensures either { (S : Scalars C F) (ts : List Lexeme) → AllByRecursion IsSpelled ts → EndsOnce ts → ((ds : List (Definition C)) × IsDocument S ts ds) ⊎ ((i : ℕ) × (t : Lexeme) × (e : Fault F) × DocumentRefusedAt S ts i t e) }
+    ensures one { (S : Scalars C F) (ts : List Lexeme) (i j : ℕ) → AtFault IsSpelled (IsDocument S) ts i → AtFault IsSpelled (IsDocument S) ts j → i ≡ j }
+    ensures never_both { (S : Scalars C F) (ts : List Lexeme) (ds : List (Definition C)) (i : ℕ) → AllByRecursion IsSpelled ts → IsDocument S ts ds → AtFault IsSpelled (IsDocument S) ts i → ⊥ }
+{}
+
+/// A refused list of tokens has one number, one token and one error.
+pub fn one_refusal<C, F>()
+    ensures { (S : Scalars C F) (ts : List Lexeme) (i j : ℕ) (t u : Lexeme) (e d : Fault F) → DocumentRefusedAt S ts i t e → DocumentRefusedAt S ts j u d → (i ≡ j) × (t ≡ u) × (e ≡ d) }
+{}
+
+/// The tokens before the refused one are completed to a document by sample tokens alone.
+pub fn fault_completed<C, F>()
+    ensures { (S : Scalars C F) (ts : List Lexeme) (i : ℕ) → AllByRecursion IsSpelled ts → EndsOnce ts → AtFault IsSpelled (IsDocument S) ts i → (more : List Lexeme) × (ds : List (Definition C)) × AreSamples more × IsDocument S (take i ts ++ more) ds }
+{}
+
+/// Lists that are alike both are documents, whose trees differ in spans alone, or are both refused at the same number
+/// with the same error.
+pub fn alike_documents<C, F>()
+    ensures accepted { (S : Scalars C F) (ts us : List Lexeme) (a : List (Definition C)) → AllAlike ts us → IsDocument S ts a → (b : List (Definition C)) × IsDocument S us b × SameDocument a b }
+    ensures refused { (S : Scalars C F) (ts us : List Lexeme) (i : ℕ) (t : Lexeme) (e : Fault F) → AllAlike ts us → DocumentRefusedAt S ts i t e → (u : Lexeme) × Alike t u × DocumentRefusedAt S us i u e }
+{}
+
+/// Lists that are alike both are values, which differ in spans alone, or are both none.
+pub fn alike_values<C, F>()
+    ensures { (S : Scalars C F) (free : Bool) (ts us : List Lexeme) (a : Value C) → AllAlike ts us → IsValue S free ts a → (b : Value C) × IsValue S free us b × SameValue a b }
+{}
+
+/// The tokens that a source is cut into are spelled, and the last one and no other is the end.
+pub fn cut_is_spelled()
+    ensures spelled { (source : List ℕ) (ts : List Lexeme) → Cut source ts → AllByRecursion IsSpelled ts }
+    ensures ended { (source : List ℕ) (ts : List Lexeme) → Cut source ts → EndsOnce ts }
+{}
+
+/// Each sample token is spelled by some text.
+pub fn samples_are_spelled()
+    ensures { (t : Lexeme) → IsSample t → IsSpelled t }
+{}
+
+/// The reading of a document gives the one tree, or refuses where the definitions do.
+pub fn document_is_read<C, F>()
+    ensures { (S : Scalars C F) (ts : List Lexeme) → AllByRecursion IsSpelled ts → EndsOnce ts → GivesWhole (IsDocument S) (DocumentRefusedAt S ts) ts (fully (document S) ts) }
+{}
+
+/// The reading of a value gives the one front that is a value, or refuses where the definitions do.
+pub fn value_is_read<C, F>()
+    ensures { (S : Scalars C F) (free : Bool) (ts : List Lexeme) → EndsOnce ts → GivesFront (IsValue S free) (ValueRefusedAt S free ts) ts (value_of S free ts) }
+{}
+
+/// The reading of a type gives the longest front that is a type, or refuses where the definitions do.
+pub fn type_is_read<F>()
+    ensures { (ts : List Lexeme) → EndsOnce ts → GivesFront IsType (TypeRefusedAt ts) ts (fully (type_at {F = F}) ts) }
+{}

@@ -1,0 +1,56 @@
+-- The table of classes.
+use Rattle.std.proofs.Common.{◌≡◌, ℕ, zero, suc, ◌+◌, ◌<◌, Bool, true, false, ◌==◌, refl, sym, ap, ◌∙◌, arith}
+use Rattle.std.specs.Prelude.{slice_index_or}
+use Rattle.graphql_lexical.specs.Characters.{is_name_character, is_digit, is_plain}
+use Rattle.graphql_lexical.specs.Scan.{Start, step, gap_step}
+use Rattle.juniper_tokens.specs.ByteRuns.{is_inner, byte_step}
+use Rattle.juniper_tokens.specs.ByteClasses.{tabulate, class_of, name_class, digit_class, inner_class, line_feed_class, first_state, plain_class, comment_after}
+
+first_place : (b : ℕ) → b ≡ b + 0
+first_place b = omega arith
+
+next_place : (b i : ℕ) → suc b + i ≡ b + suc i
+next_place b i = omega arith
+
+none_below : (i : ℕ) → i < 0 → ⊥
+none_below i l = omega arith
+
+below_pred : (i n : ℕ) → suc i < suc n → i < n
+below_pred i n l = omega arith
+
+pub tabulate_at : {X : Type 0} (f : ℕ → X) (b n i : ℕ) (d : X) → i < n → slice_index_or (tabulate f b n) i d ≡ f (b + i)
+tabulate_at f b zero i d l = absurd (none_below i l)
+tabulate_at f b (suc n) zero d l = ap f (first_place b)
+tabulate_at f b (suc n) (suc i) d l = tabulate_at f (suc b) n i d (below_pred i n l) ∙ ap f (next_place b i)
+
+pub in_table : {X : Type 0} (f : ℕ → X) (b : ℕ) (d : X) → b < 256 → slice_index_or (tabulate f 0 256) b d ≡ f b
+in_table f b d l = tabulate_at f 0 256 b d l ∙ ap f (same b)
+  where
+    same : (i : ℕ) → 0 + i ≡ i
+    same i = omega arith
+
+-- two functions that agree on all bytes, by computing
+agree_at : {X : Type 0} (f g : ℕ → X) → tabulate f 0 256 ≡ tabulate g 0 256 → (b : ℕ) → b < 256 → f b ≡ g b
+agree_at f g e b l = sym (in_table f b (f b) l) ∙ (ap (λ xs. slice_index_or xs b (f b)) e ∙ in_table g b (f b) l)
+
+pub name_class_tests : (b : ℕ) → b < 256 → name_class (class_of b) ≡ is_name_character b
+name_class_tests b l = agree_at (λ k. name_class (class_of k)) is_name_character refl b l
+
+pub digit_class_tests : (b : ℕ) → b < 256 → digit_class (class_of b) ≡ is_digit b
+digit_class_tests b l = agree_at (λ k. digit_class (class_of k)) is_digit refl b l
+
+pub inner_class_tests : (b : ℕ) → b < 256 → inner_class (class_of b) ≡ is_inner b
+inner_class_tests b l = agree_at (λ k. inner_class (class_of k)) is_inner refl b l
+
+pub first_state_tests : (b : ℕ) → b < 256 → first_state (class_of b) b ≡ step Start b
+first_state_tests b l = agree_at (λ k. first_state (class_of k) k) (step Start) refl b l
+
+pub plain_class_tests : (b : ℕ) → b < 256 → plain_class (class_of b) b ≡ is_plain b
+plain_class_tests b l = agree_at (λ k. plain_class (class_of k) k) is_plain refl b l
+
+pub comment_after_tests : (m : Bool) (b : ℕ) → b < 256 → comment_after m (class_of b) b ≡ byte_step gap_step m b
+comment_after_tests true b l = agree_at (λ k. comment_after true (class_of k) k) (byte_step gap_step true) refl b l
+comment_after_tests false b l = agree_at (λ k. comment_after false (class_of k) k) (byte_step gap_step false) refl b l
+
+pub line_feed_class_tests : (b : ℕ) → b < 256 → line_feed_class (class_of b) ≡ (b == 10)
+line_feed_class_tests b l = agree_at (λ k. line_feed_class (class_of k)) (λ k. k == 10) refl b l

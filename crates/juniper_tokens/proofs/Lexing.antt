@@ -1,0 +1,38 @@
+-- Each item brings the end nearer.
+use Rattle.std.proofs.Common.{◌≡◌, ◌+◌, ◌-◌, ◌<◌, true, false, cond, inl, inr, drop, length, ap, ◌∙◌, sym, arith, length-drop}
+use Rattle.std.specs.Prelude.{Some, Result, Ok, Err}
+use Rattle.std.proofs.lemmas.Bool.{cases_Bool}
+use Rattle.graphql_lexical.specs.Cutting.{Lexeme, Stands}
+use Rattle.graphql_lexical.specs.declared.kind.Kind.TheVariants.{EndOfFile}
+use Rattle.graphql_lexical.proofs.Cuts.{reads_size}
+use Rattle.juniper_tokens.specs.declared.span.Spanning.{Spanning}
+use Rattle.juniper_tokens.specs.declared.token.Token.{Token}
+use Rattle.juniper_tokens.specs.declared.error.LexFailure.{LexFailure}
+use Rattle.juniper_tokens.specs.declared.error.LexFailure.TheVariants as failure
+use Rattle.juniper_tokens.specs.Tokens.{view_token}
+use Rattle.juniper_tokens.specs.Lexing.{LexerState, Gives, lexer_steps, items_left}
+
+left_open : (s : LexerState) → s.ended ≡ false → items_left s ≡ (length s.source - s.index) + 1
+left_open s e = ap (λ b. cond b 0 ((length s.source - s.index) + 1)) e
+
+left_ended : (s : LexerState) → s.ended ≡ true → items_left s ≡ 0
+left_ended s e = ap (λ b. cond b 0 ((length s.source - s.index) + 1)) e
+
+stands_nearer : (s t : LexerState) (x : Lexeme) → Stands s.source s.index x t.index → (x.kind ≡ EndOfFile → ⊥) → length s.source - t.index < length s.source - s.index
+stands_nearer s t x h n =
+    let rest = drop (s.index + h.gap) s.source in
+    let size = reads_size rest h.size x.kind x.text h.reads n in
+    omega (arith, size.0, size.1, length-drop (s.index + h.gap) s.source, h.next_is)
+
+gives_ended : (s : LexerState) (failure : LexFailure) (t : LexerState) → Gives s (Err failure) t → t.ended ≡ true
+gives_ended s (failure.Fault fault) t h = h.ends
+gives_ended s failure.Memory t h = h.ends
+
+pub items_fewer : (s : LexerState) (item : Result (Spanning Token) LexFailure) (t : LexerState) → lexer_steps s (Some item) t → items_left t < items_left s
+items_fewer s (Ok token) t h = elim (cases_Bool t.ended) [
+  | inl y ↦ omega (arith, left_open s h.0, left_ended t y)
+  | inr n ↦
+      let near = stands_nearer s t (view_token token) h.2.stands (λ e. let z : true ≡ false = sym (h.2.ends.1 e) ∙ n in cc) in
+      omega (arith, left_open s h.0, left_open t n, ap length h.1, near)
+]
+items_fewer s (Err f) t h = omega (arith, left_open s h.0, left_ended t (gives_ended s f t h.2))

@@ -1,0 +1,131 @@
+-- From the computed scan to the definitions, and from place to place of a source.
+use Rattle.std.proofs.Common.{◌≡◌, ℕ, ◌+◌, ◌≤◌, ◌<◌, ◌^◌, true, false, List, length, take, drop, refl, sym, ap, ap₂, subst, ◌∙◌, arith, rules, length-append, take-add, length-drop}
+use Rattle.std.specs.Prelude.{Result, Ok, Err, ◌↔◌}
+use Rattle.std.specs.List.{fold}
+use Rattle.std.specs.Str.{chars, IsUtf8}
+use Rattle.std.proofs.lemmas.List.{length-take-le}
+use Rattle.std.proofs.lemmas.Str.{encodes-append, encodes-chars, length-le-encodes}
+use lib.Utf8.{encodes}
+use denote.Enum.Bare.{same_true}
+use Rattle.graphql_lexical.specs.contracts.kind.Kind.{the_type}
+use Rattle.graphql_lexical.specs.declared.kind.Kind.{Kind}
+use Rattle.graphql_lexical.specs.declared.kind.Kind.TheVariants.{EndOfFile}
+use Rattle.graphql_lexical.specs.Kinds.{same_kind, LexicalError, UnknownEscapeSequence}
+use Rattle.graphql_lexical.specs.Kinds as errors
+use Rattle.graphql_lexical.specs.Place.{Place, place}
+use Rattle.graphql_lexical.specs.Cutting.{Stands}
+use Rattle.graphql_lexical.specs.Scan.{Found, Missed, scan, gap_size, gap_step, reach, step, Start}
+use Rattle.graphql_lexical.proofs.Answers.{finds_what_reads, misses_what_fails}
+use Rattle.graphql_lexical.proofs.Gaps.{gap_longest}
+use Rattle.graphql_lexical.proofs.Runs.{reach_is}
+use Rattle.juniper_tokens.specs.declared.span.Spanning.{Spanning}
+use Rattle.juniper_tokens.specs.declared.token.Token.{Token}
+use Rattle.juniper_tokens.specs.declared.error.LexFailure.{LexFailure}
+use Rattle.juniper_tokens.specs.declared.error.LexFailure.TheVariants as failure
+use Rattle.juniper_tokens.specs.Positions.{past_character, columns_on}
+use Rattle.juniper_tokens.specs.Tokens.{token_kind, view_token}
+use Rattle.juniper_tokens.specs.Errors.{view_lexer_error}
+use Rattle.juniper_tokens.specs.ByteRuns.{byte_at}
+use Rattle.juniper_tokens.specs.Walks.{EndsGap}
+use Rattle.juniper_tokens.specs.Scans.{IsEscape}
+use Rattle.juniper_tokens.specs.Scans as scans
+use Rattle.juniper_tokens.specs.Lexing.{LexerState, BreaksAt, WantsMemory, Gives}
+use Rattle.juniper_tokens.specs.LexingByScan.{IsPlaced, past_gap, Scanned, Ends}
+use Rattle.juniper_tokens.proofs.Borders.{byte_at_within}
+use Rattle.juniper_tokens.proofs.Places.{place_on, token_end}
+
+byte_at_on : (j g : ℕ) (cs : List ℕ) → byte_at j cs + byte_at g (drop j cs) ≡ byte_at (j + g) cs
+byte_at_on j g cs = sym (ap (λ t. length (encodes t)) (take-add j g cs) ∙ (ap length (encodes-append (take j cs) (take g (drop j cs))) ∙ length-append (encodes (take j cs)) (encodes (take g (drop j cs)))))
+
+place_index : (cs : List ℕ) (k : ℕ) → k ≤ length cs → (place cs k).index ≡ k
+place_index cs k l = length-take-le k cs l
+
+-- from one place to the next
+pub placed_on : (source : List ℕ) (at g n : ℕ) (p q : Place) → IsPlaced source at p → g ≤ length (drop p.index (chars source)) → n ≡ byte_at g (drop p.index (chars source)) → q ≡ place (chars source) (p.index + g) → (q.index ≡ p.index + g) × IsPlaced source (at + n) q
+placed_on source at g n p q h l e s =
+    let within : p.index + g ≤ length (chars source) = omega (arith, l, h.within, length-drop p.index (chars source)) in
+    let index : q.index ≡ p.index + g = ap (λ (x : Place). x.index) s ∙ place_index (chars source) (p.index + g) within in (
+      index,
+      record {
+        byte_is = ap₂ (λ a b. a + b) h.byte_is e ∙ (byte_at_on p.index g (chars source) ∙ ap (λ k. byte_at k (chars source)) (sym index));
+        place_is = s ∙ ap (place (chars source)) (sym index);
+        within = subst (λ k. k ≤ length (chars source)) (sym index) within;
+        room = h.room;
+      },
+    )
+
+pub chars_room : (at n : ℕ) (p : Place) (source rest : List ℕ) → IsPlaced source at p → at + length rest ≡ length source → IsUtf8 rest → chars rest ≡ drop p.index (chars source) → p.index + length rest < 2 ^ 64
+chars_room at n p source rest h e u c = omega (arith, e, h.room, h.byte_is, length-le-encodes (take p.index (chars source)), length-take-le p.index (chars source) h.within)
+
+pub gap_placed : (source rest : List ℕ) (at n : ℕ) (p q : Place) → IsPlaced source at p → chars rest ≡ drop p.index (chars source) → EndsGap (chars rest) p n q → (q.index ≡ p.index + gap_size (drop p.index (chars source))) × IsPlaced source (at + n) q
+gap_placed source rest at n p q h c e =
+    let d = drop p.index (chars source) in
+    placed_on source at (gap_size d) n p q h (reach_is gap_step false d).within
+    (e.bytes_is ∙ ap (λ t. byte_at (gap_size t) t) c)
+    (e.position_is ∙ (ap₂ (λ s t. fold past_character s (take (gap_size t) t)) h.place_is c ∙ place_on (chars source) p.index (gap_size d)))
+
+pub token_placed : (source rest : List ℕ) (at n k : ℕ) (p : Place) → IsPlaced source at p → chars rest ≡ drop p.index (chars source) → n ≡ byte_at k (chars rest) → k ≤ (reach step Start (chars rest)).0 → ((columns_on k p).index ≡ p.index + k) × IsPlaced source (at + n) (columns_on k p)
+token_placed source rest at n k p h c e l =
+    let d = drop p.index (chars source) in
+    let m : k ≤ (reach step Start d).0 = subst (λ t. k ≤ (reach step Start t).0) c l in
+    placed_on source at k n p (columns_on k p) h (omega (arith, m, (reach_is step Start d).within)) (e ∙ ap (byte_at k) c)
+    (ap (columns_on k) h.place_is ∙ token_end (chars source) p.index k m)
+
+pub sum_room : (source rest : List ℕ) (at n k : ℕ) → at + length rest ≡ length source → length source < 2 ^ 64 → IsUtf8 rest → n ≡ byte_at k (chars rest) → at + n < 2 ^ 64
+sum_room source rest at n k e r u b = omega (arith, e, r, byte_at_within k n rest u b)
+
+pub chars_small : (k : ℕ) (rest : List ℕ) → IsUtf8 rest → k ≤ (reach step Start (chars rest)).0 → k ≤ length rest
+chars_small k rest u l = omega (arith, l, (reach_is step Start (chars rest)).within, length-le-encodes (chars rest), ap length (encodes-chars rest u))
+
+pub fault_placed : (source rest : List ℕ) (at k : ℕ) (p : Place) → IsPlaced source at p → chars rest ≡ drop p.index (chars source) → fold past_character p (take k (chars rest)) ≡ place (chars source) (p.index + k)
+fault_placed source rest at k p h c = ap₂ (λ s t. fold past_character s (take k t)) h.place_is c ∙ place_on (chars source) p.index k
+
+-- ---- in the words of the definitions
+
+pub same_end : (kind : Kind) → (same_kind kind EndOfFile ≡ true) ↔ (kind ≡ EndOfFile)
+same_end kind = (λ e. same_true the_type (search rules) kind EndOfFile e, λ e. ap (λ k. same_kind k EndOfFile) e)
+
+stands_by_scan : (s : LexerState) (token : Spanning Token) (index : ℕ) → Scanned (Ok token) index s.source (past_gap s).index (scan (drop (past_gap s).index s.source)) → Stands s.source s.index (view_token token) index
+stands_by_scan s token index h = record {
+  gap = gap_size (drop s.index s.source);
+  size = h.0;
+  gap_is = gap_longest (drop s.index s.source);
+  reads = (finds_what_reads (drop (past_gap s).index s.source) _).0 h.1;
+  start = h.3;
+  end = h.4 ∙ ap (place s.source) (sym h.2);
+  next_is = h.2;
+}
+
+breaks_by_scan : (s : LexerState) (m : Missed) → scan (drop (past_gap s).index s.source) ≡ Err m → BreaksAt s.source s.index m.error (place s.source ((past_gap s).index + m.at))
+breaks_by_scan s m e = record {
+  gap = gap_size (drop s.index s.source);
+  size = m.at;
+  gap_is = gap_longest (drop s.index s.source);
+  fails = (misses_what_fails (drop (past_gap s).index s.source) m).0 e;
+  at_is = refl;
+}
+
+pub gives_by_scan : (s : LexerState) (item : Result (Spanning Token) LexFailure) (t : LexerState) → Ends item t.ended → Scanned item t.index s.source (past_gap s).index (scan (drop (past_gap s).index s.source)) → Gives s item t
+gives_by_scan s (Ok token) t e h =
+    let k = token_kind token.item in
+    record { stands = stands_by_scan s token t.index h; ends = (λ x. (same_end k).0 (sym e ∙ x), λ x. e ∙ (same_end k).1 x) }
+gives_by_scan s (Err (failure.Fault fault)) t e h =
+    record {
+      breaks = subst (BreaksAt s.source s.index (view_lexer_error fault.item)) (sym h.2) (breaks_by_scan s (record { at = h.0; error = view_lexer_error fault.item }) h.1);
+      zero_width = h.3;
+      ends = e;
+    }
+gives_by_scan s (Err failure.Memory) t e h = by_scan (scan (drop (past_gap s).index s.source)) refl h
+  where
+    by_error : (m : Missed) (error : LexicalError) → m.error ≡ error → IsEscape error → scan (drop (past_gap s).index s.source) ≡ Err m → WantsMemory s t
+    by_error m (UnknownEscapeSequence text) i w x = record { text = text; at = place s.source ((past_gap s).index + m.at); breaks = subst (λ (q : LexicalError). BreaksAt s.source s.index q (place s.source ((past_gap s).index + m.at))) i (breaks_by_scan s m x); ends = e }
+    by_error m (errors.UnknownCharacter c) i w x = absurd w
+    by_error m (errors.UnexpectedCharacter c) i w x = absurd w
+    by_error m errors.UnterminatedString i w x = absurd w
+    by_error m (errors.UnknownCharacterInString c) i w x = absurd w
+    by_error m errors.UnexpectedEndOfFile i w x = absurd w
+    by_error m errors.InvalidNumber i w x = absurd w
+
+    by_scan : (r : Result Found Missed) → scan (drop (past_gap s).index s.source) ≡ r → scans.WantsMemory r → WantsMemory s t
+    by_scan (Ok f) x w = absurd w
+    by_scan (Err m) x w = by_error m m.error refl w x

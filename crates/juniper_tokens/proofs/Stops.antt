@@ -1,0 +1,192 @@
+-- Some characters back from a place.
+use Rattle.std.proofs.Common.{◌≡◌, ℕ, ◌+◌, ◌-◌, ◌≤◌, ◌<◌, true, List, [], ◌∷◌, ◌++◌, length, take, drop, IsTrue, refl, sym, ap, ap₂, subst, ◌∙◌, arith, length-append, take-append-drop, append_assoc}
+use Rattle.std.proofs.Math.Seq.{take-append_seam}
+use Rattle.std.proofs.lemmas.List.{length-take-le}
+use Rattle.std.proofs.lemmas.Str.{encodes-append, encode_ascii, length-le-encodes}
+use lib.Utf8.{encode, encodes}
+use Rattle.std.specs.Prelude.{Result, Ok}
+use Rattle.graphql_lexical.specs.Characters.{is_hex}
+use Rattle.graphql_lexical.specs.declared.kind.Kind.{Kind}
+use Rattle.graphql_lexical.specs.declared.kind.Kind.TheVariants.{String}
+use Rattle.graphql_lexical.specs.Tokens.{text_of, IsString, Spells}
+use Rattle.graphql_lexical.specs.Scan.{State, Start, Done, Hex0, Hex1, HexD, Hex2, Hex3, step, reach, answer, scan, Found, Missed, is_hex_d}
+use Rattle.graphql_lexical.proofs.Runs.{reach_is}
+use Rattle.graphql_lexical.proofs.History.{IsRead, read_run, IsOpen}
+use Rattle.juniper_tokens.specs.ByteRuns.{byte_at}
+use Rattle.juniper_tokens.specs.declared.lexer.text.Border.{Border}
+use Rattle.juniper_tokens.specs.declared.lexer.machine.Punctuator.{Punctuator}
+use Rattle.juniper_tokens.specs.declared.lexer.machine.Punctuator.TheVariants as mark
+use Rattle.juniper_tokens.specs.Machine.{view_punctuator, punctuator_text}
+use Rattle.juniper_tokens.specs.Borders.{FollowsDigits}
+use Rattle.juniper_tokens.specs.Scans.{EndsString}
+use Rattle.juniper_tokens.specs.Walks.{HasReached}
+
+-- the front of a text ends in this tail of ASCII characters
+pub record HasTail (text : List ℕ) (k : ℕ) : Type 0 where
+  pub front : List ℕ
+  pub tail : List ℕ
+  pub is : text ≡ front ++ tail
+  pub plain : encodes tail ≡ tail
+  pub count : length tail ≡ k
+  pub some : 1 ≤ length front
+
+pub record IsBack (cs : List ℕ) (n k : ℕ) : Type 0 where
+  pub within : k + 1 ≤ n
+  pub bytes : byte_at (n - k) cs + k ≡ byte_at n cs
+
+pub back : (n k : ℕ) (cs : List ℕ) → n ≤ length cs → HasTail (take n cs) k → IsBack cs n k
+back n k cs l h =
+    let f : ℕ = length h.front in
+    let sum : n ≡ f + k = sym (length-take-le n cs l) ∙ (ap length h.is ∙ (length-append h.front h.tail ∙ ap (λ j. f + j) h.count)) in
+    let before : n - k ≡ f = omega (arith, sum) in
+    let whole : cs ≡ h.front ++ (h.tail ++ drop n cs) = sym (take-append-drop n cs) ∙ (ap (λ t. t ++ drop n cs) h.is ∙ append_assoc h.front h.tail (drop n cs)) in
+    let front_is : take (n - k) cs ≡ h.front = ap (λ j. take j cs) before ∙ (ap (take f) whole ∙ take-append_seam h.front (h.tail ++ drop n cs)) in
+    let all : byte_at n cs ≡ length (encodes h.front) + k = ap (λ t. length (encodes t)) h.is ∙ (ap length (encodes-append h.front h.tail) ∙ (length-append (encodes h.front) (encodes h.tail) ∙ (ap (λ t. length (encodes h.front) + length t) h.plain ∙ ap (λ j. length (encodes h.front) + j) h.count))) in
+    record { within = omega (arith, sum, h.some); bytes = ap (λ t. length (encodes t) + k) front_is ∙ sym all }
+
+-- ---- strings
+
+pub string_back : (cs : List ℕ) (bytes chars : ℕ) → EndsString cs bytes chars → IsBack cs chars 1
+string_back cs bytes chars e = back chars 1 cs e.within (record { front = 34 ∷ e.units; tail = 34 ∷ []; is = e.whole; plain = ap (λ x. x ++ []) (encode_ascii 34 (omega arith)); count = refl; some = omega arith })
+
+-- ---- digits after `\u`
+
+abbrev pub digits_read : State → ℕ
+digits_read Hex1 = 1
+digits_read HexD = 1
+digits_read Hex2 = 2
+digits_read Hex3 = 3
+digits_read _ = 0
+
+abbrev pub IsHexState : State → Type 0
+IsHexState Hex0 = Unit {0}
+IsHexState Hex1 = Unit {0}
+IsHexState HexD = Unit {0}
+IsHexState Hex2 = Unit {0}
+IsHexState Hex3 = Unit {0}
+IsHexState _ = ⊥
+
+hex_low : (c : ℕ) → IsTrue (is_hex c) → encode c ≡ c ∷ []
+hex_low c h = encode_ascii c (low c h)
+  where
+    low : (c : ℕ) → is_hex c ≡ true → c < 128
+    low c h = grind arith
+
+open_tail : (tail t : List ℕ) → encodes tail ≡ tail → IsOpen (92 ∷ 117 ∷ tail) t → HasTail t (length tail)
+open_tail tail t p o = record {
+  front = 34 ∷ o.units ++ 92 ∷ 117 ∷ [];
+  tail = tail;
+  is = o.text_is ∙ sym (append_assoc (34 ∷ o.units) (92 ∷ 117 ∷ []) tail);
+  plain = p;
+  count = refl;
+  some = omega arith;
+}
+
+two_low : (h i : ℕ) → IsTrue (is_hex h) → IsTrue (is_hex i) → encodes (h ∷ i ∷ []) ≡ h ∷ i ∷ []
+two_low h i x y = rw (hex_low h x, hex_low i y) refl
+
+three_low : (h i j : ℕ) → IsTrue (is_hex h) → IsTrue (is_hex i) → IsTrue (is_hex j) → encodes (h ∷ i ∷ j ∷ []) ≡ h ∷ i ∷ j ∷ []
+three_low h i j x y z = rw (hex_low h x, hex_low i y, hex_low j z) refl
+
+d_hex : (h : ℕ) → IsTrue (is_hex_d h) → IsTrue (is_hex h)
+d_hex h e = d_then h e
+  where
+    d_then : (h : ℕ) → is_hex_d h ≡ true → is_hex h ≡ true
+    d_then h e = grind arith
+
+hex_tail : (q : State) (t : List ℕ) → IsHexState q → IsRead q t → HasTail t (digits_read q)
+hex_tail Hex0 t h r = open_tail [] t refl r
+hex_tail Hex1 t h r = open_tail (r.0 ∷ []) t (rw (hex_low r.0 r.1) refl) r.3
+hex_tail HexD t h r = open_tail (r.0 ∷ []) t (rw (hex_low r.0 (d_hex r.0 r.1)) refl) r.2
+hex_tail Hex2 t h r = open_tail (r.0 ∷ r.1 ∷ []) t (two_low r.0 r.1 r.2.first r.2.second) r.3
+hex_tail Hex3 t h r = open_tail (r.0 ∷ r.1 ∷ r.2 ∷ []) t (three_low r.0 r.1 r.2 r.3.first r.3.second r.4) r.5
+hex_tail _ t h r = absurd h
+
+-- ---- what has been read
+
+pub read_at : (cs : List ℕ) (q : State) (b n : ℕ) → HasReached cs q b n → (n ≤ length cs) × IsRead q (take n cs)
+read_at cs q b n h =
+    let r = reach_is step Start cs in (
+      subst (λ k. k ≤ length cs) (sym h.characters_is) r.within,
+      subst (λ k. IsRead q (take k cs)) (sym h.characters_is) (subst (λ p. IsRead p (take (reach step Start cs).0 cs)) (sym h.state_is) (read_run Start [] (take (reach step Start cs).0 cs) (reach step Start cs).1 refl r.runs)),
+    )
+
+pub scan_at : (cs : List ℕ) (q : State) (b n : ℕ) → HasReached cs q b n → answer q n cs ≡ scan cs
+scan_at cs q b n h = ap₂ (λ p k. answer p k cs) h.state_is h.characters_is
+
+pub after_hex : (cs : List ℕ) (q p : State) (end : Border) → HasReached cs q end.bytes end.characters → q ≡ p → IsHexState p → FollowsDigits (digits_read p) end cs
+after_hex cs q p end h e x =
+    let r = read_at cs q end.bytes end.characters h in
+    let t = hex_tail p (take end.characters cs) x (subst (λ s. IsRead s (take end.characters cs)) e r.1) in
+    let k = back end.characters (digits_read p) cs r.0 t in
+    let l = length-le-encodes (take end.characters cs) in
+    let m : length (take end.characters cs) ≡ end.characters = length-take-le end.characters cs r.0 in
+    record { more = k.within; room = omega (arith, l, m, h.bytes_is); start = omega (arith, k.bytes, h.bytes_is) }
+
+pub ends_string : (cs : List ℕ) (q : State) (b n : ℕ) → HasReached cs q b n → q ≡ Done String → EndsString cs b n
+ends_string cs q b n h e =
+    let r = read_at cs q b n h in
+    let t : IsString (take n cs) = subst (λ s. IsRead s (take n cs)) e r.1 in
+    record { units = t.0; whole = t.1; within = r.0; border = h.bytes_is }
+
+mark_spelled : (p : Punctuator) (t : List ℕ) → Spells t (view_punctuator p) → t ≡ punctuator_text p
+mark_spelled mark.ExclamationMark t h = h
+mark_spelled mark.Dollar t h = h
+mark_spelled mark.ParenOpen t h = h
+mark_spelled mark.ParenClose t h = h
+mark_spelled mark.BracketOpen t h = h
+mark_spelled mark.BracketClose t h = h
+mark_spelled mark.CurlyOpen t h = h
+mark_spelled mark.CurlyClose t h = h
+mark_spelled mark.Ellipsis t h = h
+mark_spelled mark.Colon t h = h
+mark_spelled mark.Equals t h = h
+mark_spelled mark.At t h = h
+mark_spelled mark.Pipe t h = h
+
+pub mark_text : (cs : List ℕ) (q : State) (p : Punctuator) (b n : ℕ) → HasReached cs q b n → q ≡ Done (view_punctuator p) → text_of (view_punctuator p) (take n cs) ≡ punctuator_text p
+mark_text cs q p b n h e = whole p (take n cs) ∙ mark_spelled p (take n cs) (subst (λ s. IsRead s (take n cs)) e (read_at cs q b n h).1)
+  where
+    whole : (p : Punctuator) (t : List ℕ) → text_of (view_punctuator p) t ≡ t
+    whole mark.ExclamationMark t = refl
+    whole mark.Dollar t = refl
+    whole mark.ParenOpen t = refl
+    whole mark.ParenClose t = refl
+    whole mark.BracketOpen t = refl
+    whole mark.BracketClose t = refl
+    whole mark.CurlyOpen t = refl
+    whole mark.CurlyClose t = refl
+    whole mark.Ellipsis t = refl
+    whole mark.Colon t = refl
+    whole mark.Equals t = refl
+    whole mark.At t = refl
+    whole mark.Pipe t = refl
+
+-- ---- a string's text
+
+-- the fact in a form of lists alone
+unquoted_list : (units : List ℕ) → take (length (34 ∷ units ++ 34 ∷ []) - 2) (drop 1 (34 ∷ units ++ 34 ∷ [])) ≡ units
+unquoted_list units =
+    let count : length (34 ∷ units ++ 34 ∷ []) - 2 ≡ length units = omega (arith, length-append units (34 ∷ [])) in
+    ap (λ k. take k (units ++ 34 ∷ [])) count ∙ take-append_seam units (34 ∷ [])
+
+before_last : (n : ℕ) (cs units : List ℕ) → n ≤ length cs → take n cs ≡ 34 ∷ units ++ 34 ∷ [] → take (n - 1) cs ≡ 34 ∷ units
+before_last n cs units l h =
+    let count : n ≡ 1 + (length units + 1) = omega (arith, length-take-le n cs l, ap length h, length-append units (34 ∷ [])) in
+    let whole : cs ≡ (34 ∷ units) ++ (34 ∷ [] ++ drop n cs) = sym (take-append-drop n cs) ∙ (ap (λ t. t ++ drop n cs) h ∙ append_assoc (34 ∷ units) (34 ∷ []) (drop n cs)) in
+    let front_len : n - 1 ≡ length (34 ∷ units) = omega (arith, count) in
+    ap (λ k. take k cs) front_len ∙ (ap (take (length (34 ∷ units))) whole ∙ take-append_seam (34 ∷ units) (34 ∷ [] ++ drop n cs))
+
+pub unquoted_text : (cs : List ℕ) (b n : ℕ) (t : List ℕ) → EndsString cs b n → t ≡ drop 1 (take (n - 1) cs) → t ≡ text_of String (take n cs)
+unquoted_text cs b n t e h =
+    h ∙ (ap (drop 1) (before_last n cs e.units e.within e.whole) ∙ (sym (unquoted_list e.units) ∙ ap (λ (x : List ℕ). take (length x - 2) (drop 1 x)) (sym e.whole)))
+
+pub first_quote : (cs : List ℕ) (b n : ℕ) (t : List ℕ) → EndsString cs b n → t ≡ take (n - 1) cs → 1 ≡ byte_at 1 t
+first_quote cs b n t e h = sym (ap (byte_at 1) (h ∙ before_last n cs e.units e.within e.whole) ∙ ap (λ (x : List ℕ). length (x ++ [])) (encode_ascii 34 (omega arith)))
+
+pub found_mark : (cs : List ℕ) (q : State) (p : Punctuator) (b n : ℕ) (k : Kind) (t : List ℕ) → HasReached cs q b n → q ≡ Done (view_punctuator p) → k ≡ view_punctuator p → t ≡ punctuator_text p → answer q n cs ≡ Ok (record { size = n; kind = k; text = t })
+found_mark cs q p b n k t h e x y =
+    ap (λ s. answer s n cs) e ∙ (ap (λ w. kept n (view_punctuator p) w) (mark_text cs q p b n h e) ∙ ap₂ (kept n) (sym x) (sym y))
+  where
+    kept : ℕ → Kind → List ℕ → Result Found Missed
+    kept n k t = Ok (record { size = n; kind = k; text = t })

@@ -1,0 +1,36 @@
+-- Machines that go over the bytes of a text as over its characters.
+use Rattle.std.specs.Prelude.{◌≡◌, ℕ, ◌+◌, ◌≤◌, Bool, ◌&&◌, nat_le, nat_lt, if◌then◌else◌, List, length, take, Option, Some, option_map}
+use Rattle.graphql_lexical.specs.Scan.{reach}
+use lib.Utf8.{encodes}
+
+-- the byte goes on with a character past ASCII
+abbrev pub is_inner : ℕ → Bool
+is_inner b = nat_le 128 b && nat_lt b 192
+
+-- The same steps over bytes: those that go on with a character keep the state.
+abbrev pub byte_step : {S : Type 0} → (S → ℕ → Option S) → S → ℕ → Option S
+byte_step step q b = if is_inner b then Some q else step q b
+
+-- the steps are the same at all characters past ASCII
+abbrev pub IsSamePastAscii : {S : Type 0} → (S → ℕ → Option S) → Type 0
+IsSamePastAscii {S} step = (q : S) (c d : ℕ) → 128 ≤ c → 128 ≤ d → step q c ≡ step q d
+
+-- the byte at which character k begins
+abbrev pub byte_at : ℕ → List ℕ → ℕ
+byte_at k cs = length (encodes (take k cs))
+
+-- Over the bytes the steps reach the same state as over the characters, and stop at the same character.
+abbrev pub GoesOverBytes : {S : Type 0} → (S → ℕ → Option S) → Type 0
+GoesOverBytes {S} step = IsSamePastAscii step → (q : S) (cs : List ℕ) → reach (byte_step step) q (encodes cs) ≡ (byte_at (reach step q cs).0 cs, (reach step q cs).1)
+
+-- a state, and a value that each character changes
+abbrev pub with_value : {S X : Type 0} → (S → ℕ → Option S) → (X → ℕ → X) → S × X → ℕ → Option (S × X)
+with_value step f s c = option_map (λ p. (p, f s.1 c)) (step s.0 c)
+
+-- the same change over bytes
+abbrev pub byte_change : {X : Type 0} → (X → ℕ → X) → X → ℕ → X
+byte_change f x b = if is_inner b then x else f x b
+
+-- one more
+abbrev pub count_one : ℕ → ℕ → ℕ
+count_one n c = n + 1

@@ -1,0 +1,63 @@
+-- A lexer, and what its steps give.
+use Rattle.std.specs.Prelude.{◌≡◌, ◌↔◌, ℕ, ◌+◌, ◌-◌, Bool, true, false, List, drop, length, Option, Some, None, Result, Ok, Err, if◌then◌else◌}
+use Rattle.graphql_lexical.specs.Place.{Place, place}
+use Rattle.graphql_lexical.specs.declared.kind.Kind.TheVariants.{EndOfFile}
+use Rattle.graphql_lexical.specs.Kinds.{LexicalError, UnknownEscapeSequence}
+use Rattle.graphql_lexical.specs.Reading.{Longest, Fails}
+use Rattle.graphql_lexical.specs.Cutting.{IsGap, Stands}
+use Rattle.juniper_tokens.specs.declared.span.Spanning.{Spanning}
+use Rattle.juniper_tokens.specs.declared.token.Token.{Token}
+use Rattle.juniper_tokens.specs.declared.error.LexerError.{LexerError}
+use Rattle.juniper_tokens.specs.declared.error.LexFailure.{LexFailure}
+use Rattle.juniper_tokens.specs.declared.error.LexFailure.TheVariants as failure
+use Rattle.juniper_tokens.specs.Tokens.{token_kind, view_token}
+use Rattle.juniper_tokens.specs.Errors.{view_lexer_error}
+
+-- a source, the character where the lexer stands, and whether it has ended
+pub record LexerState : Type 0 where
+  pub source : List ℕ
+  pub index : ℕ
+  pub ended : Bool
+
+abbrev pub started : List ℕ → LexerState
+started source = record { source = source; index = 0; ended = false }
+
+-- From place k on stand a gap and then a rest with this fault at this place.
+pub record BreaksAt (source : List ℕ) (k : ℕ) (error : LexicalError) (at : Place) : Type 0 where
+  pub gap : ℕ
+  pub size : ℕ
+  pub gap_is : Longest IsGap (drop k source) gap
+  pub fails : Fails (drop (k + gap) source) size error
+  pub at_is : at ≡ place source ((k + gap) + size)
+
+-- A token stands where the lexer did, which is then behind it, and has ended where the token is the end.
+pub record GivesToken (s : LexerState) (token : Spanning Token) (t : LexerState) : Type 0 where
+  pub stands : Stands s.source s.index (view_token token) t.index
+  pub ends : (t.ended ≡ true) ↔ (token_kind token.item ≡ EndOfFile)
+
+-- A fault of zero width stands where the lexer did, which has then ended.
+pub record GivesFault (s : LexerState) (fault : Spanning LexerError) (t : LexerState) : Type 0 where
+  pub breaks : BreaksAt s.source s.index (view_lexer_error fault.item) fault.span.start
+  pub zero_width : fault.span.end ≡ fault.span.start
+  pub ends : t.ended ≡ true
+
+-- No memory was left for the text of the escape that is the fault where the lexer stood, which has then ended.
+pub record WantsMemory (s : LexerState) (t : LexerState) : Type 0 where
+  pub text : List ℕ
+  pub at : Place
+  pub breaks : BreaksAt s.source s.index (UnknownEscapeSequence text) at
+  pub ends : t.ended ≡ true
+
+abbrev pub Gives : LexerState → Result (Spanning Token) LexFailure → LexerState → Type 0
+Gives s (Ok token) t = GivesToken s token t
+Gives s (Err (failure.Fault fault)) t = GivesFault s fault t
+Gives s (Err failure.Memory) t = WantsMemory s t
+
+-- From state s a step gives this item and leaves state t. Only a lexer that has ended gives None, and it stays as it is.
+abbrev pub lexer_steps : LexerState → Option (Result (Spanning Token) LexFailure) → LexerState → Type 0
+lexer_steps s None t = (s.ended ≡ true) × (t ≡ s)
+lexer_steps s (Some item) t = (s.ended ≡ false) × (t.source ≡ s.source) × Gives s item t
+
+-- No more items come before None.
+abbrev pub items_left : LexerState → ℕ
+items_left s = if s.ended then 0 else (length s.source - s.index) + 1

@@ -1,0 +1,151 @@
+//! The lexer.
+ghost use Rattle.std.specs.Prelude.{◌≡◌, drop};
+ghost use Rattle.std.specs.Str.{chars};
+ghost use Rattle.graphql_lexical.specs.Scan.{scan};
+ghost use Rattle.juniper_tokens.specs.Lexing.{started, Gives};
+ghost use Rattle.juniper_tokens.specs.LexingByScan.{past_gap, Scanned, Ends};
+
+mod machine;
+mod scan;
+mod text;
+mod walk;
+
+use crate::error::LexFailure;
+use crate::lexer::scan::{Missed, scan_token};
+use crate::lexer::text::{Border, text_from};
+use crate::lexer::walk::{walk_characters, walk_gap};
+use crate::position::SourcePosition;
+use crate::span::Spanning;
+use crate::token::Token;
+use std::alloc::Global;
+use std::marker::Model;
+
+/// A token with its place, or why there is none.
+pub type LexerResult<'a> = Result<Spanning<Token<'a>>, LexFailure>;
+
+/// The tokens of a source, one after another (GraphQL specification, October 2021, section 2.1).
+///
+/// White space, line ends, commas and comments before a token are skipped. Places count characters, not bytes.
+/// The last item is the token `EndOfFile`, or the first fault, or want of memory; after it comes None alone.
+#[derive(Drop)]
+pub struct Lexer<'a> {
+    alloc: Global,
+    source: &'a str,
+    // The byte at which the rest of the source begins.
+    at: usize,
+    // The same place.
+    position: SourcePosition,
+    ended: bool,
+}
+
+impl<'a> Model for Lexer<'a> {
+    ghost use Rattle.std.specs.Str.{chars};
+    ghost use Rattle.juniper_tokens.specs.Lexing.{LexerState};
+    ghost use Rattle.juniper_tokens.specs.LexingByScan.{IsPlaced};
+
+    ghost Value = { LexerState };
+
+    ghost view = { λ l. record { source = chars l.source.now; index = l.position.index; ended = l.ended } };
+
+    ghost invariant = { λ l. IsPlaced l.source.now l.at l.position };
+}
+
+impl<'a> Lexer<'a> {
+    /// A lexer at the beginning of a source. The allocator serves the texts of faults alone.
+    pub fn new(alloc: Global, source: &'a str) -> Self
+        ensures { result ≡ started (chars source.now) }
+    {
+        Lexer {
+            alloc,
+            source,
+            at: 0,
+            position: SourcePosition::new_origin(),
+            ended: false,
+        }
+    }
+
+    pub(crate) fn allocator(&self) -> Global {
+        self.alloc
+    }
+
+    // Goes past white space and comments.
+    fn skip_gap(&mut self)
+        ensures { self.new ≡ past_gap self.old }
+    {
+        let here = Border {
+            bytes: self.at,
+            characters: self.position.index(),
+        };
+        let gap = walk_gap(text_from(self.source, here), self.position);
+        self.at += gap.bytes;
+        self.position = gap.position;
+    }
+
+    // Takes the token that stands here. A fault leaves the place.
+    fn take_token(&mut self) -> LexerResult<'a>
+        ensures source { self.new.source ≡ self.old.source }
+        ensures ended { self.new.ended ≡ self.old.ended }
+        ensures gives { Scanned result self.new.index self.old.source self.old.index (scan (drop self.old.index self.old.source)) }
+    {
+        let start = self.position;
+        let here = Border {
+            bytes: self.at,
+            characters: start.index(),
+        };
+        let rest = text_from(self.source, here);
+        match scan_token(self.alloc, rest) {
+            Ok(found) => {
+                self.at += found.end.bytes;
+                self.position = start.columns_on(found.end.characters);
+                Ok(Spanning::start_end(&start, &self.position, found.token))
+            }
+            Err(Missed::Fault(error, at)) => {
+                let place = walk_characters(rest, start, at);
+                Err(LexFailure::Fault(Spanning::zero_width(&place, error)))
+            }
+            Err(Missed::Memory) => Err(LexFailure::Memory),
+        }
+    }
+
+    // The next item of a lexer that has not ended.
+    fn next_item(&mut self) -> LexerResult<'a>
+        ensures source { self.new.source ≡ self.old.source }
+        ensures gives { Gives self.old result self.new }
+    {
+        self.skip_gap();
+        let item = self.take_token();
+        self.ended = is_last(&item);
+        item
+    }
+}
+
+// Whether no item comes after this one.
+fn is_last(item: &LexerResult<'_>) -> bool
+    ensures { Ends item.now result }
+{
+    match item {
+        Ok(token) => token.item.is_end(),
+        Err(_) => true,
+    }
+}
+
+impl<'a> Iterator for Lexer<'a> {
+    type Item = LexerResult<'a>;
+
+    ghost use Rattle.std.specs.Iterator.{at_most};
+    ghost use Rattle.juniper_tokens.specs.Lexing.{lexer_steps, items_left};
+
+    ghost next_gives = { lexer_steps };
+
+    ghost remaining = { λ s. at_most (items_left s) };
+
+    /// The next token, with its place. A fault is of zero width, at the character where the text goes wrong, or
+    /// at the end. Memory is wanted only for the text of an unknown escape.
+    fn next(&mut self) -> Option<LexerResult<'a>> {
+        if self.ended {
+            None
+        } else {
+            Some(self.next_item())
+        }
+    }
+}

@@ -1,0 +1,273 @@
+//! The steps by which a token is read, a byte at a time.
+ghost use Rattle.std.specs.Prelude.{◌≡◌, ◌==◌, option_map, if◌then◌else◌, Some, None};
+ghost use Rattle.graphql_lexical.specs.declared.kind.Kind.TheVariants.{String};
+ghost use Rattle.graphql_lexical.specs.Characters.{is_hex as hex_test, is_escape as escape_test, is_exponent_mark as exponent_mark_test, is_sign as sign_test};
+ghost use Rattle.graphql_lexical.specs.Scan as scans;
+ghost use Rattle.graphql_lexical.specs.Scan.{punctuator as punctuator_kind, step as character_step};
+ghost use Rattle.juniper_tokens.specs.Tokens.{token_kind, token_text};
+ghost use Rattle.juniper_tokens.specs.ByteClasses.{class_of, first_state};
+ghost use Rattle.juniper_tokens.specs.ByteRuns.{byte_step};
+ghost use Rattle.juniper_tokens.specs.Machine.{view_state, view_punctuator, punctuator_text};
+
+use crate::byte_classes::ByteClass;
+use crate::token::Token;
+
+/// A punctuator.
+#[derive(Clone, Copy)]
+pub(crate) enum Punctuator {
+    ExclamationMark,
+    Dollar,
+    ParenOpen,
+    ParenClose,
+    BracketOpen,
+    BracketClose,
+    CurlyOpen,
+    CurlyClose,
+    Ellipsis,
+    Colon,
+    Equals,
+    At,
+    Pipe,
+}
+
+/// What has been read of a token.
+#[derive(Clone, Copy)]
+pub(crate) enum State {
+    Start,
+    Punctuator(Punctuator),
+    /// A whole string.
+    StringEnd,
+    OneDot,
+    TwoDots,
+    InName,
+    /// The `-` of a number.
+    Minus,
+    /// `0` or `-0`.
+    Zero,
+    /// The digits of another integer part.
+    Digits,
+    /// The point after an integer part.
+    Point,
+    /// The digits after a point.
+    Fraction,
+    /// `e` or `E`.
+    ExponentMark,
+    /// The sign of an exponent.
+    ExponentSign,
+    /// The digits of an exponent.
+    Exponent,
+    /// A quote, and characters and escapes after it.
+    InString,
+    /// The backslash of an escape.
+    Backslash,
+    /// `\u`.
+    NoHexDigit,
+    /// `\u` and a digit that is not `D`.
+    OneHexDigit,
+    /// `\uD`, after which the number may be one from D800 to DFFF.
+    HexDigitD,
+    /// `\u` and two digits, with which no such number begins.
+    TwoHexDigits,
+    ThreeHexDigits,
+}
+
+// The punctuator that this byte is.
+fn punctuator_of(byte: u8) -> Option<Punctuator>
+    ensures { option_map view_punctuator result ≡ punctuator_kind byte }
+{
+    match byte {
+        b'!' => Some(Punctuator::ExclamationMark),
+        b'$' => Some(Punctuator::Dollar),
+        b'(' => Some(Punctuator::ParenOpen),
+        b')' => Some(Punctuator::ParenClose),
+        b'[' => Some(Punctuator::BracketOpen),
+        b']' => Some(Punctuator::BracketClose),
+        b'{' => Some(Punctuator::CurlyOpen),
+        b'}' => Some(Punctuator::CurlyClose),
+        b':' => Some(Punctuator::Colon),
+        b'=' => Some(Punctuator::Equals),
+        b'@' => Some(Punctuator::At),
+        b'|' => Some(Punctuator::Pipe),
+        _ => None,
+    }
+}
+
+impl Punctuator {
+    pub(crate) fn token(self) -> Token<'static>
+        ensures kind { token_kind result ≡ view_punctuator self }
+        ensures text { token_text result ≡ punctuator_text self }
+    {
+        match self {
+            Punctuator::ExclamationMark => Token::ExclamationMark,
+            Punctuator::Dollar => Token::Dollar,
+            Punctuator::ParenOpen => Token::ParenOpen,
+            Punctuator::ParenClose => Token::ParenClose,
+            Punctuator::BracketOpen => Token::BracketOpen,
+            Punctuator::BracketClose => Token::BracketClose,
+            Punctuator::CurlyOpen => Token::CurlyOpen,
+            Punctuator::CurlyClose => Token::CurlyClose,
+            Punctuator::Ellipsis => Token::Ellipsis,
+            Punctuator::Colon => Token::Colon,
+            Punctuator::Equals => Token::Equals,
+            Punctuator::At => Token::At,
+            Punctuator::Pipe => Token::Pipe,
+        }
+    }
+}
+
+fn is_hex(byte: u8) -> bool
+    ensures { result ≡ hex_test byte }
+{
+    byte.is_ascii_hexdigit()
+}
+
+fn is_escape(byte: u8) -> bool
+    ensures { result ≡ escape_test byte }
+{
+    match byte {
+        b'"' | b'\\' | b'/' | b'b' | b'f' | b'n' | b'r' | b't' => true,
+        _ => false,
+    }
+}
+
+fn is_exponent_mark(byte: u8) -> bool
+    ensures { result ≡ exponent_mark_test byte }
+{
+    byte == b'e' || byte == b'E'
+}
+
+fn is_sign(byte: u8) -> bool
+    ensures { result ≡ sign_test byte }
+{
+    byte == b'+' || byte == b'-'
+}
+
+// The first step.
+fn first_step(class: ByteClass, byte: u8) -> Option<State>
+    ensures { option_map view_state result ≡ first_state class byte }
+{
+    match class {
+        ByteClass::NameStart => Some(State::InName),
+        ByteClass::Digit => {
+            if byte == b'0' {
+                Some(State::Zero)
+            } else {
+                Some(State::Digits)
+            }
+        }
+        ByteClass::Minus => Some(State::Minus),
+        ByteClass::Dot => Some(State::OneDot),
+        ByteClass::Quote => Some(State::InString),
+        ByteClass::Punctuator => match punctuator_of(byte) {
+            Some(punctuator) => Some(State::Punctuator(punctuator)),
+            None => None,
+        },
+        _ => None,
+    }
+}
+
+// The step after an integer part, where no digit follows it.
+fn step_after_integer(byte: u8) -> Option<State>
+    ensures { option_map view_state result ≡ character_step scans.Zero byte }
+{
+    if byte == b'.' {
+        Some(State::Point)
+    } else {
+        is_exponent_mark(byte).then_some(State::ExponentMark)
+    }
+}
+
+// The step in a string, at what does not stand there for itself.
+fn step_in_string(byte: u8) -> Option<State>
+    ensures { option_map view_state result ≡ if byte == 34 then Some (scans.Done String) else (if byte == 92 then Some scans.Backslash else None) }
+{
+    if byte == b'"' {
+        Some(State::StringEnd)
+    } else {
+        (byte == b'\\').then_some(State::Backslash)
+    }
+}
+
+// The step at the first byte of a character.
+#[tactic(auto, using(crate::proofs::ByteClasses::first_state_tests, crate::proofs::ByteClasses::name_class_tests, crate::proofs::ByteClasses::digit_class_tests, crate::proofs::ByteClasses::plain_class_tests))]
+fn step_at_character(state: State, class: ByteClass, byte: u8) -> Option<State>
+    requires { class ≡ class_of byte }
+    ensures { option_map view_state result ≡ character_step (view_state state) byte }
+{
+    match state {
+        State::Start => first_step(class, byte),
+        State::Punctuator(_) | State::StringEnd => None,
+        State::OneDot => (byte == b'.').then_some(State::TwoDots),
+        State::TwoDots => (byte == b'.').then_some(State::Punctuator(Punctuator::Ellipsis)),
+        State::InName => class.is_name().then_some(State::InName),
+        State::Minus => {
+            if class.is_digit() {
+                first_step(class, byte)
+            } else {
+                None
+            }
+        }
+        State::Zero => step_after_integer(byte),
+        State::Digits => {
+            if class.is_digit() {
+                Some(State::Digits)
+            } else {
+                step_after_integer(byte)
+            }
+        }
+        State::Point => class.is_digit().then_some(State::Fraction),
+        State::Fraction => {
+            if class.is_digit() {
+                Some(State::Fraction)
+            } else {
+                is_exponent_mark(byte).then_some(State::ExponentMark)
+            }
+        }
+        State::ExponentMark => {
+            if class.is_digit() {
+                Some(State::Exponent)
+            } else {
+                is_sign(byte).then_some(State::ExponentSign)
+            }
+        }
+        State::ExponentSign | State::Exponent => class.is_digit().then_some(State::Exponent),
+        State::InString => {
+            if class.is_plain(byte) {
+                Some(State::InString)
+            } else {
+                step_in_string(byte)
+            }
+        }
+        State::Backslash => {
+            if is_escape(byte) {
+                Some(State::InString)
+            } else {
+                (byte == b'u').then_some(State::NoHexDigit)
+            }
+        }
+        State::NoHexDigit => {
+            if byte == b'D' || byte == b'd' {
+                Some(State::HexDigitD)
+            } else {
+                is_hex(byte).then_some(State::OneHexDigit)
+            }
+        }
+        State::OneHexDigit => is_hex(byte).then_some(State::TwoHexDigits),
+        State::HexDigitD => (byte >= b'0' && byte <= b'7').then_some(State::TwoHexDigits),
+        State::TwoHexDigits => is_hex(byte).then_some(State::ThreeHexDigits),
+        State::ThreeHexDigits => is_hex(byte).then_some(State::InString),
+    }
+}
+
+/// The next step, or None where the token does not go on with this byte.
+#[tactic(auto, using(crate::proofs::ByteClasses::inner_class_tests))]
+pub(crate) fn step(state: State, class: ByteClass, byte: u8) -> Option<State>
+    requires { class ≡ class_of byte }
+    ensures { option_map view_state result ≡ byte_step character_step (view_state state) byte }
+{
+    if class.is_inner() {
+        Some(state)
+    } else {
+        step_at_character(state, class, byte)
+    }
+}

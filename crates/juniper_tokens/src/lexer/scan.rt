@@ -1,0 +1,243 @@
+//! The token at the front of a text, or the fault there, from the state in which the steps stop.
+ghost use Rattle.std.specs.Prelude.{◌≡◌, ◌+◌, ◌-◌, ◌<◌, ◌^◌, ◌++◌, drop, take, length, ◌≤◌, IfOk};
+ghost use Rattle.std.specs.Str.{chars};
+ghost use Rattle.graphql_lexical.specs.declared.kind.Kind.TheVariants.{String as string_kind};
+ghost use Rattle.graphql_lexical.specs.Kinds.{UnknownEscapeSequence};
+ghost use Rattle.graphql_lexical.specs.Tokens.{text_of};
+ghost use Rattle.graphql_lexical.specs.Scan as scans;
+ghost use Rattle.graphql_lexical.specs.Scan.{missed, stopped, after_dots, after_units, after_backslash, after_u, after_zero, answer, scan, reach, step as character_step};
+ghost use Rattle.juniper_tokens.specs.Borders.{IsBorder, FollowsDigits};
+ghost use Rattle.juniper_tokens.specs.Machine.{view_state};
+ghost use Rattle.juniper_tokens.specs.Scans.{Gives, Misses, EndsString};
+ghost use Rattle.juniper_tokens.specs.Walks.{HasReached};
+
+use crate::error::LexerError;
+use crate::lexer::machine::State;
+use crate::lexer::text::{
+    Border, count_alphanumerics, first_character, first_text, joined, text_before, text_from,
+};
+use crate::lexer::walk::{Reached, walk_token};
+use crate::token::{ScalarToken, Token};
+use std::alloc::Global;
+
+/// A token and its end.
+#[derive(Clone, Copy)]
+pub(crate) struct Found<'a> {
+    pub(crate) token: Token<'a>,
+    pub(crate) end: Border,
+}
+
+/// Why there is no token.
+#[derive(Drop)]
+pub(crate) enum Missed {
+    /// The text is none. The number is how many characters stand before the fault.
+    Fault(LexerError, usize),
+    /// Memory ran out.
+    Memory,
+}
+
+// Where what begins a number is none.
+fn number_fault(rest: &str, at: usize) -> Missed
+    ensures { Misses result (stopped at (chars rest.now)) }
+{
+    match first_character(rest) {
+        Some(c) => Missed::Fault(LexerError::UnexpectedCharacter(c), at),
+        None => Missed::Fault(LexerError::UnexpectedEndOfFile, at),
+    }
+}
+
+// After one or two dots.
+fn dots_fault(rest: &str, at: usize) -> Missed
+    ensures { Misses result (after_dots at (chars rest.now)) }
+{
+    match first_character(rest) {
+        Some(_) => Missed::Fault(LexerError::UnexpectedCharacter('.'), 0),
+        None => Missed::Fault(LexerError::UnexpectedEndOfFile, at),
+    }
+}
+
+// Where a string goes on neither with what stands for itself nor with an escape.
+fn string_fault(rest: &str, at: usize) -> Missed
+    ensures { Misses result (after_units at (chars rest.now)) }
+{
+    match first_character(rest) {
+        Some(c) => {
+            if c == '\n' || c == '\r' {
+                Missed::Fault(LexerError::UnterminatedString, at)
+            } else {
+                Missed::Fault(LexerError::UnknownCharacterInString(c), at)
+            }
+        }
+        None => Missed::Fault(LexerError::UnterminatedString, at),
+    }
+}
+
+// The text after the marks, which are a backslash, or a backslash and `u`, makes no escape with them.
+fn escape_fault(alloc: Global, marks: &str, rest: &str, at: usize) -> Missed
+    ensures { Misses result (missed at (UnknownEscapeSequence (chars marks.now ++ chars rest.now))) }
+{
+    match joined(alloc, marks, rest) {
+        Ok(text) => Missed::Fault(LexerError::UnknownEscapeSequence(text), at),
+        Err(_) => Missed::Memory,
+    }
+}
+
+// After a backslash.
+fn backslash_fault(alloc: Global, rest: &str, at: usize) -> Missed
+    ensures { Misses result (after_backslash at (chars rest.now)) }
+{
+    match first_character(rest) {
+        Some(c) => escape_fault(alloc, "\\", first_text(rest, c), at),
+        None => Missed::Fault(LexerError::UnterminatedString, at),
+    }
+}
+
+// After a backslash and the `u` that stands at a place.
+fn unicode_fault(alloc: Global, rest: &str, at: usize) -> Missed
+    requires { at + 1 + length rest.now < 2 ^ 64 }
+    ensures { Misses result (after_u at (chars rest.now)) }
+{
+    let count = count_alphanumerics(rest);
+    let end = Border {
+        bytes: count,
+        characters: count,
+    };
+    match first_character(text_from(rest, end)) {
+        None => {
+            if count < 4 {
+                Missed::Fault(LexerError::UnterminatedString, at + 1 + count)
+            } else {
+                escape_fault(alloc, "\\u", text_before(rest, end), at)
+            }
+        }
+        Some(c) => {
+            if count == 0 {
+                escape_fault(alloc, "\\u", first_text(rest, c), at)
+            } else {
+                escape_fault(alloc, "\\u", text_before(rest, end), at)
+            }
+        }
+    }
+}
+
+// The same, where some digits after the `u` have been read.
+fn digits_fault(alloc: Global, text: &str, end: Border, digits: usize) -> Missed
+    requires { FollowsDigits digits end (chars text.now) }
+    ensures { Misses result (after_u (end.characters - (digits + 1)) (drop (end.characters - digits) (chars text.now))) }
+{
+    let start = Border {
+        bytes: end.bytes - digits,
+        characters: end.characters - digits,
+    };
+    unicode_fault(alloc, text_from(text, start), end.characters - (digits + 1))
+}
+
+// After `0` or `-0`, which no digit may follow.
+fn scan_zero<'a>(text: &'a str, end: Border) -> Result<Found<'a>, Missed>
+    requires { IsBorder end (chars text.now) }
+    ensures most { IfOk result (λ f. f.end.characters ≤ end.characters) }
+    ensures gives { Gives result (chars text.now) (after_zero end.characters (chars text.now) (drop end.characters (chars text.now))) }
+{
+    let token = Token::Scalar(ScalarToken::Int(text_before(text, end)));
+    match first_character(text_from(text, end)) {
+        Some(c) => {
+            if c.is_ascii_digit() {
+                Err(Missed::Fault(LexerError::UnexpectedCharacter(c), end.characters))
+            } else {
+                Ok(Found { token, end })
+            }
+        }
+        None => Ok(Found { token, end }),
+    }
+}
+
+// Where no token begins: at the end, or at a character.
+fn scan_unknown<'a>(text: &'a str) -> Result<Found<'a>, Missed>
+    ensures most { IfOk result (λ f. f.end.characters ≤ 0) }
+    ensures gives { Gives result (chars text.now) (answer scans.Start 0 (chars text.now)) }
+{
+    match first_character(text) {
+        Some(c) => Err(Missed::Fault(LexerError::UnknownCharacter(c), 0)),
+        None => Ok(Found {
+            token: Token::EndOfFile,
+            end: Border {
+                bytes: 0,
+                characters: 0,
+            },
+        }),
+    }
+}
+
+// The text between the quotes of a string.
+fn unquoted(text: &str, end: Border) -> &str
+    requires { EndsString (chars text.now) end.bytes end.characters }
+    ensures { chars result.now ≡ text_of string_kind (take end.characters (chars text.now)) }
+{
+    let units = text_before(
+        text,
+        Border {
+            bytes: end.bytes - 1,
+            characters: end.characters - 1,
+        },
+    );
+    text_from(
+        units,
+        Border {
+            bytes: 1,
+            characters: 1,
+        },
+    )
+}
+
+// The token or the fault where the steps have stopped.
+fn scan_reached<'a>(alloc: Global, text: &'a str, reached: Reached) -> Result<Found<'a>, Missed>
+    requires { HasReached (chars text.now) (view_state reached.state) reached.end.bytes reached.end.characters }
+    ensures gives { Gives result (chars text.now) (answer (view_state reached.state) reached.end.characters (chars text.now)) }
+    ensures most { IfOk result (λ f. f.end.characters ≤ reached.end.characters) }
+{
+    let end = reached.end;
+    match reached.state {
+        State::Start => scan_unknown(text),
+        State::Zero => scan_zero(text, end),
+        State::OneDot | State::TwoDots => Err(dots_fault(text_from(text, end), end.characters)),
+        State::Minus | State::Point | State::ExponentMark | State::ExponentSign => {
+            Err(number_fault(text_from(text, end), end.characters))
+        }
+        State::InString => Err(string_fault(text_from(text, end), end.characters)),
+        State::Backslash => Err(backslash_fault(alloc, text_from(text, end), end.characters)),
+        State::NoHexDigit => Err(digits_fault(alloc, text, end, 0)),
+        State::OneHexDigit => Err(digits_fault(alloc, text, end, 1)),
+        State::HexDigitD => Err(digits_fault(alloc, text, end, 1)),
+        State::TwoHexDigits => Err(digits_fault(alloc, text, end, 2)),
+        State::ThreeHexDigits => Err(digits_fault(alloc, text, end, 3)),
+        State::Punctuator(punctuator) => Ok(Found {
+            token: punctuator.token(),
+            end,
+        }),
+        State::StringEnd => Ok(Found {
+            token: Token::Scalar(ScalarToken::String(unquoted(text, end))),
+            end,
+        }),
+        State::InName => Ok(Found {
+            token: Token::Name(text_before(text, end)),
+            end,
+        }),
+        State::Digits => Ok(Found {
+            token: Token::Scalar(ScalarToken::Int(text_before(text, end))),
+            end,
+        }),
+        State::Fraction | State::Exponent => Ok(Found {
+            token: Token::Scalar(ScalarToken::Float(text_before(text, end))),
+            end,
+        }),
+    }
+}
+
+/// The token at the front of a text, or the fault there.
+#[tactic(auto, using(crate::proofs::Stops::scan_at))]
+pub(crate) fn scan_token<'a>(alloc: Global, text: &'a str) -> Result<Found<'a>, Missed>
+    ensures gives { Gives result (chars text.now) (scan (chars text.now)) }
+    ensures most { IfOk result (λ f. f.end.characters ≤ (reach character_step scans.Start (chars text.now)).0) }
+{
+    scan_reached(alloc, text, walk_token(text))
+}

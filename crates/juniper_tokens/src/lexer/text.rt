@@ -1,0 +1,81 @@
+//! Parts of a text between borders of characters.
+ghost use Rattle.std.specs.Prelude.{◌≡◌, ◌+◌, ◌∷◌, ◌++◌, [], take, drop, length, MatchOption, IfOk, ◌||◌};
+ghost use Rattle.std.specs.Str.{chars};
+ghost use Rattle.std.specs.String.{string_bytes};
+ghost use Rattle.graphql_lexical.specs.Characters.{is_letter, is_digit};
+ghost use Rattle.graphql_lexical.specs.Reading.{counted};
+ghost use Rattle.juniper_tokens.specs.Borders.{IsBorder};
+
+use std::alloc::{AllocError, Global};
+
+/// How many bytes and how many characters of a text stand before a place in it.
+#[derive(Clone, Copy)]
+pub(crate) struct Border {
+    pub(crate) bytes: usize,
+    pub(crate) characters: usize,
+}
+
+/// What stands before a border.
+pub(crate) fn text_before(text: &str, end: Border) -> &str
+    requires { IsBorder end (chars text.now) }
+    ensures { chars result.now ≡ take end.characters (chars text.now) }
+{
+    &text[..end.bytes]
+}
+
+/// What stands from a border on.
+pub(crate) fn text_from(text: &str, start: Border) -> &str
+    requires { IsBorder start (chars text.now) }
+    ensures characters { chars result.now ≡ drop start.characters (chars text.now) }
+    ensures length { start.bytes + length result.now ≡ length text.now }
+{
+    &text[start.bytes..]
+}
+
+/// The first character.
+pub(crate) fn first_character(text: &str) -> Option<char>
+    ensures { MatchOption result (chars text.now ≡ []) (λ c. chars text.now ≡ c ∷ drop 1 (chars text.now)) }
+{
+    text.chars().next()
+}
+
+/// The first character, as a text.
+pub(crate) fn first_text(text: &str, c: char) -> &str
+    requires { chars text.now ≡ c ∷ drop 1 (chars text.now) }
+    ensures { chars result.now ≡ c ∷ [] }
+{
+    text_before(
+        text,
+        Border {
+            bytes: c.len_utf8(),
+            characters: 1,
+        },
+    )
+}
+
+/// Two texts in a row.
+pub(crate) fn joined(alloc: Global, a: &str, b: &str) -> Result<String, AllocError>
+    ensures { IfOk result (λ s. chars (string_bytes s) ≡ chars a.now ++ chars b.now) }
+{
+    let mut text = String::from_str(alloc, a)?;
+    text.push_str(b)?;
+    Ok(text)
+}
+
+fn is_alphanumeric(byte: u8) -> bool
+    ensures { result ≡ (is_letter byte || is_digit byte) }
+{
+    byte.is_ascii_alphanumeric()
+}
+
+/// How many ASCII letters and digits come first, counted to four at most.
+pub(crate) fn count_alphanumerics(text: &str) -> usize
+    ensures { result ≡ counted (chars text.now) }
+{
+    let bytes = text.as_bytes();
+    let mut count = 0;
+    while count < 4 && count < bytes.len() && is_alphanumeric(bytes[count]) {
+        count += 1;
+    }
+    count
+}

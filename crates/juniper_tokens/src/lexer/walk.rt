@@ -1,0 +1,154 @@
+//! The loops over the bytes of a text.
+ghost use Rattle.std.specs.Prelude.{◌≡◌, ℕ, ◌+◌, ◌<◌, ◌≤◌, ◌^◌, length, take};
+ghost use Rattle.std.specs.List.{fold};
+ghost use Rattle.std.specs.Str.{chars};
+ghost use Rattle.graphql_lexical.specs.Scan.{gap_step};
+ghost use Rattle.juniper_tokens.specs.Positions.{past_character};
+ghost use Rattle.juniper_tokens.specs.ByteClasses.{class_of};
+ghost use Rattle.juniper_tokens.specs.ByteRuns.{byte_step, byte_change, count_one};
+ghost use Rattle.juniper_tokens.specs.Machine.{view_state};
+ghost use Rattle.juniper_tokens.specs.Walks.{HasReached, EndsGap, left_step};
+
+use crate::byte_classes::{ByteClass, byte_class};
+use crate::lexer::machine::{State, step};
+use crate::lexer::text::Border;
+use crate::position::SourcePosition;
+
+/// The end of white space and comments.
+#[derive(Clone, Copy)]
+pub(crate) struct GapEnd {
+    pub(crate) bytes: usize,
+    pub(crate) position: SourcePosition,
+}
+
+/// Where the steps of a token stop, and in which state.
+#[derive(Clone, Copy)]
+pub(crate) struct Reached {
+    pub(crate) state: State,
+    pub(crate) end: Border,
+}
+
+// The place after a byte. A byte that goes on with a character leaves it.
+#[tactic(auto, using(crate::proofs::ByteClasses::inner_class_tests, crate::proofs::ByteClasses::line_feed_class_tests))]
+fn position_after(position: SourcePosition, class: ByteClass) -> SourcePosition
+    requires { position.index + 1 < 2 ^ 64 }
+    ensures value { (b : ℕ) → b < 256 → class ≡ class_of b → result ≡ byte_change past_character position b }
+    ensures most { result.index ≤ position.index + 1 }
+{
+    let mut after = position;
+    match class {
+        ByteClass::Inner => {}
+        ByteClass::LineFeed => after.advance_line(),
+        _ => after.advance_col(),
+    }
+    after
+}
+
+// The number of characters after a byte.
+#[tactic(auto, using(crate::proofs::ByteClasses::inner_class_tests))]
+fn count_after(count: usize, class: ByteClass) -> usize
+    requires { count + 1 < 2 ^ 64 }
+    ensures value { (b : ℕ) → b < 256 → class ≡ class_of b → result ≡ byte_change count_one count b }
+    ensures most { result ≤ count + 1 }
+{
+    if class.is_inner() { count } else { count + 1 }
+}
+
+// How many characters are left to go over after a byte, or None where none is left.
+#[tactic(auto, using(crate::proofs::ByteClasses::inner_class_tests))]
+fn left_after(left: usize, class: ByteClass) -> Option<usize>
+    ensures { (b : ℕ) → b < 256 → class ≡ class_of b → result ≡ byte_step left_step left b }
+{
+    if class.is_inner() {
+        Some(left)
+    } else if left == 0 {
+        None
+    } else {
+        Some(left - 1)
+    }
+}
+
+// Whether white space and comments go on with a byte, and then whether within a comment.
+#[tactic(auto, using(crate::proofs::ByteClasses::comment_after_tests))]
+fn comment_after(in_comment: bool, class: ByteClass, byte: u8) -> Option<bool>
+    requires { class ≡ class_of byte }
+    ensures { result ≡ byte_step gap_step in_comment byte }
+{
+    class.comment_after(in_comment, byte)
+}
+
+/// Goes past white space and comments.
+pub(crate) fn walk_gap(text: &str, start: SourcePosition) -> GapEnd
+    requires { start.index + length text.now < 2 ^ 64 }
+    ensures { EndsGap (chars text.now) start result.bytes result.position }
+{
+    let bytes = text.as_bytes();
+    let mut position = start;
+    let mut in_comment = false;
+    let mut i = 0;
+    while i < bytes.len() {
+        let class = byte_class(bytes[i]);
+        match comment_after(in_comment, class, bytes[i]) {
+            Some(next) => in_comment = next,
+            None => return GapEnd { bytes: i, position },
+        }
+        position = position_after(position, class);
+        i += 1;
+    }
+    GapEnd { bytes: i, position }
+}
+
+/// Goes as far as the steps of a token go.
+pub(crate) fn walk_token(text: &str) -> Reached
+    ensures { HasReached (chars text.now) (view_state result.state) result.end.bytes result.end.characters }
+{
+    let bytes = text.as_bytes();
+    let mut state = State::Start;
+    let mut characters = 0;
+    let mut i = 0;
+    while i < bytes.len() {
+        let class = byte_class(bytes[i]);
+        match step(state, class, bytes[i]) {
+            Some(next) => state = next,
+            None => {
+                return Reached {
+                    state,
+                    end: Border {
+                        bytes: i,
+                        characters,
+                    },
+                };
+            }
+        }
+        characters = count_after(characters, class);
+        i += 1;
+    }
+    Reached {
+        state,
+        end: Border {
+            bytes: i,
+            characters,
+        },
+    }
+}
+
+/// The place so many characters on, or at the end of the text.
+pub(crate) fn walk_characters(text: &str, start: SourcePosition, count: usize) -> SourcePosition
+    requires { start.index + length text.now < 2 ^ 64 }
+    ensures { result ≡ fold past_character start (take count (chars text.now)) }
+{
+    let bytes = text.as_bytes();
+    let mut position = start;
+    let mut left = count;
+    let mut i = 0;
+    while i < bytes.len() {
+        let class = byte_class(bytes[i]);
+        match left_after(left, class) {
+            Some(next) => left = next,
+            None => return position,
+        }
+        position = position_after(position, class);
+        i += 1;
+    }
+    position
+}
