@@ -1,10 +1,10 @@
 -- The tree that an `InputValue` stands for.
-use Rattle.std.specs.Prelude.{List, [], ◌∷◌, map, String, string_bytes, Option, option_map, bytes_eq}
+use Rattle.std.specs.Prelude.{List, [], ◌∷◌, map, String, string_bytes, Option, option_map}
 use Rattle.std.specs.Str.{chars}
 use Rattle.std.specs.HashMap.{HashMap, get_by}
 use Rattle.std.specs.declared.alloc.Global.{Global}
 use Rattle.juniper_tokens.specs.Spans.{view_span}
-use Rattle.juniper_values.specs.Text.{Text}
+use Rattle.juniper_values.specs.Text.{Text, same_text}
 use Rattle.juniper_tokens.specs.declared.span.Spanning.{Spanning}
 use Rattle.juniper_values.specs.Value.{Value, null, scalar, enum_value, variable, list, object, Items, no_items, item, Fields, no_fields, field}
 use Rattle.juniper_values.specs.declared.input_value.InputValue.{InputValue, fold-InputValue}
@@ -46,4 +46,4 @@ module _ {S C : Type 0} (known_by : S → C) where
 
   -- the variables' values, as a function of the names
   abbrev pub values_in : {H : Type 0} → HashMap (String Global) (InputValue S) H → Text → Option (Value C)
-  values_in m t = option_map view (get_by (λ k. bytes_eq t (text_of k)) m)
+  values_in m t = option_map view (get_by (λ k. same_text t (text_of k)) m)

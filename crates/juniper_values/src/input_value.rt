@@ -8,7 +8,6 @@ mod copies;
 mod display;
 mod resolve;
 
-pub(crate) use compare::same_name;
 pub use resolve::Variables;
 
 use std::alloc::{AllocError, Global};

@@ -5,12 +5,13 @@ mod default_scalar;
 mod escapes;
 mod input_value;
 mod scalar;
+mod text;
 mod type_literal;
 
 pub use default_scalar::DefaultScalarValue;
 pub use input_value::{InputValue, Variables};
 pub use scalar::{
     FromScalarValue, ParseScalarResult, ParseScalarValue, ReadFailure, Scalar, ScalarValue,
-    ToScalarValue, scalar_from_str,
+    ToScalarValue, WrongInputScalarTypeError, scalar_from_str,
 };
 pub use type_literal::{NameText, Type, TypeModifier, TypeModifiers};

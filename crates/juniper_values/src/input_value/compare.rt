@@ -1,9 +1,10 @@
 // Equality of input values whatever their places.
-ghost use Rattle.std.specs.Prelude.{◌≡◌, ◌&&◌, ◌==◌, bytes_eq};
+ghost use Rattle.std.specs.Prelude.{◌≡◌, ◌&&◌, ◌==◌};
 ghost use Rattle.juniper_values.specs.Same.{same_but_place, same_items, tests, has_field, passes_some, all_passed, all_pass, fields_len};
 ghost use Rattle.juniper_values.specs.View.{view, view_items, view_fields, text_of};
 
 use crate::input_value::InputValue;
+use crate::text::same_string;
 use juniper_tokens::Spanning;
 
 impl<S: PartialEq> InputValue<S> {
@@ -21,18 +22,12 @@ fn same<S: PartialEq>(a: &InputValue<S>, b: &InputValue<S>) -> bool
     match (a, b) {
         (InputValue::Null, InputValue::Null) => true,
         (InputValue::Scalar(x), InputValue::Scalar(y)) => x == y,
-        (InputValue::Enum(x), InputValue::Enum(y)) => same_name(x, y),
-        (InputValue::Variable(x), InputValue::Variable(y)) => same_name(x, y),
+        (InputValue::Enum(x), InputValue::Enum(y)) => same_string(x, y),
+        (InputValue::Variable(x), InputValue::Variable(y)) => same_string(x, y),
         (InputValue::List(x), InputValue::List(y)) => same_list(x, y),
         (InputValue::Object(x), InputValue::Object(y)) => same_object(x, y),
         _ => false,
     }
-}
-
-pub(crate) fn same_name(a: &String, b: &String) -> bool
-    ensures { result ≡ bytes_eq (text_of a.now) (text_of b.now) }
-{
-    a == b
 }
 
 #[cycle(compare)]
@@ -89,7 +84,7 @@ fn is_among<S: PartialEq>(
         ≡ has_field (text_of key.now) (same_but_place S.eq (view (λ s. s) value.now)) (view_fields (λ s. s) fields.now.items) }
 {
     for field in fields {
-        if same_name(key, &field.0.item) && same(value, &field.1.item) {
+        if same_string(key, &field.0.item) && same(value, &field.1.item) {
             return true;
         }
     }
@@ -106,7 +101,7 @@ fn is_met<S: PartialEq>(
         ≡ passes_some (text_of key.now) (view (λ s. s) value.now) (tests S.eq (view_fields (λ s. s) fields.now.items)) }
 {
     for field in fields {
-        if same_name(&field.0.item, key) && same(&field.1.item, value) {
+        if same_string(&field.0.item, key) && same(&field.1.item, value) {
             return true;
         }
     }

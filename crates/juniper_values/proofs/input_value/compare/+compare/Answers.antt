@@ -7,7 +7,7 @@ use Rattle.juniper_values.proofs.Sames.{and_true, and_false, and_later, or_true,
 use Rattle.juniper_values.specs.declared.input_value.InputValue.TheShapes.{weighed-InputValue-Object-0-at-4}
 use Rattle.juniper_values.proofs.input_value.InputValue.TheLaws.{the_size}
 use Rattle.juniper_values.proofs.input_value.compare.+compare.Goals as goal
-use Rattle.juniper_values.proofs.input_value.compare.+compare.Goals.{is_among-else-same_name-via-then-same_name+else-same, is_among-else-same_name-via-else-same_name, is_met-else-same_name-via-then-same_name+else-same, is_met-else-same_name-via-else-same_name}
+use Rattle.juniper_values.proofs.input_value.compare.+compare.Goals.{is_among-else-same_string-via-then-same_string+else-same, is_among-else-same_string-via-else-same_string, is_met-else-same_string-via-then-same_string+else-same, is_met-else-same_string-via-else-same_string}
 
 pub same_list-loop-i-preserved : goal.same_list-loop-i-preserved
 same_list-loop-i-preserved g t c =
@@ -81,9 +81,9 @@ is_among-loop-field-preserved g t c =
     let p = same_but_place g.S.PartialEq.eq (view (λ s. s) c.args.value.now) in
     let x = c.field-item.result in
     let here : (bytes_eq (text_of c.args.key.now) (text_of x.0.item) && p (view (λ s. s) x.1.item)) ≡ false =
-    elim c.else-same_name.branch [
-      is_among-else-same_name-via-then-same_name+else-same w ↦ and_later _ _ (sym w.same.ensures ∙ w.if-same.false)
-      | is_among-else-same_name-via-else-same_name w ↦ and_false _ _ (sym c.same_name.ensures ∙ w.if-same_name.false)
+    elim c.else-same_string.branch [
+      is_among-else-same_string-via-then-same_string+else-same w ↦ and_later _ _ (sym w.same.ensures ∙ w.if-same.false)
+      | is_among-else-same_string-via-else-same_string w ↦ and_false _ _ (sym c.same_string.ensures ∙ w.if-same_string.false)
     ] in
     c.loop-field.invariant
     ∙ ap (λ xs. has_field (text_of c.args.key.now) p (view_fields (λ s. s) xs)) (drop_read c.deref-field-items.result.now c.loop-field.field-index x c.loop-field-test.true c.field-item.is)
@@ -95,9 +95,9 @@ is_met-loop-field-preserved g t c =
     let v = view (λ s. s) c.args.value.now in
     let x = c.field-item.result in
     let here : (bytes_eq (text_of x.0.item) (text_of c.args.key.now) && same_but_place eq (view (λ s. s) x.1.item) v) ≡ false =
-    elim c.else-same_name.branch [
-      is_met-else-same_name-via-then-same_name+else-same w ↦ and_later _ _ (sym w.same.ensures ∙ w.if-same.false)
-      | is_met-else-same_name-via-else-same_name w ↦ and_false _ _ (sym c.same_name.ensures ∙ w.if-same_name.false)
+    elim c.else-same_string.branch [
+      is_met-else-same_string-via-then-same_string+else-same w ↦ and_later _ _ (sym w.same.ensures ∙ w.if-same.false)
+      | is_met-else-same_string-via-else-same_string w ↦ and_false _ _ (sym c.same_string.ensures ∙ w.if-same_string.false)
     ] in
     c.loop-field.invariant
     ∙ ap (λ xs. passes_some (text_of c.args.key.now) v (tests eq (view_fields (λ s. s) xs))) (drop_read c.deref-field-items.result.now c.loop-field.field-index x c.loop-field-test.true c.field-item.is)
