@@ -3,7 +3,7 @@ use Rattle.std.proofs.Common.{◌≡◌, refl, sym, ap, ◌∙◌, ℕ, suc, ◌
 use Rattle.std.proofs.lemmas.Bool.Decides.{nat_tests}
 use Rattle.juniper_tokens.specs.declared.span.Spanning.{Spanning}
 use Rattle.juniper_values.specs.Value.{Items, Fields}
-use Rattle.juniper_values.specs.Same.{same_but_place, same_items, tests, has_field, passes_some, all_passed, all_pass, fields_len}
+use Rattle.juniper_values.specs.Same.{same_but_place, same_items_but_place, field_count}
 use Rattle.juniper_values.specs.View.{view, view_items, view_fields, text_of}
 use Rattle.juniper_values.specs.declared.input_value.InputValue.{InputValue}
 use Rattle.juniper_values.proofs.Reading.{drop_read}
@@ -34,7 +34,7 @@ pub are_equal : (a b : ℕ) → a ≡ b → (a == b) ≡ true
 are_equal a b h = grind (arith, nat_tests, h)
 
 module _ {S : Type 0} (eq : S → S → Bool) where
-  pub lists_differ : (xs ys : List (Spanning (InputValue S))) → (length xs ≡ length ys → ⊥) → same_items eq (view_items (λ s. s) xs) (view_items (λ s. s) ys) ≡ false
+  pub lists_differ : (xs ys : List (Spanning (InputValue S))) → (length xs ≡ length ys → ⊥) → same_items_but_place eq (view_items (λ s. s) xs) (view_items (λ s. s) ys) ≡ false
   lists_differ [] [] h = absurd (h refl)
   lists_differ [] (y ∷ ys) h = refl
   lists_differ (x ∷ xs) [] h = refl
@@ -43,12 +43,12 @@ module _ {S : Type 0} (eq : S → S → Bool) where
       ∙ never (same_but_place eq (view (λ s. s) x.item) (view (λ s. s) y.item))
 
   pub list_turn : (xs ys : List (Spanning (InputValue S))) (i : ℕ) (x y : Spanning (InputValue S)) → i < length xs → i < length ys → x ≡ get_or xs i x → y ≡ get_or ys i y
-      → same_items eq (view_items (λ s. s) (drop i xs)) (view_items (λ s. s) (drop i ys))
-      ≡ (same_but_place eq (view (λ s. s) x.item) (view (λ s. s) y.item) && same_items eq (view_items (λ s. s) (drop (i + 1) xs)) (view_items (λ s. s) (drop (i + 1) ys)))
+      → same_items_but_place eq (view_items (λ s. s) (drop i xs)) (view_items (λ s. s) (drop i ys))
+      ≡ (same_but_place eq (view (λ s. s) x.item) (view (λ s. s) y.item) && same_items_but_place eq (view_items (λ s. s) (drop (i + 1) xs)) (view_items (λ s. s) (drop (i + 1) ys)))
   list_turn xs ys i x y p q e f =
-      ap (λ zs. same_items eq (view_items (λ s. s) zs) (view_items (λ s. s) (drop i ys))) (drop_read xs i x p e)
-      ∙ ap (λ zs. same_items eq (view_items (λ s. s) (x ∷ drop (i + 1) xs)) (view_items (λ s. s) zs)) (drop_read ys i y q f)
+      ap (λ zs. same_items_but_place eq (view_items (λ s. s) zs) (view_items (λ s. s) (drop i ys))) (drop_read xs i x p e)
+      ∙ ap (λ zs. same_items_but_place eq (view_items (λ s. s) (x ∷ drop (i + 1) xs)) (view_items (λ s. s) zs)) (drop_read ys i y q f)
 
-  pub fields_len-view : (xs : List (Spanning (String Global) × Spanning (InputValue S))) → fields_len (view_fields (λ s. s) xs) ≡ length xs
-  fields_len-view [] = refl
-  fields_len-view (x ∷ xs) = ap (λ n. n + 1) (fields_len-view xs) ∙ add-one (length xs)
+  pub field_count-view : (xs : List (Spanning (String Global) × Spanning (InputValue S))) → field_count (view_fields (λ s. s) xs) ≡ length xs
+  field_count-view [] = refl
+  field_count-view (x ∷ xs) = ap (λ n. n + 1) (field_count-view xs) ∙ add-one (length xs)
