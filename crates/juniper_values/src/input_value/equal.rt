@@ -1,8 +1,9 @@
 //! Equality of input values, their places too.
-ghost use Rattle.std.specs.Prelude.{◌≡◌};
+ghost use Rattle.std.specs.Prelude.{◌≡◌, ◌&&◌};
 ghost use Rattle.juniper_tokens.specs.Spans.{view_span};
 ghost use Rattle.juniper_values.specs.Equality.{same_span, same_value, same_items, same_fields};
-ghost use Rattle.juniper_values.specs.View.{view, view_items, view_fields};
+ghost use Rattle.juniper_values.specs.Text.{same_text};
+ghost use Rattle.juniper_values.specs.View.{view, view_items, view_fields, text_of};
 
 use crate::input_value::InputValue;
 use crate::text::same_string;
@@ -80,21 +81,22 @@ fn equal_fields<S: PartialEq>(
         return false;
     }
     for i in 0..a.len() {
-        let mine = &a[i];
-        let other = &b[i];
-        if !same_key(&mine.0, &other.0) {
+        if !same_key(&a[i].0, &b[i].0) {
             return false;
         }
-        if !equal(&mine.1.item, &other.1.item) {
+        if !equal(&a[i].1.item, &b[i].1.item) {
             return false;
         }
-        if !same_span(&mine.1.span, &other.1.span) {
+        if !same_span(&a[i].1.span, &b[i].1.span) {
             return false;
         }
     }
     true
 }
 
-fn same_key(a: &Spanning<String>, b: &Spanning<String>) -> bool {
+fn same_key(a: &Spanning<String>, b: &Spanning<String>) -> bool
+    ensures { result
+        ≡ (same_text (text_of a.now.item) (text_of b.now.item) && same_span (view_span a.now.span) (view_span b.now.span)) }
+{
     same_string(&a.item, &b.item) && same_span(&a.span, &b.span)
 }

@@ -4,7 +4,9 @@ use Rattle.juniper_values.specs.Same.{same_but_place, same_items_but_place, want
 use Rattle.juniper_values.specs.Text.{same_text}
 use Rattle.juniper_values.specs.View.{view, view_items, view_fields, text_of}
 use Rattle.juniper_values.proofs.Reading.{drop_read, within_most}
-use Rattle.juniper_values.proofs.Sames.{and_true, and_false, and_later, or_true, or_false, not_equal, are_equal, lists_differ, list_turn, field_count-view}
+use Rattle.juniper_values.proofs.Sames.{field_count-view}
+use Rattle.juniper_values.proofs.Pairwise.{differ, passed, failed}
+use Rattle.juniper_values.proofs.Tests.{and_true, and_false, and_later, or_true, or_false, not_equal, are_equal}
 use Rattle.juniper_values.specs.declared.input_value.InputValue.TheShapes.{weighed-InputValue-Object-0-at-4}
 use Rattle.juniper_values.proofs.input_value.InputValue.TheLaws.{the_size}
 use Rattle.juniper_values.proofs.input_value.compare.+compare.Goals as goal
@@ -12,28 +14,31 @@ use Rattle.juniper_values.proofs.input_value.compare.+compare.Goals.{is_among-el
 
 pub same_list-loop-i-preserved : goal.same_list-loop-i-preserved
 same_list-loop-i-preserved g t c =
+    let eq = g.S.PartialEq.eq in
     let p : c.loop-i.i < length c.args.a.now.items = omega (arith, c.args.a.now.ok.0) in
     let q : c.loop-i.i < length c.args.b.now.items = omega (arith, c.args.a.now.ok.0, c.args.b.now.ok.0) in
-    c.loop-i.invariant
-    ∙ list_turn g.S.PartialEq.eq c.args.a.now.items c.args.b.now.items c.loop-i.i c.index.result.now c.index-in-loop-i.result.now p q c.index.ensures c.index-in-loop-i.ensures
-    ∙ and_true _ _ (sym c.if-not-same.ensures)
+    passed (λ xs ys. same_items_but_place eq (view_items (λ s. s) xs) (view_items (λ s. s) ys)) (λ x y. same_but_place eq (view (λ s. s) x.item) (view (λ s. s) y.item))
+    refl (λ y ys. refl) (λ x xs. refl) (λ x y xs ys. refl) _ _ _ _ _ p q c.index.ensures c.index-in-loop-i.ensures _ c.loop-i.invariant (sym c.if-not-same.ensures)
 
 pub same_list-returns-then-not-same : goal.same_list-returns-then-not-same
 same_list-returns-then-not-same g t c =
+    let eq = g.S.PartialEq.eq in
     let p : c.loop-i.i < length c.args.a.now.items = omega (arith, c.args.a.now.ok.0) in
     let q : c.loop-i.i < length c.args.b.now.items = omega (arith, c.args.a.now.ok.0, c.args.b.now.ok.0) in
-    sym (c.loop-i.invariant
-    ∙ list_turn g.S.PartialEq.eq c.args.a.now.items c.args.b.now.items c.loop-i.i c.index.result.now c.index-in-loop-i.result.now p q c.index.ensures c.index-in-loop-i.ensures
-    ∙ and_false _ _ (sym c.if-not-same.ensures))
+    failed (λ xs ys. same_items_but_place eq (view_items (λ s. s) xs) (view_items (λ s. s) ys)) (λ x y. same_but_place eq (view (λ s. s) x.item) (view (λ s. s) y.item))
+    refl (λ y ys. refl) (λ x xs. refl) (λ x y xs ys. refl) _ _ _ _ _ p q c.index.ensures c.index-in-loop-i.ensures _ c.loop-i.invariant (sym c.if-not-same.ensures)
 
 pub same_list-returns-then-len : goal.same_list-returns-then-len
-same_list-returns-then-len g t c = sym (lists_differ g.S.PartialEq.eq c.args.a.now.items c.args.b.now.items (λ e. omega (arith, c.args.a.now.ok.0, c.args.b.now.ok.0, e)))
+same_list-returns-then-len g t c =
+    let eq = g.S.PartialEq.eq in
+    sym (differ (λ xs ys. same_items_but_place eq (view_items (λ s. s) xs) (view_items (λ s. s) ys)) (λ x y. same_but_place eq (view (λ s. s) x.item) (view (λ s. s) y.item))
+    refl (λ y ys. refl) (λ x xs. refl) (λ x y xs ys. refl) c.args.a.now.items c.args.b.now.items (λ e. omega (arith, c.args.a.now.ok.0, c.args.b.now.ok.0, e)))
 
 pub same_object-returns-then-len : goal.same_object-returns-then-len
 same_object-returns-then-len g t c =
     let eq = g.S.PartialEq.eq in
     sym (and_false _ _ (not_equal (field_count (view_fields (λ s. s) c.args.a.now.items)) (field_count (view_fields (λ s. s) c.args.b.now.items))
-    (λ e. omega (arith, c.args.a.now.ok.0, c.args.b.now.ok.0, e, field_count-view eq c.args.a.now.items, field_count-view eq c.args.b.now.items))))
+    (λ e. omega (arith, c.args.a.now.ok.0, c.args.b.now.ok.0, e, field_count-view c.args.a.now.items, field_count-view c.args.b.now.items))))
 
 pub same_object-is_among-requires : goal.same_object-is_among-requires
 same_object-is_among-requires g t c κs within =
@@ -73,7 +78,7 @@ pub same_object-returns : goal.same_object-returns
 same_object-returns g t c =
     let eq = g.S.PartialEq.eq in
     sym (and_true _ _ (are_equal (field_count (view_fields (λ s. s) c.args.a.now.items)) (field_count (view_fields (λ s. s) c.args.b.now.items))
-    (omega (arith, c.args.a.now.ok.0, c.args.b.now.ok.0, field_count-view eq c.args.a.now.items, field_count-view eq c.args.b.now.items)))
+    (omega (arith, c.args.a.now.ok.0, c.args.b.now.ok.0, field_count-view c.args.a.now.items, field_count-view c.args.b.now.items)))
     ∙ and_true _ _ (c.loop-mine.invariant ∙ at_drop_all (λ xs. all_found (wanted eq (view_fields (λ s. s) xs)) (view_fields (λ s. s) c.args.b.now.items)) c.deref-mine-items.result.now c.loop-mine.mine-index c.loop-mine-test.false)
     ∙ c.loop-field.invariant ∙ at_drop_all (λ xs. all_wanted (wanted eq (view_fields (λ s. s) c.args.a.now.items)) (view_fields (λ s. s) xs)) c.deref-field-items.result.now c.loop-field.field-index c.loop-field-test.false)
 
