@@ -18,3 +18,5 @@ pub mod Make
 pub mod Same
 pub mod ScalarLaws
 pub mod TypeLaws
+pub mod Units
+pub mod Laws
