@@ -1,5 +1,11 @@
 -- The tree of a value by its scalars' contents is its tree by its scalars, each with its content in its place.
-use Rattle.std.proofs.Common.{◌≡◌, refl, ap, sym, subst, ◌∙◌, rules, List, [], ◌∷◌, map, String, Global}
+use Rattle.std.proofs.Common.{◌≡◌, refl, ap, sym, subst, ◌∙◌, Bool, true, ◌&&◌, List, [], ◌∷◌, map, String, Global}
+use Rattle.std.proofs.lemmas.Slice.Eq.{bytes_eq-Decides}
+use Rattle.graphql_lexical.specs.Place.{Span}
+use Rattle.juniper_values.specs.Text.{Text, same_text}
+use Rattle.juniper_values.specs.Equality.{same_span, same_value, same_items, same_fields}
+use Rattle.juniper_values.specs.EqualityLaws.{same_span-equiv}
+use Rattle.juniper_values.proofs.Alike.{both}
 use Rattle.juniper_tokens.specs.declared.span.Spanning.{Spanning}
 use Rattle.juniper_tokens.specs.Spans.{view_span}
 use Rattle.juniper_values.specs.View.{view, view_step, items_of, fields_of, text_of}
@@ -56,3 +62,46 @@ module _ {S C : Type 0} (f : S → C) where
   view-replaced v = ind-InputValue S (λ v. view f v ≡ replaced (view (λ s. s) v)) (λ x y e. 
      subst (λ (z : InputValue-F S (InputValue S)). view f (roll-InputValue S z) ≡ replaced (view (λ s. s) (roll-InputValue S z))) e 
       (fold-roll-InputValue S (Value C) (view_step f) _ ∙ level (λ p. p.0) (view f) (view (λ s. s)) (λ p. p.1) y ∙ ap replaced (sym (fold-roll-InputValue S (Value S) (view_step (λ s. s)) _)))) v
+
+-- ---- values whose scalars have the same contents are equal
+
+text_equal : (a b : Text) → a ≡ b → same_text a b ≡ true
+text_equal a b = (bytes_eq-Decides a b).1
+
+span_equal : (s t : Span) → s ≡ t → same_span s t ≡ true
+span_equal s t e = sym (ap (same_span s) e) ∙ same_span-equiv.refl s
+
+module _ {S C : Type 0} (f : S → C) (eq : S → S → Bool) (same : (a b : S) → f a ≡ f b → eq a b ≡ true) where
+  mutual
+    equal : (v w : Value S) → replaced f v ≡ replaced f w → same_value eq v w ≡ true
+    equal null null e = refl
+    equal null w e = absurd (cc)
+    equal (scalar a) (scalar b) e = same a b (cc)
+    equal (scalar a) w e = absurd (cc)
+    equal (enum_value a) (enum_value b) e = text_equal a b (cc)
+    equal (enum_value a) w e = absurd (cc)
+    equal (variable a) (variable b) e = text_equal a b (cc)
+    equal (variable a) w e = absurd (cc)
+    equal (list xs) (list ys) e = items_equal xs ys (cc)
+    equal (list xs) w e = absurd (cc)
+    equal (object fs) (object gs) e = fields_equal fs gs (cc)
+    equal (object fs) w e = absurd (cc)
+
+    items_equal : (xs ys : Items S) → replaced_items f xs ≡ replaced_items f ys → same_items eq xs ys ≡ true
+    items_equal no_items no_items e = refl
+    items_equal no_items ys e = absurd (cc)
+    items_equal (item v s xs) (item w t ys) e =
+        both (same_value eq v w && same_span s t) _ (both (same_value eq v w) _ (equal v w (cc)) (span_equal s t (cc))) (items_equal xs ys (cc))
+    items_equal (item v s xs) ys e = absurd (cc)
+
+    fields_equal : (fs gs : Fields S) → replaced_fields f fs ≡ replaced_fields f gs → same_fields eq fs gs ≡ true
+    fields_equal no_fields no_fields e = refl
+    fields_equal no_fields gs e = absurd (cc)
+    fields_equal (field k a v s fs) (field l b w t gs) e =
+        both ((same_text k l && same_span a b) && (same_value eq v w && same_span s t)) _
+        (both (same_text k l && same_span a b) _ (both (same_text k l) _ (text_equal k l (cc)) (span_equal a b (cc))) (both (same_value eq v w) _ (equal v w (cc)) (span_equal s t (cc))))
+        (fields_equal fs gs (cc))
+    fields_equal (field k a v s fs) gs e = absurd (cc)
+
+  pub copies_equal : (a b : InputValue S) → view f a ≡ view f b → same_value eq (view (λ s. s) a) (view (λ s. s) b) ≡ true
+  copies_equal a b e = equal (view (λ s. s) a) (view (λ s. s) b) (sym (view-replaced f a) ∙ e ∙ view-replaced f b)
