@@ -10,7 +10,6 @@ mod document;
 pub mod laws;
 mod next;
 mod selection;
-mod values;
 
 pub use ast::{
     Arguments, Definition, Directive, Field, Fragment, FragmentSpread, InlineFragment, Operation,
@@ -22,4 +21,8 @@ pub use juniper_tokens::{
     ParseFailure, ParseResult, Parser, ScalarToken, SourcePosition, Span, Spanning, Token,
     UnlocatedParseResult, byte_class,
 };
-pub use values::{DefaultScalarValue, InputValue, NameText, Type, TypeModifier, TypeModifiers};
+pub use juniper_values::{
+    DefaultScalarValue, FromInputValue, FromScalarValue, InputValue, NameText, ParseScalarResult,
+    ParseScalarValue, ReadFailure, Scalar, ScalarValue, ToScalarValue, Type, TypeModifier,
+    TypeModifiers, Variables, WrongInputScalarTypeError, scalar_from_str,
+};
