@@ -1,6 +1,7 @@
 pub mod Texts
 pub mod FixedTexts
 pub mod Steps
+pub mod ListParts
 pub mod ByteClasses
 pub mod ByteRuns
 pub mod Borders

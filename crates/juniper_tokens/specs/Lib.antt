@@ -5,6 +5,8 @@ pub mod Tokens
 pub mod TokenLaws
 pub mod Errors
 pub mod Cursor
+pub mod Delimited
+pub mod DelimitedParts
 pub mod ByteClasses
 pub mod ByteRuns
 pub mod Machine

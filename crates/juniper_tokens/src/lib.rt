@@ -2,6 +2,7 @@
 #![tactic(auto)]
 
 mod byte_classes;
+mod delimited;
 mod error;
 pub mod laws;
 mod lexer;
