@@ -1,4 +1,5 @@
 pub mod Positions
+pub mod PositionOrder
 pub mod Spans
 pub mod SpanningText
 pub mod Tokens

@@ -1,5 +1,5 @@
 ghost use Rattle.std.specs.Prelude.{◌≡◌, ◌+◌, ◌<◌, Some, None, MatchOption, IfSome, option_map};
-ghost use Rattle.juniper_tokens.specs.Positions.{next_column};
+ghost use Rattle.graphql_lexical.specs.Place.{next_column};
 ghost use Rattle.juniper_tokens.specs.Spans.{origin_span, covering_span};
 
 use crate::position::SourcePosition;
