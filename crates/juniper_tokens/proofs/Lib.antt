@@ -9,6 +9,7 @@ pub mod Walks
 pub mod Stops
 pub mod EscapeFaults
 pub mod Places
+pub mod Lines
 pub mod Lexing
 pub mod LexingByScan
 pub mod Gathering

@@ -14,6 +14,7 @@ pub mod Machine
 pub mod Borders
 pub mod Walks
 pub mod Scans
+pub mod LineTables
 pub mod Lexing
 pub mod LexingByScan
 pub mod Gathering

@@ -2,9 +2,9 @@
 ghost use Rattle.juniper_tokens.specs.Delimited.{Leaves};
 
 use crate::{
-    ByteClass, Kind, LexFailure, Lexer, LexerError, LexerResult, ParseError, ParseFailure,
-    ParseResult, Parser, ScalarToken, SourcePosition, Span, Spanning, Token, UnlocatedParseResult,
-    byte_class,
+    ByteClass, Kind, LexFailure, Lexer, LexerError, LexerResult, LineTable, ParseError,
+    ParseFailure, ParseResult, Parser, ScalarToken, SourcePosition, Span, Spanning, Token,
+    UnlocatedParseResult, byte_class,
 };
 use std::alloc::{AllocError, Global};
 use std::test::Fail;
@@ -399,5 +399,26 @@ fn items_need_no_place_of_their_own(rt: HostRuntime) -> Result<(), Fail> {
     assert_eq!(rt; indexes(list.span), (0, 5));
     assert_eq!(rt; list.item.len(), 2);
     assert_eq!(rt; list.item[1], "b");
+    Ok(())
+}
+
+#[test]
+fn a_table_of_lines_counts_characters(rt: HostRuntime) -> Result<(), Fail> {
+    let table = LineTable::new(rt.alloc(), "a\né\rb")?;
+    let rows = [
+        (0, (0, 0)),
+        (1, (0, 1)),
+        (2, (1, 0)),
+        (4, (1, 2)),
+        (5, (1, 3)),
+    ];
+    for (index, (line, column)) in rows {
+        assert_eq!(rt;
+            table.position(index),
+            Some(SourcePosition::new(index, line, column)),
+            "{index}"
+        );
+    }
+    assert_eq!(rt; table.position(6), None);
     Ok(())
 }
