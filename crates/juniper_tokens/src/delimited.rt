@@ -33,12 +33,12 @@ impl<'a> Parser<'a> {
         ensures rest { IsRest self.old self.new }
     {
         let start = self.take_opening::<R>(opening)?;
-        let mut items = Vec::new(self.allocator());
+        let mut list = Vec::new(self.allocator());
         loop {
             if let Some(end) = self.take_closing::<R>(closing)? {
-                return Ok(Spanning::start_end(&start, &end, items));
+                return Ok(Spanning::start_end(&start, &end, list));
             }
-            self.take_item(&f, &mut items)?;
+            self.take_item(&f, &mut list)?;
         }
     }
 

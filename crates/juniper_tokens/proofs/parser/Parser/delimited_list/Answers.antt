@@ -3,24 +3,24 @@ use Rattle.juniper_tokens.proofs.parser.Parser.delimited_list.Goals as goal
 
 pub returns-in_err-end-clause-refused : goal.returns-in_err-end-clause-refused
 returns-in_err-end-clause-refused g c =
-    passed_on _ _ c.from_residual-in_err-end.ensures.1 (list_closing c.loop-items.invariant c.in_err-end.ensures.0)
+    passed_on _ _ c.from_residual-in_err-end.ensures.1 (list_closing c.loop-list.invariant c.in_err-end.ensures.0)
 
 pub returns-in-Some-clause-list : goal.returns-in-Some-clause-list
 returns-in-Some-clause-list g c =
     let closed = rw c.in-Some.is at c.in_ok-end.ensures in
-    rw c.start_end.ensures (list_done _ c.loop-items.invariant closed)
+    rw c.start_end.ensures (list_done _ c.loop-list.invariant closed)
 
-pub loop-items-preserved : goal.loop-items-preserved
-loop-items-preserved g c =
+pub loop-list-preserved : goal.loop-list-preserved
+loop-list-preserved g c =
     let goes = rw c.in_default.is at c.in_ok-end.ensures in
-    list_more c.requires c.loop-items.invariant goes c.in_ok-take_item.ensures
+    list_more c.requires c.loop-list.invariant goes c.in_ok-take_item.ensures
 
 pub returns-in_err-take_item-clause-refused : goal.returns-in_err-take_item-clause-refused
 returns-in_err-take_item-clause-refused g c =
     let goes = rw c.in_default.is at c.in_ok-end.ensures in
-    passed_on _ _ c.from_residual-in_err-take_item.ensures.1 (list_item c.loop-items.invariant goes c.in_err-take_item.ensures)
+    passed_on _ _ c.from_residual-in_err-take_item.ensures.1 (list_item c.loop-list.invariant goes c.in_err-take_item.ensures)
 
 pub returns-in_err-take_item-clause-rest : goal.returns-in_err-take_item-clause-rest
 returns-in_err-take_item-clause-rest g c =
     let goes = rw c.in_default.is at c.in_ok-end.ensures in
-    no_item_rest c.requires (rw goes.1 c.loop-items.invariant.further) c.in_err-take_item.ensures
+    no_item_rest c.requires (rw goes.1 c.loop-list.invariant.further) c.in_err-take_item.ensures
