@@ -1,11 +1,11 @@
 -- Tables of the beginnings of lines.
 use Rattle.std.proofs.Common.{◌≡◌, ℕ, zero, suc, ◌+◌, ◌-◌, ◌<◌, ◌≤◌, Bool, true, false, cond, ◌==◌, List, [], ◌∷◌, ◌++◌, length, take, refl, sym, ap, ap₂, ◌∙◌, subst, arith, Some, None, inl, inr, append-nil, add-one, length-append}
-use Rattle.std.specs.Prelude.{slice_get, nat_le, if◌then◌else◌, Option}
+use Rattle.std.specs.Prelude.{slice_get, nat_le}
 use Rattle.std.specs.List.{fold}
 use Rattle.std.proofs.lemmas.Bool.{le-leb, cases_Bool, eqb-true}
 use Rattle.std.proofs.lemmas.Bool.Decides.{leb_tells}
-use Rattle.std.proofs.lemmas.Option.{none-some, get_or_from_slice_get, slice_get_within}
-use Rattle.graphql_lexical.specs.Place.{Place, place, place_after, origin, past_character, next_line, next_column}
+use Rattle.std.proofs.lemmas.Option.{none-some, get_or_from_slice_get}
+use Rattle.graphql_lexical.specs.Place.{Place, place, past_character, next_line, next_column}
 use Rattle.juniper_tokens.specs.LineTables.{Lines, starts_after, lines_of, place_within, AscendFrom, StartLines, IsOnLine}
 use Rattle.juniper_tokens.proofs.Places.{place_fold}
 
