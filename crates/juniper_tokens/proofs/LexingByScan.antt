@@ -12,7 +12,7 @@ use Rattle.graphql_lexical.specs.declared.kind.Kind.{Kind}
 use Rattle.graphql_lexical.specs.declared.kind.Kind.TheVariants.{EndOfFile}
 use Rattle.graphql_lexical.specs.Kinds.{same_kind, LexicalError, UnknownEscapeSequence}
 use Rattle.graphql_lexical.specs.Kinds as errors
-use Rattle.graphql_lexical.specs.Place.{Place, place}
+use Rattle.graphql_lexical.specs.Place.{Place, place, past_character}
 use Rattle.graphql_lexical.specs.Cutting.{Stands}
 use Rattle.graphql_lexical.specs.Scan.{Found, Missed, scan, gap_size, gap_step, reach, step, Start}
 use Rattle.graphql_lexical.proofs.Answers.{finds_what_reads, misses_what_fails}
@@ -22,7 +22,7 @@ use Rattle.juniper_tokens.specs.declared.span.Spanning.{Spanning}
 use Rattle.juniper_tokens.specs.declared.token.Token.{Token}
 use Rattle.juniper_tokens.specs.declared.error.LexFailure.{LexFailure}
 use Rattle.juniper_tokens.specs.declared.error.LexFailure.TheVariants as failure
-use Rattle.juniper_tokens.specs.Positions.{past_character, columns_on}
+use Rattle.juniper_tokens.specs.Positions.{columns_on}
 use Rattle.juniper_tokens.specs.Tokens.{token_kind, view_token}
 use Rattle.juniper_tokens.specs.Errors.{view_lexer_error}
 use Rattle.juniper_tokens.specs.ByteRuns.{byte_at}

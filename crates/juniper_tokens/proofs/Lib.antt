@@ -1,6 +1,7 @@
 pub mod Texts
 pub mod FixedTexts
 pub mod Steps
+pub mod ListParts
 pub mod ByteClasses
 pub mod ByteRuns
 pub mod Borders
@@ -8,6 +9,7 @@ pub mod Walks
 pub mod Stops
 pub mod EscapeFaults
 pub mod Places
+pub mod Lines
 pub mod Lexing
 pub mod LexingByScan
 pub mod Gathering

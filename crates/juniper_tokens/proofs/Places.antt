@@ -1,47 +1,21 @@
 -- Places of a source.
-use Rattle.std.proofs.Common.{◌≡◌, ℕ, zero, suc, ◌+◌, ◌≤◌, Bool, true, false, cond, ◌==◌, List, [], ◌∷◌, ◌++◌, length, take, drop, reverse, refl, sym, ap, ap₂, ◌∙◌, arith, length-append, append_assoc, append-nil, Some, None, take-add}
-use Rattle.std.specs.Prelude.{count_by, take_while, not}
-use Rattle.std.specs.List.{AllByRecursion, fold, prefix_len}
+use Rattle.std.proofs.Common.{◌≡◌, ℕ, zero, suc, ◌+◌, ◌≤◌, Bool, true, false, cond, ◌==◌, List, [], ◌∷◌, ◌++◌, length, take, drop, refl, sym, ap, ap₂, ◌∙◌, arith, append_assoc, append-nil, Some, None, take-add}
+use Rattle.std.specs.List.{AllByRecursion, fold}
 use Rattle.std.proofs.lemmas.Option.{none-some}
 use Rattle.std.proofs.lemmas.Bool.{eqb-true}
 use Rattle.graphql_lexical.specs.Scan as scans
 use Rattle.graphql_lexical.specs.Scan.{State, Start, step, reach, onward}
 use Rattle.graphql_lexical.proofs.Runs.{reach_is}
+use Rattle.graphql_lexical.proofs.Places.{place_push}
 use Rattle.std.proofs.lemmas.List.{length-take-le}
-use Rattle.graphql_lexical.specs.Place.{Place, place_after, place}
-use Rattle.juniper_tokens.specs.Positions.{past_character, columns_on, next_line, next_column}
-
-fold_push : {A B : Type 0} (f : B → A → B) (b : B) (xs : List A) (c : A) → fold f b (xs ++ c ∷ []) ≡ f (fold f b xs) c
-fold_push f b [] c = refl
-fold_push f b (x ∷ xs) c = fold_push f (f b x) xs c
+use Rattle.graphql_lexical.specs.Place.{Place, place_after, place, past_character, next_line, next_column}
+use Rattle.juniper_tokens.specs.Positions.{columns_on}
 
 abbrev made : ℕ → ℕ → ℕ → Place
 made i l k = record { index = i; line = l; column = k }
 
-abbrev tail_length : ℕ → List ℕ → Bool → ℕ
-tail_length c r b = length (take (cond (not b) (1 + prefix_len (λ x. not (x == 10)) r) 0) (c ∷ r))
-
-one_more : (c m : ℕ) (r : List ℕ) → length (take (1 + m) (c ∷ r)) ≡ length (take m r) + 1
-one_more c m r = ap (λ k. length (take k (c ∷ r))) (suc_of m) ∙ plus_of (length (take m r))
-  where
-    suc_of : (m : ℕ) → 1 + m ≡ suc m
-    suc_of m = omega arith
-
-    plus_of : (m : ℕ) → suc m ≡ m + 1
-    plus_of m = omega arith
-
 plus_none : (m : ℕ) → m + 0 ≡ m
 plus_none m = omega arith
-
-by_feed : (c : ℕ) (r : List ℕ) (i l : ℕ) (b : Bool) → made (i + 1) (l + cond b 1 0) (tail_length c r b) ≡ cond b (made (i + 1) (l + 1) 0) (made (i + 1) l (length (take_while (λ x. not (x == 10)) r) + 1))
-by_feed c r i l true = refl
-by_feed c r i l false = ap₂ (λ x k. made (i + 1) x k) (plus_none l) (one_more c (prefix_len (λ x. not (x == 10)) r) r)
-
-pub place_push : (front : List ℕ) (c : ℕ) → place_after (front ++ c ∷ []) ≡ past_character (place_after front) c
-place_push front c =
-    ap (λ n. made n (count_by (λ x. x == 10) (front ++ c ∷ [])) (length (take_while (λ x. not (x == 10)) (reverse (front ++ c ∷ []))))) (length-append front (c ∷ []))
-    ∙ (ap₂ (λ l r. made (length front + 1) l (length (take_while (λ x. not (x == 10)) r))) (fold_push (λ a x. a + cond (x == 10) 1 0) 0 front c) (fold_push (λ (r : List ℕ) x. x ∷ r) [] front c)
-    ∙ by_feed c (reverse front) (length front) (count_by (λ x. x == 10) front) (c == 10))
 
 pub place_fold : (front xs : List ℕ) → fold past_character (place_after front) xs ≡ place_after (front ++ xs)
 place_fold front [] = ap place_after (sym (append-nil front))

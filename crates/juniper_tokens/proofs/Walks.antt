@@ -5,12 +5,11 @@ use Rattle.std.specs.Str.{chars, IsUtf8}
 use Rattle.std.proofs.lemmas.Str.{encodes-chars}
 use Rattle.std.specs.List.{fold}
 use Rattle.std.proofs.lemmas.List.{length-take-le}
-use Rattle.graphql_lexical.specs.Place.{Place}
+use Rattle.graphql_lexical.specs.Place.{Place, past_character}
 use Rattle.graphql_lexical.specs.Characters.{is_nonzero_digit, is_name_start}
 use Rattle.graphql_lexical.specs.Scan as scans
 use Rattle.graphql_lexical.specs.Scan.{reach, step, gap_step, gap_size, Start}
 use Rattle.graphql_lexical.proofs.Runs.{reach_is}
-use Rattle.juniper_tokens.specs.Positions.{past_character}
 use Rattle.juniper_tokens.specs.ByteRuns.{byte_step, byte_change, IsSamePastAscii, byte_at, with_value, count_one}
 use Rattle.juniper_tokens.specs.Walks.{HasReached, EndsGap, left_step}
 use Rattle.juniper_tokens.proofs.ByteRuns.{reach_bytes, reach_with_value, same_with_value, bytes_with_value, in_bytes}

@@ -1,6 +1,6 @@
 -- The steps of a cursor on the lexemes that are left.
 use Rattle.std.specs.Prelude.{◌≡◌, ℕ, Bool, true, false, ◌&&◌, List, [], ◌∷◌, drop, Result, Ok, Err, Option, Some, None, if◌then◌else◌}
-use Rattle.graphql_lexical.specs.Place.{Span}
+use Rattle.graphql_lexical.specs.Place.{Span, origin}
 use Rattle.graphql_lexical.specs.declared.kind.Kind.{Kind}
 use Rattle.graphql_lexical.specs.declared.kind.Kind.TheVariants.{Name, String, Float, Int, At, EndOfFile}
 use Rattle.graphql_lexical.specs.Kinds.{same_kind}
@@ -10,7 +10,6 @@ use Rattle.juniper_tokens.specs.declared.span.Spanning.{Spanning}
 use Rattle.juniper_tokens.specs.declared.token.Token.{Token}
 use Rattle.juniper_tokens.specs.declared.error.ParseFailure.{ParseFailure}
 use Rattle.juniper_tokens.specs.declared.error.ParseFailure.TheVariants as failures
-use Rattle.juniper_tokens.specs.Positions.{origin}
 use Rattle.juniper_tokens.specs.Tokens.{token_kind, token_text, same_text, view_token}
 use Rattle.juniper_tokens.specs.Errors.{UnexpectedToken, UnexpectedEndOfFile, Fault, view_fault}
 

@@ -1,7 +1,7 @@
 -- Spans of items.
 use Rattle.std.specs.Prelude.{◌-◌, List, length, slice_get, Option, Some, None}
 use Rattle.graphql_lexical.specs.Place as places
-use Rattle.juniper_tokens.specs.Positions.{origin}
+use Rattle.graphql_lexical.specs.Place.{origin}
 use Rattle.juniper_tokens.specs.declared.span.Span.{Span}
 use Rattle.juniper_tokens.specs.declared.span.Spanning.{Spanning}
 

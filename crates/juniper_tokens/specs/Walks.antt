@@ -1,9 +1,8 @@
 -- Where the loops over bytes stop.
 use Rattle.std.specs.Prelude.{◌≡◌, ℕ, ◌-◌, ◌==◌, if◌then◌else◌, Option, Some, None, List, take}
 use Rattle.std.specs.List.{fold}
-use Rattle.graphql_lexical.specs.Place.{Place}
+use Rattle.graphql_lexical.specs.Place.{Place, past_character}
 use Rattle.graphql_lexical.specs.Scan.{State, Start, reach, step, gap_size}
-use Rattle.juniper_tokens.specs.Positions.{past_character}
 use Rattle.juniper_tokens.specs.ByteRuns.{byte_at}
 
 -- the state, the byte and the character at which the steps of a token stop

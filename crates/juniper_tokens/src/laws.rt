@@ -1,8 +1,17 @@
 //! Laws of the lexer.
-ghost use Rattle.std.specs.Prelude.{◌≡◌, ℕ, List, Option};
-ghost use Rattle.graphql_lexical.specs.Laws.{HasOneEnd, HasFewTokens};
+ghost use Rattle.std.specs.Prelude.{◌≡◌, ℕ, List, Option, Some, IsTrue, ◌↔◌};
+ghost use Rattle.juniper_tokens.specs.PositionOrder.{compare_places};
+ghost use Rattle.std.specs.Ordering.{is_eq};
+ghost use Rattle.graphql_lexical.specs.Place.{Place};
+ghost use Rattle.graphql_lexical.specs.Laws.{HasOneEnd, HasFewTokens, HasSlicesInOrder, StepsByCharacters};
+ghost use Rattle.juniper_tokens.specs.declared.span.Span.{Span};
+ghost use Rattle.juniper_tokens.specs.declared.span.Spanning.{Spanning};
 ghost use Rattle.juniper_tokens.specs.ByteClasses.{CountsOfClasses};
 ghost use Rattle.juniper_tokens.specs.ByteRuns.{GoesOverBytes};
+
+use crate::position::SourcePosition;
+use crate::span::{Span, Spanning};
+use std::hash::Hash;
 
 /// Steps that are the same at all characters past ASCII go over the bytes of a text as over its characters.
 #[tactic(auto, using(crate::proofs::ByteRuns::reach_bytes))]
@@ -23,4 +32,32 @@ pub fn one_end()
 /// A source of n characters has at most n + 1 tokens, the last of which and no other is the end.
 pub fn few_tokens()
     ensures { (source : List ℕ) → HasFewTokens source }
+{}
+
+/// A token's text is the slice of the source between its places, of a String without the quotes. Each token
+/// stands behind the one before it.
+pub fn slices_in_order()
+    ensures { (source : List ℕ) → HasSlicesInOrder source }
+{}
+
+/// The place of a source's beginning is the origin, and each further place follows from the one before it by
+/// the character between: a line feed begins a line, and any other character, a carriage return too, goes one
+/// column on.
+pub fn places_step_by_characters()
+    ensures { (source : List ℕ) → StepsByCharacters source }
+{}
+
+/// The orders of positions agree with equality, and with one another: index, then line, then column.
+pub fn positions_agree()
+    ensures equal { (p q : Place) → ⟦<SourcePosition as PartialEq>⟧.eq p q ≡ is_eq (⟦<SourcePosition as Ord>⟧.cmp p q) }
+    ensures partial { (p q : Place) → ⟦<SourcePosition as PartialOrd>⟧.partial_cmp p q ≡ Some (⟦<SourcePosition as Ord>⟧.cmp p q) }
+    ensures places { (p q : Place) → IsTrue (⟦<SourcePosition as PartialEq>⟧.eq p q) ↔ (p ≡ q) }
+    ensures order { (p q : Place) → ⟦<SourcePosition as Ord>⟧.cmp p q ≡ compare_places p q }
+{}
+
+/// Equal positions, equal spans, and equal items with equal spans hash alike.
+pub fn equal_values_hash_alike<T: Hash>()
+    ensures positions { (p q : Place) → IsTrue (⟦<SourcePosition as PartialEq>⟧.eq p q) → ⟦<SourcePosition as Hash>⟧.hash_input p ≡ ⟦<SourcePosition as Hash>⟧.hash_input q }
+    ensures spans { (s t : Span) → IsTrue (⟦<Span as PartialEq>⟧.eq s t) → ⟦<Span as Hash>⟧.hash_input s ≡ ⟦<Span as Hash>⟧.hash_input t }
+    ensures items { (x y : Spanning T) → IsTrue (⟦<Spanning<T> as PartialEq>⟧.eq x y) → ⟦<Spanning<T> as Hash>⟧.hash_input x ≡ ⟦<Spanning<T> as Hash>⟧.hash_input y }
 {}

@@ -2,9 +2,11 @@
 #![tactic(auto)]
 
 mod byte_classes;
+mod delimited;
 mod error;
 pub mod laws;
 mod lexer;
+mod line_table;
 mod parser;
 mod position;
 mod span;
@@ -19,6 +21,7 @@ pub use error::{
 };
 pub use graphql_lexical::Kind;
 pub use lexer::{Lexer, LexerResult};
+pub use line_table::LineTable;
 pub use parser::Parser;
 pub use position::SourcePosition;
 pub use span::{Span, Spanning};

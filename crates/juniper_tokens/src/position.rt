@@ -1,7 +1,7 @@
 //! Places in a source text.
 ghost use Rattle.std.specs.Prelude.{◌≡◌, ℕ, ◌+◌, ◌<◌, ◌≤◌, ◌^◌, Some};
-ghost use Rattle.graphql_lexical.specs.Place.{Place};
-ghost use Rattle.juniper_tokens.specs.Positions.{origin, next_column, next_line, columns_on, position_text};
+ghost use Rattle.graphql_lexical.specs.Place.{Place, origin, next_column, next_line};
+ghost use Rattle.juniper_tokens.specs.Positions.{columns_on, position_text};
 
 use std::fmt;
 use std::marker::Model;

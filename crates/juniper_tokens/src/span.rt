@@ -1,5 +1,6 @@
+//! Items with the part of the source that they stand in.
 ghost use Rattle.std.specs.Prelude.{◌≡◌, ◌+◌, ◌<◌, Some, None, MatchOption, IfSome, option_map};
-ghost use Rattle.juniper_tokens.specs.Positions.{next_column};
+ghost use Rattle.graphql_lexical.specs.Place.{next_column};
 ghost use Rattle.juniper_tokens.specs.Spans.{origin_span, covering_span};
 
 use crate::position::SourcePosition;
@@ -8,11 +9,14 @@ use std::fmt;
 /// The part of a source from `start` to `end`.
 #[derive(Clone, Copy, Debug, PartialEq, Eq, Hash)]
 pub struct Span {
+    /// The place before the first character.
     pub start: SourcePosition,
+    /// The place behind the last character.
     pub end: SourcePosition,
 }
 
 impl Span {
+    /// Nothing, at a place.
     pub fn zero_width(pos: SourcePosition) -> Self
         ensures { result ≡ record { start = pos; end = pos } }
     {
@@ -22,6 +26,7 @@ impl Span {
         }
     }
 
+    /// One character that is no line feed, from a place on.
     pub fn single_width(pos: SourcePosition) -> Self
         requires { pos.index < usize.MAX }
         ensures { result ≡ record { start = pos; end = next_column pos } }
@@ -31,6 +36,7 @@ impl Span {
         Span { start: pos, end }
     }
 
+    /// Nothing, where a source begins: the span of what stands in no source.
     pub fn unlocated() -> Self
         ensures { result ≡ origin_span }
     {
@@ -50,12 +56,14 @@ pub struct Spanning<T> {
 }
 
 impl<T> Spanning<T> {
+    /// An item with its span.
     pub fn new(span: Span, item: T) -> Spanning<T>
         ensures { result ≡ record { item = item; span = span } }
     {
         Spanning { item, span }
     }
 
+    /// An item at a place, without a width.
     pub fn zero_width(pos: &SourcePosition, item: T) -> Spanning<T>
         ensures { result ≡ record { item = item; span = record { start = pos.now; end = pos.now } } }
     {
@@ -65,6 +73,7 @@ impl<T> Spanning<T> {
         }
     }
 
+    /// An item that is one character wide, and no line feed.
     pub fn single_width(pos: &SourcePosition, item: T) -> Spanning<T>
         requires { pos.now.index < usize.MAX }
         ensures { result ≡ record { item = item; span = record { start = pos.now; end = next_column pos.now } } }
@@ -75,6 +84,7 @@ impl<T> Spanning<T> {
         }
     }
 
+    /// An item from one place to another.
     pub fn start_end(start: &SourcePosition, end: &SourcePosition, item: T) -> Spanning<T>
         ensures { result ≡ record { item = item; span = record { start = start.now; end = end.now } } }
     {
@@ -87,6 +97,7 @@ impl<T> Spanning<T> {
         }
     }
 
+    /// An item that stands in no source.
     pub fn unlocated(item: T) -> Spanning<T>
         ensures { result ≡ record { item = item; span = origin_span } }
     {
@@ -96,6 +107,7 @@ impl<T> Spanning<T> {
         }
     }
 
+    /// The items, with the span from the first one's start to the last one's end. None of no items.
     pub fn spanning(v: Vec<Spanning<T>>) -> Option<Spanning<Vec<Spanning<T>>>>
     where
         T: Drop,
@@ -112,18 +124,21 @@ impl<T> Spanning<T> {
         })
     }
 
+    /// Where the item starts.
     pub fn start(&self) -> SourcePosition
         ensures { result ≡ self.now.span.start }
     {
         self.span.start
     }
 
+    /// Where the item ends: the place behind its last character.
     pub fn end(&self) -> SourcePosition
         ensures { result ≡ self.now.span.end }
     {
         self.span.end
     }
 
+    /// What `f` makes of the item, with the same span.
     pub fn map<O, F: Fn(T) -> O>(self, f: F) -> Spanning<O>
         requires { F.pre f self.item }
         ensures item { F.post f self.item result.item }
@@ -135,6 +150,7 @@ impl<T> Spanning<T> {
         }
     }
 
+    /// What `f` makes of the item, with the same span, or None where it makes nothing.
     pub fn and_then<O, F: Fn(T) -> Option<O>>(self, f: F) -> Option<Spanning<O>>
         requires { F.pre f self.item }
         ensures { MatchOption result (F.post f self.item None) (λ s. F.post f self.item (Some s.item) × (s.span ≡ self.span)) }
@@ -147,6 +163,7 @@ impl<T> Spanning<T> {
     }
 }
 
+/// Displays the item, `. At ` and where it starts, as `Unexpected "}". At 0:2`.
 impl<T: fmt::Display + Drop> fmt::Display for Spanning<T> {
     ghost use Rattle.juniper_tokens.specs.SpanningText.{spanning_text};
 

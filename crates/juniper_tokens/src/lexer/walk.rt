@@ -3,7 +3,7 @@ ghost use Rattle.std.specs.Prelude.{◌≡◌, ℕ, ◌+◌, ◌<◌, ◌≤◌,
 ghost use Rattle.std.specs.List.{fold};
 ghost use Rattle.std.specs.Str.{chars};
 ghost use Rattle.graphql_lexical.specs.Scan.{gap_step};
-ghost use Rattle.juniper_tokens.specs.Positions.{past_character};
+ghost use Rattle.graphql_lexical.specs.Place.{past_character};
 ghost use Rattle.juniper_tokens.specs.ByteClasses.{class_of};
 ghost use Rattle.juniper_tokens.specs.ByteRuns.{byte_step, byte_change, count_one};
 ghost use Rattle.juniper_tokens.specs.Machine.{view_state};

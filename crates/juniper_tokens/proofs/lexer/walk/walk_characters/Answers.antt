@@ -1,6 +1,6 @@
 use Rattle.std.proofs.Common.{sym, ap, ◌∙◌, arith, ◌<◌, get_or, Some}
 use Rattle.juniper_tokens.specs.Walks.{left_step}
-use Rattle.juniper_tokens.specs.Positions.{past_character}
+use Rattle.graphql_lexical.specs.Place.{past_character}
 use Rattle.juniper_tokens.proofs.ByteRuns.{walked_on, walked_stop, walked_end}
 use Rattle.juniper_tokens.proofs.Walks.{value_goes, value_stops, characters_reached}
 use Rattle.juniper_tokens.proofs.lexer.walk.walk_characters.Goals as goal

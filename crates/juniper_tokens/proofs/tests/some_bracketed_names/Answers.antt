@@ -1,0 +1,12 @@
+use Rattle.std.proofs.Common.{refl, rules}
+use Rattle.juniper_tokens.proofs.ListParts.{name_leaves}
+use Rattle.juniper_tokens.proofs.tests.some_bracketed_names.Goals as goal
+
+pub delimited_nonempty_list-requires : goal.delimited_nonempty_list-requires
+delimited_nonempty_list-requires c κs = (
+  (refl, tt),
+  record {
+    callable = λ given further. search rules;
+    leaves = λ given left r further said. search (rules, name_leaves);
+  },
+)

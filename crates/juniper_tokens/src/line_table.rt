@@ -1,0 +1,84 @@
+//! Positions from the beginnings of lines.
+ghost use Rattle.std.specs.Prelude.{◌≡◌, List, ℕ, IfOk};
+ghost use Rattle.std.specs.Str.{chars};
+ghost use Rattle.juniper_tokens.specs.LineTables.{lines_of, place_within, StartLines, IsOnLine};
+
+use crate::position::SourcePosition;
+use std::alloc::{AllocError, Global};
+use std::marker::Model;
+
+/// Where the lines of a source begin. Positions are found by a binary search.
+#[derive(Drop)]
+pub struct LineTable {
+    // The index of the character at which each line begins.
+    starts: Vec<usize>,
+    // How many characters the source has.
+    count: usize,
+}
+
+impl Model for LineTable {
+    ghost use Rattle.juniper_tokens.specs.LineTables.{Lines, StartLines};
+
+    ghost Value = { Lines };
+
+    ghost view = { λ t. record { starts = t.starts.items; count = t.count } };
+
+    ghost invariant = { λ t. StartLines t.starts.items };
+}
+
+/// A line's number and the index of the character at which it begins.
+#[derive(Clone, Copy)]
+struct Line {
+    number: usize,
+    start: usize,
+}
+
+impl LineTable {
+    /// The table of a source. A line ends at a line feed alone.
+    pub fn new(alloc: Global, source: &str) -> Result<Self, AllocError>
+        ensures { IfOk result (λ table. table ≡ lines_of (chars source.now)) }
+    {
+        let mut starts = Vec::new(alloc);
+        starts.push(0)?;
+        let mut count = 0;
+        for c in source.chars() {
+            count += 1;
+            if c == '\n' {
+                starts.push(count)?;
+            }
+        }
+        Ok(LineTable { starts, count })
+    }
+
+    /// The place behind `index` characters, or None where the source has fewer.
+    pub fn position(&self, index: usize) -> Option<SourcePosition>
+        ensures { (source : List ℕ) → self.now ≡ lines_of source → result ≡ place_within source index }
+    {
+        if index > self.count {
+            return None;
+        }
+        let line = line_of(&self.starts, index);
+        Some(SourcePosition::new(index, line.number, index - line.start))
+    }
+}
+
+// The line on which a character stands.
+fn line_of(starts: &[usize], index: usize) -> Line
+    requires { StartLines starts.now }
+    ensures { IsOnLine starts.now index result.number result.start }
+{
+    let mut low = 0;
+    let mut start = 0;
+    let mut high = starts.len();
+    while high - low > 1 {
+        let middle = low + (high - low) / 2;
+        let found = starts[middle];
+        if found <= index {
+            low = middle;
+            start = found;
+        } else {
+            high = middle;
+        }
+    }
+    Line { number: low, start }
+}
