@@ -17,9 +17,9 @@ pub use ast::{
 };
 pub use document::parse_document_source;
 pub use juniper_tokens::{
-    ByteClass, Kind, LexFailure, Lexer, LexerError, LexerResult, OptionParseResult, ParseError,
-    ParseFailure, ParseResult, Parser, ScalarToken, SourcePosition, Span, Spanning, Token,
-    UnlocatedParseResult, byte_class,
+    ByteClass, Kind, LexFailure, Lexer, LexerError, LexerResult, LineTable, OptionParseResult,
+    ParseError, ParseFailure, ParseResult, Parser, ScalarToken, SourcePosition, Span, Spanning,
+    Token, UnlocatedParseResult, byte_class,
 };
 pub use juniper_values::{
     DefaultScalarValue, FromInputValue, FromScalarValue, InputValue, NameText, ParseScalarResult,
