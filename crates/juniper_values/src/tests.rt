@@ -102,14 +102,22 @@ fn scalars_answer_by_their_kind(rt: HostRuntime) -> Result<(), Fail> {
     assert_eq!(rt; truth.try_to_bool(), Some(true));
     assert!(rt; truth.try_as_str().is_none());
     assert_eq!(rt; word.try_as_str(), Some("x"));
+    assert!(rt; number != word);
+    Ok(())
+}
+
+#[test]
+fn scalars_are_copied_and_made_others(rt: HostRuntime) -> Result<(), Fail> {
+    let alloc = rt.alloc();
+    let word: DefaultScalarValue = scalar_from_str(alloc, "x")?;
     let copied = word.try_to_string(alloc)?.ok_or("no text")?;
     assert_eq!(rt; copied.as_str(), "x");
     assert!(rt; word.try_clone(alloc)? == word);
     let other: DefaultScalarValue = word.into_another(alloc)?;
     let owned = other.try_into_string(alloc)?.ok_or("no text")?;
     assert_eq!(rt; owned.as_str(), "x");
-    let another: DefaultScalarValue = number.into_another(alloc)?;
-    assert!(rt; another == DefaultScalarValue::Int(7));
+    let number: DefaultScalarValue = DefaultScalarValue::Int(7).into_another(alloc)?;
+    assert_eq!(rt; number.try_to_int(), Some(7));
     Ok(())
 }
 
@@ -201,31 +209,36 @@ fn types_are_compared_by_names_and_modifiers(rt: HostRuntime) -> Result<(), Fail
     Ok(())
 }
 
+fn is_shown(alloc: Global, value: &Value, wanted: &str) -> Result<bool, AllocError> {
+    let shown = value.to_string(alloc)?;
+    Ok(shown.as_str() == wanted)
+}
+
 #[test]
-fn values_are_displayed(rt: HostRuntime) -> Result<(), Fail> {
+fn single_values_are_displayed(rt: HostRuntime) -> Result<(), Fail> {
     let alloc = rt.alloc();
     let truth = InputValue::scalar(DefaultScalarValue::Boolean(true));
-    for (value, wanted) in vec![in alloc;
-        (InputValue::null(), "null"),
-        (int(123), "123"),
-        (text(alloc, "FOO")?, "\"FOO\""),
-        (truth, "true"),
-        (InputValue::enum_value(alloc, "BAR")?, "BAR"),
-        (InputValue::variable(alloc, "baz")?, "$baz"),
-        (list(alloc, vec![in alloc; int(1), int(2)]?)?, "[1, 2]"),
-        (
-            object(alloc, vec![in alloc; ("foo", int(1)), ("bar", int(2))]?)?,
-            "{foo: 1, bar: 2}"
-        ),
-    ]? {
-        let shown = value.to_string(alloc)?;
-        assert_eq!(rt; shown.as_str(), wanted);
-    }
+    assert!(rt; is_shown(alloc, &InputValue::null(), "null")?);
+    assert!(rt; is_shown(alloc, &int(123), "123")?);
+    assert!(rt; is_shown(alloc, &text(alloc, "FOO")?, "\"FOO\"")?);
+    assert!(rt; is_shown(alloc, &truth, "true")?);
+    assert!(rt; is_shown(alloc, &InputValue::enum_value(alloc, "BAR")?, "BAR")?);
+    assert!(rt; is_shown(alloc, &InputValue::variable(alloc, "baz")?, "$baz")?);
     Ok(())
 }
 
 #[test]
-fn resolving_without_values(rt: HostRuntime) -> Result<(), Fail> {
+fn lists_and_objects_are_displayed(rt: HostRuntime) -> Result<(), Fail> {
+    let alloc = rt.alloc();
+    let listed = list(alloc, vec![in alloc; int(1), int(2)]?)?;
+    assert!(rt; is_shown(alloc, &listed, "[1, 2]")?);
+    let keyed = object(alloc, vec![in alloc; ("foo", int(1)), ("bar", int(2))]?)?;
+    assert!(rt; is_shown(alloc, &keyed, "{foo: 1, bar: 2}")?);
+    Ok(())
+}
+
+#[test]
+fn items_without_values_are_null(rt: HostRuntime) -> Result<(), Fail> {
     let alloc = rt.alloc();
     let none: Variables<DefaultScalarValue> = HashMap::new(alloc);
     let listed = list(
@@ -233,13 +246,20 @@ fn resolving_without_values(rt: HostRuntime) -> Result<(), Fail> {
         vec![in alloc; InputValue::variable(alloc, "a")?, int(1)]?,
     )?;
     let left = listed.into_const(alloc, &none)?.ok_or("nothing")?;
-    assert!(rt; left == list(alloc, vec![in alloc; InputValue::null(), int(1)]?)?);
+    assert!(rt; is_shown(alloc, &left, "[null, 1]")?);
+    Ok(())
+}
+
+#[test]
+fn fields_without_values_are_left_out(rt: HostRuntime) -> Result<(), Fail> {
+    let alloc = rt.alloc();
+    let none: Variables<DefaultScalarValue> = HashMap::new(alloc);
     let keyed = object(
         alloc,
         vec![in alloc; ("k", InputValue::variable(alloc, "a")?)]?,
     )?;
     let left = keyed.into_const(alloc, &none)?.ok_or("nothing")?;
-    assert!(rt; left == object(alloc, Vec::new(alloc))?);
+    assert!(rt; is_shown(alloc, &left, "{}")?);
     let alone: Value = InputValue::variable(alloc, "a")?;
     assert!(rt; alone.into_const(alloc, &none)?.is_none());
     Ok(())
@@ -253,7 +273,7 @@ fn resolving_leaves_variables_in_values(rt: HostRuntime) -> Result<(), Fail> {
     values.insert(String::from_str(alloc, "a")?, given)?;
     let alone: Value = InputValue::variable(alloc, "a")?;
     let left = alone.into_const(alloc, &values)?.ok_or("nothing")?;
-    assert!(rt; left == list(alloc, vec![in alloc; InputValue::variable(alloc, "b")?]?)?);
+    assert!(rt; is_shown(alloc, &left, "[$b]")?);
     Ok(())
 }
 
@@ -274,6 +294,20 @@ fn variables_are_named_from_left_to_right(rt: HostRuntime) -> Result<(), Fail> {
     Ok(())
 }
 
+fn is_field(map: &IndexMap<&str, &Value>, index: usize, key: &str, number: i32) -> bool {
+    match map.get_index(index) {
+        Some((found, value)) => *found == key && is_int(value, number),
+        None => false,
+    }
+}
+
+fn is_int(value: &Value, number: i32) -> bool {
+    match value {
+        InputValue::Scalar(DefaultScalarValue::Int(found)) => *found == number,
+        _ => false,
+    }
+}
+
 #[test]
 fn a_doubled_key_takes_its_last_value(rt: HostRuntime) -> Result<(), Fail> {
     let alloc = rt.alloc();
@@ -283,10 +317,8 @@ fn a_doubled_key_takes_its_last_value(rt: HostRuntime) -> Result<(), Fail> {
     )?;
     let map = value.to_object_value(alloc)?.ok_or("no object")?;
     assert_eq!(rt; map.len(), 2);
-    for ((key, found), (wanted_key, wanted)) in map.iter().zip([("a", 3), ("b", 2)]) {
-        assert_eq!(rt; *key, wanted_key);
-        assert!(rt; **found == int(wanted));
-    }
+    assert!(rt; is_field(&map, 0, "a", 3));
+    assert!(rt; is_field(&map, 1, "b", 2));
     assert!(rt; int(1).to_object_value(alloc)?.is_none());
     Ok(())
 }
@@ -296,10 +328,9 @@ fn a_list_gives_its_items(rt: HostRuntime) -> Result<(), Fail> {
     let alloc = rt.alloc();
     let value = list(alloc, vec![in alloc; int(1), int(2)]?)?;
     let items = value.to_list_value(alloc)?.ok_or("no list")?;
-    assert!(rt; items.len() == 2);
-    for (item, wanted) in items.iter().zip([1, 2]) {
-        assert!(rt; **item == int(wanted));
-    }
+    assert_eq!(rt; items.len(), 2);
+    assert!(rt; is_int(items[0], 1));
+    assert!(rt; is_int(items[1], 2));
     assert!(rt; int(1).to_list_value(alloc)?.is_none());
     Ok(())
 }
@@ -370,14 +401,14 @@ fn values_are_told_apart(rt: HostRuntime) -> Result<(), Fail> {
 struct IsGiven(bool);
 
 impl<S: Drop> FromInputValue<S> for IsGiven {
-    ghost use Rattle.std.specs.Prelude.{◌≡◌, not, IfOk};
+    ghost use Rattle.std.specs.Prelude.{◌≡◌, not, false, IfOk};
     ghost use Rattle.juniper_values.specs.Kinds.{is_null};
 
     type Error = AllocError;
 
     ghost answers = { λ v r. IfOk r (λ given. given.0 ≡ not (is_null v)) };
 
-    ghost implicit = { λ r. IfOk r (λ given. given.0 ≡ Prim.Bool.false) };
+    ghost implicit = { λ r. IfOk r (λ given. given.0 ≡ false) };
 
     fn from_input_value(_alloc: Global, value: &InputValue<S>) -> Result<IsGiven, AllocError> {
         Ok(IsGiven(!value.is_null()))
