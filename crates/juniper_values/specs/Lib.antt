@@ -1,0 +1,14 @@
+pub mod Text
+pub mod Scalar
+pub mod ScalarDisplay
+pub mod Escapes
+pub mod Integers
+pub mod Default
+pub mod TypeLiteral
+pub mod Value
+pub mod View
+pub mod Display
+pub mod Operations
+pub mod Same
+pub mod ScalarLaws
+pub mod TypeLaws

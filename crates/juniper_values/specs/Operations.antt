@@ -1,0 +1,52 @@
+-- What the operations on input values answer, by recursion over the tree.
+use Rattle.std.specs.Prelude.{List, [], ◌∷◌, ◌++◌, Option, Some, None}
+use Rattle.juniper_values.specs.Text.{Text}
+use Rattle.graphql_lexical.specs.Place.{Span}
+use Rattle.juniper_values.specs.Value.{Value, null, scalar, enum_value, variable, list, object, Items, no_items, item, Fields, no_fields, field}
+
+-- the names of the variables, from left to right
+abbrev mutual
+  pub variables : {C : Type 0} → Value C → List Text
+  variables null = []
+  variables (scalar s) = []
+  variables (enum_value t) = []
+  variables (variable t) = t ∷ []
+  variables (list xs) = item_variables xs
+  variables (object fs) = field_variables fs
+
+  pub item_variables : {C : Type 0} → Items C → List Text
+  item_variables no_items = []
+  item_variables (item v s xs) = variables v ++ item_variables xs
+
+  pub field_variables : {C : Type 0} → Fields C → List Text
+  field_variables no_fields = []
+  field_variables (field k s v t fs) = variables v ++ field_variables fs
+
+-- the value of each variable, where there is one
+abbrev pub Values : Type 0 → Type 0
+Values C = Text → Option (Value C)
+
+abbrev pub or_null : {C : Type 0} → Option (Value C) → Value C
+or_null None = null
+or_null (Some v) = v
+
+abbrev pub field_if : {C : Type 0} → Text → Span → Option (Value C) → Span → Fields C → Fields C
+field_if k s None t fs = fs
+field_if k s (Some v) t fs = field k s v t fs
+
+abbrev mutual
+  pub resolve : {C : Type 0} → Values C → Value C → Option (Value C)
+  resolve m null = Some null
+  resolve m (scalar s) = Some (scalar s)
+  resolve m (enum_value t) = Some (enum_value t)
+  resolve m (variable t) = m t
+  resolve m (list xs) = Some (list (resolve_items m xs))
+  resolve m (object fs) = Some (object (resolve_fields m fs))
+
+  pub resolve_items : {C : Type 0} → Values C → Items C → Items C
+  resolve_items m no_items = no_items
+  resolve_items m (item v s xs) = item (or_null (resolve m v)) s (resolve_items m xs)
+
+  pub resolve_fields : {C : Type 0} → Values C → Fields C → Fields C
+  resolve_fields m no_fields = no_fields
+  resolve_fields m (field k s v t fs) = field_if k s (resolve m v) t (resolve_fields m fs)

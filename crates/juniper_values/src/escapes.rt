@@ -1,0 +1,106 @@
+// The text that the slice of a String token stands for.
+ghost use Rattle.std.specs.Prelude.{◌≡◌, ◌<◌, ◌≤◌, ◌+◌, ◌*◌, ◌^◌, ℕ, IfOk, option_map, string_bytes, IfSome};
+ghost use Rattle.std.specs.Char.{IsScalar};
+ghost use Rattle.std.specs.Str.{chars};
+ghost use Rattle.juniper_values.specs.Escapes.{unescape, step_of, short_escape, hex_value, IsStage};
+
+use std::alloc::{AllocError, Global};
+
+#[derive(Clone, Copy)]
+pub(crate) enum Stage {
+    Plain,
+    Escaped,
+    Hex(u8, u32),
+}
+
+pub(crate) fn unescape(alloc: Global, text: &str) -> Result<Option<String>, AllocError>
+    ensures { IfOk result (λ o. option_map (λ s. chars (string_bytes s)) o ≡ unescape (chars text.now)) }
+{
+    let mut out = String::new(alloc);
+    let mut stage = Stage::Plain;
+    for c in text.chars() {
+        match step(stage, c) {
+            None => return Ok(None),
+            Some((next, made)) => {
+                stage = next;
+                if let Some(d) = made {
+                    out.push(d)?;
+                }
+            }
+        }
+    }
+    match stage {
+        Stage::Plain => Ok(Some(out)),
+        _ => Ok(None),
+    }
+}
+
+fn step(stage: Stage, c: char) -> Option<(Stage, Option<char>)>
+    requires { IsStage stage }
+    ensures value { result ≡ step_of stage c }
+    ensures kept { IfSome result (λ p. IsStage p.0) }
+    ensures scalar { IfSome result (λ p. IfSome p.1 IsScalar) }
+{
+    match stage {
+        Stage::Plain => {
+            if c == '\\' {
+                Some((Stage::Escaped, None))
+            } else {
+                Some((Stage::Plain, Some(c)))
+            }
+        }
+        Stage::Escaped => {
+            if c == 'u' {
+                Some((Stage::Hex(3, 0), None))
+            } else {
+                match short(c) {
+                    Some(d) => Some((Stage::Plain, Some(d))),
+                    None => None,
+                }
+            }
+        }
+        Stage::Hex(n, v) => match hex(c) {
+            Some(d) => {
+                let w = v * 16 + d;
+                if n == 0 {
+                    match char::from_u32(w) {
+                        Some(e) => Some((Stage::Plain, Some(e))),
+                        None => None,
+                    }
+                } else {
+                    Some((Stage::Hex(n - 1, w), None))
+                }
+            }
+            None => None,
+        },
+    }
+}
+
+fn short(c: char) -> Option<char>
+    ensures value { result ≡ short_escape c }
+    ensures scalar { IfSome result IsScalar }
+{
+    match c {
+        '"' => Some('"'),
+        '\\' => Some('\\'),
+        '/' => Some('/'),
+        'b' => Some('\u{8}'),
+        'f' => Some('\u{c}'),
+        'n' => Some('\n'),
+        'r' => Some('\r'),
+        't' => Some('\t'),
+        _ => None,
+    }
+}
+
+fn hex(c: char) -> Option<u32>
+    ensures value { result ≡ hex_value c }
+    ensures small { IfSome result (λ d. d < 16) }
+{
+    match c {
+        '0'..='9' => Some(c as u32 - 48),
+        'a'..='f' => Some(c as u32 - 87),
+        'A'..='F' => Some(c as u32 - 55),
+        _ => None,
+    }
+}

@@ -1,0 +1,100 @@
+// Variables replaced by their values.
+ghost use Rattle.std.specs.Prelude.{◌≡◌, IfOk, option_map};
+ghost use Rattle.juniper_values.specs.Operations.{resolve, resolve_items, resolve_fields, or_null};
+ghost use Rattle.juniper_values.specs.View.{view, text_of, view_items, view_fields, values_in};
+
+use crate::input_value::InputValue;
+use crate::scalar::ScalarValue;
+use std::alloc::{AllocError, Global};
+use std::collections::HashMap;
+use juniper_tokens::Spanning;
+
+pub type Variables<S> = HashMap<String, InputValue<S>>;
+
+impl<S: ScalarValue> InputValue<S> {
+    pub fn into_const(
+        self,
+        alloc: Global,
+        values: &Variables<S>,
+    ) -> Result<Option<Self>, AllocError>
+        ensures { IfOk result
+            (λ o. option_map (view S.content) o ≡ resolve (values_in S.content values.now) (view S.content self)) }
+    {
+        constant(self, alloc, values)
+    }
+}
+
+#[cycle(resolve)]
+fn constant<S: ScalarValue>(
+    value: InputValue<S>,
+    alloc: Global,
+    values: &Variables<S>,
+) -> Result<Option<InputValue<S>>, AllocError>
+    ensures { IfOk result
+        (λ o. option_map (view S.content) o ≡ resolve (values_in S.content values.now) (view S.content value)) }
+{
+    match value {
+        InputValue::Null => Ok(Some(InputValue::Null)),
+        InputValue::Scalar(scalar) => Ok(Some(InputValue::Scalar(scalar))),
+        InputValue::Enum(name) => Ok(Some(InputValue::Enum(name))),
+        InputValue::Variable(name) => value_of(name, alloc, values),
+        InputValue::List(items) => Ok(Some(InputValue::List(constant_items(items, alloc, values)?))),
+        InputValue::Object(fields) => Ok(Some(InputValue::Object(constant_fields(
+            fields, alloc, values,
+        )?))),
+    }
+}
+
+fn value_of<S: ScalarValue>(
+    name: String,
+    alloc: Global,
+    values: &Variables<S>,
+) -> Result<Option<InputValue<S>>, AllocError>
+    ensures { IfOk result
+        (λ o. option_map (view S.content) o ≡ values_in S.content values.now (text_of name)) }
+{
+    match values.get(name.as_str()) {
+        Some(value) => Ok(Some(value.try_clone(alloc)?)),
+        None => Ok(None),
+    }
+}
+
+#[cycle(resolve)]
+fn constant_items<S: ScalarValue>(
+    items: Vec<Spanning<InputValue<S>>>,
+    alloc: Global,
+    values: &Variables<S>,
+) -> Result<Vec<Spanning<InputValue<S>>>, AllocError>
+    ensures { IfOk result
+        (λ v. view_items S.content v.items
+        ≡ resolve_items (values_in S.content values.now) (view_items S.content items.items)) }
+{
+    let mut done = Vec::new(alloc);
+    for item in items {
+        let Spanning { item, span } = item;
+        let value = constant(item, alloc, values)?.unwrap_or(InputValue::Null);
+        done.push(Spanning::new(span, value))?;
+    }
+    Ok(done)
+}
+
+#[cycle(resolve)]
+fn constant_fields<S: ScalarValue>(
+    fields: Vec<(Spanning<String>, Spanning<InputValue<S>>)>,
+    alloc: Global,
+    values: &Variables<S>,
+) -> Result<Vec<(Spanning<String>, Spanning<InputValue<S>>)>, AllocError>
+    ensures { IfOk result
+        (λ v. view_fields S.content v.items
+        ≡ resolve_fields (values_in S.content values.now) (view_fields S.content fields.items)) }
+{
+    let mut done = Vec::new(alloc);
+    for field in fields {
+        let (key, value) = field;
+        let Spanning { item, span } = value;
+        if let Some(value) = constant(item, alloc, values)? {
+            done.push((key, Spanning::new(span, value)))?;
+        }
+    }
+    Ok(done)
+}

@@ -1,0 +1,17 @@
+//! Scalars, type literals and input values of GraphQL.
+#![tactic(auto)]
+
+mod default_scalar;
+mod escapes;
+mod input_value;
+mod scalar;
+mod text;
+mod type_literal;
+
+pub use default_scalar::DefaultScalarValue;
+pub use input_value::{InputValue, Variables};
+pub use scalar::{
+    FromScalarValue, ParseScalarResult, ParseScalarValue, ReadFailure, Scalar, ScalarValue,
+    ToScalarValue, WrongInputScalarTypeError, scalar_from_str,
+};
+pub use type_literal::{NameText, Type, TypeModifier, TypeModifiers};

@@ -1,0 +1,45 @@
+//! Comparing, copying and writing texts.
+ghost use Rattle.std.specs.Prelude.{◌≡◌, Some, IfOk};
+ghost use Rattle.std.specs.Fmt.{DisplaysOnOk};
+ghost use Rattle.std.specs.Str.{chars, encode_utf8_all};
+ghost use Rattle.graphql_lexical.specs.Display.{quoted};
+ghost use Rattle.juniper_values.specs.View.{text_of};
+ghost use Rattle.juniper_values.specs.Text.{same_text};
+
+use std::alloc::{AllocError, Global};
+use std::fmt;
+
+// Whether two texts have the same characters.
+pub(crate) fn same_str(a: &str, b: &str) -> bool
+    ensures { result ≡ same_text (chars a.now) (chars b.now) }
+{
+    a == b
+}
+
+// Whether two texts have the same characters.
+pub(crate) fn same_string(a: &String, b: &String) -> bool
+    ensures { result ≡ same_text (text_of a.now) (text_of b.now) }
+{
+    same_str(a.as_str(), b.as_str())
+}
+
+// A copy of a text.
+pub(crate) fn copied(alloc: Global, text: &String) -> Result<String, AllocError>
+    ensures { IfOk result (λ s. text_of s ≡ text_of text.now) }
+{
+    String::from_str(alloc, text.as_str())
+}
+
+// Writes the text as it stands.
+pub(crate) fn write_text<W: fmt::Write>(f: &mut fmt::Formatter<W>, text: &str) -> fmt::Result
+    ensures { DisplaysOnOk W.write_str_gives f.old result (Some (encode_utf8_all (chars text.now))) f.new }
+{
+    f.write_str(text)
+}
+
+// Writes the text as it stands, between quotes.
+pub(crate) fn write_quoted<W: fmt::Write>(f: &mut fmt::Formatter<W>, text: &str) -> fmt::Result
+    ensures { DisplaysOnOk W.write_str_gives f.old result (Some (encode_utf8_all (quoted (chars text.now)))) f.new }
+{
+    write!(f, "\"{text}\"")
+}
