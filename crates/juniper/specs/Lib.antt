@@ -1,6 +1,4 @@
-pub mod Tree
 pub mod View
-pub mod Grammar
-pub mod Reading
-pub mod Answer
-pub mod Promise
+pub mod Scalars
+pub mod Seen
+pub mod Values

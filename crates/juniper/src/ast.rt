@@ -1,6 +1,6 @@
 //! The tree of an executable document.
 
-use crate::values::{InputValue, Type};
+use juniper_values::{InputValue, Type};
 use juniper_tokens::Spanning;
 
 /// What a variable is declared as (GraphQL specification, October 2021, section 2.10).

@@ -1,25 +1,22 @@
 //! The tree of an executable GraphQL document, and the parser that gives it
 //! (GraphQL specification, October 2021, section 2).
-//!
-//! So far the parser reads fields and selection sets: a definition is a selection set alone, and a field a name, with or
-//! without a selection set.
 #![tactic(auto)]
 
 mod ast;
-mod document;
-pub mod laws;
 mod next;
-mod selection;
-mod values;
+mod value;
 
 pub use ast::{
     Arguments, Definition, Directive, Field, Fragment, FragmentSpread, InlineFragment, Operation,
     OperationType, OwnedDocument, Selection, VariableDefinition, VariableDefinitions,
 };
-pub use document::parse_document_source;
 pub use juniper_tokens::{
     ByteClass, Kind, LexFailure, Lexer, LexerError, LexerResult, OptionParseResult, ParseError,
     ParseFailure, ParseResult, Parser, ScalarToken, SourcePosition, Span, Spanning, Token,
     UnlocatedParseResult, byte_class,
 };
-pub use values::{DefaultScalarValue, InputValue, NameText, Type, TypeModifier, TypeModifiers};
+pub use juniper_values::{
+    FromScalarValue, InputValue, NameText, ParseScalarResult, ParseScalarValue,
+    ReadFailure, Scalar, ScalarValue, ToScalarValue, Type, TypeModifier, TypeModifiers,
+
+};
