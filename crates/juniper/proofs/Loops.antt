@@ -7,6 +7,7 @@ use Rattle.juniper_tokens.specs.declared.error.ParseFailure.{ParseFailure}
 use Rattle.juniper_tokens.specs.declared.error.ParseFailure.TheVariants as failures
 use Rattle.juniper_tokens.specs.Errors.{view_fault}
 use Rattle.juniper_tokens.specs.Cursor.{Read, Fails, ◌>>=◌}
+use Rattle.juniper.specs.Values.{then_others}
 
 -- these items, and then those that are read, with what stands behind them
 abbrev pub with_front : {A B : Type 0} → List A → Read (List A × B) → Read (List A × B)
@@ -15,10 +16,6 @@ with_front front r = r >>= λ x. Ok ((front ++ x.0.0, x.0.1), x.1)
 pub no_front : {A B : Type 0} (r : Read (List A × B)) → with_front [] r ≡ r
 no_front (Ok x) = refl
 no_front (Err e) = refl
-
--- one item, and then others
-abbrev pub then_others : {A B : Type 0} → A → Read (List A × B) → Read (List A × B)
-then_others a r = r >>= λ x. Ok ((a ∷ x.0.0, x.0.1), x.1)
 
 regroup : {A B : Type 0} (front : List A) (a : A) (r : Read (List A × B)) → with_front front (then_others a r) ≡ with_front (front ++ a ∷ []) r
 regroup front a (Ok x) = ap (λ (as' : List _). Ok ((as', x.0.1), x.1)) (sym (append_assoc front (a ∷ []) x.0.0))
@@ -92,3 +89,17 @@ module _ {A : Type 0} (skip : List Lexeme → Read (Option Lexeme)) (item : List
   some_close_fails (failures.Refused e) a q left first fails =
       let one : some p ≡ Err (view_fault e, left) = u.unfolds p ∙ rw (first, fails) refl in
       sym so_far ∙ ap (with_front front) one
+
+-- where a list of any length goes so, one of one item or more does
+pub some_repeats : {A : Type 0} (skip : List Lexeme → Read (Option Lexeme)) (item : List Lexeme → Read A) (more : List Lexeme → Read (List A × Span)) → Repeats skip item more
+    → RepeatsSome skip item (λ ts. item ts >>= λ x. then_others x.0 (more x.1))
+some_repeats {A} skip item more u = record { unfolds = λ ts. by_item (item ts) }
+  where
+    by_skip : (a : A) (r : Read (Option Lexeme)) → then_others a (r >>= λ c. closed_or item more c.0 c.1) ≡ (r >>= λ c. ended_or a (λ ts. item ts >>= λ x. then_others x.0 (more x.1)) c.0 c.1)
+    by_skip a (Ok (Some c, ts)) = refl
+    by_skip a (Ok (None, ts)) = refl
+    by_skip a (Err e) = refl
+
+    by_item : (r : Read A) → (r >>= λ x. then_others x.0 (more x.1)) ≡ (r >>= λ x. skip x.1 >>= λ c. ended_or x.0 (λ ts. item ts >>= λ y. then_others y.0 (more y.1)) c.0 c.1)
+    by_item (Ok x) = ap (then_others x.0) (u.unfolds x.1) ∙ by_skip x.0 (skip x.1)
+    by_item (Err e) = refl

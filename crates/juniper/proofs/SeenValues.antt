@@ -14,9 +14,9 @@ use Rattle.juniper_tokens.specs.declared.token.Token.TheVariants as token
 use Rattle.juniper_tokens.specs.Errors.{Error, UnexpectedEndOfFile}
 use Rattle.juniper_tokens.specs.Cursor.{Read, ◌>>=◌, first_of, kind_at, next_at, next_if, skip_if, skip_at, expect_at, expect_name_at}
 use Rattle.juniper.specs.Seen.{seen, past}
-use Rattle.juniper.specs.Values.{from_to, closed_by, read_here, literal_here, variable_read, literal_read, name_read, values_read, fields_read, list_read, object_read, value_by, value_read, field_read}
+use Rattle.juniper.specs.Values.{from_to, closed_by, then_others, read_here, literal_here, variable_read, literal_read, name_read, values_read, fields_read, list_read, object_read, value_by, value_read, field_read}
 use Rattle.juniper.proofs.Stepping.{bind_assoc, bind_same, seen_seq, seq_as, want_as, taken, kind_no_end}
-use Rattle.juniper.proofs.Loops.{Repeats, closed_or, then_others}
+use Rattle.juniper.proofs.Loops.{Repeats, closed_or}
 
 module _ {C : Type 0} (S : Scalars C Error) where
   scalar_seen : (t : Lexeme) (ts : List Lexeme) (z : Result C Error) → past (t ∷ ts) ≡ ts → seen (read_as t ts z) ≡ read_here z t.span ts

@@ -2,3 +2,4 @@ pub mod View
 pub mod Scalars
 pub mod Seen
 pub mod Values
+pub mod Parts

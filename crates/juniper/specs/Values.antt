@@ -23,6 +23,10 @@ from_to a b = record { start = a.start; end = b.end }
 abbrev pub closed_by : {A : Type 0} → Read (List A × Lexeme) → Read (List A × Span)
 closed_by r = r >>= λ x. Ok ((x.0.0, x.0.1.span), x.1)
 
+-- one item, and then others
+abbrev pub then_others : {A B : Type 0} → A → Read (List A × B) → Read (List A × B)
+then_others a r = r >>= λ x. Ok ((a ∷ x.0.0, x.0.1), x.1)
+
 abbrev pub view_list : {X A : Type 0} → (X → A) → Spanning (Vec X) → List A × Span
 view_list view s = (map view s.item.items, view_span s.span)
 

@@ -4,6 +4,7 @@
 
 mod ast;
 mod next;
+mod types;
 mod value;
 
 pub use ast::{
