@@ -1,5 +1,5 @@
 -- Loops over items: what was read so far, and what reading gives from here, make what reading gives in all.
-use Rattle.std.proofs.Common.{◌≡◌, List, [], ◌∷◌, ◌++◌, Result, Ok, Err, Option, Some, None, refl, sym, ap, ◌∙◌, append_assoc}
+use Rattle.std.proofs.Common.{◌≡◌, Bool, true, false, cond, List, [], ◌∷◌, ◌++◌, Result, Ok, Err, Option, Some, None, refl, sym, ap, ◌∙◌, append_assoc}
 use Rattle.std.proofs.lemmas.List.{append-nil}
 use Rattle.graphql_lexical.specs.Place.{Span}
 use Rattle.graphql_lexical.specs.Cutting.{Lexeme}
@@ -103,3 +103,37 @@ some_repeats {A} skip item more u = record { unfolds = λ ts. by_item (item ts) 
     by_item : (r : Read A) → (r >>= λ x. then_others x.0 (more x.1)) ≡ (r >>= λ x. skip x.1 >>= λ c. ended_or x.0 (λ ts. item ts >>= λ y. then_others y.0 (more y.1)) c.0 c.1)
     by_item (Ok x) = ap (then_others x.0) (u.unfolds x.1) ∙ by_skip x.0 (skip x.1)
     by_item (Err e) = refl
+
+-- ---- items as long as a token stands next
+
+-- these items, and then those that are read
+abbrev pub before_others : {A : Type 0} → List A → Read (List A) → Read (List A)
+before_others front r = r >>= λ x. Ok (front ++ x.0, x.1)
+
+before_regroup : {A : Type 0} (front : List A) (a : A) (r : Read (List A)) → before_others front (r >>= λ x. Ok (a ∷ x.0, x.1)) ≡ before_others (front ++ a ∷ []) r
+before_regroup front a (Ok x) = ap (λ (as' : List _). Ok (as', x.1)) (sym (append_assoc front (a ∷ []) x.0))
+before_regroup front a (Err e) = refl
+
+-- from p, where the test of a turn of the loop is b
+module _ {A : Type 0} (front : List A) (item : Read A) (each : List Lexeme → Read (List A)) (here total : Read (List A)) (b : Bool) (p : List Lexeme)
+    (unfolds : here ≡ cond b (item >>= λ d. each d.1 >>= λ ds. Ok (d.0 ∷ ds.0, ds.1)) (Ok ([], p))) (so_far : before_others front here ≡ total) where
+  pub before_go_on : b ≡ true → (a : A) (q : List Lexeme) → item ≡ Ok (a, q) → before_others (front ++ a ∷ []) (each q) ≡ total
+  before_go_on test a q first =
+      let one : here ≡ (each q >>= λ ds. Ok (a ∷ ds.0, ds.1)) = unfolds ∙ rw (test, first) refl in
+      sym (ap (before_others front) one ∙ before_regroup front a (each q)) ∙ so_far
+
+  pub before_end : b ≡ false → total ≡ Ok (front, p)
+  before_end test =
+      let one : here ≡ Ok ([], p) = unfolds ∙ rw test refl in
+      sym so_far ∙ ap (before_others front) one ∙ ap (λ (as' : List A). Ok (as', p)) (append-nil front)
+
+  pub before_fail : b ≡ true → (e : ParseFailure) (left : List Lexeme) → Fails e left item → Fails e left total
+  before_fail test failures.Memory left fails = tt
+  before_fail test (failures.Refused e) left fails =
+      let one : here ≡ Err (view_fault e, left) = unfolds ∙ rw (test, fails) refl in
+      sym so_far ∙ ap (before_others front) one
+
+-- what fails first fails in all
+pub after_fails : {A B : Type 0} (e : ParseFailure) (left : List Lexeme) (r : Read A) (f : (A × List Lexeme) → Read B) → Fails e left r → Fails e left (r >>= f)
+after_fails failures.Memory left r f fails = tt
+after_fails (failures.Refused e) left r f fails = rw fails refl

@@ -12,7 +12,7 @@ use Rattle.graphql_grammar.specs.Reading.{Test, of, passes, Took, Refused, Out, 
 use Rattle.graphql_grammar.specs.Reading as reading
 use Rattle.graphql_grammar.proofs.TokenTests.{of_kind}
 use Rattle.juniper_tokens.specs.Errors.{Error, Fault, UnexpectedToken, UnexpectedEndOfFile}
-use Rattle.juniper_tokens.specs.Cursor.{Read, ◌>>=◌, first_of, kind_at, next_at, refused_at, next_if}
+use Rattle.juniper_tokens.specs.Cursor.{Read, ◌>>=◌, EndsOnce, first_of, kind_at, next_at, refused_at, next_if}
 use Rattle.juniper.specs.Seen.{seen, error_of, past}
 
 -- ---- steps in a row
@@ -103,6 +103,16 @@ pub look_as : {A : Type 0} (test : Test) (f g : Reader Error A) (ts : List Lexem
 unfolding look
 look_as test f g [] e = ap (λ (b : Bool). cond b (seen (f [])) (seen (g []))) (sym e)
 look_as test f g (t ∷ ts) e = by_test (passes test t)
+  where
+    by_test : (b : Bool) → seen (choose b f g (t ∷ ts)) ≡ cond b (seen (f (t ∷ ts))) (seen (g (t ∷ ts)))
+    by_test true = refl
+    by_test false = refl
+
+-- the same where a token stands next
+pub look_ended : {A : Type 0} (test : Test) (f g : Reader Error A) (ts : List Lexeme) → EndsOnce ts → seen (look test f g ts) ≡ cond (passes test (first_of ts)) (seen (f ts)) (seen (g ts))
+unfolding look
+look_ended test f g [] e = absurd e
+look_ended test f g (t ∷ ts) e = by_test (passes test t)
   where
     by_test : (b : Bool) → seen (choose b f g (t ∷ ts)) ≡ cond b (seen (f (t ∷ ts))) (seen (g (t ∷ ts)))
     by_test true = refl

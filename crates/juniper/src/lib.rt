@@ -3,9 +3,12 @@
 #![tactic(auto)]
 
 mod ast;
+mod directives;
 mod next;
+mod spans;
 mod types;
 mod value;
+mod variables;
 
 pub use ast::{
     Arguments, Definition, Directive, Field, Fragment, FragmentSpread, InlineFragment, Operation,
