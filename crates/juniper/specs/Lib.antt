@@ -3,3 +3,4 @@ pub mod Scalars
 pub mod Seen
 pub mod Values
 pub mod Parts
+pub mod Selections
