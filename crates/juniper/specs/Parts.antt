@@ -48,6 +48,10 @@ abbrev pub to_end_of : Span → Option Span → Span
 to_end_of p None = p
 to_end_of p (Some q) = from_to p q
 
+abbrev pub from_start_of : Option Span → Span → Span
+from_start_of None p = p
+from_start_of (Some q) p = from_to q p
+
 module _ {C : Type 0} (S : Scalars C Error) where
   -- ---- arguments
 

@@ -5,6 +5,7 @@
 mod ast;
 mod directives;
 mod next;
+mod selection;
 mod spans;
 mod types;
 mod value;

@@ -1,5 +1,5 @@
 //! Value literals (GraphQL specification, October 2021, section 2.9).
-ghost use Rattle.std.specs.Prelude.{◌≡◌, ◌<◌, length, OnOk, IfOk, not, bytes_eq};
+ghost use Rattle.std.specs.Prelude.{◌≡◌, ◌<◌, length, OnOk, IfOk, not};
 ghost use Rattle.std.specs.Str.{chars};
 ghost use Rattle.graphql_lexical.specs.Kinds.{same_kind};
 ghost use Rattle.graphql_grammar.specs.Reading.{by_name};
@@ -11,7 +11,7 @@ ghost use Rattle.juniper.specs.Values.{view_list, values_read, fields_read, list
 ghost use Rattle.juniper.specs.Scalars.{stated};
 ghost use Rattle.juniper_values.specs.Scalar.{MeetsReading};
 
-use crate::next::next_kind;
+use crate::next::{next_kind, same_text};
 use juniper_tokens::{Kind, ParseError, ParseFailure, ParseResult, Parser, Spanning, Token};
 use juniper_values::{InputValue, ReadFailure, ScalarValue};
 use std::alloc::{AllocError, Global};
@@ -186,11 +186,4 @@ fn value_of_name<'a, S: ScalarValue>(
         let text = String::from_str(alloc, name.item)?;
         Ok(Spanning::new(name.span, InputValue::Enum(text)))
     }
-}
-
-// Whether two texts have the same characters.
-fn same_text(a: &str, b: &str) -> bool
-    ensures { result ≡ bytes_eq (chars a.now) (chars b.now) }
-{
-    a == b
 }
