@@ -3,6 +3,7 @@
 #![tactic(auto)]
 
 mod ast;
+mod definition;
 mod directives;
 mod next;
 mod selection;

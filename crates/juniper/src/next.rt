@@ -1,11 +1,11 @@
 //! The next token.
-ghost use Rattle.std.specs.Prelude.{◌≡◌, bytes_eq};
+ghost use Rattle.std.specs.Prelude.{◌≡◌, bytes_eq, OnOk};
 ghost use Rattle.std.specs.Str.{chars};
 ghost use Rattle.graphql_lexical.specs.Kinds.{same_kind};
-ghost use Rattle.juniper_tokens.specs.Cursor.{EndsOnce, first_of, kind_at};
+ghost use Rattle.juniper_tokens.specs.Cursor.{EndsOnce, Gives, first_of, kind_at, refused_at};
 ghost use Rattle.juniper.specs.Selections.{is_word};
 
-use juniper_tokens::{Kind, Parser, Token};
+use juniper_tokens::{Kind, ParseError, ParseFailure, Parser, Spanning, Token};
 
 /// The kind of the next token, which is left there.
 pub(crate) fn next_kind(parser: &Parser<'_>) -> Kind
@@ -32,6 +32,16 @@ pub(crate) fn next_is_word(parser: &Parser<'_>, text: &str) -> bool
         Token::Name(name) => same_text(name, text),
         _ => false,
     }
+}
+
+/// Takes the next token, and tells that it is unexpected. At the end nothing is taken.
+pub(crate) fn refuse<T: Drop>(parser: &mut Parser<'_>) -> Result<T, ParseFailure>
+    ensures gives { Gives (λ x. x) result parser.new (refused_at parser.old) }
+    ensures never { OnOk result ⊥ }
+{
+    let token = parser.next_token()?;
+    let error = ParseError::unexpected_token(parser.allocator(), token.item)?;
+    Err(ParseFailure::Refused(Spanning::new(token.span, error)))
 }
 
 /// Whether two texts have the same characters.
