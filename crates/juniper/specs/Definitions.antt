@@ -1,13 +1,15 @@
 -- The reading of definitions, in the steps of a cursor.
 use Rattle.std.specs.Prelude.{ℕ, List, [], ◌∷◌, codes, Result, Ok, Err, Option, Some, None, option_map, if◌then◌else◌}
 use Rattle.graphql_lexical.specs.Place.{Span}
-use Rattle.graphql_lexical.specs.declared.kind.Kind.TheVariants.{Name}
+use Rattle.graphql_lexical.specs.declared.kind.Kind.TheVariants.{Name, EndOfFile}
 use Rattle.graphql_lexical.specs.Kinds.{same_kind}
 use Rattle.graphql_lexical.specs.Cutting.{Lexeme}
 use Rattle.graphql_grammar.specs.Tokens.{Word, word_of}
 use Rattle.graphql_grammar.specs.Tree.{Scalars, OperationType, Query, Mutation, Subscription, Definition, Operation, Fragment}
+use Rattle.graphql_grammar.specs.Reading.{of, many, fully, definition}
 use Rattle.juniper_tokens.specs.Errors.{Error}
 use Rattle.juniper_tokens.specs.Cursor.{Read, ◌>>=◌, first_of, kind_at, next_at, next_if, refused_at, expect_name_at}
+use Rattle.juniper.specs.Seen.{seen}
 use Rattle.juniper.specs.Values.{from_to}
 use Rattle.juniper.specs.Parts.{optional_variables_read}
 use Rattle.juniper.specs.Selections.{is_word, set_read, inline_parts_read}
@@ -48,3 +50,11 @@ module _ {C : Type 0} (S : Scalars C Error) where
 
   unfoldable pub definition_read : List Lexeme → Read (Definition C)
   definition_read ts = operation_or (operation_at (first_of ts)) ts
+
+module _ {C : Type 0} (S : Scalars C Error) where
+  -- Definition*, and the end
+  unfoldable pub definitions_rest_read : List Lexeme → Read (List (Definition C))
+  definitions_rest_read ts = seen (fully (λ n. many (of EndOfFile) (definition S n) n) ts) >>= λ r. Ok (r.0.0, r.1)
+
+  unfoldable pub document_read : List Lexeme → Read (List (Definition C))
+  document_read ts = definition_read S ts >>= λ x. definitions_rest_read x.1 >>= λ r. Ok (x.0 ∷ r.0, r.1)

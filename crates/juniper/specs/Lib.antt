@@ -5,3 +5,4 @@ pub mod Values
 pub mod Parts
 pub mod Selections
 pub mod Definitions
+pub mod Promise

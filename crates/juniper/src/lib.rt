@@ -5,6 +5,7 @@
 mod ast;
 mod definition;
 mod directives;
+mod document;
 mod next;
 mod selection;
 mod spans;
@@ -16,6 +17,7 @@ pub use ast::{
     Arguments, Definition, Directive, Field, Fragment, FragmentSpread, InlineFragment, Operation,
     OperationType, OwnedDocument, Selection, VariableDefinition, VariableDefinitions,
 };
+pub use document::parse_document_source;
 pub use juniper_tokens::{
     ByteClass, Kind, LexFailure, Lexer, LexerError, LexerResult, OptionParseResult, ParseError,
     ParseFailure, ParseResult, Parser, ScalarToken, SourcePosition, Span, Spanning, Token,
