@@ -1,19 +1,20 @@
 -- What is promised of a text, in the words of the grammar.
-use Rattle.std.specs.Prelude.{◌≡◌, ℕ, List, Result, Ok, Err}
-use Rattle.graphql_lexical.specs.Place.{Place}
+use Rattle.std.specs.Prelude.{◌≡◌, ◌≤◌, ℕ, suc, Bool, List, ◌∷◌, ◌++◌, drop, length, Result, Ok, Err}
+use Rattle.graphql_lexical.specs.Place.{Place, Span}
 use Rattle.graphql_lexical.specs.Kinds.{LexicalError}
 use Rattle.graphql_lexical.specs.Cutting.{Lexeme, Cut, Breaks}
-use Rattle.graphql_grammar.specs.Tree.{Scalars, Definition}
-use Rattle.graphql_grammar.specs.Grammar.{IsDocument}
+use Rattle.graphql_grammar.specs.Tree.{Scalars, Value, TypeRef, Definition}
+use Rattle.graphql_grammar.specs.Grammar.{IsValue, IsType, IsDocument}
 use Rattle.graphql_grammar.specs.Faults as grammar
-use Rattle.graphql_grammar.specs.Faults.{DocumentRefusedAt}
+use Rattle.graphql_grammar.specs.Faults.{DocumentRefusedAt, ValueRefusedAt, TypeRefusedAt}
+use Rattle.graphql_grammar.specs.Tokens.{span_of}
 use Rattle.juniper_tokens.specs.declared.error.ParseError.{ParseError}
 use Rattle.juniper_tokens.specs.declared.error.ParseFailure.{ParseFailure}
 use Rattle.juniper_tokens.specs.declared.error.ParseFailure.TheVariants as failure
 use Rattle.juniper_tokens.specs.declared.span.Spanning.{Spanning}
-use Rattle.juniper_tokens.specs.Errors.{Error, Fault, Lexical}
+use Rattle.juniper_tokens.specs.Errors.{Error, Fault, Lexical, view_fault}
 use Rattle.juniper_tokens.specs.Cursor.{Read, Fails}
-use Rattle.juniper.specs.Seen.{error_of}
+use Rattle.juniper.specs.Seen.{error_of, past}
 
 module _ {C : Type 0} (S : Scalars C Error) where
   -- The text can be cut into tokens, they are a document with this tree, and the text has no other.
@@ -49,3 +50,36 @@ IfRefused (Err failure.Memory) P = Unit {0}
 abbrev pub AnswersAs : {X Y : Type 0} → (X → Y) → Result X ParseFailure → Read Y → Type 0
 AnswersAs view (Ok x) read = (left : List Lexeme) × (read ≡ Ok (view x, left))
 AnswersAs view (Err e) read = (left : List Lexeme) × Fails e left read
+
+-- ---- literals
+
+module _ {A : Type 0} (R : List Lexeme → A → Type 0) where
+  -- A front of the tokens that were left means x, and was taken.
+  pub record Takes (x : A) (old left : List Lexeme) : Type 0 where
+    pub taken : List Lexeme
+    pub whole : old ≡ taken ++ left
+    pub means : R taken x
+
+  -- No front of the tokens means anything. The fault has the span of the token at which they are refused, and names its
+  -- error. That token is taken, unless it is the end.
+  pub record Refuses (Refused : List Lexeme → ℕ → Lexeme → grammar.Fault Error → Type 0) (fault : Fault) (old left : List Lexeme) : Type 0 where
+    pub none : (us vs : List Lexeme) (y : A) → old ≡ us ++ vs → R us y → ⊥
+    pub number : ℕ
+    pub token : Lexeme
+    pub says : grammar.Fault Error
+    pub refused : Refused old number token says
+    pub error : fault.error ≡ error_of says
+    pub span : fault.span ≡ token.span
+    pub leaves : left ≡ past (token ∷ drop (suc number) old)
+
+-- A value and no other front of the tokens was taken, or none is a value.
+abbrev pub AnswersValue : {X C : Type 0} → Scalars C Error → Bool → (X → Value C) → Result X ParseFailure → List Lexeme → List Lexeme → Type 0
+AnswersValue {C = C} S free view (Ok x) old left = Takes (IsValue S free) (view x) old left × ((us vs : List Lexeme) (y : Value C) → old ≡ us ++ vs → IsValue S free us y → (vs ≡ left) × (y ≡ view x))
+AnswersValue S free view (Err (failure.Refused e)) old left = Refuses (IsValue S free) (ValueRefusedAt S free) (view_fault e) old left
+AnswersValue S free view (Err failure.Memory) old left = Unit {0}
+
+-- The longest front that is a type was taken, or none is one.
+abbrev pub AnswersType : {X : Type 0} → (X → TypeRef × Span) → Result X ParseFailure → List Lexeme → List Lexeme → Type 0
+AnswersType view (Ok x) old left = Takes (λ ts y. IsType ts y.0 × (y.1 ≡ span_of ts)) (view x) old left × ((us vs : List Lexeme) (y : TypeRef) → old ≡ us ++ vs → IsType us y → length left ≤ length vs)
+AnswersType view (Err (failure.Refused e)) old left = Refuses IsType TypeRefusedAt (view_fault e) old left
+AnswersType view (Err failure.Memory) old left = Unit {0}
