@@ -26,20 +26,20 @@ type_takes us (ListType size x) h = rw h.3 (omega arith)
 type_takes us (NonNullType x) h = rw (h.2, length-append h.0 (h.1 ∷ [])) (omega arith)
 
 -- a type without its span
-abbrev bare : List Lexeme → Read TypeRef
+abbrev pub bare : List Lexeme → Read TypeRef
 bare ts = seen (fully (type_at {F = Error}) ts)
 
 abbrev plain : List Lexeme → Read TypeRef
 plain ts = seen (plain_type (fully (type_at {F = Error})) ts)
 
 -- with the span from ts on
-abbrev with_type : List Lexeme → (TypeRef × List Lexeme) → Read (TypeRef × Span)
+abbrev pub with_type : List Lexeme → (TypeRef × List Lexeme) → Read (TypeRef × Span)
 with_type ts x = Ok ((x.0, span_of (front ts x.1)), x.1)
 
 bare_is : (ts : List Lexeme) → bare ts ≡ (plain ts >>= λ x. seen (maybe_non_null {F = Error} x.0 x.1))
 bare_is ts = ap seen (type_law ts) ∙ seen_seq (plain_type (fully type_at)) maybe_non_null ts
 
-spanned_is : (ts : List Lexeme) → type_read ts ≡ (bare ts >>= with_type ts)
+pub spanned_is : (ts : List Lexeme) → type_read ts ≡ (bare ts >>= with_type ts)
 unfolding type_read done
 spanned_is ts = ap seen (spanned_type_law ts) ∙ seen_span _ ts ∙ ap (λ (r : Read (Span → TypeRef × Span)). r >>= λ x. Ok (x.0 (span_of (front ts x.1)), x.1)) (seq_as (fully (type_at {F = Error})) _ ts _ (λ x. Ok ((λ p. (x.0, p)), x.1)) refl (λ x. refl))
     ∙ bind_assoc (bare ts) _ _

@@ -12,6 +12,7 @@ use juniper_values::Type;
 ///
 /// A type is answered exactly where a front of the tokens is one, and the longest such front is taken. Else the tokens
 /// are refused at the first one with which no type goes on, which is taken, unless it is the end.
+#[tactic(auto, using(crate::proofs::Literals::answers_type))]
 pub fn parse_type<'a>(parser: &mut Parser<'a>) -> ParseResult<Type<&'a str>>
     ensures { AnswersType view_spanned_type result parser.old parser.new }
 {
