@@ -1,5 +1,5 @@
 -- From the reading of a literal to its promise.
-use Rattle.std.proofs.Common.{◌≡◌, ◌≤◌, ◌<◌, ◌+◌, ℕ, suc, Bool, true, false, List, [], ◌∷◌, ◌++◌, length, drop, Result, Ok, Err, refl, sym, ap, ◌∙◌, subst, arith, length-append, le_refl}
+use Rattle.std.proofs.Common.{◌≡◌, ◌≤◌, ℕ, suc, Bool, true, List, [], ◌∷◌, ◌++◌, length, Result, Ok, Err, refl, sym, ap, ◌∙◌, subst, arith, length-append}
 use Rattle.graphql_lexical.specs.Place.{Span}
 use Rattle.graphql_lexical.specs.declared.kind.Kind.{Kind}
 use Rattle.graphql_lexical.specs.declared.kind.Kind.TheVariants.{EndOfFile}
@@ -20,7 +20,7 @@ use Rattle.juniper_tokens.specs.declared.error.ParseFailure.{ParseFailure}
 use Rattle.juniper_tokens.specs.declared.error.ParseFailure.TheVariants as failure
 use Rattle.juniper_tokens.specs.Errors.{Error, Fault, view_fault}
 use Rattle.juniper_tokens.specs.Cursor.{Read, ◌>>=◌, EndsOnce, Gives}
-use Rattle.juniper.specs.Seen.{seen, error_of, past}
+use Rattle.juniper.specs.Seen.{seen, past}
 use Rattle.juniper.specs.Values.{value_read}
 use Rattle.juniper.specs.Parts.{type_read}
 use Rattle.juniper.specs.Promise.{Takes, Refuses, AnswersValue, AnswersType}
@@ -69,10 +69,12 @@ module _ {C : Type 0} (S : Scalars C Error) (free : Bool) where
   unfolding fully
   answers_value view (Ok x) old left ended h =
       let took = seen_took (value_of S free old) (view x) left (value_seen S free old ∙ h) in
-      let g = subst (λ z. GivesFront (IsValue S free) (ValueRefusedAt S free old) old z) took (value_given S free old (ends_once old ended)) in
-      (record { taken = g.0; whole = g.1; means = g.2 }, λ us vs y e k. (
-        let both : Took y vs ≡ Took (view x) left = sym (ap (value_at S free (suc (length old))) e ∙ value_found S free (suc (length old)) us vs y (let l = ap length e ∙ length-append us vs in omega (arith, l)) k) ∙ took in
-        (cc both, cc both)))
+      let g = subst (λ z. GivesFront (IsValue S free) (ValueRefusedAt S free old) old z) took (value_given S free old (ends_once old ended)) in (
+        record { taken = g.0; whole = g.1; means = g.2 },
+        λ us vs y e k. (
+            let both : Took y vs ≡ Took (view x) left = sym (ap (value_at S free (suc (length old))) e ∙ value_found S free (suc (length old)) us vs y (let l = ap length e ∙ length-append us vs in omega (arith, l)) k) ∙ took in
+            (cc both, cc both)),
+      )
   answers_value view (Err (failure.Refused e)) old left ended h =
       refuses (IsValue S free) (ValueRefusedAt S free) old left (view_fault e) (value_of S free old) (value_given S free old (ends_once old ended)) (value_seen S free old ∙ h)
   answers_value view (Err failure.Memory) old left ended h = tt
@@ -89,13 +91,14 @@ answers_type view (Ok x) old left ended h =
     let same = ok_is ((b.0.0, span_of (front old b.0.1)), b.0.1) (view x, left) b.2 in
     let took = seen_took (fully (type_at {F = Error}) old) b.0.0 b.0.1 b.1 in
     let g = subst (λ z. GivesFront IsType (TypeRefusedAt old) old z) took (type_given Error old (ends_once old ended)) in
-    subst (λ (z : (TypeRef × Span) × List Lexeme). Takes (λ ts (y : TypeRef × Span). IsType ts y.0 × (y.1 ≡ span_of ts)) z.0 old z.1 × ((us vs : List Lexeme) (y : TypeRef) → old ≡ us ++ vs → IsType us y → length z.1 ≤ length vs)) same
-    (record { taken = g.0; whole = g.1; means = (g.2, ap (λ (l : List Lexeme). span_of (front l b.0.1)) g.1 ∙ ap span_of (front_is g.0 b.0.1)) },
-    λ us vs y e k. (
-      let longest : length us ≤ length g.0 = g.3 us vs y e k in
-      let one = ap length e ∙ length-append us vs in
-      let two = ap length g.1 ∙ length-append g.0 b.0.1 in
-      omega (arith, longest, one, two)))
+    subst (λ (z : (TypeRef × Span) × List Lexeme). Takes (λ ts (y : TypeRef × Span). IsType ts y.0 × (y.1 ≡ span_of ts)) z.0 old z.1 × ((us vs : List Lexeme) (y : TypeRef) → old ≡ us ++ vs → IsType us y → length z.1 ≤ length vs)) same (
+      record { taken = g.0; whole = g.1; means = (g.2, ap (λ (l : List Lexeme). span_of (front l b.0.1)) g.1 ∙ ap span_of (front_is g.0 b.0.1)) },
+      λ us vs y e k. (
+          let longest : length us ≤ length g.0 = g.3 us vs y e k in
+          let one = ap length e ∙ length-append us vs in
+          let two = ap length g.1 ∙ length-append g.0 b.0.1 in
+          omega (arith, longest, one, two)),
+    )
 answers_type view (Err (failure.Refused e)) old left ended h =
     refuses IsType TypeRefusedAt old left (view_fault e) (fully (type_at {F = Error}) old) (type_given Error old (ends_once old ended)) (bare_fails old (bare old) (view_fault e, left) (sym (spanned_is old) ∙ h))
 answers_type view (Err failure.Memory) old left ended h = tt

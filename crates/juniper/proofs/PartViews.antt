@@ -3,14 +3,13 @@ use Rattle.std.proofs.Common.{◌≡◌, ◌-◌, ℕ, List, [], ◌∷◌, leng
 use Rattle.std.specs.Prelude.{option_map, slice_get, IfSome}
 use Rattle.std.specs.Global.{Vec}
 use Rattle.graphql_lexical.specs.Place.{Place, Span}
-use Rattle.graphql_grammar.specs.Tree.{Scalars, Directive, Directives, Arguments}
+use Rattle.graphql_grammar.specs.Tree.{Scalars}
 use Rattle.juniper_tokens.specs.declared.span.Span.{Span as SpanOf}
 use Rattle.juniper_tokens.specs.Errors.{Error}
 use Rattle.juniper_tokens.specs.Spans.{view_span, covering_span, span_between}
 use Rattle.juniper_tokens.specs.declared.span.Spanning.{Spanning}
 use Rattle.juniper.specs.declared.ast.Directive as ast
-use Rattle.juniper.specs.declared.ast.Arguments as arguments
-use Rattle.juniper.specs.View.{view_directive, view_directives, view_arguments}
+use Rattle.juniper.specs.View.{view_directive, view_directives}
 use Rattle.juniper.specs.Parts.{to_end_of, spanned, last_end, view_spanned_directives}
 
 -- the span of a part, seen before and after the part is

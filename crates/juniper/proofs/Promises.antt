@@ -20,7 +20,7 @@ use Rattle.juniper_tokens.specs.declared.span.Spanning.{Spanning}
 use Rattle.juniper_tokens.specs.Errors.{Error, Fault, Lexical, view_fault, view_lexer_error}
 use Rattle.juniper_tokens.specs.Cursor.{Read}
 use Rattle.juniper_tokens.specs.Lexing.{LexerState, started}
-use Rattle.juniper.specs.Seen.{seen, error_of}
+use Rattle.juniper.specs.Seen.{seen}
 use Rattle.juniper.specs.Definitions.{document_read}
 use Rattle.juniper.specs.Promise.{HasTree, IsRefusedAt, IsRefusal, IfRefused, AnswersAs}
 use Rattle.juniper.proofs.Stepping.{seen_took}
@@ -29,16 +29,16 @@ use Rattle.juniper.proofs.SeenDocuments.{document_seen}
 -- a text has one cut
 pub same_cut : (source : List ℕ) (xs ys : List Lexeme) → Cut source xs → Cut source ys → xs ≡ ys
 same_cut source xs ys c d = elim (one_end source) [
-    inl cut ↦ cut.1.alone xs c ∙ sym (cut.1.alone ys d)
+  | inl cut ↦ cut.1.alone xs c ∙ sym (cut.1.alone ys d)
   | inr break ↦ absurd (break.2.no_cut xs c)
-  ]
+]
 
 -- and no break beside it
 pub cut_or_break : (source : List ℕ) (xs : List Lexeme) (error : LexicalError) (at : Place) → Cut source xs → Breaks source error at → ⊥
 cut_or_break source xs error at c b = elim (one_end source) [
-    inl cut ↦ cut.1.no_break error at b
+  | inl cut ↦ cut.1.no_break error at b
   | inr break ↦ break.2.no_cut xs c
-  ]
+]
 
 fault_at : LexicalError → Place → Fault
 fault_at error at = record { error = Lexical error; span = record { start = at; end = at } }
@@ -46,9 +46,9 @@ fault_at error at = record { error = Lexical error; span = record { start = at; 
 -- or one break
 pub same_break : (source : List ℕ) (d e : LexicalError) (p q : Place) → Breaks source d p → Breaks source e q → (d ≡ e) × (p ≡ q)
 same_break source d e p q b c = elim (one_end source) [
-    inl cut ↦ absurd (cut.1.no_break d p b)
+  | inl cut ↦ absurd (cut.1.no_break d p b)
   | inr break ↦ let x = break.2.alone d p b in let y = break.2.alone e q c in (x.0 ∙ sym y.0, x.1 ∙ sym y.1)
-  ]
+]
 
 module _ {C : Type 0} (S : Scalars C Error) (source : List ℕ) (ts : List Lexeme) (cut : Cut source ts) where
   given : GivesWhole (IsDocument S) (DocumentRefusedAt S ts) ts (fully (document S) ts)

@@ -1,15 +1,15 @@
 -- Definitions of the grammar, in the steps of a cursor.
-use Rattle.std.proofs.Common.{◌≡◌, ℕ, Bool, true, false, cond, not, ◌&&◌, ◌||◌, List, [], ◌∷◌, codes, bytes_eq, Result, Ok, Err, Option, Some, None, refl, sym, ap, ◌∙◌, subst}
+use Rattle.std.proofs.Common.{◌≡◌, Bool, true, false, cond, not, ◌&&◌, ◌||◌, List, codes, bytes_eq, Ok, Option, Some, None, refl, sym, ap, ◌∙◌, subst}
 use Rattle.std.specs.Prelude.{option_map}
 use Rattle.graphql_lexical.specs.Place.{Span}
 use Rattle.graphql_lexical.specs.declared.kind.Kind.TheVariants.{Name, ParenOpen}
 use Rattle.graphql_lexical.specs.Kinds.{same_kind}
 use Rattle.graphql_lexical.specs.Cutting.{Lexeme}
-use Rattle.graphql_grammar.specs.Tokens.{Word, word_of, span_of}
+use Rattle.graphql_grammar.specs.Tokens.{Word, word_of}
 use Rattle.graphql_grammar.specs.Tree.{Scalars, Directives, Selections, OperationType, Query, Mutation, Subscription, Definition, Operation, Fragment}
-use Rattle.graphql_grammar.specs.Reading.{of, word, passes, Reader, seq, done, on, want, front, fully, maybe, name_word, directives, variables, other_than_on, operation_word, operation_of, definition}
+use Rattle.graphql_grammar.specs.Reading.{of, word, passes, seq, done, want, fully, maybe, name_word, directives, variables, other_than_on, operation_word, operation_of, definition}
 use Rattle.graphql_grammar.proofs.Extents.{Runs, RunsOn, runs_on}
-use Rattle.graphql_grammar.proofs.StepsOfSelections.{set_at, operation_by, fragment_by, definition_by, definition_law}
+use Rattle.graphql_grammar.proofs.StepsOfSelections.{set_at, operation_by, fragment_by, definition_law}
 use Rattle.juniper_tokens.specs.Errors.{Error}
 use Rattle.juniper_tokens.specs.Cursor.{Read, ◌>>=◌, first_of, kind_at, next_at, next_if, refused_at, expect_name_at}
 use Rattle.juniper.specs.Seen.{seen}
@@ -18,7 +18,7 @@ use Rattle.juniper.specs.Parts.{to_end_of, directives_read, optional_variables_r
 use Rattle.juniper.specs.Selections.{is_word, directives_of, set_read, inline_parts_read}
 use Rattle.juniper.specs.Definitions.{operation_at, name_word_read, optional_name_read, fragment_name_read, condition_read, operation_read, fragment_read, shorthand_read, operation_or, definition_read}
 use Rattle.juniper.proofs.Stepping.{PassesNoEnd, bind_assoc, bind_same, bind_given, seq_as, want_as, on_as, kind_no_end, seen_span, seen_test}
-use Rattle.juniper.proofs.Cursors.{ok_is, bind_ok, next_takes, next_runs, if_takes, at_span}
+use Rattle.juniper.proofs.Cursors.{ok_is, bind_ok, next_takes, next_runs, at_span}
 use Rattle.juniper.proofs.Listed.{runs_past, maybe_seen, optional_runs}
 use Rattle.juniper.proofs.SeenParts.{directives_seen, directives_run, optional_variables_seen, optional_variables_run}
 use Rattle.juniper.proofs.SeenSelections.{seq_map_as, cond_bind, word_no_end, other_no_end, other_is_name, set_seen, set_runs, whole}

@@ -1,14 +1,14 @@
 -- Selections of the grammar, in the steps of a cursor.
-use Rattle.std.proofs.Common.{◌≡◌, ◌<◌, ℕ, Bool, true, false, cond, not, ◌&&◌, List, [], ◌∷◌, length, codes, bytes_eq, Result, Ok, Err, Option, Some, None, refl, sym, ap, ◌∙◌, le_refl, subst, inl}
+use Rattle.std.proofs.Common.{◌≡◌, ℕ, Bool, true, false, cond, not, ◌&&◌, List, ◌∷◌, codes, bytes_eq, Ok, Option, Some, None, refl, sym, ap, ◌∙◌, le_refl, subst, inl}
 use Rattle.std.specs.Prelude.{option_map}
 use Rattle.graphql_lexical.specs.Place.{Place, Span}
 use Rattle.graphql_lexical.specs.declared.kind.Kind.TheVariants.{Name, CurlyOpen, CurlyClose, Ellipsis, Colon, ParenOpen, EndOfFile}
 use Rattle.graphql_lexical.specs.Kinds.{same_kind}
 use Rattle.graphql_lexical.specs.Cutting.{Lexeme}
 use Rattle.graphql_grammar.specs.Tokens.{Word, word_of, span_of}
-use Rattle.graphql_grammar.specs.Tree.{Scalars, Arguments, Directive, Directives, Selection, Field, FragmentSpread, InlineFragment, Selections, OptionalSelections}
+use Rattle.graphql_grammar.specs.Tree.{Scalars, Selection, Field, FragmentSpread, InlineFragment, Selections, OptionalSelections}
 use Rattle.graphql_grammar.specs.Grammar.{IsSelection}
-use Rattle.graphql_grammar.specs.Reading.{Test, of, word, passes, Reader, seq, done, on, look, want, refuse, fault_of, with_span, front, fully, maybe, many, one_or_more, arguments, directives, selection_at, selections_of, other_than_on}
+use Rattle.graphql_grammar.specs.Reading.{of, word, passes, Reader, seq, done, on, look, want, refuse, fault_of, with_span, front, fully, maybe, one_or_more, arguments, directives, selection_at, selections_of, other_than_on}
 use Rattle.graphql_grammar.proofs.SelectionRules.{selection_rule, selection_takes}
 use Rattle.graphql_grammar.proofs.Extents.{Runs, RunsOn, runs_on}
 use Rattle.graphql_grammar.proofs.StepsOfSelections.{selection_grows, more_selections_law, some_selections_law, set_at, set_law, selection_law, name_by, field_by, inline_by, spread_by, may_by}

@@ -4,7 +4,6 @@ use Rattle.std.specs.Borrow.{Bor}
 use Rattle.std.specs.Prelude.{option_map}
 use Rattle.std.specs.Global.{Vec}
 use Rattle.graphql_lexical.specs.Place.{Span}
-use Rattle.graphql_grammar.specs.Tokens.{Word}
 use Rattle.graphql_grammar.specs.Tree as tree
 use Rattle.graphql_grammar.specs.Reading.{selections_of}
 use Rattle.juniper_tokens.specs.Spans.{view_span}

@@ -1,6 +1,5 @@
 -- The reading of definitions, in the steps of a cursor.
-use Rattle.std.specs.Prelude.{ℕ, List, [], ◌∷◌, codes, Result, Ok, Err, Option, Some, None, option_map, if◌then◌else◌}
-use Rattle.graphql_lexical.specs.Place.{Span}
+use Rattle.std.specs.Prelude.{List, ◌∷◌, codes, Ok, Option, Some, None, if◌then◌else◌}
 use Rattle.graphql_lexical.specs.declared.kind.Kind.TheVariants.{Name, EndOfFile}
 use Rattle.graphql_lexical.specs.Kinds.{same_kind}
 use Rattle.graphql_lexical.specs.Cutting.{Lexeme}

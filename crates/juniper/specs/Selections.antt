@@ -1,5 +1,5 @@
 -- The reading of selections, in the steps of a cursor.
-use Rattle.std.specs.Prelude.{ℕ, List, [], ◌∷◌, Bool, ◌&&◌, bytes_eq, codes, Result, Ok, Err, Option, Some, None, option_map, if◌then◌else◌}
+use Rattle.std.specs.Prelude.{ℕ, List, Bool, ◌&&◌, bytes_eq, codes, Ok, Option, Some, None, option_map, if◌then◌else◌}
 use Rattle.std.specs.Borrow.{Bor}
 use Rattle.std.specs.Global.{Vec}
 use Rattle.graphql_lexical.specs.Place.{Span}
@@ -58,8 +58,11 @@ module _ {C : Type 0} (S : Scalars C Error) where
 
   unfoldable pub field_read : List Lexeme → Read (Selection C)
   field_read ts = names_read ts >>= λ n. optional_arguments_read S n.1 >>= λ xs. directives_read S xs.1 >>= λ ds. optional_set_read ds.1 >>= λ ss.
-      Ok (Field n.0.0 n.0.1 xs.0 (directives_of ds.0) (optional_of ss.0)
-      (to_end_of (to_end_of (to_end_of (names_span n.0) (option_map (λ x. x.span) xs.0)) (option_map (λ x. x.1) ds.0)) (option_map (λ x. x.1) ss.0)), ss.1)
+      Ok (
+        Field n.0.0 n.0.1 xs.0 (directives_of ds.0) (optional_of ss.0)
+            (to_end_of (to_end_of (to_end_of (names_span n.0) (option_map (λ x. x.span) xs.0)) (option_map (λ x. x.1) ds.0)) (option_map (λ x. x.1) ss.0)),
+        ss.1,
+      )
 
   -- what follows three dots that stand at p
 

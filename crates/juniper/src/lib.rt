@@ -23,10 +23,9 @@ pub use juniper_tokens::{
     ParseFailure, ParseResult, Parser, ScalarToken, SourcePosition, Span, Spanning, Token,
     UnlocatedParseResult, byte_class,
 };
+pub use juniper_values::{
+    FromScalarValue, InputValue, NameText, ParseScalarResult, ParseScalarValue, ReadFailure,
+    Scalar, ScalarValue, ToScalarValue, Type, TypeModifier, TypeModifiers,
+};
 pub use types::parse_type;
 pub use value::parse_value_literal;
-pub use juniper_values::{
-    FromScalarValue, InputValue, NameText, ParseScalarResult, ParseScalarValue,
-    ReadFailure, Scalar, ScalarValue, ToScalarValue, Type, TypeModifier, TypeModifiers,
-
-};

@@ -221,7 +221,13 @@ fn parse_untyped_fragment<'a, S: ScalarValue>(
 #[tactic(auto, using(crate::proofs::PartViews::without_span), unfolding(crate::specs::Selections::inline_parts_read))]
 pub(crate) fn parse_inline_parts<'a, S: ScalarValue>(
     parser: &mut Parser<'a>,
-) -> Result<(Option<Vec<Spanning<Directive<'a, S>>>>, Spanning<Vec<Selection<'a, S>>>), ParseFailure>
+) -> Result<
+    (
+        Option<Vec<Spanning<Directive<'a, S>>>>,
+        Spanning<Vec<Selection<'a, S>>>,
+    ),
+    ParseFailure,
+>
     ensures gives { Gives (view_inline_parts S.content) result parser.new (inline_parts_read (stated S.reading S.of_bool) parser.old) }
     ensures shorter { OnOk result (length parser.new < length parser.old) }
 {

@@ -1,10 +1,9 @@
-use Rattle.std.proofs.Common.{rules, ◌≡◌, ◌<◌, ◌≤◌, length, map, refl, sym, ap, Ok, ◌∙◌, ◌++◌, ◌∷◌, []}
+use Rattle.std.proofs.Common.{rules, map, refl, ap, Ok, ◌∙◌}
 use Rattle.std.proofs.lemmas.Result.{err_from_is_err_and}
 use Rattle.std.proofs.lemmas.List.{map-append}
 use Rattle.juniper_tokens.specs.declared.token.Token.TheVariants as token
 use Rattle.juniper_tokens.specs.Tokens.{view_token}
 use Rattle.juniper_tokens.specs.Cursor.{skip_at}
-use Rattle.graphql_lexical.specs.Place.{Span}
 use Rattle.graphql_grammar.specs.Tree.{Selection, Selections}
 use Rattle.juniper_tokens.specs.Spans.{view_span}
 use Rattle.juniper_values.specs.Scalar.{Content}
