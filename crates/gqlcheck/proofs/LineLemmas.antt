@@ -1,5 +1,5 @@
 -- The lines, part by part, and as bytes.
-use Rattle.std.proofs.Common.{◌≡◌, ℕ, ◌^◌, ◌<◌, Bool, true, false, ◌&&◌, ◌⊎◌, inl, inr, List, [], ◌∷◌, ◌++◌, Option, Some, None, chars, IsUtf8, Vec, Global, refl, sym, ap, ◌∙◌, append_assoc, append-nil, lit<, rules}
+use Rattle.std.proofs.Common.{◌≡◌, ℕ, ◌^◌, ◌<◌, true, false, ◌&&◌, ◌⊎◌, inl, inr, List, [], ◌∷◌, ◌++◌, Option, Some, None, chars, IsUtf8, Vec, Global, refl, sym, ap, ◌∙◌, append_assoc, append-nil, lit<, rules}
 use Rattle.std.specs.Prelude.{codes, is_none}
 use Rattle.std.specs.Fmt.{decimal}
 use Rattle.std.specs.Str.{encode_utf8_all}

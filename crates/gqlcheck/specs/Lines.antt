@@ -1,8 +1,7 @@
 -- The lines that are written for a tree, as characters.
 use Rattle.std.specs.Prelude.{ℕ, List, [], ◌∷◌, ◌++◌, codes}
 use Rattle.std.specs.Fmt.{decimal}
-use Rattle.graphql_lexical.specs.Place.{Span}
-use Rattle.juniper.specs.Tree.{Word, Selection, field, other_selection, Set, no_set, set, Selections, no_more, more, Definition, shorthand, other_definition}
+use Rattle.juniper.specs.Tree.{Selection, field, other_selection, Set, no_set, set, Selections, no_more, more, Definition, shorthand, other_definition}
 use Rattle.gqlcheck.specs.declared.lines.LineKind.{LineKind}
 
 -- the first word of a line

@@ -24,8 +24,9 @@ pub use juniper_tokens::{
     UnlocatedParseResult, byte_class,
 };
 pub use juniper_values::{
-    FromScalarValue, InputValue, NameText, ParseScalarResult, ParseScalarValue, ReadFailure,
-    Scalar, ScalarValue, ToScalarValue, Type, TypeModifier, TypeModifiers,
+    DefaultScalarValue, FromScalarValue, InputValue, NameText, ParseScalarResult, ParseScalarValue,
+    ReadFailure, Scalar, ScalarValue, ToScalarValue, Type, TypeModifier, TypeModifiers,
+    WrongInputScalarTypeError,
 };
 pub use types::parse_type;
 pub use value::parse_value_literal;
