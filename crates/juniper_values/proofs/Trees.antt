@@ -4,7 +4,7 @@ use Rattle.juniper_tokens.specs.declared.span.Spanning.{Spanning}
 use Rattle.juniper_values.specs.Value.{Value, null, list, object, Items, no_items, item, Fields, no_fields, field}
 use Rattle.juniper_tokens.specs.Spans.{view_span}
 use Rattle.juniper_values.specs.View.{view, view_items, view_fields, text_of}
-use Rattle.juniper_values.specs.Operations.{or_null}
+use Rattle.juniper_values.specs.Resolve.{or_null}
 use Rattle.juniper_values.specs.declared.input_value.InputValue.{InputValue, the_lemmas}
 use Rattle.juniper_values.specs.declared.input_value.InputValue.TheVariants as InputValue
 use Rattle.juniper_values.proofs.Reading.{prepend}

@@ -1,12 +1,17 @@
 -- How an input value is shown.
-use Rattle.std.specs.Prelude.{List, [], ◌∷◌, ◌++◌, codes}
+use Rattle.std.specs.Prelude.{Bool, true, false, List, [], ◌∷◌, ◌++◌, codes}
 use Rattle.juniper_values.specs.Text.{Text}
 use Rattle.juniper_values.specs.Value.{Value, null, scalar, enum_value, variable, list, object, Items, no_items, item, Fields, no_fields, field}
+
+-- what stands before a text, unless it is the first
+abbrev pub separator : Bool → Text
+separator true = []
+separator false = 44 ∷ 32 ∷ []
 
 -- each of the texts, with a comma and a space before it
 abbrev pub after_commas : List Text → Text
 after_commas [] = []
-after_commas (t ∷ ts) = codes ", " ++ (t ++ after_commas ts)
+after_commas (t ∷ ts) = separator false ++ (t ++ after_commas ts)
 
 -- the texts, with a comma and a space between them
 abbrev pub joined : List Text → Text

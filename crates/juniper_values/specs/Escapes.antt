@@ -1,6 +1,8 @@
 -- The text that the slice of a String token stands for.
 use Rattle.std.specs.Prelude.{◌≡◌, ℕ, suc, ◌+◌, ◌*◌, ◌-◌, ◌^◌, ◌<◌, ◌≤◌, List, [], ◌∷◌, ◌++◌, Option, Some, None, option_map, option_and_then, if◌then◌else◌, ◌==◌, ◌&&◌, nat_le, nat_lt}
 use Rattle.std.specs.Option.{option_to_list}
+use Rattle.graphql_lexical.specs.Characters.{is_hex}
+use Rattle.graphql_lexical.specs.Tokens.{hex_value}
 use Rattle.juniper_values.specs.Text.{Text}
 use Rattle.juniper_values.specs.declared.escapes.Stage.{Stage}
 use Rattle.juniper_values.specs.declared.escapes.Stage.TheVariants.{Plain, Escaped, Hex}
@@ -24,12 +26,9 @@ short_escape c =
     else if c == 116 then Some 9
     else None
 
-abbrev pub hex_value : ℕ → Option ℕ
-hex_value c =
-    if nat_le 48 c && nat_le c 57 then Some (c - 48)
-    else if nat_le 97 c && nat_le c 102 then Some (c - 87)
-    else if nat_le 65 c && nat_le c 70 then Some (c - 55)
-    else None
+-- the number of a hexadecimal digit, of either case
+abbrev pub digit_of : ℕ → Option ℕ
+digit_of c = if is_hex c then Some (hex_value c) else None
 
 -- a number of four digits that is a character
 abbrev pub unit_of : ℕ → Option (Stage × Option ℕ)
@@ -39,7 +38,7 @@ unit_of v = if nat_le 55296 v && nat_le v 57343 then None else Some (Plain, Some
 abbrev pub step_of : Stage → ℕ → Option (Stage × Option ℕ)
 step_of Plain c = if c == 92 then Some (Escaped, None) else Some (Plain, Some c)
 step_of Escaped c = if c == 117 then Some (Hex 3 0, None) else option_map (λ d. (Plain, Some d)) (short_escape c)
-step_of (Hex n v) c = option_and_then (λ d. if n == 0 then unit_of (v * 16 + d) else Some (Hex (n - 1) (v * 16 + d), None)) (hex_value c)
+step_of (Hex n v) c = option_and_then (λ d. if n == 0 then unit_of (v * 16 + d) else Some (Hex (n - 1) (v * 16 + d), None)) (digit_of c)
 
 abbrev pub unescape_from : Stage → Text → Option Text
 unescape_from Plain [] = Some []

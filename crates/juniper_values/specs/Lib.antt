@@ -8,7 +8,15 @@ pub mod TypeLiteral
 pub mod Value
 pub mod View
 pub mod Display
-pub mod Operations
+pub mod Kinds
+pub mod Variables
+pub mod Resolve
+pub mod Equality
+pub mod EqualityLaws
+pub mod Maps
+pub mod Make
 pub mod Same
 pub mod ScalarLaws
 pub mod TypeLaws
+pub mod Units
+pub mod Laws

@@ -1,50 +1,56 @@
--- Equality of input values whatever their places, by recursion over the first.
-use Rattle.std.specs.Prelude.{Bool, true, false, ◌&&◌, ◌||◌, List, [], ◌∷◌, ℕ, ◌==◌, suc, ◌+◌}
+-- Equality of input values whatever their places.
+use Rattle.std.specs.Prelude.{ℕ, ◌+◌, ◌==◌, Bool, true, false, ◌&&◌, ◌||◌, List, [], ◌∷◌}
 use Rattle.graphql_lexical.specs.Place.{Span}
 use Rattle.juniper_values.specs.Text.{Text, same_text}
 use Rattle.juniper_values.specs.Value.{Value, null, scalar, enum_value, variable, list, object, Items, no_items, item, Fields, no_fields, field}
 
+-- A field as the test that it makes of others: one with its key, and with a value that passes.
+abbrev pub Wanted : Type 0 → Type 0
+Wanted C = Text × (Value C → Bool)
+
 module _ {C : Type 0} where
-  abbrev pub fields_len : Fields C → ℕ
-  fields_len no_fields = 0
-  fields_len (field k s v t fs) = fields_len fs + 1
+  abbrev pub field_count : Fields C → ℕ
+  field_count no_fields = 0
+  field_count (field k s v t fs) = field_count fs + 1
 
-  -- some field has the key, and a value that passes
-  abbrev pub has_field : Text → (Value C → Bool) → Fields C → Bool
-  has_field k p no_fields = false
-  has_field k p (field l s v t fs) = (same_text k l && p v) || has_field k p fs
+  -- some field is what is wanted
+  abbrev pub is_found : Wanted C → Fields C → Bool
+  is_found w no_fields = false
+  is_found w (field k s v t fs) = (same_text w.0 k && w.1 v) || is_found w fs
 
-  -- each test is passed by some field
-  abbrev pub all_passed : List (Text × (Value C → Bool)) → Fields C → Bool
-  all_passed [] gs = true
-  all_passed (t ∷ ts) gs = has_field t.0 t.1 gs && all_passed ts gs
+  -- for each that is wanted there is a field
+  abbrev pub all_found : List (Wanted C) → Fields C → Bool
+  all_found [] fs = true
+  all_found (w ∷ ws) fs = is_found w fs && all_found ws fs
 
-  -- the field passes some test
-  abbrev pub passes_some : Text → Value C → List (Text × (Value C → Bool)) → Bool
-  passes_some k v [] = false
-  passes_some k v (t ∷ ts) = (same_text t.0 k && t.1 v) || passes_some k v ts
+  -- the field is one that is wanted
+  abbrev pub is_wanted : Text → Value C → List (Wanted C) → Bool
+  is_wanted k v [] = false
+  is_wanted k v (w ∷ ws) = (same_text w.0 k && w.1 v) || is_wanted k v ws
 
-  -- each field passes some test
-  abbrev pub all_pass : List (Text × (Value C → Bool)) → Fields C → Bool
-  all_pass ts no_fields = true
-  all_pass ts (field k s v t gs) = passes_some k v ts && all_pass ts gs
+  -- each field is one that is wanted
+  abbrev pub all_wanted : List (Wanted C) → Fields C → Bool
+  all_wanted ws no_fields = true
+  all_wanted ws (field k s v t fs) = is_wanted k v ws && all_wanted ws fs
 
+-- `eq` compares scalars. Two objects of one length are so where each field of either has in the other a field with the
+-- same key and with a value that is so.
 module _ {C : Type 0} (eq : C → C → Bool) where
   abbrev mutual
     pub same_but_place : Value C → Value C → Bool
     same_but_place null null = true
     same_but_place (scalar a) (scalar b) = eq a b
-    same_but_place (enum_value s) (enum_value t) = same_text s t
-    same_but_place (variable s) (variable t) = same_text s t
-    same_but_place (list xs) (list ys) = same_items xs ys
-    same_but_place (object fs) (object gs) = (fields_len fs == fields_len gs) && (all_passed (tests fs) gs && all_pass (tests fs) gs)
+    same_but_place (enum_value a) (enum_value b) = same_text a b
+    same_but_place (variable a) (variable b) = same_text a b
+    same_but_place (list xs) (list ys) = same_items_but_place xs ys
+    same_but_place (object fs) (object gs) = field_count fs == field_count gs && (all_found (wanted fs) gs && all_wanted (wanted fs) gs)
     same_but_place v w = false
 
-    pub same_items : Items C → Items C → Bool
-    same_items no_items no_items = true
-    same_items (item v s xs) (item w t ys) = same_but_place v w && same_items xs ys
-    same_items xs ys = false
+    pub same_items_but_place : Items C → Items C → Bool
+    same_items_but_place no_items no_items = true
+    same_items_but_place (item v s xs) (item w t ys) = same_but_place v w && same_items_but_place xs ys
+    same_items_but_place xs ys = false
 
-    pub tests : Fields C → List (Text × (Value C → Bool))
-    tests no_fields = []
-    tests (field k s v t fs) = (k, same_but_place v) ∷ tests fs
+    pub wanted : Fields C → List (Wanted C)
+    wanted no_fields = []
+    wanted (field k s v t fs) = (k, same_but_place v) ∷ wanted fs

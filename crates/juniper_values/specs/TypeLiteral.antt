@@ -1,5 +1,5 @@
 -- Types as they are written: a name, and modifiers from the innermost on.
-use Rattle.std.specs.Prelude.{ℕ, ◌-◌, List, [], ◌∷◌, ◌++◌, length, slice_get, Bool, true, false, ◌==◌, ◌&&◌, Option, Some, None, codes, if◌then◌else◌}
+use Rattle.std.specs.Prelude.{ℕ, ◌-◌, List, [], ◌∷◌, ◌++◌, length, slice_get, Bool, true, false, ◌==◌, ◌&&◌, Option, Some, None, if◌then◌else◌}
 use Rattle.std.specs.Cmp.Lexicographic.{pointwise}
 use Rattle.std.specs.List.{list_any}
 use Rattle.std.specs.Option.{option_eq, option_map_or}
@@ -51,12 +51,6 @@ is_common (ListOf None ∷ []) = true
 is_common (NonNull ∷ (ListOf None ∷ [])) = true
 is_common ms = false
 
--- The text of a type: `!` after what is not null, and `[` and `]` round the items of a list, whatever its size.
-abbrev pub type_text : Text → List TypeModifier → Text
-type_text inner [] = inner
-type_text inner (NonNull ∷ ms) = type_text (inner ++ codes "!") ms
-type_text inner (ListOf size ∷ ms) = type_text (codes "[" ++ (inner ++ codes "]")) ms
-
 abbrev pub same_modifier : TypeModifier → TypeModifier → Bool
 same_modifier NonNull NonNull = true
 same_modifier (ListOf m) (ListOf n) = option_eq ◌==◌ m n
@@ -66,14 +60,16 @@ same_modifier m n = false
 abbrev pub same_type : {N : Type 0} → (N → Text) → TypeShape N → TypeShape N → Bool
 same_type text_of a b = same_text (text_of a.name) (text_of b.name) && pointwise same_modifier a.modifiers b.modifiers
 
--- `[` for each list type
-abbrev pub openings : List TypeModifier → Text
-openings [] = []
-openings (NonNull ∷ ms) = openings ms
-openings (ListOf size ∷ ms) = codes "[" ++ openings ms
+-- what a modifier writes before the type within, and after it
+abbrev pub opening : TypeModifier → Text
+opening NonNull = []
+opening (ListOf size) = 91 ∷ []
 
--- `!` and `]`, from the innermost modifier on
-abbrev pub closings : List TypeModifier → Text
-closings [] = []
-closings (NonNull ∷ ms) = codes "!" ++ closings ms
-closings (ListOf size ∷ ms) = codes "]" ++ closings ms
+abbrev pub closing : TypeModifier → Text
+closing NonNull = 33 ∷ []
+closing (ListOf size) = 93 ∷ []
+
+-- The text of a type: `!` after what is not null, and `[` and `]` round the items of a list, whatever its size.
+abbrev pub type_text : Text → List TypeModifier → Text
+type_text inner [] = inner
+type_text inner (m ∷ ms) = type_text (opening m ++ (inner ++ closing m)) ms

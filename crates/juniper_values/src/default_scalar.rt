@@ -9,7 +9,7 @@ ghost use Rattle.juniper_values.specs.Scalar.{MeetsReading};
 
 use crate::escapes::unescape;
 use crate::scalar::{ParseScalarResult, ParseScalarValue, ReadFailure, ScalarValue};
-use crate::text::{copied, same_string, write_text};
+use crate::text::{copied, same_string, write_int, write_text};
 use juniper_tokens::{ParseError, ScalarToken, Token};
 use std::alloc::{AllocError, Global};
 use std::fmt;
@@ -55,7 +55,7 @@ impl fmt::Display for DefaultScalarValue {
 
     fn fmt<W: fmt::Write>(&self, f: &mut fmt::Formatter<W>) -> fmt::Result {
         match self {
-            DefaultScalarValue::Int(n) => write!(f, "{n}"),
+            DefaultScalarValue::Int(n) => write_int(f, *n),
             DefaultScalarValue::String(s) => write_text(f, s.as_str()),
             DefaultScalarValue::Boolean(b) => write!(f, "{b}"),
         }

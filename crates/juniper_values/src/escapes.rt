@@ -1,8 +1,8 @@
-// The text that the slice of a String token stands for.
+//! The text that the slice of a String token stands for (GraphQL specification, October 2021, section 2.9.4).
 ghost use Rattle.std.specs.Prelude.{◌≡◌, ◌<◌, ◌≤◌, ◌+◌, ◌*◌, ◌^◌, ℕ, IfOk, option_map, string_bytes, IfSome};
 ghost use Rattle.std.specs.Char.{IsScalar};
 ghost use Rattle.std.specs.Str.{chars};
-ghost use Rattle.juniper_values.specs.Escapes.{unescape, step_of, short_escape, hex_value, IsStage};
+ghost use Rattle.juniper_values.specs.Escapes.{unescape, step_of, short_escape, digit_of, IsStage};
 
 use std::alloc::{AllocError, Global};
 
@@ -94,7 +94,7 @@ fn short(c: char) -> Option<char>
 }
 
 fn hex(c: char) -> Option<u32>
-    ensures value { result ≡ hex_value c }
+    ensures value { result ≡ digit_of c }
     ensures small { IfSome result (λ d. d < 16) }
 {
     match c {

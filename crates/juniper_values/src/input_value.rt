@@ -1,97 +1,80 @@
-ghost use Rattle.std.specs.Prelude.{◌≡◌, ◌++◌, IfOk, map};
+//! Input values: what a request hands to arguments and variables.
+ghost use Rattle.std.specs.Prelude.{◌≡◌, option_map};
 ghost use Rattle.std.specs.Str.{chars};
-ghost use Rattle.juniper_values.specs.Operations.{variables, item_variables, field_variables};
-ghost use Rattle.juniper_values.specs.View.{view, view_items, view_fields};
+ghost use Rattle.juniper_values.specs.Kinds.{is_null, is_variable, enum_in, scalar_in};
+ghost use Rattle.juniper_values.specs.View.{view};
 
 mod compare;
+mod convert;
 mod copies;
 mod display;
+mod equal;
+mod make;
+mod maps;
 mod resolve;
+mod variables;
 
+use juniper_tokens::Spanning;
+
+pub use convert::FromInputValue;
 pub use resolve::Variables;
 
-use std::alloc::{AllocError, Global};
-use juniper_tokens::{Span, Spanning};
-
-#[derive(PartialEq, Drop)]
+/// An input value (GraphQL specification, October 2021, section 2.9), with the places of the items of its lists and of the
+/// keys and values of its objects.
+#[derive(Drop)]
 pub enum InputValue<S> {
+    /// `null`
     Null,
+    /// A scalar.
     Scalar(S),
+    /// An enum value, by its name.
     Enum(String),
+    /// A variable, by its name.
     Variable(String),
+    /// A list.
     List(Vec<Spanning<InputValue<S>>>),
+    /// The fields of an object, in their order, doubled keys kept.
     Object(Vec<(Spanning<String>, Spanning<InputValue<S>>)>),
 }
 
 impl<S> InputValue<S> {
-    pub fn null() -> Self
-        ensures { result ≡ InputValue.Null }
+    /// Whether the value is `null`.
+    pub fn is_null(&self) -> bool
+        ensures { result ≡ is_null (view (λ s. s) self.now) }
     {
-        InputValue::Null
-    }
-
-    pub fn parsed_list(items: Vec<Spanning<Self>>) -> Self
-        ensures { result ≡ InputValue.List items }
-    {
-        InputValue::List(items)
-    }
-
-    /// The names of the variables, from left to right, repeats kept.
-    pub fn referenced_variables(&self, alloc: Global) -> Result<Vec<&str>, AllocError>
-        ensures { IfOk result (λ v. map (λ s. chars s.now) v.items ≡ variables (view (λ s. s) self.now)) }
-    {
-        let mut names = Vec::new(alloc);
-        note_variables(self, &mut names)?;
-        Ok(names)
-    }
-}
-
-#[cycle(variables)]
-fn note_variables<'a, S>(
-    value: &'a InputValue<S>,
-    names: &mut Vec<&'a str>,
-) -> Result<(), AllocError>
-    ensures { IfOk result
-        (λ _. map (λ s. chars s.now) names.new.items
-        ≡ map (λ s. chars s.now) names.old.items ++ variables (view (λ s. s) value.now)) }
-{
-    match value {
-        InputValue::Variable(name) => {
-            names.push(name.as_str())?;
-            Ok(())
+        match self {
+            InputValue::Null => true,
+            _ => false,
         }
-        InputValue::List(items) => note_item_variables(items, names),
-        InputValue::Object(fields) => note_field_variables(fields, names),
-        _ => Ok(()),
     }
-}
 
-#[cycle(variables)]
-fn note_item_variables<'a, S>(
-    items: &'a Vec<Spanning<InputValue<S>>>,
-    names: &mut Vec<&'a str>,
-) -> Result<(), AllocError>
-    ensures { IfOk result
-        (λ _. map (λ s. chars s.now) names.new.items
-        ≡ map (λ s. chars s.now) names.old.items ++ item_variables (view_items (λ s. s) items.now.items)) }
-{
-    for item in items {
-        note_variables(&item.item, names)?;
+    /// Whether the value is a variable.
+    pub fn is_variable(&self) -> bool
+        ensures { result ≡ is_variable (view (λ s. s) self.now) }
+    {
+        match self {
+            InputValue::Variable(_) => true,
+            _ => false,
+        }
     }
-    Ok(())
-}
 
-#[cycle(variables)]
-fn note_field_variables<'a, S>(
-    fields: &'a Vec<(Spanning<String>, Spanning<InputValue<S>>)>,
-    names: &mut Vec<&'a str>,
-) -> Result<(), AllocError>
-    ensures { IfOk result
-        (λ _. map (λ s. chars s.now) names.new.items
-        ≡ map (λ s. chars s.now) names.old.items ++ field_variables (view_fields (λ s. s) fields.now.items)) }
-{
-    for field in fields {
-        note_variables(&field.1.item, names)?;
+    /// The name of an enum value.
+    pub fn as_enum_value(&self) -> Option<&str>
+        ensures { option_map (λ s. chars s.now) result ≡ enum_in (view (λ s. s) self.now) }
+    {
+        match self {
+            InputValue::Enum(name) => Some(name.as_str()),
+            _ => None,
+        }
     }
-    Ok(())
+
+    /// The scalar that the value is, if it is one.
+    pub fn as_scalar(&self) -> Option<&S>
+        ensures { option_map (λ s. s.now) result ≡ scalar_in (view (λ s. s) self.now) }
+    {
+        match self {
+            InputValue::Scalar(scalar) => Some(scalar),
+            _ => None,
+        }
+    }
 }

@@ -4,6 +4,7 @@
 mod default_scalar;
 mod escapes;
 mod input_value;
+pub mod laws;
 mod scalar;
 mod text;
 mod type_literal;

@@ -1,6 +1,6 @@
 //! Comparing, copying and writing texts.
 ghost use Rattle.std.specs.Prelude.{◌≡◌, Some, IfOk};
-ghost use Rattle.std.specs.Fmt.{DisplaysOnOk};
+ghost use Rattle.std.specs.Fmt.{DisplaysOnOk, signed_decimal};
 ghost use Rattle.std.specs.Str.{chars, encode_utf8_all};
 ghost use Rattle.graphql_lexical.specs.Display.{quoted};
 ghost use Rattle.juniper_values.specs.View.{text_of};
@@ -42,4 +42,11 @@ pub(crate) fn write_quoted<W: fmt::Write>(f: &mut fmt::Formatter<W>, text: &str)
     ensures { DisplaysOnOk W.write_str_gives f.old result (Some (encode_utf8_all (quoted (chars text.now)))) f.new }
 {
     write!(f, "\"{text}\"")
+}
+
+// Writes the decimal number.
+pub(crate) fn write_int<W: fmt::Write>(f: &mut fmt::Formatter<W>, number: i32) -> fmt::Result
+    ensures { DisplaysOnOk W.write_str_gives f.old result (Some (encode_utf8_all (signed_decimal number))) f.new }
+{
+    write!(f, "{number}")
 }

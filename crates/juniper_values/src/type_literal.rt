@@ -1,11 +1,11 @@
 //! Types as they are written: a name, and modifiers from the innermost on.
-ghost use Rattle.std.specs.Prelude.{◌≡◌, ◌++◌, ◌∷◌, [], Some, IsTrue, IsOk, IsSome, IfSome, MatchResult, option_map, option_copied};
+ghost use Rattle.std.specs.Prelude.{◌≡◌, ◌++◌, ◌∷◌, [], Some, IsTrue, IsOk, IsSome, IfSome, MatchResult, option_map, option_copied, flat_map};
 ghost use Rattle.std.specs.Str.{chars, encode_utf8_all};
 ghost use Rattle.juniper_values.specs.Text.{Text};
-ghost use Rattle.juniper_values.specs.TypeLiteral.{modifiers_of, outermost, is_list_modifier, is_non_null_modifier, is_non_null, is_list, is_common, name_unless_list, type_text, openings, closings};
+ghost use Rattle.juniper_values.specs.TypeLiteral.{modifiers_of, outermost, is_list_modifier, is_non_null, is_list, is_common, name_unless_list, type_text, opening, closing};
 ghost use Rattle.std.specs.Fmt.{DisplaysOnOk};
 
-use crate::text::same_str;
+use crate::text::{same_str, write_text};
 use std::alloc::Global;
 use std::fmt;
 use std::marker::Model;
@@ -305,32 +305,45 @@ impl<N: NameText + Drop> fmt::Display for TypeLiteral<N> {
     fn fmt<W: fmt::Write>(&self, f: &mut fmt::Formatter<W>) -> fmt::Result {
         let modifiers = self.modifiers.as_slice();
         write_openings(f, modifiers)?;
-        f.write_str(self.name.text())?;
+        write_text(f, self.name.text())?;
         write_closings(f, modifiers)
     }
 }
 
-// `[` for each list type.
+// What the modifiers write before the name.
 fn write_openings<W: fmt::Write>(f: &mut fmt::Formatter<W>, modifiers: &[TypeModifier]) -> fmt::Result
-    ensures { DisplaysOnOk W.write_str_gives f.old result (Some (encode_utf8_all (openings modifiers.now))) f.new }
+    ensures { DisplaysOnOk W.write_str_gives f.old result (Some (encode_utf8_all (flat_map opening modifiers.now))) f.new }
 {
     for modifier in modifiers {
-        if is_list_modifier(modifier) {
-            f.write_str("[")?;
-        }
+        f.write_str(opening(modifier))?;
     }
     Ok(())
 }
 
-// `!` and `]`, from the innermost modifier on.
+// What the modifiers write after the name.
 fn write_closings<W: fmt::Write>(f: &mut fmt::Formatter<W>, modifiers: &[TypeModifier]) -> fmt::Result
-    ensures { DisplaysOnOk W.write_str_gives f.old result (Some (encode_utf8_all (closings modifiers.now))) f.new }
+    ensures { DisplaysOnOk W.write_str_gives f.old result (Some (encode_utf8_all (flat_map closing modifiers.now))) f.new }
 {
     for modifier in modifiers {
-        match modifier {
-            TypeModifier::NonNull => f.write_str("!")?,
-            TypeModifier::List(_) => f.write_str("]")?,
-        }
+        f.write_str(closing(modifier))?;
     }
     Ok(())
+}
+
+fn opening(modifier: &TypeModifier) -> &'static str
+    ensures { result.now ≡ opening modifier.now }
+{
+    match modifier {
+        TypeModifier::NonNull => "",
+        TypeModifier::List(_) => "[",
+    }
+}
+
+fn closing(modifier: &TypeModifier) -> &'static str
+    ensures { result.now ≡ closing modifier.now }
+{
+    match modifier {
+        TypeModifier::NonNull => "!",
+        TypeModifier::List(_) => "]",
+    }
 }

@@ -1,6 +1,6 @@
-// Equality of input values whatever their places.
+//! Equality of input values whatever their places.
 ghost use Rattle.std.specs.Prelude.{◌≡◌, ◌&&◌, ◌==◌};
-ghost use Rattle.juniper_values.specs.Same.{same_but_place, same_items, tests, has_field, passes_some, all_passed, all_pass, fields_len};
+ghost use Rattle.juniper_values.specs.Same.{same_but_place, same_items_but_place, wanted, is_found, is_wanted, all_found, all_wanted, field_count};
 ghost use Rattle.juniper_values.specs.View.{view, view_items, view_fields, text_of};
 
 use crate::input_value::InputValue;
@@ -8,6 +8,7 @@ use crate::text::same_string;
 use juniper_tokens::Spanning;
 
 impl<S: PartialEq> InputValue<S> {
+    /// Whether the values are equal whatever their places. Fields of objects may stand in any order.
     pub fn unlocated_eq(&self, other: &Self) -> bool
         ensures { result ≡ same_but_place S.eq (view (λ s. s) self.now) (view (λ s. s) other.now) }
     {
@@ -35,7 +36,7 @@ fn same_list<S: PartialEq>(
     a: &Vec<Spanning<InputValue<S>>>,
     b: &Vec<Spanning<InputValue<S>>>,
 ) -> bool
-    ensures { result ≡ same_items S.eq (view_items (λ s. s) a.now.items) (view_items (λ s. s) b.now.items) }
+    ensures { result ≡ same_items_but_place S.eq (view_items (λ s. s) a.now.items) (view_items (λ s. s) b.now.items) }
 {
     if a.len() != b.len() {
         return false;
@@ -54,9 +55,9 @@ fn same_object<S: PartialEq>(
     b: &Vec<(Spanning<String>, Spanning<InputValue<S>>)>,
 ) -> bool
     ensures { result
-        ≡ (fields_len (view_fields (λ s. s) a.now.items) == fields_len (view_fields (λ s. s) b.now.items))
-        && (all_passed (tests S.eq (view_fields (λ s. s) a.now.items)) (view_fields (λ s. s) b.now.items)
-        && all_pass (tests S.eq (view_fields (λ s. s) a.now.items)) (view_fields (λ s. s) b.now.items)) }
+        ≡ (field_count (view_fields (λ s. s) a.now.items) == field_count (view_fields (λ s. s) b.now.items))
+        && (all_found (wanted S.eq (view_fields (λ s. s) a.now.items)) (view_fields (λ s. s) b.now.items)
+        && all_wanted (wanted S.eq (view_fields (λ s. s) a.now.items)) (view_fields (λ s. s) b.now.items)) }
 {
     if a.len() != b.len() {
         return false;
@@ -81,7 +82,7 @@ fn is_among<S: PartialEq>(
     fields: &Vec<(Spanning<String>, Spanning<InputValue<S>>)>,
 ) -> bool
     ensures { result
-        ≡ has_field (text_of key.now) (same_but_place S.eq (view (λ s. s) value.now)) (view_fields (λ s. s) fields.now.items) }
+        ≡ is_found (text_of key.now, same_but_place S.eq (view (λ s. s) value.now)) (view_fields (λ s. s) fields.now.items) }
 {
     for field in fields {
         if same_string(key, &field.0.item) && same(value, &field.1.item) {
@@ -98,7 +99,7 @@ fn is_met<S: PartialEq>(
     value: &InputValue<S>,
 ) -> bool
     ensures { result
-        ≡ passes_some (text_of key.now) (view (λ s. s) value.now) (tests S.eq (view_fields (λ s. s) fields.now.items)) }
+        ≡ is_wanted (text_of key.now) (view (λ s. s) value.now) (wanted S.eq (view_fields (λ s. s) fields.now.items)) }
 {
     for field in fields {
         if same_string(&field.0.item, key) && same(&field.1.item, value) {

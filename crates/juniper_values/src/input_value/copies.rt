@@ -1,13 +1,15 @@
-// Copies of input values, spans kept.
+//! Copies of input values.
 ghost use Rattle.std.specs.Prelude.{◌≡◌, IfOk};
 ghost use Rattle.juniper_values.specs.View.{view, view_items, view_fields};
 
 use crate::input_value::InputValue;
 use crate::scalar::ScalarValue;
-use std::alloc::{AllocError, Global};
+use crate::text::copied;
 use juniper_tokens::Spanning;
+use std::alloc::{AllocError, Global};
 
 impl<S: ScalarValue> InputValue<S> {
+    /// A copy, which equals the value, its places too.
     pub fn try_clone(&self, alloc: Global) -> Result<Self, AllocError>
         ensures { IfOk result (λ v. view S.content v ≡ view S.content self.now) }
     {
@@ -22,8 +24,8 @@ fn copy<S: ScalarValue>(alloc: Global, value: &InputValue<S>) -> Result<InputVal
     match value {
         InputValue::Null => Ok(InputValue::Null),
         InputValue::Scalar(scalar) => Ok(InputValue::Scalar(scalar.try_clone(alloc)?)),
-        InputValue::Enum(name) => Ok(InputValue::Enum(name.clone()?)),
-        InputValue::Variable(name) => Ok(InputValue::Variable(name.clone()?)),
+        InputValue::Enum(name) => Ok(InputValue::Enum(copied(alloc, name)?)),
+        InputValue::Variable(name) => Ok(InputValue::Variable(copied(alloc, name)?)),
         InputValue::List(items) => Ok(InputValue::List(copy_items(alloc, items)?)),
         InputValue::Object(fields) => Ok(InputValue::Object(copy_fields(alloc, fields)?)),
     }
@@ -52,7 +54,7 @@ fn copy_fields<S: ScalarValue>(
 {
     let mut copies = Vec::with_capacity(alloc, fields.len())?;
     for field in fields {
-        let key = Spanning::new(field.0.span, field.0.item.clone()?);
+        let key = Spanning::new(field.0.span, copied(alloc, &field.0.item)?);
         let value = Spanning::new(field.1.span, copy(alloc, &field.1.item)?);
         copies.push((key, value))?;
     }

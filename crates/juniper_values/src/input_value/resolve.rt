@@ -1,17 +1,22 @@
-// Variables replaced by their values.
+//! Variables replaced by their values.
 ghost use Rattle.std.specs.Prelude.{◌≡◌, IfOk, option_map};
-ghost use Rattle.juniper_values.specs.Operations.{resolve, resolve_items, resolve_fields, or_null};
+ghost use Rattle.juniper_values.specs.Resolve.{resolve, resolve_items, resolve_fields, or_null};
 ghost use Rattle.juniper_values.specs.View.{view, text_of, view_items, view_fields, values_in};
 
 use crate::input_value::InputValue;
 use crate::scalar::ScalarValue;
+use juniper_tokens::Spanning;
 use std::alloc::{AllocError, Global};
 use std::collections::HashMap;
-use juniper_tokens::Spanning;
 
+/// The values of variables, by their names.
 pub type Variables<S> = HashMap<String, InputValue<S>>;
 
 impl<S: ScalarValue> InputValue<S> {
+    /// The value with each variable replaced by its value, which is left as it is.
+    ///
+    /// A variable that has none becomes nothing: a value that is it gives `None`, an item of a list becomes `null`, and
+    /// a field of an object is left out. The value is dropped where memory ran out.
     pub fn into_const(
         self,
         alloc: Global,

@@ -28,7 +28,7 @@ copy_fields-loop-field-preserved g t c =
     let x = c.field-item.result in
     turn (put_field content) _ _ (c.new-key.result, c.new-value.result) _ _ _ c.loop-field.invariant c.in_ok-push.ensures.items
     (ap (view_fields content) (drop_read c.deref-field-items.result.now c.loop-field.field-index x c.loop-field-test.true c.field-item.is)
-    ∙ rw (c.new-key.ensures, c.new-value.ensures, c.in_ok-copy.ensures, c.in_ok-clone.ensures.cases) refl)
+    ∙ rw (c.new-key.ensures, c.new-value.ensures, c.in_ok-copy.ensures, c.in_ok-copied.ensures) refl)
 
 pub copy_items-returns : goal.copy_items-returns
 copy_items-returns g t c =

@@ -1,78 +1,65 @@
-use Rattle.std.proofs.Common.{rules, arith, refl, ◌≡◌, ◌∙◌, ◌++◌, ap, sym, subst, drop, List, ℕ, [], true, false, ◌+◌, if◌then◌else◌, append_assoc, append-nil}
-use Rattle.std.proofs.lemmas.Grind.{put_two}
-use Rattle.std.proofs.lemmas.List.{at_drop_all}
-use Rattle.std.specs.Fmt.{HasWritten}
+use Rattle.std.proofs.Common.{rules, refl, sym, ap, subst, ◌∙◌, ◌+◌, ◌++◌, ◌∷◌, [], drop, arith, append_assoc}
 use Rattle.std.specs.Prelude.{codes}
-use Rattle.std.specs.Str.{encode_utf8_all}
-use Rattle.juniper_values.specs.Display.{shown_by, value_text, items_text, fields_text}
+use Rattle.std.specs.Fmt.{HasWritten}
+use Rattle.std.proofs.Output.{has_written_of_eq}
+use Rattle.std.proofs.lemmas.List.{at_drop_all}
+use lib.Utf8.{encodes}
+use Rattle.juniper_values.specs.Display.{value_text, item_texts, field_texts, joined, separator}
+use Rattle.juniper_values.specs.ScalarDisplay.{scalar_display}
 use Rattle.juniper_values.specs.View.{view, view_items, view_fields, text_of}
-use Rattle.juniper_values.proofs.Reading.{drop_read, within_most}
-use Rattle.juniper_values.specs.declared.input_value.InputValue.TheShapes.{weighed-InputValue-Object-0-at-4, weighed-InputValue-List-0-at-2}
-use Rattle.juniper_values.proofs.input_value.InputValue.TheLaws.{the_size}
+use Rattle.juniper_values.proofs.Displays.{IsWritten, left, two, one_more, between}
+use Rattle.juniper_values.proofs.Reading.{drop_read}
+use Rattle.juniper_values.proofs.Trees.{view-List, view-Object}
 use Rattle.juniper_values.proofs.input_value.display.+display.Goals as goal
 
-pub show_items-show_item-requires : goal.show_items-show_item-requires
-show_items-show_item-requires g t c κs within =
-    let h = within_most ((weighed-InputValue-List-0-at-2 g.row.S.Denot).weight _ (the_size g.row.S g.S.laws)) c.args.items.now.items c.loop-item.item-index c.item-item.result (rw c.deref-item-items.ensures.value at c.loop-item-test.true) (rw c.deref-item-items.ensures.value at c.item-item.is) in
-    let d = c.decreases in
-    (omega (arith, h, d), search rules)
+pub write_items-loop-item-init : goal.write_items-loop-item-init
+write_items-loop-item-init g t c p = record { done = []; wrote = search rules; left_is = refl }
 
-pub show_fields-show_field-requires : goal.show_fields-show_field-requires
-show_fields-show_field-requires g t c κs within =
-    let h = within_most ((weighed-InputValue-Object-0-at-4 g.row.S.Denot).weight _ (the_size g.row.S g.S.laws)) c.args.fields.now.items c.loop-field.field-index c.field-item.result (rw c.deref-field-items.ensures.value at c.loop-field-test.true) (rw c.deref-field-items.ensures.value at c.field-item.is) in
-    let d = c.decreases in
-    (omega (arith, h, d), search rules)
-
-pub show_items-loop-item-init : goal.show_items-loop-item-init
-show_items-loop-item-init g t c = λ p. ([], search rules, refl)
-
-pub show_items-loop-item-preserved : goal.show_items-loop-item-preserved
-show_items-loop-item-preserved g t c = λ p.
-    let shown = shown_by g.S.ParseScalarValue.content g.S.ScalarValue.str_in g.S.ScalarValue.shown in
+pub write_items-loop-item-preserved : goal.write_items-loop-item-preserved
+write_items-loop-item-preserved g t c p =
+    let shown = scalar_display g.S.ParseScalarValue.content g.S.ScalarValue.str_in g.S.ScalarValue.shown in
+    let took = g.W.Write.write_str_gives in
+    let xs = c.deref-item-items.result.now in
     let i = c.loop-item.invariant p in
-    let x = c.item-item.result in
-    let put : List ℕ = (if c.loop-item.first then [] else codes ", ") ++ value_text shown (view (λ s. s) x.item) in
-    let left : List ℕ = items_text shown false (view_items (λ s. s) (drop (c.loop-item.item-index + 1) c.deref-item-items.result.now)) in (
-      i.0 ++ put,
-      put_two _ _ _ _ i.0 put _ i.1 (c.in_ok-show_item.ensures i.1.plain refl) refl,
-      append_assoc i.0 put left
-      ∙ ap (λ ys. i.0 ++ ys) (sym (ap (λ xs. items_text shown c.loop-item.first (view_items (λ s. s) xs)) (drop_read c.deref-item-items.result.now c.loop-item.item-index x c.loop-item-test.true c.item-item.is)))
-      ∙ i.2,
-    )
+    let first = c.in_ok-write_separator.ensures i.wrote.plain refl in
+    one_more took c.args.f.now _ _ _ (value_text shown (view (λ s. s) c.item-item.result.item)) c.loop-item.first (item_texts shown (view_items (λ s. s) (drop (c.loop-item.item-index + 1) xs)))
+    (subst (λ ys. IsWritten took c.args.f.now (joined (item_texts shown (view_items (λ s. s) xs))) (left c.loop-item.first (item_texts shown (view_items (λ s. s) ys))) c.loop-item.f)
+    (drop_read xs c.loop-item.item-index c.item-item.result c.loop-item-test.true c.item-item.is) i)
+    (two took _ _ _ _ _ first (c.in_ok-write_value.ensures first.plain refl))
 
-pub show_items-returns : goal.show_items-returns
-show_items-returns g t c = λ p ok.
-    let shown = shown_by g.S.ParseScalarValue.content g.S.ScalarValue.str_in g.S.ScalarValue.shown in
-    let i = c.loop-item.invariant p in
-    let e : i.0 ≡ items_text shown true (view_items (λ s. s) c.args.items.now.items) =
-    sym (append-nil i.0)
-    ∙ ap (λ ys. i.0 ++ ys) (sym (at_drop_all (λ xs. items_text shown c.loop-item.first (view_items (λ s. s) xs)) c.deref-item-items.result.now c.loop-item.item-index c.loop-item-test.false))
-    ∙ i.2 ∙ ap (λ xs. items_text shown true (view_items (λ s. s) xs)) c.deref-item-items.ensures.value in
-    subst (λ bs. HasWritten g.W.Write.write_str_gives c.args.f.now bs c.loop-item.f) e i.1
+pub write_value-returns-in_ok-write_items-in-List :
+    goal.write_value-returns-in_ok-write_items-in-List
+write_value-returns-in_ok-write_items-in-List g t c p ok =
+    let shown = scalar_display g.S.ParseScalarValue.content g.S.ScalarValue.str_in g.S.ScalarValue.shown in
+    let first = c.in_ok-write_str-in-List.ensures.writes p refl in
+    let inner = c.in_ok-write_items-in-List.ensures first.plain refl in
+    has_written_of_eq _ _ _ _ _ (ap (λ v. encodes (value_text shown v)) (sym (ap (view (λ s. s)) c.in-List.is ∙ view-List (λ s. s) c.in-List.items)))
+    (between g.W.Write.write_str_gives _ _ _ _ 91 93 (joined (item_texts shown (view_items (λ s. s) c.in-List.items.items))) (omega arith) (omega arith) first inner (c.write_str-in-List-2.ensures.writes inner.plain ok))
 
-pub show_fields-loop-field-init : goal.show_fields-loop-field-init
-show_fields-loop-field-init g t c = λ p. ([], search rules, refl)
+pub write_fields-loop-field-init : goal.write_fields-loop-field-init
+write_fields-loop-field-init g t c p = record { done = []; wrote = search rules; left_is = refl }
 
-pub show_fields-loop-field-preserved : goal.show_fields-loop-field-preserved
-show_fields-loop-field-preserved g t c = λ p.
-    let shown = shown_by g.S.ParseScalarValue.content g.S.ScalarValue.str_in g.S.ScalarValue.shown in
-    let i = c.loop-field.invariant p in
+pub write_fields-loop-field-preserved : goal.write_fields-loop-field-preserved
+write_fields-loop-field-preserved g t c p =
+    let shown = scalar_display g.S.ParseScalarValue.content g.S.ScalarValue.str_in g.S.ScalarValue.shown in
+    let took = g.W.Write.write_str_gives in
+    let xs = c.deref-field-items.result.now in
     let x = c.field-item.result in
-    let put : List ℕ = (if c.loop-field.first then [] else codes ", ") ++ (encode_utf8_all (text_of x.0.item) ++ (codes ": " ++ value_text shown (view (λ s. s) x.1.item))) in
-    let left : List ℕ = fields_text shown false (view_fields (λ s. s) (drop (c.loop-field.field-index + 1) c.deref-field-items.result.now)) in (
-      i.0 ++ put,
-      put_two _ _ _ _ i.0 put _ i.1 (c.in_ok-show_field.ensures i.1.plain refl) refl,
-      append_assoc i.0 put left
-      ∙ ap (λ ys. i.0 ++ ys) (sym (ap (λ xs. fields_text shown c.loop-field.first (view_fields (λ s. s) xs)) (drop_read c.deref-field-items.result.now c.loop-field.field-index x c.loop-field-test.true c.field-item.is)))
-      ∙ i.2,
-    )
-
-pub show_fields-returns : goal.show_fields-returns
-show_fields-returns g t c = λ p ok.
-    let shown = shown_by g.S.ParseScalarValue.content g.S.ScalarValue.str_in g.S.ScalarValue.shown in
     let i = c.loop-field.invariant p in
-    let e : i.0 ≡ fields_text shown true (view_fields (λ s. s) c.args.fields.now.items) =
-    sym (append-nil i.0)
-    ∙ ap (λ ys. i.0 ++ ys) (sym (at_drop_all (λ xs. fields_text shown c.loop-field.first (view_fields (λ s. s) xs)) c.deref-field-items.result.now c.loop-field.field-index c.loop-field-test.false))
-    ∙ i.2 ∙ ap (λ xs. fields_text shown true (view_fields (λ s. s) xs)) c.deref-field-items.ensures.value in
-    subst (λ bs. HasWritten g.W.Write.write_str_gives c.args.f.now bs c.loop-field.f) e i.1
+    let first = c.in_ok-write_separator.ensures i.wrote.plain refl in
+    let key = c.in_ok-write_key.ensures first.plain refl in
+    let pair = two took _ _ _ (text_of x.0.item ++ codes ": ") (value_text shown (view (λ s. s) x.1.item)) key (c.in_ok-write_value.ensures key.plain refl) in
+    one_more took c.args.f.now _ _ _ (text_of x.0.item ++ (codes ": " ++ value_text shown (view (λ s. s) x.1.item))) c.loop-field.first (field_texts shown (view_fields (λ s. s) (drop (c.loop-field.field-index + 1) xs)))
+    (subst (λ ys. IsWritten took c.args.f.now (joined (field_texts shown (view_fields (λ s. s) xs))) (left c.loop-field.first (field_texts shown (view_fields (λ s. s) ys))) c.loop-field.f)
+    (drop_read xs c.loop-field.field-index x c.loop-field-test.true c.field-item.is) i)
+    (two took _ _ _ _ _ first
+    (has_written_of_eq _ _ _ _ _ (ap encodes (append_assoc (text_of x.0.item) (codes ": ") (value_text shown (view (λ s. s) x.1.item)))) pair))
+
+pub write_value-returns-in_ok-write_fields-in-Object :
+    goal.write_value-returns-in_ok-write_fields-in-Object
+write_value-returns-in_ok-write_fields-in-Object g t c p ok =
+    let shown = scalar_display g.S.ParseScalarValue.content g.S.ScalarValue.str_in g.S.ScalarValue.shown in
+    let first = c.in_ok-write_str-in-Object.ensures.writes p refl in
+    let inner = c.in_ok-write_fields-in-Object.ensures first.plain refl in
+    has_written_of_eq _ _ _ _ _ (ap (λ v. encodes (value_text shown v)) (sym (ap (view (λ s. s)) c.in-Object.is ∙ view-Object (λ s. s) c.in-Object.fields)))
+    (between g.W.Write.write_str_gives _ _ _ _ 123 125 (joined (field_texts shown (view_fields (λ s. s) c.in-Object.fields.items))) (omega arith) (omega arith) first inner (c.write_str-in-Object-2.ensures.writes inner.plain ok))

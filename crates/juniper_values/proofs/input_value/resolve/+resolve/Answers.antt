@@ -1,6 +1,6 @@
 use Rattle.std.proofs.Common.{rules, arith, refl, ◌≡◌, ◌∙◌, ◌++◌, ap, sym, Some, option_map}
 use Rattle.std.specs.Vec.Iter.{into_iter_items}
-use Rattle.juniper_values.specs.Operations.{resolve, resolve_items, resolve_fields, or_null}
+use Rattle.juniper_values.specs.Resolve.{resolve, resolve_items, resolve_fields, or_null}
 use Rattle.juniper_values.specs.Value.{list, object, item, field}
 use Rattle.juniper_values.specs.View.{view, text_of, view_items, view_fields, values_in}
 use Rattle.juniper_values.specs.declared.input_value.InputValue.TheShapes.{weighed-InputValue-Object-0-at-4}

@@ -1,6 +1,6 @@
 use Rattle.std.proofs.Common.{◌≡◌, ◌++◌}
 use Rattle.std.specs.Vec.Iter.{into_iter_items}
-use Rattle.juniper_values.specs.Operations.{resolve_items, resolve_fields}
+use Rattle.juniper_values.specs.Resolve.{resolve_items, resolve_fields}
 use Rattle.juniper_values.specs.View.{view_items, view_fields, values_in}
 use Rattle.juniper_values.proofs.Reading.{prepend}
 use Rattle.juniper_values.proofs.Trees.{put_item, put_field}

@@ -1,8 +1,8 @@
 use Rattle.std.proofs.Common.{◌≡◌, ◌++◌, map, drop}
 use Rattle.std.specs.Str.{chars}
-use Rattle.juniper_values.specs.Operations.{item_variables, field_variables}
+use Rattle.juniper_values.specs.Variables.{item_variables, field_variables}
 use Rattle.juniper_values.specs.View.{view_items, view_fields}
-use Rattle.juniper_values.proofs.input_value.+variables.Given as goal
+use Rattle.juniper_values.proofs.input_value.variables.+variables.Given as goal
 
 abbrev pub invariant-note_field_variables-loop-field :
     goal.invariant-note_field_variables-loop-field

@@ -1,26 +1,8 @@
--- What the operations on input values answer, by recursion over the tree.
-use Rattle.std.specs.Prelude.{List, [], ◌∷◌, ◌++◌, Option, Some, None}
-use Rattle.juniper_values.specs.Text.{Text}
+-- Variables replaced by their values.
+use Rattle.std.specs.Prelude.{Option, Some, None}
 use Rattle.graphql_lexical.specs.Place.{Span}
+use Rattle.juniper_values.specs.Text.{Text}
 use Rattle.juniper_values.specs.Value.{Value, null, scalar, enum_value, variable, list, object, Items, no_items, item, Fields, no_fields, field}
-
--- the names of the variables, from left to right
-abbrev mutual
-  pub variables : {C : Type 0} → Value C → List Text
-  variables null = []
-  variables (scalar s) = []
-  variables (enum_value t) = []
-  variables (variable t) = t ∷ []
-  variables (list xs) = item_variables xs
-  variables (object fs) = field_variables fs
-
-  pub item_variables : {C : Type 0} → Items C → List Text
-  item_variables no_items = []
-  item_variables (item v s xs) = variables v ++ item_variables xs
-
-  pub field_variables : {C : Type 0} → Fields C → List Text
-  field_variables no_fields = []
-  field_variables (field k s v t fs) = variables v ++ field_variables fs
 
 -- the value of each variable, where there is one
 abbrev pub Values : Type 0 → Type 0
@@ -30,10 +12,13 @@ abbrev pub or_null : {C : Type 0} → Option (Value C) → Value C
 or_null None = null
 or_null (Some v) = v
 
+-- the field in front of the others, if it has a value
 abbrev pub field_if : {C : Type 0} → Text → Span → Option (Value C) → Span → Fields C → Fields C
 field_if k s None t fs = fs
 field_if k s (Some v) t fs = field k s v t fs
 
+-- What a value becomes. A variable becomes its value, left as it is, or nothing where it has none. An item of a list
+-- that becomes nothing is null, and a field of an object that does is left out.
 abbrev mutual
   pub resolve : {C : Type 0} → Values C → Value C → Option (Value C)
   resolve m null = Some null

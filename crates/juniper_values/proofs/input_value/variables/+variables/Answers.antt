@@ -1,8 +1,8 @@
 use Rattle.std.proofs.Common.{rules, arith, refl}
-use Rattle.juniper_values.specs.Operations.{variables, field_variables}
+use Rattle.juniper_values.specs.Variables.{variables, field_variables}
 use Rattle.juniper_values.specs.View.{view, view_fields}
 use Rattle.juniper_values.proofs.Reading.{gathered, within_most}
-use Rattle.juniper_values.proofs.input_value.+variables.Goals as goal
+use Rattle.juniper_values.proofs.input_value.variables.+variables.Goals as goal
 use Rattle.juniper_values.proofs.input_value.InputValue.TheLaws.{the_size}
 use Rattle.juniper_values.specs.declared.input_value.InputValue.TheShapes.{weighed-InputValue-Object-0-at-4}
 

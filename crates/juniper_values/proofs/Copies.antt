@@ -1,0 +1,107 @@
+-- The tree of a value by its scalars' contents is its tree by its scalars, each with its content in its place.
+use Rattle.std.proofs.Common.{◌≡◌, refl, ap, sym, subst, ◌∙◌, Bool, true, ◌&&◌, List, [], ◌∷◌, map, String, Global}
+use Rattle.std.proofs.lemmas.Slice.Eq.{bytes_eq-Decides}
+use Rattle.graphql_lexical.specs.Place.{Span}
+use Rattle.juniper_values.specs.Text.{Text, same_text}
+use Rattle.juniper_values.specs.Equality.{same_span, same_value, same_items, same_fields}
+use Rattle.juniper_values.specs.EqualityLaws.{same_span-equiv}
+use Rattle.juniper_values.proofs.Alike.{both}
+use Rattle.juniper_tokens.specs.declared.span.Spanning.{Spanning}
+use Rattle.juniper_tokens.specs.Spans.{view_span}
+use Rattle.juniper_values.specs.View.{view, view_step, items_of, fields_of, text_of}
+use Rattle.juniper_values.specs.Value.{Value, null, scalar, enum_value, variable, list, object, Items, no_items, item, Fields, no_fields, field}
+use Rattle.juniper_values.specs.declared.input_value.InputValue.{InputValue, ind-InputValue, roll-InputValue, fold-roll-InputValue}
+use Rattle.juniper_values.specs.declared.input_value.InputValue.TheOpen.{InputValue-F}
+use Rattle.juniper_values.specs.declared.input_value.InputValue.TheFolds.{map-InputValue}
+
+abbrev at_item : {A B : Type 0} → (A → B) → Spanning A → Spanning B
+at_item f x = record { item = f x.item; span = x.span }
+
+abbrev at_value : {A B : Type 0} → (A → B) → Spanning (String Global) × Spanning A → Spanning (String Global) × Spanning B
+at_value f x = (x.0, at_item f x.1)
+
+-- each scalar replaced
+module _ {S C : Type 0} (f : S → C) where
+  abbrev mutual
+    pub replaced : Value S → Value C
+    replaced null = null
+    replaced (scalar s) = scalar (f s)
+    replaced (enum_value t) = enum_value t
+    replaced (variable t) = variable t
+    replaced (list xs) = list (replaced_items xs)
+    replaced (object fs) = object (replaced_fields fs)
+
+    replaced_items : Items S → Items C
+    replaced_items no_items = no_items
+    replaced_items (item v s xs) = item (replaced v) s (replaced_items xs)
+
+    replaced_fields : Fields S → Fields C
+    replaced_fields no_fields = no_fields
+    replaced_fields (field k s v t fs) = field k s (replaced v) t (replaced_fields fs)
+
+  -- one level, where it holds of the values within
+  module _ {V E : Type 0} (part : E → V) (a : V → Value C) (b : V → Value S) (within : (e : E) → a (part e) ≡ replaced (b (part e))) where
+    items_replaced : (xs : List (Spanning E)) → items_of (map (at_item a) (map (at_item part) xs)) ≡ replaced_items (items_of (map (at_item b) (map (at_item part) xs)))
+    items_replaced [] = refl
+    items_replaced (x ∷ xs) = λ i. item (within x.item i) (view_span x.span) (items_replaced xs i)
+
+    fields_replaced : (xs : List (Spanning (String Global) × Spanning E)) → fields_of (map (at_value a) (map (at_value part) xs)) ≡ replaced_fields (fields_of (map (at_value b) (map (at_value part) xs)))
+    fields_replaced [] = refl
+    fields_replaced (x ∷ xs) = λ i. field (text_of x.0.item) (view_span x.0.span) (within x.1.item i) (view_span x.1.span) (fields_replaced xs i)
+
+    level : (y : InputValue-F S E)
+        → view_step f (map-InputValue S V (Value C) a (map-InputValue S E V part y)) ≡ replaced (view_step (λ s. s) (map-InputValue S V (Value S) b (map-InputValue S E V part y)))
+    level (InputValue-F.Null) = refl
+    level (InputValue-F.Scalar s) = refl
+    level (InputValue-F.Enum t) = refl
+    level (InputValue-F.Variable t) = refl
+    level (InputValue-F.List v) = ap list (items_replaced v.items)
+    level (InputValue-F.Object v) = ap object (fields_replaced v.items)
+
+  pub view-replaced : (v : InputValue S) → view f v ≡ replaced (view (λ s. s) v)
+  view-replaced v = ind-InputValue S (λ v. view f v ≡ replaced (view (λ s. s) v)) (λ x y e. 
+     subst (λ (z : InputValue-F S (InputValue S)). view f (roll-InputValue S z) ≡ replaced (view (λ s. s) (roll-InputValue S z))) e 
+      (fold-roll-InputValue S (Value C) (view_step f) _ ∙ level (λ p. p.0) (view f) (view (λ s. s)) (λ p. p.1) y ∙ ap replaced (sym (fold-roll-InputValue S (Value S) (view_step (λ s. s)) _)))) v
+
+-- ---- values whose scalars have the same contents are equal
+
+text_equal : (a b : Text) → a ≡ b → same_text a b ≡ true
+text_equal a b = (bytes_eq-Decides a b).1
+
+span_equal : (s t : Span) → s ≡ t → same_span s t ≡ true
+span_equal s t e = sym (ap (same_span s) e) ∙ same_span-equiv.refl s
+
+module _ {S C : Type 0} (f : S → C) (eq : S → S → Bool) (same : (a b : S) → f a ≡ f b → eq a b ≡ true) where
+  mutual
+    equal : (v w : Value S) → replaced f v ≡ replaced f w → same_value eq v w ≡ true
+    equal null null e = refl
+    equal null w e = absurd (cc)
+    equal (scalar a) (scalar b) e = same a b (cc)
+    equal (scalar a) w e = absurd (cc)
+    equal (enum_value a) (enum_value b) e = text_equal a b (cc)
+    equal (enum_value a) w e = absurd (cc)
+    equal (variable a) (variable b) e = text_equal a b (cc)
+    equal (variable a) w e = absurd (cc)
+    equal (list xs) (list ys) e = items_equal xs ys (cc)
+    equal (list xs) w e = absurd (cc)
+    equal (object fs) (object gs) e = fields_equal fs gs (cc)
+    equal (object fs) w e = absurd (cc)
+
+    items_equal : (xs ys : Items S) → replaced_items f xs ≡ replaced_items f ys → same_items eq xs ys ≡ true
+    items_equal no_items no_items e = refl
+    items_equal no_items ys e = absurd (cc)
+    items_equal (item v s xs) (item w t ys) e =
+        both (same_value eq v w && same_span s t) _ (both (same_value eq v w) _ (equal v w (cc)) (span_equal s t (cc))) (items_equal xs ys (cc))
+    items_equal (item v s xs) ys e = absurd (cc)
+
+    fields_equal : (fs gs : Fields S) → replaced_fields f fs ≡ replaced_fields f gs → same_fields eq fs gs ≡ true
+    fields_equal no_fields no_fields e = refl
+    fields_equal no_fields gs e = absurd (cc)
+    fields_equal (field k a v s fs) (field l b w t gs) e =
+        both ((same_text k l && same_span a b) && (same_value eq v w && same_span s t)) _
+        (both (same_text k l && same_span a b) _ (both (same_text k l) _ (text_equal k l (cc)) (span_equal a b (cc))) (both (same_value eq v w) _ (equal v w (cc)) (span_equal s t (cc))))
+        (fields_equal fs gs (cc))
+    fields_equal (field k a v s fs) gs e = absurd (cc)
+
+  pub copies_equal : (a b : InputValue S) → view f a ≡ view f b → same_value eq (view (λ s. s) a) (view (λ s. s) b) ≡ true
+  copies_equal a b e = equal (view (λ s. s) a) (view (λ s. s) b) (sym (view-replaced f a) ∙ e ∙ view-replaced f b)

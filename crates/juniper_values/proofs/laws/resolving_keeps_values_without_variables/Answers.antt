@@ -1,0 +1,5 @@
+use Rattle.juniper_values.proofs.Referring.{resolving_keeps}
+use Rattle.juniper_values.proofs.laws.resolving_keeps_values_without_variables.Goals as goal
+
+pub returns : goal.returns
+returns g c = resolving_keeps

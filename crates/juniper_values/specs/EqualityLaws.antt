@@ -1,0 +1,151 @@
+-- Equality of input values is an equivalence, since that of scalars is one.
+use Rattle.std.specs.Prelude.{◌≡◌, ℕ, ◌==◌, Bool, true, false, ◌&&◌, refl}
+use Rattle.std.proofs.Common.{sym, ap, ◌∙◌, true≢false}
+use Rattle.std.specs.Cmp.{IsEquivalence, IsPartialEquivalence, partial_equiv_from_equiv, on_equiv, and_equiv, equiv}
+use Rattle.std.proofs.lemmas.Cmp.{nat_eq_equiv, nat_list_eq_equiv}
+use Rattle.graphql_lexical.specs.Place.{Place, Span}
+use Rattle.juniper_values.specs.Text.{Text, same_text}
+use Rattle.juniper_values.specs.Value.{Value, null, scalar, enum_value, variable, list, object, Items, no_items, item, Fields, no_fields, field}
+use Rattle.juniper_values.specs.Equality.{same_place, same_span, same_value, same_items, same_fields}
+use Rattle.juniper_values.specs.View.{view}
+use Rattle.juniper_values.specs.declared.input_value.InputValue.{InputValue}
+
+pub same_place-equiv : IsEquivalence same_place
+same_place-equiv = and_equiv (on_equiv (λ p. p.index) nat_eq_equiv) (and_equiv (on_equiv (λ p. p.line) nat_eq_equiv) (on_equiv (λ p. p.column) nat_eq_equiv))
+
+pub same_span-equiv : IsEquivalence same_span
+same_span-equiv = and_equiv (on_equiv (λ s. s.start) same_place-equiv) (on_equiv (λ s. s.end) same_place-equiv)
+
+left : (a b : Bool) → (a && b) ≡ true → a ≡ true
+left true b e = refl
+left false b e = absurd (true≢false (sym e))
+
+right : (a b : Bool) → (a && b) ≡ true → b ≡ true
+right true b e = e
+right false b e = absurd (true≢false (sym e))
+
+both : (a b : Bool) → a ≡ true → b ≡ true → (a && b) ≡ true
+both a b e f = λ i. e i && f i
+
+text_along : (a b c : Text) → same_text a b ≡ true → same_text b c ≡ true → same_text a c ≡ true
+text_along a b c e f = nat_list_eq_equiv.congr a b c e ∙ f
+
+span_along : (a b c : Span) → same_span a b ≡ true → same_span b c ≡ true → same_span a c ≡ true
+span_along a b c e f = same_span-equiv.congr a b c e ∙ f
+
+module _ {C : Type 0} {eq : C → C → Bool} (laws : IsPartialEquivalence eq) where
+  mutual
+    back : (v w : Value C) → same_value eq v w ≡ same_value eq w v
+    back null null = refl
+    back (scalar a) (scalar b) = laws.symm a b
+    back (enum_value a) (enum_value b) = nat_list_eq_equiv.symm a b
+    back (variable a) (variable b) = nat_list_eq_equiv.symm a b
+    back (list xs) (list ys) = items_back xs ys
+    back (object fs) (object gs) = fields_back fs gs
+    back v w = refl
+
+    items_back : (xs ys : Items C) → same_items eq xs ys ≡ same_items eq ys xs
+    items_back no_items no_items = refl
+    items_back (item v s xs) (item w t ys) = λ i. (back v w i && same_span-equiv.symm s t i) && items_back xs ys i
+    items_back xs ys = refl
+
+    fields_back : (fs gs : Fields C) → same_fields eq fs gs ≡ same_fields eq gs fs
+    fields_back no_fields no_fields = refl
+    fields_back (field k a v s fs) (field l b w t gs) = λ i.
+        ((nat_list_eq_equiv.symm k l i && same_span-equiv.symm a b i) && (back v w i && same_span-equiv.symm s t i)) && fields_back fs gs i
+    fields_back fs gs = refl
+
+  mutual
+    along : (u v w : Value C) → same_value eq u v ≡ true → same_value eq v w ≡ true → same_value eq u w ≡ true
+    along null null null e f = refl
+    along null null w e f = absurd (true≢false (sym f))
+    along null v w e f = absurd (true≢false (sym e))
+    along (scalar a) (scalar b) (scalar c) e f = laws.trans a b c e f
+    along (scalar a) (scalar b) w e f = absurd (true≢false (sym f))
+    along (scalar a) v w e f = absurd (true≢false (sym e))
+    along (enum_value a) (enum_value b) (enum_value c) e f = text_along a b c e f
+    along (enum_value a) (enum_value b) w e f = absurd (true≢false (sym f))
+    along (enum_value a) v w e f = absurd (true≢false (sym e))
+    along (variable a) (variable b) (variable c) e f = text_along a b c e f
+    along (variable a) (variable b) w e f = absurd (true≢false (sym f))
+    along (variable a) v w e f = absurd (true≢false (sym e))
+    along (list xs) (list ys) (list zs) e f = items_along xs ys zs e f
+    along (list xs) (list ys) w e f = absurd (true≢false (sym f))
+    along (list xs) v w e f = absurd (true≢false (sym e))
+    along (object fs) (object gs) (object hs) e f = fields_along fs gs hs e f
+    along (object fs) (object gs) w e f = absurd (true≢false (sym f))
+    along (object fs) v w e f = absurd (true≢false (sym e))
+
+    items_along : (xs ys zs : Items C) → same_items eq xs ys ≡ true → same_items eq ys zs ≡ true → same_items eq xs zs ≡ true
+    items_along no_items no_items no_items e f = refl
+    items_along no_items no_items zs e f = absurd (true≢false (sym f))
+    items_along no_items ys zs e f = absurd (true≢false (sym e))
+    items_along (item u r xs) (item v s ys) (item w t zs) e f =
+        let p = left (same_value eq u v && same_span r s) _ e in
+        let q = left (same_value eq v w && same_span s t) _ f in
+        both (same_value eq u w && same_span r t) (same_items eq xs zs)
+        (both (same_value eq u w) (same_span r t) (along u v w (left (same_value eq u v) _ p) (left (same_value eq v w) _ q))
+        (span_along r s t (right (same_value eq u v) _ p) (right (same_value eq v w) _ q)))
+        (items_along xs ys zs (right (same_value eq u v && same_span r s) _ e) (right (same_value eq v w && same_span s t) _ f))
+    items_along (item u r xs) (item v s ys) zs e f = absurd (true≢false (sym f))
+    items_along (item u r xs) ys zs e f = absurd (true≢false (sym e))
+
+    fields_along : (fs gs hs : Fields C) → same_fields eq fs gs ≡ true → same_fields eq gs hs ≡ true → same_fields eq fs hs ≡ true
+    fields_along no_fields no_fields no_fields e f = refl
+    fields_along no_fields no_fields hs e f = absurd (true≢false (sym f))
+    fields_along no_fields gs hs e f = absurd (true≢false (sym e))
+    fields_along (field k a u r fs) (field l b v s gs) (field m d w t hs) e f =
+        let p = left ((same_text k l && same_span a b) && (same_value eq u v && same_span r s)) _ e in
+        let q = left ((same_text l m && same_span b d) && (same_value eq v w && same_span s t)) _ f in
+        let i = left (same_text k l && same_span a b) _ p in
+        let j = left (same_text l m && same_span b d) _ q in
+        let x = right (same_text k l && same_span a b) _ p in
+        let y = right (same_text l m && same_span b d) _ q in
+        both ((same_text k m && same_span a d) && (same_value eq u w && same_span r t)) (same_fields eq fs hs)
+        (both (same_text k m && same_span a d) (same_value eq u w && same_span r t)
+        (both (same_text k m) (same_span a d) (text_along k l m (left (same_text k l) _ i) (left (same_text l m) _ j))
+        (span_along a b d (right (same_text k l) _ i) (right (same_text l m) _ j)))
+        (both (same_value eq u w) (same_span r t) (along u v w (left (same_value eq u v) _ x) (left (same_value eq v w) _ y))
+        (span_along r s t (right (same_value eq u v) _ x) (right (same_value eq v w) _ y))))
+        (fields_along fs gs hs (right ((same_text k l && same_span a b) && (same_value eq u v && same_span r s)) _ e)
+        (right ((same_text l m && same_span b d) && (same_value eq v w && same_span s t)) _ f))
+    fields_along (field k a u r fs) (field l b v s gs) hs e f = absurd (true≢false (sym f))
+    fields_along (field k a u r fs) gs hs e f = absurd (true≢false (sym e))
+
+module _ {C : Type 0} (eq : C → C → Bool) (itself : (c : C) → eq c c ≡ true) where
+  mutual
+    same : (v : Value C) → same_value eq v v ≡ true
+    same null = refl
+    same (scalar a) = itself a
+    same (enum_value t) = nat_list_eq_equiv.refl t
+    same (variable t) = nat_list_eq_equiv.refl t
+    same (list xs) = items_same xs
+    same (object fs) = fields_same fs
+
+    items_same : (xs : Items C) → same_items eq xs xs ≡ true
+    items_same no_items = refl
+    items_same (item v s xs) = λ i. (same v i && same_span-equiv.refl s i) && items_same xs i
+
+    fields_same : (fs : Fields C) → same_fields eq fs fs ≡ true
+    fields_same no_fields = refl
+    fields_same (field k a v s fs) = λ i.
+        ((nat_list_eq_equiv.refl k i && same_span-equiv.refl a i) && (same v i && same_span-equiv.refl s i)) && fields_same fs i
+
+-- on values
+pub values_alike : {C : Type 0} {eq : C → C → Bool} → IsPartialEquivalence eq → IsPartialEquivalence (same_value eq)
+values_alike laws = record { symm = back laws; trans = along laws }
+
+pub values_equivalent : {C : Type 0} {eq : C → C → Bool} → IsEquivalence eq → IsEquivalence (same_value eq)
+values_equivalent {eq} laws = equiv (values_alike (partial_equiv_from_equiv laws)) (same eq laws.refl)
+
+-- on the code's values, seen as such
+pub same_value-laws : {S : Type 0} {eq : S → S → Bool} → IsPartialEquivalence eq
+    → IsPartialEquivalence (λ (a b : InputValue S). same_value eq (view (λ s. s) a) (view (λ s. s) b))
+same_value-laws laws = record {
+  symm = λ a b. (values_alike laws).symm (view (λ s. s) a) (view (λ s. s) b);
+  trans = λ a b c. (values_alike laws).trans (view (λ s. s) a) (view (λ s. s) b) (view (λ s. s) c);
+}
+
+pub same_value-equiv : {S : Type 0} {eq : S → S → Bool} → IsEquivalence eq
+    → IsEquivalence (λ (a b : InputValue S). same_value eq (view (λ s. s) a) (view (λ s. s) b))
+same_value-equiv laws = on_equiv (view (λ s. s)) (values_equivalent laws)

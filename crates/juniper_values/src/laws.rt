@@ -1,0 +1,84 @@
+//! Laws of scalars, types and input values.
+ghost use Rattle.std.specs.Prelude.{◌≡◌, ◌↔◌, true, List, Some};
+ghost use Rattle.graphql_lexical.specs.Tokens.{AreUnits};
+ghost use Rattle.juniper_values.specs.Text.{Text};
+ghost use Rattle.juniper_values.specs.Equality.{same_value};
+ghost use Rattle.juniper_values.specs.Laws.{IsExactlyUnescaped, HaveNoVariables, RemovesVariables, IsEmptyWithoutVariables, IsEqualityLike, AreSameFields, WrapsOnce};
+ghost use Rattle.juniper_values.specs.Resolve.{Values, resolve};
+ghost use Rattle.juniper_values.specs.Same.{same_but_place};
+ghost use Rattle.juniper_values.specs.TypeLiteral.{TypeShape, same_type};
+ghost use Rattle.juniper_values.specs.Units.{StandsFor};
+ghost use Rattle.juniper_values.specs.Value.{Value, Fields, object};
+ghost use Rattle.juniper_values.specs.Variables.{HasNoVariable};
+ghost use Rattle.juniper_values.specs.View.{view};
+ghost use Rattle.juniper_values.specs.declared.input_value.InputValue.{InputValue};
+ghost use Rattle.juniper_values.specs.declared.type_literal.TypeModifier.{TypeModifier};
+
+use crate::scalar::ScalarValue;
+
+/// The default scalar reads a String as what its text stands for, unit by unit.
+pub fn strings_are_unescaped()
+    ensures { (t : Text) → IsExactlyUnescaped t }
+{}
+
+/// Each String that a source can hold stands for a text.
+pub fn units_stand_for_a_text()
+    ensures { (t : Text) → AreUnits t → (u : Text) × StandsFor t u }
+{}
+
+/// Equality of scalars is reflexive, symmetric and transitive.
+pub fn scalars_are_compared<S: ScalarValue>()
+    ensures { IsEqualityLike S.eq }
+{}
+
+/// Scalars of one content are equal. So a copy equals its source.
+pub fn scalar_copies_are_equal<S: ScalarValue>()
+    ensures { (a b : S) → S.content a ≡ S.content b → S.eq a b ≡ true }
+{}
+
+/// Values whose scalars have the same contents are equal. So a copy of a value equals its source.
+pub fn value_copies_are_equal<S: ScalarValue>()
+    ensures { (a b : InputValue S) → view S.content a ≡ view S.content b → same_value S.eq (view (λ s. s) a) (view (λ s. s) b) ≡ true }
+{}
+
+/// Where no variable's value has a variable, resolving leaves no variable, and leaves nothing only of a variable without a
+/// value.
+pub fn resolving_removes_variables<C>()
+    ensures { (m : Values C) → HaveNoVariables m → (v : Value C) → RemovesVariables m v }
+{}
+
+/// Resolving leaves a value without variables as it is.
+pub fn resolving_keeps_values_without_variables<C>()
+    ensures { (m : Values C) (v : Value C) → HasNoVariable v → resolve m v ≡ Some v }
+{}
+
+/// A value refers to no variables exactly where it has none.
+pub fn no_variables<C>()
+    ensures { (v : Value C) → IsEmptyWithoutVariables v }
+{}
+
+/// Equality of values whatever their places is reflexive, symmetric and transitive, as equality of their scalars is.
+pub fn values_are_compared_whatever_their_places<S: Eq>()
+    ensures { IsEqualityLike (same_but_place S.eq) }
+{}
+
+/// Equal values are equal whatever their places.
+pub fn equal_values_are_so_whatever_their_places<S: Eq>()
+    ensures { (v w : Value S) → same_value S.eq v w ≡ true → same_but_place S.eq v w ≡ true }
+{}
+
+/// Two objects are equal whatever their places exactly where they have as many fields, and each field of either has in
+/// the other one with its key and an equal value.
+pub fn objects_are_compared_both_ways<S: Eq>()
+    ensures { (fs gs : Fields S) → (same_but_place S.eq (object fs) (object gs) ≡ true) ↔ AreSameFields S.eq fs gs }
+{}
+
+/// What wrapping a type once more does.
+pub fn wrapping()
+    ensures { (name : Text) (ms : List TypeModifier) (m : TypeModifier) → WrapsOnce name ms m }
+{}
+
+/// Types are equal exactly where their names' texts and their modifiers are.
+pub fn types_are_compared<N>()
+    ensures { (text_of : N → Text) (a b : TypeShape N) → (same_type text_of a b ≡ true) ↔ ((text_of a.name ≡ text_of b.name) × (a.modifiers ≡ b.modifiers)) }
+{}
