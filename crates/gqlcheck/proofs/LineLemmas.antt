@@ -5,6 +5,7 @@ use Rattle.std.specs.Fmt.{decimal}
 use Rattle.std.specs.Str.{encode_utf8_all}
 use Rattle.std.proofs.lemmas.Fmt.{IsAscii-decimal}
 use Rattle.std.proofs.lemmas.Str.{encodes-chars, encodes-append, encodes-IsAscii, encode_ascii}
+use lib.Utf8.{encode}
 use Rattle.gqlcheck.specs.declared.lines.write.LineKind.{LineKind}
 use Rattle.gqlcheck.specs.declared.lines.write.LineKind.TheVariants as kind
 use Rattle.gqlcheck.specs.Kinds.{kind_text}
@@ -14,27 +15,28 @@ decimal_bytes : (n : ℕ) → n < 2 ^ 64 → encode_utf8_all (decimal n) ≡ dec
 decimal_bytes n h = encodes-IsAscii (decimal n) (IsAscii-decimal n h)
 
 kind_bytes : (kind : LineKind) → encode_utf8_all (kind_text kind) ≡ kind_text kind
-kind_bytes kind.Query = encodes-IsAscii (codes "query") (search rules)
-kind_bytes kind.Mutation = encodes-IsAscii (codes "mutation") (search rules)
-kind_bytes kind.Subscription = encodes-IsAscii (codes "subscription") (search rules)
-kind_bytes kind.Fragment = encodes-IsAscii (codes "fragment") (search rules)
-kind_bytes kind.Variables = encodes-IsAscii (codes "variables") (search rules)
-kind_bytes kind.Variable = encodes-IsAscii (codes "variable") (search rules)
-kind_bytes kind.Type = encodes-IsAscii (codes "type") (search rules)
-kind_bytes kind.Field = encodes-IsAscii (codes "field") (search rules)
-kind_bytes kind.Alias = encodes-IsAscii (codes "alias") (search rules)
-kind_bytes kind.Spread = encodes-IsAscii (codes "spread") (search rules)
-kind_bytes kind.Inline = encodes-IsAscii (codes "inline") (search rules)
-kind_bytes kind.Directive = encodes-IsAscii (codes "directive") (search rules)
-kind_bytes kind.Arguments = encodes-IsAscii (codes "arguments") (search rules)
-kind_bytes kind.Argument = encodes-IsAscii (codes "argument") (search rules)
-kind_bytes kind.Null = encodes-IsAscii (codes "null") (search rules)
-kind_bytes kind.Scalar = encodes-IsAscii (codes "scalar") (search rules)
-kind_bytes kind.Enum = encodes-IsAscii (codes "enum") (search rules)
-kind_bytes kind.Reference = encodes-IsAscii (codes "reference") (search rules)
-kind_bytes kind.List = encodes-IsAscii (codes "list") (search rules)
-kind_bytes kind.Object = encodes-IsAscii (codes "object") (search rules)
-kind_bytes kind.Key = encodes-IsAscii (codes "key") (search rules)
+unfolding encode
+kind_bytes kind.Query = refl
+kind_bytes kind.Mutation = refl
+kind_bytes kind.Subscription = refl
+kind_bytes kind.Fragment = refl
+kind_bytes kind.Variables = refl
+kind_bytes kind.Variable = refl
+kind_bytes kind.Type = refl
+kind_bytes kind.Field = refl
+kind_bytes kind.Alias = refl
+kind_bytes kind.Spread = refl
+kind_bytes kind.Inline = refl
+kind_bytes kind.Directive = refl
+kind_bytes kind.Arguments = refl
+kind_bytes kind.Argument = refl
+kind_bytes kind.Null = refl
+kind_bytes kind.Scalar = refl
+kind_bytes kind.Enum = refl
+kind_bytes kind.Reference = refl
+kind_bytes kind.List = refl
+kind_bytes kind.Object = refl
+kind_bytes kind.Key = refl
 
 pub line-bytes : (kind : LineKind) (start end : ℕ) → start < 2 ^ 64 → end < 2 ^ 64
     → encode_utf8_all (line_at (kind_text kind) start end) ≡ kind_text kind ++ (32 ∷ (decimal start ++ (32 ∷ (decimal end ++ (10 ∷ [])))))
