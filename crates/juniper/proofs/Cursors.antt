@@ -1,16 +1,14 @@
 -- What the steps of a cursor take.
-use Rattle.std.proofs.Common.{◌≡◌, ℕ, Bool, true, false, cond, List, [], ◌∷◌, Result, Ok, Err, Option, Some, None, refl, sym, ap, ◌∙◌, subst}
+use Rattle.std.proofs.Common.{◌≡◌, Bool, true, false, cond, List, [], ◌∷◌, Ok, Err, refl, ap}
 use Rattle.graphql_lexical.specs.Place.{Span}
-use Rattle.graphql_lexical.specs.declared.kind.Kind.{Kind}
 use Rattle.graphql_lexical.specs.declared.kind.Kind.TheVariants.{EndOfFile}
 use Rattle.graphql_lexical.specs.Kinds.{same_kind}
 use Rattle.graphql_lexical.specs.Cutting.{Lexeme}
 use Rattle.graphql_grammar.specs.Tokens.{span_of}
 use Rattle.graphql_grammar.specs.Reading.{front}
 use Rattle.graphql_grammar.proofs.Extents.{Runs, runs_one, runs_front}
-use Rattle.juniper_tokens.specs.Errors.{Fault, UnexpectedEndOfFile}
-use Rattle.juniper_tokens.specs.Cursor.{Read, ◌>>=◌, next_at, refused_at, next_if}
-use Rattle.juniper.proofs.Stepping.{bind_given}
+use Rattle.juniper_tokens.specs.Errors.{UnexpectedEndOfFile}
+use Rattle.juniper_tokens.specs.Cursor.{Read, ◌>>=◌, next_at, next_if}
 
 pub ok_is : {A : Type 0} (x y : A × List Lexeme) → ◌≡◌ {A = Read A} (Ok x) (Ok y) → x ≡ y
 ok_is x y e = cc

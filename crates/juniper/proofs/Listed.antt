@@ -1,5 +1,5 @@
 -- One item or more up to a closing token, and parts that may be absent.
-use Rattle.std.proofs.Common.{◌≡◌, ◌<◌, ℕ, Bool, true, false, cond, List, [], ◌∷◌, length, Result, Ok, Err, Option, Some, None, refl, sym, ap, ◌∙◌, le_refl, subst, inl}
+use Rattle.std.proofs.Common.{◌≡◌, ◌<◌, ℕ, Bool, true, false, cond, List, ◌∷◌, length, Ok, Err, Option, Some, None, refl, sym, ap, ◌∙◌, le_refl, subst}
 use Rattle.std.specs.Prelude.{option_map}
 use Rattle.graphql_lexical.specs.Place.{Place, Span}
 use Rattle.graphql_lexical.specs.declared.kind.Kind.{Kind}
@@ -14,7 +14,7 @@ use Rattle.graphql_grammar.proofs.Steps.{many_step, some_step}
 use Rattle.graphql_grammar.proofs.Rules.{Rule, Closed, many_rule}
 use Rattle.graphql_grammar.proofs.Extents.{Runs, RunsOn, runs_on, took_is, took_some, closed_runs}
 use Rattle.juniper_tokens.specs.Errors.{Error}
-use Rattle.juniper_tokens.specs.Cursor.{Read, ◌>>=◌, first_of, kind_at, next_if, skip_if}
+use Rattle.juniper_tokens.specs.Cursor.{Read, ◌>>=◌, kind_at, next_if, skip_if}
 use Rattle.juniper.specs.Seen.{seen}
 use Rattle.juniper.specs.Values.{from_to, closed_by, then_others}
 use Rattle.juniper.specs.Parts.{to_end_of}

@@ -1,5 +1,5 @@
 -- Loops over items: what was read so far, and what reading gives from here, make what reading gives in all.
-use Rattle.std.proofs.Common.{◌≡◌, Bool, true, false, cond, List, [], ◌∷◌, ◌++◌, Result, Ok, Err, Option, Some, None, refl, sym, ap, ◌∙◌, append_assoc}
+use Rattle.std.proofs.Common.{◌≡◌, Bool, true, false, cond, List, [], ◌∷◌, ◌++◌, Ok, Err, Option, Some, None, refl, sym, ap, ◌∙◌, append_assoc}
 use Rattle.std.proofs.lemmas.List.{append-nil}
 use Rattle.graphql_lexical.specs.Place.{Span}
 use Rattle.graphql_lexical.specs.Cutting.{Lexeme}
@@ -114,7 +114,7 @@ repeats_as skip item other some h u = record { unfolds = λ ts. u.unfolds ts ∙
 abbrev pub before_others : {A : Type 0} → List A → Read (List A) → Read (List A)
 before_others front r = r >>= λ x. Ok (front ++ x.0, x.1)
 
-before_regroup : {A : Type 0} (front : List A) (a : A) (r : Read (List A)) → before_others front (r >>= λ x. Ok (a ∷ x.0, x.1)) ≡ before_others (front ++ a ∷ []) r
+pub before_regroup : {A : Type 0} (front : List A) (a : A) (r : Read (List A)) → before_others front (r >>= λ x. Ok (a ∷ x.0, x.1)) ≡ before_others (front ++ a ∷ []) r
 before_regroup front a (Ok x) = ap (λ (as' : List _). Ok (as', x.1)) (sym (append_assoc front (a ∷ []) x.0))
 before_regroup front a (Err e) = refl
 

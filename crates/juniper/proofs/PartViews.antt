@@ -3,20 +3,24 @@ use Rattle.std.proofs.Common.{◌≡◌, ◌-◌, ℕ, List, [], ◌∷◌, leng
 use Rattle.std.specs.Prelude.{option_map, slice_get, IfSome}
 use Rattle.std.specs.Global.{Vec}
 use Rattle.graphql_lexical.specs.Place.{Place, Span}
-use Rattle.graphql_grammar.specs.Tree.{Scalars, Directive, Directives, Arguments}
+use Rattle.graphql_grammar.specs.Tree.{Scalars}
 use Rattle.juniper_tokens.specs.declared.span.Span.{Span as SpanOf}
 use Rattle.juniper_tokens.specs.Errors.{Error}
 use Rattle.juniper_tokens.specs.Spans.{view_span, covering_span, span_between}
 use Rattle.juniper_tokens.specs.declared.span.Spanning.{Spanning}
 use Rattle.juniper.specs.declared.ast.Directive as ast
-use Rattle.juniper.specs.declared.ast.Arguments as arguments
-use Rattle.juniper.specs.View.{view_directive, view_directives, view_arguments}
-use Rattle.juniper.specs.Parts.{spanned, last_end, view_spanned_directives}
+use Rattle.juniper.specs.View.{view_directive, view_directives}
+use Rattle.juniper.specs.Parts.{to_end_of, spanned, last_end, view_spanned_directives}
 
 -- the span of a part, seen before and after the part is
 pub end_of_part : {T B : Type 0} (view : Spanning T → B) (sp : B → Span) → ((s : Spanning T) → sp (view s) ≡ view_span s.span) → (o : Option (Spanning T)) → option_map view_span (option_map (λ s. s.span) o) ≡ option_map sp (option_map view o)
 end_of_part view sp h None = refl
 end_of_part view sp h (Some s) = ap Some (sym (h s))
+
+-- the span up to the end of a part
+pub up_to_part : {T B : Type 0} (view : Spanning T → B) (sp : B → Span) → ((s : Spanning T) → sp (view s) ≡ view_span s.span) → (o : Option (Spanning T)) (s : Option SpanOf) (p q : Span) (u : SpanOf)
+    → p ≡ q → s ≡ option_map (λ x. x.span) o → view_span u ≡ to_end_of p (option_map view_span s) → view_span u ≡ to_end_of q (option_map sp (option_map view o))
+up_to_part view sp h o s p q u e d k = k ∙ ap (λ (z : Option SpanOf). to_end_of p (option_map view_span z)) d ∙ ap (to_end_of p) (end_of_part view sp h o) ∙ ap (λ (z : Span). to_end_of z (option_map sp (option_map view o))) e
 
 module _ {S C : Type 0} (content : S → C) where
   -- directives without their span, seen before and after it is left out

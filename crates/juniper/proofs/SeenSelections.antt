@@ -1,14 +1,14 @@
 -- Selections of the grammar, in the steps of a cursor.
-use Rattle.std.proofs.Common.{◌≡◌, ◌<◌, ℕ, Bool, true, false, cond, not, ◌&&◌, List, [], ◌∷◌, length, codes, bytes_eq, Result, Ok, Err, Option, Some, None, refl, sym, ap, ◌∙◌, le_refl, subst, inl}
+use Rattle.std.proofs.Common.{◌≡◌, ℕ, Bool, true, false, cond, not, ◌&&◌, List, ◌∷◌, codes, bytes_eq, Ok, Option, Some, None, refl, sym, ap, ◌∙◌, le_refl, subst, inl}
 use Rattle.std.specs.Prelude.{option_map}
 use Rattle.graphql_lexical.specs.Place.{Place, Span}
 use Rattle.graphql_lexical.specs.declared.kind.Kind.TheVariants.{Name, CurlyOpen, CurlyClose, Ellipsis, Colon, ParenOpen, EndOfFile}
 use Rattle.graphql_lexical.specs.Kinds.{same_kind}
 use Rattle.graphql_lexical.specs.Cutting.{Lexeme}
 use Rattle.graphql_grammar.specs.Tokens.{Word, word_of, span_of}
-use Rattle.graphql_grammar.specs.Tree.{Scalars, Arguments, Directive, Directives, Selection, Field, FragmentSpread, InlineFragment, Selections, OptionalSelections}
+use Rattle.graphql_grammar.specs.Tree.{Scalars, Selection, Field, FragmentSpread, InlineFragment, Selections, OptionalSelections}
 use Rattle.graphql_grammar.specs.Grammar.{IsSelection}
-use Rattle.graphql_grammar.specs.Reading.{Test, of, word, passes, Reader, seq, done, on, look, want, refuse, fault_of, with_span, front, fully, maybe, many, one_or_more, arguments, directives, selection_at, selections_of, other_than_on}
+use Rattle.graphql_grammar.specs.Reading.{of, word, passes, Reader, seq, done, on, look, want, refuse, fault_of, with_span, front, fully, maybe, one_or_more, arguments, directives, selection_at, selections_of, other_than_on}
 use Rattle.graphql_grammar.proofs.SelectionRules.{selection_rule, selection_takes}
 use Rattle.graphql_grammar.proofs.Extents.{Runs, RunsOn, runs_on}
 use Rattle.graphql_grammar.proofs.StepsOfSelections.{selection_grows, more_selections_law, some_selections_law, set_at, set_law, selection_law, name_by, field_by, inline_by, spread_by, may_by}
@@ -18,7 +18,7 @@ use Rattle.juniper_tokens.specs.Cursor.{Read, ◌>>=◌, first_of, kind_at, next
 use Rattle.juniper.specs.Seen.{seen}
 use Rattle.juniper.specs.Values.{from_to}
 use Rattle.juniper.specs.Parts.{to_end_of, optional_arguments_read, directives_read}
-use Rattle.juniper.specs.Selections.{is_word, names_span, alias_or, names_read, optional_of, directives_of, selections_inner_read, set_read, optional_set_read, field_read, named_spread_read, inline_read, typed_read, dots_read, spread_read, selection_read}
+use Rattle.juniper.specs.Selections.{is_word, names_span, alias_or, names_read, optional_of, directives_of, selections_inner_read, set_read, optional_set_read, field_read, named_spread_read, inline_parts_read, inline_read, typed_read, dots_read, spread_read, selection_read}
 use Rattle.juniper.proofs.Stepping.{PassesNoEnd, bind_assoc, bind_same, bind_given, seen_seq, seq_as, want_as, look_as, on_as, kind_no_end, seen_span}
 use Rattle.juniper.proofs.Cursors.{ok_is, bind_ok, next_runs, at_span}
 use Rattle.juniper.proofs.Loops.{RepeatsSome, repeats_as}
@@ -27,7 +27,7 @@ use Rattle.juniper.proofs.Listed.{runs_past, optional_runs, inner_repeats, inner
 use Rattle.juniper.proofs.SeenParts.{optional_arguments_seen, optional_arguments_run, directives_seen, directives_run}
 
 -- what is read, changed by m, and then k
-seq_map_as : {A B D : Type 0} (f : Reader Error B) (k : B → Reader Error D) (ts : List Lexeme) (r : Read A) (m : A → B) (l : (A × List Lexeme) → Read D) → seen (f ts) ≡ (r >>= λ x. Ok (m x.0, x.1)) → ((x : A × List Lexeme) → seen (k (m x.0) x.1) ≡ l x) → seen (seq f k ts) ≡ (r >>= l)
+pub seq_map_as : {A B D : Type 0} (f : Reader Error B) (k : B → Reader Error D) (ts : List Lexeme) (r : Read A) (m : A → B) (l : (A × List Lexeme) → Read D) → seen (f ts) ≡ (r >>= λ x. Ok (m x.0, x.1)) → ((x : A × List Lexeme) → seen (k (m x.0) x.1) ≡ l x) → seen (seq f k ts) ≡ (r >>= l)
 seq_map_as f k ts r m l e h = seen_seq f k ts ∙ ap (λ z. z >>= λ x. seen (k x.0 x.1)) e ∙ bind_assoc r _ _ ∙ bind_same r _ l h
 
 pub cond_bind : {A B : Type 0} (b : Bool) (r s : Read A) (f : (A × List Lexeme) → Read B) → (cond b r s >>= f) ≡ cond b (r >>= f) (s >>= f)
@@ -132,7 +132,7 @@ module _ {C : Type 0} (S : Scalars C Error) where
   -- ---- selections
 
   -- with the span from ts on
-  abbrev whole : {A : Type 0} → List Lexeme → ((Span → A) × List Lexeme) → Read A
+  abbrev pub whole : {A : Type 0} → List Lexeme → ((Span → A) × List Lexeme) → Read A
   whole ts x = Ok (x.0 (span_of (front ts x.1)), x.1)
 
   field_seen : (ts : List Lexeme) → (seen (field_by S (fully (arguments S)) (fully (directives S)) (fully (set_at S)) ts) >>= whole ts) ≡ field_read S ts
@@ -157,7 +157,7 @@ module _ {C : Type 0} (S : Scalars C Error) where
 
   inline_seen : (ts mid : List Lexeme) (p : Span) (condition : Option Word) → ((rest : List Lexeme) (q : Span) → Runs mid rest q → Runs ts rest (from_to p q))
       → (seen (inline_by S (fully (directives S)) (fully (set_at S)) condition mid) >>= whole ts) ≡ inline_read S p condition mid
-  unfolding inline_read done
+  unfolding inline_read inline_parts_read done
   inline_seen ts mid p condition h =
       ap (λ (r : Read (Span → Selection C)). r >>= whole ts)
       (seq_map_as (fully (directives S)) _ mid (directives_read S mid) directives_of (λ ds. set_read S ds.1 >>= λ ss. Ok (InlineFragment condition (directives_of ds.0) ss.0.0, ss.1)) (directives_seen S mid)
@@ -166,6 +166,7 @@ module _ {C : Type 0} (S : Scalars C Error) where
       ∙ bind_given (directives_read S mid) _ _ (λ ds c. bind_assoc (set_read S ds.1) _ _
       ∙ bind_given (set_read S ds.1) _ _ (λ ss d.
       at_span (InlineFragment condition (directives_of ds.0) ss.0.0) ts ss.1 (from_to p ss.0.1) (after (option_map (λ x. x.1) ds.0) ds.1 ss.1 ss.0.1 (directives_run S mid ds c) (set_runs ds.1 ss d))))
+      ∙ sym (bind_assoc (directives_read S mid) _ _ ∙ bind_same (directives_read S mid) _ _ (λ ds. bind_assoc (set_read S ds.1) _ _))
     where
       after : (o : Option Span) (m rest : List Lexeme) (q : Span) → RunsOn mid m o → Runs m rest q → Runs ts rest (from_to p q)
       after None m rest q a b = h rest q (subst (λ l. Runs l rest q) (sym a) b)

@@ -1,5 +1,5 @@
 -- Types of the grammar, in the steps of a cursor.
-use Rattle.std.proofs.Common.{◌≡◌, ◌<◌, ℕ, Bool, true, false, cond, List, [], ◌∷◌, ◌++◌, length, Result, Ok, Err, Option, Some, None, refl, sym, ap, ◌∙◌, arith, le_refl, length-append, subst}
+use Rattle.std.proofs.Common.{◌≡◌, ◌<◌, Bool, true, false, cond, List, [], ◌∷◌, length, Ok, None, refl, sym, ap, ◌∙◌, arith, le_refl, length-append, subst}
 use Rattle.graphql_lexical.specs.Place.{Span}
 use Rattle.graphql_lexical.specs.declared.kind.Kind.TheVariants.{Name, BracketOpen, BracketClose, ExclamationMark}
 use Rattle.graphql_lexical.specs.Kinds.{same_kind}
@@ -7,17 +7,17 @@ use Rattle.graphql_lexical.specs.Cutting.{Lexeme}
 use Rattle.graphql_grammar.specs.Tokens.{span_of}
 use Rattle.graphql_grammar.specs.Tree.{TypeRef, NamedType, ListType, NonNullType}
 use Rattle.graphql_grammar.specs.Grammar.{IsType}
-use Rattle.graphql_grammar.specs.Reading.{of, Reader, seq, done, front, fully, plain_type, maybe_non_null, type_at, spanned_type}
+use Rattle.graphql_grammar.specs.Reading.{of, done, front, fully, plain_type, maybe_non_null, type_at}
 use Rattle.graphql_grammar.proofs.DocumentRules.{type_rule}
 use Rattle.graphql_grammar.proofs.Extents.{Runs, runs_on, runs_front, took_some}
 use Rattle.graphql_grammar.proofs.StepsOfParts.{type_law, spanned_type_law}
 use Rattle.juniper_tokens.specs.declared.token.Token.TheVariants as token
 use Rattle.juniper_tokens.specs.Errors.{Error}
-use Rattle.juniper_tokens.specs.Cursor.{Read, ◌>>=◌, kind_at, next_at, next_if, expect_at, expect_name_at}
+use Rattle.juniper_tokens.specs.Cursor.{Read, ◌>>=◌, kind_at, next_at, next_if, expect_at}
 use Rattle.juniper.specs.Seen.{seen}
 use Rattle.juniper.specs.Values.{from_to}
 use Rattle.juniper.specs.Parts.{type_read, list_type_read, named_type_read, nullable_type_read, non_null_read}
-use Rattle.juniper.proofs.Stepping.{bind_assoc, bind_same, bind_given, seen_seq, seq_as, want_as, on_as, kind_no_end, seen_span, seen_took}
+use Rattle.juniper.proofs.Stepping.{bind_assoc, bind_given, seen_seq, seq_as, want_as, on_as, kind_no_end, seen_span, seen_took}
 use Rattle.juniper.proofs.Cursors.{ok_is, bind_ok, next_runs, at_span}
 
 type_takes : (us : List Lexeme) (x : TypeRef) → IsType us x → 0 < length us
@@ -26,20 +26,20 @@ type_takes us (ListType size x) h = rw h.3 (omega arith)
 type_takes us (NonNullType x) h = rw (h.2, length-append h.0 (h.1 ∷ [])) (omega arith)
 
 -- a type without its span
-abbrev bare : List Lexeme → Read TypeRef
+abbrev pub bare : List Lexeme → Read TypeRef
 bare ts = seen (fully (type_at {F = Error}) ts)
 
 abbrev plain : List Lexeme → Read TypeRef
 plain ts = seen (plain_type (fully (type_at {F = Error})) ts)
 
 -- with the span from ts on
-abbrev with_type : List Lexeme → (TypeRef × List Lexeme) → Read (TypeRef × Span)
+abbrev pub with_type : List Lexeme → (TypeRef × List Lexeme) → Read (TypeRef × Span)
 with_type ts x = Ok ((x.0, span_of (front ts x.1)), x.1)
 
 bare_is : (ts : List Lexeme) → bare ts ≡ (plain ts >>= λ x. seen (maybe_non_null {F = Error} x.0 x.1))
 bare_is ts = ap seen (type_law ts) ∙ seen_seq (plain_type (fully type_at)) maybe_non_null ts
 
-spanned_is : (ts : List Lexeme) → type_read ts ≡ (bare ts >>= with_type ts)
+pub spanned_is : (ts : List Lexeme) → type_read ts ≡ (bare ts >>= with_type ts)
 unfolding type_read done
 spanned_is ts = ap seen (spanned_type_law ts) ∙ seen_span _ ts ∙ ap (λ (r : Read (Span → TypeRef × Span)). r >>= λ x. Ok (x.0 (span_of (front ts x.1)), x.1)) (seq_as (fully (type_at {F = Error})) _ ts _ (λ x. Ok ((λ p. (x.0, p)), x.1)) refl (λ x. refl))
     ∙ bind_assoc (bare ts) _ _
@@ -100,9 +100,11 @@ plain_has ts x e = by_name (same_kind (kind_at ts) Name) (sym (plain_is ts) ∙ 
         let y = bind_ok (bare o.0.1) (λ x. expect_at token.BracketClose x.1 >>= λ c. Ok (ListType None x.0, c.1)) x o.2 in
         let c = bind_ok (expect_at token.BracketClose y.0.1) (λ c. Ok (ListType None y.0.0, c.1)) x y.2 in
         let m = type_runs o.0.1 y.0 y.1 in
-        let p : Span = from_to (from_to o.0.0.span m.0) c.0.0.span in
-        (p, rest_is (ListType None y.0.0) c.0.1 x p c.2
-        (runs_on ts y.0.1 c.0.1 (from_to o.0.0.span m.0) c.0.0.span (runs_on ts o.0.1 y.0.1 o.0.0.span m.0 (next_runs (same_kind (kind_at ts) BracketOpen) ts o.0 o.1) m.1) (next_runs (same_kind (kind_at y.0.1) BracketClose) y.0.1 c.0 c.1)))
+        let p : Span = from_to (from_to o.0.0.span m.0) c.0.0.span in (
+          p,
+          rest_is (ListType None y.0.0) c.0.1 x p c.2
+              (runs_on ts y.0.1 c.0.1 (from_to o.0.0.span m.0) c.0.0.span (runs_on ts o.0.1 y.0.1 o.0.0.span m.0 (next_runs (same_kind (kind_at ts) BracketOpen) ts o.0 o.1) m.1) (next_runs (same_kind (kind_at y.0.1) BracketClose) y.0.1 c.0 c.1)),
+        )
 
 -- The reading of the grammar is what the code reads.
 pub type_seen : (ts : List Lexeme) → type_read ts ≡ (nullable_type_read ts >>= λ x. non_null_read x.0 x.1)

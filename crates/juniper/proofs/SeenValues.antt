@@ -1,20 +1,20 @@
 -- Values of the grammar, in the steps of a cursor.
-use Rattle.std.proofs.Common.{◌≡◌, ℕ, Bool, true, false, cond, List, [], ◌∷◌, Result, Ok, Err, Option, Some, None, refl, sym, ap, ◌∙◌}
+use Rattle.std.proofs.Common.{◌≡◌, Bool, true, false, cond, List, [], ◌∷◌, Result, Ok, Err, Some, None, refl, sym, ap, ◌∙◌}
 use Rattle.graphql_lexical.specs.Place.{Span}
 use Rattle.graphql_lexical.specs.declared.kind.Kind.{Kind}
 use Rattle.graphql_lexical.specs.declared.kind.Kind.TheVariants.{Name, String, Float, Int, ExclamationMark, Dollar, ParenOpen, ParenClose, BracketOpen, BracketClose, CurlyOpen, CurlyClose, Ellipsis, Colon, Equals, At, Pipe, EndOfFile}
 use Rattle.graphql_lexical.specs.Kinds.{same_kind}
 use Rattle.graphql_lexical.specs.Cutting.{Lexeme}
-use Rattle.graphql_grammar.specs.Tokens.{Text, Word, word_of}
-use Rattle.graphql_grammar.specs.Tree.{Scalars, Value, ListOf, Object}
-use Rattle.graphql_grammar.specs.Reading.{of, passes, Reader, seq, done, on, want, refuse, fault_of, pick, literal, read_as, key_and_value, items_of, fields_of, many, fully, value_of, items_at, fields_at}
+use Rattle.graphql_grammar.specs.Tokens.{Text}
+use Rattle.graphql_grammar.specs.Tree.{Scalars, ListOf, Object}
+use Rattle.graphql_grammar.specs.Reading.{of, passes, Reader, seq, done, on, refuse, fault_of, pick, literal, read_as, key_and_value, items_of, fields_of, fully, value_of, items_at, fields_at}
 use Rattle.graphql_grammar.proofs.Fuel.{value_body, value_steps, items_step, fields_step}
 use Rattle.graphql_grammar.proofs.TokenTests.{of_kind}
 use Rattle.juniper_tokens.specs.declared.token.Token.TheVariants as token
 use Rattle.juniper_tokens.specs.Errors.{Error, UnexpectedEndOfFile}
-use Rattle.juniper_tokens.specs.Cursor.{Read, ◌>>=◌, first_of, kind_at, next_at, next_if, skip_if, skip_at, expect_at, expect_name_at}
+use Rattle.juniper_tokens.specs.Cursor.{Read, ◌>>=◌, kind_at, next_at, skip_if, skip_at}
 use Rattle.juniper.specs.Seen.{seen, past}
-use Rattle.juniper.specs.Values.{from_to, closed_by, then_others, read_here, literal_here, variable_read, literal_read, name_read, values_read, fields_read, list_read, object_read, value_by, value_read, field_read}
+use Rattle.juniper.specs.Values.{from_to, closed_by, then_others, read_here, variable_read, literal_read, name_read, values_read, fields_read, list_read, object_read, value_by, value_read, field_read}
 use Rattle.juniper.proofs.Stepping.{bind_assoc, bind_same, seen_seq, seq_as, want_as, taken, kind_no_end}
 use Rattle.juniper.proofs.Loops.{Repeats, closed_or}
 
@@ -122,10 +122,14 @@ module _ {A : Type 0} (k : Kind) (f : Reader Error A) (rest : Reader Error (List
 module _ {C : Type 0} (S : Scalars C Error) (free : Bool) where
   pub values_repeat : Repeats (skip_at token.BracketClose) (value_read S free) (values_read S free)
   unfolding values_read value_read literal_read
-  values_repeat = record { unfolds = λ ts. ap (λ r. closed_by (seen r)) (items_step S free ts)
-      ∙ skip_seen BracketClose (value_of S free) (fully (items_at S free)) (value_read S free) (value_seen S free) refl refl (at_end (value_read S free) (λ w p us. refl)) ts }
+  values_repeat = record {
+    unfolds = λ ts. ap (λ r. closed_by (seen r)) (items_step S free ts)
+        ∙ skip_seen BracketClose (value_of S free) (fully (items_at S free)) (value_read S free) (value_seen S free) refl refl (at_end (value_read S free) (λ w p us. refl)) ts;
+  }
 
   pub fields_repeat : Repeats (skip_at token.CurlyClose) (field_read S free) (fields_read S free)
   unfolding fields_read field_read
-  fields_repeat = record { unfolds = λ ts. ap (λ r. closed_by (seen r)) (fields_step S free ts)
-      ∙ skip_seen CurlyClose (key_and_value (value_of S free)) (fully (fields_at S free)) (field_read S free) (field_seen S free) refl refl (at_end (field_read S free) (λ w p us. refl)) ts }
+  fields_repeat = record {
+    unfolds = λ ts. ap (λ r. closed_by (seen r)) (fields_step S free ts)
+        ∙ skip_seen CurlyClose (key_and_value (value_of S free)) (fully (fields_at S free)) (field_read S free) (field_seen S free) refl refl (at_end (field_read S free) (λ w p us. refl)) ts;
+  }

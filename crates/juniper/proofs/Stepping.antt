@@ -1,5 +1,5 @@
 -- Readers of the grammar, in the steps of a cursor.
-use Rattle.std.proofs.Common.{◌≡◌, ℕ, Bool, true, false, cond, List, [], ◌∷◌, Result, Ok, Err, Option, Some, None, refl, sym, ap, ◌∙◌}
+use Rattle.std.proofs.Common.{◌≡◌, Bool, true, false, cond, List, [], ◌∷◌, Ok, Err, refl, sym, ap, ◌∙◌}
 use Rattle.graphql_lexical.specs.Place.{Span}
 use Rattle.graphql_lexical.specs.declared.kind.Kind.{Kind}
 use Rattle.graphql_lexical.specs.declared.kind.Kind.TheVariants.{EndOfFile}
@@ -11,9 +11,9 @@ use Rattle.graphql_grammar.specs.Tokens.{span_of}
 use Rattle.graphql_grammar.specs.Reading.{Test, of, passes, Took, Refused, Out, Reader, after, seq, done, on, want, refuse, fault_of, pick, look, choose, with_span, give_span, front}
 use Rattle.graphql_grammar.specs.Reading as reading
 use Rattle.graphql_grammar.proofs.TokenTests.{of_kind}
-use Rattle.juniper_tokens.specs.Errors.{Error, Fault, UnexpectedToken, UnexpectedEndOfFile}
+use Rattle.juniper_tokens.specs.Errors.{Error, UnexpectedToken, UnexpectedEndOfFile}
 use Rattle.juniper_tokens.specs.Cursor.{Read, ◌>>=◌, EndsOnce, first_of, kind_at, next_at, refused_at, next_if}
-use Rattle.juniper.specs.Seen.{seen, error_of, past}
+use Rattle.juniper.specs.Seen.{seen, error_of}
 
 -- ---- steps in a row
 

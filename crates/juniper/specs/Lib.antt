@@ -4,3 +4,5 @@ pub mod Seen
 pub mod Values
 pub mod Parts
 pub mod Selections
+pub mod Definitions
+pub mod Promise

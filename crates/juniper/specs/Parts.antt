@@ -1,5 +1,5 @@
 -- The reading of types, arguments, directives and variable definitions, in the steps of a cursor.
-use Rattle.std.specs.Prelude.{ℕ, List, [], ◌∷◌, map, true, false, Result, Ok, Err, Option, Some, None, option_map, if◌then◌else◌}
+use Rattle.std.specs.Prelude.{ℕ, List, [], ◌∷◌, map, true, false, Ok, Option, Some, None, option_map, if◌then◌else◌}
 use Rattle.std.specs.Borrow.{Bor}
 use Rattle.std.specs.Global.{Vec}
 use Rattle.graphql_lexical.specs.Place.{Place, Span}
@@ -7,7 +7,7 @@ use Rattle.graphql_lexical.specs.declared.kind.Kind.TheVariants.{Name, ParenOpen
 use Rattle.graphql_lexical.specs.Kinds.{same_kind}
 use Rattle.graphql_lexical.specs.Cutting.{Lexeme}
 use Rattle.graphql_grammar.specs.Tokens.{word_of, over}
-use Rattle.graphql_grammar.specs.Tree.{Scalars, Value, TypeRef, NamedType, ListType, NonNullType, Argument, Arguments, Directive, Directives, VariableDefinition, Variables}
+use Rattle.graphql_grammar.specs.Tree.{Scalars, Value, TypeRef, NamedType, ListType, NonNullType, Argument, Arguments, Directive, VariableDefinition, Variables}
 use Rattle.graphql_grammar.specs.Reading.{of, many, repeated, fully, argument, directive, variable_definition}
 use Rattle.graphql_grammar.specs.Reading as grammar
 use Rattle.juniper_tokens.specs.Spans.{view_span}
@@ -47,6 +47,10 @@ non_null_read x ts = if same_kind (kind_at ts) ExclamationMark then (next_at ts 
 abbrev pub to_end_of : Span → Option Span → Span
 to_end_of p None = p
 to_end_of p (Some q) = from_to p q
+
+abbrev pub from_start_of : Option Span → Span → Span
+from_start_of None p = p
+from_start_of (Some q) p = from_to q p
 
 module _ {C : Type 0} (S : Scalars C Error) where
   -- ---- arguments

@@ -1,5 +1,5 @@
 -- The reading of a value, in the steps of a cursor.
-use Rattle.std.specs.Prelude.{ℕ, List, [], ◌∷◌, ◌++◌, map, Bool, Result, Ok, Err, Option, Some, None, if◌then◌else◌}
+use Rattle.std.specs.Prelude.{List, ◌∷◌, map, Bool, Result, Ok, Err, if◌then◌else◌}
 use Rattle.std.specs.Global.{Vec}
 use Rattle.graphql_lexical.specs.Place.{Span}
 use Rattle.graphql_lexical.specs.declared.kind.Kind.{Kind}
@@ -13,7 +13,7 @@ use Rattle.juniper_tokens.specs.Spans.{view_span}
 use Rattle.juniper_tokens.specs.declared.span.Spanning.{Spanning}
 use Rattle.juniper_tokens.specs.declared.token.Token.TheVariants as token
 use Rattle.juniper_tokens.specs.Errors.{Error, UnexpectedToken}
-use Rattle.juniper_tokens.specs.Cursor.{Read, ◌>>=◌, kind_at, next_at, refused_at, expect_at, expect_name_at}
+use Rattle.juniper_tokens.specs.Cursor.{Read, ◌>>=◌, kind_at, next_at, expect_at, expect_name_at}
 use Rattle.juniper.specs.Seen.{seen}
 
 abbrev pub from_to : Span → Span → Span

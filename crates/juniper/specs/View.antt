@@ -21,7 +21,6 @@ use Rattle.juniper.specs.declared.ast.Directive.{Directive}
 use Rattle.juniper.specs.declared.ast.VariableDefinition.{VariableDefinition}
 use Rattle.juniper.specs.declared.ast.VariableDefinitions.{VariableDefinitions}
 use Rattle.juniper.specs.declared.ast.Field.{Field}
-use Rattle.juniper.specs.declared.ast.FragmentSpread.{FragmentSpread}
 use Rattle.juniper.specs.declared.ast.InlineFragment.{InlineFragment}
 use Rattle.juniper.specs.declared.ast.Selection as code
 use Rattle.juniper.specs.declared.ast.OperationType.{OperationType}

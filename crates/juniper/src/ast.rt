@@ -1,7 +1,7 @@
 //! The tree of an executable document.
 
-use juniper_values::{InputValue, Type};
 use juniper_tokens::Spanning;
+use juniper_values::{InputValue, Type};
 
 /// What a variable is declared as (GraphQL specification, October 2021, section 2.10).
 #[derive(Drop)]

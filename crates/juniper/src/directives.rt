@@ -10,9 +10,7 @@ use crate::ast::{Arguments, Directive};
 use crate::next::next_is;
 use crate::spans::{span_of, up_to};
 use crate::value::parse_value;
-use juniper_tokens::{
-    Kind, OptionParseResult, ParseFailure, ParseResult, Parser, Spanning, Token,
-};
+use juniper_tokens::{Kind, OptionParseResult, ParseFailure, ParseResult, Parser, Spanning, Token};
 use juniper_values::{InputValue, ScalarValue};
 
 /// `Name ":" Value(free)`
@@ -81,7 +79,10 @@ fn parse_directive<'a, S: ScalarValue>(parser: &mut Parser<'a>) -> ParseResult<D
     let start = parser.expect(&Token::At)?.span.start;
     let name = parser.expect_name()?;
     let arguments = parse_optional_arguments(parser)?;
-    let span = up_to(Spanning::start_end(&start, &name.span.end, ()).span, span_of(&arguments));
+    let span = up_to(
+        Spanning::start_end(&start, &name.span.end, ()).span,
+        span_of(&arguments),
+    );
     Ok(Spanning::new(span, Directive { name, arguments }))
 }
 

@@ -3,8 +3,11 @@
 #![tactic(auto)]
 
 mod ast;
+mod definition;
 mod directives;
+mod document;
 mod next;
+mod selection;
 mod spans;
 mod types;
 mod value;
@@ -14,13 +17,16 @@ pub use ast::{
     Arguments, Definition, Directive, Field, Fragment, FragmentSpread, InlineFragment, Operation,
     OperationType, OwnedDocument, Selection, VariableDefinition, VariableDefinitions,
 };
+pub use document::parse_document_source;
 pub use juniper_tokens::{
     ByteClass, Kind, LexFailure, Lexer, LexerError, LexerResult, OptionParseResult, ParseError,
     ParseFailure, ParseResult, Parser, ScalarToken, SourcePosition, Span, Spanning, Token,
     UnlocatedParseResult, byte_class,
 };
 pub use juniper_values::{
-    FromScalarValue, InputValue, NameText, ParseScalarResult, ParseScalarValue,
+    DefaultScalarValue, FromScalarValue, InputValue, NameText, ParseScalarResult, ParseScalarValue,
     ReadFailure, Scalar, ScalarValue, ToScalarValue, Type, TypeModifier, TypeModifiers,
-
+    WrongInputScalarTypeError,
 };
+pub use types::parse_type;
+pub use value::parse_value_literal;

@@ -1,7 +1,7 @@
 //! From where to where the parts of a node stand.
 ghost use Rattle.std.specs.Prelude.{◌≡◌, option_map};
 ghost use Rattle.juniper_tokens.specs.Spans.{view_span};
-ghost use Rattle.juniper.specs.Parts.{to_end_of};
+ghost use Rattle.juniper.specs.Parts.{to_end_of, from_start_of};
 
 use juniper_tokens::{Span, Spanning};
 
@@ -24,6 +24,19 @@ pub(crate) fn up_to(span: Span, part: Option<Span>) -> Span
         Some(part) => Span {
             start: span.start,
             end: part.end,
+        },
+    }
+}
+
+/// The span from the start of the part, where it is there.
+pub(crate) fn from_part(part: Option<Span>, span: Span) -> Span
+    ensures { view_span result ≡ from_start_of (option_map view_span part) (view_span span) }
+{
+    match part {
+        None => span,
+        Some(part) => Span {
+            start: part.start,
+            end: span.end,
         },
     }
 }

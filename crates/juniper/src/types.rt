@@ -1,16 +1,29 @@
 //! Types as they are written (GraphQL specification, October 2021, section 2.11).
 ghost use Rattle.std.specs.Prelude.{◌≡◌, ◌<◌, ◌≤◌, length, OnOk};
-ghost use Rattle.juniper_tokens.specs.Cursor.{Gives};
+ghost use Rattle.juniper_tokens.specs.Cursor.{EndsOnce, Gives};
+ghost use Rattle.juniper.specs.Promise.{AnswersType};
 ghost use Rattle.juniper.specs.Parts.{view_spanned_type, type_read, list_type_read, named_type_read, nullable_type_read, non_null_read};
 
 use crate::next::next_is;
 use juniper_tokens::{Kind, ParseFailure, ParseResult, Parser, Spanning, Token};
 use juniper_values::Type;
 
+/// Takes the type that stands next (GraphQL specification, October 2021, section 2.11).
+///
+/// A type is answered exactly where a front of the tokens is one, and the longest such front is taken. Else the tokens
+/// are refused at the first one with which no type goes on, which is taken, unless it is the end.
+#[tactic(auto, using(crate::proofs::Literals::answers_type))]
+pub fn parse_type<'a>(parser: &mut Parser<'a>) -> ParseResult<Type<&'a str>>
+    ensures { AnswersType view_spanned_type result parser.old parser.new }
+{
+    parse_any_type(parser)
+}
+
 /// `Type = Name "!"? | "[" Type "]" "!"?`
 #[cycle(types)]
 pub(crate) fn parse_any_type<'a>(parser: &mut Parser<'a>) -> ParseResult<Type<&'a str>>
     ensures gives { Gives view_spanned_type result parser.new (type_read parser.old) }
+    ensures ended { EndsOnce parser.old }
     ensures shorter { OnOk result (length parser.new < length parser.old) }
 {
     let inner = parse_nullable_type(parser)?;
@@ -22,6 +35,7 @@ pub(crate) fn parse_any_type<'a>(parser: &mut Parser<'a>) -> ParseResult<Type<&'
 #[tactic(auto, unfolding(crate::specs::Parts::nullable_type_read))]
 fn parse_nullable_type<'a>(parser: &mut Parser<'a>) -> ParseResult<Type<&'a str>>
     ensures gives { Gives view_spanned_type result parser.new (nullable_type_read parser.old) }
+    ensures ended { EndsOnce parser.old }
     ensures shorter { OnOk result (length parser.new < length parser.old) }
 {
     if next_is(parser, Kind::Name) {

@@ -1,20 +1,35 @@
 //! Value literals (GraphQL specification, October 2021, section 2.9).
-ghost use Rattle.std.specs.Prelude.{◌≡◌, ◌<◌, length, OnOk, IfOk, not, bytes_eq};
+ghost use Rattle.std.specs.Prelude.{◌≡◌, ◌<◌, length, OnOk, IfOk, not};
 ghost use Rattle.std.specs.Str.{chars};
 ghost use Rattle.graphql_lexical.specs.Kinds.{same_kind};
 ghost use Rattle.graphql_grammar.specs.Reading.{by_name};
 ghost use Rattle.juniper_tokens.specs.Tokens.{token_kind, token_text};
 ghost use Rattle.juniper_tokens.specs.Spans.{view_span};
-ghost use Rattle.juniper_tokens.specs.Cursor.{Gives};
+ghost use Rattle.juniper_tokens.specs.Cursor.{EndsOnce, Gives};
+ghost use Rattle.juniper.specs.Promise.{AnswersValue};
 ghost use Rattle.juniper.specs.View.{view_value, view_object_field};
 ghost use Rattle.juniper.specs.Values.{view_list, values_read, fields_read, list_read, object_read, variable_read, literal_read, literal_here, name_read, value_read, field_read};
 ghost use Rattle.juniper.specs.Scalars.{stated};
 ghost use Rattle.juniper_values.specs.Scalar.{MeetsReading};
 
-use crate::next::next_kind;
+use crate::next::{next_kind, same_text};
 use juniper_tokens::{Kind, ParseError, ParseFailure, ParseResult, Parser, Spanning, Token};
 use juniper_values::{InputValue, ReadFailure, ScalarValue};
 use std::alloc::{AllocError, Global};
+
+/// Takes the value that stands next; constant ones have no variables (GraphQL specification, October 2021, section 2.9).
+///
+/// A value is answered exactly where a front of the tokens is one. Else the tokens are refused at the first one with
+/// which no value goes on, which is taken, unless it is the end.
+#[tactic(auto, using(crate::proofs::Literals::answers_value))]
+pub fn parse_value_literal<'a, S: ScalarValue>(
+    parser: &mut Parser<'a>,
+    is_const: bool,
+) -> ParseResult<InputValue<S>>
+    ensures { AnswersValue (stated S.reading S.of_bool) (not is_const) (view_value S.content) result parser.old parser.new }
+{
+    parse_value(parser, is_const)
+}
 
 /// `Value(c) = a scalar token that the scalar type reads | Name | "$" Name where c is free
 ///           | "[" Value(c)* "]" | "{" (Name ":" Value(c))* "}"`
@@ -25,6 +40,7 @@ pub(crate) fn parse_value<'a, S: ScalarValue>(
     is_const: bool,
 ) -> ParseResult<InputValue<S>>
     ensures gives { Gives (view_value S.content) result parser.new (value_read (stated S.reading S.of_bool) (not is_const) parser.old) }
+    ensures ended { EndsOnce parser.old }
     ensures shorter { OnOk result (length parser.new < length parser.old) }
 {
     match next_kind(parser) {
@@ -186,11 +202,4 @@ fn value_of_name<'a, S: ScalarValue>(
         let text = String::from_str(alloc, name.item)?;
         Ok(Spanning::new(name.span, InputValue::Enum(text)))
     }
-}
-
-// Whether two texts have the same characters.
-fn same_text(a: &str, b: &str) -> bool
-    ensures { result ≡ bytes_eq (chars a.now) (chars b.now) }
-{
-    a == b
 }

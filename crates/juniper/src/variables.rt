@@ -81,7 +81,11 @@ fn parse_variables<'a, S: ScalarValue>(
     let opening = parser.expect(&Token::ParenOpen)?.span;
     let list = parse_variable_list(parser)?;
     let end = list.span.end;
-    Ok(Spanning::start_end(&opening.start, &end, VariableDefinitions { items: list.item }))
+    Ok(Spanning::start_end(
+        &opening.start,
+        &end,
+        VariableDefinitions { items: list.item },
+    ))
 }
 
 /// `Variables?`

@@ -10,7 +10,7 @@ use Rattle.juniper_tokens.specs.declared.token.Token.{Token}
 use Rattle.juniper_tokens.specs.declared.error.LexFailure.{LexFailure}
 use Rattle.juniper_tokens.specs.declared.error.LexFailure.TheVariants as failure
 use Rattle.juniper_tokens.specs.Tokens.{view_token}
-use Rattle.juniper_tokens.specs.Lexing.{LexerState, Gives, lexer_steps, items_left}
+use Rattle.juniper_tokens.specs.Lexing.{LexerState, GivesItem, lexer_steps, items_left}
 
 left_open : (s : LexerState) → s.ended ≡ false → items_left s ≡ (length s.source - s.index) + 1
 left_open s e = ap (λ b. cond b 0 ((length s.source - s.index) + 1)) e
@@ -24,7 +24,7 @@ stands_nearer s t x h n =
     let size = reads_size rest h.size x.kind x.text h.reads n in
     omega (arith, size.0, size.1, length-drop (s.index + h.gap) s.source, h.next_is)
 
-gives_ended : (s : LexerState) (failure : LexFailure) (t : LexerState) → Gives s (Err failure) t → t.ended ≡ true
+gives_ended : (s : LexerState) (failure : LexFailure) (t : LexerState) → GivesItem s (Err failure) t → t.ended ≡ true
 gives_ended s (failure.Fault fault) t h = h.ends
 gives_ended s failure.Memory t h = h.ends
 

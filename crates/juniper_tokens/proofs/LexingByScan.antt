@@ -29,7 +29,7 @@ use Rattle.juniper_tokens.specs.ByteRuns.{byte_at}
 use Rattle.juniper_tokens.specs.Walks.{EndsGap}
 use Rattle.juniper_tokens.specs.Scans.{IsEscape}
 use Rattle.juniper_tokens.specs.Scans as scans
-use Rattle.juniper_tokens.specs.Lexing.{LexerState, BreaksAt, WantsMemory, Gives}
+use Rattle.juniper_tokens.specs.Lexing.{LexerState, BreaksAt, WantsMemory, GivesItem}
 use Rattle.juniper_tokens.specs.LexingByScan.{IsPlaced, past_gap, Scanned, Ends}
 use Rattle.juniper_tokens.proofs.Borders.{byte_at_within}
 use Rattle.juniper_tokens.proofs.Places.{place_on, token_end}
@@ -105,7 +105,7 @@ breaks_by_scan s m e = record {
   at_is = refl;
 }
 
-pub gives_by_scan : (s : LexerState) (item : Result (Spanning Token) LexFailure) (t : LexerState) → Ends item t.ended → Scanned item t.index s.source (past_gap s).index (scan (drop (past_gap s).index s.source)) → Gives s item t
+pub gives_by_scan : (s : LexerState) (item : Result (Spanning Token) LexFailure) (t : LexerState) → Ends item t.ended → Scanned item t.index s.source (past_gap s).index (scan (drop (past_gap s).index s.source)) → GivesItem s item t
 gives_by_scan s (Ok token) t e h =
     let k = token_kind token.item in
     record { stands = stands_by_scan s token t.index h; ends = (λ x. (same_end k).0 (sym e ∙ x), λ x. e ∙ (same_end k).1 x) }
@@ -126,6 +126,6 @@ gives_by_scan s (Err failure.Memory) t e h = by_scan (scan (drop (past_gap s).in
     by_error m errors.UnexpectedEndOfFile i w x = absurd w
     by_error m errors.InvalidNumber i w x = absurd w
 
-    by_scan : (r : Result Found Missed) → scan (drop (past_gap s).index s.source) ≡ r → scans.WantsMemory r → WantsMemory s t
+    by_scan : (r : Result Found Missed) → scan (drop (past_gap s).index s.source) ≡ r → scans.MissesEscape r → WantsMemory s t
     by_scan (Ok f) x w = absurd w
     by_scan (Err m) x w = by_error m m.error refl w x

@@ -22,13 +22,13 @@ pub value_stops : {S X : Type 0} (step : S → ℕ → Option S) (f : X → ℕ 
 value_stops step f q x b e = bytes_with_value step f q x b ∙ ap (option_map (λ p. (p, byte_change f x b))) e
 
 -- what a loop over a text's bytes, which keeps a state and something more, reaches
-pub record Gone {S X : Type 0} (step : S → ℕ → Option S) (f : X → ℕ → X) (q0 : S) (x0 : X) (cs : List ℕ) (i : ℕ) (q : S) (x : X) : Type 0 where
+pub record LoopReached {S X : Type 0} (step : S → ℕ → Option S) (f : X → ℕ → X) (q0 : S) (x0 : X) (cs : List ℕ) (i : ℕ) (q : S) (x : X) : Type 0 where
   pub bytes : i ≡ byte_at (reach step q0 cs).0 cs
   pub state : q ≡ (reach step q0 cs).1
   pub more : x ≡ fold f x0 (take (reach step q0 cs).0 cs)
 
-pub gone : {S X : Type 0} (step : S → ℕ → Option S) (f : X → ℕ → X) → IsSamePastAscii step → ((x : X) (c d : ℕ) → 128 ≤ c → 128 ≤ d → f x c ≡ f x d) → (q0 q : S) (x0 x : X) (text : List ℕ) (i : ℕ) → IsUtf8 text → reach (byte_step (with_value step f)) (q0, x0) text ≡ (i, (q, x)) → Gone step f q0 x0 (chars text) i q x
-gone {S} {X} step f s g q0 q x0 x text i u e =
+pub loop_reached : {S X : Type 0} (step : S → ℕ → Option S) (f : X → ℕ → X) → IsSamePastAscii step → ((x : X) (c d : ℕ) → 128 ≤ c → 128 ≤ d → f x c ≡ f x d) → (q0 q : S) (x0 x : X) (text : List ℕ) (i : ℕ) → IsUtf8 text → reach (byte_step (with_value step f)) (q0, x0) text ≡ (i, (q, x)) → LoopReached step f q0 x0 (chars text) i q x
+loop_reached {S} {X} step f s g q0 q x0 x text i u e =
     let cs = chars text in
     let h : (i, (q, x)) ≡ in_bytes cs ((reach step q0 cs).0, ((reach step q0 cs).1, fold f x0 (take (reach step q0 cs).0 cs))) =
     sym e ∙ (ap (reach (byte_step (with_value step f)) (q0, x0)) (sym (encodes-chars text u)) ∙ (reach_bytes (with_value step f) (same_with_value step f s g) (q0, x0) cs ∙ ap (in_bytes cs) (reach_with_value step f q0 x0 cs))) in
@@ -39,53 +39,53 @@ gone {S} {X} step f s g q0 q x0 x text i u e =
 pub past_same : (p : Place) (c d : ℕ) → 128 ≤ c → 128 ≤ d → past_character p c ≡ past_character p d
 past_same p c d l m = grind arith
 
-gap_far : (q : Bool) (c : ℕ) → 128 ≤ c → gap_step q c ≡ (if q then Some true else None)
-gap_far true c l = grind arith
-gap_far false c l = grind arith
+gap_past_ascii : (q : Bool) (c : ℕ) → 128 ≤ c → gap_step q c ≡ (if q then Some true else None)
+gap_past_ascii true c l = grind arith
+gap_past_ascii false c l = grind arith
 
 pub gap_same : IsSamePastAscii gap_step
-gap_same q c d l m = gap_far q c l ∙ sym (gap_far q d m)
+gap_same q c d l m = gap_past_ascii q c l ∙ sym (gap_past_ascii q d m)
 
-abbrev far : scans.State → Option scans.State
-far scans.Units = Some scans.Units
-far _ = None
+abbrev at_past_ascii : scans.State → Option scans.State
+at_past_ascii scans.Units = Some scans.Units
+at_past_ascii _ = None
 
-eq_far : (c k : ℕ) → k < 128 → 128 ≤ c → (c == k) ≡ false
-eq_far c k l m = grind arith
+eq_past_ascii : (c k : ℕ) → k < 128 → 128 ≤ c → (c == k) ≡ false
+eq_past_ascii c k l m = grind arith
 
-punctuator_far : (c : ℕ) → 128 ≤ c → scans.punctuator c ≡ None
-punctuator_far c l = rw (eq_far c 33 (omega arith) l, eq_far c 36 (omega arith) l, eq_far c 40 (omega arith) l, eq_far c 41 (omega arith) l, eq_far c 91 (omega arith) l, eq_far c 93 (omega arith) l, eq_far c 123 (omega arith) l, eq_far c 125 (omega arith) l, eq_far c 58 (omega arith) l, eq_far c 61 (omega arith) l, eq_far c 64 (omega arith) l, eq_far c 124 (omega arith) l) refl
+punctuator_past_ascii : (c : ℕ) → 128 ≤ c → scans.punctuator c ≡ None
+punctuator_past_ascii c l = rw (eq_past_ascii c 33 (omega arith) l, eq_past_ascii c 36 (omega arith) l, eq_past_ascii c 40 (omega arith) l, eq_past_ascii c 41 (omega arith) l, eq_past_ascii c 91 (omega arith) l, eq_past_ascii c 93 (omega arith) l, eq_past_ascii c 123 (omega arith) l, eq_past_ascii c 125 (omega arith) l, eq_past_ascii c 58 (omega arith) l, eq_past_ascii c 61 (omega arith) l, eq_past_ascii c 64 (omega arith) l, eq_past_ascii c 124 (omega arith) l) refl
 
-digit_far : (c : ℕ) → 128 ≤ c → is_nonzero_digit c ≡ false
-digit_far c l = grind arith
+digit_past_ascii : (c : ℕ) → 128 ≤ c → is_nonzero_digit c ≡ false
+digit_past_ascii c l = grind arith
 
-name_far : (c : ℕ) → 128 ≤ c → is_name_start c ≡ false
-name_far c l = grind arith
+name_past_ascii : (c : ℕ) → 128 ≤ c → is_name_start c ≡ false
+name_past_ascii c l = grind arith
 
-step_far : (q : scans.State) (c : ℕ) → 128 ≤ c → step q c ≡ far q
-step_far Start c l = rw (digit_far c l, name_far c l, eq_far c 48 (omega arith) l, eq_far c 45 (omega arith) l, eq_far c 46 (omega arith) l, eq_far c 34 (omega arith) l, punctuator_far c l) refl
-step_far (scans.Done k) c l = refl
-step_far scans.Dot c l = grind arith
-step_far scans.Dots c l = grind arith
-step_far scans.InName c l = grind arith
-step_far scans.Minus c l = grind arith
-step_far scans.Zero c l = grind arith
-step_far scans.Digits c l = grind arith
-step_far scans.Point c l = grind arith
-step_far scans.Fraction c l = grind arith
-step_far scans.Mark c l = grind arith
-step_far scans.Sign c l = grind arith
-step_far scans.Exponent c l = grind arith
-step_far scans.Units c l = grind arith
-step_far scans.Backslash c l = grind arith
-step_far scans.Hex0 c l = grind arith
-step_far scans.Hex1 c l = grind arith
-step_far scans.HexD c l = grind arith
-step_far scans.Hex2 c l = grind arith
-step_far scans.Hex3 c l = grind arith
+step_past_ascii : (q : scans.State) (c : ℕ) → 128 ≤ c → step q c ≡ at_past_ascii q
+step_past_ascii Start c l = rw (digit_past_ascii c l, name_past_ascii c l, eq_past_ascii c 48 (omega arith) l, eq_past_ascii c 45 (omega arith) l, eq_past_ascii c 46 (omega arith) l, eq_past_ascii c 34 (omega arith) l, punctuator_past_ascii c l) refl
+step_past_ascii (scans.Done k) c l = refl
+step_past_ascii scans.Dot c l = grind arith
+step_past_ascii scans.Dots c l = grind arith
+step_past_ascii scans.InName c l = grind arith
+step_past_ascii scans.Minus c l = grind arith
+step_past_ascii scans.Zero c l = grind arith
+step_past_ascii scans.Digits c l = grind arith
+step_past_ascii scans.Point c l = grind arith
+step_past_ascii scans.Fraction c l = grind arith
+step_past_ascii scans.Mark c l = grind arith
+step_past_ascii scans.Sign c l = grind arith
+step_past_ascii scans.Exponent c l = grind arith
+step_past_ascii scans.Units c l = grind arith
+step_past_ascii scans.Backslash c l = grind arith
+step_past_ascii scans.Hex0 c l = grind arith
+step_past_ascii scans.Hex1 c l = grind arith
+step_past_ascii scans.HexD c l = grind arith
+step_past_ascii scans.Hex2 c l = grind arith
+step_past_ascii scans.Hex3 c l = grind arith
 
 pub step_same : IsSamePastAscii step
-step_same q c d l m = step_far q c l ∙ sym (step_far q d m)
+step_same q c d l m = step_past_ascii q c l ∙ sym (step_past_ascii q d m)
 
 counted_by_ones : (n : ℕ) (cs : List ℕ) → fold count_one n cs ≡ n + length cs
 counted_by_ones n [] = omega arith
@@ -94,35 +94,35 @@ counted_by_ones n (c ∷ cs) = counted_by_ones (n + 1) cs ∙ plus_one n (length
     plus_one : (a b : ℕ) → (a + 1) + b ≡ a + suc b
     plus_one a b = omega arith
 
-pub counted : {S : Type 0} (step : S → ℕ → Option S) (q0 q : S) (cs : List ℕ) (i n : ℕ) → Gone step count_one q0 0 cs i q n → n ≡ (reach step q0 cs).0
+pub counted : {S : Type 0} (step : S → ℕ → Option S) (q0 q : S) (cs : List ℕ) (i n : ℕ) → LoopReached step count_one q0 0 cs i q n → n ≡ (reach step q0 cs).0
 counted step q0 q cs i n g = g.more ∙ (counted_by_ones 0 (take (reach step q0 cs).0 cs) ∙ (zero_more (length (take (reach step q0 cs).0 cs)) ∙ length-take-le (reach step q0 cs).0 cs (reach_is step q0 cs).within))
   where
     zero_more : (k : ℕ) → 0 + k ≡ k
     zero_more k = omega arith
 
-abbrev pub TokenGone : List ℕ → ℕ → scans.State → ℕ → Type 0
-TokenGone = Gone step count_one Start 0
+abbrev pub TokenLoopReached : List ℕ → ℕ → scans.State → ℕ → Type 0
+TokenLoopReached = LoopReached step count_one Start 0
 
-abbrev pub GapGone : Place → List ℕ → ℕ → Bool → Place → Type 0
-GapGone p = Gone gap_step past_character false p
+abbrev pub GapLoopReached : Place → List ℕ → ℕ → Bool → Place → Type 0
+GapLoopReached p = LoopReached gap_step past_character false p
 
 count_same : (n c d : ℕ) → 128 ≤ c → 128 ≤ d → count_one n c ≡ count_one n d
 count_same n c d l m = refl
 
-pub token_gone : (q : scans.State) (n : ℕ) (text bytes : List ℕ) (i : ℕ) → IsUtf8 text → bytes ≡ text → reach (byte_step (with_value step count_one)) (Start, 0) bytes ≡ (i, (q, n)) → TokenGone (chars text) i q n
-token_gone q n text bytes i u b e = gone step count_one step_same count_same Start q 0 n text i u (ap (reach (byte_step (with_value step count_one)) (Start, 0)) (sym b) ∙ e)
+pub token_loop_reached : (q : scans.State) (n : ℕ) (text bytes : List ℕ) (i : ℕ) → IsUtf8 text → bytes ≡ text → reach (byte_step (with_value step count_one)) (Start, 0) bytes ≡ (i, (q, n)) → TokenLoopReached (chars text) i q n
+token_loop_reached q n text bytes i u b e = loop_reached step count_one step_same count_same Start q 0 n text i u (ap (reach (byte_step (with_value step count_one)) (Start, 0)) (sym b) ∙ e)
 
-pub gap_gone : (m : Bool) (start p : Place) (text bytes : List ℕ) (i : ℕ) → IsUtf8 text → bytes ≡ text → reach (byte_step (with_value gap_step past_character)) (false, start) bytes ≡ (i, (m, p)) → GapGone start (chars text) i m p
-gap_gone m start p text bytes i u b e = gone gap_step past_character gap_same past_same false m start p text i u (ap (reach (byte_step (with_value gap_step past_character)) (false, start)) (sym b) ∙ e)
+pub gap_loop_reached : (m : Bool) (start p : Place) (text bytes : List ℕ) (i : ℕ) → IsUtf8 text → bytes ≡ text → reach (byte_step (with_value gap_step past_character)) (false, start) bytes ≡ (i, (m, p)) → GapLoopReached start (chars text) i m p
+gap_loop_reached m start p text bytes i u b e = loop_reached gap_step past_character gap_same past_same false m start p text i u (ap (reach (byte_step (with_value gap_step past_character)) (false, start)) (sym b) ∙ e)
 
 pub token_reached : (q : scans.State) (n : ℕ) (text bytes : List ℕ) (i : ℕ) → IsUtf8 text → bytes ≡ text → reach (byte_step (with_value step count_one)) (Start, 0) bytes ≡ (i, (q, n)) → HasReached (chars text) q i n
 token_reached q n text bytes i u b e =
-    let g = token_gone q n text bytes i u b e in
+    let g = token_loop_reached q n text bytes i u b e in
     let same = counted step Start q (chars text) i n g in
     record { state_is = g.state; characters_is = same; bytes_is = g.bytes ∙ ap (λ k. byte_at k (chars text)) (sym same) }
 
 pub gap_reached : (m : Bool) (start p : Place) (text bytes : List ℕ) (i : ℕ) → IsUtf8 text → bytes ≡ text → reach (byte_step (with_value gap_step past_character)) (false, start) bytes ≡ (i, (m, p)) → EndsGap (chars text) start i p
-gap_reached m start p text bytes i u b e = let g = gap_gone m start p text bytes i u b e in record { bytes_is = g.bytes; position_is = g.more }
+gap_reached m start p text bytes i u b e = let g = gap_loop_reached m start p text bytes i u b e in record { bytes_is = g.bytes; position_is = g.more }
 
 -- ---- so many characters
 
@@ -145,5 +145,5 @@ left_reach (suc k) (c ∷ cs) = rw (pred k) (ap (λ t. c ∷ t) (left_reach k cs
 
 pub characters_reached : (count m : ℕ) (start p : Place) (text bytes : List ℕ) (i : ℕ) → IsUtf8 text → bytes ≡ text → reach (byte_step (with_value left_step past_character)) (count, start) bytes ≡ (i, (m, p)) → p ≡ fold past_character start (take count (chars text))
 characters_reached count m start p text bytes i u b e =
-    (gone left_step past_character left_same past_same count m start p text i u (ap (reach (byte_step (with_value left_step past_character)) (count, start)) (sym b) ∙ e)).more
+    (loop_reached left_step past_character left_same past_same count m start p text i u (ap (reach (byte_step (with_value left_step past_character)) (count, start)) (sym b) ∙ e)).more
     ∙ ap (fold past_character start) (left_reach count (chars text))

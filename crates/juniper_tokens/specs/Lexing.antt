@@ -48,15 +48,15 @@ pub record WantsMemory (s : LexerState) (t : LexerState) : Type 0 where
   pub breaks : BreaksAt s.source s.index (UnknownEscapeSequence text) at
   pub ends : t.ended ≡ true
 
-abbrev pub Gives : LexerState → Result (Spanning Token) LexFailure → LexerState → Type 0
-Gives s (Ok token) t = GivesToken s token t
-Gives s (Err (failure.Fault fault)) t = GivesFault s fault t
-Gives s (Err failure.Memory) t = WantsMemory s t
+abbrev pub GivesItem : LexerState → Result (Spanning Token) LexFailure → LexerState → Type 0
+GivesItem s (Ok token) t = GivesToken s token t
+GivesItem s (Err (failure.Fault fault)) t = GivesFault s fault t
+GivesItem s (Err failure.Memory) t = WantsMemory s t
 
 -- From state s a step gives this item and leaves state t. Only a lexer that has ended gives None, and it stays as it is.
 abbrev pub lexer_steps : LexerState → Option (Result (Spanning Token) LexFailure) → LexerState → Type 0
 lexer_steps s None t = (s.ended ≡ true) × (t ≡ s)
-lexer_steps s (Some item) t = (s.ended ≡ false) × (t.source ≡ s.source) × Gives s item t
+lexer_steps s (Some item) t = (s.ended ≡ false) × (t.source ≡ s.source) × GivesItem s item t
 
 -- No more items come before None.
 abbrev pub items_left : LexerState → ℕ

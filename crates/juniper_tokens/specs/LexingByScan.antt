@@ -12,7 +12,7 @@ use Rattle.juniper_tokens.specs.declared.error.LexFailure.TheVariants as failure
 use Rattle.juniper_tokens.specs.Tokens.{token_kind, token_text}
 use Rattle.juniper_tokens.specs.Errors.{view_lexer_error}
 use Rattle.juniper_tokens.specs.ByteRuns.{byte_at}
-use Rattle.juniper_tokens.specs.Scans.{WantsMemory}
+use Rattle.juniper_tokens.specs.Scans.{MissesEscape}
 use Rattle.juniper_tokens.specs.Lexing.{LexerState}
 
 abbrev pub past_gap : LexerState → LexerState
@@ -29,7 +29,7 @@ pub record IsPlaced (source : List ℕ) (at : ℕ) (p : Place) : Type 0 where
 abbrev pub Scanned : Result (Spanning Token) LexFailure → ℕ → List ℕ → ℕ → Result scans.Found scans.Missed → Type 0
 Scanned (Ok t) k source j s = (n : ℕ) × (s ≡ Ok (record { size = n; kind = token_kind t.item; text = token_text t.item })) × (k ≡ j + n) × (t.span.start ≡ place source j) × (t.span.end ≡ place source (j + n))
 Scanned (Err (failure.Fault e)) k source j s = (n : ℕ) × (s ≡ Err (record { at = n; error = view_lexer_error e.item })) × (e.span.start ≡ place source (j + n)) × (e.span.end ≡ e.span.start)
-Scanned (Err failure.Memory) k source j s = WantsMemory s
+Scanned (Err failure.Memory) k source j s = MissesEscape s
 
 -- The end of file is the last item, and so is a fault.
 abbrev pub Ends : Result (Spanning Token) LexFailure → Bool → Type 0

@@ -15,17 +15,17 @@ abbrev pub IsEscape : LexicalError → Type 0
 IsEscape (UnknownEscapeSequence s) = Unit {0}
 IsEscape _ = ⊥
 
-abbrev pub WantsMemory : Result scans.Found scans.Missed → Type 0
-WantsMemory (Ok f) = ⊥
-WantsMemory (Err m) = IsEscape m.error
+abbrev pub MissesEscape : Result scans.Found scans.Missed → Type 0
+MissesEscape (Ok f) = ⊥
+MissesEscape (Err m) = IsEscape m.error
 
 abbrev pub Misses : Missed → Result scans.Found scans.Missed → Type 0
 Misses (missed.Fault e at) s = s ≡ Err (record { at = at; error = view_lexer_error e })
-Misses missed.Memory s = WantsMemory s
+Misses missed.Memory s = MissesEscape s
 
-abbrev pub Gives : Result Found Missed → List ℕ → Result scans.Found scans.Missed → Type 0
-Gives (Ok f) cs s = (s ≡ Ok (record { size = f.end.characters; kind = token_kind f.token; text = token_text f.token })) × IsBorder f.end cs
-Gives (Err m) cs s = Misses m s
+abbrev pub MeetsScan : Result Found Missed → List ℕ → Result scans.Found scans.Missed → Type 0
+MeetsScan (Ok f) cs s = (s ≡ Ok (record { size = f.end.characters; kind = token_kind f.token; text = token_text f.token })) × IsBorder f.end cs
+MeetsScan (Err m) cs s = Misses m s
 
 -- the border at which a text's front that is a quote, a text and a quote ends
 pub record EndsString (cs : List ℕ) (bytes characters : ℕ) : Type 0 where

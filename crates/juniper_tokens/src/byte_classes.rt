@@ -40,38 +40,38 @@ pub enum ByteClass {
 
 // In rows of eight, each with its first byte.
 static CLASSES: [ByteClass; 256] = [
-    Control, Control, Control, Control, Control, Control, Control, Control, // 00
-    Control, White, LineFeed, Control, Control, White, Control, Control, // 08
-    Control, Control, Control, Control, Control, Control, Control, Control, // 10
-    Control, Control, Control, Control, Control, Control, Control, Control, // 18
-    White, Punctuator, Quote, Hash, Punctuator, Other, Other, Other, // 20
-    Punctuator, Punctuator, Other, Other, White, Minus, Dot, Other, // 28
-    Digit, Digit, Digit, Digit, Digit, Digit, Digit, Digit, // 30
-    Digit, Digit, Punctuator, Other, Other, Punctuator, Other, Other, // 38
-    Punctuator, NameStart, NameStart, NameStart, NameStart, NameStart, NameStart, NameStart, // 40
-    NameStart, NameStart, NameStart, NameStart, NameStart, NameStart, NameStart, NameStart, // 48
-    NameStart, NameStart, NameStart, NameStart, NameStart, NameStart, NameStart, NameStart, // 50
-    NameStart, NameStart, NameStart, Punctuator, Other, Punctuator, Other, NameStart, // 58
-    Other, NameStart, NameStart, NameStart, NameStart, NameStart, NameStart, NameStart, // 60
-    NameStart, NameStart, NameStart, NameStart, NameStart, NameStart, NameStart, NameStart, // 68
-    NameStart, NameStart, NameStart, NameStart, NameStart, NameStart, NameStart, NameStart, // 70
-    NameStart, NameStart, NameStart, Punctuator, Punctuator, Punctuator, Other, Other, // 78
-    Inner, Inner, Inner, Inner, Inner, Inner, Inner, Inner, // 80
-    Inner, Inner, Inner, Inner, Inner, Inner, Inner, Inner, // 88
-    Inner, Inner, Inner, Inner, Inner, Inner, Inner, Inner, // 90
-    Inner, Inner, Inner, Inner, Inner, Inner, Inner, Inner, // 98
-    Inner, Inner, Inner, Inner, Inner, Inner, Inner, Inner, // A0
-    Inner, Inner, Inner, Inner, Inner, Inner, Inner, Inner, // A8
-    Inner, Inner, Inner, Inner, Inner, Inner, Inner, Inner, // B0
-    Inner, Inner, Inner, Inner, Inner, Inner, Inner, Inner, // B8
-    Lead, Lead, Lead, Lead, Lead, Lead, Lead, Lead, // C0
-    Lead, Lead, Lead, Lead, Lead, Lead, Lead, Lead, // C8
-    Lead, Lead, Lead, Lead, Lead, Lead, Lead, Lead, // D0
-    Lead, Lead, Lead, Lead, Lead, Lead, Lead, Lead, // D8
-    Lead, Lead, Lead, Lead, Lead, Lead, Lead, Lead, // E0
-    Lead, Lead, Lead, Lead, Lead, Lead, Lead, Lead, // E8
-    Lead, Lead, Lead, Lead, Lead, Lead, Lead, Lead, // F0
-    Lead, Lead, Lead, Lead, Lead, Lead, Lead, Lead, // F8
+    Control, Control, Control, Control, Control, Control, Control, Control, // 0x00
+    Control, White, LineFeed, Control, Control, White, Control, Control, // 0x08
+    Control, Control, Control, Control, Control, Control, Control, Control, // 0x10
+    Control, Control, Control, Control, Control, Control, Control, Control, // 0x18
+    White, Punctuator, Quote, Hash, Punctuator, Other, Other, Other, // 0x20
+    Punctuator, Punctuator, Other, Other, White, Minus, Dot, Other, // 0x28
+    Digit, Digit, Digit, Digit, Digit, Digit, Digit, Digit, // 0x30
+    Digit, Digit, Punctuator, Other, Other, Punctuator, Other, Other, // 0x38
+    Punctuator, NameStart, NameStart, NameStart, NameStart, NameStart, NameStart, NameStart, // 0x40
+    NameStart, NameStart, NameStart, NameStart, NameStart, NameStart, NameStart, NameStart, // 0x48
+    NameStart, NameStart, NameStart, NameStart, NameStart, NameStart, NameStart, NameStart, // 0x50
+    NameStart, NameStart, NameStart, Punctuator, Other, Punctuator, Other, NameStart, // 0x58
+    Other, NameStart, NameStart, NameStart, NameStart, NameStart, NameStart, NameStart, // 0x60
+    NameStart, NameStart, NameStart, NameStart, NameStart, NameStart, NameStart, NameStart, // 0x68
+    NameStart, NameStart, NameStart, NameStart, NameStart, NameStart, NameStart, NameStart, // 0x70
+    NameStart, NameStart, NameStart, Punctuator, Punctuator, Punctuator, Other, Other, // 0x78
+    Inner, Inner, Inner, Inner, Inner, Inner, Inner, Inner, // 0x80
+    Inner, Inner, Inner, Inner, Inner, Inner, Inner, Inner, // 0x88
+    Inner, Inner, Inner, Inner, Inner, Inner, Inner, Inner, // 0x90
+    Inner, Inner, Inner, Inner, Inner, Inner, Inner, Inner, // 0x98
+    Inner, Inner, Inner, Inner, Inner, Inner, Inner, Inner, // 0xA0
+    Inner, Inner, Inner, Inner, Inner, Inner, Inner, Inner, // 0xA8
+    Inner, Inner, Inner, Inner, Inner, Inner, Inner, Inner, // 0xB0
+    Inner, Inner, Inner, Inner, Inner, Inner, Inner, Inner, // 0xB8
+    Lead, Lead, Lead, Lead, Lead, Lead, Lead, Lead, // 0xC0
+    Lead, Lead, Lead, Lead, Lead, Lead, Lead, Lead, // 0xC8
+    Lead, Lead, Lead, Lead, Lead, Lead, Lead, Lead, // 0xD0
+    Lead, Lead, Lead, Lead, Lead, Lead, Lead, Lead, // 0xD8
+    Lead, Lead, Lead, Lead, Lead, Lead, Lead, Lead, // 0xE0
+    Lead, Lead, Lead, Lead, Lead, Lead, Lead, Lead, // 0xE8
+    Lead, Lead, Lead, Lead, Lead, Lead, Lead, Lead, // 0xF0
+    Lead, Lead, Lead, Lead, Lead, Lead, Lead, Lead, // 0xF8
 ];
 
 /// The class of a byte (GraphQL specification, October 2021, section 2.1).

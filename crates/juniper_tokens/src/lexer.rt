@@ -2,7 +2,7 @@
 ghost use Rattle.std.specs.Prelude.{◌≡◌, drop};
 ghost use Rattle.std.specs.Str.{chars};
 ghost use Rattle.graphql_lexical.specs.Scan.{scan};
-ghost use Rattle.juniper_tokens.specs.Lexing.{started, Gives};
+ghost use Rattle.juniper_tokens.specs.Lexing.{started, GivesItem};
 ghost use Rattle.juniper_tokens.specs.LexingByScan.{past_gap, Scanned, Ends};
 
 mod machine;
@@ -31,9 +31,9 @@ pub type LexerResult<'a> = Result<Spanning<Token<'a>>, LexFailure>;
 pub struct Lexer<'a> {
     alloc: Global,
     source: &'a str,
-    // The byte at which the rest of the source begins.
+    // How many bytes stand before the rest.
     at: usize,
-    // The same place.
+    // Where the rest begins, counted in characters.
     position: SourcePosition,
     ended: bool,
 }
@@ -110,7 +110,7 @@ impl<'a> Lexer<'a> {
     // The next item of a lexer that has not ended.
     fn next_item(&mut self) -> LexerResult<'a>
         ensures source { self.new.source ≡ self.old.source }
-        ensures gives { Gives self.old result self.new }
+        ensures gives { GivesItem self.old result self.new }
     {
         self.skip_gap();
         let item = self.take_token();

@@ -14,6 +14,13 @@ fn parse<'a>(
     parse_document_source(alloc, source)
 }
 
+fn refusal_of(alloc: Global, source: &str) -> Option<Spanning<ParseError>> {
+    match parse(alloc, source) {
+        Err(ParseFailure::Refused(fault)) => Some(fault),
+        _ => None,
+    }
+}
+
 // Why a text is refused.
 #[derive(Clone, Copy)]
 enum Told {
@@ -37,8 +44,14 @@ impl Told {
 }
 
 // Index, line and column.
-fn is_at(position: SourcePosition, place: (usize, usize, usize)) -> bool {
+fn is_at(position: SourcePosition, place: Place) -> bool {
     (position.index(), position.line(), position.column()) == place
+}
+
+type Place = (usize, usize, usize);
+
+fn stands_from(span: &Span, start: Place, end: Place) -> bool {
+    is_at(span.start, start) && is_at(span.end, end)
 }
 
 // The indexes of a part's span, which is on line 0.
@@ -63,16 +76,13 @@ fn a_refused_text_is_told_by_its_error_and_its_place(rt: HostRuntime) {
         ("query {a}", Told::Token("query"), (0, 0, 0), (5, 0, 5)),
         ("{ a(x:1) }", Told::Token("("), (3, 0, 3), (4, 0, 4)),
     ] {
-        match parse(rt.alloc(), source) {
-            Err(ParseFailure::Refused(fault)) => {
-                assert!(rt; told.is(&fault.item), "{source}");
-                assert!(rt;
-                    is_at(fault.span.start, start) && is_at(fault.span.end, end),
-                    "{source}"
-                );
-            }
-            _ => assert!(rt; false, "{source}"),
-        }
+        let Some(fault) = refusal_of(rt.alloc(), source) else {
+            return assert!(rt; false, "{source}");
+        };
+        assert!(rt;
+            told.is(&fault.item) && stands_from(&fault.span, start, end),
+            "{source}"
+        );
     }
 }
 

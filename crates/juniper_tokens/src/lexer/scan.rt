@@ -8,7 +8,7 @@ ghost use Rattle.graphql_lexical.specs.Scan as scans;
 ghost use Rattle.graphql_lexical.specs.Scan.{missed, stopped, after_dots, after_units, after_backslash, after_u, after_zero, answer, scan, reach, step as character_step};
 ghost use Rattle.juniper_tokens.specs.Borders.{IsBorder, FollowsDigits};
 ghost use Rattle.juniper_tokens.specs.Machine.{view_state};
-ghost use Rattle.juniper_tokens.specs.Scans.{Gives, Misses, EndsString};
+ghost use Rattle.juniper_tokens.specs.Scans.{MeetsScan, Misses, EndsString};
 ghost use Rattle.juniper_tokens.specs.Walks.{HasReached};
 
 use crate::error::LexerError;
@@ -136,7 +136,7 @@ fn digits_fault(alloc: Global, text: &str, end: Border, digits: usize) -> Missed
 fn scan_zero<'a>(text: &'a str, end: Border) -> Result<Found<'a>, Missed>
     requires { IsBorder end (chars text.now) }
     ensures most { IfOk result (λ f. f.end.characters ≤ end.characters) }
-    ensures gives { Gives result (chars text.now) (after_zero end.characters (chars text.now) (drop end.characters (chars text.now))) }
+    ensures gives { MeetsScan result (chars text.now) (after_zero end.characters (chars text.now) (drop end.characters (chars text.now))) }
 {
     let token = Token::Scalar(ScalarToken::Int(text_before(text, end)));
     match first_character(text_from(text, end)) {
@@ -154,7 +154,7 @@ fn scan_zero<'a>(text: &'a str, end: Border) -> Result<Found<'a>, Missed>
 // Where no token begins: at the end, or at a character.
 fn scan_unknown<'a>(text: &'a str) -> Result<Found<'a>, Missed>
     ensures most { IfOk result (λ f. f.end.characters ≤ 0) }
-    ensures gives { Gives result (chars text.now) (answer scans.Start 0 (chars text.now)) }
+    ensures gives { MeetsScan result (chars text.now) (answer scans.Start 0 (chars text.now)) }
 {
     match first_character(text) {
         Some(c) => Err(Missed::Fault(LexerError::UnknownCharacter(c), 0)),
@@ -192,7 +192,7 @@ fn unquoted(text: &str, end: Border) -> &str
 // The token or the fault where the steps have stopped.
 fn scan_reached<'a>(alloc: Global, text: &'a str, reached: Reached) -> Result<Found<'a>, Missed>
     requires { HasReached (chars text.now) (view_state reached.state) reached.end.bytes reached.end.characters }
-    ensures gives { Gives result (chars text.now) (answer (view_state reached.state) reached.end.characters (chars text.now)) }
+    ensures gives { MeetsScan result (chars text.now) (answer (view_state reached.state) reached.end.characters (chars text.now)) }
     ensures most { IfOk result (λ f. f.end.characters ≤ reached.end.characters) }
 {
     let end = reached.end;
@@ -236,7 +236,7 @@ fn scan_reached<'a>(alloc: Global, text: &'a str, reached: Reached) -> Result<Fo
 /// The token at the front of a text, or the fault there.
 #[tactic(auto, using(crate::proofs::Stops::scan_at))]
 pub(crate) fn scan_token<'a>(alloc: Global, text: &'a str) -> Result<Found<'a>, Missed>
-    ensures gives { Gives result (chars text.now) (scan (chars text.now)) }
+    ensures gives { MeetsScan result (chars text.now) (scan (chars text.now)) }
     ensures most { IfOk result (λ f. f.end.characters ≤ (reach character_step scans.Start (chars text.now)).0) }
 {
     scan_reached(alloc, text, walk_token(text))

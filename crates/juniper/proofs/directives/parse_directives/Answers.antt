@@ -1,4 +1,4 @@
-use Rattle.std.proofs.Common.{rules, ◌≡◌, ◌∙◌, sym, refl, map, ap, Ok, ◌++◌, ◌∷◌, [], Option, List}
+use Rattle.std.proofs.Common.{rules, ◌∙◌, sym, map, ap, Ok, Option, List}
 use Rattle.std.proofs.lemmas.Result.{err_from_is_err_and}
 use Rattle.std.proofs.lemmas.List.{map-append}
 use Rattle.graphql_lexical.specs.Place.{Span}

@@ -1,4 +1,4 @@
-use Rattle.std.proofs.Common.{rules, ◌≡◌, refl, ◌∙◌}
+use Rattle.std.proofs.Common.{rules}
 use Rattle.juniper.proofs.SeenTypes.{type_seen}
 use Rattle.juniper.proofs.types.+types.Goals as goal
 

@@ -1,4 +1,4 @@
-use Rattle.std.proofs.Common.{rules, ◌≡◌, ◌∙◌, sym, ap, refl, Bool, true, false}
+use Rattle.std.proofs.Common.{◌∙◌, refl}
 use Rattle.juniper.proofs.ValueViews.{view_of_null, view_of_scalar, view_of_enum}
 use Rattle.juniper.proofs.Names.{says_true, says_false, says_null}
 use Rattle.juniper.proofs.value.value_of_name.Goals as goal

@@ -16,7 +16,7 @@ loop-i-preserved c =
 pub returns-in-None : goal.returns-in-None
 returns-in-None c =
     let b = get_or c.as_bytes-bytes.result.now c.loop-i.i 0 in
-    let small : b < 256 = omega (arith, c.as_bytes-bytes.ensures.value, c.type_inv.text c.loop-i.i) in
+    let small : b < 256 = omega (arith, c.type_inv.text c.loop-i.i) in
     let s = sym (c.left_after.ensures b small c.byte_class-class.ensures) ∙ c.in-None.is in
     characters_reached _ _ _ _ _ _ _ c.utf8.text c.as_bytes-bytes.ensures.value (walked_stop _ _ _ _ _ c.loop-i-test.true (value_stops left_step past_character c.loop-i.left c.loop-i.position b s) c.loop-i.invariant.0)
 

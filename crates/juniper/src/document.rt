@@ -1,0 +1,60 @@
+//! Documents (GraphQL specification, October 2021, section 2.2).
+ghost use Rattle.std.specs.Prelude.{IfOk};
+ghost use Rattle.std.specs.Str.{chars};
+ghost use Rattle.juniper_tokens.specs.Errors.{view_fault};
+ghost use Rattle.juniper.specs.View.{view_document};
+ghost use Rattle.juniper.specs.Scalars.{stated};
+ghost use Rattle.juniper.specs.Definitions.{document_read};
+ghost use Rattle.juniper.specs.Promise.{HasTree, IsRefusal, IfRefused, AnswersAs};
+
+use crate::ast::OwnedDocument;
+use crate::definition::parse_definition;
+use crate::next::next_is;
+use juniper_tokens::{
+    Kind, LexFailure, Lexer, ParseError, ParseFailure, Parser, Spanning, UnlocatedParseResult,
+};
+use juniper_values::ScalarValue;
+use std::alloc::Global;
+
+/// The tree of a source text: `Document = Definition+ EndOfFile`
+///
+/// A tree is answered exactly where the text is a document of the grammar, and then it is its one tree, in which each
+/// span runs from the first character of its part's first token to the place behind the last one. A text that can't
+/// be cut into tokens is refused as `ParseError::LexerError` at its first lexical fault, whatever stands before it.
+/// Any other text is refused at the first token with which no document goes on: at the end as `UnexpectedEndOfFile`, at
+/// a scalar that the scalar type refuses with that type's error, and else as `UnexpectedToken`.
+pub fn parse_document_source<'a, S: ScalarValue>(
+    alloc: Global,
+    s: &'a str,
+) -> UnlocatedParseResult<OwnedDocument<'a, S>>
+    ensures accepted { IfOk result (λ tree. HasTree (stated S.reading S.of_bool) (chars s.now) (view_document S.content tree)) }
+    ensures refused { IfRefused result (λ fault. IsRefusal (stated S.reading S.of_bool) (chars s.now) (view_fault fault)) }
+{
+    let mut lexer = Lexer::new(alloc, s);
+    match Parser::new(&mut lexer) {
+        Ok(tokens) => {
+            let mut parser = tokens;
+            parse_definitions(&mut parser)
+        }
+        Err(LexFailure::Fault(fault)) => Err(ParseFailure::Refused(Spanning::new(
+            fault.span,
+            ParseError::LexerError(fault.item),
+        ))),
+        Err(LexFailure::Memory) => Err(ParseFailure::Memory),
+    }
+}
+
+/// `Definition+`, up to the end, which is left there.
+fn parse_definitions<'a, S: ScalarValue>(
+    parser: &mut Parser<'a>,
+) -> UnlocatedParseResult<OwnedDocument<'a, S>>
+    ensures { AnswersAs (view_document S.content) result (document_read (stated S.reading S.of_bool) parser.old) }
+{
+    let mut definitions = Vec::new(parser.allocator());
+    loop {
+        definitions.push(parse_definition(parser)?)?;
+        if next_is(parser, Kind::EndOfFile) {
+            return Ok(definitions);
+        }
+    }
+}
