@@ -1,5 +1,5 @@
 -- Objects as maps: what the code's map holds, seen as pairs.
-use Rattle.std.proofs.Common.{◌≡◌, ℕ, Bool, true, false, List, [], ◌∷◌, ◌++◌, map, subst, refl, sym, ap, ◌∙◌, bytes_eq, Bor}
+use Rattle.std.proofs.Common.{◌≡◌, ℕ, Bool, true, false, List, [], ◌∷◌, ◌++◌, map, subst, refl, sym, ap, ◌∙◌, bytes_eq, Bor, String, Global}
 use Rattle.std.specs.Prelude.{if◌then◌else◌}
 use Rattle.std.specs.List.{AllByRecursion}
 use Rattle.std.specs.Str.{chars, IsUtf8}
@@ -7,6 +7,9 @@ use Rattle.indexmap.specs.IndexMap.{insert_entry}
 use Rattle.juniper_values.specs.Text.{Text, same_text}
 use Rattle.juniper_values.specs.Maps.{put, put_all}
 use Rattle.juniper_values.specs.Value.{Value, Fields, field}
+use Rattle.juniper_values.specs.Make.{unlocated_fields}
+use Rattle.juniper_values.specs.View.{view, text_of}
+use Rattle.juniper_values.specs.declared.input_value.InputValue.{InputValue}
 use Rattle.graphql_lexical.specs.Place.{Span}
 use Rattle.juniper_values.proofs.Texts.{same_text-chars}
 
@@ -53,3 +56,7 @@ module _ {V C : Type 0} (f : V → Value C) (new es : List (Bor (List ℕ) × V)
       → put_all (map (seen f) es) (field key s (f v) r rest) ≡ all → put_all (map (seen f) new) rest ≡ all
   put_more key s r rest all e so_far =
       ap (λ ps. put_all ps rest) (ap (map (seen f)) is ∙ seen-insert f es k v texts text ∙ ap (λ t. put (map (seen f) es) t (f v)) e) ∙ so_far
+
+-- the fields that are made of pairs
+abbrev pub placed : {S : Type 0} → List (String Global × InputValue S) → Fields S
+placed es = unlocated_fields (map (λ e. (text_of e.0, view (λ s. s) e.1)) es)

@@ -1,9 +1,10 @@
 //! Making input values.
-ghost use Rattle.std.specs.Prelude.{◌≡◌, IfOk, MatchResult, map};
+ghost use Rattle.std.specs.Prelude.{◌≡◌, ◌≤◌, [], IfOk, MatchResult, map, vec_len, vec_capacity};
+ghost use Rattle.indexmap.specs.IndexMap.{index_map_len};
 ghost use Rattle.std.specs.Str.{chars};
 ghost use Rattle.juniper_values.specs.Make.{unlocated_items, unlocated_fields};
 ghost use Rattle.juniper_values.specs.Value.{enum_value, variable, list, object};
-ghost use Rattle.juniper_values.specs.View.{view, text_of};
+ghost use Rattle.juniper_values.specs.View.{view, view_items, view_fields, text_of};
 
 use crate::input_value::InputValue;
 use indexmap::IndexMap;
@@ -52,4 +53,70 @@ impl<S> InputValue<S> {
     {
         Ok(InputValue::Variable(String::from_str(alloc, name)?))
     }
+}
+
+impl<S: Drop> InputValue<S> {
+    /// The list of these items, each with the place `Span::unlocated`.
+    ///
+    /// Where memory ran out the items come back.
+    pub fn list(alloc: Global, items: Vec<Self>) -> Result<Self, Vec<Self>>
+        ensures { MatchResult result
+            (λ v. view (λ s. s) v ≡ list (unlocated_items (map (view (λ s. s)) items.items)))
+            (λ back. back ≡ items) }
+    {
+        match Vec::with_capacity(alloc, items.len()) {
+            Ok(room) => Ok(InputValue::List(placed_items(room, items))),
+            Err(_) => Err(items),
+        }
+    }
+
+    /// The object of these fields, each key and value with the place `Span::unlocated`.
+    ///
+    /// Where memory ran out the fields come back.
+    pub fn object(
+        alloc: Global,
+        fields: IndexMap<String, Self>,
+    ) -> Result<Self, IndexMap<String, Self>>
+        ensures { MatchResult result
+            (λ v. view (λ s. s) v ≡ object (unlocated_fields (map (λ e. (text_of e.0, view (λ s. s) e.1)) fields.entries)))
+            (λ back. back ≡ fields) }
+    {
+        match Vec::with_capacity(alloc, fields.len()) {
+            Ok(room) => Ok(InputValue::Object(placed_fields(room, fields))),
+            Err(_) => Err(fields),
+        }
+    }
+}
+
+// The items with a place, in a list that has room for them.
+fn placed_items<S: Drop>(
+    room: Vec<Spanning<InputValue<S>>>,
+    items: Vec<InputValue<S>>,
+) -> Vec<Spanning<InputValue<S>>>
+    requires empty { room.items ≡ [] }
+    requires fits { vec_len items ≤ vec_capacity room }
+    ensures { view_items (λ s. s) result.items ≡ unlocated_items (map (view (λ s. s)) items.items) }
+{
+    let mut placed = room;
+    for item in items {
+        placed.push_reserved(Spanning::unlocated(item));
+    }
+    placed
+}
+
+// The fields with places, in a list that has room for them.
+fn placed_fields<S: Drop>(
+    room: Vec<(Spanning<String>, Spanning<InputValue<S>>)>,
+    fields: IndexMap<String, InputValue<S>>,
+) -> Vec<(Spanning<String>, Spanning<InputValue<S>>)>
+    requires empty { room.items ≡ [] }
+    requires fits { index_map_len fields ≤ vec_capacity room }
+    ensures { view_fields (λ s. s) result.items
+        ≡ unlocated_fields (map (λ e. (text_of e.0, view (λ s. s) e.1)) fields.entries) }
+{
+    let mut placed = room;
+    for (key, value) in fields {
+        placed.push_reserved((Spanning::unlocated(key), Spanning::unlocated(value)));
+    }
+    placed
 }
