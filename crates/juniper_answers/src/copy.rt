@@ -4,17 +4,21 @@ ghost use Rattle.juniper_answers.specs.Copies.{Copies, CopiesItems, CopiesFields
 ghost use Rattle.juniper_answers.specs.View.{pairs};
 
 use crate::value::{Object, Value};
+use juniper_values::ScalarValue;
 use std::alloc::{AllocError, Global};
 
-/// What can be copied, where the copy equals the source.
-pub trait ScalarValue: Sized + Drop + Eq {
-    fn try_clone(&self, alloc: Global) -> Result<Self, AllocError>
-        ensures { IfOk result (λ s. Self.eq self.now s ≡ true) };
+impl<S: ScalarValue> Value<S> {
+    /// A copy: the same keys in the same order, and equal scalars.
+    pub fn try_clone(&self, alloc: Global) -> Result<Self, AllocError>
+        ensures { IfOk result (λ v. Copies (λ s t. S.content t ≡ S.content s) self.now v) }
+    {
+        copy(alloc, self)
+    }
 }
 
 #[cycle(copy)]
-pub fn copy<S: ScalarValue>(alloc: Global, value: &Value<S>) -> Result<Value<S>, AllocError>
-    ensures { IfOk result (λ v. Copies (λ s t. S.eq s t ≡ true) value.now v) }
+fn copy<S: ScalarValue>(alloc: Global, value: &Value<S>) -> Result<Value<S>, AllocError>
+    ensures { IfOk result (λ v. Copies (λ s t. S.content t ≡ S.content s) value.now v) }
 {
     match value {
         Value::Null => Ok(Value::Null),
@@ -29,7 +33,7 @@ fn copy_items<S: ScalarValue>(
     alloc: Global,
     items: &Vec<Value<S>>,
 ) -> Result<Vec<Value<S>>, AllocError>
-    ensures { IfOk result (λ v. CopiesItems (λ s t. S.eq s t ≡ true) items.now.items v.items) }
+    ensures { IfOk result (λ v. CopiesItems (λ s t. S.content t ≡ S.content s) items.now.items v.items) }
 {
     let mut copies = Vec::with_capacity(alloc, items.len())?;
     for item in items {
@@ -40,7 +44,7 @@ fn copy_items<S: ScalarValue>(
 
 #[cycle(copy)]
 fn copy_object<S: ScalarValue>(alloc: Global, object: &Object<S>) -> Result<Object<S>, AllocError>
-    ensures { IfOk result (λ o. CopiesFields (λ s t. S.eq s t ≡ true) (pairs object.now) (pairs o)) }
+    ensures { IfOk result (λ o. CopiesFields (λ s t. S.content t ≡ S.content s) (pairs object.now) (pairs o)) }
 {
     let mut copies = Object::with_capacity(alloc, object.field_count())?;
     for (key, value) in object.iter() {

@@ -14,6 +14,12 @@ ghost use Rattle.juniper_answers.specs.Keys.{has_text};
 use crate::entries::{Entries, IntoIter, Iter};
 use std::alloc::{AllocError, Global};
 
+/// The fields of an object, in order.
+pub type Fields<'a, S> = Iter<'a, Value<S>>;
+
+/// The fields of an object by value, in order.
+pub type IntoFields<S> = IntoIter<Value<S>>;
+
 /// An answer value.
 #[derive(PartialEq, Eq, Drop)]
 #[cycle(value)]
@@ -103,7 +109,7 @@ impl<S> Object<S> {
     }
 
     /// The fields by value, in order.
-    pub fn into_iter(self) -> IntoIter<Value<S>>
+    pub fn into_iter(self) -> IntoFields<S>
         ensures rest { result ≡ pairs self }
         ensures runs { GivesInOrder (String Global × Value S) }
         ensures values_run { ShowsValuesInOrder (λ (p : String Global × Value S). p) }
@@ -114,7 +120,7 @@ impl<S> Object<S> {
     }
 
     /// The fields, in order.
-    pub fn iter(&self) -> Iter<'_, Value<S>>
+    pub fn iter(&self) -> Fields<'_, S>
         ensures rest { result ≡ pairs self.now }
         ensures runs { ShowsInOrder (deref_pair {K = String Global} {X = Value S}) }
         ensures values_run { ShowsValuesInOrder (deref_pair {K = String Global} {X = Value S}) }

@@ -13,10 +13,10 @@ use Rattle.juniper_answers.proofs.Copies.{all_zip_push, most_within, Copies-List
 use Rattle.juniper_answers.proofs.copy.+copy.Goals as goal
 
 pub copy-returns-in_ok-copy_items-in-List : goal.copy-returns-in_ok-copy_items-in-List
-copy-returns-in_ok-copy_items-in-List g t c = rw c.in-List.is (Copies-List (λ s u. g.S.PartialEq.eq s u ≡ true) c.in-List.items c.in_ok-copy_items-in-List.field-0 c.in_ok-copy_items-in-List.ensures)
+copy-returns-in_ok-copy_items-in-List g t c = rw c.in-List.is (Copies-List (λ s u. g.S.ParseScalarValue.content u ≡ g.S.ParseScalarValue.content s) c.in-List.items c.in_ok-copy_items-in-List.field-0 c.in_ok-copy_items-in-List.ensures)
 
 pub copy-returns-in_ok-copy_object-in-Object : goal.copy-returns-in_ok-copy_object-in-Object
-copy-returns-in_ok-copy_object-in-Object g t c = rw c.in-Object.is (Copies-Object (λ s u. g.S.PartialEq.eq s u ≡ true) c.in-Object.object c.in_ok-copy_object-in-Object.field-0 c.in_ok-copy_object-in-Object.ensures)
+copy-returns-in_ok-copy_object-in-Object g t c = rw c.in-Object.is (Copies-Object (λ s u. g.S.ParseScalarValue.content u ≡ g.S.ParseScalarValue.content s) c.in-Object.object c.in_ok-copy_object-in-Object.field-0 c.in_ok-copy_object-in-Object.ensures)
 
 pub copy_object-copy-requires : goal.copy_object-copy-requires
 copy_object-copy-requires g t c =
@@ -27,7 +27,7 @@ copy_object-copy-requires g t c =
 
 pub copy_object-loop-key-init : goal.copy_object-loop-key-init
 copy_object-loop-key-init g t c =
-    ([], sym c.iter-key-items.ensures.rest ∙ sym c.into_iter-key-iterator.ensures.into_iter_gives, subst (CopiesFields (λ s u. g.S.PartialEq.eq s u ≡ true) []) (sym c.in_ok-copies.ensures) tt)
+    ([], sym c.iter-key-items.ensures.rest ∙ sym c.into_iter-key-iterator.ensures.into_iter_gives, subst (CopiesFields (λ s u. g.S.ParseScalarValue.content u ≡ g.S.ParseScalarValue.content s) []) (sym c.in_ok-copies.ensures) tt)
 
 pub copy_object-loop-key-preserved : goal.copy_object-loop-key-preserved
 copy_object-loop-key-preserved g t c =
@@ -35,7 +35,7 @@ copy_object-loop-key-preserved g t c =
     let left = c.next.new.self in
     let e : String Global × Value g.row.S.Denot = (c.in-Some.key.now, c.in-Some.value.now) in
     let all : pairs c.args.object.now ≡ i.0 ++ e ∷ left = i.1 ∙ ap (λ es. i.0 ++ es) c.in-Some.ensures.steps in
-    let R = λ (s u : g.row.S.Denot). g.S.PartialEq.eq s u ≡ true in (
+    let R = λ (s u : g.row.S.Denot). g.S.ParseScalarValue.content u ≡ g.S.ParseScalarValue.content s in (
       i.0 ++ e ∷ [],
       all ∙ sym (append_assoc i.0 (e ∷ []) left),
       subst (CopiesFields R (i.0 ++ e ∷ [])) (sym c.in_ok-put.ensures)
@@ -44,7 +44,7 @@ copy_object-loop-key-preserved g t c =
 
 pub copy_items-loop-item-preserved : goal.copy_items-loop-item-preserved
 copy_items-loop-item-preserved g t c =
-    let R = λ (s u : g.row.S.Denot). g.S.PartialEq.eq s u ≡ true in
+    let R = λ (s u : g.row.S.Denot). g.S.ParseScalarValue.content u ≡ g.S.ParseScalarValue.content s in
     let xs = c.deref-item-items.result.now in
     let i = c.loop-item.item-index in
     let within : i < length xs = omega arith in
