@@ -95,7 +95,9 @@ fn refusal(alloc: Global, input: &str) -> NameFailure
     requires { is_name (chars input.now) ≡ false }
     ensures { IsRefusalOf input.now result }
 {
-    let text = format!(in alloc; "`Name` must match /^[_a-zA-Z][_a-zA-Z0-9]*$/ but \"{input}\" does not");
+    let text = format!(in alloc;
+        "`Name` must match /^[_a-zA-Z][_a-zA-Z0-9]*$/ but \"{input}\" does not"
+    );
     match text {
         Ok(text) => NameFailure::Invalid(NameParseError(text)),
         Err(_) => NameFailure::Memory,
