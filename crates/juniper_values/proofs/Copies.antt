@@ -59,8 +59,8 @@ module _ {S C : Type 0} (f : S → C) where
     level (InputValue-F.Object v) = ap object (fields_replaced v.items)
 
   pub view-replaced : (v : InputValue S) → view f v ≡ replaced (view (λ s. s) v)
-  view-replaced v = ind-InputValue S (λ v. view f v ≡ replaced (view (λ s. s) v)) (λ x y e. 
-     subst (λ (z : InputValue-F S (InputValue S)). view f (roll-InputValue S z) ≡ replaced (view (λ s. s) (roll-InputValue S z))) e 
+  view-replaced v = ind-InputValue S (λ v. view f v ≡ replaced (view (λ s. s) v)) (λ x y e.
+      subst (λ (z : InputValue-F S (InputValue S)). view f (roll-InputValue S z) ≡ replaced (view (λ s. s) (roll-InputValue S z))) e
       (fold-roll-InputValue S (Value C) (view_step f) _ ∙ level (λ p. p.0) (view f) (view (λ s. s)) (λ p. p.1) y ∙ ap replaced (sym (fold-roll-InputValue S (Value S) (view_step (λ s. s)) _)))) v
 
 -- ---- values whose scalars have the same contents are equal

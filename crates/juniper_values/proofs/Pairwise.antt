@@ -2,7 +2,7 @@
 use Rattle.std.proofs.Common.{◌≡◌, ℕ, suc, ◌+◌, ◌<◌, ◌≤◌, Bool, true, false, ◌&&◌, List, [], ◌∷◌, length, get_or, drop, refl, sym, ap, ◌∙◌}
 use Rattle.std.proofs.lemmas.List.{at_drop_all}
 use Rattle.juniper_values.proofs.Reading.{drop_read}
-use Rattle.juniper_values.proofs.Tests.{and_true, and_false, and_later}
+use Rattle.juniper_values.proofs.BoolTests.{and_true, and_false, and_later}
 
 -- `all` says whether the lists are of one length and `test` holds of each two items
 module _ {A : Type 0} (all : List A → List A → Bool) (test : A → A → Bool)

@@ -64,6 +64,7 @@ right false b e = absurd (true≢false (sym e))
 pub same_type-Decides : {N : Type 0} (text_of : N → Text) (a b : TypeShape N) → Decides (same_type text_of a b) ((text_of a.name ≡ text_of b.name) × (a.modifiers ≡ b.modifiers))
 same_type-Decides text_of a b =
     let names = bytes_eq-Decides (text_of a.name) (text_of b.name) in
-    let modifiers = slice_eq-Decides same_modifier-Decides a.modifiers b.modifiers _ refl in
-    ((λ e. (names.0 (left _ _ e), modifiers.0 (right _ _ e))),
-    (λ h. λ i. names.1 h.0 i && modifiers.1 h.1 i))
+    let modifiers = slice_eq-Decides same_modifier-Decides a.modifiers b.modifiers _ refl in (
+      (λ e. (names.0 (left _ _ e), modifiers.0 (right _ _ e))),
+      (λ h. λ i. names.1 h.0 i && modifiers.1 h.1 i),
+    )

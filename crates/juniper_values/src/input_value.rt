@@ -14,9 +14,8 @@ mod maps;
 mod resolve;
 mod variables;
 
-use juniper_tokens::Spanning;
-
 pub use convert::FromInputValue;
+use juniper_tokens::Spanning;
 pub use resolve::Variables;
 
 /// An input value (GraphQL specification, October 2021, section 2.9), with the places of the items of its lists and of the

@@ -6,13 +6,15 @@ mod escapes;
 mod input_value;
 pub mod laws;
 mod scalar;
+#[cfg(test)]
+mod tests;
 mod text;
 mod type_literal;
 
 pub use default_scalar::DefaultScalarValue;
-pub use input_value::{InputValue, Variables};
+pub use input_value::{FromInputValue, InputValue, Variables};
 pub use scalar::{
     FromScalarValue, ParseScalarResult, ParseScalarValue, ReadFailure, Scalar, ScalarValue,
     ToScalarValue, WrongInputScalarTypeError, scalar_from_str,
 };
-pub use type_literal::{NameText, Type, TypeModifier, TypeModifiers};
+pub use type_literal::{NameText, Type, TypeLiteral, TypeModifier, TypeModifiers};

@@ -61,7 +61,9 @@ impl Default for TypeModifiers {
 }
 
 static NON_NULL: [TypeModifier; 1] = [TypeModifier::NonNull];
+
 static LIST: [TypeModifier; 1] = [TypeModifier::List(None)];
+
 static NON_NULL_LIST: [TypeModifier; 2] = [TypeModifier::NonNull, TypeModifier::List(None)];
 
 impl TypeModifiers {
@@ -273,7 +275,9 @@ impl<N: NameText + Drop> TypeLiteral<N> {
     pub fn is_list(&self) -> bool
         ensures { result ≡ is_list self.now.modifiers }
     {
-        self.modifiers().iter().any(|modifier| is_list_modifier(modifier))
+        self.modifiers()
+            .iter()
+            .any(|modifier| is_list_modifier(modifier))
     }
 }
 
@@ -311,7 +315,10 @@ impl<N: NameText + Drop> fmt::Display for TypeLiteral<N> {
 }
 
 // What the modifiers write before the name.
-fn write_openings<W: fmt::Write>(f: &mut fmt::Formatter<W>, modifiers: &[TypeModifier]) -> fmt::Result
+fn write_openings<W: fmt::Write>(
+    f: &mut fmt::Formatter<W>,
+    modifiers: &[TypeModifier],
+) -> fmt::Result
     ensures { DisplaysOnOk W.write_str_gives f.old result (Some (encode_utf8_all (flat_map opening modifiers.now))) f.new }
 {
     for modifier in modifiers {
@@ -321,7 +328,10 @@ fn write_openings<W: fmt::Write>(f: &mut fmt::Formatter<W>, modifiers: &[TypeMod
 }
 
 // What the modifiers write after the name.
-fn write_closings<W: fmt::Write>(f: &mut fmt::Formatter<W>, modifiers: &[TypeModifier]) -> fmt::Result
+fn write_closings<W: fmt::Write>(
+    f: &mut fmt::Formatter<W>,
+    modifiers: &[TypeModifier],
+) -> fmt::Result
     ensures { DisplaysOnOk W.write_str_gives f.old result (Some (encode_utf8_all (flat_map closing modifiers.now))) f.new }
 {
     for modifier in modifiers {

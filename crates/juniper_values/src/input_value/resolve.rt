@@ -43,7 +43,9 @@ fn constant<S: ScalarValue>(
         InputValue::Scalar(scalar) => Ok(Some(InputValue::Scalar(scalar))),
         InputValue::Enum(name) => Ok(Some(InputValue::Enum(name))),
         InputValue::Variable(name) => value_of(name, alloc, values),
-        InputValue::List(items) => Ok(Some(InputValue::List(constant_items(items, alloc, values)?))),
+        InputValue::List(items) => Ok(Some(InputValue::List(constant_items(
+            items, alloc, values,
+        )?))),
         InputValue::Object(fields) => Ok(Some(InputValue::Object(constant_fields(
             fields, alloc, values,
         )?))),

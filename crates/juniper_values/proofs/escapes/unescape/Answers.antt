@@ -12,7 +12,7 @@ use Rattle.juniper_values.proofs.escapes.unescape.Goals as goal
 pub loop-c-init : goal.loop-c-init
 loop-c-init c = record {
   stage = tt;
-  read = ap (λ bs. option_map (λ t. chars bs ++ t) (unescape_from Plain (chars c.args.text.now))) c.new-out.ensures.bytes ∙ empty_first (unescape (chars c.args.text.now))
+  read = ap (λ bs. option_map (λ t. chars bs ++ t) (unescape_from Plain (chars c.args.text.now))) c.new-out.ensures.bytes ∙ empty_first (unescape (chars c.args.text.now));
 }
 
 pub returns-in-None-step : goal.returns-in-None-step
@@ -27,12 +27,13 @@ pub loop-c-preserved-in-Continue-1 : goal.loop-c-preserved-in-Continue-1
 loop-c-preserved-in-Continue-1 c =
     let cs = chars c.args.text.now in
     let t = YieldsList-turn (YieldsList-from_chars c.args.text.now c.utf8.text cc) c.loop-c.yielded _ c.loop-c.yielded_by _ _ c.in-Some.c c.in-Some.is c.next.ensures.steps in
-    record { stage = c.in-Some-step.ensures.kept; 
+    record {
+      stage = c.in-Some-step.ensures.kept;
       read =
           turned c.loop-c.stage c.in-Some-step.next (Some c.in-Some-made.d) c.in-Some.c (length c.loop-c.yielded) _ cs (chars (string_bytes c.loop-c.out)) _ _ t.0 t.1 (length_push c.loop-c.yielded c.in-Some.c)
           (ap (λ o. Some (c.in-Some-step.next, o)) (sym c.in-Some-made.is) ∙ c.in-Some-step.ensures.value)
           (chars-push c.loop-c.out c.in-Some-made.d _ (rw c.in-Some-made.is at c.in-Some-step.ensures.scalar) c.in_ok-push-in-Some-step.ensures.bytes)
-          c.loop-c.invariant.read
+          c.loop-c.invariant.read;
     }
 
 pub loop-c-preserved : goal.loop-c-preserved
@@ -45,7 +46,7 @@ loop-c-preserved c =
           turned c.loop-c.stage c.in-Some-step.next None c.in-Some.c (length c.loop-c.yielded) _ cs (chars (string_bytes c.loop-c.out)) _ _ t.0 t.1 (length_push c.loop-c.yielded c.in-Some.c)
           (ap (λ o. Some (c.in-Some-step.next, o)) (sym c.in_default.is) ∙ c.in-Some-step.ensures.value)
           (sym (append-nil (chars (string_bytes c.loop-c.out))))
-          c.loop-c.invariant.read
+          c.loop-c.invariant.read;
     }
 
 pub returns-in-Plain : goal.returns-in-Plain

@@ -6,5 +6,5 @@ use Rattle.juniper_values.proofs.escapes.unescape.Given as goal
 abbrev pub invariant-loop-c : goal.invariant-loop-c
 invariant-loop-c l = record {
   stage : IsStage l.stage;
-  read : option_map (λ t. chars (string_bytes l.out) ++ t) (unescape_from l.stage (drop (length l.yielded) (chars l.text))) ≡ unescape (chars l.text)
+  read : option_map (λ t. chars (string_bytes l.out) ++ t) (unescape_from l.stage (drop (length l.yielded) (chars l.text))) ≡ unescape (chars l.text);
 }

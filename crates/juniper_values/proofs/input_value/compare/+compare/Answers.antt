@@ -6,7 +6,7 @@ use Rattle.juniper_values.specs.View.{view, view_items, view_fields, text_of}
 use Rattle.juniper_values.proofs.Reading.{drop_read, within_most}
 use Rattle.juniper_values.proofs.Sames.{field_count-view}
 use Rattle.juniper_values.proofs.Pairwise.{differ, passed, failed}
-use Rattle.juniper_values.proofs.Tests.{and_true, and_false, and_later, or_true, or_false, not_equal, are_equal}
+use Rattle.juniper_values.proofs.BoolTests.{and_true, and_false, and_later, or_true, or_false, not_equal, are_equal}
 use Rattle.juniper_values.specs.declared.input_value.InputValue.TheShapes.{weighed-InputValue-Object-0-at-4}
 use Rattle.juniper_values.proofs.input_value.InputValue.TheLaws.{the_size}
 use Rattle.juniper_values.proofs.input_value.compare.+compare.Goals as goal
@@ -88,7 +88,7 @@ is_among-loop-field-preserved g t c =
     let x = c.field-item.result in
     let here : (same_text (text_of c.args.key.now) (text_of x.0.item) && p (view (λ s. s) x.1.item)) ≡ false =
     elim c.else-same_string.branch [
-      is_among-else-same_string-via-then-same_string+else-same w ↦ and_later _ _ (sym w.same.ensures ∙ w.if-same.false)
+      | is_among-else-same_string-via-then-same_string+else-same w ↦ and_later _ _ (sym w.same.ensures ∙ w.if-same.false)
       | is_among-else-same_string-via-else-same_string w ↦ and_false _ _ (sym c.same_string.ensures ∙ w.if-same_string.false)
     ] in
     c.loop-field.invariant
@@ -102,7 +102,7 @@ is_met-loop-field-preserved g t c =
     let x = c.field-item.result in
     let here : (same_text (text_of x.0.item) (text_of c.args.key.now) && same_but_place eq (view (λ s. s) x.1.item) v) ≡ false =
     elim c.else-same_string.branch [
-      is_met-else-same_string-via-then-same_string+else-same w ↦ and_later _ _ (sym w.same.ensures ∙ w.if-same.false)
+      | is_met-else-same_string-via-then-same_string+else-same w ↦ and_later _ _ (sym w.same.ensures ∙ w.if-same.false)
       | is_met-else-same_string-via-else-same_string w ↦ and_false _ _ (sym c.same_string.ensures ∙ w.if-same_string.false)
     ] in
     c.loop-field.invariant

@@ -4,7 +4,7 @@ use Rattle.juniper_values.specs.Text.{same_text}
 use Rattle.juniper_values.specs.Equality.{same_span, same_value, same_items, same_fields}
 use Rattle.juniper_values.specs.View.{view, view_items, view_fields, text_of}
 use Rattle.juniper_values.proofs.Pairwise.{differ, passed, failed}
-use Rattle.juniper_values.proofs.Tests.{and_false, and_later}
+use Rattle.juniper_values.proofs.BoolTests.{and_false, and_later}
 use Rattle.juniper_values.proofs.input_value.equal.+equal.Goals as goal
 
 pub equal_items-returns-then-len : goal.equal_items-returns-then-len

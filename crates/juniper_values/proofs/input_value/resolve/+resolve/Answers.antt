@@ -49,7 +49,7 @@ constant_fields-loop-field-preserved-in-Continue-branch-3 g t c =
       split = taken c.args.fields.items c.loop-field.yielded _ x _ c.loop-field.invariant.split c.in-Some.ensures.steps.0;
       made =
           turn (put_field content) _ _ (x.0, c.new.result) _ _ _ c.loop-field.invariant.made c.in_ok-push.ensures.items
-          (ap (λ xs. resolve_fields m (view_fields content xs)) c.in-Some.ensures.steps.0 ∙ rw (now, c.new.ensures) refl)
+          (ap (λ xs. resolve_fields m (view_fields content xs)) c.in-Some.ensures.steps.0 ∙ rw (now, c.new.ensures) refl);
     }
 
 pub constant_fields-returns : goal.constant_fields-returns

@@ -18,5 +18,5 @@ invariant-constant_fields-loop-field g l =
     record {
       split : l.fn.fields.items ≡ l.yielded ++ into_iter_items l.field-iterator;
       made : prepend (put_field content) l.done.items (resolve_fields (values_in content l.values) (view_fields content (into_iter_items l.field-iterator)))
-          ≡ resolve_fields (values_in content l.values) (view_fields content l.fn.fields.items)
+          ≡ resolve_fields (values_in content l.values) (view_fields content l.fn.fields.items);
     }
