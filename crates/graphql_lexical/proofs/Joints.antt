@@ -182,10 +182,10 @@ leads_more a b (x ∷ xs) k n l lt h =
 drop_past : (a b : List ℕ) (k : ℕ) → drop (length a + k) (a ++ b) ≡ drop k b
 drop_past a b k = sym (drop-drop k (length a) (a ++ b)) ∙ ap (drop k) (drop_at a b (length a) refl)
 
-abbrev moved : List ℕ → ℕ → ℕ → Lexeme → Lexeme
+abbrev pub moved : List ℕ → ℕ → ℕ → Lexeme → Lexeme
 moved whole i j x = record { kind = x.kind; text = x.text; span = record { start = place whole i; end = place whole j } }
 
-stands_past : (a b : List ℕ) (k : ℕ) (x : Lexeme) (n : ℕ) (s : Stands b k x n) → Stands (a ++ b) (length a + k) (moved (a ++ b) ((length a + k) + s.gap) (length a + n) x) (length a + n)
+pub stands_past : (a b : List ℕ) (k : ℕ) (x : Lexeme) (n : ℕ) (s : Stands b k x n) → Stands (a ++ b) (length a + k) (moved (a ++ b) ((length a + k) + s.gap) (length a + n) x) (length a + n)
 stands_past a b k x n s =
     let next = s.next_is in
     let d : drop ((length a + k) + s.gap) (a ++ b) ≡ drop (k + s.gap) b = ap (λ (i : ℕ). drop i (a ++ b)) (sums (length a) k s.gap) ∙ drop_past a b (k + s.gap) in
@@ -202,14 +202,14 @@ stands_past a b k x n s =
     sums : (a k g : ℕ) → (a + k) + g ≡ a + (k + g)
     sums a k g = omega arith
 
-leads_past : (a b : List ℕ) (xs : List Lexeme) (k n : ℕ) → Leads b k xs n → (ys : List Lexeme) × Leads (a ++ b) (length a + k) ys (length a + n) × AreAlike ys xs
+pub leads_past : (a b : List ℕ) (xs : List Lexeme) (k n : ℕ) → Leads b k xs n → (ys : List Lexeme) × Leads (a ++ b) (length a + k) ys (length a + n) × AreAlike ys xs
 leads_past a b [] k n h = ([], ap (λ (i : ℕ). length a + i) h, tt)
 leads_past a b (x ∷ xs) k n h =
     let r = leads_past a b xs h.0 n h.3 in
     let y : Lexeme = moved (a ++ b) ((length a + k) + h.1.gap) (length a + h.0) x in
     (y ∷ r.0, (length a + h.0, stands_past a b k x h.0 h.1, h.2, r.1), (refl, refl, r.2))
 
-alike_push : (xs ys : List Lexeme) (x y : Lexeme) → AreAlike xs ys → x.kind ≡ y.kind → x.text ≡ y.text → AreAlike (xs ++ x ∷ []) (ys ++ y ∷ [])
+pub alike_push : (xs ys : List Lexeme) (x y : Lexeme) → AreAlike xs ys → x.kind ≡ y.kind → x.text ≡ y.text → AreAlike (xs ++ x ∷ []) (ys ++ y ∷ [])
 alike_push [] [] x y h a b = (a, b, tt)
 alike_push (z ∷ xs) (w ∷ ys) x y h a b = (h.0, h.1, alike_push xs ys x y h.2 a b)
 alike_push [] (w ∷ ys) x y h a b = absurd h
@@ -228,7 +228,7 @@ leads_split source (y ∷ xs) x k n h =
     (r.0, (h.0, h.1, h.2, r.1), r.2, r.3)
 
 -- behind a front of tokens that ends with a stand those of b
-after_front : (a b : List ℕ) (front us : List Lexeme) → Leads (a ++ b) 0 front (length a) → Cut b us → (vs : List Lexeme) × Cut (a ++ b) (front ++ vs) × AreAlike vs us
+pub after_front : (a b : List ℕ) (front us : List Lexeme) → Leads (a ++ b) 0 front (length a) → Cut b us → (vs : List Lexeme) × Cut (a ++ b) (front ++ vs) × AreAlike vs us
 after_front a b front us h c =
     let p = leads_past a b c.front 0 c.before c.leads in
     let y : Lexeme = moved (a ++ b) ((length a + c.before) + c.stands.gap) (length a + c.after) c.last in
@@ -251,7 +251,7 @@ after_front a b front us h c =
 end_place : (a : List ℕ) (n : ℕ) → n ≤ length a → place a n ≡ place a (length a) → n ≡ length a
 end_place a n l e = omega (arith, ap (λ (p : Place). p.index) e, length-take n a, length-take (length a) a)
 
-front_joins : (a b : List ℕ) (front : List Lexeme) (n : ℕ) → Leads a 0 front n → IsSeam a front b → Leads (a ++ b) 0 front (length a)
+pub front_joins : (a b : List ℕ) (front : List Lexeme) (n : ℕ) → Leads a 0 front n → IsSeam a front b → Leads (a ++ b) 0 front (length a)
 front_joins a b [] n h (inl e) = sym (ap length e)
 front_joins a b (x ∷ xs) n h (inl e) = absurd (let z = leads_size a (x ∷ xs) 0 n zero-le h in omega (arith, z.0, z.1, ap length e))
 front_joins a b front n h (inr (some, x, parts, stops, may)) =

@@ -9,3 +9,4 @@ pub mod Scan
 pub mod Rows
 pub mod Laws
 pub mod Joining
+pub mod Written

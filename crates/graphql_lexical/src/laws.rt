@@ -1,7 +1,9 @@
 //! Laws of the lexical grammar.
-ghost use Rattle.std.specs.Prelude.{ℕ, List, ◌≡◌};
+ghost use Rattle.std.specs.Prelude.{ℕ, List, [], ◌≡◌};
 ghost use Rattle.graphql_lexical.specs.Laws.{StepsByCharacters, FindsWhatReads, MissesWhatFails, HasOneAnswer, CutsWhatIsCut, BreaksWhatIsBroken, HasOneEnd, HasFewTokens, HasSlicesInOrder};
+ghost use Rattle.graphql_lexical.specs.Kinds.{Kind};
 ghost use Rattle.graphql_lexical.specs.Joining.{Joins};
+ghost use Rattle.graphql_lexical.specs.Written.{Bare, IsCutInto, WritesToken, WritesWhite};
 
 /// The place of a source's beginning is the origin, and each further place follows from the one before it by
 /// the character between: a line feed begins a line, and any other character, a carriage return too, goes one
@@ -37,6 +39,14 @@ pub fn cut_is_exact()
 /// Where two texts are put together that can't run into each other, the cut goes on.
 pub fn joined_texts()
     ensures { (a b : List ℕ) → Joins a b }
+{}
+
+/// No text has no tokens. A token put before a text that it can't run into comes before the tokens of that text, and
+/// a white character changes none.
+pub fn texts_are_written_by_tokens()
+    ensures nothing { IsCutInto [] [] }
+    ensures token { (whole : List ℕ) (kind : Kind) (rest : List ℕ) (bares : List Bare) → WritesToken whole kind rest bares }
+    ensures white { (c : ℕ) (rest : List ℕ) (bares : List Bare) → WritesWhite c rest bares }
 {}
 
 /// A token's text is the slice of the source between its places, of a String without the quotes. Each token
