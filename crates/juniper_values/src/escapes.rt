@@ -1,32 +1,37 @@
 //! The text that the slice of a String token stands for (GraphQL specification, October 2021, section 2.9.4).
-ghost use Rattle.std.specs.Prelude.{◌≡◌, ◌<◌, ◌≤◌, ◌+◌, ◌*◌, ◌^◌, ℕ, IfOk, option_map, string_bytes, IfSome};
+ghost use Rattle.std.specs.Prelude.{◌≡◌, ◌<◌, ◌++◌, IfOk, OnOk, option_map, IfSome};
+ghost use Rattle.std.specs.Option.{option_to_list};
 ghost use Rattle.std.specs.Char.{IsScalar};
 ghost use Rattle.std.specs.Str.{chars};
+ghost use Rattle.juniper_values.specs.View.{text_of};
 ghost use Rattle.juniper_values.specs.Escapes.{unescape, step_of, short_escape, digit_of, IsStage};
 
 use std::alloc::{AllocError, Global};
 
+// Where in a String's text a character stands.
 #[derive(Clone, Copy)]
 pub(crate) enum Stage {
+    // Outside escapes.
     Plain,
+    // Behind a backslash.
     Escaped,
+    // Behind `\u`: how many digits follow the next one, and the number so far.
     Hex(u8, u32),
 }
 
+// The text with each escape replaced, or nothing where some backslash begins none.
 pub(crate) fn unescape(alloc: Global, text: &str) -> Result<Option<String>, AllocError>
-    ensures { IfOk result (λ o. option_map (λ s. chars (string_bytes s)) o ≡ unescape (chars text.now)) }
+    ensures { IfOk result (λ o. option_map text_of o ≡ unescape (chars text.now)) }
 {
     let mut out = String::new(alloc);
     let mut stage = Stage::Plain;
     for c in text.chars() {
         match step(stage, c) {
-            None => return Ok(None),
             Some((next, made)) => {
                 stage = next;
-                if let Some(d) = made {
-                    out.push(d)?;
-                }
+                push_made(&mut out, made)?;
             }
+            None => return Ok(None),
         }
     }
     match stage {
@@ -35,6 +40,17 @@ pub(crate) fn unescape(alloc: Global, text: &str) -> Result<Option<String>, Allo
     }
 }
 
+fn push_made(out: &mut String, made: Option<char>) -> Result<(), AllocError>
+    requires { IfSome made IsScalar }
+    ensures { OnOk result (text_of out.new ≡ text_of out.old ++ option_to_list made) }
+{
+    if let Some(c) = made {
+        out.push(c)?;
+    }
+    Ok(())
+}
+
+// The stage after the character, and the character that it completes.
 fn step(stage: Stage, c: char) -> Option<(Stage, Option<char>)>
     requires { IsStage stage }
     ensures value { result ≡ step_of stage c }
@@ -76,6 +92,7 @@ fn step(stage: Stage, c: char) -> Option<(Stage, Option<char>)>
     }
 }
 
+// The character that a backslash and this one stand for.
 fn short(c: char) -> Option<char>
     ensures value { result ≡ short_escape c }
     ensures scalar { IfSome result IsScalar }
@@ -93,6 +110,7 @@ fn short(c: char) -> Option<char>
     }
 }
 
+// The number of a hexadecimal digit.
 fn hex(c: char) -> Option<u32>
     ensures value { result ≡ digit_of c }
     ensures small { IfSome result (λ d. d < 16) }

@@ -20,7 +20,7 @@ pub use resolve::Variables;
 
 /// An input value (GraphQL specification, October 2021, section 2.9), with the places of the items of its lists and of the
 /// keys and values of its objects.
-#[derive(Drop)]
+#[derive(Debug, Drop)]
 pub enum InputValue<S> {
     /// `null`
     Null,

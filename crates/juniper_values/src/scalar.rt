@@ -184,7 +184,7 @@ impl<'s, S> FromScalarValue<'s, S> for &'s S {
 }
 
 /// A scalar as it is displayed within a value: a text between quotes, anything else by its own display.
-#[derive(Drop)]
+#[derive(Debug, Drop)]
 pub struct Scalar<'a, S> {
     scalar: &'a S,
 }
@@ -246,7 +246,7 @@ pub(crate) fn write_scalar<S: ScalarValue, W: fmt::Write>(
 }
 
 /// A scalar that is not of the type that was wanted.
-#[derive(Drop)]
+#[derive(Debug, Drop)]
 pub struct WrongInputScalarTypeError<'a, S> {
     /// The name of the type that was wanted.
     pub type_name: &'a str,

@@ -23,14 +23,22 @@ fn list(alloc: Global, items: Vec<Value>) -> Result<Value, AllocError> {
     }
 }
 
-// An object, whose keys may be doubled.
-fn object(alloc: Global, fields: Vec<(&str, Value)>) -> Result<Value, AllocError> {
+// An object of integers, whose keys may be doubled.
+fn numbers(alloc: Global, fields: &[(&str, i32)]) -> Result<Value, AllocError> {
     let mut placed = Vec::new(alloc);
-    for (key, value) in fields {
-        let key = Spanning::unlocated(String::from_str(alloc, key)?);
-        placed.push((key, Spanning::unlocated(value)))?;
+    for field in fields {
+        placed.push(placed_field(alloc, field.0, int(field.1))?)?;
     }
     Ok(InputValue::parsed_object(placed))
+}
+
+fn placed_field(
+    alloc: Global,
+    key: &str,
+    value: Value,
+) -> Result<(Spanning<String>, Spanning<Value>), AllocError> {
+    let key = Spanning::unlocated(String::from_str(alloc, key)?);
+    Ok((key, Spanning::unlocated(value)))
 }
 
 fn read(alloc: Global, token: ScalarToken<'_>) -> ParseScalarResult<DefaultScalarValue> {
@@ -232,7 +240,7 @@ fn lists_and_objects_are_displayed(rt: HostRuntime) -> Result<(), Fail> {
     let alloc = rt.alloc();
     let listed = list(alloc, vec![in alloc; int(1), int(2)]?)?;
     assert!(rt; is_shown(alloc, &listed, "[1, 2]")?);
-    let keyed = object(alloc, vec![in alloc; ("foo", int(1)), ("bar", int(2))]?)?;
+    let keyed = numbers(alloc, &[("foo", 1), ("bar", 2)])?;
     assert!(rt; is_shown(alloc, &keyed, "{foo: 1, bar: 2}")?);
     Ok(())
 }
@@ -254,10 +262,8 @@ fn items_without_values_are_null(rt: HostRuntime) -> Result<(), Fail> {
 fn fields_without_values_are_left_out(rt: HostRuntime) -> Result<(), Fail> {
     let alloc = rt.alloc();
     let none: Variables<DefaultScalarValue> = HashMap::new(alloc);
-    let keyed = object(
-        alloc,
-        vec![in alloc; ("k", InputValue::variable(alloc, "a")?)]?,
-    )?;
+    let field = placed_field(alloc, "k", InputValue::variable(alloc, "a")?)?;
+    let keyed = InputValue::parsed_object(vec![in alloc; field]?);
     let left = keyed.into_const(alloc, &none)?.ok_or("nothing")?;
     assert!(rt; is_shown(alloc, &left, "{}")?);
     let alone: Value = InputValue::variable(alloc, "a")?;
@@ -280,11 +286,9 @@ fn resolving_leaves_variables_in_values(rt: HostRuntime) -> Result<(), Fail> {
 #[test]
 fn variables_are_named_from_left_to_right(rt: HostRuntime) -> Result<(), Fail> {
     let alloc = rt.alloc();
-    let b: Value = InputValue::variable(alloc, "b")?;
-    let inner = object(
-        alloc,
-        vec![in alloc; ("k", b), ("l", InputValue::variable(alloc, "a")?)]?,
-    )?;
+    let first = placed_field(alloc, "k", InputValue::variable(alloc, "b")?)?;
+    let second = placed_field(alloc, "l", InputValue::variable(alloc, "a")?)?;
+    let inner = InputValue::parsed_object(vec![in alloc; first, second]?);
     let value = list(
         alloc,
         vec![in alloc; InputValue::variable(alloc, "a")?, inner]?,
@@ -311,15 +315,11 @@ fn is_int(value: &Value, number: i32) -> bool {
 #[test]
 fn a_doubled_key_takes_its_last_value(rt: HostRuntime) -> Result<(), Fail> {
     let alloc = rt.alloc();
-    let value = object(
-        alloc,
-        vec![in alloc; ("a", int(1)), ("b", int(2)), ("a", int(3))]?,
-    )?;
+    let value = numbers(alloc, &[("a", 1), ("b", 2), ("a", 3)])?;
     let map = value.to_object_value(alloc)?.ok_or("no object")?;
     assert_eq!(rt; map.len(), 2);
     assert!(rt; is_field(&map, 0, "a", 3));
     assert!(rt; is_field(&map, 1, "b", 2));
-    assert!(rt; int(1).to_object_value(alloc)?.is_none());
     Ok(())
 }
 
@@ -331,7 +331,14 @@ fn a_list_gives_its_items(rt: HostRuntime) -> Result<(), Fail> {
     assert_eq!(rt; items.len(), 2);
     assert!(rt; is_int(items[0], 1));
     assert!(rt; is_int(items[1], 2));
-    assert!(rt; int(1).to_list_value(alloc)?.is_none());
+    Ok(())
+}
+
+#[test]
+fn a_number_is_no_list_and_no_object(rt: HostRuntime) -> Result<(), Fail> {
+    let number = int(1);
+    assert!(rt; number.to_list_value(rt.alloc())?.is_none());
+    assert!(rt; number.to_object_value(rt.alloc())?.is_none());
     Ok(())
 }
 
@@ -349,8 +356,8 @@ fn lists_of_two_lengths_differ(rt: HostRuntime) -> Result<(), Fail> {
 #[test]
 fn doubled_keys_are_matched_both_ways(rt: HostRuntime) -> Result<(), Fail> {
     let alloc = rt.alloc();
-    let doubled = object(alloc, vec![in alloc; ("a", int(1)), ("a", int(1))]?)?;
-    let single = object(alloc, vec![in alloc; ("a", int(1)), ("b", int(2))]?)?;
+    let doubled = numbers(alloc, &[("a", 1), ("a", 1)])?;
+    let single = numbers(alloc, &[("a", 1), ("b", 2)])?;
     assert!(rt; !doubled.unlocated_eq(&single));
     assert!(rt; !single.unlocated_eq(&doubled));
     Ok(())
@@ -374,7 +381,7 @@ fn objects_are_made_of_maps(rt: HostRuntime) -> Result<(), Fail> {
     let mut fields: IndexMap<String, Value> = IndexMap::new(alloc);
     fields.insert(String::from_str(alloc, "k")?, int(1))?;
     let made = InputValue::object(alloc, fields).ok().ok_or("memory")?;
-    assert!(rt; made == object(alloc, vec![in alloc; ("k", int(1))]?)?);
+    assert!(rt; made == numbers(alloc, &[("k", 1)])?);
     Ok(())
 }
 

@@ -43,7 +43,7 @@ impl Eq for TypeModifier {
 }
 
 /// A list of modifiers, the innermost first.
-#[derive(Drop)]
+#[derive(Debug, Drop)]
 pub enum TypeModifiers {
     /// Modifiers that take no memory.
     Static(&'static [TypeModifier]),
@@ -164,7 +164,7 @@ impl NameText for String {
 
 /// A type: a name within any number of list types, each of which may be one without null
 /// (GraphQL specification, October 2021, section 2.11).
-#[derive(Drop)]
+#[derive(Debug, Drop)]
 pub struct TypeLiteral<N> {
     name: N,
     modifiers: TypeModifiers,

@@ -1,6 +1,7 @@
 //! Equality of input values whatever their places.
-ghost use Rattle.std.specs.Prelude.{◌≡◌, ◌&&◌, ◌==◌};
-ghost use Rattle.juniper_values.specs.Same.{same_but_place, same_items_but_place, wanted, is_found, is_wanted, all_found, all_wanted, field_count};
+ghost use Rattle.std.specs.Prelude.{◌≡◌};
+ghost use Rattle.juniper_values.specs.Same.{same_but_place, same_items_but_place, wanted, is_found, is_wanted};
+ghost use Rattle.juniper_values.specs.Value.{object};
 ghost use Rattle.juniper_values.specs.View.{view, view_items, view_fields, text_of};
 
 use crate::input_value::InputValue;
@@ -55,11 +56,9 @@ fn same_object<S: PartialEq>(
     b: &Vec<(Spanning<String>, Spanning<InputValue<S>>)>,
 ) -> bool
     ensures { result
-        ≡ (field_count (view_fields (λ s. s) a.now.items) == field_count (view_fields (λ s. s) b.now.items))
-        && (all_found (wanted S.eq (view_fields (λ s. s) a.now.items)) (view_fields (λ s. s) b.now.items)
-        && all_wanted (wanted S.eq (view_fields (λ s. s) a.now.items)) (view_fields (λ s. s) b.now.items)) }
+        ≡ same_but_place S.eq (object (view_fields (λ s. s) a.now.items)) (object (view_fields (λ s. s) b.now.items)) }
 {
-    if a.len() != b.len() {
+    if b.len() != a.len() {
         return false;
     }
     for mine in a {
@@ -75,6 +74,7 @@ fn same_object<S: PartialEq>(
     true
 }
 
+// Whether some field has this key, and a value that this one is equal to.
 #[cycle(compare)]
 fn is_among<S: PartialEq>(
     value: &InputValue<S>,
@@ -92,6 +92,7 @@ fn is_among<S: PartialEq>(
     false
 }
 
+// Whether this key and value are those of some field, whose value is equal to this one.
 #[cycle(compare)]
 fn is_met<S: PartialEq>(
     fields: &Vec<(Spanning<String>, Spanning<InputValue<S>>)>,
