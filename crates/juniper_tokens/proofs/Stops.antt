@@ -165,7 +165,7 @@ mark_text cs q p b n h e = whole p (take n cs) ∙ mark_spelled p (take n cs) (s
 -- ---- a string's text
 
 -- the fact in a form of lists alone
-unquoted_list : (units : List ℕ) → take (length (34 ∷ units ++ 34 ∷ []) - 2) (drop 1 (34 ∷ units ++ 34 ∷ [])) ≡ units
+pub unquoted_list : (units : List ℕ) → take (length (34 ∷ units ++ 34 ∷ []) - 2) (drop 1 (34 ∷ units ++ 34 ∷ [])) ≡ units
 unquoted_list units =
     let count : length (34 ∷ units ++ 34 ∷ []) - 2 ≡ length units = omega (arith, length-append units (34 ∷ [])) in
     ap (λ k. take k (units ++ 34 ∷ [])) count ∙ take-append_seam units (34 ∷ [])

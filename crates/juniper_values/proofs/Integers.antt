@@ -19,22 +19,22 @@ use Rattle.juniper_values.specs.Scalar.{Content, integer, Reading}
 use Rattle.juniper_values.specs.Integers.{is_digits, number_after, number_of, has_minus, after_sign, is_integer, integer_of, is_i32}
 use Rattle.juniper_values.specs.Default.{int_reading}
 
-own : IsNumeralModel (λ ds. all_ascii_digits ds ≡ true) number_of
+pub own : IsNumeralModel (λ ds. all_ascii_digits ds ≡ true) number_of
 own = numerals_by_fold (λ ds. all_ascii_digits ds ≡ true) tells_all_ascii_digits number_after (search rules)
 
 -- ---- tests
 
-negative_i32 : (n : ℕ) → Decides (is_i32 (neg_ℤ (pos n))) (n ≤ 2147483648)
+pub negative_i32 : (n : ℕ) → Decides (is_i32 (neg_ℤ (pos n))) (n ≤ 2147483648)
 negative_i32 n = ((λ e. grind (arith, ints, nat_tests)), (λ h. grind (arith, ints, nat_tests)))
 
-positive_i32 : (n : ℕ) → Decides (is_i32 (pos n)) (n < 2147483648)
+pub positive_i32 : (n : ℕ) → Decides (is_i32 (pos n)) (n < 2147483648)
 positive_i32 n = ((λ e. grind (arith, ints, nat_tests)), (λ h. grind (arith, ints, nat_tests)))
 
-some_digits : (ds : Text) → Decides (is_digits ds) ((all_ascii_digits ds ≡ true) × (0 < length ds))
+pub some_digits : (ds : Text) → Decides (is_digits ds) ((all_ascii_digits ds ≡ true) × (0 < length ds))
 some_digits [] = ((λ e. absurd (true≢false (sym e))), (λ h. absurd (omega (arith, h.1))))
 some_digits (c ∷ cs) = ((λ e. (e, omega arith)), (λ h. h.0))
 
-both : (a b : Bool) → a ≡ true → b ≡ true → (a && b) ≡ true
+pub both : (a b : Bool) → a ≡ true → b ≡ true → (a && b) ≡ true
 both a b e f = cc
 
 first : (a b : Bool) → (a && b) ≡ true → a ≡ true
@@ -112,20 +112,17 @@ same_chars : (bs : List ℕ) → IsUtf8 bs → (is_integer bs ≡ true) ⊎ (is_
 same_chars bs u (inl e) = chars-IsAscii bs (integers_are_ascii bs e)
 same_chars bs u (inr e) = sym (encodes-IsAscii (chars bs) (integers_are_ascii (chars bs) e)) ∙ encodes-chars bs u
 
-is_read : Text → Bool
+abbrev pub is_read : Text → Bool
 is_read t = is_integer t && is_i32 (integer_of t)
 
-if_read : (t : Text) → is_read t ≡ true → int_reading t ≡ Ok (integer (integer_of t))
-unfolding is_read
+pub if_read : (t : Text) → is_read t ≡ true → int_reading t ≡ Ok (integer (integer_of t))
 if_read t e = rw e
 
 unless_read : (t : Text) → is_read t ≡ false → int_reading t ≡ Err (UnexpectedToken t)
-unfolding is_read
 unless_read t e = rw e
 
 module _ {E : Type 0} (bs : List ℕ) (u : IsUtf8 bs) where
   pub read : (z : ℤ) (r : Result ℤ E) → ParsesSigned w32 10 bs r → r ≡ Ok z → int_reading (chars bs) ≡ Ok (integer (to_z w32 (of_z w32 z)))
-  unfolding is_read
   read z r h e =
       let f : SFits w32 z = fits bs z r h e in
       let k : OkIff {E = E} (Ok z) (is_read bs ≡ true) (integer_of bs) = subst (λ o. OkIff o (is_read bs ≡ true) (integer_of bs)) e (reads bs r h) in
@@ -133,7 +130,6 @@ module _ {E : Type 0} (bs : List ℕ) (u : IsUtf8 bs) where
       ap int_reading same ∙ if_read bs k.0 ∙ ap (λ y. Ok (integer y)) (sym k.1 ∙ sym (to_z-of_z w32 z f))
 
   pub refused : (x : E) (r : Result ℤ E) → ParsesSigned w32 10 bs r → r ≡ Err x → int_reading (chars bs) ≡ Err (UnexpectedToken (chars bs))
-  unfolding is_read
   refused x r h e =
       let none : OkIff (Err x) (is_read bs ≡ true) (integer_of bs) = subst (λ o. OkIff o (is_read bs ≡ true) (integer_of bs)) e (reads bs r h) in
       unless_read (chars bs) (by_test (is_read (chars bs)) refl none)

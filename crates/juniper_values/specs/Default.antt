@@ -8,6 +8,7 @@ use Rattle.graphql_lexical.specs.Display.{shown}
 use Rattle.juniper_tokens.specs.Errors.{UnexpectedToken, ExpectedScalar}
 use Rattle.juniper_values.specs.Text.{Text}
 use Rattle.juniper_values.specs.Scalar.{Content, integer, text, boolean, custom, Reading}
+use Rattle.juniper_values.specs.ScalarDisplay.{scalar_text}
 use Rattle.juniper_values.specs.Escapes.{unescape}
 use Rattle.juniper_values.specs.Integers.{is_integer, integer_of, is_i32}
 use Rattle.juniper_values.specs.declared.default_scalar.DefaultScalarValue.{DefaultScalarValue}
@@ -58,3 +59,7 @@ default_shown (integer n) = signed_decimal n
 default_shown (text t) = t
 default_shown (boolean b) = if b then codes "true" else codes "false"
 default_shown (custom ns) = []
+
+-- the same within a value: a text between quotes
+abbrev pub plain_shown : Content → Text
+plain_shown c = scalar_text (text_in c) (default_shown c)

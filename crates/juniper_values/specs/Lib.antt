@@ -20,3 +20,4 @@ pub mod ScalarLaws
 pub mod TypeLaws
 pub mod Units
 pub mod Laws
+pub mod ReadBack

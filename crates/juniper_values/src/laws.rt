@@ -1,12 +1,17 @@
 //! Laws of scalars, types and input values.
 ghost use Rattle.std.specs.Prelude.{◌≡◌, ◌↔◌, true, List, Some};
-ghost use Rattle.graphql_lexical.specs.Tokens.{AreUnits};
+ghost use Rattle.graphql_lexical.specs.Tokens.{AreUnits, IsName};
+ghost use Rattle.graphql_lexical.specs.Written.{IsCutInto};
 ghost use Rattle.juniper_values.specs.Text.{Text};
 ghost use Rattle.juniper_values.specs.Equality.{same_value};
 ghost use Rattle.juniper_values.specs.Laws.{IsExactlyUnescaped, HaveNoVariables, RemovesVariables, IsEmptyWithoutVariables, IsEqualityLike, AreSameFields, WrapsOnce};
+ghost use Rattle.juniper_values.specs.ReadBack.{type_tokens, value_tokens, IsPlain};
 ghost use Rattle.juniper_values.specs.Resolve.{Values, resolve};
 ghost use Rattle.juniper_values.specs.Same.{same_but_place};
-ghost use Rattle.juniper_values.specs.TypeLiteral.{TypeShape, same_type};
+ghost use Rattle.juniper_values.specs.Default.{plain_shown};
+ghost use Rattle.juniper_values.specs.Display.{value_text};
+ghost use Rattle.juniper_values.specs.Scalar.{Content};
+ghost use Rattle.juniper_values.specs.TypeLiteral.{TypeShape, same_type, type_text};
 ghost use Rattle.juniper_values.specs.Units.{StandsFor};
 ghost use Rattle.juniper_values.specs.Value.{Value, Fields, object};
 ghost use Rattle.juniper_values.specs.Variables.{HasNoVariable};
@@ -81,4 +86,14 @@ pub fn wrapping()
 /// Types are equal exactly where their names' texts and their modifiers are.
 pub fn types_are_compared<N>()
     ensures { (text_of : N → Text) (a b : TypeShape N) → (same_type text_of a b ≡ true) ↔ ((text_of a.name ≡ text_of b.name) × (a.modifiers ≡ b.modifiers)) }
+{}
+
+/// The text of a type whose name is a Name is cut into these tokens.
+pub fn type_texts_are_cut()
+    ensures { (name : Text) (ms : List TypeModifier) → IsName name → IsCutInto (type_text name ms) (type_tokens name ms) }
+{}
+
+/// The text of a plain value of default scalars is cut into these tokens.
+pub fn value_texts_are_cut()
+    ensures { (v : Value Content) → IsPlain v → IsCutInto (value_text plain_shown v) (value_tokens v) }
 {}
