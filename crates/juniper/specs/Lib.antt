@@ -6,3 +6,5 @@ pub mod Parts
 pub mod Selections
 pub mod Definitions
 pub mod Promise
+pub mod Equality
+pub mod EqualityLaws

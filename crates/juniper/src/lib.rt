@@ -6,6 +6,7 @@ mod ast;
 mod definition;
 mod directives;
 mod document;
+mod equal;
 mod next;
 mod selection;
 mod spans;
