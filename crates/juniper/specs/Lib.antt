@@ -8,3 +8,4 @@ pub mod Definitions
 pub mod Promise
 pub mod Equality
 pub mod EqualityLaws
+pub mod Named

@@ -7,6 +7,7 @@ mod definition;
 mod directives;
 mod document;
 mod equal;
+mod items;
 mod next;
 mod selection;
 mod spans;
