@@ -1,4 +1,3 @@
-pub mod Plain
+pub mod Kinds
 pub mod Lines
-pub mod Report
-pub mod Watched
+pub mod Parts

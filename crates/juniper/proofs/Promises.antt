@@ -1,20 +1,30 @@
 -- From the tokens of a text to the text.
-use Rattle.std.proofs.Common.{◌≡◌, ℕ, List, inl, inr, sym, ap, ap₂, subst, ◌∙◌, Result, Ok, Err, IfOk}
+use Rattle.std.proofs.Common.{◌≡◌, ℕ, suc, List, [], ◌∷◌, length, inl, inr, refl, sym, ap, ap₂, subst, ◌∙◌, arith, Result, Ok, Err, IfOk}
 use Rattle.graphql_lexical.specs.Place.{Place}
 use Rattle.graphql_lexical.specs.Kinds.{LexicalError}
 use Rattle.graphql_lexical.specs.Cutting.{Lexeme, CutFrom, BreaksFrom, Cut, Breaks}
 use Rattle.graphql_lexical.proofs.Cuts.{one_end}
+use Rattle.graphql_grammar.specs.Tree.{Scalars, Definition}
+use Rattle.graphql_grammar.specs.Grammar.{IsDocument}
+use Rattle.graphql_grammar.specs.Faults.{DocumentRefusedAt}
+use Rattle.graphql_grammar.specs.Reading.{Took, Refused, Out, GivesWhole, document, fully}
+use Rattle.graphql_grammar.specs.Reading as reading
+use Rattle.graphql_grammar.proofs.Given.{document_given}
+use Rattle.graphql_grammar.proofs.Readers.{document_reads, one_document}
+use Rattle.graphql_grammar.proofs.Spelling.{cut_spelled, cut_ends}
 use Rattle.juniper_tokens.specs.declared.error.ParseFailure.{ParseFailure}
 use Rattle.juniper_tokens.specs.declared.error.ParseFailure.TheVariants as failure
 use Rattle.juniper_tokens.specs.declared.error.LexerError.{LexerError}
 use Rattle.juniper_tokens.specs.declared.error.ParseError.TheVariants as parse
 use Rattle.juniper_tokens.specs.declared.span.Spanning.{Spanning}
-use Rattle.juniper_tokens.specs.Errors.{Fault, Lexical, view_fault, view_lexer_error}
+use Rattle.juniper_tokens.specs.Errors.{Error, Fault, Lexical, view_fault, view_lexer_error}
+use Rattle.juniper_tokens.specs.Cursor.{Read}
 use Rattle.juniper_tokens.specs.Lexing.{LexerState, started}
-use Rattle.juniper.specs.Tree.{Definition}
-use Rattle.juniper.specs.Grammar.{IsDocument}
-use Rattle.juniper.specs.Answer.{AnswersDocument}
-use Rattle.juniper.specs.Promise.{HasTree, IsRefusal, IfRefused}
+use Rattle.juniper.specs.Seen.{seen}
+use Rattle.juniper.specs.Definitions.{document_read}
+use Rattle.juniper.specs.Promise.{HasTree, IsRefusedAt, IsRefusal, IfRefused, AnswersAs}
+use Rattle.juniper.proofs.Stepping.{seen_took}
+use Rattle.juniper.proofs.SeenDocuments.{document_seen}
 
 -- a text has one cut
 pub same_cut : (source : List ℕ) (xs ys : List Lexeme) → Cut source xs → Cut source ys → xs ≡ ys
@@ -40,36 +50,55 @@ same_break source d e p q b c = elim (one_end source) [
   | inr break ↦ let x = break.2.alone d p b in let y = break.2.alone e q c in (x.0 ∙ sym y.0, x.1 ∙ sym y.1)
 ]
 
-pub has_tree : (source : List ℕ) (lexemes : List Lexeme) (tree : List Definition) → Cut source lexemes → IsDocument lexemes tree → ((other : List Definition) → IsDocument lexemes other → other ≡ tree) → HasTree source tree
-has_tree source lexemes tree c d alone = record {
-  lexemes = lexemes;
-  cut = c;
-  document = d;
-  only = λ others other e f. alone other (subst (λ (xs : List Lexeme). IsDocument xs other) (same_cut source others lexemes e c) f);
-}
+module _ {C : Type 0} (S : Scalars C Error) (source : List ℕ) (ts : List Lexeme) (cut : Cut source ts) where
+  given : GivesWhole (IsDocument S) (DocumentRefusedAt S ts) ts (fully (document S) ts)
+  given = document_given S ts (cut_spelled source ts cut) (cut_ends source ts cut)
 
-pub grammatical : (source : List ℕ) (lexemes : List Lexeme) (fault : Fault) → Cut source lexemes → ((tree : List Definition) → IsDocument lexemes tree → ⊥) → IsRefusal source fault
-grammatical source lexemes fault c none = record {
-  no_document = λ others tree e d. none tree (subst (λ (xs : List Lexeme). IsDocument xs tree) (same_cut source others lexemes e c) d);
-  lexical = λ error at b. absurd (cut_or_break source lexemes error at c b);
-}
+  accepted : (tree : List (Definition C)) (left : List Lexeme) → document_read S ts ≡ Ok (tree, left) → HasTree S source tree
+  accepted tree left e =
+      let whole = subst (λ z. GivesWhole (IsDocument S) (DocumentRefusedAt S ts) ts z) (seen_took (fully (document S) ts) tree left (document_seen S ts ∙ e)) given in
+      record {
+        lexemes = ts;
+        cut = cut;
+        document = whole.0;
+        only = λ others other d h. one_document S ts other tree (subst (λ (xs : List Lexeme). IsDocument S xs other) (same_cut source others ts d cut) h) whole.0;
+      }
 
-pub lexical : (source : List ℕ) (error : LexicalError) (at : Place) (fault : Fault) → Breaks source error at → fault ≡ record { error = Lexical error; span = record { start = at; end = at } } → IsRefusal source fault
+  fault_is : (a b : Fault) (p q : List Lexeme) → ◌≡◌ {A = Read (List (Definition C))} (Err (a, p)) (Err (b, q)) → b ≡ a
+  fault_is a b p q e = let h : (a, p) ≡ (b, q) = cc in sym (ap (λ (x : Fault × List Lexeme). x.0) h)
+
+  by_read : (fault : Fault) (left : List Lexeme) (z : reading.Read Error (List (Definition C))) → fully (document S) ts ≡ z → GivesWhole (IsDocument S) (DocumentRefusedAt S ts) ts z → seen z ≡ Err (fault, left) → IsRefusal S source fault
+  unfolding fully
+  by_read fault left (Took tree rest) e g q = absurd (cc q)
+  by_read fault left (Refused [] x) e g q = absurd g
+  by_read fault left (Refused (t ∷ rest) x) e (i, r, at) q =
+      let is = fault_is _ fault _ left q in
+      let none : (tree : List (Definition C)) → IsDocument S ts tree → ⊥ = λ tree h. (let both = sym ((document_reads S).finds (suc (length ts)) ts tree (omega arith) h) ∙ e in absurd (cc both)) in
+      record {
+        no_document = λ others tree d h. none tree (subst (λ (xs : List Lexeme). IsDocument S xs tree) (same_cut source others ts d cut) h);
+        lexical = λ error at b. absurd (cut_or_break source ts error at cut b);
+        grammatical = λ others d. subst (λ (xs : List Lexeme). IsRefusedAt S xs fault) (same_cut source ts others cut d) (record { number = i; token = t; says = x; refused = at; error = ap (λ (f : Fault). f.error) is; span = ap (λ (f : Fault). f.span) is });
+      }
+  by_read fault left Out e g q = absurd g
+
+  -- what is answered for the tokens is answered for the text
+
+  pub accepts : {X : Type 0} (view : X → List (Definition C)) (result : Result X ParseFailure) → AnswersAs view result (document_read S ts) → IfOk result (λ x. HasTree S source (view x))
+  accepts view (Ok x) a = accepted (view x) a.0 a.1
+  accepts view (Err e) a = tt
+
+  pub refuses : {X : Type 0} (view : X → List (Definition C)) (result : Result X ParseFailure) → AnswersAs view result (document_read S ts) → IfRefused result (λ fault. IsRefusal S source (view_fault fault))
+  refuses view (Ok x) a = tt
+  refuses view (Err (failure.Refused fault)) a = by_read (view_fault fault) a.0 (fully (document S) ts) refl given (document_seen S ts ∙ a.1)
+  refuses view (Err failure.Memory) a = tt
+
+pub lexical : {C : Type 0} (S : Scalars C Error) (source : List ℕ) (error : LexicalError) (at : Place) (fault : Fault) → Breaks source error at → fault ≡ record { error = Lexical error; span = record { start = at; end = at } } → IsRefusal S source fault
 unfolding fault_at
-lexical source error at fault b e = record {
+lexical S source error at fault b e = record {
   no_document = λ lexemes tree c d. cut_or_break source lexemes error at c b;
   lexical = λ other place c. let s = same_break source error other at place b c in e ∙ ap₂ fault_at s.0 s.1;
+  grammatical = λ lexemes c. absurd (cut_or_break source lexemes error at c b);
 }
-
--- what is answered for the tokens is answered for the text
-pub accepts : {X : Type 0} (view : X → List Definition) (source : List ℕ) (lexemes : List Lexeme) (result : Result X ParseFailure) → Cut source lexemes → AnswersDocument view result lexemes → IfOk result (λ x. HasTree source (view x))
-accepts view source lexemes (Ok x) c a = has_tree source lexemes (view x) c a.0 a.1
-accepts view source lexemes (Err e) c a = tt
-
-pub refuses : {X : Type 0} (view : X → List Definition) (source : List ℕ) (lexemes : List Lexeme) (result : Result X ParseFailure) → Cut source lexemes → AnswersDocument view result lexemes → IfRefused result (λ fault. IsRefusal source (view_fault fault))
-refuses view source lexemes (Ok x) c a = tt
-refuses view source lexemes (Err (failure.Refused fault)) c a = grammatical source lexemes (view_fault fault) c a
-refuses view source lexemes (Err failure.Memory) c a = tt
 
 -- a lexer that was just made stands at the beginning
 pub cut_from_start : (state : LexerState) (source : List ℕ) (lexemes : List Lexeme) → state ≡ started source → CutFrom state.source state.index lexemes → Cut source lexemes

@@ -1,6 +1,11 @@
-pub mod Tree
 pub mod View
-pub mod Grammar
-pub mod Reading
-pub mod Answer
+pub mod Scalars
+pub mod Seen
+pub mod Values
+pub mod Parts
+pub mod Selections
+pub mod Definitions
 pub mod Promise
+pub mod Equality
+pub mod EqualityLaws
+pub mod Named

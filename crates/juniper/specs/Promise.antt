@@ -1,30 +1,85 @@
--- What `parse_document_source` promises of a text.
-use Rattle.std.specs.Prelude.{◌≡◌, ℕ, List, Result, Ok, Err}
-use Rattle.graphql_lexical.specs.Place.{Place}
+-- What is promised of a text, in the words of the grammar.
+use Rattle.std.specs.Prelude.{◌≡◌, ◌≤◌, ℕ, suc, Bool, List, ◌∷◌, ◌++◌, drop, length, Result, Ok, Err}
+use Rattle.graphql_lexical.specs.Place.{Place, Span}
 use Rattle.graphql_lexical.specs.Kinds.{LexicalError}
 use Rattle.graphql_lexical.specs.Cutting.{Lexeme, Cut, Breaks}
+use Rattle.graphql_grammar.specs.Tree.{Scalars, Value, TypeRef, Definition}
+use Rattle.graphql_grammar.specs.Grammar.{IsValue, IsType, IsDocument}
+use Rattle.graphql_grammar.specs.Faults as grammar
+use Rattle.graphql_grammar.specs.Faults.{DocumentRefusedAt, ValueRefusedAt, TypeRefusedAt}
+use Rattle.graphql_grammar.specs.Tokens.{span_of}
 use Rattle.juniper_tokens.specs.declared.error.ParseError.{ParseError}
 use Rattle.juniper_tokens.specs.declared.error.ParseFailure.{ParseFailure}
 use Rattle.juniper_tokens.specs.declared.error.ParseFailure.TheVariants as failure
 use Rattle.juniper_tokens.specs.declared.span.Spanning.{Spanning}
-use Rattle.juniper_tokens.specs.Errors.{Fault, Lexical}
-use Rattle.juniper.specs.Tree.{Definition}
-use Rattle.juniper.specs.Grammar.{IsDocument}
+use Rattle.juniper_tokens.specs.Errors.{Error, Fault, Lexical, view_fault}
+use Rattle.juniper_tokens.specs.Cursor.{Read, Fails}
+use Rattle.juniper.specs.Seen.{error_of, past}
 
--- The text can be cut into tokens, they are a document with this tree, and it has no other.
-pub record HasTree (source : List ℕ) (tree : List Definition) : Type 0 where
-  pub lexemes : List Lexeme
-  pub cut : Cut source lexemes
-  pub document : IsDocument lexemes tree
-  pub only : (others : List Lexeme) (other : List Definition) → Cut source others → IsDocument others other → other ≡ tree
+module _ {C : Type 0} (S : Scalars C Error) where
+  -- The text can be cut into tokens, they are a document with this tree, and the text has no other.
+  pub record HasTree (source : List ℕ) (tree : List (Definition C)) : Type 0 where
+    pub lexemes : List Lexeme
+    pub cut : Cut source lexemes
+    pub document : IsDocument S lexemes tree
+    pub only : (others : List Lexeme) (other : List (Definition C)) → Cut source others → IsDocument S others other → other ≡ tree
 
--- The text is no document. Where it can't be cut into tokens, the fault is its first lexical one, of zero width.
-pub record IsRefusal (source : List ℕ) (fault : Fault) : Type 0 where
-  pub no_document : (lexemes : List Lexeme) (tree : List Definition) → Cut source lexemes → IsDocument lexemes tree → ⊥
-  pub lexical : (error : LexicalError) (at : Place) → Breaks source error at → fault ≡ record { error = Lexical error; span = record { start = at; end = at } }
+  -- The fault is that of the grammar: it has the span of the token at which the tokens are refused, and names its error.
+  pub record IsRefusedAt (lexemes : List Lexeme) (fault : Fault) : Type 0 where
+    pub number : ℕ
+    pub token : Lexeme
+    pub says : grammar.Fault Error
+    pub refused : DocumentRefusedAt S lexemes number token says
+    pub error : fault.error ≡ error_of says
+    pub span : fault.span ≡ token.span
+
+  -- The text is no document. Where it can't be cut into tokens, the fault is its first lexical one, of zero width. Where
+  -- it can, the fault is that of the grammar.
+  pub record IsRefusal (source : List ℕ) (fault : Fault) : Type 0 where
+    pub no_document : (lexemes : List Lexeme) (tree : List (Definition C)) → Cut source lexemes → IsDocument S lexemes tree → ⊥
+    pub lexical : (error : LexicalError) (at : Place) → Breaks source error at → fault ≡ record { error = Lexical error; span = record { start = at; end = at } }
+    pub grammatical : (lexemes : List Lexeme) → Cut source lexemes → IsRefusedAt lexemes fault
 
 -- Where a text was refused, P holds of the error and its place.
 abbrev pub IfRefused : {X : Type 0} → Result X ParseFailure → (Spanning ParseError → Type 0) → Type 0
 IfRefused (Ok x) P = Unit {0}
 IfRefused (Err (failure.Refused fault)) P = P fault
 IfRefused (Err failure.Memory) P = Unit {0}
+
+-- The result is what the reading gives, unless memory ran out. Nothing is said of what it leaves.
+abbrev pub AnswersAs : {X Y : Type 0} → (X → Y) → Result X ParseFailure → Read Y → Type 0
+AnswersAs view (Ok x) read = (left : List Lexeme) × (read ≡ Ok (view x, left))
+AnswersAs view (Err e) read = (left : List Lexeme) × Fails e left read
+
+-- ---- literals
+
+module _ {A : Type 0} (R : List Lexeme → A → Type 0) where
+  -- A front of the tokens that were left means x, and was taken.
+  pub record Takes (x : A) (old left : List Lexeme) : Type 0 where
+    pub taken : List Lexeme
+    pub whole : old ≡ taken ++ left
+    pub means : R taken x
+
+  -- No front of the tokens means anything. The fault has the span of the token at which they are refused, and names its
+  -- error. That token is taken, unless it is the end.
+  pub record Refuses (Refused : List Lexeme → ℕ → Lexeme → grammar.Fault Error → Type 0) (fault : Fault) (old left : List Lexeme) : Type 0 where
+    pub none : (us vs : List Lexeme) (y : A) → old ≡ us ++ vs → R us y → ⊥
+    pub number : ℕ
+    pub token : Lexeme
+    pub says : grammar.Fault Error
+    pub refused : Refused old number token says
+    pub error : fault.error ≡ error_of says
+    pub span : fault.span ≡ token.span
+    pub leaves : left ≡ past (token ∷ drop (suc number) old)
+
+-- A value and no other front of the tokens was taken, or none is a value.
+abbrev pub AnswersValue : {X C : Type 0} → Scalars C Error → Bool → (X → Value C) → Result X ParseFailure → List Lexeme → List Lexeme → Type 0
+AnswersValue {C = C} S free view (Ok x) old left = Takes (IsValue S free) (view x) old left × ((us vs : List Lexeme) (y : Value C) → old ≡ us ++ vs → IsValue S free us y → (vs ≡ left) × (y ≡ view x))
+AnswersValue S free view (Err (failure.Refused e)) old left = Refuses (IsValue S free) (ValueRefusedAt S free) (view_fault e) old left
+AnswersValue S free view (Err failure.Memory) old left = Unit {0}
+
+-- The longest front that is a type was taken, or none is one.
+abbrev pub AnswersType : {X : Type 0} → (X → TypeRef × Span) → Result X ParseFailure → List Lexeme → List Lexeme → Type 0
+AnswersType view (Ok x) old left = Takes (λ ts y. IsType ts y.0 × (y.1 ≡ span_of ts)) (view x) old left × ((us vs : List Lexeme) (y : TypeRef) → old ≡ us ++ vs → IsType us y → length left ≤ length vs)
+AnswersType view (Err (failure.Refused e)) old left = Refuses IsType TypeRefusedAt (view_fault e) old left
+AnswersType view (Err failure.Memory) old left = Unit {0}

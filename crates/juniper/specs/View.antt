@@ -1,67 +1,163 @@
--- The tree of the code, as the definitions see it. No part of it is left unseen: where a part has no place in a tree of
--- the definitions, the whole is seen as one of the others.
-use Rattle.std.specs.Prelude.{ℕ, List, [], ◌∷◌, Option, Some, None, map}
+-- The tree of the code, as the grammar sees it: no pointers and no capacities. No part of it is left unseen: None and
+-- Some of an empty list differ.
+use Rattle.std.specs.Prelude.{ℕ, List, [], ◌∷◌, map, Option, Some, None, option_map, String, string_bytes}
 use Rattle.std.specs.Borrow.{Bor}
 use Rattle.std.specs.Global.{Vec}
 use Rattle.std.specs.Str.{chars}
-use Rattle.graphql_lexical.specs.Place.{Span}
-use Rattle.juniper_tokens.specs.declared.span.Spanning.{Spanning}
+use Rattle.std.specs.declared.alloc.Global.{Global}
+use Rattle.graphql_lexical.specs.Place as places
+use Rattle.graphql_grammar.specs.Tokens.{Text, Word}
+use Rattle.graphql_grammar.specs.Tree as tree
+use Rattle.graphql_grammar.specs.Tree.{Value, Null, Scalar, Enum, Variable, ListOf, Object, Items, no_items, item, ObjectFields, no_fields, object_field, TypeRef, NamedType, ListType, NonNullType}
 use Rattle.juniper_tokens.specs.Spans.{view_span}
+use Rattle.juniper_tokens.specs.declared.span.Spanning.{Spanning}
+use Rattle.juniper_values.specs.TypeLiteral.{TypeShape}
+use Rattle.juniper_values.specs.declared.input_value.InputValue.{InputValue, fold-InputValue}
+use Rattle.juniper_values.specs.declared.input_value.InputValue.TheOpen.{InputValue-F}
+use Rattle.juniper_values.specs.declared.type_literal.TypeModifier.{TypeModifier}
+use Rattle.juniper_values.specs.declared.type_literal.TypeModifier.TheVariants as modifier
+use Rattle.juniper.specs.declared.ast.Arguments.{Arguments}
+use Rattle.juniper.specs.declared.ast.Directive.{Directive}
+use Rattle.juniper.specs.declared.ast.VariableDefinition.{VariableDefinition}
+use Rattle.juniper.specs.declared.ast.VariableDefinitions.{VariableDefinitions}
 use Rattle.juniper.specs.declared.ast.Field.{Field}
+use Rattle.juniper.specs.declared.ast.InlineFragment.{InlineFragment}
 use Rattle.juniper.specs.declared.ast.Selection as code
 use Rattle.juniper.specs.declared.ast.OperationType.{OperationType}
-use Rattle.juniper.specs.declared.ast.OperationType.TheVariants.{Query}
+use Rattle.juniper.specs.declared.ast.OperationType.TheVariants as operation
 use Rattle.juniper.specs.declared.ast.Definition as definitions
 use Rattle.juniper.specs.declared.ast.Definition.TheVariants as definition
-use Rattle.juniper.specs.Tree.{Word, Selection, field, other_selection, Set, no_set, set, Selections, no_more, more, Definition, shorthand, other_definition}
+
+-- ---- words
 
 abbrev pub view_word : Spanning (Bor (List ℕ)) → Word
 view_word name = record { text = chars name.item.now; span = view_span name.span }
 
--- a field of these parts
-abbrev pub field_of : {Alias Arguments Directives : Type 0} → Option Alias → Word → Option Arguments → Option Directives → Set → Span → Selection
-field_of None name None None selections span = field name selections span
-field_of _ name _ _ selections span = other_selection
+abbrev pub text_of : String Global → Text
+text_of s = chars (string_bytes s)
+
+abbrev pub view_key : Spanning (String Global) → Word
+view_key key = record { text = text_of key.item; span = view_span key.span }
+
+-- ---- values
+
+module _ {C : Type 0} where
+  abbrev pub items_by : List (Spanning (places.Span → Value C)) → Items C
+  items_by [] = no_items
+  items_by (x ∷ xs) = item (x.item (view_span x.span)) (items_by xs)
+
+  abbrev pub fields_by : List (Spanning (String Global) × Spanning (places.Span → Value C)) → ObjectFields C
+  fields_by [] = no_fields
+  fields_by (x ∷ xs) = object_field (text_of x.0.item) (view_span x.0.span) (x.1.item (view_span x.1.span)) (fields_by xs)
+
+-- content says what a scalar is known by
+module _ {S C : Type 0} (content : S → C) where
+  -- one level, with each value inside already seen as its tree at a span
+  abbrev pub view_step : InputValue-F S (places.Span → Value C) → places.Span → Value C
+  view_step InputValue-F.Null p = Null p
+  view_step (InputValue-F.Scalar s) p = Scalar (content s) p
+  view_step (InputValue-F.Enum t) p = Enum (text_of t) p
+  view_step (InputValue-F.Variable t) p = Variable (text_of t) p
+  view_step (InputValue-F.List v) p = ListOf (items_by v.items) p
+  view_step (InputValue-F.Object v) p = Object (fields_by v.items) p
+
+  abbrev pub view_at : InputValue S → places.Span → Value C
+  view_at = fold-InputValue S (places.Span → Value C) view_step
+
+  abbrev pub view_value : Spanning (InputValue S) → Value C
+  view_value x = view_at x.item (view_span x.span)
+
+  abbrev pub view_object_field : Spanning (String Global) × Spanning (InputValue S) → Word × Value C
+  view_object_field x = (view_key x.0, view_value x.1)
+
+-- ---- types
+
+-- these modifiers, from the innermost on, round a type
+abbrev pub wrapped : TypeRef → List TypeModifier → TypeRef
+wrapped type [] = type
+wrapped type (modifier.NonNull ∷ ms) = wrapped (NonNullType type) ms
+wrapped type (modifier.List size ∷ ms) = wrapped (ListType size type) ms
+
+abbrev pub view_type : TypeShape (Bor (List ℕ)) → TypeRef
+view_type type = wrapped (NamedType (chars type.name.now)) type.modifiers
+
+-- ---- arguments, directives and variable definitions
+
+module _ {S C : Type 0} (content : S → C) where
+  abbrev pub view_argument : Spanning (Bor (List ℕ)) × Spanning (InputValue S) → tree.Argument C
+  view_argument a = record { name = view_word a.0; value = view_value content a.1 }
+
+  abbrev pub view_arguments : Spanning (Arguments S) → tree.Arguments C
+  view_arguments a = record { items = map view_argument a.item.items.items; span = view_span a.span }
+
+  abbrev pub view_directive : Spanning (Directive S) → tree.Directive C
+  view_directive d = record { name = view_word d.item.name; arguments = option_map view_arguments d.item.arguments; span = view_span d.span }
+
+  abbrev pub view_directives : Option (Vec (Spanning (Directive S))) → tree.Directives C
+  view_directives ds = option_map (λ v. map view_directive v.items) ds
+
+  abbrev pub view_variable : Spanning (Bor (List ℕ)) × VariableDefinition S → tree.VariableDefinition C
+  view_variable v = record {
+    name = view_word v.0;
+    of_type = view_type v.1.var_type.item;
+    type_span = view_span v.1.var_type.span;
+    default = option_map (view_value content) v.1.default_value;
+    directives = view_directives v.1.directives;
+  }
+
+  abbrev pub view_variables : Spanning (VariableDefinitions S) → tree.Variables C
+  view_variables v = record { items = map view_variable v.item.items.items; span = view_span v.span }
+
+-- ---- selections
 
 -- Held-Field-selection_set and Row_of-Selection are what the checker makes of the optional list of selections in a
 -- selection: to view_held and view_row they are what an Option and a List are to view_set and view_selections.
-abbrev mutual
-  pub view_selection : {S : Type 0} → code.Selection S → Selection
-  view_selection (code.Field' alias name arguments directives selections span) = field_of alias (view_word name) arguments directives (view_held selections) (view_span span)
-  view_selection (code.FragmentSpread s) = other_selection
-  view_selection (code.InlineFragment' condition directives shape all span) = other_selection
+module _ {S C : Type 0} (content : S → C) where
+  abbrev mutual
+    pub view_selection : code.Selection S → tree.Selection C
+    view_selection (code.Field' alias name arguments directives selections span) =
+        tree.Field (option_map view_word alias) (view_word name) (option_map (view_arguments content) arguments) (view_directives content directives) (view_held selections) (view_span span)
+    view_selection (code.FragmentSpread s) = tree.FragmentSpread (view_word s.item.name) (view_directives content s.item.directives) (view_span s.span)
+    view_selection (code.InlineFragment' condition directives shape all span) =
+        tree.InlineFragment (option_map view_word condition) (view_directives content directives) (view_row all) (view_span span)
 
-  pub view_held : {S : Type 0} → code.Held-Field-selection_set S → Set
-  view_held code.None' = no_set
-  view_held (code.Some' shape all) = set (view_row all)
+    pub view_held : code.Held-Field-selection_set S → tree.OptionalSelections C
+    view_held code.None' = tree.absent
+    view_held (code.Some' shape all) = tree.present (view_row all)
 
-  pub view_row : {S : Type 0} {m : _} → code.Row_of-Selection S m → Selections
-  view_row code.end_of-Selection = no_more
-  view_row (code.more_of-Selection s rest) = more (view_selection s) (view_row rest)
+    pub view_row : {m : _} → code.Row_of-Selection S m → tree.Selections C
+    view_row code.end_of-Selection = tree.no_selections
+    view_row (code.more_of-Selection s rest) = tree.selection (view_selection s) (view_row rest)
 
-abbrev pub view_selections : {S : Type 0} → List (code.Selection S) → Selections
-view_selections [] = no_more
-view_selections (s ∷ ss) = more (view_selection s) (view_selections ss)
+  abbrev pub view_selections : List (code.Selection S) → tree.Selections C
+  view_selections [] = tree.no_selections
+  view_selections (s ∷ ss) = tree.selection (view_selection s) (view_selections ss)
 
--- `Some` of no selections is not None
-abbrev pub view_set : {S : Type 0} → Option (Vec (code.Selection S)) → Set
-view_set None = no_set
-view_set (Some v) = set (view_selections v.items)
+  abbrev pub view_set : Option (Vec (code.Selection S)) → tree.OptionalSelections C
+  view_set None = tree.absent
+  view_set (Some v) = tree.present (view_selections v.items)
 
-abbrev pub view_field : {S : Type 0} → Spanning (Field S) → Selection
-view_field f = field_of f.item.alias (view_word f.item.name) f.item.arguments f.item.directives (view_set f.item.selection_set) (view_span f.span)
+  abbrev pub view_field : Spanning (Field S) → tree.Selection C
+  view_field f = tree.Field (option_map view_word f.item.alias) (view_word f.item.name) (option_map (view_arguments content) f.item.arguments)
+      (view_directives content f.item.directives) (view_set f.item.selection_set) (view_span f.span)
 
--- an operation of these parts
-abbrev pub operation_of : {Name Variables Directives : Type 0} → OperationType → Option Name → Option Variables → Option Directives → Selections → Span → Definition
-operation_of Query None None None selections span = shorthand selections span
-operation_of _ _ _ _ selections span = other_definition
+  abbrev pub view_inline : Spanning (InlineFragment S) → tree.Selection C
+  view_inline f = tree.InlineFragment (option_map view_word f.item.type_condition) (view_directives content f.item.directives) (view_selections f.item.selection_set.items) (view_span f.span)
 
-abbrev pub view_definition : {S : Type 0} → definitions.Definition S → Definition
-view_definition (definition.Operation o) = operation_of o.item.operation_type o.item.name o.item.variable_definitions o.item.directives (view_selections o.item.selection_set.items) (view_span o.span)
-view_definition (definition.Fragment f) = other_definition
+-- ---- definitions
 
-abbrev pub view_definitions : {S : Type 0} → List (definitions.Definition S) → List Definition
-view_definitions ds = map view_definition ds
+abbrev pub view_operation_type : OperationType → tree.OperationType
+view_operation_type operation.Query = tree.Query
+view_operation_type operation.Mutation = tree.Mutation
+view_operation_type operation.Subscription = tree.Subscription
 
-abbrev pub view_document : {S : Type 0} → Vec (definitions.Definition S) → List Definition
-view_document document = view_definitions document.items
+module _ {S C : Type 0} (content : S → C) where
+  abbrev pub view_definition : definitions.Definition S → tree.Definition C
+  view_definition (definition.Operation o) =
+      tree.Operation (view_operation_type o.item.operation_type) (option_map view_word o.item.name) (option_map (view_variables content) o.item.variable_definitions)
+      (view_directives content o.item.directives) (view_selections content o.item.selection_set.items) (view_span o.span)
+  view_definition (definition.Fragment f) =
+      tree.Fragment (view_word f.item.name) (view_word f.item.type_condition) (view_directives content f.item.directives) (view_selections content f.item.selection_set.items) (view_span f.span)
+
+  abbrev pub view_document : Vec (definitions.Definition S) → List (tree.Definition C)
+  view_document document = map view_definition document.items

@@ -1,15 +1,19 @@
 //! The tree of an executable GraphQL document, and the parser that gives it
 //! (GraphQL specification, October 2021, section 2).
-//!
-//! So far the parser reads fields and selection sets: a definition is a selection set alone, and a field a name, with or
-//! without a selection set.
 #![tactic(auto)]
 
 mod ast;
+mod definition;
+mod directives;
 mod document;
-pub mod laws;
+mod equal;
+mod items;
 mod next;
 mod selection;
+mod spans;
+mod types;
+mod value;
+mod variables;
 
 pub use ast::{
     Arguments, Definition, Directive, Field, Fragment, FragmentSpread, InlineFragment, Operation,
@@ -26,3 +30,5 @@ pub use juniper_values::{
     ParseScalarValue, ReadFailure, Scalar, ScalarValue, ToScalarValue, Type, TypeModifier,
     TypeModifiers, Variables, WrongInputScalarTypeError, scalar_from_str,
 };
+pub use types::parse_type;
+pub use value::parse_value_literal;

@@ -1,88 +1,237 @@
-//! Selection sets and fields (GraphQL specification, October 2021, sections 2.4 and 2.5).
-ghost use Rattle.std.specs.Prelude.{◌≡◌, ◌<◌, ◌≤◌, false, length, OnOk};
-ghost use Rattle.graphql_lexical.specs.declared.kind.Kind.TheVariants.{EndOfFile};
-ghost use Rattle.graphql_lexical.specs.Kinds.{same_kind};
-ghost use Rattle.juniper_tokens.specs.Cursor.{Gives, OnMemory, kind_at};
+//! Selection sets, fields and fragments (GraphQL specification, October 2021, sections 2.4, 2.5 and 2.8).
+ghost use Rattle.std.specs.Prelude.{◌≡◌, ◌<◌, ◌≤◌, length, option_map, None, OnOk};
+ghost use Rattle.juniper_tokens.specs.Spans.{view_span};
+ghost use Rattle.juniper_tokens.specs.Cursor.{Gives};
 ghost use Rattle.juniper.specs.View.{view_selection, view_field};
-ghost use Rattle.juniper.specs.Reading.{view_selection_set, view_optional_set, set_at, field_at, optional_set_at};
+ghost use Rattle.juniper.specs.Scalars.{stated};
+ghost use Rattle.juniper.specs.Values.{view_list};
+ghost use Rattle.juniper.specs.Selections.{view_names, view_spanned_set, view_inline_parts, names_read, selections_inner_read, set_read, optional_set_read, field_read, named_spread_read, inline_parts_read, inline_read, typed_read, spread_read, selection_read};
 
-use crate::ast::{Field, Selection};
-use crate::next::next_is;
+use crate::ast::{Directive, Field, FragmentSpread, InlineFragment, Selection};
+use crate::directives::{parse_directives, parse_optional_arguments};
+use crate::next::{next_is, next_is_word};
+use crate::spans::{from_part, item_of, span_of, up_to};
 use juniper_tokens::{
-    Kind, OptionParseResult, ParseResult, Parser, Spanning, Token, UnlocatedParseResult,
+    Kind, OptionParseResult, ParseFailure, ParseResult, Parser, Span, Spanning, Token,
+    UnlocatedParseResult,
 };
+use juniper_values::ScalarValue;
 
 /// `SelectionSet = "{" Selection+ "}"`
 #[cycle(selection)]
-#[tactic(auto, unfolding(crate::specs::Reading::set_with))]
-pub(crate) fn parse_selection_set<'a, S: Drop>(
+#[tactic(auto, unfolding(crate::specs::Selections::set_read))]
+pub(crate) fn parse_selection_set<'a, S: ScalarValue>(
     parser: &mut Parser<'a>,
 ) -> ParseResult<Vec<Selection<'a, S>>>
-    ensures gives { Gives view_selection_set result parser.new (set_at parser.old) }
+    ensures gives { Gives (view_spanned_set S.content) result parser.new (set_read (stated S.reading S.of_bool) parser.old) }
     ensures shorter { OnOk result (length parser.new < length parser.old) }
-    ensures memory { OnMemory result (same_kind (kind_at parser.old) EndOfFile ≡ false) }
 {
-    let opening = parser.expect(&Token::CurlyOpen)?;
-    let mut selections = Vec::new(parser.allocator());
+    let opening = parser.expect(&Token::CurlyOpen)?.span;
+    let list = parse_selection_list(parser)?;
+    let end = list.span.end;
+    Ok(Spanning::start_end(&opening.start, &end, list.item))
+}
+
+/// `Selection+ "}"`, with the place of the brace.
+#[cycle(selection)]
+fn parse_selection_list<'a, S: ScalarValue>(
+    parser: &mut Parser<'a>,
+) -> ParseResult<Vec<Selection<'a, S>>>
+    ensures gives { Gives (view_list (view_selection S.content)) result parser.new (selections_inner_read (stated S.reading S.of_bool) parser.old) }
+    ensures shorter { OnOk result (length parser.new < length parser.old) }
+{
+    let mut items = Vec::new(parser.allocator());
     loop {
-        selections.push(parse_selection(parser)?)?;
+        items.push(parse_selection(parser)?)?;
         if let Some(closing) = parser.skip(&Token::CurlyClose)? {
-            return Ok(Spanning::start_end(&opening.span.start, &closing.span.end, selections));
+            return Ok(Spanning::new(closing.span, items));
         }
     }
 }
 
-/// `Selection = Field`
-#[cycle(selection)]
-#[tactic(auto, using(crate::proofs::Views::view_of_field))]
-fn parse_selection<'a, S: Drop>(parser: &mut Parser<'a>) -> UnlocatedParseResult<Selection<'a, S>>
-    ensures gives { Gives view_selection result parser.new (field_at parser.old) }
-    ensures shorter { OnOk result (length parser.new < length parser.old) }
-    ensures memory { OnMemory result (same_kind (kind_at parser.old) EndOfFile ≡ false) }
-{
-    Ok(Selection::Field(parse_field(parser)?))
-}
-
-/// `Field = Name SelectionSet?`
-#[cycle(selection)]
-#[tactic(auto, unfolding(crate::specs::Reading::field_with))]
-fn parse_field<'a, S: Drop>(parser: &mut Parser<'a>) -> ParseResult<Field<'a, S>>
-    ensures gives { Gives view_field result parser.new (field_at parser.old) }
-    ensures shorter { OnOk result (length parser.new < length parser.old) }
-    ensures memory { OnMemory result (same_kind (kind_at parser.old) EndOfFile ≡ false) }
-{
-    let name = parser.expect_name()?;
-    let span = name.span;
-    let (end, selection_set) = match parse_optional_selection_set(parser)? {
-        None => (span.end, None),
-        Some(set) => (set.span.end, Some(set.item)),
-    };
-    Ok(Spanning::start_end(
-        &span.start,
-        &end,
-        Field {
-            alias: None,
-            name,
-            arguments: None,
-            directives: None,
-            selection_set,
-        },
-    ))
-}
-
 /// `SelectionSet?`
 #[cycle(selection)]
-#[tactic(auto, unfolding(crate::specs::Reading::optional_set_with))]
-fn parse_optional_selection_set<'a, S: Drop>(
+#[tactic(auto, unfolding(crate::specs::Selections::optional_set_read))]
+fn parse_optional_selection_set<'a, S: ScalarValue>(
     parser: &mut Parser<'a>,
 ) -> OptionParseResult<Vec<Selection<'a, S>>>
-    ensures gives { Gives view_optional_set result parser.new (optional_set_at parser.old) }
+    ensures gives { Gives (option_map (view_spanned_set S.content)) result parser.new (optional_set_read (stated S.reading S.of_bool) parser.old) }
     ensures not_longer { OnOk result (length parser.new ≤ length parser.old) }
-    ensures memory { OnMemory result (same_kind (kind_at parser.old) EndOfFile ≡ false) }
 {
     if next_is(parser, Kind::CurlyOpen) {
         Ok(Some(parse_selection_set(parser)?))
     } else {
         Ok(None)
     }
+}
+
+/// `Selection = Field | "..." FragmentName Directive* | "..." ("on" Name)? Directive* SelectionSet`
+#[cycle(selection)]
+#[tactic(auto, using(crate::proofs::SelectionViews::view_of_field), unfolding(crate::specs::Selections::selection_read))]
+fn parse_selection<'a, S: ScalarValue>(
+    parser: &mut Parser<'a>,
+) -> UnlocatedParseResult<Selection<'a, S>>
+    ensures gives { Gives (view_selection S.content) result parser.new (selection_read (stated S.reading S.of_bool) parser.old) }
+    ensures shorter { OnOk result (length parser.new < length parser.old) }
+{
+    if next_is(parser, Kind::Ellipsis) {
+        parse_spread(parser)
+    } else {
+        Ok(Selection::Field(parse_field(parser)?))
+    }
+}
+
+/// `Field = (Name ":")? Name Arguments? Directive* SelectionSet?`
+#[cycle(selection)]
+#[tactic(auto, unfolding(crate::specs::Selections::field_read))]
+fn parse_field<'a, S: ScalarValue>(parser: &mut Parser<'a>) -> ParseResult<Field<'a, S>>
+    ensures gives { Gives (view_field S.content) result parser.new (field_read (stated S.reading S.of_bool) parser.old) }
+    ensures shorter { OnOk result (length parser.new < length parser.old) }
+{
+    let (alias, name) = parse_names(parser)?;
+    let arguments = parse_optional_arguments(parser)?;
+    let directives = parse_directives(parser)?;
+    let set = parse_optional_selection_set(parser)?;
+    let named = from_part(span_of(&alias), name.span);
+    let span = up_to(
+        up_to(up_to(named, span_of(&arguments)), span_of(&directives)),
+        span_of(&set),
+    );
+    Ok(Spanning::new(
+        span,
+        Field {
+            alias,
+            name,
+            arguments,
+            directives: item_of(directives),
+            selection_set: item_of(set),
+        },
+    ))
+}
+
+/// `(Name ":")? Name`
+#[tactic(auto, unfolding(crate::specs::Selections::names_read))]
+fn parse_names<'a>(
+    parser: &mut Parser<'a>,
+) -> Result<(Option<Spanning<&'a str>>, Spanning<&'a str>), ParseFailure>
+    ensures gives { Gives view_names result parser.new (names_read parser.old) }
+    ensures shorter { OnOk result (length parser.new < length parser.old) }
+{
+    let first = parser.expect_name()?;
+    if next_is(parser, Kind::Colon) {
+        parser.next_token()?;
+        let name = parser.expect_name()?;
+        Ok((Some(first), name))
+    } else {
+        Ok((None, first))
+    }
+}
+
+/// `"..." FragmentName Directive* | "..." ("on" Name)? Directive* SelectionSet`
+#[cycle(selection)]
+#[tactic(auto, using(crate::proofs::Names::on_is), unfolding(crate::specs::Selections::spread_read))]
+fn parse_spread<'a, S: ScalarValue>(
+    parser: &mut Parser<'a>,
+) -> UnlocatedParseResult<Selection<'a, S>>
+    ensures gives { Gives (view_selection S.content) result parser.new (spread_read (stated S.reading S.of_bool) parser.old) }
+    ensures shorter { OnOk result (length parser.new < length parser.old) }
+{
+    let dots = parser.expect(&Token::Ellipsis)?.span;
+    if next_is_word(parser, "on") {
+        parse_typed_fragment(parser, dots)
+    } else if next_is(parser, Kind::Name) {
+        parse_named_spread(parser, dots)
+    } else {
+        parse_untyped_fragment(parser, dots)
+    }
+}
+
+/// `FragmentName Directive*`, after three dots.
+#[tactic(auto, unfolding(crate::specs::Selections::named_spread_read))]
+fn parse_named_spread<'a, S: ScalarValue>(
+    parser: &mut Parser<'a>,
+    dots: Span,
+) -> UnlocatedParseResult<Selection<'a, S>>
+    ensures gives { Gives (view_selection S.content) result parser.new (named_spread_read (stated S.reading S.of_bool) (view_span dots) parser.old) }
+    ensures shorter { OnOk result (length parser.new < length parser.old) }
+{
+    let name = parser.expect_name()?;
+    let directives = parse_directives(parser)?;
+    let named = from_part(Some(dots), name.span);
+    let span = up_to(named, span_of(&directives));
+    Ok(Selection::FragmentSpread(Spanning::new(
+        span,
+        FragmentSpread {
+            name,
+            directives: item_of(directives),
+        },
+    )))
+}
+
+/// `"on" Name Directive* SelectionSet`, after three dots.
+#[cycle(selection)]
+#[tactic(auto, using(crate::proofs::SelectionViews::view_of_inline), unfolding(crate::specs::Selections::typed_read, crate::specs::Selections::inline_read))]
+fn parse_typed_fragment<'a, S: ScalarValue>(
+    parser: &mut Parser<'a>,
+    dots: Span,
+) -> UnlocatedParseResult<Selection<'a, S>>
+    ensures gives { Gives (view_selection S.content) result parser.new (typed_read (stated S.reading S.of_bool) (view_span dots) parser.old) }
+    ensures shorter { OnOk result (length parser.new < length parser.old) }
+{
+    parser.next_token()?;
+    let name = parser.expect_name()?;
+    let (directives, set) = parse_inline_parts(parser)?;
+    let end = set.span.end;
+    Ok(Selection::InlineFragment(Spanning::start_end(
+        &dots.start,
+        &end,
+        InlineFragment {
+            type_condition: Some(name),
+            directives,
+            selection_set: set.item,
+        },
+    )))
+}
+
+/// `Directive* SelectionSet`, after three dots.
+#[cycle(selection)]
+#[tactic(auto, using(crate::proofs::SelectionViews::view_of_inline), unfolding(crate::specs::Selections::inline_read))]
+fn parse_untyped_fragment<'a, S: ScalarValue>(
+    parser: &mut Parser<'a>,
+    dots: Span,
+) -> UnlocatedParseResult<Selection<'a, S>>
+    ensures gives { Gives (view_selection S.content) result parser.new (inline_read (stated S.reading S.of_bool) (view_span dots) None parser.old) }
+    ensures shorter { OnOk result (length parser.new < length parser.old) }
+{
+    let (directives, set) = parse_inline_parts(parser)?;
+    let end = set.span.end;
+    Ok(Selection::InlineFragment(Spanning::start_end(
+        &dots.start,
+        &end,
+        InlineFragment {
+            type_condition: None,
+            directives,
+            selection_set: set.item,
+        },
+    )))
+}
+
+/// `Directive* SelectionSet`
+#[cycle(selection)]
+#[tactic(auto, using(crate::proofs::PartViews::without_span), unfolding(crate::specs::Selections::inline_parts_read))]
+pub(crate) fn parse_inline_parts<'a, S: ScalarValue>(
+    parser: &mut Parser<'a>,
+) -> Result<
+    (
+        Option<Vec<Spanning<Directive<'a, S>>>>,
+        Spanning<Vec<Selection<'a, S>>>,
+    ),
+    ParseFailure,
+>
+    ensures gives { Gives (view_inline_parts S.content) result parser.new (inline_parts_read (stated S.reading S.of_bool) parser.old) }
+    ensures shorter { OnOk result (length parser.new < length parser.old) }
+{
+    let directives = item_of(parse_directives(parser)?);
+    let set = parse_selection_set(parser)?;
+    Ok((directives, set))
 }

@@ -1,17 +1,13 @@
-use Rattle.std.proofs.Common.{◌≡◌, false, length}
-use Rattle.graphql_lexical.specs.declared.kind.Kind.TheVariants.{EndOfFile}
-use Rattle.graphql_lexical.specs.Kinds.{same_kind}
-use Rattle.juniper_tokens.specs.Cursor.{kind_at}
-use Rattle.juniper.specs.View.{view_definitions}
-use Rattle.juniper.specs.Reading.{document_at}
-use Rattle.juniper.proofs.Documents.{with_front}
+use Rattle.std.proofs.Common.{◌≡◌, length, map}
+use Rattle.juniper.specs.Scalars.{stated}
+use Rattle.juniper.specs.View.{view_definition}
+use Rattle.juniper.specs.Definitions.{document_read}
+use Rattle.juniper.proofs.Loops.{before_others}
 use Rattle.juniper.proofs.document.parse_definitions.Given as goal
 
--- Nothing is read where only the end is left.
 abbrev pub invariant-loop-definitions : goal.invariant-loop-definitions
 invariant-loop-definitions g l = record {
-  so_far : with_front (view_definitions l.definitions.items) (document_at l.parser) ≡ document_at l.fn.parser;
-  not_ended : same_kind (kind_at l.parser) EndOfFile ≡ false → same_kind (kind_at l.fn.parser) EndOfFile ≡ false;
+  so_far : before_others (map (view_definition g.S.ParseScalarValue.content) l.definitions.items) (document_read (stated g.S.ParseScalarValue.reading g.S.ScalarValue.of_bool) l.parser) ≡ document_read (stated g.S.ParseScalarValue.reading g.S.ScalarValue.of_bool) l.fn.parser;
 }
 
 abbrev pub decreases-loop-definitions : goal.decreases-loop-definitions

@@ -1,0 +1,119 @@
+-- From where to where something was read.
+use Rattle.std.proofs.Common.{ℕ, suc, Bool, ◌≡◌, ◌<◌, ◌∷◌, [], List, ◌++◌, length, refl, sym, ap, ◌∙◌, arith, append_assoc, subst, inl, inr, length-append, Option, Some, None}
+use Rattle.graphql_lexical.specs.Place.{Span}
+use Rattle.graphql_lexical.specs.declared.kind.Kind.{Kind}
+use Rattle.graphql_lexical.specs.Cutting.{Lexeme}
+use Rattle.graphql_grammar.specs.Tokens.{over, last_of, span_of}
+use Rattle.graphql_grammar.specs.Tree.{Scalars, Value, Null, Scalar, Enum, Variable, ListOf, Object, Arguments, Directive, Variables}
+use Rattle.graphql_grammar.specs.Grammar.{IsToken, IsValue, Between, IsArguments, IsDirective, IsVariables, Listed}
+use Rattle.graphql_grammar.specs.Reading.{Test, Took, Reader, front, fully}
+use Rattle.graphql_grammar.proofs.Rules.{Meets, Rule, Closed, front_is}
+
+-- Some tokens stand in ts before rest, from the start of the first to the end of the last one.
+pub record Runs (ts rest : List Lexeme) (p : Span) : Type 0 where
+  pub first : Lexeme
+  pub inner : List Lexeme
+  pub whole : ts ≡ first ∷ inner ++ rest
+  pub span : p ≡ over first (last_of first inner)
+
+pub runs_one : (t : Lexeme) (ts rest : List Lexeme) → ts ≡ t ∷ rest → Runs ts rest t.span
+runs_one t ts rest e = record { first = t; inner = []; whole = e; span = refl }
+
+last_joined : (t u : Lexeme) (us vs : List Lexeme) → last_of t (us ++ (u ∷ vs)) ≡ last_of u vs
+last_joined t u [] vs = refl
+last_joined t u (w ∷ us) vs = last_joined w u us vs
+
+abbrev pub from_to : Span → Span → Span
+from_to a b = record { start = a.start; end = b.end }
+
+pub runs_on : (ts mid rest : List Lexeme) (p q : Span) → Runs ts mid p → Runs mid rest q → Runs ts rest (from_to p q)
+runs_on ts mid rest p q a b = record {
+  first = a.first;
+  inner = a.inner ++ (b.first ∷ b.inner);
+  whole = a.whole ∙ ap (λ l. a.first ∷ a.inner ++ l) b.whole ∙ ap (λ l. a.first ∷ l) (sym (append_assoc a.inner (b.first ∷ b.inner) rest));
+  span = ap (λ (s : Span). from_to s q) a.span ∙ ap (λ (s : Span). from_to (over a.first a.first) s) b.span ∙ ap (over a.first) (sym (last_joined a.first b.first a.inner b.inner));
+}
+
+-- What was read has the span p of its tokens.
+pub runs_front : (ts rest : List Lexeme) (p : Span) → Runs ts rest p → span_of (front ts rest) ≡ p
+runs_front ts rest p r = ap (λ l. span_of (front l rest)) r.whole ∙ ap span_of (front_is (r.first ∷ r.inner) rest) ∙ sym r.span
+
+pub runs_of : (us ts rest : List Lexeme) → ts ≡ us ++ rest → 0 < length us → Runs ts rest (span_of us)
+runs_of [] ts rest e h = absurd (omega arith)
+runs_of (u ∷ us) ts rest e h = record { first = u; inner = us; whole = e; span = refl }
+
+-- the part that may follow, of these spans
+abbrev pub RunsOn : List Lexeme → List Lexeme → Option Span → Type 0
+RunsOn ts rest None = ts ≡ rest
+RunsOn ts rest (Some p) = Runs ts rest p
+
+abbrev pub to_end_of : Span → Option Span → Span
+to_end_of p None = p
+to_end_of p (Some q) = from_to p q
+
+pub runs_further : (ts mid rest : List Lexeme) (p : Span) (o : Option Span) → Runs ts mid p → RunsOn mid rest o → Runs ts rest (to_end_of p o)
+runs_further ts mid rest p None a b = subst (λ l. Runs ts l p) b a
+runs_further ts mid rest p (Some q) a b = runs_on ts mid rest p q a b
+
+module _ {F A : Type 0} (f : ℕ → Reader F A) (R : List Lexeme → A → Type 0) (rule : (n : ℕ) → Rule n (f n) (f n) R) where
+  pub took_is : (ts rest : List Lexeme) (a : A) → fully f ts ≡ Took a rest → (us : List Lexeme) × (ts ≡ us ++ rest) × R us a
+  unfolding fully
+  took_is ts rest a e = let h = subst (λ z. Meets (suc (length ts)) R (f (suc (length ts))) ts z) e ((rule (suc (length ts))).at ts) in (h.0, h.1, h.2)
+
+  pub took_some : ((us : List Lexeme) (a : A) → R us a → 0 < length us) → (ts rest : List Lexeme) (a : A) → fully f ts ≡ Took a rest → (p : Span) × Runs ts rest p
+  took_some takes ts rest a e = let h = took_is ts rest a e in (span_of h.0, runs_of h.0 ts rest h.1 (takes h.0 a h.2))
+
+  pub took_runs : (sp : A → Span) → ((us : List Lexeme) (a : A) → R us a → (0 < length us) × (sp a ≡ span_of us)) → (ts rest : List Lexeme) (a : A) → fully f ts ≡ Took a rest → Runs ts rest (sp a)
+  took_runs sp has ts rest a e = let h = took_is ts rest a e in let k = has h.0 a h.2 in subst (λ p. Runs ts rest p) (sym k.1) (runs_of h.0 ts rest h.1 k.0)
+
+-- items up to the closing token
+pub closed_runs : {A : Type 0} (close : Test) (R : List Lexeme → A → Type 0) (us ts rest : List Lexeme) (r : List A × Lexeme) → ts ≡ us ++ rest → Closed close R us r → (p : Span) × Runs ts rest p × (p.end ≡ r.1.span.end)
+closed_runs close R us ts rest r e c =
+    (span_of us, runs_of us ts rest e (rw (c.whole, length-append c.inner (r.1 ∷ [])) (omega arith)), ap (λ l. (span_of l).end) c.whole ∙ last_end c.inner)
+  where
+    last_end : (vs : List Lexeme) → (span_of (vs ++ (r.1 ∷ []))).end ≡ r.1.span.end
+    last_end [] = refl
+    last_end (v ∷ vs) = ap (λ (t : Lexeme). t.span.end) (last_joined v r.1 vs [])
+
+-- ---- the spans that parts of a tree have
+
+last_single : (first last : Lexeme) (inner : List Lexeme) → over first last ≡ span_of (first ∷ inner ++ (last ∷ []))
+last_single first last inner = ap (over first) (sym (last_joined first last inner []))
+
+module _ {C F : Type 0} (S : Scalars C F) where
+  abbrev pub value_span : Value C → Span
+  value_span (Null p) = p
+  value_span (Scalar c p) = p
+  value_span (Enum t p) = p
+  value_span (Variable t p) = p
+  value_span (ListOf vs p) = p
+  value_span (Object fs p) = p
+
+  token_has : (ts : List Lexeme) (kind : Kind) (text : List ℕ) (p : Span) → IsToken ts kind text p → (0 < length ts) × (p ≡ span_of ts)
+  token_has ts kind text p h = rw h.whole (omega arith, h.spans)
+
+  between_has : (opening closing : Kind) (ts inner : List Lexeme) (p : Span) → Between opening closing ts inner p → (0 < length ts) × (p ≡ span_of ts)
+  between_has opening closing ts inner p h = rw h.whole (omega arith, h.spans ∙ last_single h.first h.last inner)
+
+  pub value_has : (free : Bool) (us : List Lexeme) (v : Value C) → IsValue S free us v → (0 < length us) × (value_span v ≡ span_of us)
+  value_has free us (Null p) h = token_has us _ _ p h
+  value_has free us (Scalar c p) (inl h) = token_has us _ _ p h.2
+  value_has free us (Scalar c p) (inr (inl h)) = token_has us _ _ p h.0
+  value_has free us (Scalar c p) (inr (inr h)) = token_has us _ _ p h.0
+  value_has free us (Enum t p) h = token_has us _ _ p h.0
+  value_has free us (Variable t p) h = rw h.1.whole (omega arith, h.1.spans)
+  value_has free us (ListOf vs p) h = between_has _ _ us h.0 p h.1
+  value_has free us (Object fs p) h = between_has _ _ us h.0 p h.1
+
+  listed_takes : {A : Type 0} (opening closing : Kind) (R : List Lexeme → A → Type 0) (us : List Lexeme) (xs : List A) → Listed opening closing R us xs → 0 < length us
+  listed_takes opening closing R us [] h = absurd h
+  listed_takes opening closing R us (x ∷ xs) h = rw h.whole (omega arith)
+
+  pub arguments_have : (us : List Lexeme) (a : Arguments C) → IsArguments S us a → (0 < length us) × (a.span ≡ span_of us)
+  arguments_have us a h = (listed_takes _ _ _ us a.items h.0, h.1)
+
+  pub variables_have : (us : List Lexeme) (a : Variables C) → IsVariables S us a → (0 < length us) × (a.span ≡ span_of us)
+  variables_have us a h = (listed_takes _ _ _ us a.items h.0, h.1)
+
+  pub directive_has : (us : List Lexeme) (d : Directive C) → IsDirective S us d → (0 < length us) × (d.span ≡ span_of us)
+  directive_has us d h = (rw h.whole (omega arith), h.spans)

@@ -1,0 +1,39 @@
+-- What the steps of a cursor take.
+use Rattle.std.proofs.Common.{◌≡◌, Bool, true, false, cond, List, [], ◌∷◌, Ok, Err, refl, ap}
+use Rattle.graphql_lexical.specs.Place.{Span}
+use Rattle.graphql_lexical.specs.declared.kind.Kind.TheVariants.{EndOfFile}
+use Rattle.graphql_lexical.specs.Kinds.{same_kind}
+use Rattle.graphql_lexical.specs.Cutting.{Lexeme}
+use Rattle.graphql_grammar.specs.Tokens.{span_of}
+use Rattle.graphql_grammar.specs.Reading.{front}
+use Rattle.graphql_grammar.proofs.Extents.{Runs, runs_one, runs_front}
+use Rattle.juniper_tokens.specs.Errors.{UnexpectedEndOfFile}
+use Rattle.juniper_tokens.specs.Cursor.{Read, ◌>>=◌, next_at, next_if}
+
+pub ok_is : {A : Type 0} (x y : A × List Lexeme) → ◌≡◌ {A = Read A} (Ok x) (Ok y) → x ≡ y
+ok_is x y e = cc
+
+-- what both steps gave
+pub bind_ok : {A B : Type 0} (r : Read A) (f : (A × List Lexeme) → Read B) (y : B × List Lexeme) → (r >>= f) ≡ Ok y → (x : A × List Lexeme) × (r ≡ Ok x) × (f x ≡ Ok y)
+bind_ok (Ok x) f y e = (x, refl, e)
+bind_ok (Err d) f y e = absurd (cc e)
+
+pub next_takes : (ts : List Lexeme) (x : Lexeme × List Lexeme) → next_at ts ≡ Ok x → ts ≡ x.0 ∷ x.1
+next_takes [] x e = absurd (cc e)
+next_takes (t ∷ ts) x e = by_end (same_kind t.kind EndOfFile) e
+  where
+    by_end : (b : Bool) → cond {A = Read Lexeme} b (Err (record { error = UnexpectedEndOfFile; span = t.span }, t ∷ ts)) (Ok (t, ts)) ≡ Ok x → t ∷ ts ≡ x.0 ∷ x.1
+    by_end true p = absurd (cc p)
+    by_end false p = ap (λ (y : Lexeme × List Lexeme). y.0 ∷ y.1) (ok_is (t, ts) x p)
+
+pub if_takes : (b : Bool) (ts : List Lexeme) (x : Lexeme × List Lexeme) → next_if b ts ≡ Ok x → ts ≡ x.0 ∷ x.1
+if_takes true ts x e = next_takes ts x e
+if_takes false ts x e = let h = bind_ok (next_at ts) _ x e in absurd (cc h.2)
+
+-- the token that was taken
+pub next_runs : (b : Bool) (ts : List Lexeme) (x : Lexeme × List Lexeme) → next_if b ts ≡ Ok x → Runs ts x.1 x.0.span
+next_runs b ts x e = runs_one x.0 ts x.1 (if_takes b ts x e)
+
+-- what was read, at the span of its tokens, where that is p
+pub at_span : {A : Type 0} (k : Span → A) (ts rest : List Lexeme) (p : Span) → Runs ts rest p → ◌≡◌ {A = Read A} (Ok (k (span_of (front ts rest)), rest)) (Ok (k p, rest))
+at_span k ts rest p r = ap (λ (q : Span). Ok (k q, rest)) (runs_front ts rest p r)
