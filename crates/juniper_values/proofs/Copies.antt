@@ -1,8 +1,10 @@
 -- The tree of a value by its scalars' contents is its tree by its scalars, each with its content in its place.
-use Rattle.std.proofs.Common.{◌≡◌, refl, ap, sym, subst, ◌∙◌, Bool, true, ◌&&◌, List, [], ◌∷◌, map, String, Global}
+use Rattle.std.proofs.Common.{◌≡◌, refl, ap, ap₂, sym, subst, ◌∙◌, Bool, true, ◌&&◌, List, [], ◌∷◌, ◌++◌, map, String, Global}
+use Rattle.std.specs.Prelude.{codes}
 use Rattle.std.proofs.lemmas.Slice.Eq.{bytes_eq-Decides}
 use Rattle.graphql_lexical.specs.Place.{Span}
 use Rattle.juniper_values.specs.Text.{Text, same_text}
+use Rattle.juniper_values.specs.Display.{joined, value_text, item_texts, field_texts}
 use Rattle.juniper_values.specs.Equality.{same_span, same_value, same_items, same_fields}
 use Rattle.juniper_values.specs.EqualityLaws.{same_span-equiv}
 use Rattle.juniper_values.proofs.Alike.{both}
@@ -14,10 +16,10 @@ use Rattle.juniper_values.specs.declared.input_value.InputValue.{InputValue, ind
 use Rattle.juniper_values.specs.declared.input_value.InputValue.TheOpen.{InputValue-F}
 use Rattle.juniper_values.specs.declared.input_value.InputValue.TheFolds.{map-InputValue}
 
-abbrev at_item : {A B : Type 0} → (A → B) → Spanning A → Spanning B
+abbrev pub at_item : {A B : Type 0} → (A → B) → Spanning A → Spanning B
 at_item f x = record { item = f x.item; span = x.span }
 
-abbrev at_value : {A B : Type 0} → (A → B) → Spanning (String Global) × Spanning A → Spanning (String Global) × Spanning B
+abbrev pub at_value : {A B : Type 0} → (A → B) → Spanning (String Global) × Spanning A → Spanning (String Global) × Spanning B
 at_value f x = (x.0, at_item f x.1)
 
 -- each scalar replaced
@@ -31,11 +33,11 @@ module _ {S C : Type 0} (f : S → C) where
     replaced (list xs) = list (replaced_items xs)
     replaced (object fs) = object (replaced_fields fs)
 
-    replaced_items : Items S → Items C
+    pub replaced_items : Items S → Items C
     replaced_items no_items = no_items
     replaced_items (item v s xs) = item (replaced v) s (replaced_items xs)
 
-    replaced_fields : Fields S → Fields C
+    pub replaced_fields : Fields S → Fields C
     replaced_fields no_fields = no_fields
     replaced_fields (field k s v t fs) = field k s (replaced v) t (replaced_fields fs)
 
@@ -62,6 +64,26 @@ module _ {S C : Type 0} (f : S → C) where
   view-replaced v = ind-InputValue S (λ v. view f v ≡ replaced (view (λ s. s) v)) (λ x y e.
       subst (λ (z : InputValue-F S (InputValue S)). view f (roll-InputValue S z) ≡ replaced (view (λ s. s) (roll-InputValue S z))) e
       (fold-roll-InputValue S (Value C) (view_step f) _ ∙ level (λ p. p.0) (view f) (view (λ s. s)) (λ p. p.1) y ∙ ap replaced (sym (fold-roll-InputValue S (Value S) (view_step (λ s. s)) _)))) v
+
+-- ---- how a value is shown whose scalars are known by their contents
+
+module _ {S C : Type 0} (f : S → C) (shown : C → Text) where
+  mutual
+    pub text_replaced : (v : Value S) → value_text shown (replaced f v) ≡ value_text (λ s. shown (f s)) v
+    text_replaced null = refl
+    text_replaced (scalar s) = refl
+    text_replaced (enum_value t) = refl
+    text_replaced (variable t) = refl
+    text_replaced (list xs) = ap (λ (ts : List Text). codes "[" ++ (joined ts ++ codes "]")) (items_text_replaced xs)
+    text_replaced (object fs) = ap (λ (ts : List Text). codes "{" ++ (joined ts ++ codes "}")) (fields_text_replaced fs)
+
+    items_text_replaced : (xs : Items S) → item_texts shown (replaced_items f xs) ≡ item_texts (λ s. shown (f s)) xs
+    items_text_replaced no_items = refl
+    items_text_replaced (item v s xs) = ap₂ (λ (t : Text) (ts : List Text). t ∷ ts) (text_replaced v) (items_text_replaced xs)
+
+    fields_text_replaced : (fs : Fields S) → field_texts shown (replaced_fields f fs) ≡ field_texts (λ s. shown (f s)) fs
+    fields_text_replaced no_fields = refl
+    fields_text_replaced (field k s v t fs) = ap₂ (λ (u : Text) (ts : List Text). (k ++ (codes ": " ++ u)) ∷ ts) (text_replaced v) (fields_text_replaced fs)
 
 -- ---- values whose scalars have the same contents are equal
 

@@ -1,22 +1,21 @@
 -- What `parse` reads as an integer is what the default scalar reads as one.
-use Rattle.std.proofs.Common.{◌≡◌, ◌≢◌, ◌⊎◌, inl, inr, refl, sym, ap, ◌∙◌, subst, ℕ, zero, suc, ◌+◌, ◌<◌, ◌≤◌, ◌^◌, Bool, true, false, ◌&&◌, List, [], ◌∷◌, length, drop, get_or, Result, Ok, Err, ℤ, pos, negsuc, neg_ℤ, rules, arith, true≢false, ◌==◌}
+use Rattle.std.proofs.Common.{◌≡◌, ◌⊎◌, inl, inr, refl, sym, ap, ◌∙◌, subst, ℕ, zero, suc, ◌<◌, ◌≤◌, Bool, true, false, ◌&&◌, List, [], ◌∷◌, length, Result, Ok, Err, ℤ, pos, neg_ℤ, rules, arith, true≢false, ◌==◌}
 use Rattle.std.specs.Bool.{Decides}
 use Rattle.std.specs.Prelude.{if◌then◌else◌, ◌||◌}
 use Rattle.std.specs.Str.{chars, IsUtf8, IsAscii, all_ascii_digits}
-use Rattle.std.specs.Str.Parse.{ParsesSigned, AllDigits}
+use Rattle.std.specs.Str.Parse.{ParsesSigned}
 use Rattle.std.specs.Result.{OkIff}
 use Rattle.std.proofs.lemmas.Bool.Decides.{nat_tests}
 use Rattle.std.proofs.lemmas.Fmt.{IsAscii-from_digits}
 use Rattle.std.proofs.lemmas.Int.{ints, to_z-of_z}
 use Rattle.std.proofs.lemmas.Str.{chars-IsAscii, encodes-IsAscii, encodes-chars}
 use Rattle.std.proofs.lemmas.Str.Parse.{IsNumeralModel, numerals_by_fold, tells_all_ascii_digits, parse_signed_minus, parse_signed_plus, parse_signed_plain}
-use lib.Utf8.{encodes}
 use mir.Syntax.{w32}
 use mir.Val.{SFits, to_z, of_z}
-use Rattle.juniper_tokens.specs.Errors.{Error, UnexpectedToken}
+use Rattle.juniper_tokens.specs.Errors.{UnexpectedToken}
 use Rattle.juniper_values.specs.Text.{Text}
-use Rattle.juniper_values.specs.Scalar.{Content, integer, Reading}
-use Rattle.juniper_values.specs.Integers.{is_digits, number_after, number_of, has_minus, after_sign, is_integer, integer_of, is_i32}
+use Rattle.juniper_values.specs.Scalar.{integer}
+use Rattle.juniper_values.specs.Integers.{is_digits, number_after, number_of, is_integer, integer_of, is_i32}
 use Rattle.juniper_values.specs.Default.{int_reading}
 
 pub own : IsNumeralModel (λ ds. all_ascii_digits ds ≡ true) number_of

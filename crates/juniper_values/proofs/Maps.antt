@@ -4,7 +4,7 @@ use Rattle.std.specs.Prelude.{if◌then◌else◌}
 use Rattle.std.specs.List.{AllByRecursion}
 use Rattle.std.specs.Str.{chars, IsUtf8}
 use Rattle.indexmap.specs.IndexMap.{insert_entry}
-use Rattle.juniper_values.specs.Text.{Text, same_text}
+use Rattle.juniper_values.specs.Text.{Text}
 use Rattle.juniper_values.specs.Maps.{put, put_all}
 use Rattle.juniper_values.specs.Value.{Value, Fields, field}
 use Rattle.juniper_values.specs.Make.{unlocated_fields}

@@ -1,5 +1,5 @@
 -- The texts of types and values are written token by token.
-use Rattle.std.proofs.Common.{◌≡◌, refl, sym, ap, ap₂, ◌∙◌, subst, ℕ, ◌⊎◌, inl, inr, Bool, true, false, List, [], ◌∷◌, ◌++◌, append_assoc, append-nil, IsTrue, arith}
+use Rattle.std.proofs.Common.{◌≡◌, refl, sym, ap, subst, ℕ, inl, inr, true, false, List, [], ◌∷◌, ◌++◌, append_assoc, append-nil, IsTrue, eqb, Some, arith}
 use Rattle.std.specs.Prelude.{codes}
 use Rattle.std.specs.List.{AllByRecursion, concat}
 use Rattle.graphql_lexical.specs.declared.kind.Kind.{Kind}
@@ -11,7 +11,9 @@ use Rattle.graphql_lexical.specs.Joining.{is_lone, BeginsApart}
 use Rattle.graphql_lexical.specs.Written.{Bare, IsCutInto}
 use Rattle.graphql_lexical.proofs.Writing.{writes_nothing, writes_token, writes_white}
 use Rattle.juniper_tokens.proofs.Stops.{unquoted_list}
+use Rattle.std.proofs.lemmas.Bool.Decides.{nat_tests}
 use Rattle.juniper_values.specs.Text.{Text}
+use Rattle.juniper_values.specs.Escapes.{unescape}
 use Rattle.juniper_values.specs.Scalar.{Content, integer, text, boolean, custom}
 use Rattle.juniper_values.specs.Default.{plain_shown}
 use Rattle.juniper_values.specs.Value.{Value, null, scalar, enum_value, variable, list, object, Items, no_items, item, Fields, no_fields, field}
@@ -207,3 +209,13 @@ mutual
 
 pub value_is_cut : (v : Value Content) → IsPlain v → IsCutInto (value_text plain_shown v) (value_tokens v)
 value_is_cut v h = written_alone (value_text plain_shown v) (value_tokens v) (value_written v h)
+
+-- ---- what is read back
+
+-- A text without backslashes stands for itself.
+pub plain_unescaped : (t : Text) → AllByRecursion (λ c. IsTrue (is_plain c)) t → unescape t ≡ Some t
+plain_unescaped [] h = refl
+plain_unescaped (c ∷ cs) h = rw (no_backslash c h.0, plain_unescaped cs h.1) refl
+  where
+    no_backslash : (c : ℕ) → IsTrue (is_plain c) → eqb c 92 ≡ false
+    no_backslash c p = grind (arith, nat_tests)

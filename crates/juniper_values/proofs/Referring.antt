@@ -3,7 +3,7 @@ use Rattle.std.proofs.Common.{◌≡◌, List, [], ◌∷◌, ◌++◌, Option, 
 use Rattle.graphql_lexical.specs.Place.{Span}
 use Rattle.juniper_values.specs.Text.{Text}
 use Rattle.juniper_values.specs.Value.{Value, null, scalar, enum_value, variable, list, object, Items, no_items, item, Fields, no_fields, field}
-use Rattle.juniper_values.specs.Variables.{variables, item_variables, field_variables, Refers, here, in_list, in_object, ItemRefers, first_item, later_item, FieldRefers, first_field, later_field, HasNoVariable}
+use Rattle.juniper_values.specs.Variables.{variables, item_variables, field_variables, here, in_list, in_object, ItemRefers, first_item, later_item, FieldRefers, first_field, later_field, HasNoVariable}
 use Rattle.juniper_values.specs.Resolve.{Values, resolve, resolve_items, resolve_fields, or_null, field_if}
 use Rattle.juniper_values.specs.Laws.{HaveNoVariables, LeavesNoVariable, RemovesVariables, IsEmptyWithoutVariables}
 

@@ -1,5 +1,5 @@
 -- The comparisons of values whatever their places, one turn each.
-use Rattle.std.proofs.Common.{◌≡◌, refl, ap, ◌∙◌, ◌+◌, List, [], ◌∷◌, length, Bool, add-one, String, Global}
+use Rattle.std.proofs.Common.{◌≡◌, refl, ap, ◌∙◌, ◌+◌, List, [], ◌∷◌, length, add-one, String, Global}
 use Rattle.juniper_tokens.specs.declared.span.Spanning.{Spanning}
 use Rattle.juniper_values.specs.Same.{field_count}
 use Rattle.juniper_values.specs.View.{view_fields}

@@ -1,5 +1,5 @@
 -- Texts and their bytes.
-use Rattle.std.proofs.Common.{◌≡◌, sym, ap, ◌∙◌, ℕ, List, [], ◌∷◌, ◌++◌, bytes_eq, string_bytes, String, Global, HashMap, Option, append_assoc}
+use Rattle.std.proofs.Common.{◌≡◌, sym, ap, ◌∙◌, ℕ, List, [], ◌∷◌, ◌++◌, bytes_eq, string_bytes, String, Global, HashMap, Option}
 use Rattle.std.specs.Prelude.{codes}
 use Rattle.std.specs.HashMap.{get_by}
 use Rattle.std.specs.Str.{chars, IsUtf8}
@@ -8,7 +8,7 @@ use Rattle.std.proofs.lemmas.Bool.Decides.{same_from_decides}
 use Rattle.std.proofs.lemmas.Str.{encodes-chars, encodes-append, IsUtf8-string_bytes}
 use lib.Utf8.{encode, encodes}
 use Rattle.graphql_lexical.specs.Display.{quoted}
-use Rattle.juniper_values.specs.Text.{Text, same_text}
+use Rattle.juniper_values.specs.Text.{same_text}
 use Rattle.juniper_values.specs.ScalarDisplay.{wanted_text}
 use Rattle.juniper_values.specs.View.{text_of}
 

@@ -1,7 +1,7 @@
 -- Items and fields as a loop makes them.
 use Rattle.std.proofs.Common.{◌≡◌, refl, List, [], ◌∷◌, ap, String, Global, Vec, Option, Some, None, option_map, unwrap_or, rules}
 use Rattle.juniper_tokens.specs.declared.span.Spanning.{Spanning}
-use Rattle.juniper_values.specs.Value.{Value, null, list, object, Items, no_items, item, Fields, no_fields, field}
+use Rattle.juniper_values.specs.Value.{null, list, object, Items, no_items, item, Fields, no_fields, field}
 use Rattle.juniper_tokens.specs.Spans.{view_span}
 use Rattle.juniper_values.specs.View.{view, view_items, view_fields, text_of}
 use Rattle.juniper_values.specs.Resolve.{or_null}

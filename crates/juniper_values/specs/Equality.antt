@@ -1,7 +1,7 @@
 -- Equality of input values, their places too.
 use Rattle.std.specs.Prelude.{Bool, true, false, ◌&&◌, ◌==◌}
 use Rattle.graphql_lexical.specs.Place.{Place, Span}
-use Rattle.juniper_values.specs.Text.{Text, same_text}
+use Rattle.juniper_values.specs.Text.{same_text}
 use Rattle.juniper_values.specs.Value.{Value, null, scalar, enum_value, variable, list, object, Items, no_items, item, Fields, no_fields, field}
 
 abbrev pub same_place : Place → Place → Bool

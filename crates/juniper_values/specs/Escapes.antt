@@ -1,5 +1,5 @@
 -- The text that the slice of a String token stands for.
-use Rattle.std.specs.Prelude.{◌≡◌, ℕ, suc, ◌+◌, ◌*◌, ◌-◌, ◌^◌, ◌<◌, ◌≤◌, List, [], ◌∷◌, ◌++◌, Option, Some, None, option_map, option_and_then, if◌then◌else◌, ◌==◌, ◌&&◌, nat_le, nat_lt}
+use Rattle.std.specs.Prelude.{◌≡◌, ℕ, ◌+◌, ◌*◌, ◌-◌, ◌<◌, ◌≤◌, [], ◌∷◌, ◌++◌, Option, Some, None, option_map, option_and_then, if◌then◌else◌, ◌==◌, ◌&&◌, nat_le}
 use Rattle.std.specs.Option.{option_to_list}
 use Rattle.graphql_lexical.specs.Characters.{is_hex}
 use Rattle.graphql_lexical.specs.Tokens.{hex_value}

@@ -1,7 +1,7 @@
 -- Which kind of value an input value is.
 use Rattle.std.specs.Prelude.{Bool, true, false, Option, Some, None}
 use Rattle.juniper_values.specs.Text.{Text}
-use Rattle.juniper_values.specs.Value.{Value, null, scalar, enum_value, variable, list, object, Items, Fields}
+use Rattle.juniper_values.specs.Value.{Value, null, scalar, enum_value, variable}
 
 module _ {C : Type 0} where
   abbrev pub is_null : Value C → Bool

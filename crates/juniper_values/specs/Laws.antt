@@ -3,7 +3,7 @@ use Rattle.std.specs.Prelude.{◌≡◌, ◌↔◌, ◌⊎◌, ◌∷◌, ◌++�
 use Rattle.juniper_values.specs.Text.{Text}
 use Rattle.juniper_values.specs.Escapes.{unescape}
 use Rattle.juniper_values.specs.Units.{StandsFor}
-use Rattle.juniper_values.specs.Value.{Value, variable, object, Fields, no_fields, field}
+use Rattle.juniper_values.specs.Value.{Value, variable, Fields, no_fields, field}
 use Rattle.juniper_values.specs.Variables.{variables, HasNoVariable}
 use Rattle.juniper_values.specs.Resolve.{Values, resolve}
 use Rattle.juniper_values.specs.Same.{same_but_place, field_count}

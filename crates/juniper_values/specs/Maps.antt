@@ -1,7 +1,7 @@
 -- Objects as maps, and lists.
 use Rattle.std.specs.Prelude.{List, [], ◌∷◌, Option, Some, None, if◌then◌else◌}
 use Rattle.juniper_values.specs.Text.{Text, same_text}
-use Rattle.juniper_values.specs.Value.{Value, null, scalar, enum_value, variable, list, object, Items, no_items, item, Fields, no_fields, field}
+use Rattle.juniper_values.specs.Value.{Value, list, object, Items, no_items, item, Fields, no_fields, field}
 
 -- the pairs after a value is put at a key: in the place of the value that is there, or as the last pair
 abbrev pub put : {V : Type 0} → List (Text × V) → Text → V → List (Text × V)

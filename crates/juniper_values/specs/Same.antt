@@ -1,6 +1,5 @@
 -- Equality of input values whatever their places.
 use Rattle.std.specs.Prelude.{ℕ, ◌+◌, ◌==◌, Bool, true, false, ◌&&◌, ◌||◌, List, [], ◌∷◌}
-use Rattle.graphql_lexical.specs.Place.{Span}
 use Rattle.juniper_values.specs.Text.{Text, same_text}
 use Rattle.juniper_values.specs.Value.{Value, null, scalar, enum_value, variable, list, object, Items, no_items, item, Fields, no_fields, field}
 

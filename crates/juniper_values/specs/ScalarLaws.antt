@@ -1,6 +1,6 @@
 -- Equality of contents, and the laws of the default scalar.
-use Rattle.std.specs.Prelude.{◌≡◌, Bool, true, false, refl, ℤ, Option, Some, List, [], ◌⊎◌, IsSome}
-use Rattle.std.proofs.Common.{ap, sym, ◌∙◌, inl, inr, true≢false}
+use Rattle.std.specs.Prelude.{◌≡◌, Bool, true, false, refl, ℤ, List, ◌⊎◌, IsSome}
+use Rattle.std.proofs.Common.{ap, sym, inl, inr, true≢false}
 use Rattle.std.specs.Bool.{Decides}
 use Rattle.std.specs.Cmp.{IsEquivalence, IsPartialEquivalence, partial_equiv_from_equiv, on_equiv, decided, signed_Decides, booleans_Decides}
 use Rattle.std.specs.Cmp.Rules.{signed_items}

@@ -5,7 +5,7 @@ use Rattle.std.specs.Cmp.{IsEquivalence, IsPartialEquivalence, partial_equiv_fro
 use Rattle.std.proofs.lemmas.Cmp.{nat_eq_equiv, nat_list_eq_equiv, lists_equiv}
 use Rattle.std.specs.Cmp.Lexicographic.{options_equiv}
 use Rattle.juniper_values.specs.Text.{Text}
-use Rattle.juniper_values.specs.TypeLiteral.{TypeShape, same_modifier, same_type}
+use Rattle.juniper_values.specs.TypeLiteral.{same_modifier, same_type}
 use Rattle.juniper_values.specs.declared.type_literal.TypeModifier.{TypeModifier}
 use Rattle.juniper_values.specs.declared.type_literal.TypeModifier.TheVariants.{NonNull, List as ListOf}
 

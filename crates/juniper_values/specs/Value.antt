@@ -1,5 +1,4 @@
 -- An input value as a tree: no pointers, no capacities. C is what a scalar is known by.
-use Rattle.std.specs.Prelude.{List, [], ◌∷◌}
 use Rattle.graphql_lexical.specs.Place.{Span}
 use Rattle.juniper_values.specs.Text.{Text}
 

@@ -1,4 +1,3 @@
-use Rattle.std.proofs.Common.{rules}
 use Rattle.juniper_values.proofs.Integers.{read, refused}
 use Rattle.juniper_values.proofs.default_scalar.read_int.Goals as goal
 

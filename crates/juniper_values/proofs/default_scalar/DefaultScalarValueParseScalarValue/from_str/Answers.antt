@@ -1,4 +1,4 @@
-use Rattle.std.proofs.Common.{rules, refl, ap, ◌∙◌, sym}
+use Rattle.std.proofs.Common.{rules}
 use Rattle.std.specs.Str.{chars}
 use Rattle.juniper_values.proofs.default_scalar.DefaultScalarValueParseScalarValue.from_str.Goals as goal
 

@@ -1,4 +1,4 @@
-use Rattle.std.proofs.Common.{rules, arith, refl, ◌≡◌, ◌<◌, ◌∙◌, ap, sym, length, drop, false, true, ◌&&◌, ◌||◌}
+use Rattle.std.proofs.Common.{rules, arith, refl, ◌≡◌, ◌<◌, ◌∙◌, ap, sym, length, false, ◌&&◌}
 use Rattle.std.proofs.lemmas.List.{at_drop_all}
 use Rattle.juniper_values.specs.Same.{same_but_place, same_items_but_place, wanted, is_found, is_wanted, all_found, all_wanted, field_count}
 use Rattle.juniper_values.specs.Text.{same_text}
@@ -6,7 +6,7 @@ use Rattle.juniper_values.specs.View.{view, view_items, view_fields, text_of}
 use Rattle.juniper_values.proofs.Reading.{drop_read, within_most}
 use Rattle.juniper_values.proofs.Sames.{field_count-view}
 use Rattle.juniper_values.proofs.Pairwise.{differ, passed, failed}
-use Rattle.juniper_values.proofs.BoolTests.{and_true, and_false, and_later, or_true, or_false, not_equal, are_equal}
+use Rattle.juniper_values.proofs.BoolTests.{and_true, and_false, and_later, or_false, not_equal, are_equal}
 use Rattle.juniper_values.specs.declared.input_value.InputValue.TheShapes.{weighed-InputValue-Object-0-at-4}
 use Rattle.juniper_values.proofs.input_value.InputValue.TheLaws.{the_size}
 use Rattle.juniper_values.proofs.input_value.compare.+compare.Goals as goal

@@ -1,5 +1,5 @@
 use Rattle.std.proofs.Common.{◌≡◌, drop}
-use Rattle.juniper_values.specs.Same.{same_but_place, same_items_but_place, wanted, is_found, is_wanted, all_found, all_wanted, field_count}
+use Rattle.juniper_values.specs.Same.{same_but_place, same_items_but_place, wanted, is_found, is_wanted, all_found, all_wanted}
 use Rattle.juniper_values.specs.View.{view, view_items, view_fields, text_of}
 use Rattle.juniper_values.proofs.input_value.compare.+compare.Given as goal
 

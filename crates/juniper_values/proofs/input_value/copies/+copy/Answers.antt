@@ -1,5 +1,5 @@
-use Rattle.std.proofs.Common.{rules, arith, refl, ◌≡◌, ◌∙◌, ap, sym, drop}
-use Rattle.juniper_values.specs.View.{view, view_items, view_fields}
+use Rattle.std.proofs.Common.{rules, arith, refl, ◌∙◌, ap, sym}
+use Rattle.juniper_values.specs.View.{view_items, view_fields}
 use Rattle.std.proofs.lemmas.List.{at_drop_all}
 use Rattle.juniper_values.proofs.Reading.{drop_read, within_most, prepend, turn}
 use Rattle.juniper_values.proofs.Trees.{put_item, put_field, view_items-prepend, view_fields-prepend}

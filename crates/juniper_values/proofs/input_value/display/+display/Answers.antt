@@ -1,10 +1,8 @@
-use Rattle.std.proofs.Common.{rules, refl, sym, ap, subst, ◌∙◌, ◌+◌, ◌++◌, ◌∷◌, [], drop, arith, append_assoc}
+use Rattle.std.proofs.Common.{rules, refl, sym, ap, subst, ◌∙◌, ◌+◌, ◌++◌, [], drop, arith, append_assoc}
 use Rattle.std.specs.Prelude.{codes}
-use Rattle.std.specs.Fmt.{HasWritten}
 use Rattle.std.proofs.Output.{has_written_of_eq}
-use Rattle.std.proofs.lemmas.List.{at_drop_all}
 use lib.Utf8.{encodes}
-use Rattle.juniper_values.specs.Display.{value_text, item_texts, field_texts, joined, separator}
+use Rattle.juniper_values.specs.Display.{value_text, item_texts, field_texts, joined}
 use Rattle.juniper_values.specs.ScalarDisplay.{scalar_display}
 use Rattle.juniper_values.specs.View.{view, view_items, view_fields, text_of}
 use Rattle.juniper_values.proofs.Displays.{IsWritten, left, two, one_more, between}

@@ -1,10 +1,10 @@
-use Rattle.std.proofs.Common.{refl, sym, ◌<◌, ◌&&◌, ◌∙◌, length, arith}
+use Rattle.std.proofs.Common.{refl, sym, ◌<◌, ◌&&◌, length, arith}
 use Rattle.juniper_tokens.specs.Spans.{view_span}
 use Rattle.juniper_values.specs.Text.{same_text}
 use Rattle.juniper_values.specs.Equality.{same_span, same_value, same_items, same_fields}
 use Rattle.juniper_values.specs.View.{view, view_items, view_fields, text_of}
-use Rattle.juniper_values.proofs.Pairwise.{differ, passed, failed}
-use Rattle.juniper_values.proofs.BoolTests.{and_false, and_later}
+use Rattle.juniper_values.proofs.Pairwise.{differ, failed}
+use Rattle.juniper_values.proofs.BoolTests.{and_false}
 use Rattle.juniper_values.proofs.input_value.equal.+equal.Goals as goal
 
 pub equal_items-returns-then-len : goal.equal_items-returns-then-len

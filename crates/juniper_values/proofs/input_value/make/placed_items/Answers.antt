@@ -1,5 +1,4 @@
 use Rattle.std.proofs.Common.{refl, ap, sym, ◌∙◌, map, arith}
-use Rattle.std.specs.Vec.Iter.{into_iter_items}
 use Rattle.juniper_values.specs.Make.{unlocated_items}
 use Rattle.juniper_values.specs.View.{view}
 use Rattle.juniper_values.proofs.Reading.{prepend, turn, nothing_left}

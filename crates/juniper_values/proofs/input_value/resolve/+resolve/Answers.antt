@@ -1,8 +1,7 @@
 use Rattle.std.proofs.Common.{rules, arith, refl, ◌≡◌, ◌∙◌, ◌++◌, ap, sym, Some, option_map}
-use Rattle.std.specs.Vec.Iter.{into_iter_items}
-use Rattle.juniper_values.specs.Resolve.{resolve, resolve_items, resolve_fields, or_null}
-use Rattle.juniper_values.specs.Value.{list, object, item, field}
-use Rattle.juniper_values.specs.View.{view, text_of, view_items, view_fields, values_in}
+use Rattle.juniper_values.specs.Resolve.{resolve, resolve_items, resolve_fields}
+use Rattle.juniper_values.specs.Value.{object}
+use Rattle.juniper_values.specs.View.{view, view_items, view_fields, values_in}
 use Rattle.juniper_values.specs.declared.input_value.InputValue.TheShapes.{weighed-InputValue-Object-0-at-4}
 use Rattle.juniper_values.proofs.Reading.{prepend, part_within, taken, turn, nothing_left}
 use Rattle.juniper_values.proofs.Trees.{put_item, put_field, view_items-prepend, view_fields-prepend, view-Object, view_or_null}
