@@ -29,7 +29,8 @@ use Rattle.juniper_values.specs.declared.type_literal.TypeModifier.TheVariants.{
 use Rattle.juniper_values.proofs.WrittenIntegers.{integer_read_back}
 use Rattle.juniper_values.proofs.ReadBack.{type_is_cut, value_is_cut, plain_unescaped}
 use Rattle.juniper.specs.View.{wrapped}
-use Rattle.juniper.specs.ReadBack.{default_scalars, BeginsUnmarked, AreWritable, IsReadAsType, type_of, IsReadBack}
+use Rattle.juniper.specs.Scalars.{default_scalars}
+use Rattle.juniper.specs.ReadBack.{BeginsUnmarked, AreWritable, IsReadAsType, type_of, IsReadBack}
 use Rattle.juniper.proofs.PlacedValues.{placed, placed_items, placed_fields, placed_view}
 
 -- ---- parts of a list of tokens

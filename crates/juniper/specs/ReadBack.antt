@@ -2,12 +2,11 @@
 use Rattle.std.specs.Prelude.{◌≡◌, true, List, [], ◌∷◌, ◌++◌, Option, Some, None}
 use Rattle.graphql_lexical.specs.Cutting.{Lexeme, Cut}
 use Rattle.graphql_grammar.specs.Tokens.{Text, nowhere}
-use Rattle.graphql_grammar.specs.Tree.{Scalars, Value, TypeRef, NamedType}
+use Rattle.graphql_grammar.specs.Tree.{Value, TypeRef, NamedType}
 use Rattle.graphql_grammar.specs.Grammar.{IsValue, IsType}
 use Rattle.graphql_grammar.specs.Unlocated.{SameValue}
-use Rattle.juniper_tokens.specs.Errors.{Error}
-use Rattle.juniper_values.specs.Scalar.{Content, boolean}
-use Rattle.juniper_values.specs.Default.{default_content, default_reading, default_shown, text_in}
+use Rattle.juniper_values.specs.Scalar.{Content}
+use Rattle.juniper_values.specs.Default.{default_content, default_shown, text_in}
 use Rattle.juniper_values.specs.Display.{value_text}
 use Rattle.juniper_values.specs.ScalarDisplay.{scalar_display}
 use Rattle.juniper_values.specs.View.{view}
@@ -16,11 +15,7 @@ use Rattle.juniper_values.specs.declared.input_value.InputValue.{InputValue}
 use Rattle.juniper_values.specs.declared.type_literal.TypeModifier.{TypeModifier}
 use Rattle.juniper_values.specs.declared.type_literal.TypeModifier.TheVariants.{NonNull, List as ListModifier}
 use Rattle.juniper.specs.View.{wrapped, view_at}
-use Rattle.juniper.specs.Scalars.{stated}
-
--- what the default scalar states
-abbrev pub default_scalars : Scalars Content Error
-default_scalars = stated default_reading boolean
+use Rattle.juniper.specs.Scalars.{default_scalars}
 
 -- ---- types
 

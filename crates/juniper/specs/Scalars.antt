@@ -4,7 +4,12 @@ use Rattle.graphql_lexical.specs.declared.kind.Kind.{Kind}
 use Rattle.graphql_grammar.specs.Tokens.{Text}
 use Rattle.graphql_grammar.specs.Tree.{Scalars}
 use Rattle.juniper_tokens.specs.Errors.{Error}
-use Rattle.juniper_values.specs.Scalar.{Content, Reading}
+use Rattle.juniper_values.specs.Scalar.{Content, Reading, boolean}
+use Rattle.juniper_values.specs.Default.{default_reading}
 
 abbrev pub stated : (Kind → Text → Reading) → (Bool → Content) → Scalars Content Error
 stated reading of_bool = record { read = reading; of_bool = of_bool }
+
+-- what the default scalar states
+abbrev pub default_scalars : Scalars Content Error
+default_scalars = stated default_reading boolean

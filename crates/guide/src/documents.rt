@@ -1,13 +1,13 @@
 //! A caller that stands on the parser's contract alone.
 ghost use Rattle.std.specs.Prelude.{IfOk, MatchBool};
 ghost use Rattle.std.specs.Str.{chars};
-ghost use Rattle.language_rows.specs.Example.{IsDocumentText};
+ghost use Rattle.guide.specs.Documents.{IsDocumentText};
 
 use juniper::{DefaultScalarValue, ParseFailure, parse_document_source};
 use std::alloc::{AllocError, Global};
 
 /// Whether a text is a document.
-#[tactic(auto, using(crate::proofs::Examples::some_tree, crate::proofs::Examples::no_tree))]
+#[tactic(auto, using(crate::proofs::Trees::some_tree, crate::proofs::Trees::no_tree))]
 pub fn is_document(alloc: Global, source: &str) -> Result<bool, AllocError>
     ensures { IfOk result (λ answer. MatchBool answer (IsDocumentText (chars source.now)) (¬ IsDocumentText (chars source.now))) }
 {

@@ -1,0 +1,9 @@
+-- A text that is a document.
+use Rattle.std.specs.Prelude.{ℕ, List}
+use Rattle.graphql_grammar.specs.Tree.{Definition}
+use Rattle.juniper_values.specs.Scalar.{Content}
+use Rattle.juniper.specs.Scalars.{default_scalars}
+use Rattle.juniper.specs.Promise.{HasTree}
+
+abbrev pub IsDocumentText : List ℕ → Type 0
+IsDocumentText source = (tree : List (Definition Content)) × HasTree default_scalars source tree

@@ -1,0 +1,22 @@
+//! What a field's argument is worth.
+
+use juniper::{Field, InputValue, ScalarValue, Variables};
+use std::alloc::{AllocError, Global};
+
+/// The value of a field's first argument of a name, each variable in it replaced by its value.
+///
+/// None where there is no such argument, and where it is a variable that has no value.
+pub fn argument_value<S: ScalarValue>(
+    alloc: Global,
+    field: &Field<'_, S>,
+    name: &str,
+    variables: &Variables<S>,
+) -> Result<Option<InputValue<S>>, AllocError> {
+    let Some(arguments) = &field.arguments else {
+        return Ok(None);
+    };
+    let Some(value) = arguments.item.get(name) else {
+        return Ok(None);
+    };
+    value.item.try_clone(alloc)?.into_const(alloc, variables)
+}
