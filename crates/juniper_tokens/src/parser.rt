@@ -30,9 +30,9 @@ pub struct Parser<'a> {
     source: &'a str,
     // Where the lines of the source begin.
     lines: LineTable,
-    // All tokens that the lexer had left.
+    // All tokens that the lexer had left. The text and the places of one are found when it comes next.
     ranges: Vec<TokenRange>,
-    // How many of them have been taken.
+    // How many have been taken.
     taken: usize,
     // The next token.
     current: Spanning<Token<'a>>,
