@@ -1,18 +1,19 @@
 -- The tokens of a lexer, gathered one after another.
 use Rattle.std.proofs.Common.{◌≡◌, ℕ, true, false, List, [], ◌∷◌, ◌++◌, ◌⊎◌, inl, inr, refl, sym, ◌∙◌, subst}
-use Rattle.std.specs.Prelude.{Some, Ok}
+use Rattle.std.specs.Prelude.{Some, Ok, ◌↔◌}
+use Rattle.std.specs.List.{All}
+use Rattle.std.proofs.lemmas.List.Elements.{All-nil, All-push}
 use Rattle.std.proofs.lemmas.Bool.{cases_Bool}
 use Rattle.std.proofs.lemmas.List.{map-append}
 use Rattle.graphql_lexical.specs.declared.kind.Kind.{Kind}
 use Rattle.graphql_lexical.specs.declared.kind.Kind.TheVariants.{EndOfFile}
 use Rattle.graphql_lexical.specs.Kinds.{same_kind}
 use Rattle.graphql_lexical.specs.Cutting.{Lexeme, Stands, Leads, CutFrom}
-use Rattle.juniper_tokens.specs.declared.span.Spanning.{Spanning}
-use Rattle.juniper_tokens.specs.declared.token.Token.{Token}
-use Rattle.juniper_tokens.specs.Tokens.{view_token, view_tokens}
+use Rattle.juniper_tokens.specs.declared.token_range.TokenRange.{TokenRange}
 use Rattle.juniper_tokens.specs.Cursor.{EndsOnce}
-use Rattle.juniper_tokens.specs.Lexing.{LexerState, GivesToken, lexer_steps}
+use Rattle.juniper_tokens.specs.Lexing.{LexerState}
 use Rattle.juniper_tokens.specs.Gathering.{StandsLaterOrEnded}
+use Rattle.juniper_tokens.specs.Ranges.{range_lexeme, range_lexemes, range_steps, IsRange}
 use Rattle.juniper_tokens.proofs.LexingByScan.{same_end}
 
 leads_more : (source : List ℕ) (xs : List Lexeme) (x : Lexeme) (k m n : ℕ) → Leads source k xs m → Stands source m x n → (x.kind ≡ EndOfFile → ⊥) → Leads source k (xs ++ x ∷ []) n
@@ -51,21 +52,35 @@ gathered_open s xs t g e = elim g.tokens [
   | inr d ↦ absurd (cc)
 ]
 
-gathered_token : (s : LexerState) (xs : List Lexeme) (t u : LexerState) (token : Spanning Token) → Leads s.source s.index xs t.index → t.source ≡ s.source → u.source ≡ t.source → GivesToken t token u → Gathered s (xs ++ view_token token ∷ []) u
-gathered_token s xs t u token l p q g =
-    let stands : Stands s.source t.index (view_token token) u.index = subst (λ (source : List ℕ). Stands source t.index (view_token token) u.index) p g.stands in
+gathered_token : (s : LexerState) (xs : List Lexeme) (t u : LexerState) (x : Lexeme) → Leads s.source s.index xs t.index → u.source ≡ s.source → Stands s.source t.index x u.index → ((u.ended ≡ true) ↔ (x.kind ≡ EndOfFile)) → Gathered s (xs ++ x ∷ []) u
+gathered_token s xs t u x l q stands ends =
     record {
-      source = q ∙ p;
+      source = q;
       tokens = elim (cases_Bool u.ended) [
-        | inl y ↦ inr (y, record { front = xs; last = view_token token; before = t.index; after = u.index; parts = refl; leads = l; stands = stands; ends = g.ends.0 y })
-        | inr n ↦ inl (n, leads_more s.source xs (view_token token) s.index t.index u.index l stands (λ e. let z : true ≡ false = sym (g.ends.1 e) ∙ n in cc))
+        | inl y ↦ inr (y, record { front = xs; last = x; before = t.index; after = u.index; parts = refl; leads = l; stands = stands; ends = ends.0 y })
+        | inr n ↦ inl (n, leads_more s.source xs x s.index t.index u.index l stands (λ e. let z : true ≡ false = sym (ends.1 e) ∙ n in cc))
       ];
     }
 
-pub gathered_more : (s : LexerState) (tokens : List (Spanning Token)) (t u : LexerState) (token : Spanning Token) → Gathered s (view_tokens tokens) t → lexer_steps t (Some (Ok token)) u → Gathered s (view_tokens (tokens ++ token ∷ [])) u
-gathered_more s tokens t u token g h =
-    subst (λ (xs : List Lexeme). Gathered s xs u) (sym (map-append view_token tokens (token ∷ [])))
-    (gathered_token s (view_tokens tokens) t u token (gathered_open s (view_tokens tokens) t g h.0) g.source h.1 h.2)
+-- these ranges of tokens have been gathered
+pub record GatheredRanges (s : LexerState) (ranges : List TokenRange) (t : LexerState) : Type 0 where
+  pub gathered : Gathered s (range_lexemes s.source ranges) t
+  pub are_ranges : All (IsRange s.source) ranges
+
+pub no_ranges : (s : LexerState) → s.ended ≡ false → GatheredRanges s [] s
+no_ranges s e = record { gathered = record { source = refl; tokens = inl (e, refl) }; are_ranges = All-nil (IsRange s.source) }
+
+pub ranges_more : (s : LexerState) (ranges : List TokenRange) (t u : LexerState) (r : TokenRange) → GatheredRanges s ranges t → range_steps t (Some (Ok r)) u → GatheredRanges s (ranges ++ r ∷ []) u
+ranges_more s ranges t u r g h =
+    let p : t.source ≡ s.source = g.gathered.source in
+    let stands = subst (λ (source : List ℕ). Stands source t.index (range_lexeme source r) u.index) p h.2.stands in
+    let open_yet = gathered_open s (range_lexemes s.source ranges) t g.gathered h.0 in
+    record {
+      gathered =
+          subst (λ (xs : List Lexeme). Gathered s xs u) (sym (map-append (range_lexeme s.source) ranges (r ∷ [])))
+          (gathered_token s (range_lexemes s.source ranges) t u (range_lexeme s.source r) open_yet (h.1 ∙ p) stands h.2.ends);
+      are_ranges = All-push (IsRange s.source) ranges r g.are_ranges (subst (λ (source : List ℕ). IsRange source r) p h.2.is_range);
+    }
 
 pub gathered_cut : (s : LexerState) (xs : List Lexeme) (t : LexerState) → Gathered s xs t → t.ended ≡ true → CutFrom s.source s.index xs
 gathered_cut s xs t g e = elim g.tokens [

@@ -34,7 +34,7 @@ use Rattle.juniper_tokens.specs.LexingByScan.{IsPlaced, past_gap, Scanned, Ends}
 use Rattle.juniper_tokens.proofs.Borders.{byte_at_within}
 use Rattle.juniper_tokens.proofs.Places.{place_on, token_end}
 
-byte_at_on : (j g : ℕ) (cs : List ℕ) → byte_at j cs + byte_at g (drop j cs) ≡ byte_at (j + g) cs
+pub byte_at_on : (j g : ℕ) (cs : List ℕ) → byte_at j cs + byte_at g (drop j cs) ≡ byte_at (j + g) cs
 byte_at_on j g cs = sym (ap (λ t. length (encodes t)) (take-add j g cs) ∙ (ap length (encodes-append (take j cs) (take g (drop j cs))) ∙ length-append (encodes (take j cs)) (encodes (take g (drop j cs)))))
 
 place_index : (cs : List ℕ) (k : ℕ) → k ≤ length cs → (place cs k).index ≡ k

@@ -13,3 +13,4 @@ pub mod Lines
 pub mod Lexing
 pub mod LexingByScan
 pub mod Gathering
+pub mod Ranges

@@ -89,10 +89,11 @@ line_place source starts k l start e w h =
     let found = place_found 0 0 0 0 source k refl w l start begins (omega (arith, h.before)) (λ next q. omega (arith, after next q)) in
     sym (found ∙ same_made _ _ _ _ _ _ (none_plus k) (none_plus l) (ap (λ x. x - start) (none_plus k))) ∙ place_fold [] (take k source)
 
-pub place_some : (source : List ℕ) (table : Lines) (k l start : ℕ) → table ≡ lines_of source → k ≤ table.count → IsOnLine table.starts k l start → Some (made k l (k - start)) ≡ place_within source k
-place_some source table k l start e w h =
-    let within : k ≤ length source = subst (λ (t : Lines). k ≤ t.count) e w in
-    ap Some (line_place source table.starts k l start (ap (λ (t : Lines). t.starts) e) within h) ∙ ap (λ b. cond b (Some (place source k)) None) (sym (le-leb k (length source) within))
+pub counted_within : (source : List ℕ) (table : Lines) (k : ℕ) → table ≡ lines_of source → k ≤ table.count → k ≤ length source
+counted_within source table k e w = subst (λ (t : Lines). k ≤ t.count) e w
+
+pub place_some : (source : List ℕ) (k : ℕ) (p : Place) → k ≤ length source → p ≡ place source k → Some p ≡ place_within source k
+place_some source k p w e = ap Some e ∙ ap (λ b. cond b (Some (place source k)) None) (sym (le-leb k (length source) w))
 
 not_within : (k n : ℕ) → n < k → nat_le k n ≡ false
 not_within k n l = elim (leb_tells k n) [

@@ -1,14 +1,13 @@
 -- The cursor's steps on the tokens that it holds.
-use Rattle.std.proofs.Common.{◌≡◌, ℕ, zero, suc, ◌+◌, ◌<◌, true, false, List, [], ◌∷◌, length, drop, Ok, Err, refl, sym, ap, ◌∙◌, subst, arith, add-one, length-drop}
+use Rattle.std.proofs.Common.{◌≡◌, ℕ, zero, suc, ◌+◌, ◌<◌, true, false, List, [], ◌∷◌, length, drop, Ok, Err, refl, sym, ap, ◌∙◌, subst, arith, add-one, length-drop, get_or, drop-cons}
 use Rattle.graphql_lexical.specs.declared.kind.Kind.{Kind}
 use Rattle.graphql_lexical.specs.declared.kind.Kind.TheVariants.{EndOfFile}
 use Rattle.graphql_lexical.specs.Kinds.{same_kind}
 use Rattle.graphql_lexical.specs.Cutting.{Lexeme}
-use Rattle.juniper_tokens.specs.declared.span.Spanning.{Spanning}
-use Rattle.juniper_tokens.specs.declared.token.Token.{Token}
+use Rattle.juniper_tokens.specs.declared.token_range.TokenRange.{TokenRange}
 use Rattle.juniper_tokens.specs.Errors.{UnexpectedEndOfFile}
-use Rattle.juniper_tokens.specs.Tokens.{view_tokens}
 use Rattle.juniper_tokens.specs.Cursor.{next_at, first_of, kind_at, EndsOnce}
+use Rattle.juniper_tokens.specs.Ranges.{range_lexeme, range_lexemes}
 
 -- the next token, which is not the end
 pub next_taken : (ts : List Lexeme) (t : Lexeme) → EndsOnce ts → t ≡ first_of ts → same_kind t.kind EndOfFile ≡ false → next_at ts ≡ Ok (t, drop 1 ts)
@@ -30,19 +29,30 @@ still_ended [] h e = absurd h
 still_ended (t ∷ []) h e = absurd (cc (e, ap (λ (k : Kind). same_kind k EndOfFile) h))
 still_ended (t ∷ u ∷ ts) h e = h.1
 
-pub some_left : (items : List (Spanning Token)) → EndsOnce (view_tokens items) → 0 < length items
-some_left [] h = absurd h
-some_left (t ∷ ts) h = omega arith
+-- ---- on the ranges that are left
 
-pub drop_one_more : (items : List (Spanning Token)) (i : ℕ) → view_tokens (drop (i + 1) items) ≡ drop 1 (view_tokens (drop i items))
-drop_one_more [] zero = refl
-drop_one_more [] (suc i) = rw add-one refl
-drop_one_more (x ∷ xs) zero = refl
-drop_one_more (x ∷ xs) (suc i) = rw add-one (sym (ap (λ k. view_tokens (drop k xs)) (add-one i)) ∙ drop_one_more xs i)
+pub some_left : (source : List ℕ) (ranges : List TokenRange) → EndsOnce (range_lexemes source ranges) → 0 < length ranges
+some_left source [] h = absurd h
+some_left source (r ∷ rs) h = omega arith
+
+pub drop_one_more : (source : List ℕ) (ranges : List TokenRange) (i : ℕ) → range_lexemes source (drop (i + 1) ranges) ≡ drop 1 (range_lexemes source (drop i ranges))
+drop_one_more source [] zero = refl
+drop_one_more source [] (suc i) = rw add-one refl
+drop_one_more source (x ∷ xs) zero = refl
+drop_one_more source (x ∷ xs) (suc i) = rw add-one (sym (ap (λ k. range_lexemes source (drop k xs)) (add-one i)) ∙ drop_one_more source xs i)
+
+-- what is left of these ranges once so many have been taken still ends once
+pub record StillEnds (source : List ℕ) (ranges : List TokenRange) (taken : ℕ) : Type 0 where
+  pub within : taken < length ranges
+  pub ended : EndsOnce (range_lexemes source (drop taken ranges))
 
 -- what a cursor keeps where it goes past a token
-pub left_ended : (items : List (Spanning Token)) (i : ℕ) → EndsOnce (view_tokens (drop i items)) → same_kind (kind_at (view_tokens (drop i items))) EndOfFile ≡ false → (i + 1 < length items) × EndsOnce (view_tokens (drop (i + 1) items))
-left_ended items i h e =
-    let g : EndsOnce (view_tokens (drop (i + 1) items)) = subst EndsOnce (sym (drop_one_more items i)) (still_ended _ h e) in
-    let l : 0 < length (drop (i + 1) items) = some_left (drop (i + 1) items) g in
-    (omega (arith, l, length-drop (i + 1) items), g)
+pub left_ended : (source : List ℕ) (ranges : List TokenRange) (i : ℕ) → EndsOnce (range_lexemes source (drop i ranges)) → same_kind (kind_at (range_lexemes source (drop i ranges))) EndOfFile ≡ false → StillEnds source ranges (i + 1)
+left_ended source ranges i h e =
+    let g : EndsOnce (range_lexemes source (drop (i + 1) ranges)) = subst EndsOnce (sym (drop_one_more source ranges i)) (still_ended _ h e) in
+    let l : 0 < length (drop (i + 1) ranges) = some_left source (drop (i + 1) ranges) g in
+    record { within = omega (arith, l, length-drop (i + 1) ranges); ended = g }
+
+-- the token that stands next
+pub first_left : (source : List ℕ) (ranges : List TokenRange) (i : ℕ) (r : TokenRange) → i < length ranges → get_or ranges i r ≡ r → first_of (range_lexemes source (drop i ranges)) ≡ range_lexeme source r
+first_left source ranges i r l e = ap (λ rs. first_of (range_lexemes source rs)) (drop-cons ranges i r l) ∙ ap (range_lexeme source) e

@@ -17,8 +17,7 @@ use Rattle.juniper_tokens.specs.declared.lexer.text.Border.{Border}
 use Rattle.juniper_tokens.specs.declared.lexer.machine.Punctuator.{Punctuator}
 use Rattle.juniper_tokens.specs.declared.lexer.machine.Punctuator.TheVariants as mark
 use Rattle.juniper_tokens.specs.Machine.{view_punctuator, punctuator_text}
-use Rattle.juniper_tokens.specs.Borders.{FollowsDigits}
-use Rattle.juniper_tokens.specs.Scans.{EndsString}
+use Rattle.juniper_tokens.specs.Borders.{FollowsDigits, EndsString}
 use Rattle.juniper_tokens.specs.Walks.{HasReached}
 
 -- the front of a text ends in this tail of ASCII characters

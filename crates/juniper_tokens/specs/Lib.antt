@@ -18,3 +18,4 @@ pub mod LineTables
 pub mod Lexing
 pub mod LexingByScan
 pub mod Gathering
+pub mod Ranges

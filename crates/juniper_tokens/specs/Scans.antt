@@ -1,5 +1,5 @@
 -- What a scan gives.
-use Rattle.std.specs.Prelude.{◌≡◌, ℕ, ◌≤◌, List, [], ◌∷◌, ◌++◌, length, take, Result, Ok, Err}
+use Rattle.std.specs.Prelude.{◌≡◌, ℕ, List, Result, Ok, Err}
 use Rattle.graphql_lexical.specs.Kinds.{LexicalError, UnknownEscapeSequence}
 use Rattle.graphql_lexical.specs.Scan as scans
 use Rattle.juniper_tokens.specs.Tokens.{token_kind, token_text}
@@ -7,7 +7,6 @@ use Rattle.juniper_tokens.specs.Errors.{view_lexer_error}
 use Rattle.juniper_tokens.specs.declared.lexer.scan.Found.{Found}
 use Rattle.juniper_tokens.specs.declared.lexer.scan.Missed.{Missed}
 use Rattle.juniper_tokens.specs.declared.lexer.scan.Missed.TheVariants as missed
-use Rattle.juniper_tokens.specs.ByteRuns.{byte_at}
 use Rattle.juniper_tokens.specs.Borders.{IsBorder}
 
 -- the one error whose text takes memory
@@ -26,10 +25,3 @@ Misses missed.Memory s = MissesEscape s
 abbrev pub MeetsScan : Result Found Missed → List ℕ → Result scans.Found scans.Missed → Type 0
 MeetsScan (Ok f) cs s = (s ≡ Ok (record { size = f.end.characters; kind = token_kind f.token; text = token_text f.token })) × IsBorder f.end cs
 MeetsScan (Err m) cs s = Misses m s
-
--- the border at which a text's front that is a quote, a text and a quote ends
-pub record EndsString (cs : List ℕ) (bytes characters : ℕ) : Type 0 where
-  pub units : List ℕ
-  pub whole : take characters cs ≡ 34 ∷ units ++ 34 ∷ []
-  pub within : characters ≤ length cs
-  pub border : bytes ≡ byte_at characters cs

@@ -1,5 +1,5 @@
 -- Tokens of the code, as the definitions see them.
-use Rattle.std.specs.Prelude.{ℕ, List, [], ◌∷◌, Bool, ◌&&◌, nat_eq, map}
+use Rattle.std.specs.Prelude.{ℕ, List, [], ◌∷◌, Bool, ◌&&◌, nat_eq}
 use Rattle.std.specs.Borrow.{Bor}
 use Rattle.std.specs.Cmp.Lexicographic.{pointwise}
 use Rattle.std.specs.Str.{chars}
@@ -72,9 +72,6 @@ shown_scalar t = shown (scalar_kind t) (scalar_text t)
 -- a token with its place
 abbrev pub view_token : Spanning Token → Lexeme
 view_token t = record { kind = token_kind t.item; text = token_text t.item; span = view_span t.span }
-
-abbrev pub view_tokens : List (Spanning Token) → List Lexeme
-view_tokens = map view_token
 
 abbrev pub view_name : Spanning (Bor (List ℕ)) → Lexeme
 view_name s = record { kind = kinds.Name; text = chars s.item.now; span = view_span s.span }

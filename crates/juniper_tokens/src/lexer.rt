@@ -1,13 +1,15 @@
 //! The lexer.
-ghost use Rattle.std.specs.Prelude.{◌≡◌, drop};
+ghost use Rattle.std.specs.Prelude.{◌≡◌, ◌<◌, ◌≤◌, drop, length, IfSome};
 ghost use Rattle.std.specs.Str.{chars};
 ghost use Rattle.graphql_lexical.specs.Scan.{scan};
-ghost use Rattle.juniper_tokens.specs.Lexing.{started, GivesItem};
+ghost use Rattle.juniper_tokens.specs.Borders.{IsBorder};
+ghost use Rattle.juniper_tokens.specs.Lexing.{started, items_left, GivesItem};
 ghost use Rattle.juniper_tokens.specs.LexingByScan.{past_gap, Scanned, Ends};
+ghost use Rattle.juniper_tokens.specs.Ranges.{GivesRangeItem, range_steps};
 
 mod machine;
 mod scan;
-mod text;
+pub(crate) mod text;
 mod walk;
 
 use crate::error::LexFailure;
@@ -17,6 +19,7 @@ use crate::lexer::walk::{walk_characters, walk_gap};
 use crate::position::SourcePosition;
 use crate::span::Spanning;
 use crate::token::Token;
+use crate::token_range::TokenRange;
 use std::alloc::Global;
 use std::marker::Model;
 
@@ -68,6 +71,24 @@ impl<'a> Lexer<'a> {
         self.alloc
     }
 
+    pub(crate) fn source(&self) -> &'a str
+        ensures { chars result.now ≡ self.now.source }
+    {
+        self.source
+    }
+
+    // Where the rest begins.
+    fn border(&self) -> Border
+        ensures characters { result.characters ≡ self.now.index }
+        ensures border { IsBorder result self.now.source }
+        ensures within { result.characters ≤ length self.now.source }
+    {
+        Border {
+            bytes: self.at,
+            characters: self.position.index(),
+        }
+    }
+
     // Goes past white space and comments.
     fn skip_gap(&mut self)
         ensures { self.new ≡ past_gap self.old }
@@ -107,15 +128,51 @@ impl<'a> Lexer<'a> {
         }
     }
 
+    // Takes the item that stands here, which may be the last.
+    fn take_item(&mut self) -> LexerResult<'a>
+        ensures source { self.new.source ≡ self.old.source }
+        ensures ends { Ends result self.new.ended }
+        ensures gives { Scanned result self.new.index self.old.source self.old.index (scan (drop self.old.index self.old.source)) }
+    {
+        let item = self.take_token();
+        self.ended = is_last(&item);
+        item
+    }
+
     // The next item of a lexer that has not ended.
     fn next_item(&mut self) -> LexerResult<'a>
         ensures source { self.new.source ≡ self.old.source }
         ensures gives { GivesItem self.old result self.new }
     {
         self.skip_gap();
-        let item = self.take_token();
-        self.ended = is_last(&item);
-        item
+        self.take_item()
+    }
+
+    // The same, of a token its range alone.
+    fn next_item_range(&mut self) -> Result<TokenRange, LexFailure>
+        ensures source { self.new.source ≡ self.old.source }
+        ensures gives { GivesRangeItem self.old result self.new }
+    {
+        self.skip_gap();
+        let start = self.border();
+        let token = self.take_item()?;
+        Ok(TokenRange {
+            kind: token.item.kind(),
+            start,
+            end: self.border(),
+        })
+    }
+
+    /// The next item, as `next` gives it, of a token its range alone.
+    pub(crate) fn next_range(&mut self) -> Option<Result<TokenRange, LexFailure>>
+        ensures steps { range_steps self.old result self.new }
+        ensures fewer { IfSome result (λ _. items_left self.new < items_left self.old) }
+    {
+        if self.ended {
+            None
+        } else {
+            Some(self.next_item_range())
+        }
     }
 }
 

@@ -13,6 +13,7 @@ mod span;
 #[cfg(test)]
 mod tests;
 mod token;
+mod token_range;
 
 pub use byte_classes::{ByteClass, byte_class};
 pub use error::{

@@ -1,6 +1,7 @@
 //! Positions from the beginnings of lines.
-ghost use Rattle.std.specs.Prelude.{◌≡◌, List, ℕ, IfOk};
+ghost use Rattle.std.specs.Prelude.{◌≡◌, ◌≤◌, List, ℕ, length, IfOk};
 ghost use Rattle.std.specs.Str.{chars};
+ghost use Rattle.graphql_lexical.specs.Place.{place};
 ghost use Rattle.juniper_tokens.specs.LineTables.{lines_of, place_within, StartLines, IsOnLine};
 
 use crate::position::SourcePosition;
@@ -57,8 +58,15 @@ impl LineTable {
         if index > self.count {
             return None;
         }
+        Some(self.place(index))
+    }
+
+    /// The place behind `index` characters of a source that has as many.
+    pub(crate) fn place(&self, index: usize) -> SourcePosition
+        ensures { (source : List ℕ) → self.now ≡ lines_of source → index ≤ length source → result ≡ place source index }
+    {
         let line = line_of(&self.starts, index);
-        Some(SourcePosition::new(index, line.number, index - line.start))
+        SourcePosition::new(index, line.number, index - line.start)
     }
 }
 

@@ -1,17 +1,23 @@
 //! The cursor over the tokens of a source.
 ghost use Rattle.std.specs.Prelude.{◌≡◌, ◌<◌, ◌≤◌, ◌∷◌, drop, false, true, length, option_map, OnOk, IfOk};
+ghost use Rattle.std.specs.List.{All};
+ghost use Rattle.std.specs.Str.{chars};
 ghost use Rattle.graphql_lexical.specs.declared.kind.Kind.TheVariants.{EndOfFile};
 ghost use Rattle.graphql_lexical.specs.Kinds.{same_kind};
 ghost use Rattle.graphql_lexical.specs.Cutting.{Lexeme, CutFrom, BreaksFrom};
 ghost use Rattle.juniper_tokens.specs.Errors.{view_lexer_error};
 ghost use Rattle.juniper_tokens.specs.Gathering.{IfFault, IfMemory, StandsLaterOrEnded};
-ghost use Rattle.juniper_tokens.specs.Tokens.{token_kind, token_text, view_token, view_tokens, view_name};
+ghost use Rattle.juniper_tokens.specs.LineTables.{lines_of};
+ghost use Rattle.juniper_tokens.specs.Ranges.{IsRange, range_lexemes};
+ghost use Rattle.juniper_tokens.specs.Tokens.{token_kind, token_text, view_token, view_name};
 ghost use Rattle.juniper_tokens.specs.Cursor.{Gives, FrontGives, OnMemory, Unmoved, EndsOnce, first_of, kind_at, is_wanted, next_at, refused_at, expect_at, expect_name_at, skip_at};
 
 use crate::error::{LexFailure, OptionParseResult, ParseError, ParseFailure, ParseResult};
 use crate::lexer::Lexer;
+use crate::line_table::LineTable;
 use crate::span::Spanning;
 use crate::token::Token;
+use crate::token_range::TokenRange;
 use std::alloc::Global;
 use std::marker::Model;
 
@@ -21,29 +27,36 @@ use std::marker::Model;
 #[derive(Drop)]
 pub struct Parser<'a> {
     alloc: Global,
-    tokens: Vec<Spanning<Token<'a>>>,
+    source: &'a str,
+    // Where the lines of the source begin.
+    lines: LineTable,
+    // All tokens that the lexer had left. The text and the places of one are found when it comes next.
+    ranges: Vec<TokenRange>,
+    // How many have been taken.
     taken: usize,
+    // The next token.
+    current: Spanning<Token<'a>>,
 }
 
 impl<'a> Model for Parser<'a> {
-    ghost use Rattle.std.specs.Prelude.{List, ◌<◌, length, drop};
+    ghost use Rattle.std.specs.Prelude.{List, drop};
+    ghost use Rattle.std.specs.Str.{chars};
     ghost use Rattle.graphql_lexical.specs.Cutting.{Lexeme};
-    ghost use Rattle.juniper_tokens.specs.Tokens.{view_tokens};
-    ghost use Rattle.juniper_tokens.specs.Cursor.{EndsOnce};
+    ghost use Rattle.juniper_tokens.specs.Ranges.{range_lexemes, IsCursor};
 
     ghost Value = { List Lexeme };
 
-    ghost view = { λ p. view_tokens (drop p.taken p.tokens.items) };
+    ghost view = { λ p. range_lexemes (chars p.source.now) (drop p.taken p.ranges.items) };
 
-    ghost invariant = { λ p. (p.taken < length p.tokens.items) × EndsOnce (view_tokens (drop p.taken p.tokens.items)) };
+    ghost invariant = { λ p. IsCursor (chars p.source.now) p.lines p.ranges.items p.taken p.current };
 }
 
 impl<'a> Parser<'a> {
     /// A cursor at the first of the tokens that a lexer has left, of which all are taken first.
     ///
     /// So the lexer's first fault is the answer, whatever tokens stand before it. `Memory` says that the list of
-    /// tokens, or the text of a fault, could not grow. Unless memory ran out the lexer has ended. The cursor keeps the
-    /// lexer's allocator.
+    /// tokens, the table of lines or the text of a fault could not grow. Unless memory ran out the lexer has ended.
+    /// The cursor keeps the lexer's allocator.
     pub fn new(lexer: &mut Lexer<'a>) -> Result<Self, LexFailure>
         requires { lexer.old.ended ≡ false }
         ensures tokens { IfOk result (λ tokens. CutFrom lexer.old.source lexer.old.index tokens) }
@@ -53,25 +66,40 @@ impl<'a> Parser<'a> {
         ensures lexer { IfMemory result (StandsLaterOrEnded lexer.old lexer.new) (lexer.new.ended ≡ true) }
     {
         let alloc = lexer.allocator();
-        let mut tokens = Vec::new(alloc);
-        while let Some(item) = lexer.next() {
-            let token = item?;
-            if tokens.push(token).is_err() {
+        let mut ranges = Vec::new(alloc);
+        while let Some(item) = lexer.next_range() {
+            let range = item?;
+            if ranges.push(range).is_err() {
                 return Err(LexFailure::Memory);
             }
         }
-        Ok(Parser::from_tokens(alloc, tokens))
+        let source = lexer.source();
+        match LineTable::new(alloc, source) {
+            Ok(lines) => Ok(Parser::from_ranges(alloc, source, lines, ranges)),
+            Err(_) => Err(LexFailure::Memory),
+        }
     }
 
     // A cursor at the first of these tokens.
-    fn from_tokens(alloc: Global, tokens: Vec<Spanning<Token<'a>>>) -> Self
-        requires { EndsOnce (view_tokens tokens.items) }
-        ensures { result ≡ view_tokens tokens.entry.items }
+    fn from_ranges(
+        alloc: Global,
+        source: &'a str,
+        lines: LineTable,
+        ranges: Vec<TokenRange>,
+    ) -> Self
+        requires lines { lines ≡ lines_of (chars source.now) }
+        requires ranges { All (IsRange (chars source.now)) ranges.items }
+        requires ends { EndsOnce (range_lexemes (chars source.now) ranges.items) }
+        ensures { result ≡ range_lexemes (chars source.now) ranges.items }
     {
+        let current = ranges[0].located(source, &lines);
         Parser {
             alloc,
-            tokens,
+            source,
+            lines,
+            ranges,
             taken: 0,
+            current,
         }
     }
 
@@ -85,7 +113,7 @@ impl<'a> Parser<'a> {
         ensures first { view_token result.now ≡ first_of self.now }
         ensures ended { EndsOnce self.now }
     {
-        &self.tokens[self.taken]
+        &self.current
     }
 
     // A copy of the next token.
@@ -115,6 +143,7 @@ impl<'a> Parser<'a> {
         ensures { self.new ≡ drop 1 self.old }
     {
         self.taken += 1;
+        self.current = self.ranges[self.taken].located(self.source, &self.lines);
     }
 
     /// Takes the next token. At the end it answers `UnexpectedEndOfFile`, and nothing is taken.

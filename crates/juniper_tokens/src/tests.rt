@@ -1,6 +1,8 @@
 //! Rows of the lexical grammar, and what the cursor answers.
 ghost use Rattle.juniper_tokens.specs.Delimited.{Leaves};
 
+mod places;
+
 use crate::{
     ByteClass, Kind, LexFailure, Lexer, LexerError, LexerResult, LineTable, ParseError,
     ParseFailure, ParseResult, Parser, ScalarToken, SourcePosition, Span, Spanning, Token,

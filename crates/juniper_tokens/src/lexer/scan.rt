@@ -1,20 +1,19 @@
 //! The token at the front of a text, or the fault there, from the state in which the steps stop.
-ghost use Rattle.std.specs.Prelude.{◌≡◌, ◌+◌, ◌-◌, ◌<◌, ◌^◌, ◌++◌, drop, take, length, ◌≤◌, IfOk};
+ghost use Rattle.std.specs.Prelude.{◌≡◌, ◌+◌, ◌-◌, ◌<◌, ◌^◌, ◌++◌, drop, length, ◌≤◌, IfOk};
 ghost use Rattle.std.specs.Str.{chars};
-ghost use Rattle.graphql_lexical.specs.declared.kind.Kind.TheVariants.{String as string_kind};
 ghost use Rattle.graphql_lexical.specs.Kinds.{UnknownEscapeSequence};
-ghost use Rattle.graphql_lexical.specs.Tokens.{text_of};
 ghost use Rattle.graphql_lexical.specs.Scan as scans;
 ghost use Rattle.graphql_lexical.specs.Scan.{missed, stopped, after_dots, after_units, after_backslash, after_u, after_zero, answer, scan, reach, step as character_step};
 ghost use Rattle.juniper_tokens.specs.Borders.{IsBorder, FollowsDigits};
 ghost use Rattle.juniper_tokens.specs.Machine.{view_state};
-ghost use Rattle.juniper_tokens.specs.Scans.{MeetsScan, Misses, EndsString};
+ghost use Rattle.juniper_tokens.specs.Scans.{MeetsScan, Misses};
 ghost use Rattle.juniper_tokens.specs.Walks.{HasReached};
 
 use crate::error::LexerError;
 use crate::lexer::machine::State;
 use crate::lexer::text::{
     Border, count_alphanumerics, first_character, first_text, joined, text_before, text_from,
+    unquoted,
 };
 use crate::lexer::walk::{Reached, walk_token};
 use crate::token::{ScalarToken, Token};
@@ -166,27 +165,6 @@ fn scan_unknown<'a>(text: &'a str) -> Result<Found<'a>, Missed>
             },
         }),
     }
-}
-
-// The text between the quotes of a string.
-fn unquoted(text: &str, end: Border) -> &str
-    requires { EndsString (chars text.now) end.bytes end.characters }
-    ensures { chars result.now ≡ text_of string_kind (take end.characters (chars text.now)) }
-{
-    let units = text_before(
-        text,
-        Border {
-            bytes: end.bytes - 1,
-            characters: end.characters - 1,
-        },
-    );
-    text_from(
-        units,
-        Border {
-            bytes: 1,
-            characters: 1,
-        },
-    )
 }
 
 // The token or the fault where the steps have stopped.

@@ -2,9 +2,11 @@
 ghost use Rattle.std.specs.Prelude.{◌≡◌, ◌+◌, ◌∷◌, ◌++◌, [], take, drop, length, MatchOption, IfOk, ◌||◌};
 ghost use Rattle.std.specs.Str.{chars};
 ghost use Rattle.std.specs.String.{string_bytes};
+ghost use Rattle.graphql_lexical.specs.declared.kind.Kind.TheVariants.{String as string_kind};
 ghost use Rattle.graphql_lexical.specs.Characters.{is_letter, is_digit};
 ghost use Rattle.graphql_lexical.specs.Reading.{counted};
-ghost use Rattle.juniper_tokens.specs.Borders.{IsBorder};
+ghost use Rattle.graphql_lexical.specs.Tokens.{text_of};
+ghost use Rattle.juniper_tokens.specs.Borders.{IsBorder, EndsString};
 
 use std::alloc::{AllocError, Global};
 
@@ -30,6 +32,27 @@ pub(crate) fn text_from(text: &str, start: Border) -> &str
     ensures length { start.bytes + length result.now ≡ length text.now }
 {
     &text[start.bytes..]
+}
+
+/// What stands between the quotes of a string that ends at a border.
+pub(crate) fn unquoted(text: &str, end: Border) -> &str
+    requires { EndsString (chars text.now) end.bytes end.characters }
+    ensures { chars result.now ≡ text_of string_kind (take end.characters (chars text.now)) }
+{
+    let units = text_before(
+        text,
+        Border {
+            bytes: end.bytes - 1,
+            characters: end.characters - 1,
+        },
+    );
+    text_from(
+        units,
+        Border {
+            bytes: 1,
+            characters: 1,
+        },
+    )
 }
 
 /// The first character.

@@ -1,10 +1,9 @@
-use Rattle.juniper_tokens.specs.Tokens.{view_tokens}
 use Rattle.juniper_tokens.specs.Lexing.{items_left}
-use Rattle.juniper_tokens.proofs.Gathering.{Gathered}
+use Rattle.juniper_tokens.proofs.Gathering.{GatheredRanges}
 use Rattle.juniper_tokens.proofs.parser.Parser.new.Given as goal
 
 abbrev pub invariant-loop-item : goal.invariant-loop-item
-invariant-loop-item l = Gathered l.fn.lexer (view_tokens l.tokens.items) l.lexer
+invariant-loop-item l = GatheredRanges l.fn.lexer l.ranges.items l.lexer
 
 abbrev pub decreases-loop-item : goal.decreases-loop-item
 decreases-loop-item l = items_left l.lexer

@@ -1,6 +1,6 @@
 use Rattle.std.proofs.Common.{arith, ◌∙◌, ap, drop}
 use Rattle.juniper_tokens.proofs.Stops.{string_back, unquoted_text, first_quote}
-use Rattle.juniper_tokens.proofs.lexer.scan.unquoted.Goals as goal
+use Rattle.juniper_tokens.proofs.lexer.text.unquoted.Goals as goal
 
 pub text_before-units-requires : goal.text_before-units-requires
 text_before-units-requires c = let h = string_back _ _ _ c.requires in omega (arith, h.bytes, c.requires.border)

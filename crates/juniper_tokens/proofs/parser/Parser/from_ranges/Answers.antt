@@ -1,0 +1,14 @@
+use Rattle.std.proofs.Common.{◌∙◌, sym}
+use Rattle.std.specs.Str.{chars}
+use Rattle.juniper_tokens.proofs.Steps.{some_left, first_left}
+use Rattle.juniper_tokens.proofs.parser.Parser.from_ranges.Goals as goal
+
+pub invariant_of-result : goal.invariant_of-result
+invariant_of-result c =
+    let source = chars c.args.source.now in
+    record {
+      lines_are = c.requires.lines;
+      are_ranges = c.requires.ranges;
+      ended = c.requires.ends;
+      first = c.located-current.ensures ∙ sym (first_left source c.args.ranges.items 0 _ (some_left source c.args.ranges.items c.requires.ends) (sym c.index.ensures));
+    }
