@@ -9,3 +9,4 @@ pub mod Promise
 pub mod Equality
 pub mod EqualityLaws
 pub mod Named
+pub mod Sources

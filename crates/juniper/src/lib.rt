@@ -8,6 +8,7 @@ mod directives;
 mod document;
 mod equal;
 mod items;
+pub mod laws;
 mod next;
 mod selection;
 mod spans;
