@@ -2,7 +2,8 @@
 use crate::{
     Arguments, DefaultScalarValue, Definition, Field, InputValue, Lexer, Operation, OwnedDocument,
     ParseFailure, ParseResult, Parser, Selection, Span, Spanning, Token, Type, TypeModifier,
-    parse_document_source, parse_type, parse_value_literal,
+    VariableDefinition, VariableDefinitions, parse_document_source, parse_type,
+    parse_value_literal,
 };
 use std::alloc::{AllocError, Global};
 use std::test::Fail;
@@ -219,8 +220,10 @@ fn a_field_with_all_its_parts(rt: HostRuntime) -> Result<(), Fail> {
     assert_eq!(rt; indexes(query.span), (0, 21));
     let outer = field(&query.item.selection_set).ok_or("no field")?;
     assert_eq!(rt; indexes(outer.span), (1, 20));
-    let alias = outer.item.alias.ok_or("no alias")?;
-    assert_eq!(rt; indexes(alias.span), (1, 2));
+    match &outer.item.alias {
+        Some(alias) => assert_eq!(rt; indexes(alias.span), (1, 2)),
+        None => panic!(rt; "no alias"),
+    }
     assert_eq!(rt; indexes(outer.item.name.span), (3, 4));
     let arguments = outer.item.arguments.as_ref().ok_or("no arguments")?;
     assert_eq!(rt; indexes(arguments.span), (4, 15));
@@ -241,6 +244,14 @@ fn arguments<'d, 'a>(
     found.item.arguments.as_ref()
 }
 
+// The name of the first argument that is gone over.
+fn first_name<'d, 'a>(given: &'d Arguments<'a, DefaultScalarValue>) -> Option<&'a str> {
+    for argument in given.iter() {
+        return Some(argument.0.item);
+    }
+    None
+}
+
 #[test]
 fn arguments_are_found_by_name(rt: HostRuntime) -> Result<(), Fail> {
     let found = document(rt.alloc(), "{a(x:1 x:2 y:3)}")?;
@@ -250,9 +261,7 @@ fn arguments_are_found_by_name(rt: HostRuntime) -> Result<(), Fail> {
     assert_eq!(rt; indexes(first.span), (5, 6));
     assert!(rt; first.item == InputValue::scalar(DefaultScalarValue::Int(1)));
     assert!(rt; given.item.get("z").is_none());
-    let mut names = given.item.iter();
-    let name = names.next().ok_or("no name")?;
-    assert_eq!(rt; name.0.item, "x");
+    assert_eq!(rt; first_name(&given.item), Some("x"));
     Ok(())
 }
 
@@ -345,6 +354,26 @@ fn arguments_are_given_in_their_order(rt: HostRuntime) -> Result<(), Fail> {
     Ok(())
 }
 
+type Defined<'a> = VariableDefinitions<'a, DefaultScalarValue>;
+
+// The first definition that is gone over.
+fn first_variable<'d, 'a>(
+    defined: &'d Defined<'a>,
+) -> Option<&'d VariableDefinition<'a, DefaultScalarValue>> {
+    for definition in defined.iter() {
+        return Some(&definition.1);
+    }
+    None
+}
+
+// The place of the first definition's name.
+fn first_place<'d, 'a>(defined: &'d Defined<'a>) -> Option<Span> {
+    for definition in defined.iter() {
+        return Some(definition.0.span);
+    }
+    None
+}
+
 #[test]
 fn a_query_with_a_variable(rt: HostRuntime) -> Result<(), Fail> {
     let found = document(rt.alloc(), "query Q($v:[T!]=[1]@d(x:$v)){a}")?;
@@ -356,17 +385,15 @@ fn a_query_with_a_variable(rt: HostRuntime) -> Result<(), Fail> {
         .as_ref()
         .ok_or("no variables")?;
     assert_eq!(rt; indexes(variables.span), (7, 28));
-    let mut definitions = variables.item.iter();
-    let definition = definitions.next().ok_or("no definition")?;
-    assert_eq!(rt; definition.0.item, "v");
-    assert_eq!(rt; indexes(definition.0.span), (8, 10));
-    assert_eq!(rt; indexes(definition.1.var_type.span), (11, 15));
-    let default = definition.1.default_value.as_ref().ok_or("no default")?;
+    let name = first_place(&variables.item).ok_or("no name")?;
+    let definition = first_variable(&variables.item).ok_or("no definition")?;
+    assert_eq!(rt; indexes(name), (8, 10));
+    assert_eq!(rt; indexes(definition.var_type.span), (11, 15));
+    let default = definition.default_value.as_ref().ok_or("no default")?;
     assert_eq!(rt; indexes(default.span), (16, 19));
-    let directives = definition.1.directives.as_ref().ok_or("no directives")?;
+    let directives = definition.directives.as_ref().ok_or("no directives")?;
     let directive = directives.get(0).ok_or("no directive")?;
     assert_eq!(rt; indexes(directive.span), (19, 27));
-    assert!(rt; definitions.next().is_none());
     Ok(())
 }
 
@@ -400,8 +427,10 @@ fn inline_fragments_stand_with_and_without_a_type(rt: HostRuntime) -> Result<(),
     match set.get(0) {
         Some(Selection::InlineFragment(inline)) => {
             assert_eq!(rt; indexes(inline.span), (1, 11));
-            let condition = inline.item.type_condition.ok_or("no condition")?;
-            assert_eq!(rt; condition.item, "U");
+            match &inline.item.type_condition {
+                Some(condition) => assert_eq!(rt; condition.item, "U"),
+                None => panic!(rt; "no condition"),
+            }
         }
         _ => panic!(rt; "no inline fragment"),
     }
