@@ -10,3 +10,4 @@ pub mod Equality
 pub mod EqualityLaws
 pub mod Named
 pub mod ReadBack
+pub mod Sources

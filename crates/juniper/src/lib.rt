@@ -12,6 +12,8 @@ pub mod laws;
 mod next;
 mod selection;
 mod spans;
+#[cfg(test)]
+mod tests;
 mod types;
 mod value;
 mod variables;

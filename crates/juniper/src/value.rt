@@ -5,14 +5,15 @@ ghost use Rattle.graphql_lexical.specs.Kinds.{same_kind};
 ghost use Rattle.graphql_grammar.specs.Reading.{by_name};
 ghost use Rattle.juniper_tokens.specs.Tokens.{token_kind, token_text};
 ghost use Rattle.juniper_tokens.specs.Spans.{view_span};
-ghost use Rattle.juniper_tokens.specs.Cursor.{EndsOnce, Gives};
+ghost use Rattle.juniper_tokens.specs.Cursor.{EndsOnce, Gives, OnMemory};
+ghost use Rattle.juniper_tokens.specs.Delimited.{IsRest};
 ghost use Rattle.juniper.specs.Promise.{AnswersValue};
 ghost use Rattle.juniper.specs.View.{view_value, view_object_field};
 ghost use Rattle.juniper.specs.Values.{view_list, values_read, fields_read, list_read, object_read, variable_read, literal_read, literal_here, name_read, value_read, field_read};
 ghost use Rattle.juniper.specs.Scalars.{stated};
 ghost use Rattle.juniper_values.specs.Scalar.{MeetsReading};
 
-use crate::next::{next_kind, same_text};
+use crate::next::{expect, expect_name, next_kind, same_text, skip, take};
 use juniper_tokens::{Kind, ParseError, ParseFailure, ParseResult, Parser, Spanning, Token};
 use juniper_values::{InputValue, ReadFailure, ScalarValue};
 use std::alloc::{AllocError, Global};
@@ -20,13 +21,15 @@ use std::alloc::{AllocError, Global};
 /// Takes the value that stands next; constant ones have no variables (GraphQL specification, October 2021, section 2.9).
 ///
 /// A value is answered exactly where a front of the tokens is one. Else the tokens are refused at the first one with
-/// which no value goes on, which is taken, unless it is the end.
-#[tactic(auto, using(crate::proofs::Literals::answers_value))]
+/// which no value goes on, which is taken, unless it is the end. Where memory ran out, a rest of
+/// the tokens is left.
+#[tactic(auto, using(crate::proofs::Literals::answers_value, crate::proofs::Rests::on_memory))]
 pub fn parse_value_literal<'a, S: ScalarValue>(
     parser: &mut Parser<'a>,
     is_const: bool,
 ) -> ParseResult<InputValue<S>>
-    ensures { AnswersValue (stated S.reading S.of_bool) (not is_const) (view_value S.content) result parser.old parser.new }
+    ensures answers { AnswersValue (stated S.reading S.of_bool) (not is_const) (view_value S.content) result parser.old parser.new }
+    ensures memory { OnMemory result (IsRest parser.old parser.new) }
 {
     parse_value(parser, is_const)
 }
@@ -34,7 +37,7 @@ pub fn parse_value_literal<'a, S: ScalarValue>(
 /// `Value(c) = a scalar token that the scalar type reads | Name | "$" Name where c is free
 ///           | "[" Value(c)* "]" | "{" (Name ":" Value(c))* "}"`
 #[cycle(value)]
-#[tactic(auto, unfolding(crate::specs::Values::value_read))]
+#[tactic(auto, using(crate::proofs::Rests::further), unfolding(crate::specs::Values::value_read))]
 pub(crate) fn parse_value<'a, S: ScalarValue>(
     parser: &mut Parser<'a>,
     is_const: bool,
@@ -42,6 +45,7 @@ pub(crate) fn parse_value<'a, S: ScalarValue>(
     ensures gives { Gives (view_value S.content) result parser.new (value_read (stated S.reading S.of_bool) (not is_const) parser.old) }
     ensures ended { EndsOnce parser.old }
     ensures shorter { OnOk result (length parser.new < length parser.old) }
+    ensures rest { IsRest parser.old parser.new }
 {
     match next_kind(parser) {
         Kind::BracketOpen => parse_list(parser, is_const),
@@ -54,15 +58,16 @@ pub(crate) fn parse_value<'a, S: ScalarValue>(
 
 /// `"[" Value(c)* "]"`
 #[cycle(value)]
-#[tactic(auto, unfolding(crate::specs::Values::list_read))]
+#[tactic(auto, using(crate::proofs::Rests::further), unfolding(crate::specs::Values::list_read))]
 fn parse_list<'a, S: ScalarValue>(
     parser: &mut Parser<'a>,
     is_const: bool,
 ) -> ParseResult<InputValue<S>>
     ensures gives { Gives (view_value S.content) result parser.new (list_read (stated S.reading S.of_bool) (not is_const) parser.old) }
     ensures shorter { OnOk result (length parser.new < length parser.old) }
+    ensures rest { IsRest parser.old parser.new }
 {
-    let opening = parser.expect(&Token::BracketOpen)?.span;
+    let opening = expect(parser, &Token::BracketOpen)?.span;
     let items = parse_items(parser, is_const)?;
     let end = items.span.end;
     Ok(Spanning::start_end(&opening.start, &end, InputValue::List(items.item)))
@@ -70,16 +75,18 @@ fn parse_list<'a, S: ScalarValue>(
 
 /// `Value(c)* "]"`, with the place of the bracket.
 #[cycle(value)]
+#[tactic(auto, using(crate::proofs::Rests::further))]
 fn parse_items<'a, S: ScalarValue>(
     parser: &mut Parser<'a>,
     is_const: bool,
 ) -> ParseResult<Vec<Spanning<InputValue<S>>>>
     ensures gives { Gives (view_list (view_value S.content)) result parser.new (values_read (stated S.reading S.of_bool) (not is_const) parser.old) }
     ensures shorter { OnOk result (length parser.new < length parser.old) }
+    ensures rest { IsRest parser.old parser.new }
 {
     let mut items = Vec::new(parser.allocator());
     loop {
-        if let Some(closing) = parser.skip(&Token::BracketClose)? {
+        if let Some(closing) = skip(parser, &Token::BracketClose)? {
             return Ok(Spanning::new(closing.span, items));
         }
         items.push(parse_value(parser, is_const)?)?;
@@ -88,15 +95,16 @@ fn parse_items<'a, S: ScalarValue>(
 
 /// `"{" (Name ":" Value(c))* "}"`
 #[cycle(value)]
-#[tactic(auto, unfolding(crate::specs::Values::object_read))]
+#[tactic(auto, using(crate::proofs::Rests::further), unfolding(crate::specs::Values::object_read))]
 fn parse_object<'a, S: ScalarValue>(
     parser: &mut Parser<'a>,
     is_const: bool,
 ) -> ParseResult<InputValue<S>>
     ensures gives { Gives (view_value S.content) result parser.new (object_read (stated S.reading S.of_bool) (not is_const) parser.old) }
     ensures shorter { OnOk result (length parser.new < length parser.old) }
+    ensures rest { IsRest parser.old parser.new }
 {
-    let opening = parser.expect(&Token::CurlyOpen)?.span;
+    let opening = expect(parser, &Token::CurlyOpen)?.span;
     let fields = parse_fields(parser, is_const)?;
     let end = fields.span.end;
     Ok(Spanning::start_end(&opening.start, &end, InputValue::Object(fields.item)))
@@ -104,16 +112,18 @@ fn parse_object<'a, S: ScalarValue>(
 
 /// `(Name ":" Value(c))* "}"`, with the place of the brace.
 #[cycle(value)]
+#[tactic(auto, using(crate::proofs::Rests::further))]
 fn parse_fields<'a, S: ScalarValue>(
     parser: &mut Parser<'a>,
     is_const: bool,
 ) -> ParseResult<Vec<(Spanning<String>, Spanning<InputValue<S>>)>>
     ensures gives { Gives (view_list (view_object_field S.content)) result parser.new (fields_read (stated S.reading S.of_bool) (not is_const) parser.old) }
     ensures shorter { OnOk result (length parser.new < length parser.old) }
+    ensures rest { IsRest parser.old parser.new }
 {
     let mut fields = Vec::new(parser.allocator());
     loop {
-        if let Some(closing) = parser.skip(&Token::CurlyClose)? {
+        if let Some(closing) = skip(parser, &Token::CurlyClose)? {
             return Ok(Spanning::new(closing.span, fields));
         }
         fields.push(parse_object_field(parser, is_const)?)?;
@@ -122,40 +132,43 @@ fn parse_fields<'a, S: ScalarValue>(
 
 /// `Name ":" Value(c)`
 #[cycle(value)]
-#[tactic(auto, unfolding(crate::specs::Values::field_read))]
+#[tactic(auto, using(crate::proofs::Rests::further), unfolding(crate::specs::Values::field_read))]
 fn parse_object_field<'a, S: ScalarValue>(
     parser: &mut Parser<'a>,
     is_const: bool,
 ) -> Result<(Spanning<String>, Spanning<InputValue<S>>), ParseFailure>
     ensures gives { Gives (view_object_field S.content) result parser.new (field_read (stated S.reading S.of_bool) (not is_const) parser.old) }
     ensures shorter { OnOk result (length parser.new < length parser.old) }
+    ensures rest { IsRest parser.old parser.new }
 {
-    let key = parser.expect_name()?;
-    parser.expect(&Token::Colon)?;
+    let key = expect_name(parser)?;
+    expect(parser, &Token::Colon)?;
     let value = parse_value(parser, is_const)?;
     let text = String::from_str(parser.allocator(), key.item)?;
     Ok((Spanning::new(key.span, text), value))
 }
 
 /// `"$" Name`
-#[tactic(auto, using(crate::proofs::ValueViews::view_of_variable), unfolding(crate::specs::Values::variable_read))]
+#[tactic(auto, using(crate::proofs::Rests::further, crate::proofs::ValueViews::view_of_variable), unfolding(crate::specs::Values::variable_read))]
 fn parse_variable<'a, S: ScalarValue>(parser: &mut Parser<'a>) -> ParseResult<InputValue<S>>
     ensures gives { Gives (view_value S.content) result parser.new (variable_read (stated S.reading S.of_bool) parser.old) }
     ensures shorter { OnOk result (length parser.new < length parser.old) }
+    ensures rest { IsRest parser.old parser.new }
 {
-    let dollar = parser.expect(&Token::Dollar)?.span;
-    let name = parser.expect_name()?;
+    let dollar = expect(parser, &Token::Dollar)?.span;
+    let name = expect_name(parser)?;
     let text = String::from_str(parser.allocator(), name.item)?;
     Ok(Spanning::start_end(&dollar.start, &name.span.end, InputValue::Variable(text)))
 }
 
 /// A scalar token. Another token is refused.
-#[tactic(auto, using(crate::proofs::ValueViews::view_of_scalar), unfolding(crate::specs::Values::literal_read))]
+#[tactic(auto, using(crate::proofs::Rests::further, crate::proofs::ValueViews::view_of_scalar), unfolding(crate::specs::Values::literal_read))]
 fn parse_scalar<'a, S: ScalarValue>(parser: &mut Parser<'a>) -> ParseResult<InputValue<S>>
     ensures gives { Gives (view_value S.content) result parser.new (literal_read (stated S.reading S.of_bool) parser.old) }
     ensures shorter { OnOk result (length parser.new < length parser.old) }
+    ensures rest { IsRest parser.old parser.new }
 {
-    let token = parser.next_token()?;
+    let token = take(parser)?;
     match scalar_of(parser.allocator(), token.item) {
         Ok(scalar) => Ok(Spanning::new(token.span, InputValue::Scalar(scalar))),
         Err(ReadFailure::Refused(error)) => {
@@ -176,12 +189,13 @@ fn scalar_of<S: ScalarValue>(alloc: Global, token: Token<'_>) -> Result<S, ReadF
 }
 
 /// A Name as a value.
-#[tactic(auto, unfolding(crate::specs::Values::name_read))]
+#[tactic(auto, using(crate::proofs::Rests::further), unfolding(crate::specs::Values::name_read))]
 fn parse_named_value<'a, S: ScalarValue>(parser: &mut Parser<'a>) -> ParseResult<InputValue<S>>
     ensures gives { Gives (view_value S.content) result parser.new (name_read (stated S.reading S.of_bool) parser.old) }
     ensures shorter { OnOk result (length parser.new < length parser.old) }
+    ensures rest { IsRest parser.old parser.new }
 {
-    let name = parser.expect_name()?;
+    let name = expect_name(parser)?;
     Ok(value_of_name(parser.allocator(), name)?)
 }
 

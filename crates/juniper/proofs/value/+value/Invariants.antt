@@ -3,6 +3,7 @@ use Rattle.juniper.specs.Scalars.{stated}
 use Rattle.juniper.specs.View.{view_value, view_object_field}
 use Rattle.juniper.specs.Values.{values_read, fields_read}
 use Rattle.juniper.proofs.Loops.{with_front}
+use Rattle.juniper_tokens.specs.Delimited.{IsRest}
 use Rattle.juniper.proofs.value.+value.Given as goal
 
 abbrev pub decreases-parse_list : goal.decreases-parse_list
@@ -27,6 +28,7 @@ abbrev pub invariant-parse_items-loop-items : goal.invariant-parse_items-loop-it
 invariant-parse_items-loop-items g l = record {
   so_far : with_front (map (view_value g.S.ParseScalarValue.content) l.items.items) (values_read (stated g.S.ParseScalarValue.reading g.S.ScalarValue.of_bool) (not l.is_const) l.parser) ≡ values_read (stated g.S.ParseScalarValue.reading g.S.ScalarValue.of_bool) (not l.is_const) l.fn.parser;
   not_longer : length l.parser ≤ length l.fn.parser;
+  rest : IsRest l.fn.parser l.parser;
 }
 
 abbrev pub decreases-parse_items-loop-items : goal.decreases-parse_items-loop-items
@@ -36,6 +38,7 @@ abbrev pub invariant-parse_fields-loop-fields : goal.invariant-parse_fields-loop
 invariant-parse_fields-loop-fields g l = record {
   so_far : with_front (map (view_object_field g.S.ParseScalarValue.content) l.fields.items) (fields_read (stated g.S.ParseScalarValue.reading g.S.ScalarValue.of_bool) (not l.is_const) l.parser) ≡ fields_read (stated g.S.ParseScalarValue.reading g.S.ScalarValue.of_bool) (not l.is_const) l.fn.parser;
   not_longer : length l.parser ≤ length l.fn.parser;
+  rest : IsRest l.fn.parser l.parser;
 }
 
 abbrev pub decreases-parse_fields-loop-fields : goal.decreases-parse_fields-loop-fields

@@ -1,0 +1,8 @@
+use Rattle.juniper.proofs.Sources.{alike_accepted, alike_refused}
+use Rattle.juniper.proofs.laws.alike_texts.Goals as goal
+
+pub returns-clause-accepted : goal.returns-clause-accepted
+returns-clause-accepted g c = alike_accepted
+
+pub returns-clause-refused : goal.returns-clause-refused
+returns-clause-refused g c = alike_refused

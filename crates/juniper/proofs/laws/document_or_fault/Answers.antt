@@ -1,0 +1,11 @@
+use Rattle.juniper.proofs.Sources.{either, one, never_both}
+use Rattle.juniper.proofs.laws.document_or_fault.Goals as goal
+
+pub returns-clause-either : goal.returns-clause-either
+returns-clause-either g c = either
+
+pub returns-clause-one : goal.returns-clause-one
+returns-clause-one g c = one
+
+pub returns-clause-never_both : goal.returns-clause-never_both
+returns-clause-never_both g c = never_both
