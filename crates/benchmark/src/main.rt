@@ -1,9 +1,9 @@
-//! Lexes standard input over and over, and tells on standard error how fast that went.
+//! Lexes and parses standard input over and over, and tells on standard error how fast that went.
 //!
 //! The argument is how often, 1 where there is none.
 #![tactic(auto)]
 
-use juniper_tokens::{Lexer, Parser};
+use juniper::{DefaultScalarValue, Lexer, Parser, parse_document_source};
 use std::alloc::Global;
 use std::time::{Duration, Instant};
 use std::{env, io};
@@ -25,9 +25,18 @@ fn main(rt: HostRuntime) -> io::Result<()> {
         }
     }
     let gathered = start.elapsed(&rt)?;
+    let start = Instant::now(&rt)?;
+    let mut documents = 0_u32;
+    for _ in 0..rounds {
+        if is_document(rt.alloc(), source.as_str()) {
+            documents = documents.saturating_add(1);
+        }
+    }
+    let parsed = start.elapsed(&rt)?;
     let lexer = speed(source.as_str().len(), rounds, lexed);
     let parser = speed(source.as_str().len(), parsers, gathered);
-    eprintln!(rt; "{tokens} tokens; lexer {lexer} MB/s; lexer and cursor {parser} MB/s")
+    let tree = speed(source.as_str().len(), documents, parsed);
+    eprintln!(rt; "{tokens} tokens; lexer {lexer} MB/s; lexer and cursor {parser} MB/s; tree {tree} MB/s")
 }
 
 // How often to lex.
@@ -51,6 +60,11 @@ fn count_tokens(alloc: Global, source: &str) -> u64 {
 fn makes_parser(alloc: Global, source: &str) -> bool {
     let mut lexer = Lexer::new(alloc, source);
     Parser::new(&mut lexer).is_ok()
+}
+
+// Whether the text is a document. Its tree is dropped before the answer.
+fn is_document(alloc: Global, source: &str) -> bool {
+    parse_document_source::<DefaultScalarValue>(alloc, source).is_ok()
 }
 
 // Bytes a microsecond, which is millions of bytes a second.
