@@ -1,6 +1,5 @@
 -- Lines as bytes.
-use Rattle.std.proofs.Common.{◌≡◌, ℕ, ◌^◌, ◌<◌, List, [], ◌∷◌, ◌++◌, chars, IsUtf8, refl, sym, ap, ◌∙◌, append_assoc, append-nil, lit<, rules}
-use Rattle.std.specs.Prelude.{codes}
+use Rattle.std.proofs.Common.{◌≡◌, ℕ, ◌^◌, ◌<◌, List, [], ◌∷◌, ◌++◌, chars, IsUtf8, refl, lit<, rules}
 use Rattle.std.specs.Fmt.{decimal}
 use Rattle.std.specs.Str.{encode_utf8_all}
 use Rattle.std.proofs.lemmas.Fmt.{IsAscii-decimal}
@@ -50,3 +49,7 @@ pub named_line-bytes : (kind : LineKind) (text bytes : List ℕ) (start end : �
 unfolding named_line_at
 named_line-bytes kind text bytes start end n s e =
     simp (encodes-append, kind_bytes kind, n, decimal_bytes start s, decimal_bytes end e, encode_ascii 32 (lit< tt), encodes-IsAscii (10 ∷ []) (search rules))
+
+-- a name, a space and a name
+pub two_names : (a b : List ℕ) → IsUtf8 a → IsUtf8 b → encode_utf8_all (chars a ++ (32 ∷ chars b)) ≡ a ++ (32 ∷ b)
+two_names a b p q = simp (encodes-append, encodes-chars a p, encode_ascii 32 (lit< tt), encodes-chars b q)

@@ -1,5 +1,5 @@
 -- Parts of the tree, as the lines see them.
-use Rattle.std.specs.Prelude.{List, ◌++◌, codes, option_map}
+use Rattle.std.specs.Prelude.{◌++◌, codes, option_map}
 use Rattle.graphql_grammar.specs.Tokens.{Text}
 use Rattle.graphql_grammar.specs.Tree as tree
 use Rattle.juniper_tokens.specs.Spans.{view_span}

@@ -3,7 +3,7 @@ ghost use Rattle.std.specs.Prelude.{◌≡◌, ℕ, ◌↔◌, ◌⊎◌, true, 
 ghost use Rattle.std.specs.Io.KnownBytes.{Appends, Consumes, IsAtEnd, Keeps};
 ghost use Rattle.gqlcheck.specs.Watched.{inner_of, has_failed};
 ghost use Rattle.juniper_tokens.specs.Errors.{view_fault};
-ghost use Rattle.gqlcheck.specs.Report.{Report, IsReportEnd, fault_line};
+ghost use Rattle.gqlcheck.specs.Report.{Report, OneReport, IsReportEnd, fault_line};
 
 use crate::lines::write_document;
 use crate::watched::Watched;
@@ -40,6 +40,7 @@ const NOT_UTF8: &str = "Not UTF-8\n";
 ///
 /// The report is a function of the bytes. It is built whole before any of it is written. A reader that neither ends
 /// nor fails leads to `Memory`.
+#[tactic(auto, using(crate::proofs::OneReport::one_report))]
 pub fn run<R: Read, W: Write>(
     alloc: Global,
     reader: &mut Watched<R>,
@@ -52,6 +53,9 @@ pub fn run<R: Read, W: Write>(
         × IsAtEnd (R.remaining (inner_of reader.new))
         × ((text : List ℕ) × Report bytes result text
         × Appends (W.contents (inner_of writer.old)) (W.contents (inner_of writer.new)) text) }
+
+    // Bytes have one report, so this one is theirs.
+    ensures one_report { OneReport }
     ensures device { (result ≡ RunEnd.Device)
         ↔ ((has_failed reader.new ≡ true) ⊎ (has_failed writer.new ≡ true)) }
 

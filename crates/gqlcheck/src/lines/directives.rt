@@ -59,7 +59,12 @@ fn write_directive<S: ScalarValue>(
 ) -> Result<(), AllocError>
     ensures { OnOk result (string_bytes out.new ≡ string_bytes out.old ++ encode_utf8_all (directive_lines (view_directive S.content directive.now))) }
 {
-    write_named_line(out, LineKind::Directive, &directive.span, directive.item.name.item)?;
+    write_named_line(
+        out,
+        LineKind::Directive,
+        &directive.span,
+        directive.item.name.item,
+    )?;
     write_optional_arguments(out, &directive.item.arguments)
 }
 

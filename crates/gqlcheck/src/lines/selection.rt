@@ -66,7 +66,12 @@ fn write_inline<S: ScalarValue>(
 ) -> Result<(), AllocError>
     ensures { OnOk result (string_bytes out.new ≡ string_bytes out.old ++ encode_utf8_all (selection_lines (view_inline S.content fragment.now))) }
 {
-    write_line_of(out, LineKind::Inline, &fragment.span, &fragment.item.type_condition)?;
+    write_line_of(
+        out,
+        LineKind::Inline,
+        &fragment.span,
+        &fragment.item.type_condition,
+    )?;
     write_directives(out, &fragment.item.directives)?;
     write_selections(out, &fragment.item.selection_set)
 }

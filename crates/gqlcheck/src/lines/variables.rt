@@ -7,9 +7,7 @@ ghost use Rattle.gqlcheck.specs.Lines.{each, if_present, named_line, named_line_
 use crate::lines::directives::write_directives;
 use crate::lines::value::write_value;
 use crate::lines::write::{LineKind, write_line, write_word};
-use juniper::{
-    InputValue, ScalarValue, Spanning, Type, VariableDefinition, VariableDefinitions,
-};
+use juniper::{InputValue, ScalarValue, Spanning, Type, VariableDefinition, VariableDefinitions};
 use std::alloc::AllocError;
 
 fn write_type_at(

@@ -65,11 +65,7 @@ impl LineKind {
 }
 
 /// Writes a line of a kind and the indexes of a span.
-pub(crate) fn write_line(
-    out: &mut String,
-    kind: LineKind,
-    span: &Span,
-) -> Result<(), AllocError>
+pub(crate) fn write_line(out: &mut String, kind: LineKind, span: &Span) -> Result<(), AllocError>
     ensures { OnOk result (string_bytes out.new ≡ string_bytes out.old ++ encode_utf8_all (line (kind_text kind) (view_span span.now))) }
 {
     write_indexes(out, kind, span.start.index(), span.end.index())
