@@ -1,11 +1,10 @@
 -- What a run reports of the bytes that it read.
 use Rattle.std.specs.Prelude.{◌≡◌, ℕ, List, [], ◌∷◌, ◌++◌, codes, IsUtf8, chars, encode_utf8_all}
 use Rattle.juniper_tokens.specs.Positions.{position_text}
-use Rattle.graphql_grammar.specs.Tree.{Scalars, Definition}
-use Rattle.juniper_tokens.specs.Errors.{Error, Fault, error_text}
-use Rattle.juniper_values.specs.Default.{default_reading}
-use Rattle.juniper_values.specs.Scalar.{Content, boolean}
-use Rattle.juniper.specs.Scalars.{stated}
+use Rattle.graphql_grammar.specs.Tree.{Definition}
+use Rattle.juniper_tokens.specs.Errors.{Fault, error_text}
+use Rattle.juniper_values.specs.Scalar.{Content}
+use Rattle.juniper.specs.Scalars.{default_scalars}
 use Rattle.juniper.specs.Promise.{HasTree, IsRefusal}
 use Rattle.gqlcheck.specs.Lines.{document_lines}
 use Rattle.gqlcheck.specs.declared.run.RunEnd.{RunEnd}
@@ -18,10 +17,6 @@ IsReportEnd Refused = Unit {0}
 IsReportEnd NotUtf8 = Unit {0}
 IsReportEnd Device = ⊥
 IsReportEnd Memory = ⊥
-
--- what the default scalar reads from a scalar token, and what it makes of `true` and `false`
-abbrev pub default_scalars : Scalars Content Error
-default_scalars = stated default_reading boolean
 
 -- an error, and the line and column where it stands
 abbrev pub fault_line : Fault → List ℕ
