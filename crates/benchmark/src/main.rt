@@ -36,7 +36,9 @@ fn main(rt: HostRuntime) -> io::Result<()> {
     let lexer = speed(source.as_str().len(), rounds, lexed);
     let parser = speed(source.as_str().len(), parsers, gathered);
     let tree = speed(source.as_str().len(), documents, parsed);
-    eprintln!(rt; "{tokens} tokens; lexer {lexer} MB/s; lexer and cursor {parser} MB/s; tree {tree} MB/s")
+    eprintln!(rt;
+        "{tokens} tokens; lexer {lexer} MB/s; lexer and cursor {parser} MB/s; tree {tree} MB/s"
+    )
 }
 
 // How often to lex.
