@@ -1,5 +1,5 @@
 //! Positions from the beginnings of lines.
-ghost use Rattle.std.specs.Prelude.{◌≡◌, ◌≤◌, List, ℕ, length, IfOk};
+ghost use Rattle.std.specs.Prelude.{◌≡◌, ◌-◌, ◌≤◌, List, ℕ, length, IfOk, IfSome};
 ghost use Rattle.std.specs.Str.{chars};
 ghost use Rattle.graphql_lexical.specs.Place.{place};
 ghost use Rattle.juniper_tokens.specs.LineTables.{lines_of, place_within, StartLines, IsOnLine};
@@ -34,6 +34,17 @@ struct Line {
     start: usize,
 }
 
+impl Line {
+    // The place behind so many characters of the source, on this line.
+    fn position(self, index: usize) -> SourcePosition
+        requires before { self.start ≤ index }
+        requires below { self.number ≤ self.start }
+        ensures { result ≡ record { index = index; line = self.number; column = index - self.start } }
+    {
+        SourcePosition::new(index, self.number, index - self.start)
+    }
+}
+
 impl LineTable {
     /// The table of a source. A line ends at a line feed alone.
     pub fn new(alloc: Global, source: &str) -> Result<Self, AllocError>
@@ -65,8 +76,41 @@ impl LineTable {
     pub(crate) fn place(&self, index: usize) -> SourcePosition
         ensures { (source : List ℕ) → self.now ≡ lines_of source → index ≤ length source → result ≡ place source index }
     {
-        let line = line_of(&self.starts, index);
-        SourcePosition::new(index, line.number, index - line.start)
+        line_of(&self.starts, index).position(index)
+    }
+
+    /// The same place, found without a search where it is on the line of this number or the next one.
+    pub(crate) fn place_near(&self, index: usize, number: usize) -> SourcePosition
+        ensures { (source : List ℕ) → self.now ≡ lines_of source → index ≤ length source → result ≡ place source index }
+    {
+        match line_near(&self.starts, index, number) {
+            Some(line) => line.position(index),
+            None => self.place(index),
+        }
+    }
+}
+
+// The line of this number or the next one, if the character stands there.
+fn line_near(starts: &[usize], index: usize, number: usize) -> Option<Line>
+    ensures { IfSome result (λ line. IsOnLine starts.now index line.number line.start) }
+{
+    match line_if_on(starts, index, number) {
+        Some(line) => Some(line),
+        None => line_if_on(starts, index, number.saturating_add(1)),
+    }
+}
+
+// The line of this number, if the character stands on it.
+fn line_if_on(starts: &[usize], index: usize, number: usize) -> Option<Line>
+    ensures { IfSome result (λ line. IsOnLine starts.now index line.number line.start) }
+{
+    let start = *starts.get(number)?;
+    if start > index {
+        return None;
+    }
+    match starts.get(number + 1) {
+        Some(next) => (*next > index).then_some(Line { number, start }),
+        None => Some(Line { number, start }),
     }
 }
 
