@@ -1,8 +1,8 @@
 //! Positions from the beginnings of lines.
-ghost use Rattle.std.specs.Prelude.{◌≡◌, ◌-◌, ◌≤◌, List, ℕ, length, IfOk, IfSome};
+ghost use Rattle.std.specs.Prelude.{◌≡◌, ◌-◌, ◌≤◌, List, ℕ, length, IfOk, MatchOption};
 ghost use Rattle.std.specs.Str.{chars};
 ghost use Rattle.graphql_lexical.specs.Place.{place};
-ghost use Rattle.juniper_tokens.specs.LineTables.{lines_of, place_within, StartLines, IsOnLine};
+ghost use Rattle.juniper_tokens.specs.LineTables.{lines_of, place_within, StartLines, IsOnLine, IsOffLine};
 
 use crate::position::SourcePosition;
 use std::alloc::{AllocError, Global};
@@ -83,26 +83,19 @@ impl LineTable {
     pub(crate) fn place_near(&self, index: usize, number: usize) -> SourcePosition
         ensures { (source : List ℕ) → self.now ≡ lines_of source → index ≤ length source → result ≡ place source index }
     {
-        match line_near(&self.starts, index, number) {
+        if let Some(line) = line_if_on(&self.starts, index, number) {
+            return line.position(index);
+        }
+        match line_if_on(&self.starts, index, number.saturating_add(1)) {
             Some(line) => line.position(index),
             None => self.place(index),
         }
     }
 }
 
-// The line of this number or the next one, if the character stands there.
-fn line_near(starts: &[usize], index: usize, number: usize) -> Option<Line>
-    ensures { IfSome result (λ line. IsOnLine starts.now index line.number line.start) }
-{
-    match line_if_on(starts, index, number) {
-        Some(line) => Some(line),
-        None => line_if_on(starts, index, number.saturating_add(1)),
-    }
-}
-
 // The line of this number, if the character stands on it.
 fn line_if_on(starts: &[usize], index: usize, number: usize) -> Option<Line>
-    ensures { IfSome result (λ line. IsOnLine starts.now index line.number line.start) }
+    ensures { MatchOption result (IsOffLine starts.now index number) (λ line. (line.number ≡ number) × IsOnLine starts.now index line.number line.start) }
 {
     let start = *starts.get(number)?;
     if start > index {
