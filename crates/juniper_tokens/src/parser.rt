@@ -92,7 +92,7 @@ impl<'a> Parser<'a> {
         requires ends { EndsOnce (range_lexemes (chars source.now) ranges.items) }
         ensures { result ≡ range_lexemes (chars source.now) ranges.items }
     {
-        let current = ranges[0].located(source, &lines);
+        let current = ranges[0].located(source, &lines, 0);
         Parser {
             alloc,
             source,
@@ -143,7 +143,8 @@ impl<'a> Parser<'a> {
         ensures { self.new ≡ drop 1 self.old }
     {
         self.taken += 1;
-        self.current = self.ranges[self.taken].located(self.source, &self.lines);
+        let near = self.current.span.end.line();
+        self.current = self.ranges[self.taken].located(self.source, &self.lines, near);
     }
 
     /// Takes the next token. At the end it answers `UnexpectedEndOfFile`, and nothing is taken.

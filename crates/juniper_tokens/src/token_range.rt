@@ -69,13 +69,20 @@ impl TokenRange {
     }
 
     /// The token with its places, by the table of the source's lines.
-    pub(crate) fn located<'a>(self, source: &'a str, lines: &LineTable) -> Spanning<Token<'a>>
+    ///
+    /// Its places are found without a search where it is on the line of the number `near`, or on the next one.
+    pub(crate) fn located<'a>(
+        self,
+        source: &'a str,
+        lines: &LineTable,
+        near: usize,
+    ) -> Spanning<Token<'a>>
         requires range { IsRange (chars source.now) self }
         requires lines { lines.now ≡ lines_of (chars source.now) }
         ensures { view_token result ≡ range_lexeme (chars source.now) self }
     {
-        let start = lines.place(self.start.characters);
-        let end = lines.place(self.end.characters);
+        let start = lines.place_near(self.start.characters, near);
+        let end = lines.place_near(self.end.characters, start.line());
         Spanning::start_end(&start, &end, self.token(source))
     }
 }
