@@ -1,10 +1,9 @@
 -- Equality of the tree: over all its fields and places. `eq` compares scalars.
-use Rattle.std.specs.Prelude.{ℕ, Bool, true, false, ◌&&◌, bytes_eq, Option}
+use Rattle.std.specs.Prelude.{ℕ, Bool, true, false, ◌&&◌, bytes_eq, List, Option}
 use Rattle.std.specs.Borrow.{Bor}
 use Rattle.std.specs.Cmp.Lexicographic.{pointwise}
 use Rattle.std.specs.Global.{Vec}
 use Rattle.std.specs.Option.{option_eq}
-use Rattle.std.specs.Prelude.{List}
 use Rattle.std.specs.Str.{chars}
 use Rattle.juniper_tokens.specs.Spans.{view_span}
 use Rattle.juniper_tokens.specs.declared.span.Spanning.{Spanning}

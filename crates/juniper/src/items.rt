@@ -47,6 +47,7 @@ impl<'a, S: Drop> Arguments<'a, S> {
 
     /// The value of the first argument of this name, to write; None where there is none of it
     /// (GraphQL specification, October 2021, section 2.6).
+    // No clause says what a write through it leaves: a loan of a part of an element that holds a reference is not followed.
     pub fn get_mut(&mut self, name: &str) -> Option<&mut Spanning<InputValue<S>>>
         ensures { option_copied_mut result ≡ first_named name.now self.old.items.items }
     {
