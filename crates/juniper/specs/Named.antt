@@ -13,8 +13,3 @@ is_named name a = bytes_eq a.0.item.now name
 abbrev pub first_named : {X : Type 0} → List ℕ → List (Named X) → Option X
 first_named name [] = None
 first_named name (a ∷ rest) = if is_named name a then Some a.1 else first_named name rest
-
--- the items, with x as what the first one of this name has
-abbrev pub with_first_named : {X : Type 0} → List ℕ → X → List (Named X) → List (Named X)
-with_first_named name x [] = []
-with_first_named name x (a ∷ rest) = if is_named name a then (a.0, x) ∷ rest else a ∷ with_first_named name x rest
