@@ -3,6 +3,8 @@ ghost use Rattle.std.specs.Prelude.{◌≡◌, option_map, Some, None, OnSome};
 ghost use Rattle.std.specs.Borrow.{sem, LendsSo};
 ghost use Rattle.juniper_answers.specs.Parts.{is_null, object_in, list_in, scalar_in};
 ghost use Rattle.juniper_answers.specs.View.{shape, pairs, items_view, fields_view};
+ghost use Rattle.juniper_answers.specs.contracts.value.Value.{the_row as value_row};
+ghost use Rattle.juniper_answers.specs.contracts.value.Object.{the_row as object_row};
 
 use crate::value::{Object, Value};
 
@@ -48,6 +50,17 @@ impl<S> Value<S> {
     /// The object that the value is, if it is one.
     pub fn as_object_value(&self) -> Option<&Object<S>>
         ensures { option_map (λ o. fields_view (λ s. s) (pairs o.now)) result ≡ object_in (shape self.now) }
+    {
+        match self {
+            Value::Object(object) => Some(object),
+            _ => None,
+        }
+    }
+
+    /// The object that the value is, to write, if it is one. What is written is the object that the value then is.
+    pub fn as_mut_object_value(&mut self) -> Option<&mut Object<S>>
+        ensures* writes_back { sem 𝓛 (LendsSo (value_row S.row) (object_row S.row) self.entry result (λ n o. OnSome result (n ≡ Value.Object o)) (λ n. n ≡ self.old)) }
+        ensures value { option_map (λ o. fields_view (λ s. s) (pairs o.now)) result ≡ object_in (shape self.old) }
     {
         match self {
             Value::Object(object) => Some(object),

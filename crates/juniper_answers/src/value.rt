@@ -7,7 +7,8 @@ ghost use Rattle.std.specs.List.{IsDistinct};
 ghost use Rattle.std.specs.Map.{keys_of, values_of, lookup, set_value};
 ghost use Rattle.std.specs.Map.Iter.{GivesInOrder, ShowsInOrder, ShowsValuesInOrder, deref_pair};
 ghost use Rattle.std.specs.String.{string_eq};
-ghost use Rattle.indexmap.specs.IndexMap.{insert_entry, set_value_at};
+ghost use Rattle.std.specs.Iterator.{IsFinite, Drains};
+ghost use Rattle.indexmap.specs.IndexMap.{insert_entry, insert_all, set_value_at};
 ghost use Rattle.std.specs.declared.alloc.Global.{Global};
 ghost use Rattle.juniper_answers.specs.Keys.{has_text};
 
@@ -65,6 +66,26 @@ impl<S> Object<S> {
         ensures absent { OnErr result (lookup (has_text (string_bytes key)) (pairs self.old) ≡ None) }
     {
         self.entries.insert(key, value)
+    }
+
+    /// The object of these pairs: each put in turn, as `add_field` puts it, into an object without fields.
+    ///
+    /// Where memory ran out the pairs are dropped.
+    pub fn from_iter<I: Iterator<Item = (String, Value<S>)>>(
+        alloc: Global,
+        items: I,
+    ) -> Result<Self, AllocError>
+    where
+        S: Drop,
+        requires can { I.can_next items }
+        requires ends { IsFinite (I.remaining items) }
+        ensures { IfOk result (λ o. (xs : List (String Global × Value S)) × Drains I.next_gives items xs × (pairs o ≡ insert_all string_eq [] xs)) }
+    {
+        let mut object = Object::with_capacity(alloc, 0)?;
+        for (key, value) in items {
+            object.put(key, value)?;
+        }
+        Ok(object)
     }
 
     // Puts a value at a key, and drops the old one.
