@@ -1,0 +1,63 @@
+-- A name is one token.
+use Rattle.std.proofs.Common.{◌≡◌, ◌↔◌, ℕ, ◌+◌, true, ◌&&◌, List, [], ◌∷◌, ◌++◌, IsTrue, take, drop, inr, refl, sym, ap, ◌∙◌, subst, append-nil}
+use Rattle.std.specs.List.{AllByRecursion, list_all}
+use Rattle.graphql_lexical.specs.Characters.{is_digit, is_name_start, is_name_character}
+use Rattle.graphql_lexical.specs.declared.kind.Kind.{Kind}
+use Rattle.graphql_lexical.specs.declared.kind.Kind.TheVariants.{Name, EndOfFile}
+use Rattle.graphql_lexical.specs.Tokens.{IsName, Spells, text_of}
+use Rattle.graphql_lexical.specs.Reading.{Reads}
+use Rattle.graphql_lexical.specs.Cutting.{Lexeme, Cut, Leads}
+use Rattle.graphql_lexical.specs.Written.{Bare, AreOf, IsCutInto}
+use Rattle.graphql_lexical.proofs.Joints.{few_tokens}
+use Rattle.graphql_lexical.proofs.Writing.{writes_nothing, writes_token}
+use Rattle.juniper_values.proofs.Alike.{left, right, both}
+use Rattle.juniper_values.proofs.BoolTests.{or_true}
+use Rattle.juniper_answers.specs.Laws.{IsOneName}
+use Rattle.juniper_answers.specs.Names.{is_name}
+
+all_held : (cs : List ℕ) → list_all is_name_character cs ≡ true → AllByRecursion (λ d. IsTrue (is_name_character d)) cs
+all_held [] e = tt
+all_held (c ∷ cs) e = (left (is_name_character c) (list_all is_name_character cs) e, all_held cs (right (is_name_character c) (list_all is_name_character cs) e))
+
+all_tested : (cs : List ℕ) → AllByRecursion (λ d. IsTrue (is_name_character d)) cs → list_all is_name_character cs ≡ true
+all_tested [] a = refl
+all_tested (c ∷ cs) a = both (is_name_character c) (list_all is_name_character cs) a.0 (all_tested cs a.1)
+
+spelled : (text : List ℕ) → is_name text ≡ true → IsName text
+spelled [] e = absurd cc
+spelled (c ∷ cs) e =
+    let all = all_held (c ∷ cs) (right (is_name_start c) (list_all is_name_character (c ∷ cs)) e) in
+    (c, cs, refl, left (is_name_start c) (list_all is_name_character (c ∷ cs)) e, all.1)
+
+tested : (text : List ℕ) → IsName text → is_name text ≡ true
+tested text n = subst (λ t. is_name t ≡ true) (sym n.2) (both (is_name_start n.0) (list_all is_name_character (n.0 ∷ n.1)) n.3 (all_tested (n.0 ∷ n.1) (or_true (is_name_start n.0) (is_digit n.0) n.3, n.4)))
+
+one_token : (text : List ℕ) → IsName text → IsOneName text
+one_token text n =
+    let w = writes_token text Name [] [] n (inr tt) writes_nothing in
+    subst IsOneName (append-nil text) (go w.lexemes w.end w.cut w.are)
+  where
+    go : (xs : List Lexeme) (e : Lexeme) → Cut (text ++ []) (xs ++ e ∷ []) → AreOf xs (record { kind = Name; text = text } ∷ []) → IsOneName (text ++ [])
+    go [] e c a = absurd a
+    go (x ∷ []) e c a = record { name = x; end = e; cut = c; kind = a.0; same = a.1 ∙ sym (append-nil text); ends = (few_tokens (text ++ []) (x ∷ []) e c).1 }
+    go (x ∷ y ∷ ys) e c a = absurd a.2
+
+name_read : (rest : List ℕ) (n : ℕ) (kind : Kind) (text : List ℕ) → Reads rest n kind text → kind ≡ Name → IsName text
+name_read [] n kind text r e = absurd (cc)
+name_read (c ∷ cs) n kind text r e =
+    let front = take n (c ∷ cs) in
+    let s : IsName front = subst (λ (k : Kind). Spells front k) e r.spells in
+    subst IsName (sym (r.text_is ∙ ap (λ (k : Kind). text_of k front) e)) s
+
+only_name : (text : List ℕ) → IsOneName text → IsName text
+only_name text o = go o.cut.front o.cut.last o.cut.before o.cut.parts o.cut.leads
+  where
+    go : (front : List Lexeme) (last : Lexeme) (before : ℕ) → o.name ∷ o.end ∷ [] ≡ front ++ last ∷ [] → Leads text 0 front before → IsName text
+    go [] last before parts leads = absurd (cc)
+    go (x ∷ xs) last before parts leads =
+        let first : o.name ≡ x = cc in
+        let named = name_read (drop (0 + leads.1.gap) text) leads.1.size x.kind x.text leads.1.reads (ap (λ (y : Lexeme). y.kind) (sym first) ∙ o.kind) in
+        subst IsName (ap (λ (y : Lexeme). y.text) (sym first) ∙ o.same) named
+
+pub name_is_token : (text : List ℕ) → (is_name text ≡ true) ↔ IsOneName text
+name_is_token text = ((λ e. one_token text (spelled text e)), (λ o. tested text (only_name text o)))

@@ -1,0 +1,152 @@
+//! Answer values.
+ghost use Rattle.std.specs.Prelude.{◌≡◌, IfOk, IfErr, OnOk, OnErr, None, [], is_some, length, option_copied, string_bytes, String, ◌++◌, ◌∷◌, position, List, slice_get, ◌<◌, Some};
+ghost use Rattle.std.specs.Prelude.{OnSome};
+ghost use Rattle.std.specs.Borrow.{sem, LendsSo};
+ghost use Rattle.std.specs.Option.{option_copied_mut};
+ghost use Rattle.std.specs.List.{IsDistinct};
+ghost use Rattle.std.specs.Map.{keys_of, values_of, lookup, set_value};
+ghost use Rattle.std.specs.Map.Iter.{GivesInOrder, ShowsInOrder, ShowsValuesInOrder, deref_pair};
+ghost use Rattle.std.specs.String.{string_eq};
+ghost use Rattle.std.specs.Iterator.{IsFinite, Drains};
+ghost use Rattle.indexmap.specs.IndexMap.{insert_entry, insert_all, set_value_at};
+ghost use Rattle.std.specs.declared.alloc.Global.{Global};
+ghost use Rattle.juniper_answers.specs.Keys.{has_text};
+
+use crate::entries::{Entries, IntoIter, Iter};
+use std::alloc::{AllocError, Global};
+
+/// The fields of an object, in order.
+pub type Fields<'a, S> = Iter<'a, Value<S>>;
+
+/// The fields of an object by value, in order.
+pub type IntoFields<S> = IntoIter<Value<S>>;
+
+/// An answer value.
+#[derive(PartialEq, Eq, Drop)]
+#[cycle(value)]
+pub enum Value<S> {
+    Null,
+    Scalar(S),
+    List(Vec<Value<S>>),
+    Object(Object<S>),
+}
+
+/// An object of answer values.
+#[derive(PartialEq, Eq, Drop)]
+#[cycle(value)]
+pub struct Object<S> {
+    entries: Entries<Value<S>>,
+}
+
+impl<S> Object<S> {
+    ghost use Rattle.juniper_answers.specs.declared.value.Value.{Value};
+    ghost use Rattle.juniper_answers.specs.View.{pairs};
+    ghost use Rattle.juniper_answers.specs.contracts.value.Object.{the_row};
+    ghost use Rattle.juniper_answers.specs.contracts.value.Value.{the_row as value_row};
+
+    /// An object with no fields, with room for some.
+    pub fn with_capacity(alloc: Global, size: usize) -> Result<Self, AllocError>
+        ensures { IfOk result (λ o. pairs o ≡ []) }
+    {
+        Ok(Object {
+            entries: Entries::with_capacity(alloc, size)?,
+        })
+    }
+
+    /// Puts a value at a key.
+    pub fn add_field(
+        &mut self,
+        key: String,
+        value: Value<S>,
+    ) -> Result<Option<Value<S>>, (String, Value<S>)>
+        ensures old { IfOk result (λ old. old ≡ lookup (has_text (string_bytes key)) (pairs self.old)) }
+        ensures put { OnOk result (pairs self.new ≡ insert_entry string_eq (pairs self.old) key value) }
+        ensures back { IfErr result (λ p. p ≡ (key, value)) }
+        ensures unchanged { OnErr result (pairs self.new ≡ pairs self.old) }
+        ensures absent { OnErr result (lookup (has_text (string_bytes key)) (pairs self.old) ≡ None) }
+    {
+        self.entries.insert(key, value)
+    }
+
+    /// The object of these pairs: each put in turn, as `add_field` puts it, into an object without fields.
+    ///
+    /// Where memory ran out the pairs are dropped.
+    pub fn from_iter<I: Iterator<Item = (String, Value<S>)>>(
+        alloc: Global,
+        items: I,
+    ) -> Result<Self, AllocError>
+    where
+        S: Drop,
+        requires can { I.can_next items }
+        requires ends { IsFinite (I.remaining items) }
+        ensures { IfOk result (λ o. (xs : List (String Global × Value S)) × Drains I.next_gives items xs × (pairs o ≡ insert_all string_eq [] xs)) }
+    {
+        let mut object = Object::with_capacity(alloc, 0)?;
+        for (key, value) in items {
+            object.put(key, value)?;
+        }
+        Ok(object)
+    }
+
+    // Puts a value at a key, and drops the old one.
+    pub(crate) fn put(&mut self, key: String, value: Value<S>) -> Result<(), AllocError>
+    where
+        S: Drop,
+        ensures { OnOk result (pairs self.new ≡ insert_entry string_eq (pairs self.old) key value) }
+    {
+        match self.add_field(key, value) {
+            Ok(_) => Ok(()),
+            Err(_) => Err(AllocError),
+        }
+    }
+
+    /// Whether a field has this key.
+    pub fn contains_field(&self, key: &str) -> bool
+        ensures { result ≡ is_some (lookup (has_text key.now) (pairs self.now)) }
+    {
+        self.entries.contains(key)
+    }
+
+    /// The number of fields.
+    pub fn field_count(&self) -> usize
+        ensures { result ≡ length (pairs self.now) }
+    {
+        self.entries.len()
+    }
+
+    /// The value at a key.
+    pub fn get_field_value(&self, key: &str) -> Option<&Value<S>>
+        ensures { option_copied result ≡ lookup (has_text key.now) (pairs self.now) }
+    {
+        self.entries.get(key)
+    }
+
+    /// The value at a key, to write.
+    pub fn get_mut_field_value(&mut self, key: &str) -> Option<&mut Value<S>>
+        ensures* writes_back { sem 𝓛 (LendsSo (the_row S.row) (value_row S.row) self.entry result (λ n w. OnSome result (pairs n ≡ set_value (has_text key.now) (pairs self.old) w)) (λ n. pairs n ≡ pairs self.old)) }
+        ensures value { option_copied_mut result ≡ lookup (has_text key.now) (pairs self.old) }
+    {
+        self.entries.get_mut(key)
+    }
+
+    /// The fields by value, in order.
+    pub fn into_iter(self) -> IntoFields<S>
+        ensures rest { result ≡ pairs self }
+        ensures runs { GivesInOrder (String Global × Value S) }
+        ensures values_run { ShowsValuesInOrder (λ (p : String Global × Value S). p) }
+        ensures distinct { IsDistinct string_eq (keys_of (pairs self)) }
+    {
+        let Object { entries } = self;
+        entries.into_iter()
+    }
+
+    /// The fields, in order.
+    pub fn iter(&self) -> Fields<'_, S>
+        ensures rest { result ≡ pairs self.now }
+        ensures runs { ShowsInOrder (deref_pair {K = String Global} {X = Value S}) }
+        ensures values_run { ShowsValuesInOrder (deref_pair {K = String Global} {X = Value S}) }
+        ensures distinct { IsDistinct string_eq (keys_of (pairs self.now)) }
+    {
+        self.entries.iter()
+    }
+}
