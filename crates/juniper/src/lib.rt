@@ -23,6 +23,10 @@ pub use ast::{
     OperationType, OwnedDocument, Selection, VariableDefinition, VariableDefinitions,
 };
 pub use document::parse_document_source;
+pub use juniper_answers::{
+    Fields, IntoFields, IntoInputValue, IntoValue, Name, NameFailure, NameParseError, Object,
+    ToInputValue, Value, input_value_from_str, value_from_str,
+};
 pub use juniper_tokens::{
     ByteClass, Kind, LexFailure, Lexer, LexerError, LexerResult, LineTable, OptionParseResult,
     ParseError, ParseFailure, ParseResult, Parser, ScalarToken, SourcePosition, Span, Spanning,
