@@ -16,7 +16,7 @@ pub trait ToInputValue<S> {
     // What input value stands for a value.
     ghost stands_for: { Self → InputValue S → Type 0 };
 
-    /// The value as an input value.
+    /// The value as an input value (GraphQL specification, October 2021, section 2.9). `AllocError` where memory ran out.
     fn to_input_value(&self, alloc: Global) -> Result<InputValue<S>, AllocError>
         ensures { IfOk result (λ v. stands_for self.now v) };
 }
