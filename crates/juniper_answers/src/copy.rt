@@ -1,5 +1,5 @@
 //! Copies of whole values.
-ghost use Rattle.std.specs.Prelude.{◌≡◌, true, IfOk};
+ghost use Rattle.std.specs.Prelude.{◌≡◌, IfOk};
 ghost use Rattle.juniper_answers.specs.Copies.{Copies, CopiesItems, CopiesFields};
 ghost use Rattle.juniper_answers.specs.View.{pairs};
 

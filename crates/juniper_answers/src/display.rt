@@ -1,5 +1,5 @@
 //! Answer values as text.
-ghost use Rattle.std.specs.Prelude.{◌≡◌, ◌++◌, codes, Some, string_bytes};
+ghost use Rattle.std.specs.Prelude.{◌++◌, codes, Some};
 ghost use Rattle.std.specs.Fmt.{WritesOnOk};
 ghost use Rattle.std.specs.Str.{chars, encode_utf8_all};
 ghost use Rattle.graphql_lexical.specs.Display.{quoted};

@@ -1,6 +1,5 @@
 //! Answer values as input values.
-ghost use Rattle.std.specs.Prelude.{◌≡◌, IfOk, string_bytes};
-ghost use Rattle.std.specs.Str.{chars};
+ghost use Rattle.std.specs.Prelude.{◌≡◌, IfOk};
 ghost use Rattle.juniper_values.specs.View.{view as input_view, view_items, view_fields};
 ghost use Rattle.juniper_values.specs.declared.input_value.InputValue.{InputValue};
 ghost use Rattle.juniper_answers.specs.Input.{as_input, items_as_input, fields_as_input};

@@ -1,14 +1,13 @@
 //! Answer values.
-ghost use Rattle.std.specs.Prelude.{◌≡◌, IfOk, IfErr, OnOk, OnErr, None, [], is_some, length, option_copied, string_bytes, String, ◌++◌, ◌∷◌, position, List, slice_get, ◌<◌, Some};
-ghost use Rattle.std.specs.Prelude.{OnSome};
+ghost use Rattle.std.specs.Prelude.{◌≡◌, IfOk, IfErr, OnOk, OnErr, OnSome, None, [], is_some, length, option_copied, string_bytes, String, List, ◌<◌};
 ghost use Rattle.std.specs.Borrow.{sem, LendsSo};
 ghost use Rattle.std.specs.Option.{option_copied_mut};
 ghost use Rattle.std.specs.List.{IsDistinct};
-ghost use Rattle.std.specs.Map.{keys_of, values_of, lookup, set_value};
+ghost use Rattle.std.specs.Map.{keys_of, lookup, set_value};
 ghost use Rattle.std.specs.Map.Iter.{GivesInOrder, ShowsInOrder, ShowsValuesInOrder, deref_pair};
 ghost use Rattle.std.specs.String.{string_eq};
 ghost use Rattle.std.specs.Iterator.{IsFinite, Drains};
-ghost use Rattle.indexmap.specs.IndexMap.{insert_entry, insert_all, set_value_at};
+ghost use Rattle.indexmap.specs.IndexMap.{insert_entry, insert_all};
 ghost use Rattle.std.specs.declared.alloc.Global.{Global};
 ghost use Rattle.juniper_answers.specs.Keys.{has_text};
 
