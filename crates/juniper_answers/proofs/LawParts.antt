@@ -1,5 +1,5 @@
 -- Equality, plain input values, and iterators.
-use Rattle.std.proofs.Common.{◌≡◌, Bool, Option, None, List, [], ◌∷◌, length, map, refl, sym, ap, ◌∙◌, rules}
+use Rattle.std.proofs.Common.{◌≡◌, Bool, None, List, [], ◌∷◌, length, map, refl, sym, ap, ◌∙◌, rules}
 use Rattle.std.specs.Cmp.{IsEquivalence}
 use Rattle.std.specs.Iterator.{Yields, at_most}
 use Rattle.std.specs.Map.Iter.{TakesFirst}

@@ -1,13 +1,13 @@
 -- A name is one token.
-use Rattle.std.proofs.Common.{◌≡◌, ◌↔◌, ℕ, ◌+◌, true, ◌&&◌, List, [], ◌∷◌, ◌++◌, IsTrue, take, drop, inr, refl, sym, ap, ◌∙◌, subst, append-nil}
+use Rattle.std.proofs.Common.{◌≡◌, ◌↔◌, ℕ, ◌+◌, true, List, [], ◌∷◌, ◌++◌, IsTrue, take, drop, inr, refl, sym, ap, ◌∙◌, subst, append-nil}
 use Rattle.std.specs.List.{AllByRecursion, list_all}
 use Rattle.graphql_lexical.specs.Characters.{is_digit, is_name_start, is_name_character}
 use Rattle.graphql_lexical.specs.declared.kind.Kind.{Kind}
-use Rattle.graphql_lexical.specs.declared.kind.Kind.TheVariants.{Name, EndOfFile}
+use Rattle.graphql_lexical.specs.declared.kind.Kind.TheVariants.{Name}
 use Rattle.graphql_lexical.specs.Tokens.{IsName, Spells, text_of}
 use Rattle.graphql_lexical.specs.Reading.{Reads}
 use Rattle.graphql_lexical.specs.Cutting.{Lexeme, Cut, Leads}
-use Rattle.graphql_lexical.specs.Written.{Bare, AreOf, IsCutInto}
+use Rattle.graphql_lexical.specs.Written.{AreOf}
 use Rattle.graphql_lexical.proofs.Joints.{few_tokens}
 use Rattle.graphql_lexical.proofs.Writing.{writes_nothing, writes_token}
 use Rattle.juniper_values.proofs.Alike.{left, right, both}

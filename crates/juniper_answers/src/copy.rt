@@ -1,5 +1,5 @@
 //! Copies of whole values.
-ghost use Rattle.std.specs.Prelude.{◌≡◌, true, IfOk};
+ghost use Rattle.std.specs.Prelude.{◌≡◌, IfOk};
 ghost use Rattle.juniper_answers.specs.Copies.{Copies, CopiesItems, CopiesFields};
 ghost use Rattle.juniper_answers.specs.View.{pairs};
 
@@ -8,7 +8,9 @@ use juniper_values::ScalarValue;
 use std::alloc::{AllocError, Global};
 
 impl<S: ScalarValue> Value<S> {
-    /// A copy: the same keys in the same order, and equal scalars.
+    /// A copy: the same lists, the same keys in the same order, and equal scalars.
+    ///
+    /// `AllocError` where memory ran out.
     pub fn try_clone(&self, alloc: Global) -> Result<Self, AllocError>
         ensures { IfOk result (λ v. Copies (λ s t. S.content t ≡ S.content s) self.now v) }
     {

@@ -1,5 +1,5 @@
 //! Answer values as text.
-ghost use Rattle.std.specs.Prelude.{◌≡◌, ◌++◌, codes, Some, string_bytes};
+ghost use Rattle.std.specs.Prelude.{◌++◌, codes, Some};
 ghost use Rattle.std.specs.Fmt.{WritesOnOk};
 ghost use Rattle.std.specs.Str.{chars, encode_utf8_all};
 ghost use Rattle.graphql_lexical.specs.Display.{quoted};
@@ -13,7 +13,8 @@ use juniper_values::{Scalar, ScalarValue};
 use std::fmt;
 use std::fmt::Write;
 
-/// Displays the value in JSON's form, but for texts and keys, which stand between quotes without escaping.
+/// Displays the value in JSON's form (GraphQL specification, October 2021, section 7.2.1), but for texts and keys, which
+/// stand between quotes without escaping.
 impl<S: ScalarValue> fmt::Display for Value<S> {
     ghost output = { λ v. Some (encode_utf8_all (data_text (scalar_display S.content S.str_in S.shown) (shape v))) };
 

@@ -1,16 +1,14 @@
 //! Values under distinct keys, in the order in which the keys came.
-ghost use Rattle.std.specs.Prelude.{◌≡◌, IfOk, IfErr, OnOk, OnErr, None, [], is_some, length, option_copied, string_bytes, String, ◌++◌, ◌∷◌, position, List, slice_get, ◌<◌, Some};
-ghost use Rattle.std.specs.Prelude.{OnSome};
+ghost use Rattle.std.specs.Prelude.{◌≡◌, IfOk, IfErr, OnOk, OnErr, OnSome, None, [], is_some, length, option_copied, string_bytes, String, ◌++◌, ◌∷◌, position, List, slice_get, ◌<◌, Some};
 ghost use Rattle.std.specs.Borrow.{sem, Lends, LendsSo};
 ghost use Rattle.std.specs.Option.{option_copied_mut};
 ghost use Rattle.std.specs.List.{IsDistinct};
 ghost use Rattle.std.specs.Map.{keys_of, values_of, lookup, set_value};
-ghost use Rattle.std.specs.Map.Iter.{GivesInOrder, ShowsInOrder, ShowsValuesInOrder, deref_pair};
+ghost use Rattle.std.specs.Map.Iter.{TakesFirst, GivesInOrder, ShowsInOrder, ShowsValuesInOrder, deref_pair};
 ghost use Rattle.std.specs.String.{string_eq};
 ghost use Rattle.indexmap.specs.IndexMap.{insert_entry, set_value_at};
 ghost use Rattle.std.specs.declared.alloc.Global.{Global};
 ghost use Rattle.juniper_answers.specs.Keys.{has_text};
-ghost use Rattle.std.specs.Map.Iter.{TakesFirst};
 ghost use Rattle.std.specs.Iterator.{at_most};
 
 use indexmap::{IndexSet, set};

@@ -1,6 +1,5 @@
 //! Answer values as input values.
-ghost use Rattle.std.specs.Prelude.{◌≡◌, IfOk, string_bytes};
-ghost use Rattle.std.specs.Str.{chars};
+ghost use Rattle.std.specs.Prelude.{◌≡◌, IfOk};
 ghost use Rattle.juniper_values.specs.View.{view as input_view, view_items, view_fields};
 ghost use Rattle.juniper_values.specs.declared.input_value.InputValue.{InputValue};
 ghost use Rattle.juniper_answers.specs.Input.{as_input, items_as_input, fields_as_input};
@@ -16,7 +15,7 @@ pub trait ToInputValue<S> {
     // What input value stands for a value.
     ghost stands_for: { Self → InputValue S → Type 0 };
 
-    /// The value as an input value.
+    /// The value as an input value (GraphQL specification, October 2021, section 2.9). `AllocError` where memory ran out.
     fn to_input_value(&self, alloc: Global) -> Result<InputValue<S>, AllocError>
         ensures { IfOk result (λ v. stands_for self.now v) };
 }

@@ -15,7 +15,7 @@ use std::fmt;
 #[derive(PartialEq, Eq, PartialOrd, Ord, Hash, Debug, Drop)]
 pub struct Name(String);
 
-/// Why a text is no name, as a text.
+/// Why a text is no name, as a text. Two are compared and ordered by their texts.
 #[derive(PartialEq, Eq, PartialOrd, Ord, Debug, Drop)]
 pub struct NameParseError(String);
 
@@ -67,7 +67,9 @@ impl Name {
         }
     }
 
-    /// The name with this text. `Invalid` says that the text is no name.
+    /// The name with this text.
+    ///
+    /// `Invalid` tells that the text is no name, and shows the text; `Memory` that memory ran out.
     pub fn new(alloc: Global, input: &str) -> Result<Name, NameFailure>
         ensures named { IfOk result (λ name. text_of_name name ≡ input.now) }
         ensures valid { OnOk result (is_name (chars input.now) ≡ true) }

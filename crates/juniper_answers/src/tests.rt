@@ -1,6 +1,6 @@
 //! What the calls answer on examples, with ample memory.
 use crate::*;
-use juniper_tokens::Span;
+use juniper_tokens::Spanning;
 use juniper_values::{DefaultScalarValue, InputValue, scalar_from_str};
 use std::alloc::{AllocError, Global};
 use std::borrow::CowStr;
@@ -40,6 +40,11 @@ fn numbers(
         put(alloc, &mut object, field.0, int(field.1))?;
     }
     Ok(object)
+}
+
+fn is_shown_as(alloc: Global, value: Data, wanted: &str) -> Result<bool, AllocError> {
+    let shown = value.to_string(alloc)?;
+    Ok(shown.as_str() == wanted)
 }
 
 // What a refused name is told by, and otherwise nothing.
@@ -150,22 +155,24 @@ fn the_order_of_fields_counts_for_nothing(rt: HostRuntime) -> Result<(), Fail> {
 #[test]
 fn scalars_are_displayed(rt: HostRuntime) -> Result<(), Fail> {
     let alloc = rt.alloc();
-    for (value, wanted) in [
-        (Value::null(), "null"),
-        (int(123), "123"),
-        (text(alloc, "foo")?, "\"foo\""),
-        (Value::scalar(DefaultScalarValue::Boolean(false)), "false"),
-        (Value::scalar(DefaultScalarValue::Boolean(true)), "true"),
-        (Value::list(Vec::new(alloc)), "[]"),
-        (Value::object(numbers(alloc, &[])?), "{}"),
-        (
-            Value::object(numbers(alloc, &[("int", 1)])?),
-            "{\"int\": 1}",
-        ),
-    ] {
-        let shown = value.to_string(alloc)?;
-        assert_eq!(rt; shown.as_str(), wanted);
+    assert!(rt; is_shown_as(alloc, Value::null(), "null")?);
+    assert!(rt; is_shown_as(alloc, int(123), "123")?);
+    assert!(rt; is_shown_as(alloc, text(alloc, "foo")?, "\"foo\"")?);
+    for (truth, wanted) in [(false, "false"), (true, "true")] {
+        let value = Value::scalar(DefaultScalarValue::Boolean(truth));
+        assert!(rt; is_shown_as(alloc, value, wanted)?);
     }
+    Ok(())
+}
+
+#[test]
+fn short_values_are_displayed(rt: HostRuntime) -> Result<(), Fail> {
+    let alloc = rt.alloc();
+    assert!(rt; is_shown_as(alloc, Value::list(Vec::new(alloc)), "[]")?);
+    let empty = numbers(alloc, &[])?;
+    assert!(rt; is_shown_as(alloc, Value::object(empty), "{}")?);
+    let one = numbers(alloc, &[("int", 1)])?;
+    assert!(rt; is_shown_as(alloc, Value::object(one), "{\"int\": 1}")?);
     Ok(())
 }
 
@@ -203,26 +210,23 @@ fn nested(alloc: Global) -> Result<Data, AllocError> {
     Ok(Value::object(object))
 }
 
+// The same as an input value, each key, item and value with the place `Span::unlocated`.
+fn nested_input(alloc: Global) -> Result<Input, AllocError> {
+    let mut items = Vec::new(alloc);
+    items.push(Spanning::unlocated(InputValue::scalar(DefaultScalarValue::Int(1))))?;
+    let key = Spanning::unlocated(String::from_str(alloc, "k")?);
+    let mut fields = Vec::new(alloc);
+    fields.push((key, Spanning::unlocated(InputValue::parsed_list(items))))?;
+    Ok(InputValue::parsed_object(fields))
+}
+
 #[test]
 fn input_values_have_no_place(rt: HostRuntime) -> Result<(), Fail> {
     let alloc = rt.alloc();
     let input = nested(alloc)?.to_input_value(alloc)?;
     let shown = input.to_string(alloc)?;
     assert_eq!(rt; shown.as_str(), "{k: [1]}");
-    let mut places = 0;
-    if let InputValue::Object(fields) = &input {
-        for field in fields {
-            assert!(rt; field.0.span == Span::unlocated());
-            assert!(rt; field.1.span == Span::unlocated());
-            if let InputValue::List(items) = &field.1.item {
-                for item in items {
-                    assert!(rt; item.span == Span::unlocated());
-                    places += 1;
-                }
-            }
-        }
-    }
-    assert_eq!(rt; places, 1);
+    assert!(rt; input == nested_input(alloc)?);
     Ok(())
 }
 
@@ -253,50 +257,48 @@ fn nothing_becomes_null(rt: HostRuntime) -> Result<(), Fail> {
     Ok(())
 }
 
+fn is_input_shown_as(alloc: Global, value: Input, wanted: &str) -> Result<bool, AllocError> {
+    let shown = value.to_string(alloc)?;
+    Ok(shown.as_str() == wanted)
+}
+
 #[test]
 fn input_values_are_made(rt: HostRuntime) -> Result<(), Fail> {
     let alloc = rt.alloc();
-    let number: Input = Some(7).into_input_value(alloc)?;
-    let truth: Input = true.into_input_value(alloc)?;
-    let lent: Input = (&7).into_input_value(alloc)?;
-    let word: Input = String::from_str(alloc, "x")?.into_input_value(alloc)?;
-    let cow: Input = CowStr::Borrowed("x").into_input_value(alloc)?;
-    let itself: Input = input_value_from_str::<DefaultScalarValue>(alloc, "x")?.into_input_value(
-        alloc,
-    )?;
-    for (value, wanted) in [
-        (number, "7"),
-        (truth, "true"),
-        (lent, "7"),
-        (word, "\"x\""),
-        (cow, "\"x\""),
-        (itself, "\"x\""),
-    ] {
-        let shown = value.to_string(alloc)?;
-        assert_eq!(rt; shown.as_str(), wanted);
-    }
+    assert!(rt; is_input_shown_as(alloc, Some(7).into_input_value(alloc)?, "7")?);
+    assert!(rt; is_input_shown_as(alloc, true.into_input_value(alloc)?, "true")?);
+    assert!(rt; is_input_shown_as(alloc, (&7).into_input_value(alloc)?, "7")?);
+    Ok(())
+}
+
+#[test]
+fn input_values_are_made_of_texts(rt: HostRuntime) -> Result<(), Fail> {
+    let alloc = rt.alloc();
+    let word = String::from_str(alloc, "x")?;
+    assert!(rt; is_input_shown_as(alloc, word.into_input_value(alloc)?, "\"x\"")?);
+    let lent = CowStr::Borrowed("x").into_input_value(alloc)?;
+    assert!(rt; is_input_shown_as(alloc, lent, "\"x\"")?);
+    let value: Input = input_value_from_str(alloc, "x")?;
+    assert!(rt; is_input_shown_as(alloc, value.into_input_value(alloc)?, "\"x\"")?);
     Ok(())
 }
 
 #[test]
 fn values_are_made(rt: HostRuntime) -> Result<(), Fail> {
     let alloc = rt.alloc();
-    let number: Data = Some(7).into_value(alloc)?;
-    let truth: Data = true.into_value(alloc)?;
-    let lent: Data = (&7).into_value(alloc)?;
-    let word: Data = String::from_str(alloc, "x")?.into_value(alloc)?;
-    let cow: Data = CowStr::Borrowed("x").into_value(alloc)?;
-    let itself: Data = value_from_str::<DefaultScalarValue>(alloc, "x")?.into_value(alloc)?;
-    for (value, wanted) in [
-        (number, "7"),
-        (truth, "true"),
-        (lent, "7"),
-        (word, "\"x\""),
-        (cow, "\"x\""),
-        (itself, "\"x\""),
-    ] {
-        let shown = value.to_string(alloc)?;
-        assert_eq!(rt; shown.as_str(), wanted);
-    }
+    assert!(rt; is_shown_as(alloc, Some(7).into_value(alloc)?, "7")?);
+    assert!(rt; is_shown_as(alloc, true.into_value(alloc)?, "true")?);
+    assert!(rt; is_shown_as(alloc, (&7).into_value(alloc)?, "7")?);
+    Ok(())
+}
+
+#[test]
+fn values_are_made_of_texts(rt: HostRuntime) -> Result<(), Fail> {
+    let alloc = rt.alloc();
+    let word = String::from_str(alloc, "x")?;
+    assert!(rt; is_shown_as(alloc, word.into_value(alloc)?, "\"x\"")?);
+    assert!(rt; is_shown_as(alloc, CowStr::Borrowed("x").into_value(alloc)?, "\"x\"")?);
+    let value: Data = value_from_str(alloc, "x")?;
+    assert!(rt; is_shown_as(alloc, value.into_value(alloc)?, "\"x\"")?);
     Ok(())
 }

@@ -1,37 +1,45 @@
 //! Answer values.
-ghost use Rattle.std.specs.Prelude.{◌≡◌, IfOk, IfErr, OnOk, OnErr, None, [], is_some, length, option_copied, string_bytes, String, ◌++◌, ◌∷◌, position, List, slice_get, ◌<◌, Some};
-ghost use Rattle.std.specs.Prelude.{OnSome};
+ghost use Rattle.std.specs.Prelude.{◌≡◌, IfOk, IfErr, OnOk, OnErr, OnSome, None, [], is_some, length, option_copied, string_bytes, String, List, ◌<◌};
 ghost use Rattle.std.specs.Borrow.{sem, LendsSo};
 ghost use Rattle.std.specs.Option.{option_copied_mut};
 ghost use Rattle.std.specs.List.{IsDistinct};
-ghost use Rattle.std.specs.Map.{keys_of, values_of, lookup, set_value};
+ghost use Rattle.std.specs.Map.{keys_of, lookup, set_value};
 ghost use Rattle.std.specs.Map.Iter.{GivesInOrder, ShowsInOrder, ShowsValuesInOrder, deref_pair};
 ghost use Rattle.std.specs.String.{string_eq};
 ghost use Rattle.std.specs.Iterator.{IsFinite, Drains};
-ghost use Rattle.indexmap.specs.IndexMap.{insert_entry, insert_all, set_value_at};
+ghost use Rattle.indexmap.specs.IndexMap.{insert_entry, insert_all};
 ghost use Rattle.std.specs.declared.alloc.Global.{Global};
 ghost use Rattle.juniper_answers.specs.Keys.{has_text};
 
 use crate::entries::{Entries, IntoIter, Iter};
 use std::alloc::{AllocError, Global};
 
-/// The fields of an object, in order.
+/// The fields of an object by reference, in order. It ends after the last.
 pub type Fields<'a, S> = Iter<'a, Value<S>>;
 
-/// The fields of an object by value, in order.
+/// The fields of an object by value, in order. It ends after the last.
 pub type IntoFields<S> = IntoIter<Value<S>>;
 
-/// An answer value.
+/// An answer value: what an executor answers with (GraphQL specification, October 2021, section 7.2).
+///
+/// Values are equal where they are of one kind and hold equal parts, the fields of objects in whatever order.
 #[derive(PartialEq, Eq, Drop)]
 #[cycle(value)]
 pub enum Value<S> {
+    /// `null`
     Null,
+    /// A scalar.
     Scalar(S),
+    /// A list.
     List(Vec<Value<S>>),
+    /// An object.
     Object(Object<S>),
 }
 
-/// An object of answer values.
+/// An object of answer values: values at distinct keys, in the order in which the keys came (GraphQL specification,
+/// October 2021, section 7.2.2).
+///
+/// Objects are equal where they have the same keys, in whatever order, with equal values.
 #[derive(PartialEq, Eq, Drop)]
 #[cycle(value)]
 pub struct Object<S> {
@@ -44,7 +52,9 @@ impl<S> Object<S> {
     ghost use Rattle.juniper_answers.specs.contracts.value.Object.{the_row};
     ghost use Rattle.juniper_answers.specs.contracts.value.Value.{the_row as value_row};
 
-    /// An object with no fields, with room for some.
+    /// An object without fields, with room for some. The size is a hint: more fields may come, and each may be refused.
+    ///
+    /// `AllocError` where memory ran out.
     pub fn with_capacity(alloc: Global, size: usize) -> Result<Self, AllocError>
         ensures { IfOk result (λ o. pairs o ≡ []) }
     {
@@ -53,7 +63,10 @@ impl<S> Object<S> {
         })
     }
 
-    /// Puts a value at a key.
+    /// Puts a value at a key. A value that is there is replaced in its place and handed back, and nothing is merged; a new
+    /// key goes last.
+    ///
+    /// Where memory ran out the key and the value come back, and the object is unchanged. A key that is there needs none.
     pub fn add_field(
         &mut self,
         key: String,
@@ -70,7 +83,8 @@ impl<S> Object<S> {
 
     /// The object of these pairs: each put in turn, as `add_field` puts it, into an object without fields.
     ///
-    /// Where memory ran out the pairs are dropped.
+    /// Of a doubled key the first place and the last value stay. `AllocError` where memory ran out; what came until then is
+    /// dropped.
     pub fn from_iter<I: Iterator<Item = (String, Value<S>)>>(
         alloc: Global,
         items: I,
@@ -114,14 +128,14 @@ impl<S> Object<S> {
         self.entries.len()
     }
 
-    /// The value at a key.
+    /// The value at a key, if there is one.
     pub fn get_field_value(&self, key: &str) -> Option<&Value<S>>
         ensures { option_copied result ≡ lookup (has_text key.now) (pairs self.now) }
     {
         self.entries.get(key)
     }
 
-    /// The value at a key, to write.
+    /// The value at a key, if there is one, to write. A write changes the value of this field alone.
     pub fn get_mut_field_value(&mut self, key: &str) -> Option<&mut Value<S>>
         ensures* writes_back { sem 𝓛 (LendsSo (the_row S.row) (value_row S.row) self.entry result (λ n w. OnSome result (pairs n ≡ set_value (has_text key.now) (pairs self.old) w)) (λ n. pairs n ≡ pairs self.old)) }
         ensures value { option_copied_mut result ≡ lookup (has_text key.now) (pairs self.old) }

@@ -1,4 +1,4 @@
-use Rattle.std.proofs.Common.{◌≡◌, ◌+◌, ◌*◌, List, ◌++◌, take, true, String, Global}
+use Rattle.std.proofs.Common.{◌≡◌, ◌+◌, ◌*◌, List, ◌++◌, take, String, Global}
 use Rattle.juniper_answers.specs.Copies.{CopiesItems, CopiesFields}
 use Rattle.juniper_answers.specs.View.{pairs}
 use Rattle.juniper_answers.specs.declared.value.Value.{Value}

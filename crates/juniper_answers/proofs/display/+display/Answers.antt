@@ -1,4 +1,4 @@
-use Rattle.std.proofs.Common.{◌≡◌, ◌+◌, ◌*◌, ◌<◌, ◌∷◌, rules, refl, sym, ap, subst, ◌∙◌, ◌++◌, [], drop, arith, append_assoc, String, Global, string_bytes}
+use Rattle.std.proofs.Common.{◌≡◌, ◌+◌, ◌*◌, ◌∷◌, rules, refl, sym, ap, subst, ◌∙◌, ◌++◌, [], drop, arith, append_assoc, String, Global, string_bytes}
 use Rattle.std.specs.Prelude.{codes}
 use Rattle.std.specs.Str.{chars}
 use Rattle.std.specs.Fmt.{HasWritten}

@@ -1,4 +1,4 @@
-use Rattle.std.proofs.Common.{◌≡◌, ◌+◌, ◌*◌, ◌<◌, [], ◌∷◌, ◌++◌, length, rules, arith, refl, ◌∙◌, ap, sym, append_assoc, String, Global}
+use Rattle.std.proofs.Common.{◌≡◌, ◌+◌, ◌*◌, [], ◌∷◌, ◌++◌, arith, refl, ◌∙◌, ap, sym, append_assoc, String, Global}
 use Rattle.std.proofs.lemmas.List.{at_drop_all}
 use Rattle.juniper_values.specs.Value as input
 use Rattle.juniper_values.proofs.Reading.{drop_read, prepend, turn}

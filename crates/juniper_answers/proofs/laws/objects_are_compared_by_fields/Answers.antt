@@ -1,4 +1,4 @@
-use Rattle.std.proofs.Common.{◌∙◌, rules, Bool, true}
+use Rattle.std.proofs.Common.{rules, Bool, true}
 use denote.Hole.Compared.{compared_is}
 use Rattle.std.specs.Cmp.{partial_equiv_from_equiv}
 use Rattle.juniper_answers.specs.contracts.value.ValuePartialEq.TheImpl.Laws as value_laws
