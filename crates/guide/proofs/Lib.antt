@@ -1,1 +1,3 @@
+pub mod Fronts
+pub mod NamesOfFields
 pub mod Trees

@@ -1,1 +1,5 @@
 pub mod Documents
+pub mod Fields
+pub mod Literals
+pub mod Telling
+pub mod Worth

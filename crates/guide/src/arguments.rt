@@ -1,4 +1,7 @@
 //! What a field's argument is worth.
+ghost use Rattle.std.specs.Prelude.{◌≡◌, IfOk, option_map};
+ghost use Rattle.juniper_values.specs.View.{view, values_in};
+ghost use Rattle.guide.specs.Worth.{worth};
 
 use juniper::{Field, InputValue, ScalarValue, Variables};
 use std::alloc::{AllocError, Global};
@@ -11,7 +14,9 @@ pub fn argument_value<S: ScalarValue>(
     field: &Field<'_, S>,
     name: &str,
     variables: &Variables<S>,
-) -> Result<Option<InputValue<S>>, AllocError> {
+) -> Result<Option<InputValue<S>>, AllocError>
+    ensures { IfOk result (λ value. option_map (view S.content) value ≡ worth S.content (values_in S.content variables.now) name.now field.now.arguments) }
+{
     let Some(arguments) = &field.arguments else {
         return Ok(None);
     };

@@ -1,20 +1,37 @@
 //! Literals, compared whatever their places.
+ghost use Rattle.std.specs.Prelude.{IfOk};
+ghost use Rattle.std.specs.Str.{chars};
+ghost use Rattle.juniper_tokens.specs.Errors.{view_fault};
+ghost use Rattle.juniper.specs.View.{view_value};
+ghost use Rattle.juniper.specs.Scalars.{stated};
+ghost use Rattle.juniper.specs.Promise.{IfRefused};
+ghost use Rattle.guide.specs.Literals.{BeginsWith, HasNoValue, FirstFault, AreCompared};
 
 use juniper::{
-    DefaultScalarValue, InputValue, LexFailure, Lexer, ParseError, ParseFailure, ParseResult,
-    Parser, Spanning, parse_value_literal,
+    InputValue, LexFailure, Lexer, ParseError, ParseFailure, ParseResult, Parser, ScalarValue,
+    Spanning, parse_value_literal,
 };
 use std::alloc::Global;
 
 /// Whether two texts begin with the same value, however it is laid out. The first refusal of either is the answer.
-pub fn same_literal(alloc: Global, one: &str, other: &str) -> Result<bool, ParseFailure> {
-    let one = literal(alloc, one)?;
-    let other = literal(alloc, other)?;
+pub fn same_literal<S: ScalarValue>(
+    alloc: Global,
+    one: &str,
+    other: &str,
+) -> Result<bool, ParseFailure>
+    ensures compared { IfOk result (λ answer. AreCompared (stated S.reading S.of_bool) S.content S.eq (chars one.now) (chars other.now) answer) }
+    ensures refused { IfRefused result (λ fault. FirstFault (stated S.reading S.of_bool) (chars one.now) (chars other.now) (view_fault fault)) }
+{
+    let one = literal::<S>(alloc, one)?;
+    let other = literal::<S>(alloc, other)?;
     Ok(one.item.unlocated_eq(&other.item))
 }
 
 // The value that a text begins with.
-fn literal(alloc: Global, source: &str) -> ParseResult<InputValue<DefaultScalarValue>> {
+fn literal<S: ScalarValue>(alloc: Global, source: &str) -> ParseResult<InputValue<S>>
+    ensures value { IfOk result (λ value. BeginsWith (stated S.reading S.of_bool) (chars source.now) (view_value S.content value)) }
+    ensures refused { IfRefused result (λ fault. HasNoValue (stated S.reading S.of_bool) (chars source.now) (view_fault fault)) }
+{
     let mut lexer = Lexer::new(alloc, source);
     match Parser::new(&mut lexer) {
         Ok(tokens) => {

@@ -91,7 +91,7 @@ fn literals_are_compared_whatever_their_places(rt: HostRuntime) -> Result<(), Fa
         ("$a", "a", false),
     ] {
         assert_eq!(rt;
-            same_literal(rt.alloc(), one, other)?,
+            same_literal::<DefaultScalarValue>(rt.alloc(), one, other)?,
             same,
             "{one} {other}"
         );

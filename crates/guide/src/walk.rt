@@ -1,42 +1,75 @@
 //! A walk over a whole tree.
+ghost use Rattle.std.specs.Prelude.{◌≡◌, ◌++◌, IfOk, OnOk, map};
+ghost use Rattle.juniper.specs.View.{view_document, view_definition, view_field, view_selection, view_selections};
+ghost use Rattle.guide.specs.Fields.{texts, fields_of, fields_among, fields_in, field_names};
 
-use juniper::{Definition, Selection};
+use juniper::{Definition, Field, Selection, Spanning};
 use std::alloc::{AllocError, Global};
 
 /// The names of all fields of a document, in the order in which they are written.
 pub fn field_names<'a, S: Drop>(
     alloc: Global,
     document: &[Definition<'a, S>],
-) -> Result<Vec<&'a str>, AllocError> {
+) -> Result<Vec<&'a str>, AllocError>
+    ensures { IfOk result (λ names. texts names.items ≡ field_names (map (view_definition (λ s. s)) document.now)) }
+{
     let mut names = Vec::new(alloc);
     for definition in document {
-        match definition {
-            Definition::Operation(operation) => {
-                note_fields(&mut names, &operation.item.selection_set)?;
-            }
-            Definition::Fragment(fragment) => {
-                note_fields(&mut names, &fragment.item.selection_set)?;
-            }
-        }
+        note_definition(&mut names, definition)?;
     }
     Ok(names)
 }
 
+fn note_definition<'a, S: Drop>(
+    names: &mut Vec<&'a str>,
+    definition: &Definition<'a, S>,
+) -> Result<(), AllocError>
+    ensures { OnOk result (texts names.new.items ≡ texts names.old.items ++ fields_in (view_definition (λ s. s) definition.now)) }
+{
+    match definition {
+        Definition::Operation(operation) => note_fields(names, &operation.item.selection_set),
+        Definition::Fragment(fragment) => note_fields(names, &fragment.item.selection_set),
+    }
+}
+
+#[cycle(fields)]
 fn note_fields<'a, S: Drop>(
     names: &mut Vec<&'a str>,
     selections: &[Selection<'a, S>],
-) -> Result<(), AllocError> {
+) -> Result<(), AllocError>
+    ensures { OnOk result (texts names.new.items ≡ texts names.old.items ++ fields_among (view_selections (λ s. s) selections.now)) }
+{
     for selection in selections {
-        match selection {
-            Selection::Field(field) => {
-                names.push(field.item.name.item)?;
-                if let Some(inner) = &field.item.selection_set {
-                    note_fields(names, inner)?;
-                }
-            }
-            Selection::FragmentSpread(_) => {}
-            Selection::InlineFragment(inline) => note_fields(names, &inline.item.selection_set)?,
-        }
+        note_selection(names, selection)?;
     }
     Ok(())
+}
+
+#[cycle(fields)]
+fn note_selection<'a, S: Drop>(
+    names: &mut Vec<&'a str>,
+    selection: &Selection<'a, S>,
+) -> Result<(), AllocError>
+    ensures { OnOk result (texts names.new.items ≡ texts names.old.items ++ fields_of (view_selection (λ s. s) selection.now)) }
+{
+    match selection {
+        Selection::Field(field) => note_field(names, field),
+        Selection::FragmentSpread(_) => Ok(()),
+        Selection::InlineFragment(inline) => note_fields(names, &inline.item.selection_set),
+    }
+}
+
+// The name of a field, and behind it those of the fields within.
+#[cycle(fields)]
+fn note_field<'a, S: Drop>(
+    names: &mut Vec<&'a str>,
+    field: &Spanning<Field<'a, S>>,
+) -> Result<(), AllocError>
+    ensures { OnOk result (texts names.new.items ≡ texts names.old.items ++ fields_of (view_field (λ s. s) field.now)) }
+{
+    names.push(field.item.name.item)?;
+    match &field.item.selection_set {
+        None => Ok(()),
+        Some(inner) => note_fields(names, inner),
+    }
 }

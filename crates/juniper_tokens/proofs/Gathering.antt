@@ -46,13 +46,13 @@ pub record Gathered (s : LexerState) (xs : List Lexeme) (t : LexerState) : Type 
   pub source : t.source ≡ s.source
   pub tokens : ((t.ended ≡ false) × Leads s.source s.index xs t.index) ⊎ ((t.ended ≡ true) × CutFrom s.source s.index xs)
 
-gathered_open : (s : LexerState) (xs : List Lexeme) (t : LexerState) → Gathered s xs t → t.ended ≡ false → Leads s.source s.index xs t.index
+pub gathered_open : (s : LexerState) (xs : List Lexeme) (t : LexerState) → Gathered s xs t → t.ended ≡ false → Leads s.source s.index xs t.index
 gathered_open s xs t g e = elim g.tokens [
   | inl o ↦ o.1
   | inr d ↦ absurd (cc)
 ]
 
-gathered_token : (s : LexerState) (xs : List Lexeme) (t u : LexerState) (x : Lexeme) → Leads s.source s.index xs t.index → u.source ≡ s.source → Stands s.source t.index x u.index → ((u.ended ≡ true) ↔ (x.kind ≡ EndOfFile)) → Gathered s (xs ++ x ∷ []) u
+pub gathered_token : (s : LexerState) (xs : List Lexeme) (t u : LexerState) (x : Lexeme) → Leads s.source s.index xs t.index → u.source ≡ s.source → Stands s.source t.index x u.index → ((u.ended ≡ true) ↔ (x.kind ≡ EndOfFile)) → Gathered s (xs ++ x ∷ []) u
 gathered_token s xs t u x l q stands ends =
     record {
       source = q;

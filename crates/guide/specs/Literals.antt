@@ -1,0 +1,44 @@
+-- Values at the fronts of texts, and whether two of them are the same.
+use Rattle.std.specs.Prelude.{◌≡◌, ◌⊎◌, ℕ, Bool, true, List, ◌++◌}
+use Rattle.graphql_lexical.specs.Place.{Place}
+use Rattle.graphql_lexical.specs.Kinds.{LexicalError}
+use Rattle.graphql_lexical.specs.Cutting.{Lexeme, Cut, Breaks}
+use Rattle.graphql_grammar.specs.Tree.{Scalars, Value}
+use Rattle.graphql_grammar.specs.Grammar.{IsValue}
+use Rattle.graphql_grammar.specs.Faults.{ValueRefusedAt}
+use Rattle.juniper_tokens.specs.declared.span.Spanning.{Spanning}
+use Rattle.juniper_tokens.specs.Errors.{Error, Fault, Lexical}
+use Rattle.juniper_values.specs.Same.{same_but_place}
+use Rattle.juniper_values.specs.View.{view}
+use Rattle.juniper_values.specs.declared.input_value.InputValue.{InputValue}
+use Rattle.juniper.specs.Promise.{Refuses}
+use Rattle.juniper.specs.View.{view_value}
+
+module _ {C : Type 0} (scalars : Scalars C Error) where
+  -- The text can be cut into tokens, and a front of them is this value, with or without variables.
+  pub record BeginsWith (source : List ℕ) (value : Value C) : Type 0 where
+    pub lexemes : List Lexeme
+    pub cut : Cut source lexemes
+    pub front : List Lexeme
+    pub left : List Lexeme
+    pub whole : lexemes ≡ front ++ left
+    pub means : IsValue scalars true front value
+
+  -- The text begins with no value. Where it can't be cut into tokens, the fault is its first lexical one, of zero width.
+  -- Where it can, the fault is at the first token with which no value goes on.
+  pub record HasNoValue (source : List ℕ) (fault : Fault) : Type 0 where
+    pub none : (value : Value C) → BeginsWith source value → ⊥
+    pub lexical : (error : LexicalError) (at : Place) → Breaks source error at → fault ≡ record { error = Lexical error; span = record { start = at; end = at } }
+    pub grammatical : (lexemes : List Lexeme) → Cut source lexemes → (left : List Lexeme) × Refuses (IsValue scalars true) (ValueRefusedAt scalars true) fault lexemes left
+
+  -- The fault is that of the first of two texts that begins with no value.
+  abbrev pub FirstFault : List ℕ → List ℕ → Fault → Type 0
+  FirstFault one other fault = HasNoValue one fault ⊎ (((value : Value C) × BeginsWith one value) × HasNoValue other fault)
+
+  -- Both texts begin with values, which are equal whatever their places, or are not, as the answer says.
+  pub record AreCompared {S : Type 0} (content : S → C) (equal : S → S → Bool) (one other : List ℕ) (answer : Bool) : Type 0 where
+    pub value : Spanning (InputValue S)
+    pub other_value : Spanning (InputValue S)
+    pub begins : BeginsWith one (view_value content value)
+    pub other_begins : BeginsWith other (view_value content other_value)
+    pub compared : answer ≡ same_but_place equal (view (λ s. s) value.item) (view (λ s. s) other_value.item)

@@ -1,0 +1,20 @@
+-- What an argument is worth.
+use Rattle.std.specs.Prelude.{ℕ, List, Option, Some, None}
+use Rattle.juniper_tokens.specs.declared.span.Spanning.{Spanning}
+use Rattle.juniper_values.specs.Value.{Value}
+use Rattle.juniper_values.specs.Resolve.{Values, resolve}
+use Rattle.juniper_values.specs.View.{view}
+use Rattle.juniper_values.specs.declared.input_value.InputValue.{InputValue}
+use Rattle.juniper.specs.declared.ast.Arguments.{Arguments}
+use Rattle.juniper.specs.Named.{first_named}
+
+module _ {S C : Type 0} (content : S → C) (values : Values C) where
+  -- a value whose variables are replaced, if there is one
+  abbrev pub replaced : Option (Spanning (InputValue S)) → Option (Value C)
+  replaced None = None
+  replaced (Some value) = resolve values (view content value.item)
+
+  -- the first argument of this name, its variables replaced
+  abbrev pub worth : List ℕ → Option (Spanning (Arguments S)) → Option (Value C)
+  worth name None = None
+  worth name (Some arguments) = replaced (first_named name arguments.item.items.items)
