@@ -1,3 +1,4 @@
+pub mod Ends
 pub mod Kinds
 pub mod Lines
 pub mod Parts
