@@ -113,7 +113,7 @@ module _ {F A : Type 0} (close : Test) (f : Reader F A) (R : List Lexeme → A �
       next ws (y ∷ ys) (vs, zs, q', h', m) = rw (q', append_assoc vs zs (c ∷ rest)) (good vs (zs ++ (c ∷ rest)) y h')
 
 -- Types
-type_starts : (ts : List Lexeme) (x : TypeRef) → IsType ts x → 0 < length ts
+pub type_starts : (ts : List Lexeme) (x : TypeRef) → IsType ts x → 0 < length ts
 type_starts ts (NamedType w) h = rw h.1 (omega arith)
 type_starts ts (ListType size x) h = rw h.3 (omega arith)
 type_starts ts (NonNullType x) h = rw (h.2, length-append h.0 (h.1 ∷ [])) (omega arith)

@@ -2,7 +2,7 @@
 use Rattle.std.proofs.Common.{ℕ, zero, suc, ◌≡◌, ◌≤◌, ◌<◌, ◌+◌, ◌∷◌, [], List, ◌++◌, length, take, drop, refl, sym, ap, ◌∙◌, arith, append_assoc, append-nil, subst, length-append, inl, inr, le_refl, take-append-drop, codes}
 use Rattle.std.proofs.lemmas.List.{append_cancel_right}
 use Rattle.graphql_lexical.specs.Cutting.{Lexeme}
-use Rattle.graphql_grammar.specs.Tokens.{AllAlike}
+use Rattle.graphql_lexical.specs.Alike.{AllAlike}
 use Rattle.graphql_grammar.specs.Samples.{AreSamples, IsSample, token_of, sample}
 use Rattle.graphql_grammar.specs.Faults.{Begins, AtFault, NoEnd, EndsOnce, Fault, ScalarError, ValueMayStand}
 use Rattle.graphql_grammar.specs.Reading.{Read, Took, Refused, Out, Reader}

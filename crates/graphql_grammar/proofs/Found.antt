@@ -1,5 +1,6 @@
 -- What is in the grammar is read.
 use Rattle.std.proofs.Common.{ℕ, zero, suc, Bool, true, false, ◌≡◌, ◌≤◌, ◌<◌, ◌+◌, ◌∷◌, [], List, ◌++◌, length, refl, sym, ap, ap₂, ◌∙◌, arith, append_assoc, length-append, Ok, codes, inl, inr, ◌⊎◌, ◌&&◌}
+use Rattle.std.proofs.Math.Bool.{and-false}
 use Rattle.graphql_lexical.specs.Place.{Span}
 use Rattle.graphql_lexical.specs.declared.kind.Kind.{Kind}
 use Rattle.graphql_lexical.specs.declared.kind.Kind.TheVariants.{Name, String, Float, Int, Dollar, BracketOpen, BracketClose, CurlyOpen, CurlyClose, Colon}
@@ -38,10 +39,6 @@ pub many_item : {F A : Type 0} (close : Test) (f : Reader F A) (n : ℕ) (ts mid
 unfolding many done
 many_item close f n ts mid rest x r s p q =
     on_apart close _ _ ts s ∙ seq_took f _ ts mid x p ∙ seq_took (many close f n) _ mid rest r q
-
-pub and-false : (b : Bool) → (b && false) ≡ false
-and-false true = refl
-and-false false = refl
 
 module _ {C F : Type 0} (S : Scalars C F) (free : Bool) (n : ℕ) (t : Lexeme) (ts : List Lexeme) where
   at_bracket : t.kind ≡ BracketOpen → value_at S free (suc n) (t ∷ ts) ≡ seq (many (of BracketClose) (value_at S free n) n) (λ r. done (ListOf (items_of r.0) (over t r.1))) ts

@@ -71,7 +71,8 @@ pub record Grows {F A : Type 0} (f : ℕ → Reader F A) : Type 0 where
   pub under : (n m : ℕ) → n ≤ m → Under (f n) (f m)
   pub answers : (n : ℕ) (ts : List Lexeme) → length ts < n → f n ts ≡ Out → ⊥
 
-not_out : {F A : Type 0} (n : ℕ) (f g : Reader F A) (R : List Lexeme → A → Type 0) → Rule n f g R → (ts : List Lexeme) → length ts < n → f ts ≡ Out → ⊥
+-- A reader that keeps a rule answers where the fuel exceeds the list.
+pub not_out : {F A : Type 0} (n : ℕ) (f g : Reader F A) (R : List Lexeme → A → Type 0) → Rule n f g R → (ts : List Lexeme) → length ts < n → f ts ≡ Out → ⊥
 not_out n f g R r ts le e = by_meets (f ts) e (r.at ts)
   where
     by_meets : (z : Read _ _) → z ≡ Out → Meets n R g ts z → ⊥

@@ -5,7 +5,8 @@ use Rattle.std.specs.List.{AllByRecursion}
 use Rattle.graphql_lexical.specs.declared.kind.Kind.{Kind}
 use Rattle.graphql_lexical.specs.declared.kind.Kind.TheVariants.{String, Float, Int, EndOfFile}
 use Rattle.graphql_lexical.specs.Cutting.{Lexeme}
-use Rattle.graphql_grammar.specs.Tokens.{Alike, AllAlike, IsSpelled}
+use Rattle.graphql_lexical.specs.Alike.{Alike, AllAlike}
+use Rattle.graphql_grammar.specs.Tokens.{IsSpelled}
 use Rattle.graphql_grammar.specs.Tree.{Scalars, Value, Definition}
 use Rattle.graphql_grammar.specs.Grammar.{IsScalarKind, IsValue, IsDocument}
 use Rattle.graphql_grammar.specs.Samples.{IsSample, AreSamples}

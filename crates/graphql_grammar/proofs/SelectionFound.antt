@@ -1,5 +1,6 @@
 -- What is in the grammar of selections and definitions is read.
 use Rattle.std.proofs.Common.{ℕ, zero, suc, Bool, true, false, ◌≡◌, ◌≤◌, ◌<◌, ◌+◌, ◌∷◌, [], List, ◌++◌, length, refl, sym, ap, ap₂, ◌∙◌, arith, append_assoc, length-append, codes, inl, inr, ◌⊎◌, ◌||◌, ◌&&◌, not, bytes_eq, Option, Some, None}
+use Rattle.std.proofs.Math.Bool.{and-false}
 use Rattle.graphql_lexical.specs.Place.{Span}
 use Rattle.graphql_lexical.specs.declared.kind.Kind.{Kind}
 use Rattle.graphql_lexical.specs.declared.kind.Kind.TheVariants.{Name, ParenOpen, CurlyOpen, CurlyClose, Ellipsis, Colon, At, EndOfFile}
@@ -10,7 +11,7 @@ use Rattle.graphql_grammar.specs.Tree.{Scalars, Arguments, Variables, Selection,
 use Rattle.graphql_grammar.specs.Grammar.{Each, Optional, IsWord, Says, IsArguments, IsDirectives, IsVariables, IsAlias, IsSelection, IsOptionalSelectionSet, IsSelectionSet, AreSelections, IsDefinition, IsDocument}
 use Rattle.graphql_grammar.proofs.Rules.{on_passed, on_failed}
 use Rattle.graphql_grammar.proofs.TokenTests.{text_same, text_other}
-use Rattle.graphql_grammar.proofs.Found.{test_at, seq_took, StartsApart, and-false}
+use Rattle.graphql_grammar.proofs.Found.{test_at, seq_took, StartsApart}
 use Rattle.graphql_grammar.proofs.SelectionRules.{selection_takes, definition_takes, select_takes, word_takes}
 use Rattle.graphql_grammar.proofs.DocumentFound.{NotAt, StartsWith, MayStart, Differ, starts_not, may_not, starts_apart, look_no, look_start, on_no, seq_found, want_found, want_kind, span_found, maybe_found, one_or_more_found, directives_start, directives_found, optional_arguments, arguments_start, variables_found, variables_start}
 

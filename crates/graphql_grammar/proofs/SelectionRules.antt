@@ -1,5 +1,6 @@
 -- What the readings of selections and definitions keep.
 use Rattle.std.proofs.Common.{ℕ, zero, suc, true, ◌≡◌, ◌≤◌, ◌<◌, ◌∷◌, [], List, ◌++◌, length, refl, ap, ◌∙◌, arith, append_assoc, append-nil, length-append, zero-le, le_refl, codes, inl, inr, ◌⊎◌, ◌||◌, Option, Some, None}
+use Rattle.std.proofs.lemmas.Bool.{or_cases}
 use Rattle.graphql_lexical.specs.Place.{Span}
 use Rattle.graphql_lexical.specs.declared.kind.Kind.TheVariants.{Name, ParenOpen, CurlyOpen, CurlyClose, Ellipsis, Colon, EndOfFile}
 use Rattle.graphql_lexical.specs.Cutting.{Lexeme}
@@ -9,7 +10,7 @@ use Rattle.graphql_grammar.specs.Reading.{passes, of, word, Reader, name_word, f
 use Rattle.graphql_grammar.specs.Tree.{Scalars, Selection, Field, FragmentSpread, InlineFragment, Selections, no_selections, selection, Definition, Operation, Fragment, absent, present, Query, operation_name, Directives}
 use Rattle.graphql_grammar.specs.Grammar.{Each, Optional, IsWord, Says, IsArguments, IsDirectives, IsVariables, IsAlias, IsSelection, IsOptionalSelectionSet, IsSelectionSet, AreSelections, IsDefinition, IsDocument}
 use Rattle.graphql_grammar.proofs.Rules.{less, Rule, Some_of, done_rule, weaken, on_rule, look_rule, span_rule, maybe_rule, one_or_more_rule, step, want_step, lower, less_short, ClosedSome}
-use Rattle.graphql_grammar.proofs.TokenTests.{of_kind, either, says, other}
+use Rattle.graphql_grammar.proofs.TokenTests.{of_kind, says, other}
 use Rattle.graphql_grammar.proofs.DocumentRules.{low1, low2, low3, low4, arguments_rule, directives_rule, variables_rule}
 
 module _ {C F : Type 0} (S : Scalars C F) where
@@ -126,11 +127,11 @@ module _ {C F : Type 0} (S : Scalars C F) where
   two_words t (inr x) = let s : Says t (codes "mutation") = says _ t x in record { kind = s.kind; text = rw s.text refl }
 
   three_words : (t : Lexeme) → ((passes (word (codes "query")) t || passes (word (codes "mutation")) t) ≡ true) ⊎ (passes (word (codes "subscription")) t ≡ true) → Says t (operation_name (operation_of t.text))
-  three_words t (inl x) = two_words t (either _ _ x)
+  three_words t (inl x) = two_words t (or_cases _ _ x)
   three_words t (inr x) = let s : Says t (codes "subscription") = says _ t x in record { kind = s.kind; text = rw s.text refl }
 
   operation_says : (t : Lexeme) → passes operation_word t ≡ true → Says t (operation_name (operation_of t.text))
-  operation_says t e = three_words t (either _ _ e)
+  operation_says t e = three_words t (or_cases _ _ e)
 
   pub definition_takes : (ts : List Lexeme) (d : Definition C) → IsDefinition S ts d → 0 < length ts
   definition_takes ts (Operation kind name vars ds ss p) (q, inl h) = select_takes ts ss h.0

@@ -1,10 +1,10 @@
 -- A reader with enough fuel is its own step: how readers that are made of others follow them.
-use Rattle.std.proofs.Common.{ℕ, zero, suc, Bool, true, false, ◌≡◌, ◌≤◌, ◌<◌, ◌∷◌, [], List, length, refl, arith, inl, inr, le_refl, ◌∙◌}
+use Rattle.std.proofs.Common.{ℕ, zero, suc, Bool, true, false, ◌≡◌, ◌≤◌, ◌∷◌, [], List, length, refl, arith, inl, inr, le_refl, ◌∙◌}
 use Rattle.graphql_lexical.specs.Place.{Span}
 use Rattle.graphql_lexical.specs.Cutting.{Lexeme}
-use Rattle.graphql_grammar.specs.Reading.{Test, passes, Read, Took, Refused, Out, Reader, after, seq, done, on, many, look, choose, give_span, with_span, maybe, one_or_more, repeated, fully}
-use Rattle.graphql_grammar.proofs.Rules.{Meets, Rule}
-use Rattle.graphql_grammar.proofs.Fuel.{Below, Under, under_refl, seq_under, on_under, many_under, Grows, settled, steps}
+use Rattle.graphql_grammar.specs.Reading.{Test, passes, Read, Reader, after, seq, done, on, many, look, choose, give_span, with_span, maybe, one_or_more, repeated, fully}
+use Rattle.graphql_grammar.proofs.Rules.{Rule}
+use Rattle.graphql_grammar.proofs.Fuel.{Below, Under, under_refl, seq_under, on_under, many_under, Grows, not_out, settled, steps}
 
 below_trans : {F A : Type 0} (a b c : Read F A) → Below a b → Below b c → Below a c
 below_trans a b c (inl e) q = inl e
@@ -49,17 +49,9 @@ repeated_under test f g p (suc n) zero le = absurd (omega arith)
 repeated_under test f g p (suc n) (suc m) le =
     look_under test _ _ _ _ (seq_under f g _ _ p (λ x. seq_under _ _ _ _ (repeated_under test f g p n m (omega arith)) (λ xs. under_refl _))) (under_refl _)
 
-rule_answers : {F A : Type 0} (n : ℕ) (f g : Reader F A) (R : List Lexeme → A → Type 0) → Rule n f g R → (ts : List Lexeme) → length ts < n → f ts ≡ Out → ⊥
-rule_answers n f g R r ts le e = by_meets (f ts) e (r.at ts)
-  where
-    by_meets : (z : Read _ _) → z ≡ Out → Meets n R g ts z → ⊥
-    by_meets (Took a rest) q m = absurd (cc q)
-    by_meets (Refused rest x) q m = absurd (cc q)
-    by_meets Out q m = absurd (omega (arith, m.0))
-
 -- A reader that keeps a rule, and that more fuel doesn't change.
 pub grows : {F A : Type 0} (f : ℕ → Reader F A) (R : List Lexeme → A → Type 0) → ((n m : ℕ) → n ≤ m → Under (f n) (f m)) → ((n : ℕ) → Rule n (f n) (f n) R) → Grows f
-grows f R u r = record { under = u; answers = λ n ts le. rule_answers n (f n) (f n) R (r n) ts le }
+grows f R u r = record { under = u; answers = λ n ts le. not_out n (f n) (f n) R (r n) ts le }
 
 -- What each step answers as far as its fuel goes is the answer.
 pub law : {F A : Type 0} (f : ℕ → Reader F A) → Grows f → (g : Reader F A) → ((n : ℕ) → Under (f n) g) → (ts : List Lexeme) → fully f ts ≡ g ts

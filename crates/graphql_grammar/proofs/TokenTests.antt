@@ -1,5 +1,5 @@
 -- Tests of tokens.
-use Rattle.std.proofs.Common.{Bool, true, false, ◌≡◌, refl, ◌⊎◌, inl, inr, ◌&&◌, ◌||◌, bytes_eq, codes, not, rules}
+use Rattle.std.proofs.Common.{Bool, true, false, ◌≡◌, refl, inl, inr, ◌&&◌, ◌||◌, bytes_eq, codes, not, rules}
 use Rattle.std.proofs.lemmas.Slice.Eq.{bytes_eq-Decides}
 use denote.Enum.Bare.{same_true}
 use Rattle.graphql_lexical.specs.contracts.kind.Kind.{the_type}
@@ -37,10 +37,6 @@ text_same a b e = search (rules, bytes_eq-Decides a b)
 
 pub text_other : (a b : Text) → (a ≡ b → ⊥) → bytes_eq a b ≡ false
 text_other a b e = search (rules, bytes_eq-Decides a b)
-
-pub either : (a b : Bool) → (a || b) ≡ true → (a ≡ true) ⊎ (b ≡ true)
-either true b e = inl refl
-either false b e = inr e
 
 pub not_true : (a : Bool) → not a ≡ true → a ≡ false
 not_true true e = absurd (cc)

@@ -34,18 +34,6 @@ abbrev pub span_of : List Lexeme → Span
 span_of [] = nowhere
 span_of (t ∷ ts) = over t (last_of t ts)
 
--- equal in kind and text, whatever the span
-pub record Alike (a b : Lexeme) : Type 0 where
-  pub kind : a.kind ≡ b.kind
-  pub text : a.text ≡ b.text
-
--- as many tokens, each alike with the one in its place
-abbrev pub AllAlike : List Lexeme → List Lexeme → Type 0
-AllAlike [] [] = Unit {0}
-AllAlike [] (b ∷ bs) = ⊥
-AllAlike (a ∷ as') [] = ⊥
-AllAlike (a ∷ as') (b ∷ bs) = Alike a b × AllAlike as' bs
-
 -- Some text spells the token, or it is the end, which has no text.
 abbrev pub IsSpelled : Lexeme → Type 0
 IsSpelled t = ((whole : Text) × Spells whole t.kind × (t.text ≡ text_of t.kind whole)) ⊎ ((t.kind ≡ EndOfFile) × (t.text ≡ []))

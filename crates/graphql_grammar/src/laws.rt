@@ -2,7 +2,8 @@
 ghost use Rattle.std.specs.Prelude.{◌≡◌, ◌⊎◌, ◌++◌, ℕ, List, [], Bool, take};
 ghost use Rattle.std.specs.List.{AllByRecursion};
 ghost use Rattle.graphql_lexical.specs.Cutting.{Lexeme, Cut};
-ghost use Rattle.graphql_grammar.specs.Tokens.{Alike, AllAlike, IsSpelled};
+ghost use Rattle.graphql_lexical.specs.Alike.{Alike, AllAlike};
+ghost use Rattle.graphql_grammar.specs.Tokens.{IsSpelled};
 ghost use Rattle.graphql_grammar.specs.Tree.{Scalars, Value, TypeRef, Definition};
 ghost use Rattle.graphql_grammar.specs.Grammar.{IsValue, IsType, IsDocument};
 ghost use Rattle.graphql_grammar.specs.Faults.{Fault, EndsOnce, AtFault, DocumentRefusedAt, ValueRefusedAt, TypeRefusedAt};

@@ -13,7 +13,8 @@ use Rattle.graphql_lexical.specs.Tokens.{Spells, text_of}
 use Rattle.graphql_lexical.specs.Reading.{Longest, BeginsWithDigit, Reads}
 use Rattle.graphql_lexical.specs.Cutting.{IsGap, Lexeme, Stands, Leads, Cut}
 use Rattle.graphql_lexical.specs.Scan.{State, Start, Done, InName, Zero, Digits, Fraction, Exponent, step, reach, Found, Missed, answer, scan, gap_step, gap_size}
-use Rattle.graphql_lexical.specs.Joining.{is_lone, BeginsApart, AreAlike, IsSeam, Joins}
+use Rattle.graphql_lexical.specs.Alike.{Alike, AllAlike}
+use Rattle.graphql_lexical.specs.Joining.{is_lone, BeginsApart, IsSeam, Joins}
 use Rattle.graphql_lexical.proofs.Runs.{Stops, Reaches, reach_is, reach_on, Longest_same}
 use Rattle.graphql_lexical.proofs.Spelled.{accepts}
 use Rattle.graphql_lexical.proofs.Readings.{Reached, reached, Finds, answer_finds, accepts_answer, scan_reads, reads_scan}
@@ -202,18 +203,18 @@ stands_past a b k x n s =
     sums : (a k g : ℕ) → (a + k) + g ≡ a + (k + g)
     sums a k g = omega arith
 
-pub leads_past : (a b : List ℕ) (xs : List Lexeme) (k n : ℕ) → Leads b k xs n → (ys : List Lexeme) × Leads (a ++ b) (length a + k) ys (length a + n) × AreAlike ys xs
+pub leads_past : (a b : List ℕ) (xs : List Lexeme) (k n : ℕ) → Leads b k xs n → (ys : List Lexeme) × Leads (a ++ b) (length a + k) ys (length a + n) × AllAlike ys xs
 leads_past a b [] k n h = ([], ap (λ (i : ℕ). length a + i) h, tt)
 leads_past a b (x ∷ xs) k n h =
     let r = leads_past a b xs h.0 n h.3 in
     let y : Lexeme = moved (a ++ b) ((length a + k) + h.1.gap) (length a + h.0) x in
-    (y ∷ r.0, (length a + h.0, stands_past a b k x h.0 h.1, h.2, r.1), (refl, refl, r.2))
+    (y ∷ r.0, (length a + h.0, stands_past a b k x h.0 h.1, h.2, r.1), (record { kind = refl; text = refl }, r.2))
 
-pub alike_push : (xs ys : List Lexeme) (x y : Lexeme) → AreAlike xs ys → x.kind ≡ y.kind → x.text ≡ y.text → AreAlike (xs ++ x ∷ []) (ys ++ y ∷ [])
-alike_push [] [] x y h a b = (a, b, tt)
-alike_push (z ∷ xs) (w ∷ ys) x y h a b = (h.0, h.1, alike_push xs ys x y h.2 a b)
-alike_push [] (w ∷ ys) x y h a b = absurd h
-alike_push (z ∷ xs) [] x y h a b = absurd h
+pub alike_push : (xs ys : List Lexeme) (x y : Lexeme) → AllAlike xs ys → Alike x y → AllAlike (xs ++ x ∷ []) (ys ++ y ∷ [])
+alike_push [] [] x y h a = (a, tt)
+alike_push (z ∷ xs) (w ∷ ys) x y h a = (h.0, alike_push xs ys x y h.1 a)
+alike_push [] (w ∷ ys) x y h a = absurd h
+alike_push (z ∷ xs) [] x y h a = absurd h
 
 -- ---- both
 
@@ -228,7 +229,7 @@ leads_split source (y ∷ xs) x k n h =
     (r.0, (h.0, h.1, h.2, r.1), r.2, r.3)
 
 -- behind a front of tokens that ends with a stand those of b
-pub after_front : (a b : List ℕ) (front us : List Lexeme) → Leads (a ++ b) 0 front (length a) → Cut b us → (vs : List Lexeme) × Cut (a ++ b) (front ++ vs) × AreAlike vs us
+pub after_front : (a b : List ℕ) (front us : List Lexeme) → Leads (a ++ b) 0 front (length a) → Cut b us → (vs : List Lexeme) × Cut (a ++ b) (front ++ vs) × AllAlike vs us
 after_front a b front us h c =
     let p = leads_past a b c.front 0 c.before c.leads in
     let y : Lexeme = moved (a ++ b) ((length a + c.before) + c.stands.gap) (length a + c.after) c.last in
@@ -244,7 +245,7 @@ after_front a b front us h c =
         stands = stands_past a b c.before c.last c.after c.stands;
         ends = c.ends;
       },
-      subst (AreAlike (p.0 ++ y ∷ [])) (sym c.parts) (alike_push p.0 c.front y c.last p.2 refl refl),
+      subst (AllAlike (p.0 ++ y ∷ [])) (sym c.parts) (alike_push p.0 c.front y c.last p.2 (record { kind = refl; text = refl })),
     )
 
 -- the place after the whole is the whole's length

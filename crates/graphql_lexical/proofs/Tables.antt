@@ -135,6 +135,9 @@ unicode_answer front after p e none =
     places : (p k : ℕ) → p + suc (suc k) ≡ p + (2 + (0 + k))
     places p k = omega arith
 
+one_more : (p : ℕ) → suc p ≡ p + 1
+one_more p = omega arith
+
 string_answer : (front after : List ℕ) (m : ℕ) (error : LexicalError) (p : ℕ) → length front ≡ p → NoUnit after → StringFails after m error → AnswerAfter front after p (reach step Units after) ≡ missed (p + m) error
 string_answer front _ _ _ p e none at_end = units_answer front [] p e
 string_answer front _ _ _ p e none (at_line_end {c} {after} h) =
@@ -151,14 +154,8 @@ string_answer front _ _ _ p e none (short_unicode {after} l s) =
     places p k = omega arith
 string_answer front _ _ _ p e none (wrong_unicode {after} l s) =
     unicode_answer front after p e none ∙ (u_wrong (suc p) after l s ∙ ap (λ (k : ℕ). missed k (UnknownEscapeSequence (92 ∷ 117 ∷ take (counted after) after))) (one_more p))
-  where
-    one_more : (p : ℕ) → suc p ≡ p + 1
-    one_more p = omega arith
 string_answer front _ _ _ p e none (no_unicode {c} {after} z) =
     unicode_answer front (c ∷ after) p e none ∙ (u_none (suc p) c after z ∙ ap (λ (k : ℕ). missed k (UnknownEscapeSequence (92 ∷ 117 ∷ c ∷ []))) (one_more p))
-  where
-    one_more : (p : ℕ) → suc p ≡ p + 1
-    one_more p = omega arith
 
 string_scan : (more : List ℕ) (k m : ℕ) (error : LexicalError) → Longest AreUnits more k → StringFails (drop k more) m error → scan (34 ∷ more) ≡ missed (suc k + m) error
 string_scan more k m error l f =

@@ -11,7 +11,7 @@ use Rattle.graphql_lexical.specs.Tokens.{Spells, Starts, text_of}
 use Rattle.graphql_lexical.specs.Reading.{Longest, Reads, BeginsWithDigit}
 use Rattle.graphql_lexical.specs.Cutting.{IsGap, Lexeme, Stands, Leads, Cut}
 use Rattle.graphql_lexical.specs.Scan.{Start, State, onward, step, gap_step, gap_size, reach}
-use Rattle.graphql_lexical.specs.Joining.{AreAlike}
+use Rattle.graphql_lexical.specs.Alike.{AllAlike}
 use Rattle.graphql_lexical.specs.Written.{Bare, AreOf, IsCutInto, WritesToken, WritesWhite}
 use Rattle.graphql_lexical.proofs.Runs.{Longest_same}
 use Rattle.graphql_lexical.proofs.Spelled.{accepts, spells_run, Goes}
@@ -20,24 +20,24 @@ use Rattle.graphql_lexical.proofs.Joints.{moved, stands_past, leads_past, alike_
 
 -- ---- lists that are alike
 
-alike_of : (xs ys : List Lexeme) (bs : List Bare) → AreAlike xs ys → AreOf ys bs → AreOf xs bs
+alike_of : (xs ys : List Lexeme) (bs : List Bare) → AllAlike xs ys → AreOf ys bs → AreOf xs bs
 alike_of [] [] [] a o = tt
-alike_of (x ∷ xs) (y ∷ ys) (b ∷ bs) a o = (a.0 ∙ o.0, a.1 ∙ o.1, alike_of xs ys bs a.2 o.2)
+alike_of (x ∷ xs) (y ∷ ys) (b ∷ bs) a o = (a.0.kind ∙ o.0, a.0.text ∙ o.1, alike_of xs ys bs a.1 o.2)
 alike_of [] [] (b ∷ bs) a o = absurd o
 alike_of [] (y ∷ ys) bs a o = absurd a
 alike_of (x ∷ xs) [] bs a o = absurd a
 alike_of (x ∷ xs) (y ∷ ys) [] a o = absurd o
 
 -- the front of a list that is alike with tokens and the end
-alike_front : (vs xs : List Lexeme) (e : Lexeme) (bs : List Bare) → AreAlike vs (xs ++ e ∷ []) → AreOf xs bs → (ys : List Lexeme) × (y : Lexeme) × (vs ≡ ys ++ y ∷ []) × AreOf ys bs
+alike_front : (vs xs : List Lexeme) (e : Lexeme) (bs : List Bare) → AllAlike vs (xs ++ e ∷ []) → AreOf xs bs → (ys : List Lexeme) × (y : Lexeme) × (vs ≡ ys ++ y ∷ []) × AreOf ys bs
 alike_front [] [] e bs a o = absurd a
 alike_front [] (x ∷ xs) e bs a o = absurd a
 alike_front (v ∷ []) [] e bs a o = ([], v, refl, o)
-alike_front (v ∷ w ∷ vs) [] e bs a o = absurd a.2
+alike_front (v ∷ w ∷ vs) [] e bs a o = absurd a.1
 alike_front (v ∷ vs) (x ∷ xs) e [] a o = absurd o
 alike_front (v ∷ vs) (x ∷ xs) e (b ∷ bs) a o =
-    let r = alike_front vs xs e bs a.2 o.2 in
-    (v ∷ r.0, r.1, ap (λ (z : List Lexeme). v ∷ z) r.2, (a.0 ∙ o.0, a.1 ∙ o.1, r.3))
+    let r = alike_front vs xs e bs a.1 o.2 in
+    (v ∷ r.0, r.1, ap (λ (z : List Lexeme). v ∷ z) r.2, (a.0.kind ∙ o.0, a.0.text ∙ o.1, r.3))
 
 -- ---- a token begins with no gap
 
@@ -179,7 +179,7 @@ writes_white c rest bares h w =
     let p = leads_past (c ∷ []) rest k.front 0 k.before k.leads in
     let y : Lexeme = moved (c ∷ rest) ((1 + k.before) + k.stands.gap) (1 + k.after) k.last in
     let cut = cut_back c rest p.0 y (1 + k.before) (1 + k.after) h p.1 (stands_past (c ∷ []) rest k.before k.last k.after k.stands) k.ends in
-    let alike = subst (AreAlike (p.0 ++ y ∷ [])) (sym k.parts) (alike_push p.0 k.front y k.last p.2 refl refl) in
+    let alike = subst (AllAlike (p.0 ++ y ∷ [])) (sym k.parts) (alike_push p.0 k.front y k.last p.2 (record { kind = refl; text = refl })) in
     let f = alike_front (p.0 ++ y ∷ []) w.lexemes w.end bares alike w.are in
     record {
       lexemes = f.0;

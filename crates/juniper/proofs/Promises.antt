@@ -1,5 +1,5 @@
 -- From the tokens of a text to the text.
-use Rattle.std.proofs.Common.{◌≡◌, ℕ, suc, List, [], ◌∷◌, length, inl, inr, refl, sym, ap, ap₂, subst, ◌∙◌, arith, Result, Ok, Err, IfOk}
+use Rattle.std.proofs.Common.{◌≡◌, ℕ, suc, List, [], ◌∷◌, length, inl, inr, refl, sym, ap, ap₂, subst, ◌∙◌, arith, Result, Ok, Err, IfOk, IsErrAnd}
 use Rattle.graphql_lexical.specs.Place.{Place}
 use Rattle.graphql_lexical.specs.Kinds.{LexicalError}
 use Rattle.graphql_lexical.specs.Cutting.{Lexeme, CutFrom, BreaksFrom, Cut, Breaks}
@@ -14,12 +14,15 @@ use Rattle.graphql_grammar.proofs.Readers.{document_reads, one_document}
 use Rattle.graphql_grammar.proofs.Spelling.{cut_spelled, cut_ends}
 use Rattle.juniper_tokens.specs.declared.error.ParseFailure.{ParseFailure}
 use Rattle.juniper_tokens.specs.declared.error.ParseFailure.TheVariants as failure
+use Rattle.juniper_tokens.specs.declared.error.LexFailure.{LexFailure}
+use Rattle.juniper_tokens.specs.declared.error.LexFailure.TheVariants as lexing
 use Rattle.juniper_tokens.specs.declared.error.LexerError.{LexerError}
 use Rattle.juniper_tokens.specs.declared.error.ParseError.TheVariants as parse
 use Rattle.juniper_tokens.specs.declared.span.Spanning.{Spanning}
-use Rattle.juniper_tokens.specs.Errors.{Error, Fault, Lexical, view_fault, view_lexer_error}
+use Rattle.juniper_tokens.specs.Errors.{Error, Fault, Lexical, view_fault, view_lexer_error, failure_of}
 use Rattle.juniper_tokens.specs.Cursor.{Read}
 use Rattle.juniper_tokens.specs.Lexing.{LexerState, started}
+use Rattle.juniper_tokens.specs.Gathering.{IfFault}
 use Rattle.juniper.specs.Seen.{seen}
 use Rattle.juniper.specs.Definitions.{document_read}
 use Rattle.juniper.specs.Promise.{HasTree, IsRefusedAt, IsRefusal, IfRefused, AnswersAs}
@@ -110,3 +113,15 @@ break_from_start state source error at e b = subst (λ (s : LexerState). BreaksF
 -- a lexical fault of zero width, as the parser tells it
 pub lexical_fault : (fault : Spanning LexerError) → fault.span.end ≡ fault.span.start → view_fault (record { item = parse.LexerError fault.item; span = fault.span }) ≡ record { error = Lexical (view_lexer_error fault.item); span = record { start = fault.span.start; end = fault.span.start } }
 lexical_fault fault e = ap (λ (end : Place). record { error = Lexical (view_lexer_error fault.item); span = record { start = fault.span.start; end = end } }) e
+
+-- what a lexer that was just made failed for is why its text is refused
+pub refused_by_lexer : {C Y : Type 0} (X : Type 0) (S : Scalars C Error) (source : List ℕ) (state : LexerState) (failed : LexFailure) (result : Result Y ParseFailure) → state ≡ started source
+    → IfFault {X = X} (Err failed) (λ fault. BreaksFrom state.source state.index (view_lexer_error fault.item) fault.span.start) → IfFault {X = X} (Err failed) (λ fault. fault.span.end ≡ fault.span.start)
+    → IsErrAnd result (λ e. e ≡ failure_of failed) → IfRefused result (λ fault. IsRefusal S source (view_fault fault))
+refused_by_lexer X S source state failed (Ok y) e b z h = tt
+refused_by_lexer {Y = Y} X S source state failed (Err x) e b z h = subst (λ (y : ParseFailure). IfRefused {X = Y} (Err y) (λ fault. IsRefusal S source (view_fault fault))) (sym h) (by_failure failed b z)
+  where
+    by_failure : (f : LexFailure) → IfFault {X = X} (Err f) (λ fault. BreaksFrom state.source state.index (view_lexer_error fault.item) fault.span.start) → IfFault {X = X} (Err f) (λ fault. fault.span.end ≡ fault.span.start)
+        → IfRefused {X = Y} (Err (failure_of f)) (λ fault. IsRefusal S source (view_fault fault))
+    by_failure (lexing.Fault fault) b z = lexical S source _ _ _ (break_from_start state source _ _ e b) (lexical_fault fault z)
+    by_failure lexing.Memory b z = tt

@@ -1,17 +1,14 @@
 -- What is written is read back.
-use Rattle.std.proofs.Common.{◌≡◌, refl, sym, ap, ap₂, ◌∙◌, subst, ℕ, ◌⊎◌, inl, inr, Bool, true, false, List, [], ◌∷◌, ◌++◌, append_assoc, append-nil, Ok, Some, None, option_map, IsTrue}
+use Rattle.std.proofs.Common.{◌≡◌, refl, sym, ap, ap₂, ◌∙◌, subst, ◌⊎◌, inl, inr, true, false, List, [], ◌∷◌, ◌++◌, Some, None}
 use Rattle.std.specs.Prelude.{codes}
-use Rattle.std.specs.List.{AllByRecursion}
-use Rattle.graphql_lexical.specs.declared.kind.Kind.{Kind}
 use Rattle.graphql_lexical.specs.declared.kind.Kind.TheVariants.{Name, String, Int, ExclamationMark, Dollar, BracketOpen, BracketClose, CurlyOpen, CurlyClose, Colon}
-use Rattle.graphql_lexical.specs.Characters.{is_plain}
 use Rattle.graphql_lexical.specs.Cutting.{Lexeme, Cut}
 use Rattle.graphql_lexical.specs.Tokens.{IsName}
-use Rattle.graphql_lexical.specs.Written.{Bare, AreOf, IsCutInto}
+use Rattle.graphql_lexical.specs.Written.{Bare, AreOf}
 use Rattle.graphql_grammar.specs.Tokens.{Text, nowhere, over}
 use Rattle.graphql_grammar.specs.Tree.{Value, Null, Scalar, Enum, Variable, ListOf, Object, Items, no_items, item, ObjectFields, no_fields, object_field, TypeRef, NamedType, ListType, NonNullType}
 use Rattle.graphql_grammar.specs.Grammar.{IsToken, IsValue, AreItems, AreFields, IsNullable, IsType}
-use Rattle.graphql_grammar.specs.Unlocated.{SameValue, unlocated_value, unlocated_items, unlocated_fields}
+use Rattle.graphql_grammar.specs.Unlocated.{unlocated_value, unlocated_items, unlocated_fields}
 use Rattle.juniper_values.specs.Value as input
 use Rattle.juniper_values.specs.Scalar.{Content, integer, text, boolean, custom}
 use Rattle.juniper_values.specs.Default.{default_content, default_shown, plain_shown, text_in}
@@ -21,9 +18,8 @@ use Rattle.juniper_values.specs.declared.default_scalar.DefaultScalarValue.{Defa
 use Rattle.juniper_values.specs.declared.input_value.InputValue.{InputValue}
 use Rattle.juniper_values.proofs.Copies.{view-replaced, text_replaced}
 use Rattle.juniper_values.specs.Display.{value_text}
-use Rattle.juniper_values.specs.Escapes.{unescape}
 use Rattle.juniper_values.specs.TypeLiteral.{type_text}
-use Rattle.juniper_values.specs.ReadBack.{token, opening_tokens, closing_tokens, wrapped_tokens, type_tokens, scalar_token, value_tokens, items_tokens, fields_tokens, IsPlainScalar, IsPlain, ArePlainItems, ArePlainFields}
+use Rattle.juniper_values.specs.ReadBack.{token, opening_tokens, closing_tokens, wrapped_tokens, scalar_token, value_tokens, items_tokens, fields_tokens, IsPlainScalar, IsPlain, ArePlainItems, ArePlainFields}
 use Rattle.juniper_values.specs.declared.type_literal.TypeModifier.{TypeModifier}
 use Rattle.juniper_values.specs.declared.type_literal.TypeModifier.TheVariants.{NonNull, List as ListModifier}
 use Rattle.juniper_values.proofs.WrittenIntegers.{integer_read_back}

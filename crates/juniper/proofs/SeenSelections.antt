@@ -1,6 +1,7 @@
 -- Selections of the grammar, in the steps of a cursor.
 use Rattle.std.proofs.Common.{◌≡◌, ℕ, Bool, true, false, cond, not, ◌&&◌, List, ◌∷◌, codes, bytes_eq, Ok, Option, Some, None, refl, sym, ap, ◌∙◌, le_refl, subst, inl}
 use Rattle.std.specs.Prelude.{option_map}
+use Rattle.std.specs.Cmp.{first_so}
 use Rattle.graphql_lexical.specs.Place.{Place, Span}
 use Rattle.graphql_lexical.specs.declared.kind.Kind.TheVariants.{Name, CurlyOpen, CurlyClose, Ellipsis, Colon, ParenOpen, EndOfFile}
 use Rattle.graphql_lexical.specs.Kinds.{same_kind}
@@ -37,18 +38,10 @@ cond_bind false r s f = refl
 -- ---- the words of a selection
 
 pub word_no_end : (text : List ℕ) → PassesNoEnd (word text)
-word_no_end text t e = kind_no_end Name refl t (first_true (same_kind t.kind Name) (bytes_eq t.text text) e)
-  where
-    first_true : (a b : Bool) → (a && b) ≡ true → a ≡ true
-    first_true true b p = refl
-    first_true false b p = absurd (cc p)
+word_no_end text t e = kind_no_end Name refl t (first_so (same_kind t.kind Name) (bytes_eq t.text text) e)
 
 pub other_no_end : PassesNoEnd other_than_on
-other_no_end t e = kind_no_end Name refl t (first_true (same_kind t.kind Name) (not (bytes_eq t.text (codes "on"))) e)
-  where
-    first_true : (a b : Bool) → (a && b) ≡ true → a ≡ true
-    first_true true b p = refl
-    first_true false b p = absurd (cc p)
+other_no_end t e = kind_no_end Name refl t (first_so (same_kind t.kind Name) (not (bytes_eq t.text (codes "on"))) e)
 
 -- a Name that isn't `on`
 pub other_is_name : (t : Lexeme) → is_word (codes "on") t ≡ false → passes other_than_on t ≡ same_kind t.kind Name

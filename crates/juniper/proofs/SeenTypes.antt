@@ -1,5 +1,5 @@
 -- Types of the grammar, in the steps of a cursor.
-use Rattle.std.proofs.Common.{◌≡◌, ◌<◌, Bool, true, false, cond, List, [], ◌∷◌, length, Ok, None, refl, sym, ap, ◌∙◌, arith, le_refl, length-append, subst}
+use Rattle.std.proofs.Common.{◌≡◌, Bool, true, false, cond, List, Ok, None, refl, sym, ap, ◌∙◌, le_refl, subst}
 use Rattle.graphql_lexical.specs.Place.{Span}
 use Rattle.graphql_lexical.specs.declared.kind.Kind.TheVariants.{Name, BracketOpen, BracketClose, ExclamationMark}
 use Rattle.graphql_lexical.specs.Kinds.{same_kind}
@@ -9,6 +9,7 @@ use Rattle.graphql_grammar.specs.Tree.{TypeRef, NamedType, ListType, NonNullType
 use Rattle.graphql_grammar.specs.Grammar.{IsType}
 use Rattle.graphql_grammar.specs.Reading.{of, done, front, fully, plain_type, maybe_non_null, type_at}
 use Rattle.graphql_grammar.proofs.DocumentRules.{type_rule}
+use Rattle.graphql_grammar.proofs.DocumentFound.{type_starts}
 use Rattle.graphql_grammar.proofs.Extents.{Runs, runs_on, runs_front, took_some}
 use Rattle.graphql_grammar.proofs.StepsOfParts.{type_law, spanned_type_law}
 use Rattle.juniper_tokens.specs.declared.token.Token.TheVariants as token
@@ -19,11 +20,6 @@ use Rattle.juniper.specs.Values.{from_to}
 use Rattle.juniper.specs.Parts.{type_read, list_type_read, named_type_read, nullable_type_read, non_null_read}
 use Rattle.juniper.proofs.Stepping.{bind_assoc, bind_given, seen_seq, seq_as, want_as, on_as, kind_no_end, seen_span, seen_took}
 use Rattle.juniper.proofs.Cursors.{ok_is, bind_ok, next_runs, at_span}
-
-type_takes : (us : List Lexeme) (x : TypeRef) → IsType us x → 0 < length us
-type_takes us (NamedType name) h = rw h.1 (omega arith)
-type_takes us (ListType size x) h = rw h.3 (omega arith)
-type_takes us (NonNullType x) h = rw (h.2, length-append h.0 (h.1 ∷ [])) (omega arith)
 
 -- a type without its span
 abbrev pub bare : List Lexeme → Read TypeRef
@@ -45,7 +41,7 @@ spanned_is ts = ap seen (spanned_type_law ts) ∙ seen_span _ ts ∙ ap (λ (r :
     ∙ bind_assoc (bare ts) _ _
 
 type_runs : (ts : List Lexeme) (x : TypeRef × List Lexeme) → bare ts ≡ Ok x → (p : Span) × Runs ts x.1 p
-type_runs ts x e = took_some (type_at {F = Error}) IsType (λ n. type_rule n n (le_refl n)) type_takes ts x.1 x.0 (seen_took (fully type_at ts) x.0 x.1 e)
+type_runs ts x e = took_some (type_at {F = Error}) IsType (λ n. type_rule n n (le_refl n)) type_starts ts x.1 x.0 (seen_took (fully type_at ts) x.0 x.1 e)
 
 mark_is : (x : TypeRef) (ts : List Lexeme) → seen (maybe_non_null {F = Error} x ts) ≡ cond (same_kind (kind_at ts) ExclamationMark) (next_at ts >>= λ m. Ok (NonNullType x, m.1)) (Ok (x, ts))
 unfolding maybe_non_null done

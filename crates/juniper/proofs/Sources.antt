@@ -2,8 +2,8 @@
 use Rattle.std.proofs.Common.{◌≡◌, ◌⊎◌, ℕ, List, inl, inr, refl, sym, ap, ap₂, subst, ◌∙◌}
 use Rattle.graphql_lexical.specs.Place.{Span}
 use Rattle.graphql_lexical.specs.Cutting.{Lexeme, Cut}
+use Rattle.graphql_lexical.specs.Alike.{AllAlike}
 use Rattle.graphql_lexical.proofs.Cuts.{one_end}
-use Rattle.graphql_grammar.specs.Tokens.{AllAlike}
 use Rattle.graphql_grammar.specs.Tree.{Scalars, Definition}
 use Rattle.graphql_grammar.specs.Grammar.{IsDocument}
 use Rattle.graphql_grammar.specs.Faults as grammar

@@ -1,5 +1,5 @@
 -- What the display of a type and of an input value is read back as.
-use Rattle.std.specs.Prelude.{◌≡◌, true, List, [], ◌∷◌, ◌++◌, Option, Some, None}
+use Rattle.std.specs.Prelude.{true, List, [], ◌∷◌, ◌++◌, Some, None}
 use Rattle.graphql_lexical.specs.Cutting.{Lexeme, Cut}
 use Rattle.graphql_grammar.specs.Tokens.{Text, nowhere}
 use Rattle.graphql_grammar.specs.Tree.{Value, TypeRef, NamedType}

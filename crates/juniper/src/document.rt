@@ -10,9 +10,7 @@ ghost use Rattle.juniper.specs.Promise.{HasTree, IsRefusal, IfRefused, AnswersAs
 use crate::ast::OwnedDocument;
 use crate::definition::parse_definition;
 use crate::next::next_is;
-use juniper_tokens::{
-    Kind, LexFailure, Lexer, ParseError, ParseFailure, Parser, Spanning, UnlocatedParseResult,
-};
+use juniper_tokens::{Kind, Lexer, Parser, UnlocatedParseResult};
 use juniper_values::ScalarValue;
 use std::alloc::Global;
 
@@ -31,17 +29,8 @@ pub fn parse_document_source<'a, S: ScalarValue>(
     ensures refused { IfRefused result (λ fault. IsRefusal (stated S.reading S.of_bool) (chars s.now) (view_fault fault)) }
 {
     let mut lexer = Lexer::new(alloc, s);
-    match Parser::new(&mut lexer) {
-        Ok(tokens) => {
-            let mut parser = tokens;
-            parse_definitions(&mut parser)
-        }
-        Err(LexFailure::Fault(fault)) => Err(ParseFailure::Refused(Spanning::new(
-            fault.span,
-            ParseError::LexerError(fault.item),
-        ))),
-        Err(LexFailure::Memory) => Err(ParseFailure::Memory),
-    }
+    let mut parser = Parser::new(&mut lexer)?;
+    parse_definitions(&mut parser)
 }
 
 /// `Definition+`, up to the end, which is left there.

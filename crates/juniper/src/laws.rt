@@ -2,7 +2,7 @@
 ghost use Rattle.std.specs.Prelude.{◌≡◌, ◌⊎◌, ℕ, List};
 ghost use Rattle.graphql_lexical.specs.Tokens.{IsName};
 ghost use Rattle.graphql_lexical.specs.Cutting.{Lexeme, Cut};
-ghost use Rattle.graphql_grammar.specs.Tokens.{AllAlike};
+ghost use Rattle.graphql_lexical.specs.Alike.{AllAlike};
 ghost use Rattle.graphql_grammar.specs.Tree.{Scalars, Definition};
 ghost use Rattle.graphql_grammar.specs.Unlocated.{SameDocument};
 ghost use Rattle.juniper_tokens.specs.Errors.{Error, Fault};

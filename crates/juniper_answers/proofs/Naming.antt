@@ -1,6 +1,8 @@
 -- A name is one token.
 use Rattle.std.proofs.Common.{◌≡◌, ◌↔◌, ℕ, ◌+◌, true, List, [], ◌∷◌, ◌++◌, IsTrue, take, drop, inr, refl, sym, ap, ◌∙◌, subst, append-nil}
 use Rattle.std.specs.List.{AllByRecursion, list_all}
+use Rattle.std.specs.Cmp.{first_so, second_so}
+use Rattle.std.proofs.lemmas.Bool.{and_from, or_left}
 use Rattle.graphql_lexical.specs.Characters.{is_digit, is_name_start, is_name_character}
 use Rattle.graphql_lexical.specs.declared.kind.Kind.{Kind}
 use Rattle.graphql_lexical.specs.declared.kind.Kind.TheVariants.{Name}
@@ -10,27 +12,25 @@ use Rattle.graphql_lexical.specs.Cutting.{Lexeme, Cut, Leads}
 use Rattle.graphql_lexical.specs.Written.{AreOf}
 use Rattle.graphql_lexical.proofs.Joints.{few_tokens}
 use Rattle.graphql_lexical.proofs.Writing.{writes_nothing, writes_token}
-use Rattle.juniper_values.proofs.Alike.{left, right, both}
-use Rattle.juniper_values.proofs.BoolTests.{or_true}
 use Rattle.juniper_answers.specs.Laws.{IsOneName}
 use Rattle.juniper_answers.specs.Names.{is_name}
 
 all_held : (cs : List ℕ) → list_all is_name_character cs ≡ true → AllByRecursion (λ d. IsTrue (is_name_character d)) cs
 all_held [] e = tt
-all_held (c ∷ cs) e = (left (is_name_character c) (list_all is_name_character cs) e, all_held cs (right (is_name_character c) (list_all is_name_character cs) e))
+all_held (c ∷ cs) e = (first_so (is_name_character c) (list_all is_name_character cs) e, all_held cs (second_so (is_name_character c) (list_all is_name_character cs) e))
 
 all_tested : (cs : List ℕ) → AllByRecursion (λ d. IsTrue (is_name_character d)) cs → list_all is_name_character cs ≡ true
 all_tested [] a = refl
-all_tested (c ∷ cs) a = both (is_name_character c) (list_all is_name_character cs) a.0 (all_tested cs a.1)
+all_tested (c ∷ cs) a = and_from (is_name_character c) (list_all is_name_character cs) a.0 (all_tested cs a.1)
 
 spelled : (text : List ℕ) → is_name text ≡ true → IsName text
 spelled [] e = absurd cc
 spelled (c ∷ cs) e =
-    let all = all_held (c ∷ cs) (right (is_name_start c) (list_all is_name_character (c ∷ cs)) e) in
-    (c, cs, refl, left (is_name_start c) (list_all is_name_character (c ∷ cs)) e, all.1)
+    let all = all_held (c ∷ cs) (second_so (is_name_start c) (list_all is_name_character (c ∷ cs)) e) in
+    (c, cs, refl, first_so (is_name_start c) (list_all is_name_character (c ∷ cs)) e, all.1)
 
 tested : (text : List ℕ) → IsName text → is_name text ≡ true
-tested text n = subst (λ t. is_name t ≡ true) (sym n.2) (both (is_name_start n.0) (list_all is_name_character (n.0 ∷ n.1)) n.3 (all_tested (n.0 ∷ n.1) (or_true (is_name_start n.0) (is_digit n.0) n.3, n.4)))
+tested text n = subst (λ t. is_name t ≡ true) (sym n.2) (and_from (is_name_start n.0) (list_all is_name_character (n.0 ∷ n.1)) n.3 (all_tested (n.0 ∷ n.1) (or_left (is_name_start n.0) (is_digit n.0) n.3, n.4)))
 
 one_token : (text : List ℕ) → IsName text → IsOneName text
 one_token text n =

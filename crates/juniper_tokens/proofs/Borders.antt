@@ -1,6 +1,7 @@
 -- Where a character begins in a text.
 use Rattle.std.proofs.Common.{◌≡◌, ℕ, zero, suc, ◌+◌, ◌-◌, ◌≤◌, ◌<◌, Bool, true, false, cond, ◌&&◌, inl, inr, append-nil, get_or, drop-cons, add-one, List, [], ◌∷◌, ◌++◌, length, take, drop, refl, sym, ap, subst, ◌∙◌, arith, length-append, take-append-drop}
 use Rattle.std.specs.Str.{chars, IsUtf8, IsCharBoundary}
+use Rattle.std.specs.Cmp.{second_so}
 use Rattle.std.proofs.lemmas.Str.{encodes-chars, encodes-append, chars-encodes, scalars-chars, encode_ascii, chars-append, IsCharBoundary-at_seam}
 use Rattle.std.proofs.Math.Seq.{take-append_seam, drop-append_seam}
 use lib.Utf8.{scalar, scalars, encode, encodes}
@@ -12,10 +13,6 @@ use Rattle.graphql_lexical.specs.Reading.{counted}
 use Rattle.juniper_tokens.proofs.ByteRuns.{wide, low_or_high}
 use Rattle.juniper_tokens.specs.ByteRuns.{byte_at}
 
-and_right : (a b : Bool) → (a && b) ≡ true → b ≡ true
-and_right true b e = e
-and_right false b e = cc
-
 and_both : (a b x : Bool) → (a && b) ≡ true → x ≡ true → (a && x) ≡ true
 and_both true b x e h = h
 and_both false b x e h = e
@@ -23,12 +20,12 @@ and_both false b x e h = e
 scalars_drop : (k : ℕ) (cs : List ℕ) → scalars cs ≡ true → scalars (drop k cs) ≡ true
 scalars_drop zero cs e = e
 scalars_drop (suc k) [] e = e
-scalars_drop (suc k) (c ∷ cs) e = scalars_drop k cs (and_right (scalar c) (scalars cs) e)
+scalars_drop (suc k) (c ∷ cs) e = scalars_drop k cs (second_so (scalar c) (scalars cs) e)
 
 scalars_take : (k : ℕ) (cs : List ℕ) → scalars cs ≡ true → scalars (take k cs) ≡ true
 scalars_take zero cs e = refl
 scalars_take (suc k) [] e = e
-scalars_take (suc k) (c ∷ cs) e = and_both (scalar c) (scalars cs) (scalars (take k cs)) e (scalars_take k cs (and_right (scalar c) (scalars cs) e))
+scalars_take (suc k) (c ∷ cs) e = and_both (scalar c) (scalars cs) (scalars (take k cs)) e (scalars_take k cs (second_so (scalar c) (scalars cs) e))
 
 -- the bytes before and after
 pub seam : (k : ℕ) (t : List ℕ) → IsUtf8 t → t ≡ encodes (take k (chars t)) ++ encodes (drop k (chars t))

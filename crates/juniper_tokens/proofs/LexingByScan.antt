@@ -18,6 +18,7 @@ use Rattle.graphql_lexical.specs.Scan.{Found, Missed, scan, gap_size, gap_step, 
 use Rattle.graphql_lexical.proofs.Answers.{finds_what_reads, misses_what_fails}
 use Rattle.graphql_lexical.proofs.Gaps.{gap_longest}
 use Rattle.graphql_lexical.proofs.Runs.{reach_is}
+use Rattle.graphql_lexical.proofs.Slices.{place_index}
 use Rattle.juniper_tokens.specs.declared.span.Spanning.{Spanning}
 use Rattle.juniper_tokens.specs.declared.token.Token.{Token}
 use Rattle.juniper_tokens.specs.declared.error.LexFailure.{LexFailure}
@@ -36,9 +37,6 @@ use Rattle.juniper_tokens.proofs.Places.{place_on, token_end}
 
 pub byte_at_on : (j g : ℕ) (cs : List ℕ) → byte_at j cs + byte_at g (drop j cs) ≡ byte_at (j + g) cs
 byte_at_on j g cs = sym (ap (λ t. length (encodes t)) (take-add j g cs) ∙ (ap length (encodes-append (take j cs) (take g (drop j cs))) ∙ length-append (encodes (take j cs)) (encodes (take g (drop j cs)))))
-
-place_index : (cs : List ℕ) (k : ℕ) → k ≤ length cs → (place cs k).index ≡ k
-place_index cs k l = length-take-le k cs l
 
 -- from one place to the next
 pub placed_on : (source : List ℕ) (at g n : ℕ) (p q : Place) → IsPlaced source at p → g ≤ length (drop p.index (chars source)) → n ≡ byte_at g (drop p.index (chars source)) → q ≡ place (chars source) (p.index + g) → (q.index ≡ p.index + g) × IsPlaced source (at + n) q

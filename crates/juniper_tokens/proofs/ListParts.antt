@@ -25,7 +25,7 @@ abbrev pub Rests : {A : Type 0} → List Lexeme → Read A → Type 0
 Rests ts (Ok x) = IsRest ts x.1
 Rests ts (Err f) = IsRest ts f.1
 
-next_rests : (ts : List Lexeme) → Rests ts (next_at ts)
+pub next_rests : (ts : List Lexeme) → Rests ts (next_at ts)
 next_rests [] = (0, refl)
 next_rests (t ∷ ts) = elim (cases_Bool (same_kind t.kind EndOfFile)) [
   | inl y ↦ rw y (0, refl)
@@ -95,7 +95,7 @@ refused_opening from opening ts failure e us = refused_step from _ ts failure e 
 
 -- ---- the cursor's own calls as items
 
-expect_name_rests : (ts : List Lexeme) → Rests ts (expect_name_at ts)
+pub expect_name_rests : (ts : List Lexeme) → Rests ts (expect_name_at ts)
 expect_name_rests ts = next_if_rests _ ts
 
 pub name_leaves : (old : List Lexeme) (r : Result (Spanning (Bor (List ℕ))) ParseFailure) (new : List Lexeme) → Gives view_name r new (expect_name_at old) → OnOk r (length new < length old) → OnMemory r (Unmoved old new (expect_name_at old)) → Leaves r old new

@@ -9,8 +9,9 @@ use Rattle.graphql_lexical.specs.Characters.{is_hex}
 use Rattle.graphql_lexical.specs.declared.kind.Kind.{Kind}
 use Rattle.graphql_lexical.specs.declared.kind.Kind.TheVariants.{String}
 use Rattle.graphql_lexical.specs.Tokens.{text_of, IsString, Spells}
-use Rattle.graphql_lexical.specs.Scan.{State, Start, Done, Hex0, Hex1, HexD, Hex2, Hex3, step, reach, answer, scan, Found, Missed, is_hex_d}
+use Rattle.graphql_lexical.specs.Scan.{State, Start, Done, Hex0, Hex1, HexD, Hex2, Hex3, step, reach, answer, scan, Found, Missed}
 use Rattle.graphql_lexical.proofs.Runs.{reach_is}
+use Rattle.graphql_lexical.proofs.Numbers.{d_hex}
 use Rattle.graphql_lexical.proofs.History.{IsRead, read_run, IsOpen}
 use Rattle.juniper_tokens.specs.ByteRuns.{byte_at}
 use Rattle.juniper_tokens.specs.declared.lexer.text.Border.{Border}
@@ -86,12 +87,6 @@ two_low h i x y = rw (hex_low h x, hex_low i y) refl
 
 three_low : (h i j : ℕ) → IsTrue (is_hex h) → IsTrue (is_hex i) → IsTrue (is_hex j) → encodes (h ∷ i ∷ j ∷ []) ≡ h ∷ i ∷ j ∷ []
 three_low h i j x y z = rw (hex_low h x, hex_low i y, hex_low j z) refl
-
-d_hex : (h : ℕ) → IsTrue (is_hex_d h) → IsTrue (is_hex h)
-d_hex h e = d_then h e
-  where
-    d_then : (h : ℕ) → is_hex_d h ≡ true → is_hex h ≡ true
-    d_then h e = grind arith
 
 hex_tail : (q : State) (t : List ℕ) → IsHexState q → IsRead q t → HasTail t (digits_read q)
 hex_tail Hex0 t h r = open_tail [] t refl r

@@ -11,6 +11,10 @@ use Rattle.juniper_tokens.specs.declared.error.LexerError.{LexerError}
 use Rattle.juniper_tokens.specs.declared.error.LexerError.TheVariants as lexer
 use Rattle.juniper_tokens.specs.declared.error.ParseError.{ParseError}
 use Rattle.juniper_tokens.specs.declared.error.ParseError.TheVariants as parse
+use Rattle.juniper_tokens.specs.declared.error.LexFailure.{LexFailure}
+use Rattle.juniper_tokens.specs.declared.error.LexFailure.TheVariants as lexing
+use Rattle.juniper_tokens.specs.declared.error.ParseFailure.{ParseFailure}
+use Rattle.juniper_tokens.specs.declared.error.ParseFailure.TheVariants as parsing
 use Rattle.juniper_tokens.specs.Spans.{view_span}
 
 -- why a text is refused
@@ -42,6 +46,11 @@ view_error (parse.ExpectedScalarError t) = ExpectedScalar (chars t.now)
 
 abbrev pub view_fault : Spanning ParseError → Fault
 view_fault s = record { error = view_error s.item; span = view_span s.span }
+
+-- A text that is refused for a lexical fault is refused at the fault's place.
+abbrev pub failure_of : LexFailure → ParseFailure
+failure_of (lexing.Fault fault) = parsing.Refused (record { item = parse.LexerError fault.item; span = fault.span })
+failure_of lexing.Memory = parsing.Memory
 
 -- what is shown of an error
 abbrev pub error_text : Error → List ℕ

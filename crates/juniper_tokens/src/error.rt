@@ -86,6 +86,23 @@ impl<T: Drop> From<AllocFailed<T>> for ParseFailure {
     }
 }
 
+/// The lexer's fault is why the text is refused, at the same place. Want of memory stays so.
+impl From<LexFailure> for ParseFailure {
+    ghost use Rattle.juniper_tokens.specs.Errors.{failure_of};
+
+    ghost from_gives = { λ failure e. e ≡ failure_of failure };
+
+    fn from(failure: LexFailure) -> ParseFailure {
+        match failure {
+            LexFailure::Fault(fault) => ParseFailure::Refused(Spanning::new(
+                fault.span,
+                ParseError::LexerError(fault.item),
+            )),
+            LexFailure::Memory => ParseFailure::Memory,
+        }
+    }
+}
+
 impl fmt::Display for LexerError {
     ghost use Rattle.graphql_lexical.specs.Display.{error_text};
     ghost use Rattle.juniper_tokens.specs.Errors.{view_lexer_error};

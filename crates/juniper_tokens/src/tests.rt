@@ -201,6 +201,24 @@ fn a_lexical_fault_wins_over_what_stands_before_it(rt: HostRuntime) -> Result<()
 }
 
 #[test]
+fn a_lexers_failure_is_a_parsers(rt: HostRuntime) -> Result<(), Fail> {
+    let span = Span::zero_width(SourcePosition::new(3, 1, 1));
+    let fault = Spanning::new(span, LexerError::UnknownCharacter('?'));
+    match ParseFailure::from(LexFailure::Fault(fault)) {
+        ParseFailure::Refused(refused) => {
+            let error = ParseError::LexerError(LexerError::UnknownCharacter('?'));
+            assert_eq!(rt; refused.item, error);
+            assert_eq!(rt; refused.span, span);
+        }
+        ParseFailure::Memory => panic!(rt; "no refusal"),
+    }
+    match ParseFailure::from(LexFailure::Memory) {
+        ParseFailure::Memory => Ok(()),
+        ParseFailure::Refused(_) => panic!(rt; "no want of memory"),
+    }
+}
+
+#[test]
 fn tokens_and_errors_are_displayed(rt: HostRuntime) -> Result<(), Fail> {
     let alloc = rt.alloc();
     let tokens = [

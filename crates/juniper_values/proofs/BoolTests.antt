@@ -15,9 +15,6 @@ never false = refl
 pub and_later : (a b : Bool) → b ≡ false → (a && b) ≡ false
 and_later a b e = ap (λ c. a && c) e ∙ never a
 
-pub or_true : (a b : Bool) → a ≡ true → (a || b) ≡ true
-or_true a b e = ap (λ c. c || b) e
-
 pub or_false : (a b : Bool) → a ≡ false → (a || b) ≡ b
 or_false a b e = ap (λ c. c || b) e
 

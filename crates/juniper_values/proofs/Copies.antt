@@ -1,13 +1,13 @@
 -- The tree of a value by its scalars' contents is its tree by its scalars, each with its content in its place.
 use Rattle.std.proofs.Common.{◌≡◌, refl, ap, ap₂, sym, subst, ◌∙◌, Bool, true, ◌&&◌, List, [], ◌∷◌, ◌++◌, map, String, Global}
 use Rattle.std.specs.Prelude.{codes}
-use Rattle.std.proofs.lemmas.Slice.Eq.{bytes_eq-Decides}
+use Rattle.std.proofs.lemmas.Bool.{and_from}
 use Rattle.graphql_lexical.specs.Place.{Span}
 use Rattle.juniper_values.specs.Text.{Text, same_text}
 use Rattle.juniper_values.specs.Display.{joined, value_text, item_texts, field_texts}
 use Rattle.juniper_values.specs.Equality.{same_span, same_value, same_items, same_fields}
 use Rattle.juniper_values.specs.EqualityLaws.{same_span-equiv}
-use Rattle.juniper_values.proofs.Alike.{both}
+use Rattle.juniper_values.proofs.Alike.{text_equal}
 use Rattle.juniper_tokens.specs.declared.span.Spanning.{Spanning}
 use Rattle.juniper_tokens.specs.Spans.{view_span}
 use Rattle.juniper_values.specs.View.{view, view_step, items_of, fields_of, text_of}
@@ -87,9 +87,6 @@ module _ {S C : Type 0} (f : S → C) (shown : C → Text) where
 
 -- ---- values whose scalars have the same contents are equal
 
-text_equal : (a b : Text) → a ≡ b → same_text a b ≡ true
-text_equal a b = (bytes_eq-Decides a b).1
-
 span_equal : (s t : Span) → s ≡ t → same_span s t ≡ true
 span_equal s t e = sym (ap (same_span s) e) ∙ same_span-equiv.refl s
 
@@ -113,15 +110,15 @@ module _ {S C : Type 0} (f : S → C) (eq : S → S → Bool) (same : (a b : S) 
     items_equal no_items no_items e = refl
     items_equal no_items ys e = absurd (cc)
     items_equal (item v s xs) (item w t ys) e =
-        both (same_value eq v w && same_span s t) _ (both (same_value eq v w) _ (equal v w (cc)) (span_equal s t (cc))) (items_equal xs ys (cc))
+        and_from (same_value eq v w && same_span s t) _ (and_from (same_value eq v w) _ (equal v w (cc)) (span_equal s t (cc))) (items_equal xs ys (cc))
     items_equal (item v s xs) ys e = absurd (cc)
 
     fields_equal : (fs gs : Fields S) → replaced_fields f fs ≡ replaced_fields f gs → same_fields eq fs gs ≡ true
     fields_equal no_fields no_fields e = refl
     fields_equal no_fields gs e = absurd (cc)
     fields_equal (field k a v s fs) (field l b w t gs) e =
-        both ((same_text k l && same_span a b) && (same_value eq v w && same_span s t)) _
-        (both (same_text k l && same_span a b) _ (both (same_text k l) _ (text_equal k l (cc)) (span_equal a b (cc))) (both (same_value eq v w) _ (equal v w (cc)) (span_equal s t (cc))))
+        and_from ((same_text k l && same_span a b) && (same_value eq v w && same_span s t)) _
+        (and_from (same_text k l && same_span a b) _ (and_from (same_text k l) _ (text_equal k l (cc)) (span_equal a b (cc))) (and_from (same_value eq v w) _ (equal v w (cc)) (span_equal s t (cc))))
         (fields_equal fs gs (cc))
     fields_equal (field k a v s fs) gs e = absurd (cc)
 

@@ -1,10 +1,12 @@
 -- What `parse` reads as an integer is what the default scalar reads as one.
 use Rattle.std.proofs.Common.{◌≡◌, ◌⊎◌, inl, inr, refl, sym, ap, ◌∙◌, subst, ℕ, zero, suc, ◌<◌, ◌≤◌, Bool, true, false, ◌&&◌, List, [], ◌∷◌, length, Result, Ok, Err, ℤ, pos, neg_ℤ, rules, arith, true≢false, ◌==◌}
 use Rattle.std.specs.Bool.{Decides}
+use Rattle.std.specs.Cmp.{first_so, second_so}
 use Rattle.std.specs.Prelude.{if◌then◌else◌, ◌||◌}
 use Rattle.std.specs.Str.{chars, IsUtf8, IsAscii, all_ascii_digits}
 use Rattle.std.specs.Str.Parse.{ParsesSigned}
 use Rattle.std.specs.Result.{OkIff}
+use Rattle.std.proofs.lemmas.Bool.{and_from}
 use Rattle.std.proofs.lemmas.Bool.Decides.{nat_tests}
 use Rattle.std.proofs.lemmas.Fmt.{IsAscii-from_digits}
 use Rattle.std.proofs.lemmas.Int.{ints, to_z-of_z}
@@ -33,17 +35,6 @@ pub some_digits : (ds : Text) → Decides (is_digits ds) ((all_ascii_digits ds �
 some_digits [] = ((λ e. absurd (true≢false (sym e))), (λ h. absurd (omega (arith, h.1))))
 some_digits (c ∷ cs) = ((λ e. (e, omega arith)), (λ h. h.0))
 
-pub both : (a b : Bool) → a ≡ true → b ≡ true → (a && b) ≡ true
-both a b e f = cc
-
-first : (a b : Bool) → (a && b) ≡ true → a ≡ true
-first true b e = refl
-first false b e = absurd (true≢false (sym e))
-
-second : (a b : Bool) → (a && b) ≡ true → b ≡ true
-second true b e = e
-second false b e = absurd (true≢false (sym e))
-
 -- ---- a text that is an integer
 
 module _ {E : Type 0} where
@@ -58,8 +49,8 @@ module _ {E : Type 0} where
       → OkIff r ((all_ascii_digits ds ≡ true) × (0 < length ds) × P) v → OkIff r ((is_digits ds && b) ≡ true) v
   by_digits r ds b P v d h =
       same_premise r _ _ v
-      (λ p. both (is_digits ds) b ((some_digits ds).1 (p.0, p.1)) (d.1 p.2))
-      (λ e. let k = (some_digits ds).0 (first (is_digits ds) b e) in (k.0, k.1, d.0 (second (is_digits ds) b e)))
+      (λ p. and_from (is_digits ds) b ((some_digits ds).1 (p.0, p.1)) (d.1 p.2))
+      (λ e. let k = (some_digits ds).0 (first_so (is_digits ds) b e) in (k.0, k.1, d.0 (second_so (is_digits ds) b e)))
       h
 
   at_minus : (cs : Text) (r : Result ℤ E) → ParsesSigned w32 10 (45 ∷ cs) r → Reads (45 ∷ cs) r
@@ -125,7 +116,7 @@ module _ {E : Type 0} (bs : List ℕ) (u : IsUtf8 bs) where
   read z r h e =
       let f : SFits w32 z = fits bs z r h e in
       let k : OkIff {E = E} (Ok z) (is_read bs ≡ true) (integer_of bs) = subst (λ o. OkIff o (is_read bs ≡ true) (integer_of bs)) e (reads bs r h) in
-      let same : chars bs ≡ bs = same_chars bs u (inl (first (is_integer bs) _ k.0)) in
+      let same : chars bs ≡ bs = same_chars bs u (inl (first_so (is_integer bs) _ k.0)) in
       ap int_reading same ∙ if_read bs k.0 ∙ ap (λ y. Ok (integer y)) (sym k.1 ∙ sym (to_z-of_z w32 z f))
 
   pub refused : (x : E) (r : Result ℤ E) → ParsesSigned w32 10 bs r → r ≡ Err x → int_reading (chars bs) ≡ Err (UnexpectedToken (chars bs))
@@ -135,4 +126,4 @@ module _ {E : Type 0} (bs : List ℕ) (u : IsUtf8 bs) where
     where
       by_test : (b : Bool) → is_read (chars bs) ≡ b → ¬ (is_read bs ≡ true) → is_read (chars bs) ≡ false
       by_test false t none = t
-      by_test true t none = absurd (none (subst (λ y. is_read y ≡ true) (same_chars bs u (inr (first (is_integer (chars bs)) _ t))) t))
+      by_test true t none = absurd (none (subst (λ y. is_read y ≡ true) (same_chars bs u (inr (first_so (is_integer (chars bs)) _ t))) t))

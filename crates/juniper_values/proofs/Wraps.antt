@@ -2,6 +2,7 @@
 use Rattle.std.proofs.Common.{◌≡◌, ℕ, ◌-◌, ◌<◌, Bool, true, false, ◌&&◌, ◌||◌, List, [], ◌∷◌, ◌++◌, length, Option, Some, None, refl, sym, ap, ◌∙◌, arith, true≢false, length-append}
 use Rattle.std.specs.Prelude.{slice_get, nat_eq}
 use Rattle.std.specs.Bool.{Decides}
+use Rattle.std.specs.Cmp.{first_so, second_so}
 use Rattle.std.specs.Option.{option_eq}
 use Rattle.std.proofs.Math.Seq.{get_or-append_seam}
 use Rattle.std.proofs.lemmas.Bool.Decides.{Decides-eqb}
@@ -53,18 +54,10 @@ same_modifier-Decides NonNull (ListOf n) = ((λ e. absurd (true≢false (sym e))
 same_modifier-Decides (ListOf m) NonNull = ((λ e. absurd (true≢false (sym e))), (λ e. absurd (cc)))
 same_modifier-Decides (ListOf m) (ListOf n) = ((λ e. ap ListOf ((same_size-Decides m n).0 e)), (λ e. (same_size-Decides m n).1 (cc)))
 
-left : (a b : Bool) → (a && b) ≡ true → a ≡ true
-left true b e = refl
-left false b e = absurd (true≢false (sym e))
-
-right : (a b : Bool) → (a && b) ≡ true → b ≡ true
-right true b e = e
-right false b e = absurd (true≢false (sym e))
-
 pub same_type-Decides : {N : Type 0} (text_of : N → Text) (a b : TypeShape N) → Decides (same_type text_of a b) ((text_of a.name ≡ text_of b.name) × (a.modifiers ≡ b.modifiers))
 same_type-Decides text_of a b =
     let names = bytes_eq-Decides (text_of a.name) (text_of b.name) in
     let modifiers = slice_eq-Decides same_modifier-Decides a.modifiers b.modifiers _ refl in (
-      (λ e. (names.0 (left _ _ e), modifiers.0 (right _ _ e))),
+      (λ e. (names.0 (first_so _ _ e), modifiers.0 (second_so _ _ e))),
       (λ h. λ i. names.1 h.0 i && modifiers.1 h.1 i),
     )

@@ -2,6 +2,7 @@
 use Rattle.std.proofs.Common.{◌≡◌, refl, ap, ◌∙◌, ℕ, zero, suc, ◌<◌, ◌≤◌, ◌^◌, inl, inr, true, false, [], ◌∷◌, get_or, Ok, ℤ, pos, negsuc, neg_ℤ, IsTrue, decimal, arith}
 use Rattle.std.specs.Fmt.{signed_decimal}
 use Rattle.std.specs.Str.Parse.{AllDigits}
+use Rattle.std.proofs.lemmas.Bool.{and_from}
 use Rattle.std.proofs.lemmas.Bool.Decides.{nat_tests}
 use Rattle.std.proofs.lemmas.Fmt.{decimal_is_IsNumeral, decimal_digit, first_decimal, digits_decimal, digits_value-decimal}
 use Rattle.std.proofs.lemmas.Str.Parse.{digit_from_value}
@@ -12,7 +13,7 @@ use Rattle.juniper_values.specs.Text.{Text}
 use Rattle.juniper_values.specs.Scalar.{integer}
 use Rattle.juniper_values.specs.Integers.{is_digits, number_of, has_minus, after_sign, is_integer, integer_of, is_i32}
 use Rattle.juniper_values.specs.Default.{int_reading}
-use Rattle.juniper_values.proofs.Integers.{own, some_digits, negative_i32, positive_i32, both, if_read}
+use Rattle.juniper_values.proofs.Integers.{own, some_digits, negative_i32, positive_i32, if_read}
 
 positive_small : (n : ℕ) → IsTrue (is_i32 (pos n)) → n < 2 ^ 64
 positive_small n h = omega (arith, (positive_i32 n).0 h)
@@ -66,8 +67,8 @@ integer_read_back (pos n) h =
     let sign = no_sign (decimal n) (decimal_is_IsNumeral n small).0.1 in
     let digits : is_integer (decimal n) ≡ true = ap is_digits sign.1 ∙ written_digits n small in
     let number : integer_of (decimal n) ≡ pos n = rw (sign.0, sign.1, written_number n small) refl in
-    if_read (decimal n) (both (is_integer (decimal n)) _ digits (ap is_i32 number ∙ h)) ∙ ap (λ z. Ok (integer z)) number
+    if_read (decimal n) (and_from (is_integer (decimal n)) _ digits (ap is_i32 number ∙ h)) ∙ ap (λ z. Ok (integer z)) number
 integer_read_back (negsuc n) h =
     let small = negative_small n h in
     let number : integer_of (45 ∷ decimal (suc n)) ≡ negsuc n = ap (λ m. neg_ℤ (pos m)) (written_number (suc n) small) in
-    if_read (45 ∷ decimal (suc n)) (both (is_integer (45 ∷ decimal (suc n))) _ (written_digits (suc n) small) (ap is_i32 number ∙ h)) ∙ ap (λ z. Ok (integer z)) number
+    if_read (45 ∷ decimal (suc n)) (and_from (is_integer (45 ∷ decimal (suc n))) _ (written_digits (suc n) small) (ap is_i32 number ∙ h)) ∙ ap (λ z. Ok (integer z)) number

@@ -1,7 +1,8 @@
 -- Equality of input values is an equivalence, since that of scalars is one.
-use Rattle.std.specs.Prelude.{◌≡◌, Bool, true, false, ◌&&◌, refl}
+use Rattle.std.specs.Prelude.{◌≡◌, Bool, true, ◌&&◌, refl}
 use Rattle.std.proofs.Common.{sym, ◌∙◌, true≢false}
-use Rattle.std.specs.Cmp.{IsEquivalence, IsPartialEquivalence, partial_equiv_from_equiv, on_equiv, and_equiv, equiv}
+use Rattle.std.specs.Cmp.{IsEquivalence, IsPartialEquivalence, partial_equiv_from_equiv, on_equiv, and_equiv, equiv, first_so, second_so}
+use Rattle.std.proofs.lemmas.Bool.{and_from}
 use Rattle.std.proofs.lemmas.Cmp.{nat_eq_equiv, nat_list_eq_equiv}
 use Rattle.graphql_lexical.specs.Place.{Span}
 use Rattle.juniper_values.specs.Text.{Text, same_text}
@@ -15,17 +16,6 @@ same_place-equiv = and_equiv (on_equiv (λ p. p.index) nat_eq_equiv) (and_equiv 
 
 pub same_span-equiv : IsEquivalence same_span
 same_span-equiv = and_equiv (on_equiv (λ s. s.start) same_place-equiv) (on_equiv (λ s. s.end) same_place-equiv)
-
-left : (a b : Bool) → (a && b) ≡ true → a ≡ true
-left true b e = refl
-left false b e = absurd (true≢false (sym e))
-
-right : (a b : Bool) → (a && b) ≡ true → b ≡ true
-right true b e = e
-right false b e = absurd (true≢false (sym e))
-
-both : (a b : Bool) → a ≡ true → b ≡ true → (a && b) ≡ true
-both a b e f = λ i. e i && f i
 
 text_along : (a b c : Text) → same_text a b ≡ true → same_text b c ≡ true → same_text a c ≡ true
 text_along a b c e f = nat_list_eq_equiv.congr a b c e ∙ f
@@ -81,12 +71,12 @@ module _ {C : Type 0} {eq : C → C → Bool} (laws : IsPartialEquivalence eq) w
     items_along no_items no_items zs e f = absurd (true≢false (sym f))
     items_along no_items ys zs e f = absurd (true≢false (sym e))
     items_along (item u r xs) (item v s ys) (item w t zs) e f =
-        let p = left (same_value eq u v && same_span r s) _ e in
-        let q = left (same_value eq v w && same_span s t) _ f in
-        both (same_value eq u w && same_span r t) (same_items eq xs zs)
-        (both (same_value eq u w) (same_span r t) (along u v w (left (same_value eq u v) _ p) (left (same_value eq v w) _ q))
-        (span_along r s t (right (same_value eq u v) _ p) (right (same_value eq v w) _ q)))
-        (items_along xs ys zs (right (same_value eq u v && same_span r s) _ e) (right (same_value eq v w && same_span s t) _ f))
+        let p = first_so (same_value eq u v && same_span r s) _ e in
+        let q = first_so (same_value eq v w && same_span s t) _ f in
+        and_from (same_value eq u w && same_span r t) (same_items eq xs zs)
+        (and_from (same_value eq u w) (same_span r t) (along u v w (first_so (same_value eq u v) _ p) (first_so (same_value eq v w) _ q))
+        (span_along r s t (second_so (same_value eq u v) _ p) (second_so (same_value eq v w) _ q)))
+        (items_along xs ys zs (second_so (same_value eq u v && same_span r s) _ e) (second_so (same_value eq v w && same_span s t) _ f))
     items_along (item u r xs) (item v s ys) zs e f = absurd (true≢false (sym f))
     items_along (item u r xs) ys zs e f = absurd (true≢false (sym e))
 
@@ -95,20 +85,20 @@ module _ {C : Type 0} {eq : C → C → Bool} (laws : IsPartialEquivalence eq) w
     fields_along no_fields no_fields hs e f = absurd (true≢false (sym f))
     fields_along no_fields gs hs e f = absurd (true≢false (sym e))
     fields_along (field k a u r fs) (field l b v s gs) (field m d w t hs) e f =
-        let p = left ((same_text k l && same_span a b) && (same_value eq u v && same_span r s)) _ e in
-        let q = left ((same_text l m && same_span b d) && (same_value eq v w && same_span s t)) _ f in
-        let i = left (same_text k l && same_span a b) _ p in
-        let j = left (same_text l m && same_span b d) _ q in
-        let x = right (same_text k l && same_span a b) _ p in
-        let y = right (same_text l m && same_span b d) _ q in
-        both ((same_text k m && same_span a d) && (same_value eq u w && same_span r t)) (same_fields eq fs hs)
-        (both (same_text k m && same_span a d) (same_value eq u w && same_span r t)
-        (both (same_text k m) (same_span a d) (text_along k l m (left (same_text k l) _ i) (left (same_text l m) _ j))
-        (span_along a b d (right (same_text k l) _ i) (right (same_text l m) _ j)))
-        (both (same_value eq u w) (same_span r t) (along u v w (left (same_value eq u v) _ x) (left (same_value eq v w) _ y))
-        (span_along r s t (right (same_value eq u v) _ x) (right (same_value eq v w) _ y))))
-        (fields_along fs gs hs (right ((same_text k l && same_span a b) && (same_value eq u v && same_span r s)) _ e)
-        (right ((same_text l m && same_span b d) && (same_value eq v w && same_span s t)) _ f))
+        let p = first_so ((same_text k l && same_span a b) && (same_value eq u v && same_span r s)) _ e in
+        let q = first_so ((same_text l m && same_span b d) && (same_value eq v w && same_span s t)) _ f in
+        let i = first_so (same_text k l && same_span a b) _ p in
+        let j = first_so (same_text l m && same_span b d) _ q in
+        let x = second_so (same_text k l && same_span a b) _ p in
+        let y = second_so (same_text l m && same_span b d) _ q in
+        and_from ((same_text k m && same_span a d) && (same_value eq u w && same_span r t)) (same_fields eq fs hs)
+        (and_from (same_text k m && same_span a d) (same_value eq u w && same_span r t)
+        (and_from (same_text k m) (same_span a d) (text_along k l m (first_so (same_text k l) _ i) (first_so (same_text l m) _ j))
+        (span_along a b d (second_so (same_text k l) _ i) (second_so (same_text l m) _ j)))
+        (and_from (same_value eq u w) (same_span r t) (along u v w (first_so (same_value eq u v) _ x) (first_so (same_value eq v w) _ y))
+        (span_along r s t (second_so (same_value eq u v) _ x) (second_so (same_value eq v w) _ y))))
+        (fields_along fs gs hs (second_so ((same_text k l && same_span a b) && (same_value eq u v && same_span r s)) _ e)
+        (second_so ((same_text l m && same_span b d) && (same_value eq v w && same_span s t)) _ f))
     fields_along (field k a u r fs) (field l b v s gs) hs e f = absurd (true≢false (sym f))
     fields_along (field k a u r fs) gs hs e f = absurd (true≢false (sym e))
 

@@ -1,6 +1,7 @@
 use Rattle.juniper_tokens.specs.Tokens.{view_token}
 use Rattle.juniper_tokens.specs.Cursor.{next_at}
-use Rattle.juniper.proofs.Rests.{next_rests, never}
+use Rattle.juniper_tokens.proofs.ListParts.{next_rests}
+use Rattle.juniper.proofs.Rests.{never}
 use Rattle.juniper.proofs.next.take.Goals as goal
 
 pub returns-clause-rest : goal.returns-clause-rest
