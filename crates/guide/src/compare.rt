@@ -8,8 +8,7 @@ ghost use Rattle.juniper.specs.Promise.{IfRefused};
 ghost use Rattle.guide.specs.Literals.{BeginsWith, HasNoValue, FirstFault, AreCompared};
 
 use juniper::{
-    InputValue, LexFailure, Lexer, ParseError, ParseFailure, ParseResult, Parser, ScalarValue,
-    Spanning, parse_value_literal,
+    InputValue, Lexer, ParseFailure, ParseResult, Parser, ScalarValue, parse_value_literal,
 };
 use std::alloc::Global;
 
@@ -33,15 +32,6 @@ fn literal<S: ScalarValue>(alloc: Global, source: &str) -> ParseResult<InputValu
     ensures refused { IfRefused result (λ fault. HasNoValue (stated S.reading S.of_bool) (chars source.now) (view_fault fault)) }
 {
     let mut lexer = Lexer::new(alloc, source);
-    match Parser::new(&mut lexer) {
-        Ok(tokens) => {
-            let mut parser = tokens;
-            parse_value_literal(&mut parser, false)
-        }
-        Err(LexFailure::Fault(fault)) => Err(ParseFailure::Refused(Spanning::new(
-            fault.span,
-            ParseError::LexerError(fault.item),
-        ))),
-        Err(LexFailure::Memory) => Err(ParseFailure::Memory),
-    }
+    let mut parser = Parser::new(&mut lexer)?;
+    parse_value_literal(&mut parser, false)
 }

@@ -114,14 +114,15 @@ break_from_start state source error at e b = subst (λ (s : LexerState). BreaksF
 pub lexical_fault : (fault : Spanning LexerError) → fault.span.end ≡ fault.span.start → view_fault (record { item = parse.LexerError fault.item; span = fault.span }) ≡ record { error = Lexical (view_lexer_error fault.item); span = record { start = fault.span.start; end = fault.span.start } }
 lexical_fault fault e = ap (λ (end : Place). record { error = Lexical (view_lexer_error fault.item); span = record { start = fault.span.start; end = end } }) e
 
--- what a lexer that was just made failed for is why its text is refused
-pub refused_by_lexer : {C Y : Type 0} (X : Type 0) (S : Scalars C Error) (source : List ℕ) (state : LexerState) (failed : LexFailure) (result : Result Y ParseFailure) → state ≡ started source
-    → IfFault {X = X} (Err failed) (λ fault. BreaksFrom state.source state.index (view_lexer_error fault.item) fault.span.start) → IfFault {X = X} (Err failed) (λ fault. fault.span.end ≡ fault.span.start)
-    → IsErrAnd result (λ e. e ≡ failure_of failed) → IfRefused result (λ fault. IsRefusal S source (view_fault fault))
-refused_by_lexer X S source state failed (Ok y) e b z h = tt
-refused_by_lexer {Y = Y} X S source state failed (Err x) e b z h = subst (λ (y : ParseFailure). IfRefused {X = Y} (Err y) (λ fault. IsRefusal S source (view_fault fault))) (sym h) (by_failure failed b z)
-  where
-    by_failure : (f : LexFailure) → IfFault {X = X} (Err f) (λ fault. BreaksFrom state.source state.index (view_lexer_error fault.item) fault.span.start) → IfFault {X = X} (Err f) (λ fault. fault.span.end ≡ fault.span.start)
-        → IfRefused {X = Y} (Err (failure_of f)) (λ fault. IsRefusal S source (view_fault fault))
-    by_failure (lexing.Fault fault) b z = lexical S source _ _ _ (break_from_start state source _ _ e b) (lexical_fault fault z)
-    by_failure lexing.Memory b z = tt
+-- What a lexer that was just made failed for is why its text is refused: P is what is promised of a fault.
+module _ {Y : Type 0} (X : Type 0) (source : List ℕ) (P : Fault → Type 0) (broken : (error : LexicalError) (at : Place) (fault : Fault) → Breaks source error at → fault ≡ record { error = Lexical error; span = record { start = at; end = at } } → P fault) where
+  pub refused_by_lexer : (state : LexerState) (failed : LexFailure) (result : Result Y ParseFailure) → state ≡ started source
+      → IfFault {X = X} (Err failed) (λ fault. BreaksFrom state.source state.index (view_lexer_error fault.item) fault.span.start) → IfFault {X = X} (Err failed) (λ fault. fault.span.end ≡ fault.span.start)
+      → IsErrAnd result (λ e. e ≡ failure_of failed) → IfRefused result (λ fault. P (view_fault fault))
+  refused_by_lexer state failed (Ok y) e b z h = tt
+  refused_by_lexer state failed (Err x) e b z h = subst (λ (y : ParseFailure). IfRefused {X = Y} (Err y) (λ fault. P (view_fault fault))) (sym h) (by_failure failed b z)
+    where
+      by_failure : (f : LexFailure) → IfFault {X = X} (Err f) (λ fault. BreaksFrom state.source state.index (view_lexer_error fault.item) fault.span.start) → IfFault {X = X} (Err f) (λ fault. fault.span.end ≡ fault.span.start)
+          → IfRefused {X = Y} (Err (failure_of f)) (λ fault. P (view_fault fault))
+      by_failure (lexing.Fault fault) b z = broken _ _ _ (break_from_start state source _ _ e b) (lexical_fault fault z)
+      by_failure lexing.Memory b z = tt
