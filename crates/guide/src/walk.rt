@@ -20,6 +20,7 @@ pub fn field_names<'a, S: Drop>(
     Ok(names)
 }
 
+#[tactic(auto, unfolding(crate::specs::Fields::fields_in))]
 fn note_definition<'a, S: Drop>(
     names: &mut Vec<&'a str>,
     definition: &Definition<'a, S>,
