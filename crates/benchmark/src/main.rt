@@ -13,7 +13,10 @@ use std::{env, io};
 
 fn main(rt: HostRuntime) -> io::Result<()> {
     let source = io::read_to_string(rt.alloc(), rt.stdin())?;
-    let rounds = rounds(&rt)?;
+    let rounds = match env::args(&rt)?.nth(1) {
+        Some(text) => text.as_str().parse::<u32>().unwrap_or(1),
+        None => 1,
+    };
     let start = Instant::now(&rt)?;
     let mut tokens = 0;
     for _ in 0..rounds {
@@ -42,12 +45,4 @@ fn main(rt: HostRuntime) -> io::Result<()> {
     eprintln!(rt;
         "{tokens} tokens; lexer {lexer} MB/s; lexer and cursor {parser} MB/s; tree {tree} MB/s"
     )
-}
-
-// How often to lex.
-fn rounds(rt: &HostRuntime) -> io::Result<u32> {
-    match env::args(rt)?.nth(1) {
-        Some(text) => Ok(text.as_str().parse::<u32>().unwrap_or(1)),
-        None => Ok(1),
-    }
 }
