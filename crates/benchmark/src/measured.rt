@@ -11,8 +11,7 @@ use juniper::{DefaultScalarValue, LexFailure, Lexer, ParseFailure, Parser, parse
 use std::alloc::{AllocError, Global};
 use std::time::Duration;
 
-/// How many tokens a text has, the end among them. Where it can't be cut into tokens: how many stand before its first
-/// fault, and one more.
+/// How many tokens a text has, the end among them, where it can be cut into tokens. Of any other text nothing is said.
 pub fn count_tokens(alloc: Global, source: &str) -> usize
     ensures { CountsTokens (chars source.now) result }
 {

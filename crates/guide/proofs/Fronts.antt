@@ -8,13 +8,10 @@ use Rattle.graphql_grammar.specs.Grammar.{IsValue}
 use Rattle.graphql_grammar.specs.Faults.{ValueRefusedAt}
 use Rattle.juniper_tokens.specs.declared.error.ParseFailure.{ParseFailure}
 use Rattle.juniper_tokens.specs.declared.error.ParseFailure.TheVariants as failure
-use Rattle.juniper_tokens.specs.Errors.{Error, Fault, Lexical, view_fault}
-use Rattle.juniper.specs.Promise.{Refuses, IfRefused, AnswersValue}
+use Rattle.juniper_tokens.specs.Errors.{Error, Fault, view_fault}
+use Rattle.juniper.specs.Promise.{lexical_fault, Refuses, IfRefused, AnswersValue}
 use Rattle.juniper.proofs.Promises.{same_cut, same_break, cut_or_break}
 use Rattle.guide.specs.Literals.{HasNoValue}
-
-fault_at : LexicalError → Place → Fault
-fault_at error at = record { error = Lexical error; span = record { start = at; end = at } }
 
 module _ {C : Type 0} (S : Scalars C Error) (source : List ℕ) where
   module _ (ts left : List Lexeme) (cut : Cut source ts) where
@@ -32,10 +29,9 @@ module _ {C : Type 0} (S : Scalars C Error) (source : List ℕ) where
     no_value_begins view (Err failure.Memory) a = tt
 
   -- a text that breaks begins with no value
-  pub broken : (error : LexicalError) (at : Place) (fault : Fault) → Breaks source error at → fault ≡ record { error = Lexical error; span = record { start = at; end = at } } → HasNoValue S source fault
-  unfolding fault_at
+  pub broken : (error : LexicalError) (at : Place) (fault : Fault) → Breaks source error at → fault ≡ lexical_fault error at → HasNoValue S source fault
   broken error at fault b e = record {
     none = λ value begun. cut_or_break source begun.lexemes error at begun.cut b;
-    lexical = λ other place c. let s = same_break source error other at place b c in e ∙ ap₂ fault_at s.0 s.1;
+    lexical = λ other place c. let s = same_break source error other at place b c in e ∙ ap₂ lexical_fault s.0 s.1;
     grammatical = λ lexemes c. absurd (cut_or_break source lexemes error at c b);
   }

@@ -7,11 +7,11 @@ use Rattle.graphql_grammar.specs.Tree.{Scalars, Value}
 use Rattle.graphql_grammar.specs.Grammar.{IsValue}
 use Rattle.graphql_grammar.specs.Faults.{ValueRefusedAt}
 use Rattle.juniper_tokens.specs.declared.span.Spanning.{Spanning}
-use Rattle.juniper_tokens.specs.Errors.{Error, Fault, Lexical}
+use Rattle.juniper_tokens.specs.Errors.{Error, Fault}
 use Rattle.juniper_values.specs.Same.{same_but_place}
 use Rattle.juniper_values.specs.View.{view}
 use Rattle.juniper_values.specs.declared.input_value.InputValue.{InputValue}
-use Rattle.juniper.specs.Promise.{Refuses}
+use Rattle.juniper.specs.Promise.{lexical_fault, Refuses}
 use Rattle.juniper.specs.View.{view_value}
 
 module _ {C : Type 0} (scalars : Scalars C Error) where
@@ -24,11 +24,11 @@ module _ {C : Type 0} (scalars : Scalars C Error) where
     pub whole : lexemes ≡ front ++ left
     pub means : IsValue scalars true front value
 
-  -- The text begins with no value. Where it can't be cut into tokens, the fault is its first lexical one, of zero width.
-  -- Where it can, the fault is at the first token with which no value goes on.
+  -- The text begins with no value. Where it can't be cut into tokens, the fault is its first lexical one. Where it can,
+  -- the fault is at the first token with which no value goes on.
   pub record HasNoValue (source : List ℕ) (fault : Fault) : Type 0 where
     pub none : (value : Value C) → BeginsWith source value → ⊥
-    pub lexical : (error : LexicalError) (at : Place) → Breaks source error at → fault ≡ record { error = Lexical error; span = record { start = at; end = at } }
+    pub lexical : (error : LexicalError) (at : Place) → Breaks source error at → fault ≡ lexical_fault error at
     pub grammatical : (lexemes : List Lexeme) → Cut source lexemes → (left : List Lexeme) × Refuses (IsValue scalars true) (ValueRefusedAt scalars true) fault lexemes left
 
   -- The fault is that of the first of two texts that begins with no value.

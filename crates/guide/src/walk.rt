@@ -1,6 +1,6 @@
 //! A walk over a whole tree.
 ghost use Rattle.std.specs.Prelude.{◌≡◌, ◌++◌, IfOk, OnOk, map};
-ghost use Rattle.juniper.specs.View.{view_document, view_definition, view_field, view_selection, view_selections};
+ghost use Rattle.juniper.specs.View.{view_definition, view_field, view_selection, view_selections};
 ghost use Rattle.guide.specs.Fields.{texts, fields_of, fields_among, fields_in, field_names};
 
 use juniper::{Definition, Field, Selection, Spanning};

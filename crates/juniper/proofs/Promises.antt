@@ -25,7 +25,7 @@ use Rattle.juniper_tokens.specs.Lexing.{LexerState, started}
 use Rattle.juniper_tokens.specs.Gathering.{IfFault}
 use Rattle.juniper.specs.Seen.{seen}
 use Rattle.juniper.specs.Definitions.{document_read}
-use Rattle.juniper.specs.Promise.{HasTree, IsRefusedAt, IsRefusal, IfRefused, AnswersAs}
+use Rattle.juniper.specs.Promise.{lexical_fault, HasTree, IsRefusedAt, IsRefusal, IfRefused, AnswersAs}
 use Rattle.juniper.proofs.Stepping.{seen_took}
 use Rattle.juniper.proofs.SeenDocuments.{document_seen}
 
@@ -42,9 +42,6 @@ cut_or_break source xs error at c b = elim (one_end source) [
   | inl cut ↦ cut.1.no_break error at b
   | inr break ↦ break.2.no_cut xs c
 ]
-
-fault_at : LexicalError → Place → Fault
-fault_at error at = record { error = Lexical error; span = record { start = at; end = at } }
 
 -- or one break
 pub same_break : (source : List ℕ) (d e : LexicalError) (p q : Place) → Breaks source d p → Breaks source e q → (d ≡ e) × (p ≡ q)
@@ -95,11 +92,10 @@ module _ {C : Type 0} (S : Scalars C Error) (source : List ℕ) (ts : List Lexem
   refuses view (Err (failure.Refused fault)) a = by_read (view_fault fault) a.0 (fully (document S) ts) refl given (document_seen S ts ∙ a.1)
   refuses view (Err failure.Memory) a = tt
 
-pub lexical : {C : Type 0} (S : Scalars C Error) (source : List ℕ) (error : LexicalError) (at : Place) (fault : Fault) → Breaks source error at → fault ≡ record { error = Lexical error; span = record { start = at; end = at } } → IsRefusal S source fault
-unfolding fault_at
+pub lexical : {C : Type 0} (S : Scalars C Error) (source : List ℕ) (error : LexicalError) (at : Place) (fault : Fault) → Breaks source error at → fault ≡ lexical_fault error at → IsRefusal S source fault
 lexical S source error at fault b e = record {
   no_document = λ lexemes tree c d. cut_or_break source lexemes error at c b;
-  lexical = λ other place c. let s = same_break source error other at place b c in e ∙ ap₂ fault_at s.0 s.1;
+  lexical = λ other place c. let s = same_break source error other at place b c in e ∙ ap₂ lexical_fault s.0 s.1;
   grammatical = λ lexemes c. absurd (cut_or_break source lexemes error at c b);
 }
 
@@ -110,12 +106,12 @@ cut_from_start state source lexemes e c = subst (λ (s : LexerState). CutFrom s.
 pub break_from_start : (state : LexerState) (source : List ℕ) (error : LexicalError) (at : Place) → state ≡ started source → BreaksFrom state.source state.index error at → Breaks source error at
 break_from_start state source error at e b = subst (λ (s : LexerState). BreaksFrom s.source s.index error at) e b
 
--- a lexical fault of zero width, as the parser tells it
-pub lexical_fault : (fault : Spanning LexerError) → fault.span.end ≡ fault.span.start → view_fault (record { item = parse.LexerError fault.item; span = fault.span }) ≡ record { error = Lexical (view_lexer_error fault.item); span = record { start = fault.span.start; end = fault.span.start } }
-lexical_fault fault e = ap (λ (end : Place). record { error = Lexical (view_lexer_error fault.item); span = record { start = fault.span.start; end = end } }) e
+-- a lexical fault, as the parser tells it
+pub told_lexical : (fault : Spanning LexerError) → fault.span.end ≡ fault.span.start → view_fault (record { item = parse.LexerError fault.item; span = fault.span }) ≡ lexical_fault (view_lexer_error fault.item) fault.span.start
+told_lexical fault e = ap (λ (end : Place). record { error = Lexical (view_lexer_error fault.item); span = record { start = fault.span.start; end = end } }) e
 
 -- What a lexer that was just made failed for is why its text is refused: P is what is promised of a fault.
-module _ {Y : Type 0} (X : Type 0) (source : List ℕ) (P : Fault → Type 0) (broken : (error : LexicalError) (at : Place) (fault : Fault) → Breaks source error at → fault ≡ record { error = Lexical error; span = record { start = at; end = at } } → P fault) where
+module _ {Y : Type 0} (X : Type 0) (source : List ℕ) (P : Fault → Type 0) (broken : (error : LexicalError) (at : Place) (fault : Fault) → Breaks source error at → fault ≡ lexical_fault error at → P fault) where
   pub refused_by_lexer : (state : LexerState) (failed : LexFailure) (result : Result Y ParseFailure) → state ≡ started source
       → IfFault {X = X} (Err failed) (λ fault. BreaksFrom state.source state.index (view_lexer_error fault.item) fault.span.start) → IfFault {X = X} (Err failed) (λ fault. fault.span.end ≡ fault.span.start)
       → IsErrAnd result (λ e. e ≡ failure_of failed) → IfRefused result (λ fault. P (view_fault fault))
@@ -124,5 +120,5 @@ module _ {Y : Type 0} (X : Type 0) (source : List ℕ) (P : Fault → Type 0) (b
     where
       by_failure : (f : LexFailure) → IfFault {X = X} (Err f) (λ fault. BreaksFrom state.source state.index (view_lexer_error fault.item) fault.span.start) → IfFault {X = X} (Err f) (λ fault. fault.span.end ≡ fault.span.start)
           → IfRefused {X = Y} (Err (failure_of f)) (λ fault. P (view_fault fault))
-      by_failure (lexing.Fault fault) b z = broken _ _ _ (break_from_start state source _ _ e b) (lexical_fault fault z)
+      by_failure (lexing.Fault fault) b z = broken _ _ _ (break_from_start state source _ _ e b) (told_lexical fault z)
       by_failure lexing.Memory b z = tt

@@ -12,9 +12,9 @@ use Rattle.graphql_grammar.specs.Unlocated.{SameDocument}
 use Rattle.graphql_grammar.proofs.OneFault as tokens
 use Rattle.graphql_grammar.proofs.Readers.{one_document}
 use Rattle.graphql_grammar.proofs.Spelling.{cut_spelled, cut_ends}
-use Rattle.juniper_tokens.specs.Errors.{Error, Fault, Lexical}
+use Rattle.juniper_tokens.specs.Errors.{Error, Fault}
 use Rattle.juniper.specs.Seen.{error_of}
-use Rattle.juniper.specs.Promise.{HasTree, IsRefusedAt, IsRefusal}
+use Rattle.juniper.specs.Promise.{lexical_fault, HasTree, IsRefusedAt, IsRefusal}
 use Rattle.juniper.specs.Sources.{AreRefusedAlike}
 use Rattle.juniper.proofs.Promises.{same_cut, cut_or_break, lexical}
 
@@ -44,7 +44,7 @@ module _ {C : Type 0} (S : Scalars C Error) where
       | inl d ↦ inl (d.0, tree_of source cut.0 d.0 cut.1.cut d.1)
       | inr r ↦ inr (record { error = error_of r.2; span = r.1.span }, refusal_of source cut.0 r.0 r.1 r.2 cut.1.cut r.3)
     ]
-    | inr break ↦ inr (record { error = Lexical break.0; span = record { start = break.1; end = break.1 } }, lexical S source break.0 break.1 _ break.2.breaks refl)
+    | inr break ↦ inr (lexical_fault break.0 break.1, lexical S source break.0 break.1 _ break.2.breaks refl)
   ]
 
   pub one : (source : List ℕ) (f g : Fault) → IsRefusal S source f → IsRefusal S source g → f ≡ g

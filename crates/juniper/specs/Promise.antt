@@ -16,6 +16,10 @@ use Rattle.juniper_tokens.specs.Errors.{Error, Fault, Lexical, view_fault}
 use Rattle.juniper_tokens.specs.Cursor.{Read, Fails}
 use Rattle.juniper.specs.Seen.{error_of, past}
 
+-- a lexical fault, of zero width
+abbrev pub lexical_fault : LexicalError → Place → Fault
+lexical_fault error at = record { error = Lexical error; span = record { start = at; end = at } }
+
 module _ {C : Type 0} (S : Scalars C Error) where
   -- The text can be cut into tokens, they are a document with this tree, and the text has no other.
   pub record HasTree (source : List ℕ) (tree : List (Definition C)) : Type 0 where
@@ -33,11 +37,11 @@ module _ {C : Type 0} (S : Scalars C Error) where
     pub error : fault.error ≡ error_of says
     pub span : fault.span ≡ token.span
 
-  -- The text is no document. Where it can't be cut into tokens, the fault is its first lexical one, of zero width. Where
-  -- it can, the fault is that of the grammar.
+  -- The text is no document. Where it can't be cut into tokens, the fault is its first lexical one. Where it can, the
+  -- fault is that of the grammar.
   pub record IsRefusal (source : List ℕ) (fault : Fault) : Type 0 where
     pub no_document : (lexemes : List Lexeme) (tree : List (Definition C)) → Cut source lexemes → IsDocument S lexemes tree → ⊥
-    pub lexical : (error : LexicalError) (at : Place) → Breaks source error at → fault ≡ record { error = Lexical error; span = record { start = at; end = at } }
+    pub lexical : (error : LexicalError) (at : Place) → Breaks source error at → fault ≡ lexical_fault error at
     pub grammatical : (lexemes : List Lexeme) → Cut source lexemes → IsRefusedAt lexemes fault
 
 -- Where a text was refused, P holds of the error and its place.

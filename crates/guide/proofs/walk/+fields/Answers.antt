@@ -1,7 +1,8 @@
-use Rattle.std.proofs.Common.{◌≡◌, ◌+◌, ◌∷◌, drop, sym, ap, ◌∙◌, arith, append-nil}
-use Rattle.std.proofs.lemmas.List.{drop_more, drop_all}
+use Rattle.std.proofs.Common.{sym, ◌∙◌, arith, append-nil}
+use Rattle.std.proofs.lemmas.List.{drop_all}
 use Rattle.std.proofs.lemmas.Result.{on_ok_weaker}
 use Rattle.juniper.proofs.SelectionViews.{view_of_field}
+use Rattle.juniper.proofs.Walks.{first_left}
 use Rattle.guide.specs.Fields.{texts, fields_of, fields_within, fields_among}
 use Rattle.guide.proofs.NamesOfFields.{grown, noted, field_alone, field_above, inline_above, next_selection, no_selection}
 use Rattle.guide.proofs.walk.+fields.Goals as goal
@@ -29,8 +30,8 @@ note_fields-loop-selection-preserved g t c =
     let l = c.loop-selection in
     let xs = c.args.selections.now in
     let x = c.selection-item.result in
-    let here : drop l.selection-index xs ≡ x ∷ drop (l.selection-index + 1) xs = drop_more xs l.selection-index x (omega arith) ∙ ap (λ y. y ∷ drop (l.selection-index + 1) xs) (sym c.selection-item.is) in
-    l.invariant ∙ next_selection (λ s. s) _ _ x (drop (l.selection-index + 1) xs) _ here c.in_ok-note_selection.ensures
+    let here = first_left xs l.selection-index x (omega arith) c.selection-item.is in
+    l.invariant ∙ next_selection (λ s. s) _ _ x _ _ here c.in_ok-note_selection.ensures
 
 pub note_fields-returns : goal.note_fields-returns
 note_fields-returns g t c =

@@ -1,5 +1,6 @@
-use Rattle.std.proofs.Common.{◌≡◌, ◌+◌, ◌∷◌, drop, sym, ap, ◌∙◌, arith}
-use Rattle.std.proofs.lemmas.List.{drop_more, drop_all}
+use Rattle.std.proofs.Common.{sym, ◌∙◌, arith}
+use Rattle.std.proofs.lemmas.List.{drop_all}
+use Rattle.juniper.proofs.Walks.{first_left}
 use Rattle.guide.proofs.NamesOfFields.{next_definition, no_definition}
 use Rattle.guide.proofs.walk.field_names.Goals as goal
 
@@ -8,8 +9,8 @@ loop-definition-preserved g c =
     let l = c.loop-definition in
     let xs = c.args.document.now in
     let x = c.definition-item.result in
-    let here : drop l.definition-index xs ≡ x ∷ drop (l.definition-index + 1) xs = drop_more xs l.definition-index x (omega arith) ∙ ap (λ y. y ∷ drop (l.definition-index + 1) xs) (sym c.definition-item.is) in
-    l.invariant ∙ next_definition (λ s. s) _ _ x (drop (l.definition-index + 1) xs) _ here c.in_ok-note_definition.ensures
+    let here = first_left xs l.definition-index x (omega arith) c.definition-item.is in
+    l.invariant ∙ next_definition (λ s. s) _ _ x _ _ here c.in_ok-note_definition.ensures
 
 pub returns : goal.returns
 returns g c =

@@ -1,6 +1,7 @@
-use Rattle.std.proofs.Common.{◌≡◌, ◌+◌, ◌∷◌, drop, sym, ap, ◌∙◌, arith}
-use Rattle.std.proofs.lemmas.List.{drop_more, drop_all}
+use Rattle.std.proofs.Common.{sym, ◌∙◌, arith}
+use Rattle.std.proofs.lemmas.List.{drop_all}
 use Rattle.juniper.specs.View.{view_directive}
+use Rattle.juniper.proofs.Walks.{first_left}
 use Rattle.gqlcheck.specs.Lines.{directive_lines}
 use Rattle.gqlcheck.proofs.Rows.{next_part, no_part}
 use Rattle.gqlcheck.proofs.lines.directives.write_each_directive.Goals as goal
@@ -10,8 +11,8 @@ loop-directive-preserved g c =
     let l = c.loop-directive in
     let xs = c.args.directives.now in
     let x = c.directive-item.result in
-    let here : drop l.directive-index xs ≡ x ∷ drop (l.directive-index + 1) xs = drop_more xs l.directive-index x (omega arith) ∙ ap (λ y. y ∷ drop (l.directive-index + 1) xs) (sym c.directive-item.is) in
-    l.invariant ∙ next_part directive_lines (view_directive g.S.ParseScalarValue.content) _ _ x (drop (l.directive-index + 1) xs) _ here c.in_ok-write_directive.ensures
+    let here = first_left xs l.directive-index x (omega arith) c.directive-item.is in
+    l.invariant ∙ next_part directive_lines (view_directive g.S.ParseScalarValue.content) _ _ x _ _ here c.in_ok-write_directive.ensures
 
 pub returns : goal.returns
 returns g c =

@@ -1,7 +1,8 @@
-use Rattle.std.proofs.Common.{◌≡◌, ◌+◌, ◌∷◌, drop, sym, ap, ◌∙◌, arith}
-use Rattle.std.proofs.lemmas.List.{drop_more, drop_all}
+use Rattle.std.proofs.Common.{sym, ◌∙◌, arith}
+use Rattle.std.proofs.lemmas.List.{drop_all}
 use Rattle.std.proofs.lemmas.Result.{on_ok_weaker}
 use Rattle.juniper.proofs.SelectionViews.{view_of_field, view_of_inline}
+use Rattle.juniper.proofs.Walks.{first_left}
 use Rattle.gqlcheck.specs.Lines.{selection_lines, selections_lines, optional_lines}
 use Rattle.gqlcheck.proofs.Grown.{grown}
 use Rattle.gqlcheck.proofs.SelectionLines.{field_alone, field_above, next_selection, no_selection}
@@ -35,8 +36,8 @@ write_selections-loop-selection-preserved g t c =
     let l = c.loop-selection in
     let xs = c.args.selections.now in
     let x = c.selection-item.result in
-    let here : drop l.selection-index xs ≡ x ∷ drop (l.selection-index + 1) xs = drop_more xs l.selection-index x (omega arith) ∙ ap (λ y. y ∷ drop (l.selection-index + 1) xs) (sym c.selection-item.is) in
-    l.invariant ∙ next_selection g.S.ParseScalarValue.content _ _ x (drop (l.selection-index + 1) xs) _ here c.in_ok-write_selection.ensures
+    let here = first_left xs l.selection-index x (omega arith) c.selection-item.is in
+    l.invariant ∙ next_selection g.S.ParseScalarValue.content _ _ x _ _ here c.in_ok-write_selection.ensures
 
 pub write_selections-returns : goal.write_selections-returns
 write_selections-returns g t c =

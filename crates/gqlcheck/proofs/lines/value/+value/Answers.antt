@@ -1,5 +1,6 @@
-use Rattle.std.proofs.Common.{◌≡◌, ◌+◌, ◌∷◌, drop, sym, ap, ◌∙◌, arith}
-use Rattle.std.proofs.lemmas.List.{drop_more, drop_all}
+use Rattle.std.proofs.Common.{sym, ◌∙◌, arith}
+use Rattle.std.proofs.lemmas.List.{drop_all}
+use Rattle.juniper.proofs.Walks.{first_left}
 use Rattle.std.proofs.lemmas.Result.{on_ok_weaker}
 use Rattle.gqlcheck.proofs.Grown.{grown}
 use Rattle.gqlcheck.proofs.ValueLines.{null-lines, scalar-lines, enum-lines, variable-lines, list-lines, object-lines, next_item, no_item, next_field, no_field}
@@ -32,8 +33,8 @@ write_items-loop-item-preserved g t c =
     let l = c.loop-item in
     let xs = c.args.items.now in
     let x = c.item-item.result in
-    let here : drop l.item-index xs ≡ x ∷ drop (l.item-index + 1) xs = drop_more xs l.item-index x (omega arith) ∙ ap (λ y. y ∷ drop (l.item-index + 1) xs) (sym c.item-item.is) in
-    l.invariant ∙ next_item g.S.ParseScalarValue.content _ _ x (drop (l.item-index + 1) xs) _ here c.in_ok-write_value.ensures
+    let here = first_left xs l.item-index x (omega arith) c.item-item.is in
+    l.invariant ∙ next_item g.S.ParseScalarValue.content _ _ x _ _ here c.in_ok-write_value.ensures
 
 pub write_items-returns : goal.write_items-returns
 write_items-returns g t c =
@@ -45,8 +46,8 @@ write_fields-loop-key-preserved g t c =
     let l = c.loop-key in
     let xs = c.args.fields.now in
     let x = c.loop-key-item.result in
-    let here : drop l.key-index xs ≡ x ∷ drop (l.key-index + 1) xs = drop_more xs l.key-index x (omega arith) ∙ ap (λ y. y ∷ drop (l.key-index + 1) xs) (sym c.loop-key-item.is) in
-    l.invariant ∙ next_field g.S.ParseScalarValue.content _ _ _ x (drop (l.key-index + 1) xs) _ here (rw (← c.as_str.ensures.value) c.in_ok-write_named_line.ensures) c.in_ok-write_value.ensures
+    let here = first_left xs l.key-index x (omega arith) c.loop-key-item.is in
+    l.invariant ∙ next_field g.S.ParseScalarValue.content _ _ _ x _ _ here (rw (← c.as_str.ensures.value) c.in_ok-write_named_line.ensures) c.in_ok-write_value.ensures
 
 pub write_fields-returns : goal.write_fields-returns
 write_fields-returns g t c =
