@@ -2,7 +2,7 @@ use Rattle.std.proofs.Common.{sym, ◌∙◌, arith, append-nil}
 use Rattle.std.proofs.lemmas.List.{drop_all}
 use Rattle.std.proofs.lemmas.Result.{on_ok_weaker}
 use Rattle.juniper.proofs.SelectionViews.{view_of_field}
-use Rattle.juniper.proofs.Walks.{first_left}
+use Rattle.juniper.proofs.Walks.{next_of_slice}
 use Rattle.guide.specs.Fields.{texts, fields_of, fields_within, fields_among}
 use Rattle.guide.proofs.NamesOfFields.{grown, noted, field_alone, field_above, inline_above, next_selection, no_selection}
 use Rattle.guide.proofs.walk.+fields.Goals as goal
@@ -30,7 +30,7 @@ note_fields-loop-selection-preserved g t c =
     let l = c.loop-selection in
     let xs = c.args.selections.now in
     let x = c.selection-item.result in
-    let here = first_left xs l.selection-index x (omega arith) c.selection-item.is in
+    let here = next_of_slice xs l.selection-index x (omega arith) c.selection-item.is in
     l.invariant ∙ next_selection (λ s. s) _ _ x _ _ here c.in_ok-note_selection.ensures
 
 pub note_fields-returns : goal.note_fields-returns

@@ -1,6 +1,6 @@
 use Rattle.std.proofs.Common.{sym, ◌∙◌, arith}
 use Rattle.std.proofs.lemmas.List.{drop_all}
-use Rattle.juniper.proofs.Walks.{first_left}
+use Rattle.juniper.proofs.Walks.{next_of_slice}
 use Rattle.guide.proofs.NamesOfFields.{next_definition, no_definition}
 use Rattle.guide.proofs.walk.field_names.Goals as goal
 
@@ -9,7 +9,7 @@ loop-definition-preserved g c =
     let l = c.loop-definition in
     let xs = c.args.document.now in
     let x = c.definition-item.result in
-    let here = first_left xs l.definition-index x (omega arith) c.definition-item.is in
+    let here = next_of_slice xs l.definition-index x (omega arith) c.definition-item.is in
     l.invariant ∙ next_definition (λ s. s) _ _ x _ _ here c.in_ok-note_definition.ensures
 
 pub returns : goal.returns

@@ -2,7 +2,7 @@ use Rattle.std.proofs.Common.{sym, ◌∙◌, arith}
 use Rattle.std.proofs.lemmas.List.{drop_all}
 use Rattle.std.proofs.lemmas.Result.{on_ok_weaker}
 use Rattle.juniper.proofs.SelectionViews.{view_of_field, view_of_inline}
-use Rattle.juniper.proofs.Walks.{first_left}
+use Rattle.juniper.proofs.Walks.{next_of_slice}
 use Rattle.gqlcheck.specs.Lines.{selection_lines, selections_lines, optional_lines}
 use Rattle.gqlcheck.proofs.Grown.{grown}
 use Rattle.gqlcheck.proofs.SelectionLines.{field_alone, field_above, next_selection, no_selection}
@@ -36,7 +36,7 @@ write_selections-loop-selection-preserved g t c =
     let l = c.loop-selection in
     let xs = c.args.selections.now in
     let x = c.selection-item.result in
-    let here = first_left xs l.selection-index x (omega arith) c.selection-item.is in
+    let here = next_of_slice xs l.selection-index x (omega arith) c.selection-item.is in
     l.invariant ∙ next_selection g.S.ParseScalarValue.content _ _ x _ _ here c.in_ok-write_selection.ensures
 
 pub write_selections-returns : goal.write_selections-returns

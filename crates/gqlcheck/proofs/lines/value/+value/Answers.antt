@@ -1,6 +1,6 @@
 use Rattle.std.proofs.Common.{sym, ◌∙◌, arith}
 use Rattle.std.proofs.lemmas.List.{drop_all}
-use Rattle.juniper.proofs.Walks.{first_left}
+use Rattle.juniper.proofs.Walks.{next_of_slice}
 use Rattle.std.proofs.lemmas.Result.{on_ok_weaker}
 use Rattle.gqlcheck.proofs.Grown.{grown}
 use Rattle.gqlcheck.proofs.ValueLines.{null-lines, scalar-lines, enum-lines, variable-lines, list-lines, object-lines, next_item, no_item, next_field, no_field}
@@ -33,7 +33,7 @@ write_items-loop-item-preserved g t c =
     let l = c.loop-item in
     let xs = c.args.items.now in
     let x = c.item-item.result in
-    let here = first_left xs l.item-index x (omega arith) c.item-item.is in
+    let here = next_of_slice xs l.item-index x (omega arith) c.item-item.is in
     l.invariant ∙ next_item g.S.ParseScalarValue.content _ _ x _ _ here c.in_ok-write_value.ensures
 
 pub write_items-returns : goal.write_items-returns
@@ -46,7 +46,7 @@ write_fields-loop-key-preserved g t c =
     let l = c.loop-key in
     let xs = c.args.fields.now in
     let x = c.loop-key-item.result in
-    let here = first_left xs l.key-index x (omega arith) c.loop-key-item.is in
+    let here = next_of_slice xs l.key-index x (omega arith) c.loop-key-item.is in
     l.invariant ∙ next_field g.S.ParseScalarValue.content _ _ _ x _ _ here (rw (← c.as_str.ensures.value) c.in_ok-write_named_line.ensures) c.in_ok-write_value.ensures
 
 pub write_fields-returns : goal.write_fields-returns
