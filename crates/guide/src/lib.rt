@@ -1,4 +1,5 @@
 //! The code of the guide: what a caller does with a text, as functions that are proved and tests that are run.
+//! The tests of the library's own crates stand here too: a crate that has tests is proved twice.
 #![tactic(auto)]
 
 mod arguments;

@@ -1,4 +1,9 @@
-//! What the guide's functions answer.
+//! What the guide's functions answer, and in the files below what the library's calls do.
+mod answers;
+mod documents;
+mod tokens;
+mod values;
+
 use crate::{argument_value, fault_line, field_names, is_document, same_literal};
 use juniper::{
     DefaultScalarValue, Definition, Field, InputValue, OwnedDocument, ParseFailure, Selection,

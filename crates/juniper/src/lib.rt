@@ -12,8 +12,6 @@ pub mod laws;
 mod next;
 mod selection;
 mod spans;
-#[cfg(test)]
-mod tests;
 mod types;
 mod value;
 mod variables;

@@ -10,8 +10,6 @@ mod line_table;
 mod parser;
 mod position;
 mod span;
-#[cfg(test)]
-mod tests;
 mod token;
 mod token_range;
 

@@ -6,8 +6,6 @@ mod escapes;
 mod input_value;
 pub mod laws;
 mod scalar;
-#[cfg(test)]
-mod tests;
 mod text;
 mod type_literal;
 

@@ -1,13 +1,14 @@
-//! What the calls answer on examples, with ample memory.
+//! What calls on scalars, types and input values answer.
+mod input_values;
 mod scalars;
 mod types;
-mod values;
 
-use crate::*;
-use indexmap::IndexMap;
-use juniper_tokens::{ParseError, ScalarToken, SourcePosition, Span, Spanning};
+use juniper::{
+    DefaultScalarValue, InputValue, ParseError, ParseScalarResult, ParseScalarValue, ReadFailure,
+    ScalarToken, Spanning, scalar_from_str,
+};
+use juniper_values::laws;
 use std::alloc::{AllocError, Global};
-use std::collections::HashMap;
 use std::test::Fail;
 
 type Value = InputValue<DefaultScalarValue>;

@@ -1,5 +1,5 @@
 //! Texts and places of the cursor's tokens.
-use crate::{Kind, Lexer, Parser, SourcePosition, Spanning, Token};
+use juniper::{Kind, Lexer, Parser, SourcePosition, Spanning, Token};
 use std::test::Fail;
 
 // A place's index, line and column.

@@ -1,5 +1,10 @@
 //! Scalars.
-use super::*;
+use super::{read, refusal};
+use juniper::{
+    DefaultScalarValue, Scalar, ScalarToken, ScalarValue, ToScalarValue, WrongInputScalarTypeError,
+    scalar_from_str,
+};
+use std::test::Fail;
 
 #[test]
 fn integers_are_read(rt: HostRuntime) -> Result<(), Fail> {

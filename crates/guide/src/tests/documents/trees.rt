@@ -1,6 +1,6 @@
 //! Trees, their equality and their calls.
 use super::{Document, Value, document, indexes};
-use crate::{
+use juniper::{
     Arguments, DefaultScalarValue, Definition, Field, InputValue, Operation, OperationType,
     Selection, Span, Spanning, VariableDefinition, VariableDefinitions,
 };

@@ -1,5 +1,6 @@
 //! Type literals.
-use super::*;
+use juniper::{Type, TypeModifier, TypeModifiers};
+use std::test::Fail;
 
 #[test]
 fn a_wrapped_list_is_a_list(rt: HostRuntime) -> Result<(), Fail> {

@@ -1,7 +1,8 @@
-//! What the calls answer on examples, with ample memory.
-use crate::*;
-use juniper_tokens::Spanning;
-use juniper_values::{DefaultScalarValue, InputValue, scalar_from_str};
+//! What calls on values, objects and names answer.
+use juniper::{
+    DefaultScalarValue, InputValue, IntoInputValue, IntoValue, Name, NameFailure, Object, Spanning,
+    ToInputValue, Value, input_value_from_str, scalar_from_str, value_from_str,
+};
 use std::alloc::{AllocError, Global};
 use std::borrow::CowStr;
 use std::test::Fail;

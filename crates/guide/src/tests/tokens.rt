@@ -3,7 +3,7 @@
 mod lists;
 mod places;
 
-use crate::{
+use juniper::{
     ByteClass, Kind, LexFailure, Lexer, LexerError, LexerResult, LineTable, ParseError,
     ParseFailure, Parser, ScalarToken, SourcePosition, Span, Spanning, Token, byte_class,
 };

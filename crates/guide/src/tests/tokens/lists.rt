@@ -2,7 +2,7 @@
 ghost use Rattle.juniper_tokens.specs.Delimited.{Leaves};
 
 use super::refusal;
-use crate::{Lexer, ParseResult, Parser, Span, Spanning, Token, UnlocatedParseResult};
+use juniper::{Lexer, ParseResult, Parser, Span, Spanning, Token, UnlocatedParseResult};
 use std::alloc::{AllocError, Global};
 use std::test::Fail;
 

@@ -1,9 +1,9 @@
 use Rattle.std.proofs.Common.{refl, rules}
 use Rattle.juniper_tokens.proofs.ListParts.{name_leaves}
-use Rattle.juniper_tokens.proofs.tests.lists.bracketed_names.Goals as goal
+use Rattle.guide.proofs.tests.tokens.lists.some_bracketed_names.Goals as goal
 
-pub delimited_list-requires : goal.delimited_list-requires
-delimited_list-requires c κs = (
+pub delimited_nonempty_list-requires : goal.delimited_nonempty_list-requires
+delimited_nonempty_list-requires c κs = (
   (refl, tt),
   record {
     callable = λ given further. search rules;

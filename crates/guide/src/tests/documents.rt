@@ -1,5 +1,5 @@
 //! What texts are read as, and where they are refused, with default scalars and ample memory.
-use crate::{
+use juniper::{
     DefaultScalarValue, InputValue, Lexer, OwnedDocument, ParseFailure, ParseResult, Parser,
     SourcePosition, Span, Spanning, Token, Type, TypeModifier, parse_document_source, parse_type,
     parse_value_literal,

@@ -1,5 +1,12 @@
 //! Input values.
-use super::*;
+use super::{Value, int, list, numbers, placed_field, text};
+use indexmap::IndexMap;
+use juniper::{
+    DefaultScalarValue, FromInputValue, InputValue, SourcePosition, Span, Spanning, Variables,
+};
+use std::alloc::{AllocError, Global};
+use std::collections::HashMap;
+use std::test::Fail;
 
 fn is_shown(alloc: Global, value: &Value, wanted: &str) -> Result<bool, AllocError> {
     let shown = value.to_string(alloc)?;
