@@ -7,7 +7,7 @@ mod values;
 use crate::{argument_value, fault_line, field_names, is_document, same_literal};
 use juniper::{
     DefaultScalarValue, Definition, Field, InputValue, OwnedDocument, ParseFailure, Selection,
-    Variables, parse_document_source,
+    Span, Variables, parse_document_source,
 };
 use std::alloc::{AllocError, Global};
 use std::collections::HashMap;
@@ -17,6 +17,25 @@ type Document<'a> = OwnedDocument<'a, DefaultScalarValue>;
 
 fn document(alloc: Global, source: &str) -> Result<Document<'_>, ParseFailure> {
     parse_document_source(alloc, source)
+}
+
+// Where a span starts and ends.
+fn indexes(span: Span) -> (usize, usize) {
+    (span.start.index(), span.end.index())
+}
+
+// A refusal's text, and where its span starts and ends; None of all else.
+fn refusal(
+    alloc: Global,
+    failure: Option<ParseFailure>,
+) -> Result<Option<(String, (usize, usize))>, AllocError> {
+    match failure {
+        Some(ParseFailure::Refused(fault)) => {
+            let text = fault.item.to_string(alloc)?;
+            Ok(Some((text, indexes(fault.span))))
+        }
+        _ => Ok(None),
+    }
 }
 
 #[test]

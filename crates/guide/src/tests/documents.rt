@@ -1,43 +1,22 @@
 //! What texts are read as, and where they are refused, with default scalars and ample memory.
+use super::{document, indexes, refusal};
 use juniper::{
-    DefaultScalarValue, InputValue, Lexer, OwnedDocument, ParseFailure, ParseResult, Parser,
-    SourcePosition, Span, Spanning, Token, Type, TypeModifier, parse_document_source, parse_type,
-    parse_value_literal,
+    DefaultScalarValue, InputValue, Lexer, ParseFailure, ParseResult, Parser, SourcePosition, Span,
+    Spanning, Token, Type, TypeModifier, parse_type, parse_value_literal,
 };
 use std::alloc::{AllocError, Global};
 use std::test::Fail;
 
 mod trees;
 
-type Document<'a> = OwnedDocument<'a, DefaultScalarValue>;
-
 type Value = InputValue<DefaultScalarValue>;
 
-fn document(alloc: Global, source: &str) -> Result<Document<'_>, Fail> {
-    Ok(parse_document_source(alloc, source)?)
-}
-
-fn indexes(span: Span) -> (usize, usize) {
-    (span.start.index(), span.end.index())
-}
-
-// What a failure tells, and from where to where.
-fn told(
+// What a text is refused for, and where that span starts and ends; None of all else.
+fn document_refusal(
     alloc: Global,
-    failure: Option<ParseFailure>,
+    source: &str,
 ) -> Result<Option<(String, (usize, usize))>, AllocError> {
-    match failure {
-        Some(ParseFailure::Refused(fault)) => {
-            let text = fault.item.to_string(alloc)?;
-            Ok(Some((text, indexes(fault.span))))
-        }
-        _ => Ok(None),
-    }
-}
-
-fn refusal(alloc: Global, source: &str) -> Result<Option<(String, (usize, usize))>, AllocError> {
-    let parsed: Result<Document<'_>, ParseFailure> = parse_document_source(alloc, source);
-    told(alloc, parsed.err())
+    refusal(alloc, document(alloc, source).err())
 }
 
 #[test]
@@ -61,7 +40,7 @@ fn texts_are_refused_at_the_first_fault(rt: HostRuntime) -> Result<(), Fail> {
         ("{ a() }", "Unexpected \")\"", (4, 5)),
     ];
     for (source, text, place) in rows {
-        let found = refusal(alloc, source)?;
+        let found = document_refusal(alloc, source)?;
         assert!(rt;
             found == Some((String::from_str(alloc, text)?, place)),
             "{source}"
@@ -89,7 +68,7 @@ fn a_refused_scalar_is_told_by_its_type_where_a_value_may_stand(
         ),
     ];
     for (source, text, place) in rows {
-        let found = refusal(alloc, source)?;
+        let found = document_refusal(alloc, source)?;
         assert!(rt;
             found == Some((String::from_str(alloc, text)?, place)),
             "{source}"
@@ -128,7 +107,7 @@ fn a_constant_value_has_no_variable(rt: HostRuntime) -> Result<(), Fail> {
     let mut lexer = Lexer::new(alloc, "[1 {a:$b}] x");
     let mut parser = Parser::new(&mut lexer)?;
     let value: ParseResult<Value> = parse_value_literal(&mut parser, true);
-    let found = told(alloc, value.err())?;
+    let found = refusal(alloc, value.err())?;
     assert!(rt; found == Some((String::from_str(alloc, "Unexpected \"$\"")?, (6, 7))));
     assert_eq!(rt; parser.peek().item, Token::Name("b"));
     Ok(())
@@ -140,7 +119,7 @@ fn a_bracket_that_closes_is_no_value(rt: HostRuntime) -> Result<(), Fail> {
     let mut lexer = Lexer::new(alloc, "]");
     let mut parser = Parser::new(&mut lexer)?;
     let value: ParseResult<Value> = parse_value_literal(&mut parser, false);
-    let found = told(alloc, value.err())?;
+    let found = refusal(alloc, value.err())?;
     assert!(rt; found == Some((String::from_str(alloc, "Unexpected \"]\"")?, (0, 1))));
     Ok(())
 }
@@ -170,7 +149,7 @@ fn types_are_refused_at_their_first_fault(rt: HostRuntime) -> Result<(), Fail> {
     for (source, text, place) in rows {
         let mut lexer = Lexer::new(alloc, source);
         let mut parser = Parser::new(&mut lexer)?;
-        let found = told(alloc, parse_type(&mut parser).err())?;
+        let found = refusal(alloc, parse_type(&mut parser).err())?;
         assert!(rt;
             found == Some((String::from_str(alloc, text)?, place)),
             "{source}"
@@ -182,8 +161,7 @@ fn types_are_refused_at_their_first_fault(rt: HostRuntime) -> Result<(), Fail> {
 
 #[test]
 fn a_carriage_return_and_a_line_feed_are_one_line_end(rt: HostRuntime) -> Result<(), Fail> {
-    let parsed: Result<Document<'_>, ParseFailure> = parse_document_source(rt.alloc(), "\r\n?");
-    match &parsed {
+    match &document(rt.alloc(), "\r\n?") {
         Err(ParseFailure::Refused(fault)) => {
             assert!(rt; fault.span == Span::zero_width(SourcePosition::new(2, 1, 0)));
         }

@@ -3,11 +3,12 @@
 mod lists;
 mod places;
 
+use super::refusal;
 use juniper::{
     ByteClass, Kind, LexFailure, Lexer, LexerError, LexerResult, LineTable, ParseError,
     ParseFailure, Parser, ScalarToken, SourcePosition, Span, Spanning, Token, byte_class,
 };
-use std::alloc::{AllocError, Global};
+use std::alloc::Global;
 use std::test::Fail;
 
 // The item after so many others.
@@ -132,20 +133,6 @@ fn faults_have_their_place(rt: HostRuntime) -> Result<(), Fail> {
     Ok(())
 }
 
-// A refusal's text, and where its span starts and ends.
-fn refusal(
-    alloc: Global,
-    failure: Option<ParseFailure>,
-) -> Result<Option<(String, usize, usize)>, AllocError> {
-    match failure {
-        Some(ParseFailure::Refused(refused)) => {
-            let text = refused.item.to_string(alloc)?;
-            Ok(Some((text, refused.start().index(), refused.end().index())))
-        }
-        _ => Ok(None),
-    }
-}
-
 #[test]
 fn a_cursor_takes_what_it_refuses_but_never_the_end(rt: HostRuntime) -> Result<(), Fail> {
     let mut lexer = Lexer::new(rt.alloc(), "{ a");
@@ -154,7 +141,7 @@ fn a_cursor_takes_what_it_refuses_but_never_the_end(rt: HostRuntime) -> Result<(
     let unexpected = refusal(alloc, parser.expect(&Token::Colon).err())?;
     assert_eq!(rt;
         unexpected,
-        Some((String::from_str(alloc, "Unexpected \"{\"")?, 0, 1))
+        Some((String::from_str(alloc, "Unexpected \"{\"")?, (0, 1)))
     );
     assert_eq!(rt; parser.peek().item, Token::Name("a"));
     assert_eq!(rt; parser.skip(&Token::Colon)?.is_none(), true);
@@ -168,7 +155,7 @@ fn a_cursor_takes_what_it_refuses_but_never_the_end(rt: HostRuntime) -> Result<(
     for end in ends {
         assert_eq!(rt;
             end,
-            Some((String::from_str(alloc, "Unexpected end of input")?, 3, 3))
+            Some((String::from_str(alloc, "Unexpected end of input")?, (3, 3)))
         );
     }
     Ok(())

@@ -1,5 +1,6 @@
 //! Trees, their equality and their calls.
-use super::{Document, Value, document, indexes};
+use super::Value;
+use crate::tests::{Document, document, indexes};
 use juniper::{
     Arguments, DefaultScalarValue, Definition, Field, InputValue, Operation, OperationType,
     Selection, Span, Spanning, VariableDefinition, VariableDefinitions,

@@ -1,15 +1,10 @@
 //! Lists between two tokens.
 ghost use Rattle.juniper_tokens.specs.Delimited.{Leaves};
 
-use super::refusal;
-use juniper::{Lexer, ParseResult, Parser, Span, Spanning, Token, UnlocatedParseResult};
+use crate::tests::{indexes, refusal};
+use juniper::{Lexer, ParseResult, Parser, Spanning, Token, UnlocatedParseResult};
 use std::alloc::{AllocError, Global};
 use std::test::Fail;
-
-// Where a span starts and ends.
-fn indexes(span: Span) -> (usize, usize) {
-    (span.start.index(), span.end.index())
-}
 
 // Names between brackets.
 fn bracketed_names<'a>(parser: &mut Parser<'a>) -> ParseResult<Vec<Spanning<&'a str>>> {
@@ -60,7 +55,7 @@ fn a_list_without_items_has_its_place(rt: HostRuntime) -> Result<(), Fail> {
 fn nonempty_refusal(
     alloc: Global,
     source: &str,
-) -> Result<Option<(String, usize, usize)>, AllocError> {
+) -> Result<Option<(String, (usize, usize))>, AllocError> {
     let mut lexer = Lexer::new(alloc, source);
     match Parser::new(&mut lexer) {
         Ok(mut parser) => {
@@ -76,18 +71,18 @@ fn a_list_is_refused_where_an_item_is(rt: HostRuntime) -> Result<(), Fail> {
     let alloc = rt.alloc();
     assert_eq!(rt;
         nonempty_refusal(alloc, "[]")?,
-        Some((String::from_str(alloc, "Unexpected \"]\"")?, 1, 2))
+        Some((String::from_str(alloc, "Unexpected \"]\"")?, (1, 2)))
     );
     assert_eq!(rt;
         nonempty_refusal(alloc, "[a")?,
-        Some((String::from_str(alloc, "Unexpected end of input")?, 2, 2))
+        Some((String::from_str(alloc, "Unexpected end of input")?, (2, 2)))
     );
     let mut lexer = Lexer::new(alloc, "[a");
     let mut parser = Parser::new(&mut lexer)?;
     let list = bracketed_names(&mut parser);
     assert_eq!(rt;
         refusal(alloc, list.err())?,
-        Some((String::from_str(alloc, "Unexpected end of input")?, 2, 2))
+        Some((String::from_str(alloc, "Unexpected end of input")?, (2, 2)))
     );
     Ok(())
 }
