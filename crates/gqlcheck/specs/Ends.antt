@@ -2,8 +2,8 @@
 use Rattle.std.specs.Prelude.{ℕ, Option, Some, None}
 use Rattle.gqlcheck.specs.declared.Fault.{Fault}
 use Rattle.gqlcheck.specs.declared.Fault.TheVariants as fault
-use Rattle.gqlcheck.specs.declared.run.RunEnd.{RunEnd}
-use Rattle.gqlcheck.specs.declared.run.RunEnd.TheVariants.{Tree, Refused, NotUtf8, Device, Memory}
+use Rattle.gqlcheck_report.specs.declared.report.RunEnd.{RunEnd}
+use Rattle.gqlcheck_report.specs.declared.report.RunEnd.TheVariants.{Tree, Refused, NotUtf8, Device, Memory}
 
 -- the exit status
 abbrev pub status_at : RunEnd → ℕ

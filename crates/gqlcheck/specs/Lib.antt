@@ -1,6 +1,1 @@
 pub mod Ends
-pub mod Kinds
-pub mod Lines
-pub mod Parts
-pub mod Report
-pub mod Watched

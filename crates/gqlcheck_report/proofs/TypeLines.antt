@@ -1,0 +1,21 @@
+-- A type's line holds what the type displays.
+use Rattle.std.proofs.Common.{◌≡◌, ℕ, List, [], ◌∷◌, refl}
+use Rattle.std.specs.Borrow.{Bor}
+use Rattle.graphql_grammar.specs.Tree.{TypeRef, NamedType, ListType, NonNullType}
+use Rattle.juniper_values.specs.TypeLiteral as literal
+use Rattle.juniper_values.specs.TypeLiteral.{TypeShape}
+use Rattle.juniper_values.specs.declared.type_literal.TypeModifier.{TypeModifier}
+use Rattle.juniper_values.specs.declared.type_literal.TypeModifier.TheVariants as modifier
+use Rattle.juniper.specs.View.{wrapped, view_type}
+use Rattle.std.specs.Str.{chars}
+use Rattle.gqlcheck_report.specs.Lines.{type_text}
+
+wrapped-text : (t : TypeRef) (ms : List TypeModifier) → type_text (wrapped t ms) ≡ literal.type_text (type_text t) ms
+unfolding type_text
+wrapped-text t [] = refl
+wrapped-text t (modifier.NonNull ∷ ms) = wrapped-text (NonNullType t) ms
+wrapped-text t (modifier.List size ∷ ms) = wrapped-text (ListType size t) ms
+
+pub type-text : (t : TypeShape (Bor (List ℕ))) → type_text (view_type t) ≡ literal.type_text (chars t.name.now) t.modifiers
+unfolding type_text
+type-text t = wrapped-text (NamedType (chars t.name.now)) t.modifiers

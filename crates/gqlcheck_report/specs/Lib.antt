@@ -1,0 +1,5 @@
+pub mod Kinds
+pub mod Lines
+pub mod Parts
+pub mod Report
+pub mod Watched

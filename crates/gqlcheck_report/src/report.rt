@@ -1,0 +1,155 @@
+//! The whole work of the program, over any reader and writer.
+ghost use Rattle.std.specs.Prelude.{◌≡◌, ℕ, ◌↔◌, ◌⊎◌, true, false, not, List, take, IfOk, IsTrue, length, string_bytes};
+ghost use Rattle.std.specs.Io.KnownBytes.{Appends, Consumes, IsAtEnd, Keeps};
+ghost use Rattle.gqlcheck_report.specs.Watched.{inner_of, has_failed};
+ghost use Rattle.juniper_tokens.specs.Errors.{view_fault};
+ghost use Rattle.gqlcheck_report.specs.Report.{Report, OneReport, IsReportEnd, fault_line};
+
+use crate::lines::write_document;
+use crate::watched::Watched;
+use juniper::{DefaultScalarValue, ParseError, ParseFailure, Spanning, parse_document_source};
+use std::alloc::{AllocError, Global};
+use std::io::{Read, Write};
+
+/// How a run ended, and what it has then written.
+#[derive(Clone, Copy, Debug, PartialEq, Eq)]
+pub enum RunEnd {
+    /// The bytes are a document: a line for each part of its tree.
+    Tree,
+    /// The bytes are a text that is no document: its fault, and where it stands.
+    Refused,
+    /// The bytes are no text: a line that says so.
+    NotUtf8,
+    /// A read or a write failed: after a failed read nothing, after a failed write a beginning of the report.
+    Device,
+    /// Memory ran out: nothing.
+    Memory,
+}
+
+#[derive(Clone, Copy)]
+enum Stop {
+    Device,
+    Memory,
+}
+
+const CHUNK: usize = 4096;
+
+const NOT_UTF8: &str = "Not UTF-8\n";
+
+/// Reads all of the reader, and writes the report of its bytes.
+///
+/// The report is a function of the bytes. It is built whole before any of it is written. A reader that neither ends
+/// nor fails leads to `Memory`.
+#[tactic(auto, using(crate::proofs::OneReport::one_report))]
+pub fn run<R: Read, W: Write>(
+    alloc: Global,
+    reader: &mut Watched<R>,
+    writer: &mut Watched<W>,
+) -> RunEnd
+    requires sound_reader { has_failed reader.old ≡ false }
+    requires sound_writer { has_failed writer.old ≡ false }
+    ensures reported { IsReportEnd result → (bytes : List ℕ)
+        × Consumes (R.remaining (inner_of reader.old)) (R.remaining (inner_of reader.new)) bytes
+        × IsAtEnd (R.remaining (inner_of reader.new))
+        × ((text : List ℕ) × Report bytes result text
+        × Appends (W.contents (inner_of writer.old)) (W.contents (inner_of writer.new)) text) }
+
+    // Bytes have one report, so this one is theirs.
+    ensures one_report { OneReport }
+    ensures device { (result ≡ RunEnd.Device)
+        ↔ ((has_failed reader.new ≡ true) ⊎ (has_failed writer.new ≡ true)) }
+
+    // After a failed write a beginning of the report has gone out.
+    ensures failed_write { has_failed writer.new ≡ true → (bytes : List ℕ)
+        × Consumes (R.remaining (inner_of reader.old)) (R.remaining (inner_of reader.new)) bytes
+        × IsAtEnd (R.remaining (inner_of reader.new))
+        × ((end : RunEnd) × (text : List ℕ) × Report bytes end text
+        × ((n : ℕ) × Appends (W.contents (inner_of writer.old)) (W.contents (inner_of writer.new)) (take n text))) }
+
+    // After a failed read, and after want of memory, nothing has.
+    ensures failed_read { has_failed reader.new ≡ true
+        → Keeps (W.contents (inner_of writer.old)) (W.contents (inner_of writer.new)) }
+    ensures memory { result ≡ RunEnd.Memory
+        → Keeps (W.contents (inner_of writer.old)) (W.contents (inner_of writer.new)) }
+{
+    let source = match read_source(alloc, reader) {
+        Ok(source) => source,
+        Err(Stop::Device) => return RunEnd::Device,
+        Err(Stop::Memory) => return RunEnd::Memory,
+    };
+    let Ok((end, text)) = report(alloc, source.as_slice()) else {
+        return RunEnd::Memory;
+    };
+    if write_text(writer, text.as_bytes()) {
+        end
+    } else {
+        RunEnd::Device
+    }
+}
+
+// The bytes of the reader, to its end.
+fn read_source<R: Read>(alloc: Global, reader: &mut Watched<R>) -> Result<Vec<u8>, Stop>
+    requires { has_failed reader.old ≡ false }
+    ensures all { IfOk result (λ source.
+        Consumes (R.remaining (inner_of reader.old)) (R.remaining (inner_of reader.new)) source.items
+        × IsAtEnd (R.remaining (inner_of reader.new))) }
+    ensures device { (result ≡ Err Stop.Device) ↔ (has_failed reader.new ≡ true) }
+{
+    let mut source = Vec::new(alloc);
+    let mut chunk = [0u8; CHUNK];
+    'reads: loop {
+        match reader.read(&mut chunk) {
+            Ok(0) => return Ok(source),
+            Ok(count) => {
+                if source.extend_from_slice(&chunk[..count]).is_err() {
+                    return Err(Stop::Memory);
+                }
+            }
+            Err(_) => return Err(Stop::Device),
+        }
+    }
+}
+
+// Writes the text, and says whether all of it went out. Else a beginning of it has.
+fn write_text<W: Write>(writer: &mut Watched<W>, text: &[u8]) -> bool
+    requires { has_failed writer.old ≡ false }
+    ensures all { IsTrue result
+        → Appends (W.contents (inner_of writer.old)) (W.contents (inner_of writer.new)) text.now }
+    ensures beginning { (n : ℕ)
+        × Appends (W.contents (inner_of writer.old)) (W.contents (inner_of writer.new)) (take n text.now) }
+    ensures failed { has_failed writer.new ≡ not result }
+{
+    let mut written = 0;
+    'writes: while written < text.len() {
+        match writer.write(&text[written..]) {
+            Ok(0) | Err(_) => return false,
+            Ok(count) => written += count,
+        }
+    }
+    true
+}
+
+// How a run over these bytes ends, and what it writes.
+fn report(alloc: Global, bytes: &[u8]) -> Result<(RunEnd, String), AllocError>
+    ensures { IfOk result (λ answer. Report bytes.now answer.0 (string_bytes answer.1)) }
+{
+    let Ok(source) = std::str::from_utf8(bytes) else {
+        return Ok((RunEnd::NotUtf8, String::from_str(alloc, NOT_UTF8)?));
+    };
+    match parse_document_source::<DefaultScalarValue>(alloc, source) {
+        Ok(document) => {
+            let mut text = String::new(alloc);
+            write_document(&mut text, &document)?;
+            Ok((RunEnd::Tree, text))
+        }
+        Err(ParseFailure::Refused(fault)) => Ok((RunEnd::Refused, fault_text(alloc, &fault)?)),
+        Err(ParseFailure::Memory) => Err(AllocError),
+    }
+}
+
+// The line that tells a fault.
+fn fault_text(alloc: Global, fault: &Spanning<ParseError>) -> Result<String, AllocError>
+    ensures { IfOk result (λ text. string_bytes text ≡ fault_line (view_fault fault.now)) }
+{
+    format!(in alloc; "{fault}\n")
+}
