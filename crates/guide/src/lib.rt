@@ -1,5 +1,4 @@
-//! The code of the guide: what a caller does with a text, as functions that are proved and tests that are run.
-//! The tests of the library's own crates stand here too: a crate that has tests is proved twice.
+//! The code of the guide: what a caller does with a text, as functions that are proved, each with a test that is run.
 #![tactic(auto)]
 
 mod arguments;

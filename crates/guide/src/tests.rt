@@ -1,13 +1,9 @@
-//! What the guide's functions answer, and in the files below what the library's calls do.
-mod answers;
-mod documents;
-mod tokens;
-mod values;
+//! What the guide's functions answer.
 
 use crate::{argument_value, fault_line, field_names, is_document, same_literal};
 use juniper::{
     DefaultScalarValue, Definition, Field, InputValue, OwnedDocument, ParseFailure, Selection,
-    Span, Variables, parse_document_source,
+    Variables, parse_document_source,
 };
 use std::alloc::{AllocError, Global};
 use std::collections::HashMap;
@@ -17,25 +13,6 @@ type Document<'a> = OwnedDocument<'a, DefaultScalarValue>;
 
 fn document(alloc: Global, source: &str) -> Result<Document<'_>, ParseFailure> {
     parse_document_source(alloc, source)
-}
-
-// Where a span starts and ends.
-fn indexes(span: Span) -> (usize, usize) {
-    (span.start.index(), span.end.index())
-}
-
-// A refusal's text, and where its span starts and ends; None of all else.
-fn refusal(
-    alloc: Global,
-    failure: Option<ParseFailure>,
-) -> Result<Option<(String, (usize, usize))>, AllocError> {
-    match failure {
-        Some(ParseFailure::Refused(fault)) => {
-            let text = fault.item.to_string(alloc)?;
-            Ok(Some((text, indexes(fault.span))))
-        }
-        _ => Ok(None),
-    }
 }
 
 #[test]
