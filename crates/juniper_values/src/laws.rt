@@ -41,9 +41,10 @@ pub fn scalar_copies_are_equal<S: ScalarValue>()
     ensures { (a b : S) → S.content a ≡ S.content b → S.eq a b ≡ true }
 {}
 
-/// Values whose scalars have the same contents are equal. So a copy of a value equals its source.
+/// Values are equal exactly where their scalars have the same contents and all else is the same. So a copy of a value equals
+/// its source.
 pub fn value_copies_are_equal<S: ScalarValue>()
-    ensures { (a b : InputValue S) → view S.content a ≡ view S.content b → same_value S.eq (view (λ s. s) a) (view (λ s. s) b) ≡ true }
+    ensures { (a b : InputValue S) → (view S.content a ≡ view S.content b) ↔ (same_value S.eq (view (λ s. s) a) (view (λ s. s) b) ≡ true) }
 {}
 
 /// Where no variable's value has a variable, resolving leaves no variable, and leaves nothing only of a variable without a
