@@ -8,7 +8,8 @@ ghost use Rattle.juniper_values.specs.Laws.{IsEqualityLike};
 ghost use Rattle.juniper_answers.specs.Data.{Data};
 ghost use Rattle.juniper_answers.specs.Input.{as_input};
 ghost use Rattle.juniper_answers.specs.Laws.{IsOneName, IsPlainInput, ComparesParts, TellsKindsApart, ShowsAll};
-ghost use Rattle.juniper_answers.specs.Names.{is_name, text_of_name};
+ghost use Rattle.juniper_answers.specs.Names.{is_name};
+ghost use Rattle.juniper_answers.specs.NameTexts.{text_of_name};
 ghost use Rattle.juniper_answers.specs.Same.{same_entries};
 ghost use Rattle.juniper_answers.specs.View.{pairs};
 ghost use Rattle.juniper_answers.specs.declared.name.Name.{Name};
@@ -56,7 +57,7 @@ pub fn names_agree()
     ensures equal { (a b : Name) → ⟦<Name as PartialEq>⟧.eq a b ≡ is_eq (⟦<Name as Ord>⟧.cmp a b) }
     ensures partial { (a b : Name) → ⟦<Name as PartialOrd>⟧.partial_cmp a b ≡ Some (⟦<Name as Ord>⟧.cmp a b) }
     ensures texts { (a b : Name) → IsTrue (⟦<Name as PartialEq>⟧.eq a b) ↔ (text_of_name a ≡ text_of_name b) }
-    ensures order { (a b : Name) → ⟦<Name as Ord>⟧.cmp a b ≡ string_cmp a.0 b.0 }
+    ensures order { (a b : Name) → ⟦<Name as Ord>⟧.cmp a b ≡ string_cmp a.text b.text }
 {}
 
 /// The orders of refusals of names agree with equality, and with one another: they are compared by their texts.
