@@ -6,7 +6,6 @@ ghost use Rattle.std.specs.Map.Iter.{deref_pair};
 ghost use Rattle.std.specs.declared.alloc.Global.{Global};
 ghost use Rattle.juniper_values.specs.Laws.{IsEqualityLike};
 ghost use Rattle.juniper_answers.specs.Copies.{Copies};
-ghost use Rattle.juniper_answers.specs.Data.{Data};
 ghost use Rattle.juniper_answers.specs.Input.{as_input};
 ghost use Rattle.juniper_answers.specs.Laws.{IsOneName, IsPlainInput, ComparesParts, TellsKindsApart, ShowsAll};
 ghost use Rattle.juniper_answers.specs.Names.{is_name};
@@ -58,8 +57,8 @@ pub fn equal_data_are_equal<S: ScalarValue>()
 }
 
 /// The input value of an answer value has no enum, no variable, and unlocated spans only.
-pub fn input_values_are_plain<C>()
-    ensures { (value : Data C) → IsPlainInput (as_input value) }
+pub fn input_values_are_plain<S: ScalarValue>()
+    ensures { (value : Value S) → IsPlainInput (as_input (view S.content value)) }
 {}
 
 /// The orders of names agree with equality, and with one another: names are compared by their texts.
