@@ -2,13 +2,12 @@
 //! values and of answer values stand in modules of their own.
 ghost use Rattle.std.specs.Prelude.{◌≡◌, ◌⊎◌, ℕ, List};
 ghost use Rattle.graphql_lexical.specs.Tokens.{IsName};
-ghost use Rattle.graphql_lexical.specs.Cutting.{Lexeme, Cut, Breaks};
-ghost use Rattle.graphql_lexical.specs.Kinds.{LexicalError};
-ghost use Rattle.graphql_lexical.specs.Place.{Place};
+ghost use Rattle.graphql_lexical.specs.Cutting.{Lexeme, Cut};
 ghost use Rattle.graphql_lexical.specs.Alike.{AllAlike};
 ghost use Rattle.graphql_grammar.specs.Tree.{Definition};
 ghost use Rattle.graphql_grammar.specs.Unlocated.{SameDocument};
-ghost use Rattle.juniper_tokens.specs.Errors.{Fault};
+ghost use Rattle.juniper_tokens.specs.Errors.{Fault, failure_of};
+ghost use Rattle.juniper_tokens.specs.declared.error.LexFailure.{LexFailure};
 ghost use Rattle.juniper_values.specs.Default.{default_content};
 ghost use Rattle.juniper_values.specs.ReadBack.{IsPlain};
 ghost use Rattle.juniper_values.specs.Scalar.{Content};
@@ -20,7 +19,7 @@ ghost use Rattle.juniper_values.specs.declared.input_value.InputValue.{InputValu
 ghost use Rattle.juniper_values.specs.declared.type_literal.TypeModifier.{TypeModifier};
 ghost use Rattle.juniper.specs.ReadBack.{AreWritable, IsReadAsType, IsReadBack, type_of};
 ghost use Rattle.juniper.specs.Promise.{HasTree, IsRefusal};
-ghost use Rattle.juniper.specs.Laws.{SeesValues, SeesSelections};
+ghost use Rattle.juniper.specs.Laws.{CutsOnce, FailsAtBreak, IsRefusedAtBreak, SeesValues, SeesSelections};
 ghost use Rattle.juniper.specs.Scalars.{stated};
 ghost use Rattle.juniper.specs.Sources.{AreRefusedAlike};
 
@@ -31,9 +30,12 @@ pub use juniper_values::laws as values;
 
 /// A source text is cut into tokens in one way, or breaks at one place with one error, and never both.
 pub fn one_cut_or_break()
-    ensures one_cut { (source : List ℕ) (ts us : List Lexeme) → Cut source ts → Cut source us → ts ≡ us }
-    ensures one_break { (source : List ℕ) (d e : LexicalError) (p q : Place) → Breaks source d p → Breaks source e q → (d ≡ e) × (p ≡ q) }
-    ensures never_both { (source : List ℕ) (ts : List Lexeme) (error : LexicalError) (at : Place) → Cut source ts → Breaks source error at → ⊥ }
+    ensures { (source : List ℕ) → CutsOnce source }
+{}
+
+/// Where a lexer fails at its source's break, a parser tells the lexical fault that stands there.
+pub fn lexer_failures_are_told()
+    ensures { (source : List ℕ) (failed : LexFailure) → FailsAtBreak source failed → IsRefusedAtBreak source (failure_of failed) }
 {}
 
 /// A source text is a document or is refused at one place with one error, and never both.
