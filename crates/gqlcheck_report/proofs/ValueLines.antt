@@ -10,38 +10,38 @@ use Rattle.juniper_tokens.specs.declared.span.Spanning.{Spanning}
 use Rattle.juniper_values.specs.declared.input_value.InputValue.{InputValue}
 use Rattle.juniper_values.specs.declared.input_value.InputValue.TheVariants as V
 use Rattle.juniper.specs.View.{text_of, view_at, view_value, view_object_field}
-use Rattle.juniper.proofs.ValueViews.{view_of_null, view_of_scalar, view_of_enum, view_of_variable, view_of_list, view_of_object}
+use Rattle.juniper.specs.Laws.{SeesValues}
 use Rattle.gqlcheck_report.specs.Lines.{line, named_line, value_lines, items_lines, fields_lines}
 
 module _ {S C : Type 0} (content : S → C) where
   seen : (x : Spanning (InputValue S)) (i : InputValue S) (v : Value C) → x.item ≡ i → view_at content i (view_span x.span) ≡ v → value_lines (view_value content x) ≡ value_lines v
   seen x i v e f = ap (λ j. value_lines (view_at content j (view_span x.span))) e ∙ ap value_lines f
 
-  pub null-lines : (x : Spanning (InputValue S)) → x.item ≡ V.Null → value_lines (view_value content x) ≡ line (codes "null") (view_span x.span)
+  pub null-lines : SeesValues content → (x : Spanning (InputValue S)) → x.item ≡ V.Null → value_lines (view_value content x) ≡ line (codes "null") (view_span x.span)
   unfolding value_lines items_lines fields_lines
-  null-lines x e = seen x _ _ e (view_of_null content (view_span x.span))
+  null-lines sees x e = seen x _ _ e (sees.null (view_span x.span))
 
-  pub scalar-lines : (x : Spanning (InputValue S)) (s : S) → x.item ≡ V.Scalar s → value_lines (view_value content x) ≡ line (codes "scalar") (view_span x.span)
+  pub scalar-lines : SeesValues content → (x : Spanning (InputValue S)) (s : S) → x.item ≡ V.Scalar s → value_lines (view_value content x) ≡ line (codes "scalar") (view_span x.span)
   unfolding value_lines items_lines fields_lines
-  scalar-lines x s e = seen x _ _ e (view_of_scalar content s (view_span x.span))
+  scalar-lines sees x s e = seen x _ _ e (sees.scalar s (view_span x.span))
 
-  pub enum-lines : (x : Spanning (InputValue S)) (name : String Global) → x.item ≡ V.Enum name → value_lines (view_value content x) ≡ named_line (codes "enum") (view_span x.span) (text_of name)
+  pub enum-lines : SeesValues content → (x : Spanning (InputValue S)) (name : String Global) → x.item ≡ V.Enum name → value_lines (view_value content x) ≡ named_line (codes "enum") (view_span x.span) (text_of name)
   unfolding value_lines items_lines fields_lines
-  enum-lines x name e = seen x _ _ e (view_of_enum content name (view_span x.span))
+  enum-lines sees x name e = seen x _ _ e (sees.enum_value name (view_span x.span))
 
-  pub variable-lines : (x : Spanning (InputValue S)) (name : String Global) → x.item ≡ V.Variable name → value_lines (view_value content x) ≡ named_line (codes "reference") (view_span x.span) (text_of name)
+  pub variable-lines : SeesValues content → (x : Spanning (InputValue S)) (name : String Global) → x.item ≡ V.Variable name → value_lines (view_value content x) ≡ named_line (codes "reference") (view_span x.span) (text_of name)
   unfolding value_lines items_lines fields_lines
-  variable-lines x name e = seen x _ _ e (view_of_variable content name (view_span x.span))
+  variable-lines sees x name e = seen x _ _ e (sees.variable name (view_span x.span))
 
-  pub list-lines : (x : Spanning (InputValue S)) (v : Vec (Spanning (InputValue S)) Global) → x.item ≡ V.List v
+  pub list-lines : SeesValues content → (x : Spanning (InputValue S)) (v : Vec (Spanning (InputValue S)) Global) → x.item ≡ V.List v
       → value_lines (view_value content x) ≡ line (codes "list") (view_span x.span) ++ items_lines (items_of (map (view_value content) v.items))
   unfolding value_lines items_lines fields_lines
-  list-lines x v e = seen x _ _ e (view_of_list content v (view_span x.span))
+  list-lines sees x v e = seen x _ _ e (sees.list v (view_span x.span))
 
-  pub object-lines : (x : Spanning (InputValue S)) (v : Vec (Spanning (String Global) × Spanning (InputValue S)) Global) → x.item ≡ V.Object v
+  pub object-lines : SeesValues content → (x : Spanning (InputValue S)) (v : Vec (Spanning (String Global) × Spanning (InputValue S)) Global) → x.item ≡ V.Object v
       → value_lines (view_value content x) ≡ line (codes "object") (view_span x.span) ++ fields_lines (fields_of (map (view_object_field content) v.items))
   unfolding value_lines items_lines fields_lines
-  object-lines x v e = seen x _ _ e (view_of_object content v (view_span x.span))
+  object-lines sees x v e = seen x _ _ e (sees.object v (view_span x.span))
 
   -- one part's lines go over from what is left to what is written
   pub next_item : (old new : List ℕ) (x : Spanning (InputValue S)) (xs left : List (Spanning (InputValue S))) → left ≡ x ∷ xs → new ≡ old ++ encode_utf8_all (value_lines (view_value content x))

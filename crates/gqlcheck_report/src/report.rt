@@ -7,6 +7,7 @@ ghost use Rattle.gqlcheck_report.specs.Report.{Report, OneReport, IsReportEnd, f
 
 use crate::lines::write_document;
 use crate::watched::Watched;
+use juniper::laws::document_or_fault;
 use juniper::{DefaultScalarValue, ParseError, ParseFailure, Spanning, parse_document_source};
 use std::alloc::{AllocError, Global};
 use std::io::{Read, Write};
@@ -40,7 +41,6 @@ const NOT_UTF8: &str = "Not UTF-8\n";
 ///
 /// The report is a function of the bytes. It is built whole before any of it is written. A reader that neither ends
 /// nor fails leads to `Memory`.
-#[tactic(auto, using(crate::proofs::OneReport::one_report))]
 pub fn run<R: Read, W: Write>(
     alloc: Global,
     reader: &mut Watched<R>,
@@ -72,6 +72,7 @@ pub fn run<R: Read, W: Write>(
     ensures memory { result ≡ RunEnd.Memory
         → Keeps (W.contents (inner_of writer.old)) (W.contents (inner_of writer.new)) }
 {
+    one_report();
     let source = match read_source(alloc, reader) {
         Ok(source) => source,
         Err(Stop::Device) => return RunEnd::Device,
@@ -85,6 +86,13 @@ pub fn run<R: Read, W: Write>(
     } else {
         RunEnd::Device
     }
+}
+
+// Bytes have one report, since a text has one tree or one fault.
+fn one_report()
+    ensures { OneReport }
+{
+    document_or_fault::<DefaultScalarValue>();
 }
 
 // The bytes of the reader, to its end.

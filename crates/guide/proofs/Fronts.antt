@@ -1,5 +1,5 @@
 -- From the parser's promise on tokens to the text.
-use Rattle.std.proofs.Common.{◌≡◌, ℕ, true, List, Result, Ok, Err, subst, ◌∙◌, ap₂}
+use Rattle.std.proofs.Common.{◌≡◌, ℕ, true, List, Result, Ok, Err, IsErrAnd, sym, subst, ◌∙◌, ap₂}
 use Rattle.graphql_lexical.specs.Place.{Place}
 use Rattle.graphql_lexical.specs.Kinds.{LexicalError}
 use Rattle.graphql_lexical.specs.Cutting.{Lexeme, Cut, Breaks}
@@ -8,18 +8,19 @@ use Rattle.graphql_grammar.specs.Grammar.{IsValue}
 use Rattle.graphql_grammar.specs.Faults.{ValueRefusedAt}
 use Rattle.juniper_tokens.specs.declared.error.ParseFailure.{ParseFailure}
 use Rattle.juniper_tokens.specs.declared.error.ParseFailure.TheVariants as failure
-use Rattle.juniper_tokens.specs.Errors.{Error, Fault, view_fault}
+use Rattle.juniper_tokens.specs.declared.error.LexFailure.{LexFailure}
+use Rattle.juniper_tokens.specs.Errors.{Error, Fault, view_fault, failure_of}
+use Rattle.juniper.specs.Laws.{CutsOnce, IsRefusedAtBreak}
 use Rattle.juniper.specs.Promise.{lexical_fault, Refuses, IfRefused, AnswersValue}
-use Rattle.juniper.proofs.Promises.{same_cut, same_break, cut_or_break}
 use Rattle.guide.specs.Literals.{HasNoValue}
 
-module _ {C : Type 0} (S : Scalars C Error) (source : List ℕ) where
+module _ {C : Type 0} (S : Scalars C Error) (source : List ℕ) (ends : CutsOnce source) where
   module _ (ts left : List Lexeme) (cut : Cut source ts) where
     refused : (fault : Fault) → Refuses (IsValue S true) (ValueRefusedAt S true) fault ts left → HasNoValue S source fault
     refused fault r = record {
-      none = λ value b. r.none b.front b.left value (same_cut source ts b.lexemes cut b.cut ∙ b.whole) b.means;
-      lexical = λ error at b. absurd (cut_or_break source ts error at cut b);
-      grammatical = λ others d. subst (λ (xs : List Lexeme). (rest : List Lexeme) × Refuses (IsValue S true) (ValueRefusedAt S true) fault xs rest) (same_cut source ts others cut d) (left, r);
+      none = λ value b. r.none b.front b.left value (ends.one_cut ts b.lexemes cut b.cut ∙ b.whole) b.means;
+      lexical = λ error at b. absurd (ends.never_both ts error at cut b);
+      grammatical = λ others d. subst (λ (xs : List Lexeme). (rest : List Lexeme) × Refuses (IsValue S true) (ValueRefusedAt S true) fault xs rest) (ends.one_cut ts others cut d) (left, r);
     }
 
     -- what is refused of the tokens is refused of the text
@@ -29,9 +30,22 @@ module _ {C : Type 0} (S : Scalars C Error) (source : List ℕ) where
     no_value_begins view (Err failure.Memory) a = tt
 
   -- a text that breaks begins with no value
-  pub broken : (error : LexicalError) (at : Place) (fault : Fault) → Breaks source error at → fault ≡ lexical_fault error at → HasNoValue S source fault
+  broken : (error : LexicalError) (at : Place) (fault : Fault) → Breaks source error at
+      → fault ≡ lexical_fault error at → HasNoValue S source fault
   broken error at fault b e = record {
-    none = λ value begun. cut_or_break source begun.lexemes error at begun.cut b;
-    lexical = λ other place c. let s = same_break source error other at place b c in e ∙ ap₂ lexical_fault s.0 s.1;
-    grammatical = λ lexemes c. absurd (cut_or_break source lexemes error at c b);
+    none = λ value begun. ends.never_both begun.lexemes error at begun.cut b;
+    lexical = λ other place c. let s = ends.one_break error other at place b c in e ∙ ap₂ lexical_fault s.0 s.1;
+    grammatical = λ lexemes c. absurd (ends.never_both lexemes error at c b);
   }
+
+  -- what the lexer failed for is why the text begins with no value
+  pub refused_by_lexer : {Y : Type 0} (result : Result Y ParseFailure) (failed : LexFailure)
+      → IsErrAnd result (λ e. e ≡ failure_of failed)
+      → IsRefusedAtBreak source (failure_of failed) → IfRefused result (λ fault. HasNoValue S source (view_fault fault))
+  refused_by_lexer (Ok y) failed h b = tt
+  refused_by_lexer {Y = Y} (Err e) failed h b = by_failure e (subst (IsRefusedAtBreak source) (sym h) b)
+    where
+      by_failure : (e : ParseFailure) → IsRefusedAtBreak source e
+          → IfRefused {X = Y} (Err e) (λ fault. HasNoValue S source (view_fault fault))
+      by_failure (failure.Refused fault) b = broken b.0 b.1 (view_fault fault) b.2 b.3
+      by_failure failure.Memory b = tt

@@ -11,7 +11,7 @@ use Rattle.juniper.specs.declared.ast.Selection.{Selection}
 use Rattle.juniper.specs.declared.ast.Selection.TheVariants as V
 use Rattle.juniper.specs.declared.ast.Definition.{Definition}
 use Rattle.juniper.specs.View.{view_word, view_selection, view_selections, view_field, view_definition}
-use Rattle.juniper.proofs.SelectionViews.{view_of_inline}
+use Rattle.juniper.specs.Laws.{SeesSelections}
 use Rattle.guide.specs.Fields.{texts, fields_of, fields_within, fields_among, fields_in, field_names}
 
 -- names that grow by some and then by others
@@ -35,9 +35,9 @@ module _ {S C : Type 0} (content : S → C) where
   field_above f v e = rw e refl
 
   -- the fields within an inline fragment
-  pub inline_above : (f : Spanning (InlineFragment S)) → fields_of (view_selection content (V.InlineFragment f)) ≡ fields_among (view_selections content f.item.selection_set.items)
+  pub inline_above : SeesSelections content → (f : Spanning (InlineFragment S)) → fields_of (view_selection content (V.InlineFragment f)) ≡ fields_among (view_selections content f.item.selection_set.items)
   unfolding fields_of fields_within fields_among
-  inline_above f = ap fields_of (view_of_inline content f)
+  inline_above sees f = ap fields_of (sees.inline_fragment f)
 
   -- one selection's names go over from what is left to what is noted
   pub next_selection : (old new : List Text) (x : Selection S) (xs left : List (Selection S)) → left ≡ x ∷ xs → new ≡ old ++ fields_of (view_selection content x)

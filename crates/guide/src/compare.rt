@@ -7,6 +7,7 @@ ghost use Rattle.juniper.specs.Scalars.{stated};
 ghost use Rattle.juniper.specs.Promise.{IfRefused};
 ghost use Rattle.guide.specs.Literals.{BeginsWith, HasNoValue, FirstFault, AreCompared};
 
+use juniper::laws::{lexer_failures_are_told, one_cut_or_break};
 use juniper::{
     InputValue, Lexer, ParseFailure, ParseResult, Parser, ScalarValue, parse_value_literal,
 };
@@ -31,6 +32,8 @@ fn literal<S: ScalarValue>(alloc: Global, source: &str) -> ParseResult<InputValu
     ensures value { IfOk result (λ value. BeginsWith (stated S.reading S.of_bool) (chars source.now) (view_value S.content value)) }
     ensures refused { IfRefused result (λ fault. HasNoValue (stated S.reading S.of_bool) (chars source.now) (view_fault fault)) }
 {
+    one_cut_or_break();
+    lexer_failures_are_told();
     let mut lexer = Lexer::new(alloc, source);
     let mut parser = Parser::new(&mut lexer)?;
     parse_value_literal(&mut parser, false)

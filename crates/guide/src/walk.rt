@@ -3,15 +3,16 @@ ghost use Rattle.std.specs.Prelude.{◌≡◌, ◌++◌, IfOk, OnOk, map};
 ghost use Rattle.juniper.specs.View.{view_definition, view_field, view_selection, view_selections};
 ghost use Rattle.guide.specs.Fields.{texts, fields_of, fields_among, fields_in, field_names};
 
-use juniper::{Definition, Field, Selection, Spanning};
+use juniper::laws::selections_are_seen;
+use juniper::{Definition, Field, ScalarValue, Selection, Spanning};
 use std::alloc::{AllocError, Global};
 
 /// The names of all fields of a document, in the order in which they are written.
-pub fn field_names<'a, S: Drop>(
+pub fn field_names<'a, S: ScalarValue>(
     alloc: Global,
     document: &[Definition<'a, S>],
 ) -> Result<Vec<&'a str>, AllocError>
-    ensures { IfOk result (λ names. texts names.items ≡ field_names (map (view_definition (λ s. s)) document.now)) }
+    ensures { IfOk result (λ names. texts names.items ≡ field_names (map (view_definition S.content) document.now)) }
 {
     let mut names = Vec::new(alloc);
     for definition in document {
@@ -21,11 +22,11 @@ pub fn field_names<'a, S: Drop>(
 }
 
 #[tactic(auto, unfolding(crate::specs::Fields::fields_in))]
-fn note_definition<'a, S: Drop>(
+fn note_definition<'a, S: ScalarValue>(
     names: &mut Vec<&'a str>,
     definition: &Definition<'a, S>,
 ) -> Result<(), AllocError>
-    ensures { OnOk result (texts names.new.items ≡ texts names.old.items ++ fields_in (view_definition (λ s. s) definition.now)) }
+    ensures { OnOk result (texts names.new.items ≡ texts names.old.items ++ fields_in (view_definition S.content definition.now)) }
 {
     match definition {
         Definition::Operation(operation) => note_fields(names, &operation.item.selection_set),
@@ -34,11 +35,11 @@ fn note_definition<'a, S: Drop>(
 }
 
 #[cycle(fields)]
-fn note_fields<'a, S: Drop>(
+fn note_fields<'a, S: ScalarValue>(
     names: &mut Vec<&'a str>,
     selections: &[Selection<'a, S>],
 ) -> Result<(), AllocError>
-    ensures { OnOk result (texts names.new.items ≡ texts names.old.items ++ fields_among (view_selections (λ s. s) selections.now)) }
+    ensures { OnOk result (texts names.new.items ≡ texts names.old.items ++ fields_among (view_selections S.content selections.now)) }
 {
     for selection in selections {
         note_selection(names, selection)?;
@@ -47,12 +48,13 @@ fn note_fields<'a, S: Drop>(
 }
 
 #[cycle(fields)]
-fn note_selection<'a, S: Drop>(
+fn note_selection<'a, S: ScalarValue>(
     names: &mut Vec<&'a str>,
     selection: &Selection<'a, S>,
 ) -> Result<(), AllocError>
-    ensures { OnOk result (texts names.new.items ≡ texts names.old.items ++ fields_of (view_selection (λ s. s) selection.now)) }
+    ensures { OnOk result (texts names.new.items ≡ texts names.old.items ++ fields_of (view_selection S.content selection.now)) }
 {
+    selections_are_seen::<S>();
     match selection {
         Selection::Field(field) => note_field(names, field),
         Selection::FragmentSpread(_) => Ok(()),
@@ -62,11 +64,11 @@ fn note_selection<'a, S: Drop>(
 
 // The name of a field, and behind it those of the fields within.
 #[cycle(fields)]
-fn note_field<'a, S: Drop>(
+fn note_field<'a, S: ScalarValue>(
     names: &mut Vec<&'a str>,
     field: &Spanning<Field<'a, S>>,
 ) -> Result<(), AllocError>
-    ensures { OnOk result (texts names.new.items ≡ texts names.old.items ++ fields_of (view_field (λ s. s) field.now)) }
+    ensures { OnOk result (texts names.new.items ≡ texts names.old.items ++ fields_of (view_field S.content field.now)) }
 {
     names.push(field.item.name.item)?;
     match &field.item.selection_set {

@@ -25,6 +25,7 @@ use Rattle.juniper_tokens.specs.Lexing.{LexerState, started}
 use Rattle.juniper_tokens.specs.Gathering.{IfFault}
 use Rattle.juniper.specs.Seen.{seen}
 use Rattle.juniper.specs.Definitions.{document_read}
+use Rattle.juniper.specs.Laws.{FailsAtBreak, IsRefusedAtBreak}
 use Rattle.juniper.specs.Promise.{lexical_fault, HasTree, IsRefusedAt, IsRefusal, IfRefused, AnswersAs}
 use Rattle.juniper.proofs.Stepping.{seen_took}
 use Rattle.juniper.proofs.SeenDocuments.{document_seen}
@@ -109,6 +110,10 @@ break_from_start state source error at e b = subst (λ (s : LexerState). BreaksF
 -- a lexical fault, as the parser tells it
 pub told_lexical : (fault : Spanning LexerError) → fault.span.end ≡ fault.span.start → view_fault (record { item = parse.LexerError fault.item; span = fault.span }) ≡ lexical_fault (view_lexer_error fault.item) fault.span.start
 told_lexical fault e = ap (λ (end : Place). record { error = Lexical (view_lexer_error fault.item); span = record { start = fault.span.start; end = end } }) e
+
+pub told_break : (source : List ℕ) (failed : LexFailure) → FailsAtBreak source failed → IsRefusedAtBreak source (failure_of failed)
+told_break source (lexing.Fault fault) f = (view_lexer_error fault.item, fault.span.start, f.breaks, told_lexical fault f.zero_width)
+told_break source lexing.Memory f = tt
 
 -- What a lexer that was just made failed for is why its text is refused: P is what is promised of a fault.
 module _ {Y : Type 0} (X : Type 0) (source : List ℕ) (P : Fault → Type 0) (broken : (error : LexicalError) (at : Place) (fault : Fault) → Breaks source error at → fault ≡ lexical_fault error at → P fault) where

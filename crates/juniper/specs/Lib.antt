@@ -11,3 +11,4 @@ pub mod EqualityLaws
 pub mod Named
 pub mod ReadBack
 pub mod Sources
+pub mod Laws

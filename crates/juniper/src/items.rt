@@ -47,7 +47,10 @@ impl<'a, S: Drop> Arguments<'a, S> {
 
     /// The value of the first argument of this name, to write; None where there is none of it
     /// (GraphQL specification, October 2021, section 2.6).
-    // No clause says what a write through it leaves: a loan of a part of an element that holds a reference is not followed.
+    ///
+    /// The contract says which value is lent. It does not say that a write leaves the other arguments, their number and the
+    /// names as they were.
+    // A loan of a part of an element that holds a reference is not followed, so no clause can say what stays.
     pub fn get_mut(&mut self, name: &str) -> Option<&mut Spanning<InputValue<S>>>
         ensures { option_copied_mut result ≡ first_named name.now self.old.items.items }
     {

@@ -1,13 +1,16 @@
-//! Laws of source texts and of displays: the contracts of functions that do nothing.
+//! Laws of source texts, of displays and of views: the contracts of functions that do nothing. Those of tokens, of input
+//! values and of answer values stand in modules of their own.
 ghost use Rattle.std.specs.Prelude.{◌≡◌, ◌⊎◌, ℕ, List};
 ghost use Rattle.graphql_lexical.specs.Tokens.{IsName};
 ghost use Rattle.graphql_lexical.specs.Cutting.{Lexeme, Cut};
 ghost use Rattle.graphql_lexical.specs.Alike.{AllAlike};
-ghost use Rattle.graphql_grammar.specs.Tree.{Scalars, Definition};
+ghost use Rattle.graphql_grammar.specs.Tree.{Definition};
 ghost use Rattle.graphql_grammar.specs.Unlocated.{SameDocument};
-ghost use Rattle.juniper_tokens.specs.Errors.{Error, Fault};
+ghost use Rattle.juniper_tokens.specs.Errors.{Fault, failure_of};
+ghost use Rattle.juniper_tokens.specs.declared.error.LexFailure.{LexFailure};
 ghost use Rattle.juniper_values.specs.Default.{default_content};
 ghost use Rattle.juniper_values.specs.ReadBack.{IsPlain};
+ghost use Rattle.juniper_values.specs.Scalar.{Content};
 ghost use Rattle.juniper_values.specs.Text.{Text};
 ghost use Rattle.juniper_values.specs.TypeLiteral.{type_text};
 ghost use Rattle.juniper_values.specs.View.{view};
@@ -16,20 +19,39 @@ ghost use Rattle.juniper_values.specs.declared.input_value.InputValue.{InputValu
 ghost use Rattle.juniper_values.specs.declared.type_literal.TypeModifier.{TypeModifier};
 ghost use Rattle.juniper.specs.ReadBack.{AreWritable, IsReadAsType, IsReadBack, type_of};
 ghost use Rattle.juniper.specs.Promise.{HasTree, IsRefusal};
+ghost use Rattle.juniper.specs.Laws.{CutsOnce, FailsAtBreak, IsRefusedAtBreak, SeesValues, SeesSelections};
+ghost use Rattle.juniper.specs.Scalars.{stated};
 ghost use Rattle.juniper.specs.Sources.{AreRefusedAlike};
 
+pub use juniper_answers::laws as answers;
+pub use juniper_tokens::laws as tokens;
+use juniper_values::ScalarValue;
+pub use juniper_values::laws as values;
+
+/// A source text is cut into tokens in one way, or breaks at one place with one error, and never both.
+pub fn one_cut_or_break()
+    ensures { (source : List ℕ) → CutsOnce source }
+{}
+
+/// Where a lexer fails at its source's break, a parser tells the lexical fault that stands there.
+pub fn lexer_failures_are_told()
+    ensures { (source : List ℕ) (failed : LexFailure) → FailsAtBreak source failed → IsRefusedAtBreak source (failure_of failed) }
+{}
+
 /// A source text is a document or is refused at one place with one error, and never both.
-pub fn document_or_fault<C>()
-    ensures either { (S : Scalars C Error) (source : List ℕ) → ((tree : List (Definition C)) × HasTree S source tree) ⊎ ((fault : Fault) × IsRefusal S source fault) }
-    ensures one { (S : Scalars C Error) (source : List ℕ) (f g : Fault) → IsRefusal S source f → IsRefusal S source g → f ≡ g }
-    ensures never_both { (S : Scalars C Error) (source : List ℕ) (tree : List (Definition C)) (fault : Fault) → HasTree S source tree → IsRefusal S source fault → ⊥ }
+pub fn document_or_fault<S: ScalarValue>()
+    ensures either { (source : List ℕ) → ((tree : List (Definition Content)) × HasTree (stated S.reading S.of_bool) source tree) ⊎ ((fault : Fault) × IsRefusal (stated S.reading S.of_bool) source fault) }
+    ensures one { (source : List ℕ) (f g : Fault) → IsRefusal (stated S.reading S.of_bool) source f → IsRefusal (stated S.reading S.of_bool) source g → f ≡ g }
+    ensures never_both { (source : List ℕ) (tree : List (Definition Content)) (fault : Fault) → HasTree (stated S.reading S.of_bool) source tree → IsRefusal (stated S.reading S.of_bool) source fault → ⊥ }
 {}
 
 /// Two source texts whose tokens are alike, in kinds and texts, both are documents, whose trees differ in spans alone,
 /// or are both refused at the same token's number with the same error.
-pub fn alike_texts<C>()
-    ensures accepted { (S : Scalars C Error) (a b : List ℕ) (ts us : List Lexeme) (x : List (Definition C)) → Cut a ts → Cut b us → AllAlike ts us → HasTree S a x → (y : List (Definition C)) × HasTree S b y × SameDocument x y }
-    ensures refused { (S : Scalars C Error) (a b : List ℕ) (ts us : List Lexeme) (f : Fault) → Cut a ts → Cut b us → AllAlike ts us → IsRefusal S a f → (g : Fault) × IsRefusal S b g × AreRefusedAlike S ts us f g }
+pub fn alike_texts<S: ScalarValue>()
+    ensures accepted { (a b : List ℕ) (ts us : List Lexeme) (x : List (Definition Content)) → Cut a ts → Cut b us → AllAlike ts us
+        → HasTree (stated S.reading S.of_bool) a x → (y : List (Definition Content)) × HasTree (stated S.reading S.of_bool) b y × SameDocument x y }
+    ensures refused { (a b : List ℕ) (ts us : List Lexeme) (f : Fault) → Cut a ts → Cut b us → AllAlike ts us
+        → IsRefusal (stated S.reading S.of_bool) a f → (g : Fault) × IsRefusal (stated S.reading S.of_bool) b g × AreRefusedAlike (stated S.reading S.of_bool) ts us f g }
 {}
 
 /// The display of a type is read back as that type, where its name is a Name, no `!` stands directly upon another, and
@@ -41,4 +63,14 @@ pub fn type_display_is_read_back()
 /// The display of a plain value of default scalars is read back as that value, but for its places.
 pub fn value_display_is_read_back()
     ensures { (v : InputValue DefaultScalarValue) → IsPlain (view default_content v) → IsReadBack v }
+{}
+
+/// What a value of a tree is seen as, variant by variant: a scalar by its content.
+pub fn values_are_seen<S: ScalarValue>()
+    ensures { SeesValues S.content }
+{}
+
+/// What a field and an inline fragment are seen as among the selections.
+pub fn selections_are_seen<S: ScalarValue>()
+    ensures { SeesSelections S.content }
 {}

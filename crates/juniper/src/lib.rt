@@ -32,8 +32,8 @@ pub use juniper_tokens::{
 };
 pub use juniper_values::{
     DefaultScalarValue, FromInputValue, FromScalarValue, InputValue, NameText, ParseScalarResult,
-    ParseScalarValue, ReadFailure, Scalar, ScalarValue, ToScalarValue, Type, TypeModifier,
-    TypeModifiers, Variables, WrongInputScalarTypeError, scalar_from_str,
+    ParseScalarValue, ReadFailure, Scalar, ScalarValue, ToScalarValue, Type, TypeLiteral,
+    TypeModifier, TypeModifiers, Variables, WrongInputScalarTypeError, scalar_from_str,
 };
 pub use types::parse_type;
 pub use value::parse_value_literal;

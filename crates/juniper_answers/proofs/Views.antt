@@ -1,6 +1,6 @@
 -- A value, level by level.
 use Rattle.std.proofs.Common.{◌≡◌, ap, ◌∙◌, Global, Vec, rules}
-use Rattle.juniper_answers.specs.Data.{scalar, list, object}
+use Rattle.juniper_answers.specs.Data.{null, scalar, list, object}
 use Rattle.juniper_answers.specs.View.{view, items_view, fields_view, fields_of, pairs}
 use Rattle.juniper_answers.specs.formers.entries.Entries.{zip_map}
 use Rattle.juniper_answers.specs.declared.value.Object.{Object}
@@ -8,6 +8,9 @@ use Rattle.juniper_answers.specs.declared.value.Value.{Value, the_lemmas}
 use Rattle.juniper_answers.specs.declared.value.Value as V
 
 module _ {S C : Type 0} (content : S → C) where
+  pub view-Null : view content V.Null ≡ null
+  view-Null = search (rules, the_lemmas)
+
   pub view-List : (v : Vec (Value S) Global) → view content (V.List v) ≡ list (items_view content v.items)
   view-List v = search (rules, the_lemmas)
 

@@ -1,14 +1,9 @@
 -- Names.
-use Rattle.std.specs.Prelude.{ℕ, Bool, false, ◌&&◌, List, [], ◌∷◌, string_bytes}
+use Rattle.std.specs.Prelude.{ℕ, Bool, false, ◌&&◌, List, [], ◌∷◌}
 use Rattle.std.specs.List.{list_all}
 use Rattle.graphql_lexical.specs.Characters.{is_name_start, is_name_character}
-use Rattle.juniper_answers.specs.declared.name.Name.{Name}
 
 -- a letter or `_`, and then letters, digits and `_`
 abbrev pub is_name : List ℕ → Bool
 is_name [] = false
 is_name (c ∷ cs) = is_name_start c && list_all is_name_character (c ∷ cs)
-
--- the bytes of a name's text
-abbrev pub text_of_name : Name → List ℕ
-text_of_name name = string_bytes name.0

@@ -5,12 +5,13 @@ ghost use Rattle.std.specs.String.{string_cmp};
 ghost use Rattle.std.specs.Map.Iter.{deref_pair};
 ghost use Rattle.std.specs.declared.alloc.Global.{Global};
 ghost use Rattle.juniper_values.specs.Laws.{IsEqualityLike};
-ghost use Rattle.juniper_answers.specs.Data.{Data};
+ghost use Rattle.juniper_answers.specs.Copies.{Copies};
 ghost use Rattle.juniper_answers.specs.Input.{as_input};
 ghost use Rattle.juniper_answers.specs.Laws.{IsOneName, IsPlainInput, ComparesParts, TellsKindsApart, ShowsAll};
-ghost use Rattle.juniper_answers.specs.Names.{is_name, text_of_name};
+ghost use Rattle.juniper_answers.specs.Names.{is_name};
+ghost use Rattle.juniper_answers.specs.NameTexts.{text_of_name};
 ghost use Rattle.juniper_answers.specs.Same.{same_entries};
-ghost use Rattle.juniper_answers.specs.View.{pairs};
+ghost use Rattle.juniper_answers.specs.View.{view, pairs};
 ghost use Rattle.juniper_answers.specs.declared.name.Name.{Name};
 ghost use Rattle.juniper_answers.specs.declared.name.NameParseError.{NameParseError};
 ghost use Rattle.juniper_answers.specs.declared.value.Object.{Object};
@@ -18,6 +19,7 @@ ghost use Rattle.juniper_answers.specs.declared.value.Value.{Value};
 
 use crate::name::{Name, NameParseError};
 use crate::value::{Fields, IntoFields, Object, Value};
+use juniper_values::ScalarValue;
 use std::hash::Hash;
 
 /// A text is a name exactly where it is one token, a Name with this very text.
@@ -46,9 +48,17 @@ pub fn objects_are_compared_by_fields<S: Eq>()
     ensures { (a b : Object S) → ⟦<Object<S> as PartialEq>⟧.eq a b ≡ same_entries ⟦<Value<S> as PartialEq>⟧.eq (pairs a) (pairs b) }
 {}
 
+/// Values of the same data, with scalars by their contents, are equal. So a copy of a value equals its source.
+pub fn equal_data_are_equal<S: ScalarValue>()
+    ensures data { (a b : Value S) → view S.content a ≡ view S.content b → ⟦<Value<S> as PartialEq>⟧.eq a b ≡ true }
+    ensures copies { (a b : Value S) → Copies (λ s t. S.content t ≡ S.content s) a b → ⟦<Value<S> as PartialEq>⟧.eq a b ≡ true }
+{
+    values_are_compared_by_parts::<S>();
+}
+
 /// The input value of an answer value has no enum, no variable, and unlocated spans only.
-pub fn input_values_are_plain<C>()
-    ensures { (value : Data C) → IsPlainInput (as_input value) }
+pub fn input_values_are_plain<S: ScalarValue>()
+    ensures { (value : Value S) → IsPlainInput (as_input (view S.content value)) }
 {}
 
 /// The orders of names agree with equality, and with one another: names are compared by their texts.
@@ -56,7 +66,7 @@ pub fn names_agree()
     ensures equal { (a b : Name) → ⟦<Name as PartialEq>⟧.eq a b ≡ is_eq (⟦<Name as Ord>⟧.cmp a b) }
     ensures partial { (a b : Name) → ⟦<Name as PartialOrd>⟧.partial_cmp a b ≡ Some (⟦<Name as Ord>⟧.cmp a b) }
     ensures texts { (a b : Name) → IsTrue (⟦<Name as PartialEq>⟧.eq a b) ↔ (text_of_name a ≡ text_of_name b) }
-    ensures order { (a b : Name) → ⟦<Name as Ord>⟧.cmp a b ≡ string_cmp a.0 b.0 }
+    ensures order { (a b : Name) → ⟦<Name as Ord>⟧.cmp a b ≡ string_cmp a.text b.text }
 {}
 
 /// The orders of refusals of names agree with equality, and with one another: they are compared by their texts.

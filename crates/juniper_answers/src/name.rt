@@ -3,7 +3,7 @@ ghost use Rattle.std.specs.Prelude.{◌≡◌, false, true, IfOk, OnOk, IfErr, s
 ghost use Rattle.std.specs.List.{list_all};
 ghost use Rattle.std.specs.Str.{chars};
 ghost use Rattle.graphql_lexical.specs.Characters.{is_name_start, is_name_character};
-ghost use Rattle.juniper_answers.specs.Names.{is_name, text_of_name};
+ghost use Rattle.juniper_answers.specs.Names.{is_name};
 ghost use Rattle.juniper_answers.specs.NameFailures.{IsRefusalOf};
 
 use std::alloc::{AllocError, Global};
@@ -11,9 +11,13 @@ use std::error::Error;
 use std::fmt;
 
 /// A name: an ASCII letter or `_`, and then ASCII letters, digits and `_`
-/// (GraphQL specification, October 2021, section 2.1.9). Names are compared and ordered by their texts.
+/// (GraphQL specification, October 2021, section 2.1.9). Whoever holds one knows that its text is so. Names are compared and
+/// ordered by their texts.
 #[derive(PartialEq, Eq, PartialOrd, Ord, Hash, Debug, Drop)]
-pub struct Name(String);
+pub struct Name {
+    text: String,
+    pub ghost valid: { is_name (chars (string_bytes text)) ≡ true },
+}
 
 /// Why a text is no name, as a text. Two are compared and ordered by their texts.
 #[derive(PartialEq, Eq, PartialOrd, Ord, Debug, Drop)]
@@ -57,6 +61,8 @@ fn all_continue(text: &str) -> bool
 }
 
 impl Name {
+    ghost use Rattle.juniper_answers.specs.NameTexts.{text_of_name};
+
     /// Whether the text is a name.
     pub fn is_valid(input: &str) -> bool
         ensures { result ≡ is_name (chars input.now) }
@@ -79,16 +85,17 @@ impl Name {
             return Err(refusal(alloc, input));
         }
         match String::from_str(alloc, input) {
-            Ok(text) => Ok(Name(text)),
+            Ok(text) => Ok(Name { text }),
             Err(AllocError) => Err(NameFailure::Memory),
         }
     }
 
-    /// The name's text.
+    /// The name's text, which is a name.
     pub fn as_str(&self) -> &str
-        ensures { result.now ≡ text_of_name self.now }
+        ensures text { result.now ≡ text_of_name self.now }
+        ensures valid { is_name (chars result.now) ≡ true }
     {
-        self.0.as_str()
+        self.text.as_str()
     }
 }
 

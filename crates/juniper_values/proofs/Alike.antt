@@ -12,7 +12,7 @@ use Rattle.juniper_values.specs.Equality.{same_span, same_value, same_items, sam
 use Rattle.juniper_values.specs.Same.{Wanted, field_count, is_found, all_found, is_wanted, all_wanted, same_but_place, same_items_but_place, wanted}
 use Rattle.juniper_values.specs.Laws.{HasField, AreAmong, AreSameFields, IsEqualityLike}
 
-same_key : (k l : Text) → same_text k l ≡ true → k ≡ l
+pub same_key : (k l : Text) → same_text k l ≡ true → k ≡ l
 same_key k l = (bytes_eq-Decides k l).0
 
 pub text_equal : (k l : Text) → k ≡ l → same_text k l ≡ true

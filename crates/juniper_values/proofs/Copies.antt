@@ -1,13 +1,15 @@
 -- The tree of a value by its scalars' contents is its tree by its scalars, each with its content in its place.
-use Rattle.std.proofs.Common.{◌≡◌, refl, ap, ap₂, sym, subst, ◌∙◌, Bool, true, ◌&&◌, List, [], ◌∷◌, ◌++◌, map, String, Global}
+use Rattle.std.proofs.Common.{◌≡◌, ◌==◌, ℕ, refl, ap, ap₂, sym, subst, ◌∙◌, true≢false, Bool, true, ◌&&◌, List, [], ◌∷◌, ◌++◌, map, String, Global}
 use Rattle.std.specs.Prelude.{codes}
+use Rattle.std.specs.Cmp.{first_so, second_so}
 use Rattle.std.proofs.lemmas.Bool.{and_from}
-use Rattle.graphql_lexical.specs.Place.{Span}
+use Rattle.std.proofs.lemmas.Bool.Decides.{Decides-eqb}
+use Rattle.graphql_lexical.specs.Place.{Place, Span}
 use Rattle.juniper_values.specs.Text.{Text, same_text}
 use Rattle.juniper_values.specs.Display.{joined, value_text, item_texts, field_texts}
-use Rattle.juniper_values.specs.Equality.{same_span, same_value, same_items, same_fields}
+use Rattle.juniper_values.specs.Equality.{same_place, same_span, same_value, same_items, same_fields}
 use Rattle.juniper_values.specs.EqualityLaws.{same_span-equiv}
-use Rattle.juniper_values.proofs.Alike.{text_equal}
+use Rattle.juniper_values.proofs.Alike.{same_key, text_equal}
 use Rattle.juniper_tokens.specs.declared.span.Spanning.{Spanning}
 use Rattle.juniper_tokens.specs.Spans.{view_span}
 use Rattle.juniper_values.specs.View.{view, view_step, items_of, fields_of, text_of}
@@ -124,3 +126,68 @@ module _ {S C : Type 0} (f : S → C) (eq : S → S → Bool) (same : (a b : S) 
 
   pub copies_equal : (a b : InputValue S) → view f a ≡ view f b → same_value eq (view (λ s. s) a) (view (λ s. s) b) ≡ true
   copies_equal a b e = equal (view (λ s. s) a) (view (λ s. s) b) (sym (view-replaced f a) ∙ e ∙ view-replaced f b)
+
+-- ---- equal values have scalars of the same contents
+
+same_number : (m n : ℕ) → (m == n) ≡ true → m ≡ n
+same_number m n = (Decides-eqb m n).0
+
+place_is : (p q : Place) → same_place p q ≡ true → p ≡ q
+place_is p q e =
+    let rest = second_so (p.index == q.index) _ e in
+    let i = same_number p.index q.index (first_so _ _ e) in
+    let l = same_number p.line q.line (first_so _ _ rest) in
+    let c = same_number p.column q.column (second_so (p.line == q.line) _ rest) in
+    λ k. record { index = i k; line = l k; column = c k }
+
+span_is : (s t : Span) → same_span s t ≡ true → s ≡ t
+span_is s t e =
+    let from = place_is s.start t.start (first_so _ _ e) in
+    let to = place_is s.end t.end (second_so (same_place s.start t.start) _ e) in
+    λ k. record { start = from k; end = to k }
+
+module _ {S C : Type 0} (f : S → C) (eq : S → S → Bool) (told : (a b : S) → eq a b ≡ true → f a ≡ f b) where
+  mutual
+    pub same_contents : (v w : Value S) → same_value eq v w ≡ true → replaced f v ≡ replaced f w
+    same_contents null null e = refl
+    same_contents null w e = absurd (true≢false (sym e))
+    same_contents (scalar a) (scalar b) e = ap scalar (told a b e)
+    same_contents (scalar a) w e = absurd (true≢false (sym e))
+    same_contents (enum_value a) (enum_value b) e = ap enum_value (same_key a b e)
+    same_contents (enum_value a) w e = absurd (true≢false (sym e))
+    same_contents (variable a) (variable b) e = ap variable (same_key a b e)
+    same_contents (variable a) w e = absurd (true≢false (sym e))
+    same_contents (list xs) (list ys) e = ap list (same_item_contents xs ys e)
+    same_contents (list xs) w e = absurd (true≢false (sym e))
+    same_contents (object fs) (object gs) e = ap object (same_field_contents fs gs e)
+    same_contents (object fs) w e = absurd (true≢false (sym e))
+
+    same_item_contents : (xs ys : Items S) → same_items eq xs ys ≡ true → replaced_items f xs ≡ replaced_items f ys
+    same_item_contents no_items no_items e = refl
+    same_item_contents no_items ys e = absurd (true≢false (sym e))
+    same_item_contents (item v s xs) (item w t ys) e =
+        let here = first_so (same_value eq v w && same_span s t) _ e in
+        let value = same_contents v w (first_so _ _ here) in
+        let span = span_is s t (second_so (same_value eq v w) _ here) in
+        let rest = same_item_contents xs ys (second_so (same_value eq v w && same_span s t) _ e) in
+        λ i. item (value i) (span i) (rest i)
+    same_item_contents (item v s xs) ys e = absurd (true≢false (sym e))
+
+    same_field_contents : (fs gs : Fields S) → same_fields eq fs gs ≡ true → replaced_fields f fs ≡ replaced_fields f gs
+    same_field_contents no_fields no_fields e = refl
+    same_field_contents no_fields gs e = absurd (true≢false (sym e))
+    same_field_contents (field k a v s fs) (field l b w t gs) e =
+        let here = first_so ((same_text k l && same_span a b) && (same_value eq v w && same_span s t)) _ e in
+        let names = first_so (same_text k l && same_span a b) _ here in
+        let values = second_so (same_text k l && same_span a b) _ here in
+        let key = same_key k l (first_so _ _ names) in
+        let key_span = span_is a b (second_so (same_text k l) _ names) in
+        let value = same_contents v w (first_so _ _ values) in
+        let span = span_is s t (second_so (same_value eq v w) _ values) in
+        let rest = same_field_contents fs gs (second_so ((same_text k l && same_span a b) && (same_value eq v w && same_span s t)) _ e) in
+        λ i. field (key i) (key_span i) (value i) (span i) (rest i)
+    same_field_contents (field k a v s fs) gs e = absurd (true≢false (sym e))
+
+  pub equal_contents : (a b : InputValue S) → same_value eq (view (λ s. s) a) (view (λ s. s) b) ≡ true
+      → view f a ≡ view f b
+  equal_contents a b e = view-replaced f a ∙ same_contents (view (λ s. s) a) (view (λ s. s) b) e ∙ sym (view-replaced f b)

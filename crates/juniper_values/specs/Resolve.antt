@@ -1,7 +1,9 @@
 -- Variables replaced by their values.
-use Rattle.std.specs.Prelude.{Option, Some, None}
+use Rattle.std.specs.Prelude.{◌≡◌, Bool, true, Option, Some, None}
+use Rattle.std.specs.Option.{option_eq}
 use Rattle.graphql_lexical.specs.Place.{Span}
 use Rattle.juniper_values.specs.Text.{Text}
+use Rattle.juniper_values.specs.Equality.{same_value}
 use Rattle.juniper_values.specs.Value.{Value, null, scalar, enum_value, variable, list, object, Items, no_items, item, Fields, no_fields, field}
 
 -- the value of each variable, where there is one
@@ -35,3 +37,21 @@ abbrev mutual
   pub resolve_fields : {C : Type 0} → Values C → Fields C → Fields C
   resolve_fields m no_fields = no_fields
   resolve_fields m (field k s v t fs) = field_if k s (resolve m v) t (resolve_fields m fs)
+
+-- What a value may become, scalar by scalar: a scalar of its own is itself, and what takes the place of a variable equals
+-- the variable's value, scalars by `eq`.
+module _ {S : Type 0} (eq : S → S → Bool) (m : Values S) where
+  abbrev mutual
+    pub Becomes : Value S → Option (Value S) → Type 0
+    Becomes (variable t) o = option_eq (same_value eq) (m t) o ≡ true
+    Becomes (list xs) o = (ys : Items S) × (o ≡ Some (list ys)) × ItemsBecome xs ys
+    Becomes (object fs) o = (gs : Fields S) × (o ≡ Some (object gs)) × FieldsBecome fs gs
+    Becomes v o = o ≡ Some v
+
+    pub ItemsBecome : Items S → Items S → Type 0
+    ItemsBecome no_items ys = ys ≡ no_items
+    ItemsBecome (item v s xs) ys = (o : Option (Value S)) × (rest : Items S) × (ys ≡ item (or_null o) s rest) × Becomes v o × ItemsBecome xs rest
+
+    pub FieldsBecome : Fields S → Fields S → Type 0
+    FieldsBecome no_fields gs = gs ≡ no_fields
+    FieldsBecome (field k s v t fs) gs = (o : Option (Value S)) × (rest : Fields S) × (gs ≡ field_if k s o t rest) × Becomes v o × FieldsBecome fs rest

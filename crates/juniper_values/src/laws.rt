@@ -20,6 +20,7 @@ ghost use Rattle.juniper_values.specs.declared.input_value.InputValue.{InputValu
 ghost use Rattle.juniper_values.specs.declared.type_literal.TypeModifier.{TypeModifier};
 
 use crate::scalar::ScalarValue;
+use crate::type_literal::NameText;
 
 /// The default scalar reads a String as what its text stands for, unit by unit.
 pub fn strings_are_unescaped()
@@ -41,25 +42,27 @@ pub fn scalar_copies_are_equal<S: ScalarValue>()
     ensures { (a b : S) → S.content a ≡ S.content b → S.eq a b ≡ true }
 {}
 
-/// Values whose scalars have the same contents are equal. So a copy of a value equals its source.
+/// Values are equal exactly where their scalars have the same contents and all else is the same. So a copy of a value equals
+/// its source.
 pub fn value_copies_are_equal<S: ScalarValue>()
-    ensures { (a b : InputValue S) → view S.content a ≡ view S.content b → same_value S.eq (view (λ s. s) a) (view (λ s. s) b) ≡ true }
+    ensures { (a b : InputValue S) → (view S.content a ≡ view S.content b) ↔ (same_value S.eq (view (λ s. s) a) (view (λ s. s) b) ≡ true) }
 {}
 
 /// Where no variable's value has a variable, resolving leaves no variable, and leaves nothing only of a variable without a
 /// value.
-pub fn resolving_removes_variables<C>()
-    ensures { (m : Values C) → HaveNoVariables m → (v : Value C) → RemovesVariables m v }
+pub fn resolving_removes_variables<S: ScalarValue>()
+    ensures { (m : Values Content) → HaveNoVariables m → (v : InputValue S) → RemovesVariables m (view S.content v) }
 {}
 
 /// Resolving leaves a value without variables as it is.
-pub fn resolving_keeps_values_without_variables<C>()
-    ensures { (m : Values C) (v : Value C) → HasNoVariable v → resolve m v ≡ Some v }
+pub fn resolving_keeps_values_without_variables<S: ScalarValue>()
+    ensures { (m : Values Content) (v : InputValue S) → HasNoVariable (view S.content v) → resolve m (view S.content v) ≡ Some (view S.content v) }
 {}
 
 /// A value refers to no variables exactly where it has none.
-pub fn no_variables<C>()
-    ensures { (v : Value C) → IsEmptyWithoutVariables v }
+pub fn no_variables<S: ScalarValue>()
+    ensures by_scalar { (v : InputValue S) → IsEmptyWithoutVariables (view (λ s. s) v) }
+    ensures by_content { (v : InputValue S) → IsEmptyWithoutVariables (view S.content v) }
 {}
 
 /// Equality of values whatever their places is reflexive, symmetric and transitive, as equality of their scalars is.
@@ -84,8 +87,8 @@ pub fn wrapping()
 {}
 
 /// Types are equal exactly where their names' texts and their modifiers are.
-pub fn types_are_compared<N>()
-    ensures { (text_of : N → Text) (a b : TypeShape N) → (same_type text_of a b ≡ true) ↔ ((text_of a.name ≡ text_of b.name) × (a.modifiers ≡ b.modifiers)) }
+pub fn types_are_compared<N: NameText>()
+    ensures { (a b : TypeShape N) → (same_type N.name_text a b ≡ true) ↔ ((N.name_text a.name ≡ N.name_text b.name) × (a.modifiers ≡ b.modifiers)) }
 {}
 
 /// The text of a type whose name is a Name is cut into these tokens.

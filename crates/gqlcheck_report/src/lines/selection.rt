@@ -6,6 +6,7 @@ ghost use Rattle.gqlcheck_report.specs.Lines.{selection_lines, selections_lines,
 
 use crate::lines::directives::{write_directives, write_optional_arguments};
 use crate::lines::write::{LineKind, write_line_of, write_named_line, write_optional_word};
+use juniper::laws::selections_are_seen;
 use juniper::{Field, FragmentSpread, InlineFragment, ScalarValue, Selection, Spanning};
 use std::alloc::AllocError;
 
@@ -16,6 +17,7 @@ fn write_selection<S: ScalarValue>(
 ) -> Result<(), AllocError>
     ensures { OnOk result (string_bytes out.new ≡ string_bytes out.old ++ encode_utf8_all (selection_lines (view_selection S.content selection.now))) }
 {
+    selections_are_seen::<S>();
     match selection {
         Selection::Field(field) => write_field(out, field),
         Selection::FragmentSpread(spread) => write_spread(out, spread),

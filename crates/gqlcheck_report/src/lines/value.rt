@@ -5,6 +5,7 @@ ghost use Rattle.juniper.specs.View.{view_value, view_object_field};
 ghost use Rattle.gqlcheck_report.specs.Lines.{value_lines, items_lines, fields_lines};
 
 use crate::lines::write::{LineKind, write_line, write_named_line};
+use juniper::laws::values_are_seen;
 use juniper::{InputValue, ScalarValue, Spanning};
 use std::alloc::AllocError;
 
@@ -16,6 +17,7 @@ pub(crate) fn write_value<S: ScalarValue>(
 ) -> Result<(), AllocError>
     ensures { OnOk result (string_bytes out.new ≡ string_bytes out.old ++ encode_utf8_all (value_lines (view_value S.content value.now))) }
 {
+    values_are_seen::<S>();
     let span = &value.span;
     match &value.item {
         InputValue::Null => write_line(out, LineKind::Null, span),

@@ -1,6 +1,8 @@
 //! Variables replaced by their values.
-ghost use Rattle.std.specs.Prelude.{◌≡◌, IfOk, option_map};
-ghost use Rattle.juniper_values.specs.Resolve.{resolve, resolve_items, resolve_fields, or_null};
+ghost use Rattle.std.specs.Prelude.{◌≡◌, IfOk, option_map, true};
+ghost use Rattle.std.specs.Option.{option_eq};
+ghost use Rattle.juniper_values.specs.Equality.{same_value};
+ghost use Rattle.juniper_values.specs.Resolve.{resolve, Becomes, ItemsBecome, FieldsBecome};
 ghost use Rattle.juniper_values.specs.View.{view, text_of, view_items, view_fields, values_in};
 
 use crate::input_value::InputValue;
@@ -13,7 +15,8 @@ use std::collections::HashMap;
 pub type Variables<S> = HashMap<String, InputValue<S>>;
 
 impl<S: ScalarValue> InputValue<S> {
-    /// The value with each variable replaced by its value, which is left as it is.
+    /// The value with each variable replaced by a copy of its value, which is left as it is. What is no variable is moved: its
+    /// scalars are the given ones.
     ///
     /// A variable that has none becomes nothing: a value that is it gives `None`, an item of a list becomes `null`, and
     /// a field of an object is left out. The value is dropped where memory ran out.
@@ -22,8 +25,10 @@ impl<S: ScalarValue> InputValue<S> {
         alloc: Global,
         values: &Variables<S>,
     ) -> Result<Option<Self>, AllocError>
-        ensures { IfOk result
+        ensures resolved { IfOk result
             (λ o. option_map (view S.content) o ≡ resolve (values_in S.content values.now) (view S.content self)) }
+        ensures moved { IfOk result
+            (λ o. Becomes S.eq (values_in (λ s. s) values.now) (view (λ s. s) self) (option_map (view (λ s. s)) o)) }
     {
         constant(self, alloc, values)
     }
@@ -36,7 +41,7 @@ fn constant<S: ScalarValue>(
     values: &Variables<S>,
 ) -> Result<Option<InputValue<S>>, AllocError>
     ensures { IfOk result
-        (λ o. option_map (view S.content) o ≡ resolve (values_in S.content values.now) (view S.content value)) }
+        (λ o. Becomes S.eq (values_in (λ s. s) values.now) (view (λ s. s) value) (option_map (view (λ s. s)) o)) }
 {
     match value {
         InputValue::Null => Ok(Some(InputValue::Null)),
@@ -58,7 +63,7 @@ fn value_of<S: ScalarValue>(
     values: &Variables<S>,
 ) -> Result<Option<InputValue<S>>, AllocError>
     ensures { IfOk result
-        (λ o. option_map (view S.content) o ≡ values_in S.content values.now (text_of name)) }
+        (λ o. option_eq (same_value S.eq) (values_in (λ s. s) values.now (text_of name)) (option_map (view (λ s. s)) o) ≡ true) }
 {
     match values.get(name.as_str()) {
         Some(value) => Ok(Some(value.try_clone(alloc)?)),
@@ -73,8 +78,7 @@ fn constant_items<S: ScalarValue>(
     values: &Variables<S>,
 ) -> Result<Vec<Spanning<InputValue<S>>>, AllocError>
     ensures { IfOk result
-        (λ v. view_items S.content v.items
-        ≡ resolve_items (values_in S.content values.now) (view_items S.content items.items)) }
+        (λ v. ItemsBecome S.eq (values_in (λ s. s) values.now) (view_items (λ s. s) items.items) (view_items (λ s. s) v.items)) }
 {
     let mut done = Vec::new(alloc);
     for item in items {
@@ -92,8 +96,7 @@ fn constant_fields<S: ScalarValue>(
     values: &Variables<S>,
 ) -> Result<Vec<(Spanning<String>, Spanning<InputValue<S>>)>, AllocError>
     ensures { IfOk result
-        (λ v. view_fields S.content v.items
-        ≡ resolve_fields (values_in S.content values.now) (view_fields S.content fields.items)) }
+        (λ v. FieldsBecome S.eq (values_in (λ s. s) values.now) (view_fields (λ s. s) fields.items) (view_fields (λ s. s) v.items)) }
 {
     let mut done = Vec::new(alloc);
     for field in fields {

@@ -1,18 +1,27 @@
-use Rattle.std.specs.Prelude.{List}
+use Rattle.std.proofs.Common.{List, Err, subst}
 use Rattle.std.specs.Str.{chars}
-use Rattle.graphql_lexical.specs.Cutting.{Lexeme}
+use Rattle.graphql_lexical.specs.Cutting.{Lexeme, CutFrom, BreaksFrom}
+use Rattle.juniper_tokens.specs.Errors.{view_lexer_error}
+use Rattle.juniper_tokens.specs.Gathering.{IfFault}
+use Rattle.juniper_tokens.specs.Lexing.{LexerState}
 use Rattle.juniper.specs.View.{view_value}
 use Rattle.juniper.specs.Scalars.{stated}
-use Rattle.juniper.proofs.Promises.{cut_from_start, refused_by_lexer}
-use Rattle.guide.specs.Literals.{HasNoValue}
-use Rattle.guide.proofs.Fronts.{no_value_begins, broken}
+use Rattle.guide.proofs.Fronts.{no_value_begins, refused_by_lexer}
 use Rattle.guide.proofs.compare.literal.Goals as goal
 
 pub returns-clause-refused : goal.returns-clause-refused
 returns-clause-refused g c =
-    no_value_begins (stated g.S.ParseScalarValue.reading g.S.ScalarValue.of_bool) (chars c.args.source.now) c.in_ok-parser.parser c.parse_value_literal.new.parser (cut_from_start _ _ _ c.new-lexer.ensures c.in_ok-parser.ensures.tokens)
+    let source = chars c.args.source.now in
+    no_value_begins (stated g.S.ParseScalarValue.reading g.S.ScalarValue.of_bool) source (c.one_cut_or_break.ensures source) c.in_ok-parser.parser c.parse_value_literal.new.parser
+    (subst (λ (s : LexerState). CutFrom s.source s.index c.in_ok-parser.parser) c.new-lexer.ensures c.in_ok-parser.ensures.tokens)
     (view_value g.S.ParseScalarValue.content) c.parse_value_literal.result c.parse_value_literal.ensures.answers
 
 pub returns-in_err-parser-clause-refused : goal.returns-in_err-parser-clause-refused
 returns-in_err-parser-clause-refused g c =
-    refused_by_lexer (List Lexeme) (chars c.args.source.now) (HasNoValue (stated g.S.ParseScalarValue.reading g.S.ScalarValue.of_bool) (chars c.args.source.now)) (broken (stated g.S.ParseScalarValue.reading g.S.ScalarValue.of_bool) (chars c.args.source.now)) _ c.in_err-parser.field-0.0 _ c.new-lexer.ensures c.in_err-parser.ensures.fault c.in_err-parser.ensures.zero_width c.from_residual.ensures.1
+    let source = chars c.args.source.now in
+    let failed = c.in_err-parser.field-0.0 in
+    let told = c.lexer_failures_are_told.ensures source failed (record {
+      breaks = subst (λ (s : LexerState). IfFault {X = List Lexeme} (Err failed) (λ fault. BreaksFrom s.source s.index (view_lexer_error fault.item) fault.span.start)) c.new-lexer.ensures c.in_err-parser.ensures.fault;
+      zero_width = c.in_err-parser.ensures.zero_width;
+    }) in
+    refused_by_lexer (stated g.S.ParseScalarValue.reading g.S.ScalarValue.of_bool) source (c.one_cut_or_break.ensures source) _ failed c.from_residual.ensures.1 told

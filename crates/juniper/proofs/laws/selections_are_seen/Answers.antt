@@ -1,0 +1,8 @@
+use Rattle.juniper.proofs.SelectionViews.{view_of_field, view_of_inline}
+use Rattle.juniper.proofs.laws.selections_are_seen.Goals as goal
+
+pub returns : goal.returns
+returns g c = record {
+  field = view_of_field g.S.ParseScalarValue.content;
+  inline_fragment = view_of_inline g.S.ParseScalarValue.content;
+}

@@ -1,0 +1,54 @@
+-- What the laws of this crate say of views, of cuts and of lexical faults.
+use Rattle.std.specs.Prelude.{◌≡◌, ℕ, map, List, String, Vec, Err}
+use Rattle.std.specs.declared.alloc.Global.{Global}
+use Rattle.graphql_lexical.specs.Place.{Place, Span}
+use Rattle.graphql_lexical.specs.Kinds.{LexicalError}
+use Rattle.graphql_lexical.specs.Cutting.{Lexeme, Cut, Breaks}
+use Rattle.graphql_grammar.specs.Reading.{items_of, fields_of}
+use Rattle.graphql_grammar.specs.Tree.{Null, Scalar, Enum, Variable, ListOf, Object}
+use Rattle.juniper_tokens.specs.declared.error.LexFailure.{LexFailure}
+use Rattle.juniper_tokens.specs.declared.error.ParseFailure.{ParseFailure}
+use Rattle.juniper_tokens.specs.declared.error.ParseFailure.TheVariants.{Refused, Memory}
+use Rattle.juniper_tokens.specs.declared.span.Spanning.{Spanning}
+use Rattle.juniper_tokens.specs.Errors.{view_fault, view_lexer_error}
+use Rattle.juniper_tokens.specs.Gathering.{IfFault}
+use Rattle.juniper_values.specs.declared.input_value.InputValue.{InputValue}
+use Rattle.juniper_values.specs.declared.input_value.InputValue.TheVariants as value
+use Rattle.juniper.specs.declared.ast.Field.{Field}
+use Rattle.juniper.specs.declared.ast.InlineFragment.{InlineFragment}
+use Rattle.juniper.specs.declared.ast.Selection.TheVariants as selection
+use Rattle.juniper.specs.Promise.{lexical_fault}
+use Rattle.juniper.specs.View.{text_of, view_at, view_value, view_object_field, view_selection, view_field, view_inline}
+
+module _ {S C : Type 0} (content : S → C) where
+  -- what a value is seen as in its place, variant by variant
+  pub record SeesValues : Type 0 where
+    pub null : (place : Span) → view_at content value.Null place ≡ Null place
+    pub scalar : (s : S) (place : Span) → view_at content (value.Scalar s) place ≡ Scalar (content s) place
+    pub enum_value : (name : String Global) (place : Span) → view_at content (value.Enum name) place ≡ Enum (text_of name) place
+    pub variable : (name : String Global) (place : Span) → view_at content (value.Variable name) place ≡ Variable (text_of name) place
+    pub list : (v : Vec (Spanning (InputValue S)) Global) (place : Span)
+        → view_at content (value.List v) place ≡ ListOf (items_of (map (view_value content) v.items)) place
+    pub object : (v : Vec (Spanning (String Global) × Spanning (InputValue S)) Global) (place : Span)
+        → view_at content (value.Object v) place ≡ Object (fields_of (map (view_object_field content) v.items)) place
+
+  -- what a selection is seen as that holds selections
+  pub record SeesSelections : Type 0 where
+    pub field : (f : Spanning (Field S)) → view_selection content (selection.Field f) ≡ view_field content f
+    pub inline_fragment : (f : Spanning (InlineFragment S)) → view_selection content (selection.InlineFragment f) ≡ view_inline content f
+
+-- The source has one cut or one break, and never both.
+pub record CutsOnce (source : List ℕ) : Type 0 where
+  pub one_cut : (ts us : List Lexeme) → Cut source ts → Cut source us → ts ≡ us
+  pub one_break : (d e : LexicalError) (p q : Place) → Breaks source d p → Breaks source e q → (d ≡ e) × (p ≡ q)
+  pub never_both : (ts : List Lexeme) (error : LexicalError) (at : Place) → Cut source ts → Breaks source error at → ⊥
+
+-- The lexer failed where the source breaks, with its error and in no width, or memory ran out.
+pub record FailsAtBreak (source : List ℕ) (failed : LexFailure) : Type 0 where
+  pub breaks : IfFault {X = List Lexeme} (Err failed) (λ fault. Breaks source (view_lexer_error fault.item) fault.span.start)
+  pub zero_width : IfFault {X = List Lexeme} (Err failed) (λ fault. fault.span.end ≡ fault.span.start)
+
+-- The text is refused for the fault at which it breaks, or memory ran out.
+abbrev pub IsRefusedAtBreak : List ℕ → ParseFailure → Type 0
+IsRefusedAtBreak source (Refused fault) = (error : LexicalError) × (at : Place) × Breaks source error at × (view_fault fault ≡ lexical_fault error at)
+IsRefusedAtBreak source Memory = Unit {0}
