@@ -9,7 +9,8 @@ use Rattle.graphql_lexical.specs.Characters.{is_hex}
 use Rattle.graphql_lexical.specs.declared.kind.Kind.{Kind}
 use Rattle.graphql_lexical.specs.declared.kind.Kind.TheVariants.{String}
 use Rattle.graphql_lexical.specs.Tokens.{text_of, IsString, Spells}
-use Rattle.graphql_lexical.specs.Scan.{State, Start, Done, Hex0, Hex1, HexD, Hex2, Hex3, step, reach, answer, scan, Found, Missed}
+use Rattle.graphql_lexical.specs.Machines.{reach}
+use Rattle.graphql_lexical.specs.Scan.{State, Start, Done, Hex0, Hex1, HexD, Hex2, Hex3, step, answer, scan, Found, Missed}
 use Rattle.graphql_lexical.proofs.Runs.{reach_is}
 use Rattle.graphql_lexical.proofs.Numbers.{d_hex}
 use Rattle.graphql_lexical.proofs.History.{IsRead, read_run, IsOpen}
