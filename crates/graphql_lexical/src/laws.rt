@@ -49,7 +49,7 @@ pub fn texts_are_written_by_tokens()
     ensures white { (c : ℕ) (rest : List ℕ) (bares : List Bare) → WritesWhite c rest bares }
 {}
 
-/// A token's text is the slice of the source between its places, of a String without the quotes. Each token
+/// The slice of the source between a token's places is its text, of a String a quote, its text and a quote. Each token
 /// stands behind the one before it.
 pub fn slices_in_order()
     ensures { (source : List ℕ) → HasSlicesInOrder source }
