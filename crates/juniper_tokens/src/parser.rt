@@ -1,6 +1,7 @@
 //! The cursor over the tokens of a source.
 ghost use Rattle.std.specs.Prelude.{◌≡◌, ◌<◌, ◌≤◌, ◌∷◌, drop, false, true, length, option_map, OnOk, IfOk};
 ghost use Rattle.std.specs.List.{All};
+ghost use Rattle.std.specs.Global.{Global as Allocator};
 ghost use Rattle.std.specs.Str.{chars};
 ghost use Rattle.graphql_lexical.specs.declared.kind.Kind.TheVariants.{EndOfFile};
 ghost use Rattle.graphql_lexical.specs.Kinds.{same_kind};
@@ -104,7 +105,9 @@ impl<'a> Parser<'a> {
     }
 
     /// The allocator of the lexer that gave the tokens.
-    pub fn allocator(&self) -> Global {
+    pub fn allocator(&self) -> Global
+        ensures { (given : Allocator) → result ≡ given }
+    {
         self.alloc
     }
 
