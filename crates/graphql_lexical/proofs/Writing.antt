@@ -30,7 +30,7 @@ alike_of (x ∷ xs) [] bs a o = absurd a
 alike_of (x ∷ xs) (y ∷ ys) [] a o = absurd o
 
 -- the front of a list that is alike with tokens and the end
-alike_front : (vs xs : List Lexeme) (e : Lexeme) (bs : List Bare) → AllAlike vs (xs ++ e ∷ []) → AreOf xs bs → (ys : List Lexeme) × (y : Lexeme) × (vs ≡ ys ++ y ∷ []) × AreOf ys bs
+pub alike_front : (vs xs : List Lexeme) (e : Lexeme) (bs : List Bare) → AllAlike vs (xs ++ e ∷ []) → AreOf xs bs → (ys : List Lexeme) × (y : Lexeme) × (vs ≡ ys ++ y ∷ []) × AreOf ys bs
 alike_front [] [] e bs a o = absurd a
 alike_front [] (x ∷ xs) e bs a o = absurd a
 alike_front (v ∷ []) [] e bs a o = ([], v, refl, o)

@@ -4,6 +4,7 @@ ghost use Rattle.juniper_tokens.specs.PositionOrder.{compare_places};
 ghost use Rattle.std.specs.Ordering.{is_eq};
 ghost use Rattle.graphql_lexical.specs.Place.{Place};
 ghost use Rattle.graphql_lexical.specs.Joining.{Joins};
+ghost use Rattle.graphql_lexical.specs.Spacing.{GoesOnSpaced};
 ghost use Rattle.graphql_lexical.specs.Laws.{HasOneAnswer, HasOneEnd, HasFewTokens, HasSlicesInOrder, StepsByCharacters};
 ghost use Rattle.juniper_tokens.specs.declared.span.Span.{Span};
 ghost use Rattle.juniper_tokens.specs.declared.span.Spanning.{Spanning};
@@ -46,6 +47,15 @@ pub fn joined_texts()
     ensures { (a b : List ℕ) → Joins a b }
 {
     lexical::joined_texts();
+}
+
+/// Up to the end of one of its tokens that isn't its last, or up to its beginning, a source goes on with a space and
+/// then spelled tokens, a space behind each: the cut has the source's tokens up to that one, with their spans, then
+/// tokens alike with those, and the end.
+pub fn spaced_texts()
+    ensures { (source : List ℕ) → GoesOnSpaced source }
+{
+    lexical::spaced_texts();
 }
 
 /// A source of n characters has at most n + 1 tokens, the last of which and no other is the end.
