@@ -18,6 +18,7 @@ pub mod Spelling
 pub mod Given
 pub mod Unlocated
 pub mod OneFault
+pub mod Texts
 pub mod Steps
 pub mod StepsOfParts
 pub mod StepsOfSelections

@@ -12,6 +12,7 @@ use Rattle.graphql_grammar.specs.Reading as reading
 use Rattle.graphql_grammar.proofs.Given.{document_given}
 use Rattle.graphql_grammar.proofs.Readers.{document_reads, one_document}
 use Rattle.graphql_grammar.proofs.Spelling.{cut_spelled, cut_ends}
+use Rattle.graphql_grammar.proofs.Texts.{fault_in_text}
 use Rattle.juniper_tokens.specs.declared.error.ParseFailure.{ParseFailure}
 use Rattle.juniper_tokens.specs.declared.error.ParseFailure.TheVariants as failure
 use Rattle.juniper_tokens.specs.declared.error.LexFailure.{LexFailure}
@@ -25,7 +26,7 @@ use Rattle.juniper_tokens.specs.Lexing.{LexerState, started}
 use Rattle.juniper_tokens.specs.Gathering.{IfFault}
 use Rattle.juniper.specs.Seen.{seen}
 use Rattle.juniper.specs.Definitions.{document_read}
-use Rattle.juniper.specs.Promise.{lexical_fault, HasTree, IsRefusedAt, IsRefusal, IfRefused, AnswersAs}
+use Rattle.juniper.specs.Promise.{lexical_fault, HasTree, IsRefusedAt, IsRefusal, IsRefusalInText, IfRefused, AnswersAs}
 use Rattle.juniper.proofs.Stepping.{seen_took}
 use Rattle.juniper.proofs.SeenDocuments.{document_seen}
 
@@ -98,6 +99,14 @@ lexical S source error at fault b e = record {
   lexical = λ other place c. let s = same_break source error other at place b c in e ∙ ap₂ lexical_fault s.0 s.1;
   grammatical = λ lexemes c. absurd (cut_or_break source lexemes error at c b);
 }
+
+-- a refusal in tokens is one in characters
+pub in_text : {C X : Type 0} (S : Scalars C Error) (source : List ℕ) (result : Result X ParseFailure) → IfRefused result (λ fault. IsRefusal S source (view_fault fault)) → IfRefused result (λ fault. IsRefusalInText S source (view_fault fault))
+in_text S source (Ok x) h = tt
+in_text S source (Err (failure.Refused fault)) h = λ lexemes cut.
+    let at = h.grammatical lexemes cut in
+    (at, fault_in_text S source lexemes at.number cut at.refused.fault)
+in_text S source (Err failure.Memory) h = tt
 
 -- a lexer that was just made stands at the beginning
 pub cut_from_start : (state : LexerState) (source : List ℕ) (lexemes : List Lexeme) → state ≡ started source → CutFrom state.source state.index lexemes → Cut source lexemes
