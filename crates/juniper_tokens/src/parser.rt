@@ -11,12 +11,14 @@ ghost use Rattle.juniper_tokens.specs.Gathering.{IfFault, IfMemory, StandsLaterO
 ghost use Rattle.juniper_tokens.specs.LineTables.{lines_of};
 ghost use Rattle.juniper_tokens.specs.Ranges.{IsRange, range_lexemes};
 ghost use Rattle.juniper_tokens.specs.Tokens.{token_kind, token_text, view_token, view_name};
+ghost use Rattle.juniper_tokens.specs.Nesting.{EndsAtNesting};
 ghost use Rattle.juniper_tokens.specs.Cursor.{Gives, FrontGives, OnMemory, Unmoved, EndsOnce, first_of, kind_at, is_wanted, next_at, refused_at, expect_at, expect_name_at, skip_at};
 
 use crate::error::{LexFailure, OptionParseResult, ParseError, ParseFailure, ParseResult};
 use crate::lexer::Lexer;
 use crate::line_table::LineTable;
-use crate::span::Spanning;
+use crate::nesting::{end_behind, first_deeper};
+use crate::span::{Span, Spanning};
 use crate::token::Token;
 use crate::token_range::TokenRange;
 use std::alloc::Global;
@@ -109,6 +111,20 @@ impl<'a> Parser<'a> {
         ensures { (given : Allocator) → result ≡ given }
     {
         self.alloc
+    }
+
+    /// Ends the tokens behind the first one at which more brackets are open than `depth`, and gives its span.
+    ///
+    /// A bracket is `(`, `[` or `{`. The end then stands where that token ends. Where there is no such token, None is
+    /// the answer, and nothing changes.
+    pub fn end_at_nesting(&mut self, depth: usize) -> Option<Span>
+        ensures { EndsAtNesting depth self.old result self.new }
+    {
+        let last = self.taken + first_deeper(&self.ranges[self.taken..], depth)?;
+        let range = self.ranges[last];
+        let span = range.located(self.source, &self.lines, 0).span;
+        end_behind(&mut self.ranges, last, range.end);
+        Some(span)
     }
 
     /// The next token, which is left there.
