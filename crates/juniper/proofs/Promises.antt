@@ -101,11 +101,14 @@ lexical S source error at fault b e = record {
 }
 
 -- a refusal in tokens is one in characters
-pub in_text : {C X : Type 0} (S : Scalars C Error) (source : List ℕ) (result : Result X ParseFailure) → IfRefused result (λ fault. IsRefusal S source (view_fault fault)) → IfRefused result (λ fault. IsRefusalInText S source (view_fault fault))
-in_text S source (Ok x) h = tt
-in_text S source (Err (failure.Refused fault)) h = λ lexemes cut.
+pub refusal_in_text : {C : Type 0} (S : Scalars C Error) (source : List ℕ) (fault : Fault) → IsRefusal S source fault → IsRefusalInText S source fault
+refusal_in_text S source fault h = λ lexemes cut.
     let at = h.grammatical lexemes cut in
     (at, fault_in_text S source lexemes at.number cut at.refused.fault)
+
+pub in_text : {C X : Type 0} (S : Scalars C Error) (source : List ℕ) (result : Result X ParseFailure) → IfRefused result (λ fault. IsRefusal S source (view_fault fault)) → IfRefused result (λ fault. IsRefusalInText S source (view_fault fault))
+in_text S source (Ok x) h = tt
+in_text S source (Err (failure.Refused fault)) h = refusal_in_text S source (view_fault fault) h
 in_text S source (Err failure.Memory) h = tt
 
 -- a lexer that was just made stands at the beginning

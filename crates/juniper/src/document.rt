@@ -36,7 +36,7 @@ pub fn parse_document_source<'a, S: ScalarValue>(
 }
 
 /// `Definition+`, up to the end, which is left there.
-fn parse_definitions<'a, S: ScalarValue>(
+pub(crate) fn parse_definitions<'a, S: ScalarValue>(
     parser: &mut Parser<'a>,
 ) -> UnlocatedParseResult<OwnedDocument<'a, S>>
     ensures { AnswersAs (view_document S.content) result (document_read (stated S.reading S.of_bool) parser.old) }

@@ -1,5 +1,6 @@
 //! Laws of source texts and of displays: the contracts of functions that do nothing.
 ghost use Rattle.std.specs.Prelude.{◌≡◌, ◌⊎◌, ℕ, List};
+ghost use Rattle.graphql_lexical.specs.Place.{Span};
 ghost use Rattle.graphql_lexical.specs.Tokens.{IsName};
 ghost use Rattle.graphql_lexical.specs.Cutting.{Lexeme, Cut};
 ghost use Rattle.graphql_lexical.specs.Alike.{AllAlike};
@@ -16,13 +17,22 @@ ghost use Rattle.juniper_values.specs.declared.input_value.InputValue.{InputValu
 ghost use Rattle.juniper_values.specs.declared.type_literal.TypeModifier.{TypeModifier};
 ghost use Rattle.juniper.specs.ReadBack.{AreWritable, IsReadAsType, IsReadBack, type_of};
 ghost use Rattle.juniper.specs.Promise.{HasTree, IsRefusal};
+ghost use Rattle.juniper.specs.Scalars.{stated};
 ghost use Rattle.juniper.specs.Sources.{AreRefusedAlike};
+ghost use Rattle.juniper.specs.Within.{HasTooDeep};
+
+use juniper_values::ScalarValue;
 
 /// A source text is a document or is refused at one place with one error, and never both.
 pub fn document_or_fault<C>()
     ensures either { (S : Scalars C Error) (source : List ℕ) → ((tree : List (Definition C)) × HasTree S source tree) ⊎ ((fault : Fault) × IsRefusal S source fault) }
     ensures one { (S : Scalars C Error) (source : List ℕ) (f g : Fault) → IsRefusal S source f → IsRefusal S source g → f ≡ g }
     ensures never_both { (S : Scalars C Error) (source : List ℕ) (tree : List (Definition C)) (fault : Fault) → HasTree S source tree → IsRefusal S source fault → ⊥ }
+{}
+
+/// A source text has one token at most that is nested too deep.
+pub fn one_too_deep<S: ScalarValue>()
+    ensures { (depth : ℕ) (source : List ℕ) (a b : Span) → HasTooDeep (stated S.reading S.of_bool) depth source a → HasTooDeep (stated S.reading S.of_bool) depth source b → a ≡ b }
 {}
 
 /// Two source texts whose tokens are alike, in kinds and texts, both are documents, whose trees differ in spans alone,
