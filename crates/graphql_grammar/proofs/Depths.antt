@@ -1,6 +1,7 @@
 -- A document closes the brackets that it opens, so its tokens up to a deep one are no document.
 use Rattle.std.proofs.Common.{ℕ, zero, suc, Bool, true, false, cond, ◌≡◌, ◌+◌, ◌<◌, ◌≤◌, ◌⊎◌, ◌∷◌, [], List, ◌++◌, length, take, refl, sym, ap, ap₂, ◌∙◌, subst, arith, inl, inr, append_assoc, length-append}
 use Rattle.std.specs.List.{AllByRecursion}
+use Rattle.std.proofs.Math.Nat.{eq-or-lt_of_le}
 use Rattle.std.proofs.lemmas.List.{take-append-le}
 use Rattle.std.proofs.lemmas.List.Sums.{sum_by-cons, sum_by-append}
 use Rattle.graphql_lexical.specs.declared.kind.Kind.{Kind}
@@ -75,13 +76,15 @@ around o c us p h =
     omega (arith, a, b, h)
 
 -- an end counts for nothing
-end_balanced : (us : List Lexeme) (t : Lexeme) → t.kind ≡ EndOfFile → (opened (us ++ t ∷ []) ≡ opened us + 0) × (closed (us ++ t ∷ []) ≡ closed us + 0)
+end_balanced : (us : List Lexeme) (t : Lexeme) → t.kind ≡ EndOfFile
+    → (opened (us ++ t ∷ []) ≡ opened us + 0) × (closed (us ++ t ∷ []) ≡ closed us + 0)
 end_balanced us t e = (opened_push us t ∙ ap (λ k. opened us + one (is_opening k)) e, closed_push us t ∙ ap (λ k. closed us + one (is_closing k)) e)
 
 -- ---- a refusal sees no token behind it
 
 -- a token that stands within a front is the front's
-within : (us vs before after : List Lexeme) (t : Lexeme) → us ++ vs ≡ before ++ t ∷ after → length before < length us → (middle : List Lexeme) × (us ≡ before ++ t ∷ middle)
+within : (us vs before after : List Lexeme) (t : Lexeme) → us ++ vs ≡ before ++ t ∷ after → length before < length us
+    → (middle : List Lexeme) × (us ≡ before ++ t ∷ middle)
 within [] vs before after t e l = absurd (omega (arith, l))
 within (u ∷ us) vs [] after t e l = let h : u ≡ t = cc in (us, ap (λ x. x ∷ us) h)
 within (u ∷ us) vs (b ∷ bs) after t e l =
@@ -93,7 +96,8 @@ within (u ∷ us) vs (b ∷ bs) after t e l =
 pub same_front : (i : ℕ) (us vs ws : List Lexeme) → i ≤ length us → take i (us ++ vs) ≡ take i (us ++ ws)
 same_front i us vs ws l = take-append-le i us vs l ∙ sym (take-append-le i us ws l)
 
-pub refused_in_front : (Allowed : Lexeme → Type 0) {F A : Type 0} (R : List Lexeme → A → Type 0) (Error : List Lexeme → Lexeme → Fault F → Type 0) (us vs ws : List Lexeme) (i : ℕ) (t : Lexeme) (e : Fault F) → i < length us
+pub refused_in_front : (Allowed : Lexeme → Type 0) {F A : Type 0} (R : List Lexeme → A → Type 0) (Error : List Lexeme → Lexeme → Fault F → Type 0) (us vs ws : List Lexeme) (i : ℕ) (t : Lexeme) (e : Fault F)
+    → i < length us
     → RefusedAt Allowed R Error (us ++ vs) i t e → RefusedAt Allowed R Error (us ++ ws) i t e
 refused_in_front Allowed R Error us vs ws i t e l h =
     let w = within us vs h.before h.after t h.whole (omega (arith, l, h.number)) in
@@ -113,7 +117,8 @@ refused_in_front Allowed R Error us vs ws i t e l h =
 -- ---- tokens up to a deep one, and then the end
 
 -- what stands up to a token that is not the end has no end
-no_end_before : (inner : List Lexeme) (end : Lexeme) (us : List Lexeme) (t : Lexeme) (after : List Lexeme) → NoEnd inner → inner ++ (end ∷ []) ≡ us ++ t ∷ after → (t.kind ≡ EndOfFile → ⊥) → NoEnd (us ++ t ∷ [])
+no_end_before : (inner : List Lexeme) (end : Lexeme) (us : List Lexeme) (t : Lexeme) (after : List Lexeme)
+    → NoEnd inner → inner ++ (end ∷ []) ≡ us ++ t ∷ after → (t.kind ≡ EndOfFile → ⊥) → NoEnd (us ++ t ∷ [])
 no_end_before inner end [] t after n e k = (k, tt)
 no_end_before [] end (u ∷ us) t after n e k = absurd (no_room us after (let h : [] ≡ us ++ t ∷ after = cc in h))
   where
@@ -128,15 +133,6 @@ no_end_before (x ∷ inner) end (u ∷ us) t after n e k =
 pub middle_of : (P : Lexeme → Type 0) (us vs : List Lexeme) (t : Lexeme) → AllByRecursion P (us ++ t ∷ vs) → P t
 middle_of P [] vs t h = h.0
 middle_of P (u ∷ us) vs t h = middle_of P us vs t h.1
-
-order : (a b : ℕ) → a < suc b → (a < b) ⊎ (a ≡ b)
-order zero zero l = inr refl
-order zero (suc b) l = inl (omega arith)
-order (suc a) zero l = absurd (omega (arith, l))
-order (suc a) (suc b) l = elim (order a b (omega (arith, l))) [
-  | inl h ↦ inl (omega (arith, h))
-  | inr e ↦ inr (ap suc e)
-]
 
 module _ {C F : Type 0} (S : Scalars C F) where
   -- Of the tokens up to token i, which is t and opens a bracket, and then an end, token j, which is u, is refused. Either
@@ -192,12 +188,14 @@ module _ {C F : Type 0} (S : Scalars C F) where
       one_front : (k : ℕ) → k ≤ suc i → take k (front ++ end_behind t ∷ []) ≡ take k ts
       one_front k l = same_front k front (end_behind t ∷ []) d.after (omega (arith, l, front_length)) ∙ ap (take k) (sym whole_parts)
 
-      at_end : (j : ℕ) (u : Lexeme) (e : Fault F) → DocumentRefusedAt S (front ++ end_behind t ∷ []) j u e → j ≡ suc i → TellsDepth ts i t j u e
+      at_end : (j : ℕ) (u : Lexeme) (e : Fault F) → DocumentRefusedAt S (front ++ end_behind t ∷ []) j u e → j ≡ suc i
+          → TellsDepth ts i t j u e
       at_end j u e h same =
           let parts = same_parts IsSpelled S (IsDocument S) front h.before [] h.after (end_behind t) u (front_length ∙ sym same ∙ sym h.number) h.whole in
           inl (sym parts.1, subst (BeginsDocument S) (ap (λ k. take k (front ++ end_behind t ∷ [])) same ∙ one_front (suc i) (omega arith)) h.fault.begins)
 
-      before_end : (j : ℕ) (u : Lexeme) (e : Fault F) → DocumentRefusedAt S (front ++ end_behind t ∷ []) j u e → j < suc i → TellsDepth ts i t j u e
+      before_end : (j : ℕ) (u : Lexeme) (e : Fault F) → DocumentRefusedAt S (front ++ end_behind t ∷ []) j u e
+          → j < suc i → TellsDepth ts i t j u e
       before_end j u e h l =
           let inside = within front (end_behind t ∷ []) h.before h.after u h.whole (omega (arith, l, front_length, h.number)) in
           let goes_on : u.kind ≡ EndOfFile → ⊥ = middle_of (λ (x : Lexeme). x.kind ≡ EndOfFile → ⊥) h.before inside.0 u (subst NoEnd inside.1 front_no_end) in
@@ -206,11 +204,13 @@ module _ {C F : Type 0} (S : Scalars C F) where
           inr (goes_on, (λ b. refused.fault.ends (front_begins (document S) (IsDocument S) (document_reads S) IsSpelled sample_spelled (take (suc j) ts) s.0 (subst (BeginsDocument S) s.1 b))), refused)
 
       -- Where they are refused tells of all tokens.
-      pub short_tells : (j : ℕ) (u : Lexeme) (e : Fault F) → DocumentRefusedAt S (ended_by d.before t) j u e → TellsDepth ts i t j u e
+      pub short_tells : (j : ℕ) (u : Lexeme) (e : Fault F) → DocumentRefusedAt S (ended_by d.before t) j u e
+          → TellsDepth ts i t j u e
       short_tells j u e h =
           let g : DocumentRefusedAt S (front ++ end_behind t ∷ []) j u e = subst (λ l. DocumentRefusedAt S l j u e) short_parts h in
           let inside : j < suc (suc i) = omega (arith, g.fault.inside, length-append front (end_behind t ∷ []), front_length) in
-          elim (order j (suc i) inside) [
-            | inl l ↦ before_end j u e g l
-            | inr same ↦ at_end j u e g same
+          let up_to : j ≤ suc i = omega (arith, inside) in
+          elim (eq-or-lt_of_le up_to) [
+            | inl same ↦ at_end j u e g same
+            | inr l ↦ before_end j u e g l
           ]

@@ -27,13 +27,15 @@ all_back P [] ys h = h
 all_back P (x ∷ xs) ys h = all_back P xs ys h.1
 
 -- token i, and the tokens before it
-around : (i : ℕ) (ts : List Lexeme) → i < length ts → (next : Lexeme) × (after : List Lexeme) × (ts ≡ take i ts ++ next ∷ after)
+around : (i : ℕ) (ts : List Lexeme) → i < length ts
+    → (next : Lexeme) × (after : List Lexeme) × (ts ≡ take i ts ++ next ∷ after)
 around i [] l = absurd (omega (arith, l))
 around zero (t ∷ ts) l = (t, ts, refl)
 around (suc i) (t ∷ ts) l = let r = around i ts (omega (arith, l)) in (r.0, r.1, ap (λ (us : List Lexeme). t ∷ us) r.2)
 
 -- no token before another is the end
-no_end_before : (us : List Lexeme) (next : Lexeme) (after inner : List Lexeme) (end : Lexeme) → us ++ next ∷ after ≡ inner ++ end ∷ [] → NoEnd inner → NoEnd us
+no_end_before : (us : List Lexeme) (next : Lexeme) (after inner : List Lexeme) (end : Lexeme)
+    → us ++ next ∷ after ≡ inner ++ end ∷ [] → NoEnd inner → NoEnd us
 no_end_before [] next after inner end e h = tt
 no_end_before (u ∷ us) next after [] end e h = absurd (omega (arith, ap length e, length-append us (next ∷ after)))
 no_end_before (u ∷ us) next after (x ∷ inner) end e h =
@@ -48,7 +50,8 @@ no_end_alike (u ∷ us) [] a h = absurd a
 no_end_alike (u ∷ us) (v ∷ vs) a h = ((λ e. h.0 (a.0.kind ∙ e)), no_end_alike us vs a.1 h.1)
 
 -- the end stands behind tokens that are not the end
-behind : (us more inner : List Lexeme) (end : Lexeme) → us ++ more ≡ inner ++ end ∷ [] → NoEnd us → end.kind ≡ EndOfFile → (others : List Lexeme) × (more ≡ others ++ end ∷ []) × (inner ≡ us ++ others)
+behind : (us more inner : List Lexeme) (end : Lexeme) → us ++ more ≡ inner ++ end ∷ [] → NoEnd us
+    → end.kind ≡ EndOfFile → (others : List Lexeme) × (more ≡ others ++ end ∷ []) × (inner ≡ us ++ others)
 behind [] more inner end e h k = (inner, e, refl)
 behind (u ∷ us) more [] end e h k = let same : end ≡ u = cc in absurd (h.0 (subst (λ (t : Lexeme). t.kind ≡ EndOfFile) same k))
 behind (u ∷ us) more (x ∷ inner) end e h k =
@@ -74,7 +77,8 @@ spaced (t ∷ ts) h s = by_first s.0 (spaced ts h.1 s.1)
 -- ---- documents
 
 module _ {C F : Type 0} (S : Scalars C F) where
-  begins_text : (source : Text) (before : List Lexeme) (next : Lexeme) (after : List Lexeme) → Cut source (before ++ next ∷ after) → Begins IsSpelled (IsDocument S) before → BeginsText S source before
+  begins_text : (source : Text) (before : List Lexeme) (next : Lexeme) (after : List Lexeme)
+      → Cut source (before ++ next ∷ after) → Begins IsSpelled (IsDocument S) before → BeginsText S source before
   begins_text source before next after cut (front, more, tree, alike, document, spelled) =
       let once = cut_ends source (before ++ next ∷ after) cut in
       let no_end : NoEnd before = no_end_before before next after once.inner once.end once.whole once.no_end in
@@ -96,7 +100,8 @@ module _ {C F : Type 0} (S : Scalars C F) where
   text_begins : (source : Text) (ts : List Lexeme) → BeginsText S source ts → Begins IsSpelled (IsDocument S) ts
   text_begins source ts b = (ts, b.after, b.tree, AllAlike_refl ts, b.document, cut_spelled _ _ b.cut)
 
-  pub fault_in_text : (source : Text) (ts : List Lexeme) (i : ℕ) → Cut source ts → AtFault IsSpelled (IsDocument S) ts i → AtFaultInText S source ts i
+  pub fault_in_text : (source : Text) (ts : List Lexeme) (i : ℕ) → Cut source ts
+      → AtFault IsSpelled (IsDocument S) ts i → AtFaultInText S source ts i
   fault_in_text source ts i cut h =
       let a = around i ts h.inside in
       record {

@@ -42,7 +42,8 @@ spaced_cut text (x ∷ xs) (whole, rest, e, spells, is, more) =
 
 -- ---- tokens of a source before others
 
-before_others : (front some : List Lexeme) (next last : Lexeme) (after : List Lexeme) → front ++ next ∷ after ≡ some ++ last ∷ [] → (rest : List Lexeme) × (some ≡ front ++ rest)
+before_others : (front some : List Lexeme) (next last : Lexeme) (after : List Lexeme)
+    → front ++ next ∷ after ≡ some ++ last ∷ [] → (rest : List Lexeme) × (some ≡ front ++ rest)
 before_others [] some next last after e = (some, refl)
 before_others (x ∷ front) [] next last after e = absurd (omega (arith, ap length e, length-append front (next ∷ after)))
 before_others (x ∷ front) (y ∷ some) next last after e =
@@ -51,11 +52,13 @@ before_others (x ∷ front) (y ∷ some) next last after e =
     let r = before_others front some next last after tails in
     (r.0, ap₂ (λ (z : Lexeme) (zs : List Lexeme). z ∷ zs) heads r.1)
 
-leads_front : (source : List ℕ) (xs ys : List Lexeme) (k n : ℕ) → Leads source k (xs ++ ys) n → (m : ℕ) × Leads source k xs m
+leads_front : (source : List ℕ) (xs ys : List Lexeme) (k n : ℕ) → Leads source k (xs ++ ys) n
+    → (m : ℕ) × Leads source k xs m
 leads_front source [] ys k n h = (k, refl)
 leads_front source (x ∷ xs) ys k n h = let r = leads_front source xs ys h.0 n h.3 in (r.0, (h.0, h.1, h.2, r.1))
 
-up_to_is : (source : List ℕ) (x : Lexeme) (xs : List Lexeme) (k n : ℕ) → k ≤ length source → Leads source k (x ∷ xs) n → up_to source (x ∷ xs) ≡ take n source
+up_to_is : (source : List ℕ) (x : Lexeme) (xs : List Lexeme) (k n : ℕ) → k ≤ length source → Leads source k (x ∷ xs) n
+    → up_to source (x ∷ xs) ≡ take n source
 up_to_is source x [] k n l h =
     let s = stands_size source k x h.0 l h.1 h.2 in
     ap (λ (i : ℕ). take i source) (ap (λ (p : Place). p.index) h.1.end ∙ (place_index source h.0 s.1 ∙ h.3))
@@ -67,7 +70,8 @@ front_is : (source : List ℕ) (front : List Lexeme) (n : ℕ) → Leads source 
 front_is source [] n h = ap (λ (i : ℕ). take i source) h
 front_is source (x ∷ xs) n h = up_to_is source x xs 0 n zero-le h
 
-last_ends : (source : List ℕ) (x : Lexeme) (xs : List Lexeme) (k n : ℕ) → Leads source k (x ∷ xs) n → (some : List Lexeme) × (y : Lexeme) × (x ∷ xs ≡ some ++ y ∷ []) × (y.span.end ≡ place source n)
+last_ends : (source : List ℕ) (x : Lexeme) (xs : List Lexeme) (k n : ℕ) → Leads source k (x ∷ xs) n
+    → (some : List Lexeme) × (y : Lexeme) × (x ∷ xs ≡ some ++ y ∷ []) × (y.span.end ≡ place source n)
 last_ends source x [] k n h = ([], x, refl, h.1.end ∙ ap (place source) h.3)
 last_ends source x (y ∷ ys) k n h =
     let r = last_ends source y ys h.0 n h.3 in
@@ -77,7 +81,8 @@ last_ends source x (y ∷ ys) k n h =
 whole_place : (a : List ℕ) → place_after a ≡ place a (length a)
 whole_place a = ap place_after (sym (take_all (length a) a (le_refl (length a))))
 
-space_is_seam : (source : List ℕ) (front : List Lexeme) (n : ℕ) (text : List ℕ) → Leads source 0 front n → IsSeam (take n source) front (after_space text)
+space_is_seam : (source : List ℕ) (front : List Lexeme) (n : ℕ) (text : List ℕ) → Leads source 0 front n
+    → IsSeam (take n source) front (after_space text)
 space_is_seam source [] n text h = inl (ap (λ (i : ℕ). take i source) (sym h))
 space_is_seam source (x ∷ xs) n text h =
     let r = last_ends source x xs 0 n h in
@@ -85,7 +90,8 @@ space_is_seam source (x ∷ xs) n text h =
 
 -- ---- the law
 
-goes_on : (source : List ℕ) (front others : List Lexeme) (n : ℕ) (text : List ℕ) → Leads source 0 front n → IsSpaced text others → GoesOn (take n source ++ after_space text) front others
+goes_on : (source : List ℕ) (front others : List Lexeme) (n : ℕ) (text : List ℕ) → Leads source 0 front n
+    → IsSpaced text others → GoesOn (take n source ++ after_space text) front others
 goes_on source front others n text h spaced =
     let a : List ℕ = take n source in
     let b : List ℕ = after_space text in

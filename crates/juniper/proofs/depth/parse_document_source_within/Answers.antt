@@ -18,6 +18,6 @@ pub returns-in-Err : goal.returns-in-Err
 returns-in-Err g c =
     let S = stated g.S.ParseScalarValue.reading g.S.ScalarValue.of_bool in
     let view = view_document g.S.ParseScalarValue.content in
-    let told = lexical_within S view c.args.depth (chars c.args.s.now) c.new-lexer.result c.in-Err.failure c.new-lexer.ensures c.in-Err.ensures.fault c.in-Err.ensures.zero_width in
+    let told = lexical_within S c.args.depth (chars c.args.s.now) view c.new-lexer.result c.in-Err.failure c.new-lexer.ensures c.in-Err.ensures.fault c.in-Err.ensures.zero_width in
     let p = subst (λ (e : ParseFailure). AnswersWithin S c.args.depth (chars c.args.s.now) view (Err (Parse e))) (sym c.from.ensures) told in
     record { accepted = p.accepted; refused = p.refused; in_characters = p.in_characters; within = p.within; too_deep = p.too_deep }
