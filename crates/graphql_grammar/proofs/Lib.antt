@@ -8,6 +8,7 @@ pub mod SelectionRules
 pub mod Found
 pub mod DocumentFound
 pub mod SelectionFound
+pub mod Nested
 pub mod Ends
 pub mod Faulty
 pub mod Readers
@@ -18,6 +19,8 @@ pub mod Spelling
 pub mod Given
 pub mod Unlocated
 pub mod OneFault
+pub mod Texts
+pub mod Depths
 pub mod Steps
 pub mod StepsOfParts
 pub mod StepsOfSelections

@@ -1,12 +1,14 @@
 //! Laws of the document grammar.
-ghost use Rattle.std.specs.Prelude.{◌≡◌, ◌⊎◌, ◌++◌, ℕ, List, [], Bool, take};
+ghost use Rattle.std.specs.Prelude.{◌≡◌, ◌<◌, ◌⊎◌, ◌++◌, ℕ, List, [], Bool, length, take};
 ghost use Rattle.std.specs.List.{AllByRecursion};
 ghost use Rattle.graphql_lexical.specs.Cutting.{Lexeme, Cut};
 ghost use Rattle.graphql_lexical.specs.Alike.{Alike, AllAlike};
+ghost use Rattle.graphql_lexical.specs.Nesting.{opened, closed};
 ghost use Rattle.graphql_grammar.specs.Tokens.{IsSpelled};
 ghost use Rattle.graphql_grammar.specs.Tree.{Scalars, Value, TypeRef, Definition};
 ghost use Rattle.graphql_grammar.specs.Grammar.{IsValue, IsType, IsDocument};
 ghost use Rattle.graphql_grammar.specs.Faults.{Fault, EndsOnce, AtFault, DocumentRefusedAt, ValueRefusedAt, TypeRefusedAt};
+ghost use Rattle.graphql_grammar.specs.Texts.{AtFaultInText};
 ghost use Rattle.graphql_grammar.specs.Unlocated.{SameDocument, SameValue};
 ghost use Rattle.graphql_grammar.specs.Samples.{IsSample, AreSamples};
 ghost use Rattle.graphql_grammar.specs.Reading.{document, value_of, type_at, fully, GivesWhole, GivesFront};
@@ -46,6 +48,22 @@ pub fn one_refusal<C, F>()
 /// The tokens before the refused one are completed to a document by sample tokens alone.
 pub fn fault_completed<C, F>()
     ensures { (S : Scalars C F) (ts : List Lexeme) (i : ℕ) → AllByRecursion IsSpelled ts → EndsOnce ts → AtFault IsSpelled (IsDocument S) ts i → (more : List Lexeme) × (ds : List (Definition C)) × AreSamples more × IsDocument S (take i ts ++ more) ds }
+{}
+
+/// Up to the end of the last token before the refused one, a text goes on, after a space, to a document's text, whose
+/// first tokens are those, with their spans. Up to the end of the refused one it doesn't.
+pub fn fault_in_characters<C, F>()
+    ensures { (S : Scalars C F) (source : List ℕ) (ts : List Lexeme) (i : ℕ) → Cut source ts → AtFault IsSpelled (IsDocument S) ts i → AtFaultInText S source ts i }
+{}
+
+/// A document closes as many brackets as it opens.
+pub fn document_is_balanced<C, F>()
+    ensures { (S : Scalars C F) (ts : List Lexeme) (ds : List (Definition C)) → IsDocument S ts ds → opened ts ≡ closed ts }
+{}
+
+/// A list that is refused at a token of its front is refused there whatever stands behind that front.
+pub fn refused_in_front<C, F>()
+    ensures { (S : Scalars C F) (front more other : List Lexeme) (i : ℕ) (t : Lexeme) (e : Fault F) → i < length front → DocumentRefusedAt S (front ++ more) i t e → DocumentRefusedAt S (front ++ other) i t e }
 {}
 
 /// Lists that are alike both are documents, whose trees differ in spans alone, or are both refused at the same number

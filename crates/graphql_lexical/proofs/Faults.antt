@@ -7,7 +7,8 @@ use Rattle.graphql_lexical.specs.Characters.{is_digit, is_line_end, is_source, i
 use Rattle.graphql_lexical.specs.Kinds.{Kind, Name, String, Float, Int, Ellipsis, LexicalError, UnknownCharacter, UnexpectedCharacter, UnterminatedString, UnknownCharacterInString, UnknownEscapeSequence, UnexpectedEndOfFile}
 use Rattle.graphql_lexical.specs.Tokens.{IsZero, IsNumber, AreUnits}
 use Rattle.graphql_lexical.specs.Reading.{BeginsNumber, StringFails, at_end, at_line_end, at_control, lone_backslash, wrong_escape, Fails, number_ends, number_stops, zero_goes_on, string_fails, dot_ends, dots_end, dot_stops, dots_stop, unknown}
-use Rattle.graphql_lexical.specs.Scan.{State, Start, Done, Dot, Dots, InName, Minus, Zero, Digits, Point, Fraction, Mark, Sign, Exponent, Units, Backslash, Hex0, Hex1, HexD, Hex2, Hex3, step, reach, Missed, found, missed, stopped, after_zero, after_dots, after_units, after_backslash, after_u, answer, scan}
+use Rattle.graphql_lexical.specs.Machines.{reach}
+use Rattle.graphql_lexical.specs.Scan.{State, Start, Done, Dot, Dots, InName, Minus, Zero, Digits, Point, Fraction, Mark, Sign, Exponent, Units, Backslash, Hex0, Hex1, HexD, Hex2, Hex3, step, Missed, found, missed, stopped, after_zero, after_dots, after_units, after_backslash, after_u, answer, scan}
 use Rattle.graphql_lexical.proofs.Runs.{Stops}
 use Rattle.graphql_lexical.proofs.History.{IsRead, IsOpen, IsBase}
 use Rattle.graphql_lexical.proofs.Spelled.{accepts, starts_run}

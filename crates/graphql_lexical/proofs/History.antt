@@ -6,8 +6,8 @@ use Rattle.std.proofs.lemmas.Bool.{eqb-true}
 use Rattle.std.proofs.lemmas.Option.{none-some, same_Some}
 use Rattle.graphql_lexical.specs.Characters.{is_digit, is_name_character, is_exponent_mark, is_sign, is_hex}
 use Rattle.graphql_lexical.specs.Kinds.{Kind, String, Ellipsis}
-use Rattle.graphql_lexical.specs.Tokens.{IsName, AreSomeDigits, IsZero, IsCounting, IsLongInteger, IsInteger, IsFraction, IsExponent, IsDecimal, IsUnit, plain, escape, unicode, AreUnits, Spells}
-use Rattle.graphql_lexical.specs.Scan.{State, Start, Done, Dot, Dots, InName, Minus, Zero, Digits, Point, Fraction, Mark, Sign, Exponent, Units, Backslash, Hex0, Hex1, HexD, Hex2, Hex3, is_hex_d, punctuator, step}
+use Rattle.graphql_lexical.specs.Tokens.{IsName, AreSomeDigits, IsZero, IsCounting, IsLongInteger, IsInteger, IsFraction, IsExponent, IsDecimal, IsUnit, plain, escape, unicode, AreUnits, Spells, punctuator}
+use Rattle.graphql_lexical.specs.Scan.{State, Start, Done, Dot, Dots, InName, Minus, Zero, Digits, Point, Fraction, Mark, Sign, Exponent, Units, Backslash, Hex0, Hex1, HexD, Hex2, Hex3, is_hex_d, step}
 use Rattle.graphql_lexical.proofs.Runs.{run, kept_run}
 use Rattle.graphql_lexical.proofs.Numbers.{IsPair, pair_d, pair_other, scalar_from}
 

@@ -12,7 +12,8 @@ use Rattle.graphql_lexical.specs.Kinds.{Kind, Name, ExclamationMark, Dollar, Par
 use Rattle.graphql_lexical.specs.Tokens.{Spells, text_of}
 use Rattle.graphql_lexical.specs.Reading.{Longest, BeginsWithDigit, Reads}
 use Rattle.graphql_lexical.specs.Cutting.{IsGap, Lexeme, Stands, Leads, Cut}
-use Rattle.graphql_lexical.specs.Scan.{State, Start, Done, InName, Zero, Digits, Fraction, Exponent, step, reach, Found, Missed, answer, scan, gap_step, gap_size}
+use Rattle.graphql_lexical.specs.Machines.{reach}
+use Rattle.graphql_lexical.specs.Scan.{State, Start, Done, InName, Zero, Digits, Fraction, Exponent, step, Found, Missed, answer, scan, gap_step, gap_size}
 use Rattle.graphql_lexical.specs.Alike.{Alike, AllAlike}
 use Rattle.graphql_lexical.specs.Joining.{is_lone, BeginsApart, IsSeam, Joins}
 use Rattle.graphql_lexical.proofs.Runs.{Stops, Reaches, reach_is, reach_on, Longest_same}

@@ -6,7 +6,8 @@ use Rattle.graphql_lexical.specs.Characters.{is_digit, is_line_end}
 use Rattle.graphql_lexical.specs.Kinds.{Kind, Name, Float, Int, EndOfFile, LexicalError, UnexpectedCharacter, UnterminatedString, UnknownCharacterInString, UnknownEscapeSequence}
 use Rattle.graphql_lexical.specs.Tokens.{Spells, Starts, IsZero, text_of}
 use Rattle.graphql_lexical.specs.Reading.{counted, Longest, BeginsWithDigit, ReadsToken, Reads}
-use Rattle.graphql_lexical.specs.Scan.{State, Start, Done, Dot, Dots, InName, Minus, Zero, Digits, Point, Fraction, Mark, Sign, Exponent, Units, Backslash, Hex0, Hex1, HexD, Hex2, Hex3, step, reach, Found, Missed, found, missed, stopped, after_zero, after_dots, after_units, after_backslash, after_u, answer, scan}
+use Rattle.graphql_lexical.specs.Machines.{reach}
+use Rattle.graphql_lexical.specs.Scan.{State, Start, Done, Dot, Dots, InName, Minus, Zero, Digits, Point, Fraction, Mark, Sign, Exponent, Units, Backslash, Hex0, Hex1, HexD, Hex2, Hex3, step, Found, Missed, found, missed, stopped, after_zero, after_dots, after_units, after_backslash, after_u, answer, scan}
 use Rattle.graphql_lexical.proofs.Runs.{Reaches, reach_is, Longest_same}
 use Rattle.graphql_lexical.proofs.History.{IsRead, read_run}
 use Rattle.graphql_lexical.proofs.Spelled.{Goes, accepts, accepts_spells, spells_run, starts_from, starts_run}

@@ -8,7 +8,8 @@ use Rattle.graphql_lexical.specs.Characters.{is_digit, is_nonzero_digit, is_line
 use Rattle.graphql_lexical.specs.Kinds.{Kind, Name, Float, Int, LexicalError, UnexpectedCharacter, UnterminatedString, UnknownEscapeSequence}
 use Rattle.graphql_lexical.specs.Tokens.{Starts, IsZero, IsNumber, StartsNumber, AreUnits}
 use Rattle.graphql_lexical.specs.Reading.{Longest, counted, BeginsNumber, StringFails, at_end, at_line_end, at_control, lone_backslash, wrong_escape, short_unicode, wrong_unicode, no_unicode, Fails, number_ends, number_stops, zero_goes_on, string_fails, dot_ends, dots_end, dot_stops, dots_stop, unknown}
-use Rattle.graphql_lexical.specs.Scan.{State, Start, Done, Dot, Dots, InName, Minus, Zero, Digits, Point, Fraction, Mark, Sign, Exponent, Units, Backslash, Hex0, Hex1, HexD, Hex2, Hex3, step, reach, onward, Found, Missed, missed, stopped, after_zero, after_units, after_backslash, after_u, answer, scan}
+use Rattle.graphql_lexical.specs.Machines.{reach, onward}
+use Rattle.graphql_lexical.specs.Scan.{State, Start, Done, Dot, Dots, InName, Minus, Zero, Digits, Point, Fraction, Mark, Sign, Exponent, Units, Backslash, Hex0, Hex1, HexD, Hex2, Hex3, step, Found, Missed, missed, stopped, after_zero, after_units, after_backslash, after_u, answer, scan}
 use Rattle.graphql_lexical.proofs.Runs.{reach_on, Longest_same}
 use Rattle.graphql_lexical.proofs.History.{IsRead, IsOpen}
 use Rattle.graphql_lexical.proofs.Spelled.{Goes, accepts, accepts_spells, starts_from, units_run}

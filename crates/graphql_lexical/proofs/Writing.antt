@@ -10,7 +10,8 @@ use Rattle.graphql_lexical.specs.Kinds.{Kind, EndOfFile}
 use Rattle.graphql_lexical.specs.Tokens.{Spells, Starts, text_of}
 use Rattle.graphql_lexical.specs.Reading.{Longest, Reads, BeginsWithDigit}
 use Rattle.graphql_lexical.specs.Cutting.{IsGap, Lexeme, Stands, Leads, Cut}
-use Rattle.graphql_lexical.specs.Scan.{Start, State, onward, step, gap_step, gap_size, reach}
+use Rattle.graphql_lexical.specs.Machines.{onward, reach}
+use Rattle.graphql_lexical.specs.Scan.{Start, State, step, gap_step, gap_size}
 use Rattle.graphql_lexical.specs.Alike.{AllAlike}
 use Rattle.graphql_lexical.specs.Written.{Bare, AreOf, IsCutInto, WritesToken, WritesWhite}
 use Rattle.graphql_lexical.proofs.Runs.{Longest_same}
@@ -29,7 +30,7 @@ alike_of (x ∷ xs) [] bs a o = absurd a
 alike_of (x ∷ xs) (y ∷ ys) [] a o = absurd o
 
 -- the front of a list that is alike with tokens and the end
-alike_front : (vs xs : List Lexeme) (e : Lexeme) (bs : List Bare) → AllAlike vs (xs ++ e ∷ []) → AreOf xs bs → (ys : List Lexeme) × (y : Lexeme) × (vs ≡ ys ++ y ∷ []) × AreOf ys bs
+pub alike_front : (vs xs : List Lexeme) (e : Lexeme) (bs : List Bare) → AllAlike vs (xs ++ e ∷ []) → AreOf xs bs → (ys : List Lexeme) × (y : Lexeme) × (vs ≡ ys ++ y ∷ []) × AreOf ys bs
 alike_front [] [] e bs a o = absurd a
 alike_front [] (x ∷ xs) e bs a o = absurd a
 alike_front (v ∷ []) [] e bs a o = ([], v, refl, o)

@@ -1,9 +1,9 @@
 -- What is claimed of the definitions.
 use Rattle.std.specs.Prelude.{◌≡◌, ◌≢◌, ℕ, ◌-◌, ◌≤◌, ◌+◌, List, [], ◌∷◌, ◌++◌, length, slice_get, take, drop, ◌⊎◌, ◌↔◌, Some, Ok, Err}
 use Rattle.std.specs.List.{AllByRecursion}
-use Rattle.graphql_lexical.specs.Kinds.{Kind, EndOfFile, LexicalError}
+use Rattle.graphql_lexical.specs.Kinds.{Kind, String, EndOfFile, LexicalError}
 use Rattle.graphql_lexical.specs.Place.{Place, Span, place, origin, past_character}
-use Rattle.graphql_lexical.specs.Tokens.{text_of}
+use Rattle.graphql_lexical.specs.Display.{quoted}
 use Rattle.graphql_lexical.specs.Reading.{Reads, Fails}
 use Rattle.graphql_lexical.specs.Cutting.{Lexeme, Cut, Breaks}
 use Rattle.graphql_lexical.specs.Scan.{Found, Missed, Broken, scan, cut_of}
@@ -65,15 +65,20 @@ HasFewTokens source = (front : List Lexeme) (last : Lexeme) → Cut source (fron
 abbrev pub slice_of : List ℕ → Span → List ℕ
 slice_of source span = take (span.end.index - span.start.index) (drop span.start.index source)
 
--- The token stands at or behind character k: its places are places of the source, and its text is what stands
--- between them, of a String without the quotes.
+-- what a source has where a token of this kind and text stands: of a String its text between quotes
+abbrev pub written : Kind → List ℕ → List ℕ
+written String text = quoted text
+written _ text = text
+
+-- The token stands at or behind character k: its places are places of the source, and what stands between them is its
+-- text, of a String its text between quotes.
 pub record IsSliceFrom (source : List ℕ) (k : ℕ) (x : Lexeme) : Type 0 where
   pub behind : k ≤ x.span.start.index
   pub forward : x.span.start.index ≤ x.span.end.index
   pub within : x.span.end.index ≤ length source
   pub start : x.span.start ≡ place source x.span.start.index
   pub end : x.span.end ≡ place source x.span.end.index
-  pub text : x.text ≡ text_of x.kind (slice_of source x.span)
+  pub slice : slice_of source x.span ≡ written x.kind x.text
 
 -- each token stands behind the one before it
 abbrev pub AreSlicesFrom : List ℕ → ℕ → List Lexeme → Type 0

@@ -1,20 +1,13 @@
--- A device of the proofs, which no definition rests on: the same, computed, one token at the front of a rest and a whole source.
+-- The same, computed: one token at the front of a rest, and a whole source. No definition of the grammar rests on it.
+-- What it computes is what the definitions say: the laws `scan_is_exact` and `cut_is_exact`. Lexers are proved by it.
 use Rattle.std.specs.Prelude.{ℕ, zero, suc, ◌+◌, ◌-◌, Bool, true, false, ◌&&◌, ◌||◌, List, [], ◌∷◌, length, take, drop, ◌==◌, nat_lt, nat_le, if◌then◌else◌, Option, Some, None, Result, Ok, Err, max, option_map}
 use Rattle.graphql_lexical.specs.Characters.{is_white, is_comment_character, is_line_end, is_digit, is_nonzero_digit, is_name_start, is_name_character, is_exponent_mark, is_sign, is_hex, is_plain, is_escape}
 use Rattle.graphql_lexical.specs.Place.{Place, place}
-use Rattle.graphql_lexical.specs.Kinds.{Kind, Name, String, Float, Int, ExclamationMark, Dollar, ParenOpen, ParenClose, BracketOpen, BracketClose, CurlyOpen, CurlyClose, Ellipsis, Colon, Equals, At, Pipe, EndOfFile, LexicalError, UnknownCharacter, UnexpectedCharacter, UnterminatedString, UnknownCharacterInString, UnknownEscapeSequence, UnexpectedEndOfFile}
-use Rattle.graphql_lexical.specs.Tokens.{text_of}
+use Rattle.graphql_lexical.specs.Kinds.{Kind, Name, String, Float, Int, Ellipsis, EndOfFile, LexicalError, UnknownCharacter, UnexpectedCharacter, UnterminatedString, UnknownCharacterInString, UnknownEscapeSequence, UnexpectedEndOfFile}
+use Rattle.graphql_lexical.specs.Tokens.{text_of, punctuator}
 use Rattle.graphql_lexical.specs.Reading.{counted}
 use Rattle.graphql_lexical.specs.Cutting.{Lexeme}
-
--- How far the steps go from a state, and the state there.
-abbrev pub onward : {S : Type 0} → S → (S → ℕ × S) → Option S → ℕ × S
-onward q go None = (0, q)
-onward q go (Some p) = let r = go p in (suc r.0, r.1)
-
-abbrev pub reach : {S : Type 0} → (S → ℕ → Option S) → S → List ℕ → ℕ × S
-reach step q [] = (0, q)
-reach step q (c ∷ cs) = onward q (λ p. reach step p cs) (step q c)
+use Rattle.graphql_lexical.specs.Machines.{reach}
 
 -- ---- tokens
 
@@ -40,22 +33,6 @@ pub data State : Type 0 where
   HexD : State
   Hex2 : State
   Hex3 : State
-
-abbrev pub punctuator : ℕ → Option Kind
-punctuator c =
-    if c == 33 then Some ExclamationMark
-    else (if c == 36 then Some Dollar
-    else (if c == 40 then Some ParenOpen
-    else (if c == 41 then Some ParenClose
-    else (if c == 91 then Some BracketOpen
-    else (if c == 93 then Some BracketClose
-    else (if c == 123 then Some CurlyOpen
-    else (if c == 125 then Some CurlyClose
-    else (if c == 58 then Some Colon
-    else (if c == 61 then Some Equals
-    else (if c == 64 then Some At
-    else (if c == 124 then Some Pipe
-    else None)))))))))))
 
 -- the digit of hexadecimal 13, which a surrogate's number begins with
 abbrev pub is_hex_d : ℕ → Bool

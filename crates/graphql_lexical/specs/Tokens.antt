@@ -1,5 +1,5 @@
 -- Which texts are tokens.
-use Rattle.std.specs.Prelude.{◌≡◌, ℕ, ◌+◌, ◌-◌, ◌*◌, ◌<◌, ◌⊎◌, List, [], ◌∷◌, ◌++◌, length, take, drop, IsTrue, nat_le, if◌then◌else◌}
+use Rattle.std.specs.Prelude.{◌≡◌, ℕ, ◌+◌, ◌-◌, ◌*◌, ◌<◌, ◌⊎◌, List, [], ◌∷◌, ◌++◌, length, take, drop, IsTrue, nat_le, ◌==◌, if◌then◌else◌, Option, Some, None}
 use Rattle.std.specs.List.{AllByRecursion, concat}
 use Rattle.graphql_lexical.specs.Characters.{is_digit, is_nonzero_digit, is_name_start, is_name_character, is_exponent_mark, is_sign, is_hex, is_plain, is_escape}
 use Rattle.graphql_lexical.specs.Kinds.{Kind, Name, String, Float, Int, ExclamationMark, Dollar, ParenOpen, ParenClose, BracketOpen, BracketClose, CurlyOpen, CurlyClose, Ellipsis, Colon, Equals, At, Pipe, EndOfFile}
@@ -110,6 +110,23 @@ Spells text Equals = text ≡ 61 ∷ []
 Spells text At = text ≡ 64 ∷ []
 Spells text Pipe = text ≡ 124 ∷ []
 Spells text EndOfFile = ⊥
+
+-- the punctuator that this character is
+abbrev pub punctuator : ℕ → Option Kind
+punctuator c =
+    if c == 33 then Some ExclamationMark
+    else (if c == 36 then Some Dollar
+    else (if c == 40 then Some ParenOpen
+    else (if c == 41 then Some ParenClose
+    else (if c == 91 then Some BracketOpen
+    else (if c == 93 then Some BracketClose
+    else (if c == 123 then Some CurlyOpen
+    else (if c == 125 then Some CurlyClose
+    else (if c == 58 then Some Colon
+    else (if c == 61 then Some Equals
+    else (if c == 64 then Some At
+    else (if c == 124 then Some Pipe
+    else None)))))))))))
 
 -- the token's text: for a string what stands between its quotes
 abbrev pub text_of : Kind → List ℕ → List ℕ

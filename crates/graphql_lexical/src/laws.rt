@@ -3,6 +3,7 @@ ghost use Rattle.std.specs.Prelude.{ℕ, List, [], ◌≡◌};
 ghost use Rattle.graphql_lexical.specs.Laws.{StepsByCharacters, FindsWhatReads, MissesWhatFails, HasOneAnswer, CutsWhatIsCut, BreaksWhatIsBroken, HasOneEnd, HasFewTokens, HasSlicesInOrder};
 ghost use Rattle.graphql_lexical.specs.Kinds.{Kind};
 ghost use Rattle.graphql_lexical.specs.Joining.{Joins};
+ghost use Rattle.graphql_lexical.specs.Spacing.{GoesOnSpaced};
 ghost use Rattle.graphql_lexical.specs.Written.{Bare, IsCutInto, WritesToken, WritesWhite};
 
 /// The place of a source's beginning is the origin, and each further place follows from the one before it by
@@ -49,7 +50,14 @@ pub fn texts_are_written_by_tokens()
     ensures white { (c : ℕ) (rest : List ℕ) (bares : List Bare) → WritesWhite c rest bares }
 {}
 
-/// A token's text is the slice of the source between its places, of a String without the quotes. Each token
+/// Up to the end of one of its tokens that isn't its last, or up to its beginning, a source goes on with a space and
+/// then spelled tokens, a space behind each: the cut has the source's tokens up to that one, with their spans, then
+/// tokens alike with those, and the end.
+pub fn spaced_texts()
+    ensures { (source : List ℕ) → GoesOnSpaced source }
+{}
+
+/// The slice of the source between a token's places is its text, of a String a quote, its text and a quote. Each token
 /// stands behind the one before it.
 pub fn slices_in_order()
     ensures { (source : List ℕ) → HasSlicesInOrder source }

@@ -1,17 +1,21 @@
 -- From the tokens of a text to the text.
-use Rattle.std.proofs.Common.{◌≡◌, ℕ, suc, List, [], ◌∷◌, length, inl, inr, refl, sym, ap, ap₂, subst, ◌∙◌, arith, Result, Ok, Err, IfOk, IsErrAnd}
+use Rattle.std.proofs.Common.{◌≡◌, ℕ, List, [], ◌∷◌, inl, inr, sym, ap, ap₂, subst, ◌∙◌, Result, Ok, Err, IfOk, IsErrAnd}
+use Rattle.std.specs.List.{AllByRecursion}
 use Rattle.graphql_lexical.specs.Place.{Place}
 use Rattle.graphql_lexical.specs.Kinds.{LexicalError}
 use Rattle.graphql_lexical.specs.Cutting.{Lexeme, CutFrom, BreaksFrom, Cut, Breaks}
 use Rattle.graphql_lexical.proofs.Cuts.{one_end}
 use Rattle.graphql_grammar.specs.Tree.{Scalars, Definition}
 use Rattle.graphql_grammar.specs.Grammar.{IsDocument}
-use Rattle.graphql_grammar.specs.Faults.{DocumentRefusedAt}
+use Rattle.graphql_grammar.specs.Faults.{EndsOnce, DocumentRefusedAt}
+use Rattle.graphql_grammar.specs.Tokens.{IsSpelled}
 use Rattle.graphql_grammar.specs.Reading.{Took, Refused, Out, GivesWhole, document, fully}
 use Rattle.graphql_grammar.specs.Reading as reading
 use Rattle.graphql_grammar.proofs.Given.{document_given}
-use Rattle.graphql_grammar.proofs.Readers.{document_reads, one_document}
+use Rattle.graphql_grammar.proofs.OneFault.{never_both}
+use Rattle.graphql_grammar.proofs.Readers.{one_document}
 use Rattle.graphql_grammar.proofs.Spelling.{cut_spelled, cut_ends}
+use Rattle.graphql_grammar.proofs.Texts.{fault_in_text}
 use Rattle.juniper_tokens.specs.declared.error.ParseFailure.{ParseFailure}
 use Rattle.juniper_tokens.specs.declared.error.ParseFailure.TheVariants as failure
 use Rattle.juniper_tokens.specs.declared.error.LexFailure.{LexFailure}
@@ -26,7 +30,7 @@ use Rattle.juniper_tokens.specs.Gathering.{IfFault}
 use Rattle.juniper.specs.Seen.{seen}
 use Rattle.juniper.specs.Definitions.{document_read}
 use Rattle.juniper.specs.Laws.{FailsAtBreak, IsRefusedAtBreak}
-use Rattle.juniper.specs.Promise.{lexical_fault, HasTree, IsRefusedAt, IsRefusal, IfRefused, AnswersAs}
+use Rattle.juniper.specs.Promise.{lexical_fault, HasTree, IsRefusedAt, IsRefusal, IsRefusalInText, IfRefused, AnswersAs}
 use Rattle.juniper.proofs.Stepping.{seen_took}
 use Rattle.juniper.proofs.SeenDocuments.{document_seen}
 
@@ -38,77 +42,125 @@ same_cut source xs ys c d = elim (one_end source) [
 ]
 
 -- and no break beside it
-pub cut_or_break : (source : List ℕ) (xs : List Lexeme) (error : LexicalError) (at : Place) → Cut source xs → Breaks source error at → ⊥
+pub cut_or_break : (source : List ℕ) (xs : List Lexeme) (error : LexicalError) (at : Place) → Cut source xs
+    → Breaks source error at → ⊥
 cut_or_break source xs error at c b = elim (one_end source) [
   | inl cut ↦ cut.1.no_break error at b
   | inr break ↦ break.2.no_cut xs c
 ]
 
 -- or one break
-pub same_break : (source : List ℕ) (d e : LexicalError) (p q : Place) → Breaks source d p → Breaks source e q → (d ≡ e) × (p ≡ q)
+pub same_break : (source : List ℕ) (d e : LexicalError) (p q : Place) → Breaks source d p → Breaks source e q
+    → (d ≡ e) × (p ≡ q)
 same_break source d e p q b c = elim (one_end source) [
   | inl cut ↦ absurd (cut.1.no_break d p b)
   | inr break ↦ let x = break.2.alone d p b in let y = break.2.alone e q c in (x.0 ∙ sym y.0, x.1 ∙ sym y.1)
 ]
 
-module _ {C : Type 0} (S : Scalars C Error) (source : List ℕ) (ts : List Lexeme) (cut : Cut source ts) where
-  given : GivesWhole (IsDocument S) (DocumentRefusedAt S ts) ts (fully (document S) ts)
-  given = document_given S ts (cut_spelled source ts cut) (cut_ends source ts cut)
+-- ---- what is read of tokens that end once
 
-  accepted : (tree : List (Definition C)) (left : List Lexeme) → document_read S ts ≡ Ok (tree, left) → HasTree S source tree
-  accepted tree left e =
-      let whole = subst (λ z. GivesWhole (IsDocument S) (DocumentRefusedAt S ts) ts z) (seen_took (fully (document S) ts) tree left (document_seen S ts ∙ e)) given in
-      record {
-        lexemes = ts;
-        cut = cut;
-        document = whole.0;
-        only = λ others other d h. one_document S ts other tree (subst (λ (xs : List Lexeme). IsDocument S xs other) (same_cut source others ts d cut) h) whole.0;
-      }
+module _ {C : Type 0} (S : Scalars C Error) (ts : List Lexeme) (spelled : AllByRecursion IsSpelled ts) (ends : EndsOnce ts) where
+  given : GivesWhole (IsDocument S) (DocumentRefusedAt S ts) ts (fully (document S) ts)
+  given = document_given S ts spelled ends
+
+  -- a tree is that of a document
+  pub document_is : (tree : List (Definition C)) (left : List Lexeme) → document_read S ts ≡ Ok (tree, left)
+      → IsDocument S ts tree
+  document_is tree left e =
+      let took = seen_took (fully (document S) ts) tree left (document_seen S ts ∙ e) in
+      (subst (λ z. GivesWhole (IsDocument S) (DocumentRefusedAt S ts) ts z) took given).0
 
   fault_is : (a b : Fault) (p q : List Lexeme) → ◌≡◌ {A = Read (List (Definition C))} (Err (a, p)) (Err (b, q)) → b ≡ a
   fault_is a b p q e = let h : (a, p) ≡ (b, q) = cc in sym (ap (λ (x : Fault × List Lexeme). x.0) h)
 
-  by_read : (fault : Fault) (left : List Lexeme) (z : reading.Read Error (List (Definition C))) → fully (document S) ts ≡ z → GivesWhole (IsDocument S) (DocumentRefusedAt S ts) ts z → seen z ≡ Err (fault, left) → IsRefusal S source fault
-  unfolding fully
-  by_read fault left (Took tree rest) e g q = absurd (cc q)
-  by_read fault left (Refused [] x) e g q = absurd g
-  by_read fault left (Refused (t ∷ rest) x) e (i, r, at) q =
+  by_read : (fault : Fault) (left : List Lexeme) (z : reading.Read Error (List (Definition C)))
+      → GivesWhole (IsDocument S) (DocumentRefusedAt S ts) ts z → seen z ≡ Err (fault, left) → IsRefusedAt S ts fault
+  by_read fault left (Took tree rest) g q = absurd (cc q)
+  by_read fault left (Refused [] x) g q = absurd g
+  by_read fault left (Refused (t ∷ rest) x) (i, r, at) q =
       let is = fault_is _ fault _ left q in
-      let none : (tree : List (Definition C)) → IsDocument S ts tree → ⊥ = λ tree h. (let both = sym ((document_reads S).finds (suc (length ts)) ts tree (omega arith) h) ∙ e in absurd (cc both)) in
       record {
-        no_document = λ others tree d h. none tree (subst (λ (xs : List Lexeme). IsDocument S xs tree) (same_cut source others ts d cut) h);
-        lexical = λ error at b. absurd (cut_or_break source ts error at cut b);
-        grammatical = λ others d. subst (λ (xs : List Lexeme). IsRefusedAt S xs fault) (same_cut source ts others cut d) (record { number = i; token = t; says = x; refused = at; error = ap (λ (f : Fault). f.error) is; span = ap (λ (f : Fault). f.span) is });
+        number = i;
+        token = t;
+        says = x;
+        refused = at;
+        error = ap (λ (f : Fault). f.error) is;
+        span = ap (λ (f : Fault). f.span) is;
       }
-  by_read fault left Out e g q = absurd g
+  by_read fault left Out g q = absurd g
 
-  -- what is answered for the tokens is answered for the text
+  -- a fault is that of the grammar
+  pub refused_is : (fault : Fault) (left : List Lexeme) → document_read S ts ≡ Err (fault, left)
+      → IsRefusedAt S ts fault
+  refused_is fault left e = by_read fault left (fully (document S) ts) given (document_seen S ts ∙ e)
 
-  pub accepts : {X : Type 0} (view : X → List (Definition C)) (result : Result X ParseFailure) → AnswersAs view result (document_read S ts) → IfOk result (λ x. HasTree S source (view x))
-  accepts view (Ok x) a = accepted (view x) a.0 a.1
+-- ---- what holds of the tokens of a text holds of the text
+
+module _ {C : Type 0} (S : Scalars C Error) (source : List ℕ) (ts : List Lexeme) (cut : Cut source ts) where
+  document_there : (others : List Lexeme) (tree : List (Definition C)) → Cut source others → IsDocument S others tree
+      → IsDocument S ts tree
+  document_there others tree d h = subst (λ (xs : List Lexeme). IsDocument S xs tree) (same_cut source others ts d cut) h
+
+  pub tree_of : (tree : List (Definition C)) → IsDocument S ts tree → HasTree S source tree
+  tree_of tree document = record {
+    lexemes = ts;
+    cut = cut;
+    document = document;
+    only = λ others other d h. one_document S ts other tree (document_there others other d h) document;
+  }
+
+  pub refusal_at : (fault : Fault) → IsRefusedAt S ts fault → IsRefusal S source fault
+  refusal_at fault at = record {
+    no_document = λ others tree d h. never_both S ts tree at.number (cut_spelled source ts cut) (document_there others tree d h) at.refused.fault;
+    lexical = λ error place b. absurd (cut_or_break source ts error place cut b);
+    grammatical = λ others d. subst (λ (xs : List Lexeme). IsRefusedAt S xs fault) (same_cut source ts others cut d) at;
+  }
+
+  pub accepts : {X : Type 0} (view : X → List (Definition C)) (result : Result X ParseFailure)
+      → AnswersAs view result (document_read S ts) → IfOk result (λ x. HasTree S source (view x))
+  accepts view (Ok x) a = tree_of (view x) (document_is S ts (cut_spelled source ts cut) (cut_ends source ts cut) (view x) a.0 a.1)
   accepts view (Err e) a = tt
 
-  pub refuses : {X : Type 0} (view : X → List (Definition C)) (result : Result X ParseFailure) → AnswersAs view result (document_read S ts) → IfRefused result (λ fault. IsRefusal S source (view_fault fault))
+  pub refuses : {X : Type 0} (view : X → List (Definition C)) (result : Result X ParseFailure)
+      → AnswersAs view result (document_read S ts) → IfRefused result (λ fault. IsRefusal S source (view_fault fault))
   refuses view (Ok x) a = tt
-  refuses view (Err (failure.Refused fault)) a = by_read (view_fault fault) a.0 (fully (document S) ts) refl given (document_seen S ts ∙ a.1)
+  refuses view (Err (failure.Refused fault)) a = refusal_at (view_fault fault) (refused_is S ts (cut_spelled source ts cut) (cut_ends source ts cut) (view_fault fault) a.0 a.1)
   refuses view (Err failure.Memory) a = tt
 
-pub lexical : {C : Type 0} (S : Scalars C Error) (source : List ℕ) (error : LexicalError) (at : Place) (fault : Fault) → Breaks source error at → fault ≡ lexical_fault error at → IsRefusal S source fault
+pub lexical : {C : Type 0} (S : Scalars C Error) (source : List ℕ) (error : LexicalError) (at : Place) (fault : Fault)
+    → Breaks source error at → fault ≡ lexical_fault error at → IsRefusal S source fault
 lexical S source error at fault b e = record {
   no_document = λ lexemes tree c d. cut_or_break source lexemes error at c b;
   lexical = λ other place c. let s = same_break source error other at place b c in e ∙ ap₂ lexical_fault s.0 s.1;
   grammatical = λ lexemes c. absurd (cut_or_break source lexemes error at c b);
 }
 
+-- a refusal in tokens is one in characters
+pub refusal_in_text : {C : Type 0} (S : Scalars C Error) (source : List ℕ) (fault : Fault) → IsRefusal S source fault
+    → IsRefusalInText S source fault
+refusal_in_text S source fault h = λ lexemes cut.
+    let at = h.grammatical lexemes cut in
+    (at, fault_in_text S source lexemes at.number cut at.refused.fault)
+
+pub in_text : {C X : Type 0} (S : Scalars C Error) (source : List ℕ) (result : Result X ParseFailure)
+    → IfRefused result (λ fault. IsRefusal S source (view_fault fault))
+    → IfRefused result (λ fault. IsRefusalInText S source (view_fault fault))
+in_text S source (Ok x) h = tt
+in_text S source (Err (failure.Refused fault)) h = refusal_in_text S source (view_fault fault) h
+in_text S source (Err failure.Memory) h = tt
+
 -- a lexer that was just made stands at the beginning
-pub cut_from_start : (state : LexerState) (source : List ℕ) (lexemes : List Lexeme) → state ≡ started source → CutFrom state.source state.index lexemes → Cut source lexemes
+pub cut_from_start : (state : LexerState) (source : List ℕ) (lexemes : List Lexeme) → state ≡ started source
+    → CutFrom state.source state.index lexemes → Cut source lexemes
 cut_from_start state source lexemes e c = subst (λ (s : LexerState). CutFrom s.source s.index lexemes) e c
 
-pub break_from_start : (state : LexerState) (source : List ℕ) (error : LexicalError) (at : Place) → state ≡ started source → BreaksFrom state.source state.index error at → Breaks source error at
+pub break_from_start : (state : LexerState) (source : List ℕ) (error : LexicalError) (at : Place)
+    → state ≡ started source → BreaksFrom state.source state.index error at → Breaks source error at
 break_from_start state source error at e b = subst (λ (s : LexerState). BreaksFrom s.source s.index error at) e b
 
 -- a lexical fault, as the parser tells it
-pub told_lexical : (fault : Spanning LexerError) → fault.span.end ≡ fault.span.start → view_fault (record { item = parse.LexerError fault.item; span = fault.span }) ≡ lexical_fault (view_lexer_error fault.item) fault.span.start
+pub told_lexical : (fault : Spanning LexerError) → fault.span.end ≡ fault.span.start
+    → view_fault (record { item = parse.LexerError fault.item; span = fault.span }) ≡ lexical_fault (view_lexer_error fault.item) fault.span.start
 told_lexical fault e = ap (λ (end : Place). record { error = Lexical (view_lexer_error fault.item); span = record { start = fault.span.start; end = end } }) e
 
 pub told_break : (source : List ℕ) (failed : LexFailure) → FailsAtBreak source failed → IsRefusedAtBreak source (failure_of failed)
@@ -117,13 +169,16 @@ told_break source lexing.Memory f = tt
 
 -- What a lexer that was just made failed for is why its text is refused: P is what is promised of a fault.
 module _ {Y : Type 0} (X : Type 0) (source : List ℕ) (P : Fault → Type 0) (broken : (error : LexicalError) (at : Place) (fault : Fault) → Breaks source error at → fault ≡ lexical_fault error at → P fault) where
-  pub refused_by_lexer : (state : LexerState) (failed : LexFailure) (result : Result Y ParseFailure) → state ≡ started source
+  pub refused_by_lexer : (state : LexerState) (failed : LexFailure) (result : Result Y ParseFailure)
+      → state ≡ started source
       → IfFault {X = X} (Err failed) (λ fault. BreaksFrom state.source state.index (view_lexer_error fault.item) fault.span.start) → IfFault {X = X} (Err failed) (λ fault. fault.span.end ≡ fault.span.start)
       → IsErrAnd result (λ e. e ≡ failure_of failed) → IfRefused result (λ fault. P (view_fault fault))
   refused_by_lexer state failed (Ok y) e b z h = tt
   refused_by_lexer state failed (Err x) e b z h = subst (λ (y : ParseFailure). IfRefused {X = Y} (Err y) (λ fault. P (view_fault fault))) (sym h) (by_failure failed b z)
     where
-      by_failure : (f : LexFailure) → IfFault {X = X} (Err f) (λ fault. BreaksFrom state.source state.index (view_lexer_error fault.item) fault.span.start) → IfFault {X = X} (Err f) (λ fault. fault.span.end ≡ fault.span.start)
+      by_failure : (f : LexFailure)
+          → IfFault {X = X} (Err f) (λ fault. BreaksFrom state.source state.index (view_lexer_error fault.item) fault.span.start)
+          → IfFault {X = X} (Err f) (λ fault. fault.span.end ≡ fault.span.start)
           → IfRefused {X = Y} (Err (failure_of f)) (λ fault. P (view_fault fault))
       by_failure (lexing.Fault fault) b z = broken _ _ _ (break_from_start state source _ _ e b) (told_lexical fault z)
       by_failure lexing.Memory b z = tt

@@ -6,6 +6,7 @@ pub mod Parts
 pub mod Selections
 pub mod Definitions
 pub mod Promise
+pub mod Within
 pub mod Equality
 pub mod EqualityLaws
 pub mod Named

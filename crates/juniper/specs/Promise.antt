@@ -7,6 +7,7 @@ use Rattle.graphql_grammar.specs.Tree.{Scalars, Value, TypeRef, Definition}
 use Rattle.graphql_grammar.specs.Grammar.{IsValue, IsType, IsDocument}
 use Rattle.graphql_grammar.specs.Faults as grammar
 use Rattle.graphql_grammar.specs.Faults.{DocumentRefusedAt, ValueRefusedAt, TypeRefusedAt}
+use Rattle.graphql_grammar.specs.Texts.{AtFaultInText}
 use Rattle.graphql_grammar.specs.Tokens.{span_of}
 use Rattle.juniper_tokens.specs.declared.error.ParseError.{ParseError}
 use Rattle.juniper_tokens.specs.declared.error.ParseFailure.{ParseFailure}
@@ -43,6 +44,11 @@ module _ {C : Type 0} (S : Scalars C Error) where
     pub no_document : (lexemes : List Lexeme) (tree : List (Definition C)) → Cut source lexemes → IsDocument S lexemes tree → ⊥
     pub lexical : (error : LexicalError) (at : Place) → Breaks source error at → fault ≡ lexical_fault error at
     pub grammatical : (lexemes : List Lexeme) → Cut source lexemes → IsRefusedAt lexemes fault
+
+  -- Where the text can be cut into tokens, the fault is that of the grammar, in characters, too: up to the end of the
+  -- token before the refused one the text goes on, after a space, to a document's, and up to the refused one's it doesn't.
+  abbrev pub IsRefusalInText : List ℕ → Fault → Type 0
+  IsRefusalInText source fault = (lexemes : List Lexeme) → Cut source lexemes → (at : IsRefusedAt lexemes fault) × AtFaultInText S source lexemes at.number
 
 -- Where a text was refused, P holds of the error and its place.
 abbrev pub IfRefused : {X : Type 0} → Result X ParseFailure → (Spanning ParseError → Type 0) → Type 0

@@ -5,7 +5,7 @@ ghost use Rattle.juniper_tokens.specs.Errors.{view_fault};
 ghost use Rattle.juniper.specs.View.{view_document};
 ghost use Rattle.juniper.specs.Scalars.{stated};
 ghost use Rattle.juniper.specs.Definitions.{document_read};
-ghost use Rattle.juniper.specs.Promise.{HasTree, IsRefusal, IfRefused, AnswersAs};
+ghost use Rattle.juniper.specs.Promise.{HasTree, IsRefusal, IsRefusalInText, IfRefused, AnswersAs};
 
 use crate::ast::OwnedDocument;
 use crate::definition::parse_definition;
@@ -20,13 +20,15 @@ use std::alloc::Global;
 /// span runs from the first character of its part's first token to the place behind the last one. A text that can't
 /// be cut into tokens is refused as `ParseError::LexerError` at its first lexical fault, whatever stands before it.
 /// Any other text is refused at the first token with which no document goes on: at the end as `UnexpectedEndOfFile`, at
-/// a scalar that the scalar type refuses with that type's error, and else as `UnexpectedToken`.
+/// a scalar that the scalar type refuses with that type's error, and else as `UnexpectedToken`. What is written up to
+/// the end of the token before goes on to a document's text, after a space and with the same tokens in the same places.
 pub fn parse_document_source<'a, S: ScalarValue>(
     alloc: Global,
     s: &'a str,
 ) -> UnlocatedParseResult<OwnedDocument<'a, S>>
     ensures accepted { IfOk result (λ tree. HasTree (stated S.reading S.of_bool) (chars s.now) (view_document S.content tree)) }
     ensures refused { IfRefused result (λ fault. IsRefusal (stated S.reading S.of_bool) (chars s.now) (view_fault fault)) }
+    ensures in_characters { IfRefused result (λ fault. IsRefusalInText (stated S.reading S.of_bool) (chars s.now) (view_fault fault)) }
 {
     let mut lexer = Lexer::new(alloc, s);
     let mut parser = Parser::new(&mut lexer)?;
@@ -34,7 +36,7 @@ pub fn parse_document_source<'a, S: ScalarValue>(
 }
 
 /// `Definition+`, up to the end, which is left there.
-fn parse_definitions<'a, S: ScalarValue>(
+pub(crate) fn parse_definitions<'a, S: ScalarValue>(
     parser: &mut Parser<'a>,
 ) -> UnlocatedParseResult<OwnedDocument<'a, S>>
     ensures { AnswersAs (view_document S.content) result (document_read (stated S.reading S.of_bool) parser.old) }

@@ -1,6 +1,7 @@
 //! Laws of source texts, of displays and of views: the contracts of functions that do nothing. Those of tokens, of input
 //! values and of answer values stand in modules of their own.
 ghost use Rattle.std.specs.Prelude.{◌≡◌, ◌⊎◌, ℕ, List};
+ghost use Rattle.graphql_lexical.specs.Place.{Span};
 ghost use Rattle.graphql_lexical.specs.Tokens.{IsName};
 ghost use Rattle.graphql_lexical.specs.Cutting.{Lexeme, Cut};
 ghost use Rattle.graphql_lexical.specs.Alike.{AllAlike};
@@ -22,6 +23,7 @@ ghost use Rattle.juniper.specs.Promise.{HasTree, IsRefusal};
 ghost use Rattle.juniper.specs.Laws.{CutsOnce, FailsAtBreak, IsRefusedAtBreak, SeesValues, SeesSelections};
 ghost use Rattle.juniper.specs.Scalars.{stated};
 ghost use Rattle.juniper.specs.Sources.{AreRefusedAlike};
+ghost use Rattle.juniper.specs.Within.{HasTooDeep};
 
 pub use juniper_answers::laws as answers;
 pub use juniper_tokens::laws as tokens;
@@ -43,6 +45,11 @@ pub fn document_or_fault<S: ScalarValue>()
     ensures either { (source : List ℕ) → ((tree : List (Definition Content)) × HasTree (stated S.reading S.of_bool) source tree) ⊎ ((fault : Fault) × IsRefusal (stated S.reading S.of_bool) source fault) }
     ensures one { (source : List ℕ) (f g : Fault) → IsRefusal (stated S.reading S.of_bool) source f → IsRefusal (stated S.reading S.of_bool) source g → f ≡ g }
     ensures never_both { (source : List ℕ) (tree : List (Definition Content)) (fault : Fault) → HasTree (stated S.reading S.of_bool) source tree → IsRefusal (stated S.reading S.of_bool) source fault → ⊥ }
+{}
+
+/// A source text has one token at most that is nested too deep.
+pub fn one_too_deep<S: ScalarValue>()
+    ensures { (depth : ℕ) (source : List ℕ) (a b : Span) → HasTooDeep (stated S.reading S.of_bool) depth source a → HasTooDeep (stated S.reading S.of_bool) depth source b → a ≡ b }
 {}
 
 /// Two source texts whose tokens are alike, in kinds and texts, both are documents, whose trees differ in spans alone,

@@ -4,7 +4,7 @@ use Rattle.std.specs.Prelude.{option_map, ◌/◌, ◌%◌}
 use Rattle.std.specs.List.{AllByRecursion, fold}
 use Rattle.std.proofs.lemmas.Str.{encode_ascii}
 use Rattle.std.proofs.lemmas.List.{drop_all}
-use Rattle.graphql_lexical.specs.Scan.{onward, reach}
+use Rattle.graphql_lexical.specs.Machines.{onward, reach}
 use lib.Utf8.{encode, encodes, next}
 use lib.Dec.{ltb}
 use Rattle.juniper_tokens.specs.ByteRuns.{is_inner, byte_step, IsSamePastAscii, byte_at, with_value, byte_change}

@@ -14,7 +14,8 @@ use Rattle.graphql_lexical.specs.Kinds.{same_kind, LexicalError, UnknownEscapeSe
 use Rattle.graphql_lexical.specs.Kinds as errors
 use Rattle.graphql_lexical.specs.Place.{Place, place, past_character}
 use Rattle.graphql_lexical.specs.Cutting.{Stands}
-use Rattle.graphql_lexical.specs.Scan.{Found, Missed, scan, gap_size, gap_step, reach, step, Start}
+use Rattle.graphql_lexical.specs.Machines.{reach}
+use Rattle.graphql_lexical.specs.Scan.{Found, Missed, scan, gap_size, gap_step, step, Start}
 use Rattle.graphql_lexical.proofs.Answers.{finds_what_reads, misses_what_fails}
 use Rattle.graphql_lexical.proofs.Gaps.{gap_longest}
 use Rattle.graphql_lexical.proofs.Runs.{reach_is}

@@ -6,7 +6,7 @@ use Rattle.std.proofs.lemmas.Bool.{le-leb, cases_Bool, eqb-true}
 use Rattle.std.proofs.lemmas.Bool.Decides.{leb_tells}
 use Rattle.std.proofs.lemmas.Option.{none-some, get_or_from_slice_get}
 use Rattle.graphql_lexical.specs.Place.{Place, place, past_character, next_line, next_column}
-use Rattle.juniper_tokens.specs.LineTables.{Lines, starts_after, lines_of, place_within, AscendFrom, StartLines, IsOnLine}
+use Rattle.juniper_tokens.specs.LineTables.{Lines, starts_after, lines_of, IsTable, place_within, AscendFrom, StartLines, IsOnLine}
 use Rattle.juniper_tokens.proofs.Places.{place_fold}
 
 -- ---- the table ascends
@@ -25,6 +25,9 @@ after_ascend k (c ∷ cs) = after_feed (c == 10) k _ (after_ascend (k + 1) cs)
 
 pub lines_start : (source : List ℕ) → StartLines (0 ∷ starts_after 0 source)
 lines_start source = (refl, after_ascend 0 source)
+
+pub table_starts : (table : Lines) → IsTable table → StartLines table.starts
+table_starts table h = subst StartLines (sym (ap (λ (t : Lines). t.starts) h.is)) (lines_start h.source)
 
 push_feed : (b : Bool) (x : ℕ) (new old more : List ℕ) → new ≡ old ++ more → cond b (x ∷ new) new ≡ cond b (x ∷ old) old ++ more
 push_feed true x new old more e = ap (λ ss. x ∷ ss) e

@@ -4,7 +4,8 @@ use Rattle.std.specs.List.{AllByRecursion, fold}
 use Rattle.std.proofs.lemmas.Option.{none-some}
 use Rattle.std.proofs.lemmas.Bool.{eqb-true}
 use Rattle.graphql_lexical.specs.Scan as scans
-use Rattle.graphql_lexical.specs.Scan.{State, Start, step, reach, onward}
+use Rattle.graphql_lexical.specs.Machines.{reach, onward}
+use Rattle.graphql_lexical.specs.Scan.{State, Start, step}
 use Rattle.graphql_lexical.proofs.Runs.{reach_is}
 use Rattle.graphql_lexical.proofs.Places.{place_push}
 use Rattle.std.proofs.lemmas.List.{length-take-le}

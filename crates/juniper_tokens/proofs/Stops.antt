@@ -9,10 +9,12 @@ use Rattle.graphql_lexical.specs.Characters.{is_hex}
 use Rattle.graphql_lexical.specs.declared.kind.Kind.{Kind}
 use Rattle.graphql_lexical.specs.declared.kind.Kind.TheVariants.{String}
 use Rattle.graphql_lexical.specs.Tokens.{text_of, IsString, Spells}
-use Rattle.graphql_lexical.specs.Scan.{State, Start, Done, Hex0, Hex1, HexD, Hex2, Hex3, step, reach, answer, scan, Found, Missed}
+use Rattle.graphql_lexical.specs.Machines.{reach}
+use Rattle.graphql_lexical.specs.Scan.{State, Start, Done, Hex0, Hex1, HexD, Hex2, Hex3, step, answer, scan, Found, Missed}
 use Rattle.graphql_lexical.proofs.Runs.{reach_is}
 use Rattle.graphql_lexical.proofs.Numbers.{d_hex}
 use Rattle.graphql_lexical.proofs.History.{IsRead, read_run, IsOpen}
+use Rattle.graphql_lexical.proofs.Slices.{unquoted}
 use Rattle.juniper_tokens.specs.ByteRuns.{byte_at}
 use Rattle.juniper_tokens.specs.declared.lexer.text.Border.{Border}
 use Rattle.juniper_tokens.specs.declared.lexer.machine.Punctuator.{Punctuator}
@@ -158,12 +160,6 @@ mark_text cs q p b n h e = whole p (take n cs) ∙ mark_spelled p (take n cs) (s
 
 -- ---- a string's text
 
--- the fact in a form of lists alone
-pub unquoted_list : (units : List ℕ) → take (length (34 ∷ units ++ 34 ∷ []) - 2) (drop 1 (34 ∷ units ++ 34 ∷ [])) ≡ units
-unquoted_list units =
-    let count : length (34 ∷ units ++ 34 ∷ []) - 2 ≡ length units = omega (arith, length-append units (34 ∷ [])) in
-    ap (λ k. take k (units ++ 34 ∷ [])) count ∙ take-append_seam units (34 ∷ [])
-
 before_last : (n : ℕ) (cs units : List ℕ) → n ≤ length cs → take n cs ≡ 34 ∷ units ++ 34 ∷ [] → take (n - 1) cs ≡ 34 ∷ units
 before_last n cs units l h =
     let count : n ≡ 1 + (length units + 1) = omega (arith, length-take-le n cs l, ap length h, length-append units (34 ∷ [])) in
@@ -173,7 +169,7 @@ before_last n cs units l h =
 
 pub unquoted_text : (cs : List ℕ) (b n : ℕ) (t : List ℕ) → EndsString cs b n → t ≡ drop 1 (take (n - 1) cs) → t ≡ text_of String (take n cs)
 unquoted_text cs b n t e h =
-    h ∙ (ap (drop 1) (before_last n cs e.units e.within e.whole) ∙ (sym (unquoted_list e.units) ∙ ap (λ (x : List ℕ). take (length x - 2) (drop 1 x)) (sym e.whole)))
+    h ∙ (ap (drop 1) (before_last n cs e.units e.within e.whole) ∙ (sym (unquoted e.units) ∙ ap (λ (x : List ℕ). take (length x - 2) (drop 1 x)) (sym e.whole)))
 
 pub first_quote : (cs : List ℕ) (b n : ℕ) (t : List ℕ) → EndsString cs b n → t ≡ take (n - 1) cs → 1 ≡ byte_at 1 t
 first_quote cs b n t e h = sym (ap (byte_at 1) (h ∙ before_last n cs e.units e.within e.whole) ∙ ap (λ (x : List ℕ). length (x ++ [])) (encode_ascii 34 (omega arith)))

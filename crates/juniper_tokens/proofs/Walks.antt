@@ -7,8 +7,10 @@ use Rattle.std.specs.List.{fold}
 use Rattle.std.proofs.lemmas.List.{length-take-le}
 use Rattle.graphql_lexical.specs.Place.{Place, past_character}
 use Rattle.graphql_lexical.specs.Characters.{is_nonzero_digit, is_name_start}
+use Rattle.graphql_lexical.specs.Tokens.{punctuator}
 use Rattle.graphql_lexical.specs.Scan as scans
-use Rattle.graphql_lexical.specs.Scan.{reach, step, gap_step, gap_size, Start}
+use Rattle.graphql_lexical.specs.Machines.{reach}
+use Rattle.graphql_lexical.specs.Scan.{step, gap_step, gap_size, Start}
 use Rattle.graphql_lexical.proofs.Runs.{reach_is}
 use Rattle.juniper_tokens.specs.ByteRuns.{byte_step, byte_change, IsSamePastAscii, byte_at, with_value, count_one}
 use Rattle.juniper_tokens.specs.Walks.{HasReached, EndsGap, left_step}
@@ -52,7 +54,7 @@ at_past_ascii _ = None
 eq_past_ascii : (c k : ℕ) → k < 128 → 128 ≤ c → (c == k) ≡ false
 eq_past_ascii c k l m = grind arith
 
-punctuator_past_ascii : (c : ℕ) → 128 ≤ c → scans.punctuator c ≡ None
+punctuator_past_ascii : (c : ℕ) → 128 ≤ c → punctuator c ≡ None
 punctuator_past_ascii c l = rw (eq_past_ascii c 33 (omega arith) l, eq_past_ascii c 36 (omega arith) l, eq_past_ascii c 40 (omega arith) l, eq_past_ascii c 41 (omega arith) l, eq_past_ascii c 91 (omega arith) l, eq_past_ascii c 93 (omega arith) l, eq_past_ascii c 123 (omega arith) l, eq_past_ascii c 125 (omega arith) l, eq_past_ascii c 58 (omega arith) l, eq_past_ascii c 61 (omega arith) l, eq_past_ascii c 64 (omega arith) l, eq_past_ascii c 124 (omega arith) l) refl
 
 digit_past_ascii : (c : ℕ) → 128 ≤ c → is_nonzero_digit c ≡ false

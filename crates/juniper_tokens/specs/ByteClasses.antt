@@ -2,6 +2,7 @@
 use Rattle.std.specs.Prelude.{◌≡◌, ℕ, zero, suc, Bool, true, false, not, ◌&&◌, ◌==◌, nat_lt, if◌then◌else◌, Option, Some, None, option_map, is_some, List, [], ◌∷◌, count_by}
 use denote.Enum.Bare.{sameb}
 use Rattle.graphql_lexical.specs.Characters.{is_white, is_name_start, is_digit}
+use Rattle.graphql_lexical.specs.Tokens as tokens
 use Rattle.graphql_lexical.specs.Scan as scans
 use Rattle.juniper_tokens.specs.contracts.byte_classes.ByteClass.{the_type}
 use Rattle.juniper_tokens.specs.declared.byte_classes.ByteClass.{ByteClass}
@@ -17,7 +18,7 @@ class_of b =
     else (if b == 45 then Minus
     else (if is_name_start b then NameStart
     else (if is_digit b then Digit
-    else (if is_some (scans.punctuator b) then Punctuator
+    else (if is_some (tokens.punctuator b) then Punctuator
     else (if nat_lt b 32 then Control
     else (if nat_lt b 128 then Other
     else (if nat_lt b 192 then Inner
@@ -75,7 +76,7 @@ first_state Digit b = if b == 48 then Some scans.Zero else Some scans.Digits
 first_state Minus b = Some scans.Minus
 first_state Dot b = Some scans.Dot
 first_state Quote b = Some scans.Units
-first_state Punctuator b = option_map scans.Done (scans.punctuator b)
+first_state Punctuator b = option_map scans.Done (tokens.punctuator b)
 first_state _ b = None
 
 -- it stands in a string for itself

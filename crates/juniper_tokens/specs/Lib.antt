@@ -7,6 +7,7 @@ pub mod TokenLaws
 pub mod Errors
 pub mod Cursor
 pub mod Delimited
+pub mod Nesting
 pub mod DelimitedParts
 pub mod ByteClasses
 pub mod ByteRuns

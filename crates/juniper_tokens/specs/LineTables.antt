@@ -15,6 +15,11 @@ starts_after k (c ∷ cs) = if c == 10 then (k + 1) ∷ starts_after (k + 1) cs 
 abbrev pub lines_of : List ℕ → Lines
 lines_of source = record { starts = 0 ∷ starts_after 0 source; count = length source }
 
+-- The table is that of some source.
+pub record IsTable (table : Lines) : Type 0 where
+  pub source : List ℕ
+  pub is : table ≡ lines_of source
+
 -- place k of a source, where there is such a place
 abbrev pub place_within : List ℕ → ℕ → Option Place
 place_within source k = if nat_le k (length source) then Some (place source k) else None

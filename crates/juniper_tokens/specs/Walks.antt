@@ -2,7 +2,8 @@
 use Rattle.std.specs.Prelude.{◌≡◌, ℕ, ◌-◌, ◌==◌, if◌then◌else◌, Option, Some, None, List, take}
 use Rattle.std.specs.List.{fold}
 use Rattle.graphql_lexical.specs.Place.{Place, past_character}
-use Rattle.graphql_lexical.specs.Scan.{State, Start, reach, step, gap_size}
+use Rattle.graphql_lexical.specs.Machines.{reach}
+use Rattle.graphql_lexical.specs.Scan.{State, Start, step, gap_size}
 use Rattle.juniper_tokens.specs.ByteRuns.{byte_at}
 
 -- the state, the byte and the character at which the steps of a token stop

@@ -3,7 +3,9 @@ ghost use Rattle.std.specs.Prelude.{◌≡◌, ℕ, List, Option, Some, IsTrue, 
 ghost use Rattle.juniper_tokens.specs.PositionOrder.{compare_places};
 ghost use Rattle.std.specs.Ordering.{is_eq};
 ghost use Rattle.graphql_lexical.specs.Place.{Place};
-ghost use Rattle.graphql_lexical.specs.Laws.{HasOneEnd, HasFewTokens, HasSlicesInOrder, StepsByCharacters};
+ghost use Rattle.graphql_lexical.specs.Joining.{Joins};
+ghost use Rattle.graphql_lexical.specs.Spacing.{GoesOnSpaced};
+ghost use Rattle.graphql_lexical.specs.Laws.{HasOneAnswer, HasOneEnd, HasFewTokens, HasSlicesInOrder, StepsByCharacters};
 ghost use Rattle.juniper_tokens.specs.declared.span.Span.{Span};
 ghost use Rattle.juniper_tokens.specs.declared.span.Spanning.{Spanning};
 ghost use Rattle.juniper_tokens.specs.ByteClasses.{CountsOfClasses};
@@ -11,6 +13,7 @@ ghost use Rattle.juniper_tokens.specs.ByteRuns.{GoesOverBytes};
 
 use crate::position::SourcePosition;
 use crate::span::{Span, Spanning};
+use graphql_lexical::laws as lexical;
 use std::hash::Hash;
 
 /// Steps that are the same at all characters past ASCII go over the bytes of a text as over its characters.
@@ -24,28 +27,60 @@ pub fn counts_of_classes()
     ensures { CountsOfClasses }
 {}
 
+/// What stands at the front of a text is exactly one token or exactly one fault.
+pub fn one_answer()
+    ensures { (rest : List ℕ) → HasOneAnswer rest }
+{
+    lexical::one_answer();
+}
+
 /// A source has exactly one cut into tokens or exactly one break, which is its first fault.
 pub fn one_end()
     ensures { (source : List ℕ) → HasOneEnd source }
-{}
+{
+    lexical::one_end();
+}
+
+/// Where two texts are put together that can't run into each other, the cut goes on: the tokens of the first without
+/// the end, with their spans, and then tokens alike with those of the second.
+pub fn joined_texts()
+    ensures { (a b : List ℕ) → Joins a b }
+{
+    lexical::joined_texts();
+}
+
+/// Up to the end of one of its tokens that isn't its last, or up to its beginning, a source goes on with a space and
+/// then spelled tokens, a space behind each: the cut has the source's tokens up to that one, with their spans, then
+/// tokens alike with those, and the end.
+pub fn spaced_texts()
+    ensures { (source : List ℕ) → GoesOnSpaced source }
+{
+    lexical::spaced_texts();
+}
 
 /// A source of n characters has at most n + 1 tokens, the last of which and no other is the end.
 pub fn few_tokens()
     ensures { (source : List ℕ) → HasFewTokens source }
-{}
+{
+    lexical::few_tokens();
+}
 
-/// A token's text is the slice of the source between its places, of a String without the quotes. Each token
+/// The slice of the source between a token's places is its text, of a String a quote, its text and a quote. Each token
 /// stands behind the one before it.
 pub fn slices_in_order()
     ensures { (source : List ℕ) → HasSlicesInOrder source }
-{}
+{
+    lexical::slices_in_order();
+}
 
 /// The place of a source's beginning is the origin, and each further place follows from the one before it by
 /// the character between: a line feed begins a line, and any other character, a carriage return too, goes one
 /// column on.
 pub fn places_step_by_characters()
     ensures { (source : List ℕ) → StepsByCharacters source }
-{}
+{
+    lexical::places_step_by_characters();
+}
 
 /// The orders of positions agree with equality, and with one another: index, then line, then column.
 pub fn positions_agree()

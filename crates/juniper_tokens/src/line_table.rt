@@ -2,7 +2,7 @@
 ghost use Rattle.std.specs.Prelude.{◌≡◌, ◌-◌, ◌≤◌, List, ℕ, length, IfOk, MatchOption};
 ghost use Rattle.std.specs.Str.{chars};
 ghost use Rattle.graphql_lexical.specs.Place.{place};
-ghost use Rattle.juniper_tokens.specs.LineTables.{lines_of, place_within, StartLines, IsOnLine, IsOffLine};
+ghost use Rattle.juniper_tokens.specs.LineTables.{lines_of, IsTable, place_within, StartLines, IsOnLine, IsOffLine};
 
 use crate::position::SourcePosition;
 use std::alloc::{AllocError, Global};
@@ -18,13 +18,13 @@ pub struct LineTable {
 }
 
 impl Model for LineTable {
-    ghost use Rattle.juniper_tokens.specs.LineTables.{Lines, StartLines};
+    ghost use Rattle.juniper_tokens.specs.LineTables.{Lines, IsTable};
 
     ghost Value = { Lines };
 
     ghost view = { λ t. record { starts = t.starts.items; count = t.count } };
 
-    ghost invariant = { λ t. StartLines t.starts.items };
+    ghost invariant = { λ t. IsTable (record { starts = t.starts.items; count = t.count }) };
 }
 
 /// A line's number and the index of the character at which it begins.
@@ -62,9 +62,10 @@ impl LineTable {
         Ok(LineTable { starts, count })
     }
 
-    /// The place behind `index` characters, or None where the source has fewer.
+    /// The place behind `index` characters of the table's source, or None where that has fewer.
     pub fn position(&self, index: usize) -> Option<SourcePosition>
-        ensures { (source : List ℕ) → self.now ≡ lines_of source → result ≡ place_within source index }
+        ensures table { IsTable self.now }
+        ensures place { (source : List ℕ) → self.now ≡ lines_of source → result ≡ place_within source index }
     {
         if index > self.count {
             return None;

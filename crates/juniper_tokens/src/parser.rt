@@ -1,6 +1,7 @@
 //! The cursor over the tokens of a source.
 ghost use Rattle.std.specs.Prelude.{◌≡◌, ◌<◌, ◌≤◌, ◌∷◌, drop, false, true, length, option_map, OnOk, IfOk};
 ghost use Rattle.std.specs.List.{All};
+ghost use Rattle.std.specs.Global.{Global as Allocator};
 ghost use Rattle.std.specs.Str.{chars};
 ghost use Rattle.graphql_lexical.specs.declared.kind.Kind.TheVariants.{EndOfFile};
 ghost use Rattle.graphql_lexical.specs.Kinds.{same_kind};
@@ -10,12 +11,14 @@ ghost use Rattle.juniper_tokens.specs.Gathering.{IfFault, IfMemory, StandsLaterO
 ghost use Rattle.juniper_tokens.specs.LineTables.{lines_of};
 ghost use Rattle.juniper_tokens.specs.Ranges.{IsRange, range_lexemes};
 ghost use Rattle.juniper_tokens.specs.Tokens.{token_kind, token_text, view_token, view_name};
+ghost use Rattle.juniper_tokens.specs.Nesting.{EndsAtNesting};
 ghost use Rattle.juniper_tokens.specs.Cursor.{Gives, FrontGives, OnMemory, Unmoved, EndsOnce, first_of, kind_at, is_wanted, next_at, refused_at, expect_at, expect_name_at, skip_at};
 
 use crate::error::{LexFailure, OptionParseResult, ParseError, ParseFailure, ParseResult};
 use crate::lexer::Lexer;
 use crate::line_table::LineTable;
-use crate::span::Spanning;
+use crate::nesting::{end_behind, first_deeper};
+use crate::span::{Span, Spanning};
 use crate::token::Token;
 use crate::token_range::TokenRange;
 use std::alloc::Global;
@@ -104,8 +107,24 @@ impl<'a> Parser<'a> {
     }
 
     /// The allocator of the lexer that gave the tokens.
-    pub fn allocator(&self) -> Global {
+    pub fn allocator(&self) -> Global
+        ensures { (given : Allocator) → result ≡ given }
+    {
         self.alloc
+    }
+
+    /// Ends the tokens behind the first one at which more brackets are open than `depth`, and gives its span.
+    ///
+    /// A bracket is `(`, `[` or `{`. The end then stands where that token ends. Where there is no such token, None is
+    /// the answer, and nothing changes.
+    pub fn end_at_nesting(&mut self, depth: usize) -> Option<Span>
+        ensures { EndsAtNesting depth self.old result self.new }
+    {
+        let last = self.taken + first_deeper(&self.ranges[self.taken..], depth)?;
+        let range = self.ranges[last];
+        let span = range.located(self.source, &self.lines, 0).span;
+        end_behind(&mut self.ranges, last, range.end);
+        Some(span)
     }
 
     /// The next token, which is left there.

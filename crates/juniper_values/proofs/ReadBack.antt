@@ -10,7 +10,7 @@ use Rattle.graphql_lexical.specs.Display.{quoted}
 use Rattle.graphql_lexical.specs.Joining.{is_lone, BeginsApart}
 use Rattle.graphql_lexical.specs.Written.{Bare, IsCutInto}
 use Rattle.graphql_lexical.proofs.Writing.{writes_nothing, writes_token, writes_white}
-use Rattle.juniper_tokens.proofs.Stops.{unquoted_list}
+use Rattle.graphql_lexical.proofs.Slices.{unquoted}
 use Rattle.std.proofs.lemmas.Bool.Decides.{nat_tests}
 use Rattle.juniper_values.specs.Text.{Text}
 use Rattle.juniper_values.specs.Escapes.{unescape}
@@ -125,7 +125,7 @@ are_units t h = (plain_pieces t, each t h, together t)
 
 quoted_written : (t : Text) → AllByRecursion (λ c. IsTrue (is_plain c)) t → Writes (quoted t) (token String t ∷ [])
 quoted_written t h rest cs a k =
-    subst (λ (x : Text). IsCutInto (quoted t ++ rest) (token String x ∷ cs)) (unquoted_list t)
+    subst (λ (x : Text). IsCutInto (quoted t ++ rest) (token String x ∷ cs)) (unquoted t)
     (writes_token (quoted t) String rest cs (t, refl, are_units t h) (inr a) k)
 
 integer_written : (t : Text) → Spells t Int → Writes t (token Int t ∷ [])

@@ -3,7 +3,8 @@ ghost use Rattle.std.specs.Prelude.{◌≡◌, ◌==◌, option_map, if◌then�
 ghost use Rattle.graphql_lexical.specs.declared.kind.Kind.TheVariants.{String};
 ghost use Rattle.graphql_lexical.specs.Characters.{is_hex as hex_test, is_escape as escape_test, is_exponent_mark as exponent_mark_test, is_sign as sign_test};
 ghost use Rattle.graphql_lexical.specs.Scan as scans;
-ghost use Rattle.graphql_lexical.specs.Scan.{punctuator as punctuator_kind, step as character_step};
+ghost use Rattle.graphql_lexical.specs.Tokens.{punctuator as punctuator_kind};
+ghost use Rattle.graphql_lexical.specs.Scan.{step as character_step};
 ghost use Rattle.juniper_tokens.specs.Tokens.{token_kind, token_text};
 ghost use Rattle.juniper_tokens.specs.ByteClasses.{class_of, first_state};
 ghost use Rattle.juniper_tokens.specs.ByteRuns.{byte_step};

@@ -3,7 +3,8 @@ ghost use Rattle.std.specs.Prelude.{◌≡◌, ◌+◌, ◌-◌, ◌<◌, ◌^�
 ghost use Rattle.std.specs.Str.{chars};
 ghost use Rattle.graphql_lexical.specs.Kinds.{UnknownEscapeSequence};
 ghost use Rattle.graphql_lexical.specs.Scan as scans;
-ghost use Rattle.graphql_lexical.specs.Scan.{missed, stopped, after_dots, after_units, after_backslash, after_u, after_zero, answer, scan, reach, step as character_step};
+ghost use Rattle.graphql_lexical.specs.Machines.{reach};
+ghost use Rattle.graphql_lexical.specs.Scan.{missed, stopped, after_dots, after_units, after_backslash, after_u, after_zero, answer, scan, step as character_step};
 ghost use Rattle.juniper_tokens.specs.Borders.{IsBorder, FollowsDigits};
 ghost use Rattle.juniper_tokens.specs.Machine.{view_state};
 ghost use Rattle.juniper_tokens.specs.Scans.{MeetsScan, Misses};

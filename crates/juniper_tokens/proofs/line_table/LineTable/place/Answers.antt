@@ -1,11 +1,14 @@
 use Rattle.std.proofs.Common.{ap, ◌∙◌}
 use Rattle.juniper_tokens.specs.LineTables.{Lines}
-use Rattle.juniper_tokens.proofs.Lines.{number_below, line_place}
+use Rattle.juniper_tokens.proofs.Lines.{table_starts, number_below, line_place}
 use Rattle.juniper_tokens.proofs.line_table.LineTable.place.Goals as goal
+
+pub line_of-requires : goal.line_of-requires
+line_of-requires c = rw c.deref.ensures.value (table_starts _ c.self.invariant)
 
 pub position-requires-clause-below : goal.position-requires-clause-below
 position-requires-clause-below c =
-    number_below c.deref.result.now _ _ (rw c.deref.ensures.value c.self.invariant) c.line_of.ensures.begins
+    number_below c.deref.result.now _ _ (rw c.deref.ensures.value (table_starts _ c.self.invariant)) c.line_of.ensures.begins
 
 pub returns : goal.returns
 returns c source e w =

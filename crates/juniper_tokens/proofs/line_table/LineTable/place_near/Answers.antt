@@ -1,11 +1,11 @@
 use Rattle.std.proofs.Common.{ap, ◌∙◌}
 use Rattle.juniper_tokens.specs.LineTables.{Lines}
-use Rattle.juniper_tokens.proofs.Lines.{number_below, line_place}
+use Rattle.juniper_tokens.proofs.Lines.{table_starts, number_below, line_place}
 use Rattle.juniper_tokens.proofs.line_table.LineTable.place_near.Goals as goal
 
 pub position-requires-clause-below : goal.position-requires-clause-below
 position-requires-clause-below c =
-    number_below c.deref.result.now _ _ (rw c.deref.ensures.value c.self.invariant) c.in-Some.ensures.1.begins
+    number_below c.deref.result.now _ _ (rw c.deref.ensures.value (table_starts _ c.self.invariant)) c.in-Some.ensures.1.begins
 
 pub returns-in-Some : goal.returns-in-Some
 returns-in-Some c source e w =
@@ -14,7 +14,7 @@ returns-in-Some c source e w =
 
 pub position-requires-in-Some-line_if_on-clause-below : goal.position-requires-in-Some-line_if_on-clause-below
 position-requires-in-Some-line_if_on-clause-below c =
-    number_below c.deref-2.result.now _ _ (rw c.deref-2.ensures.value c.self.invariant) c.in-Some-line_if_on.ensures.1.begins
+    number_below c.deref-2.result.now _ _ (rw c.deref-2.ensures.value (table_starts _ c.self.invariant)) c.in-Some-line_if_on.ensures.1.begins
 
 pub returns-in-Some-line_if_on : goal.returns-in-Some-line_if_on
 returns-in-Some-line_if_on c source e w =

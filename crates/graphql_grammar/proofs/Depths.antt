@@ -1,0 +1,216 @@
+-- A document closes the brackets that it opens, so its tokens up to a deep one are no document.
+use Rattle.std.proofs.Common.{ℕ, zero, suc, Bool, true, false, cond, ◌≡◌, ◌+◌, ◌<◌, ◌≤◌, ◌⊎◌, ◌∷◌, [], List, ◌++◌, length, take, refl, sym, ap, ap₂, ◌∙◌, subst, arith, inl, inr, append_assoc, length-append}
+use Rattle.std.specs.List.{AllByRecursion}
+use Rattle.std.proofs.Math.Nat.{eq-or-lt_of_le}
+use Rattle.std.proofs.lemmas.List.{take-append-le}
+use Rattle.std.proofs.lemmas.List.Sums.{sum_by-cons, sum_by-append}
+use Rattle.graphql_lexical.specs.declared.kind.Kind.{Kind}
+use Rattle.graphql_lexical.specs.declared.kind.Kind.TheVariants.{ParenOpen, ParenClose, BracketOpen, BracketClose, CurlyOpen, CurlyClose, EndOfFile}
+use Rattle.graphql_lexical.specs.Cutting.{Lexeme}
+use Rattle.graphql_lexical.specs.Nesting.{is_opening, is_closing, opened, closed, IsFirstDeeper, end_behind, ended_by}
+use Rattle.graphql_lexical.proofs.DeepTokens.{opened_push, closed_push, deep_count, opens, opening_no_end}
+use Rattle.graphql_grammar.specs.Tokens.{IsSpelled}
+use Rattle.graphql_grammar.specs.Tree.{Scalars, Definition}
+use Rattle.graphql_grammar.specs.Grammar.{IsDocument}
+use Rattle.graphql_grammar.specs.Faults.{Fault, NoEnd, EndsOnce, Begins, RefusedAt, DocumentRefusedAt}
+use Rattle.graphql_grammar.specs.Reading.{document}
+use Rattle.graphql_grammar.specs.Depth.{BeginsDocument}
+use Rattle.graphql_grammar.proofs.Elements.{all_front, all_join}
+use Rattle.graphql_grammar.proofs.Nested as nested
+use Rattle.graphql_grammar.proofs.Nested.{is_plain, IsPair}
+use Rattle.graphql_grammar.proofs.Faulty.{front_begins, split}
+use Rattle.graphql_grammar.proofs.OneFault.{same_parts}
+use Rattle.graphql_grammar.proofs.Readers.{document_reads}
+use Rattle.graphql_grammar.proofs.Spelling.{sample_spelled}
+
+-- ---- documents are balanced
+
+abbrev pub IsBalanced : List Lexeme → Type 0
+IsBalanced ts = opened ts ≡ closed ts
+
+-- what one token counts
+abbrev one : Bool → ℕ
+one b = cond b 1 0
+
+opened_cons : (t : Lexeme) (ts : List Lexeme) → opened (t ∷ ts) ≡ one (is_opening t.kind) + opened ts
+opened_cons t ts = sum_by-cons (λ (x : Lexeme). one (is_opening x.kind)) t ts
+
+closed_cons : (t : Lexeme) (ts : List Lexeme) → closed (t ∷ ts) ≡ one (is_closing t.kind) + closed ts
+closed_cons t ts = sum_by-cons (λ (x : Lexeme). one (is_closing x.kind)) t ts
+
+join : (us vs : List Lexeme) → IsBalanced us → IsBalanced vs → IsBalanced (us ++ vs)
+join us vs a b = sum_by-append (λ (x : Lexeme). one (is_opening x.kind)) us vs ∙ ap₂ (λ m n. m + n) a b ∙ sym (sum_by-append (λ (x : Lexeme). one (is_closing x.kind)) us vs)
+
+plain_opens : (k : Kind) → is_plain k ≡ true → is_opening k ≡ false
+plain_opens ParenOpen e = absurd (cc e)
+plain_opens BracketOpen e = absurd (cc e)
+plain_opens CurlyOpen e = absurd (cc e)
+plain_opens _ e = refl
+
+plain_closes : (k : Kind) → is_plain k ≡ true → is_closing k ≡ false
+plain_closes ParenClose e = absurd (cc e)
+plain_closes BracketClose e = absurd (cc e)
+plain_closes CurlyClose e = absurd (cc e)
+plain_closes _ e = refl
+
+plain : (t : Lexeme) → is_plain t.kind ≡ true → IsBalanced (t ∷ [])
+plain t p = opened_cons t [] ∙ ap (λ b. one b + 0) (plain_opens t.kind p ∙ sym (plain_closes t.kind p)) ∙ sym (closed_cons t [])
+
+-- what an opening and a closing bracket count
+record Counts (o c : Kind) : Type 0 where
+  pub opens : is_opening o ≡ true
+  pub opens_not : is_opening c ≡ false
+  pub closes : is_closing c ≡ true
+  pub closes_not : is_closing o ≡ false
+
+pair_counts : (o c : Kind) → IsPair o c → Counts o c
+pair_counts o c (inl (a, b)) = record { opens = ap is_opening a; opens_not = ap is_opening b; closes = ap is_closing b; closes_not = ap is_closing a }
+pair_counts o c (inr (inl (a, b))) = record { opens = ap is_opening a; opens_not = ap is_opening b; closes = ap is_closing b; closes_not = ap is_closing a }
+pair_counts o c (inr (inr (a, b))) = record { opens = ap is_opening a; opens_not = ap is_opening b; closes = ap is_closing b; closes_not = ap is_closing a }
+
+around : (o c : Lexeme) (us : List Lexeme) → IsPair o.kind c.kind → IsBalanced us → IsBalanced (o ∷ us ++ (c ∷ []))
+around o c us p h =
+    let k = pair_counts o.kind c.kind p in
+    let a : opened (o ∷ us ++ (c ∷ [])) ≡ 1 + (opened us + 0) = opened_cons o (us ++ (c ∷ [])) ∙ ap₂ (λ x y. one x + y) k.opens (opened_push us c ∙ ap (λ x. opened us + one x) k.opens_not) in
+    let b : closed (o ∷ us ++ (c ∷ [])) ≡ 0 + (closed us + 1) = closed_cons o (us ++ (c ∷ [])) ∙ ap₂ (λ x y. one x + y) k.closes_not (closed_push us c ∙ ap (λ x. closed us + one x) k.closes) in
+    omega (arith, a, b, h)
+
+-- an end counts for nothing
+end_balanced : (us : List Lexeme) (t : Lexeme) → t.kind ≡ EndOfFile
+    → (opened (us ++ t ∷ []) ≡ opened us + 0) × (closed (us ++ t ∷ []) ≡ closed us + 0)
+end_balanced us t e = (opened_push us t ∙ ap (λ k. opened us + one (is_opening k)) e, closed_push us t ∙ ap (λ k. closed us + one (is_closing k)) e)
+
+-- ---- a refusal sees no token behind it
+
+-- a token that stands within a front is the front's
+within : (us vs before after : List Lexeme) (t : Lexeme) → us ++ vs ≡ before ++ t ∷ after → length before < length us
+    → (middle : List Lexeme) × (us ≡ before ++ t ∷ middle)
+within [] vs before after t e l = absurd (omega (arith, l))
+within (u ∷ us) vs [] after t e l = let h : u ≡ t = cc in (us, ap (λ x. x ∷ us) h)
+within (u ∷ us) vs (b ∷ bs) after t e l =
+    let h : us ++ vs ≡ bs ++ t ∷ after = cc in
+    let k : u ≡ b = cc in
+    let w = within us vs bs after t h (omega (arith, l)) in
+    (w.0, ap₂ (λ x xs. x ∷ xs) k w.1)
+
+pub same_front : (i : ℕ) (us vs ws : List Lexeme) → i ≤ length us → take i (us ++ vs) ≡ take i (us ++ ws)
+same_front i us vs ws l = take-append-le i us vs l ∙ sym (take-append-le i us ws l)
+
+pub refused_in_front : (Allowed : Lexeme → Type 0) {F A : Type 0} (R : List Lexeme → A → Type 0) (Error : List Lexeme → Lexeme → Fault F → Type 0) (us vs ws : List Lexeme) (i : ℕ) (t : Lexeme) (e : Fault F)
+    → i < length us
+    → RefusedAt Allowed R Error (us ++ vs) i t e → RefusedAt Allowed R Error (us ++ ws) i t e
+refused_in_front Allowed R Error us vs ws i t e l h =
+    let w = within us vs h.before h.after t h.whole (omega (arith, l, h.number)) in
+    record {
+      before = h.before;
+      after = w.0 ++ ws;
+      whole = ap (λ l. l ++ ws) w.1 ∙ append_assoc h.before (t ∷ w.0) ws;
+      number = h.number;
+      fault = record {
+        inside = omega (arith, l, length-append us ws);
+        begins = subst (Begins Allowed R) (same_front i us vs ws (omega (arith, l))) h.fault.begins;
+        ends = λ b. h.fault.ends (subst (Begins Allowed R) (same_front (suc i) us ws vs (omega (arith, l))) b);
+      };
+      named = h.named;
+    }
+
+-- ---- tokens up to a deep one, and then the end
+
+-- what stands up to a token that is not the end has no end
+no_end_before : (inner : List Lexeme) (end : Lexeme) (us : List Lexeme) (t : Lexeme) (after : List Lexeme)
+    → NoEnd inner → inner ++ (end ∷ []) ≡ us ++ t ∷ after → (t.kind ≡ EndOfFile → ⊥) → NoEnd (us ++ t ∷ [])
+no_end_before inner end [] t after n e k = (k, tt)
+no_end_before [] end (u ∷ us) t after n e k = absurd (no_room us after (let h : [] ≡ us ++ t ∷ after = cc in h))
+  where
+    no_room : (us after : List Lexeme) → [] ≡ us ++ t ∷ after → ⊥
+    no_room [] after e = absurd (cc e)
+    no_room (u ∷ us) after e = absurd (cc e)
+no_end_before (x ∷ inner) end (u ∷ us) t after n e k =
+    let h : x ≡ u = cc in
+    let rest : inner ++ (end ∷ []) ≡ us ++ t ∷ after = cc in
+    (subst (λ (y : Lexeme). y.kind ≡ EndOfFile → ⊥) h n.0, no_end_before inner end us t after n.1 rest k)
+
+pub middle_of : (P : Lexeme → Type 0) (us vs : List Lexeme) (t : Lexeme) → AllByRecursion P (us ++ t ∷ vs) → P t
+middle_of P [] vs t h = h.0
+middle_of P (u ∷ us) vs t h = middle_of P us vs t h.1
+
+module _ {C F : Type 0} (S : Scalars C F) where
+  -- Of the tokens up to token i, which is t and opens a bracket, and then an end, token j, which is u, is refused. Either
+  -- that is the end, and then the tokens up to t begin a document. Or it is no end, and then they don't, and all tokens are
+  -- refused there too.
+  abbrev pub TellsDepth : List Lexeme → ℕ → Lexeme → ℕ → Lexeme → Fault F → Type 0
+  TellsDepth ts i t j u e =
+      ((u ≡ end_behind t) × BeginsDocument S (take (suc i) ts))
+      ⊎ ((u.kind ≡ EndOfFile → ⊥) × (BeginsDocument S (take (suc i) ts) → ⊥) × DocumentRefusedAt S ts j u e)
+
+  pub document_balanced : (ts : List Lexeme) (ds : List (Definition C)) → IsDocument S ts ds → opened ts ≡ closed ts
+  document_balanced ts [] h = absurd h
+  document_balanced ts (d ∷ ds) (us, end, e, k, h) =
+      let b = nested.definitions IsBalanced refl join plain around S us (d ∷ ds) h in
+      let c = end_balanced us end k in
+      subst IsBalanced (sym e) (c.0 ∙ ap (λ n. n + 0) b ∙ sym c.1)
+
+  module _ (depth : ℕ) (ts : List Lexeme) (i : ℕ) (t : Lexeme) (d : IsFirstDeeper depth ts i t) where
+    abbrev pub front : List Lexeme
+    front = d.before ++ t ∷ []
+
+    pub short_parts : ended_by d.before t ≡ front ++ end_behind t ∷ []
+    short_parts = sym (append_assoc d.before (t ∷ []) (end_behind t ∷ []))
+
+    whole_parts : ts ≡ front ++ d.after
+    whole_parts = d.whole ∙ sym (append_assoc d.before (t ∷ []) d.after)
+
+    front_length : length front ≡ suc i
+    front_length = length-append d.before (t ∷ []) ∙ omega (arith, d.number)
+
+    t_goes_on : t.kind ≡ EndOfFile → ⊥
+    t_goes_on = opening_no_end t.kind (opens depth ts i t d)
+
+    -- They are no document: a bracket is still open.
+    pub short_no_document : (ds : List (Definition C)) → IsDocument S (ended_by d.before t) ds → ⊥
+    short_no_document ds h =
+        let b : opened (front ++ end_behind t ∷ []) ≡ closed (front ++ end_behind t ∷ []) = subst IsBalanced short_parts (document_balanced (ended_by d.before t) ds h) in
+        let c = end_balanced front (end_behind t) refl in
+        let still = deep_count depth ts i t d in
+        absurd (omega (arith, b, c.0, c.1, still))
+
+    module _ (spelled : AllByRecursion IsSpelled ts) (ends : EndsOnce ts) where
+      front_no_end : NoEnd front
+      front_no_end = no_end_before ends.inner ends.end d.before t d.after ends.no_end (sym ends.whole ∙ d.whole) t_goes_on
+
+      pub short_spelled : AllByRecursion IsSpelled (ended_by d.before t)
+      short_spelled = subst (AllByRecursion IsSpelled) (sym short_parts) (all_join IsSpelled front (end_behind t ∷ []) (all_front IsSpelled front d.after (subst (AllByRecursion IsSpelled) whole_parts spelled)) (inr (refl, refl), tt))
+
+      pub short_ends : EndsOnce (ended_by d.before t)
+      short_ends = record { inner = front; end = end_behind t; whole = short_parts; no_end = front_no_end; is_end = refl }
+
+      -- the fronts of both lists are one
+      one_front : (k : ℕ) → k ≤ suc i → take k (front ++ end_behind t ∷ []) ≡ take k ts
+      one_front k l = same_front k front (end_behind t ∷ []) d.after (omega (arith, l, front_length)) ∙ ap (take k) (sym whole_parts)
+
+      at_end : (j : ℕ) (u : Lexeme) (e : Fault F) → DocumentRefusedAt S (front ++ end_behind t ∷ []) j u e → j ≡ suc i
+          → TellsDepth ts i t j u e
+      at_end j u e h same =
+          let parts = same_parts IsSpelled S (IsDocument S) front h.before [] h.after (end_behind t) u (front_length ∙ sym same ∙ sym h.number) h.whole in
+          inl (sym parts.1, subst (BeginsDocument S) (ap (λ k. take k (front ++ end_behind t ∷ [])) same ∙ one_front (suc i) (omega arith)) h.fault.begins)
+
+      before_end : (j : ℕ) (u : Lexeme) (e : Fault F) → DocumentRefusedAt S (front ++ end_behind t ∷ []) j u e
+          → j < suc i → TellsDepth ts i t j u e
+      before_end j u e h l =
+          let inside = within front (end_behind t ∷ []) h.before h.after u h.whole (omega (arith, l, front_length, h.number)) in
+          let goes_on : u.kind ≡ EndOfFile → ⊥ = middle_of (λ (x : Lexeme). x.kind ≡ EndOfFile → ⊥) h.before inside.0 u (subst NoEnd inside.1 front_no_end) in
+          let refused : DocumentRefusedAt S ts j u e = subst (λ l. DocumentRefusedAt S l j u e) (sym whole_parts) (refused_in_front IsSpelled (IsDocument S) _ front (end_behind t ∷ []) d.after j u e (omega (arith, l, front_length)) h) in
+          let s = split (document S) (IsDocument S) (document_reads S) IsSpelled sample_spelled (suc j) (suc i) ts (omega (arith, l)) in
+          inr (goes_on, (λ b. refused.fault.ends (front_begins (document S) (IsDocument S) (document_reads S) IsSpelled sample_spelled (take (suc j) ts) s.0 (subst (BeginsDocument S) s.1 b))), refused)
+
+      -- Where they are refused tells of all tokens.
+      pub short_tells : (j : ℕ) (u : Lexeme) (e : Fault F) → DocumentRefusedAt S (ended_by d.before t) j u e
+          → TellsDepth ts i t j u e
+      short_tells j u e h =
+          let g : DocumentRefusedAt S (front ++ end_behind t ∷ []) j u e = subst (λ l. DocumentRefusedAt S l j u e) short_parts h in
+          let inside : j < suc (suc i) = omega (arith, g.fault.inside, length-append front (end_behind t ∷ []), front_length) in
+          let up_to : j ≤ suc i = omega (arith, inside) in
+          elim (eq-or-lt_of_le up_to) [
+            | inl same ↦ at_end j u e g same
+            | inr l ↦ before_end j u e g l
+          ]

@@ -1,0 +1,22 @@
+-- Where a text is refused, in characters.
+use Rattle.std.specs.Prelude.{ℕ, suc, List, ◌++◌, take}
+use Rattle.graphql_lexical.specs.Cutting.{Lexeme, Cut}
+use Rattle.graphql_lexical.specs.Spacing.{after_space, up_to}
+use Rattle.graphql_grammar.specs.Tokens.{Text}
+use Rattle.graphql_grammar.specs.Tree.{Scalars, Definition}
+use Rattle.graphql_grammar.specs.Grammar.{IsDocument}
+
+module _ {C F : Type 0} (S : Scalars C F) where
+  -- The source up to the end of the last of these tokens, then a space and some further text, is a document's text. Its
+  -- first tokens are these, with their spans.
+  pub record BeginsText (source : Text) (ts : List Lexeme) : Type 0 where
+    pub further : Text
+    pub after : List Lexeme
+    pub tree : List (Definition C)
+    pub cut : Cut (up_to source ts ++ after_space further) (ts ++ after)
+    pub document : IsDocument S (ts ++ after) tree
+
+  -- The source's first i tokens begin a document's text, the first i + 1 don't.
+  pub record AtFaultInText (source : Text) (ts : List Lexeme) (i : ℕ) : Type 0 where
+    pub begins : BeginsText source (take i ts)
+    pub ends : BeginsText source (take (suc i) ts) → ⊥

@@ -1,0 +1,115 @@
+-- Behind a front of a source tokens go on after a space.
+use Rattle.std.proofs.Common.{◌≡◌, ℕ, ◌≤◌, inl, inr, List, [], ◌∷◌, ◌++◌, length, take, refl, sym, ap, ap₂, ◌∙◌, subst, arith, append_assoc, zero-le, le_refl, length-append}
+use Rattle.std.proofs.lemmas.List.{take_all}
+use Rattle.graphql_lexical.specs.Place.{Place, place, place_after}
+use Rattle.graphql_lexical.specs.Cutting.{Lexeme, Leads, Cut}
+use Rattle.graphql_lexical.specs.Alike.{AllAlike}
+use Rattle.graphql_lexical.specs.Joining.{BeginsApart, IsSeam}
+use Rattle.graphql_lexical.specs.Written.{Bare, AreOf, IsCutInto}
+use Rattle.graphql_lexical.specs.Spacing.{after_space, up_to, IsSpaced, GoesOn, GoesOnSpaced}
+use Rattle.graphql_lexical.proofs.Slices.{place_index}
+use Rattle.graphql_lexical.proofs.Cuts.{stands_size}
+use Rattle.graphql_lexical.proofs.Joints.{after_front, front_joins, few_tokens}
+use Rattle.graphql_lexical.proofs.Writing.{alike_front, writes_token, writes_white, writes_nothing}
+use Rattle.graphql_lexical.proofs.Fronts.{leads_shorter}
+
+-- ---- a space
+
+-- no token runs over it
+space_apart : (text : List ℕ) → BeginsApart (after_space text)
+space_apart text = inl refl
+
+writes_space : (text : List ℕ) (bs : List Bare) → IsCutInto text bs → IsCutInto (after_space text) bs
+writes_space text bs = writes_white 32 text bs refl
+
+-- ---- what is spelled with spaces is cut
+
+abbrev bares : List Lexeme → List Bare
+bares [] = []
+bares (x ∷ xs) = record { kind = x.kind; text = x.text } ∷ bares xs
+
+alike_bares : (xs others : List Lexeme) → AreOf xs (bares others) → AllAlike xs others
+alike_bares [] [] h = tt
+alike_bares [] (y ∷ others) h = absurd h
+alike_bares (x ∷ xs) [] h = absurd h
+alike_bares (x ∷ xs) (y ∷ others) h = (record { kind = h.0; text = h.1 }, alike_bares xs others h.2)
+
+spaced_cut : (text : List ℕ) (others : List Lexeme) → IsSpaced text others → IsCutInto text (bares others)
+spaced_cut text [] h = subst (λ (t : List ℕ). IsCutInto t []) (sym h) writes_nothing
+spaced_cut text (x ∷ xs) (whole, rest, e, spells, is, more) =
+    let w = writes_token whole x.kind (after_space rest) (bares xs) spells (inr (space_apart rest)) (writes_space rest (bares xs) (spaced_cut rest xs more)) in
+    subst (λ (t : List ℕ). IsCutInto t (bares (x ∷ xs))) (sym e) (subst (λ (t : List ℕ). IsCutInto (whole ++ after_space rest) (record { kind = x.kind; text = t } ∷ bares xs)) (sym is) w)
+
+-- ---- tokens of a source before others
+
+before_others : (front some : List Lexeme) (next last : Lexeme) (after : List Lexeme)
+    → front ++ next ∷ after ≡ some ++ last ∷ [] → (rest : List Lexeme) × (some ≡ front ++ rest)
+before_others [] some next last after e = (some, refl)
+before_others (x ∷ front) [] next last after e = absurd (omega (arith, ap length e, length-append front (next ∷ after)))
+before_others (x ∷ front) (y ∷ some) next last after e =
+    let tails : front ++ next ∷ after ≡ some ++ last ∷ [] = cc in
+    let heads : y ≡ x = cc in
+    let r = before_others front some next last after tails in
+    (r.0, ap₂ (λ (z : Lexeme) (zs : List Lexeme). z ∷ zs) heads r.1)
+
+leads_front : (source : List ℕ) (xs ys : List Lexeme) (k n : ℕ) → Leads source k (xs ++ ys) n
+    → (m : ℕ) × Leads source k xs m
+leads_front source [] ys k n h = (k, refl)
+leads_front source (x ∷ xs) ys k n h = let r = leads_front source xs ys h.0 n h.3 in (r.0, (h.0, h.1, h.2, r.1))
+
+up_to_is : (source : List ℕ) (x : Lexeme) (xs : List Lexeme) (k n : ℕ) → k ≤ length source → Leads source k (x ∷ xs) n
+    → up_to source (x ∷ xs) ≡ take n source
+up_to_is source x [] k n l h =
+    let s = stands_size source k x h.0 l h.1 h.2 in
+    ap (λ (i : ℕ). take i source) (ap (λ (p : Place). p.index) h.1.end ∙ (place_index source h.0 s.1 ∙ h.3))
+up_to_is source x (y ∷ ys) k n l h =
+    let s = stands_size source k x h.0 l h.1 h.2 in
+    up_to_is source y ys h.0 n s.1 h.3
+
+front_is : (source : List ℕ) (front : List Lexeme) (n : ℕ) → Leads source 0 front n → up_to source front ≡ take n source
+front_is source [] n h = ap (λ (i : ℕ). take i source) h
+front_is source (x ∷ xs) n h = up_to_is source x xs 0 n zero-le h
+
+last_ends : (source : List ℕ) (x : Lexeme) (xs : List Lexeme) (k n : ℕ) → Leads source k (x ∷ xs) n
+    → (some : List Lexeme) × (y : Lexeme) × (x ∷ xs ≡ some ++ y ∷ []) × (y.span.end ≡ place source n)
+last_ends source x [] k n h = ([], x, refl, h.1.end ∙ ap (place source) h.3)
+last_ends source x (y ∷ ys) k n h =
+    let r = last_ends source y ys h.0 n h.3 in
+    (x ∷ r.0, r.1, ap (λ (zs : List Lexeme). x ∷ zs) r.2, r.3)
+
+-- the place after a whole text
+whole_place : (a : List ℕ) → place_after a ≡ place a (length a)
+whole_place a = ap place_after (sym (take_all (length a) a (le_refl (length a))))
+
+space_is_seam : (source : List ℕ) (front : List Lexeme) (n : ℕ) (text : List ℕ) → Leads source 0 front n
+    → IsSeam (take n source) front (after_space text)
+space_is_seam source [] n text h = inl (ap (λ (i : ℕ). take i source) (sym h))
+space_is_seam source (x ∷ xs) n text h =
+    let r = last_ends source x xs 0 n h in
+    inr (r.0, r.1, r.2, r.3 ∙ whole_place (take n source), inr (space_apart text))
+
+-- ---- the law
+
+goes_on : (source : List ℕ) (front others : List Lexeme) (n : ℕ) (text : List ℕ) → Leads source 0 front n
+    → IsSpaced text others → GoesOn (take n source ++ after_space text) front others
+goes_on source front others n text h spaced =
+    let a : List ℕ = take n source in
+    let b : List ℕ = after_space text in
+    let w = writes_space text (bares others) (spaced_cut text others spaced) in
+    let lead = front_joins a b front n (leads_shorter source front 0 n zero-le h) (space_is_seam source front n text h) in
+    let c = after_front a b front (w.lexemes ++ w.end ∷ []) lead w.cut in
+    let f = alike_front c.0 w.lexemes w.end (bares others) c.2 w.are in
+    let cut : Cut (a ++ b) (front ++ (f.0 ++ f.1 ∷ [])) = subst (λ (z : List Lexeme). Cut (a ++ b) (front ++ z)) f.2 c.1 in
+    record {
+      added = f.0;
+      end = f.1;
+      cut = cut;
+      alike = alike_bares f.0 others f.3;
+      is_end = (few_tokens (a ++ b) (front ++ f.0) f.1 (subst (Cut (a ++ b)) (sym (append_assoc front f.0 (f.1 ∷ []))) cut)).1;
+    }
+
+pub goes_on_spaced : (source : List ℕ) → GoesOnSpaced source
+goes_on_spaced source front next after others text cut spaced =
+    let p = before_others front cut.front next cut.last after cut.parts in
+    let q = leads_front source front p.0 0 cut.before (subst (λ (xs : List Lexeme). Leads source 0 xs cut.before) p.1 cut.leads) in
+    subst (λ (t : List ℕ). GoesOn (t ++ after_space text) front others) (sym (front_is source front q.0 q.1)) (goes_on source front others q.0 text q.1 spaced)

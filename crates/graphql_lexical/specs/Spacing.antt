@@ -1,0 +1,34 @@
+-- A front of a source, and tokens behind it with spaces between.
+use Rattle.std.specs.Prelude.{◌≡◌, ℕ, List, [], ◌∷◌, ◌++◌, take}
+use Rattle.graphql_lexical.specs.Kinds.{EndOfFile}
+use Rattle.graphql_lexical.specs.Tokens.{Spells, text_of}
+use Rattle.graphql_lexical.specs.Cutting.{Lexeme, Cut}
+use Rattle.graphql_lexical.specs.Alike.{AllAlike}
+
+-- a space, and then the text
+abbrev pub after_space : List ℕ → List ℕ
+after_space text = 32 ∷ text
+
+-- the source up to the end of the last of these tokens
+abbrev pub up_to : List ℕ → List Lexeme → List ℕ
+up_to source [] = []
+up_to source (x ∷ []) = take x.span.end.index source
+up_to source (x ∷ y ∷ more) = up_to source (y ∷ more)
+
+-- The text is these tokens in a row, each spelled, with a space behind it.
+abbrev pub IsSpaced : List ℕ → List Lexeme → Type 0
+IsSpaced text [] = text ≡ []
+IsSpaced text (x ∷ xs) = (whole rest : List ℕ) × (text ≡ whole ++ after_space rest) × Spells whole x.kind × (x.text ≡ text_of x.kind whole) × IsSpaced rest xs
+
+-- The text is cut into these tokens, with these spans, then tokens alike with the others, and the end.
+pub record GoesOn (text : List ℕ) (front others : List Lexeme) : Type 0 where
+  pub added : List Lexeme
+  pub end : Lexeme
+  pub cut : Cut text (front ++ (added ++ end ∷ []))
+  pub alike : AllAlike added others
+  pub is_end : end.kind ≡ EndOfFile
+
+-- The source up to the end of a token that is not its last, or up to its beginning, then a space, and then spelled
+-- tokens with a space behind each: this is cut into the source's tokens up to that one and tokens alike with those.
+abbrev pub GoesOnSpaced : List ℕ → Type 0
+GoesOnSpaced source = (front : List Lexeme) (next : Lexeme) (after others : List Lexeme) (text : List ℕ) → Cut source (front ++ next ∷ after) → IsSpaced text others → GoesOn (up_to source front ++ after_space text) front others

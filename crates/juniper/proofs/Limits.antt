@@ -1,0 +1,190 @@
+-- What is answered for tokens that were ended behind a deep one is answered for their text.
+use Rattle.std.proofs.Common.{◌≡◌, ℕ, suc, ◌<◌, true, false, List, ◌∷◌, length, take, inl, inr, sym, ap, subst, ◌∙◌, arith, Result, Ok, Err, Option, Some, None, length-append}
+use Rattle.std.specs.Prelude.{pos, ◌<ℤ◌, ◌==◌}
+use Rattle.std.specs.List.{AllByRecursion}
+use Rattle.graphql_lexical.specs.Place.{Span}
+use Rattle.graphql_lexical.specs.Cutting.{Lexeme, Cut, BreaksFrom}
+use Rattle.graphql_lexical.specs.Nesting.{nesting, IsFirstDeeper, ended_by}
+use Rattle.graphql_lexical.proofs.DeepTokens.{one_deep, crossed}
+use Rattle.graphql_lexical.proofs.Widths.{IsWide, tokens_wide}
+use Rattle.graphql_grammar.specs.Tree.{Scalars, Definition}
+use Rattle.graphql_grammar.specs.Grammar.{IsDocument}
+use Rattle.graphql_grammar.specs.Tokens.{IsSpelled}
+use Rattle.graphql_grammar.specs.Faults.{EndsOnce}
+use Rattle.graphql_grammar.specs.Depth.{BeginsDocument, IsTooDeep}
+use Rattle.graphql_grammar.proofs.OneFault.{same_parts}
+use Rattle.graphql_grammar.proofs.Spelling.{cut_spelled, cut_ends}
+use Rattle.graphql_grammar.proofs.Depths.{short_spelled, short_ends, TellsDepth, short_no_document, short_tells, middle_of}
+use Rattle.juniper_tokens.specs.declared.error.ParseError.{ParseError}
+use Rattle.juniper_tokens.specs.declared.error.ParseFailure.{ParseFailure}
+use Rattle.juniper_tokens.specs.declared.error.ParseFailure.TheVariants as failure
+use Rattle.juniper_tokens.specs.declared.error.LexFailure.{LexFailure}
+use Rattle.juniper_tokens.specs.declared.error.LexFailure.TheVariants as lexing
+use Rattle.juniper_tokens.specs.declared.span.Spanning.{Spanning}
+use Rattle.juniper_tokens.specs.declared.span.Span as spans
+use Rattle.juniper_tokens.specs.Spans.{view_span}
+use Rattle.juniper_tokens.specs.Errors.{Error, view_fault, view_lexer_error, failure_of}
+use Rattle.juniper_tokens.specs.Lexing.{LexerState, started}
+use Rattle.juniper_tokens.specs.Gathering.{IfFault}
+use Rattle.juniper_tokens.specs.Nesting.{IsShallow, EndsAtNesting}
+use Rattle.juniper.specs.declared.depth.DepthFailure.{DepthFailure}
+use Rattle.juniper.specs.declared.depth.DepthFailure.TheVariants as limited
+use Rattle.juniper.specs.Definitions.{document_read}
+use Rattle.juniper.specs.Promise.{HasTree, IsRefusedAt, IsRefusal, AnswersAs}
+use Rattle.juniper.specs.Within.{HasTooDeep, IsWithin, AnswersWithin, answer_within}
+use Rattle.juniper.proofs.Promises.{same_cut, cut_or_break, document_is, refused_is, refusal_at, accepts, refuses, refusal_in_text, lexical, break_from_start, told_lexical}
+
+same_number : (a b : ℕ) → a ≡ b → (a == b) ≡ true
+same_number a b e = grind arith
+
+other_number : (a b : ℕ) → a < b → (a == b) ≡ false
+other_number a b l = grind arith
+
+module _ {C : Type 0} (S : Scalars C Error) (depth : ℕ) (source : List ℕ) where
+  -- ---- whether a token of the text is too deep
+
+  module _ (ts : List Lexeme) (cut : Cut source ts) where
+    deep_there : (span : Span) (h : HasTooDeep S depth source span) → IsTooDeep S depth ts h.number h.token
+    deep_there span h =
+        let same = same_cut source h.lexemes ts h.cut cut in
+        subst (λ (xs : List Lexeme). IsTooDeep S depth xs h.number h.token) same h.deep
+
+    none_there : IsShallow depth ts → (i : ℕ) (t : Lexeme) → IsFirstDeeper depth ts i t → ⊥
+    none_there shallow i t d =
+        let size = length-append d.before (t ∷ d.after) in
+        let inside : i < length ts = omega (arith, ap length d.whole, size, d.number) in
+        crossed (nesting ts i) depth (shallow i inside) d.deeper
+
+    shallow_within : IsShallow depth ts → IsWithin S depth source
+    shallow_within shallow = record { none = λ span h. none_there shallow h.number h.token (deep_there span h).deeper }
+
+    module _ (i : ℕ) (t : Lexeme) (d : IsFirstDeeper depth ts i t) where
+      begun_there : (span : Span) → HasTooDeep S depth source span → BeginsDocument S (take (suc i) ts)
+      begun_there span h =
+          let deep = deep_there span h in
+          let number = one_deep depth ts h.number i h.token t deep.deeper d in
+          subst (λ (k : ℕ). BeginsDocument S (take (suc k) ts)) number deep.begins
+
+      unbegun_within : (BeginsDocument S (take (suc i) ts) → ⊥) → IsWithin S depth source
+      unbegun_within none = record { none = λ span h. none (begun_there span h) }
+
+      begun_too_deep : BeginsDocument S (take (suc i) ts) → (span : Span) → span ≡ t.span
+          → HasTooDeep S depth source span
+      begun_too_deep begins span e = record {
+        lexemes = ts;
+        cut = cut;
+        number = i;
+        token = t;
+        deep = record { deeper = d; begins = begins };
+        at = e;
+      }
+
+  module _ {X : Type 0} (view : X → List (Definition C)) where
+    -- ---- what is promised, outcome by outcome
+
+    abbrev pub Promised : Result X DepthFailure → Type 0
+    Promised = AnswersWithin S depth source view
+
+    tree_within : (x : X) → HasTree S source (view x) → IsWithin S depth source → Promised (Ok x)
+    tree_within x h w = record { accepted = h; refused = tt; in_characters = tt; within = w; too_deep = tt }
+
+    refusal_within : (fault : Spanning ParseError) → IsRefusal S source (view_fault fault) → IsWithin S depth source
+        → Promised (Err (limited.Parse (failure.Refused fault)))
+    refusal_within fault h w = record {
+      accepted = tt;
+      refused = h;
+      in_characters = refusal_in_text S source (view_fault fault) h;
+      within = w;
+      too_deep = tt;
+    }
+
+    memory_within : Promised (Err (limited.Parse failure.Memory))
+    memory_within = record { accepted = tt; refused = tt; in_characters = tt; within = tt; too_deep = tt }
+
+    deep_within : (span : spans.Span) → HasTooDeep S depth source (view_span span)
+        → Promised (Err (limited.TooDeep span))
+    deep_within span h = record { accepted = tt; refused = tt; in_characters = tt; within = tt; too_deep = h }
+
+    -- ---- what is answered for the tokens of the text, or for those up to a deep one
+
+    module _ (ts : List Lexeme) (cut : Cut source ts) where
+      shallow_answer : (result : Result X ParseFailure) → IsShallow depth ts
+          → AnswersAs view result (document_read S ts)
+          → Promised (answer_within None result)
+      shallow_answer (Ok x) s a = tree_within x (accepts S source ts cut view (Ok x) a) (shallow_within ts cut s)
+      shallow_answer (Err (failure.Refused fault)) s a =
+          let refused = refuses S source ts cut {X = X} view (Err (failure.Refused fault)) a in
+          refusal_within fault refused (shallow_within ts cut s)
+      shallow_answer (Err failure.Memory) s a = memory_within
+
+      module _ (i : ℕ) (t : Lexeme) (d : IsFirstDeeper depth ts i t) where
+        deep_fault : (span : spans.Span) (fault : Spanning ParseError) → view_span span ≡ t.span
+            → (h : IsRefusedAt S (ended_by d.before t) (view_fault fault)) → TellsDepth S ts i t h.number h.token h.says
+            → Promised (answer_within (Some span) (Err (failure.Refused fault)))
+        deep_fault span fault e h (inl (end, begins)) =
+            let at_end = h.span ∙ ap (λ (x : Lexeme). x.span) end in
+            let from : fault.span.start.index ≡ t.span.end.index = ap (λ (p : Span). p.start.index) at_end in
+            let to : fault.span.end.index ≡ t.span.end.index = ap (λ (p : Span). p.end.index) at_end in
+            rw (same_number fault.span.start.index fault.span.end.index (from ∙ sym to))
+            (deep_within span (begun_too_deep ts cut i t d begins (view_span span) e))
+        deep_fault span fault e h (inr (goes_on, none, refused)) =
+            let all_wide = subst (AllByRecursion IsWide) refused.whole (tokens_wide source ts cut) in
+            let wide = middle_of IsWide refused.before refused.after h.token all_wide goes_on in
+            let some : fault.span.start.index < fault.span.end.index = subst (λ (p : Span). p.start.index < p.end.index) (sym h.span) wide in
+            let at : IsRefusedAt S ts (view_fault fault) = record {
+              number = h.number;
+              token = h.token;
+              says = h.says;
+              refused = refused;
+              error = h.error;
+              span = h.span;
+            } in
+            rw (other_number fault.span.start.index fault.span.end.index some)
+            (refusal_within fault (refusal_at S source ts cut (view_fault fault) at) (unbegun_within ts cut i t d none))
+
+        spelled : AllByRecursion IsSpelled (ended_by d.before t)
+        spelled = short_spelled S depth ts i t d (cut_spelled source ts cut) (cut_ends source ts cut)
+
+        ends : EndsOnce (ended_by d.before t)
+        ends = short_ends S depth ts i t d (cut_spelled source ts cut) (cut_ends source ts cut)
+
+        deep_answer : (span : spans.Span) (result : Result X ParseFailure) → view_span span ≡ t.span
+            → AnswersAs view result (document_read S (ended_by d.before t)) → Promised (answer_within (Some span) result)
+        deep_answer span (Ok x) e a =
+            let document = document_is S (ended_by d.before t) spelled ends (view x) a.0 a.1 in
+            absurd (short_no_document S depth ts i t d (view x) document)
+        deep_answer span (Err (failure.Refused fault)) e a =
+            let h = refused_is S (ended_by d.before t) spelled ends (view_fault fault) a.0 a.1 in
+            let tells = short_tells S depth ts i t d (cut_spelled source ts cut) (cut_ends source ts cut) in
+            deep_fault span fault e h (tells h.number h.token h.says h.refused)
+        deep_answer span (Err failure.Memory) e a = memory_within
+
+      pub answers_within : (deep : Option spans.Span) (left : List Lexeme) (result : Result X ParseFailure)
+          → EndsAtNesting depth ts deep left → AnswersAs view result (document_read S left)
+          → Promised (answer_within deep result)
+      answers_within None left result e a =
+          shallow_answer result e.0 (subst (λ (xs : List Lexeme). AnswersAs view result (document_read S xs)) e.1 a)
+      answers_within (Some span) left result (i, t, d, at, is) a =
+          deep_answer i t d span result at (subst (λ (xs : List Lexeme). AnswersAs view result (document_read S xs)) is a)
+
+    -- ---- a lexical fault
+
+    pub lexical_within : (state : LexerState) (failed : LexFailure) → state ≡ started source
+        → IfFault {X = List Lexeme} (Err failed) (λ fault. BreaksFrom state.source state.index (view_lexer_error fault.item) fault.span.start)
+        → IfFault {X = List Lexeme} (Err failed) (λ fault. fault.span.end ≡ fault.span.start)
+        → Promised (Err (limited.Parse (failure_of failed)))
+    lexical_within state (lexing.Fault fault) e b z =
+        let breaks = break_from_start state source _ _ e b in
+        let uncut : IsWithin S depth source = record { none = λ span h. cut_or_break source h.lexemes _ _ h.cut breaks } in
+        refusal_within _ (lexical S source _ _ _ breaks (told_lexical fault z)) uncut
+    lexical_within state lexing.Memory e b z = memory_within
+
+  -- ---- a text has one such token at most
+
+  pub one_too_deep : (a b : Span) → HasTooDeep S depth source a → HasTooDeep S depth source b → a ≡ b
+  one_too_deep a b h k =
+      let d = h.deep.deeper in
+      let e = (deep_there h.lexemes h.cut b k).deeper in
+      let number = one_deep depth h.lexemes h.number k.number h.token k.token d e in
+      let parts = same_parts IsSpelled S (IsDocument S) d.before e.before d.after e.after h.token k.token (d.number ∙ number ∙ sym e.number) (sym d.whole ∙ e.whole) in
+      h.at ∙ ap (λ (t : Lexeme). t.span) parts.1 ∙ sym k.at

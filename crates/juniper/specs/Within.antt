@@ -1,0 +1,69 @@
+-- What is answered for a text within a limit on nesting.
+use Rattle.std.specs.Prelude.{◌≡◌, ℕ, List, Option, Some, None, Result, Ok, Err, IfOk, ◌==◌, if◌then◌else◌}
+use Rattle.graphql_lexical.specs.Place.{Span}
+use Rattle.graphql_lexical.specs.Cutting.{Lexeme, Cut}
+use Rattle.graphql_grammar.specs.Tree.{Scalars, Definition}
+use Rattle.graphql_grammar.specs.Depth.{IsTooDeep}
+use Rattle.juniper_tokens.specs.declared.error.ParseError.{ParseError}
+use Rattle.juniper_tokens.specs.declared.error.ParseFailure.{ParseFailure}
+use Rattle.juniper_tokens.specs.declared.error.ParseFailure.TheVariants as failure
+use Rattle.juniper_tokens.specs.declared.span.Span as spans
+use Rattle.juniper_tokens.specs.declared.span.Spanning.{Spanning}
+use Rattle.juniper_tokens.specs.Spans.{view_span}
+use Rattle.juniper_tokens.specs.Errors.{Error, view_fault}
+use Rattle.juniper.specs.declared.depth.DepthFailure.{DepthFailure}
+use Rattle.juniper.specs.declared.depth.DepthFailure.TheVariants as limited
+use Rattle.juniper.specs.Promise.{HasTree, IsRefusal, IsRefusalInText}
+
+-- Where a text was refused, P holds of the error and its place.
+abbrev pub IfRefusedWithin : {X : Type 0} → Result X DepthFailure → (Spanning ParseError → Type 0) → Type 0
+IfRefusedWithin (Ok x) P = Unit {0}
+IfRefusedWithin (Err (limited.Parse (failure.Refused fault))) P = P fault
+IfRefusedWithin (Err (limited.Parse failure.Memory)) P = Unit {0}
+IfRefusedWithin (Err (limited.TooDeep span)) P = Unit {0}
+
+-- Where a text is nested too deep, P holds of the span that is told.
+abbrev pub IfTooDeep : {X : Type 0} → Result X DepthFailure → (spans.Span → Type 0) → Type 0
+IfTooDeep (Ok x) P = Unit {0}
+IfTooDeep (Err (limited.Parse e)) P = Unit {0}
+IfTooDeep (Err (limited.TooDeep span)) P = P span
+
+-- Where a text has a tree or was refused, P holds.
+abbrev pub IfDecided : {X : Type 0} → Result X DepthFailure → Type 0 → Type 0
+IfDecided (Ok x) P = P
+IfDecided (Err (limited.Parse (failure.Refused fault))) P = P
+IfDecided (Err (limited.Parse failure.Memory)) P = Unit {0}
+IfDecided (Err (limited.TooDeep span)) P = Unit {0}
+
+module _ {C : Type 0} (S : Scalars C Error) (depth : ℕ) (source : List ℕ) where
+  -- The text can be cut into tokens, and the first one whose nesting exceeds depth has this span and begins, with those
+  -- before it, a document.
+  pub record HasTooDeep (span : Span) : Type 0 where
+    pub lexemes : List Lexeme
+    pub cut : Cut source lexemes
+    pub number : ℕ
+    pub token : Lexeme
+    pub deep : IsTooDeep S depth lexemes number token
+    pub at : span ≡ token.span
+
+  -- The text has no such token.
+  pub record IsWithin : Type 0 where
+    pub none : (span : Span) → HasTooDeep span → ⊥
+
+  -- What is promised of an answer, by outcome.
+  pub record AnswersWithin {X : Type 0} (view : X → List (Definition C)) (result : Result X DepthFailure) : Type 0 where
+    pub accepted : IfOk result (λ x. HasTree S source (view x))
+    pub refused : IfRefusedWithin result (λ fault. IsRefusal S source (view_fault fault))
+    pub in_characters : IfRefusedWithin result (λ fault. IsRefusalInText S source (view_fault fault))
+    pub within : IfDecided result IsWithin
+    pub too_deep : IfTooDeep result (λ span. HasTooDeep (view_span span))
+
+-- A fault of tokens that were ended behind a deep one, as it is told: of zero width is the end alone.
+abbrev pub told_within : Option spans.Span → ParseFailure → DepthFailure
+told_within None e = limited.Parse e
+told_within (Some span) (failure.Refused fault) = if fault.span.start.index == fault.span.end.index then limited.TooDeep span else limited.Parse (failure.Refused fault)
+told_within (Some span) failure.Memory = limited.Parse failure.Memory
+
+abbrev pub answer_within : {X : Type 0} → Option spans.Span → Result X ParseFailure → Result X DepthFailure
+answer_within deep (Ok x) = Ok x
+answer_within deep (Err e) = Err (told_within deep e)
