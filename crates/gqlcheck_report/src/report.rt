@@ -3,12 +3,16 @@ ghost use Rattle.std.specs.Prelude.{◌≡◌, ℕ, ◌↔◌, ◌⊎◌, true, 
 ghost use Rattle.std.specs.Io.KnownBytes.{Appends, Consumes, IsAtEnd, Keeps};
 ghost use Rattle.gqlcheck_report.specs.Watched.{inner_of, has_failed};
 ghost use Rattle.juniper_tokens.specs.Errors.{view_fault};
-ghost use Rattle.gqlcheck_report.specs.Report.{Report, OneReport, IsReportEnd, fault_line};
+ghost use Rattle.juniper_tokens.specs.Spans.{view_span};
+ghost use Rattle.gqlcheck_report.specs.Report.{Report, OneReport, IsReportEnd, fault_line, deep_line};
 
 use crate::lines::write_document;
 use crate::watched::Watched;
-use juniper::laws::document_or_fault;
-use juniper::{DefaultScalarValue, ParseError, ParseFailure, Spanning, parse_document_source};
+use juniper::laws::{document_or_fault, one_too_deep};
+use juniper::{
+    DefaultScalarValue, DepthFailure, ParseError, ParseFailure, Span, Spanning,
+    parse_document_source_within,
+};
 use std::alloc::{AllocError, Global};
 use std::io::{Read, Write};
 
@@ -21,6 +25,8 @@ pub enum RunEnd {
     Refused,
     /// The bytes are no text: a line that says so.
     NotUtf8,
+    /// A token of the text is nested deeper than 200 brackets, and those before it begin a document: where it stands.
+    TooDeep,
     /// A read or a write failed: after a failed read nothing, after a failed write a beginning of the report.
     Device,
     /// Memory ran out: nothing.
@@ -34,6 +40,9 @@ enum Stop {
 }
 
 const CHUNK: usize = 4096;
+
+// How deep brackets may be nested.
+const LIMIT: usize = 200;
 
 const NOT_UTF8: &str = "Not UTF-8\n";
 
@@ -88,11 +97,12 @@ pub fn run<R: Read, W: Write>(
     }
 }
 
-// Bytes have one report, since a text has one tree or one fault.
+// Bytes have one report, since a text has one tree or one fault, and one token at most that is nested too deep.
 fn one_report()
     ensures { OneReport }
 {
     document_or_fault::<DefaultScalarValue>();
+    one_too_deep::<DefaultScalarValue>();
 }
 
 // The bytes of the reader, to its end.
@@ -144,15 +154,26 @@ fn report(alloc: Global, bytes: &[u8]) -> Result<(RunEnd, String), AllocError>
     let Ok(source) = std::str::from_utf8(bytes) else {
         return Ok((RunEnd::NotUtf8, String::from_str(alloc, NOT_UTF8)?));
     };
-    match parse_document_source::<DefaultScalarValue>(alloc, source) {
+    match parse_document_source_within::<DefaultScalarValue>(alloc, source, LIMIT) {
         Ok(document) => {
             let mut text = String::new(alloc);
             write_document(&mut text, &document)?;
             Ok((RunEnd::Tree, text))
         }
-        Err(ParseFailure::Refused(fault)) => Ok((RunEnd::Refused, fault_text(alloc, &fault)?)),
-        Err(ParseFailure::Memory) => Err(AllocError),
+        Err(DepthFailure::Parse(ParseFailure::Refused(fault))) => {
+            Ok((RunEnd::Refused, fault_text(alloc, &fault)?))
+        }
+        Err(DepthFailure::TooDeep(span)) => Ok((RunEnd::TooDeep, deep_text(alloc, span)?)),
+        Err(DepthFailure::Parse(ParseFailure::Memory)) => Err(AllocError),
     }
+}
+
+// The line that tells where a text is nested too deep.
+fn deep_text(alloc: Global, span: Span) -> Result<String, AllocError>
+    ensures { IfOk result (λ text. string_bytes text ≡ deep_line (view_span span)) }
+{
+    let start = span.start;
+    format!(in alloc; "Too deeply nested. At {start}\n")
 }
 
 // The line that tells a fault.
