@@ -1,5 +1,6 @@
 pub mod Documents
 pub mod Fields
+pub mod Fronts
 pub mod Literals
 pub mod Telling
 pub mod Worth

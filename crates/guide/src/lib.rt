@@ -5,6 +5,8 @@ mod arguments;
 mod compare;
 mod documents;
 mod faults;
+mod kept;
+mod limits;
 #[cfg(test)]
 mod tests;
 mod walk;
@@ -13,4 +15,6 @@ pub use arguments::argument_value;
 pub use compare::same_literal;
 pub use documents::is_document;
 pub use faults::fault_line;
+pub use kept::kept_up_to;
+pub use limits::is_document_within;
 pub use walk::field_names;

@@ -1,6 +1,9 @@
 //! What the guide's functions answer.
 
-use crate::{argument_value, fault_line, field_names, is_document, same_literal};
+use crate::{
+    argument_value, fault_line, field_names, is_document, is_document_within, kept_up_to,
+    same_literal,
+};
 use juniper::{
     DefaultScalarValue, Definition, Field, InputValue, OwnedDocument, ParseFailure, Selection,
     Variables, parse_document_source,
@@ -96,6 +99,32 @@ fn literals_are_compared_whatever_their_places(rt: HostRuntime) -> Result<(), Fa
             same,
             "{one} {other}"
         );
+    }
+    Ok(())
+}
+
+#[test]
+fn documents_within_a_limit(rt: HostRuntime) -> Result<(), AllocError> {
+    for (source, depth, answer) in [
+        ("{ a }", 1, true),
+        ("{ a { b } }", 1, false),
+        ("{ a { b } }", 2, true),
+        ("{ a", 2, false),
+    ] {
+        assert_eq!(rt;
+            is_document_within(rt.alloc(), source, depth)?,
+            answer,
+            "{source}"
+        );
+    }
+    Ok(())
+}
+
+#[test]
+fn what_stands_before_a_fault_is_kept(rt: HostRuntime) -> Result<(), AllocError> {
+    for (source, start) in [("{ a }", None), ("{ a( }", Some(5)), ("{ a { b", Some(7))] {
+        let found = kept_up_to(rt.alloc(), source)?;
+        assert!(rt; found.map(|span| span.start.index()) == start, "{source}");
     }
     Ok(())
 }
