@@ -32,6 +32,7 @@ fn literal<S: ScalarValue>(alloc: Global, source: &str) -> ParseResult<InputValu
     ensures value { IfOk result (λ value. BeginsWith (stated S.reading S.of_bool) (chars source.now) (view_value S.content value)) }
     ensures refused { IfRefused result (λ fault. HasNoValue (stated S.reading S.of_bool) (chars source.now) (view_fault fault)) }
 {
+    // The laws that the proof cites.
     one_cut_or_break();
     lexer_failures_are_told();
     let mut lexer = Lexer::new(alloc, source);

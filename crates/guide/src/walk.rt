@@ -54,6 +54,7 @@ fn note_selection<'a, S: ScalarValue>(
 ) -> Result<(), AllocError>
     ensures { OnOk result (texts names.new.items ≡ texts names.old.items ++ fields_of (view_selection S.content selection.now)) }
 {
+    // The law that the proof cites.
     selections_are_seen::<S>();
     match selection {
         Selection::Field(field) => note_field(names, field),

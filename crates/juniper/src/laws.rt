@@ -1,5 +1,8 @@
-//! Laws of source texts, of displays and of views: the contracts of functions that do nothing. Those of tokens, of input
-//! values and of answer values stand in modules of their own.
+//! Laws of source texts, of displays and of views: the contracts of functions that do nothing. A function whose proof needs
+//! one calls it.
+//!
+//! The laws of the token grammar, of the document grammar, of tokens, of input values and of answer values stand in modules
+//! of their own.
 ghost use Rattle.std.specs.Prelude.{◌≡◌, ◌⊎◌, ℕ, List};
 ghost use Rattle.graphql_lexical.specs.Place.{Span};
 ghost use Rattle.graphql_lexical.specs.Tokens.{IsName};
@@ -25,6 +28,8 @@ ghost use Rattle.juniper.specs.Scalars.{stated};
 ghost use Rattle.juniper.specs.Sources.{AreRefusedAlike};
 ghost use Rattle.juniper.specs.Within.{HasTooDeep};
 
+pub use graphql_grammar::laws as grammar;
+pub use graphql_lexical::laws as lexical;
 pub use juniper_answers::laws as answers;
 pub use juniper_tokens::laws as tokens;
 use juniper_values::ScalarValue;

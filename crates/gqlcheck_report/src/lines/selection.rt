@@ -17,6 +17,7 @@ fn write_selection<S: ScalarValue>(
 ) -> Result<(), AllocError>
     ensures { OnOk result (string_bytes out.new ≡ string_bytes out.old ++ encode_utf8_all (selection_lines (view_selection S.content selection.now))) }
 {
+    // The law that the proof cites.
     selections_are_seen::<S>();
     match selection {
         Selection::Field(field) => write_field(out, field),

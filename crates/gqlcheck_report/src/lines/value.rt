@@ -17,6 +17,7 @@ pub(crate) fn write_value<S: ScalarValue>(
 ) -> Result<(), AllocError>
     ensures { OnOk result (string_bytes out.new ≡ string_bytes out.old ++ encode_utf8_all (value_lines (view_value S.content value.now))) }
 {
+    // The law that the proof cites.
     values_are_seen::<S>();
     let span = &value.span;
     match &value.item {
