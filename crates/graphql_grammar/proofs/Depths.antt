@@ -1,5 +1,5 @@
 -- A document closes the brackets that it opens, so its tokens up to a deep one are no document.
-use Rattle.std.proofs.Common.{ℕ, zero, suc, Bool, true, false, cond, ◌≡◌, ◌+◌, ◌<◌, ◌≤◌, ◌⊎◌, ◌∷◌, [], List, ◌++◌, length, take, refl, sym, ap, ap₂, ◌∙◌, subst, arith, inl, inr, append_assoc, length-append}
+use Rattle.std.proofs.Common.{ℕ, suc, Bool, true, false, cond, ◌≡◌, ◌+◌, ◌<◌, ◌≤◌, ◌⊎◌, ◌∷◌, [], List, ◌++◌, length, take, refl, sym, ap, ap₂, ◌∙◌, subst, arith, inl, inr, append_assoc, length-append}
 use Rattle.std.specs.List.{AllByRecursion}
 use Rattle.std.proofs.Math.Nat.{eq-or-lt_of_le}
 use Rattle.std.proofs.lemmas.List.{take-append-le}
@@ -39,7 +39,8 @@ closed_cons : (t : Lexeme) (ts : List Lexeme) → closed (t ∷ ts) ≡ one (is_
 closed_cons t ts = sum_by-cons (λ (x : Lexeme). one (is_closing x.kind)) t ts
 
 join : (us vs : List Lexeme) → IsBalanced us → IsBalanced vs → IsBalanced (us ++ vs)
-join us vs a b = sum_by-append (λ (x : Lexeme). one (is_opening x.kind)) us vs ∙ ap₂ (λ m n. m + n) a b ∙ sym (sum_by-append (λ (x : Lexeme). one (is_closing x.kind)) us vs)
+join us vs a b =
+    sum_by-append (λ (x : Lexeme). one (is_opening x.kind)) us vs ∙ ap₂ (λ m n. m + n) a b ∙ sym (sum_by-append (λ (x : Lexeme). one (is_closing x.kind)) us vs)
 
 plain_opens : (k : Kind) → is_plain k ≡ true → is_opening k ≡ false
 plain_opens ParenOpen e = absurd (cc e)
@@ -54,7 +55,8 @@ plain_closes CurlyClose e = absurd (cc e)
 plain_closes _ e = refl
 
 plain : (t : Lexeme) → is_plain t.kind ≡ true → IsBalanced (t ∷ [])
-plain t p = opened_cons t [] ∙ ap (λ b. one b + 0) (plain_opens t.kind p ∙ sym (plain_closes t.kind p)) ∙ sym (closed_cons t [])
+plain t p =
+    opened_cons t [] ∙ ap (λ b. one b + 0) (plain_opens t.kind p ∙ sym (plain_closes t.kind p)) ∙ sym (closed_cons t [])
 
 -- what an opening and a closing bracket count
 record Counts (o c : Kind) : Type 0 where
@@ -64,9 +66,12 @@ record Counts (o c : Kind) : Type 0 where
   pub closes_not : is_closing o ≡ false
 
 pair_counts : (o c : Kind) → IsPair o c → Counts o c
-pair_counts o c (inl (a, b)) = record { opens = ap is_opening a; opens_not = ap is_opening b; closes = ap is_closing b; closes_not = ap is_closing a }
-pair_counts o c (inr (inl (a, b))) = record { opens = ap is_opening a; opens_not = ap is_opening b; closes = ap is_closing b; closes_not = ap is_closing a }
-pair_counts o c (inr (inr (a, b))) = record { opens = ap is_opening a; opens_not = ap is_opening b; closes = ap is_closing b; closes_not = ap is_closing a }
+pair_counts o c (inl (a, b)) =
+    record { opens = ap is_opening a; opens_not = ap is_opening b; closes = ap is_closing b; closes_not = ap is_closing a }
+pair_counts o c (inr (inl (a, b))) =
+    record { opens = ap is_opening a; opens_not = ap is_opening b; closes = ap is_closing b; closes_not = ap is_closing a }
+pair_counts o c (inr (inr (a, b))) =
+    record { opens = ap is_opening a; opens_not = ap is_opening b; closes = ap is_closing b; closes_not = ap is_closing a }
 
 around : (o c : Lexeme) (us : List Lexeme) → IsPair o.kind c.kind → IsBalanced us → IsBalanced (o ∷ us ++ (c ∷ []))
 around o c us p h =
@@ -78,7 +83,8 @@ around o c us p h =
 -- an end counts for nothing
 end_balanced : (us : List Lexeme) (t : Lexeme) → t.kind ≡ EndOfFile
     → (opened (us ++ t ∷ []) ≡ opened us + 0) × (closed (us ++ t ∷ []) ≡ closed us + 0)
-end_balanced us t e = (opened_push us t ∙ ap (λ k. opened us + one (is_opening k)) e, closed_push us t ∙ ap (λ k. closed us + one (is_closing k)) e)
+end_balanced us t e =
+    (opened_push us t ∙ ap (λ k. opened us + one (is_opening k)) e, closed_push us t ∙ ap (λ k. closed us + one (is_closing k)) e)
 
 -- ---- a refusal sees no token behind it
 
@@ -176,17 +182,21 @@ module _ {C F : Type 0} (S : Scalars C F) where
 
     module _ (spelled : AllByRecursion IsSpelled ts) (ends : EndsOnce ts) where
       front_no_end : NoEnd front
-      front_no_end = no_end_before ends.inner ends.end d.before t d.after ends.no_end (sym ends.whole ∙ d.whole) t_goes_on
+      front_no_end =
+          no_end_before ends.inner ends.end d.before t d.after ends.no_end (sym ends.whole ∙ d.whole) t_goes_on
 
       pub short_spelled : AllByRecursion IsSpelled (ended_by d.before t)
-      short_spelled = subst (AllByRecursion IsSpelled) (sym short_parts) (all_join IsSpelled front (end_behind t ∷ []) (all_front IsSpelled front d.after (subst (AllByRecursion IsSpelled) whole_parts spelled)) (inr (refl, refl), tt))
+      short_spelled =
+          subst (AllByRecursion IsSpelled) (sym short_parts) (all_join IsSpelled front (end_behind t ∷ []) (all_front IsSpelled front d.after (subst (AllByRecursion IsSpelled) whole_parts spelled)) (inr (refl, refl), tt))
 
       pub short_ends : EndsOnce (ended_by d.before t)
-      short_ends = record { inner = front; end = end_behind t; whole = short_parts; no_end = front_no_end; is_end = refl }
+      short_ends =
+          record { inner = front; end = end_behind t; whole = short_parts; no_end = front_no_end; is_end = refl }
 
       -- the fronts of both lists are one
       one_front : (k : ℕ) → k ≤ suc i → take k (front ++ end_behind t ∷ []) ≡ take k ts
-      one_front k l = same_front k front (end_behind t ∷ []) d.after (omega (arith, l, front_length)) ∙ ap (take k) (sym whole_parts)
+      one_front k l =
+          same_front k front (end_behind t ∷ []) d.after (omega (arith, l, front_length)) ∙ ap (take k) (sym whole_parts)
 
       at_end : (j : ℕ) (u : Lexeme) (e : Fault F) → DocumentRefusedAt S (front ++ end_behind t ∷ []) j u e → j ≡ suc i
           → TellsDepth ts i t j u e

@@ -105,7 +105,8 @@ goes_on source front others n text h spaced =
       end = f.1;
       cut = cut;
       alike = alike_bares f.0 others f.3;
-      is_end = (few_tokens (a ++ b) (front ++ f.0) f.1 (subst (Cut (a ++ b)) (sym (append_assoc front f.0 (f.1 ∷ []))) cut)).1;
+      is_end =
+          (few_tokens (a ++ b) (front ++ f.0) f.1 (subst (Cut (a ++ b)) (sym (append_assoc front f.0 (f.1 ∷ []))) cut)).1;
     }
 
 pub goes_on_spaced : (source : List ℕ) → GoesOnSpaced source

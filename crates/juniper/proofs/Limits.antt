@@ -1,6 +1,6 @@
 -- What is answered for tokens that were ended behind a deep one is answered for their text.
 use Rattle.std.proofs.Common.{◌≡◌, ℕ, suc, ◌<◌, true, false, List, ◌∷◌, length, take, inl, inr, sym, ap, subst, ◌∙◌, arith, Result, Ok, Err, Option, Some, None, length-append}
-use Rattle.std.specs.Prelude.{pos, ◌<ℤ◌, ◌==◌}
+use Rattle.std.specs.Prelude.{◌==◌}
 use Rattle.std.specs.List.{AllByRecursion}
 use Rattle.graphql_lexical.specs.Place.{Span}
 use Rattle.graphql_lexical.specs.Cutting.{Lexeme, Cut, BreaksFrom}
