@@ -1,9 +1,13 @@
 //! What is measured, and how fast it went.
 
-use juniper::{DefaultScalarValue, Lexer, Parser, parse_document_source};
+use juniper::{
+    DefaultScalarValue, Lexer, Parser, parse_document_source, parse_document_source_within,
+};
 use std::alloc::Global;
 use std::fmt;
 use std::time::Duration;
+
+const LIMIT: usize = 200;
 
 /// What is measured.
 #[derive(Clone, Copy)]
@@ -11,11 +15,12 @@ pub enum Stage {
     Lexing,
     Cursor,
     Tree,
+    TreeWithin,
 }
 
 impl Stage {
     /// Each stage, in the order in which they stand on one another.
-    pub const ALL: [Stage; 3] = [Stage::Lexing, Stage::Cursor, Stage::Tree];
+    pub const ALL: [Stage; 4] = [Stage::Lexing, Stage::Cursor, Stage::Tree, Stage::TreeWithin];
 
     /// The stage's word.
     pub fn word(self) -> &'static str {
@@ -23,6 +28,7 @@ impl Stage {
             Stage::Lexing => "lexing",
             Stage::Cursor => "lexing into a cursor",
             Stage::Tree => "parsing",
+            Stage::TreeWithin => "parsing within a limit on nesting",
         }
     }
 
@@ -32,6 +38,9 @@ impl Stage {
             Stage::Lexing => is_lexed(alloc, source),
             Stage::Cursor => Parser::new(&mut Lexer::new(alloc, source)).is_ok(),
             Stage::Tree => parse_document_source::<DefaultScalarValue>(alloc, source).is_ok(),
+            Stage::TreeWithin => {
+                parse_document_source_within::<DefaultScalarValue>(alloc, source, LIMIT).is_ok()
+            }
         }
     }
 }

@@ -1,0 +1,188 @@
+//! Rows of the cursor.
+ghost use Rattle.juniper_tokens.specs.Delimited.{Leaves};
+
+use crate::kinds::{call_of, word_of};
+use crate::write::{write_failure, write_span, write_token};
+use juniper::{
+    Lexer, LexerResult, OptionParseResult, ParseFailure, ParseResult, Parser, Spanning, Token,
+    UnlocatedParseResult,
+};
+use std::alloc::{AllocError, Global};
+
+/// `cursor`: calls on a parser of the text, one after the other. `expect` and `skip` take the token that is written
+/// behind them, the end where nothing is; the lists take their opening and their closing token, and their items are
+/// Names.
+pub fn calls(alloc: Global, text: &str, wanted: &str) -> Result<String, AllocError> {
+    let mut out = String::new(alloc);
+    let mut lexer = Lexer::new(alloc, text);
+    match Parser::new(&mut lexer) {
+        Ok(mut parser) => {
+            for line in wanted.lines() {
+                let call = call_of(line);
+                write!(out, "{call} -> ")?;
+                answer_call(&mut out, &mut parser, call)?;
+                out.push('\n')?;
+            }
+        }
+        Err(failure) => {
+            write_failure(&mut out, &ParseFailure::from(failure))?;
+            out.push('\n')?;
+        }
+    }
+    Ok(out)
+}
+
+fn answer_call(out: &mut String, parser: &mut Parser<'_>, call: &str) -> Result<(), AllocError> {
+    let (word, rest) = word_of(call);
+    match word {
+        "peek" => write_token(out, parser.peek()),
+        "next_token" => write_taken(out, &parser.next_token()),
+        "expect_name" => write_name(out, &parser.expect_name()),
+        "expect" => match &first_item(parser.allocator(), rest) {
+            Some(Ok(token)) => write_taken(out, &parser.expect(&token.item)),
+            _ => out.push_str("no token"),
+        },
+        "skip" => match &first_item(parser.allocator(), rest) {
+            Some(Ok(token)) => write_skipped(out, &parser.skip(&token.item)),
+            _ => out.push_str("no token"),
+        },
+        _ => answer_list(out, parser, call),
+    }
+}
+
+// The first item of a text.
+fn first_item(alloc: Global, text: &str) -> Option<LexerResult<'_>> {
+    let mut lexer = Lexer::new(alloc, text);
+    lexer.next()
+}
+
+fn write_taken(out: &mut String, taken: &ParseResult<Token<'_>>) -> Result<(), AllocError> {
+    match taken {
+        Ok(token) => write_token(out, token),
+        Err(failure) => write_failure(out, failure),
+    }
+}
+
+fn write_skipped(out: &mut String, taken: &OptionParseResult<Token<'_>>) -> Result<(), AllocError> {
+    match taken {
+        Ok(Some(token)) => write_token(out, token),
+        Ok(None) => out.push_str("None"),
+        Err(failure) => write_failure(out, failure),
+    }
+}
+
+fn write_name(out: &mut String, taken: &ParseResult<&str>) -> Result<(), AllocError> {
+    match taken {
+        Ok(name) => write_spanned(out, name),
+        Err(failure) => write_failure(out, failure),
+    }
+}
+
+fn write_spanned(out: &mut String, name: &Spanning<&str>) -> Result<(), AllocError> {
+    write_span(out, &name.span)?;
+    let text = name.item;
+    write!(out, " {text}")
+}
+
+fn answer_list(out: &mut String, parser: &mut Parser<'_>, call: &str) -> Result<(), AllocError> {
+    let (word, brackets) = word_of(call);
+    let (opening, closing) = word_of(brackets);
+    let alloc = parser.allocator();
+    match (&first_item(alloc, opening), &first_item(alloc, closing)) {
+        (Some(Ok(opening)), Some(Ok(closing))) => {
+            answer_between(out, parser, word, &opening.item, &closing.item)
+        }
+        _ => out.push_str("no tokens"),
+    }
+}
+
+fn answer_between(
+    out: &mut String,
+    parser: &mut Parser<'_>,
+    word: &str,
+    opening: &Token<'_>,
+    closing: &Token<'_>,
+) -> Result<(), AllocError> {
+    match word {
+        "delimited_list" => write_names(out, &names(parser, opening, closing)),
+        "delimited_nonempty_list" => write_names(out, &some_names(parser, opening, closing)),
+        "unlocated_delimited_nonempty_list" => {
+            write_texts(out, &some_texts(parser, opening, closing))
+        }
+        _ => out.push_str("no such call"),
+    }
+}
+
+// The Name that stands next.
+fn next_name<'a>(parser: &mut Parser<'a>) -> ParseResult<&'a str>
+    ensures { Leaves result parser.old parser.new }
+{
+    match parser.expect_name() {
+        Ok(name) => Ok(name),
+        Err(failure) => Err(failure),
+    }
+}
+
+fn names<'a>(
+    parser: &mut Parser<'a>,
+    opening: &Token<'_>,
+    closing: &Token<'_>,
+) -> ParseResult<Vec<Spanning<&'a str>>> {
+    parser.delimited_list(opening, next_name, closing)
+}
+
+fn some_names<'a>(
+    parser: &mut Parser<'a>,
+    opening: &Token<'_>,
+    closing: &Token<'_>,
+) -> ParseResult<Vec<Spanning<&'a str>>> {
+    parser.delimited_nonempty_list(opening, next_name, closing)
+}
+
+// The text of the Name that stands next.
+fn name_text<'a>(parser: &mut Parser<'a>) -> UnlocatedParseResult<&'a str>
+    ensures { Leaves result parser.old parser.new }
+{
+    match parser.expect_name() {
+        Ok(name) => Ok(name.item),
+        Err(failure) => Err(failure),
+    }
+}
+
+fn some_texts<'a>(
+    parser: &mut Parser<'a>,
+    opening: &Token<'_>,
+    closing: &Token<'_>,
+) -> ParseResult<Vec<&'a str>> {
+    parser.unlocated_delimited_nonempty_list(opening, name_text, closing)
+}
+
+fn write_names(
+    out: &mut String,
+    list: &ParseResult<Vec<Spanning<&str>>>,
+) -> Result<(), AllocError> {
+    match list {
+        Ok(list) => {
+            write_span(out, &list.span)?;
+            for name in list.item.iter() {
+                out.push_str(", ")?;
+                write_spanned(out, name)?;
+            }
+            Ok(())
+        }
+        Err(failure) => write_failure(out, failure),
+    }
+}
+
+fn write_texts(out: &mut String, list: &ParseResult<Vec<&str>>) -> Result<(), AllocError> {
+    match list {
+        Ok(list) => {
+            write_span(out, &list.span)?;
+            for text in list.item.iter() {
+                write!(out, ", {text}")?;
+            }
+            Ok(())
+        }
+        Err(failure) => write_failure(out, failure),
+    }
+}

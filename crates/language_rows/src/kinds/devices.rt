@@ -1,0 +1,130 @@
+//! Rows of runs over readers and writers that give or take few bytes a call, or fail.
+
+use crate::kinds::call_of;
+use crate::kinds::reports::end_word;
+use gqlcheck_report::{Watched, run};
+use std::alloc::{AllocError, Global};
+use std::io;
+use std::io::{ErrorKind, Read, Write};
+
+// Gives at most `step` bytes a call. The call of number `failing` fails once, where that isn't 0.
+#[derive(Drop)]
+struct Source<'a> {
+    rest: &'a [u8],
+    step: usize,
+    failing: usize,
+    kind: ErrorKind,
+    calls: usize,
+}
+
+impl Read for Source<'_> {
+    fn read(&mut self, buf: &mut [u8]) -> io::Result<usize> {
+        self.calls = self.calls.wrapping_add(1);
+        if self.failing == self.calls {
+            return Err(io::Error::from(self.kind));
+        }
+        let count = buf.len().min(self.rest.len()).min(self.step);
+        buf[..count].copy_from_slice(&self.rest[..count]);
+        self.rest = &self.rest[count..];
+        Ok(count)
+    }
+}
+
+// Takes at most `step` bytes a call. The call of number `failing` fails once, where that isn't 0.
+#[derive(Drop)]
+struct Target {
+    taken: Vec<u8>,
+    step: usize,
+    failing: usize,
+    calls: usize,
+}
+
+impl Write for Target {
+    fn write(&mut self, buf: &[u8]) -> io::Result<usize> {
+        self.calls = self.calls.wrapping_add(1);
+        if self.failing == self.calls {
+            return Err(io::Error::from(ErrorKind::BrokenPipe));
+        }
+        let count = buf.len().min(self.step);
+        self.taken.extend_from_slice(&buf[..count])?;
+        Ok(count)
+    }
+
+    fn flush(&mut self) -> io::Result<()> {
+        Ok(())
+    }
+}
+
+/// `devices`: a line for each run over the text. Its call says how many bytes a read gives, `read=N`, and a write
+/// takes, `write=N`, and which of them fails, `failed_read=N`, `interrupted_read=N`, `failed_write=N`; 1000 bytes and
+/// none where nothing is said. Its answer says how the run ended, whether the reader or the writer has failed, and
+/// how many bytes of the report were written.
+pub fn runs(alloc: Global, text: &str, wanted: &str) -> Result<String, AllocError> {
+    let mut out = String::new(alloc);
+    for line in wanted.lines() {
+        let call = call_of(line);
+        write!(out, "{call} -> ")?;
+        write_run(alloc, &mut out, text.as_bytes(), call)?;
+    }
+    Ok(out)
+}
+
+fn write_run(alloc: Global, out: &mut String, bytes: &[u8], call: &str) -> Result<(), AllocError> {
+    let is_interrupted = told(call, "interrupted_read=", 0) > 0;
+    let mut reader = Watched::new(Source {
+        rest: bytes,
+        step: told(call, "read=", 1000),
+        failing: told(call, "failed_read=", 0).max(told(call, "interrupted_read=", 0)),
+        kind: if is_interrupted {
+            ErrorKind::Interrupted
+        } else {
+            ErrorKind::ConnectionReset
+        },
+        calls: 0,
+    });
+    let mut writer = Watched::new(Target {
+        taken: Vec::new(alloc),
+        step: told(call, "write=", 1000),
+        failing: told(call, "failed_write=", 0),
+        calls: 0,
+    });
+    let end = end_word(run(alloc, &mut reader, &mut writer));
+    out.push_str(end)?;
+    if reader.failed() {
+        out.push_str(", failed reader")?;
+    }
+    if writer.failed() {
+        out.push_str(", failed writer")?;
+    }
+    write_beginning(alloc, out, bytes, writer.into_inner().taken.as_slice())
+}
+
+// How many bytes of the report of these bytes were written.
+fn write_beginning(
+    alloc: Global,
+    out: &mut String,
+    bytes: &[u8],
+    written: &[u8],
+) -> Result<(), AllocError> {
+    let mut reader = Watched::new(bytes);
+    let mut whole = Watched::new(Vec::new(alloc));
+    let _end = run(alloc, &mut reader, &mut whole);
+    let report = whole.into_inner();
+    let all = report.len();
+    let count = written.len();
+    if report.starts_with(written) {
+        writeln!(out, ", {count} of {all} bytes")
+    } else {
+        writeln!(out, ", no beginning of the report")
+    }
+}
+
+// The number that a call tells behind a word, or another one where it doesn't tell it.
+fn told(call: &str, word: &str, other: usize) -> usize {
+    for part in call.split_whitespace() {
+        if let Some(number) = part.strip_prefix(word) {
+            return number.parse::<usize>().unwrap_or(other);
+        }
+    }
+    other
+}

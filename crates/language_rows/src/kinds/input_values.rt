@@ -1,0 +1,233 @@
+//! Rows of input values.
+
+use crate::kinds::{call_of, word_of};
+use crate::write::{write_optional_text, write_separator};
+use indexmap::IndexMap;
+use juniper::{
+    DefaultScalarValue, InputValue, IntoInputValue, Lexer, Parser, Span, Spanning, Variables,
+    input_value_from_str, parse_value_literal,
+};
+use std::alloc::{AllocError, Global};
+use std::borrow::CowStr;
+use std::collections::HashMap;
+
+pub(crate) type Input = InputValue<DefaultScalarValue>;
+
+/// The value literal that a text begins with.
+pub(crate) fn literal(alloc: Global, text: &str) -> Result<Option<Input>, AllocError> {
+    let mut lexer = Lexer::new(alloc, text);
+    match Parser::new(&mut lexer) {
+        Ok(mut parser) => match parse_value_literal(&mut parser, false) {
+            Ok(value) => Ok(Some(value.item)),
+            Err(_) => Ok(None),
+        },
+        Err(_) => Ok(None),
+    }
+}
+
+/// `input_value`: calls on the value literal that is the text, each on a value read anew.
+pub fn calls(alloc: Global, text: &str, wanted: &str) -> Result<String, AllocError> {
+    let mut out = String::new(alloc);
+    for line in wanted.lines() {
+        let call = call_of(line);
+        write!(out, "{call} -> ")?;
+        match literal(alloc, text)? {
+            Some(value) => answer_call(alloc, &mut out, value, call)?,
+            None => out.push_str("no value")?,
+        }
+        out.push('\n')?;
+    }
+    Ok(out)
+}
+
+fn answer_call(
+    alloc: Global,
+    out: &mut String,
+    value: Input,
+    call: &str,
+) -> Result<(), AllocError> {
+    let (word, rest) = word_of(call);
+    match word {
+        "display" => write!(out, "{value}"),
+        "is_null" => write_truth(out, value.is_null()),
+        "is_variable" => write_truth(out, value.is_variable()),
+        "as_enum_value" => write_optional_text(out, value.as_enum_value()),
+        "as_scalar" => match value.as_scalar() {
+            Some(scalar) => write!(out, "{scalar}"),
+            None => out.push_str("None"),
+        },
+        "to_list_value" => write_list(alloc, out, &value),
+        "to_object_value" => write_object(alloc, out, &value),
+        "referenced_variables" => write_variables(alloc, out, &value),
+        "made_anew" => write_made_anew(alloc, out, &value),
+        "try_clone" => write_truth(out, value.try_clone(alloc)? == value),
+        _ => answer_two(alloc, out, value, word, rest),
+    }
+}
+
+// A call on the value and another literal.
+fn answer_two(
+    alloc: Global,
+    out: &mut String,
+    value: Input,
+    word: &str,
+    rest: &str,
+) -> Result<(), AllocError> {
+    let Some(other) = literal(alloc, rest)? else {
+        return out.push_str("no value");
+    };
+    match word {
+        "==" => write_truth(out, value == other),
+        "unlocated_eq" => {
+            let there = value.unlocated_eq(&other);
+            let back = other.unlocated_eq(&value);
+            write!(out, "{there} {back}")
+        }
+        "into_const" => match value.into_const(alloc, &variables_of(alloc, other)?)? {
+            Some(left) => write!(out, "{left}"),
+            None => out.push_str("None"),
+        },
+        _ => out.push_str("no such call"),
+    }
+}
+
+fn write_truth(out: &mut String, truth: bool) -> Result<(), AllocError> {
+    write!(out, "{truth}")
+}
+
+fn write_list(alloc: Global, out: &mut String, value: &Input) -> Result<(), AllocError> {
+    let Some(items) = value.to_list_value(alloc)? else {
+        return out.push_str("None");
+    };
+    let before = out.len();
+    for item in items {
+        write_separator(out, before)?;
+        write!(out, "{item}")?;
+    }
+    Ok(())
+}
+
+fn write_object(alloc: Global, out: &mut String, value: &Input) -> Result<(), AllocError> {
+    let Some(map) = value.to_object_value(alloc)? else {
+        return out.push_str("None");
+    };
+    let before = out.len();
+    for (key, value) in map.iter() {
+        write_separator(out, before)?;
+        write!(out, "{key}: {value}")?;
+    }
+    Ok(())
+}
+
+fn write_variables(alloc: Global, out: &mut String, value: &Input) -> Result<(), AllocError> {
+    let before = out.len();
+    for name in value.referenced_variables(alloc)? {
+        write_separator(out, before)?;
+        write!(out, "{name}")?;
+    }
+    Ok(())
+}
+
+// The fields of an object as a map of variables; no variables for another value.
+fn variables_of(alloc: Global, value: Input) -> Result<Variables<DefaultScalarValue>, AllocError> {
+    let mut variables = HashMap::new(alloc);
+    if let InputValue::Object(fields) = value {
+        for (key, value) in fields {
+            variables.insert(key.item, value.item)?;
+        }
+    }
+    Ok(variables)
+}
+
+// The display of the value that the constructors make of its parts, and what of it is as it was.
+fn write_made_anew(alloc: Global, out: &mut String, value: &Input) -> Result<(), AllocError> {
+    let made = made_anew(alloc, value)?;
+    write!(out, "{made}")?;
+    if made.unlocated_eq(value) {
+        out.push_str(", the same but for places")?;
+    }
+    if is_unlocated(&made) {
+        out.push_str(", unlocated")?;
+    }
+    Ok(())
+}
+
+// The same value without places, made by constructors and conversions.
+#[cycle(made)]
+fn made_anew(alloc: Global, value: &Input) -> Result<Input, AllocError> {
+    match value {
+        InputValue::Null => None::<i32>.into_input_value(alloc),
+        InputValue::Scalar(DefaultScalarValue::Int(number)) => {
+            Some(*number).into_input_value(alloc)
+        }
+        InputValue::Scalar(DefaultScalarValue::Boolean(truth)) => truth.into_input_value(alloc),
+        InputValue::Scalar(DefaultScalarValue::String(text)) => {
+            input_value_from_str(alloc, text.as_str())
+        }
+        InputValue::Enum(name) => InputValue::enum_value(alloc, name.as_str()),
+        InputValue::Variable(name) => InputValue::variable(alloc, name.as_str()),
+        InputValue::List(items) => made_list(alloc, items),
+        InputValue::Object(fields) => made_object(alloc, fields),
+    }
+}
+
+#[cycle(made)]
+fn made_list(alloc: Global, items: &[Spanning<Input>]) -> Result<Input, AllocError> {
+    let mut made = Vec::new(alloc);
+    for item in items {
+        made.push(made_anew(alloc, &item.item)?)?;
+    }
+    InputValue::list(alloc, made).map_err(|_items| AllocError)
+}
+
+#[cycle(made)]
+fn made_object(
+    alloc: Global,
+    fields: &[(Spanning<String>, Spanning<Input>)],
+) -> Result<Input, AllocError> {
+    let mut made = IndexMap::new(alloc);
+    for (key, value) in fields {
+        made.insert(key.item.clone()?, made_anew(alloc, &value.item)?)?;
+    }
+    InputValue::object(alloc, made).map_err(|_fields| AllocError)
+}
+
+// Whether no item, key or value has a place.
+#[cycle(unlocated)]
+fn is_unlocated(value: &Input) -> bool {
+    match value {
+        InputValue::List(items) => are_unlocated(items),
+        InputValue::Object(fields) => fields_are_unlocated(fields),
+        _ => true,
+    }
+}
+
+#[cycle(unlocated)]
+fn are_unlocated(items: &[Spanning<Input>]) -> bool {
+    for item in items {
+        if item.span != Span::unlocated() || !is_unlocated(&item.item) {
+            return false;
+        }
+    }
+    true
+}
+
+#[cycle(unlocated)]
+fn fields_are_unlocated(fields: &[(Spanning<String>, Spanning<Input>)]) -> bool {
+    for (key, value) in fields {
+        if key.span != Span::unlocated() || value.span != Span::unlocated() {
+            return false;
+        }
+        if !is_unlocated(&value.item) {
+            return false;
+        }
+    }
+    true
+}
+
+/// The input values that the conversions of a text make.
+pub(crate) fn converted(alloc: Global, text: &str) -> Result<(Input, Input), AllocError> {
+    let owned = String::from_str(alloc, text)?.into_input_value(alloc)?;
+    let lent = CowStr::Borrowed(text).into_input_value(alloc)?;
+    Ok((owned, lent))
+}

@@ -1,0 +1,59 @@
+//! Rows of type literals and value literals: the lines of what is read, or the refusal, and what `peek` shows then.
+
+use crate::kinds::tree::{write_type, write_value};
+use crate::write::{write_failure, write_token};
+use juniper::{
+    DefaultScalarValue, InputValue, Lexer, ParseFailure, ParseResult, Parser, Type, parse_type,
+    parse_value_literal,
+};
+use std::alloc::{AllocError, Global};
+
+/// `type`: what `parse_type` answers.
+pub fn type_in(alloc: Global, text: &str) -> Result<String, AllocError> {
+    let mut out = String::new(alloc);
+    let mut lexer = Lexer::new(alloc, text);
+    match Parser::new(&mut lexer) {
+        Ok(mut parser) => {
+            let literal: ParseResult<Type<&str>> = parse_type(&mut parser);
+            match &literal {
+                Ok(literal) => write_type(&mut out, literal)?,
+                Err(failure) => write_refusal(&mut out, failure)?,
+            }
+            write_next(&mut out, &parser)?;
+        }
+        Err(failure) => write_refusal(&mut out, &ParseFailure::from(failure))?,
+    }
+    Ok(out)
+}
+
+/// `value` and `const`: what `parse_value_literal` answers, const or not.
+pub fn value_in(alloc: Global, text: &str, is_const: bool) -> Result<String, AllocError> {
+    let mut out = String::new(alloc);
+    let mut lexer = Lexer::new(alloc, text);
+    match Parser::new(&mut lexer) {
+        Ok(mut parser) => {
+            let literal: ParseResult<InputValue<DefaultScalarValue>> = parse_value_literal(
+                &mut parser,
+                is_const,
+            );
+            match &literal {
+                Ok(literal) => write_value(&mut out, &literal.span, &literal.item)?,
+                Err(failure) => write_refusal(&mut out, failure)?,
+            }
+            write_next(&mut out, &parser)?;
+        }
+        Err(failure) => write_refusal(&mut out, &ParseFailure::from(failure))?,
+    }
+    Ok(out)
+}
+
+fn write_refusal(out: &mut String, failure: &ParseFailure) -> Result<(), AllocError> {
+    write_failure(out, failure)?;
+    out.push('\n')
+}
+
+fn write_next(out: &mut String, parser: &Parser<'_>) -> Result<(), AllocError> {
+    out.push_str("peek ")?;
+    write_token(out, parser.peek())?;
+    out.push('\n')
+}

@@ -1,0 +1,110 @@
+//! Rows of the default scalar.
+
+use crate::kinds::input_values::converted;
+use crate::kinds::{call_of, word_of};
+use crate::write::{write_error, write_optional_text};
+use juniper::{
+    DefaultScalarValue, InputValue, ParseScalarResult, ParseScalarValue, ReadFailure, Scalar,
+    ScalarToken, ScalarValue, ToScalarValue, WrongInputScalarTypeError, scalar_from_str,
+};
+use std::alloc::{AllocError, Global};
+
+/// `scalar`: calls on the scalar that a token is read as. The row's text is the token's kind, a space and its text.
+pub fn calls(alloc: Global, text: &str, wanted: &str) -> Result<String, AllocError> {
+    let mut out = String::new(alloc);
+    for line in wanted.lines() {
+        let call = call_of(line);
+        write!(out, "{call} -> ")?;
+        match read(alloc, text) {
+            Ok(scalar) => answer_call(alloc, &mut out, scalar, call)?,
+            Err(ReadFailure::Refused(error)) => {
+                out.push_str("Refused")?;
+                write_error(&mut out, &error)?;
+            }
+            Err(ReadFailure::Memory) => return Err(AllocError),
+        }
+        out.push('\n')?;
+    }
+    Ok(out)
+}
+
+fn read(alloc: Global, text: &str) -> ParseScalarResult<DefaultScalarValue> {
+    let (kind, text) = word_of(text);
+    let token = match kind {
+        "Int" => ScalarToken::Int(text),
+        "Float" => ScalarToken::Float(text),
+        _ => ScalarToken::String(text),
+    };
+    DefaultScalarValue::from_str(alloc, token)
+}
+
+fn answer_call(
+    alloc: Global,
+    out: &mut String,
+    scalar: DefaultScalarValue,
+    call: &str,
+) -> Result<(), AllocError> {
+    let (word, rest) = word_of(call);
+    match word {
+        "from_str" => write!(out, "{scalar}"),
+        "try_to_int" => match scalar.try_to_int() {
+            Some(number) => write!(out, "{number}"),
+            None => out.push_str("None"),
+        },
+        "try_to_bool" => match scalar.try_to_bool() {
+            Some(truth) => write!(out, "{truth}"),
+            None => out.push_str("None"),
+        },
+        "try_as_str" => write_optional_text(out, scalar.try_as_str()),
+        "try_to_string" => write_owned(out, &scalar.try_to_string(alloc)?),
+        "try_into_string" => write_owned(out, &scalar.try_into_string(alloc)?),
+        "try_clone" => {
+            let is_equal = scalar.try_clone(alloc)? == scalar;
+            write!(out, "{is_equal}")
+        }
+        "into_another" => {
+            let other: DefaultScalarValue = scalar.into_another(alloc)?;
+            write!(out, "{other}")
+        }
+        "wrong_type" => {
+            let error = WrongInputScalarTypeError {
+                type_name: rest,
+                input: &scalar,
+            };
+            write!(out, "{error}")
+        }
+        "try_to" => write_lent(out, &scalar),
+        "made" => write_made(alloc, out, rest),
+        _ => out.push_str("no such call"),
+    }
+}
+
+fn write_owned(out: &mut String, text: &Option<String>) -> Result<(), AllocError> {
+    match text {
+        Some(text) => out.push_str(text.as_str()),
+        None => out.push_str("None"),
+    }
+}
+
+// What the scalar is as a reference, and as a `Scalar`, which shows a text between quotes.
+fn write_lent(out: &mut String, scalar: &DefaultScalarValue) -> Result<(), AllocError> {
+    match scalar.try_to::<&DefaultScalarValue>() {
+        Ok(lent) => write!(out, "{lent} ")?,
+        Err(never) => match never {},
+    }
+    match scalar.try_to::<Scalar<'_, DefaultScalarValue>>() {
+        Ok(lent) => write!(out, "{lent}"),
+        Err(never) => match never {},
+    }
+}
+
+// The scalars that are made of a text, of an integer and of a truth value, and the input values of a text.
+fn write_made(alloc: Global, out: &mut String, text: &str) -> Result<(), AllocError> {
+    let lent: DefaultScalarValue = scalar_from_str(alloc, text)?;
+    let owned: DefaultScalarValue = String::from_str(alloc, text)?.to_scalar_value(alloc)?;
+    let number: DefaultScalarValue = 7.to_scalar_value(alloc)?;
+    let truth: DefaultScalarValue = true.to_scalar_value(alloc)?;
+    let (one, other) = converted(alloc, text)?;
+    let is_equal = one == other && one == InputValue::scalar(scalar_from_str(alloc, text)?);
+    write!(out, "{lent} {owned} {number} {truth} {is_equal}")
+}

@@ -1,0 +1,84 @@
+//! Rows of type literals that are made by their calls.
+
+use crate::kinds::{call_of, word_of};
+use crate::write::write_optional_text;
+use juniper::{Type, TypeModifier};
+use std::alloc::{AllocError, Global};
+
+/// `type_literal`: calls on the type that the row's words make: a name, then from the innermost on `non_null`, `list`
+/// or `list=N` of a size.
+pub fn calls(alloc: Global, text: &str, wanted: &str) -> Result<String, AllocError> {
+    let mut out = String::new(alloc);
+    for line in wanted.lines() {
+        let call = call_of(line);
+        write!(out, "{call} -> ")?;
+        answer_call(alloc, &mut out, &made(alloc, text)?, call)?;
+        out.push('\n')?;
+    }
+    Ok(out)
+}
+
+fn made(alloc: Global, text: &str) -> Result<Type<String>, AllocError> {
+    let (name, modifiers) = word_of(text);
+    let mut literal = Type::nullable(String::from_str(alloc, name)?);
+    for word in modifiers.split_whitespace() {
+        let wrapped = match word.split_once('=') {
+            Some((_list, size)) => literal.wrap_list(alloc, size.parse::<usize>().ok()),
+            None if word == "list" => literal.wrap_list(alloc, None),
+            None => literal.wrap_non_null(alloc),
+        };
+        literal = wrapped.map_err(|_literal| AllocError)?;
+    }
+    Ok(literal)
+}
+
+fn answer_call(
+    alloc: Global,
+    out: &mut String,
+    literal: &Type<String>,
+    call: &str,
+) -> Result<(), AllocError> {
+    let (word, rest) = word_of(call);
+    match word {
+        "display" => write!(out, "{literal}"),
+        "name" => write_optional_text(out, literal.name()),
+        "innermost_name" => out.push_str(literal.innermost_name()),
+        "modifier" => match literal.modifier() {
+            Some(modifier) => write_modifier(out, modifier),
+            None => out.push_str("None"),
+        },
+        "modifiers" => write_modifiers(out, literal.modifiers()),
+        "is_list" => {
+            let is_list = literal.is_list();
+            write!(out, "{is_list}")
+        }
+        "is_non_null" => {
+            let is_non_null = literal.is_non_null();
+            write!(out, "{is_non_null}")
+        }
+        "==" => {
+            let is_equal = *literal == made(alloc, rest)?;
+            write!(out, "{is_equal}")
+        }
+        _ => out.push_str("no such call"),
+    }
+}
+
+fn write_modifier(out: &mut String, modifier: &TypeModifier) -> Result<(), AllocError> {
+    match modifier {
+        TypeModifier::NonNull => out.push_str("non_null"),
+        TypeModifier::List(None) => out.push_str("list"),
+        TypeModifier::List(Some(size)) => write!(out, "list={size}"),
+    }
+}
+
+fn write_modifiers(out: &mut String, modifiers: &[TypeModifier]) -> Result<(), AllocError> {
+    let before = out.len();
+    for modifier in modifiers {
+        if out.len() > before {
+            out.push(' ')?;
+        }
+        write_modifier(out, modifier)?;
+    }
+    Ok(())
+}

@@ -1,0 +1,94 @@
+//! Reads rows of the language from the files that its arguments name, and tells how many of each kind hold, and which
+//! don't. What a row is, `rows` says; what each kind of row answers, the files of `kinds`.
+#![tactic(auto)]
+
+mod kinds;
+mod rows;
+mod tally;
+mod write;
+
+use kinds::completed::is_completed;
+use rows::{Row, rows_of};
+use std::process::ExitCode;
+use std::rt::{Env, Files};
+use std::{env, fs, io};
+use tally::Tally;
+
+fn main(rt: HostRuntime) -> ExitCode {
+    match tell_all(&rt) {
+        Ok(true) => ExitCode::SUCCESS,
+        Ok(false) => ExitCode::from(1),
+        Err(error) => {
+            // Nobody is left to tell where standard error fails too.
+            let _ = eprintln!(rt; "language_rows: {error}");
+            ExitCode::from(2)
+        }
+    }
+}
+
+// Tells what becomes of the rows of all files, and answers whether each of them holds.
+fn tell_all<R: Files + Env + Print + AllocGlobal>(rt: &R) -> io::Result<bool> {
+    let mut tally = Tally::new(rt.alloc());
+    for name in env::args(rt)?.skip(1) {
+        let text = fs::read_to_string(rt, name.as_str())?;
+        tell_file(rt, name.as_str(), text.as_str(), &mut tally)?;
+    }
+    for (kind, counts) in tally.counts() {
+        let held = counts.held;
+        let all = counts.all;
+        println!(rt; "{kind}: {held} of {all} hold")?;
+    }
+    Ok(tally.all_held())
+}
+
+// Tries the rows of one file, and tells those that don't hold.
+fn tell_file<R: Print + AllocGlobal>(
+    rt: &R,
+    name: &str,
+    text: &str,
+    tally: &mut Tally,
+) -> io::Result<()> {
+    for row in rows_of(rt.alloc(), text)? {
+        let wanted = row.wanted(rt.alloc())?;
+        let found = kinds::answer(
+            rt.alloc(),
+            row.kind,
+            row.text(rt.alloc())?.as_slice(),
+            &wanted,
+        )?;
+        let holds = found.as_str() == wanted.as_str();
+        tally.count(rt.alloc(), row.kind, holds)?;
+        if !holds {
+            let number = row.number;
+            let kind = row.kind;
+            println!(rt; "{name}:{number}: {kind} is answered by\n{found}")?;
+        }
+        tell_completion(rt, name, &row, tally)?;
+    }
+    Ok(())
+}
+
+// Tries to complete what stands before the fault of a refused text.
+fn tell_completion<R: Print + AllocGlobal>(
+    rt: &R,
+    name: &str,
+    row: &Row<'_>,
+    tally: &mut Tally,
+) -> io::Result<()> {
+    if row.kind != "gqlcheck" {
+        return Ok(());
+    }
+    let text = row.text(rt.alloc())?;
+    let Ok(text) = std::str::from_utf8(text.as_slice()) else {
+        return Ok(());
+    };
+    let Some(is_completed) = is_completed(rt.alloc(), text)? else {
+        return Ok(());
+    };
+    tally.count(rt.alloc(), "completion of a refused text", is_completed)?;
+    if !is_completed {
+        let number = row.number;
+        println!(rt; "{name}:{number}: no completion is found")?;
+    }
+    Ok(())
+}

@@ -1,0 +1,115 @@
+//! How places, tokens and errors are written in a row's answer.
+
+use juniper::{Kind, LexerError, ParseError, ParseFailure, SourcePosition, Span, Spanning, Token};
+use std::alloc::AllocError;
+
+fn write_place(out: &mut String, place: SourcePosition) -> Result<(), AllocError> {
+    let index = place.index();
+    let line = place.line();
+    let column = place.column();
+    write!(out, "{index}:{line}:{column}")
+}
+
+/// Writes the index, line and column of a span's start and end.
+pub fn write_span(out: &mut String, span: &Span) -> Result<(), AllocError> {
+    write_place(out, span.start)?;
+    out.push('-')?;
+    write_place(out, span.end)
+}
+
+fn kind_word(kind: Kind) -> &'static str {
+    match kind {
+        Kind::Name => "Name",
+        Kind::String => "String",
+        Kind::Float => "Float",
+        Kind::Int => "Int",
+        Kind::ExclamationMark => "ExclamationMark",
+        Kind::Dollar => "Dollar",
+        Kind::ParenOpen => "ParenOpen",
+        Kind::ParenClose => "ParenClose",
+        Kind::BracketOpen => "BracketOpen",
+        Kind::BracketClose => "BracketClose",
+        Kind::CurlyOpen => "CurlyOpen",
+        Kind::CurlyClose => "CurlyClose",
+        Kind::Ellipsis => "Ellipsis",
+        Kind::Colon => "Colon",
+        Kind::Equals => "Equals",
+        Kind::At => "At",
+        Kind::Pipe => "Pipe",
+        Kind::EndOfFile => "EndOfFile",
+    }
+}
+
+/// Writes a token's span, its kind, and its text if that isn't empty.
+pub fn write_token(out: &mut String, token: &Spanning<Token<'_>>) -> Result<(), AllocError> {
+    write_span(out, &token.span)?;
+    let word = kind_word(token.item.kind());
+    write_worded(out, word, token.item.text())
+}
+
+// Writes a space and a word, and a space and a text if that isn't empty.
+fn write_worded(out: &mut String, word: &str, text: &str) -> Result<(), AllocError> {
+    if text.is_empty() {
+        write!(out, " {word}")
+    } else {
+        write!(out, " {word} {text}")
+    }
+}
+
+fn write_lexer_error(out: &mut String, error: &LexerError) -> Result<(), AllocError> {
+    match error {
+        LexerError::UnknownCharacter(c) => write!(out, " UnknownCharacter {c}"),
+        LexerError::UnexpectedCharacter(c) => write!(out, " UnexpectedCharacter {c}"),
+        LexerError::UnterminatedString => out.push_str(" UnterminatedString"),
+        LexerError::UnknownCharacterInString(c) => write!(out, " UnknownCharacterInString {c}"),
+        LexerError::UnknownEscapeSequence(text) => write!(out, " UnknownEscapeSequence {text}"),
+        LexerError::UnexpectedEndOfFile => out.push_str(" UnexpectedEndOfFile"),
+        LexerError::InvalidNumber => out.push_str(" InvalidNumber"),
+    }
+}
+
+/// Writes a lexical fault: its span, its variant and what that holds.
+pub fn write_fault(out: &mut String, fault: &Spanning<LexerError>) -> Result<(), AllocError> {
+    write_span(out, &fault.span)?;
+    write_lexer_error(out, &fault.item)
+}
+
+/// Writes a space, a parser's error by its variant, and what that holds.
+pub fn write_error(out: &mut String, error: &ParseError) -> Result<(), AllocError> {
+    match error {
+        ParseError::UnexpectedToken(text) => write!(out, " UnexpectedToken {text}"),
+        ParseError::UnexpectedEndOfFile => out.push_str(" UnexpectedEndOfFile"),
+        ParseError::LexerError(error) => {
+            out.push_str(" LexerError")?;
+            write_lexer_error(out, error)
+        }
+        ParseError::ExpectedScalarError(text) => write!(out, " ExpectedScalarError {text}"),
+    }
+}
+
+/// Writes why a parser gave nothing: a refusal's span and error, or want of memory.
+pub fn write_failure(out: &mut String, failure: &ParseFailure) -> Result<(), AllocError> {
+    match failure {
+        ParseFailure::Refused(fault) => {
+            write_span(out, &fault.span)?;
+            write_error(out, &fault.item)
+        }
+        ParseFailure::Memory => out.push_str("Memory"),
+    }
+}
+
+/// Writes a comma and a space, unless nothing was written behind this many bytes.
+pub fn write_separator(out: &mut String, before: usize) -> Result<(), AllocError> {
+    if out.len() > before {
+        out.push_str(", ")?;
+    }
+    Ok(())
+}
+
+/// Writes a text, or `None`.
+pub fn write_optional_text(out: &mut String, text: Option<&str>) -> Result<(), AllocError> {
+    match text {
+        Some(text) => out.push_str(text),
+        None => out.push_str("None"),
+    }
+}
