@@ -106,7 +106,7 @@ impl<'a> Parser<'a> {
         }
     }
 
-    /// The allocator of the lexer that gave the tokens.
+    /// The allocator of the lexer that gave the tokens. A `Global` is a handle without data: there is but one.
     pub fn allocator(&self) -> Global
         ensures { (given : Allocator) → result ≡ given }
     {
