@@ -1,5 +1,6 @@
 //! The lexer.
 ghost use Rattle.std.specs.Prelude.{◌≡◌, ◌<◌, ◌≤◌, drop, length, IfSome};
+ghost use Rattle.std.specs.Global.{Global as Allocator};
 ghost use Rattle.std.specs.Str.{chars};
 ghost use Rattle.graphql_lexical.specs.Scan.{scan};
 ghost use Rattle.juniper_tokens.specs.Borders.{IsBorder};
@@ -67,7 +68,9 @@ impl<'a> Lexer<'a> {
         }
     }
 
-    pub(crate) fn allocator(&self) -> Global {
+    pub(crate) fn allocator(&self) -> Global
+        ensures { (given : Allocator) → result ≡ given }
+    {
         self.alloc
     }
 
