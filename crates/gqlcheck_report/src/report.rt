@@ -49,7 +49,7 @@ const NOT_UTF8: &str = "Not UTF-8\n";
 /// Reads all of the reader, and writes the report of its bytes.
 ///
 /// The report is a function of the bytes. It is built whole before any of it is written. A reader that neither ends
-/// nor fails leads to `Memory`.
+/// nor fails leads to `Memory`. Condition: neither the reader nor the writer has failed yet.
 pub fn run<R: Read, W: Write>(
     alloc: Global,
     reader: &mut Watched<R>,

@@ -84,7 +84,7 @@ impl<S> Object<S> {
     /// The object of these pairs: each put in turn, as `add_field` puts it, into an object without fields.
     ///
     /// Of a doubled key the first place and the last value stay. `AllocError` where memory ran out; what came until then is
-    /// dropped.
+    /// dropped. Condition: the iterator may be asked for its items, and ends.
     pub fn from_iter<I: Iterator<Item = (String, Value<S>)>>(
         alloc: Global,
         items: I,
