@@ -1,6 +1,6 @@
 -- How a token and a lexical error are shown.
 use Rattle.std.specs.Prelude.{ℕ, List, [], ◌∷◌, ◌++◌, codes, if◌then◌else◌, ◌||◌, ◌==◌, flat_map}
-use Rattle.graphql_lexical.specs.Kinds.{Kind, String, EndOfFile, LexicalError, UnknownCharacter, UnexpectedCharacter, UnterminatedString, UnknownCharacterInString, UnknownEscapeSequence, UnexpectedEndOfFile, InvalidNumber}
+use Rattle.graphql_lexical.specs.Kinds.{Kind, Name, String, Float, Int, ExclamationMark, Dollar, ParenOpen, ParenClose, BracketOpen, BracketClose, CurlyOpen, CurlyClose, Ellipsis, Colon, Equals, At, Pipe, EndOfFile, LexicalError, UnknownCharacter, UnexpectedCharacter, UnterminatedString, UnknownCharacterInString, UnknownEscapeSequence, UnexpectedEndOfFile, InvalidNumber}
 
 -- a text between quotes
 abbrev pub quoted : List ℕ → List ℕ
@@ -15,9 +15,24 @@ escaped cs = flat_map escape cs
 
 -- What is shown of a token of that kind and text.
 abbrev pub shown : Kind → List ℕ → List ℕ
+shown Name text = text
 shown String text = quoted (escaped text)
+shown Float text = text
+shown Int text = text
+shown ExclamationMark text = text
+shown Dollar text = text
+shown ParenOpen text = text
+shown ParenClose text = text
+shown BracketOpen text = text
+shown BracketClose text = text
+shown CurlyOpen text = text
+shown CurlyClose text = text
+shown Ellipsis text = text
+shown Colon text = text
+shown Equals text = text
+shown At text = text
+shown Pipe text = text
 shown EndOfFile text = codes "End of file"
-shown _ text = text
 
 -- What is shown of a lexical error.
 abbrev pub error_text : LexicalError → List ℕ

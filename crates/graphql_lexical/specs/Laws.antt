@@ -1,9 +1,9 @@
 -- What is claimed of the definitions.
 use Rattle.std.specs.Prelude.{◌≡◌, ◌≢◌, ℕ, ◌-◌, ◌≤◌, ◌+◌, List, [], ◌∷◌, ◌++◌, length, slice_get, take, drop, ◌⊎◌, ◌↔◌, Some, Ok, Err}
 use Rattle.std.specs.List.{AllByRecursion}
-use Rattle.graphql_lexical.specs.Kinds.{Kind, String, EndOfFile, LexicalError}
+use Rattle.graphql_lexical.specs.Kinds.{Kind, EndOfFile, LexicalError}
 use Rattle.graphql_lexical.specs.Place.{Place, Span, place, origin, past_character}
-use Rattle.graphql_lexical.specs.Display.{quoted}
+use Rattle.graphql_lexical.specs.Tokens.{quotes_of}
 use Rattle.graphql_lexical.specs.Reading.{Reads, Fails}
 use Rattle.graphql_lexical.specs.Cutting.{Lexeme, Cut, Breaks}
 use Rattle.graphql_lexical.specs.Scan.{Found, Missed, Broken, scan, cut_of}
@@ -65,10 +65,13 @@ HasFewTokens source = (front : List Lexeme) (last : Lexeme) → Cut source (fron
 abbrev pub slice_of : List ℕ → Span → List ℕ
 slice_of source span = take (span.end.index - span.start.index) (drop span.start.index source)
 
+abbrev pub around : List ℕ → List ℕ → List ℕ
+around [] text = text
+around (q ∷ qs) text = q ∷ qs ++ (text ++ q ∷ qs)
+
 -- what a source has where a token of this kind and text stands: of a String its text between quotes
 abbrev pub written : Kind → List ℕ → List ℕ
-written String text = quoted text
-written _ text = text
+written kind text = around (quotes_of kind) text
 
 -- The token stands at or behind character k: its places are places of the source, and what stands between them is its
 -- text, of a String its text between quotes.

@@ -128,10 +128,34 @@ punctuator c =
     else (if c == 124 then Some Pipe
     else None)))))))))))
 
+-- what a token of this kind has on each side of its text
+abbrev pub quotes_of : Kind → List ℕ
+quotes_of Name = []
+quotes_of String = 34 ∷ []
+quotes_of Float = []
+quotes_of Int = []
+quotes_of ExclamationMark = []
+quotes_of Dollar = []
+quotes_of ParenOpen = []
+quotes_of ParenClose = []
+quotes_of BracketOpen = []
+quotes_of BracketClose = []
+quotes_of CurlyOpen = []
+quotes_of CurlyClose = []
+quotes_of Ellipsis = []
+quotes_of Colon = []
+quotes_of Equals = []
+quotes_of At = []
+quotes_of Pipe = []
+quotes_of EndOfFile = []
+
+abbrev pub between : List ℕ → List ℕ → List ℕ
+between [] whole = whole
+between (q ∷ qs) whole = take (length whole - 2 * length (q ∷ qs)) (drop (length (q ∷ qs)) whole)
+
 -- the token's text: for a string what stands between its quotes
 abbrev pub text_of : Kind → List ℕ → List ℕ
-text_of String whole = take (length whole - 2) (drop 1 whole)
-text_of _ whole = whole
+text_of kind whole = between (quotes_of kind) whole
 
 -- some token begins with the text
 abbrev pub Starts : List ℕ → Type 0

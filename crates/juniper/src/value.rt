@@ -52,7 +52,21 @@ pub(crate) fn parse_value<'a, S: ScalarValue>(
         Kind::CurlyOpen => parse_object(parser, is_const),
         Kind::Dollar if !is_const => parse_variable(parser),
         Kind::Name => parse_named_value(parser),
-        _ => parse_scalar(parser),
+        Kind::String
+        | Kind::Float
+        | Kind::Int
+        | Kind::ExclamationMark
+        | Kind::Dollar
+        | Kind::ParenOpen
+        | Kind::ParenClose
+        | Kind::BracketClose
+        | Kind::CurlyClose
+        | Kind::Ellipsis
+        | Kind::Colon
+        | Kind::Equals
+        | Kind::At
+        | Kind::Pipe
+        | Kind::EndOfFile => parse_scalar(parser),
     }
 }
 

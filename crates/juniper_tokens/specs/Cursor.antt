@@ -2,7 +2,7 @@
 use Rattle.std.specs.Prelude.{◌≡◌, ℕ, Bool, true, false, ◌&&◌, List, [], ◌∷◌, drop, Result, Ok, Err, Option, Some, None, if◌then◌else◌}
 use Rattle.graphql_lexical.specs.Place.{Span, origin}
 use Rattle.graphql_lexical.specs.declared.kind.Kind.{Kind}
-use Rattle.graphql_lexical.specs.declared.kind.Kind.TheVariants.{Name, String, Float, Int, At, EndOfFile}
+use Rattle.graphql_lexical.specs.declared.kind.Kind.TheVariants.{Name, String, Float, Int, ExclamationMark, Dollar, ParenOpen, ParenClose, BracketOpen, BracketClose, CurlyOpen, CurlyClose, Ellipsis, Colon, Equals, At, Pipe, EndOfFile}
 use Rattle.graphql_lexical.specs.Kinds.{same_kind}
 use Rattle.graphql_lexical.specs.Cutting.{Lexeme}
 use Rattle.graphql_lexical.specs.Display.{shown}
@@ -59,7 +59,20 @@ has_text Name = true
 has_text String = true
 has_text Float = true
 has_text Int = true
-has_text _ = false
+has_text ExclamationMark = false
+has_text Dollar = false
+has_text ParenOpen = false
+has_text ParenClose = false
+has_text BracketOpen = false
+has_text BracketClose = false
+has_text CurlyOpen = false
+has_text CurlyClose = false
+has_text Ellipsis = false
+has_text Colon = false
+has_text Equals = false
+has_text At = false
+has_text Pipe = false
+has_text EndOfFile = false
 
 -- the lexeme equals the wanted token in kind and text
 abbrev pub is_wanted : Kind → List ℕ → Lexeme → Bool

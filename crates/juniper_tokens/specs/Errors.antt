@@ -1,11 +1,12 @@
 -- Errors of the code, as the definitions see them, and how they are shown.
-use Rattle.std.specs.Prelude.{ℕ, List, ◌++◌, codes}
+use Rattle.std.specs.Prelude.{ℕ, List, ◌++◌, codes, Result, Err}
 use Rattle.std.specs.Str.{chars}
 use Rattle.std.specs.String.{string_bytes}
 use Rattle.graphql_lexical.specs.Place.{Span}
+use Rattle.graphql_lexical.specs.declared.kind.Kind.{Kind}
 use Rattle.graphql_lexical.specs.Kinds.{LexicalError}
 use Rattle.graphql_lexical.specs.Kinds as kinds
-use Rattle.graphql_lexical.specs.Display.{quoted, error_text as lexical_text}
+use Rattle.graphql_lexical.specs.Display.{quoted, shown, error_text as lexical_text}
 use Rattle.juniper_tokens.specs.declared.span.Spanning.{Spanning}
 use Rattle.juniper_tokens.specs.declared.error.LexerError.{LexerError}
 use Rattle.juniper_tokens.specs.declared.error.LexerError.TheVariants as lexer
@@ -23,6 +24,10 @@ pub data Error : Type 0 where
   UnexpectedEndOfFile : Error
   Lexical : LexicalError → Error
   ExpectedScalar : List ℕ → Error
+
+-- the refusal of a token that may not stand there
+abbrev pub unexpected : {A : Type 0} → Kind → List ℕ → Result A Error
+unexpected kind text = Err (UnexpectedToken (shown kind text))
 
 -- an error and its place
 pub record Fault : Type 0 where

@@ -35,7 +35,23 @@ impl TokenRange {
         };
         match self.kind {
             Kind::String => unquoted(rest, end),
-            _ => text_before(rest, end),
+            Kind::Name
+            | Kind::Float
+            | Kind::Int
+            | Kind::ExclamationMark
+            | Kind::Dollar
+            | Kind::ParenOpen
+            | Kind::ParenClose
+            | Kind::BracketOpen
+            | Kind::BracketClose
+            | Kind::CurlyOpen
+            | Kind::CurlyClose
+            | Kind::Ellipsis
+            | Kind::Colon
+            | Kind::Equals
+            | Kind::At
+            | Kind::Pipe
+            | Kind::EndOfFile => text_before(rest, end),
         }
     }
 
