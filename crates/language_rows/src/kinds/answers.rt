@@ -84,29 +84,66 @@ fn answer_call(
     match word {
         "display" => write!(out, "{value}"),
         "to_input_value" => write_input(alloc, out, value),
-        "try_clone" => {
-            let is_equal = value.try_clone(alloc)? == *value;
-            write!(out, "{is_equal}")
-        }
-        "map_scalar_value" => {
-            let mapped: Answer = value.try_clone(alloc)?.map_scalar_value(alloc)?;
-            let is_equal = mapped == *value;
-            write!(out, "{mapped} {is_equal}")
-        }
-        "==" => match answer_in(alloc, rest)? {
-            Some(other) => {
-                let there = *value == other;
-                let back = other == *value;
-                write!(out, "{there} {back}")
-            }
-            None => out.push_str("no value"),
-        },
         "parts" => write_parts(out, value),
-        _ => match value.as_mut_object_value() {
-            Some(object) => answer_object(alloc, out, object, word, rest),
-            None => out.push_str("no object"),
-        },
+        _ => answer_whole(alloc, out, value, word, rest),
     }
+}
+
+// A call on a whole answer, or on the object that it is.
+fn answer_whole(
+    alloc: Global,
+    out: &mut String,
+    value: &mut Answer,
+    word: &str,
+    rest: &str,
+) -> Result<(), AllocError> {
+    match word {
+        "try_clone" => write_copied(alloc, out, value),
+        "map_scalar_value" => write_mapped(alloc, out, value),
+        "==" => write_compared(alloc, out, value, rest),
+        _ => answer_part(alloc, out, value, word, rest),
+    }
+}
+
+fn answer_part(
+    alloc: Global,
+    out: &mut String,
+    value: &mut Answer,
+    word: &str,
+    rest: &str,
+) -> Result<(), AllocError> {
+    match value.as_mut_object_value() {
+        Some(object) => answer_object(alloc, out, object, word, rest),
+        None => out.push_str("no object"),
+    }
+}
+
+fn write_copied(alloc: Global, out: &mut String, value: &Answer) -> Result<(), AllocError> {
+    let is_equal = value.try_clone(alloc)? == *value;
+    write!(out, "{is_equal}")
+}
+
+fn write_mapped(alloc: Global, out: &mut String, value: &Answer) -> Result<(), AllocError> {
+    let mapped: Answer = value.try_clone(alloc)?.map_scalar_value(alloc)?;
+    let is_equal = mapped == *value;
+    write!(out, "{mapped} {is_equal}")
+}
+
+// Whether an answer equals the one that is written, and the other way round.
+fn write_compared(
+    alloc: Global,
+    out: &mut String,
+    value: &Answer,
+    other: &str,
+) -> Result<(), AllocError> {
+    match answer_in(alloc, other)? {
+        Some(other) => write_both(out, *value == other, other == *value),
+        None => out.push_str("no value"),
+    }
+}
+
+fn write_both(out: &mut String, there: bool, back: bool) -> Result<(), AllocError> {
+    write!(out, "{there} {back}")
 }
 
 // The input value of an answer, and whether it has no place.

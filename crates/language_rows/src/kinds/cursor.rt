@@ -38,15 +38,23 @@ fn answer_call(out: &mut String, parser: &mut Parser<'_>, call: &str) -> Result<
         "peek" => write_token(out, parser.peek()),
         "next_token" => write_taken(out, &parser.next_token()),
         "expect_name" => write_name(out, &parser.expect_name()),
-        "expect" => match &first_item(parser.allocator(), rest) {
-            Some(Ok(token)) => write_taken(out, &parser.expect(&token.item)),
-            _ => out.push_str("no token"),
-        },
-        "skip" => match &first_item(parser.allocator(), rest) {
-            Some(Ok(token)) => write_skipped(out, &parser.skip(&token.item)),
-            _ => out.push_str("no token"),
-        },
+        "expect" => expect(out, parser, rest),
+        "skip" => skip(out, parser, rest),
         _ => answer_list(out, parser, call),
+    }
+}
+
+fn expect(out: &mut String, parser: &mut Parser<'_>, wanted: &str) -> Result<(), AllocError> {
+    match &first_item(parser.allocator(), wanted) {
+        Some(Ok(token)) => write_taken(out, &parser.expect(&token.item)),
+        _ => out.push_str("no token"),
+    }
+}
+
+fn skip(out: &mut String, parser: &mut Parser<'_>, wanted: &str) -> Result<(), AllocError> {
+    match &first_item(parser.allocator(), wanted) {
+        Some(Ok(token)) => write_skipped(out, &parser.skip(&token.item)),
+        _ => out.push_str("no token"),
     }
 }
 

@@ -52,17 +52,51 @@ fn answer_call(
         "is_null" => write_truth(out, value.is_null()),
         "is_variable" => write_truth(out, value.is_variable()),
         "as_enum_value" => write_optional_text(out, value.as_enum_value()),
-        "as_scalar" => match value.as_scalar() {
-            Some(scalar) => write!(out, "{scalar}"),
-            None => out.push_str("None"),
-        },
+        _ => answer_parts(alloc, out, value, word, rest),
+    }
+}
+
+// A call that gives a part of the value.
+fn answer_parts(
+    alloc: Global,
+    out: &mut String,
+    value: Input,
+    word: &str,
+    rest: &str,
+) -> Result<(), AllocError> {
+    match word {
+        "as_scalar" => write_scalar(out, &value),
         "to_list_value" => write_list(alloc, out, &value),
         "to_object_value" => write_object(alloc, out, &value),
         "referenced_variables" => write_variables(alloc, out, &value),
+        _ => answer_whole(alloc, out, value, word, rest),
+    }
+}
+
+// A call that makes a value of the whole one.
+fn answer_whole(
+    alloc: Global,
+    out: &mut String,
+    value: Input,
+    word: &str,
+    rest: &str,
+) -> Result<(), AllocError> {
+    match word {
         "made_anew" => write_made_anew(alloc, out, &value),
-        "try_clone" => write_truth(out, value.try_clone(alloc)? == value),
+        "try_clone" => write_copied(alloc, out, &value),
         _ => answer_two(alloc, out, value, word, rest),
     }
+}
+
+fn write_scalar(out: &mut String, value: &Input) -> Result<(), AllocError> {
+    match value.as_scalar() {
+        Some(scalar) => write!(out, "{scalar}"),
+        None => out.push_str("None"),
+    }
+}
+
+fn write_copied(alloc: Global, out: &mut String, value: &Input) -> Result<(), AllocError> {
+    write_truth(out, value.try_clone(alloc)? == *value)
 }
 
 // A call on the value and another literal.
