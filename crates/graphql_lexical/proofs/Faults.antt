@@ -1,16 +1,18 @@
 -- What scan misses is a fault of the tables.
-use Rattle.std.proofs.Common.{◌≡◌, ℕ, zero, suc, ◌+◌, ◌-◌, ◌≤◌, inl, inr, Bool, true, false, cond, eqb, not, ◌&&◌, List, [], ◌∷◌, ◌++◌, length, take, drop, Option, Some, None, Err, IsTrue, refl, sym, ap, ◌∙◌, subst, arith, length-append, append_assoc, take-append-drop}
+use Rattle.std.proofs.Common.{◌≡◌, ℕ, zero, suc, ◌+◌, ◌-◌, ◌≤◌, inl, inr, Bool, true, false, cond, eqb, not, ◌&&◌, List, [], ◌∷◌, ◌++◌, length, take, drop, Option, Some, None, Err, IsTrue, refl, sym, ap, ◌∙◌, subst, arith, length-append, append-nil, append_assoc, take-append-drop}
 use Rattle.std.proofs.lemmas.List.{take_at, drop_at, length-take-le}
-use Rattle.std.proofs.lemmas.Bool.{eqb-false}
+use Rattle.std.proofs.lemmas.Bool.{eqb-false, cond-false}
 use Rattle.std.proofs.lemmas.Option.{none-some}
+use Rattle.std.specs.Prelude.{option_map}
 use Rattle.graphql_lexical.specs.Characters.{is_digit, is_line_end, is_source, is_plain, is_escape}
-use Rattle.graphql_lexical.specs.Kinds.{Kind, Name, String, Float, Int, Ellipsis, LexicalError, UnknownCharacter, UnexpectedCharacter, UnterminatedString, UnknownCharacterInString, UnknownEscapeSequence, UnexpectedEndOfFile}
-use Rattle.graphql_lexical.specs.Tokens.{IsZero, IsNumber, AreUnits}
-use Rattle.graphql_lexical.specs.Reading.{BeginsNumber, StringFails, at_end, at_line_end, at_control, lone_backslash, wrong_escape, Fails, number_ends, number_stops, zero_goes_on, string_fails, dot_ends, dots_end, dot_stops, dots_stop, unknown}
+use Rattle.graphql_lexical.specs.Kinds.{Kind, Name, String, Float, Int, Ellipsis, LexicalError, UnknownCharacter, UnexpectedCharacter, UnterminatedString, UnknownCharacterInString, UnknownEscapeSequence, UnexpectedEndOfFile, BlockString}
+use Rattle.graphql_lexical.specs.Tokens.{IsZero, IsNumber, AreUnits, mark}
+use Rattle.graphql_lexical.specs.Reading.{BeginsNumber, StringFails, at_end, at_line_end, at_control, lone_backslash, wrong_escape, Fails, number_ends, number_stops, zero_goes_on, string_fails, dot_ends, dots_end, dot_stops, dots_stop, unknown, block_ends, block_stops}
 use Rattle.graphql_lexical.specs.Machines.{reach}
-use Rattle.graphql_lexical.specs.Scan.{State, Start, Done, Dot, Dots, InName, Minus, Zero, Digits, Point, Fraction, Mark, Sign, Exponent, Units, Backslash, Hex0, Hex1, HexD, Hex2, Hex3, step, Missed, found, missed, stopped, after_zero, after_dots, after_units, after_backslash, after_u, answer, scan}
-use Rattle.graphql_lexical.proofs.Runs.{Stops}
-use Rattle.graphql_lexical.proofs.History.{IsRead, IsOpen, IsBase}
+use Rattle.graphql_lexical.specs.Scan.{State, Start, Done, Dot, Dots, InName, Minus, Zero, Digits, Point, Fraction, Mark, Sign, Exponent, Units, Backslash, Hex0, Hex1, HexD, Hex2, Hex3, step, Missed, found, missed, stopped, after_zero, after_dots, after_units, after_backslash, after_u, answer, scan, Quote, Quotes, InBlock, Block, Inside, Closed, block_step, after_block}
+use Rattle.graphql_lexical.proofs.Runs.{Stops, run}
+use Rattle.graphql_lexical.proofs.History.{IsRead, IsOpen, IsBase, cond_none, open_none}
+use Rattle.graphql_lexical.proofs.Blocks.{block_open, stops_at}
 use Rattle.graphql_lexical.proofs.Spelled.{accepts, starts_run}
 use Rattle.graphql_lexical.proofs.Readings.{Reached, reached, starts_longest, front_read, spells_accepts}
 use Rattle.graphql_lexical.proofs.Units.{NoUnit, NoScalar, units_longest, units_stop, backslash_stop, no_scalar_unit, hex0_stop, hex1_stop, hexd_stop, hex2_stop, hex3_stop}
@@ -81,10 +83,6 @@ string_missed tail n rest q m e h o none f at same =
     subst (λ (x : List ℕ). Fails x at e) (sym p.rest_is) (subst (λ (k : ℕ). Fails (34 ∷ (p.units ++ (tail ++ drop n rest))) k e) place s)
 
 -- what stops a unit
-cond_none : {A : Type 0} (b : Bool) (x : A) (o : Option A) → cond b (Some x) o ≡ None → (b ≡ false) × (o ≡ None)
-cond_none true x o e = absurd (none-some x (sym e))
-cond_none false x o e = (refl, e)
-
 control_bools : (s l q b : Bool) → ((s && not l) && (not q && not b)) ≡ false → l ≡ false → q ≡ false → b ≡ false → s ≡ false
 control_bools false l q b h x y z = refl
 control_bools true l q b h x y z = rw (x, y, z) at h
@@ -103,6 +101,15 @@ units_cond n c after m false l s e = subst (λ (x : Missed). (x.at ≡ n) × Str
 units_fails : (n : ℕ) (b : List ℕ) (m : Missed) → Stops step Units b → after_units n b ≡ Err m → (m.at ≡ n) × StringFails b 0 m.error
 units_fails n [] m s e = subst (λ (x : Missed). (x.at ≡ n) × StringFails [] 0 x.error) (same_Err (record { at = n; error = UnterminatedString }) m e) (refl, at_end)
 units_fails n (c ∷ after) m s e = units_cond n c after m (is_line_end c) refl s e
+
+-- a quote alone stops where a quote and units would
+quote_stop : (b : List ℕ) → Stops step Quote b → Stops step Units b
+quote_stop [] s = tt
+quote_stop (c ∷ after) s =
+    let a = cond_none (is_plain c) Units _ s in
+    let b = cond_none (eqb c 34) Quotes _ a.1 in
+    let d = cond_none (eqb c 92) Backslash None b.1 in
+    cond-false (is_plain c) _ _ a.0 ∙ (cond-false (eqb c 34) _ _ b.0 ∙ cond-false (eqb c 92) _ _ d.0)
 
 backslash_fails : (n : ℕ) (b : List ℕ) (m : Missed) → Stops step Backslash b → after_backslash n b ≡ Err m → (m.at ≡ n) × StringFails (92 ∷ b) 1 m.error
 backslash_fails n [] m s e = subst (λ (x : Missed). (x.at ≡ n) × StringFails (92 ∷ []) 1 x.error) (same_Err (record { at = n; error = UnterminatedString }) m e) (refl, lone_backslash)
@@ -124,6 +131,27 @@ dots_missed (c ∷ b) m s e = missed_as (46 ∷ 46 ∷ c ∷ b) 0 (UnexpectedCha
 
 front_is : (n : ℕ) (rest t : List ℕ) → n ≤ length rest → take n rest ≡ t → (rest ≡ t ++ drop n rest) × (n ≡ length t)
 front_is n rest t l e = (sym (take-append-drop n rest) ∙ ap (λ (x : List ℕ). x ++ drop n rest) e, sym (length-take-le n rest l) ∙ ap length e)
+
+-- ---- block strings
+
+map_none : (o : Option Block) → option_map InBlock o ≡ None → o ≡ None
+map_none None e = refl
+map_none (Some q) e = absurd (none-some (InBlock q) (sym e))
+
+block_from : (q : Block) (s b : List ℕ) (m : Missed) → (q ≡ Closed → ⊥) → run block_step Inside s ≡ Some q → Stops step (InBlock q) b → after_block (3 + length s) b ≡ Err m → FailsAs (mark ++ (s ++ b)) m
+block_from q s [] m n r h e =
+    missed_as (mark ++ (s ++ [])) (3 + length s) UnterminatedString m e (subst (λ (x : List ℕ). Fails (mark ++ x) (3 + length s) UnterminatedString) (sym (append-nil s)) (block_ends (block_open q s [] n r tt)))
+block_from q s (c ∷ b) m n r h e =
+    let t = stops_at q c n (map_none (block_step q c) h) in
+    missed_as (mark ++ (s ++ c ∷ b)) (3 + length s) (UnknownCharacterInString c) m e (block_stops (block_open q s (c ∷ b) n r t.0) t.1)
+
+block_missed : (q : Block) (n : ℕ) (rest : List ℕ) (m : Missed) → (q ≡ Closed → ⊥) → Reached rest n (InBlock q) → IsRead (InBlock q) (take n rest) → after_block n (drop n rest) ≡ Err m → FailsAs rest m
+block_missed q n rest m o h r e =
+    let f = front_is n rest (mark ++ r.0) h.within r.1 in
+    subst (λ (x : List ℕ). FailsAs x m) (sym f.0) (block_from q r.0 (drop n rest) m o r.2 h.stops (subst (λ (k : ℕ). after_block k (drop n rest) ≡ Err m) (f.1 ∙ three (length r.0)) e))
+  where
+    three : (k : ℕ) → suc (suc (suc k)) ≡ 3 + k
+    three k = omega arith
 
 -- ---- the first character
 
@@ -176,6 +204,12 @@ answer_missed Fraction n rest m h r e = absurd (not_missed n Float rest m e)
 answer_missed Mark n rest m h r e = number_missed n rest (drop n rest) Mark m h refl refl (begins_base r.0 (r.1 ∷ []) (take n rest) r.2 r.3) e
 answer_missed Sign n rest m h r e = number_missed n rest (drop n rest) Sign m h refl refl (begins_base r.0 (r.1 ∷ r.2 ∷ []) (take n rest) r.3 r.4) e
 answer_missed Exponent n rest m h r e = absurd (not_missed n Float rest m e)
+answer_missed Quote n rest m h r e =
+    let stops = quote_stop (drop n rest) h.stops in
+    let f = units_fails n (drop n rest) m stops e in
+    let at_is = f.0 in
+    string_missed [] n rest Quote 0 m.error h (open_none (take n rest) r) (units_stop (drop n rest) stops) f.1 m.at (omega arith)
+answer_missed Quotes n rest m h r e = absurd (not_missed n String rest m e)
 answer_missed Units n rest m h r e =
     let f = units_fails n (drop n rest) m h.stops e in
     let at_is = f.0 in
@@ -189,6 +223,8 @@ answer_missed Hex1 n rest m h r e = hex_missed (r.0 ∷ []) n rest Hex1 m h r.3 
 answer_missed HexD n rest m h r e = hex_missed (r.0 ∷ []) n rest HexD m h r.2 (hexd_stop r.0 (drop n rest) r.1 h.stops) e
 answer_missed Hex2 n rest m h r e = hex_missed (r.0 ∷ r.1 ∷ []) n rest Hex2 m h r.3 (hex2_stop r.0 r.1 (drop n rest) h.stops) e
 answer_missed Hex3 n rest m h r e = hex_missed (r.0 ∷ r.1 ∷ r.2 ∷ []) n rest Hex3 m h r.5 (hex3_stop r.0 r.1 r.2 (drop n rest) h.stops) e
+answer_missed (InBlock Closed) n rest m h r e = absurd (not_missed n BlockString rest m e)
+answer_missed (InBlock part) n rest m h r e = block_missed part n rest m (λ x. absurd cc) h r e
 
 pub scan_fails : (rest : List ℕ) (m : Missed) → scan rest ≡ Err m → Fails rest m.at m.error
 scan_fails rest m e =

@@ -6,9 +6,9 @@ use Rattle.std.proofs.lemmas.Bool.{eqb-true}
 use Rattle.std.proofs.lemmas.Option.{none-some, same_Some}
 use Rattle.graphql_lexical.specs.Characters.{is_digit, is_name_character, is_exponent_mark, is_sign, is_hex}
 use Rattle.graphql_lexical.specs.Kinds.{Kind, String, Ellipsis}
-use Rattle.graphql_lexical.specs.Tokens.{IsName, AreSomeDigits, IsZero, IsCounting, IsLongInteger, IsInteger, IsFraction, IsExponent, IsDecimal, IsUnit, plain, escape, unicode, AreUnits, Spells, punctuator}
-use Rattle.graphql_lexical.specs.Scan.{State, Start, Done, Dot, Dots, InName, Minus, Zero, Digits, Point, Fraction, Mark, Sign, Exponent, Units, Backslash, Hex0, Hex1, HexD, Hex2, Hex3, is_hex_d, step}
-use Rattle.graphql_lexical.proofs.Runs.{run, kept_run}
+use Rattle.graphql_lexical.specs.Tokens.{IsName, AreSomeDigits, IsZero, IsCounting, IsLongInteger, IsInteger, IsFraction, IsExponent, IsDecimal, IsUnit, plain, escape, unicode, AreUnits, Spells, punctuator, mark}
+use Rattle.graphql_lexical.specs.Scan.{State, Start, Done, Dot, Dots, InName, Minus, Zero, Digits, Point, Fraction, Mark, Sign, Exponent, Units, Backslash, Hex0, Hex1, HexD, Hex2, Hex3, is_hex_d, step, Quote, Quotes, InBlock, Block, Inside, block_step}
+use Rattle.graphql_lexical.proofs.Runs.{run, kept_run, run_on}
 use Rattle.graphql_lexical.proofs.Numbers.{IsPair, pair_d, pair_other, scalar_from}
 
 -- an integer part or a decimal
@@ -35,6 +35,8 @@ IsRead Fraction t = IsDecimal t
 IsRead Mark t = (b : List ℕ) × (e : ℕ) × (t ≡ b ++ e ∷ []) × IsBase b × IsTrue (is_exponent_mark e)
 IsRead Sign t = (b : List ℕ) × (e : ℕ) × (s : ℕ) × (t ≡ b ++ e ∷ s ∷ []) × IsBase b × IsTrue (is_exponent_mark e) × IsTrue (is_sign s)
 IsRead Exponent t = (b : List ℕ) × (x : List ℕ) × (t ≡ b ++ x) × IsBase b × IsExponent x
+IsRead Quote t = t ≡ 34 ∷ []
+IsRead Quotes t = t ≡ 34 ∷ 34 ∷ []
 IsRead Units t = IsOpen [] t
 IsRead Backslash t = IsOpen (92 ∷ []) t
 IsRead Hex0 t = IsOpen (92 ∷ 117 ∷ []) t
@@ -42,6 +44,7 @@ IsRead Hex1 t = (h : ℕ) × IsTrue (is_hex h) × (is_hex_d h ≡ false) × IsOp
 IsRead HexD t = (h : ℕ) × IsTrue (is_hex_d h) × IsOpen (92 ∷ 117 ∷ h ∷ []) t
 IsRead Hex2 t = (h : ℕ) × (i : ℕ) × IsPair h i × IsOpen (92 ∷ 117 ∷ h ∷ i ∷ []) t
 IsRead Hex3 t = (h : ℕ) × (i : ℕ) × (j : ℕ) × IsPair h i × IsTrue (is_hex j) × IsOpen (92 ∷ 117 ∷ h ∷ i ∷ j ∷ []) t
+IsRead (InBlock part) t = (s : List ℕ) × (t ≡ mark ++ s) × (run block_step Inside s ≡ Some part)
 
 -- ---- tests, one after another
 
@@ -55,6 +58,11 @@ if_none P y e = absurd (none-some y e)
 pub if_not : {A : Type 0} (P : A → Type 0) (b : Bool) (x : A) (o : Option A) → (b ≡ true → P x) → (b ≡ false → (y : A) → o ≡ Some y → P y) → (y : A) → cond b (Some x) o ≡ Some y → P y
 if_not P true x o f g y e = subst P (same_Some x y e) (f refl)
 if_not P false x o f g y e = g refl y e
+
+-- what stops at no test
+pub cond_none : {A : Type 0} (b : Bool) (x : A) (o : Option A) → cond b (Some x) o ≡ None → (b ≡ false) × (o ≡ None)
+cond_none true x o e = absurd (none-some x (sym e))
+cond_none false x o e = (refl, e)
 
 -- ---- one more element
 
@@ -113,6 +121,17 @@ pub punctuator_read : (c : ℕ) (o : Option Kind) → ((kind : Kind) → o ≡ S
 punctuator_read c None h p e = absurd (none-some p e)
 punctuator_read c (Some kind) h p e = subst (λ (s : State). IsRead s (c ∷ [])) (same_Some (Done kind) p e) (h kind refl)
 
+-- a quote, before any unit
+pub open_none : (t : List ℕ) → t ≡ 34 ∷ [] → IsOpen [] t
+open_none t e = record { units = []; text_is = e; made = ([], tt, refl) }
+
+block_push : (part next : Block) (s : List ℕ) (c : ℕ) → run block_step Inside s ≡ Some part → block_step part c ≡ Some next → run block_step Inside (s ++ c ∷ []) ≡ Some next
+block_push part next s c e f = run_on block_step Inside part s (c ∷ []) e ∙ rw f
+
+in_block_read : (part : Block) (t : List ℕ) (c : ℕ) (o : Option Block) → block_step part c ≡ o → IsRead (InBlock part) t → (p : State) → option_map InBlock o ≡ Some p → IsRead p (t ++ c ∷ [])
+in_block_read part t c None h r p e = absurd (none-some p e)
+in_block_read part t c (Some next) h r p e = subst (λ (s : State). IsRead s (t ++ c ∷ [])) (same_Some (InBlock next) p e) (r.0 ++ c ∷ [], ap (λ (x : List ℕ). x ++ c ∷ []) r.1, block_push part next r.0 c r.2 h)
+
 -- a mark after an integer part or a decimal
 mark_read : (t : List ℕ) (c : ℕ) → IsBase t → IsTrue (is_exponent_mark c) → IsRead Mark (t ++ c ∷ [])
 mark_read t c h g = (t, c, refl, h, g)
@@ -127,7 +146,7 @@ read_step Start t c r =
     if_then P _ Zero _ (λ h. inl (at 48 h)) (
     if_then P _ Minus _ (at 45) (
     if_then P _ Dot _ (at 46) (
-    if_then P _ Units _ (λ h. record { units = []; text_is = at 34 h; made = ([], tt, refl) }) (
+    if_then P _ Quote _ (at 34) (
     punctuator_read c (punctuator c) (punctuator_spells c)))))))
     )
 read_step (Done kind) t c r = if_none (λ p. IsRead p (t ++ c ∷ []))
@@ -170,6 +189,15 @@ read_step Sign t c r =
 read_step Exponent t c r =
     let P = λ (p : State). IsRead p (t ++ c ∷ []) in
     if_then P _ Exponent _ (λ h. (r.0, r.1 ++ c ∷ [], end_push t r.0 r.1 c r.2, r.3, exponent_push r.1 c r.4 h)) (if_none P)
+read_step Quote t c r =
+    let P = λ (p : State). IsRead p (t ++ c ∷ []) in
+    let more = open_more [] t c (open_none t r) in
+    if_then P _ Units _ (λ h. open_unit (c ∷ []) (t ++ c ∷ []) more (plain h)) (
+    if_then P _ Quotes _ (λ h. rw (r, eqb-true c 34 h) refl) (
+    if_then P _ Backslash _ (λ h. subst (λ (x : ℕ). IsOpen (x ∷ []) (t ++ c ∷ [])) (eqb-true c 92 h) more) (if_none P)))
+read_step Quotes t c r =
+    let P = λ (p : State). IsRead p (t ++ c ∷ []) in
+    if_then P _ (InBlock Inside) _ (λ h. ([], rw (r, eqb-true c 34 h) refl, refl)) (if_none P)
 read_step Units t c r =
     let P = λ (p : State). IsRead p (t ++ c ∷ []) in
     let more = open_more [] t c r in
@@ -197,6 +225,7 @@ read_step Hex2 t c r =
 read_step Hex3 t c r =
     let P = λ (p : State). IsRead p (t ++ c ∷ []) in
     if_then P _ Units _ (λ h. open_unit (92 ∷ 117 ∷ r.0 ∷ r.1 ∷ r.2 ∷ c ∷ []) (t ++ c ∷ []) (open_more (92 ∷ 117 ∷ r.0 ∷ r.1 ∷ r.2 ∷ []) t c r.5) (unicode (scalar_from r.0 r.1 r.2 c r.3 r.4 h))) (if_none P)
+read_step (InBlock part) t c r = in_block_read part t c (block_step part c) refl r
 
 -- what has been read after a run
 pub read_run : (q : State) (t s : List ℕ) (p : State) → IsRead q t → run step q s ≡ Some p → IsRead p (t ++ s)

@@ -13,7 +13,7 @@ use Rattle.graphql_lexical.specs.Tokens.{Spells, text_of}
 use Rattle.graphql_lexical.specs.Reading.{Longest, BeginsWithDigit, Reads}
 use Rattle.graphql_lexical.specs.Cutting.{IsGap, Lexeme, Stands, Leads, Cut}
 use Rattle.graphql_lexical.specs.Machines.{reach}
-use Rattle.graphql_lexical.specs.Scan.{State, Start, Done, InName, Zero, Digits, Fraction, Exponent, step, Found, Missed, answer, scan, gap_step, gap_size}
+use Rattle.graphql_lexical.specs.Scan.{State, Start, Done, InName, Zero, Digits, Fraction, Exponent, step, Found, Missed, answer, scan, gap_step, gap_size, Quotes, InBlock, Closed}
 use Rattle.graphql_lexical.specs.Alike.{Alike, AllAlike}
 use Rattle.graphql_lexical.specs.Joining.{is_lone, BeginsApart, IsSeam, Joins}
 use Rattle.graphql_lexical.proofs.Runs.{Stops, Reaches, reach_is, reach_on, Longest_same}
@@ -80,9 +80,10 @@ record IsApart (c : ℕ) : Type 0 where
   no_digit : is_digit c ≡ false
   no_point : eqb c 46 ≡ false
   no_mark : is_exponent_mark c ≡ false
+  no_quote : eqb c 34 ≡ false
 
 white_apart : (c : ℕ) → IsTrue (is_white c) → IsApart c
-white_apart c h = record { no_name = grind (arith, nat_tests); no_digit = grind (arith, nat_tests); no_point = grind (arith, nat_tests); no_mark = grind (arith, nat_tests) }
+white_apart c h = record { no_name = grind (arith, nat_tests); no_digit = grind (arith, nat_tests); no_point = grind (arith, nat_tests); no_mark = grind (arith, nat_tests); no_quote = grind (arith, nat_tests) }
 
 head_apart : (c d : ℕ) → c ∷ [] ≡ d ∷ [] → IsApart d → IsApart c
 head_apart c d e h = subst IsApart (sym (head_is c d e)) h
@@ -91,18 +92,18 @@ head_apart c d e h = subst IsApart (sym (head_is c d e)) h
     head_is c d e = cc
 
 lone_apart : (c : ℕ) (kind : Kind) → IsTrue (is_lone kind) → Spells (c ∷ []) kind → IsApart c
-lone_apart c ExclamationMark l s = head_apart c 33 s (record { no_name = refl; no_digit = refl; no_point = refl; no_mark = refl })
-lone_apart c Dollar l s = head_apart c 36 s (record { no_name = refl; no_digit = refl; no_point = refl; no_mark = refl })
-lone_apart c ParenOpen l s = head_apart c 40 s (record { no_name = refl; no_digit = refl; no_point = refl; no_mark = refl })
-lone_apart c ParenClose l s = head_apart c 41 s (record { no_name = refl; no_digit = refl; no_point = refl; no_mark = refl })
-lone_apart c BracketOpen l s = head_apart c 91 s (record { no_name = refl; no_digit = refl; no_point = refl; no_mark = refl })
-lone_apart c BracketClose l s = head_apart c 93 s (record { no_name = refl; no_digit = refl; no_point = refl; no_mark = refl })
-lone_apart c CurlyOpen l s = head_apart c 123 s (record { no_name = refl; no_digit = refl; no_point = refl; no_mark = refl })
-lone_apart c CurlyClose l s = head_apart c 125 s (record { no_name = refl; no_digit = refl; no_point = refl; no_mark = refl })
-lone_apart c Colon l s = head_apart c 58 s (record { no_name = refl; no_digit = refl; no_point = refl; no_mark = refl })
-lone_apart c Equals l s = head_apart c 61 s (record { no_name = refl; no_digit = refl; no_point = refl; no_mark = refl })
-lone_apart c At l s = head_apart c 64 s (record { no_name = refl; no_digit = refl; no_point = refl; no_mark = refl })
-lone_apart c Pipe l s = head_apart c 124 s (record { no_name = refl; no_digit = refl; no_point = refl; no_mark = refl })
+lone_apart c ExclamationMark l s = head_apart c 33 s (record { no_name = refl; no_digit = refl; no_point = refl; no_mark = refl; no_quote = refl })
+lone_apart c Dollar l s = head_apart c 36 s (record { no_name = refl; no_digit = refl; no_point = refl; no_mark = refl; no_quote = refl })
+lone_apart c ParenOpen l s = head_apart c 40 s (record { no_name = refl; no_digit = refl; no_point = refl; no_mark = refl; no_quote = refl })
+lone_apart c ParenClose l s = head_apart c 41 s (record { no_name = refl; no_digit = refl; no_point = refl; no_mark = refl; no_quote = refl })
+lone_apart c BracketOpen l s = head_apart c 91 s (record { no_name = refl; no_digit = refl; no_point = refl; no_mark = refl; no_quote = refl })
+lone_apart c BracketClose l s = head_apart c 93 s (record { no_name = refl; no_digit = refl; no_point = refl; no_mark = refl; no_quote = refl })
+lone_apart c CurlyOpen l s = head_apart c 123 s (record { no_name = refl; no_digit = refl; no_point = refl; no_mark = refl; no_quote = refl })
+lone_apart c CurlyClose l s = head_apart c 125 s (record { no_name = refl; no_digit = refl; no_point = refl; no_mark = refl; no_quote = refl })
+lone_apart c Colon l s = head_apart c 58 s (record { no_name = refl; no_digit = refl; no_point = refl; no_mark = refl; no_quote = refl })
+lone_apart c Equals l s = head_apart c 61 s (record { no_name = refl; no_digit = refl; no_point = refl; no_mark = refl; no_quote = refl })
+lone_apart c At l s = head_apart c 64 s (record { no_name = refl; no_digit = refl; no_point = refl; no_mark = refl; no_quote = refl })
+lone_apart c Pipe l s = head_apart c 124 s (record { no_name = refl; no_digit = refl; no_point = refl; no_mark = refl; no_quote = refl })
 lone_apart c _ l s = absurd cc
 
 apart_stops : (q : State) (kind : Kind) (c : ℕ) → accepts q ≡ Some kind → IsApart c → step q c ≡ None
@@ -112,6 +113,8 @@ apart_stops Zero kind c a h = cond-false (eqb c 46) _ _ h.no_point ∙ cond-fals
 apart_stops Digits kind c a h = cond-false (is_digit c) _ _ h.no_digit ∙ (cond-false (eqb c 46) _ _ h.no_point ∙ cond-false (is_exponent_mark c) _ _ h.no_mark)
 apart_stops Fraction kind c a h = cond-false (is_digit c) _ _ h.no_digit ∙ cond-false (is_exponent_mark c) _ _ h.no_mark
 apart_stops Exponent kind c a h = cond-false (is_digit c) _ _ h.no_digit
+apart_stops Quotes kind c a h = cond-false (eqb c 34) _ _ h.no_quote
+apart_stops (InBlock Closed) kind c a h = refl
 apart_stops _ kind c a h = absurd (none-some kind a)
 
 apart_ends : (q : State) (kind : Kind) (b : List ℕ) → accepts q ≡ Some kind → BeginsApart b → Ends q b
@@ -133,6 +136,8 @@ lone_ends Zero kind b a l = absurd cc
 lone_ends Digits kind b a l = absurd cc
 lone_ends Fraction kind b a l = absurd cc
 lone_ends Exponent kind b a l = absurd cc
+lone_ends Quotes kind b a l = absurd cc
+lone_ends (InBlock Closed) kind b a l = absurd cc
 lone_ends _ kind b a l = absurd (none-some kind a)
 
 -- ---- the tokens of a stand in a ++ b

@@ -3,11 +3,11 @@ use Rattle.std.proofs.Common.{◌≡◌, ℕ, zero, suc, ◌+◌, ◌-◌, ◌<�
 use Rattle.std.proofs.lemmas.Option.{none-some, same_Some}
 use Rattle.std.proofs.lemmas.Bool.{cond-false, false_from_ne_true}
 use Rattle.graphql_lexical.specs.Characters.{is_digit, is_line_end}
-use Rattle.graphql_lexical.specs.Kinds.{Kind, Name, Float, Int, EndOfFile, LexicalError, UnexpectedCharacter, UnterminatedString, UnknownCharacterInString, UnknownEscapeSequence}
+use Rattle.graphql_lexical.specs.Kinds.{Kind, Name, String, BlockString, Float, Int, EndOfFile, LexicalError, UnexpectedCharacter, UnterminatedString, UnknownCharacterInString, UnknownEscapeSequence}
 use Rattle.graphql_lexical.specs.Tokens.{Spells, Starts, IsZero, text_of}
 use Rattle.graphql_lexical.specs.Reading.{counted, Longest, BeginsWithDigit, ReadsToken, Reads}
 use Rattle.graphql_lexical.specs.Machines.{reach}
-use Rattle.graphql_lexical.specs.Scan.{State, Start, Done, Dot, Dots, InName, Minus, Zero, Digits, Point, Fraction, Mark, Sign, Exponent, Units, Backslash, Hex0, Hex1, HexD, Hex2, Hex3, step, Found, Missed, found, missed, stopped, after_zero, after_dots, after_units, after_backslash, after_u, answer, scan}
+use Rattle.graphql_lexical.specs.Scan.{State, Start, Done, Dot, Dots, InName, Minus, Zero, Digits, Point, Fraction, Mark, Sign, Exponent, Units, Backslash, Hex0, Hex1, HexD, Hex2, Hex3, step, Found, Missed, found, missed, stopped, after_zero, after_dots, after_units, after_backslash, after_u, answer, scan, Quote, Quotes, InBlock, Closed, after_block}
 use Rattle.graphql_lexical.proofs.Runs.{Reaches, reach_is, Longest_same}
 use Rattle.graphql_lexical.proofs.History.{IsRead, read_run}
 use Rattle.graphql_lexical.proofs.Spelled.{Goes, accepts, accepts_spells, spells_run, starts_from, starts_run}
@@ -77,6 +77,10 @@ units_not : (n : ℕ) (b : List ℕ) (f : Found) → after_units n b ≡ Ok f �
 units_not n [] f e = cc
 units_not n (c ∷ b) f e = cond_not (is_line_end c) (missed n UnterminatedString) (missed n (UnknownCharacterInString c)) f (not_Ok n UnterminatedString f) (not_Ok n (UnknownCharacterInString c) f) e
 
+block_not : (n : ℕ) (b : List ℕ) (f : Found) → after_block n b ≡ Ok f → ⊥
+block_not n [] f e = cc
+block_not n (c ∷ b) f e = cc
+
 backslash_not : (n : ℕ) (b : List ℕ) (f : Found) → after_backslash n b ≡ Ok f → ⊥
 backslash_not n [] f e = cc
 backslash_not n (c ∷ b) f e = cc
@@ -108,6 +112,8 @@ answer_finds Fraction n c cs f e = found_finds Fraction n Float (c ∷ cs) f ref
 answer_finds Mark n c cs f e = absurd (stopped_not _ _ f e)
 answer_finds Sign n c cs f e = absurd (stopped_not _ _ f e)
 answer_finds Exponent n c cs f e = found_finds Exponent n Float (c ∷ cs) f refl (λ z. absurd cc) e
+answer_finds Quote n c cs f e = absurd (units_not n (drop n (c ∷ cs)) f e)
+answer_finds Quotes n c cs f e = found_finds Quotes n String (c ∷ cs) f refl (λ z. absurd cc) e
 answer_finds Units n c cs f e = absurd (units_not n (drop n (c ∷ cs)) f e)
 answer_finds Backslash n c cs f e = absurd (backslash_not _ _ f e)
 answer_finds Hex0 n c cs f e = absurd (u_not (n - 1) (drop (n - 0) (c ∷ cs)) f e)
@@ -115,6 +121,8 @@ answer_finds Hex1 n c cs f e = absurd (u_not (n - 2) (drop (n - 1) (c ∷ cs)) f
 answer_finds HexD n c cs f e = absurd (u_not (n - 2) (drop (n - 1) (c ∷ cs)) f e)
 answer_finds Hex2 n c cs f e = absurd (u_not (n - 3) (drop (n - 2) (c ∷ cs)) f e)
 answer_finds Hex3 n c cs f e = absurd (u_not (n - 4) (drop (n - 3) (c ∷ cs)) f e)
+answer_finds (InBlock Closed) n c cs f e = found_finds (InBlock Closed) n BlockString (c ∷ cs) f refl (λ z. absurd cc) e
+answer_finds (InBlock _) n c cs f e = absurd (block_not n (drop n (c ∷ cs)) f e)
 
 -- ---- what is accepted is answered
 
@@ -129,6 +137,8 @@ accepts_answer Zero n rest kind e z = zero_found n rest (drop n rest) (z refl) �
 accepts_answer Digits n rest kind e z = ap (λ (x : Kind). found n x rest) (same_Some Int kind e)
 accepts_answer Fraction n rest kind e z = ap (λ (x : Kind). found n x rest) (same_Some Float kind e)
 accepts_answer Exponent n rest kind e z = ap (λ (x : Kind). found n x rest) (same_Some Float kind e)
+accepts_answer Quotes n rest kind e z = ap (λ (x : Kind). found n x rest) (same_Some String kind e)
+accepts_answer (InBlock Closed) n rest kind e z = ap (λ (x : Kind). found n x rest) (same_Some BlockString kind e)
 accepts_answer _ n rest kind e z = absurd (none-some kind e)
 
 -- ---- both ways

@@ -1,18 +1,20 @@
 -- What the tables say is what scan misses.
-use Rattle.std.proofs.Common.{◌≡◌, ℕ, zero, suc, ◌+◌, ◌<◌, ◌≤◌, ◌⊎◌, inl, inr, Bool, true, false, eqb, not, ◌&&◌, List, [], ◌∷◌, ◌++◌, length, take, drop, Option, Some, None, Result, IsTrue, IsFalse, refl, sym, ap, ap₂, ◌∙◌, subst, arith, take-append-drop}
-use Rattle.std.proofs.lemmas.List.{length-take-le}
+use Rattle.std.proofs.Common.{◌≡◌, ℕ, zero, suc, ◌+◌, ◌<◌, ◌≤◌, ◌⊎◌, inl, inr, Bool, true, false, eqb, not, ◌&&◌, List, [], ◌∷◌, ◌++◌, length, take, drop, Option, Some, None, Result, IsTrue, IsFalse, refl, sym, ap, ap₂, ◌∙◌, subst, arith, append-nil, take-append-drop}
+use Rattle.std.proofs.lemmas.List.{length-take-le, drop_at}
 use Rattle.std.proofs.lemmas.Bool.{cond-true, cond-false, ne_eqb}
 use Rattle.std.proofs.lemmas.Bool.Decides.{nat_tests}
 use Rattle.std.proofs.lemmas.Option.{none-some}
+use Rattle.std.specs.Prelude.{option_map}
 use Rattle.graphql_lexical.specs.Characters.{is_digit, is_nonzero_digit, is_line_end, is_source, is_plain, is_escape}
-use Rattle.graphql_lexical.specs.Kinds.{Kind, Name, Float, Int, LexicalError, UnexpectedCharacter, UnterminatedString, UnknownEscapeSequence}
-use Rattle.graphql_lexical.specs.Tokens.{Starts, IsZero, IsNumber, StartsNumber, AreUnits}
-use Rattle.graphql_lexical.specs.Reading.{Longest, counted, BeginsNumber, StringFails, at_end, at_line_end, at_control, lone_backslash, wrong_escape, short_unicode, wrong_unicode, no_unicode, Fails, number_ends, number_stops, zero_goes_on, string_fails, dot_ends, dots_end, dot_stops, dots_stop, unknown}
+use Rattle.graphql_lexical.specs.Kinds.{Kind, Name, Float, Int, LexicalError, UnexpectedCharacter, UnterminatedString, UnknownEscapeSequence, String}
+use Rattle.graphql_lexical.specs.Tokens.{Starts, IsZero, IsNumber, StartsNumber, AreUnits, mark}
+use Rattle.graphql_lexical.specs.Reading.{Longest, counted, BeginsNumber, StringFails, at_end, at_line_end, at_control, lone_backslash, wrong_escape, short_unicode, wrong_unicode, no_unicode, Fails, number_ends, number_stops, zero_goes_on, string_fails, dot_ends, dots_end, dot_stops, dots_stop, unknown, block_ends, block_stops}
 use Rattle.graphql_lexical.specs.Machines.{reach, onward}
-use Rattle.graphql_lexical.specs.Scan.{State, Start, Done, Dot, Dots, InName, Minus, Zero, Digits, Point, Fraction, Mark, Sign, Exponent, Units, Backslash, Hex0, Hex1, HexD, Hex2, Hex3, step, Found, Missed, missed, stopped, after_zero, after_units, after_backslash, after_u, answer, scan}
-use Rattle.graphql_lexical.proofs.Runs.{reach_on, Longest_same}
+use Rattle.graphql_lexical.specs.Scan.{State, Start, Done, Dot, Dots, InName, Minus, Zero, Digits, Point, Fraction, Mark, Sign, Exponent, Units, Backslash, Hex0, Hex1, HexD, Hex2, Hex3, step, Found, Missed, missed, stopped, after_zero, after_units, after_backslash, after_u, answer, scan, Quote, Quotes, InBlock, Block, Closed, after_block}
+use Rattle.graphql_lexical.proofs.Runs.{reach_on, Longest_same, Stops}
 use Rattle.graphql_lexical.proofs.History.{IsRead, IsOpen}
-use Rattle.graphql_lexical.proofs.Spelled.{Goes, accepts, accepts_spells, starts_from, units_run}
+use Rattle.graphql_lexical.proofs.Spelled.{accepts, accepts_spells, starts_from, IsStringState, quote_run, block_run}
+use Rattle.graphql_lexical.proofs.Blocks.{control_stops as block_control_stops, IsOpenRun, units_run_open}
 use Rattle.graphql_lexical.proofs.Readings.{Reached, reached, starts_longest, front_read, zero_state}
 use Rattle.graphql_lexical.proofs.Units.{NoUnit, longest_no_unit, no_unit_scalar}
 use Rattle.graphql_lexical.proofs.NumberFronts.{not_number, longest_number, spells_number}
@@ -57,6 +59,8 @@ number_answer Fraction m rest r b a = absurd (none-some Float (sym a))
 number_answer Mark m rest r b a = refl
 number_answer Sign m rest r b a = refl
 number_answer Exponent m rest r b a = absurd (none-some Float (sym a))
+number_answer Quote m rest r b a = absurd (not_number 34 [] (take m rest) refl r b)
+number_answer Quotes m rest r b a = absurd (none-some String (sym a))
 number_answer Units m rest r b a = absurd (open_no_number [] (take m rest) r b)
 number_answer Backslash m rest r b a = absurd (open_no_number (92 ∷ []) (take m rest) r b)
 number_answer Hex0 m rest r b a = absurd (open_no_number (92 ∷ 117 ∷ []) (take m rest) r b)
@@ -64,6 +68,7 @@ number_answer Hex1 m rest r b a = absurd (open_no_number (92 ∷ 117 ∷ r.0 ∷
 number_answer HexD m rest r b a = absurd (open_no_number (92 ∷ 117 ∷ r.0 ∷ []) (take m rest) r.2 b)
 number_answer Hex2 m rest r b a = absurd (open_no_number (92 ∷ 117 ∷ r.0 ∷ r.1 ∷ []) (take m rest) r.3 b)
 number_answer Hex3 m rest r b a = absurd (open_no_number (92 ∷ 117 ∷ r.0 ∷ r.1 ∷ r.2 ∷ []) (take m rest) r.5 b)
+number_answer (InBlock part) m rest r b a = absurd (not_number 34 (34 ∷ 34 ∷ r.0) (take m rest) refl r.1 b)
 
 accepts_not : (o : Option Kind) → ((k : Kind) → o ≡ Some k → ⊥) → o ≡ None
 accepts_not None n = refl
@@ -94,6 +99,9 @@ line_end_is c h = grind (arith, nat_tests)
 line_end_stops : (c : ℕ) → IsTrue (is_line_end c) → step Units c ≡ None
 line_end_stops c h = elim (line_end_is c h) [ inl e ↦ rw e | inr e ↦ rw e ]
 
+line_end_quote : (c : ℕ) → IsTrue (is_line_end c) → step Quote c ≡ None
+line_end_quote c h = elim (line_end_is c h) [ inl e ↦ rw e | inr e ↦ rw e ]
+
 control_below : (c : ℕ) → IsFalse (is_source c) → c < 32
 control_below c h = grind (arith, nat_tests)
 
@@ -103,13 +111,13 @@ control_no_end c h = grind (arith, nat_tests)
 not_plain : (s x y : Bool) → s ≡ false → ((s && x) && y) ≡ false
 not_plain s x y e = rw e
 
-control_stops : (c : ℕ) → IsFalse (is_source c) → step Units c ≡ None
+control_stops : (c : ℕ) → IsFalse (is_source c) → (step Units c ≡ None) × (step Quote c ≡ None)
 control_stops c h =
     let l = control_below c h in
     let p : is_plain c ≡ false = not_plain (is_source c) (not (is_line_end c)) (not (eqb c 34) && not (eqb c 92)) h in
     let a : eqb c 34 ≡ false = ne_eqb c 34 (λ e. omega arith) in
     let b : eqb c 92 ≡ false = ne_eqb c 92 (λ e. omega arith) in
-    cond-false (is_plain c) _ _ p ∙ (cond-false (eqb c 34) _ _ a ∙ cond-false (eqb c 92) _ _ b)
+    (cond-false (is_plain c) _ _ p ∙ (cond-false (eqb c 34) _ _ a ∙ cond-false (eqb c 92) _ _ b), cond-false (is_plain c) _ _ p ∙ (cond-false (eqb c 34) _ _ a ∙ cond-false (eqb c 92) _ _ b))
 
 wrong_stops : (c : ℕ) → is_escape c ≡ false → (c ≡ 117 → ⊥) → step Backslash c ≡ None
 wrong_stops c h n = cond-false (is_escape c) _ _ h ∙ cond-false (eqb c 117) _ _ (ne_eqb c 117 n)
@@ -144,7 +152,7 @@ string_answer front _ _ _ p e none at_end = units_answer front [] p e
 string_answer front _ _ _ p e none (at_line_end {c} {after} h) =
     ap (AnswerAfter front (c ∷ after) p) (stop_reach Units c after (line_end_stops c h)) ∙ (units_answer front (c ∷ after) p e ∙ cond-true (is_line_end c) _ _ h)
 string_answer front _ _ _ p e none (at_control {c} {after} h) =
-    ap (AnswerAfter front (c ∷ after) p) (stop_reach Units c after (control_stops c h)) ∙ (units_answer front (c ∷ after) p e ∙ cond-false (is_line_end c) _ _ (control_no_end c h))
+    ap (AnswerAfter front (c ∷ after) p) (stop_reach Units c after (control_stops c h).0) ∙ (units_answer front (c ∷ after) p e ∙ cond-false (is_line_end c) _ _ (control_no_end c h))
 string_answer front _ _ _ p e none lone_backslash = backslash_answer front [] p e
 string_answer front _ _ _ p e none (wrong_escape {c} {after} h n) =
     ap (λ (r : ℕ × State). AnswerAfter front (92 ∷ c ∷ after) p (suc r.0, r.1)) (stop_reach Backslash c after (wrong_stops c h n)) ∙ backslash_answer front (c ∷ after) p e
@@ -158,16 +166,59 @@ string_answer front _ _ _ p e none (wrong_unicode {after} l s) =
 string_answer front _ _ _ p e none (no_unicode {c} {after} z) =
     unicode_answer front (c ∷ after) p e none ∙ (u_none (suc p) c after z ∙ ap (λ (k : ℕ). missed k (UnknownEscapeSequence (92 ∷ 117 ∷ c ∷ []))) (one_more p))
 
+-- after a quote alone the answer is that after a quote and units
+quote_answer : (front after : List ℕ) (m : ℕ) (error : LexicalError) (p : ℕ) (q : State) → IsStringState q → StringFails after m error → AnswerAfter front after p (reach step q after) ≡ AnswerAfter front after p (reach step Units after)
+quote_answer front after m error p q (inr e) f = ap (λ (x : State). AnswerAfter front after p (reach step x after)) e
+quote_answer front after m error p q (inl e) f = ap (λ (x : State). AnswerAfter front after p (reach step x after)) e ∙ same after m error f
+  where
+    both_stop : (c : ℕ) (after : List ℕ) → step Quote c ≡ None → step Units c ≡ None → AnswerAfter front (c ∷ after) p (reach step Quote (c ∷ after)) ≡ AnswerAfter front (c ∷ after) p (reach step Units (c ∷ after))
+    both_stop c after a b = ap (AnswerAfter front (c ∷ after) p) (stop_reach Quote c after a) ∙ sym (ap (AnswerAfter front (c ∷ after) p) (stop_reach Units c after b))
+
+    same : (after : List ℕ) (m : ℕ) (error : LexicalError) → StringFails after m error → AnswerAfter front after p (reach step Quote after) ≡ AnswerAfter front after p (reach step Units after)
+    same _ _ _ at_end = refl
+    same _ _ _ (at_line_end {c} {after} h) = both_stop c after (line_end_quote c h) (line_end_stops c h)
+    same _ _ _ (at_control {c} {after} h) = let s = control_stops c h in both_stop c after s.1 s.0
+    same _ _ _ lone_backslash = refl
+    same _ _ _ (wrong_escape {c} {after} h n) = refl
+    same _ _ _ (short_unicode {after} l s) = refl
+    same _ _ _ (wrong_unicode {after} l s) = refl
+    same _ _ _ (no_unicode {c} {after} z) = refl
+
 string_scan : (more : List ℕ) (k m : ℕ) (error : LexicalError) → Longest AreUnits more k → StringFails (drop k more) m error → scan (34 ∷ more) ≡ missed (suc k + m) error
 string_scan more k m error l f =
     let front : List ℕ = 34 ∷ take k more in
     let after : List ℕ = drop k more in
     let whole : front ++ after ≡ 34 ∷ more = ap (λ (x : List ℕ). 34 ∷ x) (take-append-drop k more) in
     let size : length front ≡ suc k = ap suc (length-take-le k more l.within) in
-    let goes : Goes Start front Units = units_run (take k more) l.holds in
-    let r = reach_on step Start Units front after goes in
+    let goes = quote_run (take k more) l.holds in
+    let r = reach_on step Start goes.0 front after goes.1 in
     let answered = string_answer front after m error (suc k) size (longest_no_unit more k l) f in
-    sym (ap scan whole) ∙ (ap₂ (λ (n : ℕ) (q : State). answer q n (front ++ after)) (r.0 ∙ ap (λ (n : ℕ). n + (reach step Units after).0) size) r.1 ∙ answered)
+    sym (ap scan whole) ∙ (ap₂ (λ (n : ℕ) (q : State). answer q n (front ++ after)) (r.0 ∙ ap (λ (n : ℕ). n + (reach step goes.0 after).0) size) r.1 ∙ (quote_answer front after m error (suc k) goes.0 goes.2 f ∙ answered))
+
+-- ---- block strings
+
+block_answer : (q : Block) (n : ℕ) (rest : List ℕ) → (q ≡ Closed → ⊥) → answer (InBlock q) n rest ≡ after_block n (drop n rest)
+block_answer Closed n rest a = absurd (a refl)
+block_answer _ n rest a = refl
+
+stays : (q : State) (after : List ℕ) → Stops step q after → reach step q after ≡ (0, q)
+stays q [] s = refl
+stays q (c ∷ after) s = stop_reach q c after s
+
+block_scan : (units after : List ℕ) (o : IsOpenRun units) → Stops step (InBlock o.part) after → scan (mark ++ (units ++ after)) ≡ after_block (3 + length units) after
+block_scan units after o s =
+    let r = reach_on step Start (InBlock o.part) (mark ++ units) after (block_run o.part units o.runs) in
+    let z = stays (InBlock o.part) after s in
+    let size : (reach step Start (mark ++ (units ++ after))).0 ≡ 3 + length units = r.0 ∙ (ap (λ (x : ℕ × State). length (mark ++ units) + x.0) z ∙ no_more (length units)) in
+    ap₂ (λ (n : ℕ) (q : State). answer q n (mark ++ (units ++ after))) size (r.1 ∙ ap (λ (x : ℕ × State). x.1) z)
+    ∙ (block_answer o.part (3 + length units) (mark ++ (units ++ after)) o.going
+    ∙ ap (after_block (3 + length units)) (drop_at (mark ++ units) after (3 + length units) (three (length units))))
+  where
+    no_more : (k : ℕ) → suc (suc (suc k)) + 0 ≡ 3 + k
+    no_more k = omega arith
+
+    three : (k : ℕ) → suc (suc (suc k)) ≡ 3 + k
+    three k = omega arith
 
 -- ---- all of them
 
@@ -189,6 +240,10 @@ fails_scan _ _ _ (zero_goes_on {rest} {n} {c} {after} b l z d x) =
     let r = reach step Start rest in
     zero_stopped rest n r.0 c after r.1 (reached rest) b l z d x
 fails_scan _ _ _ (string_fails {more} {k} {m} {error} l f) = string_scan more k m error l f
+fails_scan _ _ _ (block_ends {units} h) = ap (λ (x : List ℕ). scan (mark ++ x)) (sym (append-nil units)) ∙ block_scan units [] (units_run_open units [] h) tt
+fails_scan _ _ _ (block_stops {c} {units} {after} h x) =
+    let o = units_run_open units (c ∷ after) h in
+    block_scan units (c ∷ after) o (ap (option_map InBlock) (block_control_stops o.part c x))
 fails_scan _ _ _ dot_ends = refl
 fails_scan _ _ _ dots_end = refl
 fails_scan _ _ _ (dot_stops {c} {after} n) = ap (λ (r : ℕ × State). answer r.1 (suc r.0) (46 ∷ c ∷ after)) (stop_reach Dot c after (cond-false (eqb c 46) _ _ (ne_eqb c 46 n)))

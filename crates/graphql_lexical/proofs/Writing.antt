@@ -43,9 +43,9 @@ alike_front (v ∷ vs) (x ∷ xs) e (b ∷ bs) a o =
 -- ---- a token begins with no gap
 
 white_starts_none : (c : ℕ) → IsTrue (is_white c) → step Start c ≡ None
-white_starts_none c h = elim (cases c h) [ inl e ↦ rw e | inr (inl e) ↦ rw e | inr (inr (inl e)) ↦ rw e | inr (inr (inr (inl e))) ↦ rw e | inr (inr (inr (inr e))) ↦ rw e ]
+white_starts_none c h = elim (cases c h) [ inl e ↦ rw e | inr (inl e) ↦ rw e | inr (inr (inl e)) ↦ rw e | inr (inr (inr (inl e))) ↦ rw e | inr (inr (inr (inr (inl e)))) ↦ rw e | inr (inr (inr (inr (inr e)))) ↦ rw e ]
   where
-    cases : (c : ℕ) → IsTrue (is_white c) → (c ≡ 32) ⊎ (c ≡ 44) ⊎ (c ≡ 9) ⊎ (c ≡ 10) ⊎ (c ≡ 13)
+    cases : (c : ℕ) → IsTrue (is_white c) → (c ≡ 32) ⊎ (c ≡ 44) ⊎ (c ≡ 9) ⊎ (c ≡ 65279) ⊎ (c ≡ 10) ⊎ (c ≡ 13)
     cases c h = grind (arith, nat_tests)
 
 hash_starts_none : (c : ℕ) → IsTrue (eqb c 35) → step Start c ≡ None

@@ -1,6 +1,7 @@
 -- How a token and a lexical error are shown.
 use Rattle.std.specs.Prelude.{ℕ, List, [], ◌∷◌, ◌++◌, codes, if◌then◌else◌, ◌||◌, ◌==◌, flat_map}
-use Rattle.graphql_lexical.specs.Kinds.{Kind, Name, String, Float, Int, ExclamationMark, Dollar, ParenOpen, ParenClose, BracketOpen, BracketClose, CurlyOpen, CurlyClose, Ellipsis, Colon, Equals, At, Pipe, EndOfFile, LexicalError, UnknownCharacter, UnexpectedCharacter, UnterminatedString, UnknownCharacterInString, UnknownEscapeSequence, UnexpectedEndOfFile, InvalidNumber}
+use Rattle.graphql_lexical.specs.Kinds.{Kind, Name, String, BlockString, Float, Int, ExclamationMark, Dollar, ParenOpen, ParenClose, BracketOpen, BracketClose, CurlyOpen, CurlyClose, Ellipsis, Colon, Equals, At, Pipe, EndOfFile, LexicalError, UnknownCharacter, UnexpectedCharacter, UnterminatedString, UnknownCharacterInString, UnknownEscapeSequence, UnexpectedEndOfFile, InvalidNumber}
+use Rattle.graphql_lexical.specs.Tokens.{mark}
 
 -- a text between quotes
 abbrev pub quoted : List ℕ → List ℕ
@@ -17,6 +18,7 @@ escaped cs = flat_map escape cs
 abbrev pub shown : Kind → List ℕ → List ℕ
 shown Name text = text
 shown String text = quoted (escaped text)
+shown BlockString text = mark ++ (text ++ mark)
 shown Float text = text
 shown Int text = text
 shown ExclamationMark text = text

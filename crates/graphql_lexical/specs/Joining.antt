@@ -2,7 +2,7 @@
 use Rattle.std.specs.Prelude.{◌≡◌, ℕ, ◌⊎◌, Bool, true, false, List, [], ◌∷◌, ◌++◌, length, IsTrue}
 use Rattle.graphql_lexical.specs.Characters.{is_white}
 use Rattle.graphql_lexical.specs.Place.{place}
-use Rattle.graphql_lexical.specs.Kinds.{Kind, Name, String, Float, Int, ExclamationMark, Dollar, ParenOpen, ParenClose, BracketOpen, BracketClose, CurlyOpen, CurlyClose, Ellipsis, Colon, Equals, At, Pipe, EndOfFile}
+use Rattle.graphql_lexical.specs.Kinds.{Kind, Name, String, Float, Int, ExclamationMark, Dollar, ParenOpen, ParenClose, BracketOpen, BracketClose, CurlyOpen, CurlyClose, Ellipsis, Colon, Equals, At, Pipe, EndOfFile, BlockString}
 use Rattle.graphql_lexical.specs.Tokens.{Spells}
 use Rattle.graphql_lexical.specs.Cutting.{Lexeme, Cut}
 use Rattle.graphql_lexical.specs.Alike.{AllAlike}
@@ -11,6 +11,7 @@ use Rattle.graphql_lexical.specs.Alike.{AllAlike}
 abbrev pub is_lone : Kind → Bool
 is_lone Name = false
 is_lone String = false
+is_lone BlockString = false
 is_lone Float = false
 is_lone Int = false
 is_lone ExclamationMark = true

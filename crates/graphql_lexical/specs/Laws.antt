@@ -1,9 +1,9 @@
 -- What is claimed of the definitions.
 use Rattle.std.specs.Prelude.{◌≡◌, ◌≢◌, ℕ, ◌-◌, ◌≤◌, ◌+◌, List, [], ◌∷◌, ◌++◌, length, slice_get, take, drop, ◌⊎◌, ◌↔◌, Some, Ok, Err}
 use Rattle.std.specs.List.{AllByRecursion}
-use Rattle.graphql_lexical.specs.Kinds.{Kind, EndOfFile, LexicalError}
+use Rattle.graphql_lexical.specs.Kinds.{Kind, BlockString, EndOfFile, LexicalError}
 use Rattle.graphql_lexical.specs.Place.{Place, Span, place, origin, past_character}
-use Rattle.graphql_lexical.specs.Tokens.{quotes_of}
+use Rattle.graphql_lexical.specs.Tokens.{mark, quotes_of}
 use Rattle.graphql_lexical.specs.Reading.{Reads, Fails}
 use Rattle.graphql_lexical.specs.Cutting.{Lexeme, Cut, Breaks}
 use Rattle.graphql_lexical.specs.Scan.{Found, Missed, Broken, scan, cut_of}
@@ -37,6 +37,10 @@ pub record IsOnlyFault (rest : List ℕ) (n : ℕ) (error : LexicalError) : Type
 abbrev pub HasOneAnswer : List ℕ → Type 0
 HasOneAnswer rest = ((n : ℕ) × (kind : Kind) × (text : List ℕ) × IsOnlyReading rest n kind text) ⊎ ((n : ℕ) × (error : LexicalError) × IsOnlyFault rest n error)
 
+-- no token but a block string begins with three quotes
+abbrev pub BeginsBlockString : List ℕ → Type 0
+BeginsBlockString rest = (n : ℕ) (kind : Kind) (text : List ℕ) → Reads (mark ++ rest) n kind text → kind ≡ BlockString
+
 abbrev pub CutsWhatIsCut : List ℕ → Type 0
 CutsWhatIsCut source = (xs : List Lexeme) → (cut_of source ≡ Ok xs) ↔ Cut source xs
 
@@ -69,12 +73,13 @@ abbrev pub around : List ℕ → List ℕ → List ℕ
 around [] text = text
 around (q ∷ qs) text = q ∷ qs ++ (text ++ q ∷ qs)
 
--- what a source has where a token of this kind and text stands: of a String its text between quotes
+-- what a source has where a token of this kind and text stands: of a String its text between quotes, of a block string
+-- between three on each side
 abbrev pub written : Kind → List ℕ → List ℕ
 written kind text = around (quotes_of kind) text
 
 -- The token stands at or behind character k: its places are places of the source, and what stands between them is its
--- text, of a String its text between quotes.
+-- text, of a String and of a block string its text between the quotes.
 pub record IsSliceFrom (source : List ℕ) (k : ℕ) (x : Lexeme) : Type 0 where
   pub behind : k ≤ x.span.start.index
   pub forward : x.span.start.index ≤ x.span.end.index

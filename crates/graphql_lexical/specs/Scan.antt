@@ -1,15 +1,25 @@
 -- The same, computed: one token at the front of a rest, and a whole source. No definition of the grammar rests on it.
 -- What it computes is what the definitions say: the laws `scan_is_exact` and `cut_is_exact`. Lexers are proved by it.
 use Rattle.std.specs.Prelude.{ℕ, zero, suc, ◌+◌, ◌-◌, Bool, true, false, ◌&&◌, ◌||◌, List, [], ◌∷◌, length, take, drop, ◌==◌, nat_lt, nat_le, if◌then◌else◌, Option, Some, None, Result, Ok, Err, max, option_map}
-use Rattle.graphql_lexical.specs.Characters.{is_white, is_comment_character, is_line_end, is_digit, is_nonzero_digit, is_name_start, is_name_character, is_exponent_mark, is_sign, is_hex, is_plain, is_escape}
+use Rattle.graphql_lexical.specs.Characters.{is_source, is_white, is_comment_character, is_line_end, is_digit, is_nonzero_digit, is_name_start, is_name_character, is_exponent_mark, is_sign, is_hex, is_plain, is_escape}
 use Rattle.graphql_lexical.specs.Place.{Place, place}
-use Rattle.graphql_lexical.specs.Kinds.{Kind, Name, String, Float, Int, ExclamationMark, Dollar, ParenOpen, ParenClose, BracketOpen, BracketClose, CurlyOpen, CurlyClose, Ellipsis, Colon, Equals, At, Pipe, EndOfFile, LexicalError, UnknownCharacter, UnexpectedCharacter, UnterminatedString, UnknownCharacterInString, UnknownEscapeSequence, UnexpectedEndOfFile}
+use Rattle.graphql_lexical.specs.Kinds.{Kind, Name, String, Float, Int, ExclamationMark, Dollar, ParenOpen, ParenClose, BracketOpen, BracketClose, CurlyOpen, CurlyClose, Ellipsis, Colon, Equals, At, Pipe, EndOfFile, LexicalError, UnknownCharacter, UnexpectedCharacter, UnterminatedString, UnknownCharacterInString, UnknownEscapeSequence, UnexpectedEndOfFile, BlockString}
 use Rattle.graphql_lexical.specs.Tokens.{text_of, punctuator}
 use Rattle.graphql_lexical.specs.Reading.{counted}
 use Rattle.graphql_lexical.specs.Cutting.{Lexeme}
 use Rattle.graphql_lexical.specs.Machines.{reach}
 
 -- ---- tokens
+
+-- What of a mark has been read in a block string.
+pub data Block : Type 0 where
+  Inside : Block
+  OneQuote : Block
+  TwoQuotes : Block
+  Escaping : Block
+  EscapedQuote : Block
+  EscapedQuotes : Block
+  Closed : Block
 
 -- What has been read of a token.
 pub data State : Type 0 where
@@ -26,6 +36,8 @@ pub data State : Type 0 where
   Mark : State
   Sign : State
   Exponent : State
+  Quote : State
+  Quotes : State
   Units : State
   Backslash : State
   Hex0 : State
@@ -33,6 +45,7 @@ pub data State : Type 0 where
   HexD : State
   Hex2 : State
   Hex3 : State
+  InBlock : (part : Block) → State
 
 -- the digit of hexadecimal 13, which a surrogate's number begins with
 abbrev pub is_hex_d : ℕ → Bool
@@ -42,6 +55,19 @@ is_hex_d c = c == 68 || c == 100
 abbrev pub is_octal : ℕ → Bool
 is_octal c = nat_le 48 c && nat_le c 55
 
+-- a character of a block string that doesn't go on with a mark
+abbrev pub block_other : ℕ → Option Block
+block_other c = if c == 92 then Some Escaping else (if is_source c then Some Inside else None)
+
+abbrev pub block_step : Block → ℕ → Option Block
+block_step Inside c = if c == 34 then Some OneQuote else block_other c
+block_step OneQuote c = if c == 34 then Some TwoQuotes else block_other c
+block_step TwoQuotes c = if c == 34 then Some Closed else block_other c
+block_step Escaping c = if c == 34 then Some EscapedQuote else block_other c
+block_step EscapedQuote c = if c == 34 then Some EscapedQuotes else block_other c
+block_step EscapedQuotes c = if c == 34 then Some Inside else block_other c
+block_step Closed c = None
+
 abbrev pub step : State → ℕ → Option State
 step Start c =
     if is_nonzero_digit c then Some Digits
@@ -49,7 +75,7 @@ step Start c =
     else (if c == 48 then Some Zero
     else (if c == 45 then Some Minus
     else (if c == 46 then Some Dot
-    else (if c == 34 then Some Units
+    else (if c == 34 then Some Quote
     else option_map Done (punctuator c))))))
 step (Done kind) c = None
 step Dot c = if c == 46 then Some Dots else None
@@ -63,6 +89,8 @@ step Fraction c = if is_digit c then Some Fraction else (if is_exponent_mark c t
 step Mark c = if is_digit c then Some Exponent else (if is_sign c then Some Sign else None)
 step Sign c = if is_digit c then Some Exponent else None
 step Exponent c = if is_digit c then Some Exponent else None
+step Quote c = if is_plain c then Some Units else (if c == 34 then Some Quotes else (if c == 92 then Some Backslash else None))
+step Quotes c = if c == 34 then Some (InBlock Inside) else None
 step Units c = if is_plain c then Some Units else (if c == 34 then Some (Done String) else (if c == 92 then Some Backslash else None))
 step Backslash c = if is_escape c then Some Units else (if c == 117 then Some Hex0 else None)
 step Hex0 c = if is_hex_d c then Some HexD else (if is_hex c then Some Hex1 else None)
@@ -70,6 +98,7 @@ step Hex1 c = if is_hex c then Some Hex2 else None
 step HexD c = if is_octal c then Some Hex2 else None
 step Hex2 c = if is_hex c then Some Hex3 else None
 step Hex3 c = if is_hex c then Some Units else None
+step (InBlock part) c = option_map InBlock (block_step part c)
 
 pub record Found : Type 0 where
   pub size : ℕ
@@ -104,6 +133,10 @@ abbrev pub after_units : ℕ → List ℕ → Result Found Missed
 after_units n [] = missed n UnterminatedString
 after_units n (c ∷ after) = if is_line_end c then missed n UnterminatedString else missed n (UnknownCharacterInString c)
 
+abbrev pub after_block : ℕ → List ℕ → Result Found Missed
+after_block n [] = missed n UnterminatedString
+after_block n (c ∷ after) = missed n (UnknownCharacterInString c)
+
 abbrev pub after_backslash : ℕ → List ℕ → Result Found Missed
 after_backslash n [] = missed n UnterminatedString
 after_backslash n (c ∷ after) = missed n (UnknownEscapeSequence (92 ∷ c ∷ []))
@@ -129,6 +162,8 @@ answer Fraction n rest = found n Float rest
 answer Mark n rest = stopped n (drop n rest)
 answer Sign n rest = stopped n (drop n rest)
 answer Exponent n rest = found n Float rest
+answer Quote n rest = after_units n (drop n rest)
+answer Quotes n rest = found n String rest
 answer Units n rest = after_units n (drop n rest)
 answer Backslash n rest = after_backslash n (drop n rest)
 answer Hex0 n rest = after_u (n - 1) (drop (n - 0) rest)
@@ -136,6 +171,8 @@ answer Hex1 n rest = after_u (n - 2) (drop (n - 1) rest)
 answer HexD n rest = after_u (n - 2) (drop (n - 1) rest)
 answer Hex2 n rest = after_u (n - 3) (drop (n - 2) rest)
 answer Hex3 n rest = after_u (n - 4) (drop (n - 3) rest)
+answer (InBlock Closed) n rest = found n BlockString rest
+answer (InBlock _) n rest = after_block n (drop n rest)
 
 -- the token at the front of the rest, or the fault there
 abbrev pub scan : List ℕ → Result Found Missed
@@ -147,6 +184,15 @@ scan rest = let r = reach step Start rest in answer r.1 r.0 rest
 abbrev pub gap_step : Bool → ℕ → Option Bool
 gap_step true c = if is_comment_character c then Some true else (if is_white c then Some false else (if c == 35 then Some true else None))
 gap_step false c = if is_white c then Some false else (if c == 35 then Some true else None)
+
+-- A stretch of a gap: as far as no byte order mark stands outside a comment. These steps tell no characters past
+-- ASCII apart, so a lexer over bytes may go by them.
+abbrev pub stretch_step : Bool → ℕ → Option Bool
+stretch_step true c = gap_step true c
+stretch_step false c = if c == 65279 then None else gap_step false c
+
+abbrev pub stretch_size : List ℕ → ℕ
+stretch_size rest = (reach stretch_step false rest).0
 
 abbrev pub gap_size : List ℕ → ℕ
 gap_size rest = (reach gap_step false rest).0
@@ -162,6 +208,7 @@ with_first x (Err e) = Err e
 abbrev pub is_end : Kind → Bool
 is_end Name = false
 is_end String = false
+is_end BlockString = false
 is_end Float = false
 is_end Int = false
 is_end ExclamationMark = false

@@ -1,8 +1,8 @@
 -- Which texts are tokens.
-use Rattle.std.specs.Prelude.{◌≡◌, ℕ, ◌+◌, ◌-◌, ◌*◌, ◌<◌, ◌⊎◌, List, [], ◌∷◌, ◌++◌, length, take, drop, IsTrue, nat_le, ◌==◌, if◌then◌else◌, Option, Some, None}
+use Rattle.std.specs.Prelude.{◌≡◌, ◌≢◌, ℕ, ◌+◌, ◌-◌, ◌*◌, ◌<◌, ◌⊎◌, List, [], ◌∷◌, ◌++◌, length, take, drop, IsTrue, nat_le, ◌==◌, if◌then◌else◌, Option, Some, None}
 use Rattle.std.specs.List.{AllByRecursion, concat}
-use Rattle.graphql_lexical.specs.Characters.{is_digit, is_nonzero_digit, is_name_start, is_name_character, is_exponent_mark, is_sign, is_hex, is_plain, is_escape}
-use Rattle.graphql_lexical.specs.Kinds.{Kind, Name, String, Float, Int, ExclamationMark, Dollar, ParenOpen, ParenClose, BracketOpen, BracketClose, CurlyOpen, CurlyClose, Ellipsis, Colon, Equals, At, Pipe, EndOfFile}
+use Rattle.graphql_lexical.specs.Characters.{is_source, is_digit, is_nonzero_digit, is_name_start, is_name_character, is_exponent_mark, is_sign, is_hex, is_plain, is_escape}
+use Rattle.graphql_lexical.specs.Kinds.{Kind, Name, String, BlockString, Float, Int, ExclamationMark, Dollar, ParenOpen, ParenClose, BracketOpen, BracketClose, CurlyOpen, CurlyClose, Ellipsis, Colon, Equals, At, Pipe, EndOfFile}
 
 -- the text is pieces of this kind, one after another
 abbrev pub IsMadeOf : (List ℕ → Type 0) → List ℕ → Type 0
@@ -88,6 +88,27 @@ AreUnits = IsMadeOf IsUnit
 abbrev pub IsString : List ℕ → Type 0
 IsString text = (units : List ℕ) × (text ≡ 34 ∷ units ++ 34 ∷ []) × AreUnits units
 
+-- ---- block strings
+
+-- three quotes
+abbrev pub mark : List ℕ
+mark = 34 ∷ 34 ∷ 34 ∷ []
+
+-- neither three quotes nor a backslash and three quotes begin there
+abbrev pub BeginsNoMark : List ℕ → Type 0
+BeginsNoMark text = (take 3 text ≢ mark) × (take 4 text ≢ 92 ∷ mark)
+
+-- The text is block units, where `after` follows it: a unit is a backslash and three quotes, or one source
+-- character at which neither these nor three quotes begin.
+pub data AreBlockUnits : List ℕ → List ℕ → Type 0 where
+  nothing : {after : List ℕ} → AreBlockUnits [] after
+  escaped_mark : {units after : List ℕ} → AreBlockUnits units after → AreBlockUnits (92 ∷ 34 ∷ 34 ∷ 34 ∷ units) after
+  character : {c : ℕ} {units after : List ℕ} → IsTrue (is_source c) → BeginsNoMark (c ∷ units ++ after) → AreBlockUnits units after → AreBlockUnits (c ∷ units) after
+
+-- three quotes, block units, three quotes
+abbrev pub IsBlockString : List ℕ → Type 0
+IsBlockString text = (units : List ℕ) × (text ≡ mark ++ (units ++ mark)) × AreBlockUnits units mark
+
 -- ---- tokens
 
 -- the whole text is a token of this kind
@@ -96,6 +117,7 @@ Spells text Name = IsName text
 Spells text Int = IsInteger text
 Spells text Float = IsFloat text
 Spells text String = IsString text
+Spells text BlockString = IsBlockString text
 Spells text ExclamationMark = text ≡ 33 ∷ []
 Spells text Dollar = text ≡ 36 ∷ []
 Spells text ParenOpen = text ≡ 40 ∷ []
@@ -132,6 +154,7 @@ punctuator c =
 abbrev pub quotes_of : Kind → List ℕ
 quotes_of Name = []
 quotes_of String = 34 ∷ []
+quotes_of BlockString = mark
 quotes_of Float = []
 quotes_of Int = []
 quotes_of ExclamationMark = []
@@ -153,7 +176,7 @@ abbrev pub between : List ℕ → List ℕ → List ℕ
 between [] whole = whole
 between (q ∷ qs) whole = take (length whole - 2 * length (q ∷ qs)) (drop (length (q ∷ qs)) whole)
 
--- the token's text: for a string what stands between its quotes
+-- the token's text: for a string what stands between its quotes, for a block string between its marks of three
 abbrev pub text_of : Kind → List ℕ → List ℕ
 text_of kind whole = between (quotes_of kind) whole
 

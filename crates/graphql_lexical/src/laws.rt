@@ -1,6 +1,6 @@
 //! Laws of the lexical grammar.
 ghost use Rattle.std.specs.Prelude.{ℕ, List, [], ◌≡◌};
-ghost use Rattle.graphql_lexical.specs.Laws.{StepsByCharacters, FindsWhatReads, MissesWhatFails, HasOneAnswer, CutsWhatIsCut, BreaksWhatIsBroken, HasOneEnd, HasFewTokens, HasSlicesInOrder};
+ghost use Rattle.graphql_lexical.specs.Laws.{StepsByCharacters, FindsWhatReads, MissesWhatFails, HasOneAnswer, BeginsBlockString, CutsWhatIsCut, BreaksWhatIsBroken, HasOneEnd, HasFewTokens, HasSlicesInOrder};
 ghost use Rattle.graphql_lexical.specs.Kinds.{Kind};
 ghost use Rattle.graphql_lexical.specs.Joining.{Joins};
 ghost use Rattle.graphql_lexical.specs.Spacing.{GoesOnSpaced};
@@ -17,6 +17,11 @@ pub fn places_step_by_characters()
 /// A rest has exactly one token or one fault.
 pub fn one_answer()
     ensures { (rest : List ℕ) → HasOneAnswer rest }
+{}
+
+/// Where three quotes begin a token they begin a block string.
+pub fn three_quotes_begin_a_block_string()
+    ensures { (rest : List ℕ) → BeginsBlockString rest }
 {}
 
 /// The computed token or fault is the one of the definitions.
@@ -57,8 +62,8 @@ pub fn spaced_texts()
     ensures { (source : List ℕ) → GoesOnSpaced source }
 {}
 
-/// The slice of the source between a token's places is its text, of a String a quote, its text and a quote. Each token
-/// stands behind the one before it.
+/// The slice of the source between a token's places is its text, of a String a quote, its text and a quote, of a block
+/// string three quotes, its text and three quotes. Each token stands behind the one before it.
 pub fn slices_in_order()
     ensures { (source : List ℕ) → HasSlicesInOrder source }
 {}

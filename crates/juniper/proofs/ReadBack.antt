@@ -143,7 +143,7 @@ is_token ts b o = record { token = o.token; whole = o.alone; kind_is = o.kind; t
 scalar_back : (ts : List Lexeme) (s : Content) → IsPlainScalar s → AreOf ts (scalar_token s ∷ []) → IsBack ts (input.scalar s)
 scalar_back ts (integer n) h a =
     let o = one ts (scalar_token (integer n)) a in
-    record { tree = Scalar (integer n) o.token.span; means = inl (Int, _, is_token ts (scalar_token (integer n)) o, inr (inr refl), integer_read_back n h); same = refl }
+    record { tree = Scalar (integer n) o.token.span; means = inl (Int, _, is_token ts (scalar_token (integer n)) o, inr (inr (inr refl)), integer_read_back n h); same = refl }
 scalar_back ts (text t) h a =
     let o = one ts (scalar_token (text t)) a in
     record { tree = Scalar (text t) o.token.span; means = inl (String, t, is_token ts (scalar_token (text t)) o, inl refl, rw (plain_unescaped t h) refl); same = refl }

@@ -2,7 +2,7 @@
 use Rattle.std.proofs.Common.{◌≡◌, Bool, true, false, cond, List, [], ◌∷◌, Result, Ok, Err, Some, None, refl, sym, ap, ◌∙◌}
 use Rattle.graphql_lexical.specs.Place.{Span}
 use Rattle.graphql_lexical.specs.declared.kind.Kind.{Kind}
-use Rattle.graphql_lexical.specs.declared.kind.Kind.TheVariants.{Name, String, Float, Int, ExclamationMark, Dollar, ParenOpen, ParenClose, BracketOpen, BracketClose, CurlyOpen, CurlyClose, Ellipsis, Colon, Equals, At, Pipe, EndOfFile}
+use Rattle.graphql_lexical.specs.declared.kind.Kind.TheVariants.{Name, String, BlockString, Float, Int, ExclamationMark, Dollar, ParenOpen, ParenClose, BracketOpen, BracketClose, CurlyOpen, CurlyClose, Ellipsis, Colon, Equals, At, Pipe, EndOfFile}
 use Rattle.graphql_lexical.specs.Kinds.{same_kind}
 use Rattle.graphql_lexical.specs.Cutting.{Lexeme}
 use Rattle.graphql_grammar.specs.Tokens.{Text}
@@ -40,6 +40,8 @@ module _ {C : Type 0} (S : Scalars C Error) where
   by_kind false Name w p ts = refl
   by_kind true String w p ts = scalar_seen (a_token String w p) ts (S.read String w) refl
   by_kind false String w p ts = scalar_seen (a_token String w p) ts (S.read String w) refl
+  by_kind true BlockString w p ts = scalar_seen (a_token BlockString w p) ts (S.read BlockString w) refl
+  by_kind false BlockString w p ts = scalar_seen (a_token BlockString w p) ts (S.read BlockString w) refl
   by_kind true Float w p ts = scalar_seen (a_token Float w p) ts (S.read Float w) refl
   by_kind false Float w p ts = scalar_seen (a_token Float w p) ts (S.read Float w) refl
   by_kind true Int w p ts = scalar_seen (a_token Int w p) ts (S.read Int w) refl

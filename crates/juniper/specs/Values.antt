@@ -3,7 +3,7 @@ use Rattle.std.specs.Prelude.{List, ◌∷◌, map, Bool, Result, Ok, Err, if◌
 use Rattle.std.specs.Global.{Vec}
 use Rattle.graphql_lexical.specs.Place.{Span}
 use Rattle.graphql_lexical.specs.declared.kind.Kind.{Kind}
-use Rattle.graphql_lexical.specs.declared.kind.Kind.TheVariants.{Name, String, Float, Int, ExclamationMark, Dollar, ParenOpen, ParenClose, BracketOpen, BracketClose, CurlyOpen, CurlyClose, Ellipsis, Colon, Equals, At, Pipe, EndOfFile}
+use Rattle.graphql_lexical.specs.declared.kind.Kind.TheVariants.{Name, String, BlockString, Float, Int, ExclamationMark, Dollar, ParenOpen, ParenClose, BracketOpen, BracketClose, CurlyOpen, CurlyClose, Ellipsis, Colon, Equals, At, Pipe, EndOfFile}
 use Rattle.graphql_lexical.specs.Cutting.{Lexeme}
 use Rattle.graphql_grammar.specs.Tokens.{Text, Word, word_of}
 use Rattle.graphql_grammar.specs.Tree.{Scalars, Value, Scalar, Variable, ListOf, Object}
@@ -33,6 +33,7 @@ view_list view s = (map view s.item.items, view_span s.span)
 abbrev pub literal_here : {C : Type 0} → (Kind → Text → Result C Error) → Kind → Text → Result C Error
 literal_here read Name text = unexpected Name text
 literal_here read String text = read String text
+literal_here read BlockString text = read BlockString text
 literal_here read Float text = read Float text
 literal_here read Int text = read Int text
 literal_here read ExclamationMark text = unexpected ExclamationMark text
@@ -82,6 +83,7 @@ module _ {C : Type 0} (S : Scalars C Error) (free : Bool) where
   abbrev pub value_by : Kind → List Lexeme → Read (Value C)
   value_by Name ts = name_read S ts
   value_by String ts = literal_read S ts
+  value_by BlockString ts = literal_read S ts
   value_by Float ts = literal_read S ts
   value_by Int ts = literal_read S ts
   value_by ExclamationMark ts = literal_read S ts

@@ -53,6 +53,7 @@ pub(crate) fn parse_value<'a, S: ScalarValue>(
         Kind::Dollar if !is_const => parse_variable(parser),
         Kind::Name => parse_named_value(parser),
         Kind::String
+        | Kind::BlockString
         | Kind::Float
         | Kind::Int
         | Kind::ExclamationMark

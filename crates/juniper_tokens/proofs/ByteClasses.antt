@@ -1,10 +1,10 @@
 -- The table of classes.
 use Rattle.std.proofs.Common.{◌≡◌, ℕ, zero, suc, ◌+◌, ◌<◌, Bool, true, false, ◌==◌, refl, sym, ap, ◌∙◌, arith}
 use Rattle.std.specs.Prelude.{slice_index_or}
-use Rattle.graphql_lexical.specs.Characters.{is_name_character, is_digit, is_plain}
-use Rattle.graphql_lexical.specs.Scan.{Start, step, gap_step}
+use Rattle.graphql_lexical.specs.Characters.{is_source, is_name_character, is_digit, is_plain}
+use Rattle.graphql_lexical.specs.Scan.{Start, step, stretch_step}
 use Rattle.juniper_tokens.specs.ByteRuns.{is_inner, byte_step}
-use Rattle.juniper_tokens.specs.ByteClasses.{tabulate, class_of, name_class, digit_class, inner_class, line_feed_class, first_state, plain_class, comment_after}
+use Rattle.juniper_tokens.specs.ByteClasses.{tabulate, class_of, name_class, digit_class, inner_class, line_feed_class, first_state, plain_class, source_class, comment_after}
 
 first_place : (b : ℕ) → b ≡ b + 0
 first_place b = omega arith
@@ -48,9 +48,12 @@ first_state_tests b l = agree_at (λ k. first_state (class_of k) k) (step Start)
 pub plain_class_tests : (b : ℕ) → b < 256 → plain_class (class_of b) b ≡ is_plain b
 plain_class_tests b l = agree_at (λ k. plain_class (class_of k) k) is_plain refl b l
 
-pub comment_after_tests : (m : Bool) (b : ℕ) → b < 256 → comment_after m (class_of b) b ≡ byte_step gap_step m b
-comment_after_tests true b l = agree_at (λ k. comment_after true (class_of k) k) (byte_step gap_step true) refl b l
-comment_after_tests false b l = agree_at (λ k. comment_after false (class_of k) k) (byte_step gap_step false) refl b l
+pub source_class_tests : (b : ℕ) → b < 256 → source_class (class_of b) ≡ is_source b
+source_class_tests b l = agree_at (λ k. source_class (class_of k)) is_source refl b l
+
+pub comment_after_tests : (m : Bool) (b : ℕ) → b < 256 → comment_after m (class_of b) b ≡ byte_step stretch_step m b
+comment_after_tests true b l = agree_at (λ k. comment_after true (class_of k) k) (byte_step stretch_step true) refl b l
+comment_after_tests false b l = agree_at (λ k. comment_after false (class_of k) k) (byte_step stretch_step false) refl b l
 
 pub line_feed_class_tests : (b : ℕ) → b < 256 → line_feed_class (class_of b) ≡ (b == 10)
 line_feed_class_tests b l = agree_at (λ k. line_feed_class (class_of k)) (λ k. k == 10) refl b l

@@ -1,11 +1,17 @@
 -- Places of a source.
-use Rattle.std.proofs.Common.{◌≡◌, ℕ, zero, suc, ◌+◌, ◌≤◌, Bool, true, false, cond, ◌==◌, List, [], ◌∷◌, ◌++◌, length, take, drop, refl, sym, ap, ap₂, ◌∙◌, arith, append_assoc, append-nil, Some, None, take-add}
+use Rattle.std.proofs.Common.{◌≡◌, ℕ, zero, suc, ◌+◌, ◌≤◌, Bool, true, false, cond, ◌==◌, List, [], ◌∷◌, ◌++◌, length, take, drop, refl, sym, ap, ap₂, ◌∙◌, arith, append_assoc, append-nil, Some, None, Ok, take-add}
+use Rattle.std.specs.Prelude.{option_map}
 use Rattle.std.specs.List.{AllByRecursion, fold}
-use Rattle.std.proofs.lemmas.Option.{none-some}
+use Rattle.std.proofs.lemmas.Option.{none-some, same_Some}
 use Rattle.std.proofs.lemmas.Bool.{eqb-true}
 use Rattle.graphql_lexical.specs.Scan as scans
 use Rattle.graphql_lexical.specs.Machines.{reach, onward}
-use Rattle.graphql_lexical.specs.Scan.{State, Start, step}
+use Rattle.graphql_lexical.specs.Scan.{State, Start, Found, step, scan}
+use Rattle.graphql_lexical.specs.declared.kind.Kind.{Kind}
+use Rattle.graphql_lexical.specs.Kinds.{same_kind}
+use Rattle.graphql_lexical.specs.declared.kind.Kind.TheVariants.{BlockString}
+use Rattle.graphql_lexical.proofs.Readings.{answer_finds}
+use Rattle.graphql_lexical.proofs.Spelled.{accepts}
 use Rattle.graphql_lexical.proofs.Runs.{reach_is}
 use Rattle.graphql_lexical.proofs.Places.{place_push}
 use Rattle.std.proofs.lemmas.List.{length-take-le}
@@ -37,43 +43,42 @@ line_fold p (c ∷ cs) h =
     plus_suc : (a b : ℕ) → (a + 1) + b ≡ a + suc b
     plus_suc a b = omega arith
 
--- what the steps of a token go over has no line feed
-step_feed : (q : State) → step q 10 ≡ None
-step_feed Start = refl
-step_feed (scans.Done k) = refl
-step_feed scans.Dot = refl
-step_feed scans.Dots = refl
-step_feed scans.InName = refl
-step_feed scans.Minus = refl
-step_feed scans.Zero = refl
-step_feed scans.Digits = refl
-step_feed scans.Point = refl
-step_feed scans.Fraction = refl
-step_feed scans.Mark = refl
-step_feed scans.Sign = refl
-step_feed scans.Exponent = refl
-step_feed scans.Units = refl
-step_feed scans.Backslash = refl
-step_feed scans.Hex0 = refl
-step_feed scans.Hex1 = refl
-step_feed scans.HexD = refl
-step_feed scans.Hex2 = refl
-step_feed scans.Hex3 = refl
+-- ---- what the steps of a token go over has no line feed, but in a block string
+
+abbrev in_block : State → Bool
+in_block (scans.InBlock part) = true
+in_block _ = false
+
+block_stays : (part : scans.Block) (cs : List ℕ) → in_block (reach step (scans.InBlock part) cs).1 ≡ true
+block_stays part [] = refl
+block_stays part (c ∷ cs) =
+    elim (scans.block_step part c) as (λ o. in_block (onward (scans.InBlock part) (λ p. reach step p cs) (option_map scans.InBlock o)).1 ≡ true) [
+      | None ↦ refl
+      | Some p ↦ block_stays p cs
+    ]
+
+outside : (q : State) (cs : List ℕ) → in_block (reach step q cs).1 ≡ false → in_block q ≡ false
+outside (scans.InBlock part) cs h = sym (block_stays part cs) ∙ h
+outside _ cs h = refl
+
+step_feed : (q : State) → in_block q ≡ false → step q 10 ≡ None
+step_feed (scans.InBlock part) h = absurd (cc h)
+step_feed _ h = refl
 
 same_feed : (c : ℕ) → (c == 10) ≡ true → c ≡ 10
 same_feed c e = eqb-true c 10 e
 
-not_feed : (q p : State) (c : ℕ) (b : Bool) → (c == 10) ≡ b → step q c ≡ Some p → b ≡ false
-not_feed q p c true e s = let same : c ≡ 10 = same_feed c e in absurd (none-some p (sym (step_feed q) ∙ (ap (step q) (sym same) ∙ s)))
-not_feed q p c false e s = refl
+not_feed : (q p : State) (c : ℕ) (b : Bool) → in_block q ≡ false → (c == 10) ≡ b → step q c ≡ Some p → b ≡ false
+not_feed q p c true o e s = let same : c ≡ 10 = same_feed c e in absurd (none-some p (sym (step_feed q o) ∙ (ap (step q) (sym same) ∙ s)))
+not_feed q p c false o e s = refl
 
-pub reach_line : (q : State) (cs : List ℕ) → OnLine (take (reach step q cs).0 cs)
-reach_line q [] = tt
-reach_line q (c ∷ cs) =
-    (elim (step q c) as (λ o. step q c ≡ o → OnLine (take (onward q (λ p. reach step p cs) o).0 (c ∷ cs))) [
-      | None ↦ λ e. tt
-      | Some p ↦ λ e. (not_feed q p c (c == 10) refl e, reach_line p cs)
-    ]) refl
+reach_line : (q : State) (cs : List ℕ) → in_block (reach step q cs).1 ≡ false → OnLine (take (reach step q cs).0 cs)
+reach_line q [] h = tt
+reach_line q (c ∷ cs) h =
+    (elim (step q c) as (λ o. step q c ≡ o → in_block (onward q (λ p. reach step p cs) o).1 ≡ false → OnLine (take (onward q (λ p. reach step p cs) o).0 (c ∷ cs))) [
+      | None ↦ λ e k. tt
+      | Some p ↦ λ e k. (not_feed q p c (c == 10) (outside q (c ∷ cs) h) refl e, reach_line p cs k)
+    ]) refl h
 
 on_line_less : (j n : ℕ) (cs : List ℕ) → j ≤ n → OnLine (take n cs) → OnLine (take j cs)
 on_line_less zero n cs l h = tt
@@ -81,10 +86,29 @@ on_line_less (suc j) zero cs l h = absurd (omega arith)
 on_line_less (suc j) (suc n) [] l h = tt
 on_line_less (suc j) (suc n) (c ∷ cs) l h = (h.0, on_line_less j n cs (omega arith) h.1)
 
--- the place behind a token
-pub token_end : (source : List ℕ) (j k : ℕ) → k ≤ (reach step Start (drop j source)).0 → columns_on k (place source j) ≡ place source (j + k)
-token_end source j k l =
-    let rest = drop j source in
-    let within = (reach_is step Start rest).within in
-    let count : length (take k rest) ≡ k = length-take-le k rest (omega (arith, l, within)) in
-    ap (λ n. columns_on n (place source j)) (sym count) ∙ (sym (line_fold (place source j) (take k rest) (on_line_less k (reach step Start rest).0 rest l (reach_line Start rest))) ∙ place_on source j k)
+-- ---- where a token ends
+
+accepted_outside : (q : State) (kind : Kind) → accepts q ≡ Some kind → (kind ≡ BlockString → ⊥) → in_block q ≡ false
+accepted_outside (scans.InBlock scans.Closed) kind e n = absurd (n (sym (same_Some BlockString kind e)))
+accepted_outside (scans.InBlock _) kind e n = absurd (none-some kind e)
+accepted_outside _ kind e n = refl
+
+found_line : (cs : List ℕ) (f : Found) → scan cs ≡ Ok f → (f.kind ≡ BlockString → ⊥) → OnLine (take (reach step Start cs).0 cs)
+found_line [] f e n = tt
+found_line (c ∷ cs) f e n =
+    let r = reach step Start (c ∷ cs) in
+    reach_line Start (c ∷ cs) (accepted_outside r.1 f.kind (answer_finds r.1 r.0 c cs f e).accepted n)
+
+pub other_kind : (kind k : Kind) (is : Bool) → kind ≡ k → is ≡ same_kind kind BlockString → is ≡ false → k ≡ BlockString → ⊥
+other_kind kind k is e f g h =
+    let same : kind ≡ BlockString = e ∙ h in
+    let z : true ≡ false = sym (ap (λ x. same_kind x BlockString) same) ∙ (sym f ∙ g) in
+    absurd (cc z)
+
+-- a token that is no block string ends on its line
+pub line_end : (p : Place) (cs : List ℕ) (f : Found) → scan cs ≡ Ok f → (f.kind ≡ BlockString → ⊥) → f.size ≤ (reach step Start cs).0
+    → columns_on f.size p ≡ fold past_character p (take f.size cs)
+line_end p cs f e n l =
+    let within = (reach_is step Start cs).within in
+    let count : length (take f.size cs) ≡ f.size = length-take-le f.size cs (omega (arith, l, within)) in
+    ap (λ k. columns_on k p) (sym count) ∙ sym (line_fold p (take f.size cs) (on_line_less f.size (reach step Start cs).0 cs l (found_line cs f e n)))

@@ -1,11 +1,11 @@
 -- Tokens as ranges of their source.
-use Rattle.std.proofs.Common.{◌≡◌, ℕ, ◌+◌, ◌-◌, ◌≤◌, List, [], ◌∷◌, length, take, drop, refl, sym, ap, ap₂, subst, ◌∙◌, arith}
+use Rattle.std.proofs.Common.{◌≡◌, ℕ, ◌+◌, ◌-◌, ◌<◌, ◌≤◌, List, [], ◌∷◌, ◌++◌, length, take, drop, refl, sym, ap, ap₂, subst, ◌∙◌, arith}
 use Rattle.std.specs.Prelude.{Result, Ok, Err}
 use Rattle.std.specs.Result.{IsErrAnd}
 use Rattle.graphql_lexical.specs.Place.{Place, place}
 use Rattle.graphql_lexical.specs.declared.kind.Kind.{Kind}
 use Rattle.graphql_lexical.specs.declared.kind.Kind.TheVariants as kinds
-use Rattle.graphql_lexical.specs.Tokens.{text_of, IsString, Spells}
+use Rattle.graphql_lexical.specs.Tokens.{text_of, Spells}
 use Rattle.graphql_lexical.specs.Reading.{Reads}
 use Rattle.graphql_lexical.specs.Cutting.{Lexeme, Stands}
 use Rattle.graphql_lexical.specs.Scan.{scan}
@@ -20,7 +20,7 @@ use Rattle.juniper_tokens.specs.declared.error.LexFailure.{LexFailure}
 use Rattle.juniper_tokens.specs.declared.error.LexFailure.TheVariants as failures
 use Rattle.juniper_tokens.specs.Tokens.{token_kind, token_text, view_token}
 use Rattle.juniper_tokens.specs.ByteRuns.{byte_at}
-use Rattle.juniper_tokens.specs.Borders.{IsBorder}
+use Rattle.juniper_tokens.specs.Borders.{IsBorder, EndsQuoted, quotes}
 use Rattle.juniper_tokens.specs.Lexing.{LexerState, GivesItem}
 use Rattle.juniper_tokens.specs.LexingByScan.{past_gap, Scanned, Ends}
 use Rattle.juniper_tokens.specs.Ranges.{kind_text, range_slice, range_lexeme, IsRange, GivesRange, GivesRangeItem}
@@ -47,27 +47,6 @@ range_order source r h = omega (arith, border_bytes source r.start r.end h.start
 pub range_width : (source rest : List ℕ) (r : TokenRange) → IsRange source r → rest ≡ drop r.start.characters source → r.end.bytes - r.start.bytes ≡ byte_at (r.end.characters - r.start.characters) rest
 range_width source rest r h e = border_width source r.start r.end h.start h.end h.forward ∙ ap (byte_at (r.end.characters - r.start.characters)) (sym e)
 
--- the text of a token that is no String is the whole of it
-pub whole_text : (kind : Kind) (whole : List ℕ) → (kind ≡ kinds.String → ⊥) → text_of kind whole ≡ whole
-whole_text kinds.String whole n = absurd (n refl)
-whole_text kinds.Name whole n = refl
-whole_text kinds.Float whole n = refl
-whole_text kinds.Int whole n = refl
-whole_text kinds.ExclamationMark whole n = refl
-whole_text kinds.Dollar whole n = refl
-whole_text kinds.ParenOpen whole n = refl
-whole_text kinds.ParenClose whole n = refl
-whole_text kinds.BracketOpen whole n = refl
-whole_text kinds.BracketClose whole n = refl
-whole_text kinds.CurlyOpen whole n = refl
-whole_text kinds.CurlyClose whole n = refl
-whole_text kinds.Ellipsis whole n = refl
-whole_text kinds.Colon whole n = refl
-whole_text kinds.Equals whole n = refl
-whole_text kinds.At whole n = refl
-whole_text kinds.Pipe whole n = refl
-whole_text kinds.EndOfFile whole n = refl
-
 -- ---- the range of a token that has been read
 
 read_text : (rest : List ℕ) (n : ℕ) (kind : Kind) (text : List ℕ) → Reads rest n kind text → text ≡ text_of kind (take n rest)
@@ -78,14 +57,16 @@ read_within : (rest : List ℕ) (n : ℕ) (kind : Kind) (text : List ℕ) → Re
 read_within [] n kind text r = omega (arith, r.0)
 read_within (c ∷ cs) n kind text r = r.longest.within
 
-read_string : (rest : List ℕ) (n : ℕ) (kind : Kind) (text : List ℕ) → Reads rest n kind text → kind ≡ kinds.String → IsString (take n rest)
-read_string [] n kind text r e = absurd (cc)
-read_string (c ∷ cs) n kind text r e = subst (Spells (take n (c ∷ cs))) e r.spells
+read_spelled : (rest : List ℕ) (n : ℕ) (kind k : Kind) (text : List ℕ) → Reads rest n kind text → kind ≡ k → (k ≡ kinds.EndOfFile → ⊥)
+    → Spells (take n rest) k
+read_spelled [] n kind k text r e no_end = absurd (no_end (sym e ∙ r.1))
+read_spelled (c ∷ cs) n kind k text r e no_end = subst (Spells (take n (c ∷ cs))) e r.spells
 
 -- the kind of a token leaves its text open, or fixes it
 kept_text : (t : Token) (x : List ℕ) → token_text t ≡ x → token_text t ≡ kind_text (token_kind t) x
 kept_text (token.Name s) x e = e
 kept_text (token.Scalar (scalar.String s)) x e = e
+kept_text (token.Scalar (scalar.BlockString s)) x e = e
 kept_text (token.Scalar (scalar.Float s)) x e = e
 kept_text (token.Scalar (scalar.Int s)) x e = e
 kept_text token.ExclamationMark x e = refl
@@ -130,6 +111,17 @@ range_given s token start end t b e h =
     let slice : take h.0 rest ≡ range_slice s.source r = sym (ap₂ (λ m k. take m (drop k s.source)) size b.from) in
     let text : token_text token.item ≡ kind_text kind (text_of kind (range_slice s.source r)) = kept_text token.item _ (read_text rest h.0 kind _ reads ∙ ap (text_of kind) slice) in
     let ends : j + h.0 ≡ end.characters = omega (arith, b.to, h.2) in
+    let inside : end.characters - start.characters ≤ length (drop start.characters s.source) =
+    subst (λ m. m ≤ length (drop start.characters s.source)) (sym size) (subst (λ i. h.0 ≤ length (drop i s.source)) (sym b.from) (read_within rest h.0 kind _ reads)) in
+    let quoted_by : (width : ℕ) (units : List ℕ) → range_slice s.source r ≡ quotes width ++ (units ++ quotes width) → 0 < width
+    → EndsQuoted width (drop start.characters s.source) (end.bytes - start.bytes) (end.characters - start.characters) =
+    λ width units whole some. record {
+      units = units;
+      whole = whole;
+      some = some;
+      within = inside;
+      border = border_width s.source start end b.start_is b.end_is forward;
+    } in
     let lexeme : view_token token ≡ range_lexeme s.source r = same_lexeme kind _ _ _ _ _ _ text (h.3 ∙ ap (place s.source) (sym b.from)) (h.4 ∙ ap (place s.source) ends) in
     record {
       stands = subst (λ (x : Lexeme). Stands s.source s.index x t.index) lexeme g.stands;
@@ -138,12 +130,8 @@ range_given s token start end t b e h =
         end = b.end_is;
         forward = forward;
         within = b.within;
-        quoted = λ k. let units = read_string rest h.0 kind _ reads k in record {
-          units = units.0;
-          whole = sym slice ∙ units.1;
-          within = subst (λ m. m ≤ length (drop start.characters s.source)) (sym size) (subst (λ i. h.0 ≤ length (drop i s.source)) (sym b.from) (read_within rest h.0 kind _ reads));
-          border = border_width s.source start end b.start_is b.end_is forward;
-        };
+        quoted = λ k. let units = read_spelled rest h.0 kind kinds.String _ reads k (λ e. absurd (cc e)) in quoted_by 1 units.0 (sym slice ∙ units.1) (omega arith);
+        marked = λ k. let units = read_spelled rest h.0 kind kinds.BlockString _ reads k (λ e. absurd (cc e)) in quoted_by 3 units.0 (sym slice ∙ units.1) (omega arith);
       };
       ends = g.ends;
     }

@@ -1,26 +1,27 @@
 -- What has been read where the steps of a token stop, and borders some characters before.
-use Rattle.std.proofs.Common.{◌≡◌, ℕ, ◌+◌, ◌-◌, ◌≤◌, ◌<◌, true, List, [], ◌∷◌, ◌++◌, length, take, drop, IsTrue, refl, sym, ap, ap₂, subst, ◌∙◌, arith, length-append, take-append-drop, append_assoc}
-use Rattle.std.proofs.Math.Seq.{take-append_seam}
+use Rattle.std.proofs.Common.{◌≡◌, ℕ, zero, suc, ◌+◌, ◌-◌, ◌≤◌, ◌<◌, true, List, [], ◌∷◌, ◌++◌, length, take, drop, IsTrue, refl, sym, ap, ap₂, subst, ◌∙◌, arith, length-append, take-append-drop, append_assoc}
+use Rattle.std.proofs.Math.Seq.{take-append_seam, drop-append_seam}
 use Rattle.std.proofs.lemmas.List.{length-take-le}
 use Rattle.std.proofs.lemmas.Str.{encodes-append, encode_ascii, length-le-encodes}
 use lib.Utf8.{encode, encodes}
 use Rattle.std.specs.Prelude.{Result, Ok}
 use Rattle.graphql_lexical.specs.Characters.{is_hex}
 use Rattle.graphql_lexical.specs.declared.kind.Kind.{Kind}
-use Rattle.graphql_lexical.specs.declared.kind.Kind.TheVariants.{String}
-use Rattle.graphql_lexical.specs.Tokens.{text_of, IsString, Spells}
+use Rattle.graphql_lexical.specs.declared.kind.Kind.TheVariants.{String, BlockString}
+use Rattle.graphql_lexical.specs.Tokens.{between, text_of, IsString, IsBlockString, Spells}
 use Rattle.graphql_lexical.specs.Machines.{reach}
-use Rattle.graphql_lexical.specs.Scan.{State, Start, Done, Hex0, Hex1, HexD, Hex2, Hex3, step, answer, scan, Found, Missed}
+use Rattle.graphql_lexical.specs.Scan.{State, Start, Done, Quotes, Hex0, Hex1, HexD, Hex2, Hex3, InBlock, Closed, step, answer, scan, Found, Missed}
 use Rattle.graphql_lexical.proofs.Runs.{reach_is}
 use Rattle.graphql_lexical.proofs.Numbers.{d_hex}
 use Rattle.graphql_lexical.proofs.History.{IsRead, read_run, IsOpen}
+use Rattle.graphql_lexical.proofs.Spelled.{accepts_spells}
 use Rattle.graphql_lexical.proofs.Slices.{unquoted}
 use Rattle.juniper_tokens.specs.ByteRuns.{byte_at}
 use Rattle.juniper_tokens.specs.declared.lexer.text.Border.{Border}
 use Rattle.juniper_tokens.specs.declared.lexer.machine.Punctuator.{Punctuator}
 use Rattle.juniper_tokens.specs.declared.lexer.machine.Punctuator.TheVariants as mark
 use Rattle.juniper_tokens.specs.Machine.{view_punctuator, punctuator_text}
-use Rattle.juniper_tokens.specs.Borders.{FollowsDigits, EndsString}
+use Rattle.juniper_tokens.specs.Borders.{FollowsDigits, EndsQuoted, quotes}
 use Rattle.juniper_tokens.specs.Walks.{HasReached}
 
 -- the front of a text ends in this tail of ASCII characters
@@ -48,8 +49,23 @@ back n k cs l h =
 
 -- ---- strings
 
-pub string_back : (cs : List ℕ) (bytes chars : ℕ) → EndsString cs bytes chars → IsBack cs chars 1
-string_back cs bytes chars e = back chars 1 cs e.within (record { front = 34 ∷ e.units; tail = 34 ∷ []; is = e.whole; plain = ap (λ x. x ++ []) (encode_ascii 34 (omega arith)); count = refl; some = omega arith })
+quotes_length : (n : ℕ) → length (quotes n) ≡ n
+quotes_length zero = refl
+quotes_length (suc n) = ap suc (quotes_length n)
+
+quotes_plain : (n : ℕ) → encodes (quotes n) ≡ quotes n
+quotes_plain zero = refl
+quotes_plain (suc n) = ap₂ (λ (x y : List ℕ). x ++ y) (encode_ascii 34 (omega arith)) (quotes_plain n)
+
+pub string_back : (width : ℕ) (cs : List ℕ) (bytes chars : ℕ) → EndsQuoted width cs bytes chars → IsBack cs chars width
+string_back width cs bytes chars e = back chars width cs e.within (record {
+  front = quotes width ++ e.units;
+  tail = quotes width;
+  is = e.whole ∙ sym (append_assoc (quotes width) e.units (quotes width));
+  plain = quotes_plain width;
+  count = quotes_length width;
+  some = omega (arith, e.some, length-append (quotes width) e.units, quotes_length width);
+})
 
 -- ---- digits after `\u`
 
@@ -119,11 +135,23 @@ after_hex cs q p end h e x =
     let m : length (take end.characters cs) ≡ end.characters = length-take-le end.characters cs r.0 in
     record { more = k.within; room = omega (arith, l, m, h.bytes_is); start = omega (arith, k.bytes, h.bytes_is) }
 
-pub ends_string : (cs : List ℕ) (q : State) (b n : ℕ) → HasReached cs q b n → q ≡ Done String → EndsString cs b n
+pub ends_string : (cs : List ℕ) (q : State) (b n : ℕ) → HasReached cs q b n → q ≡ Done String → EndsQuoted 1 cs b n
 ends_string cs q b n h e =
     let r = read_at cs q b n h in
     let t : IsString (take n cs) = subst (λ s. IsRead s (take n cs)) e r.1 in
-    record { units = t.0; whole = t.1; within = r.0; border = h.bytes_is }
+    record { units = t.0; whole = t.1; some = omega arith; within = r.0; border = h.bytes_is }
+
+pub ends_empty : (cs : List ℕ) (q : State) (b n : ℕ) → HasReached cs q b n → q ≡ Quotes → EndsQuoted 1 cs b n
+ends_empty cs q b n h e =
+    let r = read_at cs q b n h in
+    let t : take n cs ≡ 34 ∷ 34 ∷ [] = subst (λ s. IsRead s (take n cs)) e r.1 in
+    record { units = []; whole = t; some = omega arith; within = r.0; border = h.bytes_is }
+
+pub ends_block : (cs : List ℕ) (q : State) (b n : ℕ) → HasReached cs q b n → q ≡ InBlock Closed → EndsQuoted 3 cs b n
+ends_block cs q b n h e =
+    let r = read_at cs q b n h in
+    let t : IsBlockString (take n cs) = accepts_spells (InBlock Closed) BlockString (take n cs) refl (subst (λ s. IsRead s (take n cs)) e r.1) in
+    record { units = t.0; whole = t.1; some = omega arith; within = r.0; border = h.bytes_is }
 
 mark_spelled : (p : Punctuator) (t : List ℕ) → Spells t (view_punctuator p) → t ≡ punctuator_text p
 mark_spelled mark.ExclamationMark t h = h
@@ -160,19 +188,42 @@ mark_text cs q p b n h e = whole p (take n cs) ∙ mark_spelled p (take n cs) (s
 
 -- ---- a string's text
 
-before_last : (n : ℕ) (cs units : List ℕ) → n ≤ length cs → take n cs ≡ 34 ∷ units ++ 34 ∷ [] → take (n - 1) cs ≡ 34 ∷ units
-before_last n cs units l h =
-    let count : n ≡ 1 + (length units + 1) = omega (arith, length-take-le n cs l, ap length h, length-append units (34 ∷ [])) in
-    let whole : cs ≡ (34 ∷ units) ++ (34 ∷ [] ++ drop n cs) = sym (take-append-drop n cs) ∙ (ap (λ t. t ++ drop n cs) h ∙ append_assoc (34 ∷ units) (34 ∷ []) (drop n cs)) in
-    let front_len : n - 1 ≡ length (34 ∷ units) = omega (arith, count) in
-    ap (λ k. take k cs) front_len ∙ (ap (take (length (34 ∷ units))) whole ∙ take-append_seam (34 ∷ units) (34 ∷ [] ++ drop n cs))
+before_last : (width n : ℕ) (cs units : List ℕ) → n ≤ length cs → take n cs ≡ quotes width ++ (units ++ quotes width)
+    → take (n - width) cs ≡ quotes width ++ units
+before_last width n cs units l h =
+    let front : List ℕ = quotes width ++ units in
+    let last : List ℕ = quotes width ++ drop n cs in
+    let both : length (take n cs) ≡ length (quotes width) + length (units ++ quotes width) =
+    ap length h ∙ length-append (quotes width) (units ++ quotes width) in
+    let count : n ≡ width + (length units + width) =
+    omega (arith, length-take-le n cs l, both, length-append units (quotes width), quotes_length width) in
+    let whole : cs ≡ front ++ last =
+    sym (take-append-drop n cs) ∙ (ap (λ t. t ++ drop n cs) (h ∙ sym (append_assoc (quotes width) units (quotes width)))
+    ∙ append_assoc front (quotes width) (drop n cs)) in
+    let front_len : n - width ≡ length front = omega (arith, count, length-append (quotes width) units, quotes_length width) in
+    ap (λ k. take k cs) front_len ∙ (ap (take (length front)) whole ∙ take-append_seam front last)
 
-pub unquoted_text : (cs : List ℕ) (b n : ℕ) (t : List ℕ) → EndsString cs b n → t ≡ drop 1 (take (n - 1) cs) → t ≡ text_of String (take n cs)
-unquoted_text cs b n t e h =
-    h ∙ (ap (drop 1) (before_last n cs e.units e.within e.whole) ∙ (sym (unquoted e.units) ∙ ap (λ (x : List ℕ). take (length x - 2) (drop 1 x)) (sym e.whole)))
+behind_quotes : (width : ℕ) (units : List ℕ) → drop width (quotes width ++ units) ≡ units
+behind_quotes width units =
+    ap (λ k. drop k (quotes width ++ units)) (sym (quotes_length width)) ∙ drop-append_seam (quotes width) units
 
-pub first_quote : (cs : List ℕ) (b n : ℕ) (t : List ℕ) → EndsString cs b n → t ≡ take (n - 1) cs → 1 ≡ byte_at 1 t
-first_quote cs b n t e h = sym (ap (byte_at 1) (h ∙ before_last n cs e.units e.within e.whole) ∙ ap (λ (x : List ℕ). length (x ++ [])) (encode_ascii 34 (omega arith)))
+between_quotes : (width : ℕ) (units : List ℕ) → 0 < width → between (quotes width) (quotes width ++ (units ++ quotes width)) ≡ units
+between_quotes zero units l = absurd (omega arith)
+between_quotes (suc n) units l = unquoted 34 (quotes n) units
+
+pub unquoted_text : (width : ℕ) (cs : List ℕ) (b n : ℕ) (t : List ℕ) → EndsQuoted width cs b n → t ≡ drop width (take (n - width) cs)
+    → t ≡ between (quotes width) (take n cs)
+unquoted_text width cs b n t e h =
+    h ∙ (ap (drop width) (before_last width n cs e.units e.within e.whole) ∙ (behind_quotes width e.units
+    ∙ (sym (between_quotes width e.units e.some) ∙ ap (between (quotes width)) (sym e.whole))))
+
+pub first_quotes : (width : ℕ) (cs : List ℕ) (b n : ℕ) (t : List ℕ) → EndsQuoted width cs b n → t ≡ take (n - width) cs
+    → width ≡ byte_at width t
+first_quotes width cs b n t e h =
+    let front : take width t ≡ quotes width =
+    ap (take width) (h ∙ before_last width n cs e.units e.within e.whole)
+    ∙ (ap (λ k. take k (quotes width ++ e.units)) (sym (quotes_length width)) ∙ take-append_seam (quotes width) e.units) in
+    sym (ap (λ x. length (encodes x)) front ∙ (ap length (quotes_plain width) ∙ quotes_length width))
 
 pub found_mark : (cs : List ℕ) (q : State) (p : Punctuator) (b n : ℕ) (k : Kind) (t : List ℕ) → HasReached cs q b n → q ≡ Done (view_punctuator p) → k ≡ view_punctuator p → t ≡ punctuator_text p → answer q n cs ≡ Ok (record { size = n; kind = k; text = t })
 found_mark cs q p b n k t h e x y =

@@ -9,6 +9,7 @@ use Rattle.std.specs.declared.string.String.{String}
 use Rattle.std.proofs.lemmas.Bool.Decides.{same_from_decides}
 use lib.Utf8.{encode, encodes}
 use Rattle.graphql_lexical.specs.Kinds.{UnknownEscapeSequence}
+use Rattle.graphql_lexical.specs.Tokens.{mark}
 use Rattle.graphql_lexical.specs.Display.{quoted, escape, escaped, error_text as lexical_text}
 use Rattle.juniper_tokens.specs.Errors.{error_text, UnexpectedToken}
 
@@ -46,6 +47,10 @@ escaped_more cs c = sym (encodes-append (escaped cs) (escape c)) ∙ ap encodes 
 pub quoted-bytes : (cs : List ℕ) → (34 ∷ []) ++ (encodes (escaped cs) ++ (34 ∷ [])) ≡ encodes (quoted (escaped cs))
 unfolding encode
 quoted-bytes cs = ap (λ l. 34 ∷ l) (sym (encodes-append (escaped cs) (34 ∷ [])))
+
+pub marked-bytes : (cs : List ℕ) → mark ++ (encodes cs ++ mark) ≡ encodes (mark ++ (cs ++ mark))
+unfolding encode
+marked-bytes cs = ap (λ l. mark ++ l) (sym (encodes-append cs mark))
 
 -- the characters of a String that holds the bytes of those characters
 pub chars-from_bytes : {Z : Type 0} (s : String Z) (cs : List ℕ) → string_bytes s ≡ encodes cs → chars (string_bytes s) ≡ cs

@@ -1,5 +1,5 @@
 -- What the loops of the lexer reach.
-use Rattle.std.proofs.Common.{◌≡◌, ℕ, zero, suc, ◌+◌, ◌≤◌, ◌<◌, Bool, true, false, ◌==◌, List, [], ◌∷◌, length, take, Option, Some, None, refl, sym, ap, ◌∙◌, arith}
+use Rattle.std.proofs.Common.{◌≡◌, ℕ, zero, suc, ◌+◌, ◌≤◌, ◌<◌, Bool, true, false, cond, ◌==◌, List, [], ◌∷◌, length, take, Option, Some, None, refl, sym, ap, ◌∙◌, arith}
 use Rattle.std.specs.Prelude.{option_map, if◌then◌else◌}
 use Rattle.std.specs.Str.{chars, IsUtf8}
 use Rattle.std.proofs.lemmas.Str.{encodes-chars}
@@ -10,10 +10,10 @@ use Rattle.graphql_lexical.specs.Characters.{is_nonzero_digit, is_name_start}
 use Rattle.graphql_lexical.specs.Tokens.{punctuator}
 use Rattle.graphql_lexical.specs.Scan as scans
 use Rattle.graphql_lexical.specs.Machines.{reach}
-use Rattle.graphql_lexical.specs.Scan.{step, gap_step, gap_size, Start}
+use Rattle.graphql_lexical.specs.Scan.{step, gap_step, stretch_step, stretch_size, Start}
 use Rattle.graphql_lexical.proofs.Runs.{reach_is}
 use Rattle.juniper_tokens.specs.ByteRuns.{byte_step, byte_change, IsSamePastAscii, byte_at, with_value, count_one}
-use Rattle.juniper_tokens.specs.Walks.{HasReached, EndsGap, left_step}
+use Rattle.juniper_tokens.specs.Walks.{HasReached, EndsStretch, left_step}
 use Rattle.juniper_tokens.proofs.ByteRuns.{reach_bytes, reach_with_value, same_with_value, bytes_with_value, in_bytes}
 
 pub value_goes : {S X : Type 0} (step : S → ℕ → Option S) (f : X → ℕ → X) (q p : S) (x : X) (b : ℕ) → byte_step step q b ≡ Some p → byte_step (with_value step f) (q, x) b ≡ Some (p, byte_change f x b)
@@ -40,15 +40,26 @@ loop_reached {S} {X} step f s g q0 q x0 x text i u e =
 pub past_same : (p : Place) (c d : ℕ) → 128 ≤ c → 128 ≤ d → past_character p c ≡ past_character p d
 past_same p c d l m = grind arith
 
-gap_past_ascii : (q : Bool) (c : ℕ) → 128 ≤ c → gap_step q c ≡ (if q then Some true else None)
-gap_past_ascii true c l = grind arith
-gap_past_ascii false c l = grind arith
+gap_past_ascii : (q : Bool) (c : ℕ) → 128 ≤ c → (c == 65279) ≡ false → gap_step q c ≡ (if q then Some true else None)
+gap_past_ascii true c l n = grind arith
+gap_past_ascii false c l n = grind arith
 
-pub gap_same : IsSamePastAscii gap_step
-gap_same q c d l m = gap_past_ascii q c l ∙ sym (gap_past_ascii q d m)
+stretch_past_ascii : (q : Bool) (c : ℕ) → 128 ≤ c → stretch_step q c ≡ (if q then Some true else None)
+stretch_past_ascii true c l = grind arith
+stretch_past_ascii false c l = by_mark (c == 65279) refl
+  where
+    by_mark : (b : Bool) → (c == 65279) ≡ b → cond b None (gap_step false c) ≡ None
+    by_mark true e = refl
+    by_mark false e = gap_past_ascii false c l e
+
+pub stretch_same : IsSamePastAscii stretch_step
+stretch_same q c d l m = stretch_past_ascii q c l ∙ sym (stretch_past_ascii q d m)
 
 abbrev at_past_ascii : scans.State → Option scans.State
+at_past_ascii scans.Quote = Some scans.Units
 at_past_ascii scans.Units = Some scans.Units
+at_past_ascii (scans.InBlock scans.Closed) = None
+at_past_ascii (scans.InBlock _) = Some (scans.InBlock scans.Inside)
 at_past_ascii _ = None
 
 eq_past_ascii : (c k : ℕ) → k < 128 → 128 ≤ c → (c == k) ≡ false
@@ -62,6 +73,16 @@ digit_past_ascii c l = grind arith
 
 name_past_ascii : (c : ℕ) → 128 ≤ c → is_name_start c ≡ false
 name_past_ascii c l = grind arith
+
+-- in a block string it is a character like others
+block_past_ascii : (part : scans.Block) (c : ℕ) → 128 ≤ c → step (scans.InBlock part) c ≡ at_past_ascii (scans.InBlock part)
+block_past_ascii scans.Inside c l = grind arith
+block_past_ascii scans.OneQuote c l = grind arith
+block_past_ascii scans.TwoQuotes c l = grind arith
+block_past_ascii scans.Escaping c l = grind arith
+block_past_ascii scans.EscapedQuote c l = grind arith
+block_past_ascii scans.EscapedQuotes c l = grind arith
+block_past_ascii scans.Closed c l = refl
 
 step_past_ascii : (q : scans.State) (c : ℕ) → 128 ≤ c → step q c ≡ at_past_ascii q
 step_past_ascii Start c l = rw (digit_past_ascii c l, name_past_ascii c l, eq_past_ascii c 48 (omega arith) l, eq_past_ascii c 45 (omega arith) l, eq_past_ascii c 46 (omega arith) l, eq_past_ascii c 34 (omega arith) l, punctuator_past_ascii c l) refl
@@ -77,6 +98,8 @@ step_past_ascii scans.Fraction c l = grind arith
 step_past_ascii scans.Mark c l = grind arith
 step_past_ascii scans.Sign c l = grind arith
 step_past_ascii scans.Exponent c l = grind arith
+step_past_ascii scans.Quote c l = grind arith
+step_past_ascii scans.Quotes c l = grind arith
 step_past_ascii scans.Units c l = grind arith
 step_past_ascii scans.Backslash c l = grind arith
 step_past_ascii scans.Hex0 c l = grind arith
@@ -84,6 +107,7 @@ step_past_ascii scans.Hex1 c l = grind arith
 step_past_ascii scans.HexD c l = grind arith
 step_past_ascii scans.Hex2 c l = grind arith
 step_past_ascii scans.Hex3 c l = grind arith
+step_past_ascii (scans.InBlock part) c l = block_past_ascii part c l
 
 pub step_same : IsSamePastAscii step
 step_same q c d l m = step_past_ascii q c l ∙ sym (step_past_ascii q d m)
@@ -104,8 +128,8 @@ counted step q0 q cs i n g = g.more ∙ (counted_by_ones 0 (take (reach step q0 
 abbrev pub TokenLoopReached : List ℕ → ℕ → scans.State → ℕ → Type 0
 TokenLoopReached = LoopReached step count_one Start 0
 
-abbrev pub GapLoopReached : Place → List ℕ → ℕ → Bool → Place → Type 0
-GapLoopReached p = LoopReached gap_step past_character false p
+abbrev pub StretchLoopReached : Place → List ℕ → ℕ → Bool → Place → Type 0
+StretchLoopReached p = LoopReached stretch_step past_character false p
 
 count_same : (n c d : ℕ) → 128 ≤ c → 128 ≤ d → count_one n c ≡ count_one n d
 count_same n c d l m = refl
@@ -113,8 +137,8 @@ count_same n c d l m = refl
 pub token_loop_reached : (q : scans.State) (n : ℕ) (text bytes : List ℕ) (i : ℕ) → IsUtf8 text → bytes ≡ text → reach (byte_step (with_value step count_one)) (Start, 0) bytes ≡ (i, (q, n)) → TokenLoopReached (chars text) i q n
 token_loop_reached q n text bytes i u b e = loop_reached step count_one step_same count_same Start q 0 n text i u (ap (reach (byte_step (with_value step count_one)) (Start, 0)) (sym b) ∙ e)
 
-pub gap_loop_reached : (m : Bool) (start p : Place) (text bytes : List ℕ) (i : ℕ) → IsUtf8 text → bytes ≡ text → reach (byte_step (with_value gap_step past_character)) (false, start) bytes ≡ (i, (m, p)) → GapLoopReached start (chars text) i m p
-gap_loop_reached m start p text bytes i u b e = loop_reached gap_step past_character gap_same past_same false m start p text i u (ap (reach (byte_step (with_value gap_step past_character)) (false, start)) (sym b) ∙ e)
+pub stretch_loop_reached : (m : Bool) (start p : Place) (text bytes : List ℕ) (i : ℕ) → IsUtf8 text → bytes ≡ text → reach (byte_step (with_value stretch_step past_character)) (false, start) bytes ≡ (i, (m, p)) → StretchLoopReached start (chars text) i m p
+stretch_loop_reached m start p text bytes i u b e = loop_reached stretch_step past_character stretch_same past_same false m start p text i u (ap (reach (byte_step (with_value stretch_step past_character)) (false, start)) (sym b) ∙ e)
 
 pub token_reached : (q : scans.State) (n : ℕ) (text bytes : List ℕ) (i : ℕ) → IsUtf8 text → bytes ≡ text → reach (byte_step (with_value step count_one)) (Start, 0) bytes ≡ (i, (q, n)) → HasReached (chars text) q i n
 token_reached q n text bytes i u b e =
@@ -122,8 +146,8 @@ token_reached q n text bytes i u b e =
     let same = counted step Start q (chars text) i n g in
     record { state_is = g.state; characters_is = same; bytes_is = g.bytes ∙ ap (λ k. byte_at k (chars text)) (sym same) }
 
-pub gap_reached : (m : Bool) (start p : Place) (text bytes : List ℕ) (i : ℕ) → IsUtf8 text → bytes ≡ text → reach (byte_step (with_value gap_step past_character)) (false, start) bytes ≡ (i, (m, p)) → EndsGap (chars text) start i p
-gap_reached m start p text bytes i u b e = let g = gap_loop_reached m start p text bytes i u b e in record { bytes_is = g.bytes; position_is = g.more }
+pub stretch_reached : (m : Bool) (start p : Place) (text bytes : List ℕ) (i : ℕ) → IsUtf8 text → bytes ≡ text → reach (byte_step (with_value stretch_step past_character)) (false, start) bytes ≡ (i, (m, p)) → EndsStretch (chars text) start i p
+stretch_reached m start p text bytes i u b e = let g = stretch_loop_reached m start p text bytes i u b e in record { bytes_is = g.bytes; position_is = g.more }
 
 -- ---- so many characters
 

@@ -1,5 +1,5 @@
 -- Borders between the characters of a text.
-use Rattle.std.specs.Prelude.{◌≡◌, ℕ, ◌+◌, ◌-◌, ◌≤◌, List, [], ◌∷◌, ◌++◌, length, take}
+use Rattle.std.specs.Prelude.{◌≡◌, ℕ, zero, suc, ◌+◌, ◌-◌, ◌<◌, ◌≤◌, List, [], ◌∷◌, ◌++◌, length, take}
 use Rattle.juniper_tokens.specs.declared.lexer.text.Border.{Border}
 use Rattle.juniper_tokens.specs.ByteRuns.{byte_at}
 
@@ -13,9 +13,15 @@ pub record FollowsDigits (digits : ℕ) (b : Border) (cs : List ℕ) : Type 0 wh
   pub room : b.characters ≤ b.bytes
   pub start : b.bytes - digits ≡ byte_at (b.characters - digits) cs
 
--- the border at which a text's front that is a quote, a text and a quote ends
-pub record EndsString (cs : List ℕ) (bytes characters : ℕ) : Type 0 where
+-- so many quotes
+abbrev pub quotes : ℕ → List ℕ
+quotes zero = []
+quotes (suc n) = 34 ∷ quotes n
+
+-- the border at which a text's front that is so many quotes, a text and as many quotes ends
+pub record EndsQuoted (width : ℕ) (cs : List ℕ) (bytes characters : ℕ) : Type 0 where
   pub units : List ℕ
-  pub whole : take characters cs ≡ 34 ∷ units ++ 34 ∷ []
+  pub whole : take characters cs ≡ quotes width ++ (units ++ quotes width)
+  pub some : 0 < width
   pub within : characters ≤ length cs
   pub border : bytes ≡ byte_at characters cs

@@ -75,7 +75,7 @@ first_state NameStart b = Some scans.InName
 first_state Digit b = if b == 48 then Some scans.Zero else Some scans.Digits
 first_state Minus b = Some scans.Minus
 first_state Dot b = Some scans.Dot
-first_state Quote b = Some scans.Units
+first_state Quote b = Some scans.Quote
 first_state Punctuator b = option_map scans.Done (tokens.punctuator b)
 first_state _ b = None
 
@@ -87,6 +87,11 @@ plain_class Quote b = false
 plain_class Control b = false
 plain_class Other b = not (b == 92)
 plain_class _ b = true
+
+-- it may stand in a source
+abbrev pub source_class : ByteClass → Bool
+source_class Control = false
+source_class _ = true
 
 -- white characters and comments go on with it, and whether it then stands within a comment
 abbrev pub comment_after : Bool → ByteClass → ℕ → Option Bool

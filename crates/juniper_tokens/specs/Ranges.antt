@@ -12,7 +12,7 @@ use Rattle.juniper_tokens.specs.declared.token_range.TokenRange.{TokenRange}
 use Rattle.juniper_tokens.specs.declared.error.LexFailure.{LexFailure}
 use Rattle.juniper_tokens.specs.declared.error.LexFailure.TheVariants as failure
 use Rattle.juniper_tokens.specs.Tokens.{view_token}
-use Rattle.juniper_tokens.specs.Borders.{IsBorder, EndsString}
+use Rattle.juniper_tokens.specs.Borders.{IsBorder, EndsQuoted}
 use Rattle.juniper_tokens.specs.LineTables.{Lines, lines_of}
 use Rattle.juniper_tokens.specs.Lexing.{LexerState, GivesFault, WantsMemory}
 use Rattle.juniper_tokens.specs.Cursor.{EndsOnce, first_of}
@@ -21,6 +21,7 @@ use Rattle.juniper_tokens.specs.Cursor.{EndsOnce, first_of}
 abbrev pub kind_text : Kind → List ℕ → List ℕ
 kind_text kinds.Name text = text
 kind_text kinds.String text = text
+kind_text kinds.BlockString text = text
 kind_text kinds.Float text = text
 kind_text kinds.Int text = text
 kind_text kinds.ExclamationMark text = 33 ∷ []
@@ -53,13 +54,15 @@ range_lexeme source r = record {
 abbrev pub range_lexemes : List ℕ → List TokenRange → List Lexeme
 range_lexemes source = map (range_lexeme source)
 
--- Both ends are borders within the source, the start not behind the end, and a String has its quotes.
+-- Both ends are borders within the source, the start not behind the end; a String has its quotes, and a block string
+-- its three on each side.
 pub record IsRange (source : List ℕ) (r : TokenRange) : Type 0 where
   pub start : IsBorder r.start source
   pub end : IsBorder r.end source
   pub forward : r.start.characters ≤ r.end.characters
   pub within : r.end.characters ≤ length source
-  pub quoted : r.kind ≡ kinds.String → EndsString (drop r.start.characters source) (r.end.bytes - r.start.bytes) (r.end.characters - r.start.characters)
+  pub quoted : r.kind ≡ kinds.String → EndsQuoted 1 (drop r.start.characters source) (r.end.bytes - r.start.bytes) (r.end.characters - r.start.characters)
+  pub marked : r.kind ≡ kinds.BlockString → EndsQuoted 3 (drop r.start.characters source) (r.end.bytes - r.start.bytes) (r.end.characters - r.start.characters)
 
 -- A token of this range stands where the lexer did, which is then behind it, and has ended where the token is the end.
 pub record GivesRange (s : LexerState) (r : TokenRange) (t : LexerState) : Type 0 where

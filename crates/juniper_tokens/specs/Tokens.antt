@@ -17,12 +17,14 @@ use Rattle.juniper_tokens.specs.Spans.{view_span}
 
 abbrev pub scalar_kind : ScalarToken → Kind
 scalar_kind (scalar.String s) = kinds.String
+scalar_kind (scalar.BlockString s) = kinds.BlockString
 scalar_kind (scalar.Float s) = kinds.Float
 scalar_kind (scalar.Int s) = kinds.Int
 
--- the characters of the text; of a String what stands between its quotes
+-- the characters of the text; of a String and of a block string what stands between its quotes
 abbrev pub scalar_text : ScalarToken → List ℕ
 scalar_text (scalar.String s) = chars s.now
+scalar_text (scalar.BlockString s) = chars s.now
 scalar_text (scalar.Float s) = chars s.now
 scalar_text (scalar.Int s) = chars s.now
 

@@ -82,7 +82,7 @@ pub fn byte_class(byte: u8) -> ByteClass
 }
 
 impl ByteClass {
-    ghost use Rattle.juniper_tokens.specs.ByteClasses.{name_class, digit_class, inner_class, plain_class, comment_after};
+    ghost use Rattle.juniper_tokens.specs.ByteClasses.{name_class, digit_class, inner_class, plain_class, source_class, comment_after};
 
     // Whether a name goes on with it.
     pub(crate) fn is_name(self) -> bool
@@ -121,6 +121,16 @@ impl ByteClass {
             White => byte != b'\r',
             LineFeed | Quote | Control => false,
             Other => byte != b'\\',
+            _ => true,
+        }
+    }
+
+    // Whether it may stand in a source.
+    pub(crate) fn is_source(self) -> bool
+        ensures { result ≡ source_class self }
+    {
+        match self {
+            Control => false,
             _ => true,
         }
     }

@@ -5,7 +5,7 @@ ghost use Rattle.std.specs.Ordering.{is_eq};
 ghost use Rattle.graphql_lexical.specs.Place.{Place};
 ghost use Rattle.graphql_lexical.specs.Joining.{Joins};
 ghost use Rattle.graphql_lexical.specs.Spacing.{GoesOnSpaced};
-ghost use Rattle.graphql_lexical.specs.Laws.{HasOneAnswer, HasOneEnd, HasFewTokens, HasSlicesInOrder, StepsByCharacters};
+ghost use Rattle.graphql_lexical.specs.Laws.{HasOneAnswer, BeginsBlockString, HasOneEnd, HasFewTokens, HasSlicesInOrder, StepsByCharacters};
 ghost use Rattle.juniper_tokens.specs.declared.span.Span.{Span};
 ghost use Rattle.juniper_tokens.specs.declared.span.Spanning.{Spanning};
 ghost use Rattle.juniper_tokens.specs.ByteClasses.{CountsOfClasses};
@@ -32,6 +32,13 @@ pub fn one_answer()
     ensures { (rest : List ℕ) → HasOneAnswer rest }
 {
     lexical::one_answer();
+}
+
+/// Where three quotes begin a token they begin a block string.
+pub fn three_quotes_begin_a_block_string()
+    ensures { (rest : List ℕ) → BeginsBlockString rest }
+{
+    lexical::three_quotes_begin_a_block_string();
 }
 
 /// A source has exactly one cut into tokens or exactly one break, which is its first fault.
@@ -65,8 +72,8 @@ pub fn few_tokens()
     lexical::few_tokens();
 }
 
-/// The slice of the source between a token's places is its text, of a String a quote, its text and a quote. Each token
-/// stands behind the one before it.
+/// The slice of the source between a token's places is its text, of a String a quote, its text and a quote, of a block
+/// string three quotes, its text and three quotes. Each token stands behind the one before it.
 pub fn slices_in_order()
     ensures { (source : List ℕ) → HasSlicesInOrder source }
 {

@@ -1,12 +1,16 @@
 //! The lexer.
-ghost use Rattle.std.specs.Prelude.{◌≡◌, ◌<◌, ◌≤◌, drop, length, IfSome};
+ghost use Rattle.std.specs.Prelude.{◌≡◌, ◌+◌, ◌<◌, ◌≤◌, ◌^◌, drop, take, length, IfSome, Ok};
+ghost use Rattle.std.specs.List.{fold};
 ghost use Rattle.std.specs.Global.{Global as Allocator};
 ghost use Rattle.std.specs.Str.{chars};
-ghost use Rattle.graphql_lexical.specs.Scan.{scan};
+ghost use Rattle.graphql_lexical.specs.Machines.{reach};
+ghost use Rattle.graphql_lexical.specs.Place.{past_character};
+ghost use Rattle.graphql_lexical.specs.Scan.{scan, step, Start};
 ghost use Rattle.juniper_tokens.specs.Borders.{IsBorder};
 ghost use Rattle.juniper_tokens.specs.Lexing.{started, items_left, GivesItem};
-ghost use Rattle.juniper_tokens.specs.LexingByScan.{past_gap, Scanned, Ends};
+ghost use Rattle.juniper_tokens.specs.LexingByScan.{past_gap, past_stretch, MayPassMark, Scanned, Ends};
 ghost use Rattle.juniper_tokens.specs.Ranges.{GivesRangeItem, range_steps};
+ghost use Rattle.juniper_tokens.specs.Tokens.{token_kind, token_text};
 
 mod machine;
 mod scan;
@@ -14,13 +18,14 @@ pub(crate) mod text;
 mod walk;
 
 use crate::error::LexFailure;
-use crate::lexer::scan::{Missed, scan_token};
-use crate::lexer::text::{Border, text_from};
-use crate::lexer::walk::{walk_characters, walk_gap};
+use crate::lexer::scan::{Found, Missed, scan_token};
+use crate::lexer::text::{Border, begins_with_mark, text_from};
+use crate::lexer::walk::{walk_characters, walk_stretch};
 use crate::position::SourcePosition;
 use crate::span::Spanning;
 use crate::token::Token;
 use crate::token_range::TokenRange;
+use graphql_lexical::Kind;
 use std::alloc::Global;
 use std::marker::Model;
 
@@ -96,13 +101,42 @@ impl<'a> Lexer<'a> {
     fn skip_gap(&mut self)
         ensures { self.new ≡ past_gap self.old }
     {
+        loop {
+            self.skip_stretch();
+            if !self.skip_mark() {
+                return;
+            }
+        }
+    }
+
+    // Goes past white space and comments, up to a byte order mark that stands in no comment.
+    fn skip_stretch(&mut self)
+        ensures { self.new ≡ past_stretch self.old }
+    {
         let here = Border {
             bytes: self.at,
             characters: self.position.index(),
         };
-        let gap = walk_gap(text_from(self.source, here), self.position);
-        self.at += gap.bytes;
-        self.position = gap.position;
+        let stretch = walk_stretch(text_from(self.source, here), self.position);
+        self.at += stretch.bytes;
+        self.position = stretch.position;
+    }
+
+    // Goes past a byte order mark, where one stands here.
+    fn skip_mark(&mut self) -> bool
+        ensures { MayPassMark result self.old self.new }
+    {
+        let here = Border {
+            bytes: self.at,
+            characters: self.position.index(),
+        };
+        let rest = text_from(self.source, here);
+        let is_mark = begins_with_mark(rest);
+        if is_mark {
+            self.at += 3;
+            self.position.advance_col();
+        }
+        is_mark
     }
 
     // Takes the token that stands here. A fault leaves the place.
@@ -120,7 +154,7 @@ impl<'a> Lexer<'a> {
         match scan_token(self.alloc, rest) {
             Ok(found) => {
                 self.at += found.end.bytes;
-                self.position = start.columns_on(found.end.characters);
+                self.position = end_of(found, rest, start);
                 Ok(Spanning::start_end(&start, &self.position, found.token))
             }
             Err(Missed::Fault(error, at)) => {
@@ -176,6 +210,20 @@ impl<'a> Lexer<'a> {
         } else {
             Some(self.next_item_range())
         }
+    }
+}
+
+// Where a token that begins at a place, and is found there, ends. A block string may end on a later line.
+fn end_of(found: Found<'_>, rest: &str, start: SourcePosition) -> SourcePosition
+    requires room { start.index + length rest.now < 2 ^ 64 }
+    requires found { scan (chars rest.now) ≡ Ok (record { size = found.end.characters; kind = token_kind found.token; text = token_text found.token }) }
+    requires most { found.end.characters ≤ (reach step Start (chars rest.now)).0 }
+    ensures { result ≡ fold past_character start (take found.entry.end.characters (chars rest.now)) }
+{
+    if found.token.kind() == Kind::BlockString {
+        walk_characters(rest, start, found.end.characters)
+    } else {
+        start.columns_on(found.end.characters)
     }
 }
 

@@ -1,19 +1,22 @@
 //! Tokens.
-ghost use Rattle.std.specs.Prelude.{◌≡◌, Some, nat_eq};
+ghost use Rattle.std.specs.Prelude.{◌≡◌, ◌++◌, Some, nat_eq};
 ghost use Rattle.std.specs.Cmp.Lexicographic.{pointwise};
 ghost use Rattle.std.specs.Fmt.{DisplaysOnOk};
 ghost use Rattle.std.specs.Str.{chars, encode_utf8_all};
 ghost use Rattle.graphql_lexical.specs.Display.{quoted, escaped, escape};
+ghost use Rattle.graphql_lexical.specs.Tokens.{mark};
 
 use graphql_lexical::Kind;
 use std::fmt;
 
 /// A token that spells a scalar, with its text as it stands in the source.
 ///
-/// The text of a String is what stands between its quotes, escapes not replaced.
+/// The text of a String is what stands between its quotes, escapes not replaced, and that of a block string what stands
+/// between its three quotes on each side, with the lines as they are.
 #[derive(Clone, Copy, Debug)]
 pub enum ScalarToken<'a> {
     String(&'a str),
+    BlockString(&'a str),
     Float(&'a str),
     Int(&'a str),
 }
@@ -56,6 +59,7 @@ impl<'a> ScalarToken<'a> {
     {
         match self {
             ScalarToken::String(_) => Kind::String,
+            ScalarToken::BlockString(_) => Kind::BlockString,
             ScalarToken::Float(_) => Kind::Float,
             ScalarToken::Int(_) => Kind::Int,
         }
@@ -67,6 +71,7 @@ impl<'a> ScalarToken<'a> {
     {
         match self {
             ScalarToken::String(text) => text,
+            ScalarToken::BlockString(text) => text,
             ScalarToken::Float(text) => text,
             ScalarToken::Int(text) => text,
         }
@@ -102,7 +107,8 @@ impl<'a> Token<'a> {
         }
     }
 
-    /// The token's text: of a String what stands between its quotes, of the end nothing, else the whole token.
+    /// The token's text: of a String and of a block string what stands between its quotes, of the end nothing, else the
+    /// whole token.
     #[tactic(auto, using(crate::proofs::FixedTexts::fixed_texts))]
     pub fn text(&self) -> &'a str
         ensures { chars result.now ≡ token_text self.now }
@@ -188,6 +194,15 @@ fn write_string<W: fmt::Write>(f: &mut fmt::Formatter<W>, text: &str) -> fmt::Re
     f.write_str("\"")
 }
 
+// Writes the text as it stands, between three quotes on each side.
+fn write_block<W: fmt::Write>(f: &mut fmt::Formatter<W>, text: &str) -> fmt::Result
+    ensures { DisplaysOnOk W.write_str_gives f.old result (Some (encode_utf8_all (mark ++ (chars text.now ++ mark)))) f.new }
+{
+    f.write_str("\"\"\"")?;
+    write_text(f, text)?;
+    f.write_str("\"\"\"")
+}
+
 fn write_escaped<W: fmt::Write>(f: &mut fmt::Formatter<W>, text: &str) -> fmt::Result
     ensures { DisplaysOnOk W.write_str_gives f.old result (Some (encode_utf8_all (escaped (chars text.now)))) f.new }
 {
@@ -214,6 +229,7 @@ impl<'a> fmt::Display for ScalarToken<'a> {
     fn fmt<W: fmt::Write>(&self, f: &mut fmt::Formatter<W>) -> fmt::Result {
         match self {
             ScalarToken::String(text) => write_string(f, text),
+            ScalarToken::BlockString(text) => write_block(f, text),
             ScalarToken::Float(text) => write_text(f, text),
             ScalarToken::Int(text) => write_text(f, text),
         }

@@ -23,7 +23,7 @@ pub(crate) struct TokenRange {
 }
 
 impl TokenRange {
-    // What the source has there, of a String what stands between the quotes.
+    // What the source has there, of a String and of a block string what stands between the quotes.
     fn text(self, source: &str) -> &str
         requires { IsRange (chars source.now) self }
         ensures { chars result.now ≡ text_of self.kind (range_slice (chars source.now) self) }
@@ -34,7 +34,8 @@ impl TokenRange {
             characters: self.end.characters - self.start.characters,
         };
         match self.kind {
-            Kind::String => unquoted(rest, end),
+            Kind::String => unquoted(rest, end, 1),
+            Kind::BlockString => unquoted(rest, end, 3),
             Kind::Name
             | Kind::Float
             | Kind::Int
@@ -65,6 +66,7 @@ impl TokenRange {
         match self.kind {
             Kind::Name => Token::Name(text),
             Kind::String => Token::Scalar(ScalarToken::String(text)),
+            Kind::BlockString => Token::Scalar(ScalarToken::BlockString(text)),
             Kind::Float => Token::Scalar(ScalarToken::Float(text)),
             Kind::Int => Token::Scalar(ScalarToken::Int(text)),
             Kind::ExclamationMark => Token::ExclamationMark,

@@ -125,7 +125,7 @@ are_units t h = (plain_pieces t, each t h, together t)
 
 quoted_written : (t : Text) → AllByRecursion (λ c. IsTrue (is_plain c)) t → Writes (quoted t) (token String t ∷ [])
 quoted_written t h rest cs a k =
-    subst (λ (x : Text). IsCutInto (quoted t ++ rest) (token String x ∷ cs)) (unquoted t)
+    subst (λ (x : Text). IsCutInto (quoted t ++ rest) (token String x ∷ cs)) (unquoted 34 [] t)
     (writes_token (quoted t) String rest cs (t, refl, are_units t h) (inr a) k)
 
 integer_written : (t : Text) → Spells t Int → Writes t (token Int t ∷ [])

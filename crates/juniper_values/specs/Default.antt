@@ -3,12 +3,13 @@ use Rattle.std.specs.Prelude.{◌&&◌, ℤ, Bool, [], Option, Some, None, Ok, E
 use Rattle.std.specs.Fmt.{signed_decimal}
 use Rattle.std.specs.Str.{chars}
 use Rattle.graphql_lexical.specs.declared.kind.Kind.{Kind}
-use Rattle.graphql_lexical.specs.declared.kind.Kind.TheVariants.{Name, String, Float, Int, ExclamationMark, Dollar, ParenOpen, ParenClose, BracketOpen, BracketClose, CurlyOpen, CurlyClose, Ellipsis, Colon, Equals, At, Pipe, EndOfFile}
+use Rattle.graphql_lexical.specs.declared.kind.Kind.TheVariants.{Name, String, BlockString, Float, Int, ExclamationMark, Dollar, ParenOpen, ParenClose, BracketOpen, BracketClose, CurlyOpen, CurlyClose, Ellipsis, Colon, Equals, At, Pipe, EndOfFile}
 use Rattle.juniper_tokens.specs.Errors.{ExpectedScalar, unexpected}
 use Rattle.juniper_values.specs.Text.{Text}
 use Rattle.juniper_values.specs.Scalar.{Content, integer, text, boolean, custom, Reading}
 use Rattle.juniper_values.specs.ScalarDisplay.{scalar_text}
 use Rattle.juniper_values.specs.Escapes.{unescape}
+use Rattle.juniper_values.specs.BlockStrings.{block_value}
 use Rattle.juniper_values.specs.Integers.{is_integer, integer_of, is_i32}
 use Rattle.juniper_values.specs.declared.default_scalar.DefaultScalarValue.{DefaultScalarValue}
 use Rattle.juniper_values.specs.declared.default_scalar.DefaultScalarValue.TheVariants as scalar
@@ -49,6 +50,7 @@ int_reading t = if is_integer t && is_i32 (integer_of t) then Ok (integer (integ
 abbrev pub default_reading : Kind → Text → Reading
 default_reading Name t = unexpected Name t
 default_reading String t = string_reading t (unescape t)
+default_reading BlockString t = Ok (text (block_value t))
 default_reading Float t = Err (ExpectedScalar (codes "There needs to be a Float type"))
 default_reading Int t = int_reading t
 default_reading ExclamationMark t = unexpected ExclamationMark t

@@ -2,6 +2,8 @@ pub mod Text
 pub mod Scalar
 pub mod ScalarDisplay
 pub mod Escapes
+pub mod BlockStrings
+pub mod BlockSteps
 pub mod Integers
 pub mod Default
 pub mod TypeLiteral
@@ -20,4 +22,5 @@ pub mod ScalarLaws
 pub mod TypeLaws
 pub mod Units
 pub mod Laws
+pub mod BlockLaws
 pub mod ReadBack

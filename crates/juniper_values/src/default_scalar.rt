@@ -7,6 +7,7 @@ ghost use Rattle.juniper_values.specs.Default.{default_content, default_shown, s
 ghost use Rattle.juniper_values.specs.Escapes.{unescape};
 ghost use Rattle.juniper_values.specs.Scalar.{MeetsReading};
 
+use crate::block_string::block_value;
 use crate::escapes::unescape;
 use crate::scalar::{ParseScalarResult, ParseScalarValue, ReadFailure, ScalarValue};
 use crate::text::{copied, same_string, write_int, write_text};
@@ -62,7 +63,8 @@ impl fmt::Display for DefaultScalarValue {
     }
 }
 
-/// A String is read as its text with the escapes replaced, an Int as its number where that has 32 bits, and a Float not
+/// A String is read as its text with the escapes replaced, a block string as its value, an Int as its number where that
+/// has 32 bits, and a Float not
 /// at all (GraphQL specification, October 2021, sections 2.9.1, 2.9.2 and 2.9.4).
 impl ParseScalarValue<DefaultScalarValue> for DefaultScalarValue {
     ghost use Rattle.juniper_values.specs.Default.{default_reading};
@@ -74,6 +76,9 @@ impl ParseScalarValue<DefaultScalarValue> for DefaultScalarValue {
     fn from_str(alloc: Global, token: ScalarToken<'_>) -> ParseScalarResult<DefaultScalarValue> {
         match token {
             ScalarToken::String(text) => read_string(alloc, text),
+            ScalarToken::BlockString(text) => {
+                Ok(DefaultScalarValue::String(block_value(alloc, text)?))
+            }
             ScalarToken::Float(_) => Err(ReadFailure::Refused(ParseError::ExpectedScalarError(
                 "There needs to be a Float type",
             ))),

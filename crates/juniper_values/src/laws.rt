@@ -1,8 +1,10 @@
 //! Laws of scalars, types and input values.
-ghost use Rattle.std.specs.Prelude.{◌≡◌, ◌↔◌, true, List, Some};
+ghost use Rattle.std.specs.Prelude.{◌≡◌, ◌≢◌, ◌↔◌, ℕ, true, List, [], All, Some, codes};
 ghost use Rattle.graphql_lexical.specs.Tokens.{AreUnits, IsName};
 ghost use Rattle.graphql_lexical.specs.Written.{IsCutInto};
 ghost use Rattle.juniper_values.specs.Text.{Text};
+ghost use Rattle.juniper_values.specs.BlockLaws.{HasNoBlankEnds, IsIndented};
+ghost use Rattle.juniper_values.specs.BlockStrings.{block_value};
 ghost use Rattle.juniper_values.specs.Equality.{same_value};
 ghost use Rattle.juniper_values.specs.Laws.{IsExactlyUnescaped, HaveNoVariables, RemovesVariables, IsEmptyWithoutVariables, IsEqualityLike, AreSameFields, WrapsOnce};
 ghost use Rattle.juniper_values.specs.ReadBack.{type_tokens, value_tokens, IsPlain};
@@ -30,6 +32,28 @@ pub fn strings_are_unescaped()
 /// Each String that a source can hold stands for a text.
 pub fn units_stand_for_a_text()
     ensures { (t : Text) → AreUnits t → (u : Text) × StandsFor t u }
+{}
+
+/// The value of a block string has no carriage return.
+pub fn block_strings_have_no_carriage_return()
+    ensures { (t : Text) → All (λ c. c ≢ 13) (block_value t) }
+{}
+
+/// The first and the last line of a block string's value are not blank, where it has a character.
+pub fn block_strings_have_no_blank_ends()
+    ensures { (t : Text) → block_value t ≢ [] → HasNoBlankEnds (block_value t) }
+{}
+
+/// A block string has the same value where every line but the first stands behind as many tabs and spaces more.
+pub fn indented_block_strings_are_alike()
+    ensures { (n : ℕ) (t u : Text) → IsIndented n t u → block_value u ≡ block_value t }
+{}
+
+/// Three texts between the marks of block strings, and their values.
+pub fn block_strings_stand_for_texts()
+    ensures indented { block_value (codes "\n    a\n      b\n  ") ≡ codes "a\n  b" }
+    ensures empty { block_value (codes "\n") ≡ [] }
+    ensures quotes { block_value (codes "a\\\"\"\"b") ≡ codes "a\"\"\"b" }
 {}
 
 /// Equality of scalars is reflexive, symmetric and transitive.

@@ -1,6 +1,7 @@
 //! Scalars, type literals and input values of GraphQL.
 #![tactic(auto)]
 
+mod block_string;
 mod default_scalar;
 mod escapes;
 mod input_value;

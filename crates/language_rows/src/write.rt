@@ -21,6 +21,7 @@ fn kind_word(kind: Kind) -> &'static str {
     match kind {
         Kind::Name => "Name",
         Kind::String => "String",
+        Kind::BlockString => "BlockString",
         Kind::Float => "Float",
         Kind::Int => "Int",
         Kind::ExclamationMark => "ExclamationMark",

@@ -4,11 +4,11 @@ ghost use Rattle.graphql_lexical.specs.declared.kind.Kind.TheVariants.{String};
 ghost use Rattle.graphql_lexical.specs.Characters.{is_hex as hex_test, is_escape as escape_test, is_exponent_mark as exponent_mark_test, is_sign as sign_test};
 ghost use Rattle.graphql_lexical.specs.Scan as scans;
 ghost use Rattle.graphql_lexical.specs.Tokens.{punctuator as punctuator_kind};
-ghost use Rattle.graphql_lexical.specs.Scan.{step as character_step};
+ghost use Rattle.graphql_lexical.specs.Scan.{step as character_step, block_step};
 ghost use Rattle.juniper_tokens.specs.Tokens.{token_kind, token_text};
 ghost use Rattle.juniper_tokens.specs.ByteClasses.{class_of, first_state};
 ghost use Rattle.juniper_tokens.specs.ByteRuns.{byte_step};
-ghost use Rattle.juniper_tokens.specs.Machine.{view_state, view_punctuator, punctuator_text};
+ghost use Rattle.juniper_tokens.specs.Machine.{view_state, view_part, is_closed, view_punctuator, punctuator_text};
 
 use crate::byte_classes::ByteClass;
 use crate::token::Token;
@@ -29,6 +29,23 @@ pub(crate) enum Punctuator {
     Equals,
     At,
     Pipe,
+}
+
+/// What of three quotes that end a block string has been read in it.
+#[derive(Clone, Copy)]
+pub(crate) enum BlockPart {
+    /// Nothing of them.
+    Inside,
+    OneQuote,
+    TwoQuotes,
+    /// A backslash, with which three quotes stand for themselves.
+    Backslash,
+    /// A backslash and a quote.
+    EscapedQuote,
+    /// A backslash and two quotes.
+    EscapedQuotes,
+    /// Three quotes.
+    Closed,
 }
 
 /// What has been read of a token.
@@ -57,6 +74,10 @@ pub(crate) enum State {
     ExponentSign,
     /// The digits of an exponent.
     Exponent,
+    /// A quote.
+    Quote,
+    /// Two quotes, which are an empty string or begin a block string.
+    TwoQuotes,
     /// A quote, and characters and escapes after it.
     InString,
     /// The backslash of an escape.
@@ -70,6 +91,8 @@ pub(crate) enum State {
     /// `\u` and two digits, with which no such number begins.
     TwoHexDigits,
     ThreeHexDigits,
+    /// Three quotes, and what stands after them.
+    InBlock(BlockPart),
 }
 
 // The punctuator that this byte is.
@@ -90,6 +113,23 @@ fn punctuator_of(byte: u8) -> Option<Punctuator>
         b'@' => Some(Punctuator::At),
         b'|' => Some(Punctuator::Pipe),
         _ => None,
+    }
+}
+
+impl BlockPart {
+    /// Whether the block string has ended.
+    pub(crate) fn is_closed(self) -> bool
+        ensures { result ≡ is_closed (view_part self) }
+    {
+        match self {
+            BlockPart::Inside
+            | BlockPart::OneQuote
+            | BlockPart::TwoQuotes
+            | BlockPart::Backslash
+            | BlockPart::EscapedQuote
+            | BlockPart::EscapedQuotes => false,
+            BlockPart::Closed => true,
+        }
     }
 }
 
@@ -158,7 +198,7 @@ fn first_step(class: ByteClass, byte: u8) -> Option<State>
         }
         ByteClass::Minus => Some(State::Minus),
         ByteClass::Dot => Some(State::OneDot),
-        ByteClass::Quote => Some(State::InString),
+        ByteClass::Quote => Some(State::Quote),
         ByteClass::Punctuator => match punctuator_of(byte) {
             Some(punctuator) => Some(State::Punctuator(punctuator)),
             None => None,
@@ -176,6 +216,49 @@ fn step_after_integer(byte: u8) -> Option<State>
     } else {
         is_exponent_mark(byte).then_some(State::ExponentMark)
     }
+}
+
+// The step after a string's first quote, at what does not stand in a string for itself.
+fn step_after_quote(byte: u8) -> Option<State>
+    ensures { option_map view_state result ≡ if byte == 34 then Some scans.Quotes else (if byte == 92 then Some scans.Backslash else None) }
+{
+    if byte == b'"' {
+        Some(State::TwoQuotes)
+    } else {
+        (byte == b'\\').then_some(State::Backslash)
+    }
+}
+
+// The part after a quote in a block string.
+fn part_after_quote(part: BlockPart) -> Option<BlockPart>
+    ensures { option_map view_part result ≡ block_step (view_part part) 34 }
+{
+    match part {
+        BlockPart::Inside => Some(BlockPart::OneQuote),
+        BlockPart::OneQuote => Some(BlockPart::TwoQuotes),
+        BlockPart::TwoQuotes => Some(BlockPart::Closed),
+        BlockPart::Backslash => Some(BlockPart::EscapedQuote),
+        BlockPart::EscapedQuote => Some(BlockPart::EscapedQuotes),
+        BlockPart::EscapedQuotes => Some(BlockPart::Inside),
+        BlockPart::Closed => None,
+    }
+}
+
+// The step in a block string.
+fn step_in_block(part: BlockPart, class: ByteClass, byte: u8) -> Option<BlockPart>
+    requires { class ≡ class_of byte }
+    ensures { option_map view_part result ≡ block_step (view_part part) byte }
+{
+    if byte == b'"' {
+        return part_after_quote(part);
+    }
+    if part.is_closed() {
+        return None;
+    }
+    if byte == b'\\' {
+        return Some(BlockPart::Backslash);
+    }
+    class.is_source().then_some(BlockPart::Inside)
 }
 
 // The step in a string, at what does not stand there for itself.
@@ -232,6 +315,14 @@ fn step_at_character(state: State, class: ByteClass, byte: u8) -> Option<State>
             }
         }
         State::ExponentSign | State::Exponent => class.is_digit().then_some(State::Exponent),
+        State::Quote => {
+            if class.is_plain(byte) {
+                Some(State::InString)
+            } else {
+                step_after_quote(byte)
+            }
+        }
+        State::TwoQuotes => (byte == b'"').then_some(State::InBlock(BlockPart::Inside)),
         State::InString => {
             if class.is_plain(byte) {
                 Some(State::InString)
@@ -257,6 +348,10 @@ fn step_at_character(state: State, class: ByteClass, byte: u8) -> Option<State>
         State::HexDigitD => (byte >= b'0' && byte <= b'7').then_some(State::TwoHexDigits),
         State::TwoHexDigits => is_hex(byte).then_some(State::ThreeHexDigits),
         State::ThreeHexDigits => is_hex(byte).then_some(State::InString),
+        State::InBlock(part) => match step_in_block(part, class, byte) {
+            Some(next) => Some(State::InBlock(next)),
+            None => None,
+        },
     }
 }
 

@@ -4,14 +4,14 @@ ghost use Rattle.std.specs.Str.{chars};
 ghost use Rattle.graphql_lexical.specs.Kinds.{UnknownEscapeSequence};
 ghost use Rattle.graphql_lexical.specs.Scan as scans;
 ghost use Rattle.graphql_lexical.specs.Machines.{reach};
-ghost use Rattle.graphql_lexical.specs.Scan.{missed, stopped, after_dots, after_units, after_backslash, after_u, after_zero, answer, scan, step as character_step};
+ghost use Rattle.graphql_lexical.specs.Scan.{missed, stopped, after_dots, after_units, after_block, after_backslash, after_u, after_zero, answer, scan, step as character_step};
 ghost use Rattle.juniper_tokens.specs.Borders.{IsBorder, FollowsDigits};
-ghost use Rattle.juniper_tokens.specs.Machine.{view_state};
+ghost use Rattle.juniper_tokens.specs.Machine.{view_part, view_state};
 ghost use Rattle.juniper_tokens.specs.Scans.{MeetsScan, Misses};
 ghost use Rattle.juniper_tokens.specs.Walks.{HasReached};
 
 use crate::error::LexerError;
-use crate::lexer::machine::State;
+use crate::lexer::machine::{BlockPart, State};
 use crate::lexer::text::{
     Border, count_alphanumerics, first_character, first_text, joined, text_before, text_from,
     unquoted,
@@ -68,6 +68,16 @@ fn string_fault(rest: &str, at: usize) -> Missed
                 Missed::Fault(LexerError::UnknownCharacterInString(c), at)
             }
         }
+        None => Missed::Fault(LexerError::UnterminatedString, at),
+    }
+}
+
+// Where a block string has no end.
+fn block_fault(rest: &str, at: usize) -> Missed
+    ensures { Misses result (after_block at (chars rest.now)) }
+{
+    match first_character(rest) {
+        Some(c) => Missed::Fault(LexerError::UnknownCharacterInString(c), at),
         None => Missed::Fault(LexerError::UnterminatedString, at),
     }
 }
@@ -168,6 +178,22 @@ fn scan_unknown<'a>(text: &'a str) -> Result<Found<'a>, Missed>
     }
 }
 
+// In a block string, which has ended or has no end.
+fn scan_block<'a>(text: &'a str, end: Border, part: BlockPart) -> Result<Found<'a>, Missed>
+    requires { HasReached (chars text.now) (scans.InBlock (view_part part)) end.bytes end.characters }
+    ensures most { IfOk result (λ f. f.end.characters ≤ end.characters) }
+    ensures gives { MeetsScan result (chars text.now) (answer (scans.InBlock (view_part part)) end.characters (chars text.now)) }
+{
+    if part.is_closed() {
+        Ok(Found {
+            token: Token::Scalar(ScalarToken::BlockString(unquoted(text, end, 3))),
+            end,
+        })
+    } else {
+        Err(block_fault(text_from(text, end), end.characters))
+    }
+}
+
 // The token or the fault where the steps have stopped.
 fn scan_reached<'a>(alloc: Global, text: &'a str, reached: Reached) -> Result<Found<'a>, Missed>
     requires { HasReached (chars text.now) (view_state reached.state) reached.end.bytes reached.end.characters }
@@ -182,7 +208,9 @@ fn scan_reached<'a>(alloc: Global, text: &'a str, reached: Reached) -> Result<Fo
         State::Minus | State::Point | State::ExponentMark | State::ExponentSign => {
             Err(number_fault(text_from(text, end), end.characters))
         }
-        State::InString => Err(string_fault(text_from(text, end), end.characters)),
+        State::Quote | State::InString => {
+            Err(string_fault(text_from(text, end), end.characters))
+        }
         State::Backslash => Err(backslash_fault(alloc, text_from(text, end), end.characters)),
         State::NoHexDigit => Err(digits_fault(alloc, text, end, 0)),
         State::OneHexDigit => Err(digits_fault(alloc, text, end, 1)),
@@ -193,10 +221,11 @@ fn scan_reached<'a>(alloc: Global, text: &'a str, reached: Reached) -> Result<Fo
             token: punctuator.token(),
             end,
         }),
-        State::StringEnd => Ok(Found {
-            token: Token::Scalar(ScalarToken::String(unquoted(text, end))),
+        State::TwoQuotes | State::StringEnd => Ok(Found {
+            token: Token::Scalar(ScalarToken::String(unquoted(text, end, 1))),
             end,
         }),
+        State::InBlock(part) => scan_block(text, end, part),
         State::InName => Ok(Found {
             token: Token::Name(text_before(text, end)),
             end,

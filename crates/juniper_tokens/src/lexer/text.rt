@@ -2,11 +2,11 @@
 ghost use Rattle.std.specs.Prelude.{◌≡◌, ◌+◌, ◌∷◌, ◌++◌, [], take, drop, length, MatchOption, IfOk, ◌||◌};
 ghost use Rattle.std.specs.Str.{chars};
 ghost use Rattle.std.specs.String.{string_bytes};
-ghost use Rattle.graphql_lexical.specs.declared.kind.Kind.TheVariants.{String as string_kind};
 ghost use Rattle.graphql_lexical.specs.Characters.{is_letter, is_digit};
 ghost use Rattle.graphql_lexical.specs.Reading.{counted};
-ghost use Rattle.graphql_lexical.specs.Tokens.{text_of};
-ghost use Rattle.juniper_tokens.specs.Borders.{IsBorder, EndsString};
+ghost use Rattle.graphql_lexical.specs.Tokens.{between};
+ghost use Rattle.juniper_tokens.specs.Borders.{IsBorder, EndsQuoted, quotes};
+ghost use Rattle.juniper_tokens.specs.LexingByScan.{begins_with_mark};
 
 use std::alloc::{AllocError, Global};
 
@@ -34,23 +34,23 @@ pub(crate) fn text_from(text: &str, start: Border) -> &str
     &text[start.bytes..]
 }
 
-/// What stands between the quotes of a string that ends at a border.
-pub(crate) fn unquoted(text: &str, end: Border) -> &str
-    requires { EndsString (chars text.now) end.bytes end.characters }
-    ensures { chars result.now ≡ text_of string_kind (take end.characters (chars text.now)) }
+/// What stands between so many quotes on each side of what ends at a border.
+pub(crate) fn unquoted(text: &str, end: Border, width: usize) -> &str
+    requires { EndsQuoted width (chars text.now) end.bytes end.characters }
+    ensures { chars result.now ≡ between (quotes width) (take end.characters (chars text.now)) }
 {
     let units = text_before(
         text,
         Border {
-            bytes: end.bytes - 1,
-            characters: end.characters - 1,
+            bytes: end.bytes - width,
+            characters: end.characters - width,
         },
     );
     text_from(
         units,
         Border {
-            bytes: 1,
-            characters: 1,
+            bytes: width,
+            characters: width,
         },
     )
 }
@@ -60,6 +60,16 @@ pub(crate) fn first_character(text: &str) -> Option<char>
     ensures { MatchOption result (chars text.now ≡ []) (λ c. chars text.now ≡ c ∷ drop 1 (chars text.now)) }
 {
     text.chars().next()
+}
+
+/// Whether a byte order mark stands first.
+pub(crate) fn begins_with_mark(text: &str) -> bool
+    ensures { result ≡ begins_with_mark (chars text.now) }
+{
+    match first_character(text) {
+        Some(c) => c == '\u{FEFF}',
+        None => false,
+    }
 }
 
 /// The first character, as a text.

@@ -2,21 +2,21 @@
 ghost use Rattle.std.specs.Prelude.{◌≡◌, ℕ, ◌+◌, ◌<◌, ◌≤◌, ◌^◌, length, take};
 ghost use Rattle.std.specs.List.{fold};
 ghost use Rattle.std.specs.Str.{chars};
-ghost use Rattle.graphql_lexical.specs.Scan.{gap_step};
+ghost use Rattle.graphql_lexical.specs.Scan.{stretch_step};
 ghost use Rattle.graphql_lexical.specs.Place.{past_character};
 ghost use Rattle.juniper_tokens.specs.ByteClasses.{class_of};
 ghost use Rattle.juniper_tokens.specs.ByteRuns.{byte_step, byte_change, count_one};
 ghost use Rattle.juniper_tokens.specs.Machine.{view_state};
-ghost use Rattle.juniper_tokens.specs.Walks.{HasReached, EndsGap, left_step};
+ghost use Rattle.juniper_tokens.specs.Walks.{HasReached, EndsStretch, left_step};
 
 use crate::byte_classes::{ByteClass, byte_class};
 use crate::lexer::machine::{State, step};
 use crate::lexer::text::Border;
 use crate::position::SourcePosition;
 
-/// The end of white space and comments.
+/// The end of white space and comments without a byte order mark between them.
 #[derive(Clone, Copy)]
-pub(crate) struct GapEnd {
+pub(crate) struct StretchEnd {
     pub(crate) bytes: usize,
     pub(crate) position: SourcePosition,
 }
@@ -72,15 +72,15 @@ fn left_after(left: usize, class: ByteClass) -> Option<usize>
 #[tactic(auto, using(crate::proofs::ByteClasses::comment_after_tests))]
 fn comment_after(in_comment: bool, class: ByteClass, byte: u8) -> Option<bool>
     requires { class ≡ class_of byte }
-    ensures { result ≡ byte_step gap_step in_comment byte }
+    ensures { result ≡ byte_step stretch_step in_comment byte }
 {
     class.comment_after(in_comment, byte)
 }
 
-/// Goes past white space and comments.
-pub(crate) fn walk_gap(text: &str, start: SourcePosition) -> GapEnd
+/// Goes past white space and comments, up to a byte order mark that stands in no comment.
+pub(crate) fn walk_stretch(text: &str, start: SourcePosition) -> StretchEnd
     requires { start.index + length text.now < 2 ^ 64 }
-    ensures { EndsGap (chars text.now) start result.bytes result.position }
+    ensures { EndsStretch (chars text.now) start result.bytes result.position }
 {
     let bytes = text.as_bytes();
     let mut position = start;
@@ -90,12 +90,12 @@ pub(crate) fn walk_gap(text: &str, start: SourcePosition) -> GapEnd
         let class = byte_class(bytes[i]);
         match comment_after(in_comment, class, bytes[i]) {
             Some(next) => in_comment = next,
-            None => return GapEnd { bytes: i, position },
+            None => return StretchEnd { bytes: i, position },
         }
         position = position_after(position, class);
         i += 1;
     }
-    GapEnd { bytes: i, position }
+    StretchEnd { bytes: i, position }
 }
 
 /// Goes as far as the steps of a token go.

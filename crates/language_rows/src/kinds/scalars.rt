@@ -33,6 +33,7 @@ fn read(alloc: Global, text: &str) -> ParseScalarResult<DefaultScalarValue> {
     let token = match kind {
         "Int" => ScalarToken::Int(text),
         "Float" => ScalarToken::Float(text),
+        "BlockString" => ScalarToken::BlockString(text),
         _ => ScalarToken::String(text),
     };
     DefaultScalarValue::from_str(alloc, token)

@@ -14,13 +14,13 @@ use Rattle.juniper_tokens.proofs.lexer.Lexer.take_token.Goals as goal
 pub overflow_add-self : goal.overflow_add-self
 overflow_add-self c = omega (arith, sum_room _ _ _ _ _ c.text_from-rest.ensures.length c.self.invariant.room c.text_from-rest.utf8 c.in-Ok.ensures.gives.1)
 
-pub columns_on-self-inside-requires : goal.columns_on-self-inside-requires
-columns_on-self-inside-requires c = omega (arith, chars_room _ 0 _ _ _ c.self.invariant c.text_from-rest.ensures.length c.text_from-rest.utf8 (c.text_from-rest.ensures.characters ∙ ap (λ k. drop k (chars c.self.inside.source.now)) c.index.ensures), chars_small _ _ c.text_from-rest.utf8 c.in-Ok.ensures.most)
+pub end_of-self-inside-requires-clause-room : goal.end_of-self-inside-requires-clause-room
+end_of-self-inside-requires-clause-room c = chars_room _ 0 _ _ _ c.self.invariant c.text_from-rest.ensures.length c.text_from-rest.utf8 (c.text_from-rest.ensures.characters ∙ ap (λ k. drop k (chars c.self.inside.source.now)) c.index.ensures)
 
 pub invariant_of-self : goal.invariant_of-self
 invariant_of-self c =
     let d = c.text_from-rest.ensures.characters ∙ ap (λ k. drop k (chars c.self.inside.source.now)) c.index.ensures in
-    subst (IsPlaced c.self.inside.source.now (c.self.inside.at + c.in-Ok.found.end.bytes)) (sym c.columns_on-self-inside.ensures) (token_placed _ _ _ _ _ _ c.self.invariant d c.in-Ok.ensures.gives.1 c.in-Ok.ensures.most).1
+    (token_placed _ _ _ _ _ _ _ c.self.invariant d c.in-Ok.ensures.gives.1 c.in-Ok.ensures.most c.end_of-self-inside.ensures).1
 
 pub walk_characters-place-requires : goal.walk_characters-place-requires
 walk_characters-place-requires c = chars_room _ 0 _ _ _ c.self.invariant c.text_from-rest.ensures.length c.text_from-rest.utf8 (c.text_from-rest.ensures.characters ∙ ap (λ k. drop k (chars c.self.inside.source.now)) c.index.ensures)
@@ -31,12 +31,12 @@ returns-in-Ok-clause-gives c =
     let v = c.self.view_is in
     let n = c.in-Ok.found.end.characters in
     let made : Token → Result Found Missed = λ t. Ok (record { size = n; kind = token_kind t; text = token_text t }) in
-    let p = token_placed _ _ _ _ _ _ c.self.invariant d c.in-Ok.ensures.gives.1 c.in-Ok.ensures.most in (
+    let p = token_placed _ _ _ _ _ _ _ c.self.invariant d c.in-Ok.ensures.gives.1 c.in-Ok.ensures.most c.end_of-self-inside.ensures in (
       n,
       ap scan (sym (d ∙ ap (λ w. drop w.index w.source) v)) ∙ (c.in-Ok.ensures.gives.0 ∙ ap made (sym (ap (λ s. s.item) c.start_end.ensures))),
-      ap (λ q. q.index) c.columns_on-self-inside.ensures ∙ (p.0 ∙ ap (λ w. w.index + n) v),
+      p.0 ∙ ap (λ w. w.index + n) v,
       ap (λ s. s.span.start) c.start_end.ensures ∙ (c.self.invariant.place_is ∙ ap (λ w. place w.source w.index) v),
-      ap (λ s. s.span.end) c.start_end.ensures ∙ (c.columns_on-self-inside.ensures ∙ (p.1.place_is ∙ (ap (place (chars c.self.inside.source.now)) p.0 ∙ ap (λ w. place w.source (w.index + n)) v))),
+      ap (λ s. s.span.end) c.start_end.ensures ∙ (p.1.place_is ∙ (ap (place (chars c.self.inside.source.now)) p.0 ∙ ap (λ w. place w.source (w.index + n)) v)),
     )
 
 pub returns-in-Err-Fault-clause-gives : goal.returns-in-Err-Fault-clause-gives

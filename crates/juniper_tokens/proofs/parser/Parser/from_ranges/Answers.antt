@@ -1,7 +1,15 @@
-use Rattle.std.proofs.Common.{◌∙◌, sym}
+use Rattle.std.proofs.Common.{◌∙◌, sym, subst}
+use Rattle.std.proofs.lemmas.List.Elements.{All-get_or}
 use Rattle.std.specs.Str.{chars}
+use Rattle.juniper_tokens.specs.Ranges.{IsRange}
 use Rattle.juniper_tokens.proofs.Steps.{some_left, first_left}
 use Rattle.juniper_tokens.proofs.parser.Parser.from_ranges.Goals as goal
+
+pub located-current-requires-clause-range : goal.located-current-requires-clause-range
+located-current-requires-clause-range c =
+    let source = chars c.args.source.now in
+    let ranges = c.args.ranges.items in
+    subst (IsRange source) (sym c.index.ensures) (All-get_or (IsRange source) ranges 0 c.index.result.now (some_left source ranges c.requires.ends) c.requires.ranges)
 
 pub invariant_of-result : goal.invariant_of-result
 invariant_of-result c =
