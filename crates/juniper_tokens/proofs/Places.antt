@@ -99,10 +99,9 @@ found_line (c ∷ cs) f e n =
     let r = reach step Start (c ∷ cs) in
     reach_line Start (c ∷ cs) (accepted_outside r.1 f.kind (answer_finds r.1 r.0 c cs f e).accepted n)
 
-pub other_kind : (kind k : Kind) (is : Bool) → kind ≡ k → is ≡ same_kind kind BlockString → is ≡ false → k ≡ BlockString → ⊥
-other_kind kind k is e f g h =
-    let same : kind ≡ BlockString = e ∙ h in
-    let z : true ≡ false = sym (ap (λ x. same_kind x BlockString) same) ∙ (sym f ∙ g) in
+pub other_kind : (kind : Kind) (is : Bool) → is ≡ same_kind kind BlockString → is ≡ false → kind ≡ BlockString → ⊥
+other_kind kind is f g h =
+    let z : true ≡ false = sym (ap (λ x. same_kind x BlockString) h) ∙ (sym f ∙ g) in
     absurd (cc z)
 
 -- a token that is no block string ends on its line

@@ -1,12 +1,10 @@
 -- States of the lexer's machine, as the definitions see them.
-use Rattle.std.specs.Prelude.{ℕ, Bool, true, false, List, [], ◌∷◌}
+use Rattle.std.specs.Prelude.{ℕ, List, [], ◌∷◌}
 use Rattle.graphql_lexical.specs.declared.kind.Kind.{Kind}
 use Rattle.graphql_lexical.specs.declared.kind.Kind.TheVariants as kinds
 use Rattle.graphql_lexical.specs.Scan as scans
 use Rattle.juniper_tokens.specs.declared.lexer.machine.Punctuator.{Punctuator}
 use Rattle.juniper_tokens.specs.declared.lexer.machine.Punctuator.TheVariants as mark
-use Rattle.juniper_tokens.specs.declared.lexer.machine.BlockPart.{BlockPart}
-use Rattle.juniper_tokens.specs.declared.lexer.machine.BlockPart.TheVariants as part
 use Rattle.juniper_tokens.specs.declared.lexer.machine.State.{State}
 use Rattle.juniper_tokens.specs.declared.lexer.machine.State.TheVariants as state
 
@@ -40,24 +38,6 @@ punctuator_text mark.Equals = 61 ∷ []
 punctuator_text mark.At = 64 ∷ []
 punctuator_text mark.Pipe = 124 ∷ []
 
-abbrev pub view_part : BlockPart → scans.Block
-view_part part.Inside = scans.Inside
-view_part part.OneQuote = scans.OneQuote
-view_part part.TwoQuotes = scans.TwoQuotes
-view_part part.Backslash = scans.Escaping
-view_part part.EscapedQuote = scans.EscapedQuote
-view_part part.EscapedQuotes = scans.EscapedQuotes
-view_part part.Closed = scans.Closed
-
-abbrev pub is_closed : scans.Block → Bool
-is_closed scans.Inside = false
-is_closed scans.OneQuote = false
-is_closed scans.TwoQuotes = false
-is_closed scans.Escaping = false
-is_closed scans.EscapedQuote = false
-is_closed scans.EscapedQuotes = false
-is_closed scans.Closed = true
-
 -- what has been read of a token, as the definitions see it
 abbrev pub view_state : State → scans.State
 view_state state.Start = scans.Start
@@ -83,4 +63,10 @@ view_state state.OneHexDigit = scans.Hex1
 view_state state.HexDigitD = scans.HexD
 view_state state.TwoHexDigits = scans.Hex2
 view_state state.ThreeHexDigits = scans.Hex3
-view_state (state.InBlock p) = scans.InBlock (view_part p)
+view_state state.Block = scans.InBlock scans.Inside
+view_state state.BlockQuote = scans.InBlock scans.OneQuote
+view_state state.BlockTwoQuotes = scans.InBlock scans.TwoQuotes
+view_state state.BlockBackslash = scans.InBlock scans.Escaping
+view_state state.BlockEscapedQuote = scans.InBlock scans.EscapedQuote
+view_state state.BlockEscapedQuotes = scans.InBlock scans.EscapedQuotes
+view_state state.BlockEnd = scans.InBlock scans.Closed

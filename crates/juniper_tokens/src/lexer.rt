@@ -19,13 +19,12 @@ mod walk;
 
 use crate::error::LexFailure;
 use crate::lexer::scan::{Found, Missed, scan_token};
-use crate::lexer::text::{Border, begins_with_mark, text_from};
+use crate::lexer::text::{Border, begins_with_mark, has_mark_byte, text_from};
 use crate::lexer::walk::{walk_characters, walk_stretch};
 use crate::position::SourcePosition;
 use crate::span::Spanning;
 use crate::token::Token;
 use crate::token_range::TokenRange;
-use graphql_lexical::Kind;
 use std::alloc::Global;
 use std::marker::Model;
 
@@ -126,6 +125,9 @@ impl<'a> Lexer<'a> {
     fn skip_mark(&mut self) -> bool
         ensures { MayPassMark result self.old self.new }
     {
+        if !has_mark_byte(self.source, self.at) {
+            return false;
+        }
         let here = Border {
             bytes: self.at,
             characters: self.position.index(),
@@ -220,7 +222,7 @@ fn end_of(found: Found<'_>, rest: &str, start: SourcePosition) -> SourcePosition
     requires most { found.end.characters ≤ (reach step Start (chars rest.now)).0 }
     ensures { result ≡ fold past_character start (take found.entry.end.characters (chars rest.now)) }
 {
-    if found.token.kind() == Kind::BlockString {
+    if found.token.is_block_string() {
         walk_characters(rest, start, found.end.characters)
     } else {
         start.columns_on(found.end.characters)

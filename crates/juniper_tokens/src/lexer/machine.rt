@@ -4,11 +4,11 @@ ghost use Rattle.graphql_lexical.specs.declared.kind.Kind.TheVariants.{String};
 ghost use Rattle.graphql_lexical.specs.Characters.{is_hex as hex_test, is_escape as escape_test, is_exponent_mark as exponent_mark_test, is_sign as sign_test};
 ghost use Rattle.graphql_lexical.specs.Scan as scans;
 ghost use Rattle.graphql_lexical.specs.Tokens.{punctuator as punctuator_kind};
-ghost use Rattle.graphql_lexical.specs.Scan.{step as character_step, block_step};
+ghost use Rattle.graphql_lexical.specs.Scan.{step as character_step, block_other};
 ghost use Rattle.juniper_tokens.specs.Tokens.{token_kind, token_text};
 ghost use Rattle.juniper_tokens.specs.ByteClasses.{class_of, first_state};
 ghost use Rattle.juniper_tokens.specs.ByteRuns.{byte_step};
-ghost use Rattle.juniper_tokens.specs.Machine.{view_state, view_part, is_closed, view_punctuator, punctuator_text};
+ghost use Rattle.juniper_tokens.specs.Machine.{view_state, view_punctuator, punctuator_text};
 
 use crate::byte_classes::ByteClass;
 use crate::token::Token;
@@ -29,23 +29,6 @@ pub(crate) enum Punctuator {
     Equals,
     At,
     Pipe,
-}
-
-/// What of three quotes that end a block string has been read in it.
-#[derive(Clone, Copy)]
-pub(crate) enum BlockPart {
-    /// Nothing of them.
-    Inside,
-    OneQuote,
-    TwoQuotes,
-    /// A backslash, with which three quotes stand for themselves.
-    Backslash,
-    /// A backslash and a quote.
-    EscapedQuote,
-    /// A backslash and two quotes.
-    EscapedQuotes,
-    /// Three quotes.
-    Closed,
 }
 
 /// What has been read of a token.
@@ -91,8 +74,20 @@ pub(crate) enum State {
     /// `\u` and two digits, with which no such number begins.
     TwoHexDigits,
     ThreeHexDigits,
-    /// Three quotes, and what stands after them.
-    InBlock(BlockPart),
+    /// In a block string, at none of the quotes that may end it.
+    Block,
+    /// One of these quotes.
+    BlockQuote,
+    /// Two of them.
+    BlockTwoQuotes,
+    /// A backslash, with which three quotes stand for themselves.
+    BlockBackslash,
+    /// A backslash and a quote.
+    BlockEscapedQuote,
+    /// A backslash and two quotes.
+    BlockEscapedQuotes,
+    /// A whole block string.
+    BlockEnd,
 }
 
 // The punctuator that this byte is.
@@ -113,23 +108,6 @@ fn punctuator_of(byte: u8) -> Option<Punctuator>
         b'@' => Some(Punctuator::At),
         b'|' => Some(Punctuator::Pipe),
         _ => None,
-    }
-}
-
-impl BlockPart {
-    /// Whether the block string has ended.
-    pub(crate) fn is_closed(self) -> bool
-        ensures { result ≡ is_closed (view_part self) }
-    {
-        match self {
-            BlockPart::Inside
-            | BlockPart::OneQuote
-            | BlockPart::TwoQuotes
-            | BlockPart::Backslash
-            | BlockPart::EscapedQuote
-            | BlockPart::EscapedQuotes => false,
-            BlockPart::Closed => true,
-        }
     }
 }
 
@@ -229,36 +207,19 @@ fn step_after_quote(byte: u8) -> Option<State>
     }
 }
 
-// The part after a quote in a block string.
-fn part_after_quote(part: BlockPart) -> Option<BlockPart>
-    ensures { option_map view_part result ≡ block_step (view_part part) 34 }
-{
-    match part {
-        BlockPart::Inside => Some(BlockPart::OneQuote),
-        BlockPart::OneQuote => Some(BlockPart::TwoQuotes),
-        BlockPart::TwoQuotes => Some(BlockPart::Closed),
-        BlockPart::Backslash => Some(BlockPart::EscapedQuote),
-        BlockPart::EscapedQuote => Some(BlockPart::EscapedQuotes),
-        BlockPart::EscapedQuotes => Some(BlockPart::Inside),
-        BlockPart::Closed => None,
-    }
-}
-
-// The step in a block string.
-fn step_in_block(part: BlockPart, class: ByteClass, byte: u8) -> Option<BlockPart>
+// The step in a block string, which goes on with a quote as this state says.
+#[tactic(auto, using(crate::proofs::ByteClasses::source_class_tests))]
+fn step_in_block(after_quote: State, class: ByteClass, byte: u8) -> Option<State>
     requires { class ≡ class_of byte }
-    ensures { option_map view_part result ≡ block_step (view_part part) byte }
+    ensures { (part : scans.Block) → view_state after_quote ≡ scans.InBlock part → option_map view_state result ≡ option_map scans.InBlock (if byte == 34 then Some part else block_other byte) }
 {
     if byte == b'"' {
-        return part_after_quote(part);
+        Some(after_quote)
+    } else if byte == b'\\' {
+        Some(State::BlockBackslash)
+    } else {
+        class.is_source().then_some(State::Block)
     }
-    if part.is_closed() {
-        return None;
-    }
-    if byte == b'\\' {
-        return Some(BlockPart::Backslash);
-    }
-    class.is_source().then_some(BlockPart::Inside)
 }
 
 // The step in a string, at what does not stand there for itself.
@@ -280,7 +241,7 @@ fn step_at_character(state: State, class: ByteClass, byte: u8) -> Option<State>
 {
     match state {
         State::Start => first_step(class, byte),
-        State::Punctuator(_) | State::StringEnd => None,
+        State::Punctuator(_) | State::StringEnd | State::BlockEnd => None,
         State::OneDot => (byte == b'.').then_some(State::TwoDots),
         State::TwoDots => (byte == b'.').then_some(State::Punctuator(Punctuator::Ellipsis)),
         State::InName => class.is_name().then_some(State::InName),
@@ -322,7 +283,7 @@ fn step_at_character(state: State, class: ByteClass, byte: u8) -> Option<State>
                 step_after_quote(byte)
             }
         }
-        State::TwoQuotes => (byte == b'"').then_some(State::InBlock(BlockPart::Inside)),
+        State::TwoQuotes => (byte == b'"').then_some(State::Block),
         State::InString => {
             if class.is_plain(byte) {
                 Some(State::InString)
@@ -348,10 +309,12 @@ fn step_at_character(state: State, class: ByteClass, byte: u8) -> Option<State>
         State::HexDigitD => (byte >= b'0' && byte <= b'7').then_some(State::TwoHexDigits),
         State::TwoHexDigits => is_hex(byte).then_some(State::ThreeHexDigits),
         State::ThreeHexDigits => is_hex(byte).then_some(State::InString),
-        State::InBlock(part) => match step_in_block(part, class, byte) {
-            Some(next) => Some(State::InBlock(next)),
-            None => None,
-        },
+        State::Block => step_in_block(State::BlockQuote, class, byte),
+        State::BlockQuote => step_in_block(State::BlockTwoQuotes, class, byte),
+        State::BlockTwoQuotes => step_in_block(State::BlockEnd, class, byte),
+        State::BlockBackslash => step_in_block(State::BlockEscapedQuote, class, byte),
+        State::BlockEscapedQuote => step_in_block(State::BlockEscapedQuotes, class, byte),
+        State::BlockEscapedQuotes => step_in_block(State::Block, class, byte),
     }
 }
 

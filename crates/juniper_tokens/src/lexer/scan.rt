@@ -6,12 +6,12 @@ ghost use Rattle.graphql_lexical.specs.Scan as scans;
 ghost use Rattle.graphql_lexical.specs.Machines.{reach};
 ghost use Rattle.graphql_lexical.specs.Scan.{missed, stopped, after_dots, after_units, after_block, after_backslash, after_u, after_zero, answer, scan, step as character_step};
 ghost use Rattle.juniper_tokens.specs.Borders.{IsBorder, FollowsDigits};
-ghost use Rattle.juniper_tokens.specs.Machine.{view_part, view_state};
+ghost use Rattle.juniper_tokens.specs.Machine.{view_state};
 ghost use Rattle.juniper_tokens.specs.Scans.{MeetsScan, Misses};
 ghost use Rattle.juniper_tokens.specs.Walks.{HasReached};
 
 use crate::error::LexerError;
-use crate::lexer::machine::{BlockPart, State};
+use crate::lexer::machine::State;
 use crate::lexer::text::{
     Border, count_alphanumerics, first_character, first_text, joined, text_before, text_from,
     unquoted,
@@ -178,22 +178,6 @@ fn scan_unknown<'a>(text: &'a str) -> Result<Found<'a>, Missed>
     }
 }
 
-// In a block string, which has ended or has no end.
-fn scan_block<'a>(text: &'a str, end: Border, part: BlockPart) -> Result<Found<'a>, Missed>
-    requires { HasReached (chars text.now) (scans.InBlock (view_part part)) end.bytes end.characters }
-    ensures most { IfOk result (λ f. f.end.characters ≤ end.characters) }
-    ensures gives { MeetsScan result (chars text.now) (answer (scans.InBlock (view_part part)) end.characters (chars text.now)) }
-{
-    if part.is_closed() {
-        Ok(Found {
-            token: Token::Scalar(ScalarToken::BlockString(unquoted(text, end, 3))),
-            end,
-        })
-    } else {
-        Err(block_fault(text_from(text, end), end.characters))
-    }
-}
-
 // The token or the fault where the steps have stopped.
 fn scan_reached<'a>(alloc: Global, text: &'a str, reached: Reached) -> Result<Found<'a>, Missed>
     requires { HasReached (chars text.now) (view_state reached.state) reached.end.bytes reached.end.characters }
@@ -225,7 +209,16 @@ fn scan_reached<'a>(alloc: Global, text: &'a str, reached: Reached) -> Result<Fo
             token: Token::Scalar(ScalarToken::String(unquoted(text, end, 1))),
             end,
         }),
-        State::InBlock(part) => scan_block(text, end, part),
+        State::BlockEnd => Ok(Found {
+            token: Token::Scalar(ScalarToken::BlockString(unquoted(text, end, 3))),
+            end,
+        }),
+        State::Block
+        | State::BlockQuote
+        | State::BlockTwoQuotes
+        | State::BlockBackslash
+        | State::BlockEscapedQuote
+        | State::BlockEscapedQuotes => Err(block_fault(text_from(text, end), end.characters)),
         State::InName => Ok(Found {
             token: Token::Name(text_before(text, end)),
             end,
