@@ -1,5 +1,5 @@
 //! The lexer.
-ghost use Rattle.std.specs.Prelude.{◌≡◌, ◌+◌, ◌<◌, ◌≤◌, ◌^◌, drop, take, length, IfSome, Ok};
+ghost use Rattle.std.specs.Prelude.{◌≡◌, false, ◌+◌, ◌<◌, ◌≤◌, ◌^◌, drop, take, length, IfSome, Ok};
 ghost use Rattle.std.specs.List.{fold};
 ghost use Rattle.std.specs.Global.{Global as Allocator};
 ghost use Rattle.std.specs.Str.{chars};
@@ -8,7 +8,7 @@ ghost use Rattle.graphql_lexical.specs.Place.{past_character};
 ghost use Rattle.graphql_lexical.specs.Scan.{scan, step, Start};
 ghost use Rattle.juniper_tokens.specs.Borders.{IsBorder};
 ghost use Rattle.juniper_tokens.specs.Lexing.{started, items_left, GivesItem};
-ghost use Rattle.juniper_tokens.specs.LexingByScan.{past_gap, past_stretch, MayPassMark, Scanned, Ends};
+ghost use Rattle.juniper_tokens.specs.LexingByScan.{past_gap, past_stretch, at_mark, MayPassMark, Scanned, Ends};
 ghost use Rattle.juniper_tokens.specs.Ranges.{GivesRangeItem, range_steps};
 ghost use Rattle.juniper_tokens.specs.Tokens.{token_kind, token_text};
 
@@ -19,7 +19,7 @@ mod walk;
 
 use crate::error::LexFailure;
 use crate::lexer::scan::{Found, Missed, scan_token};
-use crate::lexer::text::{Border, begins_with_mark, has_mark_byte, text_from};
+use crate::lexer::text::{Border, begins_with_mark, text_from};
 use crate::lexer::walk::{walk_characters, walk_stretch};
 use crate::position::SourcePosition;
 use crate::span::Spanning;
@@ -101,16 +101,20 @@ impl<'a> Lexer<'a> {
         ensures { self.new ≡ past_gap self.old }
     {
         loop {
-            self.skip_stretch();
+            if !self.skip_stretch() {
+                return;
+            }
             if !self.skip_mark() {
                 return;
             }
         }
     }
 
-    // Goes past white space and comments, up to a byte order mark that stands in no comment.
-    fn skip_stretch(&mut self)
-        ensures { self.new ≡ past_stretch self.old }
+    // Goes past white space and comments, up to a byte order mark that stands in no comment, and tells whether one may
+    // stand there.
+    fn skip_stretch(&mut self) -> bool
+        ensures passes { self.new ≡ past_stretch self.old }
+        ensures none { result ≡ false → at_mark self.new ≡ false }
     {
         let here = Border {
             bytes: self.at,
@@ -119,15 +123,13 @@ impl<'a> Lexer<'a> {
         let stretch = walk_stretch(text_from(self.source, here), self.position);
         self.at += stretch.bytes;
         self.position = stretch.position;
+        stretch.may_be_mark
     }
 
     // Goes past a byte order mark, where one stands here.
     fn skip_mark(&mut self) -> bool
         ensures { MayPassMark result self.old self.new }
     {
-        if !has_mark_byte(self.source, self.at) {
-            return false;
-        }
         let here = Border {
             bytes: self.at,
             characters: self.position.index(),

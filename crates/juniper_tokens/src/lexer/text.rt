@@ -1,12 +1,11 @@
 //! Parts of a text between borders of characters.
-ghost use Rattle.std.specs.Prelude.{◌≡◌, ℕ, false, ◌+◌, ◌∷◌, ◌++◌, [], take, drop, length, MatchOption, IfOk, ◌||◌, ◌&&◌, ◌==◌, nat_lt, get_or};
+ghost use Rattle.std.specs.Prelude.{◌≡◌, ◌+◌, ◌∷◌, ◌++◌, [], take, drop, length, MatchOption, IfOk, ◌||◌};
 ghost use Rattle.std.specs.Str.{chars};
 ghost use Rattle.std.specs.String.{string_bytes};
 ghost use Rattle.graphql_lexical.specs.Characters.{is_letter, is_digit};
 ghost use Rattle.graphql_lexical.specs.Reading.{counted};
 ghost use Rattle.graphql_lexical.specs.Tokens.{between};
 ghost use Rattle.juniper_tokens.specs.Borders.{IsBorder, EndsQuoted, quotes};
-ghost use Rattle.juniper_tokens.specs.ByteRuns.{byte_at};
 ghost use Rattle.juniper_tokens.specs.LexingByScan.{begins_with_mark};
 
 use std::alloc::{AllocError, Global};
@@ -61,15 +60,6 @@ pub(crate) fn first_character(text: &str) -> Option<char>
     ensures { MatchOption result (chars text.now ≡ []) (λ c. chars text.now ≡ c ∷ drop 1 (chars text.now)) }
 {
     text.chars().next()
-}
-
-/// Whether the first byte of a byte order mark stands at a place.
-pub(crate) fn has_mark_byte(text: &str, at: usize) -> bool
-    ensures byte { result ≡ (nat_lt at (length text.now) && get_or text.now at 0 == 239) }
-    ensures none { (k : ℕ) → at ≡ byte_at k (chars text.now) → result ≡ false → begins_with_mark (drop k (chars text.now)) ≡ false }
-{
-    let bytes = text.as_bytes();
-    at < bytes.len() && bytes[at] == 0xEF
 }
 
 /// Whether a byte order mark stands first.

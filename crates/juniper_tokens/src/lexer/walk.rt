@@ -1,5 +1,5 @@
 //! The loops over the bytes of a text.
-ghost use Rattle.std.specs.Prelude.{◌≡◌, ℕ, ◌+◌, ◌<◌, ◌≤◌, ◌^◌, length, take};
+ghost use Rattle.std.specs.Prelude.{◌≡◌, ◌==◌, ℕ, ◌+◌, ◌<◌, ◌≤◌, ◌^◌, get_or, length, take};
 ghost use Rattle.std.specs.List.{fold};
 ghost use Rattle.std.specs.Str.{chars};
 ghost use Rattle.graphql_lexical.specs.Scan.{stretch_step};
@@ -19,6 +19,8 @@ use crate::position::SourcePosition;
 pub(crate) struct StretchEnd {
     pub(crate) bytes: usize,
     pub(crate) position: SourcePosition,
+    /// Whether the first byte of a byte order mark stands there.
+    pub(crate) may_be_mark: bool,
 }
 
 /// Where the steps of a token stop, and in which state.
@@ -80,7 +82,8 @@ fn comment_after(in_comment: bool, class: ByteClass, byte: u8) -> Option<bool>
 /// Goes past white space and comments, up to a byte order mark that stands in no comment.
 pub(crate) fn walk_stretch(text: &str, start: SourcePosition) -> StretchEnd
     requires { start.index + length text.now < 2 ^ 64 }
-    ensures { EndsStretch (chars text.now) start result.bytes result.position }
+    ensures end { EndsStretch (chars text.now) start result.bytes result.position }
+    ensures mark { result.may_be_mark ≡ (get_or text.now result.bytes 0 == 239) }
 {
     let bytes = text.as_bytes();
     let mut position = start;
@@ -90,12 +93,22 @@ pub(crate) fn walk_stretch(text: &str, start: SourcePosition) -> StretchEnd
         let class = byte_class(bytes[i]);
         match comment_after(in_comment, class, bytes[i]) {
             Some(next) => in_comment = next,
-            None => return StretchEnd { bytes: i, position },
+            None => {
+                return StretchEnd {
+                    bytes: i,
+                    position,
+                    may_be_mark: bytes[i] == 0xEF,
+                };
+            }
         }
         position = position_after(position, class);
         i += 1;
     }
-    StretchEnd { bytes: i, position }
+    StretchEnd {
+        bytes: i,
+        position,
+        may_be_mark: false,
+    }
 }
 
 /// Goes as far as the steps of a token go.

@@ -1,13 +1,9 @@
-use Rattle.std.proofs.Common.{◌+◌, drop, refl, ap, sym, subst, ◌∙◌, arith}
+use Rattle.std.proofs.Common.{◌+◌, drop, ap, sym, subst, ◌∙◌, arith}
 use Rattle.std.specs.Str.{chars}
-use Rattle.juniper_tokens.specs.LexingByScan.{IsPlaced, begins_with_mark, at_mark}
+use Rattle.juniper_tokens.specs.LexingByScan.{IsPlaced, begins_with_mark}
 use Rattle.juniper_tokens.proofs.LexingByScan.{chars_room, mark_placed}
 use Rattle.juniper_tokens.proofs.Marks.{some_bytes}
 use Rattle.juniper_tokens.proofs.lexer.Lexer.skip_mark.Goals as goal
-
-pub returns-then-not-has_mark_byte : goal.returns-then-not-has_mark_byte
-returns-then-not-has_mark_byte c =
-    (ap at_mark (sym c.self.view_is) ∙ c.has_mark_byte.ensures.none _ c.self.invariant.byte_is c.if-not-has_mark_byte.true, refl)
 
 pub advance_col-requires : goal.advance_col-requires
 advance_col-requires c =

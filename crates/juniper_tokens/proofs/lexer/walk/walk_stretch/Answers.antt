@@ -13,10 +13,10 @@ loop-i-preserved c =
     let s = sym c.comment_after.ensures ∙ c.in-Some.is in
     (walked_on _ _ _ _ _ _ c.loop-i-test.true (value_goes stretch_step past_character c.loop-i.in_comment c.in-Some.next c.loop-i.position b s ∙ ap (λ k. Some (c.in-Some.next, k)) (sym n)) c.loop-i.invariant.0, omega (arith, c.position_after-position.ensures.most, c.loop-i.invariant.1))
 
-pub returns-in-None : goal.returns-in-None
-returns-in-None c =
+pub returns-in-None-clause-end : goal.returns-in-None-clause-end
+returns-in-None-clause-end c =
     let s = sym c.comment_after.ensures ∙ c.in-None.is in
     stretch_reached _ _ _ _ _ _ c.utf8.text c.as_bytes-bytes.ensures.value (walked_stop _ _ _ _ _ c.loop-i-test.true (value_stops stretch_step past_character c.loop-i.in_comment c.loop-i.position (get_or c.as_bytes-bytes.result.now c.loop-i.i 0) s) c.loop-i.invariant.0)
 
-pub returns : goal.returns
-returns c = stretch_reached _ _ _ _ _ _ c.utf8.text c.as_bytes-bytes.ensures.value (walked_end _ _ _ _ _ c.loop-i-test.false c.loop-i.invariant.0)
+pub returns-clause-end : goal.returns-clause-end
+returns-clause-end c = stretch_reached _ _ _ _ _ _ c.utf8.text c.as_bytes-bytes.ensures.value (walked_end _ _ _ _ _ c.loop-i-test.false c.loop-i.invariant.0)
