@@ -4,7 +4,7 @@ use Rattle.std.specs.List.{list_all}
 use Rattle.std.proofs.lemmas.Bool.{and_parts, and_from}
 use Rattle.std.proofs.lemmas.List.{drop-drop, drop_all, drop_at}
 use Rattle.juniper_values.specs.Text.{Text}
-use Rattle.juniper_values.specs.BlockStrings.{is_white, is_blank, indent, indents, least, common_indent, unindented, drop_blank_front, drop_blank_end, joined, block_value}
+use Rattle.juniper_values.specs.BlockStrings.{is_indent, is_blank, indent, indents, least, common_indent, unindented, drop_blank_front, drop_blank_end, joined, block_value}
 use Rattle.juniper_values.specs.BlockLaws.{AreIndented, none, empty, behind, IsIndented}
 use Rattle.juniper_values.proofs.BlockEnds.{inner}
 
@@ -13,14 +13,14 @@ use Rattle.juniper_values.proofs.BlockEnds.{inner}
 white_front : (white line : Text) → is_blank white ≡ true → is_blank (white ++ line) ≡ is_blank line
 white_front [] line e = refl
 white_front (c ∷ white) line e =
-    let parts = and_parts (is_white c) (is_blank white) e in
+    let parts = and_parts (is_indent c) (is_blank white) e in
     let here = parts.0 in
     rw here (white_front white line parts.1)
 
 white_indent : (white line : Text) → is_blank white ≡ true → indent (white ++ line) ≡ length white + indent line
 white_indent [] line e = omega arith
 white_indent (c ∷ white) line e =
-    let parts = and_parts (is_white c) (is_blank white) e in
+    let parts = and_parts (is_indent c) (is_blank white) e in
     let here = parts.0 in
     let later = white_indent white line parts.1 in
     rw here (omega (arith, later))
@@ -65,7 +65,7 @@ all_blank (line ∷ ls) e = by_test (is_blank line) refl (all_blank ls)
 drop_stays : (k : ℕ) (line : Text) → is_blank line ≡ true → is_blank (drop k line) ≡ true
 drop_stays zero line e = e
 drop_stays (suc k) [] e = e
-drop_stays (suc k) (c ∷ line) e = drop_stays k line (and_parts (is_white c) (is_blank line) e).1
+drop_stays (suc k) (c ∷ line) e = drop_stays k line (and_parts (is_indent c) (is_blank line) e).1
 
 map_stays : (k : ℕ) (ls : List Text) → list_all is_blank ls ≡ true → list_all is_blank (map (drop k) ls) ≡ true
 map_stays k [] e = refl

@@ -3,7 +3,8 @@ use Rattle.std.proofs.Common.{◌≡◌, refl, sym, ap, ◌∙◌, ℕ, ◌+◌,
 use Rattle.std.specs.Prelude.{if◌then◌else◌, option_to_list, unwrap_or}
 use Rattle.std.specs.List.{onto_first}
 use Rattle.juniper_values.specs.Text.{Text}
-use Rattle.juniper_values.specs.BlockStrings.{is_line_end, is_white, is_blank, indent, indents, least}
+use Rattle.graphql_lexical.specs.Characters.{is_line_end}
+use Rattle.juniper_values.specs.BlockStrings.{is_indent, is_blank, indent, indents, least}
 use Rattle.juniper_values.specs.BlockSteps.{is_left_out, white_before, place_after, lesser, least_after}
 use Rattle.juniper_values.specs.declared.block_string.Place.{Place}
 use Rattle.juniper_values.specs.declared.block_string.Place.TheVariants.{First, Indent, Behind}
@@ -48,13 +49,13 @@ ended o (Indent n) c ls e = rw e (ap (λ ns. least (option_to_list o ++ ns)) (be
 ended o Behind c ls e = rw e (ap (λ ns. least (option_to_list o ++ ns)) (begins ls))
 
 -- a tab or a space in front of a line
-whiter : (n c : ℕ) (ls : List Text) → is_white c ≡ true
+whiter : (n c : ℕ) (ls : List Text) → is_indent c ≡ true
     → added (Indent (n + 1)) ls ≡ added (Indent n) (onto_first c ls)
 whiter n c [] e = rw e
 whiter n c (line ∷ ls) e = let s : n + 1 + indent line ≡ n + (indent line + 1) = omega arith in rw (e, s)
 
 -- another character in front of a line
-filled : (n c : ℕ) (ls : List Text) → is_white c ≡ false
+filled : (n c : ℕ) (ls : List Text) → is_indent c ≡ false
     → n ∷ added Behind ls ≡ added (Indent n) (onto_first c ls)
 filled n c [] e = let s : n ≡ n + 0 = omega arith in rw e (ap (λ m. m ∷ []) s)
 filled n c (line ∷ ls) e = let s : n ≡ n + 0 = omega arith in rw e (ap (λ m. m ∷ indents ls) s)
@@ -63,9 +64,9 @@ goes_on : (o : Option ℕ) (place : Place) (c : ℕ) (ls : List Text) → is_lin
     → least_with (least_after o place c) (place_after place c) ls ≡ least_with o place (onto_first c ls)
 goes_on o First c ls e = rw e (ap (λ ms. least (option_to_list o ++ indents ms)) (sym (onto_others c ls)))
 goes_on o Behind c ls e = rw e (ap (λ ms. least (option_to_list o ++ indents ms)) (sym (onto_others c ls)))
-goes_on o (Indent n) c ls e = by_test (is_white c) refl
+goes_on o (Indent n) c ls e = by_test (is_indent c) refl
   where
-    by_test : (b : Bool) → is_white c ≡ b
+    by_test : (b : Bool) → is_indent c ≡ b
         → least_with (least_after o (Indent n) c) (place_after (Indent n) c) ls
         ≡ least_with o (Indent n) (onto_first c ls)
     by_test true w = rw (e, w) (ap (λ ns. least (option_to_list o ++ ns)) (whiter n c ls w))
@@ -122,9 +123,9 @@ room Behind c = by_test (is_line_end c) refl
     by_test : (b : Bool) → is_line_end c ≡ b → white_before (place_after Behind c) ≤ 1
     by_test true e = rw e (omega arith)
     by_test false e = rw e (omega arith)
-room (Indent n) c = by_test (is_line_end c) refl (is_white c) refl
+room (Indent n) c = by_test (is_line_end c) refl (is_indent c) refl
   where
-    by_test : (b : Bool) → is_line_end c ≡ b → (w : Bool) → is_white c ≡ w
+    by_test : (b : Bool) → is_line_end c ≡ b → (w : Bool) → is_indent c ≡ w
         → white_before (place_after (Indent n) c) ≤ n + 1
     by_test true e w f = rw e (omega arith)
     by_test false e true f = rw (e, f) (omega arith)

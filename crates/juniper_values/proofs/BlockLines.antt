@@ -5,14 +5,16 @@ use Rattle.std.specs.List.{starts_with, onto_first}
 use Rattle.std.proofs.lemmas.Bool.{and_parts, or_parts}
 use Rattle.std.proofs.lemmas.Bool.Decides.{nat_tests}
 use Rattle.juniper_values.specs.Text.{Text}
-use Rattle.juniper_values.specs.BlockStrings.{three_quotes, line_feed, with_quotes, is_line_end, lines}
+use Rattle.graphql_lexical.specs.Characters.{is_line_end}
+use Rattle.graphql_lexical.specs.Tokens.{mark}
+use Rattle.juniper_values.specs.BlockStrings.{line_feed, with_quotes, lines}
 use Rattle.juniper_values.specs.BlockSteps.{is_left_out}
 
 -- ---- three quotes
 
 -- whether a character is the backslash before three quotes, or the CR before LF
 abbrev quotes : ℕ → Text → Bool
-quotes c t = c == 92 && starts_with nat_eq t three_quotes
+quotes c t = c == 92 && starts_with nat_eq t mark
 
 abbrev returns : ℕ → Text → Bool
 returns c t = c == 13 && starts_with nat_eq t line_feed
@@ -24,7 +26,7 @@ character_stays : (c : ℕ) (t : Text) → quotes c t ≡ false → with_quotes 
 character_stays c t e = rw e
 
 -- three quotes stand for themselves, so no line feed comes first
-no_feed : (t : Text) → starts_with nat_eq t three_quotes ≡ true → starts_with nat_eq (with_quotes t) line_feed ≡ false
+no_feed : (t : Text) → starts_with nat_eq t mark ≡ true → starts_with nat_eq (with_quotes t) line_feed ≡ false
 no_feed [] e = absurd (cc)
 no_feed (c ∷ t) e = let is : c ≡ 34 = grind (arith, nat_tests, and_parts (34 == c) _ e) in rw is
 
@@ -35,7 +37,7 @@ feed_first (c ∷ t) = by_test (quotes c t) refl
     by_test : (b : Bool) → quotes c t ≡ b
         → starts_with nat_eq (with_quotes (c ∷ t)) line_feed ≡ starts_with nat_eq (c ∷ t) line_feed
     by_test true e =
-        let parts = and_parts (c == 92) (starts_with nat_eq t three_quotes) e in
+        let parts = and_parts (c == 92) (starts_with nat_eq t mark) e in
         let is : c ≡ 92 = grind (arith, nat_tests, parts.0) in
         let before : starts_with nat_eq (c ∷ t) line_feed ≡ false = rw is in
         ap (λ u. starts_with nat_eq u line_feed) (backslash_goes c t e) ∙ no_feed t parts.1 ∙ sym before

@@ -12,7 +12,8 @@ use Rattle.std.proofs.lemmas.List.{take_at, take-append-drop, nil_from_length, l
 use Rattle.std.proofs.lemmas.Slice.Eq.{bytes_eq-Decides}
 use Rattle.std.proofs.lemmas.Str.{IsUtf8-from_ascii, IsUtf8-string_bytes, IsCharBoundary-at_seam, chars-nil, chars-append, chars-IsAscii, chars-encodes, chars_past_char, IsUtf8-past_char, scalars-chars, encodes-chars, encodes-append, encodes-IsAscii, length-encode, len_utf8_bounds}
 use Rattle.juniper_values.specs.Text.{Text}
-use Rattle.juniper_values.specs.BlockStrings.{three_quotes, line_feed}
+use Rattle.graphql_lexical.specs.Tokens.{mark}
+use Rattle.juniper_values.specs.BlockStrings.{line_feed}
 use Rattle.juniper_values.specs.BlockSteps.{is_left_out}
 use Rattle.std.specs.declared.option.Option.TheVariants.{None}
 use lib.Utf8.{scalar, scalars, encodes}
@@ -53,7 +54,7 @@ starts_chars r front bs utf8 ascii cases =
           ∙ ap (λ t. t ++ encodes b.0) (encodes-IsAscii front ascii)))),
     )
 
-pub ascii_quotes : IsAscii three_quotes
+pub ascii_quotes : IsAscii mark
 ascii_quotes zero = omega arith
 ascii_quotes (suc zero) = omega arith
 ascii_quotes (suc (suc zero)) = omega arith

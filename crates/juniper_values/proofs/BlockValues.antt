@@ -6,7 +6,8 @@ use Rattle.std.proofs.lemmas.Bool.{and_left, or_parts}
 use Rattle.std.proofs.lemmas.Bool.Decides.{nat_tests}
 use Rattle.std.proofs.lemmas.List.Elements.{All-from_recursion}
 use Rattle.juniper_values.specs.Text.{Text}
-use Rattle.juniper_values.specs.BlockStrings.{with_quotes, line_feed, lines, is_line_end, is_blank, common_indent, unindented, drop_blank_front, drop_blank_end, joined, block_value}
+use Rattle.graphql_lexical.specs.Characters.{is_line_end}
+use Rattle.juniper_values.specs.BlockStrings.{with_quotes, line_feed, lines, is_blank, common_indent, unindented, drop_blank_front, drop_blank_end, joined, block_value}
 use Rattle.juniper_values.specs.BlockLaws.{HasNoBlankEnds}
 use Rattle.juniper_values.proofs.BlockEnds.{and_true, inner, first_filled}
 

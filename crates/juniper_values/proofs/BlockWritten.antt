@@ -7,7 +7,8 @@ use Rattle.std.proofs.lemmas.List.{nil_from_length, drop_all}
 use Rattle.std.proofs.lemmas.Bool.Decides.{nat_tests}
 use lib.Utf8.{encodes}
 use Rattle.juniper_values.specs.Text.{Text}
-use Rattle.juniper_values.specs.BlockStrings.{with_quotes, is_line_end, is_white, is_blank, common_indent, unindented, drop_blank_front, drop_blank_end, joined}
+use Rattle.graphql_lexical.specs.Characters.{is_line_end}
+use Rattle.juniper_values.specs.BlockStrings.{with_quotes, is_indent, is_blank, common_indent, unindented, drop_blank_front, drop_blank_end, joined}
 use Rattle.juniper_values.specs.BlockSteps.{is_left_out, written, line_after, is_filled}
 use Rattle.juniper_values.specs.declared.block_string.Line.{Line}
 use Rattle.juniper_values.specs.declared.block_string.Line.TheVariants.{Blank, Filled}
@@ -86,7 +87,7 @@ left_on : (now : Text) (line : Line) (k c : ℕ) (ls : List Text)
 left_on now Filled k c ls = goes_on now k c ls
 left_on now (Blank zero) k c ls =
     goes_on now k c ls
-    ∙ ap (λ n. left (now ++ c ∷ []) n k ls) (sym (nothing_left (is_white c)))
+    ∙ ap (λ n. left (now ++ c ∷ []) n k ls) (sym (nothing_left (is_indent c)))
 left_on now (Blank (suc n)) k c [] = ap (λ t. (now ++ t) ∷ []) (drop_all n [] (omega arith))
 left_on now (Blank (suc n)) k c (line ∷ ls) = ap (λ t. (t ++ drop n line) ∷ map (drop k) ls) (sym (append-nil now))
 
@@ -96,8 +97,8 @@ filled_with false = refl
 
 blank_on : (now : Text) (line : Line) (c : ℕ) → is_blank now ≡ not (is_filled line)
     → is_blank (now ++ written line c) ≡ not (is_filled (line_after line c))
-blank_on now Filled c e = all_push is_white now c ∙ ap (λ b. b && is_white c) e
-blank_on now (Blank zero) c e = all_push is_white now c ∙ ap (λ b. b && is_white c) e ∙ filled_with (is_white c)
+blank_on now Filled c e = all_push is_indent now c ∙ ap (λ b. b && is_indent c) e
+blank_on now (Blank zero) c e = all_push is_indent now c ∙ ap (λ b. b && is_indent c) e ∙ filled_with (is_indent c)
 blank_on now (Blank (suc n)) c e = ap is_blank (append-nil now) ∙ e
 
 pub writes : (k : ℕ) (all : List Text) (value : Text) (kept : ℕ) (line : Line) (c : ℕ) (t after : Text) (next : Line)

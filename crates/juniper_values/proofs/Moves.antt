@@ -1,5 +1,5 @@
 -- What a value becomes, scalar by scalar.
-use Rattle.std.proofs.Common.{◌≡◌, refl, ap, sym, subst, ◌∙◌, Bool, true, List, [], ◌∷◌, ◌++◌, Option, Some, None, option_map, unwrap_or, String, Global, Vec, true≢false}
+use Rattle.std.proofs.Common.{◌≡◌, refl, ap, sym, subst, ◌∙◌, Bool, true, List, ◌∷◌, Option, Some, None, option_map, unwrap_or, String, Global, Vec, true≢false}
 use Rattle.std.specs.Option.{option_eq}
 use Rattle.std.specs.HashMap.{HashMap}
 use Rattle.graphql_lexical.specs.Place.{Span}

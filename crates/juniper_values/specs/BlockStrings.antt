@@ -1,12 +1,11 @@
 -- The text that a block string stands for (GraphQL specification, October 2021, section 2.9.4).
 use Rattle.std.specs.Prelude.{ℕ, ◌+◌, ◌==◌, ◌&&◌, ◌||◌, Bool, List, [], ◌∷◌, drop, map, min, nat_eq, if◌then◌else◌}
 use Rattle.std.specs.List.{list_all, starts_with, onto_first, join_with_byte}
+use Rattle.graphql_lexical.specs.Characters.{is_line_end}
+use Rattle.graphql_lexical.specs.Tokens.{mark}
 use Rattle.juniper_values.specs.Text.{Text}
 
 -- ---- the lines
-
-abbrev pub three_quotes : Text
-three_quotes = 34 ∷ 34 ∷ 34 ∷ []
 
 abbrev pub line_feed : Text
 line_feed = 10 ∷ []
@@ -14,11 +13,7 @@ line_feed = 10 ∷ []
 -- `\"""` is three quotes: a backslash before three quotes is left out
 abbrev pub with_quotes : Text → Text
 with_quotes [] = []
-with_quotes (c ∷ t) = if c == 92 && starts_with nat_eq t three_quotes then with_quotes t else c ∷ with_quotes t
-
--- LF and CR
-abbrev pub is_line_end : ℕ → Bool
-is_line_end c = c == 10 || c == 13
+with_quotes (c ∷ t) = if c == 92 && starts_with nat_eq t mark then with_quotes t else c ∷ with_quotes t
 
 -- A line ends at LF, at CR LF (where the LF ends it), and at a CR that no LF follows.
 abbrev pub lines : Text → List Text
@@ -31,17 +26,17 @@ lines (c ∷ t) =
 -- ---- the indent
 
 -- a tab or a space
-abbrev pub is_white : ℕ → Bool
-is_white c = c == 9 || c == 32
+abbrev pub is_indent : ℕ → Bool
+is_indent c = c == 9 || c == 32
 
 -- a line of tabs and spaces alone, or empty
 abbrev pub is_blank : Text → Bool
-is_blank = list_all is_white
+is_blank = list_all is_indent
 
 -- how many tabs and spaces a line begins with
 abbrev pub indent : Text → ℕ
 indent [] = 0
-indent (c ∷ line) = if is_white c then indent line + 1 else 0
+indent (c ∷ line) = if is_indent c then indent line + 1 else 0
 
 -- the indents of the lines that have another character
 abbrev pub indents : List Text → List ℕ

@@ -3,7 +3,8 @@ ghost use Rattle.std.specs.Prelude.{◌≡◌, ◌+◌, ◌<◌, ◌^◌, drop, 
 ghost use Rattle.std.specs.Char.{IsScalar};
 ghost use Rattle.std.specs.Str.{chars};
 ghost use Rattle.juniper_values.specs.View.{text_of};
-ghost use Rattle.juniper_values.specs.BlockStrings.{block_value, common_indent, lines, with_quotes, is_white, is_line_end};
+ghost use Rattle.graphql_lexical.specs.Characters.{is_line_end};
+ghost use Rattle.juniper_values.specs.BlockStrings.{block_value, common_indent, lines, with_quotes, is_indent};
 ghost use Rattle.juniper_values.specs.BlockSteps.{is_left_out, white_before, place_after, least_after, written, line_after, is_filled};
 
 use std::alloc::{AllocError, Global};
@@ -85,7 +86,7 @@ fn write(value: &mut String, line: Line, c: char) -> Result<Line, AllocError>
                 return Ok(Line::Blank(n - 1));
             }
             value.push(c)?;
-            if is_white(c) {
+            if is_indent(c) {
                 Ok(Line::Blank(0))
             } else {
                 Ok(Line::Filled)
@@ -120,7 +121,7 @@ fn least_after(least: Option<usize>, place: Place, c: char) -> Option<usize>
     ensures { result ≡ least_after least place c }
 {
     match place {
-        Place::Indent(n) if !is_line_end(c) && !is_white(c) => match least {
+        Place::Indent(n) if !is_line_end(c) && !is_indent(c) => match least {
             Some(m) => Some(m.min(n)),
             None => Some(n),
         },
@@ -137,7 +138,7 @@ fn place_after(place: Place, c: char) -> Place
         return Place::Indent(0);
     }
     match place {
-        Place::Indent(n) if is_white(c) => Place::Indent(n + 1),
+        Place::Indent(n) if is_indent(c) => Place::Indent(n + 1),
         Place::First => Place::First,
         _ => Place::Behind,
     }
@@ -160,8 +161,8 @@ fn is_line_end(c: char) -> bool
     c == '\n' || c == '\r'
 }
 
-fn is_white(c: char) -> bool
-    ensures { result ≡ is_white c }
+fn is_indent(c: char) -> bool
+    ensures { result ≡ is_indent c }
 {
     c == '\t' || c == ' '
 }
