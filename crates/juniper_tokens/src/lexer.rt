@@ -97,6 +97,7 @@ impl<'a> Lexer<'a> {
     }
 
     // Goes past white space and comments.
+    #[inline(always)]
     fn skip_gap(&mut self)
         ensures { self.new ≡ past_gap self.old }
     {
@@ -126,7 +127,8 @@ impl<'a> Lexer<'a> {
         stretch.may_be_mark
     }
 
-    // Goes past a byte order mark, where one stands here.
+    // Goes past a byte order mark, where one stands here. Few texts have one.
+    #[cold]
     fn skip_mark(&mut self) -> bool
         ensures { MayPassMark result self.old self.new }
     {
