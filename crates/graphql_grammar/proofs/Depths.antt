@@ -11,7 +11,7 @@ use Rattle.graphql_lexical.specs.Nesting.{is_opening, is_closing, opened, closed
 use Rattle.graphql_lexical.proofs.DeepTokens.{opened_push, closed_push, deep_count, opens, opening_no_end}
 use Rattle.graphql_grammar.specs.Tokens.{IsSpelled}
 use Rattle.graphql_grammar.specs.Tree.{Scalars, Definition}
-use Rattle.graphql_grammar.specs.Grammar.{IsDocument}
+use Rattle.graphql_grammar.specs.Grammar.{IsScalarKind, IsDocument}
 use Rattle.graphql_grammar.specs.Faults.{Fault, NoEnd, EndsOnce, Begins, RefusedAt, DocumentRefusedAt}
 use Rattle.graphql_grammar.specs.Reading.{document}
 use Rattle.graphql_grammar.specs.Depth.{BeginsDocument}
@@ -54,9 +54,21 @@ plain_closes BracketClose e = absurd (cc e)
 plain_closes CurlyClose e = absurd (cc e)
 plain_closes _ e = refl
 
+-- a scalar is no bracket
+scalar_opens : (k : Kind) → IsScalarKind k → (is_opening k ≡ false) × (is_closing k ≡ false)
+scalar_opens k (inl e) = (ap is_opening e, ap is_closing e)
+scalar_opens k (inr (inl e)) = (ap is_opening e, ap is_closing e)
+scalar_opens k (inr (inr (inl e))) = (ap is_opening e, ap is_closing e)
+scalar_opens k (inr (inr (inr e))) = (ap is_opening e, ap is_closing e)
+
+uncounted : (t : Lexeme) → is_opening t.kind ≡ false → is_closing t.kind ≡ false → IsBalanced (t ∷ [])
+uncounted t o c = opened_cons t [] ∙ ap (λ b. one b + 0) (o ∙ sym c) ∙ sym (closed_cons t [])
+
 plain : (t : Lexeme) → is_plain t.kind ≡ true → IsBalanced (t ∷ [])
-plain t p =
-    opened_cons t [] ∙ ap (λ b. one b + 0) (plain_opens t.kind p ∙ sym (plain_closes t.kind p)) ∙ sym (closed_cons t [])
+plain t p = uncounted t (plain_opens t.kind p) (plain_closes t.kind p)
+
+scalar : (t : Lexeme) → IsScalarKind t.kind → IsBalanced (t ∷ [])
+scalar t s = let k = scalar_opens t.kind s in uncounted t k.0 k.1
 
 -- what an opening and a closing bracket count
 record Counts (o c : Kind) : Type 0 where
@@ -152,7 +164,7 @@ module _ {C F : Type 0} (S : Scalars C F) where
   pub document_balanced : (ts : List Lexeme) (ds : List (Definition C)) → IsDocument S ts ds → opened ts ≡ closed ts
   document_balanced ts [] h = absurd h
   document_balanced ts (d ∷ ds) (us, end, e, k, h) =
-      let b = nested.definitions IsBalanced refl join plain around S us (d ∷ ds) h in
+      let b = nested.definitions IsBalanced refl join plain around S (λ t c k h. scalar t k) us (d ∷ ds) h in
       let c = end_balanced us end k in
       subst IsBalanced (sym e) (c.0 ∙ ap (λ n. n + 0) b ∙ sym c.1)
 

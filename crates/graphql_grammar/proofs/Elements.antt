@@ -7,6 +7,10 @@ module _ {X : Type 0} (P : X → Type 0) where
   all_front [] ys h = tt
   all_front (x ∷ xs) ys h = (h.0, all_front xs ys h.1)
 
+  pub all_back : (xs ys : List X) → AllByRecursion P (xs ++ ys) → AllByRecursion P ys
+  all_back [] ys h = h
+  all_back (x ∷ xs) ys h = all_back xs ys h.1
+
   pub all_join : (xs ys : List X) → AllByRecursion P xs → AllByRecursion P ys → AllByRecursion P (xs ++ ys)
   all_join [] ys h k = k
   all_join (x ∷ xs) ys h k = (h.0, all_join xs ys h.1 k)

@@ -10,6 +10,8 @@ pub mod DocumentFound
 pub mod SelectionFound
 pub mod Nested
 pub mod Ends
+pub mod ReadScalars
+pub mod OtherScalars
 pub mod Faulty
 pub mod Readers
 pub mod Turns

@@ -8,6 +8,7 @@ ghost use Rattle.graphql_grammar.specs.Tokens.{IsSpelled};
 ghost use Rattle.graphql_grammar.specs.Tree.{Scalars, Value, TypeRef, Definition};
 ghost use Rattle.graphql_grammar.specs.Grammar.{IsValue, IsType, IsDocument};
 ghost use Rattle.graphql_grammar.specs.Faults.{Fault, EndsOnce, AtFault, DocumentRefusedAt, ValueRefusedAt, TypeRefusedAt};
+ghost use Rattle.graphql_grammar.specs.ScalarTokens.{IsRead, IsReadAlso};
 ghost use Rattle.graphql_grammar.specs.Texts.{AtFaultInText};
 ghost use Rattle.graphql_grammar.specs.Unlocated.{SameDocument, SameValue};
 ghost use Rattle.graphql_grammar.specs.Samples.{IsSample, AreSamples};
@@ -76,6 +77,17 @@ pub fn alike_documents<C, F>()
 /// Lists that are alike both are values, which differ in spans alone, or are both none.
 pub fn alike_values<C, F>()
     ensures { (S : Scalars C F) (free : Bool) (ts us : List Lexeme) (a : Value C) → AllAlike ts us → IsValue S free ts a → (b : Value C) × IsValue S free us b × SameValue a b }
+{}
+
+/// Each scalar token of a document is one that the scalar type reads.
+pub fn scalar_tokens_are_read<C, F>()
+    ensures { (S : Scalars C F) (ts : List Lexeme) (ds : List (Definition C)) → IsDocument S ts ds → AllByRecursion (IsRead S) ts }
+{}
+
+/// A document of one scalar type is the same document of another one that reads its scalar tokens, `true` and `false`
+/// as the first does.
+pub fn other_scalars<C, F>()
+    ensures { (S T : Scalars C F) (ts : List Lexeme) (ds : List (Definition C)) → S.of_bool ≡ T.of_bool → AllByRecursion (IsReadAlso S T) ts → IsDocument S ts ds → IsDocument T ts ds }
 {}
 
 /// The tokens that a source is cut into are spelled, and the last one and no other is the end.

@@ -4,13 +4,16 @@
 //! The laws of the token grammar, of the document grammar, of tokens, of input values and of answer values stand in modules
 //! of their own.
 ghost use Rattle.std.specs.Prelude.{◌≡◌, ◌⊎◌, ℕ, List};
+ghost use Rattle.std.specs.List.{AllByRecursion};
 ghost use Rattle.graphql_lexical.specs.Place.{Span};
 ghost use Rattle.graphql_lexical.specs.Tokens.{IsName};
 ghost use Rattle.graphql_lexical.specs.Cutting.{Lexeme, Cut};
 ghost use Rattle.graphql_lexical.specs.Alike.{AllAlike};
-ghost use Rattle.graphql_grammar.specs.Tree.{Definition};
+ghost use Rattle.graphql_grammar.specs.Grammar.{IsDocument};
+ghost use Rattle.graphql_grammar.specs.ScalarTokens.{IsRead, IsReadAlso};
+ghost use Rattle.graphql_grammar.specs.Tree.{Definition, Scalars};
 ghost use Rattle.graphql_grammar.specs.Unlocated.{SameDocument};
-ghost use Rattle.juniper_tokens.specs.Errors.{Fault, failure_of};
+ghost use Rattle.juniper_tokens.specs.Errors.{Error, Fault, failure_of};
 ghost use Rattle.juniper_tokens.specs.declared.error.LexFailure.{LexFailure};
 ghost use Rattle.juniper_values.specs.Default.{default_content};
 ghost use Rattle.juniper_values.specs.ReadBack.{IsPlain};
@@ -64,6 +67,14 @@ pub fn alike_texts<S: ScalarValue>()
         → HasTree (stated S.reading S.of_bool) a x → (y : List (Definition Content)) × HasTree (stated S.reading S.of_bool) b y × SameDocument x y }
     ensures refused { (a b : List ℕ) (ts us : List Lexeme) (f : Fault) → Cut a ts → Cut b us → AllAlike ts us
         → IsRefusal (stated S.reading S.of_bool) a f → (g : Fault) × IsRefusal (stated S.reading S.of_bool) b g × AreRefusedAlike (stated S.reading S.of_bool) ts us f g }
+{}
+
+/// Each scalar token of a document is one that the scalar type reads. A document of other scalars is the same document of
+/// these, where these are read from its scalar tokens as those are, and are the same for `true` and `false`.
+pub fn scalar_tokens<S: ScalarValue>()
+    ensures read { (ts : List Lexeme) (tree : List (Definition Content)) → IsDocument (stated S.reading S.of_bool) ts tree → AllByRecursion (IsRead (stated S.reading S.of_bool)) ts }
+    ensures of_others { (T : Scalars Content Error) (ts : List Lexeme) (tree : List (Definition Content)) → T.of_bool ≡ S.of_bool
+        → AllByRecursion (IsReadAlso T (stated S.reading S.of_bool)) ts → IsDocument T ts tree → IsDocument (stated S.reading S.of_bool) ts tree }
 {}
 
 /// The display of a type is read back as that type, where its name is a Name, no `!` stands directly upon another, and

@@ -1,0 +1,79 @@
+-- The scalar tokens of a document are those that its scalar type reads.
+use Rattle.std.proofs.Common.{Bool, true, false, ◌≡◌, ◌∷◌, [], List, ◌++◌, refl, sym, ap, ◌∙◌, ◌⊎◌, inl, inr, subst, Ok}
+use Rattle.std.specs.Result.{is_ok}
+use Rattle.std.specs.List.{AllByRecursion}
+use Rattle.graphql_lexical.specs.declared.kind.Kind.{Kind}
+use Rattle.graphql_lexical.specs.declared.kind.Kind.TheVariants.{String, BlockString, Float, Int, EndOfFile}
+use Rattle.graphql_lexical.specs.Cutting.{Lexeme}
+use Rattle.graphql_grammar.specs.Tree.{Scalars, Definition}
+use Rattle.graphql_grammar.specs.Grammar.{IsScalarKind, IsDocument}
+use Rattle.graphql_grammar.specs.ScalarTokens.{IsRead}
+use Rattle.graphql_grammar.proofs.Elements.{all_join}
+use Rattle.graphql_grammar.proofs.Nested as nested
+use Rattle.graphql_grammar.proofs.Nested.{is_plain, IsPair}
+
+is_scalar : Kind → Bool
+is_scalar String = true
+is_scalar BlockString = true
+is_scalar Float = true
+is_scalar Int = true
+is_scalar _ = false
+
+told_apart : (k : Kind) → is_scalar k ≡ false → IsScalarKind k → ⊥
+unfolding is_scalar
+told_apart k n (inl e) = let z = sym n ∙ ap is_scalar e in absurd (cc z)
+told_apart k n (inr (inl e)) = let z = sym n ∙ ap is_scalar e in absurd (cc z)
+told_apart k n (inr (inr (inl e))) = let z = sym n ∙ ap is_scalar e in absurd (cc z)
+told_apart k n (inr (inr (inr e))) = let z = sym n ∙ ap is_scalar e in absurd (cc z)
+
+plain_is_none : (k : Kind) → is_plain k ≡ true → is_scalar k ≡ false
+unfolding is_scalar
+plain_is_none String p = absurd (cc p)
+plain_is_none BlockString p = absurd (cc p)
+plain_is_none Float p = absurd (cc p)
+plain_is_none Int p = absurd (cc p)
+plain_is_none _ p = refl
+
+opening_is_none : (o c : Kind) → IsPair o c → is_scalar o ≡ false
+unfolding is_scalar
+opening_is_none o c (inl (a, b)) = ap is_scalar a
+opening_is_none o c (inr (inl (a, b))) = ap is_scalar a
+opening_is_none o c (inr (inr (a, b))) = ap is_scalar a
+
+closing_is_none : (o c : Kind) → IsPair o c → is_scalar c ≡ false
+unfolding is_scalar
+closing_is_none o c (inl (a, b)) = ap is_scalar b
+closing_is_none o c (inr (inl (a, b))) = ap is_scalar b
+closing_is_none o c (inr (inr (a, b))) = ap is_scalar b
+
+end_is_none : (k : Kind) → k ≡ EndOfFile → is_scalar k ≡ false
+unfolding is_scalar
+end_is_none k e = ap is_scalar e
+
+module _ {C F : Type 0} (S : Scalars C F) where
+  AreRead : List Lexeme → Type 0
+  AreRead = AllByRecursion (IsRead S)
+
+  none : (t : Lexeme) → is_scalar t.kind ≡ false → AreRead (t ∷ [])
+  unfolding AreRead
+  none t n = ((λ s. absurd (told_apart t.kind n s)), tt)
+
+  join : (us vs : List Lexeme) → AreRead us → AreRead vs → AreRead (us ++ vs)
+  unfolding AreRead
+  join us vs h k = all_join (IsRead S) us vs h k
+
+  plain : (t : Lexeme) → is_plain t.kind ≡ true → AreRead (t ∷ [])
+  plain t p = none t (plain_is_none t.kind p)
+
+  around : (o c : Lexeme) (us : List Lexeme) → IsPair o.kind c.kind → AreRead us → AreRead (o ∷ us ++ (c ∷ []))
+  around o c us p h = join (o ∷ []) (us ++ (c ∷ [])) (none o (opening_is_none o.kind c.kind p)) (join us (c ∷ []) h (none c (closing_is_none o.kind c.kind p)))
+
+  scalar : (t : Lexeme) (c : C) → IsScalarKind t.kind → S.read t.kind t.text ≡ Ok c → AreRead (t ∷ [])
+  unfolding AreRead
+  scalar t c s e = ((λ k. ap is_ok e), tt)
+
+  pub document_is_read : (ts : List Lexeme) (ds : List (Definition C)) → IsDocument S ts ds → AllByRecursion (IsRead S) ts
+  unfolding AreRead
+  document_is_read ts [] h = absurd h
+  document_is_read ts (d ∷ ds) (us, end, e, k, h) =
+      subst AreRead (sym e) (join us (end ∷ []) (nested.definitions AreRead tt join plain around S scalar us (d ∷ ds) h) (none end (end_is_none end.kind k)))
