@@ -1,0 +1,7 @@
+pub mod ReadBy
+pub mod RefuseAll
+pub mod OddError
+pub mod Decimals
+pub mod Thousandths
+pub mod ThousandthsLaws
+pub mod WithoutScalars

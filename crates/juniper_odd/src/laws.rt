@@ -1,0 +1,26 @@
+//! What the parser's promise comes to where no literal is read.
+ghost use Rattle.std.specs.Str.{chars};
+ghost use Rattle.juniper_tokens.specs.Errors.{view_fault};
+ghost use Rattle.juniper.specs.Promise.{IfRefused, IsRefusal};
+ghost use Rattle.juniper_odd.specs.WithoutScalars.{AcceptsExactly, IsDocumentWithoutScalars, no_literals};
+
+use crate::refuse_all::RefuseAll;
+use juniper::laws::scalar_tokens;
+use juniper::{OwnedDocument, UnlocatedParseResult, parse_document_source};
+use std::alloc::Global;
+
+/// The tree of a text by `RefuseAll`: the documents without scalar tokens are exactly those that it accepts.
+///
+/// Any other text is refused as the grammar refuses it: a scalar token where a value may stand as
+/// `ExpectedScalarError("No literals")`, and elsewhere as `UnexpectedToken`.
+pub fn documents_without_scalars<'a>(
+    alloc: Global,
+    source: &'a str,
+) -> UnlocatedParseResult<OwnedDocument<'a, RefuseAll>>
+    ensures exactly { AcceptsExactly result (IsDocumentWithoutScalars (chars source.now)) }
+    ensures refused { IfRefused result (λ fault. IsRefusal no_literals (chars source.now) (view_fault fault)) }
+{
+    // The law that the proof cites.
+    scalar_tokens::<RefuseAll>();
+    parse_document_source::<RefuseAll>(alloc, source)
+}

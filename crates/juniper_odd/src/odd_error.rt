@@ -1,0 +1,34 @@
+//! A scalar type whose error is a lexer's.
+use crate::read_by::{ReadBy, TokenReader};
+use juniper::{
+    DefaultScalarValue, LexerError, ParseError, ParseScalarResult, ParseScalarValue, ReadFailure,
+    ScalarToken,
+};
+use std::alloc::Global;
+
+/// Scalars of the default type whose strings are not read from tokens.
+///
+/// A String and a block string are refused as `LexerError(InvalidNumber)`, which no lexer answers. An Int and a Float
+/// are read as the default type reads them.
+pub type OddError = ReadBy<NoStrings>;
+
+/// The way of `OddError` to read tokens.
+#[derive(Debug, Drop)]
+pub struct NoStrings;
+
+impl TokenReader for NoStrings {
+    ghost use Rattle.juniper_odd.specs.OddError.{odd_error_reading};
+
+    ghost reads = { odd_error_reading };
+
+    fn read(alloc: Global, token: ScalarToken<'_>) -> ParseScalarResult<DefaultScalarValue> {
+        match token {
+            ScalarToken::String(_) | ScalarToken::BlockString(_) => Err(ReadFailure::Refused(
+                ParseError::LexerError(LexerError::InvalidNumber),
+            )),
+            ScalarToken::Float(_) | ScalarToken::Int(_) => {
+                DefaultScalarValue::from_str(alloc, token)
+            }
+        }
+    }
+}

@@ -1,0 +1,159 @@
+//! Scalars of the default type that are read from tokens in another way.
+ghost use Rattle.std.specs.Prelude.{Some};
+ghost use Rattle.std.specs.Str.{encode_utf8_all};
+ghost use Rattle.graphql_lexical.specs.declared.kind.Kind.{Kind};
+ghost use Rattle.juniper_tokens.specs.Tokens.{scalar_kind, scalar_text};
+ghost use Rattle.juniper_values.specs.Default.{default_content, default_shown};
+ghost use Rattle.juniper_values.specs.Scalar.{Reading, MeetsReading};
+ghost use Rattle.juniper_values.specs.Text.{Text};
+ghost use Rattle.juniper_odd.specs.ReadBy.{held_content};
+
+use juniper::{DefaultScalarValue, ParseScalarResult, ParseScalarValue, ScalarToken, ScalarValue};
+use std::alloc::{AllocError, Global};
+use std::fmt;
+use std::marker::PhantomData;
+
+/// A way to read scalars of the default type from tokens.
+pub trait TokenReader {
+    // What is stated of a token of that kind and text.
+    ghost reads: { Kind → Text → Reading };
+
+    /// The scalar that the token spells in this way.
+    ///
+    /// `Refused` is the error that is stated of the token; `Memory` that memory ran out.
+    fn read(alloc: Global, token: ScalarToken<'_>) -> ParseScalarResult<DefaultScalarValue>
+        ensures { MeetsReading default_content (reads (scalar_kind token.entry) (scalar_text token.entry)) result };
+}
+
+/// A scalar of the default type that is read from tokens as `R` reads them. All else is as with the default type.
+#[derive(Debug, Drop)]
+pub struct ReadBy<R> {
+    /// The scalar.
+    pub scalar: DefaultScalarValue,
+    reader: PhantomData<R>,
+}
+
+impl<R> From<DefaultScalarValue> for ReadBy<R> {
+    ghost use Rattle.std.specs.Prelude.{◌≡◌};
+
+    ghost from_gives = { λ s r. r.scalar ≡ s };
+
+    fn from(scalar: DefaultScalarValue) -> ReadBy<R> {
+        ReadBy {
+            scalar,
+            reader: PhantomData,
+        }
+    }
+}
+
+impl<R> PartialEq for ReadBy<R> {
+    ghost use Rattle.juniper_values.specs.Scalar.{same_content};
+    ghost use Rattle.juniper_values.specs.ScalarLaws.{partial_by_content};
+
+    ghost eq = { λ a b. same_content (held_content a) (held_content b) };
+
+    ghost laws = { partial_by_content held_content };
+
+    fn eq(&self, other: &ReadBy<R>) -> bool {
+        self.scalar == other.scalar
+    }
+}
+
+impl<R> Eq for ReadBy<R> {
+    ghost use Rattle.juniper_values.specs.ScalarLaws.{by_content};
+
+    ghost laws = { by_content held_content };
+}
+
+/// Displays the scalar.
+impl<R> fmt::Display for ReadBy<R> {
+    ghost output = { λ s. Some (encode_utf8_all (default_shown (held_content s))) };
+
+    fn fmt<W: fmt::Write>(&self, f: &mut fmt::Formatter<W>) -> fmt::Result {
+        self.scalar.fmt(f)
+    }
+}
+
+impl<R: TokenReader> ParseScalarValue<ReadBy<R>> for ReadBy<R> {
+    ghost content = { held_content };
+
+    ghost reading = { R.reads };
+
+    fn from_str(alloc: Global, token: ScalarToken<'_>) -> ParseScalarResult<ReadBy<R>> {
+        match R::read(alloc, token) {
+            Ok(scalar) => Ok(ReadBy::from(scalar)),
+            Err(failure) => Err(failure),
+        }
+    }
+}
+
+impl<R: TokenReader> ScalarValue for ReadBy<R> {
+    ghost use Rattle.std.specs.Prelude.{refl};
+    ghost use Rattle.juniper_values.specs.Scalar.{boolean, integer, text};
+    ghost use Rattle.juniper_values.specs.Default.{int_in, bool_in, text_in};
+    ghost use Rattle.juniper_values.specs.ScalarLaws.{default-has_form, same_content-Decides};
+
+    ghost of_bool = { boolean };
+
+    ghost of_int = { integer };
+
+    ghost of_text = { text };
+
+    ghost bool_in = { bool_in };
+
+    ghost int_in = { int_in };
+
+    ghost str_in = { text_in };
+
+    ghost string_in = { text_in };
+
+    ghost own_string_in = { text_in };
+
+    ghost shown = { default_shown };
+
+    ghost equal_by_content = { λ a b. same_content-Decides (held_content a) (held_content b) };
+
+    ghost has_form = { λ a. default-has_form a.scalar };
+
+    ghost shows_itself = { λ a. refl };
+
+    ghost lent_is_copied = { λ a t e. e };
+
+    ghost lent_is_handed_out = { λ a t e. e };
+
+    fn from_bool(value: bool) -> Self {
+        ReadBy::from(DefaultScalarValue::from_bool(value))
+    }
+
+    fn from_int(value: i32) -> Self {
+        ReadBy::from(DefaultScalarValue::from_int(value))
+    }
+
+    fn from_string(value: String) -> Self {
+        ReadBy::from(DefaultScalarValue::from_string(value))
+    }
+
+    fn try_to_bool(&self) -> Option<bool> {
+        self.scalar.try_to_bool()
+    }
+
+    fn try_to_int(&self) -> Option<i32> {
+        self.scalar.try_to_int()
+    }
+
+    fn try_as_str(&self) -> Option<&str> {
+        self.scalar.try_as_str()
+    }
+
+    fn try_to_string(&self, alloc: Global) -> Result<Option<String>, AllocError> {
+        self.scalar.try_to_string(alloc)
+    }
+
+    fn try_into_string(self, alloc: Global) -> Result<Option<String>, AllocError> {
+        self.scalar.try_into_string(alloc)
+    }
+
+    fn try_clone(&self, alloc: Global) -> Result<Self, AllocError> {
+        Ok(ReadBy::from(self.scalar.try_clone(alloc)?))
+    }
+}

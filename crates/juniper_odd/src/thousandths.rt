@@ -1,0 +1,188 @@
+//! A scalar type that reads decimal numbers of up to three places.
+ghost use Rattle.std.specs.Prelude.{◌≡◌, Some, IfOk, string_bytes};
+ghost use Rattle.std.specs.Str.{chars, encode_utf8_all};
+ghost use Rattle.juniper_values.specs.Scalar.{MeetsReading};
+ghost use Rattle.juniper_odd.specs.Decimals.{milli_text};
+ghost use Rattle.juniper_odd.specs.Thousandths.{thousandths_content, thousandths_shown, float_reading};
+
+use crate::decimals::{thousandths_in, write_decimal};
+use juniper::{
+    DefaultScalarValue, ParseError, ParseScalarResult, ParseScalarValue, ReadFailure, ScalarToken,
+    ScalarValue,
+};
+use std::alloc::{AllocError, Global};
+use std::fmt;
+
+/// A scalar of the default type, or a number of thousandths.
+#[derive(Debug, Drop)]
+pub enum Thousandths {
+    /// A scalar of the default type.
+    Default(DefaultScalarValue),
+    /// So many thousandths.
+    Milli(i64),
+}
+
+impl PartialEq for Thousandths {
+    ghost use Rattle.juniper_values.specs.Scalar.{same_content};
+    ghost use Rattle.juniper_values.specs.ScalarLaws.{partial_by_content};
+
+    ghost eq = { λ a b. same_content (thousandths_content a) (thousandths_content b) };
+
+    ghost laws = { partial_by_content thousandths_content };
+
+    fn eq(&self, other: &Thousandths) -> bool {
+        match (self, other) {
+            (Thousandths::Default(a), Thousandths::Default(b)) => a == b,
+            (Thousandths::Milli(a), Thousandths::Milli(b)) => *a == *b,
+            _ => false,
+        }
+    }
+}
+
+impl Eq for Thousandths {
+    ghost use Rattle.juniper_values.specs.ScalarLaws.{by_content};
+
+    ghost laws = { by_content thousandths_content };
+}
+
+/// Displays a number with its three places, as `-0.250`, and anything else as the default type does.
+impl fmt::Display for Thousandths {
+    ghost output = { λ s. Some (encode_utf8_all (thousandths_shown (thousandths_content s))) };
+
+    fn fmt<W: fmt::Write>(&self, f: &mut fmt::Formatter<W>) -> fmt::Result {
+        match self {
+            Thousandths::Default(scalar) => scalar.fmt(f),
+            Thousandths::Milli(number) => write_decimal(f, *number),
+        }
+    }
+}
+
+/// A Float is read as a number of thousandths where it has no more than three places, no exponent, and a number of
+/// thousandths of 64 bits; any other is refused as `ExpectedScalarError("Not thousandths")`. An Int, a String and a
+/// block string are read as the default type reads them.
+impl ParseScalarValue<Thousandths> for Thousandths {
+    ghost use Rattle.juniper_odd.specs.Thousandths.{thousandths_reading};
+
+    ghost content = { thousandths_content };
+
+    ghost reading = { thousandths_reading };
+
+    fn from_str(alloc: Global, token: ScalarToken<'_>) -> ParseScalarResult<Thousandths> {
+        match token {
+            ScalarToken::Float(text) => read_float(alloc, text),
+            ScalarToken::String(_) | ScalarToken::BlockString(_) | ScalarToken::Int(_) => {
+                match DefaultScalarValue::from_str(alloc, token) {
+                    Ok(scalar) => Ok(Thousandths::Default(scalar)),
+                    Err(failure) => Err(failure),
+                }
+            }
+        }
+    }
+}
+
+fn read_float(alloc: Global, text: &str) -> ParseScalarResult<Thousandths>
+    ensures { MeetsReading thousandths_content (float_reading (chars text.now)) result }
+{
+    match thousandths_in(alloc, text)? {
+        Some(number) => Ok(Thousandths::Milli(number)),
+        None => Err(ReadFailure::Refused(ParseError::ExpectedScalarError("Not thousandths"))),
+    }
+}
+
+// What a number of thousandths displays.
+fn milli_string(alloc: Global, number: i64) -> Result<String, AllocError>
+    ensures { IfOk result (λ text. chars (string_bytes text) ≡ milli_text number) }
+{
+    Thousandths::Milli(number).to_string(alloc)
+}
+
+impl ScalarValue for Thousandths {
+    ghost use Rattle.std.specs.Prelude.{refl};
+    ghost use Rattle.juniper_values.specs.Scalar.{boolean, integer, text};
+    ghost use Rattle.juniper_values.specs.Default.{int_in, bool_in, text_in};
+    ghost use Rattle.juniper_values.specs.ScalarLaws.{same_content-Decides};
+    ghost use Rattle.juniper_odd.specs.Thousandths.{string_in};
+    ghost use Rattle.juniper_odd.specs.ThousandthsLaws.{thousandths-has_form, lent-is_string};
+
+    ghost of_bool = { boolean };
+
+    ghost of_int = { integer };
+
+    ghost of_text = { text };
+
+    ghost bool_in = { bool_in };
+
+    ghost int_in = { int_in };
+
+    ghost str_in = { text_in };
+
+    ghost string_in = { string_in };
+
+    ghost own_string_in = { string_in };
+
+    ghost shown = { thousandths_shown };
+
+    ghost equal_by_content = { λ a b. same_content-Decides (thousandths_content a) (thousandths_content b) };
+
+    ghost has_form = { thousandths-has_form };
+
+    ghost shows_itself = { λ a. refl };
+
+    ghost lent_is_copied = { λ a t e. lent-is_string (thousandths_content a) t e };
+
+    ghost lent_is_handed_out = { λ a t e. lent-is_string (thousandths_content a) t e };
+
+    fn from_bool(value: bool) -> Self {
+        Thousandths::Default(DefaultScalarValue::from_bool(value))
+    }
+
+    fn from_int(value: i32) -> Self {
+        Thousandths::Default(DefaultScalarValue::from_int(value))
+    }
+
+    fn from_string(value: String) -> Self {
+        Thousandths::Default(DefaultScalarValue::from_string(value))
+    }
+
+    fn try_to_bool(&self) -> Option<bool> {
+        match self {
+            Thousandths::Default(scalar) => scalar.try_to_bool(),
+            Thousandths::Milli(_) => None,
+        }
+    }
+
+    fn try_to_int(&self) -> Option<i32> {
+        match self {
+            Thousandths::Default(scalar) => scalar.try_to_int(),
+            Thousandths::Milli(_) => None,
+        }
+    }
+
+    fn try_as_str(&self) -> Option<&str> {
+        match self {
+            Thousandths::Default(scalar) => scalar.try_as_str(),
+            Thousandths::Milli(_) => None,
+        }
+    }
+
+    fn try_to_string(&self, alloc: Global) -> Result<Option<String>, AllocError> {
+        match self {
+            Thousandths::Default(scalar) => scalar.try_to_string(alloc),
+            Thousandths::Milli(number) => Ok(Some(milli_string(alloc, *number)?)),
+        }
+    }
+
+    fn try_into_string(self, alloc: Global) -> Result<Option<String>, AllocError> {
+        match self {
+            Thousandths::Default(scalar) => scalar.try_into_string(alloc),
+            Thousandths::Milli(number) => Ok(Some(milli_string(alloc, number)?)),
+        }
+    }
+
+    fn try_clone(&self, alloc: Global) -> Result<Self, AllocError> {
+        match self {
+            Thousandths::Default(scalar) => Ok(Thousandths::Default(scalar.try_clone(alloc)?)),
+            Thousandths::Milli(number) => Ok(Thousandths::Milli(*number)),
+        }
+    }
+}
