@@ -146,6 +146,7 @@ impl<'a> Lexer<'a> {
     }
 
     // Takes the token that stands here. A fault leaves the place.
+    #[inline(always)]
     fn take_token(&mut self) -> LexerResult<'a>
         ensures source { self.new.source ≡ self.old.source }
         ensures ended { self.new.ended ≡ self.old.ended }
@@ -172,6 +173,7 @@ impl<'a> Lexer<'a> {
     }
 
     // Takes the item that stands here, which may be the last.
+    #[inline(always)]
     fn take_item(&mut self) -> LexerResult<'a>
         ensures source { self.new.source ≡ self.old.source }
         ensures ends { Ends result self.new.ended }
