@@ -1,7 +1,10 @@
 //! What the parser's promise comes to where no literal is read.
+ghost use Rattle.std.specs.Prelude.{IfOk};
 ghost use Rattle.std.specs.Str.{chars};
 ghost use Rattle.juniper_tokens.specs.Errors.{view_fault};
-ghost use Rattle.juniper.specs.Promise.{IfRefused, IsRefusal};
+ghost use Rattle.juniper.specs.Promise.{HasTree, IfRefused, IsRefusal};
+ghost use Rattle.juniper.specs.View.{view_document};
+ghost use Rattle.juniper_odd.specs.ReadBy.{held_content};
 ghost use Rattle.juniper_odd.specs.WithoutScalars.{AcceptsExactly, IsDocumentWithoutScalars, no_literals};
 
 use crate::refuse_all::RefuseAll;
@@ -22,5 +25,13 @@ pub fn documents_without_scalars<'a>(
 {
     // The law that the proof cites.
     scalar_tokens::<RefuseAll>();
+    parse(alloc, source)
+}
+
+// What is promised of every scalar type, at `RefuseAll`.
+fn parse<'a>(alloc: Global, source: &'a str) -> UnlocatedParseResult<OwnedDocument<'a, RefuseAll>>
+    ensures accepted { IfOk result (λ tree. HasTree no_literals (chars source.now) (view_document held_content tree)) }
+    ensures refused { IfRefused result (λ fault. IsRefusal no_literals (chars source.now) (view_fault fault)) }
+{
     parse_document_source::<RefuseAll>(alloc, source)
 }
