@@ -1,5 +1,5 @@
 -- The scalar tokens of a document are those that its scalar type reads.
-use Rattle.std.proofs.Common.{Bool, true, false, ◌≡◌, ◌∷◌, [], List, ◌++◌, refl, sym, ap, ◌∙◌, ◌⊎◌, inl, inr, subst, Ok}
+use Rattle.std.proofs.Common.{Bool, true, false, ◌≡◌, ◌∷◌, [], List, ◌++◌, refl, sym, ap, ◌∙◌, inl, inr, subst, Ok}
 use Rattle.std.specs.Result.{is_ok}
 use Rattle.std.specs.List.{AllByRecursion}
 use Rattle.graphql_lexical.specs.declared.kind.Kind.{Kind}
