@@ -9,11 +9,13 @@ mod documents;
 mod input_values;
 mod lexing;
 mod literals;
+mod odd;
 mod reports;
 mod scalars;
 mod tree;
 mod types;
 
+use juniper::DefaultScalarValue;
 use std::alloc::{AllocError, Global};
 
 /// What stands below a row of this kind and text, if it holds. The wanted lines say which calls are made.
@@ -43,7 +45,9 @@ fn answer_text(alloc: Global, kind: &str, text: &str, wanted: &str) -> Result<St
         "devices" => devices::runs(alloc, text, wanted),
         "built" => built::lines_of(alloc, text),
         "input_value" => input_values::calls(alloc, text, wanted),
-        "scalar" => scalars::calls(alloc, text, wanted),
+        "scalar" => scalars::calls::<DefaultScalarValue>(alloc, text, wanted),
+        "odd_scalar" => odd::scalar_calls(alloc, text, wanted),
+        "odd_document" => odd::arguments_of(alloc, text),
         "type_literal" => types::calls(alloc, text, wanted),
         "answer" => answers::calls(alloc, text, wanted),
         "name" => answers::name_calls(alloc, text, wanted),

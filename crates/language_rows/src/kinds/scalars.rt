@@ -1,4 +1,4 @@
-//! Rows of the default scalar.
+//! Rows of scalars.
 
 use crate::kinds::input_values::converted;
 use crate::kinds::{call_of, word_of};
@@ -10,12 +10,16 @@ use juniper::{
 use std::alloc::{AllocError, Global};
 
 /// `scalar`: calls on the scalar that a token is read as. The row's text is the token's kind, a space and its text.
-pub fn calls(alloc: Global, text: &str, wanted: &str) -> Result<String, AllocError> {
+pub fn calls<S: ScalarValue>(
+    alloc: Global,
+    text: &str,
+    wanted: &str,
+) -> Result<String, AllocError> {
     let mut out = String::new(alloc);
     for line in wanted.lines() {
         let call = call_of(line);
         write!(out, "{call} -> ")?;
-        match read(alloc, text) {
+        match read::<S>(alloc, text) {
             Ok(scalar) => answer_call(alloc, &mut out, scalar, call)?,
             Err(ReadFailure::Refused(error)) => {
                 out.push_str("Refused")?;
@@ -28,7 +32,7 @@ pub fn calls(alloc: Global, text: &str, wanted: &str) -> Result<String, AllocErr
     Ok(out)
 }
 
-fn read(alloc: Global, text: &str) -> ParseScalarResult<DefaultScalarValue> {
+fn read<S: ScalarValue>(alloc: Global, text: &str) -> ParseScalarResult<S> {
     let (kind, text) = word_of(text);
     let token = match kind {
         "Int" => ScalarToken::Int(text),
@@ -36,13 +40,13 @@ fn read(alloc: Global, text: &str) -> ParseScalarResult<DefaultScalarValue> {
         "BlockString" => ScalarToken::BlockString(text),
         _ => ScalarToken::String(text),
     };
-    DefaultScalarValue::from_str(alloc, token)
+    S::from_str(alloc, token)
 }
 
-fn answer_call(
+fn answer_call<S: ScalarValue>(
     alloc: Global,
     out: &mut String,
-    scalar: DefaultScalarValue,
+    scalar: S,
     call: &str,
 ) -> Result<(), AllocError> {
     let (word, rest) = word_of(call);
@@ -88,12 +92,12 @@ fn write_owned(out: &mut String, text: &Option<String>) -> Result<(), AllocError
 }
 
 // What the scalar is as a reference, and as a `Scalar`, which shows a text between quotes.
-fn write_lent(out: &mut String, scalar: &DefaultScalarValue) -> Result<(), AllocError> {
-    match scalar.try_to::<&DefaultScalarValue>() {
+fn write_lent<S: ScalarValue>(out: &mut String, scalar: &S) -> Result<(), AllocError> {
+    match scalar.try_to::<&S>() {
         Ok(lent) => write!(out, "{lent} ")?,
         Err(never) => match never {},
     }
-    match scalar.try_to::<Scalar<'_, DefaultScalarValue>>() {
+    match scalar.try_to::<Scalar<'_, S>>() {
         Ok(lent) => write!(out, "{lent}"),
         Err(never) => match never {},
     }
