@@ -30,12 +30,14 @@ impl Read for Source<'_> {
     }
 }
 
-// Takes at most `step` bytes a call. The call of number `failing` fails once, where that isn't 0.
+// Takes at most `step` bytes a call. The call of number `failing` fails once, where that isn't 0: with an error of
+// `kind`, or by taking no byte where there is none.
 #[derive(Drop)]
 struct Target {
     taken: Vec<u8>,
     step: usize,
     failing: usize,
+    kind: Option<ErrorKind>,
     calls: usize,
 }
 
@@ -43,7 +45,10 @@ impl Write for Target {
     fn write(&mut self, buf: &[u8]) -> io::Result<usize> {
         self.calls = self.calls.wrapping_add(1);
         if self.failing == self.calls {
-            return Err(io::Error::from(ErrorKind::BrokenPipe));
+            return match self.kind {
+                Some(kind) => Err(io::Error::from(kind)),
+                None => Ok(0),
+            };
         }
         let count = buf.len().min(self.step);
         self.taken.extend_from_slice(&buf[..count])?;
@@ -56,9 +61,9 @@ impl Write for Target {
 }
 
 /// `devices`: a line for each run over the text. Its call says how many bytes a read gives, `read=N`, and a write
-/// takes, `write=N`, and which of them fails, `failed_read=N`, `interrupted_read=N`, `failed_write=N`; 1000 bytes and
-/// none where nothing is said. Its answer says how the run ended, whether the reader or the writer has failed, and
-/// how many bytes of the report were written.
+/// takes, `write=N`, and which of them fails, `failed_read=N`, `interrupted_read=N`, `failed_write=N`,
+/// `interrupted_write=N`, `empty_write=N` by taking no byte; 1000 bytes and none where nothing is said. Its answer
+/// says how the run ended, whether the reader or the writer has failed, and how many bytes of the report were written.
 pub fn runs(alloc: Global, text: &str, wanted: &str) -> Result<String, AllocError> {
     let mut out = String::new(alloc);
     for line in wanted.lines() {
@@ -85,7 +90,8 @@ fn write_run(alloc: Global, out: &mut String, bytes: &[u8], call: &str) -> Resul
     let mut writer = Watched::new(Target {
         taken: Vec::new(alloc),
         step: told(call, "write=", 1000),
-        failing: told(call, "failed_write=", 0),
+        failing: failing_write(call),
+        kind: kind_of_write(call),
         calls: 0,
     });
     let end = end_word(run(alloc, &mut reader, &mut writer));
@@ -97,6 +103,24 @@ fn write_run(alloc: Global, out: &mut String, bytes: &[u8], call: &str) -> Resul
         out.push_str(", failed writer")?;
     }
     write_beginning(alloc, out, bytes, writer.into_inner().taken.as_slice())
+}
+
+// The number of the write that fails.
+fn failing_write(call: &str) -> usize {
+    told(call, "failed_write=", 0)
+        .max(told(call, "interrupted_write=", 0))
+        .max(told(call, "empty_write=", 0))
+}
+
+// The error with which a write fails; None where it takes no byte.
+fn kind_of_write(call: &str) -> Option<ErrorKind> {
+    if call.contains("empty_write=") {
+        None
+    } else if call.contains("interrupted_write=") {
+        Some(ErrorKind::Interrupted)
+    } else {
+        Some(ErrorKind::BrokenPipe)
+    }
 }
 
 // How many bytes of the report of these bytes were written.

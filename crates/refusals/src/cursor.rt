@@ -1,0 +1,102 @@
+//! Calls on a parser, and the tokens that are left after them.
+
+use crate::lists;
+use crate::write::{write_answer, write_failure};
+use juniper::{
+    DefaultScalarValue, InputValue, Lexer, OptionParseResult, ParseResult, Parser, Spanning, Token,
+    Type, parse_type, parse_value_literal,
+};
+use std::alloc::{AllocError, Global};
+
+/// `walk`: see there. Any other word: a call on a parser of the text, and the tokens that are left. The lists stand
+/// between `[` and `]`, and their items are Names.
+pub fn answer(alloc: Global, out: &mut String, call: &str, text: &str) -> Result<(), AllocError> {
+    let mut lexer = Lexer::new(alloc, text);
+    let Ok(mut parser) = Parser::new(&mut lexer) else {
+        return Err(AllocError);
+    };
+    if call == "walk" {
+        return write_walk(alloc, out, &mut parser, text);
+    }
+    write_call(out, &mut parser, call)?;
+    write_rest(out, &mut parser)
+}
+
+fn write_call(out: &mut String, parser: &mut Parser<'_>, call: &str) -> Result<(), AllocError> {
+    match call {
+        "expect" => write_answer(out, &parser.expect(&Token::Colon)),
+        "expect_name" => write_answer(out, &parser.expect_name()),
+        "parse_type" => write_type(out, parser),
+        "parse_value_literal" => write_value(out, parser, false),
+        "parse_value_literal_const" => write_value(out, parser, true),
+        _ => lists::write_list(out, parser, call),
+    }
+}
+
+fn write_type(out: &mut String, parser: &mut Parser<'_>) -> Result<(), AllocError> {
+    let literal: ParseResult<Type<&str>> = parse_type(parser);
+    write_answer(out, &literal)
+}
+
+fn write_value(
+    out: &mut String,
+    parser: &mut Parser<'_>,
+    is_const: bool,
+) -> Result<(), AllocError> {
+    let value: ParseResult<InputValue<DefaultScalarValue>> = parse_value_literal(parser, is_const);
+    write_answer(out, &value)
+}
+
+/// Writes the tokens that are left.
+pub fn write_rest(out: &mut String, parser: &mut Parser<'_>) -> Result<(), AllocError> {
+    out.push_str("rest:")?;
+    for _ in 0..1000 {
+        let Ok(token) = parser.next_token() else {
+            break;
+        };
+        let token = token.item;
+        write!(out, " {token}")?;
+    }
+    let end = parser.peek();
+    writeln!(out, " {end}")
+}
+
+// Asks for memory, tells whether it was given, and takes all tokens then by calls that need none.
+fn write_walk(
+    alloc: Global,
+    out: &mut String,
+    parser: &mut Parser<'_>,
+    text: &str,
+) -> Result<(), AllocError> {
+    match String::from_str(alloc, text) {
+        Ok(copy) => writeln!(out, "{copy}")?,
+        Err(_) => out.push_str("Memory\n")?,
+    }
+    for _ in 0..text.len() {
+        if parser.peek().item == Token::EndOfFile {
+            break;
+        }
+        write_step(out, parser)?;
+    }
+    write_rest(out, parser)
+}
+
+// Takes the next token, a Name by `next_token`, any other by `skip`.
+fn write_step(out: &mut String, parser: &mut Parser<'_>) -> Result<(), AllocError> {
+    let next = Spanning::new(parser.peek().span, parser.peek().item);
+    match next.item {
+        Token::Name(_) => write_answer(out, &parser.next_token()),
+        _ => write_skipped(out, &parser.skip(&next.item)),
+    }
+}
+
+fn write_skipped(
+    out: &mut String,
+    skipped: &OptionParseResult<Token<'_>>,
+) -> Result<(), AllocError> {
+    match skipped {
+        Ok(Some(token)) => writeln!(out, "{token}"),
+        Ok(None) => out.push_str("None\n"),
+        Err(failure) => write_failure(out, failure),
+    }
+}

@@ -1,0 +1,55 @@
+//! How answers are written: each on a line, and `Memory` where memory ran out.
+
+use juniper::{ParseFailure, ParseResult};
+use std::alloc::AllocError;
+use std::fmt;
+
+/// Writes why a parser gave nothing.
+pub fn write_failure(out: &mut String, failure: &ParseFailure) -> Result<(), AllocError> {
+    match failure {
+        ParseFailure::Refused(fault) => writeln!(out, "{fault}"),
+        ParseFailure::Memory => out.push_str("Memory\n"),
+    }
+}
+
+/// Writes what a parser gave, or why it gave nothing.
+pub fn write_answer<T: fmt::Display + Drop>(
+    out: &mut String,
+    answer: &ParseResult<T>,
+) -> Result<(), AllocError> {
+    match answer {
+        Ok(answer) => writeln!(out, "{answer}"),
+        Err(failure) => write_failure(out, failure),
+    }
+}
+
+/// Writes what was made.
+pub fn write_made<T: fmt::Display + Drop>(
+    out: &mut String,
+    made: &Result<T, AllocError>,
+) -> Result<(), AllocError> {
+    match made {
+        Ok(made) => writeln!(out, "{made}"),
+        Err(_) => out.push_str("Memory\n"),
+    }
+}
+
+/// Writes what was made, if anything was.
+pub fn write_optional<T: fmt::Display + Drop>(
+    out: &mut String,
+    made: &Result<Option<T>, AllocError>,
+) -> Result<(), AllocError> {
+    match made {
+        Ok(Some(made)) => writeln!(out, "{made}"),
+        Ok(None) => out.push_str("None\n"),
+        Err(_) => out.push_str("Memory\n"),
+    }
+}
+
+/// Writes each item.
+pub fn write_items<T: fmt::Display>(out: &mut String, items: &[T]) -> Result<(), AllocError> {
+    for item in items {
+        writeln!(out, "{item}")?;
+    }
+    Ok(())
+}

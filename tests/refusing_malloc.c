@@ -1,0 +1,109 @@
+/* An allocator that refuses: a library for LD_PRELOAD, over the allocator of glibc.
+ *
+ * It counts the requests for memory that a program makes between the first and the second line that it writes to
+ * standard output or, where REFUSALS_FROM_START is set, all of them. It refuses the request of number REFUSED_REQUEST,
+ * from 1, and where REFUSED_ONWARDS is set each counted one after it. At the end it writes three numbers to the file that
+ * REFUSALS_TOLD names: the requests that were counted, those that were refused, and the blocks that were not given back.
+ */
+#define _GNU_SOURCE
+#include <errno.h>
+#include <fcntl.h>
+#include <stddef.h>
+#include <stdio.h>
+#include <stdlib.h>
+#include <sys/syscall.h>
+#include <unistd.h>
+
+extern void *__libc_malloc(size_t);
+extern void *__libc_calloc(size_t, size_t);
+extern void *__libc_realloc(void *, size_t);
+extern void *__libc_memalign(size_t, size_t);
+extern void __libc_free(void *);
+
+static int is_from_start, is_onwards;
+static unsigned long refused_request, requests, refusals, lines;
+static long blocks;
+
+__attribute__((constructor)) static void begin(void) {
+    const char *number = getenv("REFUSED_REQUEST");
+    refused_request = number ? strtoul(number, NULL, 10) : 0;
+    is_onwards = getenv("REFUSED_ONWARDS") != NULL;
+    is_from_start = getenv("REFUSALS_FROM_START") != NULL;
+    blocks = 0;
+}
+
+/* Counts a request, and says whether it is refused. */
+static int is_refused(void) {
+    if (!is_from_start && lines != 1) return 0;
+    requests++;
+    if (refused_request == 0 || requests < refused_request) return 0;
+    if (requests > refused_request && !is_onwards) return 0;
+    refusals++;
+    errno = ENOMEM;
+    return 1;
+}
+
+/* Counts a block that was given. */
+static void *given(void *block) {
+    if (block != NULL) blocks++;
+    return block;
+}
+
+void *malloc(size_t size) {
+    return is_refused() ? NULL : given(__libc_malloc(size));
+}
+
+void *calloc(size_t count, size_t size) {
+    return is_refused() ? NULL : given(__libc_calloc(count, size));
+}
+
+void *realloc(void *block, size_t size) {
+    if (is_refused()) return NULL;
+    void *other = __libc_realloc(block, size);
+    if (block == NULL) return given(other);
+    if (other == NULL && size == 0) blocks--;
+    return other;
+}
+
+void *memalign(size_t border, size_t size) {
+    return is_refused() ? NULL : given(__libc_memalign(border, size));
+}
+
+void *aligned_alloc(size_t border, size_t size) {
+    return memalign(border, size);
+}
+
+int posix_memalign(void **place, size_t border, size_t size) {
+    void *block = memalign(border, size);
+    if (block == NULL) return ENOMEM;
+    *place = block;
+    return 0;
+}
+
+void free(void *block) {
+    if (block != NULL) blocks--;
+    __libc_free(block);
+}
+
+/* Writes, and counts the lines that standard output gets. */
+ssize_t write(int file, const void *bytes, size_t count) {
+    ssize_t written = syscall(SYS_write, file, bytes, count);
+    if (file == 1) {
+        for (ssize_t i = 0; i < written; i++) lines += ((const char *)bytes)[i] == '\n';
+    }
+    return written;
+}
+
+ssize_t __write(int file, const void *bytes, size_t count) {
+    return write(file, bytes, count);
+}
+
+__attribute__((destructor)) static void end(void) {
+    const char *name = getenv("REFUSALS_TOLD");
+    char line[64];
+    int length = snprintf(line, sizeof line, "%lu %lu %ld\n", requests, refusals, blocks);
+    int file = name == NULL ? -1 : open(name, O_WRONLY | O_CREAT | O_TRUNC, 0600);
+    if (file < 0) return;
+    syscall(SYS_write, file, line, length);
+    close(file);
+}
