@@ -1,6 +1,6 @@
 //! Calls that make answer values, objects and names, and calls on them.
 
-use crate::write::write_made;
+use crate::write::{write_made, write_pair};
 use juniper::{
     DefaultScalarValue, IntoValue, Name, NameFailure, Object, ToInputValue, Value, value_from_str,
 };
@@ -66,11 +66,16 @@ fn list_of(alloc: Global, word: &str) -> Result<Answer, AllocError> {
     Ok(Value::list(items))
 }
 
-// A pair for each word of the text: the word, and the list of it and null.
+// A word, and the list of it and null.
+fn pair_of(alloc: Global, word: &str) -> Result<(String, Answer), AllocError> {
+    Ok((String::from_str(alloc, word)?, list_of(alloc, word)?))
+}
+
+// A pair for each word of the text.
 fn pairs_of(alloc: Global, text: &str) -> Result<Vec<(String, Answer)>, AllocError> {
     let mut pairs = Vec::new(alloc);
     for word in text.split_whitespace() {
-        pairs.push((String::from_str(alloc, word)?, list_of(alloc, word)?))?;
+        pairs.push(pair_of(alloc, word)?)?;
     }
     Ok(pairs)
 }
@@ -122,11 +127,22 @@ fn write_added(
     mut object: Object<DefaultScalarValue>,
     word: &str,
 ) -> Result<(), AllocError> {
-    let key = String::from_str(alloc, word)?;
-    match object.add_field(key, list_of(alloc, word)?) {
-        Ok(Some(old)) => writeln!(out, "{old}")?,
-        Ok(None) => out.push_str("None\n")?,
-        Err((key, value)) => writeln!(out, "Memory\n{key}: {value}")?,
-    }
+    let pair = pair_of(alloc, word)?;
+    write_old(out, &object.add_field(pair.0, pair.1))?;
     write_whole(out, Ok(object))
+}
+
+// Writes the value that was replaced, or the pair that came back.
+fn write_old(
+    out: &mut String,
+    old: &Result<Option<Answer>, (String, Answer)>,
+) -> Result<(), AllocError> {
+    match old {
+        Ok(Some(old)) => writeln!(out, "{old}"),
+        Ok(None) => out.push_str("None\n"),
+        Err(pair) => {
+            out.push_str("Memory\n")?;
+            write_pair(out, &pair.0, &pair.1)
+        }
+    }
 }

@@ -27,8 +27,8 @@ fn write_call(out: &mut String, parser: &mut Parser<'_>, call: &str) -> Result<(
         "expect" => write_answer(out, &parser.expect(&Token::Colon)),
         "expect_name" => write_answer(out, &parser.expect_name()),
         "parse_type" => write_type(out, parser),
-        "parse_value_literal" => write_value(out, parser, false),
-        "parse_value_literal_const" => write_value(out, parser, true),
+        "parse_value_literal" => write_answer(out, &value_in(parser, false)),
+        "parse_value_literal_const" => write_answer(out, &value_in(parser, true)),
         _ => lists::write_list(out, parser, call),
     }
 }
@@ -38,27 +38,25 @@ fn write_type(out: &mut String, parser: &mut Parser<'_>) -> Result<(), AllocErro
     write_answer(out, &literal)
 }
 
-fn write_value(
-    out: &mut String,
+/// The value literal that the tokens begin with.
+pub fn value_in(
     parser: &mut Parser<'_>,
     is_const: bool,
-) -> Result<(), AllocError> {
-    let value: ParseResult<InputValue<DefaultScalarValue>> = parse_value_literal(parser, is_const);
-    write_answer(out, &value)
+) -> ParseResult<InputValue<DefaultScalarValue>> {
+    parse_value_literal(parser, is_const)
 }
 
 /// Writes the tokens that are left.
 pub fn write_rest(out: &mut String, parser: &mut Parser<'_>) -> Result<(), AllocError> {
     out.push_str("rest:")?;
     for _ in 0..1000 {
-        let Ok(token) = parser.next_token() else {
-            break;
-        };
-        let token = token.item;
+        let token = parser.peek().item;
         write!(out, " {token}")?;
+        if parser.next_token().is_err() {
+            break;
+        }
     }
-    let end = parser.peek();
-    writeln!(out, " {end}")
+    out.push('\n')
 }
 
 // Asks for memory, tells whether it was given, and takes all tokens then by calls that need none.

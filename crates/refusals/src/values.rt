@@ -1,10 +1,10 @@
 //! Calls that make input values, and calls on them.
 
-use crate::write::{write_items, write_made, write_optional};
+use crate::cursor::value_in;
+use crate::write::{write_items, write_made, write_optional, write_pair};
 use indexmap::IndexMap;
 use juniper::{
-    DefaultScalarValue, InputValue, IntoInputValue, Lexer, Parser, input_value_from_str,
-    parse_value_literal,
+    DefaultScalarValue, InputValue, IntoInputValue, Lexer, Parser, Variables, input_value_from_str,
 };
 use std::alloc::{AllocError, Global};
 use std::borrow::CowStr;
@@ -36,7 +36,7 @@ fn literal(alloc: Global, text: &str) -> Result<Input, AllocError> {
     let Ok(mut parser) = Parser::new(&mut lexer) else {
         return Err(AllocError);
     };
-    match parse_value_literal(&mut parser, false) {
+    match value_in(&mut parser, false) {
         Ok(value) => Ok(value.item),
         Err(_) => Err(AllocError),
     }
@@ -53,25 +53,22 @@ pub fn answer(
     let value = literal(alloc, text)?;
     match call {
         "try_clone" => write_made(out, &value.try_clone(alloc)),
-        "into_const" => write_resolved(alloc, out, value, word),
+        "into_const" => {
+            write_optional(out, &value.into_const(alloc, &variables_of(alloc, word)?))
+        }
         "to_list_value" => write_parts(alloc, out, &value),
         "to_object_value" => write_fields(alloc, out, &value),
         "referenced_variables" => write_variables(alloc, out, &value),
-        "list" => write_list(alloc, out, value),
-        _ => write_object(alloc, out, value),
+        "list" => write_list(out, &InputValue::list(alloc, items_of(alloc, value)?)),
+        _ => write_object(out, &InputValue::object(alloc, fields_of(alloc, value)?)),
     }
 }
 
-// `into_const`, where the variable `a` has the value that is written.
-fn write_resolved(
-    alloc: Global,
-    out: &mut String,
-    value: Input,
-    written: &str,
-) -> Result<(), AllocError> {
+// The variable `a`, with the value that is written.
+fn variables_of(alloc: Global, written: &str) -> Result<Variables<DefaultScalarValue>, AllocError> {
     let mut variables = HashMap::new(alloc);
     variables.insert(String::from_str(alloc, "a")?, literal(alloc, written)?)?;
-    write_optional(out, &value.into_const(alloc, &variables))
+    Ok(variables)
 }
 
 fn write_parts(alloc: Global, out: &mut String, value: &Input) -> Result<(), AllocError> {
@@ -83,14 +80,16 @@ fn write_parts(alloc: Global, out: &mut String, value: &Input) -> Result<(), All
 }
 
 fn write_fields(alloc: Global, out: &mut String, value: &Input) -> Result<(), AllocError> {
-    let Ok(fields) = value.to_object_value(alloc) else {
-        return out.push_str("Memory\n");
-    };
-    let Some(fields) = fields else {
-        return out.push_str("None\n");
-    };
+    match &value.to_object_value(alloc) {
+        Ok(Some(fields)) => write_map(out, fields),
+        Ok(None) => out.push_str("None\n"),
+        Err(_) => out.push_str("Memory\n"),
+    }
+}
+
+fn write_map(out: &mut String, fields: &IndexMap<&str, &Input>) -> Result<(), AllocError> {
     for (key, value) in fields.iter() {
-        writeln!(out, "{key}: {value}")?;
+        write_pair(out, key, value)?;
     }
     Ok(())
 }
@@ -102,33 +101,48 @@ fn write_variables(alloc: Global, out: &mut String, value: &Input) -> Result<(),
     }
 }
 
-// The list of the value and null; what comes back where memory ran out.
-fn write_list(alloc: Global, out: &mut String, value: Input) -> Result<(), AllocError> {
+// The value, and null.
+fn items_of(alloc: Global, value: Input) -> Result<Vec<Input>, AllocError> {
     let mut items = Vec::new(alloc);
     items.push(value)?;
     items.push(InputValue::null())?;
-    match InputValue::list(alloc, items) {
+    Ok(items)
+}
+
+// Writes a list, or the items that came back.
+fn write_list(out: &mut String, list: &Result<Input, Vec<Input>>) -> Result<(), AllocError> {
+    match list {
         Ok(list) => writeln!(out, "{list}"),
         Err(items) => {
             out.push_str("Memory\n")?;
-            write_items(out, &items)
+            write_items(out, items)
         }
     }
 }
 
-// The object of the value and null; what comes back where memory ran out.
-fn write_object(alloc: Global, out: &mut String, value: Input) -> Result<(), AllocError> {
+// The value at the key `k`, and null at `l`.
+fn fields_of(alloc: Global, value: Input) -> Result<IndexMap<String, Input>, AllocError> {
     let mut fields = IndexMap::new(alloc);
     fields.insert(String::from_str(alloc, "k")?, value)?;
     fields.insert(String::from_str(alloc, "l")?, InputValue::null())?;
-    match InputValue::object(alloc, fields) {
+    Ok(fields)
+}
+
+// Writes an object, or the fields that came back.
+fn write_object(
+    out: &mut String,
+    object: &Result<Input, IndexMap<String, Input>>,
+) -> Result<(), AllocError> {
+    match object {
         Ok(object) => writeln!(out, "{object}"),
-        Err(fields) => {
-            out.push_str("Memory\n")?;
-            for (key, value) in fields.iter() {
-                writeln!(out, "{key}: {value}")?;
-            }
-            Ok(())
-        }
+        Err(fields) => write_back(out, fields),
     }
+}
+
+fn write_back(out: &mut String, fields: &IndexMap<String, Input>) -> Result<(), AllocError> {
+    out.push_str("Memory\n")?;
+    for (key, value) in fields.iter() {
+        write_pair(out, key, value)?;
+    }
+    Ok(())
 }

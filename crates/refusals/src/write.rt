@@ -46,6 +46,16 @@ pub fn write_optional<T: fmt::Display + Drop>(
     }
 }
 
+/// Writes a key and its value, each on a line.
+pub fn write_pair<K: fmt::Display, V: fmt::Display>(
+    out: &mut String,
+    key: &K,
+    value: &V,
+) -> Result<(), AllocError> {
+    writeln!(out, "{key}")?;
+    writeln!(out, "{value}")
+}
+
 /// Writes each item.
 pub fn write_items<T: fmt::Display>(out: &mut String, items: &[T]) -> Result<(), AllocError> {
     for item in items {
