@@ -8,7 +8,6 @@ ghost use Rattle.graphql_lexical.specs.Kinds.{same_kind};
 ghost use Rattle.graphql_lexical.specs.Cutting.{Lexeme, CutFrom, BreaksFrom};
 ghost use Rattle.juniper_tokens.specs.Errors.{view_lexer_error};
 ghost use Rattle.juniper_tokens.specs.Gathering.{IfFault, IfMemory, StandsLaterOrEnded};
-ghost use Rattle.juniper_tokens.specs.LineTables.{lines_of};
 ghost use Rattle.juniper_tokens.specs.Ranges.{IsRange, range_lexemes};
 ghost use Rattle.juniper_tokens.specs.Tokens.{token_kind, token_text, view_token, view_name};
 ghost use Rattle.juniper_tokens.specs.Nesting.{EndsAtNesting};
@@ -16,7 +15,6 @@ ghost use Rattle.juniper_tokens.specs.Cursor.{Gives, FrontGives, OnMemory, Unmov
 
 use crate::error::{LexFailure, OptionParseResult, ParseError, ParseFailure, ParseResult};
 use crate::lexer::Lexer;
-use crate::line_table::LineTable;
 use crate::nesting::{end_behind, first_deeper};
 use crate::span::{Span, Spanning};
 use crate::token::Token;
@@ -31,9 +29,7 @@ use std::marker::Model;
 pub struct Parser<'a> {
     alloc: Global,
     source: &'a str,
-    // Where the lines of the source begin.
-    lines: LineTable,
-    // All tokens that the lexer had left. The text and the places of one are found when it comes next.
+    // All tokens that the lexer had left. The text of one is found when it comes next.
     ranges: Vec<TokenRange>,
     // How many have been taken.
     taken: usize,
@@ -51,7 +47,7 @@ impl<'a> Model for Parser<'a> {
 
     ghost view = { λ p. range_lexemes (chars p.source.now) (drop p.taken p.ranges.items) };
 
-    ghost invariant = { λ p. IsCursor (chars p.source.now) p.lines p.ranges.items p.taken p.current };
+    ghost invariant = { λ p. IsCursor (chars p.source.now) p.ranges.items p.taken p.current };
 }
 
 impl<'a> Parser<'a> {
@@ -70,36 +66,28 @@ impl<'a> Parser<'a> {
     {
         let alloc = lexer.allocator();
         let mut ranges = Vec::new(alloc);
-        while let Some(item) = lexer.next_range() {
-            let range = item?;
+        while !lexer.has_ended() {
+            let range = match lexer.next_plain() {
+                Some(range) => range,
+                None => lexer.next_other()?,
+            };
             if ranges.push(range).is_err() {
                 return Err(LexFailure::Memory);
             }
         }
-        let source = lexer.source();
-        match LineTable::new(alloc, source) {
-            Ok(lines) => Ok(Parser::from_ranges(alloc, source, lines, ranges)),
-            Err(_) => Err(LexFailure::Memory),
-        }
+        Ok(Parser::from_ranges(alloc, lexer.source(), ranges))
     }
 
     // A cursor at the first of these tokens.
-    fn from_ranges(
-        alloc: Global,
-        source: &'a str,
-        lines: LineTable,
-        ranges: Vec<TokenRange>,
-    ) -> Self
-        requires lines { lines ≡ lines_of (chars source.now) }
+    fn from_ranges(alloc: Global, source: &'a str, ranges: Vec<TokenRange>) -> Self
         requires ranges { All (IsRange (chars source.now)) ranges.items }
         requires ends { EndsOnce (range_lexemes (chars source.now) ranges.items) }
         ensures { result ≡ range_lexemes (chars source.now) ranges.items }
     {
-        let current = ranges[0].located(source, &lines, 0);
+        let current = ranges[0].located(source);
         Parser {
             alloc,
             source,
-            lines,
             ranges,
             taken: 0,
             current,
@@ -122,8 +110,8 @@ impl<'a> Parser<'a> {
     {
         let last = self.taken + first_deeper(&self.ranges[self.taken..], depth)?;
         let range = self.ranges[last];
-        let span = range.located(self.source, &self.lines, 0).span;
-        end_behind(&mut self.ranges, last, range.end);
+        let span = range.located(self.source).span;
+        end_behind(&mut self.ranges, last, range.end, span.end);
         Some(span)
     }
 
@@ -162,8 +150,7 @@ impl<'a> Parser<'a> {
         ensures { self.new ≡ drop 1 self.old }
     {
         self.taken += 1;
-        let near = self.current.span.end.line();
-        self.current = self.ranges[self.taken].located(self.source, &self.lines, near);
+        self.current = self.ranges[self.taken].located(self.source);
     }
 
     /// Takes the next token. At the end it answers `UnexpectedEndOfFile`, and nothing is taken.

@@ -52,8 +52,6 @@ fn same_text(a: &str, b: &str) -> bool
 
 impl<'a> ScalarToken<'a> {
     ghost use Rattle.juniper_tokens.specs.Tokens.{scalar_kind, scalar_text};
-    ghost use Rattle.graphql_lexical.specs.declared.kind.Kind.TheVariants.{BlockString};
-    ghost use Rattle.graphql_lexical.specs.Kinds.{same_kind};
 
     /// The token without its text.
     pub fn kind(&self) -> Kind
@@ -64,15 +62,6 @@ impl<'a> ScalarToken<'a> {
             ScalarToken::BlockString(_) => Kind::BlockString,
             ScalarToken::Float(_) => Kind::Float,
             ScalarToken::Int(_) => Kind::Int,
-        }
-    }
-
-    fn is_block_string(&self) -> bool
-        ensures { result ≡ same_kind (scalar_kind self.now) BlockString }
-    {
-        match self {
-            ScalarToken::BlockString(_) => true,
-            ScalarToken::String(_) | ScalarToken::Float(_) | ScalarToken::Int(_) => false,
         }
     }
 
@@ -91,7 +80,7 @@ impl<'a> ScalarToken<'a> {
 
 impl<'a> Token<'a> {
     ghost use Rattle.juniper_tokens.specs.Tokens.{token_kind, token_text};
-    ghost use Rattle.graphql_lexical.specs.declared.kind.Kind.TheVariants.{BlockString, EndOfFile};
+    ghost use Rattle.graphql_lexical.specs.declared.kind.Kind.TheVariants.{EndOfFile};
     ghost use Rattle.graphql_lexical.specs.Kinds.{same_kind};
 
     /// The token without its text.
@@ -141,30 +130,6 @@ impl<'a> Token<'a> {
             Token::At => "@",
             Token::Pipe => "|",
             Token::EndOfFile => "",
-        }
-    }
-
-    // Whether it is a block string, the one token that may hold a line feed.
-    pub(crate) fn is_block_string(&self) -> bool
-        ensures { result ≡ same_kind (token_kind self.now) BlockString }
-    {
-        match self {
-            Token::Scalar(scalar) => scalar.is_block_string(),
-            Token::Name(_)
-            | Token::ExclamationMark
-            | Token::Dollar
-            | Token::ParenOpen
-            | Token::ParenClose
-            | Token::BracketOpen
-            | Token::BracketClose
-            | Token::CurlyOpen
-            | Token::CurlyClose
-            | Token::Ellipsis
-            | Token::Colon
-            | Token::Equals
-            | Token::At
-            | Token::Pipe
-            | Token::EndOfFile => false,
         }
     }
 
