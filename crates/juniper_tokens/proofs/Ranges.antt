@@ -1,29 +1,30 @@
 -- Tokens as ranges of their source.
 use Rattle.std.proofs.Common.{◌≡◌, ℕ, ◌+◌, ◌-◌, ◌<◌, ◌≤◌, List, [], ◌∷◌, ◌++◌, length, take, drop, refl, sym, ap, ap₂, subst, ◌∙◌, arith}
 use Rattle.std.specs.Prelude.{Result, Ok, Err}
+use Rattle.std.specs.Option.{unwrap_or}
 use Rattle.std.specs.Result.{IsErrAnd}
 use Rattle.graphql_lexical.specs.Place.{Place, place}
 use Rattle.graphql_lexical.specs.declared.kind.Kind.{Kind}
 use Rattle.graphql_lexical.specs.declared.kind.Kind.TheVariants as kinds
-use Rattle.graphql_lexical.specs.Tokens.{text_of, Spells}
+use Rattle.graphql_lexical.specs.Kinds.{Spelling, Names, Strings, BlockStrings, Floats, Ints, Fixed, NoText, spelling, fixed_text}
+use Rattle.graphql_lexical.specs.Tokens.{IsSpelled, between, text_of, Spells}
 use Rattle.graphql_lexical.specs.Reading.{Reads}
 use Rattle.graphql_lexical.specs.Cutting.{Lexeme, Stands}
 use Rattle.graphql_lexical.specs.Scan.{scan}
 use Rattle.graphql_lexical.proofs.Answers.{finds_what_reads}
 use Rattle.juniper_tokens.specs.declared.span.Spanning.{Spanning}
 use Rattle.juniper_tokens.specs.declared.token.Token.{Token}
-use Rattle.juniper_tokens.specs.declared.token.Token.TheVariants as token
-use Rattle.juniper_tokens.specs.declared.token.ScalarToken.TheVariants as scalar
 use Rattle.juniper_tokens.specs.declared.token_range.TokenRange.{TokenRange}
 use Rattle.juniper_tokens.specs.declared.lexer.text.Border.{Border}
 use Rattle.juniper_tokens.specs.declared.error.LexFailure.{LexFailure}
 use Rattle.juniper_tokens.specs.declared.error.LexFailure.TheVariants as failures
-use Rattle.juniper_tokens.specs.Tokens.{token_kind, token_text, view_token}
+use Rattle.juniper_tokens.specs.Tokens.{kind_text, token_kind, token_text, view_token}
 use Rattle.juniper_tokens.specs.ByteRuns.{byte_at}
 use Rattle.juniper_tokens.specs.Borders.{IsBorder, EndsQuoted, quotes}
+use Rattle.graphql_lexical.specs.Tokens as grammar
 use Rattle.juniper_tokens.specs.Lexing.{LexerState, GivesItem}
 use Rattle.juniper_tokens.specs.LexingByScan.{past_gap, Scanned, Ends}
-use Rattle.juniper_tokens.specs.Ranges.{kind_text, range_slice, range_lexeme, IsRange, GivesRange, GivesRangeItem}
+use Rattle.juniper_tokens.specs.Ranges.{range_slice, range_lexeme, IsRange, GivesRange, GivesRangeItem}
 use Rattle.juniper_tokens.proofs.LexingByScan.{byte_at_on, gives_by_scan}
 
 -- ---- from border to border
@@ -62,27 +63,19 @@ read_spelled : (rest : List ℕ) (n : ℕ) (kind k : Kind) (text : List ℕ) →
 read_spelled [] n kind k text r e no_end = absurd (no_end (sym e ∙ r.1))
 read_spelled (c ∷ cs) n kind k text r e no_end = subst (Spells (take n (c ∷ cs))) e r.spells
 
--- the kind of a token leaves its text open, or fixes it
-kept_text : (t : Token) (x : List ℕ) → token_text t ≡ x → token_text t ≡ kind_text (token_kind t) x
-kept_text (token.Name s) x e = e
-kept_text (token.Scalar (scalar.String s)) x e = e
-kept_text (token.Scalar (scalar.BlockString s)) x e = e
-kept_text (token.Scalar (scalar.Float s)) x e = e
-kept_text (token.Scalar (scalar.Int s)) x e = e
-kept_text token.ExclamationMark x e = refl
-kept_text token.Dollar x e = refl
-kept_text token.ParenOpen x e = refl
-kept_text token.ParenClose x e = refl
-kept_text token.BracketOpen x e = refl
-kept_text token.BracketClose x e = refl
-kept_text token.CurlyOpen x e = refl
-kept_text token.CurlyClose x e = refl
-kept_text token.Ellipsis x e = refl
-kept_text token.Colon x e = refl
-kept_text token.Equals x e = refl
-kept_text token.At x e = refl
-kept_text token.Pipe x e = refl
-kept_text token.EndOfFile x e = refl
+-- the kind leaves the text open, or fixes it
+spelled_text : (s : Spelling) (whole : List ℕ) → IsSpelled s whole → between (grammar.quotes s) whole ≡ unwrap_or (fixed_text s) (between (grammar.quotes s) whole)
+spelled_text Names whole h = refl
+spelled_text Strings whole h = refl
+spelled_text BlockStrings whole h = refl
+spelled_text Floats whole h = refl
+spelled_text Ints whole h = refl
+spelled_text (Fixed text) whole h = h
+spelled_text NoText whole h = absurd h
+
+kept_text : (rest : List ℕ) (n : ℕ) (kind : Kind) (text : List ℕ) → Reads rest n kind text → text ≡ kind_text kind text
+kept_text [] n kind text r = r.2 ∙ sym (ap₂ kind_text r.1 r.2)
+kept_text (c ∷ cs) n kind text r = subst (λ t. t ≡ kind_text kind t) (sym r.text_is) (spelled_text (spelling kind) (take n (c ∷ cs)) r.spells)
 
 abbrev made : Kind → List ℕ → Place → Place → Lexeme
 made kind text start end = record { kind = kind; text = text; span = record { start = start; end = end } }
@@ -109,7 +102,7 @@ range_given s token start end t b e h =
     let size : end.characters - start.characters ≡ h.0 = omega (arith, b.from, b.to, h.2) in
     let forward : start.characters ≤ end.characters = omega (arith, b.from, b.to, h.2) in
     let slice : take h.0 rest ≡ range_slice s.source r = sym (ap₂ (λ m k. take m (drop k s.source)) size b.from) in
-    let text : token_text token.item ≡ kind_text kind (text_of kind (range_slice s.source r)) = kept_text token.item _ (read_text rest h.0 kind _ reads ∙ ap (text_of kind) slice) in
+    let text : token_text token.item ≡ kind_text kind (text_of kind (range_slice s.source r)) = kept_text rest h.0 kind _ reads ∙ ap (kind_text kind) (read_text rest h.0 kind _ reads ∙ ap (text_of kind) slice) in
     let ends : j + h.0 ≡ end.characters = omega (arith, b.to, h.2) in
     let inside : end.characters - start.characters ≤ length (drop start.characters s.source) =
     subst (λ m. m ≤ length (drop start.characters s.source)) (sym size) (subst (λ i. h.0 ≤ length (drop i s.source)) (sym b.from) (read_within rest h.0 kind _ reads)) in

@@ -11,33 +11,11 @@ use Rattle.juniper_tokens.specs.declared.token.Token.{Token}
 use Rattle.juniper_tokens.specs.declared.token_range.TokenRange.{TokenRange}
 use Rattle.juniper_tokens.specs.declared.error.LexFailure.{LexFailure}
 use Rattle.juniper_tokens.specs.declared.error.LexFailure.TheVariants as failure
-use Rattle.juniper_tokens.specs.Tokens.{view_token}
+use Rattle.juniper_tokens.specs.Tokens.{kind_text, view_token}
 use Rattle.juniper_tokens.specs.Borders.{IsBorder, EndsQuoted}
 use Rattle.juniper_tokens.specs.LineTables.{Lines, lines_of}
 use Rattle.juniper_tokens.specs.Lexing.{LexerState, GivesFault, WantsMemory}
 use Rattle.juniper_tokens.specs.Cursor.{EndsOnce, first_of}
-
--- the text of a token of that kind, where the kind leaves it open this text
-abbrev pub kind_text : Kind → List ℕ → List ℕ
-kind_text kinds.Name text = text
-kind_text kinds.String text = text
-kind_text kinds.BlockString text = text
-kind_text kinds.Float text = text
-kind_text kinds.Int text = text
-kind_text kinds.ExclamationMark text = 33 ∷ []
-kind_text kinds.Dollar text = 36 ∷ []
-kind_text kinds.ParenOpen text = 40 ∷ []
-kind_text kinds.ParenClose text = 41 ∷ []
-kind_text kinds.BracketOpen text = 91 ∷ []
-kind_text kinds.BracketClose text = 93 ∷ []
-kind_text kinds.CurlyOpen text = 123 ∷ []
-kind_text kinds.CurlyClose text = 125 ∷ []
-kind_text kinds.Ellipsis text = 46 ∷ 46 ∷ 46 ∷ []
-kind_text kinds.Colon text = 58 ∷ []
-kind_text kinds.Equals text = 61 ∷ []
-kind_text kinds.At text = 64 ∷ []
-kind_text kinds.Pipe text = 124 ∷ []
-kind_text kinds.EndOfFile text = []
 
 -- the characters of a range
 abbrev pub range_slice : List ℕ → TokenRange → List ℕ

@@ -3,8 +3,8 @@ ghost use Rattle.std.specs.Prelude.{◌≡◌};
 ghost use Rattle.std.specs.Str.{chars};
 ghost use Rattle.graphql_lexical.specs.Tokens.{text_of};
 ghost use Rattle.juniper_tokens.specs.LineTables.{lines_of};
-ghost use Rattle.juniper_tokens.specs.Tokens.{token_kind, token_text, view_token};
-ghost use Rattle.juniper_tokens.specs.Ranges.{IsRange, kind_text, range_slice, range_lexeme};
+ghost use Rattle.juniper_tokens.specs.Tokens.{kind_text, token_kind, token_text, view_token};
+ghost use Rattle.juniper_tokens.specs.Ranges.{IsRange, range_slice, range_lexeme};
 
 use crate::lexer::text::{Border, text_before, text_from, unquoted};
 use crate::line_table::LineTable;
