@@ -1,5 +1,5 @@
 -- What holds of all kinds.
-use Rattle.std.proofs.Common.{◌≡◌, Bool, true, false, inl, inr}
+use Rattle.std.proofs.Common.{◌≡◌, true, false, inl, inr}
 use Rattle.std.proofs.lemmas.Bool.{cases_Bool}
 use denote.Enum.Bare.{same_true}
 use Rattle.graphql_lexical.specs.contracts.kind.Kind.{the_type}

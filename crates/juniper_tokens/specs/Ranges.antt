@@ -1,8 +1,7 @@
 -- Tokens as ranges of their source.
-use Rattle.std.specs.Prelude.{◌≡◌, ◌↔◌, ℕ, ◌-◌, ◌≤◌, true, false, List, [], ◌∷◌, take, drop, length, map, Option, Some, None, Result, Ok, Err}
+use Rattle.std.specs.Prelude.{◌≡◌, ◌↔◌, ℕ, ◌-◌, ◌≤◌, true, false, List, take, drop, length, map, Option, Some, None, Result, Ok, Err}
 use Rattle.std.specs.List.{All}
 use Rattle.graphql_lexical.specs.Place.{place}
-use Rattle.graphql_lexical.specs.declared.kind.Kind.{Kind}
 use Rattle.graphql_lexical.specs.declared.kind.Kind.TheVariants as kinds
 use Rattle.graphql_lexical.specs.Tokens.{text_of}
 use Rattle.graphql_lexical.specs.Cutting.{Lexeme, Stands}

@@ -33,26 +33,12 @@ impl TokenRange {
             bytes: self.end.bytes - self.start.bytes,
             characters: self.end.characters - self.start.characters,
         };
-        match self.kind {
-            Kind::String => unquoted(rest, end, 1),
-            Kind::BlockString => unquoted(rest, end, 3),
-            Kind::Name
-            | Kind::Float
-            | Kind::Int
-            | Kind::ExclamationMark
-            | Kind::Dollar
-            | Kind::ParenOpen
-            | Kind::ParenClose
-            | Kind::BracketOpen
-            | Kind::BracketClose
-            | Kind::CurlyOpen
-            | Kind::CurlyClose
-            | Kind::Ellipsis
-            | Kind::Colon
-            | Kind::Equals
-            | Kind::At
-            | Kind::Pipe
-            | Kind::EndOfFile => text_before(rest, end),
+        if self.kind == Kind::String {
+            unquoted(rest, end, 1)
+        } else if self.kind == Kind::BlockString {
+            unquoted(rest, end, 3)
+        } else {
+            text_before(rest, end)
         }
     }
 
