@@ -7,7 +7,7 @@ use Rattle.std.proofs.lemmas.Bool.{eqb-true}
 use Rattle.std.proofs.lemmas.Option.{none-some, same_Some}
 use Rattle.graphql_lexical.specs.Characters.{is_digit, is_name_character, is_exponent_mark, is_sign, is_hex}
 use Rattle.graphql_lexical.specs.Kinds.{Kind, String, Ellipsis, all_kinds, Spelling, Names, Strings, BlockStrings, Floats, Ints, Fixed, NoText, spelling, fixed_text, only_character, character_of}
-use Rattle.graphql_lexical.specs.Tokens.{IsName, AreSomeDigits, IsZero, IsCounting, IsLongInteger, IsInteger, IsFraction, IsExponent, IsDecimal, IsUnit, plain, escape, unicode, AreUnits, IsSpelled, Spells, punctuator, mark}
+use Rattle.graphql_lexical.specs.Tokens.{IsName, AreSomeDigits, IsZero, IsCounting, IsLongInteger, IsInteger, IsFraction, IsExponent, IsDecimal, IsUnit, plain, escape, unicode, AreUnits, Admits, Spells, punctuator, mark}
 use Rattle.graphql_lexical.specs.Scan.{State, Start, Done, Dot, Dots, InName, Minus, Zero, Digits, Point, Fraction, Mark, Sign, Exponent, Units, Backslash, Hex0, Hex1, HexD, Hex2, Hex3, is_hex_d, step, Quote, Quotes, InBlock, Block, Inside, block_step}
 use Rattle.graphql_lexical.proofs.Runs.{run, kept_run, run_on}
 use Rattle.graphql_lexical.proofs.Numbers.{IsPair, pair_d, pair_other, scalar_from}
@@ -119,7 +119,7 @@ found_passes test (y ∷ ys) x e = if_then (λ z. test z ≡ true) (test y) y (f
 pub punctuator_spells : (c : ℕ) (kind : Kind) → punctuator c ≡ Some kind → Spells (c ∷ []) kind
 punctuator_spells c kind e = by_spelling (spelling kind) (found_passes (λ k. option_map_or (λ d. eqb c d) (character_of k) false) all_kinds kind e)
   where
-    by_spelling : (s : Spelling) → option_map_or (λ d. eqb c d) (option_and_then only_character (fixed_text s)) false ≡ true → IsSpelled s (c ∷ [])
+    by_spelling : (s : Spelling) → option_map_or (λ d. eqb c d) (option_and_then only_character (fixed_text s)) false ≡ true → Admits s (c ∷ [])
     by_spelling (Fixed (d ∷ [])) h = ap (λ (x : ℕ). x ∷ []) (eqb-true c d h)
     by_spelling (Fixed []) h = absurd cc
     by_spelling (Fixed (d ∷ f ∷ ds)) h = absurd cc

@@ -10,7 +10,7 @@ use Rattle.std.proofs.lemmas.Option.{none-some}
 use Rattle.graphql_lexical.specs.Characters.{is_white, is_digit, is_name_character, is_exponent_mark}
 use Rattle.graphql_lexical.specs.Place.{Place, place, place_after}
 use Rattle.graphql_lexical.specs.Kinds.{Kind, Name, EndOfFile, Spelling, Names, Strings, BlockStrings, Floats, Ints, Fixed, NoText, spelling, fixed_text, only_character, character_of}
-use Rattle.graphql_lexical.specs.Tokens.{IsSpelled, Spells, text_of}
+use Rattle.graphql_lexical.specs.Tokens.{Admits, Spells, text_of}
 use Rattle.graphql_lexical.specs.Reading.{Longest, BeginsWithDigit, Reads}
 use Rattle.graphql_lexical.specs.Cutting.{IsGap, Lexeme, Stands, Leads, Cut}
 use Rattle.graphql_lexical.specs.Machines.{reach}
@@ -103,7 +103,7 @@ fixed_apart = each_kind (λ k. IfSome (character_of k) (λ c. IsTrue (is_apart c
 lone_apart : (c : ℕ) (kind : Kind) → IsTrue (is_lone kind) → Spells (c ∷ []) kind → IsApart c
 lone_apart c kind l s = apart c (by_spelling (spelling kind) (fixed_apart kind) l s)
   where
-    by_spelling : (s : Spelling) → IfSome (option_and_then only_character (fixed_text s)) (λ c. IsTrue (is_apart c)) → IsTrue (is_some (option_and_then only_character (fixed_text s))) → IsSpelled s (c ∷ []) → IsTrue (is_apart c)
+    by_spelling : (s : Spelling) → IfSome (option_and_then only_character (fixed_text s)) (λ c. IsTrue (is_apart c)) → IsTrue (is_some (option_and_then only_character (fixed_text s))) → Admits s (c ∷ []) → IsTrue (is_apart c)
     by_spelling (Fixed text) a l e = subst (λ t. IfSome (only_character t) (λ c. IsTrue (is_apart c))) (sym e) a
     by_spelling Names a l e = absurd cc
     by_spelling Strings a l e = absurd cc

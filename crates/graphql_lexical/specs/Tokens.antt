@@ -112,19 +112,19 @@ IsBlockString text = (units : List ℕ) × (text ≡ mark ++ (units ++ mark)) ×
 
 -- ---- tokens
 
--- the whole text is spelled so
-abbrev pub IsSpelled : Spelling → List ℕ → Type 0
-IsSpelled Names text = IsName text
-IsSpelled Strings text = IsString text
-IsSpelled BlockStrings text = IsBlockString text
-IsSpelled Floats text = IsFloat text
-IsSpelled Ints text = IsInteger text
-IsSpelled (Fixed fixed) text = text ≡ fixed
-IsSpelled NoText text = ⊥
+-- the whole text is a token that is spelled so
+abbrev pub Admits : Spelling → List ℕ → Type 0
+Admits Names text = IsName text
+Admits Strings text = IsString text
+Admits BlockStrings text = IsBlockString text
+Admits Floats text = IsFloat text
+Admits Ints text = IsInteger text
+Admits (Fixed fixed) text = text ≡ fixed
+Admits NoText text = ⊥
 
 -- the whole text is a token of this kind
 abbrev pub Spells : List ℕ → Kind → Type 0
-Spells text kind = IsSpelled (spelling kind) text
+Spells text kind = Admits (spelling kind) text
 
 -- the punctuator that this character is
 abbrev pub punctuator : ℕ → Option Kind

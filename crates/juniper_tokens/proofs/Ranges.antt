@@ -7,7 +7,7 @@ use Rattle.graphql_lexical.specs.Place.{Place, place}
 use Rattle.graphql_lexical.specs.declared.kind.Kind.{Kind}
 use Rattle.graphql_lexical.specs.declared.kind.Kind.TheVariants as kinds
 use Rattle.graphql_lexical.specs.Kinds.{Spelling, Names, Strings, BlockStrings, Floats, Ints, Fixed, NoText, spelling, fixed_text}
-use Rattle.graphql_lexical.specs.Tokens.{IsSpelled, between, text_of, Spells}
+use Rattle.graphql_lexical.specs.Tokens.{Admits, between, text_of, Spells}
 use Rattle.graphql_lexical.specs.Reading.{Reads}
 use Rattle.graphql_lexical.specs.Cutting.{Lexeme, Stands}
 use Rattle.graphql_lexical.specs.Scan.{scan}
@@ -64,7 +64,7 @@ read_spelled [] n kind k text r e no_end = absurd (no_end (sym e ∙ r.1))
 read_spelled (c ∷ cs) n kind k text r e no_end = subst (Spells (take n (c ∷ cs))) e r.spells
 
 -- the kind leaves the text open, or fixes it
-spelled_text : (s : Spelling) (whole : List ℕ) → IsSpelled s whole → between (grammar.quotes s) whole ≡ unwrap_or (fixed_text s) (between (grammar.quotes s) whole)
+spelled_text : (s : Spelling) (whole : List ℕ) → Admits s whole → between (grammar.quotes s) whole ≡ unwrap_or (fixed_text s) (between (grammar.quotes s) whole)
 spelled_text Names whole h = refl
 spelled_text Strings whole h = refl
 spelled_text BlockStrings whole h = refl
