@@ -5,7 +5,7 @@ use Rattle.std.proofs.Math.Nat.{eq-or-lt_of_le}
 use Rattle.std.proofs.lemmas.List.{take-append-le}
 use Rattle.std.proofs.lemmas.List.Sums.{sum_by-cons, sum_by-append}
 use Rattle.graphql_lexical.specs.declared.kind.Kind.{Kind}
-use Rattle.graphql_lexical.specs.declared.kind.Kind.TheVariants.{ParenOpen, ParenClose, BracketOpen, BracketClose, CurlyOpen, CurlyClose, EndOfFile}
+use Rattle.graphql_lexical.specs.declared.kind.Kind.TheVariants.{EndOfFile}
 use Rattle.graphql_lexical.specs.Cutting.{Lexeme}
 use Rattle.graphql_lexical.specs.Nesting.{is_opening, is_closing, opened, closed, IsFirstDeeper, end_behind, ended_by}
 use Rattle.graphql_lexical.proofs.DeepTokens.{opened_push, closed_push, deep_count, opens, opening_no_end}
@@ -18,6 +18,8 @@ use Rattle.graphql_grammar.specs.Depth.{BeginsDocument}
 use Rattle.graphql_grammar.proofs.Elements.{all_front, all_join}
 use Rattle.graphql_grammar.proofs.Nested as nested
 use Rattle.graphql_grammar.proofs.Nested.{is_plain, IsPair}
+use Rattle.graphql_grammar.proofs.TokenTests.{both}
+use Rattle.std.proofs.lemmas.Bool.{not-true}
 use Rattle.graphql_grammar.proofs.Faulty.{front_begins, split}
 use Rattle.graphql_grammar.proofs.OneFault.{same_parts}
 use Rattle.graphql_grammar.proofs.Readers.{document_reads}
@@ -43,16 +45,10 @@ join us vs a b =
     sum_by-append (λ (x : Lexeme). one (is_opening x.kind)) us vs ∙ ap₂ (λ m n. m + n) a b ∙ sym (sum_by-append (λ (x : Lexeme). one (is_closing x.kind)) us vs)
 
 plain_opens : (k : Kind) → is_plain k ≡ true → is_opening k ≡ false
-plain_opens ParenOpen e = absurd (cc e)
-plain_opens BracketOpen e = absurd (cc e)
-plain_opens CurlyOpen e = absurd (cc e)
-plain_opens _ e = refl
+plain_opens k e = not-true _ (both _ _ e).0
 
 plain_closes : (k : Kind) → is_plain k ≡ true → is_closing k ≡ false
-plain_closes ParenClose e = absurd (cc e)
-plain_closes BracketClose e = absurd (cc e)
-plain_closes CurlyClose e = absurd (cc e)
-plain_closes _ e = refl
+plain_closes k e = not-true _ (both _ _ (both _ _ e).1).0
 
 -- a scalar is no bracket
 scalar_opens : (k : Kind) → IsScalarKind k → (is_opening k ≡ false) × (is_closing k ≡ false)

@@ -1,53 +1,39 @@
 -- The scalar tokens of a document are those that its scalar type reads.
-use Rattle.std.proofs.Common.{Bool, true, false, ◌≡◌, ◌∷◌, [], List, ◌++◌, refl, sym, ap, ◌∙◌, inl, inr, subst, Ok}
+use Rattle.std.proofs.Common.{true, false, ◌≡◌, ◌∷◌, [], List, ◌++◌, sym, ap, ◌∙◌, inl, inr, subst, Ok}
 use Rattle.std.specs.Result.{is_ok}
 use Rattle.std.specs.List.{AllByRecursion}
 use Rattle.graphql_lexical.specs.declared.kind.Kind.{Kind}
-use Rattle.graphql_lexical.specs.declared.kind.Kind.TheVariants.{String, BlockString, Float, Int, EndOfFile}
+use Rattle.graphql_lexical.specs.declared.kind.Kind.TheVariants.{EndOfFile}
 use Rattle.graphql_lexical.specs.Cutting.{Lexeme}
 use Rattle.graphql_grammar.specs.Tree.{Scalars, Definition}
 use Rattle.graphql_grammar.specs.Grammar.{IsScalarKind, IsDocument}
 use Rattle.graphql_grammar.specs.ScalarTokens.{IsRead}
 use Rattle.graphql_grammar.proofs.Elements.{all_join}
 use Rattle.graphql_grammar.proofs.Nested as nested
-use Rattle.graphql_grammar.proofs.Nested.{is_plain, IsPair}
-
-is_scalar : Kind → Bool
-is_scalar String = true
-is_scalar BlockString = true
-is_scalar Float = true
-is_scalar Int = true
-is_scalar _ = false
+use Rattle.graphql_grammar.proofs.Nested.{is_plain, is_scalar, IsPair}
+use Rattle.graphql_grammar.proofs.TokenTests.{both}
+use Rattle.std.proofs.lemmas.Bool.{not-true}
 
 told_apart : (k : Kind) → is_scalar k ≡ false → IsScalarKind k → ⊥
-unfolding is_scalar
 told_apart k n (inl e) = let z = sym n ∙ ap is_scalar e in absurd (cc z)
 told_apart k n (inr (inl e)) = let z = sym n ∙ ap is_scalar e in absurd (cc z)
 told_apart k n (inr (inr (inl e))) = let z = sym n ∙ ap is_scalar e in absurd (cc z)
 told_apart k n (inr (inr (inr e))) = let z = sym n ∙ ap is_scalar e in absurd (cc z)
 
 plain_is_none : (k : Kind) → is_plain k ≡ true → is_scalar k ≡ false
-unfolding is_scalar
-plain_is_none String p = absurd (cc p)
-plain_is_none BlockString p = absurd (cc p)
-plain_is_none Float p = absurd (cc p)
-plain_is_none Int p = absurd (cc p)
-plain_is_none _ p = refl
+plain_is_none k p = not-true _ (both _ _ (both _ _ (both _ _ p).1).1).0
 
 opening_is_none : (o c : Kind) → IsPair o c → is_scalar o ≡ false
-unfolding is_scalar
 opening_is_none o c (inl (a, b)) = ap is_scalar a
 opening_is_none o c (inr (inl (a, b))) = ap is_scalar a
 opening_is_none o c (inr (inr (a, b))) = ap is_scalar a
 
 closing_is_none : (o c : Kind) → IsPair o c → is_scalar c ≡ false
-unfolding is_scalar
 closing_is_none o c (inl (a, b)) = ap is_scalar b
 closing_is_none o c (inr (inl (a, b))) = ap is_scalar b
 closing_is_none o c (inr (inr (a, b))) = ap is_scalar b
 
 end_is_none : (k : Kind) → k ≡ EndOfFile → is_scalar k ≡ false
-unfolding is_scalar
 end_is_none k e = ap is_scalar e
 
 module _ {C F : Type 0} (S : Scalars C F) where

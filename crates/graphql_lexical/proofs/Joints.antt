@@ -1,21 +1,23 @@
 -- A cut goes on where texts are put together.
 use Rattle.graphql_lexical.specs.Laws.{HasFewTokens}
 use Rattle.std.specs.List.{AllByRecursion}
-use Rattle.std.proofs.Common.{◌≡◌, ◌≢◌, ℕ, ◌+◌, ◌-◌, ◌<◌, ◌≤◌, inl, inr, false, eqb, List, [], ◌∷◌, ◌++◌, length, take, drop, Option, Some, None, Result, Ok, IsTrue, refl, sym, ap, ap₂, ◌∙◌, subst, arith, length-drop, length-take, append_assoc, take-append-drop, drop-drop, zero-le}
+use Rattle.std.proofs.Common.{◌≡◌, ◌≢◌, ℕ, ◌+◌, ◌-◌, ◌<◌, ◌≤◌, inl, inr, Bool, false, eqb, not, ◌&&◌, List, [], ◌∷◌, ◌++◌, length, take, drop, Option, Some, None, Result, Ok, IsTrue, refl, sym, ap, ap₂, ◌∙◌, subst, arith, length-drop, length-take, append_assoc, take-append-drop, drop-drop, zero-le}
+use Rattle.std.specs.Option.{option_and_then, is_some, IfSome}
 use Rattle.std.proofs.lemmas.List.{take-append-le, drop-append-le, drop_at, length-take-le, same_from_push}
 use Rattle.std.proofs.lemmas.Bool.{cond-false}
 use Rattle.std.proofs.lemmas.Bool.Decides.{nat_tests}
 use Rattle.std.proofs.lemmas.Option.{none-some}
 use Rattle.graphql_lexical.specs.Characters.{is_white, is_digit, is_name_character, is_exponent_mark}
 use Rattle.graphql_lexical.specs.Place.{Place, place, place_after}
-use Rattle.graphql_lexical.specs.Kinds.{Kind, Name, ExclamationMark, Dollar, ParenOpen, ParenClose, BracketOpen, BracketClose, CurlyOpen, CurlyClose, Colon, Equals, At, Pipe, EndOfFile}
-use Rattle.graphql_lexical.specs.Tokens.{Spells, text_of}
+use Rattle.graphql_lexical.specs.Kinds.{Kind, Name, EndOfFile, Spelling, Names, Strings, BlockStrings, Floats, Ints, Fixed, NoText, spelling, fixed_text, only_character, character_of}
+use Rattle.graphql_lexical.specs.Tokens.{Admits, Spells, text_of}
 use Rattle.graphql_lexical.specs.Reading.{Longest, BeginsWithDigit, Reads}
 use Rattle.graphql_lexical.specs.Cutting.{IsGap, Lexeme, Stands, Leads, Cut}
 use Rattle.graphql_lexical.specs.Machines.{reach}
 use Rattle.graphql_lexical.specs.Scan.{State, Start, Done, InName, Zero, Digits, Fraction, Exponent, step, Found, Missed, answer, scan, gap_step, gap_size, Quotes, InBlock, Closed}
 use Rattle.graphql_lexical.specs.Alike.{Alike, AllAlike}
 use Rattle.graphql_lexical.specs.Joining.{is_lone, BeginsApart, IsSeam, Joins}
+use Rattle.graphql_lexical.proofs.EachKind.{each_kind}
 use Rattle.graphql_lexical.proofs.Runs.{Stops, Reaches, reach_is, reach_on, Longest_same}
 use Rattle.graphql_lexical.proofs.Spelled.{accepts}
 use Rattle.graphql_lexical.proofs.Readings.{Reached, reached, Finds, answer_finds, accepts_answer, scan_reads, reads_scan}
@@ -82,29 +84,33 @@ record IsApart (c : ℕ) : Type 0 where
   no_mark : is_exponent_mark c ≡ false
   no_quote : eqb c 34 ≡ false
 
-white_apart : (c : ℕ) → IsTrue (is_white c) → IsApart c
-white_apart c h = record { no_name = grind (arith, nat_tests); no_digit = grind (arith, nat_tests); no_point = grind (arith, nat_tests); no_mark = grind (arith, nat_tests); no_quote = grind (arith, nat_tests) }
+-- the same, by one test
+is_apart : ℕ → Bool
+is_apart c = not (is_name_character c) && (not (eqb c 46) && not (eqb c 34))
 
-head_apart : (c d : ℕ) → c ∷ [] ≡ d ∷ [] → IsApart d → IsApart c
-head_apart c d e h = subst IsApart (sym (head_is c d e)) h
-  where
-    head_is : (c d : ℕ) → c ∷ [] ≡ d ∷ [] → c ≡ d
-    head_is c d e = cc
+apart : (c : ℕ) → IsTrue (is_apart c) → IsApart c
+unfolding is_apart
+apart c h = record { no_name = grind (arith, nat_tests); no_digit = grind (arith, nat_tests); no_point = grind (arith, nat_tests); no_mark = grind (arith, nat_tests); no_quote = grind (arith, nat_tests) }
+
+white_apart : (c : ℕ) → IsTrue (is_white c) → IsTrue (is_apart c)
+unfolding is_apart
+white_apart c h = grind (arith, nat_tests)
+
+fixed_apart : (kind : Kind) → IfSome (character_of kind) (λ c. IsTrue (is_apart c))
+unfolding is_apart
+fixed_apart = each_kind (λ k. IfSome (character_of k) (λ c. IsTrue (is_apart c))) (tt, tt, tt, tt, tt, refl, refl, refl, refl, refl, refl, refl, refl, tt, refl, refl, refl, refl, tt)
 
 lone_apart : (c : ℕ) (kind : Kind) → IsTrue (is_lone kind) → Spells (c ∷ []) kind → IsApart c
-lone_apart c ExclamationMark l s = head_apart c 33 s (record { no_name = refl; no_digit = refl; no_point = refl; no_mark = refl; no_quote = refl })
-lone_apart c Dollar l s = head_apart c 36 s (record { no_name = refl; no_digit = refl; no_point = refl; no_mark = refl; no_quote = refl })
-lone_apart c ParenOpen l s = head_apart c 40 s (record { no_name = refl; no_digit = refl; no_point = refl; no_mark = refl; no_quote = refl })
-lone_apart c ParenClose l s = head_apart c 41 s (record { no_name = refl; no_digit = refl; no_point = refl; no_mark = refl; no_quote = refl })
-lone_apart c BracketOpen l s = head_apart c 91 s (record { no_name = refl; no_digit = refl; no_point = refl; no_mark = refl; no_quote = refl })
-lone_apart c BracketClose l s = head_apart c 93 s (record { no_name = refl; no_digit = refl; no_point = refl; no_mark = refl; no_quote = refl })
-lone_apart c CurlyOpen l s = head_apart c 123 s (record { no_name = refl; no_digit = refl; no_point = refl; no_mark = refl; no_quote = refl })
-lone_apart c CurlyClose l s = head_apart c 125 s (record { no_name = refl; no_digit = refl; no_point = refl; no_mark = refl; no_quote = refl })
-lone_apart c Colon l s = head_apart c 58 s (record { no_name = refl; no_digit = refl; no_point = refl; no_mark = refl; no_quote = refl })
-lone_apart c Equals l s = head_apart c 61 s (record { no_name = refl; no_digit = refl; no_point = refl; no_mark = refl; no_quote = refl })
-lone_apart c At l s = head_apart c 64 s (record { no_name = refl; no_digit = refl; no_point = refl; no_mark = refl; no_quote = refl })
-lone_apart c Pipe l s = head_apart c 124 s (record { no_name = refl; no_digit = refl; no_point = refl; no_mark = refl; no_quote = refl })
-lone_apart c _ l s = absurd cc
+lone_apart c kind l s = apart c (by_spelling (spelling kind) (fixed_apart kind) l s)
+  where
+    by_spelling : (s : Spelling) → IfSome (option_and_then only_character (fixed_text s)) (λ c. IsTrue (is_apart c)) → IsTrue (is_some (option_and_then only_character (fixed_text s))) → Admits s (c ∷ []) → IsTrue (is_apart c)
+    by_spelling (Fixed text) a l e = subst (λ t. IfSome (only_character t) (λ c. IsTrue (is_apart c))) (sym e) a
+    by_spelling Names a l e = absurd cc
+    by_spelling Strings a l e = absurd cc
+    by_spelling BlockStrings a l e = absurd cc
+    by_spelling Floats a l e = absurd cc
+    by_spelling Ints a l e = absurd cc
+    by_spelling NoText a l e = absurd e
 
 apart_stops : (q : State) (kind : Kind) (c : ℕ) → accepts q ≡ Some kind → IsApart c → step q c ≡ None
 apart_stops (Done k) kind c a h = refl
@@ -119,7 +125,7 @@ apart_stops _ kind c a h = absurd (none-some kind a)
 
 apart_ends : (q : State) (kind : Kind) (b : List ℕ) → accepts q ≡ Some kind → BeginsApart b → Ends q b
 apart_ends q kind [] a h = record { stops = tt; no_digit = λ z d. d }
-apart_ends q kind (c ∷ b) a (inl w) = let x = white_apart c w in record { stops = apart_stops q kind c a x; no_digit = λ z d. let e = sym d ∙ x.no_digit in absurd cc }
+apart_ends q kind (c ∷ b) a (inl w) = let x = apart c (white_apart c w) in record { stops = apart_stops q kind c a x; no_digit = λ z d. let e = sym d ∙ x.no_digit in absurd cc }
 apart_ends q kind (c ∷ b) a (inr w) = let x = lone_apart c w.0 w.1 w.2 in record { stops = apart_stops q kind c a x; no_digit = λ z d. let e = sym d ∙ x.no_digit in absurd cc }
 
 done_ends : (k : Kind) (b : List ℕ) → Ends (Done k) b

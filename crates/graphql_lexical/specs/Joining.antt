@@ -1,33 +1,16 @@
 -- Texts that are put together.
-use Rattle.std.specs.Prelude.{◌≡◌, ℕ, ◌⊎◌, Bool, true, false, List, [], ◌∷◌, ◌++◌, length, IsTrue}
+use Rattle.std.specs.Prelude.{◌≡◌, ℕ, ◌⊎◌, Bool, List, [], ◌∷◌, ◌++◌, length, IsTrue}
+use Rattle.std.specs.Option.{is_some}
 use Rattle.graphql_lexical.specs.Characters.{is_white}
 use Rattle.graphql_lexical.specs.Place.{place}
-use Rattle.graphql_lexical.specs.Kinds.{Kind, Name, String, Float, Int, ExclamationMark, Dollar, ParenOpen, ParenClose, BracketOpen, BracketClose, CurlyOpen, CurlyClose, Ellipsis, Colon, Equals, At, Pipe, EndOfFile, BlockString}
+use Rattle.graphql_lexical.specs.Kinds.{Kind, character_of}
 use Rattle.graphql_lexical.specs.Tokens.{Spells}
 use Rattle.graphql_lexical.specs.Cutting.{Lexeme, Cut}
 use Rattle.graphql_lexical.specs.Alike.{AllAlike}
 
 -- a punctuator of one character
 abbrev pub is_lone : Kind → Bool
-is_lone Name = false
-is_lone String = false
-is_lone BlockString = false
-is_lone Float = false
-is_lone Int = false
-is_lone ExclamationMark = true
-is_lone Dollar = true
-is_lone ParenOpen = true
-is_lone ParenClose = true
-is_lone BracketOpen = true
-is_lone BracketClose = true
-is_lone CurlyOpen = true
-is_lone CurlyClose = true
-is_lone Ellipsis = false
-is_lone Colon = true
-is_lone Equals = true
-is_lone At = true
-is_lone Pipe = true
-is_lone EndOfFile = false
+is_lone kind = is_some (character_of kind)
 
 -- empty, or beginning with a white character or a punctuator of one character
 abbrev pub BeginsApart : List ℕ → Type 0

@@ -3,7 +3,7 @@
 use Rattle.std.specs.Prelude.{ℕ, zero, suc, ◌+◌, ◌-◌, Bool, true, false, ◌&&◌, ◌||◌, List, [], ◌∷◌, length, take, drop, ◌==◌, nat_lt, nat_le, if◌then◌else◌, Option, Some, None, Result, Ok, Err, max, option_map}
 use Rattle.graphql_lexical.specs.Characters.{is_source, is_white, is_comment_character, is_line_end, is_digit, is_nonzero_digit, is_name_start, is_name_character, is_exponent_mark, is_sign, is_hex, is_plain, is_escape}
 use Rattle.graphql_lexical.specs.Place.{Place, place}
-use Rattle.graphql_lexical.specs.Kinds.{Kind, Name, String, Float, Int, ExclamationMark, Dollar, ParenOpen, ParenClose, BracketOpen, BracketClose, CurlyOpen, CurlyClose, Ellipsis, Colon, Equals, At, Pipe, EndOfFile, LexicalError, UnknownCharacter, UnexpectedCharacter, UnterminatedString, UnknownCharacterInString, UnknownEscapeSequence, UnexpectedEndOfFile, BlockString}
+use Rattle.graphql_lexical.specs.Kinds.{Kind, Name, String, Float, Int, Ellipsis, EndOfFile, same_kind, LexicalError, UnknownCharacter, UnexpectedCharacter, UnterminatedString, UnknownCharacterInString, UnknownEscapeSequence, UnexpectedEndOfFile, BlockString}
 use Rattle.graphql_lexical.specs.Tokens.{text_of, punctuator}
 use Rattle.graphql_lexical.specs.Reading.{counted}
 use Rattle.graphql_lexical.specs.Cutting.{Lexeme}
@@ -206,25 +206,7 @@ with_first x (Ok xs) = Ok (x ∷ xs)
 with_first x (Err e) = Err e
 
 abbrev pub is_end : Kind → Bool
-is_end Name = false
-is_end String = false
-is_end BlockString = false
-is_end Float = false
-is_end Int = false
-is_end ExclamationMark = false
-is_end Dollar = false
-is_end ParenOpen = false
-is_end ParenClose = false
-is_end BracketOpen = false
-is_end BracketClose = false
-is_end CurlyOpen = false
-is_end CurlyClose = false
-is_end Ellipsis = false
-is_end Colon = false
-is_end Equals = false
-is_end At = false
-is_end Pipe = false
-is_end EndOfFile = true
+is_end kind = same_kind kind EndOfFile
 
 abbrev pub lexeme_at : List ℕ → ℕ → Found → Lexeme
 lexeme_at source j f = record { kind = f.kind; text = f.text; span = record { start = place source j; end = place source (j + f.size) } }

@@ -1,8 +1,9 @@
 -- Which texts are tokens.
-use Rattle.std.specs.Prelude.{◌≡◌, ◌≢◌, ℕ, ◌+◌, ◌-◌, ◌*◌, ◌<◌, ◌⊎◌, List, [], ◌∷◌, ◌++◌, length, take, drop, IsTrue, nat_le, ◌==◌, if◌then◌else◌, Option, Some, None}
-use Rattle.std.specs.List.{AllByRecursion, concat}
+use Rattle.std.specs.Prelude.{◌≡◌, ◌≢◌, ℕ, ◌+◌, ◌-◌, ◌*◌, ◌<◌, ◌⊎◌, List, [], ◌∷◌, ◌++◌, length, take, drop, IsTrue, nat_le, ◌==◌, if◌then◌else◌, Option, false}
+use Rattle.std.specs.List.{AllByRecursion, concat, find}
+use Rattle.std.specs.Option.{option_map_or}
 use Rattle.graphql_lexical.specs.Characters.{is_source, is_digit, is_nonzero_digit, is_name_start, is_name_character, is_exponent_mark, is_sign, is_hex, is_plain, is_escape}
-use Rattle.graphql_lexical.specs.Kinds.{Kind, Name, String, BlockString, Float, Int, ExclamationMark, Dollar, ParenOpen, ParenClose, BracketOpen, BracketClose, CurlyOpen, CurlyClose, Ellipsis, Colon, Equals, At, Pipe, EndOfFile}
+use Rattle.graphql_lexical.specs.Kinds.{Kind, all_kinds, Spelling, Names, Strings, BlockStrings, Floats, Ints, Fixed, NoText, spelling, character_of}
 
 -- the text is pieces of this kind, one after another
 abbrev pub IsMadeOf : (List ℕ → Type 0) → List ℕ → Type 0
@@ -111,66 +112,37 @@ IsBlockString text = (units : List ℕ) × (text ≡ mark ++ (units ++ mark)) ×
 
 -- ---- tokens
 
+-- the whole text is a token that is spelled so
+abbrev pub Admits : Spelling → List ℕ → Type 0
+Admits Names text = IsName text
+Admits Strings text = IsString text
+Admits BlockStrings text = IsBlockString text
+Admits Floats text = IsFloat text
+Admits Ints text = IsInteger text
+Admits (Fixed fixed) text = text ≡ fixed
+Admits NoText text = ⊥
+
 -- the whole text is a token of this kind
 abbrev pub Spells : List ℕ → Kind → Type 0
-Spells text Name = IsName text
-Spells text Int = IsInteger text
-Spells text Float = IsFloat text
-Spells text String = IsString text
-Spells text BlockString = IsBlockString text
-Spells text ExclamationMark = text ≡ 33 ∷ []
-Spells text Dollar = text ≡ 36 ∷ []
-Spells text ParenOpen = text ≡ 40 ∷ []
-Spells text ParenClose = text ≡ 41 ∷ []
-Spells text BracketOpen = text ≡ 91 ∷ []
-Spells text BracketClose = text ≡ 93 ∷ []
-Spells text CurlyOpen = text ≡ 123 ∷ []
-Spells text CurlyClose = text ≡ 125 ∷ []
-Spells text Ellipsis = text ≡ 46 ∷ 46 ∷ 46 ∷ []
-Spells text Colon = text ≡ 58 ∷ []
-Spells text Equals = text ≡ 61 ∷ []
-Spells text At = text ≡ 64 ∷ []
-Spells text Pipe = text ≡ 124 ∷ []
-Spells text EndOfFile = ⊥
+Spells text kind = Admits (spelling kind) text
 
 -- the punctuator that this character is
 abbrev pub punctuator : ℕ → Option Kind
-punctuator c =
-    if c == 33 then Some ExclamationMark
-    else (if c == 36 then Some Dollar
-    else (if c == 40 then Some ParenOpen
-    else (if c == 41 then Some ParenClose
-    else (if c == 91 then Some BracketOpen
-    else (if c == 93 then Some BracketClose
-    else (if c == 123 then Some CurlyOpen
-    else (if c == 125 then Some CurlyClose
-    else (if c == 58 then Some Colon
-    else (if c == 61 then Some Equals
-    else (if c == 64 then Some At
-    else (if c == 124 then Some Pipe
-    else None)))))))))))
+punctuator c = find (λ kind. option_map_or (λ d. c == d) (character_of kind) false) all_kinds
+
+-- what stands on each side of a text that is spelled so
+abbrev pub quotes : Spelling → List ℕ
+quotes Names = []
+quotes Strings = 34 ∷ []
+quotes BlockStrings = mark
+quotes Floats = []
+quotes Ints = []
+quotes (Fixed fixed) = []
+quotes NoText = []
 
 -- what a token of this kind has on each side of its text
 abbrev pub quotes_of : Kind → List ℕ
-quotes_of Name = []
-quotes_of String = 34 ∷ []
-quotes_of BlockString = mark
-quotes_of Float = []
-quotes_of Int = []
-quotes_of ExclamationMark = []
-quotes_of Dollar = []
-quotes_of ParenOpen = []
-quotes_of ParenClose = []
-quotes_of BracketOpen = []
-quotes_of BracketClose = []
-quotes_of CurlyOpen = []
-quotes_of CurlyClose = []
-quotes_of Ellipsis = []
-quotes_of Colon = []
-quotes_of Equals = []
-quotes_of At = []
-quotes_of Pipe = []
-quotes_of EndOfFile = []
+quotes_of kind = quotes (spelling kind)
 
 abbrev pub between : List ℕ → List ℕ → List ℕ
 between [] whole = whole

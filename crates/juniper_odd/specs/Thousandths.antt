@@ -1,7 +1,8 @@
 -- What `Thousandths` states of itself.
-use Rattle.std.specs.Prelude.{ℤ, List, [], ◌∷◌, Option, Some, None, Ok, Err, codes}
+use Rattle.std.specs.Prelude.{ℤ, List, [], ◌∷◌, Option, Some, None, Ok, Err, codes, if◌then◌else◌}
 use Rattle.graphql_lexical.specs.declared.kind.Kind.{Kind}
-use Rattle.graphql_lexical.specs.declared.kind.Kind.TheVariants.{Name, String, BlockString, Float, Int, ExclamationMark, Dollar, ParenOpen, ParenClose, BracketOpen, BracketClose, CurlyOpen, CurlyClose, Ellipsis, Colon, Equals, At, Pipe, EndOfFile}
+use Rattle.graphql_lexical.specs.declared.kind.Kind.TheVariants.{Float}
+use Rattle.graphql_lexical.specs.Kinds.{same_kind}
 use Rattle.juniper_tokens.specs.Errors.{ExpectedScalar}
 use Rattle.juniper_values.specs.Text.{Text}
 use Rattle.juniper_values.specs.Scalar.{Content, integer, text, boolean, custom, Reading}
@@ -26,27 +27,9 @@ milli_reading None = Err (ExpectedScalar (codes "Not thousandths"))
 abbrev pub float_reading : Text → Reading
 float_reading t = milli_reading (thousandths_in t)
 
--- any other token as the default type reads it
+-- a Float so, and any other token as the default type reads it
 abbrev pub thousandths_reading : Kind → Text → Reading
-thousandths_reading Name t = default_reading Name t
-thousandths_reading String t = default_reading String t
-thousandths_reading BlockString t = default_reading BlockString t
-thousandths_reading Float t = float_reading t
-thousandths_reading Int t = default_reading Int t
-thousandths_reading ExclamationMark t = default_reading ExclamationMark t
-thousandths_reading Dollar t = default_reading Dollar t
-thousandths_reading ParenOpen t = default_reading ParenOpen t
-thousandths_reading ParenClose t = default_reading ParenClose t
-thousandths_reading BracketOpen t = default_reading BracketOpen t
-thousandths_reading BracketClose t = default_reading BracketClose t
-thousandths_reading CurlyOpen t = default_reading CurlyOpen t
-thousandths_reading CurlyClose t = default_reading CurlyClose t
-thousandths_reading Ellipsis t = default_reading Ellipsis t
-thousandths_reading Colon t = default_reading Colon t
-thousandths_reading Equals t = default_reading Equals t
-thousandths_reading At t = default_reading At t
-thousandths_reading Pipe t = default_reading Pipe t
-thousandths_reading EndOfFile t = default_reading EndOfFile t
+thousandths_reading kind t = if same_kind kind Float then float_reading t else default_reading kind t
 
 -- A number of thousandths, with its places. No other list of integers is the content of a scalar.
 abbrev pub custom_text : List ℤ → Text

@@ -6,10 +6,9 @@ use Rattle.std.specs.List.{All}
 use Rattle.std.proofs.lemmas.List.Elements.{All-nil, All-push}
 use Rattle.std.proofs.lemmas.Bool.{cases_Bool}
 use Rattle.std.proofs.lemmas.List.{map-append}
-use Rattle.graphql_lexical.specs.declared.kind.Kind.{Kind}
 use Rattle.graphql_lexical.specs.declared.kind.Kind.TheVariants.{EndOfFile}
-use Rattle.graphql_lexical.specs.Kinds.{same_kind}
 use Rattle.graphql_lexical.specs.Cutting.{Lexeme, Stands, Leads, CutFrom, BreaksFrom}
+use Rattle.graphql_lexical.proofs.EachKind.{other_kind}
 use Rattle.juniper_tokens.specs.declared.token_range.TokenRange.{TokenRange}
 use Rattle.juniper_tokens.specs.declared.error.LexFailure.{LexFailure}
 use Rattle.juniper_tokens.specs.declared.error.LexFailure.TheVariants as failures
@@ -18,7 +17,6 @@ use Rattle.juniper_tokens.specs.Cursor.{EndsOnce}
 use Rattle.juniper_tokens.specs.Lexing.{LexerState, BreaksAt, GivesFault}
 use Rattle.juniper_tokens.specs.Gathering.{IfFault, StandsLaterOrEnded}
 use Rattle.juniper_tokens.specs.Ranges.{range_lexeme, range_lexemes, range_steps, GivesRangeItem, IsRange}
-use Rattle.juniper_tokens.proofs.LexingByScan.{same_end}
 
 leads_more : (source : List ℕ) (xs : List Lexeme) (x : Lexeme) (k m n : ℕ) → Leads source k xs m → Stands source m x n → (x.kind ≡ EndOfFile → ⊥) → Leads source k (xs ++ x ∷ []) n
 leads_more source [] x k m n l h e = (n, subst (λ (i : ℕ). Stands source i x n) (sym l) h, e, refl)
@@ -26,15 +24,9 @@ leads_more source (y ∷ ys) x k m n l h e = (l.0, l.1, l.2, leads_more source y
 
 -- ---- a cut ends once
 
-other_kind : (kind : Kind) → (kind ≡ EndOfFile → ⊥) → same_kind kind EndOfFile ≡ false
-other_kind kind n = elim (cases_Bool (same_kind kind EndOfFile)) [
-  | inl y ↦ absurd (n ((same_end kind).0 y))
-  | inr e ↦ e
-]
-
 ends_once_more : (x : Lexeme) (xs : List Lexeme) → (x.kind ≡ EndOfFile → ⊥) → EndsOnce xs → EndsOnce (x ∷ xs)
 ends_once_more x [] n h = absurd h
-ends_once_more x (y ∷ ys) n h = (other_kind x.kind n, h)
+ends_once_more x (y ∷ ys) n h = (other_kind x.kind EndOfFile n, h)
 
 leads_ends_once : (source : List ℕ) (xs : List Lexeme) (x : Lexeme) (k n : ℕ) → Leads source k xs n → x.kind ≡ EndOfFile → EndsOnce (xs ++ x ∷ [])
 leads_ends_once source [] x k n l e = e

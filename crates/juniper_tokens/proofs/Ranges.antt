@@ -1,6 +1,7 @@
 -- Tokens as ranges of their source.
 use Rattle.std.proofs.Common.{◌≡◌, ℕ, ◌+◌, ◌-◌, ◌<◌, ◌≤◌, ◌^◌, Bool, true, false, List, [], ◌∷◌, ◌++◌, length, take, drop, refl, sym, ap, ap₂, subst, ◌∙◌, arith, length-drop}
 use Rattle.std.specs.Prelude.{Result, Ok, Err, Some, None, ◌↔◌}
+use Rattle.std.specs.Option.{unwrap_or}
 use Rattle.std.specs.Result.{IsErrAnd}
 use Rattle.std.specs.List.{fold}
 use Rattle.std.proofs.lemmas.List.{length-take-le}
@@ -9,8 +10,9 @@ use Rattle.std.specs.Str.{chars, IsUtf8}
 use Rattle.graphql_lexical.specs.Place.{Place, place, past_character}
 use Rattle.graphql_lexical.specs.declared.kind.Kind.{Kind}
 use Rattle.graphql_lexical.specs.declared.kind.Kind.TheVariants as kinds
-use Rattle.graphql_lexical.specs.Kinds.{same_kind}
-use Rattle.graphql_lexical.specs.Tokens.{text_of, Spells}
+use Rattle.graphql_lexical.specs.Kinds.{same_kind, Spelling, Names, Strings, BlockStrings, Floats, Ints, Fixed, NoText, spelling, fixed_text}
+use Rattle.graphql_lexical.specs.Tokens.{Admits, between, text_of, Spells}
+use Rattle.graphql_lexical.specs.Tokens as grammar
 use Rattle.graphql_lexical.specs.Reading.{Reads}
 use Rattle.graphql_lexical.specs.Cutting.{Lexeme, Stands}
 use Rattle.graphql_lexical.specs.Scan.{found, gap_size}
@@ -23,14 +25,14 @@ use Rattle.juniper_tokens.specs.declared.token_range.TokenRange.{TokenRange}
 use Rattle.juniper_tokens.specs.declared.lexer.scan.Found.{Found}
 use Rattle.juniper_tokens.specs.declared.error.LexFailure.{LexFailure}
 use Rattle.juniper_tokens.specs.declared.error.LexFailure.TheVariants as failures
-use Rattle.juniper_tokens.specs.Tokens.{view_token}
+use Rattle.juniper_tokens.specs.Tokens.{kind_text, view_token}
 use Rattle.juniper_tokens.specs.ByteRuns.{byte_at}
 use Rattle.juniper_tokens.specs.Borders.{EndsQuoted, quotes}
 use Rattle.juniper_tokens.specs.Positions.{columns_on}
 use Rattle.juniper_tokens.specs.Scans.{Finds}
 use Rattle.juniper_tokens.specs.Lexing.{LexerState, GivesItem, GivesToken}
 use Rattle.juniper_tokens.specs.LexingByScan.{past_gap, IsPlaced}
-use Rattle.juniper_tokens.specs.Ranges.{kind_text, range_of, range_slice, range_lexeme, IsRange, TakesRange, TakesItem, MayTake, GivesRange, GivesRangeItem, range_steps}
+use Rattle.juniper_tokens.specs.Ranges.{range_of, range_slice, range_lexeme, IsRange, TakesRange, TakesItem, MayTake, GivesRange, GivesRangeItem, range_steps}
 use Rattle.juniper_tokens.proofs.Borders.{byte_at_within}
 use Rattle.juniper_tokens.proofs.LexingByScan.{byte_at_on, same_end, fault_by_scan, memory_by_scan}
 use Rattle.juniper_tokens.proofs.Places.{place_on, line_end}
@@ -155,31 +157,19 @@ found_taken source at p q f ended was h s e n =
 
 -- ---- the text of a token
 
--- the kind of a token leaves its text open, or fixes it
-kept_text : (kind : Kind) (t : List ℕ) → Spells t kind → text_of kind t ≡ kind_text kind (text_of kind t)
-kept_text kinds.Name t h = refl
-kept_text kinds.String t h = refl
-kept_text kinds.BlockString t h = refl
-kept_text kinds.Float t h = refl
-kept_text kinds.Int t h = refl
-kept_text kinds.ExclamationMark t h = h
-kept_text kinds.Dollar t h = h
-kept_text kinds.ParenOpen t h = h
-kept_text kinds.ParenClose t h = h
-kept_text kinds.BracketOpen t h = h
-kept_text kinds.BracketClose t h = h
-kept_text kinds.CurlyOpen t h = h
-kept_text kinds.CurlyClose t h = h
-kept_text kinds.Ellipsis t h = h
-kept_text kinds.Colon t h = h
-kept_text kinds.Equals t h = h
-kept_text kinds.At t h = h
-kept_text kinds.Pipe t h = h
-kept_text kinds.EndOfFile t h = absurd h
+-- the kind leaves the text open, or fixes it
+spelled_text : (s : Spelling) (whole : List ℕ) → Admits s whole → between (grammar.quotes s) whole ≡ unwrap_or (fixed_text s) (between (grammar.quotes s) whole)
+spelled_text Names whole h = refl
+spelled_text Strings whole h = refl
+spelled_text BlockStrings whole h = refl
+spelled_text Floats whole h = refl
+spelled_text Ints whole h = refl
+spelled_text (Fixed text) whole h = h
+spelled_text NoText whole h = absurd h
 
 read_text : (rest : List ℕ) (n : ℕ) (kind : Kind) (text : List ℕ) → Reads rest n kind text → text ≡ kind_text kind (text_of kind (take n rest))
 read_text [] n kind text r = r.2 ∙ sym (ap₂ (λ k (m : ℕ). kind_text k (text_of k (take m []))) r.1 r.0)
-read_text (c ∷ cs) n kind text r = r.text_is ∙ kept_text kind (take n (c ∷ cs)) r.spells
+read_text (c ∷ cs) n kind text r = r.text_is ∙ spelled_text (spelling kind) (take n (c ∷ cs)) r.spells
 
 -- ---- in the words of the definitions
 

@@ -1,9 +1,10 @@
 -- The steps of a cursor on the lexemes that are left.
 use Rattle.std.specs.Prelude.{◌≡◌, ℕ, Bool, true, false, ◌&&◌, List, [], ◌∷◌, drop, Result, Ok, Err, Option, Some, None, if◌then◌else◌}
+use Rattle.std.specs.Option.{is_none}
 use Rattle.graphql_lexical.specs.Place.{Span, origin}
 use Rattle.graphql_lexical.specs.declared.kind.Kind.{Kind}
-use Rattle.graphql_lexical.specs.declared.kind.Kind.TheVariants.{Name, String, BlockString, Float, Int, ExclamationMark, Dollar, ParenOpen, ParenClose, BracketOpen, BracketClose, CurlyOpen, CurlyClose, Ellipsis, Colon, Equals, At, Pipe, EndOfFile}
-use Rattle.graphql_lexical.specs.Kinds.{same_kind}
+use Rattle.graphql_lexical.specs.declared.kind.Kind.TheVariants.{Name, At, EndOfFile}
+use Rattle.graphql_lexical.specs.Kinds.{same_kind, spelling, fixed_text}
 use Rattle.graphql_lexical.specs.Cutting.{Lexeme}
 use Rattle.graphql_lexical.specs.Display.{shown}
 use Rattle.juniper_tokens.specs.declared.span.Spanning.{Spanning}
@@ -55,25 +56,7 @@ EndsOnce (t ∷ u ∷ ts) = (same_kind t.kind EndOfFile ≡ false) × EndsOnce (
 
 -- the kind leaves the text open
 abbrev pub has_text : Kind → Bool
-has_text Name = true
-has_text String = true
-has_text BlockString = true
-has_text Float = true
-has_text Int = true
-has_text ExclamationMark = false
-has_text Dollar = false
-has_text ParenOpen = false
-has_text ParenClose = false
-has_text BracketOpen = false
-has_text BracketClose = false
-has_text CurlyOpen = false
-has_text CurlyClose = false
-has_text Ellipsis = false
-has_text Colon = false
-has_text Equals = false
-has_text At = false
-has_text Pipe = false
-has_text EndOfFile = false
+has_text kind = is_none (fixed_text (spelling kind))
 
 -- the lexeme equals the wanted token in kind and text
 abbrev pub is_wanted : Kind → List ℕ → Lexeme → Bool

@@ -1,8 +1,7 @@
 -- Tokens as ranges of their source.
-use Rattle.std.specs.Prelude.{◌≡◌, ◌↔◌, ℕ, ◌+◌, ◌-◌, ◌≤◌, true, false, List, [], ◌∷◌, take, drop, length, map, Option, Some, None, Result, Ok, Err}
+use Rattle.std.specs.Prelude.{◌≡◌, ◌↔◌, ℕ, ◌+◌, ◌-◌, ◌≤◌, true, false, List, take, drop, length, map, Option, Some, None, Result, Ok, Err}
 use Rattle.std.specs.List.{All}
 use Rattle.graphql_lexical.specs.Place.{Place, place}
-use Rattle.graphql_lexical.specs.declared.kind.Kind.{Kind}
 use Rattle.graphql_lexical.specs.declared.kind.Kind.TheVariants as kinds
 use Rattle.graphql_lexical.specs.Kinds.{same_kind}
 use Rattle.graphql_lexical.specs.Scan as scans
@@ -16,7 +15,7 @@ use Rattle.juniper_tokens.specs.declared.lexer.text.Border.{Border}
 use Rattle.juniper_tokens.specs.declared.error.LexerError.{LexerError}
 use Rattle.juniper_tokens.specs.declared.error.LexFailure.{LexFailure}
 use Rattle.juniper_tokens.specs.declared.error.LexFailure.TheVariants as failure
-use Rattle.juniper_tokens.specs.Tokens.{view_token}
+use Rattle.juniper_tokens.specs.Tokens.{kind_text, view_token}
 use Rattle.juniper_tokens.specs.Errors.{view_lexer_error}
 use Rattle.juniper_tokens.specs.Borders.{IsBorder, EndsQuoted}
 use Rattle.juniper_tokens.specs.ByteRuns.{byte_at}
@@ -25,28 +24,6 @@ use Rattle.juniper_tokens.specs.Scans.{MissesEscape}
 use Rattle.juniper_tokens.specs.Lexing.{LexerState, GivesFault, WantsMemory}
 use Rattle.juniper_tokens.specs.LexingByScan.{past_gap}
 use Rattle.juniper_tokens.specs.Cursor.{EndsOnce, first_of}
-
--- the text of a token of that kind, where the kind leaves it open this text
-abbrev pub kind_text : Kind → List ℕ → List ℕ
-kind_text kinds.Name text = text
-kind_text kinds.String text = text
-kind_text kinds.BlockString text = text
-kind_text kinds.Float text = text
-kind_text kinds.Int text = text
-kind_text kinds.ExclamationMark text = 33 ∷ []
-kind_text kinds.Dollar text = 36 ∷ []
-kind_text kinds.ParenOpen text = 40 ∷ []
-kind_text kinds.ParenClose text = 41 ∷ []
-kind_text kinds.BracketOpen text = 91 ∷ []
-kind_text kinds.BracketClose text = 93 ∷ []
-kind_text kinds.CurlyOpen text = 123 ∷ []
-kind_text kinds.CurlyClose text = 125 ∷ []
-kind_text kinds.Ellipsis text = 46 ∷ 46 ∷ 46 ∷ []
-kind_text kinds.Colon text = 58 ∷ []
-kind_text kinds.Equals text = 61 ∷ []
-kind_text kinds.At text = 64 ∷ []
-kind_text kinds.Pipe text = 124 ∷ []
-kind_text kinds.EndOfFile text = []
 
 -- the characters of a range
 abbrev pub range_slice : List ℕ → TokenRange → List ℕ

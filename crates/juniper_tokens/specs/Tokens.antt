@@ -1,11 +1,12 @@
 -- Tokens of the code, as the definitions see them.
-use Rattle.std.specs.Prelude.{ℕ, List, [], ◌∷◌, Bool, ◌&&◌, nat_eq}
+use Rattle.std.specs.Prelude.{ℕ, List, [], Bool, ◌&&◌, nat_eq}
+use Rattle.std.specs.Option.{unwrap_or}
 use Rattle.std.specs.Borrow.{Bor}
 use Rattle.std.specs.Cmp.Lexicographic.{pointwise}
 use Rattle.std.specs.Str.{chars}
 use Rattle.graphql_lexical.specs.declared.kind.Kind.{Kind}
 use Rattle.graphql_lexical.specs.declared.kind.Kind.TheVariants as kinds
-use Rattle.graphql_lexical.specs.Kinds.{same_kind}
+use Rattle.graphql_lexical.specs.Kinds.{same_kind, spelling, fixed_text}
 use Rattle.graphql_lexical.specs.Cutting.{Lexeme}
 use Rattle.graphql_lexical.specs.Display.{shown}
 use Rattle.juniper_tokens.specs.declared.token.ScalarToken.{ScalarToken}
@@ -15,54 +16,50 @@ use Rattle.juniper_tokens.specs.declared.token.Token.TheVariants as token
 use Rattle.juniper_tokens.specs.declared.span.Spanning.{Spanning}
 use Rattle.juniper_tokens.specs.Spans.{view_span}
 
-abbrev pub scalar_kind : ScalarToken → Kind
-scalar_kind (scalar.String s) = kinds.String
-scalar_kind (scalar.BlockString s) = kinds.BlockString
-scalar_kind (scalar.Float s) = kinds.Float
-scalar_kind (scalar.Int s) = kinds.Int
+-- the text of a token of that kind, where the kind leaves it open this text
+abbrev pub kind_text : Kind → List ℕ → List ℕ
+kind_text kind text = unwrap_or (fixed_text (spelling kind)) text
 
--- the characters of the text; of a String and of a block string what stands between its quotes
+-- The kind and the text, of a String and of a block string what stands between its quotes.
+abbrev pub scalar_parts : ScalarToken → Kind × List ℕ
+scalar_parts (scalar.String s) = (kinds.String, chars s.now)
+scalar_parts (scalar.BlockString s) = (kinds.BlockString, chars s.now)
+scalar_parts (scalar.Float s) = (kinds.Float, chars s.now)
+scalar_parts (scalar.Int s) = (kinds.Int, chars s.now)
+
+-- a kind that leaves no text open, and its text
+abbrev fixed : Kind → Kind × List ℕ
+fixed kind = (kind, kind_text kind [])
+
+abbrev pub token_parts : Token → Kind × List ℕ
+token_parts (token.Name s) = (kinds.Name, chars s.now)
+token_parts (token.Scalar s) = scalar_parts s
+token_parts token.ExclamationMark = fixed kinds.ExclamationMark
+token_parts token.Dollar = fixed kinds.Dollar
+token_parts token.ParenOpen = fixed kinds.ParenOpen
+token_parts token.ParenClose = fixed kinds.ParenClose
+token_parts token.BracketOpen = fixed kinds.BracketOpen
+token_parts token.BracketClose = fixed kinds.BracketClose
+token_parts token.CurlyOpen = fixed kinds.CurlyOpen
+token_parts token.CurlyClose = fixed kinds.CurlyClose
+token_parts token.Ellipsis = fixed kinds.Ellipsis
+token_parts token.Colon = fixed kinds.Colon
+token_parts token.Equals = fixed kinds.Equals
+token_parts token.At = fixed kinds.At
+token_parts token.Pipe = fixed kinds.Pipe
+token_parts token.EndOfFile = fixed kinds.EndOfFile
+
+abbrev pub scalar_kind : ScalarToken → Kind
+scalar_kind t = (scalar_parts t).0
+
 abbrev pub scalar_text : ScalarToken → List ℕ
-scalar_text (scalar.String s) = chars s.now
-scalar_text (scalar.BlockString s) = chars s.now
-scalar_text (scalar.Float s) = chars s.now
-scalar_text (scalar.Int s) = chars s.now
+scalar_text t = (scalar_parts t).1
 
 abbrev pub token_kind : Token → Kind
-token_kind (token.Name s) = kinds.Name
-token_kind (token.Scalar s) = scalar_kind s
-token_kind token.ExclamationMark = kinds.ExclamationMark
-token_kind token.Dollar = kinds.Dollar
-token_kind token.ParenOpen = kinds.ParenOpen
-token_kind token.ParenClose = kinds.ParenClose
-token_kind token.BracketOpen = kinds.BracketOpen
-token_kind token.BracketClose = kinds.BracketClose
-token_kind token.CurlyOpen = kinds.CurlyOpen
-token_kind token.CurlyClose = kinds.CurlyClose
-token_kind token.Ellipsis = kinds.Ellipsis
-token_kind token.Colon = kinds.Colon
-token_kind token.Equals = kinds.Equals
-token_kind token.At = kinds.At
-token_kind token.Pipe = kinds.Pipe
-token_kind token.EndOfFile = kinds.EndOfFile
+token_kind t = (token_parts t).0
 
 abbrev pub token_text : Token → List ℕ
-token_text (token.Name s) = chars s.now
-token_text (token.Scalar s) = scalar_text s
-token_text token.ExclamationMark = 33 ∷ []
-token_text token.Dollar = 36 ∷ []
-token_text token.ParenOpen = 40 ∷ []
-token_text token.ParenClose = 41 ∷ []
-token_text token.BracketOpen = 91 ∷ []
-token_text token.BracketClose = 93 ∷ []
-token_text token.CurlyOpen = 123 ∷ []
-token_text token.CurlyClose = 125 ∷ []
-token_text token.Ellipsis = 46 ∷ 46 ∷ 46 ∷ []
-token_text token.Colon = 58 ∷ []
-token_text token.Equals = 61 ∷ []
-token_text token.At = 64 ∷ []
-token_text token.Pipe = 124 ∷ []
-token_text token.EndOfFile = []
+token_text t = (token_parts t).1
 
 -- What is shown of a token.
 abbrev pub shown_token : Token → List ℕ

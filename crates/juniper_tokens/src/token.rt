@@ -3,7 +3,7 @@ ghost use Rattle.std.specs.Prelude.{◌≡◌, ◌++◌, Some, nat_eq};
 ghost use Rattle.std.specs.Cmp.Lexicographic.{pointwise};
 ghost use Rattle.std.specs.Fmt.{DisplaysOnOk};
 ghost use Rattle.std.specs.Str.{chars, encode_utf8_all};
-ghost use Rattle.graphql_lexical.specs.Display.{quoted, escaped, escape};
+ghost use Rattle.graphql_lexical.specs.Display.{quoted, escaped, escape, shown};
 ghost use Rattle.graphql_lexical.specs.Tokens.{mark};
 
 use graphql_lexical::Kind;
@@ -53,84 +53,78 @@ fn same_text(a: &str, b: &str) -> bool
 impl<'a> ScalarToken<'a> {
     ghost use Rattle.juniper_tokens.specs.Tokens.{scalar_kind, scalar_text};
 
+    // The token without its text, and its text.
+    fn parts(&self) -> (Kind, &'a str)
+        ensures kind { result.0 ≡ scalar_kind self.now }
+        ensures text { chars result.1.now ≡ scalar_text self.now }
+    {
+        match self {
+            ScalarToken::String(text) => (Kind::String, text),
+            ScalarToken::BlockString(text) => (Kind::BlockString, text),
+            ScalarToken::Float(text) => (Kind::Float, text),
+            ScalarToken::Int(text) => (Kind::Int, text),
+        }
+    }
+
     /// The token without its text.
     pub fn kind(&self) -> Kind
         ensures { result ≡ scalar_kind self.now }
     {
-        match self {
-            ScalarToken::String(_) => Kind::String,
-            ScalarToken::BlockString(_) => Kind::BlockString,
-            ScalarToken::Float(_) => Kind::Float,
-            ScalarToken::Int(_) => Kind::Int,
-        }
+        self.parts().0
     }
 
     /// The token's text.
     pub fn text(&self) -> &'a str
         ensures { chars result.now ≡ scalar_text self.now }
     {
-        match self {
-            ScalarToken::String(text) => text,
-            ScalarToken::BlockString(text) => text,
-            ScalarToken::Float(text) => text,
-            ScalarToken::Int(text) => text,
-        }
+        self.parts().1
     }
 }
 
 impl<'a> Token<'a> {
-    ghost use Rattle.juniper_tokens.specs.Tokens.{token_kind, token_text};
+    ghost use Rattle.juniper_tokens.specs.Tokens.{kind_text, token_kind, token_text};
     ghost use Rattle.graphql_lexical.specs.declared.kind.Kind.TheVariants.{EndOfFile};
     ghost use Rattle.graphql_lexical.specs.Kinds.{same_kind};
+
+    // The token without its text, and its text where the kind leaves it open.
+    fn parts(&self) -> (Kind, &'a str)
+        ensures kind { result.0 ≡ token_kind self.now }
+        ensures text { kind_text result.0 (chars result.1.now) ≡ token_text self.now }
+    {
+        match self {
+            Token::Name(text) => (Kind::Name, text),
+            Token::Scalar(scalar) => scalar.parts(),
+            Token::ExclamationMark => (Kind::ExclamationMark, ""),
+            Token::Dollar => (Kind::Dollar, ""),
+            Token::ParenOpen => (Kind::ParenOpen, ""),
+            Token::ParenClose => (Kind::ParenClose, ""),
+            Token::BracketOpen => (Kind::BracketOpen, ""),
+            Token::BracketClose => (Kind::BracketClose, ""),
+            Token::CurlyOpen => (Kind::CurlyOpen, ""),
+            Token::CurlyClose => (Kind::CurlyClose, ""),
+            Token::Ellipsis => (Kind::Ellipsis, ""),
+            Token::Colon => (Kind::Colon, ""),
+            Token::Equals => (Kind::Equals, ""),
+            Token::At => (Kind::At, ""),
+            Token::Pipe => (Kind::Pipe, ""),
+            Token::EndOfFile => (Kind::EndOfFile, ""),
+        }
+    }
 
     /// The token without its text.
     pub fn kind(&self) -> Kind
         ensures { result ≡ token_kind self.now }
     {
-        match self {
-            Token::Name(_) => Kind::Name,
-            Token::Scalar(scalar) => scalar.kind(),
-            Token::ExclamationMark => Kind::ExclamationMark,
-            Token::Dollar => Kind::Dollar,
-            Token::ParenOpen => Kind::ParenOpen,
-            Token::ParenClose => Kind::ParenClose,
-            Token::BracketOpen => Kind::BracketOpen,
-            Token::BracketClose => Kind::BracketClose,
-            Token::CurlyOpen => Kind::CurlyOpen,
-            Token::CurlyClose => Kind::CurlyClose,
-            Token::Ellipsis => Kind::Ellipsis,
-            Token::Colon => Kind::Colon,
-            Token::Equals => Kind::Equals,
-            Token::At => Kind::At,
-            Token::Pipe => Kind::Pipe,
-            Token::EndOfFile => Kind::EndOfFile,
-        }
+        self.parts().0
     }
 
     /// The token's text: of a String and of a block string what stands between its quotes, of the end nothing, else the
     /// whole token.
-    #[tactic(auto, using(crate::proofs::FixedTexts::fixed_texts))]
     pub fn text(&self) -> &'a str
         ensures { chars result.now ≡ token_text self.now }
     {
-        match self {
-            Token::Name(text) => text,
-            Token::Scalar(scalar) => scalar.text(),
-            Token::ExclamationMark => "!",
-            Token::Dollar => "$",
-            Token::ParenOpen => "(",
-            Token::ParenClose => ")",
-            Token::BracketOpen => "[",
-            Token::BracketClose => "]",
-            Token::CurlyOpen => "{",
-            Token::CurlyClose => "}",
-            Token::Ellipsis => "...",
-            Token::Colon => ":",
-            Token::Equals => "=",
-            Token::At => "@",
-            Token::Pipe => "|",
-            Token::EndOfFile => "",
-        }
+        let (kind, text) = self.parts();
+        kind.spelling().unwrap_or(text)
     }
 
     pub(crate) fn is_end(&self) -> bool
@@ -221,18 +215,28 @@ fn write_escaped_char<W: fmt::Write>(f: &mut fmt::Formatter<W>, c: char) -> fmt:
     f.write_char(c)
 }
 
+// Writes a token of this kind and text.
+fn write_token<W: fmt::Write>(f: &mut fmt::Formatter<W>, kind: Kind, text: &str) -> fmt::Result
+    ensures { DisplaysOnOk W.write_str_gives f.old result (Some (encode_utf8_all (shown kind (chars text.now)))) f.new }
+{
+    if kind == Kind::String {
+        write_string(f, text)
+    } else if kind == Kind::BlockString {
+        write_block(f, text)
+    } else if kind == Kind::EndOfFile {
+        f.write_str("End of file")
+    } else {
+        write_text(f, text)
+    }
+}
+
 impl<'a> fmt::Display for ScalarToken<'a> {
     ghost use Rattle.juniper_tokens.specs.Tokens.{shown_scalar};
 
     ghost output = { λ t. Some (encode_utf8_all (shown_scalar t)) };
 
     fn fmt<W: fmt::Write>(&self, f: &mut fmt::Formatter<W>) -> fmt::Result {
-        match self {
-            ScalarToken::String(text) => write_string(f, text),
-            ScalarToken::BlockString(text) => write_block(f, text),
-            ScalarToken::Float(text) => write_text(f, text),
-            ScalarToken::Int(text) => write_text(f, text),
-        }
+        write_token(f, self.kind(), self.text())
     }
 }
 
@@ -242,23 +246,6 @@ impl<'a> fmt::Display for Token<'a> {
     ghost output = { λ t. Some (encode_utf8_all (shown_token t)) };
 
     fn fmt<W: fmt::Write>(&self, f: &mut fmt::Formatter<W>) -> fmt::Result {
-        match self {
-            Token::Name(text) => write_text(f, text),
-            Token::Scalar(scalar) => fmt::Display::fmt(scalar, f),
-            Token::ExclamationMark => f.write_str("!"),
-            Token::Dollar => f.write_str("$"),
-            Token::ParenOpen => f.write_str("("),
-            Token::ParenClose => f.write_str(")"),
-            Token::BracketOpen => f.write_str("["),
-            Token::BracketClose => f.write_str("]"),
-            Token::CurlyOpen => f.write_str("{"),
-            Token::CurlyClose => f.write_str("}"),
-            Token::Ellipsis => f.write_str("..."),
-            Token::Colon => f.write_str(":"),
-            Token::Equals => f.write_str("="),
-            Token::At => f.write_str("@"),
-            Token::Pipe => f.write_str("|"),
-            Token::EndOfFile => f.write_str("End of file"),
-        }
+        write_token(f, self.kind(), self.text())
     }
 }

@@ -3,10 +3,10 @@ ghost use Rattle.std.specs.Prelude.{◌≡◌, ◌-◌, ◌≤◌, drop};
 ghost use Rattle.std.specs.Str.{chars};
 ghost use Rattle.graphql_lexical.specs.Place.{place};
 ghost use Rattle.graphql_lexical.specs.Tokens.{text_of};
-ghost use Rattle.juniper_tokens.specs.Tokens.{token_kind, token_text, view_token};
+ghost use Rattle.juniper_tokens.specs.Tokens.{kind_text, token_kind, token_text, view_token};
 ghost use Rattle.juniper_tokens.specs.LexingByScan.{IsPlaced};
 ghost use Rattle.juniper_tokens.specs.Scans.{Finds};
-ghost use Rattle.juniper_tokens.specs.Ranges.{IsRange, range_of, kind_text, range_slice, range_lexeme};
+ghost use Rattle.juniper_tokens.specs.Ranges.{IsRange, range_of, range_slice, range_lexeme};
 
 use crate::lexer::text::{Border, text_before, text_from, unquoted};
 use crate::lexer::{Found, walk_characters};
@@ -89,26 +89,12 @@ impl TokenRange {
     {
         let rest = text_from(source, self.border());
         let size = self.size();
-        match self.kind {
-            Kind::String => unquoted(rest, size, 1),
-            Kind::BlockString => unquoted(rest, size, 3),
-            Kind::Name
-            | Kind::Float
-            | Kind::Int
-            | Kind::ExclamationMark
-            | Kind::Dollar
-            | Kind::ParenOpen
-            | Kind::ParenClose
-            | Kind::BracketOpen
-            | Kind::BracketClose
-            | Kind::CurlyOpen
-            | Kind::CurlyClose
-            | Kind::Ellipsis
-            | Kind::Colon
-            | Kind::Equals
-            | Kind::At
-            | Kind::Pipe
-            | Kind::EndOfFile => text_before(rest, size),
+        if self.kind == Kind::String {
+            unquoted(rest, size, 1)
+        } else if self.kind == Kind::BlockString {
+            unquoted(rest, size, 3)
+        } else {
+            text_before(rest, size)
         }
     }
 
@@ -118,13 +104,12 @@ impl TokenRange {
         ensures kind { token_kind result ≡ self.now.kind }
         ensures text { token_text result ≡ kind_text self.now.kind (text_of self.now.kind (range_slice (chars source.now) self.now)) }
     {
-        let text = self.text(source);
         match self.kind {
-            Kind::Name => Token::Name(text),
-            Kind::String => Token::Scalar(ScalarToken::String(text)),
-            Kind::BlockString => Token::Scalar(ScalarToken::BlockString(text)),
-            Kind::Float => Token::Scalar(ScalarToken::Float(text)),
-            Kind::Int => Token::Scalar(ScalarToken::Int(text)),
+            Kind::Name => Token::Name(self.text(source)),
+            Kind::String => Token::Scalar(ScalarToken::String(self.text(source))),
+            Kind::BlockString => Token::Scalar(ScalarToken::BlockString(self.text(source))),
+            Kind::Float => Token::Scalar(ScalarToken::Float(self.text(source))),
+            Kind::Int => Token::Scalar(ScalarToken::Int(self.text(source))),
             Kind::ExclamationMark => Token::ExclamationMark,
             Kind::Dollar => Token::Dollar,
             Kind::ParenOpen => Token::ParenOpen,

@@ -3,7 +3,8 @@ use Rattle.std.specs.Prelude.{◌&&◌, ℤ, Bool, [], Option, Some, None, Ok, E
 use Rattle.std.specs.Fmt.{signed_decimal}
 use Rattle.std.specs.Str.{chars}
 use Rattle.graphql_lexical.specs.declared.kind.Kind.{Kind}
-use Rattle.graphql_lexical.specs.declared.kind.Kind.TheVariants.{Name, String, BlockString, Float, Int, ExclamationMark, Dollar, ParenOpen, ParenClose, BracketOpen, BracketClose, CurlyOpen, CurlyClose, Ellipsis, Colon, Equals, At, Pipe, EndOfFile}
+use Rattle.graphql_lexical.specs.declared.kind.Kind.TheVariants.{String, Int}
+use Rattle.graphql_lexical.specs.Kinds.{Spelling, Names, Strings, BlockStrings, Floats, Ints, Fixed, NoText, spelling}
 use Rattle.juniper_tokens.specs.Errors.{ExpectedScalar, unexpected}
 use Rattle.juniper_values.specs.Text.{Text}
 use Rattle.juniper_values.specs.Scalar.{Content, integer, text, boolean, custom, Reading}
@@ -46,27 +47,19 @@ string_reading t (Some u) = Ok (text u)
 abbrev pub int_reading : Text → Reading
 int_reading t = if is_integer t && is_i32 (integer_of t) then Ok (integer (integer_of t)) else unexpected Int t
 
+-- The reading of a token of this kind and text, which is spelled so.
+abbrev pub reading_by : Spelling → Kind → Text → Reading
+reading_by Names kind t = unexpected kind t
+reading_by Strings kind t = string_reading t (unescape t)
+reading_by BlockStrings kind t = Ok (text (block_value t))
+reading_by Floats kind t = Err (ExpectedScalar (codes "There needs to be a Float type"))
+reading_by Ints kind t = int_reading t
+reading_by (Fixed fixed) kind t = unexpected kind t
+reading_by NoText kind t = unexpected kind t
+
 -- The reading of a token by its kind and its text.
 abbrev pub default_reading : Kind → Text → Reading
-default_reading Name t = unexpected Name t
-default_reading String t = string_reading t (unescape t)
-default_reading BlockString t = Ok (text (block_value t))
-default_reading Float t = Err (ExpectedScalar (codes "There needs to be a Float type"))
-default_reading Int t = int_reading t
-default_reading ExclamationMark t = unexpected ExclamationMark t
-default_reading Dollar t = unexpected Dollar t
-default_reading ParenOpen t = unexpected ParenOpen t
-default_reading ParenClose t = unexpected ParenClose t
-default_reading BracketOpen t = unexpected BracketOpen t
-default_reading BracketClose t = unexpected BracketClose t
-default_reading CurlyOpen t = unexpected CurlyOpen t
-default_reading CurlyClose t = unexpected CurlyClose t
-default_reading Ellipsis t = unexpected Ellipsis t
-default_reading Colon t = unexpected Colon t
-default_reading Equals t = unexpected Equals t
-default_reading At t = unexpected At t
-default_reading Pipe t = unexpected Pipe t
-default_reading EndOfFile t = unexpected EndOfFile t
+default_reading kind t = reading_by (spelling kind) kind t
 
 -- the decimal number; the text; `true` or `false`
 abbrev pub default_shown : Content → Text
