@@ -11,6 +11,7 @@ ghost use Rattle.juniper_tokens.specs.Gathering.{IfFault, IfMemory, StandsLaterO
 ghost use Rattle.juniper_tokens.specs.Ranges.{IsRange, range_lexemes};
 ghost use Rattle.juniper_tokens.specs.Tokens.{token_kind, token_text, view_token, view_name};
 ghost use Rattle.juniper_tokens.specs.Nesting.{EndsAtNesting};
+ghost use Rattle.juniper_tokens.specs.Delimited.{IsRest};
 ghost use Rattle.juniper_tokens.specs.Cursor.{Gives, FrontGives, OnMemory, Unmoved, EndsOnce, first_of, kind_at, is_wanted, next_at, refused_at, expect_at, expect_name_at, skip_at};
 
 use crate::error::{LexFailure, OptionParseResult, ParseError, ParseFailure, ParseResult};
@@ -19,6 +20,7 @@ use crate::nesting::{end_behind, first_deeper};
 use crate::span::{Span, Spanning};
 use crate::token::Token;
 use crate::token_range::TokenRange;
+use graphql_lexical::Kind;
 use std::alloc::Global;
 use std::marker::Model;
 
@@ -123,6 +125,14 @@ impl<'a> Parser<'a> {
         &self.current
     }
 
+    /// The kind of the next token, which is left there.
+    pub fn kind(&self) -> Kind
+        ensures is { result ≡ kind_at self.now }
+        ensures ended { EndsOnce self.now }
+    {
+        self.peek().item.kind()
+    }
+
     // A copy of the next token.
     fn front(&self) -> Spanning<Token<'a>>
         ensures first { view_token result ≡ first_of self.now }
@@ -158,6 +168,7 @@ impl<'a> Parser<'a> {
         ensures gives { Gives view_token result self.new (next_at self.old) }
         ensures shorter { OnOk result (length self.new < length self.old) }
         ensures memory { OnMemory result ⊥ }
+        ensures rest { IsRest self.old self.new }
     {
         let token = self.front_before_end()?;
         self.advance();
@@ -169,6 +180,7 @@ impl<'a> Parser<'a> {
         ensures gives { Gives (λ x. x) result self.new (refused_at self.old) }
         ensures never { OnOk result ⊥ }
         ensures memory { OnMemory result (Unmoved {A = Lexeme} self.old self.new (refused_at self.old)) }
+        ensures rest { IsRest self.old self.new }
     {
         let token = self.front_before_end()?;
         let error = ParseError::unexpected_token(self.alloc, token.item)?;
@@ -184,6 +196,7 @@ impl<'a> Parser<'a> {
         ensures gives { Gives view_token result self.new (expect_at wanted.now self.old) }
         ensures shorter { OnOk result (length self.new < length self.old) }
         ensures memory { OnMemory result (Unmoved self.old self.new (expect_at wanted.now self.old)) }
+        ensures rest { IsRest self.old self.new }
     {
         if self.is_next(wanted) {
             self.next_token()
@@ -206,6 +219,7 @@ impl<'a> Parser<'a> {
         ensures gives { Gives (option_map view_token) result self.new (skip_at wanted.now self.old) }
         ensures not_longer { OnOk result (length self.new ≤ length self.old) }
         ensures memory { OnMemory result ⊥ }
+        ensures rest { IsRest self.old self.new }
     {
         if self.is_next(wanted) {
             return Ok(Some(self.next_token()?));
@@ -219,6 +233,7 @@ impl<'a> Parser<'a> {
         ensures gives { Gives view_name result self.new (expect_name_at self.old) }
         ensures shorter { OnOk result (length self.new < length self.old) }
         ensures memory { OnMemory result (Unmoved self.old self.new (expect_name_at self.old)) }
+        ensures rest { IsRest self.old self.new }
     {
         let token = self.front();
         match token.item {

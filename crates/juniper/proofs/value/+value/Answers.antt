@@ -11,7 +11,7 @@ use Rattle.juniper.specs.Scalars.{stated}
 use Rattle.juniper.specs.View.{view_value, view_object_field}
 use Rattle.juniper.specs.Values.{from_to, list_read, object_read, value_read, values_read, field_read, fields_read}
 use Rattle.juniper.proofs.Loops.{goes_on, ends, close_fails, item_fails}
-use Rattle.juniper.proofs.Rests.{further}
+use Rattle.juniper_tokens.proofs.Rests.{further}
 use Rattle.juniper.proofs.SeenValues.{values_repeat, fields_repeat}
 use Rattle.juniper.proofs.ValueViews.{view_of_list, view_of_object}
 use Rattle.juniper.proofs.value.+value.Goals as goal
