@@ -12,13 +12,13 @@ ghost use Rattle.juniper_tokens.specs.Ranges.{IsRange, range_lexemes};
 ghost use Rattle.juniper_tokens.specs.Tokens.{token_kind, token_text, view_token, view_name};
 ghost use Rattle.juniper_tokens.specs.Nesting.{EndsAtNesting};
 ghost use Rattle.juniper_tokens.specs.Delimited.{IsRest};
-ghost use Rattle.juniper_tokens.specs.Cursor.{Gives, FrontGives, OnMemory, Unmoved, EndsOnce, first_of, kind_at, is_wanted, next_at, refused_at, expect_at, expect_name_at, skip_at};
+ghost use Rattle.juniper_tokens.specs.Cursor.{Gives, RefusesEnd, OnMemory, Unmoved, EndsOnce, first_of, kind_at, is_wanted, next_at, refused_at, expect_at, expect_name_at, skip_at};
 
 use crate::error::{LexFailure, OptionParseResult, ParseError, ParseFailure, ParseResult};
 use crate::lexer::Lexer;
 use crate::nesting::{end_behind, first_deeper};
 use crate::span::{Span, Spanning};
-use crate::token::Token;
+use crate::token::{Token, same_text};
 use crate::token_range::TokenRange;
 use graphql_lexical::Kind;
 use std::alloc::Global;
@@ -126,41 +126,49 @@ impl<'a> Parser<'a> {
     }
 
     /// The kind of the next token, which is left there.
+    #[inline(always)]
     pub fn kind(&self) -> Kind
         ensures is { result ≡ kind_at self.now }
         ensures ended { EndsOnce self.now }
     {
-        self.peek().item.kind()
+        self.ranges[self.taken].kind
     }
 
-    // A copy of the next token.
-    fn front(&self) -> Spanning<Token<'a>>
-        ensures first { view_token result ≡ first_of self.now }
-        ensures ended { EndsOnce self.now }
+    fn is_at_end(&self) -> bool
+        ensures { result ≡ same_kind (kind_at self.now) EndOfFile }
     {
-        let token = self.peek();
-        Spanning::new(token.span, token.item)
+        self.kind() == Kind::EndOfFile
     }
 
-    // A copy of the next token. At the end it answers `UnexpectedEndOfFile`.
-    fn front_before_end(&self) -> ParseResult<Token<'a>>
-        ensures { FrontGives result self.now }
-    {
-        let token = self.front();
-        if token.item.is_end() {
-            Err(ParseFailure::Refused(Spanning::new(token.span, ParseError::UnexpectedEndOfFile)))
-        } else {
-            Ok(token)
-        }
-    }
-
-    // Goes past the next token, which is not the end.
-    fn advance(&mut self)
+    /// Goes past the next token, which must not be the end.
+    pub fn advance(&mut self)
         requires { same_kind (kind_at self.old) EndOfFile ≡ false }
         ensures { self.new ≡ drop 1 self.old }
     {
         self.taken += 1;
         self.current = self.ranges[self.taken].located(self.source);
+    }
+
+    // Takes the next token, which is not the end.
+    fn take(&mut self) -> Spanning<Token<'a>>
+        requires { same_kind (kind_at self.old) EndOfFile ≡ false }
+        ensures takes { next_at self.old ≡ Ok (view_token result, self.new) }
+        ensures shorter { length self.new < length self.old }
+        ensures rest { IsRest self.old self.new }
+    {
+        let token = Spanning::new(self.current.span, self.current.item);
+        self.advance();
+        token
+    }
+
+    // The refusal at the end.
+    #[cold]
+    fn refuse_end<T: Drop>(&self) -> Result<T, ParseFailure>
+        requires { same_kind (kind_at self.now) EndOfFile ≡ true }
+        ensures { RefusesEnd result self.now }
+    {
+        let span = self.current.span;
+        Err(ParseFailure::Refused(Spanning::new(span, ParseError::UnexpectedEndOfFile)))
     }
 
     /// Takes the next token. At the end it answers `UnexpectedEndOfFile`, and nothing is taken.
@@ -170,21 +178,25 @@ impl<'a> Parser<'a> {
         ensures memory { OnMemory result ⊥ }
         ensures rest { IsRest self.old self.new }
     {
-        let token = self.front_before_end()?;
-        self.advance();
-        Ok(token)
+        if self.is_at_end() {
+            return self.refuse_end();
+        }
+        Ok(self.take())
     }
 
-    // Takes the next token, and tells that it is unexpected.
+    // Takes the next token, and tells that it is unexpected. At the end nothing is taken.
+    #[cold]
     fn refuse<T: Drop>(&mut self) -> Result<T, ParseFailure>
         ensures gives { Gives (λ x. x) result self.new (refused_at self.old) }
         ensures never { OnOk result ⊥ }
         ensures memory { OnMemory result (Unmoved {A = Lexeme} self.old self.new (refused_at self.old)) }
         ensures rest { IsRest self.old self.new }
     {
-        let token = self.front_before_end()?;
-        let error = ParseError::unexpected_token(self.alloc, token.item)?;
-        self.advance();
+        if self.is_at_end() {
+            return self.refuse_end();
+        }
+        let error = ParseError::unexpected_token(self.alloc, self.current.item)?;
+        let token = self.take();
         Err(ParseFailure::Refused(Spanning::new(token.span, error)))
     }
 
@@ -198,8 +210,8 @@ impl<'a> Parser<'a> {
         ensures memory { OnMemory result (Unmoved self.old self.new (expect_at wanted.now self.old)) }
         ensures rest { IsRest self.old self.new }
     {
-        if self.is_next(wanted) {
-            self.next_token()
+        if self.is_next(wanted) && !self.is_at_end() {
+            Ok(self.take())
         } else {
             self.refuse()
         }
@@ -209,7 +221,11 @@ impl<'a> Parser<'a> {
     fn is_next(&self, wanted: &Token<'_>) -> bool
         ensures { result ≡ is_wanted (token_kind wanted.now) (token_text wanted.now) (first_of self.now) }
     {
-        self.peek().item == *wanted
+        let kind = self.kind();
+        if kind != wanted.kind() {
+            return false;
+        }
+        kind.spelling().is_some() || same_text(self.current.item.text(), wanted.text())
     }
 
     /// Takes the next token if it equals the wanted one, and else answers None and takes nothing.
@@ -221,10 +237,12 @@ impl<'a> Parser<'a> {
         ensures memory { OnMemory result ⊥ }
         ensures rest { IsRest self.old self.new }
     {
-        if self.is_next(wanted) {
-            return Ok(Some(self.next_token()?));
+        if self.is_at_end() {
+            return self.refuse_end();
         }
-        self.front_before_end()?;
+        if self.is_next(wanted) {
+            return Ok(Some(self.take()));
+        }
         Ok(None)
     }
 
@@ -235,11 +253,11 @@ impl<'a> Parser<'a> {
         ensures memory { OnMemory result (Unmoved self.old self.new (expect_name_at self.old)) }
         ensures rest { IsRest self.old self.new }
     {
-        let token = self.front();
-        match token.item {
+        match self.current.item {
             Token::Name(name) => {
+                let span = self.current.span;
                 self.advance();
-                Ok(Spanning::new(token.span, name))
+                Ok(Spanning::new(span, name))
             }
             _ => self.refuse(),
         }

@@ -43,8 +43,8 @@ pub enum Token<'a> {
     EndOfFile,
 }
 
-// Whether two texts have the same characters.
-fn same_text(a: &str, b: &str) -> bool
+/// Whether two texts have the same characters.
+pub(crate) fn same_text(a: &str, b: &str) -> bool
     ensures { result ≡ pointwise nat_eq (chars a.now) (chars b.now) }
 {
     a == b
