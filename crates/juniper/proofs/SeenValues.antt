@@ -1,15 +1,16 @@
 -- Values of the grammar, in the steps of a cursor.
-use Rattle.std.proofs.Common.{◌≡◌, Bool, true, false, cond, List, [], ◌∷◌, Result, Ok, Err, Some, None, refl, sym, ap, ◌∙◌}
+use Rattle.std.proofs.Common.{◌≡◌, Bool, true, false, cond, List, [], ◌∷◌, Result, Ok, Err, Some, None, refl, sym, ap, ◌∙◌, subst, ◌&&◌}
+use Rattle.std.proofs.Math.Bool.{and_comm}
 use Rattle.graphql_lexical.specs.Place.{Span}
 use Rattle.graphql_lexical.specs.declared.kind.Kind.{Kind}
-use Rattle.graphql_lexical.specs.declared.kind.Kind.TheVariants.{Name, String, BlockString, Float, Int, ExclamationMark, Dollar, ParenOpen, ParenClose, BracketOpen, BracketClose, CurlyOpen, CurlyClose, Ellipsis, Colon, Equals, At, Pipe, EndOfFile}
+use Rattle.graphql_lexical.specs.declared.kind.Kind.TheVariants.{Name, Dollar, BracketOpen, BracketClose, CurlyOpen, CurlyClose, Colon, At, EndOfFile}
 use Rattle.graphql_lexical.specs.Kinds.{same_kind}
 use Rattle.graphql_lexical.specs.Cutting.{Lexeme}
-use Rattle.graphql_grammar.specs.Tokens.{Text}
-use Rattle.graphql_grammar.specs.Tree.{Scalars, ListOf, Object}
-use Rattle.graphql_grammar.specs.Reading.{of, passes, Reader, seq, done, on, refuse, fault_of, pick, literal, read_as, key_and_value, items_of, fields_of, fully, value_of, items_at, fields_at}
+use Rattle.graphql_grammar.specs.Tokens.{Text, over}
+use Rattle.graphql_grammar.specs.Tree.{Scalars, Value, ListOf, Object, Variable}
+use Rattle.graphql_grammar.specs.Reading.{of, passes, scalar_token, Reader, seq, done, want, on, by_name, refuse, fault_of, pick, literal, read_as, key_and_value, items_of, fields_of, fully, value_of, items_at, fields_at}
 use Rattle.graphql_grammar.proofs.Fuel.{value_body, value_steps, items_step, fields_step}
-use Rattle.graphql_grammar.proofs.TokenTests.{of_kind}
+use Rattle.graphql_grammar.proofs.TokenTests.{of_kind, both}
 use Rattle.juniper_tokens.specs.declared.token.Token.TheVariants as token
 use Rattle.juniper_tokens.specs.Errors.{Error, UnexpectedEndOfFile}
 use Rattle.juniper_tokens.specs.Cursor.{Read, ◌>>=◌, kind_at, next_at, skip_if, skip_at}
@@ -30,49 +31,74 @@ module _ {C : Type 0} (S : Scalars C Error) where
   bound (Ok x) f g h = ap (λ (b : _). Ok (b, x.1)) (h x.0.0 x.0.1)
   bound (Err e) f g h = refl
 
-  by_kind : (free : Bool) (k : Kind) (w : Text) (p : Span) (ts : List Lexeme) → seen (value_body S free (a_token k w p ∷ ts)) ≡ value_by S free k (a_token k w p ∷ ts)
-  unfolding on done literal refuse fault_of list_read object_read variable_read literal_read name_read values_read fields_read
-  by_kind free BracketOpen w p ts = seen_seq (fully (items_at S free)) _ ts ∙ bound (seen (fully (items_at S free) ts)) (λ xs c. ListOf (items_of xs) (from_to p c.span)) (λ xs q. ListOf (items_of xs) (from_to p q)) (λ xs c. refl)
-  by_kind free CurlyOpen w p ts = seen_seq (fully (fields_at S free)) _ ts ∙ bound (seen (fully (fields_at S free) ts)) (λ xs c. Object (fields_of xs) (from_to p c.span)) (λ xs q. Object (fields_of xs) (from_to p q)) (λ xs c. refl)
-  by_kind true Dollar w p ts = want_as Name refl _ ts _ (λ x. refl)
-  by_kind false Dollar w p ts = refl
-  by_kind true Name w p ts = refl
-  by_kind false Name w p ts = refl
-  by_kind true String w p ts = scalar_seen (a_token String w p) ts (S.read String w) refl
-  by_kind false String w p ts = scalar_seen (a_token String w p) ts (S.read String w) refl
-  by_kind true BlockString w p ts = scalar_seen (a_token BlockString w p) ts (S.read BlockString w) refl
-  by_kind false BlockString w p ts = scalar_seen (a_token BlockString w p) ts (S.read BlockString w) refl
-  by_kind true Float w p ts = scalar_seen (a_token Float w p) ts (S.read Float w) refl
-  by_kind false Float w p ts = scalar_seen (a_token Float w p) ts (S.read Float w) refl
-  by_kind true Int w p ts = scalar_seen (a_token Int w p) ts (S.read Int w) refl
-  by_kind false Int w p ts = scalar_seen (a_token Int w p) ts (S.read Int w) refl
-  by_kind true ExclamationMark w p ts = refl
-  by_kind false ExclamationMark w p ts = refl
-  by_kind true ParenOpen w p ts = refl
-  by_kind false ParenOpen w p ts = refl
-  by_kind true ParenClose w p ts = refl
-  by_kind false ParenClose w p ts = refl
-  by_kind true BracketClose w p ts = refl
-  by_kind false BracketClose w p ts = refl
-  by_kind true CurlyClose w p ts = refl
-  by_kind false CurlyClose w p ts = refl
-  by_kind true Ellipsis w p ts = refl
-  by_kind false Ellipsis w p ts = refl
-  by_kind true Colon w p ts = refl
-  by_kind false Colon w p ts = refl
-  by_kind true Equals w p ts = refl
-  by_kind false Equals w p ts = refl
-  by_kind true At w p ts = refl
-  by_kind false At w p ts = refl
-  by_kind true Pipe w p ts = refl
-  by_kind false Pipe w p ts = refl
-  by_kind true EndOfFile w p ts = refl
-  by_kind false EndOfFile w p ts = refl
+  -- one of two readers, by a test of the token
+  seen_pick : {A : Type 0} (b : Bool) (k : Lexeme → Reader Error A) (g : Reader Error A) (t : Lexeme) (ts : List Lexeme) (l r : Read A)
+      → (b ≡ true → seen (k t ts) ≡ l) → seen (g (t ∷ ts)) ≡ r → seen (pick b k g t ts) ≡ cond b l r
+  seen_pick true k g t ts l r f h = f refl
+  seen_pick false k g t ts l r f h = h
+
+  -- a token that passes the test of a kind is of that kind
+  of_that_kind : {A : Type 0} (k : Kind) (f : Lexeme → Reader Error A) (l : List Lexeme → Read A)
+      → ((w : Text) (p : Span) (ts : List Lexeme) → seen (f (a_token k w p) ts) ≡ l (a_token k w p ∷ ts))
+      → (t : Lexeme) (ts : List Lexeme) → same_kind t.kind k ≡ true → seen (f t ts) ≡ l (t ∷ ts)
+  of_that_kind k f l h t ts e =
+      subst (λ j. seen (f (a_token j t.text t.span) ts) ≡ l (a_token j t.text t.span ∷ ts)) (sym (of_kind k t e)) (h t.text t.span ts)
+
+  literal_seen : (t : Lexeme) (ts : List Lexeme) → seen (literal S (t ∷ ts)) ≡ literal_read S (t ∷ ts)
+  unfolding literal literal_read refuse fault_of
+  literal_seen t ts = by_tests (passes scalar_token t) (same_kind t.kind EndOfFile) refl refl
+    where
+      by_tests : (b e : Bool) → passes scalar_token t ≡ b → same_kind t.kind EndOfFile ≡ e → seen (literal S (t ∷ ts)) ≡ literal_read S (t ∷ ts)
+      by_tests true true p q = let z : false ≡ true = sym (ap (λ k. scalar_token k t.text) (of_kind EndOfFile t q)) ∙ p in absurd (cc z)
+      by_tests true false p q = rw (p, q, p) (scalar_seen t ts (S.read t.kind t.text) (rw q refl))
+      by_tests false true p q = rw (p, q) refl
+      by_tests false false p q = rw (p, q, p) refl
+
+  -- what is read behind a token of each kind that begins a value of its own
+  module _ (free : Bool) where
+    abbrev listed : Lexeme → Reader Error (Value C)
+    listed o = seq (fully (items_at S free)) (λ r. done (ListOf (items_of r.0) (over o r.1)))
+
+    abbrev keyed : Lexeme → Reader Error (Value C)
+    keyed o = seq (fully (fields_at S free)) (λ r. done (Object (fields_of r.0) (over o r.1)))
+
+    abbrev varied : Lexeme → Reader Error (Value C)
+    varied o = seq (want (of Name)) (λ w. done (Variable w.text (over o w)))
+
+    abbrev named : Lexeme → Reader Error (Value C)
+    named t = done (by_name S t.text t.span)
+
+    list_seen : (w : Text) (p : Span) (ts : List Lexeme) → seen (listed (a_token BracketOpen w p) ts) ≡ list_read S free (a_token BracketOpen w p ∷ ts)
+    unfolding done list_read values_read
+    list_seen w p ts = seen_seq (fully (items_at S free)) _ ts
+        ∙ bound (seen (fully (items_at S free) ts)) (λ xs c. ListOf (items_of xs) (from_to p c.span)) (λ xs q. ListOf (items_of xs) (from_to p q)) (λ xs c. refl)
+
+    object_seen : (w : Text) (p : Span) (ts : List Lexeme) → seen (keyed (a_token CurlyOpen w p) ts) ≡ object_read S free (a_token CurlyOpen w p ∷ ts)
+    unfolding done object_read fields_read
+    object_seen w p ts = seen_seq (fully (fields_at S free)) _ ts
+        ∙ bound (seen (fully (fields_at S free) ts)) (λ xs c. Object (fields_of xs) (from_to p c.span)) (λ xs q. Object (fields_of xs) (from_to p q)) (λ xs c. refl)
+
+    variable_seen : (w : Text) (p : Span) (ts : List Lexeme) → seen (varied (a_token Dollar w p) ts) ≡ variable_read S (a_token Dollar w p ∷ ts)
+    unfolding done variable_read
+    variable_seen w p ts = want_as Name refl _ ts _ (λ x. refl)
+
+    name_seen : (w : Text) (p : Span) (ts : List Lexeme) → seen (named (a_token Name w p) ts) ≡ name_read S (a_token Name w p ∷ ts)
+    unfolding done name_read
+    name_seen w p ts = refl
+
+    by_kind : (t : Lexeme) (ts : List Lexeme) → seen (value_body S free (t ∷ ts)) ≡ value_by S free t.kind (t ∷ ts)
+    unfolding on
+    by_kind t ts =
+        seen_pick (same_kind t.kind BracketOpen) listed _ t ts _ _ (of_that_kind BracketOpen listed (list_read S free) list_seen t ts)
+        (seen_pick (same_kind t.kind CurlyOpen) keyed _ t ts _ _ (of_that_kind CurlyOpen keyed (object_read S free) object_seen t ts)
+        (seen_pick (free && same_kind t.kind Dollar) varied _ t ts _ _ (λ e. of_that_kind Dollar varied (variable_read S) variable_seen t ts (both free _ e).1)
+        (seen_pick (same_kind t.kind Name) named _ t ts _ _ (of_that_kind Name named (name_read S) name_seen t ts) (literal_seen t ts))
+        ∙ ap (λ (b : Bool). cond b (variable_read S (t ∷ ts)) (cond (same_kind t.kind Name) (name_read S (t ∷ ts)) (literal_read S (t ∷ ts)))) (and_comm free (same_kind t.kind Dollar))))
 
   by_list : (free : Bool) (ts : List Lexeme) → seen (value_body S free ts) ≡ value_read S free ts
   unfolding on literal value_read literal_read
   by_list free [] = refl
-  by_list free (t ∷ ts) = by_kind free t.kind t.text t.span ts
+  by_list free (t ∷ ts) = by_kind free t ts
 
   -- The reading of the grammar is what the code reads.
   pub value_seen : (free : Bool) (ts : List Lexeme) → seen (value_of S free ts) ≡ value_read S free ts

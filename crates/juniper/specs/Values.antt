@@ -1,13 +1,14 @@
 -- The reading of a value, in the steps of a cursor.
-use Rattle.std.specs.Prelude.{List, ◌∷◌, map, Bool, Result, Ok, Err, if◌then◌else◌}
+use Rattle.std.specs.Prelude.{List, ◌∷◌, map, Bool, ◌&&◌, Result, Ok, Err, if◌then◌else◌}
 use Rattle.std.specs.Global.{Vec}
 use Rattle.graphql_lexical.specs.Place.{Span}
 use Rattle.graphql_lexical.specs.declared.kind.Kind.{Kind}
-use Rattle.graphql_lexical.specs.declared.kind.Kind.TheVariants.{Name, String, BlockString, Float, Int, ExclamationMark, Dollar, ParenOpen, ParenClose, BracketOpen, BracketClose, CurlyOpen, CurlyClose, Ellipsis, Colon, Equals, At, Pipe, EndOfFile}
+use Rattle.graphql_lexical.specs.declared.kind.Kind.TheVariants.{Name, Dollar, BracketOpen, CurlyOpen}
+use Rattle.graphql_lexical.specs.Kinds.{same_kind}
 use Rattle.graphql_lexical.specs.Cutting.{Lexeme}
 use Rattle.graphql_grammar.specs.Tokens.{Text, Word, word_of}
 use Rattle.graphql_grammar.specs.Tree.{Scalars, Value, Scalar, Variable, ListOf, Object}
-use Rattle.graphql_grammar.specs.Reading.{fully, items_at, fields_at, by_name, items_of, fields_of}
+use Rattle.graphql_grammar.specs.Reading.{scalar_token, fully, items_at, fields_at, by_name, items_of, fields_of}
 use Rattle.juniper_tokens.specs.Spans.{view_span}
 use Rattle.juniper_tokens.specs.declared.span.Spanning.{Spanning}
 use Rattle.juniper_tokens.specs.declared.token.Token.TheVariants as token
@@ -31,25 +32,7 @@ view_list view s = (map view s.item.items, view_span s.span)
 
 -- a scalar token by the scalar type's reading; another token is told as unexpected
 abbrev pub literal_here : {C : Type 0} → (Kind → Text → Result C Error) → Kind → Text → Result C Error
-literal_here read Name text = unexpected Name text
-literal_here read String text = read String text
-literal_here read BlockString text = read BlockString text
-literal_here read Float text = read Float text
-literal_here read Int text = read Int text
-literal_here read ExclamationMark text = unexpected ExclamationMark text
-literal_here read Dollar text = unexpected Dollar text
-literal_here read ParenOpen text = unexpected ParenOpen text
-literal_here read ParenClose text = unexpected ParenClose text
-literal_here read BracketOpen text = unexpected BracketOpen text
-literal_here read BracketClose text = unexpected BracketClose text
-literal_here read CurlyOpen text = unexpected CurlyOpen text
-literal_here read CurlyClose text = unexpected CurlyClose text
-literal_here read Ellipsis text = unexpected Ellipsis text
-literal_here read Colon text = unexpected Colon text
-literal_here read Equals text = unexpected Equals text
-literal_here read At text = unexpected At text
-literal_here read Pipe text = unexpected Pipe text
-literal_here read EndOfFile text = unexpected EndOfFile text
+literal_here read kind text = if scalar_token kind text then read kind text else unexpected kind text
 
 abbrev pub read_here : {C : Type 0} → Result C Error → Span → List Lexeme → Read (Value C)
 read_here (Ok c) p ts = Ok (Scalar c p, ts)
@@ -81,25 +64,12 @@ module _ {C : Type 0} (S : Scalars C Error) (free : Bool) where
   object_read ts = expect_at token.CurlyOpen ts >>= λ o. fields_read o.1 >>= λ fs. Ok (Object (fields_of fs.0.0) (from_to o.0.span fs.0.1), fs.1)
 
   abbrev pub value_by : Kind → List Lexeme → Read (Value C)
-  value_by Name ts = name_read S ts
-  value_by String ts = literal_read S ts
-  value_by BlockString ts = literal_read S ts
-  value_by Float ts = literal_read S ts
-  value_by Int ts = literal_read S ts
-  value_by ExclamationMark ts = literal_read S ts
-  value_by Dollar ts = if free then variable_read S ts else literal_read S ts
-  value_by ParenOpen ts = literal_read S ts
-  value_by ParenClose ts = literal_read S ts
-  value_by BracketOpen ts = list_read ts
-  value_by BracketClose ts = literal_read S ts
-  value_by CurlyOpen ts = object_read ts
-  value_by CurlyClose ts = literal_read S ts
-  value_by Ellipsis ts = literal_read S ts
-  value_by Colon ts = literal_read S ts
-  value_by Equals ts = literal_read S ts
-  value_by At ts = literal_read S ts
-  value_by Pipe ts = literal_read S ts
-  value_by EndOfFile ts = literal_read S ts
+  value_by kind ts =
+      if same_kind kind BracketOpen then list_read ts
+      else (if same_kind kind CurlyOpen then object_read ts
+      else (if same_kind kind Dollar && free then variable_read S ts
+      else (if same_kind kind Name then name_read S ts
+      else literal_read S ts)))
 
   -- a value, by the kind of the token that stands next
   unfoldable pub value_read : List Lexeme → Read (Value C)
