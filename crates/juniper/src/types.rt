@@ -14,7 +14,6 @@ use juniper_values::Type;
 /// A type is answered exactly where a front of the tokens is one, and the longest such front is taken. Else the tokens
 /// are refused at the first one with which no type goes on, which is taken, unless it is the end. Where memory
 /// ran out, a rest of the tokens is left.
-#[tactic(auto, using(crate::proofs::Literals::answers_type, juniper_tokens::proofs::Rests::on_memory))]
 pub fn parse_type<'a>(parser: &mut Parser<'a>) -> ParseResult<Type<&'a str>>
     ensures answers { AnswersType view_spanned_type result parser.old parser.new }
     ensures memory { OnMemory result (IsRest parser.old parser.new) }
@@ -24,7 +23,6 @@ pub fn parse_type<'a>(parser: &mut Parser<'a>) -> ParseResult<Type<&'a str>>
 
 /// `Type = Name "!"? | "[" Type "]" "!"?`
 #[cycle(types)]
-#[tactic(auto, using(juniper_tokens::proofs::Rests::further))]
 pub(crate) fn parse_any_type<'a>(parser: &mut Parser<'a>) -> ParseResult<Type<&'a str>>
     ensures gives { Gives view_spanned_type result parser.new (type_read parser.old) }
     ensures ended { EndsOnce parser.old }
@@ -37,7 +35,7 @@ pub(crate) fn parse_any_type<'a>(parser: &mut Parser<'a>) -> ParseResult<Type<&'
 
 /// `Name | "[" Type "]"`
 #[cycle(types)]
-#[tactic(auto, using(juniper_tokens::proofs::Rests::further), unfolding(crate::specs::Parts::nullable_type_read))]
+#[tactic(auto, unfolding(crate::specs::Parts::nullable_type_read))]
 fn parse_nullable_type<'a>(parser: &mut Parser<'a>) -> ParseResult<Type<&'a str>>
     ensures gives { Gives view_spanned_type result parser.new (nullable_type_read parser.old) }
     ensures ended { EndsOnce parser.old }
@@ -52,7 +50,7 @@ fn parse_nullable_type<'a>(parser: &mut Parser<'a>) -> ParseResult<Type<&'a str>
 }
 
 /// `Name`
-#[tactic(auto, using(juniper_tokens::proofs::Rests::further), unfolding(crate::specs::Parts::named_type_read))]
+#[tactic(auto, unfolding(crate::specs::Parts::named_type_read))]
 fn parse_named_type<'a>(parser: &mut Parser<'a>) -> ParseResult<Type<&'a str>>
     ensures gives { Gives view_spanned_type result parser.new (named_type_read parser.old) }
     ensures shorter { OnOk result (length parser.new < length parser.old) }
@@ -64,7 +62,7 @@ fn parse_named_type<'a>(parser: &mut Parser<'a>) -> ParseResult<Type<&'a str>>
 
 /// `"[" Type "]"`
 #[cycle(types)]
-#[tactic(auto, using(juniper_tokens::proofs::Rests::further, crate::proofs::Wrapping::wrapped_list), unfolding(crate::specs::Parts::list_type_read))]
+#[tactic(auto, using(crate::proofs::Wrapping::wrapped_list), unfolding(crate::specs::Parts::list_type_read))]
 fn parse_list_type<'a>(parser: &mut Parser<'a>) -> ParseResult<Type<&'a str>>
     ensures gives { Gives view_spanned_type result parser.new (list_type_read parser.old) }
     ensures shorter { OnOk result (length parser.new < length parser.old) }
@@ -80,7 +78,7 @@ fn parse_list_type<'a>(parser: &mut Parser<'a>) -> ParseResult<Type<&'a str>>
 }
 
 /// `"!"?`, after this type.
-#[tactic(auto, using(juniper_tokens::proofs::Rests::further, crate::proofs::Wrapping::wrapped_non_null), unfolding(crate::specs::Parts::non_null_read))]
+#[tactic(auto, using(crate::proofs::Wrapping::wrapped_non_null), unfolding(crate::specs::Parts::non_null_read))]
 fn parse_non_null<'a>(
     parser: &mut Parser<'a>,
     inner: Spanning<Type<&'a str>>,

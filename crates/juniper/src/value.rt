@@ -23,7 +23,6 @@ use std::alloc::{AllocError, Global};
 /// A value is answered exactly where a front of the tokens is one. Else the tokens are refused at the first one with
 /// which no value goes on, which is taken, unless it is the end. Where memory ran out, a rest of
 /// the tokens is left.
-#[tactic(auto, using(crate::proofs::Literals::answers_value, juniper_tokens::proofs::Rests::on_memory))]
 pub fn parse_value_literal<'a, S: ScalarValue>(
     parser: &mut Parser<'a>,
     is_const: bool,
@@ -37,7 +36,7 @@ pub fn parse_value_literal<'a, S: ScalarValue>(
 /// `Value(c) = a scalar token that the scalar type reads | Name | "$" Name where c is free
 ///           | "[" Value(c)* "]" | "{" (Name ":" Value(c))* "}"`
 #[cycle(value)]
-#[tactic(auto, using(juniper_tokens::proofs::Rests::further), unfolding(crate::specs::Values::value_read))]
+#[tactic(auto, unfolding(crate::specs::Values::value_read))]
 pub(crate) fn parse_value<'a, S: ScalarValue>(
     parser: &mut Parser<'a>,
     is_const: bool,
@@ -73,7 +72,7 @@ pub(crate) fn parse_value<'a, S: ScalarValue>(
 
 /// `"[" Value(c)* "]"`
 #[cycle(value)]
-#[tactic(auto, using(juniper_tokens::proofs::Rests::further), unfolding(crate::specs::Values::list_read))]
+#[tactic(auto, unfolding(crate::specs::Values::list_read))]
 fn parse_list<'a, S: ScalarValue>(
     parser: &mut Parser<'a>,
     is_const: bool,
@@ -90,7 +89,6 @@ fn parse_list<'a, S: ScalarValue>(
 
 /// `Value(c)* "]"`, with the place of the bracket.
 #[cycle(value)]
-#[tactic(auto, using(juniper_tokens::proofs::Rests::further))]
 fn parse_items<'a, S: ScalarValue>(
     parser: &mut Parser<'a>,
     is_const: bool,
@@ -110,7 +108,7 @@ fn parse_items<'a, S: ScalarValue>(
 
 /// `"{" (Name ":" Value(c))* "}"`
 #[cycle(value)]
-#[tactic(auto, using(juniper_tokens::proofs::Rests::further), unfolding(crate::specs::Values::object_read))]
+#[tactic(auto, unfolding(crate::specs::Values::object_read))]
 fn parse_object<'a, S: ScalarValue>(
     parser: &mut Parser<'a>,
     is_const: bool,
@@ -127,7 +125,6 @@ fn parse_object<'a, S: ScalarValue>(
 
 /// `(Name ":" Value(c))* "}"`, with the place of the brace.
 #[cycle(value)]
-#[tactic(auto, using(juniper_tokens::proofs::Rests::further))]
 fn parse_fields<'a, S: ScalarValue>(
     parser: &mut Parser<'a>,
     is_const: bool,
@@ -147,7 +144,7 @@ fn parse_fields<'a, S: ScalarValue>(
 
 /// `Name ":" Value(c)`
 #[cycle(value)]
-#[tactic(auto, using(juniper_tokens::proofs::Rests::further), unfolding(crate::specs::Values::field_read))]
+#[tactic(auto, unfolding(crate::specs::Values::field_read))]
 fn parse_object_field<'a, S: ScalarValue>(
     parser: &mut Parser<'a>,
     is_const: bool,
@@ -164,7 +161,7 @@ fn parse_object_field<'a, S: ScalarValue>(
 }
 
 /// `"$" Name`
-#[tactic(auto, using(juniper_tokens::proofs::Rests::further, crate::proofs::ValueViews::view_of_variable), unfolding(crate::specs::Values::variable_read))]
+#[tactic(auto, using(crate::proofs::ValueViews::view_of_variable), unfolding(crate::specs::Values::variable_read))]
 fn parse_variable<'a, S: ScalarValue>(parser: &mut Parser<'a>) -> ParseResult<InputValue<S>>
     ensures gives { Gives (view_value S.content) result parser.new (variable_read (stated S.reading S.of_bool) parser.old) }
     ensures shorter { OnOk result (length parser.new < length parser.old) }
@@ -177,7 +174,7 @@ fn parse_variable<'a, S: ScalarValue>(parser: &mut Parser<'a>) -> ParseResult<In
 }
 
 /// A scalar token. Another token is refused.
-#[tactic(auto, using(juniper_tokens::proofs::Rests::further, crate::proofs::ValueViews::view_of_scalar), unfolding(crate::specs::Values::literal_read))]
+#[tactic(auto, using(crate::proofs::ValueViews::view_of_scalar), unfolding(crate::specs::Values::literal_read))]
 fn parse_scalar<'a, S: ScalarValue>(parser: &mut Parser<'a>) -> ParseResult<InputValue<S>>
     ensures gives { Gives (view_value S.content) result parser.new (literal_read (stated S.reading S.of_bool) parser.old) }
     ensures shorter { OnOk result (length parser.new < length parser.old) }
@@ -204,7 +201,7 @@ fn scalar_of<S: ScalarValue>(alloc: Global, token: Token<'_>) -> Result<S, ReadF
 }
 
 /// A Name as a value.
-#[tactic(auto, using(juniper_tokens::proofs::Rests::further), unfolding(crate::specs::Values::name_read))]
+#[tactic(auto, unfolding(crate::specs::Values::name_read))]
 fn parse_named_value<'a, S: ScalarValue>(parser: &mut Parser<'a>) -> ParseResult<InputValue<S>>
     ensures gives { Gives (view_value S.content) result parser.new (name_read (stated S.reading S.of_bool) parser.old) }
     ensures shorter { OnOk result (length parser.new < length parser.old) }

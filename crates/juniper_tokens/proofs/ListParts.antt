@@ -1,14 +1,17 @@
 -- Lists between an opening and a closing token.
-use Rattle.std.proofs.Common.{◌≡◌, ◌<◌, List, [], ◌∷◌, ◌++◌, length, Result, Ok, Err, Some, IfErr, IsErrAnd, refl, sym, subst}
+use Rattle.std.proofs.Common.{◌≡◌, ◌<◌, Bool, true, false, cond, List, [], ◌∷◌, ◌++◌, length, Result, Ok, Err, Option, Some, None, IfErr, IsErrAnd, refl, sym, ap, subst}
 use Rattle.std.specs.Borrow.{MutBor}
 use Rattle.std.specs.List.{FoldsTo}
 use Rattle.std.proofs.lemmas.Fn.{FoldsTo-push}
+use Rattle.graphql_lexical.specs.declared.kind.Kind.TheVariants.{EndOfFile}
+use Rattle.graphql_lexical.specs.Kinds.{same_kind}
 use Rattle.graphql_lexical.specs.Place.{Place}
 use Rattle.graphql_lexical.specs.Cutting.{Lexeme}
 use Rattle.juniper_tokens.specs.declared.token.Token.{Token}
 use Rattle.juniper_tokens.specs.declared.error.ParseFailure.{ParseFailure}
 use Rattle.juniper_tokens.specs.declared.error.ParseFailure.TheVariants as failures
-use Rattle.juniper_tokens.specs.Cursor.{Read, Fails, OnMemory, Unmoved, expect_at, skip_at}
+use Rattle.juniper_tokens.specs.Errors.{UnexpectedEndOfFile}
+use Rattle.juniper_tokens.specs.Cursor.{Read, ◌>>=◌, Fails, OnMemory, Unmoved, first_of, kind_at, next_at, expect_at, skip_if, skip_at}
 use Rattle.juniper_tokens.specs.Delimited.{IsRest, IsProperRest, Giving, Calls, Leaves, ReadsItems, GoesOn, Closes, IsRefused, HasNoItem, OpenItem, ItemOpen, ReadsList, ReadsNonempty, RefusesList, RefusesNonempty}
 use Rattle.juniper_tokens.specs.DelimitedParts.{Opened}
 use Rattle.juniper_tokens.proofs.Rests.{further, properly_further}
@@ -21,6 +24,29 @@ opened opening ts t us e shorter rest = record { opener = t; opens = e; start_is
 pub closed : (closing : Token) (ts : List Lexeme) (t : Lexeme) (us : List Lexeme) → skip_at closing ts ≡ Ok (Some t, us) → IsRest ts us
     → (closer : Lexeme) × Closes closing ts closer us × (t.span.end ≡ closer.span.end) × IsRest ts us
 closed closing ts t us e rest = (t, e, refl, rest)
+
+same_step : {A : Type 0} (x y : A) (ts us : List Lexeme) → ◌≡◌ {A = Read A} (Ok (x, ts)) (Ok (y, us)) → (x ≡ y) × (ts ≡ us)
+same_step {A} x y ts us e =
+    let same : (x, ts) ≡ (y, us) = cc in
+    (ap (λ (z : A × List Lexeme). z.0) same, ap (λ (z : A × List Lexeme). z.1) same)
+
+some_skipped : (r : Read Lexeme) (us : List Lexeme) → (r >>= λ t. Ok (Some t.0, t.1)) ≡ Ok (None, us) → ⊥
+some_skipped (Ok x) us e = absurd (cc (same_step (Some x.0) None x.1 us e).0)
+some_skipped (Err f) us e = absurd (cc e)
+
+none_skipped : (passes : Bool) (ts us : List Lexeme) → skip_if passes ts ≡ Ok (None, us) → us ≡ ts
+none_skipped true ts us e = absurd (some_skipped (next_at ts) us e)
+none_skipped false ts us e = by_end (same_kind (kind_at ts) EndOfFile) e
+  where
+    by_end : (b : Bool) → cond {A = Read (Option Lexeme)} b (Err (record { error = UnexpectedEndOfFile; span = (first_of ts).span }, ts)) (Ok (None, ts)) ≡ Ok (None, us) → us ≡ ts
+    by_end true p = absurd (cc p)
+    by_end false p = sym (same_step None None ts us p).1
+
+pub not_closed : (closing : Token) (ts us : List Lexeme) → skip_at closing ts ≡ Ok (None, us) → GoesOn closing ts × (us ≡ ts)
+unfolding skip_at
+not_closed closing ts us e =
+    let same = none_skipped _ ts us e in
+    (subst (λ (left : List Lexeme). skip_at closing ts ≡ Ok (None, left)) same e, same)
 
 pub refused_step : {A R : Type 0} (from : ParseFailure → R → Type 0) (step : Read A) (ts : List Lexeme) (failure : ParseFailure) (e : R) (us : List Lexeme)
     → from failure e → Fails failure us step → OnMemory {X = A} (Err failure) (Unmoved ts us step) → IsRest ts us → IsRefused from step ts e us × IsRest ts us

@@ -80,10 +80,10 @@ refused_at ts = next_at ts >>= λ t. Err (record { error = UnexpectedToken (show
 abbrev pub next_if : Bool → List Lexeme → Read Lexeme
 next_if passes ts = if passes then next_at ts else refused_at ts
 
-abbrev pub expect_at : Token → List Lexeme → Read Lexeme
+unfoldable pub expect_at : Token → List Lexeme → Read Lexeme
 expect_at wanted ts = next_if (is_wanted (token_kind wanted) (token_text wanted) (first_of ts)) ts
 
-abbrev pub expect_name_at : List Lexeme → Read Lexeme
+unfoldable pub expect_name_at : List Lexeme → Read Lexeme
 expect_name_at ts = next_if (same_kind (kind_at ts) Name) ts
 
 -- The wanted lexeme is taken, if it stands next.
@@ -95,7 +95,7 @@ skip_if passes ts =
     then Err (record { error = UnexpectedEndOfFile; span = (first_of ts).span }, ts)
     else Ok (None, ts)
 
-abbrev pub skip_at : Token → List Lexeme → Read (Option Lexeme)
+unfoldable pub skip_at : Token → List Lexeme → Read (Option Lexeme)
 skip_at wanted ts = skip_if (is_wanted (token_kind wanted) (token_text wanted) (first_of ts)) ts
 
 -- Where memory ran out, P holds.

@@ -172,6 +172,7 @@ impl<'a> Parser<'a> {
     }
 
     /// Takes the next token. At the end it answers `UnexpectedEndOfFile`, and nothing is taken.
+    #[tactic(auto, using(crate::proofs::Rests::none_taken, crate::proofs::Rests::one_taken))]
     pub fn next_token(&mut self) -> ParseResult<Token<'a>>
         ensures gives { Gives view_token result self.new (next_at self.old) }
         ensures shorter { OnOk result (length self.new < length self.old) }
@@ -185,6 +186,7 @@ impl<'a> Parser<'a> {
     }
 
     // Takes the next token, and tells that it is unexpected. At the end nothing is taken.
+    #[tactic(auto, using(crate::proofs::Rests::none_taken, crate::proofs::Rests::one_taken))]
     #[cold]
     fn refuse<T: Drop>(&mut self) -> Result<T, ParseFailure>
         ensures gives { Gives (λ x. x) result self.new (refused_at self.old) }
@@ -204,6 +206,7 @@ impl<'a> Parser<'a> {
     ///
     /// Another token is taken too, and told as `UnexpectedToken`. At the end, whatever was wanted, it answers
     /// `UnexpectedEndOfFile`, and nothing is taken. Want of memory, for the text of a refusal, leaves all as it was.
+    #[tactic(auto, unfolding(crate::specs::Cursor::expect_at))]
     pub fn expect(&mut self, wanted: &Token<'_>) -> ParseResult<Token<'a>>
         ensures gives { Gives view_token result self.new (expect_at wanted.now self.old) }
         ensures shorter { OnOk result (length self.new < length self.old) }
@@ -231,6 +234,7 @@ impl<'a> Parser<'a> {
     /// Takes the next token if it equals the wanted one, and else answers None and takes nothing.
     ///
     /// At the end, whatever was wanted, it answers `UnexpectedEndOfFile`, and nothing is taken.
+    #[tactic(auto, using(crate::proofs::Rests::none_taken), unfolding(crate::specs::Cursor::skip_at))]
     pub fn skip(&mut self, wanted: &Token<'_>) -> OptionParseResult<Token<'a>>
         ensures gives { Gives (option_map view_token) result self.new (skip_at wanted.now self.old) }
         ensures not_longer { OnOk result (length self.new ≤ length self.old) }
@@ -247,6 +251,7 @@ impl<'a> Parser<'a> {
     }
 
     /// Takes the next token, which has to be a Name, and gives its text. Refusals are those of `expect`.
+    #[tactic(auto, using(crate::proofs::Rests::one_taken), unfolding(crate::specs::Cursor::expect_name_at))]
     pub fn expect_name(&mut self) -> ParseResult<&'a str>
         ensures gives { Gives view_name result self.new (expect_name_at self.old) }
         ensures shorter { OnOk result (length self.new < length self.old) }
