@@ -64,7 +64,8 @@ read_spelled [] n kind k text r e no_end = absurd (no_end (sym e ∙ r.1))
 read_spelled (c ∷ cs) n kind k text r e no_end = subst (Spells (take n (c ∷ cs))) e r.spells
 
 -- the kind leaves the text open, or fixes it
-spelled_text : (s : Spelling) (whole : List ℕ) → Admits s whole → between (grammar.quotes s) whole ≡ unwrap_or (fixed_text s) (between (grammar.quotes s) whole)
+spelled_text : (s : Spelling) (whole : List ℕ) → Admits s whole
+    → between (grammar.quotes s) whole ≡ unwrap_or (fixed_text s) (between (grammar.quotes s) whole)
 spelled_text Names whole h = refl
 spelled_text Strings whole h = refl
 spelled_text BlockStrings whole h = refl
@@ -75,7 +76,8 @@ spelled_text NoText whole h = absurd h
 
 kept_text : (rest : List ℕ) (n : ℕ) (kind : Kind) (text : List ℕ) → Reads rest n kind text → text ≡ kind_text kind text
 kept_text [] n kind text r = r.2 ∙ sym (ap₂ kind_text r.1 r.2)
-kept_text (c ∷ cs) n kind text r = subst (λ t. t ≡ kind_text kind t) (sym r.text_is) (spelled_text (spelling kind) (take n (c ∷ cs)) r.spells)
+kept_text (c ∷ cs) n kind text r =
+    subst (λ t. t ≡ kind_text kind t) (sym r.text_is) (spelled_text (spelling kind) (take n (c ∷ cs)) r.spells)
 
 abbrev made : Kind → List ℕ → Place → Place → Lexeme
 made kind text start end = record { kind = kind; text = text; span = record { start = start; end = end } }
@@ -102,7 +104,8 @@ range_given s token start end t b e h =
     let size : end.characters - start.characters ≡ h.0 = omega (arith, b.from, b.to, h.2) in
     let forward : start.characters ≤ end.characters = omega (arith, b.from, b.to, h.2) in
     let slice : take h.0 rest ≡ range_slice s.source r = sym (ap₂ (λ m k. take m (drop k s.source)) size b.from) in
-    let text : token_text token.item ≡ kind_text kind (text_of kind (range_slice s.source r)) = kept_text rest h.0 kind _ reads ∙ ap (kind_text kind) (read_text rest h.0 kind _ reads ∙ ap (text_of kind) slice) in
+    let text : token_text token.item ≡ kind_text kind (text_of kind (range_slice s.source r)) =
+    kept_text rest h.0 kind _ reads ∙ ap (kind_text kind) (read_text rest h.0 kind _ reads ∙ ap (text_of kind) slice) in
     let ends : j + h.0 ≡ end.characters = omega (arith, b.to, h.2) in
     let inside : end.characters - start.characters ≤ length (drop start.characters s.source) =
     subst (λ m. m ≤ length (drop start.characters s.source)) (sym size) (subst (λ i. h.0 ≤ length (drop i s.source)) (sym b.from) (read_within rest h.0 kind _ reads)) in
