@@ -50,7 +50,7 @@ pub record Finds (q : State) (n : ℕ) (rest : List ℕ) (f : Found) : Type 0 wh
   pub text_is : f.text ≡ text_of f.kind (take n rest)
   pub alone : q ≡ Zero → BeginsWithDigit (drop n rest) → ⊥
 
-same_Ok : (x y : Found) → ◌≡◌ {A = Result Found Missed} (Ok x) (Ok y) → x ≡ y
+pub same_Ok : (x y : Found) → ◌≡◌ {A = Result Found Missed} (Ok x) (Ok y) → x ≡ y
 same_Ok x y e = cc
 
 found_finds : (q : State) (n : ℕ) (kind : Kind) (rest : List ℕ) (f : Found) → accepts q ≡ Some kind → (q ≡ Zero → BeginsWithDigit (drop n rest) → ⊥) → found n kind rest ≡ Ok f → Finds q n rest f

@@ -46,10 +46,11 @@ operation_is f g h hs hn t = by_words (same_kind t.kind Name) (bytes_eq t.text (
     by_words true false false false = sym hn
 
 name_seen : (ts : List Lexeme) → seen (name_word {F = Error} ts) ≡ name_word_read ts
-unfolding name_word done
+unfolding name_word done expect_name_at
 name_seen ts = want_as Name refl _ ts _ (λ t. refl)
 
 name_run : (ts : List Lexeme) (x : Word × List Lexeme) → name_word_read ts ≡ Ok x → Runs ts x.1 x.0.span
+unfolding expect_name_at
 name_run ts x e =
     let w = bind_ok (expect_name_at ts) (λ w. Ok (word_of w.0, w.1)) x e in
     subst (λ (z : Word × List Lexeme). Runs ts z.1 z.0.span) (ok_is _ x w.2) (next_runs (same_kind (kind_at ts) Name) ts w.0 w.1)
@@ -63,7 +64,7 @@ unfolding optional_name_read
 optional_name_run ts x e = optional_runs Name name_word_read (λ w. w.span) ts x (name_run ts) e
 
 fragment_name_is : (ts : List Lexeme) → next_if (passes other_than_on (first_of ts)) ts ≡ fragment_name_read ts
-unfolding fragment_name_read
+unfolding fragment_name_read expect_name_at
 fragment_name_is ts = by_on (is_word (codes "on") (first_of ts)) refl
   where
     other : (a b : Bool) → (a && b) ≡ true → (a && not b) ≡ false
@@ -120,7 +121,7 @@ module _ {C : Type 0} (S : Scalars C Error) where
       ∙ ap (λ (t : Lexeme). Ok (Operation (operation_of t.text) n.0 vs.0 x.0.0 x.0.1.0 (from_to w.0.span x.0.1.1), x.1)) (sym (ap first_of (next_takes ts w a)))))))
 
   fragment_seen : (ts : List Lexeme) → ((next_at ts >>= λ w. seen (fragment_by S (fully (directives S)) (fully (set_at S)) w.1)) >>= whole S ts) ≡ fragment_read S ts
-  unfolding fragment_read condition_read
+  unfolding fragment_read condition_read expect_name_at
   fragment_seen ts =
       bind_assoc (next_at ts) _ _
       ∙ bind_given (next_at ts) _ _ (λ w a.

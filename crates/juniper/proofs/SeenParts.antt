@@ -29,19 +29,19 @@ module _ {C : Type 0} (S : Scalars C Error) where
   -- ---- arguments
 
   argument_seen : (ts : List Lexeme) → seen (fully (argument S) ts) ≡ argument_read S ts
-  unfolding argument_read done
+  unfolding argument_read done expect_at expect_name_at
   argument_seen ts = ap seen (argument_law S ts) ∙ want_as Name refl _ ts _ (λ k. want_as Colon refl _ k.1 _ (λ c. seq_as (value_of S true) _ c.1 _ _ (value_seen S true c.1) (λ v. refl)))
 
   argument_ends : AtEnd (argument_read S)
-  unfolding argument_read
+  unfolding argument_read expect_name_at
   argument_ends = at_end (argument_read S) (λ w p us. refl)
 
   pub arguments_repeat : RepeatsSome (skip_at token.ParenClose) (argument_read S) (arguments_inner_read S)
-  unfolding arguments_inner_read
+  unfolding arguments_inner_read skip_at
   arguments_repeat = inner_repeats (argument S) (argument_grows S) ParenClose (IsArgument S) (λ n. argument_rule S n n (le_refl n)) (argument_takes S 0 0 (le_refl 0)) refl (inl refl) refl refl (argument_read S) argument_seen argument_ends (more_arguments_law S) (some_arguments_law S)
 
   pub arguments_seen : (ts : List Lexeme) → seen (fully (arguments S) ts) ≡ arguments_read S ts
-  unfolding arguments_read arguments_inner_read
+  unfolding arguments_read arguments_inner_read expect_at
   arguments_seen ts = ap seen (arguments_law S ts)
       ∙ listed_seen (argument S) (argument_grows S) ParenClose (IsArgument S) (λ n. argument_rule S n n (le_refl n)) (argument_takes S 0 0 (le_refl 0)) refl (inl refl) refl refl (argument_read S) argument_seen argument_ends (more_arguments_law S) (some_arguments_law S) ParenOpen refl (λ xs p. record { items = xs; span = p }) ts
 
@@ -59,7 +59,7 @@ module _ {C : Type 0} (S : Scalars C Error) where
   -- ---- directives
 
   pub directive_seen : (ts : List Lexeme) → seen (fully (directive S) ts) ≡ directive_read S ts
-  unfolding directive_read done
+  unfolding directive_read done expect_at expect_name_at
   directive_seen ts = ap seen (directive_law S ts) ∙ seen_span _ ts
       ∙ ap (λ (r : Read (Span → Directive C)). r >>= λ x. Ok (x.0 (span_of (front ts x.1)), x.1))
       (want_as At refl _ ts (λ a. expect_name_at a.1 >>= λ w. optional_arguments_read S w.1 >>= λ xs. Ok ((λ p. record { name = word_of w.0; arguments = xs.0; span = p }), xs.1))
@@ -111,6 +111,7 @@ module _ {C : Type 0} (S : Scalars C Error) where
   -- ---- variable definitions
 
   default_seen : (ts : List Lexeme) → seen (fully (default_value S) ts) ≡ (expect_at token.Equals ts >>= λ e. value_read S false e.1)
+  unfolding expect_at
   default_seen ts = ap seen (default_law S ts) ∙ want_as Equals refl _ ts _ (λ e. value_seen S false e.1)
 
   pub optional_default_seen : (ts : List Lexeme) → seen (maybe (of Equals) (fully (default_value S)) ts) ≡ default_read S ts
@@ -119,22 +120,22 @@ module _ {C : Type 0} (S : Scalars C Error) where
       ∙ ap (λ (r : Read (Option (Value C))). cond (same_kind (kind_at ts) Equals) r (Ok (None, ts))) (bind_assoc (expect_at token.Equals ts) _ _)
 
   pub variable_seen : (ts : List Lexeme) → seen (fully (variable_definition S) ts) ≡ variable_definition_read S ts
-  unfolding variable_definition_read type_read done
+  unfolding variable_definition_read type_read done expect_at expect_name_at
   variable_seen ts = ap seen (variable_law S ts)
       ∙ want_as Dollar refl _ ts _ (λ d. want_as Name refl _ d.1 _ (λ w. want_as Colon refl _ w.1 _ (λ c.
       seq_as (fully spanned_type) _ c.1 _ _ refl (λ x. seq_as (maybe (of Equals) (fully (default_value S))) _ x.1 _ _ (optional_default_seen x.1) (λ v.
       seq_as (fully (directives S)) _ v.1 _ _ (directives_seen v.1) (λ ds. refl) ∙ bind_assoc (directives_read S v.1) _ _)))))
 
   variable_ends : AtEnd (variable_definition_read S)
-  unfolding variable_definition_read
+  unfolding variable_definition_read expect_at
   variable_ends = at_end (variable_definition_read S) (λ w p us. refl)
 
   pub variables_repeat : RepeatsSome (skip_at token.ParenClose) (variable_definition_read S) (variables_inner_read S)
-  unfolding variables_inner_read
+  unfolding variables_inner_read skip_at
   variables_repeat = inner_repeats (variable_definition S) (variable_grows S) ParenClose (IsVariableDefinition S) (λ n. variable_definition_rule S n n (le_refl n)) (variable_takes S 0 0 (le_refl 0)) refl (inl refl) refl refl (variable_definition_read S) variable_seen variable_ends (more_variables_law S) (some_variables_law S)
 
   pub variables_seen : (ts : List Lexeme) → seen (fully (variables S) ts) ≡ variables_read S ts
-  unfolding variables_read variables_inner_read
+  unfolding variables_read variables_inner_read expect_at
   variables_seen ts = ap seen (variables_law S ts)
       ∙ listed_seen (variable_definition S) (variable_grows S) ParenClose (IsVariableDefinition S) (λ n. variable_definition_rule S n n (le_refl n)) (variable_takes S 0 0 (le_refl 0)) refl (inl refl) refl refl (variable_definition_read S) variable_seen variable_ends (more_variables_law S) (some_variables_law S) ParenOpen refl (λ xs p. record { items = xs; span = p }) ts
 

@@ -53,12 +53,12 @@ other_is_name t e = by_parts (same_kind t.kind Name) (bytes_eq t.text (codes "on
     by_parts false b p = refl
 
 names_seen : {C : Type 0} (S : Scalars C Error) (ts : List Lexeme) → seen (name_by S ts) ≡ names_read ts
-unfolding names_read done
+unfolding names_read done expect_name_at
 names_seen S ts = want_as Name refl _ ts _ (λ a. on_as (of Colon) _ _ a.1 (kind_no_end Colon refl) refl
     ∙ ap (λ (r : Read (Option Word × Word)). cond (same_kind (kind_at a.1) Colon) r (Ok ((None, word_of a.0), a.1))) (bind_same (next_at a.1) _ _ (λ c. want_as Name refl _ c.1 _ (λ t. refl))))
 
 names_run : (ts : List Lexeme) (x : (Option Word × Word) × List Lexeme) → names_read ts ≡ Ok x → Runs ts x.1 (names_span x.0)
-unfolding names_read
+unfolding names_read expect_name_at
 names_run ts x e = by_colon (same_kind (kind_at a.0.1) Colon) a.2
   where
     a : (y : Lexeme × List Lexeme) × (expect_name_at ts ≡ Ok y) × (alias_or y.0 y.1 ≡ Ok x)
@@ -86,7 +86,7 @@ module _ {C : Type 0} (S : Scalars C Error) where
   one_ends = at_end one (λ w p us. ap seen (selection_law S (record { kind = EndOfFile; text = w; span = p } ∷ us)))
 
   one_repeats : RepeatsSome (skip_at token.CurlyClose) one (selections_inner_read S)
-  unfolding selections_inner_read
+  unfolding selections_inner_read skip_at
   one_repeats = inner_repeats (selection_at S) (selection_grows S) CurlyClose (IsSelection S) (λ n. selection_rule S n n (le_refl n)) (selection_takes S) refl (inl refl) refl refl one (λ ts. refl) one_ends (more_selections_law S) (some_selections_law S)
 
   selections_run : (ts : List Lexeme) (x : (List (Selection C) × Span) × List Lexeme) → selections_inner_read S ts ≡ Ok x → (p : Span) × Runs ts x.1 p × (p.end ≡ x.0.1.end)
@@ -98,13 +98,13 @@ module _ {C : Type 0} (S : Scalars C Error) where
   some_selections_seen = some_seen (selection_at S) (selection_grows S) CurlyClose (IsSelection S) (λ n. selection_rule S n n (le_refl n)) (selection_takes S) refl (inl refl) refl refl one (λ ts. refl) one_ends (more_selections_law S) (some_selections_law S)
 
   pub set_seen : (ts : List Lexeme) → seen (fully (set_at S) ts) ≡ (set_read S ts >>= λ s. Ok (s.0.0, s.1))
-  unfolding set_read done
+  unfolding set_read done expect_at
   set_seen ts = ap seen (set_law S ts)
       ∙ want_as CurlyOpen refl _ ts (λ o. selections_inner_read S o.1 >>= λ ss. Ok (selections_of ss.0.0, ss.1)) (λ o. seq_map_as (fully (λ n. one_or_more (of CurlyClose) (selection_at S n) n)) _ o.1 (selections_inner_read S o.1) (λ xs. xs.0) _ (some_selections_seen o.1) (λ xs. refl))
       ∙ sym (bind_assoc (expect_at token.CurlyOpen ts) _ _ ∙ bind_same (expect_at token.CurlyOpen ts) _ _ (λ o. bind_assoc (selections_inner_read S o.1) _ _))
 
   pub set_runs : (ts : List Lexeme) (x : (Selections C × Span) × List Lexeme) → set_read S ts ≡ Ok x → Runs ts x.1 x.0.1
-  unfolding set_read
+  unfolding set_read expect_at
   set_runs ts x e =
       let o = bind_ok (expect_at token.CurlyOpen ts) (λ o. selections_inner_read S o.1 >>= λ ss. Ok ((selections_of ss.0.0, from_to o.0.span ss.0.1), ss.1)) x e in
       let ss = bind_ok (selections_inner_read S o.0.1) (λ ss. Ok ((selections_of ss.0.0, from_to o.0.0.span ss.0.1), ss.1)) x o.2 in
@@ -167,6 +167,7 @@ module _ {C : Type 0} (S : Scalars C Error) where
 
   on_seen : (ts mid : List Lexeme) (p s : Span) → Runs ts mid (from_to p s)
       → (seen (seq (want (of Name)) (λ t. inline_by S (fully (directives S)) (fully (set_at S)) (Some (word_of t))) mid) >>= whole ts) ≡ (expect_name_at mid >>= λ t. inline_read S p (Some (word_of t.0)) t.1)
+  unfolding expect_name_at
   on_seen ts mid p s r =
       ap (λ (z : Read (Span → Selection C)). z >>= whole ts) (want_as Name refl _ mid _ (λ t. refl))
       ∙ bind_assoc (expect_name_at mid) _ _
@@ -174,7 +175,7 @@ module _ {C : Type 0} (S : Scalars C Error) where
 
   named_seen : (ts mid : List Lexeme) (p : Span) → Runs ts mid p
       → ((expect_name_at mid >>= λ t. seen (seq (fully (directives S)) (λ ds. done (FragmentSpread (word_of t.0) ds)) t.1)) >>= whole ts) ≡ named_spread_read S p mid
-  unfolding named_spread_read done
+  unfolding named_spread_read done expect_name_at
   named_seen ts mid p r =
       bind_assoc (expect_name_at mid) _ _
       ∙ bind_given (expect_name_at mid) _ _ (λ t e.
@@ -190,7 +191,7 @@ module _ {C : Type 0} (S : Scalars C Error) where
       (inline_by S (fully (directives S)) (fully (set_at S)) None))
 
   dots_seen : (ts mid : List Lexeme) (p : Span) → Runs ts mid p → (seen (after_dots mid) >>= whole ts) ≡ dots_read S p mid
-  unfolding typed_read
+  unfolding typed_read expect_name_at
   dots_seen ts mid p r =
       ap (λ (z : Read (Span → Selection C)). z >>= whole ts)
       (on_as (word (codes "on")) _ _ mid (word_no_end (codes "on")) refl ∙ ap (cond (is_word (codes "on") (first_of mid)) _) (on_as other_than_on _ _ mid other_no_end refl))
@@ -216,7 +217,7 @@ module _ {C : Type 0} (S : Scalars C Error) where
       by_on false e = ap (λ (b : Bool). cond b named plain >>= whole ts) (other_is_name (first_of mid) e) ∙ by_name (same_kind (kind_at mid) Name) refl
 
   spread_seen : (ts : List Lexeme) → (seen (spread_by S (fully (directives S)) (fully (set_at S)) ts) >>= whole ts) ≡ spread_read S ts
-  unfolding spread_read
+  unfolding spread_read expect_at
   spread_seen ts =
       ap (λ (z : Read (Span → Selection C)). z >>= whole ts) (want_as Ellipsis refl _ ts (λ e. seen (after_dots e.1)) (λ e. refl))
       ∙ bind_assoc (expect_at token.Ellipsis ts) _ _

@@ -14,7 +14,7 @@ use Rattle.graphql_grammar.proofs.Extents.{Runs, runs_on, runs_front, took_some}
 use Rattle.graphql_grammar.proofs.StepsOfParts.{type_law, spanned_type_law}
 use Rattle.juniper_tokens.specs.declared.token.Token.TheVariants as token
 use Rattle.juniper_tokens.specs.Errors.{Error}
-use Rattle.juniper_tokens.specs.Cursor.{Read, ◌>>=◌, kind_at, next_at, next_if, expect_at}
+use Rattle.juniper_tokens.specs.Cursor.{Read, ◌>>=◌, kind_at, next_at, next_if, expect_at, expect_name_at}
 use Rattle.juniper.specs.Seen.{seen}
 use Rattle.juniper.specs.Values.{from_to}
 use Rattle.juniper.specs.Parts.{type_read, list_type_read, named_type_read, nullable_type_read, non_null_read}
@@ -56,14 +56,14 @@ marked ts mid x p r = by_mark (same_kind (kind_at mid) ExclamationMark) ∙ sym 
     by_mark false = sym (at_span (λ q. (x, q)) ts mid p r)
 
 plain_is : (ts : List Lexeme) → plain ts ≡ cond (same_kind (kind_at ts) Name) (next_at ts >>= λ t. Ok (NamedType t.0.text, t.1)) (expect_at token.BracketOpen ts >>= λ o. bare o.1 >>= λ x. expect_at token.BracketClose x.1 >>= λ c. Ok (ListType None x.0, c.1))
-unfolding plain_type done
+unfolding plain_type done expect_at
 plain_is ts = on_as (of Name) _ _ ts (kind_no_end Name refl) refl
     ∙ ap (cond (same_kind (kind_at ts) Name) (next_at ts >>= λ t. Ok (NamedType t.0.text, t.1)))
     (want_as BracketOpen refl _ ts _ (λ o. seq_as (fully (type_at {F = Error})) _ o.1 _ _ refl (λ x. want_as BracketClose refl _ x.1 _ (λ c. refl))))
 
 -- a type up to its exclamation mark runs from its first token
 plain_runs : (ts : List Lexeme) → nullable_type_read ts ≡ (plain ts >>= with_type ts)
-unfolding nullable_type_read named_type_read list_type_read
+unfolding nullable_type_read named_type_read list_type_read expect_at expect_name_at
 plain_runs ts = by_name (same_kind (kind_at ts) Name) refl ∙ sym (ap (λ z. z >>= with_type ts) (plain_is ts))
   where
     by_name : (b : Bool) → same_kind (kind_at ts) Name ≡ b
@@ -83,6 +83,7 @@ plain_runs ts = by_name (same_kind (kind_at ts) Name) refl ∙ sym (ap (λ z. z 
         ∙ sym (bind_assoc (expect_at token.BracketOpen ts) _ _)
 
 plain_has : (ts : List Lexeme) (x : TypeRef × List Lexeme) → plain ts ≡ Ok x → (p : Span) × Runs ts x.1 p
+unfolding expect_at
 plain_has ts x e = by_name (same_kind (kind_at ts) Name) (sym (plain_is ts) ∙ e)
   where
     rest_is : {A : Type 0} (a : A) (mid : List Lexeme) (y : A × List Lexeme) (p : Span) → ◌≡◌ {A = Read A} (Ok (a, mid)) (Ok y) → Runs ts mid p → Runs ts y.1 p

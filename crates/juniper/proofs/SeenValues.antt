@@ -13,7 +13,7 @@ use Rattle.graphql_grammar.proofs.Fuel.{value_body, value_steps, items_step, fie
 use Rattle.graphql_grammar.proofs.TokenTests.{of_kind, both}
 use Rattle.juniper_tokens.specs.declared.token.Token.TheVariants as token
 use Rattle.juniper_tokens.specs.Errors.{Error, UnexpectedEndOfFile}
-use Rattle.juniper_tokens.specs.Cursor.{Read, ◌>>=◌, kind_at, next_at, skip_if, skip_at}
+use Rattle.juniper_tokens.specs.Cursor.{Read, ◌>>=◌, kind_at, next_at, skip_if, skip_at, expect_at, expect_name_at}
 use Rattle.juniper.specs.Seen.{seen, past}
 use Rattle.juniper.specs.Values.{from_to, closed_by, then_others, read_here, variable_read, literal_read, name_read, values_read, fields_read, list_read, object_read, value_by, value_read, field_read}
 use Rattle.juniper.proofs.Stepping.{bind_assoc, bind_same, seen_seq, seq_as, want_as, taken, kind_no_end}
@@ -74,7 +74,7 @@ module _ {C : Type 0} (S : Scalars C Error) where
 
     list_seen : (w : Text) (p : Span) (ts : List Lexeme)
         → seen (listed (a_token BracketOpen w p) ts) ≡ list_read S free (a_token BracketOpen w p ∷ ts)
-    unfolding done list_read values_read
+    unfolding done list_read values_read expect_at
     list_seen w p ts =
         let f = λ (xs : List (Value C)) (q : Span). ListOf (items_of xs) (from_to p q) in
         seen_seq (fully (items_at S free)) _ ts
@@ -82,7 +82,7 @@ module _ {C : Type 0} (S : Scalars C Error) where
 
     object_seen : (w : Text) (p : Span) (ts : List Lexeme)
         → seen (keyed (a_token CurlyOpen w p) ts) ≡ object_read S free (a_token CurlyOpen w p ∷ ts)
-    unfolding done object_read fields_read
+    unfolding done object_read fields_read expect_at
     object_seen w p ts =
         let f = λ (xs : List (Word × Value C)) (q : Span). Object (fields_of xs) (from_to p q) in
         seen_seq (fully (fields_at S free)) _ ts
@@ -90,7 +90,7 @@ module _ {C : Type 0} (S : Scalars C Error) where
 
     variable_seen : (w : Text) (p : Span) (ts : List Lexeme)
         → seen (varied (a_token Dollar w p) ts) ≡ variable_read S (a_token Dollar w p ∷ ts)
-    unfolding done variable_read
+    unfolding done variable_read expect_at expect_name_at
     variable_seen w p ts = want_as Name refl _ ts _ (λ x. refl)
 
     name_seen : (w : Text) (p : Span) (ts : List Lexeme)
@@ -121,7 +121,7 @@ module _ {C : Type 0} (S : Scalars C Error) where
   value_seen free ts = ap seen (value_steps S free ts) ∙ by_list free ts
 
   field_seen : (free : Bool) (ts : List Lexeme) → seen (key_and_value (value_of S free) ts) ≡ field_read S free ts
-  unfolding key_and_value field_read done
+  unfolding key_and_value field_read done expect_at expect_name_at
   field_seen free ts = want_as Name refl _ ts _ (λ k. want_as Colon refl _ k.1 _ (λ c. seq_as (value_of S free) _ c.1 _ _ (value_seen free c.1) (λ v. refl)))
 
 -- ---- items up to the closing token
@@ -165,14 +165,14 @@ module _ {A : Type 0} (k : Kind) (f : Reader Error A) (rest : Reader Error (List
 
 module _ {C : Type 0} (S : Scalars C Error) (free : Bool) where
   pub values_repeat : Repeats (skip_at token.BracketClose) (value_read S free) (values_read S free)
-  unfolding values_read value_read literal_read
+  unfolding values_read value_read literal_read skip_at
   values_repeat = record {
     unfolds = λ ts. ap (λ r. closed_by (seen r)) (items_step S free ts)
         ∙ skip_seen BracketClose (value_of S free) (fully (items_at S free)) (value_read S free) (value_seen S free) refl refl (at_end (value_read S free) (λ w p us. refl)) ts;
   }
 
   pub fields_repeat : Repeats (skip_at token.CurlyClose) (field_read S free) (fields_read S free)
-  unfolding fields_read field_read
+  unfolding fields_read field_read skip_at expect_name_at
   fields_repeat = record {
     unfolds = λ ts. ap (λ r. closed_by (seen r)) (fields_step S free ts)
         ∙ skip_seen CurlyClose (key_and_value (value_of S free)) (fully (fields_at S free)) (field_read S free) (field_seen S free) refl refl (at_end (field_read S free) (λ w p us. refl)) ts;

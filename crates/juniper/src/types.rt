@@ -5,7 +5,7 @@ ghost use Rattle.juniper_tokens.specs.Delimited.{IsRest};
 ghost use Rattle.juniper.specs.Promise.{AnswersType};
 ghost use Rattle.juniper.specs.Parts.{view_spanned_type, type_read, list_type_read, named_type_read, nullable_type_read, non_null_read};
 
-use crate::next::{expect, expect_name, next_is, take};
+use crate::next::next_is;
 use juniper_tokens::{Kind, ParseFailure, ParseResult, Parser, Spanning, Token};
 use juniper_values::Type;
 
@@ -14,7 +14,6 @@ use juniper_values::Type;
 /// A type is answered exactly where a front of the tokens is one, and the longest such front is taken. Else the tokens
 /// are refused at the first one with which no type goes on, which is taken, unless it is the end. Where memory
 /// ran out, a rest of the tokens is left.
-#[tactic(auto, using(crate::proofs::Literals::answers_type, crate::proofs::Rests::on_memory))]
 pub fn parse_type<'a>(parser: &mut Parser<'a>) -> ParseResult<Type<&'a str>>
     ensures answers { AnswersType view_spanned_type result parser.old parser.new }
     ensures memory { OnMemory result (IsRest parser.old parser.new) }
@@ -24,7 +23,6 @@ pub fn parse_type<'a>(parser: &mut Parser<'a>) -> ParseResult<Type<&'a str>>
 
 /// `Type = Name "!"? | "[" Type "]" "!"?`
 #[cycle(types)]
-#[tactic(auto, using(crate::proofs::Rests::further))]
 pub(crate) fn parse_any_type<'a>(parser: &mut Parser<'a>) -> ParseResult<Type<&'a str>>
     ensures gives { Gives view_spanned_type result parser.new (type_read parser.old) }
     ensures ended { EndsOnce parser.old }
@@ -37,7 +35,7 @@ pub(crate) fn parse_any_type<'a>(parser: &mut Parser<'a>) -> ParseResult<Type<&'
 
 /// `Name | "[" Type "]"`
 #[cycle(types)]
-#[tactic(auto, using(crate::proofs::Rests::further), unfolding(crate::specs::Parts::nullable_type_read))]
+#[tactic(auto, unfolding(crate::specs::Parts::nullable_type_read))]
 fn parse_nullable_type<'a>(parser: &mut Parser<'a>) -> ParseResult<Type<&'a str>>
     ensures gives { Gives view_spanned_type result parser.new (nullable_type_read parser.old) }
     ensures ended { EndsOnce parser.old }
@@ -52,27 +50,27 @@ fn parse_nullable_type<'a>(parser: &mut Parser<'a>) -> ParseResult<Type<&'a str>
 }
 
 /// `Name`
-#[tactic(auto, using(crate::proofs::Rests::further), unfolding(crate::specs::Parts::named_type_read))]
+#[tactic(auto, unfolding(crate::specs::Parts::named_type_read))]
 fn parse_named_type<'a>(parser: &mut Parser<'a>) -> ParseResult<Type<&'a str>>
     ensures gives { Gives view_spanned_type result parser.new (named_type_read parser.old) }
     ensures shorter { OnOk result (length parser.new < length parser.old) }
     ensures rest { IsRest parser.old parser.new }
 {
-    let name = expect_name(parser)?;
+    let name = parser.expect_name()?;
     Ok(Spanning::new(name.span, Type::nullable(name.item)))
 }
 
 /// `"[" Type "]"`
 #[cycle(types)]
-#[tactic(auto, using(crate::proofs::Rests::further, crate::proofs::Wrapping::wrapped_list), unfolding(crate::specs::Parts::list_type_read))]
+#[tactic(auto, using(crate::proofs::Wrapping::wrapped_list), unfolding(crate::specs::Parts::list_type_read))]
 fn parse_list_type<'a>(parser: &mut Parser<'a>) -> ParseResult<Type<&'a str>>
     ensures gives { Gives view_spanned_type result parser.new (list_type_read parser.old) }
     ensures shorter { OnOk result (length parser.new < length parser.old) }
     ensures rest { IsRest parser.old parser.new }
 {
-    let opening = expect(parser, &Token::BracketOpen)?.span;
+    let opening = parser.expect(&Token::BracketOpen)?.span;
     let inner = parse_any_type(parser)?;
-    let closing = expect(parser, &Token::BracketClose)?.span;
+    let closing = parser.expect(&Token::BracketClose)?.span;
     match inner.item.wrap_list(parser.allocator(), None) {
         Ok(list) => Ok(Spanning::start_end(&opening.start, &closing.end, list)),
         Err(_) => Err(ParseFailure::Memory),
@@ -80,7 +78,7 @@ fn parse_list_type<'a>(parser: &mut Parser<'a>) -> ParseResult<Type<&'a str>>
 }
 
 /// `"!"?`, after this type.
-#[tactic(auto, using(crate::proofs::Rests::further, crate::proofs::Wrapping::wrapped_non_null), unfolding(crate::specs::Parts::non_null_read))]
+#[tactic(auto, using(crate::proofs::Wrapping::wrapped_non_null), unfolding(crate::specs::Parts::non_null_read))]
 fn parse_non_null<'a>(
     parser: &mut Parser<'a>,
     inner: Spanning<Type<&'a str>>,
@@ -93,7 +91,7 @@ fn parse_non_null<'a>(
         return Ok(inner);
     }
     let start = inner.span.start;
-    let mark = take(parser)?.span;
+    let mark = parser.next_token()?.span;
     match inner.item.wrap_non_null(parser.allocator()) {
         Ok(of_type) => Ok(Spanning::start_end(&start, &mark.end, of_type)),
         Err(_) => Err(ParseFailure::Memory),

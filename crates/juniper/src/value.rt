@@ -13,7 +13,7 @@ ghost use Rattle.juniper.specs.Values.{view_list, values_read, fields_read, list
 ghost use Rattle.juniper.specs.Scalars.{stated};
 ghost use Rattle.juniper_values.specs.Scalar.{MeetsReading};
 
-use crate::next::{expect, expect_name, next_kind, same_text, skip, take};
+use crate::next::same_text;
 use juniper_tokens::{Kind, ParseError, ParseFailure, ParseResult, Parser, Spanning, Token};
 use juniper_values::{InputValue, ReadFailure, ScalarValue};
 use std::alloc::{AllocError, Global};
@@ -23,7 +23,6 @@ use std::alloc::{AllocError, Global};
 /// A value is answered exactly where a front of the tokens is one. Else the tokens are refused at the first one with
 /// which no value goes on, which is taken, unless it is the end. Where memory ran out, a rest of
 /// the tokens is left.
-#[tactic(auto, using(crate::proofs::Literals::answers_value, crate::proofs::Rests::on_memory))]
 pub fn parse_value_literal<'a, S: ScalarValue>(
     parser: &mut Parser<'a>,
     is_const: bool,
@@ -37,7 +36,7 @@ pub fn parse_value_literal<'a, S: ScalarValue>(
 /// `Value(c) = a scalar token that the scalar type reads | Name | "$" Name where c is free
 ///           | "[" Value(c)* "]" | "{" (Name ":" Value(c))* "}"`
 #[cycle(value)]
-#[tactic(auto, using(crate::proofs::Rests::further), unfolding(crate::specs::Values::value_read))]
+#[tactic(auto, unfolding(crate::specs::Values::value_read))]
 pub(crate) fn parse_value<'a, S: ScalarValue>(
     parser: &mut Parser<'a>,
     is_const: bool,
@@ -47,7 +46,7 @@ pub(crate) fn parse_value<'a, S: ScalarValue>(
     ensures shorter { OnOk result (length parser.new < length parser.old) }
     ensures rest { IsRest parser.old parser.new }
 {
-    match next_kind(parser) {
+    match parser.kind() {
         Kind::BracketOpen => parse_list(parser, is_const),
         Kind::CurlyOpen => parse_object(parser, is_const),
         Kind::Dollar if !is_const => parse_variable(parser),
@@ -73,7 +72,7 @@ pub(crate) fn parse_value<'a, S: ScalarValue>(
 
 /// `"[" Value(c)* "]"`
 #[cycle(value)]
-#[tactic(auto, using(crate::proofs::Rests::further), unfolding(crate::specs::Values::list_read))]
+#[tactic(auto, unfolding(crate::specs::Values::list_read))]
 fn parse_list<'a, S: ScalarValue>(
     parser: &mut Parser<'a>,
     is_const: bool,
@@ -82,7 +81,7 @@ fn parse_list<'a, S: ScalarValue>(
     ensures shorter { OnOk result (length parser.new < length parser.old) }
     ensures rest { IsRest parser.old parser.new }
 {
-    let opening = expect(parser, &Token::BracketOpen)?.span;
+    let opening = parser.expect(&Token::BracketOpen)?.span;
     let items = parse_items(parser, is_const)?;
     let end = items.span.end;
     Ok(Spanning::start_end(&opening.start, &end, InputValue::List(items.item)))
@@ -90,7 +89,6 @@ fn parse_list<'a, S: ScalarValue>(
 
 /// `Value(c)* "]"`, with the place of the bracket.
 #[cycle(value)]
-#[tactic(auto, using(crate::proofs::Rests::further))]
 fn parse_items<'a, S: ScalarValue>(
     parser: &mut Parser<'a>,
     is_const: bool,
@@ -101,7 +99,7 @@ fn parse_items<'a, S: ScalarValue>(
 {
     let mut items = Vec::new(parser.allocator());
     loop {
-        if let Some(closing) = skip(parser, &Token::BracketClose)? {
+        if let Some(closing) = parser.skip(&Token::BracketClose)? {
             return Ok(Spanning::new(closing.span, items));
         }
         items.push(parse_value(parser, is_const)?)?;
@@ -110,7 +108,7 @@ fn parse_items<'a, S: ScalarValue>(
 
 /// `"{" (Name ":" Value(c))* "}"`
 #[cycle(value)]
-#[tactic(auto, using(crate::proofs::Rests::further), unfolding(crate::specs::Values::object_read))]
+#[tactic(auto, unfolding(crate::specs::Values::object_read))]
 fn parse_object<'a, S: ScalarValue>(
     parser: &mut Parser<'a>,
     is_const: bool,
@@ -119,7 +117,7 @@ fn parse_object<'a, S: ScalarValue>(
     ensures shorter { OnOk result (length parser.new < length parser.old) }
     ensures rest { IsRest parser.old parser.new }
 {
-    let opening = expect(parser, &Token::CurlyOpen)?.span;
+    let opening = parser.expect(&Token::CurlyOpen)?.span;
     let fields = parse_fields(parser, is_const)?;
     let end = fields.span.end;
     Ok(Spanning::start_end(&opening.start, &end, InputValue::Object(fields.item)))
@@ -127,7 +125,6 @@ fn parse_object<'a, S: ScalarValue>(
 
 /// `(Name ":" Value(c))* "}"`, with the place of the brace.
 #[cycle(value)]
-#[tactic(auto, using(crate::proofs::Rests::further))]
 fn parse_fields<'a, S: ScalarValue>(
     parser: &mut Parser<'a>,
     is_const: bool,
@@ -138,7 +135,7 @@ fn parse_fields<'a, S: ScalarValue>(
 {
     let mut fields = Vec::new(parser.allocator());
     loop {
-        if let Some(closing) = skip(parser, &Token::CurlyClose)? {
+        if let Some(closing) = parser.skip(&Token::CurlyClose)? {
             return Ok(Spanning::new(closing.span, fields));
         }
         fields.push(parse_object_field(parser, is_const)?)?;
@@ -147,7 +144,7 @@ fn parse_fields<'a, S: ScalarValue>(
 
 /// `Name ":" Value(c)`
 #[cycle(value)]
-#[tactic(auto, using(crate::proofs::Rests::further), unfolding(crate::specs::Values::field_read))]
+#[tactic(auto, unfolding(crate::specs::Values::field_read))]
 fn parse_object_field<'a, S: ScalarValue>(
     parser: &mut Parser<'a>,
     is_const: bool,
@@ -156,34 +153,34 @@ fn parse_object_field<'a, S: ScalarValue>(
     ensures shorter { OnOk result (length parser.new < length parser.old) }
     ensures rest { IsRest parser.old parser.new }
 {
-    let key = expect_name(parser)?;
-    expect(parser, &Token::Colon)?;
+    let key = parser.expect_name()?;
+    parser.expect(&Token::Colon)?;
     let value = parse_value(parser, is_const)?;
     let text = String::from_str(parser.allocator(), key.item)?;
     Ok((Spanning::new(key.span, text), value))
 }
 
 /// `"$" Name`
-#[tactic(auto, using(crate::proofs::Rests::further, crate::proofs::ValueViews::view_of_variable), unfolding(crate::specs::Values::variable_read))]
+#[tactic(auto, using(crate::proofs::ValueViews::view_of_variable), unfolding(crate::specs::Values::variable_read))]
 fn parse_variable<'a, S: ScalarValue>(parser: &mut Parser<'a>) -> ParseResult<InputValue<S>>
     ensures gives { Gives (view_value S.content) result parser.new (variable_read (stated S.reading S.of_bool) parser.old) }
     ensures shorter { OnOk result (length parser.new < length parser.old) }
     ensures rest { IsRest parser.old parser.new }
 {
-    let dollar = expect(parser, &Token::Dollar)?.span;
-    let name = expect_name(parser)?;
+    let dollar = parser.expect(&Token::Dollar)?.span;
+    let name = parser.expect_name()?;
     let text = String::from_str(parser.allocator(), name.item)?;
     Ok(Spanning::start_end(&dollar.start, &name.span.end, InputValue::Variable(text)))
 }
 
 /// A scalar token. Another token is refused.
-#[tactic(auto, using(crate::proofs::Rests::further, crate::proofs::ValueViews::view_of_scalar), unfolding(crate::specs::Values::literal_read))]
+#[tactic(auto, using(crate::proofs::ValueViews::view_of_scalar), unfolding(crate::specs::Values::literal_read))]
 fn parse_scalar<'a, S: ScalarValue>(parser: &mut Parser<'a>) -> ParseResult<InputValue<S>>
     ensures gives { Gives (view_value S.content) result parser.new (literal_read (stated S.reading S.of_bool) parser.old) }
     ensures shorter { OnOk result (length parser.new < length parser.old) }
     ensures rest { IsRest parser.old parser.new }
 {
-    let token = take(parser)?;
+    let token = parser.next_token()?;
     match scalar_of(parser.allocator(), token.item) {
         Ok(scalar) => Ok(Spanning::new(token.span, InputValue::Scalar(scalar))),
         Err(ReadFailure::Refused(error)) => {
@@ -204,13 +201,13 @@ fn scalar_of<S: ScalarValue>(alloc: Global, token: Token<'_>) -> Result<S, ReadF
 }
 
 /// A Name as a value.
-#[tactic(auto, using(crate::proofs::Rests::further), unfolding(crate::specs::Values::name_read))]
+#[tactic(auto, unfolding(crate::specs::Values::name_read))]
 fn parse_named_value<'a, S: ScalarValue>(parser: &mut Parser<'a>) -> ParseResult<InputValue<S>>
     ensures gives { Gives (view_value S.content) result parser.new (name_read (stated S.reading S.of_bool) parser.old) }
     ensures shorter { OnOk result (length parser.new < length parser.old) }
     ensures rest { IsRest parser.old parser.new }
 {
-    let name = expect_name(parser)?;
+    let name = parser.expect_name()?;
     Ok(value_of_name(parser.allocator(), name)?)
 }
 

@@ -1,10 +1,12 @@
 -- The table of classes.
-use Rattle.std.proofs.Common.{◌≡◌, ℕ, zero, suc, ◌+◌, ◌<◌, Bool, true, false, ◌==◌, refl, sym, ap, ◌∙◌, arith}
+use Rattle.std.proofs.Common.{◌≡◌, ℕ, zero, suc, ◌+◌, ◌<◌, true, false, cond, Some, None, ◌==◌, refl, sym, ap, ◌∙◌, arith}
 use Rattle.std.specs.Prelude.{slice_index_or}
 use Rattle.graphql_lexical.specs.Characters.{is_source, is_name_character, is_digit, is_plain}
 use Rattle.graphql_lexical.specs.Scan.{Start, step, stretch_step}
 use Rattle.juniper_tokens.specs.ByteRuns.{is_inner, byte_step}
-use Rattle.juniper_tokens.specs.ByteClasses.{tabulate, class_of, name_class, digit_class, inner_class, line_feed_class, first_state, plain_class, source_class, comment_after}
+use Rattle.juniper_tokens.specs.declared.byte_classes.ByteClass.{ByteClass}
+use Rattle.juniper_tokens.specs.declared.byte_classes.ByteClass.TheVariants.{White, LineFeed, Hash, Quote, Dot, Minus, NameStart, Digit, Punctuator, Control, Other, Inner, Lead}
+use Rattle.juniper_tokens.specs.ByteClasses.{tabulate, class_of, name_class, digit_class, inner_class, line_feed_class, first_state, plain_class, source_class, comment_class, gap_class}
 
 first_place : (b : ℕ) → b ≡ b + 0
 first_place b = omega arith
@@ -51,9 +53,34 @@ plain_class_tests b l = agree_at (λ k. plain_class (class_of k) k) is_plain ref
 pub source_class_tests : (b : ℕ) → b < 256 → source_class (class_of b) ≡ is_source b
 source_class_tests b l = agree_at (λ k. source_class (class_of k)) is_source refl b l
 
-pub comment_after_tests : (m : Bool) (b : ℕ) → b < 256 → comment_after m (class_of b) b ≡ byte_step stretch_step m b
-comment_after_tests true b l = agree_at (λ k. comment_after true (class_of k) k) (byte_step stretch_step true) refl b l
-comment_after_tests false b l = agree_at (λ k. comment_after false (class_of k) k) (byte_step stretch_step false) refl b l
+pub comment_class_tests : (b : ℕ) → b < 256 → byte_step stretch_step true b ≡ cond (comment_class (class_of b) b) (Some true) (byte_step stretch_step false b)
+comment_class_tests b l = agree_at (byte_step stretch_step true) (λ k. cond (comment_class (class_of k) k) (Some true) (byte_step stretch_step false k)) refl b l
+
+-- a comment goes on with a byte, or the byte is in it what it is outside
+pub comment_goes : (b : ℕ) → b < 256 → (class : ByteClass) → class ≡ class_of b → comment_class class b ≡ true → byte_step stretch_step true b ≡ Some true
+comment_goes b l class e h = comment_class_tests b l ∙ ap (λ x. cond x (Some true) (byte_step stretch_step false b)) (sym (ap (λ k. comment_class k b) e) ∙ h)
+
+pub comment_stops : (b : ℕ) → b < 256 → (class : ByteClass) → class ≡ class_of b → comment_class class b ≡ false → byte_step stretch_step true b ≡ byte_step stretch_step false b
+comment_stops b l class e h = comment_class_tests b l ∙ ap (λ x. cond x (Some true) (byte_step stretch_step false b)) (sym (ap (λ k. comment_class k b) e) ∙ h)
+
+pub gap_class_tests : (b : ℕ) → b < 256 → gap_class (class_of b) ≡ byte_step stretch_step false b
+gap_class_tests b l = agree_at (λ k. gap_class (class_of k)) (byte_step stretch_step false) refl b l
 
 pub line_feed_class_tests : (b : ℕ) → b < 256 → line_feed_class (class_of b) ≡ (b == 10)
 line_feed_class_tests b l = agree_at (λ k. line_feed_class (class_of k)) (λ k. k == 10) refl b l
+
+-- where white characters and comments don't go on
+pub gap_none : (class : ByteClass) → (class ≡ White → ⊥) → (class ≡ LineFeed → ⊥) → (class ≡ Hash → ⊥) → (class ≡ Inner → ⊥) → gap_class class ≡ None
+gap_none White w l h i = absurd (w refl)
+gap_none LineFeed w l h i = absurd (l refl)
+gap_none Hash w l h i = absurd (h refl)
+gap_none Inner w l h i = absurd (i refl)
+gap_none Quote w l h i = refl
+gap_none Dot w l h i = refl
+gap_none Minus w l h i = refl
+gap_none NameStart w l h i = refl
+gap_none Digit w l h i = refl
+gap_none Punctuator w l h i = refl
+gap_none Control w l h i = refl
+gap_none Other w l h i = refl
+gap_none Lead w l h i = refl

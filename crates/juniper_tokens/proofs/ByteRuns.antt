@@ -7,7 +7,7 @@ use Rattle.std.proofs.lemmas.List.{drop_all}
 use Rattle.graphql_lexical.specs.Machines.{onward, reach}
 use lib.Utf8.{encode, encodes, next}
 use lib.Dec.{ltb}
-use Rattle.juniper_tokens.specs.ByteRuns.{is_inner, byte_step, IsSamePastAscii, byte_at, with_value, byte_change}
+use Rattle.juniper_tokens.specs.ByteRuns.{is_inner, byte_step, IsSamePastAscii, byte_at, with_value, byte_change, on, Walked}
 
 abbrev AreInner : List ℕ → Type 0
 AreInner = AllByRecursion (λ b. is_inner b ≡ true)
@@ -52,10 +52,6 @@ inner_low b l = grind arith
 
 abbrev pair : {S : Type 0} → ℕ → S → ℕ × S
 pair n q = (n, q)
-
--- so many elements before
-abbrev pub on : {S : Type 0} → ℕ → ℕ × S → ℕ × S
-on n r = (n + r.0, r.1)
 
 suc_plus : (a b : ℕ) → suc (a + b) ≡ suc a + b
 suc_plus a b = omega arith
@@ -135,16 +131,20 @@ bytes_with_value step f q x b = elim (is_inner b) as (λ i. cond i (Some (q, x))
 
 -- ---- a loop over a list
 
--- it stands at place i in this state, of the steps from q0 on
-pub record Walked {S : Type 0} (step : S → ℕ → Option S) (q0 : S) (text : List ℕ) (i : ℕ) (q : S) : Type 0 where
-  pub within : i ≤ length text
-  pub same : on i (reach step q (drop i text)) ≡ reach step q0 text
-
 pub walked_start : {S : Type 0} (step : S → ℕ → Option S) (q : S) (text : List ℕ) → Walked step q text 0 q
 walked_start step q text = record { within = omega arith; same = sym (on_none (reach step q text)) }
 
 step_once : {S : Type 0} (step : S → ℕ → Option S) (q : S) (t : List ℕ) (c : ℕ) (o : Option S) → step q c ≡ o → reach step q (c ∷ t) ≡ onward q (λ p. reach step p t) o
 step_once step q t c o e = rw e refl
+
+-- a step more at the front
+pub walked_cons : {S : Type 0} (step : S → ℕ → Option S) (q0 p q : S) (b : ℕ) (bs : List ℕ) (n : ℕ) → step q0 b ≡ Some p → Walked step p bs n q → Walked step q0 (b ∷ bs) (suc n) q
+walked_cons {S} step q0 p q b bs n e w = record {
+  within = omega (arith, w.within);
+  same =
+      sym (on_next n (reach step q (drop n bs)))
+      ∙ (ap (λ (r : ℕ × S). pair (suc r.0) r.1) w.same ∙ sym (step_once step q0 bs b (Some p) e));
+}
 
 pub walked_on : {S : Type 0} (step : S → ℕ → Option S) (q0 q p : S) (text : List ℕ) (i : ℕ) → i < length text → step q (get_or text i 0) ≡ Some p → Walked step q0 text i q → Walked step q0 text (i + 1) p
 walked_on {S} step q0 q p text i l e w = record {

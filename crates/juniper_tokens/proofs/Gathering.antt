@@ -1,18 +1,22 @@
 -- The tokens of a lexer, gathered one after another.
 use Rattle.std.proofs.Common.{◌≡◌, ℕ, true, false, List, [], ◌∷◌, ◌++◌, ◌⊎◌, inl, inr, refl, sym, ◌∙◌, subst}
-use Rattle.std.specs.Prelude.{Some, Ok, ◌↔◌}
+use Rattle.std.specs.Prelude.{Some, Result, Ok, Err, ◌↔◌}
+use Rattle.std.specs.Result.{IsErrAnd}
 use Rattle.std.specs.List.{All}
 use Rattle.std.proofs.lemmas.List.Elements.{All-nil, All-push}
 use Rattle.std.proofs.lemmas.Bool.{cases_Bool}
 use Rattle.std.proofs.lemmas.List.{map-append}
 use Rattle.graphql_lexical.specs.declared.kind.Kind.TheVariants.{EndOfFile}
-use Rattle.graphql_lexical.specs.Cutting.{Lexeme, Stands, Leads, CutFrom}
+use Rattle.graphql_lexical.specs.Cutting.{Lexeme, Stands, Leads, CutFrom, BreaksFrom}
 use Rattle.graphql_lexical.proofs.EachKind.{other_kind}
 use Rattle.juniper_tokens.specs.declared.token_range.TokenRange.{TokenRange}
+use Rattle.juniper_tokens.specs.declared.error.LexFailure.{LexFailure}
+use Rattle.juniper_tokens.specs.declared.error.LexFailure.TheVariants as failures
+use Rattle.juniper_tokens.specs.Errors.{view_lexer_error}
 use Rattle.juniper_tokens.specs.Cursor.{EndsOnce}
-use Rattle.juniper_tokens.specs.Lexing.{LexerState}
-use Rattle.juniper_tokens.specs.Gathering.{StandsLaterOrEnded}
-use Rattle.juniper_tokens.specs.Ranges.{range_lexeme, range_lexemes, range_steps, IsRange}
+use Rattle.juniper_tokens.specs.Lexing.{LexerState, BreaksAt, GivesFault}
+use Rattle.juniper_tokens.specs.Gathering.{IfFault, StandsLaterOrEnded}
+use Rattle.juniper_tokens.specs.Ranges.{range_lexeme, range_lexemes, range_steps, GivesRangeItem, IsRange}
 
 leads_more : (source : List ℕ) (xs : List Lexeme) (x : Lexeme) (k m n : ℕ) → Leads source k xs m → Stands source m x n → (x.kind ≡ EndOfFile → ⊥) → Leads source k (xs ++ x ∷ []) n
 leads_more source [] x k m n l h e = (n, subst (λ (i : ℕ). Stands source i x n) (sym l) h, e, refl)
@@ -85,3 +89,24 @@ gathered_later s xs t g = elim g.tokens [
   | inl o ↦ inl (xs, o.1)
   | inr d ↦ inr d.0
 ]
+
+-- a fault behind them is passed on
+pub breaks_passed : (s : LexerState) (ranges : List TokenRange) (t u : LexerState) {X : Type 0} (result : Result X LexFailure) (failure : LexFailure)
+    → GatheredRanges s ranges t → range_steps t (Some (Err failure)) u → IsErrAnd result (λ x. x ≡ failure)
+    → IfFault result (λ fault. BreaksFrom s.source s.index (view_lexer_error fault.item) fault.span.start)
+breaks_passed s ranges t u (Ok x) failure g h e = absurd e
+breaks_passed s ranges t u (Err failures.Memory) failure g h e = tt
+breaks_passed s ranges t u (Err (failures.Fault fault)) failure g h e =
+    let gives : GivesFault t fault u = subst (λ (f : LexFailure). GivesRangeItem t (Err f) u) (sym e) h.2 in
+    let breaks : BreaksAt s.source t.index (view_lexer_error fault.item) fault.span.start =
+    subst (λ (source : List ℕ). BreaksAt source t.index (view_lexer_error fault.item) fault.span.start) g.gathered.source gives.breaks in
+    record {
+      front = range_lexemes s.source ranges;
+      before = t.index;
+      gap = breaks.gap;
+      size = breaks.size;
+      leads = gathered_open s (range_lexemes s.source ranges) t g.gathered h.0;
+      gap_is = breaks.gap_is;
+      fails = breaks.fails;
+      at_is = breaks.at_is;
+    }

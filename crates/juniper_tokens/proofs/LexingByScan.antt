@@ -4,7 +4,7 @@ use Rattle.std.specs.Prelude.{Result, Ok, Err, ◌↔◌}
 use Rattle.std.specs.List.{fold}
 use Rattle.std.specs.Str.{chars, IsUtf8}
 use Rattle.std.proofs.lemmas.List.{length-take-le}
-use Rattle.std.proofs.lemmas.Str.{encodes-append, encodes-chars, length-le-encodes}
+use Rattle.std.proofs.lemmas.Str.{encodes-append, length-le-encodes}
 use lib.Utf8.{encode, encodes}
 use Rattle.std.proofs.lemmas.Bool.{eqb-true}
 use denote.Enum.Bare.{same_true}
@@ -14,25 +14,21 @@ use Rattle.graphql_lexical.specs.declared.kind.Kind.TheVariants.{EndOfFile}
 use Rattle.graphql_lexical.specs.Kinds.{same_kind, LexicalError, UnknownEscapeSequence}
 use Rattle.graphql_lexical.specs.Kinds as errors
 use Rattle.graphql_lexical.specs.Place.{Place, place, past_character, next_column}
-use Rattle.graphql_lexical.specs.Cutting.{Stands}
-use Rattle.graphql_lexical.specs.Machines.{reach}
-use Rattle.graphql_lexical.specs.Scan.{Found, Missed, scan, gap_size, stretch_size, stretch_step, step, Start}
-use Rattle.graphql_lexical.proofs.Answers.{finds_what_reads, misses_what_fails}
+use Rattle.graphql_lexical.specs.Scan.{Found, Missed, scan, gap_size, stretch_size, stretch_step}
+use Rattle.graphql_lexical.proofs.Answers.{misses_what_fails}
 use Rattle.graphql_lexical.proofs.Gaps.{gap_longest}
 use Rattle.graphql_lexical.proofs.Runs.{reach_is}
 use Rattle.graphql_lexical.proofs.Slices.{place_index}
 use Rattle.juniper_tokens.specs.declared.span.Spanning.{Spanning}
-use Rattle.juniper_tokens.specs.declared.token.Token.{Token}
-use Rattle.juniper_tokens.specs.declared.error.LexFailure.{LexFailure}
-use Rattle.juniper_tokens.specs.declared.error.LexFailure.TheVariants as failure
-use Rattle.juniper_tokens.specs.Tokens.{token_kind, view_token}
+use Rattle.juniper_tokens.specs.declared.error.LexerError.{LexerError}
 use Rattle.juniper_tokens.specs.Errors.{view_lexer_error}
 use Rattle.juniper_tokens.specs.ByteRuns.{byte_at}
 use Rattle.juniper_tokens.specs.Walks.{EndsStretch}
 use Rattle.juniper_tokens.specs.Scans.{IsEscape}
 use Rattle.juniper_tokens.specs.Scans as scans
-use Rattle.juniper_tokens.specs.Lexing.{LexerState, BreaksAt, WantsMemory, GivesItem}
-use Rattle.juniper_tokens.specs.LexingByScan.{begins_with_mark, IsPlaced, past_gap, Scanned, Ends}
+use Rattle.juniper_tokens.specs.Lexing.{LexerState, BreaksAt, GivesFault, WantsMemory}
+use Rattle.juniper_tokens.specs.LexingByScan.{begins_with_mark, IsPlaced, past_gap}
+use Rattle.juniper_tokens.specs.Ranges.{FailsThere}
 use Rattle.juniper_tokens.proofs.Borders.{byte_at_within}
 use Rattle.juniper_tokens.proofs.Places.{place_on}
 
@@ -81,20 +77,8 @@ mark_placed source at p h m = by_rest (drop p.index (chars source)) refl m
         ∙ (sym (ap (λ t. fold past_character (place (chars source) p.index) (take 1 t)) first) ∙ place_on (chars source) p.index 1) in
         (placed_on source at 1 3 p (next_column p) h some bytes place).1
 
-pub token_placed : (source rest : List ℕ) (at n k : ℕ) (p q : Place) → IsPlaced source at p → chars rest ≡ drop p.index (chars source)
-    → n ≡ byte_at k (chars rest) → k ≤ (reach step Start (chars rest)).0 → q ≡ fold past_character p (take k (chars rest))
-    → (q.index ≡ p.index + k) × IsPlaced source (at + n) q
-token_placed source rest at n k p q h c e l s =
-    let d = drop p.index (chars source) in
-    let m : k ≤ (reach step Start d).0 = subst (λ t. k ≤ (reach step Start t).0) c l in
-    placed_on source at k n p q h (omega (arith, m, (reach_is step Start d).within)) (e ∙ ap (byte_at k) c)
-    (s ∙ (ap₂ (λ x t. fold past_character x (take k t)) h.place_is c ∙ place_on (chars source) p.index k))
-
 pub sum_room : (source rest : List ℕ) (at n k : ℕ) → at + length rest ≡ length source → length source < 2 ^ 64 → IsUtf8 rest → n ≡ byte_at k (chars rest) → at + n < 2 ^ 64
 sum_room source rest at n k e r u b = omega (arith, e, r, byte_at_within k n rest u b)
-
-pub chars_small : (k : ℕ) (rest : List ℕ) → IsUtf8 rest → k ≤ (reach step Start (chars rest)).0 → k ≤ length rest
-chars_small k rest u l = omega (arith, l, (reach_is step Start (chars rest)).within, length-le-encodes (chars rest), ap length (encodes-chars rest u))
 
 pub fault_placed : (source rest : List ℕ) (at k : ℕ) (p : Place) → IsPlaced source at p → chars rest ≡ drop p.index (chars source) → fold past_character p (take k (chars rest)) ≡ place (chars source) (p.index + k)
 fault_placed source rest at k p h c = ap₂ (λ s t. fold past_character s (take k t)) h.place_is c ∙ place_on (chars source) p.index k
@@ -104,18 +88,7 @@ fault_placed source rest at k p h c = ap₂ (λ s t. fold past_character s (take
 pub same_end : (kind : Kind) → (same_kind kind EndOfFile ≡ true) ↔ (kind ≡ EndOfFile)
 same_end kind = (λ e. same_true the_type (search rules) kind EndOfFile e, λ e. ap (λ k. same_kind k EndOfFile) e)
 
-stands_by_scan : (s : LexerState) (token : Spanning Token) (index : ℕ) → Scanned (Ok token) index s.source (past_gap s).index (scan (drop (past_gap s).index s.source)) → Stands s.source s.index (view_token token) index
-stands_by_scan s token index h = record {
-  gap = gap_size (drop s.index s.source);
-  size = h.0;
-  gap_is = gap_longest (drop s.index s.source);
-  reads = (finds_what_reads (drop (past_gap s).index s.source) _).0 h.1;
-  start = h.3;
-  end = h.4 ∙ ap (place s.source) (sym h.2);
-  next_is = h.2;
-}
-
-breaks_by_scan : (s : LexerState) (m : Missed) → scan (drop (past_gap s).index s.source) ≡ Err m → BreaksAt s.source s.index m.error (place s.source ((past_gap s).index + m.at))
+pub breaks_by_scan : (s : LexerState) (m : Missed) → scan (drop (past_gap s).index s.source) ≡ Err m → BreaksAt s.source s.index m.error (place s.source ((past_gap s).index + m.at))
 breaks_by_scan s m e = record {
   gap = gap_size (drop s.index s.source);
   size = m.at;
@@ -124,17 +97,17 @@ breaks_by_scan s m e = record {
   at_is = refl;
 }
 
-pub gives_by_scan : (s : LexerState) (item : Result (Spanning Token) LexFailure) (t : LexerState) → Ends item t.ended → Scanned item t.index s.source (past_gap s).index (scan (drop (past_gap s).index s.source)) → GivesItem s item t
-gives_by_scan s (Ok token) t e h =
-    let k = token_kind token.item in
-    record { stands = stands_by_scan s token t.index h; ends = (λ x. (same_end k).0 (sym e ∙ x), λ x. e ∙ (same_end k).1 x) }
-gives_by_scan s (Err (failure.Fault fault)) t e h =
-    record {
-      breaks = subst (BreaksAt s.source s.index (view_lexer_error fault.item)) (sym h.2) (breaks_by_scan s (record { at = h.0; error = view_lexer_error fault.item }) h.1);
-      zero_width = h.3;
-      ends = e;
-    }
-gives_by_scan s (Err failure.Memory) t e h = by_scan (scan (drop (past_gap s).index s.source)) refl h
+pub fault_by_scan : (s : LexerState) (fault : Spanning LexerError) (t : LexerState) → FailsThere (past_gap s) fault t → GivesFault s fault t
+fault_by_scan s fault t h = record {
+  breaks =
+      subst (BreaksAt s.source s.index (view_lexer_error fault.item)) (sym h.start)
+      (breaks_by_scan s (record { at = h.size; error = view_lexer_error fault.item }) h.scanned);
+  zero_width = h.end;
+  ends = h.ends;
+}
+
+pub memory_by_scan : (s t : LexerState) → scans.MissesEscape (scan (drop (past_gap s).index s.source)) → t.ended ≡ true → WantsMemory s t
+memory_by_scan s t h e = by_scan (scan (drop (past_gap s).index s.source)) refl h
   where
     by_error : (m : Missed) (error : LexicalError) → m.error ≡ error → IsEscape error → scan (drop (past_gap s).index s.source) ≡ Err m → WantsMemory s t
     by_error m (UnknownEscapeSequence text) i w x = record { text = text; at = place s.source ((past_gap s).index + m.at); breaks = subst (λ (q : LexicalError). BreaksAt s.source s.index q (place s.source ((past_gap s).index + m.at))) i (breaks_by_scan s m x); ends = e }

@@ -1,107 +1,57 @@
 -- Lists between an opening and a closing token.
-use Rattle.std.proofs.Common.{◌≡◌, ℕ, ◌+◌, ◌<◌, ◌≤◌, Bool, true, false, List, [], ◌∷◌, ◌++◌, length, drop, Result, Ok, Err, Some, IfErr, IsErrAnd, OnOk, refl, sym, ap, ◌∙◌, subst, arith, length-drop, inl, inr}
-use Rattle.std.specs.Borrow.{Bor, MutBor}
-use Rattle.std.proofs.lemmas.Bool.{cases_Bool}
-use Rattle.std.proofs.lemmas.List.{drop-drop}
+use Rattle.std.proofs.Common.{◌≡◌, ◌<◌, Bool, true, false, cond, List, [], ◌∷◌, ◌++◌, length, Result, Ok, Err, Option, Some, None, IfErr, IsErrAnd, refl, sym, ap, subst}
+use Rattle.std.specs.Borrow.{MutBor}
 use Rattle.std.specs.List.{FoldsTo}
 use Rattle.std.proofs.lemmas.Fn.{FoldsTo-push}
 use Rattle.graphql_lexical.specs.declared.kind.Kind.TheVariants.{EndOfFile}
 use Rattle.graphql_lexical.specs.Kinds.{same_kind}
 use Rattle.graphql_lexical.specs.Place.{Place}
 use Rattle.graphql_lexical.specs.Cutting.{Lexeme}
-use Rattle.juniper_tokens.specs.declared.span.Spanning.{Spanning}
 use Rattle.juniper_tokens.specs.declared.token.Token.{Token}
-use Rattle.juniper_tokens.specs.Tokens.{view_name}
 use Rattle.juniper_tokens.specs.declared.error.ParseFailure.{ParseFailure}
 use Rattle.juniper_tokens.specs.declared.error.ParseFailure.TheVariants as failures
-use Rattle.juniper_tokens.specs.Errors.{Fault}
-use Rattle.juniper_tokens.specs.Cursor.{Read, Fails, Gives, OnMemory, Unmoved, next_at, refused_at, next_if, expect_at, expect_name_at, skip_if, skip_at}
+use Rattle.juniper_tokens.specs.Errors.{UnexpectedEndOfFile}
+use Rattle.juniper_tokens.specs.Cursor.{Read, ◌>>=◌, Fails, OnMemory, Unmoved, first_of, kind_at, next_at, expect_at, skip_if, skip_at}
 use Rattle.juniper_tokens.specs.Delimited.{IsRest, IsProperRest, Giving, Calls, Leaves, ReadsItems, GoesOn, Closes, IsRefused, HasNoItem, OpenItem, ItemOpen, ReadsList, ReadsNonempty, RefusesList, RefusesNonempty}
 use Rattle.juniper_tokens.specs.DelimitedParts.{Opened}
-
--- ---- each step leaves a rest
-
-abbrev pub Rests : {A : Type 0} → List Lexeme → Read A → Type 0
-Rests ts (Ok x) = IsRest ts x.1
-Rests ts (Err f) = IsRest ts f.1
-
-pub next_rests : (ts : List Lexeme) → Rests ts (next_at ts)
-next_rests [] = (0, refl)
-next_rests (t ∷ ts) = elim (cases_Bool (same_kind t.kind EndOfFile)) [
-  | inl y ↦ rw y (0, refl)
-  | inr n ↦ rw n (1, refl)
-]
-
-refused_rests : (A : Type 0) (ts : List Lexeme) → Rests {A = A} ts (refused_at ts)
-refused_rests A [] = (0, refl)
-refused_rests A (t ∷ ts) = elim (cases_Bool (same_kind t.kind EndOfFile)) [
-  | inl y ↦ rw y (0, refl)
-  | inr n ↦ rw n (1, refl)
-]
-
-next_if_rests : (passes : Bool) (ts : List Lexeme) → Rests ts (next_if passes ts)
-next_if_rests true ts = next_rests ts
-next_if_rests false ts = refused_rests _ ts
-
-pub expect_rests : (wanted : Token) (ts : List Lexeme) → Rests ts (expect_at wanted ts)
-expect_rests wanted ts = next_if_rests _ ts
-
-skip_if_rests : (passes : Bool) (ts : List Lexeme) → Rests ts (skip_if passes ts)
-skip_if_rests true [] = (0, refl)
-skip_if_rests true (t ∷ ts) = elim (cases_Bool (same_kind t.kind EndOfFile)) [
-  | inl y ↦ rw y (0, refl)
-  | inr n ↦ rw n (1, refl)
-]
-skip_if_rests false [] = (0, refl)
-skip_if_rests false (t ∷ ts) = elim (cases_Bool (same_kind t.kind EndOfFile)) [
-  | inl y ↦ rw y (0, refl)
-  | inr n ↦ rw n (0, refl)
-]
-
-pub skip_rests : (wanted : Token) (ts : List Lexeme) → Rests ts (skip_at wanted ts)
-skip_rests wanted ts = skip_if_rests _ ts
-
-pub rest_trans : {a b c : List Lexeme} → IsRest a b → IsRest b c → IsRest a c
-rest_trans {a} r s = (r.0 + s.0, s.1 ∙ ap (drop s.0) r.1 ∙ drop-drop s.0 r.0 a)
-
-pub proper_trans : {a b c : List Lexeme} → IsRest a b → IsProperRest b c → length b ≤ length a → IsProperRest a c
-proper_trans r s l = record { rest = rest_trans r s.rest; shorter = omega (arith, s.shorter, l) }
-
-rests_ok : {A : Type 0} (ts : List Lexeme) (step : Read A) (x : A) (us : List Lexeme) → Rests ts step → step ≡ Ok (x, us) → IsRest ts us
-rests_ok ts step x us h e = subst (Rests ts) e h
-
-rests_err : {A : Type 0} (ts : List Lexeme) (step : Read A) (x : Fault) (us : List Lexeme) → Rests ts step → step ≡ Err (x, us) → IsRest ts us
-rests_err ts step x us h e = subst (Rests ts) e h
+use Rattle.juniper_tokens.proofs.Rests.{further, properly_further}
 
 -- ---- the parts of reading a list
 
-pub opened : (opening : Token) (ts : List Lexeme) (t : Lexeme) (us : List Lexeme) → expect_at opening ts ≡ Ok (t, us) → length us < length ts → Opened opening ts t.span.start us
-opened opening ts t us e l = record {
-  opener = t;
-  opens = e;
-  start_is = refl;
-  further = record { rest = rests_ok ts _ t us (expect_rests opening ts) e; shorter = l };
-}
+pub opened : (opening : Token) (ts : List Lexeme) (t : Lexeme) (us : List Lexeme) → expect_at opening ts ≡ Ok (t, us) → length us < length ts → IsRest ts us → Opened opening ts t.span.start us
+opened opening ts t us e shorter rest = record { opener = t; opens = e; start_is = refl; further = record { rest = rest; shorter = shorter } }
 
-pub closed : (closing : Token) (ts : List Lexeme) (t : Lexeme) (us : List Lexeme) → skip_at closing ts ≡ Ok (Some t, us) → (closer : Lexeme) × Closes closing ts closer us × (t.span.end ≡ closer.span.end) × IsRest ts us
-closed closing ts t us e = (t, e, refl, rests_ok ts _ (Some t) us (skip_rests closing ts) e)
+pub closed : (closing : Token) (ts : List Lexeme) (t : Lexeme) (us : List Lexeme) → skip_at closing ts ≡ Ok (Some t, us) → IsRest ts us
+    → (closer : Lexeme) × Closes closing ts closer us × (t.span.end ≡ closer.span.end) × IsRest ts us
+closed closing ts t us e rest = (t, e, refl, rest)
 
-refused_step : {A R : Type 0} (from : ParseFailure → R → Type 0) (step : Read A) (ts : List Lexeme) (failure : ParseFailure) (e : R) (us : List Lexeme) → Rests ts step → from failure e → Fails failure us step → OnMemory {X = A} (Err failure) (Unmoved ts us step) → IsRefused from step ts e us × IsRest ts us
-refused_step from step ts (failures.Refused x) e us h m f u = (record { failure = failures.Refused x; made = m; refuses = f }, rests_err ts step _ us h f)
-refused_step from step ts failures.Memory e us h m f u = (record { failure = failures.Memory; made = m; refuses = u }, (0, u.same))
+same_step : {A : Type 0} (x y : A) (ts us : List Lexeme) → ◌≡◌ {A = Read A} (Ok (x, ts)) (Ok (y, us)) → (x ≡ y) × (ts ≡ us)
+same_step {A} x y ts us e =
+    let same : (x, ts) ≡ (y, us) = cc in
+    (ap (λ (z : A × List Lexeme). z.0) same, ap (λ (z : A × List Lexeme). z.1) same)
 
-pub refused_opening : {R : Type 0} (from : ParseFailure → R → Type 0) (opening : Token) (ts : List Lexeme) (failure : ParseFailure) (e : R) (us : List Lexeme) → from failure e → Fails failure us (expect_at opening ts) → OnMemory {X = Lexeme} (Err failure) (Unmoved ts us (expect_at opening ts)) → IsRefused from (expect_at opening ts) ts e us × IsRest ts us
-refused_opening from opening ts failure e us = refused_step from _ ts failure e us (expect_rests opening ts)
+some_skipped : (r : Read Lexeme) (us : List Lexeme) → (r >>= λ t. Ok (Some t.0, t.1)) ≡ Ok (None, us) → ⊥
+some_skipped (Ok x) us e = absurd (cc (same_step (Some x.0) None x.1 us e).0)
+some_skipped (Err f) us e = absurd (cc e)
 
--- ---- the cursor's own calls as items
+none_skipped : (passes : Bool) (ts us : List Lexeme) → skip_if passes ts ≡ Ok (None, us) → us ≡ ts
+none_skipped true ts us e = absurd (some_skipped (next_at ts) us e)
+none_skipped false ts us e = by_end (same_kind (kind_at ts) EndOfFile) e
+  where
+    by_end : (b : Bool) → cond {A = Read (Option Lexeme)} b (Err (record { error = UnexpectedEndOfFile; span = (first_of ts).span }, ts)) (Ok (None, ts)) ≡ Ok (None, us) → us ≡ ts
+    by_end true p = absurd (cc p)
+    by_end false p = sym (same_step None None ts us p).1
 
-pub expect_name_rests : (ts : List Lexeme) → Rests ts (expect_name_at ts)
-expect_name_rests ts = next_if_rests _ ts
+pub not_closed : (closing : Token) (ts us : List Lexeme) → skip_at closing ts ≡ Ok (None, us) → GoesOn closing ts × (us ≡ ts)
+unfolding skip_at
+not_closed closing ts us e =
+    let same = none_skipped _ ts us e in
+    (subst (λ (left : List Lexeme). skip_at closing ts ≡ Ok (None, left)) same e, same)
 
-pub name_leaves : (old : List Lexeme) (r : Result (Spanning (Bor (List ℕ))) ParseFailure) (new : List Lexeme) → Gives view_name r new (expect_name_at old) → OnOk r (length new < length old) → OnMemory r (Unmoved old new (expect_name_at old)) → Leaves r old new
-name_leaves old (Ok x) new e l m = record { rest = rests_ok old _ _ new (expect_name_rests old) e; shorter = l }
-name_leaves old (Err (failures.Refused x)) new e l m = rests_err old _ _ new (expect_name_rests old) e
-name_leaves old (Err failures.Memory) new e l m = (0, m.same)
+pub refused_step : {A R : Type 0} (from : ParseFailure → R → Type 0) (step : Read A) (ts : List Lexeme) (failure : ParseFailure) (e : R) (us : List Lexeme)
+    → from failure e → Fails failure us step → OnMemory {X = A} (Err failure) (Unmoved ts us step) → IsRest ts us → IsRefused from step ts e us × IsRest ts us
+refused_step from step ts (failures.Refused x) e us made fails unmoved rest = (record { failure = failures.Refused x; made = made; refuses = fails }, rest)
+refused_step from step ts failures.Memory e us made fails unmoved rest = (record { failure = failures.Memory; made = made; refuses = unmoved }, rest)
 
 -- ---- what the loops keep
 
@@ -137,23 +87,15 @@ passed_on (Ok x) P h p = absurd h
 passed_on (Err x) P h p = subst P (sym h) p
 
 pub no_item_rest : {X R : Type 0} {may_call : MutBor (List Lexeme) → Type 0} {gives : Giving (Result X R)} {from : ParseFailure → R → Type 0} {old now new : List Lexeme} {e : R} → ReadsItems may_call gives old → IsProperRest old now → HasNoItem gives from now e new → IsRest old new
-no_item_rest reads further (HasNoItem.refused calls) = rest_trans further.rest (calls_leave reads further calls)
-no_item_rest reads further (HasNoItem.no_memory x calls made) = rest_trans further.rest (calls_leave reads further calls).rest
+no_item_rest reads taken (HasNoItem.refused calls) = further _ _ _ taken.rest (calls_leave reads taken calls)
+no_item_rest reads taken (HasNoItem.no_memory x calls made) = further _ _ _ taken.rest (calls_leave reads taken calls).rest
 
 pub item_further : {X R : Type 0} {may_call : MutBor (List Lexeme) → Type 0} {gives : Giving (Result X R)} {old now new : List Lexeme} {x : X} → ReadsItems may_call gives old → IsProperRest old now → Calls gives now (Ok x) new → IsProperRest now new
 item_further reads further calls = calls_leave reads further calls
 
-pub further_still : {old now new : List Lexeme} → IsProperRest old now → IsProperRest now new → IsProperRest old new
-further_still a b = record { rest = rest_trans a.rest b.rest; shorter = omega (arith, a.shorter, b.shorter) }
-
-rest_no_longer : {old new : List Lexeme} → IsRest old new → length new ≤ length old
-rest_no_longer {old} rest = omega (arith, ap length rest.1, length-drop rest.0 old)
-
 -- a rest behind an item
 pub behind_item : {X R : Type 0} {may_call : MutBor (List Lexeme) → Type 0} {gives : Giving (Result X R)} {old now middle new : List Lexeme} {x : X} → ReadsItems may_call gives old → IsProperRest old now → Calls gives now (Ok x) middle → IsRest middle new → IsProperRest old new
-behind_item reads further calls rest =
-    let past = item_further reads further calls in
-    record { rest = rest_trans further.rest (rest_trans past.rest rest); shorter = omega (arith, further.shorter, past.shorter, rest_no_longer rest) }
+behind_item reads taken calls rest = properly_further _ _ _ taken (further _ _ _ (item_further reads taken calls).rest rest)
 
 module _ {X R : Type 0} {gives : Giving (Result X R)} {opening closing : Token} where
   pub list_done : {old now new : List Lexeme} {start end : Place} {items : List X} (from : ParseFailure → R → Type 0) → ListSoFar gives opening closing old start items now → (closer : Lexeme) × Closes closing now closer new × (end ≡ closer.span.end) × IsRest now new → ReadsList gives from opening closing old items (record { start = start; end = end }) new
@@ -184,7 +126,7 @@ module _ {X R : Type 0} {gives : Giving (Result X R)} {opening closing : Token} 
         opens = so_far.opens;
         chain = subst (λ (xs : List X). FoldsTo (OpenItem gives closing) so_far.first xs new) (sym added.2) (FoldsTo-push _ _ items _ added.0 new so_far.chain (goes.0, calls));
         start_is = so_far.start_is;
-        further = further_still so_far.further (item_further reads so_far.further calls);
+        further = properly_further _ _ _ so_far.further (item_further reads so_far.further calls).rest;
       }
 
   pub nonempty_done : {old now middle new : List Lexeme} {start end : Place} {items all : List X} (from : ParseFailure → R → Type 0) → NonemptySoFar gives opening closing old start items now → (x : X) × Calls gives now (Ok x) middle × (all ≡ items ++ x ∷ []) → (closer : Lexeme) × Closes closing middle closer new × (end ≡ closer.span.end) × IsRest middle new → ReadsNonempty gives from opening closing old all (record { start = start; end = end }) new
@@ -221,5 +163,5 @@ module _ {X R : Type 0} {gives : Giving (Result X R)} {opening closing : Token} 
         opens = so_far.opens;
         chain = subst (λ (xs : List X). FoldsTo (ItemOpen gives closing) so_far.first xs new) (sym added.2) (FoldsTo-push _ _ items _ added.0 new so_far.chain (calls, still));
         start_is = so_far.start_is;
-        further = further_still so_far.further (item_further reads so_far.further calls);
+        further = properly_further _ _ _ so_far.further (item_further reads so_far.further calls).rest;
       }

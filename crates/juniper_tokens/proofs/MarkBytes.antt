@@ -1,5 +1,5 @@
 -- The first byte of a byte order mark.
-use Rattle.std.proofs.Common.{◌≡◌, ℕ, Bool, false, true, eqb, ◌==◌, get_or, List, [], ◌∷◌, ◌++◌, length, take, drop, refl, sym, ap, ap₂, ◌∙◌, drop-drop}
+use Rattle.std.proofs.Common.{◌≡◌, ℕ, Bool, false, true, eqb, ◌==◌, get_or, List, [], ◌∷◌, ◌++◌, take, drop, refl, sym, ap, ap₂, ◌∙◌, drop-drop}
 use Rattle.std.specs.Str.{chars, IsUtf8}
 use Rattle.std.proofs.lemmas.Bool.{eqb-true}
 use Rattle.std.proofs.Math.Seq.{get_or-append_seam}

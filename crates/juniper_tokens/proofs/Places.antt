@@ -8,9 +8,8 @@ use Rattle.graphql_lexical.specs.Scan as scans
 use Rattle.graphql_lexical.specs.Machines.{reach, onward}
 use Rattle.graphql_lexical.specs.Scan.{State, Start, Found, step, scan}
 use Rattle.graphql_lexical.specs.declared.kind.Kind.{Kind}
-use Rattle.graphql_lexical.specs.Kinds.{same_kind}
-use Rattle.graphql_lexical.specs.declared.kind.Kind.TheVariants.{BlockString}
-use Rattle.graphql_lexical.proofs.Readings.{answer_finds}
+use Rattle.graphql_lexical.specs.declared.kind.Kind.TheVariants.{BlockString, EndOfFile}
+use Rattle.graphql_lexical.proofs.Readings.{answer_finds, same_Ok}
 use Rattle.graphql_lexical.proofs.Spelled.{accepts}
 use Rattle.graphql_lexical.proofs.Runs.{reach_is}
 use Rattle.graphql_lexical.proofs.Places.{place_push}
@@ -31,17 +30,23 @@ place_fold front (c ∷ cs) = ap (λ p. fold past_character p cs) (sym (place_pu
 pub place_on : (source : List ℕ) (j k : ℕ) → fold past_character (place source j) (take k (drop j source)) ≡ place source (j + k)
 place_on source j k = place_fold (take j source) (take k (drop j source)) ∙ ap place_after (sym (take-add j k source))
 
+pub no_columns : (p : Place) → p ≡ columns_on 0 p
+no_columns p = ap₂ (λ i k. made i p.line k) (sym (plus_none p.index)) (sym (plus_none p.column))
+
+plus_suc : (a b : ℕ) → (a + 1) + b ≡ a + suc b
+plus_suc a b = omega arith
+
+pub one_column_more : (n : ℕ) (p : Place) → columns_on n (next_column p) ≡ columns_on (suc n) p
+one_column_more n p = ap₂ (λ i k. made i p.line k) (plus_suc p.index n) (plus_suc p.column n)
+
 -- without a line feed
 abbrev pub OnLine : List ℕ → Type 0
 OnLine = AllByRecursion (λ c. (c == 10) ≡ false)
 
 pub line_fold : (p : Place) (xs : List ℕ) → OnLine xs → fold past_character p xs ≡ columns_on (length xs) p
-line_fold p [] h = ap₂ (λ i k. made i p.line k) (sym (plus_none p.index)) (sym (plus_none p.column))
+line_fold p [] h = no_columns p
 line_fold p (c ∷ cs) h =
-    ap (λ b. fold past_character (cond b (next_line p) (next_column p)) cs) h.0 ∙ (line_fold (next_column p) cs h.1 ∙ ap₂ (λ i k. made i p.line k) (plus_suc p.index (length cs)) (plus_suc p.column (length cs)))
-  where
-    plus_suc : (a b : ℕ) → (a + 1) + b ≡ a + suc b
-    plus_suc a b = omega arith
+    ap (λ b. fold past_character (cond b (next_line p) (next_column p)) cs) h.0 ∙ (line_fold (next_column p) cs h.1 ∙ one_column_more (length cs) p)
 
 -- ---- what the steps of a token go over has no line feed, but in a block string
 
@@ -99,15 +104,16 @@ found_line (c ∷ cs) f e n =
     let r = reach step Start (c ∷ cs) in
     reach_line Start (c ∷ cs) (accepted_outside r.1 f.kind (answer_finds r.1 r.0 c cs f e).accepted n)
 
-pub other_kind : (kind : Kind) (is : Bool) → is ≡ same_kind kind BlockString → is ≡ false → kind ≡ BlockString → ⊥
-other_kind kind is f g h =
-    let z : true ≡ false = sym (ap (λ x. same_kind x BlockString) h) ∙ (sym f ∙ g) in
-    absurd (cc z)
+found_size : (cs : List ℕ) (f : Found) → scan cs ≡ Ok f → f.size ≡ (reach step Start cs).0
+found_size [] f e = sym (ap (λ (x : Found). x.size) (same_Ok (record { size = 0; kind = EndOfFile; text = [] }) f e))
+found_size (c ∷ cs) f e = let r = reach step Start (c ∷ cs) in sym (answer_finds r.1 r.0 c cs f e).size_is
 
 -- a token that is no block string ends on its line
-pub line_end : (p : Place) (cs : List ℕ) (f : Found) → scan cs ≡ Ok f → (f.kind ≡ BlockString → ⊥) → f.size ≤ (reach step Start cs).0
+pub line_end : (p : Place) (cs : List ℕ) (f : Found) → scan cs ≡ Ok f → (f.kind ≡ BlockString → ⊥)
     → columns_on f.size p ≡ fold past_character p (take f.size cs)
-line_end p cs f e n l =
+line_end p cs f e n =
     let within = (reach_is step Start cs).within in
-    let count : length (take f.size cs) ≡ f.size = length-take-le f.size cs (omega (arith, l, within)) in
-    ap (λ k. columns_on k p) (sym count) ∙ sym (line_fold p (take f.size cs) (on_line_less f.size (reach step Start cs).0 cs l (found_line cs f e n)))
+    let size : f.size ≡ (reach step Start cs).0 = found_size cs f e in
+    let count : length (take f.size cs) ≡ f.size = length-take-le f.size cs (omega (arith, size, within)) in
+    ap (λ k. columns_on k p) (sym count)
+    ∙ sym (line_fold p (take f.size cs) (on_line_less f.size (reach step Start cs).0 cs (omega (arith, size)) (found_line cs f e n)))

@@ -1,58 +1,90 @@
 -- Tokens as ranges of their source.
-use Rattle.std.proofs.Common.{◌≡◌, ℕ, ◌+◌, ◌-◌, ◌<◌, ◌≤◌, List, [], ◌∷◌, ◌++◌, length, take, drop, refl, sym, ap, ap₂, subst, ◌∙◌, arith}
-use Rattle.std.specs.Prelude.{Result, Ok, Err}
+use Rattle.std.proofs.Common.{◌≡◌, ℕ, ◌+◌, ◌-◌, ◌<◌, ◌≤◌, ◌^◌, Bool, true, false, List, [], ◌∷◌, ◌++◌, length, take, drop, refl, sym, ap, ap₂, subst, ◌∙◌, arith, length-drop}
+use Rattle.std.specs.Prelude.{Result, Ok, Err, Some, None, ◌↔◌}
 use Rattle.std.specs.Option.{unwrap_or}
 use Rattle.std.specs.Result.{IsErrAnd}
-use Rattle.graphql_lexical.specs.Place.{Place, place}
+use Rattle.std.specs.List.{fold}
+use Rattle.std.proofs.lemmas.List.{length-take-le}
+use Rattle.std.proofs.lemmas.Str.{length-le-encodes, encodes-chars}
+use Rattle.std.specs.Str.{chars, IsUtf8}
+use Rattle.graphql_lexical.specs.Place.{Place, place, past_character}
 use Rattle.graphql_lexical.specs.declared.kind.Kind.{Kind}
 use Rattle.graphql_lexical.specs.declared.kind.Kind.TheVariants as kinds
-use Rattle.graphql_lexical.specs.Kinds.{Spelling, Names, Strings, BlockStrings, Floats, Ints, Fixed, NoText, spelling, fixed_text}
+use Rattle.graphql_lexical.specs.Kinds.{same_kind, Spelling, Names, Strings, BlockStrings, Floats, Ints, Fixed, NoText, spelling, fixed_text}
 use Rattle.graphql_lexical.specs.Tokens.{Admits, between, text_of, Spells}
+use Rattle.graphql_lexical.specs.Tokens as grammar
 use Rattle.graphql_lexical.specs.Reading.{Reads}
 use Rattle.graphql_lexical.specs.Cutting.{Lexeme, Stands}
-use Rattle.graphql_lexical.specs.Scan.{scan}
+use Rattle.graphql_lexical.specs.Scan.{found, gap_size}
 use Rattle.graphql_lexical.proofs.Answers.{finds_what_reads}
+use Rattle.graphql_lexical.proofs.Gaps.{gap_longest}
+use Rattle.graphql_lexical.proofs.Slices.{place_index}
 use Rattle.juniper_tokens.specs.declared.span.Spanning.{Spanning}
 use Rattle.juniper_tokens.specs.declared.token.Token.{Token}
 use Rattle.juniper_tokens.specs.declared.token_range.TokenRange.{TokenRange}
-use Rattle.juniper_tokens.specs.declared.lexer.text.Border.{Border}
+use Rattle.juniper_tokens.specs.declared.lexer.scan.Found.{Found}
 use Rattle.juniper_tokens.specs.declared.error.LexFailure.{LexFailure}
 use Rattle.juniper_tokens.specs.declared.error.LexFailure.TheVariants as failures
-use Rattle.juniper_tokens.specs.Tokens.{kind_text, token_kind, token_text, view_token}
+use Rattle.juniper_tokens.specs.Tokens.{kind_text, view_token}
 use Rattle.juniper_tokens.specs.ByteRuns.{byte_at}
-use Rattle.juniper_tokens.specs.Borders.{IsBorder, EndsQuoted, quotes}
-use Rattle.graphql_lexical.specs.Tokens as grammar
-use Rattle.juniper_tokens.specs.Lexing.{LexerState, GivesItem}
-use Rattle.juniper_tokens.specs.LexingByScan.{past_gap, Scanned, Ends}
-use Rattle.juniper_tokens.specs.Ranges.{range_slice, range_lexeme, IsRange, GivesRange, GivesRangeItem}
-use Rattle.juniper_tokens.proofs.LexingByScan.{byte_at_on, gives_by_scan}
+use Rattle.juniper_tokens.specs.Borders.{EndsQuoted, quotes}
+use Rattle.juniper_tokens.specs.Positions.{columns_on}
+use Rattle.juniper_tokens.specs.Scans.{Finds}
+use Rattle.juniper_tokens.specs.Lexing.{LexerState, GivesItem, GivesToken}
+use Rattle.juniper_tokens.specs.LexingByScan.{past_gap, IsPlaced}
+use Rattle.juniper_tokens.specs.Ranges.{range_of, range_slice, range_lexeme, IsRange, TakesRange, TakesItem, MayTake, GivesRange, GivesRangeItem, range_steps}
+use Rattle.juniper_tokens.proofs.Borders.{byte_at_within}
+use Rattle.juniper_tokens.proofs.LexingByScan.{byte_at_on, same_end, fault_by_scan, memory_by_scan}
+use Rattle.juniper_tokens.proofs.Places.{place_on, line_end}
 
 -- ---- from border to border
 
 -- so many bytes on from the start is the end
-border_bytes : (source : List ℕ) (start end : Border) → IsBorder start source → IsBorder end source → start.characters ≤ end.characters → start.bytes + byte_at (end.characters - start.characters) (drop start.characters source) ≡ end.bytes
-border_bytes source start end s e f =
-    let j = start.characters in
-    let g = end.characters - start.characters in
-    let sum : j + g ≡ end.characters = omega (arith, f) in
-    ap (λ b. b + byte_at g (drop j source)) s ∙ (byte_at_on j g source ∙ (ap (λ k. byte_at k source) sum ∙ sym e))
+range_bytes : (source : List ℕ) (r : TokenRange) → IsRange source r → r.at + byte_at (r.end.characters - r.start.index) (drop r.start.index source) ≡ r.end.bytes
+range_bytes source r h =
+    let j = r.start.index in
+    let g = r.end.characters - r.start.index in
+    let sum : j + g ≡ r.end.characters = omega (arith, h.forward) in
+    ap (λ b. b + byte_at g (drop j source)) h.at_is ∙ (byte_at_on j g source ∙ (ap (λ k. byte_at k source) sum ∙ sym h.end))
 
-border_width : (source : List ℕ) (start end : Border) → IsBorder start source → IsBorder end source → start.characters ≤ end.characters → end.bytes - start.bytes ≡ byte_at (end.characters - start.characters) (drop start.characters source)
-border_width source start end s e f = omega (arith, border_bytes source start end s e f)
+pub range_order : (source : List ℕ) (r : TokenRange) → IsRange source r → r.at ≤ r.end.bytes
+range_order source r h = omega (arith, range_bytes source r h)
 
--- ---- the text of a range
+pub range_width : (source rest : List ℕ) (r : TokenRange) → IsRange source r → rest ≡ drop r.start.index source → r.end.bytes - r.at ≡ byte_at (r.end.characters - r.start.index) rest
+range_width source rest r h e =
+    let width : r.end.bytes - r.at ≡ byte_at (r.end.characters - r.start.index) (drop r.start.index source) = omega (arith, range_bytes source r h) in
+    width ∙ ap (byte_at (r.end.characters - r.start.index)) (sym e)
 
-pub range_order : (source : List ℕ) (r : TokenRange) → IsRange source r → r.start.bytes ≤ r.end.bytes
-range_order source r h = omega (arith, border_bytes source r.start r.end h.start h.end h.forward)
+-- what is left from its start on is no longer than the source
+pub range_room : (source rest : List ℕ) (r : TokenRange) → IsRange (chars source) r → r.at + length rest ≡ length source → length source < 2 ^ 64
+    → r.start.index + length rest < 2 ^ 64
+range_room source rest r h e l =
+    let before : length (take r.start.index (chars source)) ≡ r.start.index = length-take-le r.start.index (chars source) (omega (arith, h.forward, h.within)) in
+    omega (arith, e, l, h.at_is, length-le-encodes (take r.start.index (chars source)), before)
 
-pub range_width : (source rest : List ℕ) (r : TokenRange) → IsRange source r → rest ≡ drop r.start.characters source → r.end.bytes - r.start.bytes ≡ byte_at (r.end.characters - r.start.characters) rest
-range_width source rest r h e = border_width source r.start r.end h.start h.end h.forward ∙ ap (byte_at (r.end.characters - r.start.characters)) (sym e)
+-- the place behind it
+pub range_end : (source rest : List ℕ) (r : TokenRange) → IsRange source r → rest ≡ drop r.start.index source
+    → fold past_character r.start (take (r.end.characters - r.start.index) rest) ≡ place source r.end.characters
+range_end source rest r h e =
+    let sum : r.start.index + (r.end.characters - r.start.index) ≡ r.end.characters = omega (arith, h.forward) in
+    ap₂ (λ s t. fold past_character s (take (r.end.characters - r.start.index) t)) h.start_is e
+    ∙ (place_on source r.start.index (r.end.characters - r.start.index) ∙ ap (place source) sum)
+
+-- where a lexer stands behind it
+pub placed_behind : (source : List ℕ) (at : ℕ) (p q : Place) (r : TokenRange) → IsPlaced source at p → IsRange (chars source) r
+    → q ≡ place (chars source) r.end.characters → (q.index ≡ r.end.characters) × IsPlaced source r.end.bytes q
+placed_behind source at p q r h i e =
+    let index : q.index ≡ r.end.characters = ap (λ (x : Place). x.index) e ∙ place_index (chars source) r.end.characters i.within in (
+      index,
+      record {
+        byte_is = i.end ∙ ap (λ k. byte_at k (chars source)) (sym index);
+        place_is = e ∙ ap (place (chars source)) (sym index);
+        within = omega (arith, index, i.within);
+        room = h.room;
+      },
+    )
 
 -- ---- the range of a token that has been read
-
-read_text : (rest : List ℕ) (n : ℕ) (kind : Kind) (text : List ℕ) → Reads rest n kind text → text ≡ text_of kind (take n rest)
-read_text [] n kind text r = r.2 ∙ sym (ap₂ (λ k (m : ℕ). text_of k (take m [])) r.1 r.0)
-read_text (c ∷ cs) n kind text r = r.text_is
 
 read_within : (rest : List ℕ) (n : ℕ) (kind : Kind) (text : List ℕ) → Reads rest n kind text → n ≤ length rest
 read_within [] n kind text r = omega (arith, r.0)
@@ -62,6 +94,68 @@ read_spelled : (rest : List ℕ) (n : ℕ) (kind k : Kind) (text : List ℕ) →
     → Spells (take n rest) k
 read_spelled [] n kind k text r e no_end = absurd (no_end (sym e ∙ r.1))
 read_spelled (c ∷ cs) n kind k text r e no_end = subst (Spells (take n (c ∷ cs))) e r.spells
+
+-- a token that stands where a lexer does
+pub found_range : (source : List ℕ) (at : ℕ) (p : Place) (f : Found) → IsPlaced source at p → Finds (drop p.index (chars source)) f
+    → IsRange (chars source) (range_of f at p)
+found_range source at p f h s =
+    let j = p.index in
+    let n = f.end.characters in
+    let text = chars source in
+    let rest = drop j text in
+    let reads : Reads rest n f.kind (text_of f.kind (take n rest)) = (finds_what_reads rest _).0 s.0 in
+    let within : n ≤ length rest = read_within rest n f.kind _ reads in
+    let size : (j + n) - j ≡ n = omega arith in
+    let bytes : (at + f.end.bytes) - at ≡ f.end.bytes = omega arith in
+    let quoted_by : (width : ℕ) (units : List ℕ) → take n rest ≡ quotes width ++ (units ++ quotes width) → 0 < width
+    → EndsQuoted width rest ((at + f.end.bytes) - at) ((j + n) - j) =
+    λ width units whole some. subst (λ b. EndsQuoted width rest b ((j + n) - j)) (sym bytes) (subst (EndsQuoted width rest f.end.bytes) (sym size) (record {
+      units = units;
+      whole = whole;
+      some = some;
+      within = within;
+      border = s.1;
+    })) in
+    record {
+      at_is = h.byte_is;
+      start_is = h.place_is;
+      end = ap₂ (λ a b. a + b) h.byte_is s.1 ∙ byte_at_on j n text;
+      forward = omega arith;
+      within = omega (arith, within, h.within, length-drop j text);
+      quoted = λ k. let units = read_spelled rest n f.kind kinds.String _ reads k (λ e. absurd (cc e)) in quoted_by 1 units.0 units.1 (omega arith);
+      marked = λ k. let units = read_spelled rest n f.kind kinds.BlockString _ reads k (λ e. absurd (cc e)) in quoted_by 3 units.0 units.1 (omega arith);
+      lined = λ k.
+          ap (λ m. columns_on m p) size ∙ (line_end p rest _ s.0 k
+          ∙ (ap (λ x. fold past_character x (take n rest)) h.place_is ∙ place_on text j n));
+    }
+
+-- its end is within the source
+pub found_room : (source : List ℕ) (at : ℕ) (p : Place) (f : Found) → IsUtf8 source → IsPlaced source at p → Finds (drop p.index (chars source)) f
+    → (at + f.end.bytes < 2 ^ 64) × (p.index + f.end.characters < 2 ^ 64)
+found_room source at p f u h s =
+    let range = found_range source at p f h s in
+    let few : length (chars source) ≤ length source = omega (arith, length-le-encodes (chars source), ap length (encodes-chars source u)) in (
+      omega (arith, byte_at_within (p.index + f.end.characters) (at + f.end.bytes) source u range.end, h.room),
+      omega (arith, few, range.within, h.room),
+    )
+
+-- what a lexer takes that stands at such a token
+pub found_taken : (source : List ℕ) (at : ℕ) (p q : Place) (f : Found) (ended was : Bool) → IsPlaced source at p
+    → Finds (drop p.index (chars source)) f → q ≡ place (chars source) (p.index + f.end.characters) → ended ≡ same_kind f.kind kinds.EndOfFile
+    → TakesRange (record { source = chars source; index = p.index; ended = was }) (range_of f at p) (record { source = chars source; index = q.index; ended = ended })
+found_taken source at p q f ended was h s e n =
+    let rest = drop p.index (chars source) in
+    let range = found_range source at p f h s in
+    let size : f.end.characters ≡ (p.index + f.end.characters) - p.index = omega arith in
+    record {
+      scanned = s.0 ∙ ap (λ k. found k f.kind rest) size;
+      from = refl;
+      to = (placed_behind source at p q (range_of f at p) h range e).0;
+      is_range = range;
+      ends = n;
+    }
+
+-- ---- the text of a token
 
 -- the kind leaves the text open, or fixes it
 spelled_text : (s : Spelling) (whole : List ℕ) → Admits s whole
@@ -74,69 +168,67 @@ spelled_text Ints whole h = refl
 spelled_text (Fixed text) whole h = h
 spelled_text NoText whole h = absurd h
 
-kept_text : (rest : List ℕ) (n : ℕ) (kind : Kind) (text : List ℕ) → Reads rest n kind text → text ≡ kind_text kind text
-kept_text [] n kind text r = r.2 ∙ sym (ap₂ kind_text r.1 r.2)
-kept_text (c ∷ cs) n kind text r =
-    subst (λ t. t ≡ kind_text kind t) (sym r.text_is) (spelled_text (spelling kind) (take n (c ∷ cs)) r.spells)
+read_text : (rest : List ℕ) (n : ℕ) (kind : Kind) (text : List ℕ) → Reads rest n kind text → text ≡ kind_text kind (text_of kind (take n rest))
+read_text [] n kind text r = r.2 ∙ sym (ap₂ (λ k (m : ℕ). kind_text k (text_of k (take m []))) r.1 r.0)
+read_text (c ∷ cs) n kind text r = r.text_is ∙ spelled_text (spelling kind) (take n (c ∷ cs)) r.spells
 
-abbrev made : Kind → List ℕ → Place → Place → Lexeme
-made kind text start end = record { kind = kind; text = text; span = record { start = start; end = end } }
+-- ---- in the words of the definitions
 
-same_lexeme : (kind : Kind) (t u : List ℕ) (p q r s : Place) → t ≡ u → p ≡ q → r ≡ s → made kind t p r ≡ made kind u q s
-same_lexeme kind t u p q r s e f g = ap (λ x. made kind x p r) e ∙ (ap (λ x. made kind u x r) f ∙ ap (λ x. made kind u q x) g)
-
--- The lexer went from its place over a gap to the start of a range, and over a token to the end of the range.
-pub record IsTaken (s : LexerState) (start end : Border) (t : LexerState) : Type 0 where
-  pub from : start.characters ≡ (past_gap s).index
-  pub to : end.characters ≡ t.index
-  pub start_is : IsBorder start s.source
-  pub end_is : IsBorder end s.source
-  pub within : end.characters ≤ length s.source
-
-pub range_given : (s : LexerState) (token : Spanning Token) (start end : Border) (t : LexerState) → IsTaken s start end t → Ends (Ok token) t.ended → Scanned (Ok token) t.index s.source (past_gap s).index (scan (drop (past_gap s).index s.source)) → GivesRange s (record { kind = token_kind token.item; start = start; end = end }) t
-range_given s token start end t b e h =
+pub range_given : (s : LexerState) (r : TokenRange) (t : LexerState) → TakesRange (past_gap s) r t → GivesRange s r t
+range_given s r t h =
     let j = (past_gap s).index in
     let rest = drop j s.source in
-    let kind = token_kind token.item in
-    let r : TokenRange = record { kind = kind; start = start; end = end } in
-    let g = gives_by_scan s (Ok token) t e h in
-    let reads : Reads rest h.0 kind (token_text token.item) = (finds_what_reads rest _).0 h.1 in
-    let size : end.characters - start.characters ≡ h.0 = omega (arith, b.from, b.to, h.2) in
-    let forward : start.characters ≤ end.characters = omega (arith, b.from, b.to, h.2) in
-    let slice : take h.0 rest ≡ range_slice s.source r = sym (ap₂ (λ m k. take m (drop k s.source)) size b.from) in
-    let text : token_text token.item ≡ kind_text kind (text_of kind (range_slice s.source r)) =
-    kept_text rest h.0 kind _ reads ∙ ap (kind_text kind) (read_text rest h.0 kind _ reads ∙ ap (text_of kind) slice) in
-    let ends : j + h.0 ≡ end.characters = omega (arith, b.to, h.2) in
-    let inside : end.characters - start.characters ≤ length (drop start.characters s.source) =
-    subst (λ m. m ≤ length (drop start.characters s.source)) (sym size) (subst (λ i. h.0 ≤ length (drop i s.source)) (sym b.from) (read_within rest h.0 kind _ reads)) in
-    let quoted_by : (width : ℕ) (units : List ℕ) → range_slice s.source r ≡ quotes width ++ (units ++ quotes width) → 0 < width
-    → EndsQuoted width (drop start.characters s.source) (end.bytes - start.bytes) (end.characters - start.characters) =
-    λ width units whole some. record {
-      units = units;
-      whole = whole;
-      some = some;
-      within = inside;
-      border = border_width s.source start end b.start_is b.end_is forward;
-    } in
-    let lexeme : view_token token ≡ range_lexeme s.source r = same_lexeme kind _ _ _ _ _ _ text (h.3 ∙ ap (place s.source) (sym b.from)) (h.4 ∙ ap (place s.source) ends) in
+    let n = r.end.characters - j in
+    let kind = r.kind in
+    let reads : Reads rest n kind (text_of kind (take n rest)) = (finds_what_reads rest _).0 h.scanned in
+    let slice : take n rest ≡ range_slice s.source r = ap (λ i. take (r.end.characters - i) (drop i s.source)) (sym h.from) in
+    let text : text_of kind (take n rest) ≡ kind_text kind (text_of kind (range_slice s.source r)) =
+    read_text rest n kind _ reads ∙ ap (λ x. kind_text kind (text_of kind x)) slice in
+    let forward : j ≤ r.end.characters = omega (arith, h.from, h.is_range.forward) in
     record {
-      stands = subst (λ (x : Lexeme). Stands s.source s.index x t.index) lexeme g.stands;
-      is_range = record {
-        start = b.start_is;
-        end = b.end_is;
-        forward = forward;
-        within = b.within;
-        quoted = λ k. let units = read_spelled rest h.0 kind kinds.String _ reads k (λ e. absurd (cc e)) in quoted_by 1 units.0 (sym slice ∙ units.1) (omega arith);
-        marked = λ k. let units = read_spelled rest h.0 kind kinds.BlockString _ reads k (λ e. absurd (cc e)) in quoted_by 3 units.0 (sym slice ∙ units.1) (omega arith);
+      stands = record {
+        gap = gap_size (drop s.index s.source);
+        size = n;
+        gap_is = gap_longest (drop s.index s.source);
+        reads = subst (Reads rest n kind) text reads;
+        start = ap (place s.source) h.from;
+        end = ap (place s.source) (sym h.to);
+        next_is = omega (arith, h.to, forward);
       };
-      ends = g.ends;
+      is_range = h.is_range;
+      ends = (λ x. (same_end kind).0 (sym h.ends ∙ x), λ x. h.ends ∙ (same_end kind).1 x);
     }
 
-fault_given : (s : LexerState) (failure : LexFailure) (t : LexerState) → GivesItem s (Err failure) t → GivesRangeItem s (Err failure) t
-fault_given s (failures.Fault fault) t h = h
-fault_given s failures.Memory t h = h
+pub item_given : (s : LexerState) (item : Result TokenRange LexFailure) (t : LexerState) → TakesItem (past_gap s) item t → GivesRangeItem s item t
+item_given s (Ok range) t h = range_given s range t h
+item_given s (Err (failures.Fault fault)) t h = fault_by_scan s fault t h
+item_given s (Err failures.Memory) t h = memory_by_scan s t h.0 h.1
+
+pub token_given : (s : LexerState) (r : TokenRange) (token : Spanning Token) (t : LexerState) → TakesRange (past_gap s) r t
+    → view_token token ≡ range_lexeme s.source r → GivesToken s token t
+token_given s r token t h e =
+    let g = range_given s r t h in
+    record {
+      stands = subst (λ (x : Lexeme). Stands s.source s.index x t.index) (sym e) g.stands;
+      ends = subst (λ k. (t.ended ≡ true) ↔ (k ≡ kinds.EndOfFile)) (sym (ap (λ (x : Lexeme). x.kind) e)) g.ends;
+    }
+
+failure_given : (s : LexerState) (failure : LexFailure) (t : LexerState) → GivesRangeItem s (Err failure) t → GivesItem s (Err failure) t
+failure_given s (failures.Fault fault) t h = h
+failure_given s failures.Memory t h = h
 
 -- a failure is passed on
-pub failure_given : (s : LexerState) (item : Result TokenRange LexFailure) (failure : LexFailure) (t : LexerState) → IsErrAnd item (λ x. x ≡ failure) → GivesItem s (Err failure) t → GivesRangeItem s item t
-failure_given s (Ok range) failure t e h = absurd e
-failure_given s (Err x) failure t e h = subst (λ f. GivesRangeItem s (Err f) t) (sym e) (fault_given s failure t h)
+pub failure_passed : (s : LexerState) (item : Result (Spanning Token) LexFailure) (failure : LexFailure) (t : LexerState)
+    → IsErrAnd item (λ x. x ≡ failure) → TakesItem (past_gap s) (Err failure) t → GivesItem s item t
+failure_passed s (Ok token) failure t e h = absurd e
+failure_passed s (Err x) failure t e h =
+    subst (λ f. GivesItem s (Err f) t) (sym e) (failure_given s failure t (item_given s (Err failure) t h))
+
+-- ---- the steps of a lexer that goes past plain tokens, and else takes what stands there
+
+module _ (s t : LexerState) (going : s.ended ≡ false) (same : t.source ≡ s.source) where
+  pub plain_steps : (r : TokenRange) → MayTake s (Some r) t → range_steps s (Some (Ok r)) t
+  plain_steps r h = (going, same, range_given s r t h)
+
+  pub other_steps : (u : LexerState) (item : Result TokenRange LexFailure) → MayTake s None u → TakesItem u item t → range_steps s (Some item) t
+  other_steps u item e h = (going, same, item_given s item t (subst (λ x. TakesItem x item t) e h))

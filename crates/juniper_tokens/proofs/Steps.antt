@@ -6,7 +6,10 @@ use Rattle.graphql_lexical.specs.Kinds.{same_kind}
 use Rattle.graphql_lexical.specs.Cutting.{Lexeme}
 use Rattle.juniper_tokens.specs.declared.token_range.TokenRange.{TokenRange}
 use Rattle.juniper_tokens.specs.Errors.{UnexpectedEndOfFile}
-use Rattle.juniper_tokens.specs.Cursor.{next_at, first_of, kind_at, EndsOnce}
+use Rattle.std.specs.Prelude.{is_none}
+use Rattle.graphql_lexical.specs.Kinds.{spelling, fixed_text}
+use Rattle.juniper_tokens.specs.Tokens.{same_text}
+use Rattle.juniper_tokens.specs.Cursor.{next_at, first_of, kind_at, is_wanted, EndsOnce}
 use Rattle.juniper_tokens.specs.Ranges.{range_lexeme, range_lexemes}
 
 -- the next token, which is not the end
@@ -56,3 +59,14 @@ left_ended source ranges i h e =
 -- the token that stands next
 pub first_left : (source : List ℕ) (ranges : List TokenRange) (i : ℕ) (r : TokenRange) → i < length ranges → get_or ranges i r ≡ r → first_of (range_lexemes source (drop i ranges)) ≡ range_lexeme source r
 first_left source ranges i r l e = ap (λ rs. first_of (range_lexemes source rs)) (drop-cons ranges i r l) ∙ ap (range_lexeme source) e
+
+-- something is left
+pub left_within : (source : List ℕ) (ranges : List TokenRange) (i : ℕ) → EndsOnce (range_lexemes source (drop i ranges)) → i < length ranges
+left_within source ranges i h = omega (arith, some_left source (drop i ranges) h, length-drop i ranges)
+
+-- ---- the wanted token
+
+-- its kind leaves the text open
+pub wanted_open : (kind : Kind) (text : List ℕ) (t : Lexeme) → same_kind t.kind kind ≡ true → is_none (fixed_text (spelling kind)) ≡ true
+    → same_text t.text text ≡ is_wanted kind text t
+wanted_open kind text t e o = rw (o, e) refl

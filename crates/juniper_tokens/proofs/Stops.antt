@@ -4,23 +4,16 @@ use Rattle.std.proofs.Math.Seq.{take-append_seam, drop-append_seam}
 use Rattle.std.proofs.lemmas.List.{length-take-le}
 use Rattle.std.proofs.lemmas.Str.{encodes-append, encode_ascii, length-le-encodes}
 use lib.Utf8.{encode, encodes}
-use Rattle.std.specs.Prelude.{Result, Ok}
 use Rattle.graphql_lexical.specs.Characters.{is_hex}
-use Rattle.graphql_lexical.specs.declared.kind.Kind.{Kind}
-use Rattle.graphql_lexical.specs.declared.kind.Kind.TheVariants.{String, BlockString}
-use Rattle.graphql_lexical.specs.Tokens.{between, text_of, IsString, IsBlockString, Spells}
+use Rattle.graphql_lexical.specs.Tokens.{between}
 use Rattle.graphql_lexical.specs.Machines.{reach}
-use Rattle.graphql_lexical.specs.Scan.{State, Start, Done, Quotes, Hex0, Hex1, HexD, Hex2, Hex3, InBlock, Closed, step, answer, scan, Found, Missed}
+use Rattle.graphql_lexical.specs.Scan.{State, Start, Hex0, Hex1, HexD, Hex2, Hex3, step, answer, scan}
 use Rattle.graphql_lexical.proofs.Runs.{reach_is}
 use Rattle.graphql_lexical.proofs.Numbers.{d_hex}
 use Rattle.graphql_lexical.proofs.History.{IsRead, read_run, IsOpen}
-use Rattle.graphql_lexical.proofs.Spelled.{accepts_spells}
 use Rattle.graphql_lexical.proofs.Slices.{unquoted}
 use Rattle.juniper_tokens.specs.ByteRuns.{byte_at}
 use Rattle.juniper_tokens.specs.declared.lexer.text.Border.{Border}
-use Rattle.juniper_tokens.specs.declared.lexer.machine.Punctuator.{Punctuator}
-use Rattle.juniper_tokens.specs.declared.lexer.machine.Punctuator.TheVariants as mark
-use Rattle.juniper_tokens.specs.Machine.{view_punctuator, punctuator_text}
 use Rattle.juniper_tokens.specs.Borders.{FollowsDigits, EndsQuoted, quotes}
 use Rattle.juniper_tokens.specs.Walks.{HasReached}
 
@@ -135,57 +128,6 @@ after_hex cs q p end h e x =
     let m : length (take end.characters cs) ≡ end.characters = length-take-le end.characters cs r.0 in
     record { more = k.within; room = omega (arith, l, m, h.bytes_is); start = omega (arith, k.bytes, h.bytes_is) }
 
-pub ends_string : (cs : List ℕ) (q : State) (b n : ℕ) → HasReached cs q b n → q ≡ Done String → EndsQuoted 1 cs b n
-ends_string cs q b n h e =
-    let r = read_at cs q b n h in
-    let t : IsString (take n cs) = subst (λ s. IsRead s (take n cs)) e r.1 in
-    record { units = t.0; whole = t.1; some = omega arith; within = r.0; border = h.bytes_is }
-
-pub ends_empty : (cs : List ℕ) (q : State) (b n : ℕ) → HasReached cs q b n → q ≡ Quotes → EndsQuoted 1 cs b n
-ends_empty cs q b n h e =
-    let r = read_at cs q b n h in
-    let t : take n cs ≡ 34 ∷ 34 ∷ [] = subst (λ s. IsRead s (take n cs)) e r.1 in
-    record { units = []; whole = t; some = omega arith; within = r.0; border = h.bytes_is }
-
-pub ends_block : (cs : List ℕ) (q : State) (b n : ℕ) → HasReached cs q b n → q ≡ InBlock Closed → EndsQuoted 3 cs b n
-ends_block cs q b n h e =
-    let r = read_at cs q b n h in
-    let t : IsBlockString (take n cs) = accepts_spells (InBlock Closed) BlockString (take n cs) refl (subst (λ s. IsRead s (take n cs)) e r.1) in
-    record { units = t.0; whole = t.1; some = omega arith; within = r.0; border = h.bytes_is }
-
-mark_spelled : (p : Punctuator) (t : List ℕ) → Spells t (view_punctuator p) → t ≡ punctuator_text p
-mark_spelled mark.ExclamationMark t h = h
-mark_spelled mark.Dollar t h = h
-mark_spelled mark.ParenOpen t h = h
-mark_spelled mark.ParenClose t h = h
-mark_spelled mark.BracketOpen t h = h
-mark_spelled mark.BracketClose t h = h
-mark_spelled mark.CurlyOpen t h = h
-mark_spelled mark.CurlyClose t h = h
-mark_spelled mark.Ellipsis t h = h
-mark_spelled mark.Colon t h = h
-mark_spelled mark.Equals t h = h
-mark_spelled mark.At t h = h
-mark_spelled mark.Pipe t h = h
-
-pub mark_text : (cs : List ℕ) (q : State) (p : Punctuator) (b n : ℕ) → HasReached cs q b n → q ≡ Done (view_punctuator p) → text_of (view_punctuator p) (take n cs) ≡ punctuator_text p
-mark_text cs q p b n h e = whole p (take n cs) ∙ mark_spelled p (take n cs) (subst (λ s. IsRead s (take n cs)) e (read_at cs q b n h).1)
-  where
-    whole : (p : Punctuator) (t : List ℕ) → text_of (view_punctuator p) t ≡ t
-    whole mark.ExclamationMark t = refl
-    whole mark.Dollar t = refl
-    whole mark.ParenOpen t = refl
-    whole mark.ParenClose t = refl
-    whole mark.BracketOpen t = refl
-    whole mark.BracketClose t = refl
-    whole mark.CurlyOpen t = refl
-    whole mark.CurlyClose t = refl
-    whole mark.Ellipsis t = refl
-    whole mark.Colon t = refl
-    whole mark.Equals t = refl
-    whole mark.At t = refl
-    whole mark.Pipe t = refl
-
 -- ---- a string's text
 
 before_last : (width n : ℕ) (cs units : List ℕ) → n ≤ length cs → take n cs ≡ quotes width ++ (units ++ quotes width)
@@ -224,10 +166,3 @@ first_quotes width cs b n t e h =
     ap (take width) (h ∙ before_last width n cs e.units e.within e.whole)
     ∙ (ap (λ k. take k (quotes width ++ e.units)) (sym (quotes_length width)) ∙ take-append_seam (quotes width) e.units) in
     sym (ap (λ x. length (encodes x)) front ∙ (ap length (quotes_plain width) ∙ quotes_length width))
-
-pub found_mark : (cs : List ℕ) (q : State) (p : Punctuator) (b n : ℕ) (k : Kind) (t : List ℕ) → HasReached cs q b n → q ≡ Done (view_punctuator p) → k ≡ view_punctuator p → t ≡ punctuator_text p → answer q n cs ≡ Ok (record { size = n; kind = k; text = t })
-found_mark cs q p b n k t h e x y =
-    ap (λ s. answer s n cs) e ∙ (ap (λ w. kept n (view_punctuator p) w) (mark_text cs q p b n h e) ∙ ap₂ (kept n) (sym x) (sym y))
-  where
-    kept : ℕ → Kind → List ℕ → Result Found Missed
-    kept n k t = Ok (record { size = n; kind = k; text = t })

@@ -84,7 +84,7 @@ block_past_ascii scans.EscapedQuote c l = grind arith
 block_past_ascii scans.EscapedQuotes c l = grind arith
 block_past_ascii scans.Closed c l = refl
 
-step_past_ascii : (q : scans.State) (c : ℕ) → 128 ≤ c → step q c ≡ at_past_ascii q
+pub step_past_ascii : (q : scans.State) (c : ℕ) → 128 ≤ c → step q c ≡ at_past_ascii q
 step_past_ascii Start c l = rw (digit_past_ascii c l, name_past_ascii c l, eq_past_ascii c 48 (omega arith) l, eq_past_ascii c 45 (omega arith) l, eq_past_ascii c 46 (omega arith) l, eq_past_ascii c 34 (omega arith) l, punctuator_past_ascii c l) refl
 step_past_ascii (scans.Done k) c l = refl
 step_past_ascii scans.Dot c l = grind arith

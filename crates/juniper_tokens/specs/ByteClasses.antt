@@ -1,5 +1,5 @@
 -- The classes of bytes, and what a class tells of a byte.
-use Rattle.std.specs.Prelude.{◌≡◌, ℕ, zero, suc, Bool, true, false, not, ◌&&◌, ◌==◌, nat_lt, if◌then◌else◌, Option, Some, None, option_map, is_some, List, [], ◌∷◌, count_by}
+use Rattle.std.specs.Prelude.{◌≡◌, ℕ, zero, suc, Bool, true, false, not, ◌==◌, nat_lt, if◌then◌else◌, Option, Some, None, option_map, is_some, List, [], ◌∷◌, count_by}
 use denote.Enum.Bare.{sameb}
 use Rattle.graphql_lexical.specs.Characters.{is_white, is_name_start, is_digit}
 use Rattle.graphql_lexical.specs.Tokens as tokens
@@ -93,11 +93,17 @@ abbrev pub source_class : ByteClass → Bool
 source_class Control = false
 source_class _ = true
 
--- white characters and comments go on with it, and whether it then stands within a comment
-abbrev pub comment_after : Bool → ByteClass → ℕ → Option Bool
-comment_after within Inner b = Some within
-comment_after within LineFeed b = Some false
-comment_after within White b = Some (within && not (b == 13))
-comment_after within Hash b = Some true
-comment_after within Control b = None
-comment_after within _ b = if within then Some true else None
+-- a comment goes on with it
+abbrev pub comment_class : ByteClass → ℕ → Bool
+comment_class White b = not (b == 13)
+comment_class LineFeed b = false
+comment_class Control b = false
+comment_class _ b = true
+
+-- white characters and comments go on with it outside a comment, and whether it then stands within one
+abbrev pub gap_class : ByteClass → Option Bool
+gap_class White = Some false
+gap_class LineFeed = Some false
+gap_class Hash = Some true
+gap_class Inner = Some false
+gap_class _ = None

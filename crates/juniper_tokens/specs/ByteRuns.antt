@@ -1,5 +1,5 @@
 -- Machines that go over the bytes of a text as over its characters.
-use Rattle.std.specs.Prelude.{◌≡◌, ℕ, ◌+◌, ◌≤◌, Bool, ◌&&◌, nat_le, nat_lt, if◌then◌else◌, List, length, take, Option, Some, option_map}
+use Rattle.std.specs.Prelude.{◌≡◌, ℕ, ◌+◌, ◌≤◌, Bool, ◌&&◌, nat_le, nat_lt, if◌then◌else◌, List, length, take, drop, Option, Some, option_map}
 use Rattle.graphql_lexical.specs.Machines.{reach}
 use lib.Utf8.{encodes}
 
@@ -34,3 +34,12 @@ byte_change f x b = if is_inner b then x else f x b
 -- one more
 abbrev pub count_one : ℕ → ℕ → ℕ
 count_one n c = n + 1
+
+-- so many elements before
+abbrev pub on : {S : Type 0} → ℕ → ℕ × S → ℕ × S
+on n r = (n + r.0, r.1)
+
+-- A loop over a text stands at place i in this state, of the steps from q0 on.
+pub record Walked {S : Type 0} (step : S → ℕ → Option S) (q0 : S) (text : List ℕ) (i : ℕ) (q : S) : Type 0 where
+  pub within : i ≤ length text
+  pub same : on i (reach step q (drop i text)) ≡ reach step q0 text

@@ -1,5 +1,5 @@
 -- The steps of a cursor on the lexemes that are left.
-use Rattle.std.specs.Prelude.{◌≡◌, ℕ, Bool, true, false, ◌&&◌, List, [], ◌∷◌, drop, Result, Ok, Err, Option, Some, None, if◌then◌else◌}
+use Rattle.std.specs.Prelude.{◌≡◌, ℕ, Bool, false, ◌&&◌, List, [], ◌∷◌, Result, Ok, Err, Option, Some, None, if◌then◌else◌}
 use Rattle.std.specs.Option.{is_none}
 use Rattle.graphql_lexical.specs.Place.{Span, origin}
 use Rattle.graphql_lexical.specs.declared.kind.Kind.{Kind}
@@ -7,11 +7,10 @@ use Rattle.graphql_lexical.specs.declared.kind.Kind.TheVariants.{Name, At, EndOf
 use Rattle.graphql_lexical.specs.Kinds.{same_kind, spelling, fixed_text}
 use Rattle.graphql_lexical.specs.Cutting.{Lexeme}
 use Rattle.graphql_lexical.specs.Display.{shown}
-use Rattle.juniper_tokens.specs.declared.span.Spanning.{Spanning}
 use Rattle.juniper_tokens.specs.declared.token.Token.{Token}
 use Rattle.juniper_tokens.specs.declared.error.ParseFailure.{ParseFailure}
 use Rattle.juniper_tokens.specs.declared.error.ParseFailure.TheVariants as failures
-use Rattle.juniper_tokens.specs.Tokens.{token_kind, token_text, same_text, view_token}
+use Rattle.juniper_tokens.specs.Tokens.{token_kind, token_text, same_text}
 use Rattle.juniper_tokens.specs.Errors.{UnexpectedToken, UnexpectedEndOfFile, Fault, view_fault}
 
 -- What a step gives: a value, or a fault, and the lexemes that are left.
@@ -67,11 +66,11 @@ abbrev pub next_at : List Lexeme → Read Lexeme
 next_at [] = Err (record { error = UnexpectedEndOfFile; span = nowhere }, [])
 next_at (t ∷ ts) = if same_kind t.kind EndOfFile then Err (record { error = UnexpectedEndOfFile; span = t.span }, t ∷ ts) else Ok (t, ts)
 
--- The result is the next lexeme, which is not the end, or the refusal at the end.
-abbrev pub FrontGives : Result (Spanning Token) ParseFailure → List Lexeme → Type 0
-FrontGives (Ok token) ts = (next_at ts ≡ Ok (view_token token, drop 1 ts)) × (same_kind (kind_at ts) EndOfFile ≡ false) × EndsOnce ts
-FrontGives (Err (failures.Refused e)) ts = (next_at ts ≡ Err (view_fault e, ts)) × (same_kind (kind_at ts) EndOfFile ≡ true)
-FrontGives (Err failures.Memory) ts = ⊥
+-- The result is the refusal at the end.
+abbrev pub RefusesEnd : {X : Type 0} → Result X ParseFailure → List Lexeme → Type 0
+RefusesEnd (Ok x) ts = ⊥
+RefusesEnd (Err (failures.Refused e)) ts = view_fault e ≡ record { error = UnexpectedEndOfFile; span = (first_of ts).span }
+RefusesEnd (Err failures.Memory) ts = ⊥
 
 -- The next lexeme is taken, and told as unexpected; at the end it stays.
 abbrev pub refused_at : {A : Type 0} → List Lexeme → Read A
@@ -81,10 +80,10 @@ refused_at ts = next_at ts >>= λ t. Err (record { error = UnexpectedToken (show
 abbrev pub next_if : Bool → List Lexeme → Read Lexeme
 next_if passes ts = if passes then next_at ts else refused_at ts
 
-abbrev pub expect_at : Token → List Lexeme → Read Lexeme
+unfoldable pub expect_at : Token → List Lexeme → Read Lexeme
 expect_at wanted ts = next_if (is_wanted (token_kind wanted) (token_text wanted) (first_of ts)) ts
 
-abbrev pub expect_name_at : List Lexeme → Read Lexeme
+unfoldable pub expect_name_at : List Lexeme → Read Lexeme
 expect_name_at ts = next_if (same_kind (kind_at ts) Name) ts
 
 -- The wanted lexeme is taken, if it stands next.
@@ -96,7 +95,7 @@ skip_if passes ts =
     then Err (record { error = UnexpectedEndOfFile; span = (first_of ts).span }, ts)
     else Ok (None, ts)
 
-abbrev pub skip_at : Token → List Lexeme → Read (Option Lexeme)
+unfoldable pub skip_at : Token → List Lexeme → Read (Option Lexeme)
 skip_at wanted ts = skip_if (is_wanted (token_kind wanted) (token_text wanted) (first_of ts)) ts
 
 -- Where memory ran out, P holds.

@@ -11,8 +11,9 @@ use Rattle.juniper_tokens.specs.Errors.{view_fault}
 use Rattle.juniper_tokens.specs.Cursor.{Read, Unmoved, expect_at, skip_at}
 
 -- some lexemes were taken, or none
-abbrev pub IsRest : List Lexeme → List Lexeme → Type 0
-IsRest old new = (n : ℕ) × (new ≡ drop n old)
+pub record IsRest (old new : List Lexeme) : Type 0 where
+  pub taken : ℕ
+  pub left : new ≡ drop taken old
 
 -- one lexeme was taken, or more
 pub record IsProperRest (old new : List Lexeme) : Type 0 where

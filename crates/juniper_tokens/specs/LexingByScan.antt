@@ -1,18 +1,9 @@
--- What the parts of a lexer's step give, by the computed scan.
-use Rattle.std.specs.Prelude.{◌≡◌, ℕ, ◌+◌, ◌≤◌, ◌<◌, ◌^◌, ◌==◌, Bool, true, false, List, [], ◌∷◌, drop, length, Result, Ok, Err}
+-- The gap before a token, by the computed scan.
+use Rattle.std.specs.Prelude.{◌≡◌, ℕ, ◌+◌, ◌≤◌, ◌<◌, ◌^◌, ◌==◌, Bool, true, false, List, [], ◌∷◌, drop, length}
 use Rattle.std.specs.Str.{chars}
 use Rattle.graphql_lexical.specs.Place.{Place, place}
-use Rattle.graphql_lexical.specs.declared.kind.Kind.TheVariants.{EndOfFile}
-use Rattle.graphql_lexical.specs.Kinds.{same_kind}
 use Rattle.graphql_lexical.specs.Scan as scans
-use Rattle.juniper_tokens.specs.declared.span.Spanning.{Spanning}
-use Rattle.juniper_tokens.specs.declared.token.Token.{Token}
-use Rattle.juniper_tokens.specs.declared.error.LexFailure.{LexFailure}
-use Rattle.juniper_tokens.specs.declared.error.LexFailure.TheVariants as failure
-use Rattle.juniper_tokens.specs.Tokens.{token_kind, token_text}
-use Rattle.juniper_tokens.specs.Errors.{view_lexer_error}
 use Rattle.juniper_tokens.specs.ByteRuns.{byte_at}
-use Rattle.juniper_tokens.specs.Scans.{MissesEscape}
 use Rattle.juniper_tokens.specs.Lexing.{LexerState}
 
 abbrev pub past_gap : LexerState → LexerState
@@ -44,14 +35,3 @@ pub record IsPlaced (source : List ℕ) (at : ℕ) (p : Place) : Type 0 where
   pub place_is : p ≡ place (chars source) p.index
   pub within : p.index ≤ length (chars source)
   pub room : length source < 2 ^ 64
-
--- A result is what the scan at place j of a source gives, and the lexer is then at place k.
-abbrev pub Scanned : Result (Spanning Token) LexFailure → ℕ → List ℕ → ℕ → Result scans.Found scans.Missed → Type 0
-Scanned (Ok t) k source j s = (n : ℕ) × (s ≡ Ok (record { size = n; kind = token_kind t.item; text = token_text t.item })) × (k ≡ j + n) × (t.span.start ≡ place source j) × (t.span.end ≡ place source (j + n))
-Scanned (Err (failure.Fault e)) k source j s = (n : ℕ) × (s ≡ Err (record { at = n; error = view_lexer_error e.item })) × (e.span.start ≡ place source (j + n)) × (e.span.end ≡ e.span.start)
-Scanned (Err failure.Memory) k source j s = MissesEscape s
-
--- The end of file is the last item, and so is a fault.
-abbrev pub Ends : Result (Spanning Token) LexFailure → Bool → Type 0
-Ends (Ok t) ended = ended ≡ same_kind (token_kind t.item) EndOfFile
-Ends (Err e) ended = ended ≡ true

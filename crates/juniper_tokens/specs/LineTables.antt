@@ -39,7 +39,3 @@ pub record IsOnLine (starts : List ℕ) (k l start : ℕ) : Type 0 where
   pub begins : slice_get starts l ≡ Some start
   pub before : start ≤ k
   pub after : (next : ℕ) → slice_get starts (l + 1) ≡ Some next → k < next
-
--- Character k does not stand on line l.
-abbrev pub IsOffLine : List ℕ → ℕ → ℕ → Type 0
-IsOffLine starts k l = (start : ℕ) → IsOnLine starts k l start → ⊥

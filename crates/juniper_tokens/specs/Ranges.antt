@@ -1,45 +1,56 @@
 -- Tokens as ranges of their source.
-use Rattle.std.specs.Prelude.{◌≡◌, ◌↔◌, ℕ, ◌-◌, ◌≤◌, true, false, List, take, drop, length, map, Option, Some, None, Result, Ok, Err}
+use Rattle.std.specs.Prelude.{◌≡◌, ◌↔◌, ℕ, ◌+◌, ◌-◌, ◌≤◌, true, false, List, take, drop, length, map, Option, Some, None, Result, Ok, Err}
 use Rattle.std.specs.List.{All}
-use Rattle.graphql_lexical.specs.Place.{place}
+use Rattle.graphql_lexical.specs.Place.{Place, place}
 use Rattle.graphql_lexical.specs.declared.kind.Kind.TheVariants as kinds
+use Rattle.graphql_lexical.specs.Kinds.{same_kind}
+use Rattle.graphql_lexical.specs.Scan as scans
 use Rattle.graphql_lexical.specs.Tokens.{text_of}
 use Rattle.graphql_lexical.specs.Cutting.{Lexeme, Stands}
 use Rattle.juniper_tokens.specs.declared.span.Spanning.{Spanning}
 use Rattle.juniper_tokens.specs.declared.token.Token.{Token}
 use Rattle.juniper_tokens.specs.declared.token_range.TokenRange.{TokenRange}
+use Rattle.juniper_tokens.specs.declared.lexer.scan.Found.{Found}
+use Rattle.juniper_tokens.specs.declared.lexer.text.Border.{Border}
+use Rattle.juniper_tokens.specs.declared.error.LexerError.{LexerError}
 use Rattle.juniper_tokens.specs.declared.error.LexFailure.{LexFailure}
 use Rattle.juniper_tokens.specs.declared.error.LexFailure.TheVariants as failure
 use Rattle.juniper_tokens.specs.Tokens.{kind_text, view_token}
+use Rattle.juniper_tokens.specs.Errors.{view_lexer_error}
 use Rattle.juniper_tokens.specs.Borders.{IsBorder, EndsQuoted}
-use Rattle.juniper_tokens.specs.LineTables.{Lines, lines_of}
+use Rattle.juniper_tokens.specs.ByteRuns.{byte_at}
+use Rattle.juniper_tokens.specs.Positions.{columns_on}
+use Rattle.juniper_tokens.specs.Scans.{MissesEscape}
 use Rattle.juniper_tokens.specs.Lexing.{LexerState, GivesFault, WantsMemory}
+use Rattle.juniper_tokens.specs.LexingByScan.{past_gap}
 use Rattle.juniper_tokens.specs.Cursor.{EndsOnce, first_of}
 
 -- the characters of a range
 abbrev pub range_slice : List ℕ → TokenRange → List ℕ
-range_slice source r = take (r.end.characters - r.start.characters) (drop r.start.characters source)
+range_slice source r = take (r.end.characters - r.start.index) (drop r.start.index source)
 
 -- the token that a range of a source is
 abbrev pub range_lexeme : List ℕ → TokenRange → Lexeme
 range_lexeme source r = record {
   kind = r.kind;
   text = kind_text r.kind (text_of r.kind (range_slice source r));
-  span = record { start = place source r.start.characters; end = place source r.end.characters };
+  span = record { start = place source r.start.index; end = place source r.end.characters };
 }
 
 abbrev pub range_lexemes : List ℕ → List TokenRange → List Lexeme
 range_lexemes source = map (range_lexeme source)
 
 -- Both ends are borders within the source, the start not behind the end; a String has its quotes, and a block string
--- its three on each side.
+-- its three on each side; any other token than a block string ends on its line.
 pub record IsRange (source : List ℕ) (r : TokenRange) : Type 0 where
-  pub start : IsBorder r.start source
+  pub at_is : r.at ≡ byte_at r.start.index source
+  pub start_is : r.start ≡ place source r.start.index
   pub end : IsBorder r.end source
-  pub forward : r.start.characters ≤ r.end.characters
+  pub forward : r.start.index ≤ r.end.characters
   pub within : r.end.characters ≤ length source
-  pub quoted : r.kind ≡ kinds.String → EndsQuoted 1 (drop r.start.characters source) (r.end.bytes - r.start.bytes) (r.end.characters - r.start.characters)
-  pub marked : r.kind ≡ kinds.BlockString → EndsQuoted 3 (drop r.start.characters source) (r.end.bytes - r.start.bytes) (r.end.characters - r.start.characters)
+  pub quoted : r.kind ≡ kinds.String → EndsQuoted 1 (drop r.start.index source) (r.end.bytes - r.at) (r.end.characters - r.start.index)
+  pub marked : r.kind ≡ kinds.BlockString → EndsQuoted 3 (drop r.start.index source) (r.end.bytes - r.at) (r.end.characters - r.start.index)
+  pub lined : (r.kind ≡ kinds.BlockString → ⊥) → columns_on (r.end.characters - r.start.index) r.start ≡ place source r.end.characters
 
 -- A token of this range stands where the lexer did, which is then behind it, and has ended where the token is the end.
 pub record GivesRange (s : LexerState) (r : TokenRange) (t : LexerState) : Type 0 where
@@ -57,9 +68,53 @@ abbrev pub range_steps : LexerState → Option (Result TokenRange LexFailure) �
 range_steps s None t = (s.ended ≡ true) × (t ≡ s)
 range_steps s (Some item) t = (s.ended ≡ false) × (t.source ≡ s.source) × GivesRangeItem s item t
 
+-- ---- by the computed scan
+
+-- the range of a token that was found behind so many bytes of a source, at this place
+abbrev pub range_of : Found → ℕ → Place → TokenRange
+range_of found at start = record {
+  kind = found.kind;
+  at = at;
+  start = start;
+  end = record { bytes = at + found.end.bytes; characters = start.index + found.end.characters };
+}
+
+-- The lexer, which stood where a token begins, went over this range, and a token of its kind stands there. It has
+-- ended where the token is the end.
+pub record TakesRange (s : LexerState) (r : TokenRange) (t : LexerState) : Type 0 where
+  pub scanned : scans.scan (drop s.index s.source) ≡ scans.found (r.end.characters - s.index) r.kind (drop s.index s.source)
+  pub from : r.start.index ≡ s.index
+  pub to : t.index ≡ r.end.characters
+  pub is_range : IsRange s.source r
+  pub ends : t.ended ≡ same_kind r.kind kinds.EndOfFile
+
+-- A fault of zero width stands where the lexer does, which has then ended.
+pub record FailsThere (s : LexerState) (fault : Spanning LexerError) (t : LexerState) : Type 0 where
+  pub size : ℕ
+  pub scanned : scans.scan (drop s.index s.source) ≡ scans.missed size (view_lexer_error fault.item)
+  pub start : fault.span.start ≡ place s.source (s.index + size)
+  pub end : fault.span.end ≡ fault.span.start
+  pub ends : t.ended ≡ true
+
+-- what a lexer gives that stands where a token begins
+abbrev pub TakesItem : LexerState → Result TokenRange LexFailure → LexerState → Type 0
+TakesItem s (Ok range) t = TakesRange s range t
+TakesItem s (Err (failure.Fault fault)) t = FailsThere s fault t
+TakesItem s (Err failure.Memory) t = MissesEscape (scans.scan (drop s.index s.source)) × (t.ended ≡ true)
+
+-- The lexer went over a gap, and over the token behind it or no further.
+abbrev pub MayTake : LexerState → Option TokenRange → LexerState → Type 0
+MayTake s None t = t ≡ past_gap s
+MayTake s (Some range) t = TakesRange (past_gap s) range t
+
+-- ---- cursors
+
+-- the end of a source as a range, at this border and place
+abbrev pub end_at : Border → Place → TokenRange
+end_at border place = record { kind = kinds.EndOfFile; at = border.bytes; start = place; end = border }
+
 -- A cursor has taken so many of these ranges of a source, whose last token and no other is the end.
-pub record IsCursor (source : List ℕ) (lines : Lines) (ranges : List TokenRange) (taken : ℕ) (current : Spanning Token) : Type 0 where
-  pub lines_are : lines ≡ lines_of source
+pub record IsCursor (source : List ℕ) (ranges : List TokenRange) (taken : ℕ) (current : Spanning Token) : Type 0 where
   pub are_ranges : All (IsRange source) ranges
   pub ended : EndsOnce (range_lexemes source (drop taken ranges))
   pub first : view_token current ≡ first_of (range_lexemes source (drop taken ranges))

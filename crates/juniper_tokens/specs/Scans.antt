@@ -2,7 +2,6 @@
 use Rattle.std.specs.Prelude.{◌≡◌, ℕ, List, Result, Ok, Err}
 use Rattle.graphql_lexical.specs.Kinds.{LexicalError, UnknownEscapeSequence}
 use Rattle.graphql_lexical.specs.Scan as scans
-use Rattle.juniper_tokens.specs.Tokens.{token_kind, token_text}
 use Rattle.juniper_tokens.specs.Errors.{view_lexer_error}
 use Rattle.juniper_tokens.specs.declared.lexer.scan.Found.{Found}
 use Rattle.juniper_tokens.specs.declared.lexer.scan.Missed.{Missed}
@@ -22,6 +21,11 @@ abbrev pub Misses : Missed → Result scans.Found scans.Missed → Type 0
 Misses (missed.Fault e at) s = s ≡ Err (record { at = at; error = view_lexer_error e })
 Misses missed.Memory s = MissesEscape s
 
+-- what the scan of a text gives: a token and the border at which it ends, or why there is none
 abbrev pub MeetsScan : Result Found Missed → List ℕ → Result scans.Found scans.Missed → Type 0
-MeetsScan (Ok f) cs s = (s ≡ Ok (record { size = f.end.characters; kind = token_kind f.token; text = token_text f.token })) × IsBorder f.end cs
+MeetsScan (Ok f) cs s = (s ≡ scans.found f.end.characters f.kind cs) × IsBorder f.end cs
 MeetsScan (Err m) cs s = Misses m s
+
+-- This token stands at the front of the text.
+abbrev pub Finds : List ℕ → Found → Type 0
+Finds cs f = MeetsScan (Ok f) cs (scans.scan cs)

@@ -1,10 +1,10 @@
 -- Where the loops over bytes stop.
-use Rattle.std.specs.Prelude.{◌≡◌, ℕ, ◌-◌, ◌==◌, if◌then◌else◌, Option, Some, None, List, take}
-use Rattle.std.specs.List.{fold}
+use Rattle.std.specs.Prelude.{◌≡◌, ℕ, ◌+◌, ◌-◌, ◌<◌, ◌≤◌, ◌==◌, Bool, true, false, get_or, if◌then◌else◌, Option, Some, None, List, length, take}
+use Rattle.std.specs.List.{AllByRecursion, fold}
 use Rattle.graphql_lexical.specs.Place.{Place, past_character}
 use Rattle.graphql_lexical.specs.Machines.{reach}
-use Rattle.graphql_lexical.specs.Scan.{State, Start, step, stretch_size}
-use Rattle.juniper_tokens.specs.ByteRuns.{byte_at}
+use Rattle.graphql_lexical.specs.Scan.{State, Start, step, stretch_step, stretch_size}
+use Rattle.juniper_tokens.specs.ByteRuns.{byte_at, byte_step, with_value, Walked}
 
 -- the state, the byte and the character at which the steps of a token stop
 pub record HasReached (cs : List ℕ) (state : State) (bytes characters : ℕ) : Type 0 where
@@ -16,6 +16,20 @@ pub record HasReached (cs : List ℕ) (state : State) (bytes characters : ℕ) :
 pub record EndsStretch (cs : List ℕ) (start : Place) (bytes : ℕ) (position : Place) : Type 0 where
   pub bytes_is : bytes ≡ byte_at (stretch_size cs) cs
   pub position_is : position ≡ fold past_character start (take (stretch_size cs) cs)
+
+-- the steps of a stretch of a gap over bytes, with the place that they come to
+abbrev pub stretch_machine : Bool × Place → ℕ → Option (Bool × Place)
+stretch_machine = byte_step (with_value stretch_step past_character)
+
+-- The bytes that a comment goes on with, and the place behind them. The next byte, if there is one, is in a comment
+-- what it is outside.
+pub record EndsComment (bytes : List ℕ) (start : Place) (size : ℕ) (position : Place) : Type 0 where
+  pub walked : Walked stretch_machine (true, start) bytes size (true, position)
+  pub stops : size < length bytes → byte_step stretch_step true (get_or bytes size 0) ≡ byte_step stretch_step false (get_or bytes size 0)
+  pub room : position.index ≤ start.index + size
+
+abbrev pub AreSpaces : List ℕ → Type 0
+AreSpaces = AllByRecursion (λ b. b ≡ 32)
 
 -- how many characters are left to go over
 abbrev pub left_step : ℕ → ℕ → Option ℕ

@@ -82,7 +82,7 @@ pub fn byte_class(byte: u8) -> ByteClass
 }
 
 impl ByteClass {
-    ghost use Rattle.juniper_tokens.specs.ByteClasses.{name_class, digit_class, inner_class, plain_class, source_class, comment_after};
+    ghost use Rattle.juniper_tokens.specs.ByteClasses.{name_class, digit_class, inner_class, plain_class, source_class, comment_class};
 
     // Whether a name goes on with it.
     pub(crate) fn is_name(self) -> bool
@@ -135,17 +135,14 @@ impl ByteClass {
         }
     }
 
-    // Whether white space and comments go on with it, and then whether within a comment.
-    pub(crate) fn comment_after(self, in_comment: bool, byte: u8) -> Option<bool>
-        ensures { result ≡ comment_after in_comment self byte }
+    // Whether a comment goes on with it.
+    pub(crate) fn is_comment(self, byte: u8) -> bool
+        ensures { result ≡ comment_class self byte }
     {
         match self {
-            Inner => Some(in_comment),
-            LineFeed => Some(false),
-            White => Some(in_comment && byte != b'\r'),
-            Hash => Some(true),
-            Control => None,
-            _ => in_comment.then_some(true),
+            White => byte != b'\r',
+            LineFeed | Control => false,
+            _ => true,
         }
     }
 }

@@ -1,32 +1,32 @@
 //! The lexer.
-ghost use Rattle.std.specs.Prelude.{◌≡◌, false, ◌+◌, ◌<◌, ◌≤◌, ◌^◌, drop, take, length, IfSome, Ok};
-ghost use Rattle.std.specs.List.{fold};
+ghost use Rattle.std.specs.Prelude.{◌≡◌, false, drop};
 ghost use Rattle.std.specs.Global.{Global as Allocator};
 ghost use Rattle.std.specs.Str.{chars};
-ghost use Rattle.graphql_lexical.specs.Machines.{reach};
-ghost use Rattle.graphql_lexical.specs.Place.{past_character};
-ghost use Rattle.graphql_lexical.specs.Scan.{scan, step, Start};
-ghost use Rattle.juniper_tokens.specs.Borders.{IsBorder};
-ghost use Rattle.juniper_tokens.specs.Lexing.{started, items_left, GivesItem};
-ghost use Rattle.juniper_tokens.specs.LexingByScan.{past_gap, past_stretch, at_mark, MayPassMark, Scanned, Ends};
-ghost use Rattle.juniper_tokens.specs.Ranges.{GivesRangeItem, range_steps};
-ghost use Rattle.juniper_tokens.specs.Tokens.{token_kind, token_text};
+ghost use Rattle.juniper_tokens.specs.Lexing.{LexerState, started, GivesItem};
+ghost use Rattle.juniper_tokens.specs.LexingByScan.{past_gap, past_stretch, at_mark, MayPassMark};
+ghost use Rattle.juniper_tokens.specs.Ranges.{TakesRange, TakesItem, MayTake};
+ghost use Rattle.juniper_tokens.specs.Scans.{Finds};
 
 mod machine;
+mod plain;
 mod scan;
 pub(crate) mod text;
 mod walk;
 
 use crate::error::LexFailure;
-use crate::lexer::scan::{Found, Missed, scan_token};
+use crate::lexer::plain::plain_token;
+use crate::lexer::scan::{Missed, scan_token};
 use crate::lexer::text::{Border, begins_with_mark, text_from};
-use crate::lexer::walk::{walk_characters, walk_stretch};
+use crate::lexer::walk::walk_stretch;
 use crate::position::SourcePosition;
 use crate::span::Spanning;
 use crate::token::Token;
 use crate::token_range::TokenRange;
+use graphql_lexical::Kind;
+pub(crate) use scan::Found;
 use std::alloc::Global;
 use std::marker::Model;
+pub(crate) use walk::walk_characters;
 
 /// A token with its place, or why there is none.
 pub type LexerResult<'a> = Result<Spanning<Token<'a>>, LexFailure>;
@@ -84,16 +84,11 @@ impl<'a> Lexer<'a> {
         self.source
     }
 
-    // Where the rest begins.
-    fn border(&self) -> Border
-        ensures characters { result.characters ≡ self.now.index }
-        ensures border { IsBorder result self.now.source }
-        ensures within { result.characters ≤ length self.now.source }
+    /// Whether the last item has been given.
+    pub(crate) fn has_ended(&self) -> bool
+        ensures { result ≡ self.now.ended }
     {
-        Border {
-            bytes: self.at,
-            characters: self.position.index(),
-        }
+        self.ended
     }
 
     // Goes past white space and comments.
@@ -145,103 +140,71 @@ impl<'a> Lexer<'a> {
         is_mark
     }
 
-    // Takes the token that stands here. A fault leaves the place.
+    // Goes past a token that stands here.
     #[inline(always)]
-    fn take_token(&mut self) -> LexerResult<'a>
+    fn take(&mut self, found: Found) -> TokenRange
+        requires { Finds (drop self.old.index self.old.source) found }
         ensures source { self.new.source ≡ self.old.source }
-        ensures ended { self.new.ended ≡ self.old.ended }
-        ensures gives { Scanned result self.new.index self.old.source self.old.index (scan (drop self.old.index self.old.source)) }
+        ensures takes { TakesRange self.old result self.new }
     {
-        let start = self.position;
+        let range = TokenRange::from_found(found, self.source, self.at, self.position);
+        self.at = range.end.bytes;
+        self.position = range.end_position(self.source);
+        self.ended = range.kind == Kind::EndOfFile;
+        range
+    }
+
+    /// Goes past white space and comments, and takes the token behind them if it is a plain one.
+    ///
+    /// Else the lexer stands where a token may begin, which `next_other` takes.
+    #[inline(always)]
+    pub(crate) fn next_plain(&mut self) -> Option<TokenRange>
+        ensures source { self.new.source ≡ self.old.source }
+        ensures takes { MayTake self.old result self.new }
+        ensures ended { self.old.ended ≡ false → self.new.ended ≡ false }
+    {
+        self.skip_gap();
         let here = Border {
             bytes: self.at,
-            characters: start.index(),
+            characters: self.position.index(),
+        };
+        let found = plain_token(text_from(self.source, here))?;
+        Some(self.take(found))
+    }
+
+    /// Takes what stands here, which may be the last item: a token, or why there is none.
+    #[inline(never)]
+    pub(crate) fn next_other(&mut self) -> Result<TokenRange, LexFailure>
+        ensures source { self.new.source ≡ self.old.source }
+        ensures takes { TakesItem self.old result self.new }
+    {
+        let here = Border {
+            bytes: self.at,
+            characters: self.position.index(),
         };
         let rest = text_from(self.source, here);
         match scan_token(self.alloc, rest) {
-            Ok(found) => {
-                self.at += found.end.bytes;
-                self.position = end_of(found, rest, start);
-                Ok(Spanning::start_end(&start, &self.position, found.token))
-            }
+            Ok(found) => Ok(self.take(found)),
             Err(Missed::Fault(error, at)) => {
-                let place = walk_characters(rest, start, at);
+                self.ended = true;
+                let place = walk_characters(rest, self.position, at);
                 Err(LexFailure::Fault(Spanning::zero_width(&place, error)))
             }
-            Err(Missed::Memory) => Err(LexFailure::Memory),
+            Err(Missed::Memory) => {
+                self.ended = true;
+                Err(LexFailure::Memory)
+            }
         }
     }
 
-    // Takes the item that stands here, which may be the last.
-    #[inline(always)]
-    fn take_item(&mut self) -> LexerResult<'a>
+    // The same, of a token its text and places.
+    #[inline(never)]
+    fn next_other_token(&mut self) -> LexerResult<'a>
         ensures source { self.new.source ≡ self.old.source }
-        ensures ends { Ends result self.new.ended }
-        ensures gives { Scanned result self.new.index self.old.source self.old.index (scan (drop self.old.index self.old.source)) }
+        ensures gives { (before : LexerState) → self.old ≡ past_gap before → GivesItem before result self.new }
     {
-        let item = self.take_token();
-        self.ended = is_last(&item);
-        item
-    }
-
-    // The next item of a lexer that has not ended.
-    fn next_item(&mut self) -> LexerResult<'a>
-        ensures source { self.new.source ≡ self.old.source }
-        ensures gives { GivesItem self.old result self.new }
-    {
-        self.skip_gap();
-        self.take_item()
-    }
-
-    // The same, of a token its range alone.
-    fn next_item_range(&mut self) -> Result<TokenRange, LexFailure>
-        ensures source { self.new.source ≡ self.old.source }
-        ensures gives { GivesRangeItem self.old result self.new }
-    {
-        self.skip_gap();
-        let start = self.border();
-        let token = self.take_item()?;
-        Ok(TokenRange {
-            kind: token.item.kind(),
-            start,
-            end: self.border(),
-        })
-    }
-
-    /// The next item, as `next` gives it, of a token its range alone.
-    pub(crate) fn next_range(&mut self) -> Option<Result<TokenRange, LexFailure>>
-        ensures steps { range_steps self.old result self.new }
-        ensures fewer { IfSome result (λ _. items_left self.new < items_left self.old) }
-    {
-        if self.ended {
-            None
-        } else {
-            Some(self.next_item_range())
-        }
-    }
-}
-
-// Where a token that begins at a place, and is found there, ends. A block string may end on a later line.
-fn end_of(found: Found<'_>, rest: &str, start: SourcePosition) -> SourcePosition
-    requires room { start.index + length rest.now < 2 ^ 64 }
-    requires found { scan (chars rest.now) ≡ Ok (record { size = found.end.characters; kind = token_kind found.token; text = token_text found.token }) }
-    requires most { found.end.characters ≤ (reach step Start (chars rest.now)).0 }
-    ensures { result ≡ fold past_character start (take found.entry.end.characters (chars rest.now)) }
-{
-    if found.token.is_block_string() {
-        walk_characters(rest, start, found.end.characters)
-    } else {
-        start.columns_on(found.end.characters)
-    }
-}
-
-// Whether no item comes after this one.
-fn is_last(item: &LexerResult<'_>) -> bool
-    ensures { Ends item.now result }
-{
-    match item {
-        Ok(token) => token.item.is_end(),
-        Err(_) => true,
+        let range = self.next_other()?;
+        Ok(range.located(self.source))
     }
 }
 
@@ -259,9 +222,11 @@ impl<'a> Iterator for Lexer<'a> {
     /// at the end. Memory is wanted only for the text of an unknown escape.
     fn next(&mut self) -> Option<LexerResult<'a>> {
         if self.ended {
-            None
-        } else {
-            Some(self.next_item())
+            return None;
+        }
+        match self.next_plain() {
+            Some(range) => Some(Ok(range.located(self.source))),
+            None => Some(self.next_other_token()),
         }
     }
 }

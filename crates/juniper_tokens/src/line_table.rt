@@ -2,7 +2,7 @@
 ghost use Rattle.std.specs.Prelude.{◌≡◌, ◌-◌, ◌≤◌, List, ℕ, length, IfOk, MatchOption};
 ghost use Rattle.std.specs.Str.{chars};
 ghost use Rattle.graphql_lexical.specs.Place.{place};
-ghost use Rattle.juniper_tokens.specs.LineTables.{lines_of, IsTable, place_within, StartLines, IsOnLine, IsOffLine};
+ghost use Rattle.juniper_tokens.specs.LineTables.{lines_of, IsTable, place_within, StartLines, IsOnLine};
 
 use crate::position::SourcePosition;
 use std::alloc::{AllocError, Global};
@@ -78,33 +78,6 @@ impl LineTable {
         ensures { (source : List ℕ) → self.now ≡ lines_of source → index ≤ length source → result ≡ place source index }
     {
         line_of(&self.starts, index).position(index)
-    }
-
-    /// The same place, found without a search where it is on the line of this number or the next one.
-    pub(crate) fn place_near(&self, index: usize, number: usize) -> SourcePosition
-        ensures { (source : List ℕ) → self.now ≡ lines_of source → index ≤ length source → result ≡ place source index }
-    {
-        if let Some(line) = line_if_on(&self.starts, index, number) {
-            return line.position(index);
-        }
-        match line_if_on(&self.starts, index, number.saturating_add(1)) {
-            Some(line) => line.position(index),
-            None => self.place(index),
-        }
-    }
-}
-
-// The line of this number, if the character stands on it.
-fn line_if_on(starts: &[usize], index: usize, number: usize) -> Option<Line>
-    ensures { MatchOption result (IsOffLine starts.now index number) (λ line. (line.number ≡ number) × IsOnLine starts.now index line.number line.start) }
-{
-    let start = *starts.get(number)?;
-    if start > index {
-        return None;
-    }
-    match starts.get(number + 1) {
-        Some(next) => (*next > index).then_some(Line { number, start }),
-        None => Some(Line { number, start }),
     }
 }
 

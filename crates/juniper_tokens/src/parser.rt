@@ -8,19 +8,19 @@ ghost use Rattle.graphql_lexical.specs.Kinds.{same_kind};
 ghost use Rattle.graphql_lexical.specs.Cutting.{Lexeme, CutFrom, BreaksFrom};
 ghost use Rattle.juniper_tokens.specs.Errors.{view_lexer_error};
 ghost use Rattle.juniper_tokens.specs.Gathering.{IfFault, IfMemory, StandsLaterOrEnded};
-ghost use Rattle.juniper_tokens.specs.LineTables.{lines_of};
 ghost use Rattle.juniper_tokens.specs.Ranges.{IsRange, range_lexemes};
 ghost use Rattle.juniper_tokens.specs.Tokens.{token_kind, token_text, view_token, view_name};
 ghost use Rattle.juniper_tokens.specs.Nesting.{EndsAtNesting};
-ghost use Rattle.juniper_tokens.specs.Cursor.{Gives, FrontGives, OnMemory, Unmoved, EndsOnce, first_of, kind_at, is_wanted, next_at, refused_at, expect_at, expect_name_at, skip_at};
+ghost use Rattle.juniper_tokens.specs.Delimited.{IsRest};
+ghost use Rattle.juniper_tokens.specs.Cursor.{Gives, RefusesEnd, OnMemory, Unmoved, EndsOnce, first_of, kind_at, is_wanted, next_at, refused_at, expect_at, expect_name_at, skip_at};
 
 use crate::error::{LexFailure, OptionParseResult, ParseError, ParseFailure, ParseResult};
 use crate::lexer::Lexer;
-use crate::line_table::LineTable;
 use crate::nesting::{end_behind, first_deeper};
 use crate::span::{Span, Spanning};
-use crate::token::Token;
+use crate::token::{Token, same_text};
 use crate::token_range::TokenRange;
+use graphql_lexical::Kind;
 use std::alloc::Global;
 use std::marker::Model;
 
@@ -31,9 +31,7 @@ use std::marker::Model;
 pub struct Parser<'a> {
     alloc: Global,
     source: &'a str,
-    // Where the lines of the source begin.
-    lines: LineTable,
-    // All tokens that the lexer had left. The text and the places of one are found when it comes next.
+    // All tokens that the lexer had left. The text of one is found when it comes next.
     ranges: Vec<TokenRange>,
     // How many have been taken.
     taken: usize,
@@ -51,7 +49,7 @@ impl<'a> Model for Parser<'a> {
 
     ghost view = { λ p. range_lexemes (chars p.source.now) (drop p.taken p.ranges.items) };
 
-    ghost invariant = { λ p. IsCursor (chars p.source.now) p.lines p.ranges.items p.taken p.current };
+    ghost invariant = { λ p. IsCursor (chars p.source.now) p.ranges.items p.taken p.current };
 }
 
 impl<'a> Parser<'a> {
@@ -70,36 +68,28 @@ impl<'a> Parser<'a> {
     {
         let alloc = lexer.allocator();
         let mut ranges = Vec::new(alloc);
-        while let Some(item) = lexer.next_range() {
-            let range = item?;
+        while !lexer.has_ended() {
+            let range = match lexer.next_plain() {
+                Some(range) => range,
+                None => lexer.next_other()?,
+            };
             if ranges.push(range).is_err() {
                 return Err(LexFailure::Memory);
             }
         }
-        let source = lexer.source();
-        match LineTable::new(alloc, source) {
-            Ok(lines) => Ok(Parser::from_ranges(alloc, source, lines, ranges)),
-            Err(_) => Err(LexFailure::Memory),
-        }
+        Ok(Parser::from_ranges(alloc, lexer.source(), ranges))
     }
 
     // A cursor at the first of these tokens.
-    fn from_ranges(
-        alloc: Global,
-        source: &'a str,
-        lines: LineTable,
-        ranges: Vec<TokenRange>,
-    ) -> Self
-        requires lines { lines ≡ lines_of (chars source.now) }
+    fn from_ranges(alloc: Global, source: &'a str, ranges: Vec<TokenRange>) -> Self
         requires ranges { All (IsRange (chars source.now)) ranges.items }
         requires ends { EndsOnce (range_lexemes (chars source.now) ranges.items) }
         ensures { result ≡ range_lexemes (chars source.now) ranges.items }
     {
-        let current = ranges[0].located(source, &lines, 0);
+        let current = ranges[0].located(source);
         Parser {
             alloc,
             source,
-            lines,
             ranges,
             taken: 0,
             current,
@@ -122,8 +112,8 @@ impl<'a> Parser<'a> {
     {
         let last = self.taken + first_deeper(&self.ranges[self.taken..], depth)?;
         let range = self.ranges[last];
-        let span = range.located(self.source, &self.lines, 0).span;
-        end_behind(&mut self.ranges, last, range.end);
+        let span = range.located(self.source).span;
+        end_behind(&mut self.ranges, last, range.end, span.end);
         Some(span)
     }
 
@@ -135,57 +125,80 @@ impl<'a> Parser<'a> {
         &self.current
     }
 
-    // A copy of the next token.
-    fn front(&self) -> Spanning<Token<'a>>
-        ensures first { view_token result ≡ first_of self.now }
+    /// The kind of the next token, which is left there.
+    #[inline(always)]
+    pub fn kind(&self) -> Kind
+        ensures is { result ≡ kind_at self.now }
         ensures ended { EndsOnce self.now }
     {
-        let token = self.peek();
-        Spanning::new(token.span, token.item)
+        self.ranges[self.taken].kind
     }
 
-    // A copy of the next token. At the end it answers `UnexpectedEndOfFile`.
-    fn front_before_end(&self) -> ParseResult<Token<'a>>
-        ensures { FrontGives result self.now }
+    fn is_at_end(&self) -> bool
+        ensures { result ≡ same_kind (kind_at self.now) EndOfFile }
     {
-        let token = self.front();
-        if token.item.is_end() {
-            Err(ParseFailure::Refused(Spanning::new(token.span, ParseError::UnexpectedEndOfFile)))
-        } else {
-            Ok(token)
-        }
+        self.kind() == Kind::EndOfFile
     }
 
-    // Goes past the next token, which is not the end.
-    fn advance(&mut self)
+    /// Goes past the next token, which must not be the end.
+    pub fn advance(&mut self)
         requires { same_kind (kind_at self.old) EndOfFile ≡ false }
         ensures { self.new ≡ drop 1 self.old }
     {
         self.taken += 1;
-        let near = self.current.span.end.line();
-        self.current = self.ranges[self.taken].located(self.source, &self.lines, near);
+        self.current = self.ranges[self.taken].located(self.source);
+    }
+
+    // Takes the next token, which is not the end.
+    fn take(&mut self) -> Spanning<Token<'a>>
+        requires { same_kind (kind_at self.old) EndOfFile ≡ false }
+        ensures takes { next_at self.old ≡ Ok (view_token result, self.new) }
+        ensures shorter { length self.new < length self.old }
+        ensures rest { IsRest self.old self.new }
+    {
+        let token = Spanning::new(self.current.span, self.current.item);
+        self.advance();
+        token
+    }
+
+    // The refusal at the end.
+    #[cold]
+    fn refuse_end<T: Drop>(&self) -> Result<T, ParseFailure>
+        requires { same_kind (kind_at self.now) EndOfFile ≡ true }
+        ensures { RefusesEnd result self.now }
+    {
+        let span = self.current.span;
+        Err(ParseFailure::Refused(Spanning::new(span, ParseError::UnexpectedEndOfFile)))
     }
 
     /// Takes the next token. At the end it answers `UnexpectedEndOfFile`, and nothing is taken.
+    #[tactic(auto, using(crate::proofs::Rests::none_taken, crate::proofs::Rests::one_taken))]
     pub fn next_token(&mut self) -> ParseResult<Token<'a>>
         ensures gives { Gives view_token result self.new (next_at self.old) }
         ensures shorter { OnOk result (length self.new < length self.old) }
         ensures memory { OnMemory result ⊥ }
+        ensures rest { IsRest self.old self.new }
     {
-        let token = self.front_before_end()?;
-        self.advance();
-        Ok(token)
+        if self.is_at_end() {
+            return self.refuse_end();
+        }
+        Ok(self.take())
     }
 
-    // Takes the next token, and tells that it is unexpected.
+    // Takes the next token, and tells that it is unexpected. At the end nothing is taken.
+    #[tactic(auto, using(crate::proofs::Rests::none_taken, crate::proofs::Rests::one_taken))]
+    #[cold]
     fn refuse<T: Drop>(&mut self) -> Result<T, ParseFailure>
         ensures gives { Gives (λ x. x) result self.new (refused_at self.old) }
         ensures never { OnOk result ⊥ }
         ensures memory { OnMemory result (Unmoved {A = Lexeme} self.old self.new (refused_at self.old)) }
+        ensures rest { IsRest self.old self.new }
     {
-        let token = self.front_before_end()?;
-        let error = ParseError::unexpected_token(self.alloc, token.item)?;
-        self.advance();
+        if self.is_at_end() {
+            return self.refuse_end();
+        }
+        let error = ParseError::unexpected_token(self.alloc, self.current.item)?;
+        let token = self.take();
         Err(ParseFailure::Refused(Spanning::new(token.span, error)))
     }
 
@@ -193,13 +206,15 @@ impl<'a> Parser<'a> {
     ///
     /// Another token is taken too, and told as `UnexpectedToken`. At the end, whatever was wanted, it answers
     /// `UnexpectedEndOfFile`, and nothing is taken. Want of memory, for the text of a refusal, leaves all as it was.
+    #[tactic(auto, unfolding(crate::specs::Cursor::expect_at))]
     pub fn expect(&mut self, wanted: &Token<'_>) -> ParseResult<Token<'a>>
         ensures gives { Gives view_token result self.new (expect_at wanted.now self.old) }
         ensures shorter { OnOk result (length self.new < length self.old) }
         ensures memory { OnMemory result (Unmoved self.old self.new (expect_at wanted.now self.old)) }
+        ensures rest { IsRest self.old self.new }
     {
-        if self.is_next(wanted) {
-            self.next_token()
+        if self.is_next(wanted) && !self.is_at_end() {
+            Ok(self.take())
         } else {
             self.refuse()
         }
@@ -209,35 +224,45 @@ impl<'a> Parser<'a> {
     fn is_next(&self, wanted: &Token<'_>) -> bool
         ensures { result ≡ is_wanted (token_kind wanted.now) (token_text wanted.now) (first_of self.now) }
     {
-        self.peek().item == *wanted
+        let kind = self.kind();
+        if kind != wanted.kind() {
+            return false;
+        }
+        kind.spelling().is_some() || same_text(self.current.item.text(), wanted.text())
     }
 
     /// Takes the next token if it equals the wanted one, and else answers None and takes nothing.
     ///
     /// At the end, whatever was wanted, it answers `UnexpectedEndOfFile`, and nothing is taken.
+    #[tactic(auto, using(crate::proofs::Rests::none_taken), unfolding(crate::specs::Cursor::skip_at))]
     pub fn skip(&mut self, wanted: &Token<'_>) -> OptionParseResult<Token<'a>>
         ensures gives { Gives (option_map view_token) result self.new (skip_at wanted.now self.old) }
         ensures not_longer { OnOk result (length self.new ≤ length self.old) }
         ensures memory { OnMemory result ⊥ }
+        ensures rest { IsRest self.old self.new }
     {
-        if self.is_next(wanted) {
-            return Ok(Some(self.next_token()?));
+        if self.is_at_end() {
+            return self.refuse_end();
         }
-        self.front_before_end()?;
+        if self.is_next(wanted) {
+            return Ok(Some(self.take()));
+        }
         Ok(None)
     }
 
     /// Takes the next token, which has to be a Name, and gives its text. Refusals are those of `expect`.
+    #[tactic(auto, using(crate::proofs::Rests::one_taken), unfolding(crate::specs::Cursor::expect_name_at))]
     pub fn expect_name(&mut self) -> ParseResult<&'a str>
         ensures gives { Gives view_name result self.new (expect_name_at self.old) }
         ensures shorter { OnOk result (length self.new < length self.old) }
         ensures memory { OnMemory result (Unmoved self.old self.new (expect_name_at self.old)) }
+        ensures rest { IsRest self.old self.new }
     {
-        let token = self.front();
-        match token.item {
+        match self.current.item {
             Token::Name(name) => {
+                let span = self.current.span;
                 self.advance();
-                Ok(Spanning::new(token.span, name))
+                Ok(Spanning::new(span, name))
             }
             _ => self.refuse(),
         }

@@ -43,8 +43,8 @@ pub enum Token<'a> {
     EndOfFile,
 }
 
-// Whether two texts have the same characters.
-fn same_text(a: &str, b: &str) -> bool
+/// Whether two texts have the same characters.
+pub(crate) fn same_text(a: &str, b: &str) -> bool
     ensures { result ≡ pointwise nat_eq (chars a.now) (chars b.now) }
 {
     a == b
@@ -83,7 +83,7 @@ impl<'a> ScalarToken<'a> {
 
 impl<'a> Token<'a> {
     ghost use Rattle.juniper_tokens.specs.Tokens.{kind_text, token_kind, token_text};
-    ghost use Rattle.graphql_lexical.specs.declared.kind.Kind.TheVariants.{BlockString, EndOfFile};
+    ghost use Rattle.graphql_lexical.specs.declared.kind.Kind.TheVariants.{EndOfFile};
     ghost use Rattle.graphql_lexical.specs.Kinds.{same_kind};
 
     // The token without its text, and its text where the kind leaves it open.
@@ -125,13 +125,6 @@ impl<'a> Token<'a> {
     {
         let (kind, text) = self.parts();
         kind.spelling().unwrap_or(text)
-    }
-
-    // Whether it is a block string, the one token that may hold a line feed.
-    pub(crate) fn is_block_string(&self) -> bool
-        ensures { result ≡ same_kind (token_kind self.now) BlockString }
-    {
-        self.kind() == Kind::BlockString
     }
 
     pub(crate) fn is_end(&self) -> bool

@@ -1,13 +1,16 @@
 //! Tokens as parts of their source.
-ghost use Rattle.std.specs.Prelude.{◌≡◌};
+ghost use Rattle.std.specs.Prelude.{◌≡◌, ◌-◌, ◌≤◌, drop};
 ghost use Rattle.std.specs.Str.{chars};
+ghost use Rattle.graphql_lexical.specs.Place.{place};
 ghost use Rattle.graphql_lexical.specs.Tokens.{text_of};
-ghost use Rattle.juniper_tokens.specs.LineTables.{lines_of};
 ghost use Rattle.juniper_tokens.specs.Tokens.{kind_text, token_kind, token_text, view_token};
-ghost use Rattle.juniper_tokens.specs.Ranges.{IsRange, range_slice, range_lexeme};
+ghost use Rattle.juniper_tokens.specs.LexingByScan.{IsPlaced};
+ghost use Rattle.juniper_tokens.specs.Scans.{Finds};
+ghost use Rattle.juniper_tokens.specs.Ranges.{IsRange, range_of, range_slice, range_lexeme};
 
 use crate::lexer::text::{Border, text_before, text_from, unquoted};
-use crate::line_table::LineTable;
+use crate::lexer::{Found, walk_characters};
+use crate::position::SourcePosition;
 use crate::span::Spanning;
 use crate::token::{ScalarToken, Token};
 use graphql_lexical::Kind;
@@ -16,45 +19,97 @@ use graphql_lexical::Kind;
 #[derive(Clone, Copy)]
 pub(crate) struct TokenRange {
     pub(crate) kind: Kind,
-    /// The border before the first character.
-    pub(crate) start: Border,
+    /// How many bytes stand before the first character.
+    pub(crate) at: usize,
+    /// The place before the first character.
+    pub(crate) start: SourcePosition,
     /// The border behind the last character.
     pub(crate) end: Border,
 }
 
 impl TokenRange {
-    // What the source has there, of a String and of a block string what stands between the quotes.
-    fn text(self, source: &str) -> &str
-        requires { IsRange (chars source.now) self }
-        ensures { chars result.now ≡ text_of self.kind (range_slice (chars source.now) self) }
+    /// The range of a token that was found behind so many bytes of a source, at this place.
+    #[inline(always)]
+    pub(crate) fn from_found(found: Found, source: &str, at: usize, start: SourcePosition) -> Self
+        requires placed { IsPlaced source.now at start }
+        requires found { Finds (drop start.index (chars source.now)) found }
+        ensures { result ≡ range_of found at start }
     {
-        let rest = text_from(source, self.start);
-        let end = Border {
-            bytes: self.end.bytes - self.start.bytes,
-            characters: self.end.characters - self.start.characters,
-        };
-        if self.kind == Kind::String {
-            unquoted(rest, end, 1)
-        } else if self.kind == Kind::BlockString {
-            unquoted(rest, end, 3)
+        TokenRange {
+            kind: found.kind,
+            at,
+            start,
+            end: Border {
+                bytes: at + found.end.bytes,
+                characters: start.index() + found.end.characters,
+            },
+        }
+    }
+
+    // The border before the first character.
+    fn border(&self) -> Border
+        ensures { result ≡ record { bytes = self.now.at; characters = self.now.start.index } }
+    {
+        Border {
+            bytes: self.at,
+            characters: self.start.index(),
+        }
+    }
+
+    // The border behind the last character, from the first one.
+    fn size(&self) -> Border
+        requires bytes { self.now.at ≤ self.now.end.bytes }
+        requires characters { self.now.start.index ≤ self.now.end.characters }
+        ensures { result ≡ record { bytes = self.now.end.bytes - self.now.at; characters = self.now.end.characters - self.now.start.index } }
+    {
+        Border {
+            bytes: self.end.bytes - self.at,
+            characters: self.end.characters - self.start.index(),
+        }
+    }
+
+    /// The place behind the last character. A block string alone may end on a later line.
+    pub(crate) fn end_position(&self, source: &str) -> SourcePosition
+        requires { IsRange (chars source.now) self.now }
+        ensures { result ≡ place (chars source.now) self.now.end.characters }
+    {
+        let start = self.start;
+        let characters = self.end.characters - start.index();
+        if self.kind == Kind::BlockString {
+            walk_characters(text_from(source, self.border()), start, characters)
         } else {
-            text_before(rest, end)
+            start.columns_on(characters)
+        }
+    }
+
+    // What the source has there, of a String and of a block string what stands between the quotes.
+    fn text<'a>(&self, source: &'a str) -> &'a str
+        requires { IsRange (chars source.now) self.now }
+        ensures { chars result.now ≡ text_of self.now.kind (range_slice (chars source.now) self.now) }
+    {
+        let rest = text_from(source, self.border());
+        let size = self.size();
+        if self.kind == Kind::String {
+            unquoted(rest, size, 1)
+        } else if self.kind == Kind::BlockString {
+            unquoted(rest, size, 3)
+        } else {
+            text_before(rest, size)
         }
     }
 
     // The token, with its text.
-    fn token(self, source: &str) -> Token<'_>
-        requires { IsRange (chars source.now) self }
-        ensures kind { token_kind result ≡ self.kind }
-        ensures text { token_text result ≡ kind_text self.kind (text_of self.kind (range_slice (chars source.now) self)) }
+    fn token<'a>(&self, source: &'a str) -> Token<'a>
+        requires { IsRange (chars source.now) self.now }
+        ensures kind { token_kind result ≡ self.now.kind }
+        ensures text { token_text result ≡ kind_text self.now.kind (text_of self.now.kind (range_slice (chars source.now) self.now)) }
     {
-        let text = self.text(source);
         match self.kind {
-            Kind::Name => Token::Name(text),
-            Kind::String => Token::Scalar(ScalarToken::String(text)),
-            Kind::BlockString => Token::Scalar(ScalarToken::BlockString(text)),
-            Kind::Float => Token::Scalar(ScalarToken::Float(text)),
-            Kind::Int => Token::Scalar(ScalarToken::Int(text)),
+            Kind::Name => Token::Name(self.text(source)),
+            Kind::String => Token::Scalar(ScalarToken::String(self.text(source))),
+            Kind::BlockString => Token::Scalar(ScalarToken::BlockString(self.text(source))),
+            Kind::Float => Token::Scalar(ScalarToken::Float(self.text(source))),
+            Kind::Int => Token::Scalar(ScalarToken::Int(self.text(source))),
             Kind::ExclamationMark => Token::ExclamationMark,
             Kind::Dollar => Token::Dollar,
             Kind::ParenOpen => Token::ParenOpen,
@@ -72,21 +127,11 @@ impl TokenRange {
         }
     }
 
-    /// The token with its places, by the table of the source's lines.
-    ///
-    /// Its places are found without a search where it is on the line of the number `near`, or on the next one.
-    pub(crate) fn located<'a>(
-        self,
-        source: &'a str,
-        lines: &LineTable,
-        near: usize,
-    ) -> Spanning<Token<'a>>
-        requires range { IsRange (chars source.now) self }
-        requires lines { lines.now ≡ lines_of (chars source.now) }
-        ensures { view_token result ≡ range_lexeme (chars source.now) self }
+    /// The token with its places.
+    pub(crate) fn located<'a>(&self, source: &'a str) -> Spanning<Token<'a>>
+        requires { IsRange (chars source.now) self.now }
+        ensures { view_token result ≡ range_lexeme (chars source.now) self.now }
     {
-        let start = lines.place_near(self.start.characters, near);
-        let end = lines.place_near(self.end.characters, start.line());
-        Spanning::start_end(&start, &end, self.token(source))
+        Spanning::start_end(&self.start, &self.end_position(source), self.token(source))
     }
 }

@@ -5,39 +5,19 @@ ghost use Rattle.graphql_lexical.specs.Characters.{is_hex as hex_test, is_escape
 ghost use Rattle.graphql_lexical.specs.Scan as scans;
 ghost use Rattle.graphql_lexical.specs.Tokens.{punctuator as punctuator_kind};
 ghost use Rattle.graphql_lexical.specs.Scan.{step as character_step, block_other};
-ghost use Rattle.juniper_tokens.specs.Tokens.{token_kind, token_text};
 ghost use Rattle.juniper_tokens.specs.ByteClasses.{class_of, first_state};
 ghost use Rattle.juniper_tokens.specs.ByteRuns.{byte_step};
-ghost use Rattle.juniper_tokens.specs.Machine.{view_state, view_punctuator, punctuator_text};
+ghost use Rattle.juniper_tokens.specs.Machine.{view_state};
 
 use crate::byte_classes::ByteClass;
-use crate::token::Token;
-
-/// A punctuator.
-#[derive(Clone, Copy)]
-pub(crate) enum Punctuator {
-    ExclamationMark,
-    Dollar,
-    ParenOpen,
-    ParenClose,
-    BracketOpen,
-    BracketClose,
-    CurlyOpen,
-    CurlyClose,
-    Ellipsis,
-    Colon,
-    Equals,
-    At,
-    Pipe,
-}
+use graphql_lexical::Kind;
 
 /// What has been read of a token.
 #[derive(Clone, Copy)]
 pub(crate) enum State {
     Start,
-    Punctuator(Punctuator),
-    /// A whole string.
-    StringEnd,
+    /// A whole token, which nothing goes on with.
+    Done(Kind),
     OneDot,
     TwoDots,
     InName,
@@ -90,47 +70,24 @@ pub(crate) enum State {
     BlockEnd,
 }
 
-// The punctuator that this byte is.
-fn punctuator_of(byte: u8) -> Option<Punctuator>
-    ensures { option_map view_punctuator result ≡ punctuator_kind byte }
+/// The punctuator that this byte is.
+pub(crate) fn punctuator_of(byte: u8) -> Option<Kind>
+    ensures { result ≡ punctuator_kind byte }
 {
     match byte {
-        b'!' => Some(Punctuator::ExclamationMark),
-        b'$' => Some(Punctuator::Dollar),
-        b'(' => Some(Punctuator::ParenOpen),
-        b')' => Some(Punctuator::ParenClose),
-        b'[' => Some(Punctuator::BracketOpen),
-        b']' => Some(Punctuator::BracketClose),
-        b'{' => Some(Punctuator::CurlyOpen),
-        b'}' => Some(Punctuator::CurlyClose),
-        b':' => Some(Punctuator::Colon),
-        b'=' => Some(Punctuator::Equals),
-        b'@' => Some(Punctuator::At),
-        b'|' => Some(Punctuator::Pipe),
+        b'!' => Some(Kind::ExclamationMark),
+        b'$' => Some(Kind::Dollar),
+        b'(' => Some(Kind::ParenOpen),
+        b')' => Some(Kind::ParenClose),
+        b'[' => Some(Kind::BracketOpen),
+        b']' => Some(Kind::BracketClose),
+        b'{' => Some(Kind::CurlyOpen),
+        b'}' => Some(Kind::CurlyClose),
+        b':' => Some(Kind::Colon),
+        b'=' => Some(Kind::Equals),
+        b'@' => Some(Kind::At),
+        b'|' => Some(Kind::Pipe),
         _ => None,
-    }
-}
-
-impl Punctuator {
-    pub(crate) fn token(self) -> Token<'static>
-        ensures kind { token_kind result ≡ view_punctuator self }
-        ensures text { token_text result ≡ punctuator_text self }
-    {
-        match self {
-            Punctuator::ExclamationMark => Token::ExclamationMark,
-            Punctuator::Dollar => Token::Dollar,
-            Punctuator::ParenOpen => Token::ParenOpen,
-            Punctuator::ParenClose => Token::ParenClose,
-            Punctuator::BracketOpen => Token::BracketOpen,
-            Punctuator::BracketClose => Token::BracketClose,
-            Punctuator::CurlyOpen => Token::CurlyOpen,
-            Punctuator::CurlyClose => Token::CurlyClose,
-            Punctuator::Ellipsis => Token::Ellipsis,
-            Punctuator::Colon => Token::Colon,
-            Punctuator::Equals => Token::Equals,
-            Punctuator::At => Token::At,
-            Punctuator::Pipe => Token::Pipe,
-        }
     }
 }
 
@@ -178,7 +135,7 @@ fn first_step(class: ByteClass, byte: u8) -> Option<State>
         ByteClass::Dot => Some(State::OneDot),
         ByteClass::Quote => Some(State::Quote),
         ByteClass::Punctuator => match punctuator_of(byte) {
-            Some(punctuator) => Some(State::Punctuator(punctuator)),
+            Some(kind) => Some(State::Done(kind)),
             None => None,
         },
         _ => None,
@@ -227,7 +184,7 @@ fn step_in_string(byte: u8) -> Option<State>
     ensures { option_map view_state result ≡ if byte == 34 then Some (scans.Done String) else (if byte == 92 then Some scans.Backslash else None) }
 {
     if byte == b'"' {
-        Some(State::StringEnd)
+        Some(State::Done(Kind::String))
     } else {
         (byte == b'\\').then_some(State::Backslash)
     }
@@ -241,9 +198,9 @@ fn step_at_character(state: State, class: ByteClass, byte: u8) -> Option<State>
 {
     match state {
         State::Start => first_step(class, byte),
-        State::Punctuator(_) | State::StringEnd | State::BlockEnd => None,
+        State::Done(_) | State::BlockEnd => None,
         State::OneDot => (byte == b'.').then_some(State::TwoDots),
-        State::TwoDots => (byte == b'.').then_some(State::Punctuator(Punctuator::Ellipsis)),
+        State::TwoDots => (byte == b'.').then_some(State::Done(Kind::Ellipsis)),
         State::InName => class.is_name().then_some(State::InName),
         State::Minus => {
             if class.is_digit() {

@@ -1,10 +1,9 @@
 //! The token at the front of a text, or the fault there, from the state in which the steps stop.
-ghost use Rattle.std.specs.Prelude.{◌≡◌, ◌+◌, ◌-◌, ◌<◌, ◌^◌, ◌++◌, drop, length, ◌≤◌, IfOk};
+ghost use Rattle.std.specs.Prelude.{◌≡◌, ◌+◌, ◌-◌, ◌<◌, ◌^◌, ◌++◌, drop, length, Ok};
 ghost use Rattle.std.specs.Str.{chars};
 ghost use Rattle.graphql_lexical.specs.Kinds.{UnknownEscapeSequence};
 ghost use Rattle.graphql_lexical.specs.Scan as scans;
-ghost use Rattle.graphql_lexical.specs.Machines.{reach};
-ghost use Rattle.graphql_lexical.specs.Scan.{missed, stopped, after_dots, after_units, after_block, after_backslash, after_u, after_zero, answer, scan, step as character_step};
+ghost use Rattle.graphql_lexical.specs.Scan.{missed, stopped, after_dots, after_units, after_block, after_backslash, after_u, after_zero, answer, scan};
 ghost use Rattle.juniper_tokens.specs.Borders.{IsBorder, FollowsDigits};
 ghost use Rattle.juniper_tokens.specs.Machine.{view_state};
 ghost use Rattle.juniper_tokens.specs.Scans.{MeetsScan, Misses};
@@ -14,16 +13,16 @@ use crate::error::LexerError;
 use crate::lexer::machine::State;
 use crate::lexer::text::{
     Border, count_alphanumerics, first_character, first_text, joined, text_before, text_from,
-    unquoted,
 };
 use crate::lexer::walk::{Reached, walk_token};
-use crate::token::{ScalarToken, Token};
+use graphql_lexical::Kind;
 use std::alloc::Global;
 
-/// A token and its end.
+/// The kind of a token, and its end.
 #[derive(Clone, Copy)]
-pub(crate) struct Found<'a> {
-    pub(crate) token: Token<'a>,
+pub(crate) struct Found {
+    pub(crate) kind: Kind,
+    /// Where it ends, from where it begins.
     pub(crate) end: Border,
 }
 
@@ -142,34 +141,38 @@ fn digits_fault(alloc: Global, text: &str, end: Border, digits: usize) -> Missed
     unicode_fault(alloc, text_from(text, start), end.characters - (digits + 1))
 }
 
-// After `0` or `-0`, which no digit may follow.
-fn scan_zero<'a>(text: &'a str, end: Border) -> Result<Found<'a>, Missed>
-    requires { IsBorder end (chars text.now) }
-    ensures most { IfOk result (λ f. f.end.characters ≤ end.characters) }
-    ensures gives { MeetsScan result (chars text.now) (after_zero end.characters (chars text.now) (drop end.characters (chars text.now))) }
+// A token that ends there.
+fn token_of(kind: Kind, end: Border) -> Result<Found, Missed>
+    ensures { result ≡ Ok (record { kind = kind; end = end }) }
 {
-    let token = Token::Scalar(ScalarToken::Int(text_before(text, end)));
+    Ok(Found { kind, end })
+}
+
+// After `0` or `-0`, which no digit may follow.
+fn scan_zero(text: &str, end: Border) -> Result<Found, Missed>
+    requires { IsBorder end (chars text.now) }
+    ensures { MeetsScan result (chars text.now) (after_zero end.characters (chars text.now) (drop end.characters (chars text.now))) }
+{
     match first_character(text_from(text, end)) {
         Some(c) => {
             if c.is_ascii_digit() {
                 Err(Missed::Fault(LexerError::UnexpectedCharacter(c), end.characters))
             } else {
-                Ok(Found { token, end })
+                token_of(Kind::Int, end)
             }
         }
-        None => Ok(Found { token, end }),
+        None => token_of(Kind::Int, end),
     }
 }
 
 // Where no token begins: at the end, or at a character.
-fn scan_unknown<'a>(text: &'a str) -> Result<Found<'a>, Missed>
-    ensures most { IfOk result (λ f. f.end.characters ≤ 0) }
-    ensures gives { MeetsScan result (chars text.now) (answer scans.Start 0 (chars text.now)) }
+fn scan_unknown(text: &str) -> Result<Found, Missed>
+    ensures { MeetsScan result (chars text.now) (answer scans.Start 0 (chars text.now)) }
 {
     match first_character(text) {
         Some(c) => Err(Missed::Fault(LexerError::UnknownCharacter(c), 0)),
         None => Ok(Found {
-            token: Token::EndOfFile,
+            kind: Kind::EndOfFile,
             end: Border {
                 bytes: 0,
                 characters: 0,
@@ -179,10 +182,9 @@ fn scan_unknown<'a>(text: &'a str) -> Result<Found<'a>, Missed>
 }
 
 // The token or the fault where the steps have stopped.
-fn scan_reached<'a>(alloc: Global, text: &'a str, reached: Reached) -> Result<Found<'a>, Missed>
+fn scan_reached(alloc: Global, text: &str, reached: Reached) -> Result<Found, Missed>
     requires { HasReached (chars text.now) (view_state reached.state) reached.end.bytes reached.end.characters }
-    ensures gives { MeetsScan result (chars text.now) (answer (view_state reached.state) reached.end.characters (chars text.now)) }
-    ensures most { IfOk result (λ f. f.end.characters ≤ reached.end.characters) }
+    ensures { MeetsScan result (chars text.now) (answer (view_state reached.state) reached.end.characters (chars text.now)) }
 {
     let end = reached.end;
     match reached.state {
@@ -197,48 +199,28 @@ fn scan_reached<'a>(alloc: Global, text: &'a str, reached: Reached) -> Result<Fo
         }
         State::Backslash => Err(backslash_fault(alloc, text_from(text, end), end.characters)),
         State::NoHexDigit => Err(digits_fault(alloc, text, end, 0)),
-        State::OneHexDigit => Err(digits_fault(alloc, text, end, 1)),
-        State::HexDigitD => Err(digits_fault(alloc, text, end, 1)),
+        State::OneHexDigit | State::HexDigitD => Err(digits_fault(alloc, text, end, 1)),
         State::TwoHexDigits => Err(digits_fault(alloc, text, end, 2)),
         State::ThreeHexDigits => Err(digits_fault(alloc, text, end, 3)),
-        State::Punctuator(punctuator) => Ok(Found {
-            token: punctuator.token(),
-            end,
-        }),
-        State::TwoQuotes | State::StringEnd => Ok(Found {
-            token: Token::Scalar(ScalarToken::String(unquoted(text, end, 1))),
-            end,
-        }),
-        State::BlockEnd => Ok(Found {
-            token: Token::Scalar(ScalarToken::BlockString(unquoted(text, end, 3))),
-            end,
-        }),
         State::Block
         | State::BlockQuote
         | State::BlockTwoQuotes
         | State::BlockBackslash
         | State::BlockEscapedQuote
         | State::BlockEscapedQuotes => Err(block_fault(text_from(text, end), end.characters)),
-        State::InName => Ok(Found {
-            token: Token::Name(text_before(text, end)),
-            end,
-        }),
-        State::Digits => Ok(Found {
-            token: Token::Scalar(ScalarToken::Int(text_before(text, end))),
-            end,
-        }),
-        State::Fraction | State::Exponent => Ok(Found {
-            token: Token::Scalar(ScalarToken::Float(text_before(text, end))),
-            end,
-        }),
+        State::Done(kind) => token_of(kind, end),
+        State::InName => token_of(Kind::Name, end),
+        State::Digits => token_of(Kind::Int, end),
+        State::Fraction | State::Exponent => token_of(Kind::Float, end),
+        State::TwoQuotes => token_of(Kind::String, end),
+        State::BlockEnd => token_of(Kind::BlockString, end),
     }
 }
 
 /// The token at the front of a text, or the fault there.
 #[tactic(auto, using(crate::proofs::Stops::scan_at))]
-pub(crate) fn scan_token<'a>(alloc: Global, text: &'a str) -> Result<Found<'a>, Missed>
-    ensures gives { MeetsScan result (chars text.now) (scan (chars text.now)) }
-    ensures most { IfOk result (λ f. f.end.characters ≤ (reach character_step scans.Start (chars text.now)).0) }
+pub(crate) fn scan_token(alloc: Global, text: &str) -> Result<Found, Missed>
+    ensures { MeetsScan result (chars text.now) (scan (chars text.now)) }
 {
     scan_reached(alloc, text, walk_token(text))
 }

@@ -2,12 +2,11 @@
 ghost use Rattle.std.specs.Prelude.{◌≡◌, ◌==◌, ℕ, ◌+◌, ◌<◌, ◌≤◌, ◌^◌, get_or, length, take};
 ghost use Rattle.std.specs.List.{fold};
 ghost use Rattle.std.specs.Str.{chars};
-ghost use Rattle.graphql_lexical.specs.Scan.{stretch_step};
 ghost use Rattle.graphql_lexical.specs.Place.{past_character};
 ghost use Rattle.juniper_tokens.specs.ByteClasses.{class_of};
 ghost use Rattle.juniper_tokens.specs.ByteRuns.{byte_step, byte_change, count_one};
 ghost use Rattle.juniper_tokens.specs.Machine.{view_state};
-ghost use Rattle.juniper_tokens.specs.Walks.{HasReached, EndsStretch, left_step};
+ghost use Rattle.juniper_tokens.specs.Walks.{HasReached, EndsStretch, EndsComment, AreSpaces, left_step};
 
 use crate::byte_classes::{ByteClass, byte_class};
 use crate::lexer::machine::{State, step};
@@ -21,6 +20,13 @@ pub(crate) struct StretchEnd {
     pub(crate) position: SourcePosition,
     /// Whether the first byte of a byte order mark stands there.
     pub(crate) may_be_mark: bool,
+}
+
+// The end of a comment.
+#[derive(Clone, Copy)]
+struct CommentEnd {
+    bytes: usize,
+    position: SourcePosition,
 }
 
 /// Where the steps of a token stop, and in which state.
@@ -70,13 +76,35 @@ fn left_after(left: usize, class: ByteClass) -> Option<usize>
     }
 }
 
-// Whether white space and comments go on with a byte, and then whether within a comment.
-#[tactic(auto, using(crate::proofs::ByteClasses::comment_after_tests))]
-fn comment_after(in_comment: bool, class: ByteClass, byte: u8) -> Option<bool>
-    requires { class ≡ class_of byte }
-    ensures { result ≡ byte_step stretch_step in_comment byte }
+// How many spaces come first.
+#[inline(always)]
+fn count_spaces(bytes: &[u8]) -> usize
+    ensures within { result ≤ length bytes.now }
+    ensures spaces { AreSpaces (take result bytes.now) }
 {
-    class.comment_after(in_comment, byte)
+    let mut count = 0;
+    while count < bytes.len() && bytes[count] == b' ' {
+        count += 1;
+    }
+    count
+}
+
+// Goes on with a comment, up to the end of its line or to what may not stand in it.
+fn walk_comment(bytes: &[u8], start: SourcePosition) -> CommentEnd
+    requires { start.index + length bytes.now < 2 ^ 64 }
+    ensures { EndsComment bytes.now start result.bytes result.position }
+{
+    let mut position = start;
+    let mut i = 0;
+    while i < bytes.len() {
+        let class = byte_class(bytes[i]);
+        if !class.is_comment(bytes[i]) {
+            return CommentEnd { bytes: i, position };
+        }
+        position = position_after(position, class);
+        i += 1;
+    }
+    CommentEnd { bytes: i, position }
 }
 
 /// Goes past white space and comments, up to a byte order mark that stands in no comment.
@@ -87,13 +115,29 @@ pub(crate) fn walk_stretch(text: &str, start: SourcePosition) -> StretchEnd
 {
     let bytes = text.as_bytes();
     let mut position = start;
-    let mut in_comment = false;
     let mut i = 0;
     while i < bytes.len() {
-        let class = byte_class(bytes[i]);
-        match comment_after(in_comment, class, bytes[i]) {
-            Some(next) => in_comment = next,
-            None => {
+        match byte_class(bytes[i]) {
+            ByteClass::White => {
+                position.advance_col();
+                i += 1;
+            }
+            ByteClass::LineFeed => {
+                position.advance_line();
+                i += 1;
+                let spaces = count_spaces(&bytes[i..]);
+                position = position.columns_on(spaces);
+                i += spaces;
+            }
+            ByteClass::Hash => {
+                position.advance_col();
+                i += 1;
+                let comment = walk_comment(&bytes[i..], position);
+                position = comment.position;
+                i += comment.bytes;
+            }
+            ByteClass::Inner => i += 1,
+            _ => {
                 return StretchEnd {
                     bytes: i,
                     position,
@@ -101,8 +145,6 @@ pub(crate) fn walk_stretch(text: &str, start: SourcePosition) -> StretchEnd
                 };
             }
         }
-        position = position_after(position, class);
-        i += 1;
     }
     StretchEnd {
         bytes: i,

@@ -1,10 +1,18 @@
-use Rattle.std.proofs.Common.{◌≡◌, ap, sym, ◌∙◌, rules, false}
+use Rattle.std.proofs.Common.{◌≡◌, ap, sym, ◌∙◌, rules, false, Ok}
 use Rattle.juniper_tokens.specs.Lexing.{LexerState}
+use Rattle.juniper_tokens.specs.Ranges.{range_lexeme}
 use Rattle.juniper_tokens.proofs.Lexing.{items_fewer}
+use Rattle.juniper_tokens.proofs.Ranges.{token_given}
 use Rattle.juniper_tokens.proofs.lexer.LexerIterator.next.Goals as goal
 
-pub returns-else-self-clause-goes : goal.returns-else-self-clause-goes
-returns-else-self-clause-goes c =
+pub returns-in-Some-clause-steps : goal.returns-in-Some-clause-steps
+returns-in-Some-clause-steps c =
     let going : c.args.self.now.ended ≡ false = ap (λ (s : LexerState). s.ended) (sym c.self.view_is) ∙ c.if-self.false in
-    let less = items_fewer c.args.self.now c.next_item.result c.next_item.new.self (going, c.next_item.ensures.source, c.next_item.ensures.gives) in
+    let source = ap (λ (s : LexerState). s.source) c.self-in-Some.view_is ∙ c.in-Some.ensures.source in
+    let seen = c.located.ensures ∙ ap (λ t. range_lexeme t c.in-Some.range) source in
+    (going, c.in-Some.ensures.source, token_given c.args.self.now c.in-Some.range c.located.result c.next_plain.new.self c.in-Some.ensures.takes seen)
+
+pub returns-in-Some-clause-goes : goal.returns-in-Some-clause-goes
+returns-in-Some-clause-goes c =
+    let less = items_fewer c.args.self.now (Ok c.located.result) c.next_plain.new.self (returns-in-Some-clause-steps c) in
     record { on = λ _. search (rules, less); keeps = search rules; rests = λ _. search rules }

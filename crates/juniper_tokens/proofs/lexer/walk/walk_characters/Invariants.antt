@@ -1,8 +1,7 @@
 use Rattle.std.proofs.Common.{length, ◌-◌, ◌+◌, ◌≤◌}
 use Rattle.juniper_tokens.specs.Walks.{left_step}
 use Rattle.graphql_lexical.specs.Place.{past_character}
-use Rattle.juniper_tokens.specs.ByteRuns.{byte_step, with_value}
-use Rattle.juniper_tokens.proofs.ByteRuns.{Walked}
+use Rattle.juniper_tokens.specs.ByteRuns.{Walked, byte_step, with_value}
 use Rattle.juniper_tokens.proofs.lexer.walk.walk_characters.Given as goal
 
 abbrev pub invariant-loop-i : goal.invariant-loop-i

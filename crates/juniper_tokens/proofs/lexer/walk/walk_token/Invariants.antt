@@ -1,8 +1,7 @@
 use Rattle.std.proofs.Common.{length, ◌-◌, ◌≤◌}
 use Rattle.graphql_lexical.specs.Scan.{step, Start}
-use Rattle.juniper_tokens.specs.ByteRuns.{byte_step, with_value, count_one}
+use Rattle.juniper_tokens.specs.ByteRuns.{Walked, byte_step, with_value, count_one}
 use Rattle.juniper_tokens.specs.Machine.{view_state}
-use Rattle.juniper_tokens.proofs.ByteRuns.{Walked}
 use Rattle.juniper_tokens.proofs.lexer.walk.walk_token.Given as goal
 
 abbrev pub invariant-loop-i : goal.invariant-loop-i

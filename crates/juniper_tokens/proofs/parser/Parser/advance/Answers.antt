@@ -16,7 +16,6 @@ pub invariant_of-self : goal.invariant_of-self
 invariant_of-self c =
     let still = left_ended (chars c.self.inside.source.now) c.self.inside.ranges.items c.self.inside.taken c.self.invariant.ended (ap (λ (ts : List Lexeme). same_kind (kind_at ts) EndOfFile) c.self.view_is ∙ c.requires) in
     record {
-      lines_are = c.self.invariant.lines_are;
       are_ranges = c.self.invariant.are_ranges;
       ended = still.ended;
       first = c.located-self-inside.ensures ∙ sym (first_left (chars c.self.inside.source.now) c.self.inside.ranges.items (c.self.inside.taken + 1) _ still.within (sym c.index.ensures));

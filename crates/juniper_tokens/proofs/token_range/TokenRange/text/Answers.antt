@@ -1,9 +1,14 @@
+use Rattle.std.proofs.Common.{sym, ap, subst, ◌∙◌, drop}
 use Rattle.std.specs.Str.{chars}
+use Rattle.juniper_tokens.specs.declared.lexer.text.Border.{Border}
+use Rattle.juniper_tokens.specs.Borders.{IsBorder}
 use Rattle.juniper_tokens.proofs.Ranges.{range_order, range_width}
 use Rattle.juniper_tokens.proofs.token_range.TokenRange.text.Goals as goal
 
-pub overflow_sub-end : goal.overflow_sub-end
-overflow_sub-end c = range_order (chars c.args.source.now) c.args.self c.requires
+pub size-size-requires-clause-bytes : goal.size-size-requires-clause-bytes
+size-size-requires-clause-bytes c = range_order (chars c.args.source.now) c.args.self.now c.requires
 
 pub text_before-requires : goal.text_before-requires
-text_before-requires c = range_width (chars c.args.source.now) _ c.args.self c.requires c.text_from-rest.ensures.characters
+text_before-requires c =
+    let rest = c.text_from-rest.ensures.characters ∙ ap (λ (b : Border). drop b.characters (chars c.args.source.now)) c.border.ensures in
+    subst (λ (b : Border). IsBorder b (chars c.text_from-rest.result.now)) (sym c.size-size.ensures) (range_width (chars c.args.source.now) _ c.args.self.now c.requires rest)
