@@ -1,15 +1,17 @@
 -- What holds of all kinds.
-use Rattle.std.proofs.Common.{◌≡◌, true, false, inl, inr}
+use Rattle.std.proofs.Common.{◌≡◌, true, false, inl, inr, [], ◌∷◌, refl}
+use Rattle.std.specs.Option.{IfSome}
 use Rattle.std.proofs.lemmas.Bool.{cases_Bool}
 use denote.Enum.Bare.{same_true}
 use Rattle.graphql_lexical.specs.contracts.kind.Kind.{the_type}
-use Rattle.graphql_lexical.specs.Kinds.{Kind, Name, String, BlockString, Float, Int, ExclamationMark, Dollar, ParenOpen, ParenClose, BracketOpen, BracketClose, CurlyOpen, CurlyClose, Ellipsis, Colon, Equals, At, Pipe, EndOfFile, same_kind}
+use Rattle.graphql_lexical.specs.Kinds.{Kind, Name, String, BlockString, Float, Int, ExclamationMark, Dollar, ParenOpen, ParenClose, BracketOpen, BracketClose, CurlyOpen, CurlyClose, Ellipsis, Colon, Equals, At, Pipe, EndOfFile, same_kind, Fixed, spelling, character_of}
 
 -- P holds of one kind after the other
 abbrev pub Each : (Kind → Type 0) → Type 0
 Each P =
     P Name × P String × P BlockString × P Float × P Int × P ExclamationMark × P Dollar × P ParenOpen × P ParenClose
-    × P BracketOpen × P BracketClose × P CurlyOpen × P CurlyClose × P Ellipsis × P Colon × P Equals × P At × P Pipe × P EndOfFile
+    × P BracketOpen × P BracketClose × P CurlyOpen × P CurlyClose × P Ellipsis × P Colon × P Equals × P At × P Pipe
+    × P EndOfFile
 
 pub each_kind : (P : Kind → Type 0) → Each P → (kind : Kind) → P kind
 each_kind P h Name = h.0
@@ -31,6 +33,30 @@ each_kind P h Equals = h.15
 each_kind P h At = h.16
 each_kind P h Pipe = h.17
 each_kind P h EndOfFile = h.18
+
+-- a kind whose tokens are one character is spelled by it
+pub lone_spelling : (kind : Kind) → IfSome (character_of kind) (λ c. spelling kind ≡ Fixed (c ∷ []))
+lone_spelling = each_kind (λ k. IfSome (character_of k) (λ c. spelling k ≡ Fixed (c ∷ []))) (
+  tt,
+  tt,
+  tt,
+  tt,
+  tt,
+  refl,
+  refl,
+  refl,
+  refl,
+  refl,
+  refl,
+  refl,
+  refl,
+  tt,
+  refl,
+  refl,
+  refl,
+  refl,
+  tt,
+)
 
 pub kind_is : (a b : Kind) → same_kind a b ≡ true → a ≡ b
 kind_is a b e = same_true the_type tt a b e

@@ -1,14 +1,15 @@
 -- What has been read, at each state.
 use Rattle.std.proofs.Common.{◌≡◌, ℕ, ◌⊎◌, inl, inr, Bool, true, false, cond, eqb, List, [], ◌∷◌, ◌++◌, Option, Some, None, IsTrue, refl, sym, ap, ◌∙◌, subst, arith, append_assoc, append-nil, length-append}
 use Rattle.std.specs.Prelude.{option_map}
-use Rattle.std.specs.Option.{option_and_then, option_map_or}
+use Rattle.std.specs.Option.{IfSome, option_map_or}
 use Rattle.std.specs.List.{AllByRecursion, concat, find}
 use Rattle.std.proofs.lemmas.Bool.{eqb-true}
 use Rattle.std.proofs.lemmas.Option.{none-some, same_Some}
 use Rattle.graphql_lexical.specs.Characters.{is_digit, is_name_character, is_exponent_mark, is_sign, is_hex}
-use Rattle.graphql_lexical.specs.Kinds.{Kind, String, Ellipsis, all_kinds, Spelling, Names, Strings, BlockStrings, Floats, Ints, Fixed, NoText, spelling, fixed_text, only_character, character_of}
-use Rattle.graphql_lexical.specs.Tokens.{IsName, AreSomeDigits, IsZero, IsCounting, IsLongInteger, IsInteger, IsFraction, IsExponent, IsDecimal, IsUnit, plain, escape, unicode, AreUnits, Admits, Spells, punctuator, mark}
+use Rattle.graphql_lexical.specs.Kinds.{Kind, String, Ellipsis, all_kinds, Fixed, spelling, character_of}
+use Rattle.graphql_lexical.specs.Tokens.{IsName, AreSomeDigits, IsZero, IsCounting, IsLongInteger, IsInteger, IsFraction, IsExponent, IsDecimal, IsUnit, plain, escape, unicode, AreUnits, Admits, Spells, is_character, punctuator, mark}
 use Rattle.graphql_lexical.specs.Scan.{State, Start, Done, Dot, Dots, InName, Minus, Zero, Digits, Point, Fraction, Mark, Sign, Exponent, Units, Backslash, Hex0, Hex1, HexD, Hex2, Hex3, is_hex_d, step, Quote, Quotes, InBlock, Block, Inside, block_step}
+use Rattle.graphql_lexical.proofs.EachKind.{lone_spelling}
 use Rattle.graphql_lexical.proofs.Runs.{run, kept_run, run_on}
 use Rattle.graphql_lexical.proofs.Numbers.{IsPair, pair_d, pair_other, scalar_from}
 
@@ -114,21 +115,17 @@ end_push t a b c e = ap (λ (x : List ℕ). x ++ c ∷ []) e ∙ append_assoc a 
 
 found_passes : {A : Type 0} (test : A → Bool) (xs : List A) (x : A) → find test xs ≡ Some x → test x ≡ true
 found_passes test [] x e = absurd (none-some x e)
-found_passes test (y ∷ ys) x e = if_then (λ z. test z ≡ true) (test y) y (find test ys) (λ h. h) (found_passes test ys) x e
+found_passes test (y ∷ ys) x e =
+    if_then (λ z. test z ≡ true) (test y) y (find test ys) (λ h. h) (found_passes test ys) x e
 
 pub punctuator_spells : (c : ℕ) (kind : Kind) → punctuator c ≡ Some kind → Spells (c ∷ []) kind
-punctuator_spells c kind e = by_spelling (spelling kind) (found_passes (λ k. option_map_or (λ d. eqb c d) (character_of k) false) all_kinds kind e)
+punctuator_spells c kind e =
+    by_character (character_of kind) (lone_spelling kind) (found_passes (is_character c) all_kinds kind e)
   where
-    by_spelling : (s : Spelling) → option_map_or (λ d. eqb c d) (option_and_then only_character (fixed_text s)) false ≡ true → Admits s (c ∷ [])
-    by_spelling (Fixed (d ∷ [])) h = ap (λ (x : ℕ). x ∷ []) (eqb-true c d h)
-    by_spelling (Fixed []) h = absurd cc
-    by_spelling (Fixed (d ∷ f ∷ ds)) h = absurd cc
-    by_spelling Names h = absurd cc
-    by_spelling Strings h = absurd cc
-    by_spelling BlockStrings h = absurd cc
-    by_spelling Floats h = absurd cc
-    by_spelling Ints h = absurd cc
-    by_spelling NoText h = absurd cc
+    by_character : (o : Option ℕ) → IfSome o (λ d. spelling kind ≡ Fixed (d ∷ []))
+        → option_map_or (λ d. eqb c d) o false ≡ true → Spells (c ∷ []) kind
+    by_character None s h = absurd cc
+    by_character (Some d) s h = subst (λ x. Admits x (c ∷ [])) (sym s) (ap (λ (x : ℕ). x ∷ []) (eqb-true c d h))
 
 pub punctuator_read : (c : ℕ) (o : Option Kind) → ((kind : Kind) → o ≡ Some kind → Spells (c ∷ []) kind) → (p : State) → option_map Done o ≡ Some p → IsRead p (c ∷ [])
 punctuator_read c None h p e = absurd (none-some p e)

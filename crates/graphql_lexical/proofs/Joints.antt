@@ -2,14 +2,14 @@
 use Rattle.graphql_lexical.specs.Laws.{HasFewTokens}
 use Rattle.std.specs.List.{AllByRecursion}
 use Rattle.std.proofs.Common.{◌≡◌, ◌≢◌, ℕ, ◌+◌, ◌-◌, ◌<◌, ◌≤◌, inl, inr, Bool, false, eqb, not, ◌&&◌, List, [], ◌∷◌, ◌++◌, length, take, drop, Option, Some, None, Result, Ok, IsTrue, refl, sym, ap, ap₂, ◌∙◌, subst, arith, length-drop, length-take, append_assoc, take-append-drop, drop-drop, zero-le}
-use Rattle.std.specs.Option.{option_and_then, is_some, IfSome}
+use Rattle.std.specs.Option.{is_some, IfSome}
 use Rattle.std.proofs.lemmas.List.{take-append-le, drop-append-le, drop_at, length-take-le, same_from_push}
 use Rattle.std.proofs.lemmas.Bool.{cond-false}
 use Rattle.std.proofs.lemmas.Bool.Decides.{nat_tests}
 use Rattle.std.proofs.lemmas.Option.{none-some}
 use Rattle.graphql_lexical.specs.Characters.{is_white, is_digit, is_name_character, is_exponent_mark}
 use Rattle.graphql_lexical.specs.Place.{Place, place, place_after}
-use Rattle.graphql_lexical.specs.Kinds.{Kind, Name, EndOfFile, Spelling, Names, Strings, BlockStrings, Floats, Ints, Fixed, NoText, spelling, fixed_text, only_character, character_of}
+use Rattle.graphql_lexical.specs.Kinds.{Kind, Name, EndOfFile, Fixed, spelling, character_of}
 use Rattle.graphql_lexical.specs.Tokens.{Admits, Spells, text_of}
 use Rattle.graphql_lexical.specs.Reading.{Longest, BeginsWithDigit, Reads}
 use Rattle.graphql_lexical.specs.Cutting.{IsGap, Lexeme, Stands, Leads, Cut}
@@ -17,7 +17,7 @@ use Rattle.graphql_lexical.specs.Machines.{reach}
 use Rattle.graphql_lexical.specs.Scan.{State, Start, Done, InName, Zero, Digits, Fraction, Exponent, step, Found, Missed, answer, scan, gap_step, gap_size, Quotes, InBlock, Closed}
 use Rattle.graphql_lexical.specs.Alike.{Alike, AllAlike}
 use Rattle.graphql_lexical.specs.Joining.{is_lone, BeginsApart, IsSeam, Joins}
-use Rattle.graphql_lexical.proofs.EachKind.{each_kind}
+use Rattle.graphql_lexical.proofs.EachKind.{each_kind, lone_spelling}
 use Rattle.graphql_lexical.proofs.Runs.{Stops, Reaches, reach_is, reach_on, Longest_same}
 use Rattle.graphql_lexical.proofs.Spelled.{accepts}
 use Rattle.graphql_lexical.proofs.Readings.{Reached, reached, Finds, answer_finds, accepts_answer, scan_reads, reads_scan}
@@ -90,27 +90,52 @@ is_apart c = not (is_name_character c) && (not (eqb c 46) && not (eqb c 34))
 
 apart : (c : ℕ) → IsTrue (is_apart c) → IsApart c
 unfolding is_apart
-apart c h = record { no_name = grind (arith, nat_tests); no_digit = grind (arith, nat_tests); no_point = grind (arith, nat_tests); no_mark = grind (arith, nat_tests); no_quote = grind (arith, nat_tests) }
+apart c h = record {
+  no_name = grind (arith, nat_tests);
+  no_digit = grind (arith, nat_tests);
+  no_point = grind (arith, nat_tests);
+  no_mark = grind (arith, nat_tests);
+  no_quote = grind (arith, nat_tests);
+}
 
 white_apart : (c : ℕ) → IsTrue (is_white c) → IsTrue (is_apart c)
 unfolding is_apart
 white_apart c h = grind (arith, nat_tests)
 
-fixed_apart : (kind : Kind) → IfSome (character_of kind) (λ c. IsTrue (is_apart c))
+character_apart : (kind : Kind) → IfSome (character_of kind) (λ c. IsTrue (is_apart c))
 unfolding is_apart
-fixed_apart = each_kind (λ k. IfSome (character_of k) (λ c. IsTrue (is_apart c))) (tt, tt, tt, tt, tt, refl, refl, refl, refl, refl, refl, refl, refl, tt, refl, refl, refl, refl, tt)
+character_apart = each_kind (λ k. IfSome (character_of k) (λ c. IsTrue (is_apart c))) (
+  tt,
+  tt,
+  tt,
+  tt,
+  tt,
+  refl,
+  refl,
+  refl,
+  refl,
+  refl,
+  refl,
+  refl,
+  refl,
+  tt,
+  refl,
+  refl,
+  refl,
+  refl,
+  tt,
+)
 
 lone_apart : (c : ℕ) (kind : Kind) → IsTrue (is_lone kind) → Spells (c ∷ []) kind → IsApart c
-lone_apart c kind l s = apart c (by_spelling (spelling kind) (fixed_apart kind) l s)
+lone_apart c kind l s = apart c (by_character (character_of kind) (lone_spelling kind) (character_apart kind) l)
   where
-    by_spelling : (s : Spelling) → IfSome (option_and_then only_character (fixed_text s)) (λ c. IsTrue (is_apart c)) → IsTrue (is_some (option_and_then only_character (fixed_text s))) → Admits s (c ∷ []) → IsTrue (is_apart c)
-    by_spelling (Fixed text) a l e = subst (λ t. IfSome (only_character t) (λ c. IsTrue (is_apart c))) (sym e) a
-    by_spelling Names a l e = absurd cc
-    by_spelling Strings a l e = absurd cc
-    by_spelling BlockStrings a l e = absurd cc
-    by_spelling Floats a l e = absurd cc
-    by_spelling Ints a l e = absurd cc
-    by_spelling NoText a l e = absurd e
+    by_character : (o : Option ℕ) → IfSome o (λ d. spelling kind ≡ Fixed (d ∷ []))
+        → IfSome o (λ d. IsTrue (is_apart d)) → IsTrue (is_some o) → IsTrue (is_apart c)
+    by_character None e a l = absurd cc
+    by_character (Some d) e a l =
+        let one : c ∷ [] ≡ d ∷ [] = subst (λ x. Admits x (c ∷ [])) e s in
+        let same : c ≡ d = cc one in
+        subst (λ x. IsTrue (is_apart x)) (sym same) a
 
 apart_stops : (q : State) (kind : Kind) (c : ℕ) → accepts q ≡ Some kind → IsApart c → step q c ≡ None
 apart_stops (Done k) kind c a h = refl

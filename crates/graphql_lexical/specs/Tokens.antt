@@ -1,5 +1,5 @@
 -- Which texts are tokens.
-use Rattle.std.specs.Prelude.{◌≡◌, ◌≢◌, ℕ, ◌+◌, ◌-◌, ◌*◌, ◌<◌, ◌⊎◌, List, [], ◌∷◌, ◌++◌, length, take, drop, IsTrue, nat_le, ◌==◌, if◌then◌else◌, Option, false}
+use Rattle.std.specs.Prelude.{◌≡◌, ◌≢◌, ℕ, ◌+◌, ◌-◌, ◌*◌, ◌<◌, ◌⊎◌, List, [], ◌∷◌, ◌++◌, length, take, drop, IsTrue, nat_le, ◌==◌, if◌then◌else◌, Option, Bool, false}
 use Rattle.std.specs.List.{AllByRecursion, concat, find}
 use Rattle.std.specs.Option.{option_map_or}
 use Rattle.graphql_lexical.specs.Characters.{is_source, is_digit, is_nonzero_digit, is_name_start, is_name_character, is_exponent_mark, is_sign, is_hex, is_plain, is_escape}
@@ -126,9 +126,13 @@ Admits NoText text = ⊥
 abbrev pub Spells : List ℕ → Kind → Type 0
 Spells text kind = Admits (spelling kind) text
 
+-- each token of this kind is this character
+abbrev pub is_character : ℕ → Kind → Bool
+is_character c kind = option_map_or (λ d. c == d) (character_of kind) false
+
 -- the punctuator that this character is
 abbrev pub punctuator : ℕ → Option Kind
-punctuator c = find (λ kind. option_map_or (λ d. c == d) (character_of kind) false) all_kinds
+punctuator c = find (is_character c) all_kinds
 
 -- what stands on each side of a text that is spelled so
 abbrev pub quotes : Spelling → List ℕ

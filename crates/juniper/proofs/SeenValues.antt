@@ -6,7 +6,7 @@ use Rattle.graphql_lexical.specs.declared.kind.Kind.{Kind}
 use Rattle.graphql_lexical.specs.declared.kind.Kind.TheVariants.{Name, Dollar, BracketOpen, BracketClose, CurlyOpen, CurlyClose, Colon, At, EndOfFile}
 use Rattle.graphql_lexical.specs.Kinds.{same_kind}
 use Rattle.graphql_lexical.specs.Cutting.{Lexeme}
-use Rattle.graphql_grammar.specs.Tokens.{Text, over}
+use Rattle.graphql_grammar.specs.Tokens.{Text, Word, over}
 use Rattle.graphql_grammar.specs.Tree.{Scalars, Value, ListOf, Object, Variable}
 use Rattle.graphql_grammar.specs.Reading.{of, passes, scalar_token, Reader, seq, done, want, on, by_name, refuse, fault_of, pick, literal, read_as, key_and_value, items_of, fields_of, fully, value_of, items_at, fields_at}
 use Rattle.graphql_grammar.proofs.Fuel.{value_body, value_steps, items_step, fields_step}
@@ -32,7 +32,8 @@ module _ {C : Type 0} (S : Scalars C Error) where
   bound (Err e) f g h = refl
 
   -- one of two readers, by a test of the token
-  seen_pick : {A : Type 0} (b : Bool) (k : Lexeme → Reader Error A) (g : Reader Error A) (t : Lexeme) (ts : List Lexeme) (l r : Read A)
+  seen_pick : {A : Type 0} (b : Bool) (k : Lexeme → Reader Error A) (g : Reader Error A) (t : Lexeme) (ts : List Lexeme)
+      (l r : Read A)
       → (b ≡ true → seen (k t ts) ≡ l) → seen (g (t ∷ ts)) ≡ r → seen (pick b k g t ts) ≡ cond b l r
   seen_pick true k g t ts l r f h = f refl
   seen_pick false k g t ts l r f h = h
@@ -42,14 +43,17 @@ module _ {C : Type 0} (S : Scalars C Error) where
       → ((w : Text) (p : Span) (ts : List Lexeme) → seen (f (a_token k w p) ts) ≡ l (a_token k w p ∷ ts))
       → (t : Lexeme) (ts : List Lexeme) → same_kind t.kind k ≡ true → seen (f t ts) ≡ l (t ∷ ts)
   of_that_kind k f l h t ts e =
-      subst (λ j. seen (f (a_token j t.text t.span) ts) ≡ l (a_token j t.text t.span ∷ ts)) (sym (of_kind k t e)) (h t.text t.span ts)
+      let P = λ (j : Kind). seen (f (a_token j t.text t.span) ts) ≡ l (a_token j t.text t.span ∷ ts) in
+      subst P (sym (of_kind k t e)) (h t.text t.span ts)
 
   literal_seen : (t : Lexeme) (ts : List Lexeme) → seen (literal S (t ∷ ts)) ≡ literal_read S (t ∷ ts)
   unfolding literal literal_read refuse fault_of
   literal_seen t ts = by_tests (passes scalar_token t) (same_kind t.kind EndOfFile) refl refl
     where
-      by_tests : (b e : Bool) → passes scalar_token t ≡ b → same_kind t.kind EndOfFile ≡ e → seen (literal S (t ∷ ts)) ≡ literal_read S (t ∷ ts)
-      by_tests true true p q = let z : false ≡ true = sym (ap (λ k. scalar_token k t.text) (of_kind EndOfFile t q)) ∙ p in absurd (cc z)
+      by_tests : (b e : Bool) → passes scalar_token t ≡ b → same_kind t.kind EndOfFile ≡ e
+          → seen (literal S (t ∷ ts)) ≡ literal_read S (t ∷ ts)
+      by_tests true true p q =
+          let z : false ≡ true = sym (ap (λ k. scalar_token k t.text) (of_kind EndOfFile t q)) ∙ p in absurd (cc z)
       by_tests true false p q = rw (p, q, p) (scalar_seen t ts (S.read t.kind t.text) (rw q refl))
       by_tests false true p q = rw (p, q) refl
       by_tests false false p q = rw (p, q, p) refl
@@ -68,32 +72,44 @@ module _ {C : Type 0} (S : Scalars C Error) where
     abbrev named : Lexeme → Reader Error (Value C)
     named t = done (by_name S t.text t.span)
 
-    list_seen : (w : Text) (p : Span) (ts : List Lexeme) → seen (listed (a_token BracketOpen w p) ts) ≡ list_read S free (a_token BracketOpen w p ∷ ts)
+    list_seen : (w : Text) (p : Span) (ts : List Lexeme)
+        → seen (listed (a_token BracketOpen w p) ts) ≡ list_read S free (a_token BracketOpen w p ∷ ts)
     unfolding done list_read values_read expect_at
-    list_seen w p ts = seen_seq (fully (items_at S free)) _ ts
-        ∙ bound (seen (fully (items_at S free) ts)) (λ xs c. ListOf (items_of xs) (from_to p c.span)) (λ xs q. ListOf (items_of xs) (from_to p q)) (λ xs c. refl)
+    list_seen w p ts =
+        let f = λ (xs : List (Value C)) (q : Span). ListOf (items_of xs) (from_to p q) in
+        seen_seq (fully (items_at S free)) _ ts
+        ∙ bound (seen (fully (items_at S free) ts)) (λ xs c. f xs c.span) f (λ xs c. refl)
 
-    object_seen : (w : Text) (p : Span) (ts : List Lexeme) → seen (keyed (a_token CurlyOpen w p) ts) ≡ object_read S free (a_token CurlyOpen w p ∷ ts)
+    object_seen : (w : Text) (p : Span) (ts : List Lexeme)
+        → seen (keyed (a_token CurlyOpen w p) ts) ≡ object_read S free (a_token CurlyOpen w p ∷ ts)
     unfolding done object_read fields_read expect_at
-    object_seen w p ts = seen_seq (fully (fields_at S free)) _ ts
-        ∙ bound (seen (fully (fields_at S free) ts)) (λ xs c. Object (fields_of xs) (from_to p c.span)) (λ xs q. Object (fields_of xs) (from_to p q)) (λ xs c. refl)
+    object_seen w p ts =
+        let f = λ (xs : List (Word × Value C)) (q : Span). Object (fields_of xs) (from_to p q) in
+        seen_seq (fully (fields_at S free)) _ ts
+        ∙ bound (seen (fully (fields_at S free) ts)) (λ xs c. f xs c.span) f (λ xs c. refl)
 
-    variable_seen : (w : Text) (p : Span) (ts : List Lexeme) → seen (varied (a_token Dollar w p) ts) ≡ variable_read S (a_token Dollar w p ∷ ts)
+    variable_seen : (w : Text) (p : Span) (ts : List Lexeme)
+        → seen (varied (a_token Dollar w p) ts) ≡ variable_read S (a_token Dollar w p ∷ ts)
     unfolding done variable_read expect_at expect_name_at
     variable_seen w p ts = want_as Name refl _ ts _ (λ x. refl)
 
-    name_seen : (w : Text) (p : Span) (ts : List Lexeme) → seen (named (a_token Name w p) ts) ≡ name_read S (a_token Name w p ∷ ts)
+    name_seen : (w : Text) (p : Span) (ts : List Lexeme)
+        → seen (named (a_token Name w p) ts) ≡ name_read S (a_token Name w p ∷ ts)
     unfolding done name_read
     name_seen w p ts = refl
 
     by_kind : (t : Lexeme) (ts : List Lexeme) → seen (value_body S free (t ∷ ts)) ≡ value_by S free t.kind (t ∷ ts)
     unfolding on
     by_kind t ts =
-        seen_pick (same_kind t.kind BracketOpen) listed _ t ts _ _ (of_that_kind BracketOpen listed (list_read S free) list_seen t ts)
-        (seen_pick (same_kind t.kind CurlyOpen) keyed _ t ts _ _ (of_that_kind CurlyOpen keyed (object_read S free) object_seen t ts)
-        (seen_pick (free && same_kind t.kind Dollar) varied _ t ts _ _ (λ e. of_that_kind Dollar varied (variable_read S) variable_seen t ts (both free _ e).1)
-        (seen_pick (same_kind t.kind Name) named _ t ts _ _ (of_that_kind Name named (name_read S) name_seen t ts) (literal_seen t ts))
-        ∙ ap (λ (b : Bool). cond b (variable_read S (t ∷ ts)) (cond (same_kind t.kind Name) (name_read S (t ∷ ts)) (literal_read S (t ∷ ts)))) (and_comm free (same_kind t.kind Dollar))))
+        let is = λ (k : Kind). same_kind t.kind k in
+        let other : Read (Value C) = cond (is Name) (name_read S (t ∷ ts)) (literal_read S (t ∷ ts)) in
+        seen_pick (is BracketOpen) listed _ t ts _ _ (of_that_kind BracketOpen listed (list_read S free) list_seen t ts)
+        (seen_pick (is CurlyOpen) keyed _ t ts _ _ (of_that_kind CurlyOpen keyed (object_read S free) object_seen t ts)
+        (seen_pick (free && is Dollar) varied _ t ts _ _
+        (λ e. of_that_kind Dollar varied (variable_read S) variable_seen t ts (both free _ e).1)
+        (seen_pick (is Name) named _ t ts _ _
+        (of_that_kind Name named (name_read S) name_seen t ts) (literal_seen t ts))
+        ∙ ap (λ (b : Bool). cond b (variable_read S (t ∷ ts)) other) (and_comm free (is Dollar))))
 
   by_list : (free : Bool) (ts : List Lexeme) → seen (value_body S free ts) ≡ value_read S free ts
   unfolding on literal value_read literal_read

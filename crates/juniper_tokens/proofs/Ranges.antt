@@ -158,7 +158,8 @@ found_taken source at p q f ended was h s e n =
 -- ---- the text of a token
 
 -- the kind leaves the text open, or fixes it
-spelled_text : (s : Spelling) (whole : List ℕ) → Admits s whole → between (grammar.quotes s) whole ≡ unwrap_or (fixed_text s) (between (grammar.quotes s) whole)
+spelled_text : (s : Spelling) (whole : List ℕ) → Admits s whole
+    → between (grammar.quotes s) whole ≡ unwrap_or (fixed_text s) (between (grammar.quotes s) whole)
 spelled_text Names whole h = refl
 spelled_text Strings whole h = refl
 spelled_text BlockStrings whole h = refl
