@@ -108,6 +108,7 @@ impl<'a> Lexer<'a> {
 
     // Goes past white space and comments, up to a byte order mark that stands in no comment, and tells whether one may
     // stand there.
+    #[inline(always)]
     fn skip_stretch(&mut self) -> bool
         ensures passes { self.new ≡ past_stretch self.old }
         ensures none { result ≡ false → at_mark self.new ≡ false }

@@ -71,6 +71,7 @@ pub(crate) enum State {
 }
 
 /// The punctuator that this byte is.
+#[inline(always)]
 pub(crate) fn punctuator_of(byte: u8) -> Option<Kind>
     ensures { result ≡ punctuator_kind byte }
 {

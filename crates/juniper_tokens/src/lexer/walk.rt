@@ -108,6 +108,7 @@ fn walk_comment(bytes: &[u8], start: SourcePosition) -> CommentEnd
 }
 
 /// Goes past white space and comments, up to a byte order mark that stands in no comment.
+#[inline(always)]
 pub(crate) fn walk_stretch(text: &str, start: SourcePosition) -> StretchEnd
     requires { start.index + length text.now < 2 ^ 64 }
     ensures end { EndsStretch (chars text.now) start result.bytes result.position }
