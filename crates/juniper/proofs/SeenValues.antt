@@ -95,7 +95,7 @@ module _ {C : Type 0} (S : Scalars C Error) where
 
     name_seen : (w : Text) (p : Span) (ts : List Lexeme)
         → seen (named (a_token Name w p) ts) ≡ name_read S (a_token Name w p ∷ ts)
-    unfolding done name_read
+    unfolding done name_read expect_name_at
     name_seen w p ts = refl
 
     by_kind : (t : Lexeme) (ts : List Lexeme) → seen (value_body S free (t ∷ ts)) ≡ value_by S free t.kind (t ∷ ts)
