@@ -41,7 +41,7 @@ first_low text b u l e low = by_chars (chars text) refl
     ]
 
 -- what a token begins with is ASCII
-starts_low : (b : ℕ) (q : State) → step Start b ≡ Some q → b < 128
+pub starts_low : (b : ℕ) (q : State) → step Start b ≡ Some q → b < 128
 starts_low b q e = elim (low_or_high b) [
   | inl l ↦ l
   | inr h ↦ absurd (none-some q (sym (step_past_ascii Start b h) ∙ e))

@@ -4,7 +4,11 @@ use Rattle.std.specs.List.{AllByRecursion, fold}
 use Rattle.graphql_lexical.specs.Place.{Place, past_character}
 use Rattle.graphql_lexical.specs.Machines.{reach}
 use Rattle.graphql_lexical.specs.Scan.{State, Start, step, stretch_step, stretch_size}
-use Rattle.juniper_tokens.specs.ByteRuns.{byte_at, byte_step, with_value, Walked}
+use Rattle.juniper_tokens.specs.ByteRuns.{byte_at, byte_step, with_value, count_one, Walked}
+
+-- the steps of a token over bytes, with the number of characters
+abbrev pub token_machine : State × ℕ → ℕ → Option (State × ℕ)
+token_machine = byte_step (with_value step count_one)
 
 -- the state, the byte and the character at which the steps of a token stop
 pub record HasReached (cs : List ℕ) (state : State) (bytes characters : ℕ) : Type 0 where

@@ -52,9 +52,9 @@ fn position_after(position: SourcePosition, class: ByteClass) -> SourcePosition
     after
 }
 
-// The number of characters after a byte.
+/// The number of characters after a byte.
 #[tactic(auto, using(crate::proofs::ByteClasses::inner_class_tests))]
-fn count_after(count: usize, class: ByteClass) -> usize
+pub(crate) fn count_after(count: usize, class: ByteClass) -> usize
     requires { count + 1 < 2 ^ 64 }
     ensures value { (b : ℕ) → b < 256 → class ≡ class_of b → result ≡ byte_change count_one count b }
     ensures most { result ≤ count + 1 }
