@@ -19,7 +19,7 @@ use Rattle.juniper_values.specs.declared.input_value.InputValue.{InputValue}
 use Rattle.juniper_values.proofs.Copies.{view-replaced, text_replaced}
 use Rattle.juniper_values.specs.Display.{value_text}
 use Rattle.juniper_values.specs.TypeLiteral.{type_text}
-use Rattle.juniper_values.specs.ReadBack.{token, opening_tokens, closing_tokens, wrapped_tokens, scalar_token, value_tokens, items_tokens, fields_tokens, IsPlainScalar, IsPlain, ArePlainItems, ArePlainFields}
+use Rattle.juniper_values.specs.ReadBack.{token, punctuation, opening_tokens, closing_tokens, wrapped_tokens, scalar_token, value_tokens, items_tokens, fields_tokens, IsPlainScalar, IsPlain, ArePlainItems, ArePlainFields}
 use Rattle.juniper_values.specs.declared.type_literal.TypeModifier.{TypeModifier}
 use Rattle.juniper_values.specs.declared.type_literal.TypeModifier.TheVariants.{NonNull, List as ListModifier}
 use Rattle.juniper_values.proofs.WrittenIntegers.{integer_read_back}
@@ -95,12 +95,12 @@ named : (name : Text) → Mean (token Name name ∷ []) (NamedType name)
 named name ts a = let o = one ts (token Name name) a in (o.token, o.alone, o.kind, o.text)
 
 marked : (bs : List Bare) (type : TypeRef) → IsNullable type → Mean bs type → Mean (bs ++ closing_tokens NonNull) (NonNullType type)
-marked bs type n m ts a = let c = closed ts bs (token ExclamationMark (codes "!")) a in (c.inner, c.last, c.whole, c.kind, n, m c.inner c.inner_are)
+marked bs type n m ts a = let c = closed ts bs (punctuation ExclamationMark) a in (c.inner, c.last, c.whole, c.kind, n, m c.inner c.inner_are)
 
 listed : (bs : List Bare) (type : TypeRef) → Mean bs type → Mean (opening_tokens (ListModifier None) ++ (bs ++ closing_tokens (ListModifier None))) (ListType None type)
 listed bs type m ts a =
-    let f = first_of ts (token BracketOpen (codes "[")) (bs ++ closing_tokens (ListModifier None)) a in
-    let c = closed f.others bs (token BracketClose (codes "]")) f.others_are in
+    let f = first_of ts (punctuation BracketOpen) (bs ++ closing_tokens (ListModifier None)) a in
+    let c = closed f.others bs (punctuation BracketClose) f.others_are in
     (f.first, c.last, c.inner, f.whole ∙ ap (λ (us : List Lexeme). f.first ∷ us) c.whole, f.kind, c.kind, refl, m c.inner c.inner_are)
 
 -- an exclamation mark may follow, or does not
@@ -172,7 +172,7 @@ mutual
       let o = one ts (token Name t) a in
       record { tree = Enum t o.token.span; means = (is_token ts (token Name t) o, (h.not_true, h.not_false, h.not_null)); same = refl }
   value_back (input.variable t) ts h a =
-      let f = first_of ts (token Dollar (codes "$")) (token Name t ∷ []) a in
+      let f = first_of ts (punctuation Dollar) (token Name t ∷ []) a in
       let o = one f.others (token Name t) f.others_are in
       record {
         tree = Variable t (over f.first o.token);
@@ -180,8 +180,8 @@ mutual
         same = refl;
       }
   value_back (input.list xs) ts h a =
-      let f = first_of ts (token BracketOpen (codes "[")) (items_tokens xs ++ token BracketClose (codes "]") ∷ []) a in
-      let c = closed f.others (items_tokens xs) (token BracketClose (codes "]")) f.others_are in
+      let f = first_of ts (punctuation BracketOpen) (items_tokens xs ++ punctuation BracketClose ∷ []) a in
+      let c = closed f.others (items_tokens xs) (punctuation BracketClose) f.others_are in
       let b = items_back xs c.inner h c.inner_are in
       record {
         tree = ListOf b.trees (over f.first c.last);
@@ -189,8 +189,8 @@ mutual
         same = ap (λ (ys : Items Content). ListOf ys nowhere) b.same;
       }
   value_back (input.object fs) ts h a =
-      let f = first_of ts (token CurlyOpen (codes "{")) (fields_tokens fs ++ token CurlyClose (codes "}") ∷ []) a in
-      let c = closed f.others (fields_tokens fs) (token CurlyClose (codes "}")) f.others_are in
+      let f = first_of ts (punctuation CurlyOpen) (fields_tokens fs ++ punctuation CurlyClose ∷ []) a in
+      let c = closed f.others (fields_tokens fs) (punctuation CurlyClose) f.others_are in
       let b = fields_back fs c.inner h c.inner_are in
       record {
         tree = Object b.trees (over f.first c.last);
@@ -211,8 +211,8 @@ mutual
   fields_back input.no_fields [] h a = record { trees = no_fields; means = refl; same = refl }
   fields_back input.no_fields (t ∷ ts) h a = absurd a
   fields_back (input.field k s v q fs) ts h a =
-      let f = first_of ts (token Name k) (token Colon (codes ":") ∷ (value_tokens v ++ fields_tokens fs)) a in
-      let g = first_of f.others (token Colon (codes ":")) (value_tokens v ++ fields_tokens fs) f.others_are in
+      let f = first_of ts (token Name k) (punctuation Colon ∷ (value_tokens v ++ fields_tokens fs)) a in
+      let g = first_of f.others (punctuation Colon) (value_tokens v ++ fields_tokens fs) f.others_are in
       let p = parted g.others (value_tokens v) (fields_tokens fs) g.others_are in
       let b = value_back v p.front h.1 p.front_are in
       let m = fields_back fs p.rest h.2 p.rest_are in

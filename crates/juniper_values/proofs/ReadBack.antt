@@ -21,7 +21,7 @@ use Rattle.juniper_values.specs.Display.{separator, after_commas, joined, value_
 use Rattle.juniper_values.specs.TypeLiteral.{type_text, opening, closing}
 use Rattle.juniper_values.specs.declared.type_literal.TypeModifier.{TypeModifier}
 use Rattle.juniper_values.specs.declared.type_literal.TypeModifier.TheVariants.{NonNull, List as ListOf}
-use Rattle.juniper_values.specs.ReadBack.{token, opening_tokens, closing_tokens, wrapped_tokens, type_tokens, scalar_token, value_tokens, items_tokens, fields_tokens, IsPlainScalar, IsPlain, ArePlainItems, ArePlainFields}
+use Rattle.juniper_values.specs.ReadBack.{token, punctuation, opening_tokens, closing_tokens, wrapped_tokens, type_tokens, scalar_token, value_tokens, items_tokens, fields_tokens, IsPlainScalar, IsPlain, ArePlainItems, ArePlainFields}
 use Rattle.juniper_values.proofs.WrittenIntegers.{spells_integer}
 
 -- before any text that begins apart, this text is these tokens
@@ -62,25 +62,25 @@ lone_as_any t bs w rest cs a k = w rest cs k
 white_written : (c : ℕ) → IsTrue (is_white c) → WritesLone (c ∷ []) []
 white_written c h rest cs k = writes_white c rest cs h k
 
-opens_list : WritesLone (codes "[") (token BracketOpen (codes "[") ∷ [])
+opens_list : WritesLone (codes "[") (punctuation BracketOpen ∷ [])
 opens_list = lone_written (codes "[") BracketOpen refl refl refl
 
-closes_list : WritesLone (codes "]") (token BracketClose (codes "]") ∷ [])
+closes_list : WritesLone (codes "]") (punctuation BracketClose ∷ [])
 closes_list = lone_written (codes "]") BracketClose refl refl refl
 
-opens_object : WritesLone (codes "{") (token CurlyOpen (codes "{") ∷ [])
+opens_object : WritesLone (codes "{") (punctuation CurlyOpen ∷ [])
 opens_object = lone_written (codes "{") CurlyOpen refl refl refl
 
-closes_object : WritesLone (codes "}") (token CurlyClose (codes "}") ∷ [])
+closes_object : WritesLone (codes "}") (punctuation CurlyClose ∷ [])
 closes_object = lone_written (codes "}") CurlyClose refl refl refl
 
-marks : WritesLone (codes "!") (token ExclamationMark (codes "!") ∷ [])
+marks : WritesLone (codes "!") (punctuation ExclamationMark ∷ [])
 marks = lone_written (codes "!") ExclamationMark refl refl refl
 
-dollar : WritesLone (codes "$") (token Dollar (codes "$") ∷ [])
+dollar : WritesLone (codes "$") (punctuation Dollar ∷ [])
 dollar = lone_written (codes "$") Dollar refl refl refl
 
-colon : WritesLone (codes ": ") (token Colon (codes ":") ∷ [])
+colon : WritesLone (codes ": ") (punctuation Colon ∷ [])
 colon rest cs k = lone_written (codes ":") Colon refl refl refl (32 ∷ rest) cs (writes_white 32 rest cs refl k)
 
 comma : WritesLone (separator false) []
@@ -168,14 +168,14 @@ abbrev field_text : Text → Value Content → Text
 field_text k v = k ++ (codes ": " ++ value_text plain_shown v)
 
 abbrev field_tokens : Text → Value Content → List Bare
-field_tokens k v = token Name k ∷ token Colon (codes ":") ∷ value_tokens v
+field_tokens k v = token Name k ∷ punctuation Colon ∷ value_tokens v
 
 -- a key, its value and the fields after it
 field_row : (k : Text) (v : Value Content) (fs : Fields Content) → IsName k → Writes (value_text plain_shown v) (value_tokens v) → Writes (after_commas (field_texts plain_shown fs)) (fields_tokens fs)
     → Writes (field_text k v ++ after_commas (field_texts plain_shown fs)) (field_tokens k v ++ fields_tokens fs)
 field_row k v fs n w more =
-    let pair = lone_first (codes ": ") (value_text plain_shown v) (token Colon (codes ":") ∷ []) (value_tokens v) colon w in
-    let one = in_a_row k (codes ": " ++ value_text plain_shown v) (token Name k ∷ []) (token Colon (codes ":") ∷ value_tokens v) (name_written k n) pair (λ rest a. closing_apart 58 Colon refl refl (32 ∷ (value_text plain_shown v ++ rest))) in
+    let pair = lone_first (codes ": ") (value_text plain_shown v) (punctuation Colon ∷ []) (value_tokens v) colon w in
+    let one = in_a_row k (codes ": " ++ value_text plain_shown v) (token Name k ∷ []) (punctuation Colon ∷ value_tokens v) (name_written k n) pair (λ rest a. closing_apart 58 Colon refl refl (32 ∷ (value_text plain_shown v ++ rest))) in
     in_a_row (field_text k v) (after_commas (field_texts plain_shown fs)) (field_tokens k v) (fields_tokens fs) one more (commas_apart (field_texts plain_shown fs))
 
 mutual
@@ -183,11 +183,11 @@ mutual
   value_written null h = name_written (codes "null") is_name_null
   value_written (scalar s) h = scalar_written s h
   value_written (enum_value t) h = name_written t h.name
-  value_written (variable t) h = lone_first (codes "$") t (token Dollar (codes "$") ∷ []) (token Name t ∷ []) dollar (name_written t h)
+  value_written (variable t) h = lone_first (codes "$") t (punctuation Dollar ∷ []) (token Name t ∷ []) dollar (name_written t h)
   value_written (list xs) h =
-      between (codes "[") (codes "]") (token BracketOpen (codes "[") ∷ []) (token BracketClose (codes "]") ∷ []) (items_tokens xs) (joined (item_texts plain_shown xs)) opens_list closes_list (λ rest. closing_apart 93 BracketClose refl refl rest) (items_written xs h)
+      between (codes "[") (codes "]") (punctuation BracketOpen ∷ []) (punctuation BracketClose ∷ []) (items_tokens xs) (joined (item_texts plain_shown xs)) opens_list closes_list (λ rest. closing_apart 93 BracketClose refl refl rest) (items_written xs h)
   value_written (object fs) h =
-      between (codes "{") (codes "}") (token CurlyOpen (codes "{") ∷ []) (token CurlyClose (codes "}") ∷ []) (fields_tokens fs) (joined (field_texts plain_shown fs)) opens_object closes_object (λ rest. closing_apart 125 CurlyClose refl refl rest) (fields_written fs h)
+      between (codes "{") (codes "}") (punctuation CurlyOpen ∷ []) (punctuation CurlyClose ∷ []) (fields_tokens fs) (joined (field_texts plain_shown fs)) opens_object closes_object (λ rest. closing_apart 125 CurlyClose refl refl rest) (fields_written fs h)
 
   items_written : (xs : Items Content) → ArePlainItems xs → Writes (joined (item_texts plain_shown xs)) (items_tokens xs)
   items_written no_items h = nothing_written

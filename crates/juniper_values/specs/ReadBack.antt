@@ -7,6 +7,7 @@ use Rattle.graphql_lexical.specs.declared.kind.Kind.TheVariants.{Name, String, I
 use Rattle.graphql_lexical.specs.Characters.{is_plain}
 use Rattle.graphql_lexical.specs.Tokens.{IsName}
 use Rattle.graphql_lexical.specs.Written.{Bare}
+use Rattle.juniper_tokens.specs.Tokens.{kind_text}
 use Rattle.juniper_values.specs.Text.{Text}
 use Rattle.juniper_values.specs.Scalar.{Content, integer, text, boolean, custom}
 use Rattle.juniper_values.specs.Integers.{is_i32}
@@ -17,15 +18,19 @@ use Rattle.juniper_values.specs.declared.type_literal.TypeModifier.TheVariants.{
 abbrev pub token : Kind → Text → Bare
 token kind t = record { kind = kind; text = t }
 
+-- a token of a kind that leaves no text open
+abbrev pub punctuation : Kind → Bare
+punctuation kind = token kind (kind_text kind [])
+
 -- ---- types
 
 abbrev pub opening_tokens : TypeModifier → List Bare
 opening_tokens NonNull = []
-opening_tokens (ListOf size) = token BracketOpen (codes "[") ∷ []
+opening_tokens (ListOf size) = punctuation BracketOpen ∷ []
 
 abbrev pub closing_tokens : TypeModifier → List Bare
-closing_tokens NonNull = token ExclamationMark (codes "!") ∷ []
-closing_tokens (ListOf size) = token BracketClose (codes "]") ∷ []
+closing_tokens NonNull = punctuation ExclamationMark ∷ []
+closing_tokens (ListOf size) = punctuation BracketClose ∷ []
 
 -- these modifiers, from the innermost on, round the tokens of a type
 abbrev pub wrapped_tokens : List Bare → List TypeModifier → List Bare
@@ -50,9 +55,9 @@ abbrev mutual
   value_tokens null = token Name (codes "null") ∷ []
   value_tokens (scalar s) = scalar_token s ∷ []
   value_tokens (enum_value t) = token Name t ∷ []
-  value_tokens (variable t) = token Dollar (codes "$") ∷ token Name t ∷ []
-  value_tokens (list xs) = token BracketOpen (codes "[") ∷ (items_tokens xs ++ token BracketClose (codes "]") ∷ [])
-  value_tokens (object fs) = token CurlyOpen (codes "{") ∷ (fields_tokens fs ++ token CurlyClose (codes "}") ∷ [])
+  value_tokens (variable t) = punctuation Dollar ∷ token Name t ∷ []
+  value_tokens (list xs) = punctuation BracketOpen ∷ (items_tokens xs ++ punctuation BracketClose ∷ [])
+  value_tokens (object fs) = punctuation CurlyOpen ∷ (fields_tokens fs ++ punctuation CurlyClose ∷ [])
 
   pub items_tokens : Items Content → List Bare
   items_tokens no_items = []
@@ -60,7 +65,7 @@ abbrev mutual
 
   pub fields_tokens : Fields Content → List Bare
   fields_tokens no_fields = []
-  fields_tokens (field k s v t fs) = token Name k ∷ token Colon (codes ":") ∷ (value_tokens v ++ fields_tokens fs)
+  fields_tokens (field k s v t fs) = token Name k ∷ punctuation Colon ∷ (value_tokens v ++ fields_tokens fs)
 
 -- a Name that isn't one of the names of other values
 pub record IsEnumName (t : Text) : Type 0 where

@@ -1,6 +1,6 @@
 //! How places, tokens and errors are written in a row's answer.
 
-use juniper::{Kind, LexerError, ParseError, ParseFailure, SourcePosition, Span, Spanning, Token};
+use juniper::{LexerError, ParseError, ParseFailure, SourcePosition, Span, Spanning, Token};
 use std::alloc::AllocError;
 
 fn write_place(out: &mut String, place: SourcePosition) -> Result<(), AllocError> {
@@ -17,44 +17,16 @@ pub fn write_span(out: &mut String, span: &Span) -> Result<(), AllocError> {
     write_place(out, span.end)
 }
 
-fn kind_word(kind: Kind) -> &'static str {
-    match kind {
-        Kind::Name => "Name",
-        Kind::String => "String",
-        Kind::BlockString => "BlockString",
-        Kind::Float => "Float",
-        Kind::Int => "Int",
-        Kind::ExclamationMark => "ExclamationMark",
-        Kind::Dollar => "Dollar",
-        Kind::ParenOpen => "ParenOpen",
-        Kind::ParenClose => "ParenClose",
-        Kind::BracketOpen => "BracketOpen",
-        Kind::BracketClose => "BracketClose",
-        Kind::CurlyOpen => "CurlyOpen",
-        Kind::CurlyClose => "CurlyClose",
-        Kind::Ellipsis => "Ellipsis",
-        Kind::Colon => "Colon",
-        Kind::Equals => "Equals",
-        Kind::At => "At",
-        Kind::Pipe => "Pipe",
-        Kind::EndOfFile => "EndOfFile",
-    }
-}
-
 /// Writes a token's span, its kind, and its text if that isn't empty.
 pub fn write_token(out: &mut String, token: &Spanning<Token<'_>>) -> Result<(), AllocError> {
     write_span(out, &token.span)?;
-    let word = kind_word(token.item.kind());
-    write_worded(out, word, token.item.text())
-}
-
-// Writes a space and a word, and a space and a text if that isn't empty.
-fn write_worded(out: &mut String, word: &str, text: &str) -> Result<(), AllocError> {
+    let kind = token.item.kind();
+    write!(out, " {kind:?}")?;
+    let text = token.item.text();
     if text.is_empty() {
-        write!(out, " {word}")
-    } else {
-        write!(out, " {word} {text}")
+        return Ok(());
     }
+    write!(out, " {text}")
 }
 
 fn write_lexer_error(out: &mut String, error: &LexerError) -> Result<(), AllocError> {
