@@ -40,7 +40,8 @@ fn parse_selection_list<'a, S: ScalarValue>(
     ensures gives { Gives (view_list (view_selection S.content)) result parser.new (selections_inner_read (stated S.reading S.of_bool) parser.old) }
     ensures shorter { OnOk result (length parser.new < length parser.old) }
 {
-    let mut items = Vec::new(parser.allocator());
+    // Most sets have no more than three.
+    let mut items = Vec::with_capacity(parser.allocator(), 3)?;
     loop {
         items.push(parse_selection(parser)?)?;
         if let Some(closing) = parser.skip(&Token::CurlyClose)? {

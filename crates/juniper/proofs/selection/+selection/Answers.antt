@@ -18,7 +18,7 @@ use Rattle.juniper.proofs.selection.+selection.Goals as goal
 
 pub parse_selection_list-returns-in_err-parse_selection-clause-gives : goal.parse_selection_list-returns-in_err-parse_selection-clause-gives
 parse_selection_list-returns-in_err-parse_selection-clause-gives g t c =
-    let p = err_from_is_err_and c.from_residual.result c.from_residual.ensures.1 in
+    let p = err_from_is_err_and c.from_residual-in_err-parse_selection.result c.from_residual-in_err-parse_selection.ensures.1 in
     rw (p.1, p.2) (some_item_fails (skip_at token.CurlyClose) (selection_read (stated g.S.ParseScalarValue.reading g.S.ScalarValue.of_bool)) (selections_inner_read (stated g.S.ParseScalarValue.reading g.S.ScalarValue.of_bool)) (selections_repeat (stated g.S.ParseScalarValue.reading g.S.ScalarValue.of_bool)) (map (view_selection g.S.ParseScalarValue.content) c.loop-items.items.items) c.loop-items.parser _ c.loop-items.invariant.so_far c.in_err-parse_selection.field-0.0 c.parse_selection.new.parser c.in_err-parse_selection.ensures.gives)
 
 pub parse_selection_list-returns-in_err-closing-clause-gives : goal.parse_selection_list-returns-in_err-closing-clause-gives
