@@ -170,7 +170,7 @@ not_u c d e = by_test (c == 117) refl
     by_test true t = let is : c ≡ 117 = grind (arith, nat_tests) in absurd (let h : None ≡ Some d = ap short_escape (sym is) ∙ e in cc)
     by_test false t = refl
 
-unescaped : (t u : Text) → StandsFor t u → unescape t ≡ Some u
+pub unescaped : (t u : Text) → StandsFor t u → unescape t ≡ Some u
 unescaped _ _ nothing = refl
 unescaped _ _ (itself c t u other s) =
     stepped Plain Plain (Some c) c t (grind (arith, nat_tests, other)) ∙ ap (option_map (λ w. (c ∷ []) ++ w)) (unescaped t u s)

@@ -19,8 +19,19 @@ pub(crate) enum Stage {
     Hex(u8, u32),
 }
 
-// The text with each escape replaced, or nothing where some backslash begins none.
+// The text with each escape replaced, or nothing where some backslash begins none. Most texts have no backslash.
 pub(crate) fn unescape(alloc: Global, text: &str) -> Result<Option<String>, AllocError>
+    ensures { IfOk result (λ o. option_map text_of o ≡ unescape (chars text.now)) }
+{
+    if text.contains('\\') {
+        replace_escapes(alloc, text)
+    } else {
+        Ok(Some(String::from_str(alloc, text)?))
+    }
+}
+
+// The same, character by character.
+fn replace_escapes(alloc: Global, text: &str) -> Result<Option<String>, AllocError>
     ensures { IfOk result (λ o. option_map text_of o ≡ unescape (chars text.now)) }
 {
     let mut out = String::new(alloc);

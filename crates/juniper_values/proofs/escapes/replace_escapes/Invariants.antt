@@ -1,7 +1,7 @@
 use Rattle.std.proofs.Common.{◌≡◌, ◌++◌, length, drop, option_map, string_bytes}
 use Rattle.std.specs.Str.{chars}
 use Rattle.juniper_values.specs.Escapes.{unescape, unescape_from, IsStage}
-use Rattle.juniper_values.proofs.escapes.unescape.Given as goal
+use Rattle.juniper_values.proofs.escapes.replace_escapes.Given as goal
 
 abbrev pub invariant-loop-c : goal.invariant-loop-c
 invariant-loop-c l = record {
