@@ -9,7 +9,7 @@ use Rattle.graphql_lexical.specs.Kinds.{Kind, Name, String, Float, Int, Ellipsis
 use Rattle.graphql_lexical.specs.Tokens.{IsZero, IsNumber, AreUnits, mark}
 use Rattle.graphql_lexical.specs.Reading.{BeginsNumber, StringFails, at_end, at_line_end, at_control, lone_backslash, wrong_escape, Fails, number_ends, number_stops, zero_goes_on, string_fails, dot_ends, dots_end, dot_stops, dots_stop, unknown, block_ends, block_stops}
 use Rattle.graphql_lexical.specs.Machines.{reach}
-use Rattle.graphql_lexical.specs.Scan.{State, Start, Done, Dot, Dots, InName, Minus, Zero, Digits, Point, Fraction, Mark, Sign, Exponent, Units, Backslash, Hex0, Hex1, HexD, Hex2, Hex3, step, Missed, found, missed, stopped, after_zero, after_dots, after_units, after_backslash, after_u, answer, scan, Quote, Quotes, InBlock, Block, Inside, Closed, block_step, after_block}
+use Rattle.graphql_lexical.specs.Scan.{State, Start, Done, OneDot, TwoDots, InName, Minus, Zero, Digits, Point, Fraction, ExponentMark, ExponentSign, Exponent, InString, Backslash, NoHexDigit, OneHexDigit, HexDigitD, TwoHexDigits, ThreeHexDigits, step, Missed, found, missed, stopped, after_zero, after_dots, after_units, after_backslash, after_u, answer, scan, Quote, EmptyString, InBlock, Block, Inside, Closed, block_step, after_block}
 use Rattle.graphql_lexical.proofs.Runs.{Stops, run}
 use Rattle.graphql_lexical.proofs.History.{IsRead, IsOpen, IsBase, cond_none, open_none}
 use Rattle.graphql_lexical.proofs.Blocks.{block_open, stops_at}
@@ -87,45 +87,45 @@ control_bools : (s l q b : Bool) → ((s && not l) && (not q && not b)) ≡ fals
 control_bools false l q b h x y z = refl
 control_bools true l q b h x y z = rw (x, y, z) at h
 
-control_is : (c : ℕ) → step Units c ≡ None → is_line_end c ≡ false → is_source c ≡ false
+control_is : (c : ℕ) → step InString c ≡ None → is_line_end c ≡ false → is_source c ≡ false
 control_is c s l =
-    let a = cond_none (is_plain c) Units _ s in
+    let a = cond_none (is_plain c) InString _ s in
     let b = cond_none (eqb c 34) (Done String) _ a.1 in
     let d = cond_none (eqb c 92) Backslash None b.1 in
     control_bools (is_source c) (is_line_end c) (eqb c 34) (eqb c 92) a.0 l b.0 d.0
 
-units_cond : (n c : ℕ) (after : List ℕ) (m : Missed) (b : Bool) → is_line_end c ≡ b → step Units c ≡ None → cond b (missed n UnterminatedString) (missed n (UnknownCharacterInString c)) ≡ Err m → (m.at ≡ n) × StringFails (c ∷ after) 0 m.error
+units_cond : (n c : ℕ) (after : List ℕ) (m : Missed) (b : Bool) → is_line_end c ≡ b → step InString c ≡ None → cond b (missed n UnterminatedString) (missed n (UnknownCharacterInString c)) ≡ Err m → (m.at ≡ n) × StringFails (c ∷ after) 0 m.error
 units_cond n c after m true l s e = subst (λ (x : Missed). (x.at ≡ n) × StringFails (c ∷ after) 0 x.error) (same_Err (record { at = n; error = UnterminatedString }) m e) (refl, at_line_end l)
 units_cond n c after m false l s e = subst (λ (x : Missed). (x.at ≡ n) × StringFails (c ∷ after) 0 x.error) (same_Err (record { at = n; error = UnknownCharacterInString c }) m e) (refl, at_control (control_is c s l))
 
-units_fails : (n : ℕ) (b : List ℕ) (m : Missed) → Stops step Units b → after_units n b ≡ Err m → (m.at ≡ n) × StringFails b 0 m.error
+units_fails : (n : ℕ) (b : List ℕ) (m : Missed) → Stops step InString b → after_units n b ≡ Err m → (m.at ≡ n) × StringFails b 0 m.error
 units_fails n [] m s e = subst (λ (x : Missed). (x.at ≡ n) × StringFails [] 0 x.error) (same_Err (record { at = n; error = UnterminatedString }) m e) (refl, at_end)
 units_fails n (c ∷ after) m s e = units_cond n c after m (is_line_end c) refl s e
 
 -- a quote alone stops where a quote and units would
-quote_stop : (b : List ℕ) → Stops step Quote b → Stops step Units b
+quote_stop : (b : List ℕ) → Stops step Quote b → Stops step InString b
 quote_stop [] s = tt
 quote_stop (c ∷ after) s =
-    let a = cond_none (is_plain c) Units _ s in
-    let b = cond_none (eqb c 34) Quotes _ a.1 in
+    let a = cond_none (is_plain c) InString _ s in
+    let b = cond_none (eqb c 34) EmptyString _ a.1 in
     let d = cond_none (eqb c 92) Backslash None b.1 in
     cond-false (is_plain c) _ _ a.0 ∙ (cond-false (eqb c 34) _ _ b.0 ∙ cond-false (eqb c 92) _ _ d.0)
 
 backslash_fails : (n : ℕ) (b : List ℕ) (m : Missed) → Stops step Backslash b → after_backslash n b ≡ Err m → (m.at ≡ n) × StringFails (92 ∷ b) 1 m.error
 backslash_fails n [] m s e = subst (λ (x : Missed). (x.at ≡ n) × StringFails (92 ∷ []) 1 x.error) (same_Err (record { at = n; error = UnterminatedString }) m e) (refl, lone_backslash)
 backslash_fails n (c ∷ after) m s e =
-    let a = cond_none (is_escape c) Units _ s in
-    let b = cond_none (eqb c 117) Hex0 None a.1 in
+    let a = cond_none (is_escape c) InString _ s in
+    let b = cond_none (eqb c 117) NoHexDigit None a.1 in
     subst (λ (x : Missed). (x.at ≡ n) × StringFails (92 ∷ c ∷ after) 1 x.error) (same_Err (record { at = n; error = UnknownEscapeSequence (92 ∷ c ∷ []) }) m e) (refl, wrong_escape a.0 (eqb-false c 117 b.0))
 
 -- ---- dots
 
 -- what follows a front, with its equation
-dot_missed : (b : List ℕ) (m : Missed) → Stops step Dot b → after_dots 1 b ≡ Err m → FailsAs (46 ∷ b) m
+dot_missed : (b : List ℕ) (m : Missed) → Stops step OneDot b → after_dots 1 b ≡ Err m → FailsAs (46 ∷ b) m
 dot_missed [] m s e = missed_as (46 ∷ []) 1 UnexpectedEndOfFile m e dot_ends
-dot_missed (c ∷ b) m s e = missed_as (46 ∷ c ∷ b) 0 (UnexpectedCharacter 46) m e (dot_stops (eqb-false c 46 (cond_none (eqb c 46) Dots None s).0))
+dot_missed (c ∷ b) m s e = missed_as (46 ∷ c ∷ b) 0 (UnexpectedCharacter 46) m e (dot_stops (eqb-false c 46 (cond_none (eqb c 46) TwoDots None s).0))
 
-dots_missed : (b : List ℕ) (m : Missed) → Stops step Dots b → after_dots 2 b ≡ Err m → FailsAs (46 ∷ 46 ∷ b) m
+dots_missed : (b : List ℕ) (m : Missed) → Stops step TwoDots b → after_dots 2 b ≡ Err m → FailsAs (46 ∷ 46 ∷ b) m
 dots_missed [] m s e = missed_as (46 ∷ 46 ∷ []) 2 UnexpectedEndOfFile m e dots_end
 dots_missed (c ∷ b) m s e = missed_as (46 ∷ 46 ∷ c ∷ b) 0 (UnexpectedCharacter 46) m e (dots_stop (eqb-false c 46 (cond_none (eqb c 46) (Done Ellipsis) None s).0))
 
@@ -189,10 +189,10 @@ begins_base b t whole e h = rw e (begins_append b t (base_begins b h))
 pub answer_missed : (q : State) (n : ℕ) (rest : List ℕ) (m : Missed) → Reached rest n q → IsRead q (take n rest) → answer q n rest ≡ Err m → FailsAs rest m
 answer_missed Start n rest m h r e = start_missed n rest m h.within r h.stops e
 answer_missed (Done kind) n rest m h r e = absurd (not_missed n kind rest m e)
-answer_missed Dot n rest m h r e =
+answer_missed OneDot n rest m h r e =
     let f = front_is n rest (46 ∷ []) h.within r in
     subst (λ (x : List ℕ). FailsAs x m) (sym f.0) (dot_missed (drop n rest) m h.stops (subst (λ (k : ℕ). after_dots k (drop n rest) ≡ Err m) f.1 e))
-answer_missed Dots n rest m h r e =
+answer_missed TwoDots n rest m h r e =
     let f = front_is n rest (46 ∷ 46 ∷ []) h.within r in
     subst (λ (x : List ℕ). FailsAs x m) (sym f.0) (dots_missed (drop n rest) m h.stops (subst (λ (k : ℕ). after_dots k (drop n rest) ≡ Err m) f.1 e))
 answer_missed InName n rest m h r e = absurd (not_missed n Name rest m e)
@@ -201,28 +201,28 @@ answer_missed Zero n rest m h r e = zero_missed n rest (drop n rest) m h refl r 
 answer_missed Digits n rest m h r e = absurd (not_missed n Int rest m e)
 answer_missed Point n rest m h r e = number_missed n rest (drop n rest) Point m h refl refl (begins_base r.0 (46 ∷ []) (take n rest) r.1 (inl r.2)) e
 answer_missed Fraction n rest m h r e = absurd (not_missed n Float rest m e)
-answer_missed Mark n rest m h r e = number_missed n rest (drop n rest) Mark m h refl refl (begins_base r.0 (r.1 ∷ []) (take n rest) r.2 r.3) e
-answer_missed Sign n rest m h r e = number_missed n rest (drop n rest) Sign m h refl refl (begins_base r.0 (r.1 ∷ r.2 ∷ []) (take n rest) r.3 r.4) e
+answer_missed ExponentMark n rest m h r e = number_missed n rest (drop n rest) ExponentMark m h refl refl (begins_base r.0 (r.1 ∷ []) (take n rest) r.2 r.3) e
+answer_missed ExponentSign n rest m h r e = number_missed n rest (drop n rest) ExponentSign m h refl refl (begins_base r.0 (r.1 ∷ r.2 ∷ []) (take n rest) r.3 r.4) e
 answer_missed Exponent n rest m h r e = absurd (not_missed n Float rest m e)
 answer_missed Quote n rest m h r e =
     let stops = quote_stop (drop n rest) h.stops in
     let f = units_fails n (drop n rest) m stops e in
     let at_is = f.0 in
     string_missed [] n rest Quote 0 m.error h (open_none (take n rest) r) (units_stop (drop n rest) stops) f.1 m.at (omega arith)
-answer_missed Quotes n rest m h r e = absurd (not_missed n String rest m e)
-answer_missed Units n rest m h r e =
+answer_missed EmptyString n rest m h r e = absurd (not_missed n String rest m e)
+answer_missed InString n rest m h r e =
     let f = units_fails n (drop n rest) m h.stops e in
     let at_is = f.0 in
-    string_missed [] n rest Units 0 m.error h r (units_stop (drop n rest) h.stops) f.1 m.at (omega arith)
+    string_missed [] n rest InString 0 m.error h r (units_stop (drop n rest) h.stops) f.1 m.at (omega arith)
 answer_missed Backslash n rest m h r e =
     let f = backslash_fails n (drop n rest) m h.stops e in
     let at_is = f.0 in
     string_missed (92 ∷ []) n rest Backslash 1 m.error h r (backslash_stop (drop n rest) h.stops) f.1 m.at (omega arith)
-answer_missed Hex0 n rest m h r e = hex_missed [] n rest Hex0 m h r (hex0_stop (drop n rest) h.stops) e
-answer_missed Hex1 n rest m h r e = hex_missed (r.0 ∷ []) n rest Hex1 m h r.3 (hex1_stop r.0 (drop n rest) h.stops) e
-answer_missed HexD n rest m h r e = hex_missed (r.0 ∷ []) n rest HexD m h r.2 (hexd_stop r.0 (drop n rest) r.1 h.stops) e
-answer_missed Hex2 n rest m h r e = hex_missed (r.0 ∷ r.1 ∷ []) n rest Hex2 m h r.3 (hex2_stop r.0 r.1 (drop n rest) h.stops) e
-answer_missed Hex3 n rest m h r e = hex_missed (r.0 ∷ r.1 ∷ r.2 ∷ []) n rest Hex3 m h r.5 (hex3_stop r.0 r.1 r.2 (drop n rest) h.stops) e
+answer_missed NoHexDigit n rest m h r e = hex_missed [] n rest NoHexDigit m h r (hex0_stop (drop n rest) h.stops) e
+answer_missed OneHexDigit n rest m h r e = hex_missed (r.0 ∷ []) n rest OneHexDigit m h r.3 (hex1_stop r.0 (drop n rest) h.stops) e
+answer_missed HexDigitD n rest m h r e = hex_missed (r.0 ∷ []) n rest HexDigitD m h r.2 (hexd_stop r.0 (drop n rest) r.1 h.stops) e
+answer_missed TwoHexDigits n rest m h r e = hex_missed (r.0 ∷ r.1 ∷ []) n rest TwoHexDigits m h r.3 (hex2_stop r.0 r.1 (drop n rest) h.stops) e
+answer_missed ThreeHexDigits n rest m h r e = hex_missed (r.0 ∷ r.1 ∷ r.2 ∷ []) n rest ThreeHexDigits m h r.5 (hex3_stop r.0 r.1 r.2 (drop n rest) h.stops) e
 answer_missed (InBlock Closed) n rest m h r e = absurd (not_missed n BlockString rest m e)
 answer_missed (InBlock part) n rest m h r e = block_missed part n rest m (λ x. absurd cc) h r e
 

@@ -8,7 +8,7 @@ use Rattle.std.proofs.lemmas.Option.{none-some, same_Some}
 use Rattle.graphql_lexical.specs.Characters.{is_digit, is_name_character, is_exponent_mark, is_sign, is_hex}
 use Rattle.graphql_lexical.specs.Kinds.{Kind, String, Ellipsis, all_kinds, Fixed, spelling, character_of}
 use Rattle.graphql_lexical.specs.Tokens.{IsName, AreSomeDigits, IsZero, IsCounting, IsLongInteger, IsInteger, IsFraction, IsExponent, IsDecimal, IsUnit, plain, escape, unicode, AreUnits, Admits, Spells, is_character, punctuator, mark}
-use Rattle.graphql_lexical.specs.Scan.{State, Start, Done, Dot, Dots, InName, Minus, Zero, Digits, Point, Fraction, Mark, Sign, Exponent, Units, Backslash, Hex0, Hex1, HexD, Hex2, Hex3, is_hex_d, step, Quote, Quotes, InBlock, Block, Inside, block_step}
+use Rattle.graphql_lexical.specs.Scan.{State, Start, Done, OneDot, TwoDots, InName, Minus, Zero, Digits, Point, Fraction, ExponentMark, ExponentSign, Exponent, InString, Backslash, NoHexDigit, OneHexDigit, HexDigitD, TwoHexDigits, ThreeHexDigits, is_hex_d, step, Quote, EmptyString, InBlock, Block, Inside, block_step}
 use Rattle.graphql_lexical.proofs.EachKind.{lone_spelling}
 use Rattle.graphql_lexical.proofs.Runs.{run, kept_run, run_on}
 use Rattle.graphql_lexical.proofs.Numbers.{IsPair, pair_d, pair_other, scalar_from}
@@ -26,26 +26,26 @@ pub record IsOpen (tail text : List ℕ) : Type 0 where
 abbrev pub IsRead : State → List ℕ → Type 0
 IsRead Start t = t ≡ []
 IsRead (Done kind) t = Spells t kind
-IsRead Dot t = t ≡ 46 ∷ []
-IsRead Dots t = t ≡ 46 ∷ 46 ∷ []
+IsRead OneDot t = t ≡ 46 ∷ []
+IsRead TwoDots t = t ≡ 46 ∷ 46 ∷ []
 IsRead InName t = IsName t
 IsRead Minus t = t ≡ 45 ∷ []
 IsRead Zero t = IsZero t
 IsRead Digits t = IsLongInteger t
 IsRead Point t = (w : List ℕ) × (t ≡ w ++ 46 ∷ []) × IsInteger w
 IsRead Fraction t = IsDecimal t
-IsRead Mark t = (b : List ℕ) × (e : ℕ) × (t ≡ b ++ e ∷ []) × IsBase b × IsTrue (is_exponent_mark e)
-IsRead Sign t = (b : List ℕ) × (e : ℕ) × (s : ℕ) × (t ≡ b ++ e ∷ s ∷ []) × IsBase b × IsTrue (is_exponent_mark e) × IsTrue (is_sign s)
+IsRead ExponentMark t = (b : List ℕ) × (e : ℕ) × (t ≡ b ++ e ∷ []) × IsBase b × IsTrue (is_exponent_mark e)
+IsRead ExponentSign t = (b : List ℕ) × (e : ℕ) × (s : ℕ) × (t ≡ b ++ e ∷ s ∷ []) × IsBase b × IsTrue (is_exponent_mark e) × IsTrue (is_sign s)
 IsRead Exponent t = (b : List ℕ) × (x : List ℕ) × (t ≡ b ++ x) × IsBase b × IsExponent x
 IsRead Quote t = t ≡ 34 ∷ []
-IsRead Quotes t = t ≡ 34 ∷ 34 ∷ []
-IsRead Units t = IsOpen [] t
+IsRead EmptyString t = t ≡ 34 ∷ 34 ∷ []
+IsRead InString t = IsOpen [] t
 IsRead Backslash t = IsOpen (92 ∷ []) t
-IsRead Hex0 t = IsOpen (92 ∷ 117 ∷ []) t
-IsRead Hex1 t = (h : ℕ) × IsTrue (is_hex h) × (is_hex_d h ≡ false) × IsOpen (92 ∷ 117 ∷ h ∷ []) t
-IsRead HexD t = (h : ℕ) × IsTrue (is_hex_d h) × IsOpen (92 ∷ 117 ∷ h ∷ []) t
-IsRead Hex2 t = (h : ℕ) × (i : ℕ) × IsPair h i × IsOpen (92 ∷ 117 ∷ h ∷ i ∷ []) t
-IsRead Hex3 t = (h : ℕ) × (i : ℕ) × (j : ℕ) × IsPair h i × IsTrue (is_hex j) × IsOpen (92 ∷ 117 ∷ h ∷ i ∷ j ∷ []) t
+IsRead NoHexDigit t = IsOpen (92 ∷ 117 ∷ []) t
+IsRead OneHexDigit t = (h : ℕ) × IsTrue (is_hex h) × (is_hex_d h ≡ false) × IsOpen (92 ∷ 117 ∷ h ∷ []) t
+IsRead HexDigitD t = (h : ℕ) × IsTrue (is_hex_d h) × IsOpen (92 ∷ 117 ∷ h ∷ []) t
+IsRead TwoHexDigits t = (h : ℕ) × (i : ℕ) × IsPair h i × IsOpen (92 ∷ 117 ∷ h ∷ i ∷ []) t
+IsRead ThreeHexDigits t = (h : ℕ) × (i : ℕ) × (j : ℕ) × IsPair h i × IsTrue (is_hex j) × IsOpen (92 ∷ 117 ∷ h ∷ i ∷ j ∷ []) t
 IsRead (InBlock part) t = (s : List ℕ) × (t ≡ mark ++ s) × (run block_step Inside s ≡ Some part)
 
 -- ---- tests, one after another
@@ -143,7 +143,7 @@ in_block_read part t c None h r p e = absurd (none-some p e)
 in_block_read part t c (Some next) h r p e = subst (λ (s : State). IsRead s (t ++ c ∷ [])) (same_Some (InBlock next) p e) (r.0 ++ c ∷ [], ap (λ (x : List ℕ). x ++ c ∷ []) r.1, block_push part next r.0 c r.2 h)
 
 -- a mark after an integer part or a decimal
-mark_read : (t : List ℕ) (c : ℕ) → IsBase t → IsTrue (is_exponent_mark c) → IsRead Mark (t ++ c ∷ [])
+mark_read : (t : List ℕ) (c : ℕ) → IsBase t → IsTrue (is_exponent_mark c) → IsRead ExponentMark (t ++ c ∷ [])
 mark_read t c h g = (t, c, refl, h, g)
 
 pub read_step : (q : State) (t : List ℕ) (c : ℕ) → IsRead q t → (p : State) → step q c ≡ Some p → IsRead p (t ++ c ∷ [])
@@ -155,15 +155,15 @@ read_step Start t c r =
     if_then P _ InName _ (λ h. (c, [], refl, h, tt)) (
     if_then P _ Zero _ (λ h. inl (at 48 h)) (
     if_then P _ Minus _ (at 45) (
-    if_then P _ Dot _ (at 46) (
+    if_then P _ OneDot _ (at 46) (
     if_then P _ Quote _ (at 34) (
     punctuator_read c (punctuator c) (punctuator_spells c)))))))
     )
 read_step (Done kind) t c r = if_none (λ p. IsRead p (t ++ c ∷ []))
-read_step Dot t c r =
+read_step OneDot t c r =
     let P = λ (p : State). IsRead p (t ++ c ∷ []) in
-    if_then P _ Dots _ (λ h. rw (r, eqb-true c 46 h) refl) (if_none P)
-read_step Dots t c r =
+    if_then P _ TwoDots _ (λ h. rw (r, eqb-true c 46 h) refl) (if_none P)
+read_step TwoDots t c r =
     let P = λ (p : State). IsRead p (t ++ c ∷ []) in
     if_then P _ (Done Ellipsis) _ (λ h. rw (r, eqb-true c 46 h) refl) (if_none P)
 read_step InName t c r =
@@ -176,24 +176,24 @@ read_step Minus t c r =
 read_step Zero t c r =
     let P = λ (p : State). IsRead p (t ++ c ∷ []) in
     if_then P _ Point _ (λ h. (t, ap (λ (x : ℕ). t ++ x ∷ []) (eqb-true c 46 h), inl r)) (
-    if_then P _ Mark _ (λ h. mark_read t c (inl (inl r)) h) (if_none P))
+    if_then P _ ExponentMark _ (λ h. mark_read t c (inl (inl r)) h) (if_none P))
 read_step Digits t c r =
     let P = λ (p : State). IsRead p (t ++ c ∷ []) in
     if_then P _ Digits _ (λ h. elim r [ inl x ↦ inl (counting_push t c x h) | inr x ↦ inr (x.0 ++ c ∷ [], ap (λ (y : List ℕ). y ++ c ∷ []) x.1, counting_push x.0 c x.2 h) ]) (
     if_then P _ Point _ (λ h. (t, ap (λ (x : ℕ). t ++ x ∷ []) (eqb-true c 46 h), inr r)) (
-    if_then P _ Mark _ (λ h. mark_read t c (inl (inr r)) h) (if_none P)))
+    if_then P _ ExponentMark _ (λ h. mark_read t c (inl (inr r)) h) (if_none P)))
 read_step Point t c r =
     let P = λ (p : State). IsRead p (t ++ c ∷ []) in
     if_then P _ Fraction _ (λ h. (r.0, 46 ∷ c ∷ [], end_push t r.0 (46 ∷ []) c r.1, r.2, (c ∷ [], refl, (omega arith, (h, tt))))) (if_none P)
 read_step Fraction t c r =
     let P = λ (p : State). IsRead p (t ++ c ∷ []) in
     if_then P _ Fraction _ (λ h. (r.0, r.1 ++ c ∷ [], end_push t r.0 r.1 c r.2, r.3, fraction_push r.1 c r.4 h)) (
-    if_then P _ Mark _ (λ h. mark_read t c (inr r) h) (if_none P))
-read_step Mark t c r =
+    if_then P _ ExponentMark _ (λ h. mark_read t c (inr r) h) (if_none P))
+read_step ExponentMark t c r =
     let P = λ (p : State). IsRead p (t ++ c ∷ []) in
     if_then P _ Exponent _ (λ h. (r.0, r.1 ∷ c ∷ [], end_push t r.0 (r.1 ∷ []) c r.2, r.3, (r.1, [], c ∷ [], refl, r.4, inl refl, (omega arith, (h, tt))))) (
-    if_then P _ Sign _ (λ h. (r.0, r.1, c, end_push t r.0 (r.1 ∷ []) c r.2, r.3, r.4, h)) (if_none P))
-read_step Sign t c r =
+    if_then P _ ExponentSign _ (λ h. (r.0, r.1, c, end_push t r.0 (r.1 ∷ []) c r.2, r.3, r.4, h)) (if_none P))
+read_step ExponentSign t c r =
     let P = λ (p : State). IsRead p (t ++ c ∷ []) in
     if_then P _ Exponent _ (λ h. (r.0, r.1 ∷ r.2 ∷ c ∷ [], end_push t r.0 (r.1 ∷ r.2 ∷ []) c r.3, r.4, (r.1, r.2 ∷ [], c ∷ [], refl, r.5, inr (r.2, refl, r.6), (omega arith, (h, tt))))) (if_none P)
 read_step Exponent t c r =
@@ -202,39 +202,39 @@ read_step Exponent t c r =
 read_step Quote t c r =
     let P = λ (p : State). IsRead p (t ++ c ∷ []) in
     let more = open_more [] t c (open_none t r) in
-    if_then P _ Units _ (λ h. open_unit (c ∷ []) (t ++ c ∷ []) more (plain h)) (
-    if_then P _ Quotes _ (λ h. rw (r, eqb-true c 34 h) refl) (
+    if_then P _ InString _ (λ h. open_unit (c ∷ []) (t ++ c ∷ []) more (plain h)) (
+    if_then P _ EmptyString _ (λ h. rw (r, eqb-true c 34 h) refl) (
     if_then P _ Backslash _ (λ h. subst (λ (x : ℕ). IsOpen (x ∷ []) (t ++ c ∷ [])) (eqb-true c 92 h) more) (if_none P)))
-read_step Quotes t c r =
+read_step EmptyString t c r =
     let P = λ (p : State). IsRead p (t ++ c ∷ []) in
     if_then P _ (InBlock Inside) _ (λ h. ([], rw (r, eqb-true c 34 h) refl, refl)) (if_none P)
-read_step Units t c r =
+read_step InString t c r =
     let P = λ (p : State). IsRead p (t ++ c ∷ []) in
     let more = open_more [] t c r in
-    if_then P _ Units _ (λ h. open_unit (c ∷ []) (t ++ c ∷ []) more (plain h)) (
+    if_then P _ InString _ (λ h. open_unit (c ∷ []) (t ++ c ∷ []) more (plain h)) (
     if_then P _ (Done String) _ (λ h. (more.units, more.text_is ∙ ap (λ (x : ℕ). 34 ∷ more.units ++ x ∷ []) (eqb-true c 34 h), more.made)) (
     if_then P _ Backslash _ (λ h. subst (λ (x : ℕ). IsOpen (x ∷ []) (t ++ c ∷ [])) (eqb-true c 92 h) more) (if_none P)))
 read_step Backslash t c r =
     let P = λ (p : State). IsRead p (t ++ c ∷ []) in
     let more = open_more (92 ∷ []) t c r in
-    if_then P _ Units _ (λ h. open_unit (92 ∷ c ∷ []) (t ++ c ∷ []) more (escape h)) (
-    if_then P _ Hex0 _ (λ h. subst (λ (x : ℕ). IsOpen (92 ∷ x ∷ []) (t ++ c ∷ [])) (eqb-true c 117 h) more) (if_none P))
-read_step Hex0 t c r =
+    if_then P _ InString _ (λ h. open_unit (92 ∷ c ∷ []) (t ++ c ∷ []) more (escape h)) (
+    if_then P _ NoHexDigit _ (λ h. subst (λ (x : ℕ). IsOpen (92 ∷ x ∷ []) (t ++ c ∷ [])) (eqb-true c 117 h) more) (if_none P))
+read_step NoHexDigit t c r =
     let P = λ (p : State). IsRead p (t ++ c ∷ []) in
     let more = open_more (92 ∷ 117 ∷ []) t c r in
-    if_not P _ HexD _ (λ h. (c, h, more)) (λ g. if_then P _ Hex1 _ (λ h. (c, h, g, more)) (if_none P))
-read_step Hex1 t c r =
+    if_not P _ HexDigitD _ (λ h. (c, h, more)) (λ g. if_then P _ OneHexDigit _ (λ h. (c, h, g, more)) (if_none P))
+read_step OneHexDigit t c r =
     let P = λ (p : State). IsRead p (t ++ c ∷ []) in
-    if_then P _ Hex2 _ (λ h. (r.0, c, pair_other r.0 c r.1 r.2 h, open_more (92 ∷ 117 ∷ r.0 ∷ []) t c r.3)) (if_none P)
-read_step HexD t c r =
+    if_then P _ TwoHexDigits _ (λ h. (r.0, c, pair_other r.0 c r.1 r.2 h, open_more (92 ∷ 117 ∷ r.0 ∷ []) t c r.3)) (if_none P)
+read_step HexDigitD t c r =
     let P = λ (p : State). IsRead p (t ++ c ∷ []) in
-    if_then P _ Hex2 _ (λ h. (r.0, c, pair_d r.0 c r.1 h, open_more (92 ∷ 117 ∷ r.0 ∷ []) t c r.2)) (if_none P)
-read_step Hex2 t c r =
+    if_then P _ TwoHexDigits _ (λ h. (r.0, c, pair_d r.0 c r.1 h, open_more (92 ∷ 117 ∷ r.0 ∷ []) t c r.2)) (if_none P)
+read_step TwoHexDigits t c r =
     let P = λ (p : State). IsRead p (t ++ c ∷ []) in
-    if_then P _ Hex3 _ (λ h. (r.0, r.1, c, r.2, h, open_more (92 ∷ 117 ∷ r.0 ∷ r.1 ∷ []) t c r.3)) (if_none P)
-read_step Hex3 t c r =
+    if_then P _ ThreeHexDigits _ (λ h. (r.0, r.1, c, r.2, h, open_more (92 ∷ 117 ∷ r.0 ∷ r.1 ∷ []) t c r.3)) (if_none P)
+read_step ThreeHexDigits t c r =
     let P = λ (p : State). IsRead p (t ++ c ∷ []) in
-    if_then P _ Units _ (λ h. open_unit (92 ∷ 117 ∷ r.0 ∷ r.1 ∷ r.2 ∷ c ∷ []) (t ++ c ∷ []) (open_more (92 ∷ 117 ∷ r.0 ∷ r.1 ∷ r.2 ∷ []) t c r.5) (unicode (scalar_from r.0 r.1 r.2 c r.3 r.4 h))) (if_none P)
+    if_then P _ InString _ (λ h. open_unit (92 ∷ 117 ∷ r.0 ∷ r.1 ∷ r.2 ∷ c ∷ []) (t ++ c ∷ []) (open_more (92 ∷ 117 ∷ r.0 ∷ r.1 ∷ r.2 ∷ []) t c r.5) (unicode (scalar_from r.0 r.1 r.2 c r.3 r.4 h))) (if_none P)
 read_step (InBlock part) t c r = in_block_read part t c (block_step part c) refl r
 
 -- what has been read after a run

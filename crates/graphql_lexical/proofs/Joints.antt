@@ -14,7 +14,7 @@ use Rattle.graphql_lexical.specs.Tokens.{Admits, Spells, text_of}
 use Rattle.graphql_lexical.specs.Reading.{Longest, BeginsWithDigit, Reads}
 use Rattle.graphql_lexical.specs.Cutting.{IsGap, Lexeme, Stands, Leads, Cut}
 use Rattle.graphql_lexical.specs.Machines.{reach}
-use Rattle.graphql_lexical.specs.Scan.{State, Start, Done, InName, Zero, Digits, Fraction, Exponent, step, Found, Missed, answer, scan, gap_step, gap_size, Quotes, InBlock, Closed}
+use Rattle.graphql_lexical.specs.Scan.{State, Start, Done, InName, Zero, Digits, Fraction, Exponent, step, Found, Missed, answer, scan, gap_step, gap_size, EmptyString, InBlock, Closed}
 use Rattle.graphql_lexical.specs.Alike.{Alike, AllAlike}
 use Rattle.graphql_lexical.specs.Joining.{is_lone, BeginsApart, IsSeam, Joins}
 use Rattle.graphql_lexical.proofs.EachKind.{each_kind, lone_spelling}
@@ -144,7 +144,7 @@ apart_stops Zero kind c a h = cond-false (eqb c 46) _ _ h.no_point ∙ cond-fals
 apart_stops Digits kind c a h = cond-false (is_digit c) _ _ h.no_digit ∙ (cond-false (eqb c 46) _ _ h.no_point ∙ cond-false (is_exponent_mark c) _ _ h.no_mark)
 apart_stops Fraction kind c a h = cond-false (is_digit c) _ _ h.no_digit ∙ cond-false (is_exponent_mark c) _ _ h.no_mark
 apart_stops Exponent kind c a h = cond-false (is_digit c) _ _ h.no_digit
-apart_stops Quotes kind c a h = cond-false (eqb c 34) _ _ h.no_quote
+apart_stops EmptyString kind c a h = cond-false (eqb c 34) _ _ h.no_quote
 apart_stops (InBlock Closed) kind c a h = refl
 apart_stops _ kind c a h = absurd (none-some kind a)
 
@@ -167,7 +167,7 @@ lone_ends Zero kind b a l = absurd cc
 lone_ends Digits kind b a l = absurd cc
 lone_ends Fraction kind b a l = absurd cc
 lone_ends Exponent kind b a l = absurd cc
-lone_ends Quotes kind b a l = absurd cc
+lone_ends EmptyString kind b a l = absurd cc
 lone_ends (InBlock Closed) kind b a l = absurd cc
 lone_ends _ kind b a l = absurd (none-some kind a)
 

@@ -7,7 +7,7 @@ use Rattle.graphql_lexical.specs.Kinds.{Kind, Name, String, BlockString, Float, 
 use Rattle.graphql_lexical.specs.Tokens.{Spells, Starts, IsZero, text_of}
 use Rattle.graphql_lexical.specs.Reading.{counted, Longest, BeginsWithDigit, ReadsToken, Reads}
 use Rattle.graphql_lexical.specs.Machines.{reach}
-use Rattle.graphql_lexical.specs.Scan.{State, Start, Done, Dot, Dots, InName, Minus, Zero, Digits, Point, Fraction, Mark, Sign, Exponent, Units, Backslash, Hex0, Hex1, HexD, Hex2, Hex3, step, Found, Missed, found, missed, stopped, after_zero, after_dots, after_units, after_backslash, after_u, answer, scan, Quote, Quotes, InBlock, Closed, after_block}
+use Rattle.graphql_lexical.specs.Scan.{State, Start, Done, OneDot, TwoDots, InName, Minus, Zero, Digits, Point, Fraction, ExponentMark, ExponentSign, Exponent, InString, Backslash, NoHexDigit, OneHexDigit, HexDigitD, TwoHexDigits, ThreeHexDigits, step, Found, Missed, found, missed, stopped, after_zero, after_dots, after_units, after_backslash, after_u, answer, scan, Quote, EmptyString, InBlock, Closed, after_block}
 use Rattle.graphql_lexical.proofs.Runs.{Reaches, reach_is, Longest_same}
 use Rattle.graphql_lexical.proofs.History.{IsRead, read_run}
 use Rattle.graphql_lexical.proofs.Spelled.{Goes, accepts, accepts_spells, spells_run, starts_from, starts_run}
@@ -101,26 +101,26 @@ zero_finds n rest (c ∷ b) f e =
 pub answer_finds : (q : State) (n c : ℕ) (cs : List ℕ) (f : Found) → answer q n (c ∷ cs) ≡ Ok f → Finds q n (c ∷ cs) f
 answer_finds Start n c cs f e = absurd (not_Ok _ _ f e)
 answer_finds (Done kind) n c cs f e = found_finds (Done kind) n kind (c ∷ cs) f refl (λ z. absurd cc) e
-answer_finds Dot n c cs f e = absurd (dots_not _ _ f e)
-answer_finds Dots n c cs f e = absurd (dots_not _ _ f e)
+answer_finds OneDot n c cs f e = absurd (dots_not _ _ f e)
+answer_finds TwoDots n c cs f e = absurd (dots_not _ _ f e)
 answer_finds InName n c cs f e = found_finds InName n Name (c ∷ cs) f refl (λ z. absurd cc) e
 answer_finds Minus n c cs f e = absurd (stopped_not _ _ f e)
 answer_finds Zero n c cs f e = let h = zero_finds n (c ∷ cs) (drop n (c ∷ cs)) f e in found_finds Zero n Int (c ∷ cs) f refl (λ z. h.1) h.0
 answer_finds Digits n c cs f e = found_finds Digits n Int (c ∷ cs) f refl (λ z. absurd cc) e
 answer_finds Point n c cs f e = absurd (stopped_not _ _ f e)
 answer_finds Fraction n c cs f e = found_finds Fraction n Float (c ∷ cs) f refl (λ z. absurd cc) e
-answer_finds Mark n c cs f e = absurd (stopped_not _ _ f e)
-answer_finds Sign n c cs f e = absurd (stopped_not _ _ f e)
+answer_finds ExponentMark n c cs f e = absurd (stopped_not _ _ f e)
+answer_finds ExponentSign n c cs f e = absurd (stopped_not _ _ f e)
 answer_finds Exponent n c cs f e = found_finds Exponent n Float (c ∷ cs) f refl (λ z. absurd cc) e
 answer_finds Quote n c cs f e = absurd (units_not n (drop n (c ∷ cs)) f e)
-answer_finds Quotes n c cs f e = found_finds Quotes n String (c ∷ cs) f refl (λ z. absurd cc) e
-answer_finds Units n c cs f e = absurd (units_not n (drop n (c ∷ cs)) f e)
+answer_finds EmptyString n c cs f e = found_finds EmptyString n String (c ∷ cs) f refl (λ z. absurd cc) e
+answer_finds InString n c cs f e = absurd (units_not n (drop n (c ∷ cs)) f e)
 answer_finds Backslash n c cs f e = absurd (backslash_not _ _ f e)
-answer_finds Hex0 n c cs f e = absurd (u_not (n - 1) (drop (n - 0) (c ∷ cs)) f e)
-answer_finds Hex1 n c cs f e = absurd (u_not (n - 2) (drop (n - 1) (c ∷ cs)) f e)
-answer_finds HexD n c cs f e = absurd (u_not (n - 2) (drop (n - 1) (c ∷ cs)) f e)
-answer_finds Hex2 n c cs f e = absurd (u_not (n - 3) (drop (n - 2) (c ∷ cs)) f e)
-answer_finds Hex3 n c cs f e = absurd (u_not (n - 4) (drop (n - 3) (c ∷ cs)) f e)
+answer_finds NoHexDigit n c cs f e = absurd (u_not (n - 1) (drop (n - 0) (c ∷ cs)) f e)
+answer_finds OneHexDigit n c cs f e = absurd (u_not (n - 2) (drop (n - 1) (c ∷ cs)) f e)
+answer_finds HexDigitD n c cs f e = absurd (u_not (n - 2) (drop (n - 1) (c ∷ cs)) f e)
+answer_finds TwoHexDigits n c cs f e = absurd (u_not (n - 3) (drop (n - 2) (c ∷ cs)) f e)
+answer_finds ThreeHexDigits n c cs f e = absurd (u_not (n - 4) (drop (n - 3) (c ∷ cs)) f e)
 answer_finds (InBlock Closed) n c cs f e = found_finds (InBlock Closed) n BlockString (c ∷ cs) f refl (λ z. absurd cc) e
 answer_finds (InBlock _) n c cs f e = absurd (block_not n (drop n (c ∷ cs)) f e)
 
@@ -137,7 +137,7 @@ accepts_answer Zero n rest kind e z = zero_found n rest (drop n rest) (z refl) �
 accepts_answer Digits n rest kind e z = ap (λ (x : Kind). found n x rest) (same_Some Int kind e)
 accepts_answer Fraction n rest kind e z = ap (λ (x : Kind). found n x rest) (same_Some Float kind e)
 accepts_answer Exponent n rest kind e z = ap (λ (x : Kind). found n x rest) (same_Some Float kind e)
-accepts_answer Quotes n rest kind e z = ap (λ (x : Kind). found n x rest) (same_Some String kind e)
+accepts_answer EmptyString n rest kind e z = ap (λ (x : Kind). found n x rest) (same_Some String kind e)
 accepts_answer (InBlock Closed) n rest kind e z = ap (λ (x : Kind). found n x rest) (same_Some BlockString kind e)
 accepts_answer _ n rest kind e z = absurd (none-some kind e)
 

@@ -10,7 +10,7 @@ use Rattle.graphql_lexical.specs.Kinds.{Kind, Name, Float, Int, LexicalError, Un
 use Rattle.graphql_lexical.specs.Tokens.{Starts, IsZero, IsNumber, StartsNumber, AreUnits, mark}
 use Rattle.graphql_lexical.specs.Reading.{Longest, counted, BeginsNumber, StringFails, at_end, at_line_end, at_control, lone_backslash, wrong_escape, short_unicode, wrong_unicode, no_unicode, Fails, number_ends, number_stops, zero_goes_on, string_fails, dot_ends, dots_end, dot_stops, dots_stop, unknown, block_ends, block_stops}
 use Rattle.graphql_lexical.specs.Machines.{reach, onward}
-use Rattle.graphql_lexical.specs.Scan.{State, Start, Done, Dot, Dots, InName, Minus, Zero, Digits, Point, Fraction, Mark, Sign, Exponent, Units, Backslash, Hex0, Hex1, HexD, Hex2, Hex3, step, Found, Missed, missed, stopped, after_zero, after_units, after_backslash, after_u, answer, scan, Quote, Quotes, InBlock, Block, Closed, after_block}
+use Rattle.graphql_lexical.specs.Scan.{State, Start, Done, OneDot, TwoDots, InName, Minus, Zero, Digits, Point, Fraction, ExponentMark, ExponentSign, Exponent, InString, Backslash, NoHexDigit, OneHexDigit, HexDigitD, TwoHexDigits, ThreeHexDigits, step, Found, Missed, missed, stopped, after_zero, after_units, after_backslash, after_u, answer, scan, Quote, EmptyString, InBlock, Block, Closed, after_block}
 use Rattle.graphql_lexical.proofs.Runs.{reach_on, Longest_same, Stops}
 use Rattle.graphql_lexical.proofs.History.{IsRead, IsOpen}
 use Rattle.graphql_lexical.proofs.Spelled.{accepts, accepts_spells, starts_from, IsStringState, quote_run, block_run}
@@ -48,26 +48,26 @@ open_no_number tail t o b = not_number 34 (o.units ++ tail) t refl o.text_is b
 number_answer : (q : State) (m : ℕ) (rest : List ℕ) → IsRead q (take m rest) → BeginsNumber (take m rest) → accepts q ≡ None → answer q m rest ≡ stopped m (drop m rest)
 number_answer Start m rest r b a = absurd (subst BeginsNumber r b)
 number_answer (Done k) m rest r b a = absurd (none-some k (sym a))
-number_answer Dot m rest r b a = absurd (not_number 46 [] (take m rest) refl r b)
-number_answer Dots m rest r b a = absurd (not_number 46 (46 ∷ []) (take m rest) refl r b)
+number_answer OneDot m rest r b a = absurd (not_number 46 [] (take m rest) refl r b)
+number_answer TwoDots m rest r b a = absurd (not_number 46 (46 ∷ []) (take m rest) refl r b)
 number_answer InName m rest r b a = absurd (none-some Name (sym a))
 number_answer Minus m rest r b a = refl
 number_answer Zero m rest r b a = absurd (none-some Int (sym a))
 number_answer Digits m rest r b a = absurd (none-some Int (sym a))
 number_answer Point m rest r b a = refl
 number_answer Fraction m rest r b a = absurd (none-some Float (sym a))
-number_answer Mark m rest r b a = refl
-number_answer Sign m rest r b a = refl
+number_answer ExponentMark m rest r b a = refl
+number_answer ExponentSign m rest r b a = refl
 number_answer Exponent m rest r b a = absurd (none-some Float (sym a))
 number_answer Quote m rest r b a = absurd (not_number 34 [] (take m rest) refl r b)
-number_answer Quotes m rest r b a = absurd (none-some String (sym a))
-number_answer Units m rest r b a = absurd (open_no_number [] (take m rest) r b)
+number_answer EmptyString m rest r b a = absurd (none-some String (sym a))
+number_answer InString m rest r b a = absurd (open_no_number [] (take m rest) r b)
 number_answer Backslash m rest r b a = absurd (open_no_number (92 ∷ []) (take m rest) r b)
-number_answer Hex0 m rest r b a = absurd (open_no_number (92 ∷ 117 ∷ []) (take m rest) r b)
-number_answer Hex1 m rest r b a = absurd (open_no_number (92 ∷ 117 ∷ r.0 ∷ []) (take m rest) r.3 b)
-number_answer HexD m rest r b a = absurd (open_no_number (92 ∷ 117 ∷ r.0 ∷ []) (take m rest) r.2 b)
-number_answer Hex2 m rest r b a = absurd (open_no_number (92 ∷ 117 ∷ r.0 ∷ r.1 ∷ []) (take m rest) r.3 b)
-number_answer Hex3 m rest r b a = absurd (open_no_number (92 ∷ 117 ∷ r.0 ∷ r.1 ∷ r.2 ∷ []) (take m rest) r.5 b)
+number_answer NoHexDigit m rest r b a = absurd (open_no_number (92 ∷ 117 ∷ []) (take m rest) r b)
+number_answer OneHexDigit m rest r b a = absurd (open_no_number (92 ∷ 117 ∷ r.0 ∷ []) (take m rest) r.3 b)
+number_answer HexDigitD m rest r b a = absurd (open_no_number (92 ∷ 117 ∷ r.0 ∷ []) (take m rest) r.2 b)
+number_answer TwoHexDigits m rest r b a = absurd (open_no_number (92 ∷ 117 ∷ r.0 ∷ r.1 ∷ []) (take m rest) r.3 b)
+number_answer ThreeHexDigits m rest r b a = absurd (open_no_number (92 ∷ 117 ∷ r.0 ∷ r.1 ∷ r.2 ∷ []) (take m rest) r.5 b)
 number_answer (InBlock part) m rest r b a = absurd (not_number 34 (34 ∷ 34 ∷ r.0) (take m rest) refl r.1 b)
 
 accepts_not : (o : Option Kind) → ((k : Kind) → o ≡ Some k → ⊥) → o ≡ None
@@ -96,7 +96,7 @@ zero_stopped rest n m c after q h b l z d x =
 line_end_is : (c : ℕ) → IsTrue (is_line_end c) → (c ≡ 10) ⊎ (c ≡ 13)
 line_end_is c h = grind (arith, nat_tests)
 
-line_end_stops : (c : ℕ) → IsTrue (is_line_end c) → step Units c ≡ None
+line_end_stops : (c : ℕ) → IsTrue (is_line_end c) → step InString c ≡ None
 line_end_stops c h = elim (line_end_is c h) [ inl e ↦ rw e | inr e ↦ rw e ]
 
 line_end_quote : (c : ℕ) → IsTrue (is_line_end c) → step Quote c ≡ None
@@ -111,7 +111,7 @@ control_no_end c h = grind (arith, nat_tests)
 not_plain : (s x y : Bool) → s ≡ false → ((s && x) && y) ≡ false
 not_plain s x y e = rw e
 
-control_stops : (c : ℕ) → IsFalse (is_source c) → (step Units c ≡ None) × (step Quote c ≡ None)
+control_stops : (c : ℕ) → IsFalse (is_source c) → (step InString c ≡ None) × (step Quote c ≡ None)
 control_stops c h =
     let l = control_below c h in
     let p : is_plain c ≡ false = not_plain (is_source c) (not (is_line_end c)) (not (eqb c 34) && not (eqb c 92)) h in
@@ -130,15 +130,15 @@ stop_reach q c t e = ap (onward q (λ p. reach step p t)) e
 abbrev AnswerAfter : List ℕ → List ℕ → ℕ → ℕ × State → Result Found Missed
 AnswerAfter front after p r = answer r.1 (p + r.0) (front ++ after)
 
-units_answer : (front after : List ℕ) (p : ℕ) → length front ≡ p → answer Units (p + 0) (front ++ after) ≡ after_units (p + 0) after
+units_answer : (front after : List ℕ) (p : ℕ) → length front ≡ p → answer InString (p + 0) (front ++ after) ≡ after_units (p + 0) after
 units_answer front after p e = ap (after_units (p + 0)) (further front after p 0 (p + 0) e refl)
 
 backslash_answer : (front after : List ℕ) (p : ℕ) → length front ≡ p → answer Backslash (p + 1) (front ++ 92 ∷ after) ≡ after_backslash (p + 1) after
 backslash_answer front after p e = ap (after_backslash (p + 1)) (further front (92 ∷ after) p 1 (p + 1) e refl)
 
-unicode_answer : (front after : List ℕ) (p : ℕ) → length front ≡ p → NoUnit (92 ∷ 117 ∷ after) → AnswerAfter front (92 ∷ 117 ∷ after) p (reach step Units (92 ∷ 117 ∷ after)) ≡ after_u (suc p) after
+unicode_answer : (front after : List ℕ) (p : ℕ) → length front ≡ p → NoUnit (92 ∷ 117 ∷ after) → AnswerAfter front (92 ∷ 117 ∷ after) p (reach step InString (92 ∷ 117 ∷ after)) ≡ after_u (suc p) after
 unicode_answer front after p e none =
-    let r = reach step Hex0 after in
+    let r = reach step NoHexDigit after in
     hex_answer r.1 (0 + r.0) p front after (p + suc (suc r.0)) (hex_place after (no_unit_scalar after none)) e (places p r.0)
   where
     places : (p k : ℕ) → p + suc (suc k) ≡ p + (2 + (0 + k))
@@ -147,12 +147,12 @@ unicode_answer front after p e none =
 one_more : (p : ℕ) → suc p ≡ p + 1
 one_more p = omega arith
 
-string_answer : (front after : List ℕ) (m : ℕ) (error : LexicalError) (p : ℕ) → length front ≡ p → NoUnit after → StringFails after m error → AnswerAfter front after p (reach step Units after) ≡ missed (p + m) error
+string_answer : (front after : List ℕ) (m : ℕ) (error : LexicalError) (p : ℕ) → length front ≡ p → NoUnit after → StringFails after m error → AnswerAfter front after p (reach step InString after) ≡ missed (p + m) error
 string_answer front _ _ _ p e none at_end = units_answer front [] p e
 string_answer front _ _ _ p e none (at_line_end {c} {after} h) =
-    ap (AnswerAfter front (c ∷ after) p) (stop_reach Units c after (line_end_stops c h)) ∙ (units_answer front (c ∷ after) p e ∙ cond-true (is_line_end c) _ _ h)
+    ap (AnswerAfter front (c ∷ after) p) (stop_reach InString c after (line_end_stops c h)) ∙ (units_answer front (c ∷ after) p e ∙ cond-true (is_line_end c) _ _ h)
 string_answer front _ _ _ p e none (at_control {c} {after} h) =
-    ap (AnswerAfter front (c ∷ after) p) (stop_reach Units c after (control_stops c h).0) ∙ (units_answer front (c ∷ after) p e ∙ cond-false (is_line_end c) _ _ (control_no_end c h))
+    ap (AnswerAfter front (c ∷ after) p) (stop_reach InString c after (control_stops c h).0) ∙ (units_answer front (c ∷ after) p e ∙ cond-false (is_line_end c) _ _ (control_no_end c h))
 string_answer front _ _ _ p e none lone_backslash = backslash_answer front [] p e
 string_answer front _ _ _ p e none (wrong_escape {c} {after} h n) =
     ap (λ (r : ℕ × State). AnswerAfter front (92 ∷ c ∷ after) p (suc r.0, r.1)) (stop_reach Backslash c after (wrong_stops c h n)) ∙ backslash_answer front (c ∷ after) p e
@@ -167,14 +167,14 @@ string_answer front _ _ _ p e none (no_unicode {c} {after} z) =
     unicode_answer front (c ∷ after) p e none ∙ (u_none (suc p) c after z ∙ ap (λ (k : ℕ). missed k (UnknownEscapeSequence (92 ∷ 117 ∷ c ∷ []))) (one_more p))
 
 -- after a quote alone the answer is that after a quote and units
-quote_answer : (front after : List ℕ) (m : ℕ) (error : LexicalError) (p : ℕ) (q : State) → IsStringState q → StringFails after m error → AnswerAfter front after p (reach step q after) ≡ AnswerAfter front after p (reach step Units after)
+quote_answer : (front after : List ℕ) (m : ℕ) (error : LexicalError) (p : ℕ) (q : State) → IsStringState q → StringFails after m error → AnswerAfter front after p (reach step q after) ≡ AnswerAfter front after p (reach step InString after)
 quote_answer front after m error p q (inr e) f = ap (λ (x : State). AnswerAfter front after p (reach step x after)) e
 quote_answer front after m error p q (inl e) f = ap (λ (x : State). AnswerAfter front after p (reach step x after)) e ∙ same after m error f
   where
-    both_stop : (c : ℕ) (after : List ℕ) → step Quote c ≡ None → step Units c ≡ None → AnswerAfter front (c ∷ after) p (reach step Quote (c ∷ after)) ≡ AnswerAfter front (c ∷ after) p (reach step Units (c ∷ after))
-    both_stop c after a b = ap (AnswerAfter front (c ∷ after) p) (stop_reach Quote c after a) ∙ sym (ap (AnswerAfter front (c ∷ after) p) (stop_reach Units c after b))
+    both_stop : (c : ℕ) (after : List ℕ) → step Quote c ≡ None → step InString c ≡ None → AnswerAfter front (c ∷ after) p (reach step Quote (c ∷ after)) ≡ AnswerAfter front (c ∷ after) p (reach step InString (c ∷ after))
+    both_stop c after a b = ap (AnswerAfter front (c ∷ after) p) (stop_reach Quote c after a) ∙ sym (ap (AnswerAfter front (c ∷ after) p) (stop_reach InString c after b))
 
-    same : (after : List ℕ) (m : ℕ) (error : LexicalError) → StringFails after m error → AnswerAfter front after p (reach step Quote after) ≡ AnswerAfter front after p (reach step Units after)
+    same : (after : List ℕ) (m : ℕ) (error : LexicalError) → StringFails after m error → AnswerAfter front after p (reach step Quote after) ≡ AnswerAfter front after p (reach step InString after)
     same _ _ _ at_end = refl
     same _ _ _ (at_line_end {c} {after} h) = both_stop c after (line_end_quote c h) (line_end_stops c h)
     same _ _ _ (at_control {c} {after} h) = let s = control_stops c h in both_stop c after s.1 s.0
@@ -246,6 +246,6 @@ fails_scan _ _ _ (block_stops {c} {units} {after} h x) =
     block_scan units (c ∷ after) o (ap (option_map InBlock) (block_control_stops o.part c x))
 fails_scan _ _ _ dot_ends = refl
 fails_scan _ _ _ dots_end = refl
-fails_scan _ _ _ (dot_stops {c} {after} n) = ap (λ (r : ℕ × State). answer r.1 (suc r.0) (46 ∷ c ∷ after)) (stop_reach Dot c after (cond-false (eqb c 46) _ _ (ne_eqb c 46 n)))
-fails_scan _ _ _ (dots_stop {c} {after} n) = ap (λ (r : ℕ × State). answer r.1 (suc (suc r.0)) (46 ∷ 46 ∷ c ∷ after)) (stop_reach Dots c after (cond-false (eqb c 46) _ _ (ne_eqb c 46 n)))
+fails_scan _ _ _ (dot_stops {c} {after} n) = ap (λ (r : ℕ × State). answer r.1 (suc r.0) (46 ∷ c ∷ after)) (stop_reach OneDot c after (cond-false (eqb c 46) _ _ (ne_eqb c 46 n)))
+fails_scan _ _ _ (dots_stop {c} {after} n) = ap (λ (r : ℕ × State). answer r.1 (suc (suc r.0)) (46 ∷ 46 ∷ c ∷ after)) (stop_reach TwoDots c after (cond-false (eqb c 46) _ _ (ne_eqb c 46 n)))
 fails_scan _ _ _ (unknown {c} {after} n) = ap (λ (r : ℕ × State). answer r.1 r.0 (c ∷ after)) (stop_reach Start c after (unknown_stops c n))

@@ -8,44 +8,12 @@ use Rattle.graphql_lexical.specs.Tokens.{text_of, punctuator}
 use Rattle.graphql_lexical.specs.Reading.{counted}
 use Rattle.graphql_lexical.specs.Cutting.{Lexeme}
 use Rattle.graphql_lexical.specs.Machines.{reach}
+pub use Rattle.graphql_lexical.specs.declared.state.State.{State}
+pub use Rattle.graphql_lexical.specs.declared.state.State.TheVariants.{Start, Done, OneDot, TwoDots, InName, Minus, Zero, Digits, Point, Fraction, ExponentMark, ExponentSign, Exponent, Quote, EmptyString, InString, Backslash, NoHexDigit, OneHexDigit, HexDigitD, TwoHexDigits, ThreeHexDigits, InBlock}
+pub use Rattle.graphql_lexical.specs.declared.state.Block.{Block}
+pub use Rattle.graphql_lexical.specs.declared.state.Block.TheVariants.{Inside, OneQuote, TwoQuotes, Escaping, EscapedQuote, EscapedQuotes, Closed}
 
 -- ---- tokens
-
--- What of a mark has been read in a block string.
-pub data Block : Type 0 where
-  Inside : Block
-  OneQuote : Block
-  TwoQuotes : Block
-  Escaping : Block
-  EscapedQuote : Block
-  EscapedQuotes : Block
-  Closed : Block
-
--- What has been read of a token.
-pub data State : Type 0 where
-  Start : State
-  Done : (kind : Kind) → State
-  Dot : State
-  Dots : State
-  InName : State
-  Minus : State
-  Zero : State
-  Digits : State
-  Point : State
-  Fraction : State
-  Mark : State
-  Sign : State
-  Exponent : State
-  Quote : State
-  Quotes : State
-  Units : State
-  Backslash : State
-  Hex0 : State
-  Hex1 : State
-  HexD : State
-  Hex2 : State
-  Hex3 : State
-  InBlock : (part : Block) → State
 
 -- the digit of hexadecimal 13, which a surrogate's number begins with
 abbrev pub is_hex_d : ℕ → Bool
@@ -74,30 +42,30 @@ step Start c =
     else (if is_name_start c then Some InName
     else (if c == 48 then Some Zero
     else (if c == 45 then Some Minus
-    else (if c == 46 then Some Dot
+    else (if c == 46 then Some OneDot
     else (if c == 34 then Some Quote
     else option_map Done (punctuator c))))))
 step (Done kind) c = None
-step Dot c = if c == 46 then Some Dots else None
-step Dots c = if c == 46 then Some (Done Ellipsis) else None
+step OneDot c = if c == 46 then Some TwoDots else None
+step TwoDots c = if c == 46 then Some (Done Ellipsis) else None
 step InName c = if is_name_character c then Some InName else None
 step Minus c = if is_nonzero_digit c then Some Digits else (if c == 48 then Some Zero else None)
-step Zero c = if c == 46 then Some Point else (if is_exponent_mark c then Some Mark else None)
-step Digits c = if is_digit c then Some Digits else (if c == 46 then Some Point else (if is_exponent_mark c then Some Mark else None))
+step Zero c = if c == 46 then Some Point else (if is_exponent_mark c then Some ExponentMark else None)
+step Digits c = if is_digit c then Some Digits else (if c == 46 then Some Point else (if is_exponent_mark c then Some ExponentMark else None))
 step Point c = if is_digit c then Some Fraction else None
-step Fraction c = if is_digit c then Some Fraction else (if is_exponent_mark c then Some Mark else None)
-step Mark c = if is_digit c then Some Exponent else (if is_sign c then Some Sign else None)
-step Sign c = if is_digit c then Some Exponent else None
+step Fraction c = if is_digit c then Some Fraction else (if is_exponent_mark c then Some ExponentMark else None)
+step ExponentMark c = if is_digit c then Some Exponent else (if is_sign c then Some ExponentSign else None)
+step ExponentSign c = if is_digit c then Some Exponent else None
 step Exponent c = if is_digit c then Some Exponent else None
-step Quote c = if is_plain c then Some Units else (if c == 34 then Some Quotes else (if c == 92 then Some Backslash else None))
-step Quotes c = if c == 34 then Some (InBlock Inside) else None
-step Units c = if is_plain c then Some Units else (if c == 34 then Some (Done String) else (if c == 92 then Some Backslash else None))
-step Backslash c = if is_escape c then Some Units else (if c == 117 then Some Hex0 else None)
-step Hex0 c = if is_hex_d c then Some HexD else (if is_hex c then Some Hex1 else None)
-step Hex1 c = if is_hex c then Some Hex2 else None
-step HexD c = if is_octal c then Some Hex2 else None
-step Hex2 c = if is_hex c then Some Hex3 else None
-step Hex3 c = if is_hex c then Some Units else None
+step Quote c = if is_plain c then Some InString else (if c == 34 then Some EmptyString else (if c == 92 then Some Backslash else None))
+step EmptyString c = if c == 34 then Some (InBlock Inside) else None
+step InString c = if is_plain c then Some InString else (if c == 34 then Some (Done String) else (if c == 92 then Some Backslash else None))
+step Backslash c = if is_escape c then Some InString else (if c == 117 then Some NoHexDigit else None)
+step NoHexDigit c = if is_hex_d c then Some HexDigitD else (if is_hex c then Some OneHexDigit else None)
+step OneHexDigit c = if is_hex c then Some TwoHexDigits else None
+step HexDigitD c = if is_octal c then Some TwoHexDigits else None
+step TwoHexDigits c = if is_hex c then Some ThreeHexDigits else None
+step ThreeHexDigits c = if is_hex c then Some InString else None
 step (InBlock part) c = option_map InBlock (block_step part c)
 
 pub record Found : Type 0 where
@@ -147,32 +115,40 @@ after_u u after =
     if nat_lt (counted after) 4 && counted after == length after then missed (suc u + length after) UnterminatedString
     else missed u (UnknownEscapeSequence (92 ∷ 117 ∷ take (max 1 (counted after)) after))
 
+abbrev pub answer_in_block : Block → ℕ → List ℕ → Result Found Missed
+answer_in_block Inside n rest = after_block n (drop n rest)
+answer_in_block OneQuote n rest = after_block n (drop n rest)
+answer_in_block TwoQuotes n rest = after_block n (drop n rest)
+answer_in_block Escaping n rest = after_block n (drop n rest)
+answer_in_block EscapedQuote n rest = after_block n (drop n rest)
+answer_in_block EscapedQuotes n rest = after_block n (drop n rest)
+answer_in_block Closed n rest = found n BlockString rest
+
 abbrev pub answer : State → ℕ → List ℕ → Result Found Missed
 answer Start n [] = found 0 EndOfFile []
 answer Start n (c ∷ cs) = missed 0 (UnknownCharacter c)
 answer (Done kind) n rest = found n kind rest
-answer Dot n rest = after_dots n (drop n rest)
-answer Dots n rest = after_dots n (drop n rest)
+answer OneDot n rest = after_dots n (drop n rest)
+answer TwoDots n rest = after_dots n (drop n rest)
 answer InName n rest = found n Name rest
 answer Minus n rest = stopped n (drop n rest)
 answer Zero n rest = after_zero n rest (drop n rest)
 answer Digits n rest = found n Int rest
 answer Point n rest = stopped n (drop n rest)
 answer Fraction n rest = found n Float rest
-answer Mark n rest = stopped n (drop n rest)
-answer Sign n rest = stopped n (drop n rest)
+answer ExponentMark n rest = stopped n (drop n rest)
+answer ExponentSign n rest = stopped n (drop n rest)
 answer Exponent n rest = found n Float rest
 answer Quote n rest = after_units n (drop n rest)
-answer Quotes n rest = found n String rest
-answer Units n rest = after_units n (drop n rest)
+answer EmptyString n rest = found n String rest
+answer InString n rest = after_units n (drop n rest)
 answer Backslash n rest = after_backslash n (drop n rest)
-answer Hex0 n rest = after_u (n - 1) (drop (n - 0) rest)
-answer Hex1 n rest = after_u (n - 2) (drop (n - 1) rest)
-answer HexD n rest = after_u (n - 2) (drop (n - 1) rest)
-answer Hex2 n rest = after_u (n - 3) (drop (n - 2) rest)
-answer Hex3 n rest = after_u (n - 4) (drop (n - 3) rest)
-answer (InBlock Closed) n rest = found n BlockString rest
-answer (InBlock _) n rest = after_block n (drop n rest)
+answer NoHexDigit n rest = after_u (n - 1) (drop (n - 0) rest)
+answer OneHexDigit n rest = after_u (n - 2) (drop (n - 1) rest)
+answer HexDigitD n rest = after_u (n - 2) (drop (n - 1) rest)
+answer TwoHexDigits n rest = after_u (n - 3) (drop (n - 2) rest)
+answer ThreeHexDigits n rest = after_u (n - 4) (drop (n - 3) rest)
+answer (InBlock part) n rest = answer_in_block part n rest
 
 -- the token at the front of the rest, or the fault there
 abbrev pub scan : List ℕ → Result Found Missed

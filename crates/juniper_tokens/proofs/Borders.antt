@@ -1,16 +1,12 @@
 -- Where a character begins in a text.
-use Rattle.std.proofs.Common.{◌≡◌, ℕ, zero, suc, ◌+◌, ◌-◌, ◌≤◌, ◌<◌, Bool, true, false, cond, ◌&&◌, inl, inr, append-nil, get_or, drop-cons, add-one, List, [], ◌∷◌, ◌++◌, length, take, drop, refl, sym, ap, subst, ◌∙◌, arith, length-append, take-append-drop}
+use Rattle.std.proofs.Common.{◌≡◌, ℕ, zero, suc, ◌+◌, ◌≤◌, ◌<◌, Bool, true, false, ◌&&◌, append-nil, get_or, drop-cons, List, [], ◌∷◌, ◌++◌, length, take, drop, refl, sym, ap, ap₂, subst, ◌∙◌, arith, length-append, take-append-drop, take-add}
+use Rattle.std.specs.Char.{len_utf8}
 use Rattle.std.specs.Str.{chars, IsUtf8, IsCharBoundary}
 use Rattle.std.specs.Cmp.{second_so}
-use Rattle.std.proofs.lemmas.Str.{encodes-chars, encodes-append, chars-encodes, scalars-chars, encode_ascii, chars-append, IsCharBoundary-at_seam}
+use Rattle.std.proofs.lemmas.Str.{encodes-chars, encodes-append, chars-encodes, scalars-chars, chars-append, length-le-encodes, length-encode, IsCharBoundary-at_seam}
 use Rattle.std.proofs.Math.Seq.{take-append_seam, drop-append_seam}
 use lib.Utf8.{scalar, scalars, encode, encodes}
-use Rattle.std.specs.Prelude.{take_while, ◌||◌}
-use Rattle.std.specs.List.{prefix_len}
-use Rattle.std.proofs.lemmas.List.{drop_all}
-use Rattle.graphql_lexical.specs.Characters.{is_letter, is_digit}
-use Rattle.graphql_lexical.specs.Reading.{counted}
-use Rattle.juniper_tokens.proofs.ByteRuns.{wide, low_or_high}
+use Rattle.std.proofs.lemmas.List.{length-take-le}
 use Rattle.juniper_tokens.specs.ByteRuns.{byte_at}
 
 and_both : (a b x : Bool) → (a && b) ≡ true → x ≡ true → (a && x) ≡ true
@@ -56,81 +52,26 @@ take_first c cs ds h = ap (take 1) h
 pub chars_joined : (s a b : List ℕ) → IsUtf8 a → s ≡ a ++ b → chars s ≡ chars a ++ chars b
 chars_joined s a b u e = ap chars e ∙ chars-append a b u
 
--- ---- letters and digits
+-- a text has no more characters than bytes
+pub chars_within : (text : List ℕ) → IsUtf8 text → length (chars text) ≤ length text
+chars_within text u = omega (arith, length-le-encodes (chars text), ap length (encodes-chars text u))
 
-abbrev pub is_alphanumeric : ℕ → Bool
-is_alphanumeric c = is_letter c || is_digit c
+-- from one border to a further one
+pub byte_at_on : (j g : ℕ) (cs : List ℕ) → byte_at j cs + byte_at g (drop j cs) ≡ byte_at (j + g) cs
+byte_at_on j g cs =
+    sym (ap (λ t. length (encodes t)) (take-add j g cs) ∙ (ap length (encodes-append (take j cs) (take g (drop j cs)))
+    ∙ length-append (encodes (take j cs)) (encodes (take g (drop j cs)))))
 
--- how many come first, of n at most
-abbrev pub letters : ℕ → List ℕ → ℕ
-letters zero cs = 0
-letters (suc n) [] = 0
-letters (suc n) (c ∷ cs) = cond (is_alphanumeric c) (suc (letters n cs)) 0
-
-one_plus : (n : ℕ) → 1 + n ≡ suc n
-one_plus n = omega arith
-
-letters_are : (n : ℕ) (cs : List ℕ) → length (take_while is_alphanumeric (take n cs)) ≡ letters n cs
-letters_are zero cs = refl
-letters_are (suc n) [] = refl
-letters_are (suc n) (c ∷ cs) = elim (is_alphanumeric c) as (λ b. length (take (cond b (1 + prefix_len is_alphanumeric (take n cs)) 0) (c ∷ take n cs)) ≡ cond b (suc (letters n cs)) 0) [
-  | true ↦ ap (λ k. length (take k (c ∷ take n cs))) (one_plus (prefix_len is_alphanumeric (take n cs))) ∙ ap suc (letters_are n cs)
-  | false ↦ refl
-]
-
-letter_low : (c : ℕ) → 128 ≤ c → is_alphanumeric c ≡ false
-letter_low c l = grind arith
-
-letters_in_bytes : (n : ℕ) (cs : List ℕ) → letters n (encodes cs) ≡ letters n cs
-letters_in_bytes zero cs = refl
-letters_in_bytes (suc n) [] = refl
-letters_in_bytes (suc n) (c ∷ cs) = elim (low_or_high c) [
-  | inl l ↦ rw (encode_ascii c l) (ap (λ k. cond (is_alphanumeric c) (suc k) 0) (letters_in_bytes n cs))
-  | inr h ↦ let w = wide c h in rw (w.is, letter_low c h, letter_low w.lead (omega (arith, w.high))) refl
-]
-
-letter_is_low : (c : ℕ) → is_alphanumeric c ≡ true → c < 128
-letter_is_low c e = grind arith
-
-letters_border : (n : ℕ) (cs : List ℕ) → letters n cs ≡ byte_at (letters n cs) cs
-letters_border zero cs = refl
-letters_border (suc n) [] = refl
-letters_border (suc n) (c ∷ cs) =
-    (elim (is_alphanumeric c) as (λ b. is_alphanumeric c ≡ b → cond b (suc (letters n cs)) 0 ≡ byte_at (cond b (suc (letters n cs)) 0) (c ∷ cs)) [
-      | true ↦ λ e. rw (encode_ascii c (letter_is_low c e)) (ap suc (letters_border n cs))
-      | false ↦ λ e. refl
-    ]) refl
-
-pub counted_from_bytes : (k : ℕ) (t bs : List ℕ) → IsUtf8 t → bs ≡ t → k ≡ letters 4 bs → k ≡ counted (chars t)
-counted_from_bytes k t bs u b e = e ∙ (ap (letters 4) (b ∙ sym (encodes-chars t u)) ∙ (letters_in_bytes 4 (chars t) ∙ sym (letters_are 4 (chars t))))
-
-pub counted_border : (cs : List ℕ) → counted cs ≡ byte_at (counted cs) cs
-counted_border cs = subst (λ k. k ≡ byte_at k cs) (sym (letters_are 4 cs)) (letters_border 4 cs)
-
-rest_of_four : (k : ℕ) → k < 4 → 4 - k ≡ suc (4 - (k + 1))
-rest_of_four k l = omega arith
-
-next_letters : (n c : ℕ) (cs : List ℕ) (b : Bool) → is_alphanumeric c ≡ b → letters (suc n) (c ∷ cs) ≡ cond b (suc (letters n cs)) 0
-next_letters n c cs b e = ap (λ b. cond b (suc (letters n cs)) 0) e
-
-at_letters : (k : ℕ) (bs : List ℕ) → k < 4 → k < length bs → letters (4 - k) (drop k bs) ≡ letters (suc (4 - (k + 1))) (get_or bs k 0 ∷ drop (k + 1) bs)
-at_letters k bs l m = ap (λ n. letters n (drop k bs)) (rest_of_four k l) ∙ ap (letters (suc (4 - (k + 1)))) (drop-cons bs k 0 m ∙ ap (λ n. get_or bs k 0 ∷ drop n bs) (sym (add-one k)))
-
-pub letters_on : (k : ℕ) (bs : List ℕ) → k < 4 → k < length bs → is_alphanumeric (get_or bs k 0) ≡ true → k + letters (4 - k) (drop k bs) ≡ (k + 1) + letters (4 - (k + 1)) (drop (k + 1) bs)
-letters_on k bs l m e = omega (arith, at_letters k bs l m ∙ next_letters (4 - (k + 1)) (get_or bs k 0) (drop (k + 1) bs) true e)
-
-pub letters_stop : (k : ℕ) (bs : List ℕ) → k < 4 → k < length bs → is_alphanumeric (get_or bs k 0) ≡ false → k + letters (4 - k) (drop k bs) ≡ k
-letters_stop k bs l m e = omega (arith, at_letters k bs l m ∙ next_letters (4 - (k + 1)) (get_or bs k 0) (drop (k + 1) bs) false e)
-
-no_letters : (n : ℕ) → letters n [] ≡ 0
-no_letters zero = refl
-no_letters (suc n) = refl
-
-pub letters_end : (k : ℕ) (bs : List ℕ) → length bs ≤ k → k + letters (4 - k) (drop k bs) ≡ k
-letters_end k bs l = omega (arith, ap (letters (4 - k)) (drop_all k bs l) ∙ no_letters (4 - k))
-
-pub letters_four : (k : ℕ) (bs : List ℕ) → 4 ≤ k → k + letters (4 - k) (drop k bs) ≡ k
-letters_four k bs l = omega (arith, ap (λ n. letters n (drop k bs)) (none_left k l))
-  where
-    none_left : (k : ℕ) → 4 ≤ k → 4 - k ≡ 0
-    none_left k l = omega arith
+-- the border behind one more character
+pub border_on : (text : List ℕ) (i b c n : ℕ) → IsUtf8 text → i < length (chars text) → c ≡ get_or (chars text) i c → b ≡ byte_at i (chars text) → n ≡ len_utf8 c
+    → (b + n ≡ byte_at (i + 1) (chars text)) × (b + n ≤ length text) × (i + 1 ≤ length text)
+border_on text i b c n u l here e size =
+    let cs = chars text in
+    let first : n ≡ byte_at 1 (drop i cs) = first_border n c (drop i cs) (drop (suc i) cs) (size ∙ sym (length-encode c)) (drop-cons cs i c l ∙ ap (λ x. x ∷ drop (suc i) cs) (sym here)) in
+    let next : b + n ≡ byte_at (i + 1) cs = ap₂ (λ x y. x + y) e first ∙ byte_at_on i 1 cs in
+    let within : b + n ≤ length text = byte_at_within (i + 1) (b + n) text u next in
+    let wide : i + 1 ≤ byte_at (i + 1) cs = omega (arith, length-le-encodes (take (i + 1) cs), length-take-le (i + 1) cs (omega (arith, l))) in (
+      next,
+      within,
+      omega (arith, wide, next, within),
+    )

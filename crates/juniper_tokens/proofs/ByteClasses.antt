@@ -1,12 +1,15 @@
 -- The table of classes.
-use Rattle.std.proofs.Common.{◌≡◌, ℕ, zero, suc, ◌+◌, ◌<◌, true, false, cond, Some, None, ◌==◌, refl, sym, ap, ◌∙◌, arith}
-use Rattle.std.specs.Prelude.{slice_index_or}
-use Rattle.graphql_lexical.specs.Characters.{is_source, is_name_character, is_digit, is_plain}
-use Rattle.graphql_lexical.specs.Scan.{Start, step, stretch_step}
+use Rattle.std.proofs.Common.{◌≡◌, ℕ, zero, suc, ◌+◌, ◌<◌, true, false, cond, ◌&&◌, Some, None, ◌==◌, refl, sym, ap, ◌∙◌, arith}
+use Rattle.std.specs.Prelude.{slice_index_or, is_some, nat_lt}
+use denote.Enum.Bare.{sameb}
+use Rattle.graphql_lexical.specs.Characters.{is_name_character, is_plain}
+use Rattle.graphql_lexical.specs.declared.state.State.TheVariants.{Start}
+use Rattle.graphql_lexical.specs.Scan.{step, stretch_step}
 use Rattle.juniper_tokens.specs.ByteRuns.{is_inner, byte_step}
+use Rattle.juniper_tokens.specs.contracts.byte_classes.ByteClass.{the_type}
 use Rattle.juniper_tokens.specs.declared.byte_classes.ByteClass.{ByteClass}
 use Rattle.juniper_tokens.specs.declared.byte_classes.ByteClass.TheVariants.{White, LineFeed, Hash, Quote, Dot, Minus, NameStart, Digit, Punctuator, Control, Other, Inner, Lead}
-use Rattle.juniper_tokens.specs.ByteClasses.{tabulate, class_of, name_class, digit_class, inner_class, line_feed_class, first_state, plain_class, source_class, comment_class, gap_class}
+use Rattle.juniper_tokens.specs.ByteClasses.{tabulate, class_of, name_class, inner_class, line_feed_class, first_state, plain_class, comment_class, gap_class}
 
 first_place : (b : ℕ) → b ≡ b + 0
 first_place b = omega arith
@@ -38,20 +41,21 @@ agree_at f g e b l = sym (in_table f b (f b) l) ∙ (ap (λ xs. slice_index_or x
 pub name_class_tests : (b : ℕ) → b < 256 → name_class (class_of b) ≡ is_name_character b
 name_class_tests b l = agree_at (λ k. name_class (class_of k)) is_name_character refl b l
 
-pub digit_class_tests : (b : ℕ) → b < 256 → digit_class (class_of b) ≡ is_digit b
-digit_class_tests b l = agree_at (λ k. digit_class (class_of k)) is_digit refl b l
-
 pub inner_class_tests : (b : ℕ) → b < 256 → inner_class (class_of b) ≡ is_inner b
 inner_class_tests b l = agree_at (λ k. inner_class (class_of k)) is_inner refl b l
 
 pub first_state_tests : (b : ℕ) → b < 256 → first_state (class_of b) b ≡ step Start b
 first_state_tests b l = agree_at (λ k. first_state (class_of k) k) (step Start) refl b l
 
+-- what a token begins with is ASCII
+pub starts_low : (b : ℕ) → b < 256 → (is_some (step Start b) && nat_lt b 128) ≡ is_some (step Start b)
+starts_low b l = agree_at (λ k. is_some (step Start k) && nat_lt k 128) (λ k. is_some (step Start k)) refl b l
+
+pub quote_class_tests : (b : ℕ) → b < 256 → sameb the_type (class_of b) Quote ≡ (b == 34)
+quote_class_tests b l = agree_at (λ k. sameb the_type (class_of k) Quote) (λ k. k == 34) refl b l
+
 pub plain_class_tests : (b : ℕ) → b < 256 → plain_class (class_of b) b ≡ is_plain b
 plain_class_tests b l = agree_at (λ k. plain_class (class_of k) k) is_plain refl b l
-
-pub source_class_tests : (b : ℕ) → b < 256 → source_class (class_of b) ≡ is_source b
-source_class_tests b l = agree_at (λ k. source_class (class_of k)) is_source refl b l
 
 pub comment_class_tests : (b : ℕ) → b < 256 → byte_step stretch_step true b ≡ cond (comment_class (class_of b) b) (Some true) (byte_step stretch_step false b)
 comment_class_tests b l = agree_at (byte_step stretch_step true) (λ k. cond (comment_class (class_of k) k) (Some true) (byte_step stretch_step false k)) refl b l

@@ -1,10 +1,15 @@
 -- The texts of escapes that are none.
-use Rattle.std.proofs.Common.{◌≡◌, ℕ, ◌+◌, ◌≤◌, ◌<◌, inl, inr, List, [], ◌∷◌, ◌++◌, length, take, drop, refl, sym, ap, ◌∙◌, arith, length-drop}
-use Rattle.std.specs.Str.{chars}
+use Rattle.std.proofs.Common.{◌≡◌, ℕ, ◌+◌, ◌≤◌, ◌<◌, ◌⊎◌, ◌&&◌, ◌==◌, nat_lt, max, inl, inr, Bool, true, false, cond, List, [], ◌∷◌, ◌++◌, length, take, drop, refl, sym, ap, ◌∙◌, arith, ◌^◌, length-drop}
+use Rattle.std.specs.Str.{chars, IsUtf8}
+use Rattle.std.proofs.lemmas.Bool.{cond-false, eqb-true, eqb-false, le-ltb, ne_eqb, and_left, and_right}
+use Rattle.std.proofs.lemmas.List.{drop_all}
+use Rattle.std.proofs.lemmas.Str.{encodes-chars}
+use lib.Utf8.{encodes}
 use Rattle.graphql_lexical.specs.Kinds.{UnterminatedString, UnknownEscapeSequence}
 use Rattle.graphql_lexical.specs.Reading.{counted}
 use Rattle.graphql_lexical.specs.Scan.{missed, after_backslash, after_u}
-use Rattle.graphql_lexical.proofs.Escapes.{counted_within, u_short, u_wrong, u_none}
+use Rattle.graphql_lexical.proofs.Escapes.{counted_within, u_short}
+use Rattle.juniper_tokens.proofs.Borders.{chars_within}
 
 pub backslash_mark : chars (92 ∷ []) ≡ 92 ∷ []
 unfolding chars
@@ -17,26 +22,33 @@ unicode_mark = refl
 pub backslash_missed : (at x : ℕ) (m t cs ds : List ℕ) → m ≡ 92 ∷ [] → t ≡ x ∷ [] → cs ≡ x ∷ ds → missed at (UnknownEscapeSequence (m ++ t)) ≡ after_backslash at cs
 backslash_missed at x m t cs ds e f g = rw (e, f, g) refl
 
-nothing_left : (n : ℕ) (cs : List ℕ) → drop n cs ≡ [] → length cs ≤ n
-nothing_left n cs e = omega (arith, ap length e, length-drop n cs)
+-- the place behind them
+pub letters_room : (at k : ℕ) (rest : List ℕ) → IsUtf8 rest → at + 1 + length rest < 2 ^ 64 → k ≡ counted (chars rest) → at + 1 + k < 2 ^ 64
+letters_room at k rest u r e = omega (arith, r, e, (counted_within (chars rest)).1, chars_within rest u)
 
-more_left : (n c : ℕ) (cs ds : List ℕ) → drop n cs ≡ c ∷ ds → n < length cs
-more_left n c cs ds e = omega (arith, ap length e, length-drop n cs)
+-- whether text stands behind so many characters
+pub stands_behind : (k : ℕ) (cs rest : List ℕ) (ends : Bool) → IsUtf8 rest → chars rest ≡ drop k cs → (length rest == 0) ≡ ends → cond ends (length cs ≤ k) (k < length cs)
+stands_behind k cs rest true u e h = omega (arith, chars_within rest u, ap length e, length-drop k cs, eqb-true (length rest) 0 h)
+stands_behind k cs rest false u e h = elim (below_or_not k (length cs)) [
+  | inl l ↦ l
+  | inr l ↦ absurd (eqb-false (length rest) 0 h (ap length (sym (encodes-chars rest u) ∙ ap encodes (e ∙ drop_all k cs l))))
+]
+  where
+    below_or_not : (a b : ℕ) → (a < b) ⊎ (b ≤ a)
+    below_or_not a b = grind arith
 
-pub u_ends : (u k : ℕ) (cs : List ℕ) → k ≡ counted cs → drop k cs ≡ [] → k < 4 → after_u u cs ≡ missed (u + 1 + k) UnterminatedString
-u_ends u k cs e d l =
+-- no text behind so many letters and digits, fewer than four
+pub u_ends : (u k : ℕ) (cs : List ℕ) → k ≡ counted cs → length cs ≤ k → k < 4 → after_u u cs ≡ missed (u + 1 + k) UnterminatedString
+u_ends u k cs e n l =
     let w = counted_within cs in
-    let n = nothing_left k cs d in
     u_short u cs (omega (arith, e)) (omega (arith, e, w.1)) ∙ ap (λ j. missed j UnterminatedString) (omega (arith, e, w.1))
 
-u_text : (u k : ℕ) (m t cs : List ℕ) → k ≡ counted cs → m ≡ 92 ∷ 117 ∷ [] → t ≡ take k cs → after_u u cs ≡ missed u (UnknownEscapeSequence (92 ∷ 117 ∷ take (counted cs) cs)) → missed u (UnknownEscapeSequence (m ++ t)) ≡ after_u u cs
-u_text u k m t cs e f g h = rw (f, g, e) (sym h)
-
-pub u_four : (u k : ℕ) (m t cs : List ℕ) → k ≡ counted cs → 4 ≤ k → m ≡ 92 ∷ 117 ∷ [] → t ≡ take k cs → missed u (UnknownEscapeSequence (m ++ t)) ≡ after_u u cs
-u_four u k m t cs e l f g = u_text u k m t cs e f g (u_wrong u cs (omega (arith, e)) (inl (omega (arith, e, (counted_within cs).0))))
-
-pub u_some : (u k c : ℕ) (m t cs ds : List ℕ) → k ≡ counted cs → 0 < k → drop k cs ≡ c ∷ ds → m ≡ 92 ∷ 117 ∷ [] → t ≡ take k cs → missed u (UnknownEscapeSequence (m ++ t)) ≡ after_u u cs
-u_some u k c m t cs ds e l d f g = u_text u k m t cs e f g (u_wrong u cs (omega (arith, e)) (inr (omega (arith, e, more_left k c cs ds d))))
-
-pub u_next : (u c : ℕ) (m t cs ds : List ℕ) → 0 ≡ counted cs → cs ≡ c ∷ ds → m ≡ 92 ∷ 117 ∷ [] → t ≡ c ∷ [] → missed u (UnknownEscapeSequence (m ++ t)) ≡ after_u u cs
-u_next u c m t cs ds e d f g = rw (f, g, d) (sym (u_none u c ds (sym (e ∙ ap counted d))))
+-- four, or more text behind them
+pub u_goes_on : (u k n : ℕ) (m t cs : List ℕ) → k ≡ counted cs → (4 ≤ k) ⊎ (k < length cs) → n ≡ max 1 k → m ≡ 92 ∷ 117 ∷ [] → t ≡ take n cs
+    → missed u (UnknownEscapeSequence (m ++ t)) ≡ after_u u cs
+u_goes_on u k n m t cs e d h f g =
+    let not_short : (nat_lt (counted cs) 4 && counted cs == length cs) ≡ false = elim d [
+      | inl l ↦ and_left (nat_lt (counted cs) 4) (counted cs == length cs) (le-ltb (counted cs) 4 (omega (arith, e, l)))
+      | inr x ↦ and_right (nat_lt (counted cs) 4) (counted cs == length cs) (ne_eqb (counted cs) (length cs) (λ s. omega (arith, e, s, x)))
+    ] in
+    rw (f, g, h, e) (sym (cond-false (nat_lt (counted cs) 4 && counted cs == length cs) _ _ not_short))

@@ -1,11 +1,11 @@
 -- From the computed scan to the definitions, and from place to place of a source.
-use Rattle.std.proofs.Common.{◌≡◌, ℕ, ◌+◌, ◌≤◌, ◌<◌, ◌^◌, true, false, List, [], ◌∷◌, length, take, drop, refl, sym, ap, ap₂, subst, ◌∙◌, arith, rules, length-append, take-add, length-drop}
+use Rattle.std.proofs.Common.{◌≡◌, ℕ, ◌+◌, ◌≤◌, ◌<◌, ◌^◌, true, false, List, [], ◌∷◌, length, take, drop, refl, sym, ap, ap₂, subst, ◌∙◌, arith, rules, length-drop}
 use Rattle.std.specs.Prelude.{Result, Ok, Err, ◌↔◌}
 use Rattle.std.specs.List.{fold}
 use Rattle.std.specs.Str.{chars, IsUtf8}
 use Rattle.std.proofs.lemmas.List.{length-take-le}
-use Rattle.std.proofs.lemmas.Str.{encodes-append, length-le-encodes}
-use lib.Utf8.{encode, encodes}
+use Rattle.std.proofs.lemmas.Str.{length-le-encodes}
+use lib.Utf8.{encode}
 use Rattle.std.proofs.lemmas.Bool.{eqb-true}
 use denote.Enum.Bare.{same_true}
 use Rattle.graphql_lexical.specs.contracts.kind.Kind.{the_type}
@@ -29,11 +29,8 @@ use Rattle.juniper_tokens.specs.Scans as scans
 use Rattle.juniper_tokens.specs.Lexing.{LexerState, BreaksAt, GivesFault, WantsMemory}
 use Rattle.juniper_tokens.specs.LexingByScan.{begins_with_mark, IsPlaced, past_gap}
 use Rattle.juniper_tokens.specs.Ranges.{FailsThere}
-use Rattle.juniper_tokens.proofs.Borders.{byte_at_within}
+use Rattle.juniper_tokens.proofs.Borders.{byte_at_within, byte_at_on}
 use Rattle.juniper_tokens.proofs.Places.{place_on}
-
-pub byte_at_on : (j g : ℕ) (cs : List ℕ) → byte_at j cs + byte_at g (drop j cs) ≡ byte_at (j + g) cs
-byte_at_on j g cs = sym (ap (λ t. length (encodes t)) (take-add j g cs) ∙ (ap length (encodes-append (take j cs) (take g (drop j cs))) ∙ length-append (encodes (take j cs)) (encodes (take g (drop j cs)))))
 
 -- from one place to the next
 pub placed_on : (source : List ℕ) (at g n : ℕ) (p q : Place) → IsPlaced source at p → g ≤ length (drop p.index (chars source)) → n ≡ byte_at g (drop p.index (chars source)) → q ≡ place (chars source) (p.index + g) → (q.index ≡ p.index + g) × IsPlaced source (at + n) q

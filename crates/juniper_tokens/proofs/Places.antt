@@ -4,9 +4,12 @@ use Rattle.std.specs.Prelude.{option_map}
 use Rattle.std.specs.List.{AllByRecursion, fold}
 use Rattle.std.proofs.lemmas.Option.{none-some, same_Some}
 use Rattle.std.proofs.lemmas.Bool.{eqb-true}
-use Rattle.graphql_lexical.specs.Scan as scans
 use Rattle.graphql_lexical.specs.Machines.{reach, onward}
-use Rattle.graphql_lexical.specs.Scan.{State, Start, Found, step, scan}
+use Rattle.graphql_lexical.specs.Scan.{Found, step, block_step, scan}
+use Rattle.graphql_lexical.specs.declared.state.State.{State}
+use Rattle.graphql_lexical.specs.declared.state.State.TheVariants.{Start, InBlock}
+use Rattle.graphql_lexical.specs.declared.state.Block.{Block}
+use Rattle.graphql_lexical.specs.declared.state.Block.TheVariants.{Closed}
 use Rattle.graphql_lexical.specs.declared.kind.Kind.{Kind}
 use Rattle.graphql_lexical.specs.declared.kind.Kind.TheVariants.{BlockString, EndOfFile}
 use Rattle.graphql_lexical.proofs.Readings.{answer_finds, same_Ok}
@@ -51,23 +54,23 @@ line_fold p (c ∷ cs) h =
 -- ---- what the steps of a token go over has no line feed, but in a block string
 
 abbrev in_block : State → Bool
-in_block (scans.InBlock part) = true
+in_block (InBlock part) = true
 in_block _ = false
 
-block_stays : (part : scans.Block) (cs : List ℕ) → in_block (reach step (scans.InBlock part) cs).1 ≡ true
+block_stays : (part : Block) (cs : List ℕ) → in_block (reach step (InBlock part) cs).1 ≡ true
 block_stays part [] = refl
 block_stays part (c ∷ cs) =
-    elim (scans.block_step part c) as (λ o. in_block (onward (scans.InBlock part) (λ p. reach step p cs) (option_map scans.InBlock o)).1 ≡ true) [
+    elim (block_step part c) as (λ o. in_block (onward (InBlock part) (λ p. reach step p cs) (option_map InBlock o)).1 ≡ true) [
       | None ↦ refl
       | Some p ↦ block_stays p cs
     ]
 
 outside : (q : State) (cs : List ℕ) → in_block (reach step q cs).1 ≡ false → in_block q ≡ false
-outside (scans.InBlock part) cs h = sym (block_stays part cs) ∙ h
+outside (InBlock part) cs h = sym (block_stays part cs) ∙ h
 outside _ cs h = refl
 
 step_feed : (q : State) → in_block q ≡ false → step q 10 ≡ None
-step_feed (scans.InBlock part) h = absurd (cc h)
+step_feed (InBlock part) h = absurd (cc h)
 step_feed _ h = refl
 
 same_feed : (c : ℕ) → (c == 10) ≡ true → c ≡ 10
@@ -94,8 +97,8 @@ on_line_less (suc j) (suc n) (c ∷ cs) l h = (h.0, on_line_less j n cs (omega a
 -- ---- where a token ends
 
 accepted_outside : (q : State) (kind : Kind) → accepts q ≡ Some kind → (kind ≡ BlockString → ⊥) → in_block q ≡ false
-accepted_outside (scans.InBlock scans.Closed) kind e n = absurd (n (sym (same_Some BlockString kind e)))
-accepted_outside (scans.InBlock _) kind e n = absurd (none-some kind e)
+accepted_outside (InBlock Closed) kind e n = absurd (n (sym (same_Some BlockString kind e)))
+accepted_outside (InBlock _) kind e n = absurd (none-some kind e)
 accepted_outside _ kind e n = refl
 
 found_line : (cs : List ℕ) (f : Found) → scan cs ≡ Ok f → (f.kind ≡ BlockString → ⊥) → OnLine (take (reach step Start cs).0 cs)

@@ -33,8 +33,8 @@ use Rattle.juniper_tokens.specs.Scans.{Finds}
 use Rattle.juniper_tokens.specs.Lexing.{LexerState, GivesItem, GivesToken}
 use Rattle.juniper_tokens.specs.LexingByScan.{past_gap, IsPlaced}
 use Rattle.juniper_tokens.specs.Ranges.{range_of, range_slice, range_lexeme, IsRange, TakesRange, TakesItem, MayTake, GivesRange, GivesRangeItem, range_steps}
-use Rattle.juniper_tokens.proofs.Borders.{byte_at_within}
-use Rattle.juniper_tokens.proofs.LexingByScan.{byte_at_on, same_end, fault_by_scan, memory_by_scan}
+use Rattle.juniper_tokens.proofs.Borders.{byte_at_within, byte_at_on}
+use Rattle.juniper_tokens.proofs.LexingByScan.{same_end, fault_by_scan, memory_by_scan}
 use Rattle.juniper_tokens.proofs.Places.{place_on, line_end}
 
 -- ---- from border to border

@@ -1,5 +1,5 @@
 -- Borders between the characters of a text.
-use Rattle.std.specs.Prelude.{◌≡◌, ℕ, zero, suc, ◌+◌, ◌-◌, ◌<◌, ◌≤◌, List, [], ◌∷◌, ◌++◌, length, take}
+use Rattle.std.specs.Prelude.{◌≡◌, ℕ, zero, suc, ◌<◌, ◌≤◌, List, [], ◌∷◌, ◌++◌, length, take, drop}
 use Rattle.juniper_tokens.specs.declared.lexer.text.Border.{Border}
 use Rattle.juniper_tokens.specs.ByteRuns.{byte_at}
 
@@ -7,11 +7,11 @@ use Rattle.juniper_tokens.specs.ByteRuns.{byte_at}
 abbrev pub IsBorder : Border → List ℕ → Type 0
 IsBorder b cs = b.bytes ≡ byte_at b.characters cs
 
--- so many ASCII characters stand before it, and another character before them
-pub record FollowsDigits (digits : ℕ) (b : Border) (cs : List ℕ) : Type 0 where
-  pub more : digits + 1 ≤ b.characters
-  pub room : b.characters ≤ b.bytes
-  pub start : b.bytes - digits ≡ byte_at (b.characters - digits) cs
+-- so many characters stand before it, or all where there are fewer
+pub record IsBorderBehind (count : ℕ) (cs : List ℕ) (b : Border) : Type 0 where
+  pub border : IsBorder b cs
+  pub front : take b.characters cs ≡ take count cs
+  pub rest : drop b.characters cs ≡ drop count cs
 
 -- so many quotes
 abbrev pub quotes : ℕ → List ℕ

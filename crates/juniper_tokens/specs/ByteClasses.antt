@@ -3,7 +3,8 @@ use Rattle.std.specs.Prelude.{◌≡◌, ℕ, zero, suc, Bool, true, false, not,
 use denote.Enum.Bare.{sameb}
 use Rattle.graphql_lexical.specs.Characters.{is_white, is_name_start, is_digit}
 use Rattle.graphql_lexical.specs.Tokens as tokens
-use Rattle.graphql_lexical.specs.Scan as scans
+use Rattle.graphql_lexical.specs.declared.state.State.{State}
+use Rattle.graphql_lexical.specs.declared.state.State.TheVariants as state
 use Rattle.juniper_tokens.specs.contracts.byte_classes.ByteClass.{the_type}
 use Rattle.juniper_tokens.specs.declared.byte_classes.ByteClass.{ByteClass}
 use Rattle.juniper_tokens.specs.declared.byte_classes.ByteClass.TheVariants.{White, LineFeed, Hash, Quote, Dot, Minus, NameStart, Digit, Punctuator, Control, Other, Inner, Lead}
@@ -57,10 +58,6 @@ name_class NameStart = true
 name_class Digit = true
 name_class _ = false
 
-abbrev pub digit_class : ByteClass → Bool
-digit_class Digit = true
-digit_class _ = false
-
 abbrev pub inner_class : ByteClass → Bool
 inner_class Inner = true
 inner_class _ = false
@@ -70,13 +67,13 @@ line_feed_class LineFeed = true
 line_feed_class _ = false
 
 -- the state after a token's first byte
-abbrev pub first_state : ByteClass → ℕ → Option scans.State
-first_state NameStart b = Some scans.InName
-first_state Digit b = if b == 48 then Some scans.Zero else Some scans.Digits
-first_state Minus b = Some scans.Minus
-first_state Dot b = Some scans.Dot
-first_state Quote b = Some scans.Quote
-first_state Punctuator b = option_map scans.Done (tokens.punctuator b)
+abbrev pub first_state : ByteClass → ℕ → Option State
+first_state NameStart b = Some state.InName
+first_state Digit b = if b == 48 then Some state.Zero else Some state.Digits
+first_state Minus b = Some state.Minus
+first_state Dot b = Some state.OneDot
+first_state Quote b = Some state.Quote
+first_state Punctuator b = option_map state.Done (tokens.punctuator b)
 first_state _ b = None
 
 -- it stands in a string for itself
@@ -87,11 +84,6 @@ plain_class Quote b = false
 plain_class Control b = false
 plain_class Other b = not (b == 92)
 plain_class _ b = true
-
--- it may stand in a source
-abbrev pub source_class : ByteClass → Bool
-source_class Control = false
-source_class _ = true
 
 -- a comment goes on with it
 abbrev pub comment_class : ByteClass → ℕ → Bool

@@ -11,7 +11,6 @@ pub mod Nesting
 pub mod DelimitedParts
 pub mod ByteClasses
 pub mod ByteRuns
-pub mod Machine
 pub mod Borders
 pub mod Walks
 pub mod Scans

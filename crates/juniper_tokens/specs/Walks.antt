@@ -1,20 +1,9 @@
 -- Where the loops over bytes stop.
-use Rattle.std.specs.Prelude.{◌≡◌, ℕ, ◌+◌, ◌-◌, ◌<◌, ◌≤◌, ◌==◌, Bool, true, false, get_or, if◌then◌else◌, Option, Some, None, List, length, take}
+use Rattle.std.specs.Prelude.{◌≡◌, ℕ, ◌+◌, ◌<◌, ◌≤◌, Bool, true, false, get_or, Option, List, length, take}
 use Rattle.std.specs.List.{AllByRecursion, fold}
 use Rattle.graphql_lexical.specs.Place.{Place, past_character}
-use Rattle.graphql_lexical.specs.Machines.{reach}
-use Rattle.graphql_lexical.specs.Scan.{State, Start, step, stretch_step, stretch_size}
-use Rattle.juniper_tokens.specs.ByteRuns.{byte_at, byte_step, with_value, count_one, Walked}
-
--- the steps of a token over bytes, with the number of characters
-abbrev pub token_machine : State × ℕ → ℕ → Option (State × ℕ)
-token_machine = byte_step (with_value step count_one)
-
--- the state, the byte and the character at which the steps of a token stop
-pub record HasReached (cs : List ℕ) (state : State) (bytes characters : ℕ) : Type 0 where
-  pub state_is : state ≡ (reach step Start cs).1
-  pub characters_is : characters ≡ (reach step Start cs).0
-  pub bytes_is : bytes ≡ byte_at characters cs
+use Rattle.graphql_lexical.specs.Scan.{stretch_step, stretch_size}
+use Rattle.juniper_tokens.specs.ByteRuns.{byte_at, byte_step, with_value, Walked}
 
 -- the byte at which a stretch of a gap ends, and its place
 pub record EndsStretch (cs : List ℕ) (start : Place) (bytes : ℕ) (position : Place) : Type 0 where
@@ -34,7 +23,3 @@ pub record EndsComment (bytes : List ℕ) (start : Place) (size : ℕ) (position
 
 abbrev pub AreSpaces : List ℕ → Type 0
 AreSpaces = AllByRecursion (λ b. b ≡ 32)
-
--- how many characters are left to go over
-abbrev pub left_step : ℕ → ℕ → Option ℕ
-left_step k c = if k == 0 then None else Some (k - 1)

@@ -1,290 +1,222 @@
-//! The steps by which a token is read, a byte at a time.
-ghost use Rattle.std.specs.Prelude.{◌≡◌, ◌==◌, option_map, if◌then◌else◌, Some, None};
-ghost use Rattle.graphql_lexical.specs.declared.kind.Kind.TheVariants.{String};
-ghost use Rattle.graphql_lexical.specs.Characters.{is_hex as hex_test, is_escape as escape_test, is_exponent_mark as exponent_mark_test, is_sign as sign_test};
-ghost use Rattle.graphql_lexical.specs.Scan as scans;
+//! The steps by which a token is read, a character at a time.
+ghost use Rattle.std.specs.Prelude.{◌≡◌};
+ghost use Rattle.graphql_lexical.specs.Characters.{is_source as source_test, is_plain as plain_test, is_name_character as name_test, is_escape as escape_test, is_exponent_mark as exponent_mark_test, is_sign as sign_test};
+ghost use Rattle.graphql_lexical.specs.declared.state.State.TheVariants.{Start, Zero, Quote, InString};
 ghost use Rattle.graphql_lexical.specs.Tokens.{punctuator as punctuator_kind};
-ghost use Rattle.graphql_lexical.specs.Scan.{step as character_step, block_other};
-ghost use Rattle.juniper_tokens.specs.ByteClasses.{class_of, first_state};
-ghost use Rattle.juniper_tokens.specs.ByteRuns.{byte_step};
-ghost use Rattle.juniper_tokens.specs.Machine.{view_state};
+ghost use Rattle.graphql_lexical.specs.Scan.{step as next_state, block_step, block_other as block_state};
 
-use crate::byte_classes::ByteClass;
-use graphql_lexical::Kind;
+use graphql_lexical::{Block, Kind, State};
 
-/// What has been read of a token.
-#[derive(Clone, Copy)]
-pub(crate) enum State {
-    Start,
-    /// A whole token, which nothing goes on with.
-    Done(Kind),
-    OneDot,
-    TwoDots,
-    InName,
-    /// The `-` of a number.
-    Minus,
-    /// `0` or `-0`.
-    Zero,
-    /// The digits of another integer part.
-    Digits,
-    /// The point after an integer part.
-    Point,
-    /// The digits after a point.
-    Fraction,
-    /// `e` or `E`.
-    ExponentMark,
-    /// The sign of an exponent.
-    ExponentSign,
-    /// The digits of an exponent.
-    Exponent,
-    /// A quote.
-    Quote,
-    /// Two quotes, which are an empty string or begin a block string.
-    TwoQuotes,
-    /// A quote, and characters and escapes after it.
-    InString,
-    /// The backslash of an escape.
-    Backslash,
-    /// `\u`.
-    NoHexDigit,
-    /// `\u` and a digit that is not `D`.
-    OneHexDigit,
-    /// `\uD`, after which the number may be one from D800 to DFFF.
-    HexDigitD,
-    /// `\u` and two digits, with which no such number begins.
-    TwoHexDigits,
-    ThreeHexDigits,
-    /// In a block string, at none of the quotes that may end it.
-    Block,
-    /// One of these quotes.
-    BlockQuote,
-    /// Two of them.
-    BlockTwoQuotes,
-    /// A backslash, with which three quotes stand for themselves.
-    BlockBackslash,
-    /// A backslash and a quote.
-    BlockEscapedQuote,
-    /// A backslash and two quotes.
-    BlockEscapedQuotes,
-    /// A whole block string.
-    BlockEnd,
-}
-
-/// The punctuator that this byte is.
+/// The punctuator that this character is.
 #[inline(always)]
-pub(crate) fn punctuator_of(byte: u8) -> Option<Kind>
-    ensures { result ≡ punctuator_kind byte }
+pub(crate) fn punctuator_of(c: char) -> Option<Kind>
+    ensures { result ≡ punctuator_kind c }
 {
-    match byte {
-        b'!' => Some(Kind::ExclamationMark),
-        b'$' => Some(Kind::Dollar),
-        b'(' => Some(Kind::ParenOpen),
-        b')' => Some(Kind::ParenClose),
-        b'[' => Some(Kind::BracketOpen),
-        b']' => Some(Kind::BracketClose),
-        b'{' => Some(Kind::CurlyOpen),
-        b'}' => Some(Kind::CurlyClose),
-        b':' => Some(Kind::Colon),
-        b'=' => Some(Kind::Equals),
-        b'@' => Some(Kind::At),
-        b'|' => Some(Kind::Pipe),
+    match c {
+        '!' => Some(Kind::ExclamationMark),
+        '$' => Some(Kind::Dollar),
+        '(' => Some(Kind::ParenOpen),
+        ')' => Some(Kind::ParenClose),
+        '[' => Some(Kind::BracketOpen),
+        ']' => Some(Kind::BracketClose),
+        '{' => Some(Kind::CurlyOpen),
+        '}' => Some(Kind::CurlyClose),
+        ':' => Some(Kind::Colon),
+        '=' => Some(Kind::Equals),
+        '@' => Some(Kind::At),
+        '|' => Some(Kind::Pipe),
         _ => None,
     }
 }
 
-fn is_hex(byte: u8) -> bool
-    ensures { result ≡ hex_test byte }
+fn is_source(c: char) -> bool
+    ensures { result ≡ source_test c }
 {
-    byte.is_ascii_hexdigit()
+    c >= ' ' || c == '\t' || c == '\n' || c == '\r'
 }
 
-fn is_escape(byte: u8) -> bool
-    ensures { result ≡ escape_test byte }
+fn is_plain(c: char) -> bool
+    ensures { result ≡ plain_test c }
 {
-    match byte {
-        b'"' | b'\\' | b'/' | b'b' | b'f' | b'n' | b'r' | b't' => true,
+    is_source(c) && c != '\n' && c != '\r' && c != '"' && c != '\\'
+}
+
+fn is_name(c: char) -> bool
+    ensures { result ≡ name_test c }
+{
+    c.is_ascii_alphanumeric() || c == '_'
+}
+
+fn is_escape(c: char) -> bool
+    ensures { result ≡ escape_test c }
+{
+    match c {
+        '"' | '\\' | '/' | 'b' | 'f' | 'n' | 'r' | 't' => true,
         _ => false,
     }
 }
 
-fn is_exponent_mark(byte: u8) -> bool
-    ensures { result ≡ exponent_mark_test byte }
+fn is_exponent_mark(c: char) -> bool
+    ensures { result ≡ exponent_mark_test c }
 {
-    byte == b'e' || byte == b'E'
+    c == 'e' || c == 'E'
 }
 
-fn is_sign(byte: u8) -> bool
-    ensures { result ≡ sign_test byte }
+fn is_sign(c: char) -> bool
+    ensures { result ≡ sign_test c }
 {
-    byte == b'+' || byte == b'-'
+    c == '+' || c == '-'
 }
 
-// The first step.
-fn first_step(class: ByteClass, byte: u8) -> Option<State>
-    ensures { option_map view_state result ≡ first_state class byte }
+fn first_step(c: char) -> Option<State>
+    ensures { result ≡ next_state Start c }
 {
-    match class {
-        ByteClass::NameStart => Some(State::InName),
-        ByteClass::Digit => {
-            if byte == b'0' {
-                Some(State::Zero)
-            } else {
-                Some(State::Digits)
-            }
-        }
-        ByteClass::Minus => Some(State::Minus),
-        ByteClass::Dot => Some(State::OneDot),
-        ByteClass::Quote => Some(State::Quote),
-        ByteClass::Punctuator => match punctuator_of(byte) {
+    match c {
+        '1'..='9' => Some(State::Digits),
+        'a'..='z' | 'A'..='Z' | '_' => Some(State::InName),
+        '0' => Some(State::Zero),
+        '-' => Some(State::Minus),
+        '.' => Some(State::OneDot),
+        '"' => Some(State::Quote),
+        _ => match punctuator_of(c) {
             Some(kind) => Some(State::Done(kind)),
             None => None,
         },
-        _ => None,
     }
 }
 
 // The step after an integer part, where no digit follows it.
-fn step_after_integer(byte: u8) -> Option<State>
-    ensures { option_map view_state result ≡ character_step scans.Zero byte }
+fn step_after_integer(c: char) -> Option<State>
+    ensures { result ≡ next_state Zero c }
 {
-    if byte == b'.' {
+    if c == '.' {
         Some(State::Point)
     } else {
-        is_exponent_mark(byte).then_some(State::ExponentMark)
+        is_exponent_mark(c).then_some(State::ExponentMark)
     }
 }
 
-// The step after a string's first quote, at what does not stand in a string for itself.
-fn step_after_quote(byte: u8) -> Option<State>
-    ensures { option_map view_state result ≡ if byte == 34 then Some scans.Quotes else (if byte == 92 then Some scans.Backslash else None) }
+// The step after a string's first quote.
+fn step_after_quote(c: char) -> Option<State>
+    ensures { result ≡ next_state Quote c }
 {
-    if byte == b'"' {
-        Some(State::TwoQuotes)
+    if c == '"' {
+        Some(State::EmptyString)
+    } else if c == '\\' {
+        Some(State::Backslash)
     } else {
-        (byte == b'\\').then_some(State::Backslash)
+        is_plain(c).then_some(State::InString)
     }
 }
 
-// The step in a block string, which goes on with a quote as this state says.
-#[tactic(auto, using(crate::proofs::ByteClasses::source_class_tests))]
-fn step_in_block(after_quote: State, class: ByteClass, byte: u8) -> Option<State>
-    requires { class ≡ class_of byte }
-    ensures { (part : scans.Block) → view_state after_quote ≡ scans.InBlock part → option_map view_state result ≡ option_map scans.InBlock (if byte == 34 then Some part else block_other byte) }
+fn step_in_string(c: char) -> Option<State>
+    ensures { result ≡ next_state InString c }
 {
-    if byte == b'"' {
-        Some(after_quote)
-    } else if byte == b'\\' {
-        Some(State::BlockBackslash)
-    } else {
-        class.is_source().then_some(State::Block)
-    }
-}
-
-// The step in a string, at what does not stand there for itself.
-fn step_in_string(byte: u8) -> Option<State>
-    ensures { option_map view_state result ≡ if byte == 34 then Some (scans.Done String) else (if byte == 92 then Some scans.Backslash else None) }
-{
-    if byte == b'"' {
+    if c == '"' {
         Some(State::Done(Kind::String))
+    } else if c == '\\' {
+        Some(State::Backslash)
     } else {
-        (byte == b'\\').then_some(State::Backslash)
+        is_plain(c).then_some(State::InString)
     }
 }
 
-// The step at the first byte of a character.
-#[tactic(auto, using(crate::proofs::ByteClasses::first_state_tests, crate::proofs::ByteClasses::name_class_tests, crate::proofs::ByteClasses::digit_class_tests, crate::proofs::ByteClasses::plain_class_tests))]
-fn step_at_character(state: State, class: ByteClass, byte: u8) -> Option<State>
-    requires { class ≡ class_of byte }
-    ensures { option_map view_state result ≡ character_step (view_state state) byte }
+// The step in a block string, at what does not go on with quotes.
+fn block_other(c: char) -> Option<Block>
+    ensures { result ≡ block_state c }
+{
+    if c == '\\' {
+        Some(Block::Escaping)
+    } else {
+        is_source(c).then_some(Block::Inside)
+    }
+}
+
+fn step_in_block(part: Block, c: char) -> Option<Block>
+    ensures { result ≡ block_step part c }
+{
+    if c != '"' {
+        return match part {
+            Block::Closed => None,
+            _ => block_other(c),
+        };
+    }
+    match part {
+        Block::Inside => Some(Block::OneQuote),
+        Block::OneQuote => Some(Block::TwoQuotes),
+        Block::TwoQuotes => Some(Block::Closed),
+        Block::Escaping => Some(Block::EscapedQuote),
+        Block::EscapedQuote => Some(Block::EscapedQuotes),
+        Block::EscapedQuotes => Some(Block::Inside),
+        Block::Closed => None,
+    }
+}
+
+/// The next step, or None where the token does not go on with this character.
+pub(crate) fn step(state: State, c: char) -> Option<State>
+    ensures { result ≡ next_state state c }
 {
     match state {
-        State::Start => first_step(class, byte),
-        State::Done(_) | State::BlockEnd => None,
-        State::OneDot => (byte == b'.').then_some(State::TwoDots),
-        State::TwoDots => (byte == b'.').then_some(State::Done(Kind::Ellipsis)),
-        State::InName => class.is_name().then_some(State::InName),
+        State::Start => first_step(c),
+        State::Done(_) => None,
+        State::OneDot => (c == '.').then_some(State::TwoDots),
+        State::TwoDots => (c == '.').then_some(State::Done(Kind::Ellipsis)),
+        State::InName => is_name(c).then_some(State::InName),
         State::Minus => {
-            if class.is_digit() {
-                first_step(class, byte)
+            if c == '0' {
+                Some(State::Zero)
             } else {
-                None
+                c.is_ascii_digit().then_some(State::Digits)
             }
         }
-        State::Zero => step_after_integer(byte),
+        State::Zero => step_after_integer(c),
         State::Digits => {
-            if class.is_digit() {
+            if c.is_ascii_digit() {
                 Some(State::Digits)
             } else {
-                step_after_integer(byte)
+                step_after_integer(c)
             }
         }
-        State::Point => class.is_digit().then_some(State::Fraction),
+        State::Point => c.is_ascii_digit().then_some(State::Fraction),
         State::Fraction => {
-            if class.is_digit() {
+            if c.is_ascii_digit() {
                 Some(State::Fraction)
             } else {
-                is_exponent_mark(byte).then_some(State::ExponentMark)
+                is_exponent_mark(c).then_some(State::ExponentMark)
             }
         }
         State::ExponentMark => {
-            if class.is_digit() {
+            if c.is_ascii_digit() {
                 Some(State::Exponent)
             } else {
-                is_sign(byte).then_some(State::ExponentSign)
+                is_sign(c).then_some(State::ExponentSign)
             }
         }
-        State::ExponentSign | State::Exponent => class.is_digit().then_some(State::Exponent),
-        State::Quote => {
-            if class.is_plain(byte) {
-                Some(State::InString)
-            } else {
-                step_after_quote(byte)
-            }
-        }
-        State::TwoQuotes => (byte == b'"').then_some(State::Block),
-        State::InString => {
-            if class.is_plain(byte) {
-                Some(State::InString)
-            } else {
-                step_in_string(byte)
-            }
-        }
+        State::ExponentSign | State::Exponent => c.is_ascii_digit().then_some(State::Exponent),
+        State::Quote => step_after_quote(c),
+        State::EmptyString => (c == '"').then_some(State::InBlock(Block::Inside)),
+        State::InString => step_in_string(c),
         State::Backslash => {
-            if is_escape(byte) {
-                Some(State::InString)
+            if c == 'u' {
+                Some(State::NoHexDigit)
             } else {
-                (byte == b'u').then_some(State::NoHexDigit)
+                is_escape(c).then_some(State::InString)
             }
         }
         State::NoHexDigit => {
-            if byte == b'D' || byte == b'd' {
+            if c == 'D' || c == 'd' {
                 Some(State::HexDigitD)
             } else {
-                is_hex(byte).then_some(State::OneHexDigit)
+                c.is_ascii_hexdigit().then_some(State::OneHexDigit)
             }
         }
-        State::OneHexDigit => is_hex(byte).then_some(State::TwoHexDigits),
-        State::HexDigitD => (byte >= b'0' && byte <= b'7').then_some(State::TwoHexDigits),
-        State::TwoHexDigits => is_hex(byte).then_some(State::ThreeHexDigits),
-        State::ThreeHexDigits => is_hex(byte).then_some(State::InString),
-        State::Block => step_in_block(State::BlockQuote, class, byte),
-        State::BlockQuote => step_in_block(State::BlockTwoQuotes, class, byte),
-        State::BlockTwoQuotes => step_in_block(State::BlockEnd, class, byte),
-        State::BlockBackslash => step_in_block(State::BlockEscapedQuote, class, byte),
-        State::BlockEscapedQuote => step_in_block(State::BlockEscapedQuotes, class, byte),
-        State::BlockEscapedQuotes => step_in_block(State::Block, class, byte),
-    }
-}
-
-/// The next step, or None where the token does not go on with this byte.
-#[tactic(auto, using(crate::proofs::ByteClasses::inner_class_tests))]
-pub(crate) fn step(state: State, class: ByteClass, byte: u8) -> Option<State>
-    requires { class ≡ class_of byte }
-    ensures { option_map view_state result ≡ byte_step character_step (view_state state) byte }
-{
-    if class.is_inner() {
-        Some(state)
-    } else {
-        step_at_character(state, class, byte)
+        State::OneHexDigit => c.is_ascii_hexdigit().then_some(State::TwoHexDigits),
+        State::HexDigitD => (c >= '0' && c <= '7').then_some(State::TwoHexDigits),
+        State::TwoHexDigits => c.is_ascii_hexdigit().then_some(State::ThreeHexDigits),
+        State::ThreeHexDigits => c.is_ascii_hexdigit().then_some(State::InString),
+        State::InBlock(part) => match step_in_block(part, c) {
+            Some(next) => Some(State::InBlock(next)),
+            None => None,
+        },
     }
 }

@@ -4,7 +4,8 @@ ghost use Rattle.std.specs.Str.{chars};
 ghost use Rattle.graphql_lexical.specs.declared.kind.Kind.TheVariants.{String, EndOfFile};
 ghost use Rattle.graphql_lexical.specs.Kinds.{same_kind};
 ghost use Rattle.graphql_lexical.specs.Machines.{reach};
-ghost use Rattle.graphql_lexical.specs.Scan.{step, InName};
+ghost use Rattle.graphql_lexical.specs.declared.state.State.TheVariants.{InName};
+ghost use Rattle.graphql_lexical.specs.Scan.{step};
 ghost use Rattle.juniper_tokens.specs.declared.byte_classes.ByteClass.TheVariants.{Quote};
 ghost use Rattle.juniper_tokens.specs.ByteClasses.{class_of};
 ghost use Rattle.juniper_tokens.specs.Scans.{Finds};
@@ -29,7 +30,7 @@ pub(crate) fn plain_token(text: &str) -> Option<Found>
     }
     match byte_class(bytes[0]) {
         ByteClass::NameStart => Some(token_of(Kind::Name, count_name(bytes))),
-        ByteClass::Punctuator => Some(token_of(punctuator_of(bytes[0])?, 1)),
+        ByteClass::Punctuator => Some(token_of(punctuator_of(bytes[0] as char)?, 1)),
         ByteClass::Quote => plain_string(text),
         _ => None,
     }

@@ -1,21 +1,18 @@
 //! The token at the front of a text, or the fault there, from the state in which the steps stop.
-ghost use Rattle.std.specs.Prelude.{◌≡◌, ◌+◌, ◌-◌, ◌<◌, ◌^◌, ◌++◌, drop, length, Ok};
+ghost use Rattle.std.specs.Prelude.{◌≡◌, ◌+◌, ◌-◌, ◌<◌, ◌≤◌, ◌^◌, ◌++◌, drop, length, Ok};
 ghost use Rattle.std.specs.Str.{chars};
 ghost use Rattle.graphql_lexical.specs.Kinds.{UnknownEscapeSequence};
-ghost use Rattle.graphql_lexical.specs.Scan as scans;
-ghost use Rattle.graphql_lexical.specs.Scan.{missed, stopped, after_dots, after_units, after_block, after_backslash, after_u, after_zero, answer, scan};
-ghost use Rattle.juniper_tokens.specs.Borders.{IsBorder, FollowsDigits};
-ghost use Rattle.juniper_tokens.specs.Machine.{view_state};
+ghost use Rattle.graphql_lexical.specs.declared.state.State.TheVariants.{Start};
+ghost use Rattle.graphql_lexical.specs.Scan.{missed, stopped, after_dots, after_units, after_block, after_backslash, after_u, after_zero, answer, answer_in_block, scan};
+ghost use Rattle.juniper_tokens.specs.Borders.{IsBorder};
 ghost use Rattle.juniper_tokens.specs.Scans.{MeetsScan, Misses};
-ghost use Rattle.juniper_tokens.specs.Walks.{HasReached};
 
 use crate::error::LexerError;
-use crate::lexer::machine::State;
 use crate::lexer::text::{
-    Border, count_alphanumerics, first_character, first_text, joined, text_before, text_from,
+    Border, count_alphanumerics, first_character, first_characters, joined, text_behind, text_from,
 };
 use crate::lexer::walk::{Reached, walk_token};
-use graphql_lexical::Kind;
+use graphql_lexical::{Block, Kind, State};
 use std::alloc::Global;
 
 /// The kind of a token, and its end.
@@ -96,7 +93,7 @@ fn backslash_fault(alloc: Global, rest: &str, at: usize) -> Missed
     ensures { Misses result (after_backslash at (chars rest.now)) }
 {
     match first_character(rest) {
-        Some(c) => escape_fault(alloc, "\\", first_text(rest, c), at),
+        Some(c) => escape_fault(alloc, "\\", first_characters(rest, 1), at),
         None => Missed::Fault(LexerError::UnterminatedString, at),
     }
 }
@@ -107,38 +104,21 @@ fn unicode_fault(alloc: Global, rest: &str, at: usize) -> Missed
     ensures { Misses result (after_u at (chars rest.now)) }
 {
     let count = count_alphanumerics(rest);
-    let end = Border {
-        bytes: count,
-        characters: count,
-    };
-    match first_character(text_from(rest, end)) {
-        None => {
-            if count < 4 {
-                Missed::Fault(LexerError::UnterminatedString, at + 1 + count)
-            } else {
-                escape_fault(alloc, "\\u", text_before(rest, end), at)
-            }
-        }
-        Some(c) => {
-            if count == 0 {
-                escape_fault(alloc, "\\u", first_text(rest, c), at)
-            } else {
-                escape_fault(alloc, "\\u", text_before(rest, end), at)
-            }
-        }
+    if count < 4 && text_behind(rest, count).is_empty() {
+        Missed::Fault(LexerError::UnterminatedString, at + 1 + count)
+    } else {
+        escape_fault(alloc, "\\u", first_characters(rest, count.max(1)), at)
     }
 }
 
-// The same, where some digits after the `u` have been read.
-fn digits_fault(alloc: Global, text: &str, end: Border, digits: usize) -> Missed
-    requires { FollowsDigits digits end (chars text.now) }
-    ensures { Misses result (after_u (end.characters - (digits + 1)) (drop (end.characters - digits) (chars text.now))) }
+// The same, where so many characters of the text have been read, some digits after the `u` among them.
+fn digits_fault(alloc: Global, text: &str, end: usize, digits: usize) -> Missed
+    requires end { end ≤ length text.now }
+    requires digits { digits < 4 }
+    ensures { Misses result (after_u (end - (digits + 1)) (drop (end - digits) (chars text.now))) }
 {
-    let start = Border {
-        bytes: end.bytes - digits,
-        characters: end.characters - digits,
-    };
-    unicode_fault(alloc, text_from(text, start), end.characters - (digits + 1))
+    let rest = text_behind(text, end.saturating_sub(digits));
+    unicode_fault(alloc, rest, end.saturating_sub(digits + 1))
 }
 
 // A token that ends there.
@@ -167,24 +147,22 @@ fn scan_zero(text: &str, end: Border) -> Result<Found, Missed>
 
 // Where no token begins: at the end, or at a character.
 fn scan_unknown(text: &str) -> Result<Found, Missed>
-    ensures { MeetsScan result (chars text.now) (answer scans.Start 0 (chars text.now)) }
+    ensures { MeetsScan result (chars text.now) (answer Start 0 (chars text.now)) }
 {
     match first_character(text) {
         Some(c) => Err(Missed::Fault(LexerError::UnknownCharacter(c), 0)),
         None => Ok(Found {
             kind: Kind::EndOfFile,
-            end: Border {
-                bytes: 0,
-                characters: 0,
-            },
+            end: Border::start(),
         }),
     }
 }
 
 // The token or the fault where the steps have stopped.
 fn scan_reached(alloc: Global, text: &str, reached: Reached) -> Result<Found, Missed>
-    requires { HasReached (chars text.now) (view_state reached.state) reached.end.bytes reached.end.characters }
-    ensures { MeetsScan result (chars text.now) (answer (view_state reached.state) reached.end.characters (chars text.now)) }
+    requires border { IsBorder reached.end (chars text.now) }
+    requires within { reached.end.characters ≤ length text.now }
+    ensures { MeetsScan result (chars text.now) (answer reached.state reached.end.characters (chars text.now)) }
 {
     let end = reached.end;
     match reached.state {
@@ -198,27 +176,33 @@ fn scan_reached(alloc: Global, text: &str, reached: Reached) -> Result<Found, Mi
             Err(string_fault(text_from(text, end), end.characters))
         }
         State::Backslash => Err(backslash_fault(alloc, text_from(text, end), end.characters)),
-        State::NoHexDigit => Err(digits_fault(alloc, text, end, 0)),
-        State::OneHexDigit | State::HexDigitD => Err(digits_fault(alloc, text, end, 1)),
-        State::TwoHexDigits => Err(digits_fault(alloc, text, end, 2)),
-        State::ThreeHexDigits => Err(digits_fault(alloc, text, end, 3)),
-        State::Block
-        | State::BlockQuote
-        | State::BlockTwoQuotes
-        | State::BlockBackslash
-        | State::BlockEscapedQuote
-        | State::BlockEscapedQuotes => Err(block_fault(text_from(text, end), end.characters)),
+        State::NoHexDigit => Err(digits_fault(alloc, text, end.characters, 0)),
+        State::OneHexDigit | State::HexDigitD => {
+            Err(digits_fault(alloc, text, end.characters, 1))
+        }
+        State::TwoHexDigits => Err(digits_fault(alloc, text, end.characters, 2)),
+        State::ThreeHexDigits => Err(digits_fault(alloc, text, end.characters, 3)),
+        State::InBlock(part) => scan_block(text, part, end),
         State::Done(kind) => token_of(kind, end),
         State::InName => token_of(Kind::Name, end),
         State::Digits => token_of(Kind::Int, end),
         State::Fraction | State::Exponent => token_of(Kind::Float, end),
-        State::TwoQuotes => token_of(Kind::String, end),
-        State::BlockEnd => token_of(Kind::BlockString, end),
+        State::EmptyString => token_of(Kind::String, end),
+    }
+}
+
+// The same, where they have stopped in a block string or behind it.
+fn scan_block(text: &str, part: Block, end: Border) -> Result<Found, Missed>
+    requires { IsBorder end (chars text.now) }
+    ensures { MeetsScan result (chars text.now) (answer_in_block part end.characters (chars text.now)) }
+{
+    match part {
+        Block::Closed => token_of(Kind::BlockString, end),
+        _ => Err(block_fault(text_from(text, end), end.characters)),
     }
 }
 
 /// The token at the front of a text, or the fault there.
-#[tactic(auto, using(crate::proofs::Stops::scan_at))]
 pub(crate) fn scan_token(alloc: Global, text: &str) -> Result<Found, Missed>
     ensures { MeetsScan result (chars text.now) (scan (chars text.now)) }
 {

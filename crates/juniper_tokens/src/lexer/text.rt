@@ -1,11 +1,10 @@
 //! Parts of a text between borders of characters.
-ghost use Rattle.std.specs.Prelude.{◌≡◌, ◌+◌, ◌∷◌, ◌++◌, [], take, drop, length, MatchOption, IfOk, ◌||◌};
+ghost use Rattle.std.specs.Prelude.{◌≡◌, ◌+◌, ◌∷◌, ◌++◌, [], take, drop, length, MatchOption, IfOk};
 ghost use Rattle.std.specs.Str.{chars};
 ghost use Rattle.std.specs.String.{string_bytes};
-ghost use Rattle.graphql_lexical.specs.Characters.{is_letter, is_digit};
 ghost use Rattle.graphql_lexical.specs.Reading.{counted};
 ghost use Rattle.graphql_lexical.specs.Tokens.{between};
-ghost use Rattle.juniper_tokens.specs.Borders.{IsBorder, EndsQuoted, quotes};
+ghost use Rattle.juniper_tokens.specs.Borders.{IsBorder, IsBorderBehind, EndsQuoted, quotes};
 ghost use Rattle.juniper_tokens.specs.LexingByScan.{begins_with_mark};
 
 use std::alloc::{AllocError, Global};
@@ -15,6 +14,60 @@ use std::alloc::{AllocError, Global};
 pub(crate) struct Border {
     pub(crate) bytes: usize,
     pub(crate) characters: usize,
+}
+
+impl Border {
+    ghost use Rattle.std.specs.Prelude.{◌≡◌, ◌+◌, ◌<◌, ◌^◌};
+    ghost use Rattle.std.specs.Char.{len_utf8};
+
+    pub(crate) fn start() -> Self
+        ensures { result ≡ record { bytes = 0; characters = 0 } }
+    {
+        Border {
+            bytes: 0,
+            characters: 0,
+        }
+    }
+
+    /// The border behind one more character.
+    pub(crate) fn past(self, c: char) -> Self
+        requires bytes { self.bytes + len_utf8 c < 2 ^ 64 }
+        requires characters { self.characters + 1 < 2 ^ 64 }
+        ensures { result ≡ record { bytes = self.bytes + len_utf8 c; characters = self.characters + 1 } }
+    {
+        Border {
+            bytes: self.bytes + c.len_utf8(),
+            characters: self.characters + 1,
+        }
+    }
+}
+
+/// The border behind so many characters, or behind all where there are fewer.
+fn border_behind(text: &str, count: usize) -> Border
+    ensures { IsBorderBehind count (chars text.now) result }
+{
+    let mut border = Border::start();
+    for c in text.chars() {
+        if border.characters == count {
+            return border;
+        }
+        border = border.past(c);
+    }
+    border
+}
+
+/// The first characters, so many or all.
+pub(crate) fn first_characters(text: &str, count: usize) -> &str
+    ensures { chars result.now ≡ take count (chars text.now) }
+{
+    text_before(text, border_behind(text, count))
+}
+
+/// What stands behind so many characters.
+pub(crate) fn text_behind(text: &str, count: usize) -> &str
+    ensures { chars result.now ≡ drop count (chars text.now) }
+{
+    text_from(text, border_behind(text, count))
 }
 
 /// What stands before a border.
@@ -72,20 +125,6 @@ pub(crate) fn begins_with_mark(text: &str) -> bool
     }
 }
 
-/// The first character, as a text.
-pub(crate) fn first_text(text: &str, c: char) -> &str
-    requires { chars text.now ≡ c ∷ drop 1 (chars text.now) }
-    ensures { chars result.now ≡ c ∷ [] }
-{
-    text_before(
-        text,
-        Border {
-            bytes: c.len_utf8(),
-            characters: 1,
-        },
-    )
-}
-
 /// Two texts in a row.
 pub(crate) fn joined(alloc: Global, a: &str, b: &str) -> Result<String, AllocError>
     ensures { IfOk result (λ s. chars (string_bytes s) ≡ chars a.now ++ chars b.now) }
@@ -95,20 +134,12 @@ pub(crate) fn joined(alloc: Global, a: &str, b: &str) -> Result<String, AllocErr
     Ok(text)
 }
 
-fn is_alphanumeric(byte: u8) -> bool
-    ensures { result ≡ (is_letter byte || is_digit byte) }
-{
-    byte.is_ascii_alphanumeric()
-}
-
 /// How many ASCII letters and digits come first, counted to four at most.
 pub(crate) fn count_alphanumerics(text: &str) -> usize
     ensures { result ≡ counted (chars text.now) }
 {
-    let bytes = text.as_bytes();
-    let mut count = 0;
-    while count < 4 && count < bytes.len() && is_alphanumeric(bytes[count]) {
-        count += 1;
-    }
-    count
+    text.chars()
+        .take(4)
+        .take_while(|c| c.is_ascii_alphanumeric())
+        .count()
 }

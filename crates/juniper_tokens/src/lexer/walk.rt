@@ -1,17 +1,21 @@
-//! The loops over the bytes of a text.
+//! The loops over a text.
 ghost use Rattle.std.specs.Prelude.{◌≡◌, ◌==◌, ℕ, ◌+◌, ◌<◌, ◌≤◌, ◌^◌, get_or, length, take};
 ghost use Rattle.std.specs.List.{fold};
 ghost use Rattle.std.specs.Str.{chars};
 ghost use Rattle.graphql_lexical.specs.Place.{past_character};
 ghost use Rattle.juniper_tokens.specs.ByteClasses.{class_of};
-ghost use Rattle.juniper_tokens.specs.ByteRuns.{byte_step, byte_change, count_one};
-ghost use Rattle.juniper_tokens.specs.Machine.{view_state};
-ghost use Rattle.juniper_tokens.specs.Walks.{HasReached, EndsStretch, EndsComment, AreSpaces, left_step};
+ghost use Rattle.graphql_lexical.specs.declared.state.State.TheVariants.{Start};
+ghost use Rattle.graphql_lexical.specs.Machines.{reach};
+ghost use Rattle.graphql_lexical.specs.Scan.{step as next_state};
+ghost use Rattle.juniper_tokens.specs.Borders.{IsBorder};
+ghost use Rattle.juniper_tokens.specs.ByteRuns.{byte_change, count_one};
+ghost use Rattle.juniper_tokens.specs.Walks.{EndsStretch, EndsComment, AreSpaces};
 
 use crate::byte_classes::{ByteClass, byte_class};
-use crate::lexer::machine::{State, step};
+use crate::lexer::machine::step;
 use crate::lexer::text::Border;
 use crate::position::SourcePosition;
+use graphql_lexical::State;
 
 /// The end of white space and comments without a byte order mark between them.
 #[derive(Clone, Copy)]
@@ -60,20 +64,6 @@ pub(crate) fn count_after(count: usize, class: ByteClass) -> usize
     ensures most { result ≤ count + 1 }
 {
     if class.is_inner() { count } else { count + 1 }
-}
-
-// How many characters are left to go over after a byte, or None where none is left.
-#[tactic(auto, using(crate::proofs::ByteClasses::inner_class_tests))]
-fn left_after(left: usize, class: ByteClass) -> Option<usize>
-    ensures { (b : ℕ) → b < 256 → class ≡ class_of b → result ≡ byte_step left_step left b }
-{
-    if class.is_inner() {
-        Some(left)
-    } else if left == 0 {
-        None
-    } else {
-        Some(left - 1)
-    }
 }
 
 // How many spaces come first.
@@ -156,36 +146,20 @@ pub(crate) fn walk_stretch(text: &str, start: SourcePosition) -> StretchEnd
 
 /// Goes as far as the steps of a token go.
 pub(crate) fn walk_token(text: &str) -> Reached
-    ensures { HasReached (chars text.now) (view_state result.state) result.end.bytes result.end.characters }
+    ensures reached { reach next_state Start (chars text.now) ≡ (result.end.characters, result.state) }
+    ensures border { IsBorder result.end (chars text.now) }
+    ensures within { result.end.characters ≤ length text.now }
 {
-    let bytes = text.as_bytes();
     let mut state = State::Start;
-    let mut characters = 0;
-    let mut i = 0;
-    while i < bytes.len() {
-        let class = byte_class(bytes[i]);
-        match step(state, class, bytes[i]) {
+    let mut end = Border::start();
+    for c in text.chars() {
+        match step(state, c) {
             Some(next) => state = next,
-            None => {
-                return Reached {
-                    state,
-                    end: Border {
-                        bytes: i,
-                        characters,
-                    },
-                };
-            }
+            None => return Reached { state, end },
         }
-        characters = count_after(characters, class);
-        i += 1;
+        end = end.past(c);
     }
-    Reached {
-        state,
-        end: Border {
-            bytes: i,
-            characters,
-        },
-    }
+    Reached { state, end }
 }
 
 /// The place so many characters on, or at the end of the text.
@@ -193,18 +167,9 @@ pub(crate) fn walk_characters(text: &str, start: SourcePosition, count: usize) -
     requires { start.index + length text.now < 2 ^ 64 }
     ensures { result ≡ fold past_character start (take count (chars text.now)) }
 {
-    let bytes = text.as_bytes();
     let mut position = start;
-    let mut left = count;
-    let mut i = 0;
-    while i < bytes.len() {
-        let class = byte_class(bytes[i]);
-        match left_after(left, class) {
-            Some(next) => left = next,
-            None => return position,
-        }
-        position = position_after(position, class);
-        i += 1;
+    for c in text.chars().take(count) {
+        position = position.past(c);
     }
     position
 }

@@ -1,7 +1,9 @@
 use Rattle.std.proofs.Common.{◌<◌, ℕ, sym, ap, ◌∙◌, arith, get_or}
-use Rattle.graphql_lexical.specs.Scan.{State, step, InName}
+use Rattle.graphql_lexical.specs.Scan.{step}
+use Rattle.graphql_lexical.specs.declared.state.State.{State}
+use Rattle.graphql_lexical.specs.declared.state.State.TheVariants.{InName}
 use Rattle.juniper_tokens.proofs.ByteRuns.{walked_start, walked_on, walked_stop, walked_end}
-use Rattle.juniper_tokens.proofs.FirstBytes.{name_goes, name_stops}
+use Rattle.juniper_tokens.proofs.PlainTokens.{name_goes, name_stops}
 use Rattle.juniper_tokens.proofs.lexer.plain.count_name.Goals as goal
 
 pub loop-count-init : goal.loop-count-init

@@ -1,5 +1,6 @@
 use Rattle.std.proofs.Common.{length, ◌-◌}
-use Rattle.graphql_lexical.specs.Scan.{step, InName}
+use Rattle.graphql_lexical.specs.Scan.{step}
+use Rattle.graphql_lexical.specs.declared.state.State.TheVariants.{InName}
 use Rattle.juniper_tokens.specs.ByteRuns.{Walked}
 use Rattle.juniper_tokens.proofs.lexer.plain.count_name.Given as goal
 

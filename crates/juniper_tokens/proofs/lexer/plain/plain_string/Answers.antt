@@ -1,6 +1,6 @@
 use Rattle.std.proofs.Common.{◌<◌, sym, ◌∙◌, arith, get_or}
 use Rattle.std.specs.Str.{chars}
-use Rattle.juniper_tokens.proofs.PlainStrings.{plain_more, plain_ends, string_given}
+use Rattle.juniper_tokens.proofs.PlainTokens.{plain_more, plain_ends, string_given}
 use Rattle.juniper_tokens.proofs.lexer.plain.plain_string.Goals as goal
 
 pub loop-i-preserved : goal.loop-i-preserved

@@ -1,5 +1,5 @@
 use Rattle.std.proofs.Common.{length, ◌-◌}
-use Rattle.juniper_tokens.proofs.PlainStrings.{InPlain}
+use Rattle.juniper_tokens.proofs.PlainTokens.{InPlain}
 use Rattle.juniper_tokens.proofs.lexer.plain.plain_string.Given as goal
 
 abbrev pub invariant-loop-i : goal.invariant-loop-i

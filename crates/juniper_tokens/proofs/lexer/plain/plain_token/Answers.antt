@@ -1,7 +1,7 @@
 use Rattle.std.proofs.Common.{◌<◌, sym, ◌∙◌, arith, get_or, subst}
 use Rattle.std.specs.Str.{chars}
 use Rattle.juniper_tokens.specs.Scans.{Finds}
-use Rattle.juniper_tokens.proofs.FirstBytes.{name_at_class, mark_at_class}
+use Rattle.juniper_tokens.proofs.PlainTokens.{name_at_class, mark_at_class}
 use Rattle.juniper_tokens.proofs.lexer.plain.plain_token.Goals as goal
 
 pub returns-in-NameStart-clause-finds : goal.returns-in-NameStart-clause-finds

@@ -1,5 +1,5 @@
 use Rattle.std.proofs.Common.{arith, ◌∙◌, ap, drop}
-use Rattle.juniper_tokens.proofs.Stops.{string_back, unquoted_text, first_quotes}
+use Rattle.juniper_tokens.proofs.QuotedTexts.{string_back, unquoted_text, first_quotes}
 use Rattle.juniper_tokens.proofs.lexer.text.unquoted.Goals as goal
 
 pub overflow_sub-end : goal.overflow_sub-end

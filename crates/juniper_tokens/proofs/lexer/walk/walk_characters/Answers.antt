@@ -1,24 +1,18 @@
-use Rattle.std.proofs.Common.{sym, ap, ◌∙◌, arith, ◌<◌, get_or, Some}
-use Rattle.juniper_tokens.specs.Walks.{left_step}
+use Rattle.std.proofs.Common.{sym, ap, ◌∙◌, arith}
+use Rattle.std.proofs.lemmas.Iterator.{YieldsList-from_chars, YieldsList-from_take}
+use Rattle.std.proofs.lemmas.Iterator.Consumers.{YieldsList-turn, YieldsList-end}
+use Rattle.std.proofs.lemmas.List.{map-id}
+use Rattle.std.specs.List.{fold}
 use Rattle.graphql_lexical.specs.Place.{past_character}
-use Rattle.juniper_tokens.proofs.ByteRuns.{walked_on, walked_stop, walked_end}
-use Rattle.juniper_tokens.proofs.Walks.{value_goes, value_stops, characters_reached}
+use Rattle.juniper_tokens.proofs.Walks.{place_room}
 use Rattle.juniper_tokens.proofs.lexer.walk.walk_characters.Goals as goal
 
-pub loop-i-preserved : goal.loop-i-preserved
-loop-i-preserved c =
-    let b = get_or c.as_bytes-bytes.result.now c.loop-i.i 0 in
-    let small : b < 256 = omega (arith, c.type_inv.bytes c.loop-i.i) in
-    let n = c.position_after-position.ensures.value b small c.byte_class-class.ensures in
-    let s = sym (c.left_after.ensures b small c.byte_class-class.ensures) ∙ c.in-Some.is in
-    (walked_on _ _ _ _ _ _ c.loop-i-test.true (value_goes left_step past_character c.loop-i.left c.in-Some.next c.loop-i.position b s ∙ ap (λ k. Some (c.in-Some.next, k)) (sym n)) c.loop-i.invariant.0, omega (arith, c.position_after-position.ensures.most, c.loop-i.invariant.1))
-
-pub returns-in-None : goal.returns-in-None
-returns-in-None c =
-    let b = get_or c.as_bytes-bytes.result.now c.loop-i.i 0 in
-    let small : b < 256 = omega (arith, c.type_inv.text c.loop-i.i) in
-    let s = sym (c.left_after.ensures b small c.byte_class-class.ensures) ∙ c.in-None.is in
-    characters_reached _ _ _ _ _ _ _ c.utf8.text c.as_bytes-bytes.ensures.value (walked_stop _ _ _ _ _ c.loop-i-test.true (value_stops left_step past_character c.loop-i.left c.loop-i.position b s) c.loop-i.invariant.0)
+pub past-position-requires : goal.past-position-requires
+past-position-requires c =
+    let t = YieldsList-turn (YieldsList-from_take c.args.count (YieldsList-from_chars c.args.text.now c.utf8.text cc) cc) c.loop-c.yielded _ c.loop-c.yielded_by _ _ c.in-Some.c c.in-Some.is c.next.ensures.steps in
+    omega (arith, ap (λ p. p.index) c.loop-c.invariant, place_room c.args.start c.loop-c.yielded c.args.text.now c.args.count c.utf8.text c.requires t.0)
 
 pub returns : goal.returns
-returns c = characters_reached _ _ _ _ _ _ _ c.utf8.text c.as_bytes-bytes.ensures.value (walked_end _ _ _ _ _ c.loop-i-test.false c.loop-i.invariant.0)
+returns c =
+    let t = YieldsList-end (YieldsList-from_take c.args.count (YieldsList-from_chars c.args.text.now c.utf8.text cc) cc) c.loop-c.yielded _ c.loop-c.yielded_by _ _ c.in-None.is c.next.ensures.steps in
+    c.loop-c.invariant ∙ ap (fold past_character c.args.start) (sym (map-id c.loop-c.yielded) ∙ t.0)

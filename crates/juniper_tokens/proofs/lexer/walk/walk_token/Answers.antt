@@ -1,24 +1,45 @@
-use Rattle.std.proofs.Common.{sym, ap, ◌∙◌, arith, ◌<◌, get_or, Some}
-use Rattle.std.specs.Prelude.{option_map}
+use Rattle.std.proofs.Common.{sym, ap, ◌∙◌, ◌+◌, length, arith, subst, refl}
+use Rattle.std.specs.Str.{chars}
+use Rattle.std.proofs.lemmas.Iterator.{YieldsList-from_chars}
+use Rattle.std.proofs.lemmas.Iterator.Consumers.{YieldsList-turn, YieldsList-end}
+use Rattle.std.proofs.lemmas.List.{length_push, get_or_default}
+use Rattle.graphql_lexical.specs.declared.state.State.TheVariants.{Start}
 use Rattle.graphql_lexical.specs.Scan.{step}
-use Rattle.juniper_tokens.specs.ByteRuns.{count_one}
-use Rattle.juniper_tokens.specs.Machine.{view_state}
+use Rattle.juniper_tokens.specs.ByteRuns.{byte_at, Walked}
+use Rattle.juniper_tokens.proofs.Borders.{border_on}
 use Rattle.juniper_tokens.proofs.ByteRuns.{walked_on, walked_stop, walked_end}
-use Rattle.juniper_tokens.proofs.Walks.{value_goes, value_stops, token_reached}
 use Rattle.juniper_tokens.proofs.lexer.walk.walk_token.Goals as goal
 
-pub loop-i-preserved : goal.loop-i-preserved
-loop-i-preserved c =
-    let b = get_or c.as_bytes-bytes.result.now c.loop-i.i 0 in
-    let small : b < 256 = omega (arith, c.type_inv.bytes c.loop-i.i) in
-    let n = c.count_after-characters.ensures.value b small c.byte_class-class.ensures in
-    let s = sym c.step.ensures ∙ ap (option_map view_state) c.in-Some.is in
-    (walked_on _ _ _ _ _ _ c.loop-i-test.true (value_goes step count_one (view_state c.loop-i.state) (view_state c.in-Some.next) c.loop-i.characters b s ∙ ap (λ k. Some (view_state c.in-Some.next, k)) (sym n)) c.loop-i.invariant.0, omega (arith, c.count_after-characters.ensures.most, c.loop-i.invariant.1))
+pub past-end-requires-clause-bytes : goal.past-end-requires-clause-bytes
+past-end-requires-clause-bytes c =
+    let t = YieldsList-turn (YieldsList-from_chars c.args.text.now c.utf8.text cc) c.loop-c.yielded _ c.loop-c.yielded_by _ _ c.in-Some.c c.in-Some.is c.next.ensures.steps in
+    let b = border_on c.args.text.now (length c.loop-c.yielded) c.loop-c.end.bytes c.in-Some.c _ c.utf8.text t.0 t.1 c.loop-c.invariant.bytes refl in
+    omega (arith, b.1)
 
-pub returns-in-None : goal.returns-in-None
-returns-in-None c =
-    let s = sym c.step.ensures ∙ ap (option_map view_state) c.in-None.is in
-    token_reached _ _ _ _ _ c.utf8.text c.as_bytes-bytes.ensures.value (walked_stop _ _ _ _ _ c.loop-i-test.true (value_stops step count_one (view_state c.loop-i.state) c.loop-i.characters (get_or c.as_bytes-bytes.result.now c.loop-i.i 0) s) c.loop-i.invariant.0)
+pub loop-c-preserved : goal.loop-c-preserved
+loop-c-preserved c =
+    let cs = chars c.args.text.now in
+    let i = length c.loop-c.yielded in
+    let t = YieldsList-turn (YieldsList-from_chars c.args.text.now c.utf8.text cc) c.loop-c.yielded _ c.loop-c.yielded_by _ _ c.in-Some.c c.in-Some.is c.next.ensures.steps in
+    let b = border_on c.args.text.now i c.loop-c.end.bytes c.in-Some.c _ c.utf8.text t.0 t.1 c.loop-c.invariant.bytes refl in
+    let goes = ap (step c.loop-c.state) (sym (t.1 ∙ get_or_default cs i c.in-Some.c 0 t.0)) ∙ (sym c.step.ensures ∙ c.in-Some-step.is) in
+    let n = sym (length_push c.loop-c.yielded c.in-Some.c) in
+    record {
+      walked = subst (λ k. Walked step Start cs k c.in-Some-step.next) n (walked_on step Start c.loop-c.state c.in-Some-step.next cs i t.0 goes c.loop-c.invariant.walked);
+      characters = ap (λ e. e.characters) c.past-end.ensures ∙ (ap (λ k. k + 1) c.loop-c.invariant.characters ∙ n);
+      bytes = ap (λ e. e.bytes) c.past-end.ensures ∙ (b.0 ∙ ap (λ k. byte_at k cs) n);
+    }
 
-pub returns : goal.returns
-returns c = token_reached _ _ _ _ _ c.utf8.text c.as_bytes-bytes.ensures.value (walked_end _ _ _ _ _ c.loop-i-test.false c.loop-i.invariant.0)
+pub returns-in-None-step-clause-reached : goal.returns-in-None-step-clause-reached
+returns-in-None-step-clause-reached c =
+    let cs = chars c.args.text.now in
+    let i = length c.loop-c.yielded in
+    let t = YieldsList-turn (YieldsList-from_chars c.args.text.now c.utf8.text cc) c.loop-c.yielded _ c.loop-c.yielded_by _ _ c.in-Some.c c.in-Some.is c.next.ensures.steps in
+    let stops = ap (step c.loop-c.state) (sym (t.1 ∙ get_or_default cs i c.in-Some.c 0 t.0)) ∙ (sym c.step.ensures ∙ c.in-None-step.is) in
+    walked_stop step Start c.loop-c.state cs i t.0 stops c.loop-c.invariant.walked ∙ ap (λ k. (k, c.loop-c.state)) (sym c.loop-c.invariant.characters)
+
+pub returns-clause-reached : goal.returns-clause-reached
+returns-clause-reached c =
+    let t = YieldsList-end (YieldsList-from_chars c.args.text.now c.utf8.text cc) c.loop-c.yielded _ c.loop-c.yielded_by _ _ c.in-None.is c.next.ensures.steps in
+    walked_end step Start c.loop-c.state (chars c.args.text.now) (length c.loop-c.yielded) (omega (arith, t.1)) c.loop-c.invariant.walked
+    ∙ ap (λ k. (k, c.loop-c.state)) (sym c.loop-c.invariant.characters)

@@ -1,11 +1,13 @@
-use Rattle.std.proofs.Common.{length, ◌-◌, ◌≤◌}
-use Rattle.graphql_lexical.specs.Scan.{step, Start}
-use Rattle.juniper_tokens.specs.ByteRuns.{Walked, byte_step, with_value, count_one}
-use Rattle.juniper_tokens.specs.Machine.{view_state}
+use Rattle.std.proofs.Common.{◌≡◌, length}
+use Rattle.std.specs.Str.{chars}
+use Rattle.graphql_lexical.specs.declared.state.State.TheVariants.{Start}
+use Rattle.graphql_lexical.specs.Scan.{step}
+use Rattle.juniper_tokens.specs.ByteRuns.{byte_at, Walked}
 use Rattle.juniper_tokens.proofs.lexer.walk.walk_token.Given as goal
 
-abbrev pub invariant-loop-i : goal.invariant-loop-i
-invariant-loop-i l = Walked (byte_step (with_value step count_one)) (Start, 0) l.bytes l.i (view_state l.state, l.characters) × (l.characters ≤ l.i)
-
-abbrev pub decreases-loop-i : goal.decreases-loop-i
-decreases-loop-i l = length l.bytes - l.i
+abbrev pub invariant-loop-c : goal.invariant-loop-c
+invariant-loop-c l = record {
+  walked : Walked step Start (chars l.text) (length l.yielded) l.state;
+  characters : l.end.characters ≡ length l.yielded;
+  bytes : l.end.bytes ≡ byte_at (length l.yielded) (chars l.text);
+}
