@@ -161,15 +161,6 @@ abbrev pub gap_step : Bool → ℕ → Option Bool
 gap_step true c = if is_comment_character c then Some true else (if is_white c then Some false else (if c == 35 then Some true else None))
 gap_step false c = if is_white c then Some false else (if c == 35 then Some true else None)
 
--- A stretch of a gap: as far as no byte order mark stands outside a comment. These steps tell no characters past
--- ASCII apart, so a lexer over bytes may go by them.
-abbrev pub stretch_step : Bool → ℕ → Option Bool
-stretch_step true c = gap_step true c
-stretch_step false c = if c == 65279 then None else gap_step false c
-
-abbrev pub stretch_size : List ℕ → ℕ
-stretch_size rest = (reach stretch_step false rest).0
-
 abbrev pub gap_size : List ℕ → ℕ
 gap_size rest = (reach gap_step false rest).0
 

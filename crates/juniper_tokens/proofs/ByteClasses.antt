@@ -1,15 +1,15 @@
 -- The table of classes.
-use Rattle.std.proofs.Common.{◌≡◌, ℕ, zero, suc, ◌+◌, ◌<◌, true, false, cond, ◌&&◌, Some, None, ◌==◌, refl, sym, ap, ◌∙◌, arith}
-use Rattle.std.specs.Prelude.{slice_index_or, is_some, nat_lt}
+use Rattle.std.proofs.Common.{◌≡◌, ℕ, Bool, zero, suc, ◌+◌, ◌<◌, true, false, None, ◌==◌, refl, sym, ap, ◌∙◌, arith}
+use Rattle.std.specs.Prelude.{slice_index_or, nat_lt, nat_le}
 use denote.Enum.Bare.{sameb}
-use Rattle.graphql_lexical.specs.Characters.{is_name_character, is_plain}
+use Rattle.graphql_lexical.specs.Characters.{is_name_character, is_digit, is_plain, is_comment_character}
 use Rattle.graphql_lexical.specs.declared.state.State.TheVariants.{Start}
-use Rattle.graphql_lexical.specs.Scan.{step, stretch_step}
-use Rattle.juniper_tokens.specs.ByteRuns.{is_inner, byte_step}
+use Rattle.graphql_lexical.specs.Scan.{step, gap_step}
+use Rattle.juniper_tokens.specs.ByteRuns.{is_inner}
 use Rattle.juniper_tokens.specs.contracts.byte_classes.ByteClass.{the_type}
 use Rattle.juniper_tokens.specs.declared.byte_classes.ByteClass.{ByteClass}
 use Rattle.juniper_tokens.specs.declared.byte_classes.ByteClass.TheVariants.{White, LineFeed, Hash, Quote, Dot, Minus, NameStart, Digit, Punctuator, Control, Other, Inner, Lead}
-use Rattle.juniper_tokens.specs.ByteClasses.{tabulate, class_of, name_class, inner_class, line_feed_class, first_state, plain_class, comment_class, gap_class}
+use Rattle.juniper_tokens.specs.ByteClasses.{tabulate, class_of, name_class, digit_class, inner_class, first_state, plain_class, comment_class, gap_class}
 
 first_place : (b : ℕ) → b ≡ b + 0
 first_place b = omega arith
@@ -47,9 +47,26 @@ inner_class_tests b l = agree_at (λ k. inner_class (class_of k)) is_inner refl 
 pub first_state_tests : (b : ℕ) → b < 256 → first_state (class_of b) b ≡ step Start b
 first_state_tests b l = agree_at (λ k. first_state (class_of k) k) (step Start) refl b l
 
--- what a token begins with is ASCII
-pub starts_low : (b : ℕ) → b < 256 → (is_some (step Start b) && nat_lt b 128) ≡ is_some (step Start b)
-starts_low b l = agree_at (λ k. is_some (step Start k) && nat_lt k 128) (λ k. is_some (step Start k)) refl b l
+pub digit_class_tests : (b : ℕ) → b < 256 → digit_class (class_of b) ≡ is_digit b
+digit_class_tests b l = agree_at (λ k. digit_class (class_of k)) is_digit refl b l
+
+-- a class of ASCII bytes
+abbrev pub low_class : ByteClass → Bool
+low_class Inner = false
+low_class Lead = false
+low_class _ = true
+
+pub low_class_tests : (b : ℕ) → b < 256 → low_class (class_of b) ≡ nat_lt b 128
+low_class_tests b l = agree_at (λ k. low_class (class_of k)) (λ k. nat_lt k 128) refl b l
+
+pub lead_class_tests : (b : ℕ) → b < 256 → sameb the_type (class_of b) Lead ≡ nat_le 192 b
+lead_class_tests b l = agree_at (λ k. sameb the_type (class_of k) Lead) (λ k. nat_le 192 k) refl b l
+
+pub feed_class_tests : (b : ℕ) → b < 256 → sameb the_type (class_of b) LineFeed ≡ (b == 10)
+feed_class_tests b l = agree_at (λ k. sameb the_type (class_of k) LineFeed) (λ k. k == 10) refl b l
+
+pub hash_class_tests : (b : ℕ) → b < 256 → sameb the_type (class_of b) Hash ≡ (b == 35)
+hash_class_tests b l = agree_at (λ k. sameb the_type (class_of k) Hash) (λ k. k == 35) refl b l
 
 pub quote_class_tests : (b : ℕ) → b < 256 → sameb the_type (class_of b) Quote ≡ (b == 34)
 quote_class_tests b l = agree_at (λ k. sameb the_type (class_of k) Quote) (λ k. k == 34) refl b l
@@ -57,34 +74,24 @@ quote_class_tests b l = agree_at (λ k. sameb the_type (class_of k) Quote) (λ k
 pub plain_class_tests : (b : ℕ) → b < 256 → plain_class (class_of b) b ≡ is_plain b
 plain_class_tests b l = agree_at (λ k. plain_class (class_of k) k) is_plain refl b l
 
-pub comment_class_tests : (b : ℕ) → b < 256 → byte_step stretch_step true b ≡ cond (comment_class (class_of b) b) (Some true) (byte_step stretch_step false b)
-comment_class_tests b l = agree_at (byte_step stretch_step true) (λ k. cond (comment_class (class_of k) k) (Some true) (byte_step stretch_step false k)) refl b l
+pub comment_class_tests : (b : ℕ) → b < 256 → comment_class (class_of b) b ≡ is_comment_character b
+comment_class_tests b l = agree_at (λ k. comment_class (class_of k) k) is_comment_character refl b l
 
--- a comment goes on with a byte, or the byte is in it what it is outside
-pub comment_goes : (b : ℕ) → b < 256 → (class : ByteClass) → class ≡ class_of b → comment_class class b ≡ true → byte_step stretch_step true b ≡ Some true
-comment_goes b l class e h = comment_class_tests b l ∙ ap (λ x. cond x (Some true) (byte_step stretch_step false b)) (sym (ap (λ k. comment_class k b) e) ∙ h)
+pub gap_class_tests : (b : ℕ) → b < 256 → gap_class (class_of b) ≡ gap_step false b
+gap_class_tests b l = agree_at (λ k. gap_class (class_of k)) (gap_step false) refl b l
 
-pub comment_stops : (b : ℕ) → b < 256 → (class : ByteClass) → class ≡ class_of b → comment_class class b ≡ false → byte_step stretch_step true b ≡ byte_step stretch_step false b
-comment_stops b l class e h = comment_class_tests b l ∙ ap (λ x. cond x (Some true) (byte_step stretch_step false b)) (sym (ap (λ k. comment_class k b) e) ∙ h)
-
-pub gap_class_tests : (b : ℕ) → b < 256 → gap_class (class_of b) ≡ byte_step stretch_step false b
-gap_class_tests b l = agree_at (λ k. gap_class (class_of k)) (byte_step stretch_step false) refl b l
-
-pub line_feed_class_tests : (b : ℕ) → b < 256 → line_feed_class (class_of b) ≡ (b == 10)
-line_feed_class_tests b l = agree_at (λ k. line_feed_class (class_of k)) (λ k. k == 10) refl b l
-
--- where white characters and comments don't go on
-pub gap_none : (class : ByteClass) → (class ≡ White → ⊥) → (class ≡ LineFeed → ⊥) → (class ≡ Hash → ⊥) → (class ≡ Inner → ⊥) → gap_class class ≡ None
-gap_none White w l h i = absurd (w refl)
-gap_none LineFeed w l h i = absurd (l refl)
-gap_none Hash w l h i = absurd (h refl)
-gap_none Inner w l h i = absurd (i refl)
-gap_none Quote w l h i = refl
-gap_none Dot w l h i = refl
-gap_none Minus w l h i = refl
-gap_none NameStart w l h i = refl
-gap_none Digit w l h i = refl
-gap_none Punctuator w l h i = refl
-gap_none Control w l h i = refl
-gap_none Other w l h i = refl
-gap_none Lead w l h i = refl
+-- where a gap doesn't go on
+pub gap_none : (class : ByteClass) → (class ≡ White → ⊥) → (class ≡ LineFeed → ⊥) → (class ≡ Hash → ⊥) → gap_class class ≡ None
+gap_none White w l h = absurd (w refl)
+gap_none LineFeed w l h = absurd (l refl)
+gap_none Hash w l h = absurd (h refl)
+gap_none Inner w l h = refl
+gap_none Quote w l h = refl
+gap_none Dot w l h = refl
+gap_none Minus w l h = refl
+gap_none NameStart w l h = refl
+gap_none Digit w l h = refl
+gap_none Punctuator w l h = refl
+gap_none Control w l h = refl
+gap_none Other w l h = refl
+gap_none Lead w l h = refl

@@ -1,20 +1,18 @@
 -- From the computed scan to the definitions, and from place to place of a source.
-use Rattle.std.proofs.Common.{◌≡◌, ℕ, ◌+◌, ◌≤◌, ◌<◌, ◌^◌, true, false, List, [], ◌∷◌, length, take, drop, refl, sym, ap, ap₂, subst, ◌∙◌, arith, rules, length-drop}
+use Rattle.std.proofs.Common.{◌≡◌, ℕ, ◌+◌, ◌≤◌, ◌<◌, ◌^◌, true, false, List, length, take, drop, refl, sym, ap, ap₂, subst, ◌∙◌, arith, rules, length-drop}
 use Rattle.std.specs.Prelude.{Result, Ok, Err, ◌↔◌}
 use Rattle.std.specs.List.{fold}
 use Rattle.std.specs.Str.{chars, IsUtf8}
 use Rattle.std.proofs.lemmas.List.{length-take-le}
 use Rattle.std.proofs.lemmas.Str.{length-le-encodes}
-use lib.Utf8.{encode}
-use Rattle.std.proofs.lemmas.Bool.{eqb-true}
 use denote.Enum.Bare.{same_true}
 use Rattle.graphql_lexical.specs.contracts.kind.Kind.{the_type}
 use Rattle.graphql_lexical.specs.declared.kind.Kind.{Kind}
 use Rattle.graphql_lexical.specs.declared.kind.Kind.TheVariants.{EndOfFile}
 use Rattle.graphql_lexical.specs.Kinds.{same_kind, LexicalError, UnknownEscapeSequence}
 use Rattle.graphql_lexical.specs.Kinds as errors
-use Rattle.graphql_lexical.specs.Place.{Place, place, past_character, next_column}
-use Rattle.graphql_lexical.specs.Scan.{Found, Missed, scan, gap_size, stretch_size, stretch_step}
+use Rattle.graphql_lexical.specs.Place.{Place, place, past_character}
+use Rattle.graphql_lexical.specs.Scan.{Found, Missed, scan, gap_size, gap_step}
 use Rattle.graphql_lexical.proofs.Answers.{misses_what_fails}
 use Rattle.graphql_lexical.proofs.Gaps.{gap_longest}
 use Rattle.graphql_lexical.proofs.Runs.{reach_is}
@@ -23,11 +21,11 @@ use Rattle.juniper_tokens.specs.declared.span.Spanning.{Spanning}
 use Rattle.juniper_tokens.specs.declared.error.LexerError.{LexerError}
 use Rattle.juniper_tokens.specs.Errors.{view_lexer_error}
 use Rattle.juniper_tokens.specs.ByteRuns.{byte_at}
-use Rattle.juniper_tokens.specs.Walks.{EndsStretch}
+use Rattle.juniper_tokens.specs.Walks.{EndsGap}
 use Rattle.juniper_tokens.specs.Scans.{IsEscape}
 use Rattle.juniper_tokens.specs.Scans as scans
 use Rattle.juniper_tokens.specs.Lexing.{LexerState, BreaksAt, GivesFault, WantsMemory}
-use Rattle.juniper_tokens.specs.LexingByScan.{begins_with_mark, IsPlaced, past_gap}
+use Rattle.juniper_tokens.specs.LexingByScan.{IsPlaced, past_gap}
 use Rattle.juniper_tokens.specs.Ranges.{FailsThere}
 use Rattle.juniper_tokens.proofs.Borders.{byte_at_within, byte_at_on}
 use Rattle.juniper_tokens.proofs.Places.{place_on}
@@ -49,30 +47,13 @@ placed_on source at g n p q h l e s =
 pub chars_room : (at n : ℕ) (p : Place) (source rest : List ℕ) → IsPlaced source at p → at + length rest ≡ length source → IsUtf8 rest → chars rest ≡ drop p.index (chars source) → p.index + length rest < 2 ^ 64
 chars_room at n p source rest h e u c = omega (arith, e, h.room, h.byte_is, length-le-encodes (take p.index (chars source)), length-take-le p.index (chars source) h.within)
 
-pub stretch_placed : (source rest : List ℕ) (at n : ℕ) (p q : Place) → IsPlaced source at p → chars rest ≡ drop p.index (chars source)
-    → EndsStretch (chars rest) p n q → (q.index ≡ p.index + stretch_size (drop p.index (chars source))) × IsPlaced source (at + n) q
-stretch_placed source rest at n p q h c e =
+pub gap_placed : (source rest : List ℕ) (at n : ℕ) (p q : Place) → IsPlaced source at p → chars rest ≡ drop p.index (chars source)
+    → EndsGap (chars rest) p n q → (q.index ≡ p.index + gap_size (drop p.index (chars source))) × IsPlaced source (at + n) q
+gap_placed source rest at n p q h c e =
     let d = drop p.index (chars source) in
-    placed_on source at (stretch_size d) n p q h (reach_is stretch_step false d).within
-    (e.bytes_is ∙ ap (λ t. byte_at (stretch_size t) t) c)
-    (e.position_is ∙ (ap₂ (λ s t. fold past_character s (take (stretch_size t) t)) h.place_is c ∙ place_on (chars source) p.index (stretch_size d)))
-
--- past a byte order mark, which has three bytes
-pub mark_placed : (source : List ℕ) (at : ℕ) (p : Place) → IsPlaced source at p → begins_with_mark (drop p.index (chars source)) ≡ true
-    → IsPlaced source (at + 3) (next_column p)
-unfolding encode
-mark_placed source at p h m = by_rest (drop p.index (chars source)) refl m
-  where
-    by_rest : (rest : List ℕ) → drop p.index (chars source) ≡ rest → begins_with_mark rest ≡ true → IsPlaced source (at + 3) (next_column p)
-    by_rest [] e w = absurd (cc w)
-    by_rest (c ∷ cs) e w =
-        let first : drop p.index (chars source) ≡ 65279 ∷ cs = e ∙ ap (λ (x : ℕ). x ∷ cs) (eqb-true c 65279 w) in
-        let some : 1 ≤ length (drop p.index (chars source)) = omega (arith, ap length first) in
-        let bytes : 3 ≡ byte_at 1 (drop p.index (chars source)) = sym (ap (byte_at 1) first) in
-        let place : next_column p ≡ place (chars source) (p.index + 1) =
-        ap next_column h.place_is
-        ∙ (sym (ap (λ t. fold past_character (place (chars source) p.index) (take 1 t)) first) ∙ place_on (chars source) p.index 1) in
-        (placed_on source at 1 3 p (next_column p) h some bytes place).1
+    placed_on source at (gap_size d) n p q h (reach_is gap_step false d).within
+    (e.bytes_is ∙ ap (λ t. byte_at (gap_size t) t) c)
+    (e.position_is ∙ (ap₂ (λ s t. fold past_character s (take (gap_size t) t)) h.place_is c ∙ place_on (chars source) p.index (gap_size d)))
 
 pub sum_room : (source rest : List ℕ) (at n k : ℕ) → at + length rest ≡ length source → length source < 2 ^ 64 → IsUtf8 rest → n ≡ byte_at k (chars rest) → at + n < 2 ^ 64
 sum_room source rest at n k e r u b = omega (arith, e, r, byte_at_within k n rest u b)

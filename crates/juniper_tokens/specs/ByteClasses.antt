@@ -58,13 +58,13 @@ name_class NameStart = true
 name_class Digit = true
 name_class _ = false
 
+abbrev pub digit_class : ByteClass → Bool
+digit_class Digit = true
+digit_class _ = false
+
 abbrev pub inner_class : ByteClass → Bool
 inner_class Inner = true
 inner_class _ = false
-
-abbrev pub line_feed_class : ByteClass → Bool
-line_feed_class LineFeed = true
-line_feed_class _ = false
 
 -- the state after a token's first byte
 abbrev pub first_state : ByteClass → ℕ → Option State
@@ -92,10 +92,9 @@ comment_class LineFeed b = false
 comment_class Control b = false
 comment_class _ b = true
 
--- white characters and comments go on with it outside a comment, and whether it then stands within one
+-- a gap goes on with it outside a comment, and whether it then stands within one
 abbrev pub gap_class : ByteClass → Option Bool
 gap_class White = Some false
 gap_class LineFeed = Some false
 gap_class Hash = Some true
-gap_class Inner = Some false
 gap_class _ = None

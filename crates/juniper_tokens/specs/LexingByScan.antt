@@ -1,5 +1,5 @@
 -- The gap before a token, by the computed scan.
-use Rattle.std.specs.Prelude.{◌≡◌, ℕ, ◌+◌, ◌≤◌, ◌<◌, ◌^◌, ◌==◌, Bool, true, false, List, [], ◌∷◌, drop, length}
+use Rattle.std.specs.Prelude.{◌≡◌, ℕ, ◌+◌, ◌≤◌, ◌<◌, ◌^◌, ◌==◌, Bool, false, List, [], ◌∷◌, drop, length}
 use Rattle.std.specs.Str.{chars}
 use Rattle.graphql_lexical.specs.Place.{Place, place}
 use Rattle.graphql_lexical.specs.Scan as scans
@@ -13,21 +13,6 @@ past_gap s = record { source = s.source; index = s.index + scans.gap_size (drop 
 abbrev pub begins_with_mark : List ℕ → Bool
 begins_with_mark [] = false
 begins_with_mark (c ∷ cs) = c == 65279
-
--- behind a stretch of a gap, and behind a byte order mark
-abbrev pub past_stretch : LexerState → LexerState
-past_stretch s = record { source = s.source; index = s.index + scans.stretch_size (drop s.index s.source); ended = s.ended }
-
-abbrev pub past_mark : LexerState → LexerState
-past_mark s = record { source = s.source; index = s.index + 1; ended = s.ended }
-
-abbrev pub at_mark : LexerState → Bool
-at_mark s = begins_with_mark (drop s.index s.source)
-
--- The lexer went past a byte order mark, or none stands where it is.
-abbrev pub MayPassMark : Bool → LexerState → LexerState → Type 0
-MayPassMark true s t = (at_mark s ≡ true) × (t ≡ past_mark s)
-MayPassMark false s t = (at_mark s ≡ false) × (t ≡ s)
 
 -- the byte and the place of a character
 pub record IsPlaced (source : List ℕ) (at : ℕ) (p : Place) : Type 0 where

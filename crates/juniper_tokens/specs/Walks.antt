@@ -1,25 +1,39 @@
 -- Where the loops over bytes stop.
-use Rattle.std.specs.Prelude.{◌≡◌, ℕ, ◌+◌, ◌<◌, ◌≤◌, Bool, true, false, get_or, Option, List, length, take}
-use Rattle.std.specs.List.{AllByRecursion, fold}
+use Rattle.std.specs.Prelude.{◌≡◌, ℕ, ◌==◌, Bool, if◌then◌else◌, Option, Some, None, List, take}
+use Rattle.std.specs.List.{fold}
+use Rattle.graphql_lexical.specs.Characters.{is_name_character, is_digit, is_plain, is_comment_character}
+use Rattle.graphql_lexical.specs.Machines.{reach}
 use Rattle.graphql_lexical.specs.Place.{Place, past_character}
-use Rattle.graphql_lexical.specs.Scan.{stretch_step, stretch_size}
-use Rattle.juniper_tokens.specs.ByteRuns.{byte_at, byte_step, with_value, Walked}
+use Rattle.graphql_lexical.specs.Scan.{gap_size}
+use Rattle.juniper_tokens.specs.declared.lexer.run.Run.{Run}
+use Rattle.juniper_tokens.specs.declared.lexer.run.Run.TheVariants as run
+use Rattle.juniper_tokens.specs.declared.lexer.text.Border.{Border}
+use Rattle.juniper_tokens.specs.ByteRuns.{byte_at, byte_step, with_value, count_one}
 
--- the byte at which a stretch of a gap ends, and its place
-pub record EndsStretch (cs : List ℕ) (start : Place) (bytes : ℕ) (position : Place) : Type 0 where
-  pub bytes_is : bytes ≡ byte_at (stretch_size cs) cs
-  pub position_is : position ≡ fold past_character start (take (stretch_size cs) cs)
+-- what a run is of
+abbrev pub run_test : Run → ℕ → Bool
+run_test run.Name c = is_name_character c
+run_test run.Digits c = is_digit c
+run_test run.Plain c = is_plain c
+run_test run.Comment c = is_comment_character c
+run_test run.Spaces c = c == 32
 
--- the steps of a stretch of a gap over bytes, with the place that they come to
-abbrev pub stretch_machine : Bool × Place → ℕ → Option (Bool × Place)
-stretch_machine = byte_step (with_value stretch_step past_character)
+abbrev pub run_step : Run → Unit {0} → ℕ → Option (Unit {0})
+run_step run q c = if run_test run c then Some q else None
 
--- The bytes that a comment goes on with, and the place behind them. The next byte, if there is one, is in a comment
--- what it is outside.
-pub record EndsComment (bytes : List ℕ) (start : Place) (size : ℕ) (position : Place) : Type 0 where
-  pub walked : Walked stretch_machine (true, start) bytes size (true, position)
-  pub stops : size < length bytes → byte_step stretch_step true (get_or bytes size 0) ≡ byte_step stretch_step false (get_or bytes size 0)
-  pub room : position.index ≤ start.index + size
+-- how many characters a run has
+abbrev pub run_size : Run → List ℕ → ℕ
+run_size run cs = (reach (run_step run) tt cs).0
 
-abbrev pub AreSpaces : List ℕ → Type 0
-AreSpaces = AllByRecursion (λ b. b ≡ 32)
+-- the steps of a run over bytes, with the number of characters
+abbrev pub run_machine : Run → Unit {0} × ℕ → ℕ → Option (Unit {0} × ℕ)
+run_machine run = byte_step (with_value (run_step run) count_one)
+
+-- so many bytes and characters
+abbrev pub RunsTo : Run → List ℕ → Border → Type 0
+RunsTo run bytes b = reach (run_machine run) (tt, 0) bytes ≡ (b.bytes, (tt, b.characters))
+
+-- the byte at which a gap ends, and its place
+pub record EndsGap (cs : List ℕ) (start : Place) (bytes : ℕ) (position : Place) : Type 0 where
+  pub bytes_is : bytes ≡ byte_at (gap_size cs) cs
+  pub position_is : position ≡ fold past_character start (take (gap_size cs) cs)

@@ -82,7 +82,7 @@ pub fn byte_class(byte: u8) -> ByteClass
 }
 
 impl ByteClass {
-    ghost use Rattle.juniper_tokens.specs.ByteClasses.{name_class, inner_class, plain_class, comment_class};
+    ghost use Rattle.juniper_tokens.specs.ByteClasses.{name_class, digit_class, inner_class, plain_class, comment_class};
 
     // Whether a name goes on with it.
     pub(crate) fn is_name(self) -> bool
@@ -90,6 +90,15 @@ impl ByteClass {
     {
         match self {
             NameStart | Digit => true,
+            _ => false,
+        }
+    }
+
+    pub(crate) fn is_digit(self) -> bool
+        ensures { result ≡ digit_class self }
+    {
+        match self {
+            Digit => true,
             _ => false,
         }
     }

@@ -3,12 +3,13 @@ ghost use Rattle.std.specs.Prelude.{◌≡◌, false, drop};
 ghost use Rattle.std.specs.Global.{Global as Allocator};
 ghost use Rattle.std.specs.Str.{chars};
 ghost use Rattle.juniper_tokens.specs.Lexing.{LexerState, started, GivesItem};
-ghost use Rattle.juniper_tokens.specs.LexingByScan.{past_gap, past_stretch, at_mark, MayPassMark};
+ghost use Rattle.juniper_tokens.specs.LexingByScan.{past_gap};
 ghost use Rattle.juniper_tokens.specs.Ranges.{TakesRange, TakesItem, MayTake};
 ghost use Rattle.juniper_tokens.specs.Scans.{Finds};
 
 mod machine;
 mod plain;
+mod run;
 mod scan;
 pub(crate) mod text;
 mod walk;
@@ -16,8 +17,8 @@ mod walk;
 use crate::error::LexFailure;
 use crate::lexer::plain::plain_token;
 use crate::lexer::scan::{Missed, scan_token};
-use crate::lexer::text::{Border, begins_with_mark, text_from};
-use crate::lexer::walk::walk_stretch;
+use crate::lexer::text::{Border, text_from};
+use crate::lexer::walk::walk_gap;
 use crate::position::SourcePosition;
 use crate::span::Spanning;
 use crate::token::Token;
@@ -96,49 +97,13 @@ impl<'a> Lexer<'a> {
     fn skip_gap(&mut self)
         ensures { self.new ≡ past_gap self.old }
     {
-        loop {
-            if !self.skip_stretch() {
-                return;
-            }
-            if !self.skip_mark() {
-                return;
-            }
-        }
-    }
-
-    // Goes past white space and comments, up to a byte order mark that stands in no comment, and tells whether one may
-    // stand there.
-    #[inline(always)]
-    fn skip_stretch(&mut self) -> bool
-        ensures passes { self.new ≡ past_stretch self.old }
-        ensures none { result ≡ false → at_mark self.new ≡ false }
-    {
         let here = Border {
             bytes: self.at,
             characters: self.position.index(),
         };
-        let stretch = walk_stretch(text_from(self.source, here), self.position);
-        self.at += stretch.bytes;
-        self.position = stretch.position;
-        stretch.may_be_mark
-    }
-
-    // Goes past a byte order mark, where one stands here. Few texts have one.
-    #[cold]
-    fn skip_mark(&mut self) -> bool
-        ensures { MayPassMark result self.old self.new }
-    {
-        let here = Border {
-            bytes: self.at,
-            characters: self.position.index(),
-        };
-        let rest = text_from(self.source, here);
-        let is_mark = begins_with_mark(rest);
-        if is_mark {
-            self.at += 3;
-            self.position.advance_col();
-        }
-        is_mark
+        let gap = walk_gap(text_from(self.source, here), self.position);
+        self.at += gap.bytes;
+        self.position = gap.position;
     }
 
     // Goes past a token that stands here.

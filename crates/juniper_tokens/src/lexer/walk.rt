@@ -1,36 +1,28 @@
 //! The loops over a text.
-ghost use Rattle.std.specs.Prelude.{◌≡◌, ◌==◌, ℕ, ◌+◌, ◌<◌, ◌≤◌, ◌^◌, get_or, length, take};
+ghost use Rattle.std.specs.Prelude.{◌≡◌, ◌+◌, ◌<◌, ◌≤◌, ◌^◌, length, take, drop};
 ghost use Rattle.std.specs.List.{fold};
 ghost use Rattle.std.specs.Str.{chars};
-ghost use Rattle.graphql_lexical.specs.Place.{past_character};
-ghost use Rattle.juniper_tokens.specs.ByteClasses.{class_of};
 ghost use Rattle.graphql_lexical.specs.declared.state.State.TheVariants.{Start};
 ghost use Rattle.graphql_lexical.specs.Machines.{reach};
+ghost use Rattle.graphql_lexical.specs.Place.{past_character};
 ghost use Rattle.graphql_lexical.specs.Scan.{step as next_state};
 ghost use Rattle.juniper_tokens.specs.Borders.{IsBorder};
-ghost use Rattle.juniper_tokens.specs.ByteRuns.{byte_change, count_one};
-ghost use Rattle.juniper_tokens.specs.Walks.{EndsStretch, EndsComment, AreSpaces};
+ghost use Rattle.juniper_tokens.specs.ByteRuns.{byte_at};
+ghost use Rattle.juniper_tokens.specs.LexingByScan.{begins_with_mark};
+ghost use Rattle.juniper_tokens.specs.Walks.{EndsGap};
 
 use crate::byte_classes::{ByteClass, byte_class};
 use crate::lexer::machine::step;
-use crate::lexer::text::Border;
+use crate::lexer::run::{Run, run_over};
+use crate::lexer::text::{Border, begins_with_mark, text_from};
 use crate::position::SourcePosition;
 use graphql_lexical::State;
 
-/// The end of white space and comments without a byte order mark between them.
+/// The end of white space and comments.
 #[derive(Clone, Copy)]
-pub(crate) struct StretchEnd {
+pub(crate) struct GapEnd {
     pub(crate) bytes: usize,
     pub(crate) position: SourcePosition,
-    /// Whether the first byte of a byte order mark stands there.
-    pub(crate) may_be_mark: bool,
-}
-
-// The end of a comment.
-#[derive(Clone, Copy)]
-struct CommentEnd {
-    bytes: usize,
-    position: SourcePosition,
 }
 
 /// Where the steps of a token stop, and in which state.
@@ -40,69 +32,11 @@ pub(crate) struct Reached {
     pub(crate) end: Border,
 }
 
-// The place after a byte. A byte that goes on with a character leaves it.
-#[tactic(auto, using(crate::proofs::ByteClasses::inner_class_tests, crate::proofs::ByteClasses::line_feed_class_tests))]
-fn position_after(position: SourcePosition, class: ByteClass) -> SourcePosition
-    requires { position.index + 1 < 2 ^ 64 }
-    ensures value { (b : ℕ) → b < 256 → class ≡ class_of b → result ≡ byte_change past_character position b }
-    ensures most { result.index ≤ position.index + 1 }
-{
-    let mut after = position;
-    match class {
-        ByteClass::Inner => {}
-        ByteClass::LineFeed => after.advance_line(),
-        _ => after.advance_col(),
-    }
-    after
-}
-
-/// The number of characters after a byte.
-#[tactic(auto, using(crate::proofs::ByteClasses::inner_class_tests))]
-pub(crate) fn count_after(count: usize, class: ByteClass) -> usize
-    requires { count + 1 < 2 ^ 64 }
-    ensures value { (b : ℕ) → b < 256 → class ≡ class_of b → result ≡ byte_change count_one count b }
-    ensures most { result ≤ count + 1 }
-{
-    if class.is_inner() { count } else { count + 1 }
-}
-
-// How many spaces come first.
+/// Goes past white space and comments.
 #[inline(always)]
-fn count_spaces(bytes: &[u8]) -> usize
-    ensures within { result ≤ length bytes.now }
-    ensures spaces { AreSpaces (take result bytes.now) }
-{
-    let mut count = 0;
-    while count < bytes.len() && bytes[count] == b' ' {
-        count += 1;
-    }
-    count
-}
-
-// Goes on with a comment, up to the end of its line or to what may not stand in it.
-fn walk_comment(bytes: &[u8], start: SourcePosition) -> CommentEnd
-    requires { start.index + length bytes.now < 2 ^ 64 }
-    ensures { EndsComment bytes.now start result.bytes result.position }
-{
-    let mut position = start;
-    let mut i = 0;
-    while i < bytes.len() {
-        let class = byte_class(bytes[i]);
-        if !class.is_comment(bytes[i]) {
-            return CommentEnd { bytes: i, position };
-        }
-        position = position_after(position, class);
-        i += 1;
-    }
-    CommentEnd { bytes: i, position }
-}
-
-/// Goes past white space and comments, up to a byte order mark that stands in no comment.
-#[inline(always)]
-pub(crate) fn walk_stretch(text: &str, start: SourcePosition) -> StretchEnd
+pub(crate) fn walk_gap(text: &str, start: SourcePosition) -> GapEnd
     requires { start.index + length text.now < 2 ^ 64 }
-    ensures end { EndsStretch (chars text.now) start result.bytes result.position }
-    ensures mark { result.may_be_mark ≡ (get_or text.now result.bytes 0 == 239) }
+    ensures { EndsGap (chars text.now) start result.bytes result.position }
 {
     let bytes = text.as_bytes();
     let mut position = start;
@@ -115,33 +49,35 @@ pub(crate) fn walk_stretch(text: &str, start: SourcePosition) -> StretchEnd
             }
             ByteClass::LineFeed => {
                 position.advance_line();
-                i += 1;
-                let spaces = count_spaces(&bytes[i..]);
-                position = position.columns_on(spaces);
-                i += spaces;
+                let spaces = run_over(Run::Spaces, &bytes[i + 1..]);
+                position = position.columns_on(spaces.characters);
+                i += 1 + spaces.bytes;
             }
             ByteClass::Hash => {
+                let comment = run_over(Run::Comment, &bytes[i + 1..]);
+                position = position.columns_on(1 + comment.characters);
+                i += 1 + comment.bytes;
+            }
+            ByteClass::Lead => {
+                if !is_mark_at(text, i, position.index() - start.index()) {
+                    return GapEnd { bytes: i, position };
+                }
                 position.advance_col();
-                i += 1;
-                let comment = walk_comment(&bytes[i..], position);
-                position = comment.position;
-                i += comment.bytes;
+                i += 3;
             }
-            ByteClass::Inner => i += 1,
-            _ => {
-                return StretchEnd {
-                    bytes: i,
-                    position,
-                    may_be_mark: bytes[i] == 0xEF,
-                };
-            }
+            _ => return GapEnd { bytes: i, position },
         }
     }
-    StretchEnd {
-        bytes: i,
-        position,
-        may_be_mark: false,
-    }
+    GapEnd { bytes: i, position }
+}
+
+// Whether a byte order mark stands behind so many bytes and characters.
+#[cold]
+fn is_mark_at(text: &str, bytes: usize, characters: usize) -> bool
+    requires { bytes ≡ byte_at characters (chars text.now) }
+    ensures { result ≡ begins_with_mark (drop characters (chars text.now)) }
+{
+    begins_with_mark(text_from(text, Border { bytes, characters }))
 }
 
 /// Goes as far as the steps of a token go.

@@ -1,15 +1,20 @@
-use Rattle.std.proofs.Common.{sym, ap, ◌∙◌}
-use Rattle.juniper_tokens.specs.LexingByScan.{at_mark}
-use Rattle.juniper_tokens.proofs.Marks.{gap_ends, no_mark, mark_passed}
+use Rattle.std.proofs.Common.{ℕ, drop, ap, ◌∙◌, arith}
+use Rattle.std.specs.Str.{chars}
+use Rattle.juniper_tokens.specs.Lexing.{LexerState}
+use Rattle.juniper_tokens.specs.LexingByScan.{past_gap}
+use Rattle.juniper_tokens.proofs.LexingByScan.{chars_room, sum_room, gap_placed}
 use Rattle.juniper_tokens.proofs.lexer.Lexer.skip_gap.Goals as goal
 
-pub returns-then-not-skip_stretch : goal.returns-then-not-skip_stretch
-returns-then-not-skip_stretch c =
-    let e = c.skip_stretch.ensures.passes in
-    e ∙ (gap_ends c.loop-self.self (ap at_mark (sym e) ∙ c.skip_stretch.ensures.none c.if-not-skip_stretch.true) ∙ c.loop-self.invariant)
+pub walk_gap-gap-requires : goal.walk_gap-gap-requires
+walk_gap-gap-requires c = chars_room _ 0 _ _ _ c.self.invariant c.text_from.ensures.length c.text_from.utf8 (c.text_from.ensures.characters ∙ ap (λ k. drop k (chars c.self.inside.source.now)) c.index.ensures)
 
-pub returns-then-not-skip_mark : goal.returns-then-not-skip_mark
-returns-then-not-skip_mark c = no_mark _ c.loop-self.self _ _ c.skip_stretch.ensures.passes c.if-not-skip_mark.true c.skip_mark.ensures ∙ c.loop-self.invariant
+pub overflow_add-self : goal.overflow_add-self
+overflow_add-self c = omega (arith, sum_room _ _ _ _ _ c.text_from.ensures.length c.self.invariant.room c.text_from.utf8 c.walk_gap-gap.ensures.bytes_is)
 
-pub loop-self-preserved : goal.loop-self-preserved
-loop-self-preserved c = mark_passed _ c.loop-self.self _ _ c.skip_stretch.ensures.passes c.if-not-skip_mark.false c.skip_mark.ensures ∙ c.loop-self.invariant
+pub invariant_of-self : goal.invariant_of-self
+invariant_of-self c = (gap_placed _ _ _ _ _ _ c.self.invariant (c.text_from.ensures.characters ∙ ap (λ k. drop k (chars c.self.inside.source.now)) c.index.ensures) c.walk_gap-gap.ensures).1
+
+pub returns : goal.returns
+returns c =
+    let made : ℕ → LexerState = λ i. record { source = chars c.self.inside.source.now; index = i; ended = c.self.inside.ended } in
+    ap made (gap_placed _ _ _ _ _ _ c.self.invariant (c.text_from.ensures.characters ∙ ap (λ k. drop k (chars c.self.inside.source.now)) c.index.ensures) c.walk_gap-gap.ensures).0 ∙ ap past_gap c.self.view_is

@@ -4,7 +4,7 @@ use Rattle.std.proofs.lemmas.Iterator.Consumers.{YieldsList-turn, YieldsList-end
 use Rattle.std.proofs.lemmas.List.{map-id}
 use Rattle.std.specs.List.{fold}
 use Rattle.graphql_lexical.specs.Place.{past_character}
-use Rattle.juniper_tokens.proofs.Walks.{place_room}
+use Rattle.juniper_tokens.proofs.Runs.{place_room}
 use Rattle.juniper_tokens.proofs.lexer.walk.walk_characters.Goals as goal
 
 pub past-position-requires : goal.past-position-requires
