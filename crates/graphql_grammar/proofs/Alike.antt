@@ -1,7 +1,7 @@
 -- Lists of tokens that are alike.
 use Rattle.std.proofs.Common.{ℕ, zero, suc, ◌≡◌, ◌∷◌, [], List, ◌++◌, length, take, refl, sym, ap, ◌∙◌}
 use Rattle.graphql_lexical.specs.Cutting.{Lexeme}
-use Rattle.graphql_lexical.specs.Alike.{AllAlike}
+use Rattle.graphql_lexical.specs.laws.Alike.{AllAlike}
 
 pub alike_sym : (as' bs : List Lexeme) → AllAlike as' bs → AllAlike bs as'
 alike_sym [] [] p = tt

@@ -4,7 +4,7 @@ use Rattle.std.proofs.lemmas.List.{map-append}
 use Rattle.graphql_lexical.specs.declared.kind.Kind.{Kind}
 use Rattle.graphql_lexical.specs.Place.{Span}
 use Rattle.graphql_lexical.specs.Cutting.{Lexeme}
-use Rattle.graphql_lexical.specs.Alike.{AllAlike}
+use Rattle.graphql_lexical.specs.laws.Alike.{AllAlike}
 use Rattle.graphql_grammar.specs.Tokens.{Text, Word, last_of, nowhere, span_of}
 use Rattle.graphql_grammar.specs.Tree.{Scalars, Value, Null, Scalar, Enum, Variable, ListOf, Object, Items, no_items, item, ObjectFields, no_fields, object_field, TypeRef, NamedType, ListType, NonNullType, Argument, Arguments, Directive, Directives, VariableDefinition, Variables, Selection, Field, FragmentSpread, InlineFragment, Selections, no_selections, selection, OptionalSelections, absent, present, Definition, Operation, Fragment}
 use Rattle.graphql_grammar.specs.Grammar.{IsToken, Between, IsValue, AreItems, AreFields, Each, Optional, IsWord, Says, Listed, IsType, IsArgument, IsArguments, IsDirective, IsDirectives, IsDefault, IsVariableDefinition, IsVariables, IsAlias, IsTypeCondition, IsFragmentName, IsSelection, IsOptionalSelectionSet, IsSelectionSet, AreSelections, IsDefinition, IsDocument}

@@ -2,7 +2,7 @@
 use Rattle.std.proofs.Common.{ℕ, zero, suc, Bool, true, false, ◌≡◌, ◌≤◌, ◌<◌, ◌∷◌, [], List, ◌++◌, length, refl, sym, ap, ap₂, ◌∙◌, arith, append-nil, subst, Result, Ok, Err, zero-le, le_refl, codes, inl, inr, cond, bytes_eq, if◌then◌else◌}
 use Rattle.graphql_lexical.specs.declared.kind.Kind.TheVariants.{Name, Dollar, BracketOpen, BracketClose, CurlyOpen, CurlyClose, Colon}
 use Rattle.graphql_lexical.specs.Cutting.{Lexeme}
-use Rattle.graphql_lexical.specs.Alike.{Alike}
+use Rattle.graphql_lexical.specs.laws.Alike.{Alike}
 use Rattle.graphql_grammar.specs.Tokens.{Word, word_of, Text, over}
 use Rattle.graphql_grammar.specs.Samples.{sample, token_of}
 use Rattle.graphql_grammar.specs.Reading.{passes, of, Took, Refused, Reader, refuse, want, literal, read_as, scalar_token, by_name, items_of, fields_of, variable_start, key_and_value, value_at}

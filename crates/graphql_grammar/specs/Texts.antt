@@ -1,7 +1,7 @@
 -- Where a text is refused, in characters.
 use Rattle.std.specs.Prelude.{ℕ, suc, List, ◌++◌, take}
 use Rattle.graphql_lexical.specs.Cutting.{Lexeme, Cut}
-use Rattle.graphql_lexical.specs.Spacing.{after_space, up_to}
+use Rattle.graphql_lexical.specs.laws.Spacing.{after_space, up_to}
 use Rattle.graphql_grammar.specs.Tokens.{Text}
 use Rattle.graphql_grammar.specs.Tree.{Scalars, Definition}
 use Rattle.graphql_grammar.specs.Grammar.{IsDocument}

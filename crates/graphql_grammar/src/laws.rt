@@ -2,7 +2,7 @@
 ghost use Rattle.std.specs.Prelude.{◌≡◌, ◌<◌, ◌⊎◌, ◌++◌, ℕ, List, [], Bool, length, take};
 ghost use Rattle.std.specs.List.{AllByRecursion};
 ghost use Rattle.graphql_lexical.specs.Cutting.{Lexeme, Cut};
-ghost use Rattle.graphql_lexical.specs.Alike.{Alike, AllAlike};
+ghost use Rattle.graphql_lexical.specs.laws.Alike.{Alike, AllAlike};
 ghost use Rattle.graphql_lexical.specs.Nesting.{opened, closed};
 ghost use Rattle.graphql_grammar.specs.Tokens.{IsSpelled};
 ghost use Rattle.graphql_grammar.specs.Tree.{Scalars, Value, TypeRef, Definition};

@@ -8,8 +8,8 @@ use Rattle.graphql_lexical.specs.Characters.{is_digit, is_line_end, is_source, i
 use Rattle.graphql_lexical.specs.Kinds.{Kind, Name, String, Float, Int, Ellipsis, LexicalError, UnknownCharacter, UnexpectedCharacter, UnterminatedString, UnknownCharacterInString, UnknownEscapeSequence, UnexpectedEndOfFile, BlockString}
 use Rattle.graphql_lexical.specs.Tokens.{IsZero, IsNumber, AreUnits, mark}
 use Rattle.graphql_lexical.specs.Reading.{BeginsNumber, StringFails, at_end, at_line_end, at_control, lone_backslash, wrong_escape, Fails, number_ends, number_stops, zero_goes_on, string_fails, dot_ends, dots_end, dot_stops, dots_stop, unknown, block_ends, block_stops}
-use Rattle.graphql_lexical.specs.Machines.{reach}
-use Rattle.graphql_lexical.specs.Scan.{State, Start, Done, OneDot, TwoDots, InName, Minus, Zero, Digits, Point, Fraction, ExponentMark, ExponentSign, Exponent, InString, Backslash, NoHexDigit, OneHexDigit, HexDigitD, TwoHexDigits, ThreeHexDigits, step, Missed, found, missed, stopped, after_zero, after_dots, after_units, after_backslash, after_u, answer, scan, Quote, EmptyString, InBlock, Block, Inside, Closed, block_step, after_block}
+use Rattle.graphql_lexical.specs.device.Machines.{reach}
+use Rattle.graphql_lexical.specs.device.Scan.{State, Start, Done, OneDot, TwoDots, InName, Minus, Zero, Digits, Point, Fraction, ExponentMark, ExponentSign, Exponent, InString, Backslash, NoHexDigit, OneHexDigit, HexDigitD, TwoHexDigits, ThreeHexDigits, step, Missed, found, missed, stopped, after_zero, after_dots, after_units, after_backslash, after_u, answer, scan, Quote, EmptyString, InBlock, Block, Inside, Closed, block_step, after_block}
 use Rattle.graphql_lexical.proofs.Runs.{Stops, run}
 use Rattle.graphql_lexical.proofs.History.{IsRead, IsOpen, IsBase, cond_none, open_none}
 use Rattle.graphql_lexical.proofs.Blocks.{block_open, stops_at}

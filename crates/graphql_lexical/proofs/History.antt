@@ -8,7 +8,7 @@ use Rattle.std.proofs.lemmas.Option.{none-some, same_Some}
 use Rattle.graphql_lexical.specs.Characters.{is_digit, is_name_character, is_exponent_mark, is_sign, is_hex}
 use Rattle.graphql_lexical.specs.Kinds.{Kind, String, Ellipsis, all_kinds, Fixed, spelling, character_of}
 use Rattle.graphql_lexical.specs.Tokens.{IsName, AreSomeDigits, IsZero, IsCounting, IsLongInteger, IsInteger, IsFraction, IsExponent, IsDecimal, IsUnit, plain, escape, unicode, AreUnits, Admits, Spells, is_character, punctuator, mark}
-use Rattle.graphql_lexical.specs.Scan.{State, Start, Done, OneDot, TwoDots, InName, Minus, Zero, Digits, Point, Fraction, ExponentMark, ExponentSign, Exponent, InString, Backslash, NoHexDigit, OneHexDigit, HexDigitD, TwoHexDigits, ThreeHexDigits, is_hex_d, step, Quote, EmptyString, InBlock, Block, Inside, block_step}
+use Rattle.graphql_lexical.specs.device.Scan.{State, Start, Done, OneDot, TwoDots, InName, Minus, Zero, Digits, Point, Fraction, ExponentMark, ExponentSign, Exponent, InString, Backslash, NoHexDigit, OneHexDigit, HexDigitD, TwoHexDigits, ThreeHexDigits, is_hex_d, step, Quote, EmptyString, InBlock, Block, Inside, block_step}
 use Rattle.graphql_lexical.proofs.EachKind.{lone_spelling}
 use Rattle.graphql_lexical.proofs.Runs.{run, kept_run, run_on}
 use Rattle.graphql_lexical.proofs.Numbers.{IsPair, pair_d, pair_other, scalar_from}

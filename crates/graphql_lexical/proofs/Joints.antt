@@ -1,5 +1,5 @@
 -- A cut goes on where texts are put together.
-use Rattle.graphql_lexical.specs.Laws.{HasFewTokens}
+use Rattle.graphql_lexical.specs.laws.Laws.{HasFewTokens}
 use Rattle.std.specs.List.{AllByRecursion}
 use Rattle.std.proofs.Common.{◌≡◌, ◌≢◌, ℕ, ◌+◌, ◌-◌, ◌<◌, ◌≤◌, inl, inr, Bool, false, eqb, not, ◌&&◌, List, [], ◌∷◌, ◌++◌, length, take, drop, Option, Some, None, Result, Ok, IsTrue, refl, sym, ap, ap₂, ◌∙◌, subst, arith, length-drop, length-take, append_assoc, take-append-drop, drop-drop, zero-le}
 use Rattle.std.specs.Option.{is_some, IfSome}
@@ -13,10 +13,10 @@ use Rattle.graphql_lexical.specs.Kinds.{Kind, Name, EndOfFile, Fixed, spelling, 
 use Rattle.graphql_lexical.specs.Tokens.{Admits, Spells, text_of}
 use Rattle.graphql_lexical.specs.Reading.{Longest, BeginsWithDigit, Reads}
 use Rattle.graphql_lexical.specs.Cutting.{IsGap, Lexeme, Stands, Leads, Cut}
-use Rattle.graphql_lexical.specs.Machines.{reach}
-use Rattle.graphql_lexical.specs.Scan.{State, Start, Done, InName, Zero, Digits, Fraction, Exponent, step, Found, Missed, answer, scan, gap_step, gap_size, EmptyString, InBlock, Closed}
-use Rattle.graphql_lexical.specs.Alike.{Alike, AllAlike}
-use Rattle.graphql_lexical.specs.Joining.{is_lone, BeginsApart, IsSeam, Joins}
+use Rattle.graphql_lexical.specs.device.Machines.{reach}
+use Rattle.graphql_lexical.specs.device.Scan.{State, Start, Done, InName, Zero, Digits, Fraction, Exponent, step, Found, Missed, answer, scan, gap_step, gap_size, EmptyString, InBlock, Closed}
+use Rattle.graphql_lexical.specs.laws.Alike.{Alike, AllAlike}
+use Rattle.graphql_lexical.specs.laws.Joining.{is_lone, BeginsApart, IsSeam, Joins}
 use Rattle.graphql_lexical.proofs.EachKind.{each_kind, lone_spelling}
 use Rattle.graphql_lexical.proofs.Runs.{Stops, Reaches, reach_is, reach_on, Longest_same}
 use Rattle.graphql_lexical.proofs.Spelled.{accepts}

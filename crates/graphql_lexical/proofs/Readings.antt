@@ -6,8 +6,8 @@ use Rattle.graphql_lexical.specs.Characters.{is_digit, is_line_end}
 use Rattle.graphql_lexical.specs.Kinds.{Kind, Name, String, BlockString, Float, Int, EndOfFile, LexicalError, UnexpectedCharacter, UnterminatedString, UnknownCharacterInString, UnknownEscapeSequence}
 use Rattle.graphql_lexical.specs.Tokens.{Spells, Starts, IsZero, text_of}
 use Rattle.graphql_lexical.specs.Reading.{counted, Longest, BeginsWithDigit, ReadsToken, Reads}
-use Rattle.graphql_lexical.specs.Machines.{reach}
-use Rattle.graphql_lexical.specs.Scan.{State, Start, Done, OneDot, TwoDots, InName, Minus, Zero, Digits, Point, Fraction, ExponentMark, ExponentSign, Exponent, InString, Backslash, NoHexDigit, OneHexDigit, HexDigitD, TwoHexDigits, ThreeHexDigits, step, Found, Missed, found, missed, stopped, after_zero, after_dots, after_units, after_backslash, after_u, answer, scan, Quote, EmptyString, InBlock, Closed, after_block}
+use Rattle.graphql_lexical.specs.device.Machines.{reach}
+use Rattle.graphql_lexical.specs.device.Scan.{State, Start, Done, OneDot, TwoDots, InName, Minus, Zero, Digits, Point, Fraction, ExponentMark, ExponentSign, Exponent, InString, Backslash, NoHexDigit, OneHexDigit, HexDigitD, TwoHexDigits, ThreeHexDigits, step, Found, Missed, found, missed, stopped, after_zero, after_dots, after_units, after_backslash, after_u, answer, scan, Quote, EmptyString, InBlock, Closed, after_block}
 use Rattle.graphql_lexical.proofs.Runs.{Reaches, reach_is, Longest_same}
 use Rattle.graphql_lexical.proofs.History.{IsRead, read_run}
 use Rattle.graphql_lexical.proofs.Spelled.{Goes, accepts, accepts_spells, spells_run, starts_from, starts_run}

@@ -3,10 +3,10 @@ use Rattle.std.proofs.Common.{◌≡◌, ℕ, ◌≤◌, inl, inr, List, [], ◌
 use Rattle.std.proofs.lemmas.List.{take_all}
 use Rattle.graphql_lexical.specs.Place.{Place, place, place_after}
 use Rattle.graphql_lexical.specs.Cutting.{Lexeme, Leads, Cut}
-use Rattle.graphql_lexical.specs.Alike.{AllAlike}
-use Rattle.graphql_lexical.specs.Joining.{BeginsApart, IsSeam}
-use Rattle.graphql_lexical.specs.Written.{Bare, AreOf, IsCutInto}
-use Rattle.graphql_lexical.specs.Spacing.{after_space, up_to, IsSpaced, GoesOn, GoesOnSpaced}
+use Rattle.graphql_lexical.specs.laws.Alike.{AllAlike}
+use Rattle.graphql_lexical.specs.laws.Joining.{BeginsApart, IsSeam}
+use Rattle.graphql_lexical.specs.laws.Written.{Bare, AreOf, IsCutInto}
+use Rattle.graphql_lexical.specs.laws.Spacing.{after_space, up_to, IsSpaced, GoesOn, GoesOnSpaced}
 use Rattle.graphql_lexical.proofs.Slices.{place_index}
 use Rattle.graphql_lexical.proofs.Cuts.{stands_size}
 use Rattle.graphql_lexical.proofs.Joints.{after_front, front_joins, few_tokens}

@@ -9,8 +9,8 @@ use Rattle.graphql_lexical.specs.Characters.{is_digit, is_nonzero_digit, is_line
 use Rattle.graphql_lexical.specs.Kinds.{Kind, Name, Float, Int, LexicalError, UnexpectedCharacter, UnterminatedString, UnknownEscapeSequence, String}
 use Rattle.graphql_lexical.specs.Tokens.{Starts, IsZero, IsNumber, StartsNumber, AreUnits, mark}
 use Rattle.graphql_lexical.specs.Reading.{Longest, counted, BeginsNumber, StringFails, at_end, at_line_end, at_control, lone_backslash, wrong_escape, short_unicode, wrong_unicode, no_unicode, Fails, number_ends, number_stops, zero_goes_on, string_fails, dot_ends, dots_end, dot_stops, dots_stop, unknown, block_ends, block_stops}
-use Rattle.graphql_lexical.specs.Machines.{reach, onward}
-use Rattle.graphql_lexical.specs.Scan.{State, Start, Done, OneDot, TwoDots, InName, Minus, Zero, Digits, Point, Fraction, ExponentMark, ExponentSign, Exponent, InString, Backslash, NoHexDigit, OneHexDigit, HexDigitD, TwoHexDigits, ThreeHexDigits, step, Found, Missed, missed, stopped, after_zero, after_units, after_backslash, after_u, answer, scan, Quote, EmptyString, InBlock, Block, Closed, after_block}
+use Rattle.graphql_lexical.specs.device.Machines.{reach, onward}
+use Rattle.graphql_lexical.specs.device.Scan.{State, Start, Done, OneDot, TwoDots, InName, Minus, Zero, Digits, Point, Fraction, ExponentMark, ExponentSign, Exponent, InString, Backslash, NoHexDigit, OneHexDigit, HexDigitD, TwoHexDigits, ThreeHexDigits, step, Found, Missed, missed, stopped, after_zero, after_units, after_backslash, after_u, answer, scan, Quote, EmptyString, InBlock, Block, Closed, after_block}
 use Rattle.graphql_lexical.proofs.Runs.{reach_on, Longest_same, Stops}
 use Rattle.graphql_lexical.proofs.History.{IsRead, IsOpen}
 use Rattle.graphql_lexical.proofs.Spelled.{accepts, accepts_spells, starts_from, IsStringState, quote_run, block_run}

@@ -10,10 +10,10 @@ use Rattle.graphql_lexical.specs.Kinds.{Kind, EndOfFile}
 use Rattle.graphql_lexical.specs.Tokens.{Spells, Starts, text_of}
 use Rattle.graphql_lexical.specs.Reading.{Longest, Reads, BeginsWithDigit}
 use Rattle.graphql_lexical.specs.Cutting.{IsGap, Lexeme, Stands, Leads, Cut}
-use Rattle.graphql_lexical.specs.Machines.{onward, reach}
-use Rattle.graphql_lexical.specs.Scan.{Start, State, step, gap_step, gap_size}
-use Rattle.graphql_lexical.specs.Alike.{AllAlike}
-use Rattle.graphql_lexical.specs.Written.{Bare, AreOf, IsCutInto, WritesToken, WritesWhite}
+use Rattle.graphql_lexical.specs.device.Machines.{onward, reach}
+use Rattle.graphql_lexical.specs.device.Scan.{Start, State, step, gap_step, gap_size}
+use Rattle.graphql_lexical.specs.laws.Alike.{AllAlike}
+use Rattle.graphql_lexical.specs.laws.Written.{Bare, AreOf, IsCutInto, WritesToken, WritesWhite}
 use Rattle.graphql_lexical.proofs.Runs.{Longest_same}
 use Rattle.graphql_lexical.proofs.Spelled.{accepts, spells_run, Goes}
 use Rattle.graphql_lexical.proofs.Gaps.{gap_longest}

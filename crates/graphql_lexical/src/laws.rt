@@ -1,10 +1,10 @@
 //! Laws of the lexical grammar.
 ghost use Rattle.std.specs.Prelude.{ℕ, List, [], ◌≡◌};
-ghost use Rattle.graphql_lexical.specs.Laws.{StepsByCharacters, FindsWhatReads, MissesWhatFails, HasOneAnswer, BeginsBlockString, CutsWhatIsCut, BreaksWhatIsBroken, HasOneEnd, HasFewTokens, HasSlicesInOrder};
+ghost use Rattle.graphql_lexical.specs.laws.Laws.{StepsByCharacters, FindsWhatReads, MissesWhatFails, HasOneAnswer, BeginsBlockString, CutsWhatIsCut, BreaksWhatIsBroken, HasOneEnd, HasFewTokens, HasSlicesInOrder};
 ghost use Rattle.graphql_lexical.specs.Kinds.{Kind};
-ghost use Rattle.graphql_lexical.specs.Joining.{Joins};
-ghost use Rattle.graphql_lexical.specs.Spacing.{GoesOnSpaced};
-ghost use Rattle.graphql_lexical.specs.Written.{Bare, IsCutInto, WritesToken, WritesWhite};
+ghost use Rattle.graphql_lexical.specs.laws.Joining.{Joins};
+ghost use Rattle.graphql_lexical.specs.laws.Spacing.{GoesOnSpaced};
+ghost use Rattle.graphql_lexical.specs.laws.Written.{Bare, IsCutInto, WritesToken, WritesWhite};
 
 /// The place of a source's beginning is the origin, and each further place follows from the one before it by
 /// the character between: a line feed begins a line, and any other character, a carriage return too, goes one

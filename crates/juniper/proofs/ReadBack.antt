@@ -4,7 +4,7 @@ use Rattle.std.specs.Prelude.{codes}
 use Rattle.graphql_lexical.specs.declared.kind.Kind.TheVariants.{Name, String, Int, ExclamationMark, Dollar, BracketOpen, BracketClose, CurlyOpen, CurlyClose, Colon}
 use Rattle.graphql_lexical.specs.Cutting.{Lexeme, Cut}
 use Rattle.graphql_lexical.specs.Tokens.{IsName}
-use Rattle.graphql_lexical.specs.Written.{Bare, AreOf}
+use Rattle.graphql_lexical.specs.laws.Written.{Bare, AreOf}
 use Rattle.graphql_grammar.specs.Tokens.{Text, nowhere, over}
 use Rattle.graphql_grammar.specs.Tree.{Value, Null, Scalar, Enum, Variable, ListOf, Object, Items, no_items, item, ObjectFields, no_fields, object_field, TypeRef, NamedType, ListType, NonNullType}
 use Rattle.graphql_grammar.specs.Grammar.{IsToken, IsValue, AreItems, AreFields, IsNullable, IsType}

@@ -8,7 +8,7 @@ ghost use Rattle.std.specs.List.{AllByRecursion};
 ghost use Rattle.graphql_lexical.specs.Place.{Span};
 ghost use Rattle.graphql_lexical.specs.Tokens.{IsName};
 ghost use Rattle.graphql_lexical.specs.Cutting.{Lexeme, Cut};
-ghost use Rattle.graphql_lexical.specs.Alike.{AllAlike};
+ghost use Rattle.graphql_lexical.specs.laws.Alike.{AllAlike};
 ghost use Rattle.graphql_grammar.specs.Grammar.{IsDocument};
 ghost use Rattle.graphql_grammar.specs.ScalarTokens.{IsRead, IsReadAlso};
 ghost use Rattle.graphql_grammar.specs.Tree.{Definition, Scalars};

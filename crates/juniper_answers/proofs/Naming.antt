@@ -9,7 +9,7 @@ use Rattle.graphql_lexical.specs.declared.kind.Kind.TheVariants.{Name}
 use Rattle.graphql_lexical.specs.Tokens.{IsName, Spells, text_of}
 use Rattle.graphql_lexical.specs.Reading.{Reads}
 use Rattle.graphql_lexical.specs.Cutting.{Lexeme, Cut, Leads}
-use Rattle.graphql_lexical.specs.Written.{AreOf}
+use Rattle.graphql_lexical.specs.laws.Written.{AreOf}
 use Rattle.graphql_lexical.proofs.Joints.{few_tokens}
 use Rattle.graphql_lexical.proofs.Writing.{writes_nothing, writes_token}
 use Rattle.juniper_answers.specs.Laws.{IsOneName}

@@ -7,7 +7,7 @@ use Rattle.std.proofs.lemmas.Str.{encodes-chars, encodes-append, chars-encodes, 
 use Rattle.std.proofs.Math.Seq.{take-append_seam, drop-append_seam}
 use lib.Utf8.{scalar, scalars, encode, encodes}
 use Rattle.std.proofs.lemmas.List.{length-take-le}
-use Rattle.juniper_tokens.specs.ByteRuns.{byte_at}
+use Rattle.juniper_tokens.specs.device.ByteRuns.{byte_at}
 
 and_both : (a b x : Bool) → (a && b) ≡ true → x ≡ true → (a && x) ≡ true
 and_both true b x e h = h

@@ -4,8 +4,8 @@ use Rattle.std.specs.Prelude.{slice_index_or, nat_lt, nat_le}
 use denote.Enum.Bare.{sameb}
 use Rattle.graphql_lexical.specs.Characters.{is_name_character, is_digit, is_plain, is_comment_character}
 use Rattle.graphql_lexical.specs.declared.state.State.TheVariants.{Start}
-use Rattle.graphql_lexical.specs.Scan.{step, gap_step}
-use Rattle.juniper_tokens.specs.ByteRuns.{is_inner}
+use Rattle.graphql_lexical.specs.device.Scan.{step, gap_step}
+use Rattle.juniper_tokens.specs.device.ByteRuns.{is_inner}
 use Rattle.juniper_tokens.specs.contracts.byte_classes.ByteClass.{the_type}
 use Rattle.juniper_tokens.specs.declared.byte_classes.ByteClass.{ByteClass}
 use Rattle.juniper_tokens.specs.declared.byte_classes.ByteClass.TheVariants.{White, LineFeed, Hash, Quote, Dot, Minus, NameStart, Digit, Punctuator, Control, Other, Inner, Lead}

@@ -4,10 +4,10 @@ use Rattle.std.specs.Prelude.{option_map, ◌/◌, ◌%◌}
 use Rattle.std.specs.List.{AllByRecursion, fold}
 use Rattle.std.proofs.lemmas.Str.{encode_ascii}
 use Rattle.std.proofs.lemmas.List.{drop_all}
-use Rattle.graphql_lexical.specs.Machines.{onward, reach}
+use Rattle.graphql_lexical.specs.device.Machines.{onward, reach}
 use lib.Utf8.{encode, encodes, next}
 use lib.Dec.{ltb}
-use Rattle.juniper_tokens.specs.ByteRuns.{is_inner, byte_step, IsSamePastAscii, byte_at, with_value, byte_change, on, Walked}
+use Rattle.juniper_tokens.specs.device.ByteRuns.{is_inner, byte_step, IsSamePastAscii, byte_at, with_value, byte_change, on, Walked}
 
 abbrev AreInner : List ℕ → Type 0
 AreInner = AllByRecursion (λ b. is_inner b ≡ true)

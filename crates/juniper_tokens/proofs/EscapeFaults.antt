@@ -7,7 +7,7 @@ use Rattle.std.proofs.lemmas.Str.{encodes-chars}
 use lib.Utf8.{encodes}
 use Rattle.graphql_lexical.specs.Kinds.{UnterminatedString, UnknownEscapeSequence}
 use Rattle.graphql_lexical.specs.Reading.{counted}
-use Rattle.graphql_lexical.specs.Scan.{missed, after_backslash, after_u}
+use Rattle.graphql_lexical.specs.device.Scan.{missed, after_backslash, after_u}
 use Rattle.graphql_lexical.proofs.Escapes.{counted_within, u_short}
 use Rattle.juniper_tokens.proofs.Borders.{chars_within}
 

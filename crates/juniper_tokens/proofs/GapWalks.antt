@@ -9,19 +9,19 @@ use Rattle.std.proofs.lemmas.Str.{encode_ascii, length-le-encodes}
 use denote.Enum.Bare.{sameb, same_true}
 use lib.Utf8.{encode, encodes}
 use Rattle.graphql_lexical.specs.Characters.{is_comment_character}
-use Rattle.graphql_lexical.specs.Machines.{reach, onward}
+use Rattle.graphql_lexical.specs.device.Machines.{reach, onward}
 use Rattle.graphql_lexical.specs.Place.{Place, past_character, next_column, next_line}
-use Rattle.graphql_lexical.specs.Scan.{gap_step, gap_size}
+use Rattle.graphql_lexical.specs.device.Scan.{gap_step, gap_size}
 use Rattle.juniper_tokens.specs.contracts.byte_classes.ByteClass.{the_type}
 use Rattle.juniper_tokens.specs.declared.byte_classes.ByteClass.{ByteClass}
 use Rattle.juniper_tokens.specs.declared.byte_classes.ByteClass.TheVariants.{White, LineFeed, Hash, Lead}
 use Rattle.juniper_tokens.specs.declared.lexer.run.Run.TheVariants as run
 use Rattle.juniper_tokens.specs.declared.lexer.text.Border.{Border}
 use Rattle.juniper_tokens.specs.ByteClasses.{class_of, gap_class}
-use Rattle.juniper_tokens.specs.ByteRuns.{byte_at}
-use Rattle.juniper_tokens.specs.LexingByScan.{begins_with_mark}
+use Rattle.juniper_tokens.specs.device.ByteRuns.{byte_at}
+use Rattle.juniper_tokens.specs.device.LexingByScan.{begins_with_mark}
 use Rattle.juniper_tokens.specs.Positions.{columns_on}
-use Rattle.juniper_tokens.specs.Walks.{run_size, RunsTo, EndsGap}
+use Rattle.juniper_tokens.specs.device.Walks.{run_size, RunsTo, EndsGap}
 use Rattle.juniper_tokens.proofs.Borders.{byte_at_on, byte_at_within, chars_within}
 use Rattle.juniper_tokens.proofs.ByteClasses.{gap_class_tests, low_class, low_class_tests, lead_class_tests, feed_class_tests, gap_none}
 use Rattle.juniper_tokens.proofs.Places.{OnLine, line_fold, one_column_more}

@@ -16,7 +16,7 @@ use Rattle.juniper_tokens.specs.Errors.{view_lexer_error}
 use Rattle.juniper_tokens.specs.Cursor.{EndsOnce}
 use Rattle.juniper_tokens.specs.Lexing.{LexerState, BreaksAt, GivesFault}
 use Rattle.juniper_tokens.specs.Gathering.{IfFault, StandsLaterOrEnded}
-use Rattle.juniper_tokens.specs.Ranges.{range_lexeme, range_lexemes, range_steps, GivesRangeItem, IsRange}
+use Rattle.juniper_tokens.specs.device.Ranges.{range_lexeme, range_lexemes, range_steps, GivesRangeItem, IsRange}
 
 leads_more : (source : List ℕ) (xs : List Lexeme) (x : Lexeme) (k m n : ℕ) → Leads source k xs m → Stands source m x n → (x.kind ≡ EndOfFile → ⊥) → Leads source k (xs ++ x ∷ []) n
 leads_more source [] x k m n l h e = (n, subst (λ (i : ℕ). Stands source i x n) (sym l) h, e, refl)

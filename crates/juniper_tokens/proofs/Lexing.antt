@@ -12,7 +12,7 @@ use Rattle.juniper_tokens.specs.declared.error.LexFailure.{LexFailure}
 use Rattle.juniper_tokens.specs.declared.error.LexFailure.TheVariants as failure
 use Rattle.juniper_tokens.specs.Tokens.{view_token}
 use Rattle.juniper_tokens.specs.Lexing.{LexerState, lexer_steps, items_left}
-use Rattle.juniper_tokens.specs.Ranges.{range_lexeme, range_steps}
+use Rattle.juniper_tokens.specs.device.Ranges.{range_lexeme, range_steps}
 
 left_open : (s : LexerState) → s.ended ≡ false → items_left s ≡ (length s.source - s.index) + 1
 left_open s e = ap (λ b. cond b 0 ((length s.source - s.index) + 1)) e

@@ -12,7 +12,7 @@ use Rattle.graphql_lexical.specs.declared.kind.Kind.TheVariants.{EndOfFile}
 use Rattle.graphql_lexical.specs.Kinds.{same_kind, LexicalError, UnknownEscapeSequence}
 use Rattle.graphql_lexical.specs.Kinds as errors
 use Rattle.graphql_lexical.specs.Place.{Place, place, past_character}
-use Rattle.graphql_lexical.specs.Scan.{Found, Missed, scan, gap_size, gap_step}
+use Rattle.graphql_lexical.specs.device.Scan.{Found, Missed, scan, gap_size, gap_step}
 use Rattle.graphql_lexical.proofs.Answers.{misses_what_fails}
 use Rattle.graphql_lexical.proofs.Gaps.{gap_longest}
 use Rattle.graphql_lexical.proofs.Runs.{reach_is}
@@ -20,13 +20,13 @@ use Rattle.graphql_lexical.proofs.Slices.{place_index}
 use Rattle.juniper_tokens.specs.declared.span.Spanning.{Spanning}
 use Rattle.juniper_tokens.specs.declared.error.LexerError.{LexerError}
 use Rattle.juniper_tokens.specs.Errors.{view_lexer_error}
-use Rattle.juniper_tokens.specs.ByteRuns.{byte_at}
-use Rattle.juniper_tokens.specs.Walks.{EndsGap}
-use Rattle.juniper_tokens.specs.Scans.{IsEscape}
-use Rattle.juniper_tokens.specs.Scans as scans
+use Rattle.juniper_tokens.specs.device.ByteRuns.{byte_at}
+use Rattle.juniper_tokens.specs.device.Walks.{EndsGap}
+use Rattle.juniper_tokens.specs.device.Scans.{IsEscape}
+use Rattle.juniper_tokens.specs.device.Scans as scans
 use Rattle.juniper_tokens.specs.Lexing.{LexerState, BreaksAt, GivesFault, WantsMemory}
-use Rattle.juniper_tokens.specs.LexingByScan.{IsPlaced, past_gap}
-use Rattle.juniper_tokens.specs.Ranges.{FailsThere}
+use Rattle.juniper_tokens.specs.device.LexingByScan.{IsPlaced, past_gap}
+use Rattle.juniper_tokens.specs.device.Ranges.{FailsThere}
 use Rattle.juniper_tokens.proofs.Borders.{byte_at_within, byte_at_on}
 use Rattle.juniper_tokens.proofs.Places.{place_on}
 

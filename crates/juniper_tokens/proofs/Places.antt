@@ -4,8 +4,8 @@ use Rattle.std.specs.Prelude.{option_map}
 use Rattle.std.specs.List.{AllByRecursion, fold}
 use Rattle.std.proofs.lemmas.Option.{none-some, same_Some}
 use Rattle.std.proofs.lemmas.Bool.{eqb-true}
-use Rattle.graphql_lexical.specs.Machines.{reach, onward}
-use Rattle.graphql_lexical.specs.Scan.{Found, step, block_step, scan}
+use Rattle.graphql_lexical.specs.device.Machines.{reach, onward}
+use Rattle.graphql_lexical.specs.device.Scan.{Found, step, block_step, scan}
 use Rattle.graphql_lexical.specs.declared.state.State.{State}
 use Rattle.graphql_lexical.specs.declared.state.State.TheVariants.{Start, InBlock}
 use Rattle.graphql_lexical.specs.declared.state.Block.{Block}

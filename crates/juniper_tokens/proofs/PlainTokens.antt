@@ -12,9 +12,9 @@ use Rattle.graphql_lexical.specs.declared.kind.Kind.{Kind}
 use Rattle.graphql_lexical.specs.declared.kind.Kind.TheVariants as kinds
 use Rattle.graphql_lexical.specs.declared.state.State.{State}
 use Rattle.graphql_lexical.specs.declared.state.State.TheVariants.{Start, Done, InName, Quote, InString, Backslash}
-use Rattle.graphql_lexical.specs.Machines.{onward, reach}
-use Rattle.graphql_lexical.specs.Scan.{step, answer}
-use Rattle.graphql_lexical.specs.Scan as scans
+use Rattle.graphql_lexical.specs.device.Machines.{onward, reach}
+use Rattle.graphql_lexical.specs.device.Scan.{step, answer}
+use Rattle.graphql_lexical.specs.device.Scan as scans
 use Rattle.graphql_lexical.specs.Tokens.{punctuator}
 use Rattle.juniper_tokens.specs.contracts.byte_classes.ByteClass.{the_type}
 use Rattle.juniper_tokens.specs.declared.byte_classes.ByteClass.{ByteClass}
@@ -22,9 +22,9 @@ use Rattle.juniper_tokens.specs.declared.byte_classes.ByteClass.TheVariants as c
 use Rattle.juniper_tokens.specs.declared.lexer.run.Run.TheVariants as run
 use Rattle.juniper_tokens.specs.declared.lexer.text.Border.{Border}
 use Rattle.juniper_tokens.specs.ByteClasses.{class_of, name_class, first_state}
-use Rattle.juniper_tokens.specs.ByteRuns.{byte_at}
-use Rattle.juniper_tokens.specs.Scans.{Finds}
-use Rattle.juniper_tokens.specs.Walks.{run_size, RunsTo}
+use Rattle.juniper_tokens.specs.device.ByteRuns.{byte_at}
+use Rattle.juniper_tokens.specs.device.Scans.{Finds}
+use Rattle.juniper_tokens.specs.device.Walks.{run_size, RunsTo}
 use Rattle.juniper_tokens.proofs.Borders.{byte_at_on}
 use Rattle.juniper_tokens.proofs.ByteClasses.{name_class_tests, first_state_tests, low_class, low_class_tests, quote_class_tests}
 use Rattle.juniper_tokens.proofs.Runs.{run_of, run_more, run_none, rest_bytes, FirstByte, first_byte, first_low}

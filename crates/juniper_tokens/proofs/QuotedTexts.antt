@@ -6,8 +6,8 @@ use Rattle.std.proofs.lemmas.Str.{encodes-append, encode_ascii}
 use lib.Utf8.{encodes}
 use Rattle.graphql_lexical.specs.Tokens.{between}
 use Rattle.graphql_lexical.proofs.Slices.{unquoted}
-use Rattle.juniper_tokens.specs.ByteRuns.{byte_at}
-use Rattle.juniper_tokens.specs.Borders.{EndsQuoted, quotes}
+use Rattle.juniper_tokens.specs.device.ByteRuns.{byte_at}
+use Rattle.juniper_tokens.specs.device.Borders.{EndsQuoted, quotes}
 
 quotes_length : (n : ℕ) → length (quotes n) ≡ n
 quotes_length zero = refl

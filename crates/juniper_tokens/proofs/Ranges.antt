@@ -15,7 +15,7 @@ use Rattle.graphql_lexical.specs.Tokens.{Admits, between, text_of, Spells}
 use Rattle.graphql_lexical.specs.Tokens as grammar
 use Rattle.graphql_lexical.specs.Reading.{Reads}
 use Rattle.graphql_lexical.specs.Cutting.{Lexeme, Stands}
-use Rattle.graphql_lexical.specs.Scan.{found, gap_size}
+use Rattle.graphql_lexical.specs.device.Scan.{found, gap_size}
 use Rattle.graphql_lexical.proofs.Answers.{finds_what_reads}
 use Rattle.graphql_lexical.proofs.Gaps.{gap_longest}
 use Rattle.graphql_lexical.proofs.Slices.{place_index}
@@ -26,13 +26,13 @@ use Rattle.juniper_tokens.specs.declared.lexer.scan.Found.{Found}
 use Rattle.juniper_tokens.specs.declared.error.LexFailure.{LexFailure}
 use Rattle.juniper_tokens.specs.declared.error.LexFailure.TheVariants as failures
 use Rattle.juniper_tokens.specs.Tokens.{kind_text, view_token}
-use Rattle.juniper_tokens.specs.ByteRuns.{byte_at}
-use Rattle.juniper_tokens.specs.Borders.{EndsQuoted, quotes}
+use Rattle.juniper_tokens.specs.device.ByteRuns.{byte_at}
+use Rattle.juniper_tokens.specs.device.Borders.{EndsQuoted, quotes}
 use Rattle.juniper_tokens.specs.Positions.{columns_on}
-use Rattle.juniper_tokens.specs.Scans.{Finds}
+use Rattle.juniper_tokens.specs.device.Scans.{Finds}
 use Rattle.juniper_tokens.specs.Lexing.{LexerState, GivesItem, GivesToken}
-use Rattle.juniper_tokens.specs.LexingByScan.{past_gap, IsPlaced}
-use Rattle.juniper_tokens.specs.Ranges.{range_of, range_slice, range_lexeme, IsRange, TakesRange, TakesItem, MayTake, GivesRange, GivesRangeItem, range_steps}
+use Rattle.juniper_tokens.specs.device.LexingByScan.{past_gap, IsPlaced}
+use Rattle.juniper_tokens.specs.device.Ranges.{range_of, range_slice, range_lexeme, IsRange, TakesRange, TakesItem, MayTake, GivesRange, GivesRangeItem, range_steps}
 use Rattle.juniper_tokens.proofs.Borders.{byte_at_within, byte_at_on}
 use Rattle.juniper_tokens.proofs.LexingByScan.{same_end, fault_by_scan, memory_by_scan}
 use Rattle.juniper_tokens.proofs.Places.{place_on, line_end}

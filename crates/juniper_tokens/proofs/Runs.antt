@@ -9,15 +9,15 @@ use Rattle.std.proofs.lemmas.List.{length-take-le}
 use Rattle.std.proofs.lemmas.Str.{encode_ascii}
 use lib.Utf8.{encodes}
 use Rattle.graphql_lexical.specs.Characters.{is_comment_character}
-use Rattle.graphql_lexical.specs.Machines.{onward, reach}
+use Rattle.graphql_lexical.specs.device.Machines.{onward, reach}
 use Rattle.graphql_lexical.specs.Place.{Place, past_character, next_line, next_column}
 use Rattle.graphql_lexical.proofs.Runs.{reach_is}
 use Rattle.juniper_tokens.specs.declared.lexer.run.Run.{Run}
 use Rattle.juniper_tokens.specs.declared.lexer.run.Run.TheVariants as run
 use Rattle.juniper_tokens.specs.declared.lexer.text.Border.{Border}
-use Rattle.juniper_tokens.specs.Borders.{IsBorder}
-use Rattle.juniper_tokens.specs.ByteRuns.{is_inner, byte_at, IsSamePastAscii, with_value, count_one}
-use Rattle.juniper_tokens.specs.Walks.{run_test, run_step, run_size, run_machine, RunsTo}
+use Rattle.juniper_tokens.specs.device.Borders.{IsBorder}
+use Rattle.juniper_tokens.specs.device.ByteRuns.{is_inner, byte_at, IsSamePastAscii, with_value, count_one}
+use Rattle.juniper_tokens.specs.device.Walks.{run_test, run_step, run_size, run_machine, RunsTo}
 use Rattle.juniper_tokens.proofs.Borders.{seam, chars_within}
 use Rattle.juniper_tokens.proofs.ByteRuns.{reach_bytes, reach_with_value, same_with_value, in_bytes, wide, low_or_high}
 use Rattle.juniper_tokens.proofs.Places.{OnLine}

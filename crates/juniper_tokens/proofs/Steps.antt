@@ -10,7 +10,7 @@ use Rattle.std.specs.Prelude.{is_none}
 use Rattle.graphql_lexical.specs.Kinds.{spelling, fixed_text}
 use Rattle.juniper_tokens.specs.Tokens.{same_text}
 use Rattle.juniper_tokens.specs.Cursor.{next_at, first_of, kind_at, is_wanted, EndsOnce}
-use Rattle.juniper_tokens.specs.Ranges.{range_lexeme, range_lexemes}
+use Rattle.juniper_tokens.specs.device.Ranges.{range_lexeme, range_lexemes}
 
 -- the next token, which is not the end
 pub next_taken : (ts : List Lexeme) (t : Lexeme) → EndsOnce ts → t ≡ first_of ts → same_kind t.kind EndOfFile ≡ false → next_at ts ≡ Ok (t, drop 1 ts)

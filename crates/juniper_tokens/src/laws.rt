@@ -1,15 +1,15 @@
 //! Laws of the lexer.
 ghost use Rattle.std.specs.Prelude.{◌≡◌, ℕ, List, Option, Some, IsTrue, ◌↔◌};
-ghost use Rattle.juniper_tokens.specs.PositionOrder.{compare_places};
+ghost use Rattle.juniper_tokens.specs.laws.PositionOrder.{compare_places};
 ghost use Rattle.std.specs.Ordering.{is_eq};
 ghost use Rattle.graphql_lexical.specs.Place.{Place};
-ghost use Rattle.graphql_lexical.specs.Joining.{Joins};
-ghost use Rattle.graphql_lexical.specs.Spacing.{GoesOnSpaced};
-ghost use Rattle.graphql_lexical.specs.Laws.{HasOneAnswer, BeginsBlockString, HasOneEnd, HasFewTokens, HasSlicesInOrder, StepsByCharacters};
+ghost use Rattle.graphql_lexical.specs.laws.Joining.{Joins};
+ghost use Rattle.graphql_lexical.specs.laws.Spacing.{GoesOnSpaced};
+ghost use Rattle.graphql_lexical.specs.laws.Laws.{HasOneAnswer, BeginsBlockString, HasOneEnd, HasFewTokens, HasSlicesInOrder, StepsByCharacters};
 ghost use Rattle.juniper_tokens.specs.declared.span.Span.{Span};
 ghost use Rattle.juniper_tokens.specs.declared.span.Spanning.{Spanning};
 ghost use Rattle.juniper_tokens.specs.ByteClasses.{CountsOfClasses};
-ghost use Rattle.juniper_tokens.specs.ByteRuns.{GoesOverBytes};
+ghost use Rattle.juniper_tokens.specs.device.ByteRuns.{GoesOverBytes};
 
 use crate::position::SourcePosition;
 use crate::span::{Span, Spanning};

@@ -3,9 +3,9 @@ ghost use Rattle.std.specs.Prelude.{◌≡◌, false, drop};
 ghost use Rattle.std.specs.Global.{Global as Allocator};
 ghost use Rattle.std.specs.Str.{chars};
 ghost use Rattle.juniper_tokens.specs.Lexing.{LexerState, started, GivesItem};
-ghost use Rattle.juniper_tokens.specs.LexingByScan.{past_gap};
-ghost use Rattle.juniper_tokens.specs.Ranges.{TakesRange, TakesItem, MayTake};
-ghost use Rattle.juniper_tokens.specs.Scans.{Finds};
+ghost use Rattle.juniper_tokens.specs.device.LexingByScan.{past_gap};
+ghost use Rattle.juniper_tokens.specs.device.Ranges.{TakesRange, TakesItem, MayTake};
+ghost use Rattle.juniper_tokens.specs.device.Scans.{Finds};
 
 mod machine;
 mod plain;
@@ -50,7 +50,7 @@ pub struct Lexer<'a> {
 impl<'a> Model for Lexer<'a> {
     ghost use Rattle.std.specs.Str.{chars};
     ghost use Rattle.juniper_tokens.specs.Lexing.{LexerState};
-    ghost use Rattle.juniper_tokens.specs.LexingByScan.{IsPlaced};
+    ghost use Rattle.juniper_tokens.specs.device.LexingByScan.{IsPlaced};
 
     ghost Value = { LexerState };
 

@@ -8,7 +8,7 @@ ghost use Rattle.graphql_lexical.specs.Kinds.{same_kind};
 ghost use Rattle.graphql_lexical.specs.Cutting.{Lexeme, CutFrom, BreaksFrom};
 ghost use Rattle.juniper_tokens.specs.Errors.{view_lexer_error};
 ghost use Rattle.juniper_tokens.specs.Gathering.{IfFault, IfMemory, StandsLaterOrEnded};
-ghost use Rattle.juniper_tokens.specs.Ranges.{IsRange, range_lexemes};
+ghost use Rattle.juniper_tokens.specs.device.Ranges.{IsRange, range_lexemes};
 ghost use Rattle.juniper_tokens.specs.Tokens.{token_kind, token_text, view_token, view_name};
 ghost use Rattle.juniper_tokens.specs.Nesting.{EndsAtNesting};
 ghost use Rattle.juniper_tokens.specs.Delimited.{IsRest};
@@ -43,7 +43,7 @@ impl<'a> Model for Parser<'a> {
     ghost use Rattle.std.specs.Prelude.{List, drop};
     ghost use Rattle.std.specs.Str.{chars};
     ghost use Rattle.graphql_lexical.specs.Cutting.{Lexeme};
-    ghost use Rattle.juniper_tokens.specs.Ranges.{range_lexemes, IsCursor};
+    ghost use Rattle.juniper_tokens.specs.device.Ranges.{range_lexemes, IsCursor};
 
     ghost Value = { List Lexeme };
 

@@ -136,7 +136,7 @@ impl<'a> Token<'a> {
 
 impl<'a> PartialEq for Token<'a> {
     ghost use Rattle.juniper_tokens.specs.Tokens.{same_token};
-    ghost use Rattle.juniper_tokens.specs.TokenLaws.{same_token-laws};
+    ghost use Rattle.juniper_tokens.specs.laws.TokenLaws.{same_token-laws};
 
     ghost eq = { same_token };
 
@@ -148,14 +148,14 @@ impl<'a> PartialEq for Token<'a> {
 }
 
 impl<'a> Eq for Token<'a> {
-    ghost use Rattle.juniper_tokens.specs.TokenLaws.{same_token-equiv};
+    ghost use Rattle.juniper_tokens.specs.laws.TokenLaws.{same_token-equiv};
 
     ghost laws = { same_token-equiv };
 }
 
 impl<'a> PartialEq for ScalarToken<'a> {
     ghost use Rattle.juniper_tokens.specs.Tokens.{same_scalar};
-    ghost use Rattle.juniper_tokens.specs.TokenLaws.{same_scalar-laws};
+    ghost use Rattle.juniper_tokens.specs.laws.TokenLaws.{same_scalar-laws};
 
     ghost eq = { same_scalar };
 
@@ -167,7 +167,7 @@ impl<'a> PartialEq for ScalarToken<'a> {
 }
 
 impl<'a> Eq for ScalarToken<'a> {
-    ghost use Rattle.juniper_tokens.specs.TokenLaws.{same_scalar-equiv};
+    ghost use Rattle.juniper_tokens.specs.laws.TokenLaws.{same_scalar-equiv};
 
     ghost laws = { same_scalar-equiv };
 }

@@ -4,9 +4,9 @@ ghost use Rattle.std.specs.Str.{chars};
 ghost use Rattle.graphql_lexical.specs.Place.{place};
 ghost use Rattle.graphql_lexical.specs.Tokens.{text_of};
 ghost use Rattle.juniper_tokens.specs.Tokens.{kind_text, token_kind, token_text, view_token};
-ghost use Rattle.juniper_tokens.specs.LexingByScan.{IsPlaced};
-ghost use Rattle.juniper_tokens.specs.Scans.{Finds};
-ghost use Rattle.juniper_tokens.specs.Ranges.{IsRange, range_of, range_slice, range_lexeme};
+ghost use Rattle.juniper_tokens.specs.device.LexingByScan.{IsPlaced};
+ghost use Rattle.juniper_tokens.specs.device.Scans.{Finds};
+ghost use Rattle.juniper_tokens.specs.device.Ranges.{IsRange, range_of, range_slice, range_lexeme};
 
 use crate::lexer::text::{Border, text_before, text_from, unquoted};
 use crate::lexer::{Found, walk_characters};

@@ -7,8 +7,8 @@ use Rattle.graphql_lexical.specs.declared.kind.Kind.TheVariants.{Name, String, I
 use Rattle.graphql_lexical.specs.Characters.{is_plain, is_white}
 use Rattle.graphql_lexical.specs.Tokens.{IsName, IsUnit, plain, AreUnits, Spells, text_of}
 use Rattle.graphql_lexical.specs.Display.{quoted}
-use Rattle.graphql_lexical.specs.Joining.{is_lone, BeginsApart}
-use Rattle.graphql_lexical.specs.Written.{Bare, IsCutInto}
+use Rattle.graphql_lexical.specs.laws.Joining.{is_lone, BeginsApart}
+use Rattle.graphql_lexical.specs.laws.Written.{Bare, IsCutInto}
 use Rattle.graphql_lexical.proofs.Writing.{writes_nothing, writes_token, writes_white}
 use Rattle.graphql_lexical.proofs.Slices.{unquoted}
 use Rattle.std.proofs.lemmas.Bool.Decides.{nat_tests}

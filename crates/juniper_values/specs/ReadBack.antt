@@ -6,7 +6,7 @@ use Rattle.graphql_lexical.specs.declared.kind.Kind.{Kind}
 use Rattle.graphql_lexical.specs.declared.kind.Kind.TheVariants.{Name, String, Int, ExclamationMark, Dollar, BracketOpen, BracketClose, CurlyOpen, CurlyClose, Colon}
 use Rattle.graphql_lexical.specs.Characters.{is_plain}
 use Rattle.graphql_lexical.specs.Tokens.{IsName}
-use Rattle.graphql_lexical.specs.Written.{Bare}
+use Rattle.graphql_lexical.specs.laws.Written.{Bare}
 use Rattle.juniper_tokens.specs.Tokens.{kind_text}
 use Rattle.juniper_values.specs.Text.{Text}
 use Rattle.juniper_values.specs.Scalar.{Content, integer, text, boolean, custom}

@@ -1,7 +1,7 @@
 //! Laws of scalars, types and input values.
 ghost use Rattle.std.specs.Prelude.{◌≡◌, ◌≢◌, ◌↔◌, ℕ, true, List, [], All, Some, codes};
 ghost use Rattle.graphql_lexical.specs.Tokens.{AreUnits, IsName};
-ghost use Rattle.graphql_lexical.specs.Written.{IsCutInto};
+ghost use Rattle.graphql_lexical.specs.laws.Written.{IsCutInto};
 ghost use Rattle.juniper_values.specs.Text.{Text};
 ghost use Rattle.juniper_values.specs.BlockLaws.{HasNoBlankEnds, IsIndented};
 ghost use Rattle.juniper_values.specs.BlockStrings.{block_value};

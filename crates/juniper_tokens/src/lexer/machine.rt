@@ -3,7 +3,7 @@ ghost use Rattle.std.specs.Prelude.{◌≡◌};
 ghost use Rattle.graphql_lexical.specs.Characters.{is_source as source_test, is_plain as plain_test, is_name_character as name_test, is_escape as escape_test, is_exponent_mark as exponent_mark_test, is_sign as sign_test};
 ghost use Rattle.graphql_lexical.specs.declared.state.State.TheVariants.{Start, Zero, Quote, InString};
 ghost use Rattle.graphql_lexical.specs.Tokens.{punctuator as punctuator_kind};
-ghost use Rattle.graphql_lexical.specs.Scan.{step as next_state, block_step, block_other as block_state};
+ghost use Rattle.graphql_lexical.specs.device.Scan.{step as next_state, block_step, block_other as block_state};
 
 use graphql_lexical::{Block, Kind, State};
 

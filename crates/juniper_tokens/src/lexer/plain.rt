@@ -5,7 +5,7 @@ ghost use Rattle.graphql_lexical.specs.declared.kind.Kind.TheVariants.{EndOfFile
 ghost use Rattle.graphql_lexical.specs.Kinds.{same_kind};
 ghost use Rattle.juniper_tokens.specs.declared.byte_classes.ByteClass.TheVariants.{Quote};
 ghost use Rattle.juniper_tokens.specs.ByteClasses.{class_of};
-ghost use Rattle.juniper_tokens.specs.Scans.{Finds};
+ghost use Rattle.juniper_tokens.specs.device.Scans.{Finds};
 
 use crate::byte_classes::{ByteClass, byte_class};
 use crate::lexer::machine::punctuator_of;

@@ -1,8 +1,8 @@
 //! Runs of characters of one sort.
 ghost use Rattle.std.specs.Prelude.{◌≡◌, ◌<◌, ◌≤◌, ◌&&◌, not, length};
 ghost use Rattle.juniper_tokens.specs.ByteClasses.{class_of};
-ghost use Rattle.juniper_tokens.specs.ByteRuns.{is_inner};
-ghost use Rattle.juniper_tokens.specs.Walks.{run_test, RunsTo};
+ghost use Rattle.juniper_tokens.specs.device.ByteRuns.{is_inner};
+ghost use Rattle.juniper_tokens.specs.device.Walks.{run_test, RunsTo};
 
 use crate::byte_classes::{ByteClass, byte_class};
 use crate::lexer::text::Border;

@@ -3,9 +3,9 @@ ghost use Rattle.std.specs.Prelude.{◌≡◌, ◌+◌, ◌-◌, ◌<◌, ◌≤
 ghost use Rattle.std.specs.Str.{chars};
 ghost use Rattle.graphql_lexical.specs.Kinds.{UnknownEscapeSequence};
 ghost use Rattle.graphql_lexical.specs.declared.state.State.TheVariants.{Start};
-ghost use Rattle.graphql_lexical.specs.Scan.{missed, stopped, after_dots, after_units, after_block, after_backslash, after_u, after_zero, answer, answer_in_block, scan};
-ghost use Rattle.juniper_tokens.specs.Borders.{IsBorder};
-ghost use Rattle.juniper_tokens.specs.Scans.{MeetsScan, Misses};
+ghost use Rattle.graphql_lexical.specs.device.Scan.{missed, stopped, after_dots, after_units, after_block, after_backslash, after_u, after_zero, answer, answer_in_block, scan};
+ghost use Rattle.juniper_tokens.specs.device.Borders.{IsBorder};
+ghost use Rattle.juniper_tokens.specs.device.Scans.{MeetsScan, Misses};
 
 use crate::error::LexerError;
 use crate::lexer::text::{

@@ -4,8 +4,8 @@ ghost use Rattle.std.specs.Str.{chars};
 ghost use Rattle.std.specs.String.{string_bytes};
 ghost use Rattle.graphql_lexical.specs.Reading.{counted};
 ghost use Rattle.graphql_lexical.specs.Tokens.{between};
-ghost use Rattle.juniper_tokens.specs.Borders.{IsBorder, IsBorderBehind, EndsQuoted, quotes};
-ghost use Rattle.juniper_tokens.specs.LexingByScan.{begins_with_mark};
+ghost use Rattle.juniper_tokens.specs.device.Borders.{IsBorder, IsBorderBehind, EndsQuoted, quotes};
+ghost use Rattle.juniper_tokens.specs.device.LexingByScan.{begins_with_mark};
 
 use std::alloc::{AllocError, Global};
 

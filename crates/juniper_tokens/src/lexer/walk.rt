@@ -3,13 +3,13 @@ ghost use Rattle.std.specs.Prelude.{◌≡◌, ◌+◌, ◌<◌, ◌≤◌, ◌^
 ghost use Rattle.std.specs.List.{fold};
 ghost use Rattle.std.specs.Str.{chars};
 ghost use Rattle.graphql_lexical.specs.declared.state.State.TheVariants.{Start};
-ghost use Rattle.graphql_lexical.specs.Machines.{reach};
+ghost use Rattle.graphql_lexical.specs.device.Machines.{reach};
 ghost use Rattle.graphql_lexical.specs.Place.{past_character};
-ghost use Rattle.graphql_lexical.specs.Scan.{step as next_state};
-ghost use Rattle.juniper_tokens.specs.Borders.{IsBorder};
-ghost use Rattle.juniper_tokens.specs.ByteRuns.{byte_at};
-ghost use Rattle.juniper_tokens.specs.LexingByScan.{begins_with_mark};
-ghost use Rattle.juniper_tokens.specs.Walks.{EndsGap};
+ghost use Rattle.graphql_lexical.specs.device.Scan.{step as next_state};
+ghost use Rattle.juniper_tokens.specs.device.Borders.{IsBorder};
+ghost use Rattle.juniper_tokens.specs.device.ByteRuns.{byte_at};
+ghost use Rattle.juniper_tokens.specs.device.LexingByScan.{begins_with_mark};
+ghost use Rattle.juniper_tokens.specs.device.Walks.{EndsGap};
 
 use crate::byte_classes::{ByteClass, byte_class};
 use crate::lexer::machine::step;

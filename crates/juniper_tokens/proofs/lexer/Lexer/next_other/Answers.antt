@@ -3,7 +3,7 @@ use Rattle.std.specs.Str.{chars}
 use Rattle.std.specs.Prelude.{Result, Err}
 use Rattle.graphql_lexical.specs.Place.{place}
 use Rattle.graphql_lexical.specs.Kinds.{LexicalError}
-use Rattle.graphql_lexical.specs.Scan.{Found, Missed, scan}
+use Rattle.graphql_lexical.specs.device.Scan.{Found, Missed, scan}
 use Rattle.juniper_tokens.specs.Errors.{view_lexer_error}
 use Rattle.juniper_tokens.proofs.LexingByScan.{chars_room, fault_placed}
 use Rattle.juniper_tokens.proofs.lexer.Lexer.next_other.Goals as goal

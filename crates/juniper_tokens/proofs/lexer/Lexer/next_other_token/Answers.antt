@@ -1,6 +1,6 @@
 use Rattle.std.proofs.Common.{subst, ap, ◌∙◌, Err}
 use Rattle.juniper_tokens.specs.Lexing.{LexerState}
-use Rattle.juniper_tokens.specs.Ranges.{TakesItem, TakesRange, range_lexeme}
+use Rattle.juniper_tokens.specs.device.Ranges.{TakesItem, TakesRange, range_lexeme}
 use Rattle.juniper_tokens.proofs.Ranges.{token_given, failure_passed}
 use Rattle.juniper_tokens.proofs.lexer.Lexer.next_other_token.Goals as goal
 

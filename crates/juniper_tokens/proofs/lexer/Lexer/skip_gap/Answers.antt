@@ -1,7 +1,7 @@
 use Rattle.std.proofs.Common.{ℕ, drop, ap, ◌∙◌, arith}
 use Rattle.std.specs.Str.{chars}
 use Rattle.juniper_tokens.specs.Lexing.{LexerState}
-use Rattle.juniper_tokens.specs.LexingByScan.{past_gap}
+use Rattle.juniper_tokens.specs.device.LexingByScan.{past_gap}
 use Rattle.juniper_tokens.proofs.LexingByScan.{chars_room, sum_room, gap_placed}
 use Rattle.juniper_tokens.proofs.lexer.Lexer.skip_gap.Goals as goal
 

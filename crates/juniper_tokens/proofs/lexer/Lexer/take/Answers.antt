@@ -5,9 +5,9 @@ use Rattle.graphql_lexical.specs.Kinds.{same_kind}
 use Rattle.graphql_lexical.specs.declared.kind.Kind.TheVariants.{EndOfFile}
 use Rattle.juniper_tokens.specs.declared.token_range.TokenRange.{TokenRange}
 use Rattle.juniper_tokens.specs.Lexing.{LexerState}
-use Rattle.juniper_tokens.specs.LexingByScan.{IsPlaced}
-use Rattle.juniper_tokens.specs.Scans.{Finds}
-use Rattle.juniper_tokens.specs.Ranges.{IsRange, TakesRange}
+use Rattle.juniper_tokens.specs.device.LexingByScan.{IsPlaced}
+use Rattle.juniper_tokens.specs.device.Scans.{Finds}
+use Rattle.juniper_tokens.specs.device.Ranges.{IsRange, TakesRange}
 use Rattle.juniper_tokens.proofs.Ranges.{found_range, found_taken, placed_behind}
 use Rattle.juniper_tokens.proofs.lexer.Lexer.take.Goals as goal
 

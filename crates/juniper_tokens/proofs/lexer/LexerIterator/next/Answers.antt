@@ -1,6 +1,6 @@
 use Rattle.std.proofs.Common.{◌≡◌, ap, sym, ◌∙◌, rules, false, Ok}
 use Rattle.juniper_tokens.specs.Lexing.{LexerState}
-use Rattle.juniper_tokens.specs.Ranges.{range_lexeme}
+use Rattle.juniper_tokens.specs.device.Ranges.{range_lexeme}
 use Rattle.juniper_tokens.proofs.Lexing.{items_fewer}
 use Rattle.juniper_tokens.proofs.Ranges.{token_given}
 use Rattle.juniper_tokens.proofs.lexer.LexerIterator.next.Goals as goal

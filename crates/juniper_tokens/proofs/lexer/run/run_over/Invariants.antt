@@ -1,6 +1,6 @@
 use Rattle.std.proofs.Common.{length, ◌-◌, ◌≤◌}
-use Rattle.juniper_tokens.specs.ByteRuns.{Walked}
-use Rattle.juniper_tokens.specs.Walks.{run_machine}
+use Rattle.juniper_tokens.specs.device.ByteRuns.{Walked}
+use Rattle.juniper_tokens.specs.device.Walks.{run_machine}
 use Rattle.juniper_tokens.proofs.lexer.run.run_over.Given as goal
 
 abbrev pub invariant-loop-i : goal.invariant-loop-i

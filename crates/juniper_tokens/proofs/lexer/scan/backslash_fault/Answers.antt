@@ -1,5 +1,5 @@
 use Rattle.std.proofs.Common.{subst, ◌∙◌}
-use Rattle.juniper_tokens.specs.Scans.{Misses}
+use Rattle.juniper_tokens.specs.device.Scans.{Misses}
 use Rattle.juniper_tokens.proofs.Borders.{take_first}
 use Rattle.juniper_tokens.proofs.EscapeFaults.{backslash_mark, backslash_missed}
 use Rattle.juniper_tokens.proofs.lexer.scan.backslash_fault.Goals as goal

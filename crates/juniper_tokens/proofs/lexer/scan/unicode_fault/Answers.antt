@@ -1,6 +1,6 @@
 use Rattle.std.proofs.Common.{◌≤◌, ◌<◌, ◌⊎◌, length, inl, inr, sym, subst, ◌∙◌, arith}
 use Rattle.std.specs.Str.{chars}
-use Rattle.juniper_tokens.specs.Scans.{Misses}
+use Rattle.juniper_tokens.specs.device.Scans.{Misses}
 use Rattle.juniper_tokens.proofs.EscapeFaults.{unicode_mark, letters_room, stands_behind, u_ends, u_goes_on}
 use Rattle.juniper_tokens.proofs.lexer.scan.unicode_fault.Goals.{else-count-lt4-via-then-count-lt4+else-is_empty, else-count-lt4-via-else-count-lt4}
 use Rattle.juniper_tokens.proofs.lexer.scan.unicode_fault.Goals as goal

@@ -3,7 +3,7 @@ use Rattle.std.specs.Str.{chars}
 use Rattle.std.proofs.lemmas.Iterator.{YieldsList-from_chars}
 use Rattle.std.proofs.lemmas.Iterator.Consumers.{YieldsList-turn, YieldsList-end}
 use Rattle.std.proofs.lemmas.List.{length_push, take_all, drop_all}
-use Rattle.juniper_tokens.specs.ByteRuns.{byte_at}
+use Rattle.juniper_tokens.specs.device.ByteRuns.{byte_at}
 use Rattle.juniper_tokens.proofs.Borders.{border_on}
 use Rattle.juniper_tokens.proofs.lexer.text.border_behind.Goals as goal
 

@@ -1,6 +1,6 @@
 use Rattle.std.proofs.Common.{◌≡◌, ◌≤◌, length}
 use Rattle.std.specs.Str.{chars}
-use Rattle.juniper_tokens.specs.ByteRuns.{byte_at}
+use Rattle.juniper_tokens.specs.device.ByteRuns.{byte_at}
 use Rattle.juniper_tokens.proofs.lexer.text.border_behind.Given as goal
 
 abbrev pub invariant-loop-c : goal.invariant-loop-c

@@ -4,8 +4,8 @@ use Rattle.std.proofs.lemmas.Iterator.{YieldsList-from_chars}
 use Rattle.std.proofs.lemmas.Iterator.Consumers.{YieldsList-turn, YieldsList-end}
 use Rattle.std.proofs.lemmas.List.{length_push, get_or_default}
 use Rattle.graphql_lexical.specs.declared.state.State.TheVariants.{Start}
-use Rattle.graphql_lexical.specs.Scan.{step}
-use Rattle.juniper_tokens.specs.ByteRuns.{byte_at, Walked}
+use Rattle.graphql_lexical.specs.device.Scan.{step}
+use Rattle.juniper_tokens.specs.device.ByteRuns.{byte_at, Walked}
 use Rattle.juniper_tokens.proofs.Borders.{border_on}
 use Rattle.juniper_tokens.proofs.ByteRuns.{walked_on, walked_stop, walked_end}
 use Rattle.juniper_tokens.proofs.lexer.walk.walk_token.Goals as goal

@@ -1,7 +1,7 @@
 use Rattle.std.proofs.Common.{◌∙◌, sym, subst}
 use Rattle.std.proofs.lemmas.List.Elements.{All-get_or}
 use Rattle.std.specs.Str.{chars}
-use Rattle.juniper_tokens.specs.Ranges.{IsRange}
+use Rattle.juniper_tokens.specs.device.Ranges.{IsRange}
 use Rattle.juniper_tokens.proofs.Steps.{some_left, first_left}
 use Rattle.juniper_tokens.proofs.parser.Parser.from_ranges.Goals as goal
 

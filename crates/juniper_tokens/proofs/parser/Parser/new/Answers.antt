@@ -1,6 +1,6 @@
 use Rattle.std.proofs.Common.{◌≡◌, ◌∷◌, [], ◌++◌, ◌∙◌, List, ℕ, Some, Ok, Err, sym, subst, rules}
 use Rattle.juniper_tokens.specs.Cursor.{EndsOnce}
-use Rattle.juniper_tokens.specs.Ranges.{range_lexemes, range_steps}
+use Rattle.juniper_tokens.specs.device.Ranges.{range_lexemes, range_steps}
 use Rattle.juniper_tokens.proofs.Gathering.{GatheredRanges, ranges_more, gathered_later, gathered_cut, cut_ends_once, breaks_passed}
 use Rattle.juniper_tokens.proofs.Lexing.{ranges_fewer}
 use Rattle.juniper_tokens.proofs.Ranges.{plain_steps, other_steps}

@@ -1,7 +1,7 @@
 use Rattle.std.proofs.Common.{sym, ap, subst, ◌∙◌, drop}
 use Rattle.std.specs.Str.{chars}
 use Rattle.juniper_tokens.specs.declared.lexer.text.Border.{Border}
-use Rattle.juniper_tokens.specs.Borders.{IsBorder}
+use Rattle.juniper_tokens.specs.device.Borders.{IsBorder}
 use Rattle.juniper_tokens.proofs.Ranges.{range_order, range_width}
 use Rattle.juniper_tokens.proofs.token_range.TokenRange.text.Goals as goal
 

@@ -6,7 +6,7 @@ use Rattle.graphql_lexical.specs.Place.{Place, Span, place, origin, past_charact
 use Rattle.graphql_lexical.specs.Tokens.{mark, quotes_of}
 use Rattle.graphql_lexical.specs.Reading.{Reads, Fails}
 use Rattle.graphql_lexical.specs.Cutting.{Lexeme, Cut, Breaks}
-use Rattle.graphql_lexical.specs.Scan.{Found, Missed, Broken, scan, cut_of}
+use Rattle.graphql_lexical.specs.device.Scan.{Found, Missed, Broken, scan, cut_of}
 
 -- the first place of a source is the origin, and each further one follows from the one before by the character between
 pub record StepsByCharacters (source : List ℕ) : Type 0 where

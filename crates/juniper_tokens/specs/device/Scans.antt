@@ -1,12 +1,12 @@
 -- What a scan gives.
 use Rattle.std.specs.Prelude.{◌≡◌, ℕ, List, Result, Ok, Err}
 use Rattle.graphql_lexical.specs.Kinds.{LexicalError, UnknownEscapeSequence}
-use Rattle.graphql_lexical.specs.Scan as scans
+use Rattle.graphql_lexical.specs.device.Scan as scans
 use Rattle.juniper_tokens.specs.Errors.{view_lexer_error}
 use Rattle.juniper_tokens.specs.declared.lexer.scan.Found.{Found}
 use Rattle.juniper_tokens.specs.declared.lexer.scan.Missed.{Missed}
 use Rattle.juniper_tokens.specs.declared.lexer.scan.Missed.TheVariants as missed
-use Rattle.juniper_tokens.specs.Borders.{IsBorder}
+use Rattle.juniper_tokens.specs.device.Borders.{IsBorder}
 
 -- the one error whose text takes memory
 abbrev pub IsEscape : LexicalError → Type 0

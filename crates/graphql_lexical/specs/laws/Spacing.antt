@@ -3,7 +3,7 @@ use Rattle.std.specs.Prelude.{◌≡◌, ℕ, List, [], ◌∷◌, ◌++◌, tak
 use Rattle.graphql_lexical.specs.Kinds.{EndOfFile}
 use Rattle.graphql_lexical.specs.Tokens.{Spells, text_of}
 use Rattle.graphql_lexical.specs.Cutting.{Lexeme, Cut}
-use Rattle.graphql_lexical.specs.Alike.{AllAlike}
+use Rattle.graphql_lexical.specs.laws.Alike.{AllAlike}
 
 -- a space, and then the text
 abbrev pub after_space : List ℕ → List ℕ

@@ -2,8 +2,8 @@
 use Rattle.std.specs.Prelude.{◌≡◌, ℕ, ◌+◌, ◌≤◌, ◌<◌, ◌^◌, ◌==◌, Bool, false, List, [], ◌∷◌, drop, length}
 use Rattle.std.specs.Str.{chars}
 use Rattle.graphql_lexical.specs.Place.{Place, place}
-use Rattle.graphql_lexical.specs.Scan as scans
-use Rattle.juniper_tokens.specs.ByteRuns.{byte_at}
+use Rattle.graphql_lexical.specs.device.Scan as scans
+use Rattle.juniper_tokens.specs.device.ByteRuns.{byte_at}
 use Rattle.juniper_tokens.specs.Lexing.{LexerState}
 
 abbrev pub past_gap : LexerState → LexerState

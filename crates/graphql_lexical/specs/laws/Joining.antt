@@ -6,7 +6,7 @@ use Rattle.graphql_lexical.specs.Place.{place}
 use Rattle.graphql_lexical.specs.Kinds.{Kind, character_of}
 use Rattle.graphql_lexical.specs.Tokens.{Spells}
 use Rattle.graphql_lexical.specs.Cutting.{Lexeme, Cut}
-use Rattle.graphql_lexical.specs.Alike.{AllAlike}
+use Rattle.graphql_lexical.specs.laws.Alike.{AllAlike}
 
 -- a punctuator of one character
 abbrev pub is_lone : Kind → Bool

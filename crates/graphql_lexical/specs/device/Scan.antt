@@ -7,7 +7,7 @@ use Rattle.graphql_lexical.specs.Kinds.{Kind, Name, String, Float, Int, Ellipsis
 use Rattle.graphql_lexical.specs.Tokens.{text_of, punctuator}
 use Rattle.graphql_lexical.specs.Reading.{counted}
 use Rattle.graphql_lexical.specs.Cutting.{Lexeme}
-use Rattle.graphql_lexical.specs.Machines.{reach}
+use Rattle.graphql_lexical.specs.device.Machines.{reach}
 pub use Rattle.graphql_lexical.specs.declared.state.State.{State}
 pub use Rattle.graphql_lexical.specs.declared.state.State.TheVariants.{Start, Done, OneDot, TwoDots, InName, Minus, Zero, Digits, Point, Fraction, ExponentMark, ExponentSign, Exponent, Quote, EmptyString, InString, Backslash, NoHexDigit, OneHexDigit, HexDigitD, TwoHexDigits, ThreeHexDigits, InBlock}
 pub use Rattle.graphql_lexical.specs.declared.state.Block.{Block}

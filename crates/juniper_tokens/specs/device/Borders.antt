@@ -1,7 +1,7 @@
 -- Borders between the characters of a text.
 use Rattle.std.specs.Prelude.{◌≡◌, ℕ, zero, suc, ◌<◌, ◌≤◌, List, [], ◌∷◌, ◌++◌, length, take, drop}
 use Rattle.juniper_tokens.specs.declared.lexer.text.Border.{Border}
-use Rattle.juniper_tokens.specs.ByteRuns.{byte_at}
+use Rattle.juniper_tokens.specs.device.ByteRuns.{byte_at}
 
 -- as many characters stand before it as it says
 abbrev pub IsBorder : Border → List ℕ → Type 0

@@ -4,7 +4,7 @@ use Rattle.std.specs.List.{All}
 use Rattle.graphql_lexical.specs.Place.{Place, place}
 use Rattle.graphql_lexical.specs.declared.kind.Kind.TheVariants as kinds
 use Rattle.graphql_lexical.specs.Kinds.{same_kind}
-use Rattle.graphql_lexical.specs.Scan as scans
+use Rattle.graphql_lexical.specs.device.Scan as scans
 use Rattle.graphql_lexical.specs.Tokens.{text_of}
 use Rattle.graphql_lexical.specs.Cutting.{Lexeme, Stands}
 use Rattle.juniper_tokens.specs.declared.span.Spanning.{Spanning}
@@ -17,12 +17,12 @@ use Rattle.juniper_tokens.specs.declared.error.LexFailure.{LexFailure}
 use Rattle.juniper_tokens.specs.declared.error.LexFailure.TheVariants as failure
 use Rattle.juniper_tokens.specs.Tokens.{kind_text, view_token}
 use Rattle.juniper_tokens.specs.Errors.{view_lexer_error}
-use Rattle.juniper_tokens.specs.Borders.{IsBorder, EndsQuoted}
-use Rattle.juniper_tokens.specs.ByteRuns.{byte_at}
+use Rattle.juniper_tokens.specs.device.Borders.{IsBorder, EndsQuoted}
+use Rattle.juniper_tokens.specs.device.ByteRuns.{byte_at}
 use Rattle.juniper_tokens.specs.Positions.{columns_on}
-use Rattle.juniper_tokens.specs.Scans.{MissesEscape}
+use Rattle.juniper_tokens.specs.device.Scans.{MissesEscape}
 use Rattle.juniper_tokens.specs.Lexing.{LexerState, GivesFault, WantsMemory}
-use Rattle.juniper_tokens.specs.LexingByScan.{past_gap}
+use Rattle.juniper_tokens.specs.device.LexingByScan.{past_gap}
 use Rattle.juniper_tokens.specs.Cursor.{EndsOnce, first_of}
 
 -- the characters of a range

@@ -2,13 +2,13 @@
 use Rattle.std.specs.Prelude.{◌≡◌, ℕ, ◌==◌, Bool, if◌then◌else◌, Option, Some, None, List, take}
 use Rattle.std.specs.List.{fold}
 use Rattle.graphql_lexical.specs.Characters.{is_name_character, is_digit, is_plain, is_comment_character}
-use Rattle.graphql_lexical.specs.Machines.{reach}
+use Rattle.graphql_lexical.specs.device.Machines.{reach}
 use Rattle.graphql_lexical.specs.Place.{Place, past_character}
-use Rattle.graphql_lexical.specs.Scan.{gap_size}
+use Rattle.graphql_lexical.specs.device.Scan.{gap_size}
 use Rattle.juniper_tokens.specs.declared.lexer.run.Run.{Run}
 use Rattle.juniper_tokens.specs.declared.lexer.run.Run.TheVariants as run
 use Rattle.juniper_tokens.specs.declared.lexer.text.Border.{Border}
-use Rattle.juniper_tokens.specs.ByteRuns.{byte_at, byte_step, with_value, count_one}
+use Rattle.juniper_tokens.specs.device.ByteRuns.{byte_at, byte_step, with_value, count_one}
 
 -- what a run is of
 abbrev pub run_test : Run → ℕ → Bool

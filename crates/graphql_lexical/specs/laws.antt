@@ -1,0 +1,5 @@
+pub mod Alike
+pub mod Laws
+pub mod Joining
+pub mod Written
+pub mod Spacing

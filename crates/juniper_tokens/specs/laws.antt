@@ -1,0 +1,2 @@
+pub mod PositionOrder
+pub mod TokenLaws
