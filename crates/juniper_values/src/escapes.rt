@@ -20,7 +20,7 @@ pub(crate) fn unescape(alloc: Global, text: &str) -> Result<Option<String>, Allo
     }
 }
 
-// The same, escape by escape. What stands between two is copied at once. The outcome is never longer than the text, so
+// The same, escape by escape: what stands between two is copied at once. The outcome is never longer than the text, so
 // memory is asked for once.
 fn replace_escapes(alloc: Global, text: &str) -> Result<Option<String>, AllocError>
     ensures { IfOk result (λ o. option_map text_of o ≡ unescape (chars text.now)) }
@@ -41,7 +41,7 @@ fn replace_escapes(alloc: Global, text: &str) -> Result<Option<String>, AllocErr
     Ok(Some(out))
 }
 
-// The character that a backslash in front of the text begins an escape of, and what follows the escape.
+// The character that the escape behind a backslash stands for, and what follows it; nothing where none begins.
 fn escaped(text: &str) -> Option<(char, &str)>
     ensures value { MatchOption result (behind_backslash (chars text.now) ≡ None)
         (λ p. behind_backslash (chars text.now) ≡ in_front (Some p.0) (unescape (chars p.1.now))) }
@@ -57,7 +57,7 @@ fn escaped(text: &str) -> Option<(char, &str)>
     }
 }
 
-// The same for `\u`.
+// The same behind `\u`.
 fn numbered(text: &str) -> Option<(char, &str)>
     ensures value { MatchOption result (behind_u (chars text.now) ≡ None)
         (λ p. behind_u (chars text.now) ≡ in_front (Some p.0) (unescape (chars p.1.now))) }
