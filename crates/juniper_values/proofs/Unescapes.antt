@@ -1,63 +1,76 @@
--- One turn of the loop that replaces escapes.
-use Rattle.std.proofs.Common.{◌≡◌, refl, sym, ap, ◌∙◌, ℕ, List, [], ◌∷◌, ◌++◌, Option, Some, None, option_map, option_and_then, append_assoc, append-nil, string_bytes, String, Global, ◌<◌, ◌≤◌, ◌+◌, length, get_or, drop}
-use Rattle.std.proofs.lemmas.List.{at_drop_all}
-use Rattle.juniper_values.proofs.Reading.{drop_read}
-use Rattle.std.specs.Option.{option_to_list}
-use Rattle.std.specs.Str.{chars}
+-- Escapes are replaced one by one.
+use Rattle.std.proofs.Common.{◌≡◌, refl, sym, ap, ◌∙◌, subst, ℕ, ◌<◌, List, [], ◌∷◌, ◌++◌, length, take, drop, Option, Some, None, option_map, append_assoc, append-nil, string_bytes, String, Global, IsUtf8, arith}
+use Rattle.std.specs.Prelude.{◌==◌}
+use Rattle.std.specs.Str.{chars, NonePass, NoCharPasses}
+use Rattle.std.specs.Str.Pattern.{FindsChar, SplitsAroundMatch}
 use Rattle.std.specs.Char.{IsScalar, encode_utf8}
-use Rattle.std.proofs.lemmas.Str.{chars-append, chars_past_char, IsUtf8-encode, IsUtf8-string_bytes}
+use Rattle.std.proofs.lemmas.List.{take-append-drop}
+use Rattle.std.proofs.lemmas.Str.{chars-append, chars-nil, chars_past_char, chars_from_encodes, IsUtf8-encode, IsUtf8-string_bytes, IsUtf8-take, IsUtf8-drop, IsCharBoundary-before_ascii}
 use Rattle.juniper_values.specs.Text.{Text}
-use Rattle.juniper_values.specs.Escapes.{step_of, unescape_from}
-use Rattle.juniper_values.specs.declared.escapes.Stage.{Stage}
-use Rattle.juniper_values.specs.declared.escapes.Stage.TheVariants.{Plain, Escaped, Hex}
+use Rattle.juniper_values.specs.Escapes.{in_front, unescape, behind_backslash}
 
-pub here : (s : Stage) (c : ℕ) (rest : Text) → unescape_from s (c ∷ rest) ≡ option_and_then (λ p. option_map (λ t. option_to_list p.1 ++ t) (unescape_from p.0 rest)) (step_of s c)
-here Plain c rest = refl
-here Escaped c rest = refl
-here (Hex n v) c rest = refl
-
-pub went_on : (s next : Stage) (made : Option ℕ) (c : ℕ) (rest : Text) → Some (next, made) ≡ step_of s c → unescape_from s (c ∷ rest) ≡ option_map (λ t. option_to_list made ++ t) (unescape_from next rest)
-went_on s next made c rest e = here s c rest ∙ ap (λ r. option_and_then (λ p. option_map (λ t. option_to_list p.1 ++ t) (unescape_from p.0 rest)) r) (sym e)
-
-pub stopped : (s : Stage) (c : ℕ) (rest : Text) → None ≡ step_of s c → unescape_from s (c ∷ rest) ≡ None
-stopped s c rest e = here s c rest ∙ ap (λ r. option_and_then (λ p. option_map (λ t. option_to_list p.1 ++ t) (unescape_from p.0 rest)) r) (sym e)
-
-pub joined : (a b : Text) (o : Option Text) → option_map (λ t. (a ++ b) ++ t) o ≡ option_map (λ t. a ++ t) (option_map (λ t. b ++ t) o)
-joined a b None = refl
-joined a b (Some t) = ap Some (append_assoc a b t)
-
-pub none_made : (o : Option Text) → option_map (λ t. [] ++ t) o ≡ o
-none_made None = refl
-none_made (Some t) = refl
-
-pub chars-push : (s : String Global) (d : ℕ) (all : List ℕ) → IsScalar d → all ≡ string_bytes s ++ encode_utf8 d → chars all ≡ chars (string_bytes s) ++ d ∷ []
+pub chars-push : (s : String Global) (d : ℕ) (all : List ℕ) → IsScalar d → all ≡ string_bytes s ++ encode_utf8 d
+    → chars all ≡ chars (string_bytes s) ++ d ∷ []
 unfolding chars
 chars-push s d all is e =
+    let one = chars_past_char (encode_utf8 d) [] d (IsUtf8-encode d is) (sym (append-nil (encode_utf8 d))) in
     ap chars e ∙ chars-append (string_bytes s) (encode_utf8 d) (IsUtf8-string_bytes s)
-    ∙ ap (λ cs. chars (string_bytes s) ++ cs) (chars_past_char (encode_utf8 d) [] d (IsUtf8-encode d is) (sym (append-nil (encode_utf8 d))))
+    ∙ ap (λ cs. chars (string_bytes s) ++ cs) one
 
-pub empty_first : (o : Option Text) → option_map (λ t. chars [] ++ t) o ≡ o
-unfolding chars
-empty_first None = refl
-empty_first (Some t) = refl
+-- a text in front of what the rest stands for
+abbrev pub onto : Text → Option Text → Option Text
+onto p o = option_map (λ u. p ++ u) o
 
-pub turned : (s next : Stage) (made : Option ℕ) (c n m : ℕ) (cs out after : Text) (all : Option Text) → n < length cs → c ≡ get_or cs n c → m ≡ n + 1 → Some (next, made) ≡ step_of s c → after ≡ out ++ option_to_list made
-    → option_map (λ t. out ++ t) (unescape_from s (drop n cs)) ≡ all → option_map (λ t. after ++ t) (unescape_from next (drop m cs)) ≡ all
-turned s next made c n m cs out after all lt is em step grown so_far =
-    ap (λ k. option_map (λ t. after ++ t) (unescape_from next (drop k cs))) em
-    ∙ ap (λ o. option_map (λ t. o ++ t) (unescape_from next (drop (n + 1) cs))) grown
-    ∙ joined out (option_to_list made) (unescape_from next (drop (n + 1) cs))
-    ∙ ap (option_map (λ t. out ++ t)) (sym (ap (unescape_from s) (drop_read cs n c lt is) ∙ went_on s next made c (drop (n + 1) cs) step))
-    ∙ so_far
+onto_nothing : (o : Option Text) → onto [] o ≡ o
+onto_nothing None = refl
+onto_nothing (Some u) = refl
 
-pub finish_plain : (s : Stage) (cs out : Text) (n : ℕ) (all : Option Text) → length cs ≤ n → s ≡ Plain → option_map (λ t. out ++ t) (unescape_from s (drop n cs)) ≡ all → Some out ≡ all
-finish_plain s cs out n all past is so_far =
-    sym (ap (option_map (λ t. out ++ t)) (at_drop_all (unescape_from s) cs n past ∙ ap (λ z. unescape_from z []) is) ∙ ap Some (append-nil out)) ∙ so_far
+onto_both : (p q : Text) (o : Option Text) → onto (p ++ q) o ≡ onto p (onto q o)
+onto_both p q None = refl
+onto_both p q (Some u) = ap Some (append_assoc p q u)
 
-unfinished : (s : Stage) → (s ≡ Plain → ⊥) → unescape_from s [] ≡ None
-unfinished Plain h = absurd (h refl)
-unfinished Escaped h = refl
-unfinished (Hex n v) h = refl
+-- ---- up to the first backslash
 
-pub finish_other : (s : Stage) (cs out : Text) (n : ℕ) (all : Option Text) → length cs ≤ n → (s ≡ Plain → ⊥) → option_map (λ t. out ++ t) (unescape_from s (drop n cs)) ≡ all → None ≡ all
-finish_other s cs out n all past other so_far = sym (ap (option_map (λ t. out ++ t)) (at_drop_all (unescape_from s) cs n past ∙ unfinished s other)) ∙ so_far
+-- no character is a backslash
+abbrev HasNoBackslash : Text → Type 0
+HasNoBackslash = NonePass (λ c. c == 92)
+
+copied : (p t : Text) → HasNoBackslash p → unescape (p ++ t) ≡ onto p (unescape t)
+copied [] t none = sym (onto_nothing (unescape t))
+copied (c ∷ p) t none = rw (none.0, copied p t none.1) (sym (onto_both (c ∷ []) p (unescape t)))
+
+no_backslash : (bs : List ℕ) → IsUtf8 bs → NoCharPasses (λ c. c == 92) bs → HasNoBackslash (chars bs)
+no_backslash bs utf8 none = subst HasNoBackslash (chars_from_encodes none.0 bs utf8 none.1) none.2
+
+module _ (bs : List ℕ) (utf8 : IsUtf8 bs) where
+  pub whole : FindsChar 92 bs None → unescape (chars bs) ≡ Some (chars bs)
+  whole none =
+      ap unescape (sym (append-nil (chars bs))) ∙ copied (chars bs) [] (no_backslash bs utf8 none)
+      ∙ ap Some (append-nil (chars bs))
+
+  pub around : (front back : List ℕ) → SplitsAroundMatch (FindsChar 92) bs front back
+      → unescape (chars bs) ≡ onto (chars front) (behind_backslash (chars back))
+  around front back cut =
+      let i = cut.0 in
+      let before = take i bs in
+      let rest = drop cut.1 bs in
+      let at = cut.2.1 in
+      let inside : i < length bs = omega (arith, at.ends, cut.5, cut.7) in
+      let border = IsCharBoundary-before_ascii bs i inside (omega (arith, at.byte (omega arith))) in
+      let text = IsUtf8-take bs i utf8 border in
+      let behind = chars_past_char (drop i bs) rest 92 (IsUtf8-drop bs i utf8 border) at.split in
+      let is : chars bs ≡ chars before ++ 92 ∷ chars rest =
+      ap chars (sym (take-append-drop i bs)) ∙ chars-append before (drop i bs) text
+      ∙ ap (λ t. chars before ++ t) behind in
+      rw (cut.3, cut.4)
+      (ap unescape is ∙ copied (chars before) (92 ∷ chars rest) (no_backslash before text cut.2.0))
+
+-- ---- the loop
+
+pub starts : (bs : List ℕ) (o : Option Text) → bs ≡ [] → onto (chars bs) o ≡ o
+starts bs o e = ap (λ p. onto p o) (ap chars e ∙ chars-nil) ∙ onto_nothing o
+
+pub turned : (out plain after : Text) (c : ℕ) (o : Option Text) → after ≡ (out ++ plain) ++ c ∷ []
+    → onto after o ≡ onto out (onto plain (in_front (Some c) o))
+turned out plain after c o e =
+    ap (λ p. onto p o) e ∙ onto_both (out ++ plain) (c ∷ []) o ∙ onto_both out plain (onto (c ∷ []) o)

@@ -1,19 +1,10 @@
--- The text that the slice of a String token stands for.
-use Rattle.std.specs.Prelude.{◌≡◌, ℕ, ◌+◌, ◌*◌, ◌-◌, ◌<◌, ◌≤◌, [], ◌∷◌, ◌++◌, Option, Some, None, option_map, option_and_then, if◌then◌else◌, ◌==◌, ◌&&◌, nat_le}
-use Rattle.std.specs.Option.{option_to_list}
+-- The text that the slice of a String token stands for (GraphQL specification, October 2021, section 2.9.4).
+use Rattle.std.specs.Prelude.{ℕ, Bool, [], ◌∷◌, Option, Some, None, option_map, option_and_then, if◌then◌else◌, ◌==◌, ◌&&◌, not, nat_le}
 use Rattle.graphql_lexical.specs.Characters.{is_hex}
-use Rattle.graphql_lexical.specs.Tokens.{hex_value}
+use Rattle.graphql_lexical.specs.Tokens.{hex_number}
 use Rattle.juniper_values.specs.Text.{Text}
-use Rattle.juniper_values.specs.declared.escapes.Stage.{Stage}
-use Rattle.juniper_values.specs.declared.escapes.Stage.TheVariants.{Plain, Escaped, Hex}
 
--- the number so far has as many digits as were read
-abbrev pub IsStage : Stage → Type 0
-IsStage Plain = Unit {0}
-IsStage Escaped = Unit {0}
-IsStage (Hex n v) = (n ≤ 3) × ((n ≡ 0 → v < 4096) × ((n ≡ 1 → v < 256) × ((n ≡ 2 → v < 16) × (n ≡ 3 → v ≡ 0))))
-
--- what stands for the character after a backslash
+-- what a backslash and this character stand for
 abbrev pub short_escape : ℕ → Option ℕ
 short_escape c =
     if c == 34 then Some 34
@@ -26,26 +17,34 @@ short_escape c =
     else if c == 116 then Some 9
     else None
 
--- the number of a hexadecimal digit, of either case
-abbrev pub digit_of : ℕ → Option ℕ
-digit_of c = if is_hex c then Some (hex_value c) else None
+-- from D800 to DFFF
+abbrev pub is_surrogate : ℕ → Bool
+is_surrogate n = nat_le 55296 n && nat_le n 57343
 
--- a number of four digits that is a character
-abbrev pub unit_of : ℕ → Option (Stage × Option ℕ)
-unit_of v = if nat_le 55296 v && nat_le v 57343 then None else Some (Plain, Some v)
+-- whether these are four hexadecimal digits, whose number is no surrogate
+abbrev pub is_scalar : ℕ → ℕ → ℕ → ℕ → Bool
+is_scalar h i j k = is_hex h && is_hex i && is_hex j && is_hex k && not (is_surrogate (hex_number h i j k))
 
--- the stage after the character, and the character that it completes
-abbrev pub step_of : Stage → ℕ → Option (Stage × Option ℕ)
-step_of Plain c = if c == 92 then Some (Escaped, None) else Some (Plain, Some c)
-step_of Escaped c = if c == 117 then Some (Hex 3 0, None) else option_map (λ d. (Plain, Some d)) (short_escape c)
-step_of (Hex n v) c = option_and_then (λ d. if n == 0 then unit_of (v * 16 + d) else Some (Hex (n - 1) (v * 16 + d), None)) (digit_of c)
+-- what `\u` and these four stand for
+abbrev pub unicode_escape : ℕ → ℕ → ℕ → ℕ → Option ℕ
+unicode_escape h i j k = if is_scalar h i j k then Some (hex_number h i j k) else None
 
-abbrev pub unescape_from : Stage → Text → Option Text
-unescape_from Plain [] = Some []
-unescape_from Escaped [] = None
-unescape_from (Hex n v) [] = None
-unescape_from s (c ∷ cs) = option_and_then (λ p. option_map (λ t. option_to_list p.1 ++ t) (unescape_from p.0 cs)) (step_of s c)
+-- a character in front of a text, where both are there
+abbrev pub in_front : Option ℕ → Option Text → Option Text
+in_front character text = option_and_then (λ c. option_map (λ t. c ∷ t) text) character
 
--- None where some backslash begins no escape
-abbrev pub unescape : Text → Option Text
-unescape t = unescape_from Plain t
+abbrev mutual
+  -- what the text stands for; None where some backslash begins no escape
+  pub unescape : Text → Option Text
+  unescape [] = Some []
+  unescape (c ∷ t) = if c == 92 then behind_backslash t else in_front (Some c) (unescape t)
+
+  -- the same of what stands behind a backslash
+  pub behind_backslash : Text → Option Text
+  behind_backslash [] = None
+  behind_backslash (c ∷ t) = if c == 117 then behind_u t else in_front (short_escape c) (unescape t)
+
+  -- and behind `\u`
+  pub behind_u : Text → Option Text
+  behind_u (h ∷ i ∷ j ∷ k ∷ t) = in_front (unicode_escape h i j k) (unescape t)
+  behind_u t = None

@@ -1,23 +1,13 @@
 //! The text that the slice of a String token stands for (GraphQL specification, October 2021, section 2.9.4).
-ghost use Rattle.std.specs.Prelude.{◌≡◌, ◌<◌, ◌++◌, IfOk, OnOk, option_map, IfSome};
-ghost use Rattle.std.specs.Option.{option_to_list};
+ghost use Rattle.std.specs.Prelude.{◌≡◌, ◌<◌, [], ◌∷◌, length, IfOk, IfSome, MatchOption, option_map, Some, None, IsTrue};
 ghost use Rattle.std.specs.Char.{IsScalar};
-ghost use Rattle.std.specs.Str.{chars};
+ghost use Rattle.std.specs.Str.{chars, IsUtf8};
+ghost use Rattle.graphql_lexical.specs.Characters.{is_hex};
+ghost use Rattle.graphql_lexical.specs.Tokens.{hex_value};
 ghost use Rattle.juniper_values.specs.View.{text_of};
-ghost use Rattle.juniper_values.specs.Escapes.{unescape, step_of, short_escape, digit_of, IsStage};
+ghost use Rattle.juniper_values.specs.Escapes.{unescape, behind_backslash, behind_u, in_front, short_escape, unicode_escape};
 
 use std::alloc::{AllocError, Global};
-
-// Where in a String's text a character stands.
-#[derive(Clone, Copy)]
-pub(crate) enum Stage {
-    // Outside escapes.
-    Plain,
-    // Behind a backslash.
-    Escaped,
-    // Behind `\u`: how many digits follow the next one, and the number so far.
-    Hex(u8, u32),
-}
 
 // The text with each escape replaced, or nothing where some backslash begins none. Most texts have no backslash.
 pub(crate) fn unescape(alloc: Global, text: &str) -> Result<Option<String>, AllocError>
@@ -30,76 +20,80 @@ pub(crate) fn unescape(alloc: Global, text: &str) -> Result<Option<String>, Allo
     }
 }
 
-// The same, character by character.
+// The same, escape by escape: what stands between two is copied at once. The outcome is never longer than the text, so
+// memory is asked for once.
 fn replace_escapes(alloc: Global, text: &str) -> Result<Option<String>, AllocError>
     ensures { IfOk result (λ o. option_map text_of o ≡ unescape (chars text.now)) }
 {
-    let mut out = String::new(alloc);
-    let mut stage = Stage::Plain;
-    for c in text.chars() {
-        match step(stage, c) {
-            Some((next, made)) => {
-                stage = next;
-                push_made(&mut out, made)?;
+    let mut out = String::with_capacity(alloc, text.len())?;
+    let mut rest = text;
+    while let Some((plain, behind)) = rest.split_once('\\') {
+        out.push_str(plain)?;
+        match escaped(behind) {
+            Some((c, left)) => {
+                out.push(c)?;
+                rest = left;
             }
             None => return Ok(None),
         }
     }
-    match stage {
-        Stage::Plain => Ok(Some(out)),
-        _ => Ok(None),
+    out.push_str(rest)?;
+    Ok(Some(out))
+}
+
+// The character that the escape behind a backslash stands for, and what follows it; nothing where none begins.
+fn escaped(text: &str) -> Option<(char, &str)>
+    ensures value { MatchOption result (behind_backslash (chars text.now) ≡ None)
+        (λ p. behind_backslash (chars text.now) ≡ in_front (Some p.0) (unescape (chars p.1.now))) }
+    ensures scalar { IfSome result (λ p. IsScalar p.0) }
+    ensures shorter { IfSome result (λ p. length p.1.now < length text.now) }
+    ensures utf8 { IfSome result (λ p. IsUtf8 p.1.now) }
+{
+    let (c, rest) = split_char(text)?;
+    if c == 'u' {
+        numbered(rest)
+    } else {
+        Some((short(c)?, rest))
     }
 }
 
-fn push_made(out: &mut String, made: Option<char>) -> Result<(), AllocError>
-    requires { IfSome made IsScalar }
-    ensures { OnOk result (text_of out.new ≡ text_of out.old ++ option_to_list made) }
+// The same behind `\u`.
+fn numbered(text: &str) -> Option<(char, &str)>
+    ensures value { MatchOption result (behind_u (chars text.now) ≡ None)
+        (λ p. behind_u (chars text.now) ≡ in_front (Some p.0) (unescape (chars p.1.now))) }
+    ensures scalar { IfSome result (λ p. IsScalar p.0) }
+    ensures shorter { IfSome result (λ p. length p.1.now < length text.now) }
+    ensures utf8 { IfSome result (λ p. IsUtf8 p.1.now) }
 {
-    if let Some(c) = made {
-        out.push(c)?;
-    }
-    Ok(())
+    let (h, rest) = split_char(text)?;
+    let (i, rest) = split_char(rest)?;
+    let (j, rest) = split_char(rest)?;
+    let (k, rest) = split_char(rest)?;
+    Some((unicode(h, i, j, k)?, rest))
 }
 
-// The stage after the character, and the character that it completes.
-fn step(stage: Stage, c: char) -> Option<(Stage, Option<char>)>
-    requires { IsStage stage }
-    ensures value { result ≡ step_of stage c }
-    ensures kept { IfSome result (λ p. IsStage p.0) }
-    ensures scalar { IfSome result (λ p. IfSome p.1 IsScalar) }
+// The text's first character, and what follows it.
+fn split_char(text: &str) -> Option<(char, &str)>
+    ensures parts { MatchOption result (chars text.now ≡ []) (λ p. chars text.now ≡ p.0 ∷ chars p.1.now) }
+    ensures shorter { IfSome result (λ p. length p.1.now < length text.now) }
+    ensures utf8 { IfSome result (λ p. IsUtf8 p.1.now) }
 {
-    match stage {
-        Stage::Plain => {
-            if c == '\\' {
-                Some((Stage::Escaped, None))
-            } else {
-                Some((Stage::Plain, Some(c)))
-            }
-        }
-        Stage::Escaped => {
-            if c == 'u' {
-                Some((Stage::Hex(3, 0), None))
-            } else {
-                match short(c) {
-                    Some(d) => Some((Stage::Plain, Some(d))),
-                    None => None,
-                }
-            }
-        }
-        Stage::Hex(n, v) => match hex(c) {
-            Some(d) => {
-                let w = v * 16 + d;
-                if n == 0 {
-                    match char::from_u32(w) {
-                        Some(e) => Some((Stage::Plain, Some(e))),
-                        None => None,
-                    }
-                } else {
-                    Some((Stage::Hex(n - 1, w), None))
-                }
-            }
-            None => None,
-        },
+    let mut rest = text.chars();
+    let c = rest.next()?;
+    Some((c, rest.as_str()))
+}
+
+// The character that `\u` and these stand for.
+fn unicode(h: char, i: char, j: char, k: char) -> Option<char>
+    ensures value { result ≡ unicode_escape h i j k }
+    ensures scalar { IfSome result IsScalar }
+{
+    if is_hex(h) && is_hex(i) && is_hex(j) && is_hex(k) {
+        char::from_u32(
+            4096 * hex_value(h) + (256 * hex_value(i) + (16 * hex_value(j) + hex_value(k))),
+        )
+    } else {
+        None
     }
 }
 
@@ -121,15 +115,24 @@ fn short(c: char) -> Option<char>
     }
 }
 
-// The number of a hexadecimal digit.
-fn hex(c: char) -> Option<u32>
-    ensures value { result ≡ digit_of c }
-    ensures small { IfSome result (λ d. d < 16) }
+fn is_hex(c: char) -> bool
+    ensures { result ≡ is_hex c }
 {
-    match c {
-        '0'..='9' => Some(c as u32 - 48),
-        'a'..='f' => Some(c as u32 - 87),
-        'A'..='F' => Some(c as u32 - 55),
-        _ => None,
+    matches!(c, '0'..='9' | 'A'..='F' | 'a'..='f')
+}
+
+// The number of a hexadecimal digit.
+fn hex_value(c: char) -> u32
+    requires { IsTrue (is_hex c) }
+    ensures value { result ≡ hex_value c }
+    ensures small { result < 16 }
+{
+    let n = c as u32;
+    if n <= 57 {
+        n - 48
+    } else if n <= 70 {
+        n - 55
+    } else {
+        n - 87
     }
 }

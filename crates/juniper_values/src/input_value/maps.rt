@@ -43,7 +43,7 @@ fn fields_by_key<'a, S>(
     ensures { IfOk result
         (λ m. map (λ e. (chars e.0.now, view (λ s. s) e.1.now)) m.entries ≡ as_map (view_fields (λ s. s) fields.now.items)) }
 {
-    let mut by_key = IndexMap::new(alloc);
+    let mut by_key = IndexMap::with_capacity(alloc, fields.len())?;
     for field in fields {
         by_key.insert(field.0.item.as_str(), &field.1.item)?;
     }

@@ -80,7 +80,7 @@ fn constant_items<S: ScalarValue>(
     ensures { IfOk result
         (λ v. ItemsBecome S.eq (values_in (λ s. s) values.now) (view_items (λ s. s) items.items) (view_items (λ s. s) v.items)) }
 {
-    let mut done = Vec::new(alloc);
+    let mut done = Vec::with_capacity(alloc, items.len())?;
     for item in items {
         let Spanning { item, span } = item;
         let value = constant(item, alloc, values)?.unwrap_or(InputValue::Null);
@@ -98,7 +98,7 @@ fn constant_fields<S: ScalarValue>(
     ensures { IfOk result
         (λ v. FieldsBecome S.eq (values_in (λ s. s) values.now) (view_fields (λ s. s) fields.items) (view_fields (λ s. s) v.items)) }
 {
-    let mut done = Vec::new(alloc);
+    let mut done = Vec::with_capacity(alloc, fields.len())?;
     for field in fields {
         let (key, value) = field;
         let Spanning { item, span } = value;

@@ -1,10 +1,15 @@
-use Rattle.std.proofs.Common.{◌≡◌, ◌++◌, length, drop, option_map, string_bytes}
+use Rattle.std.proofs.Common.{◌≡◌, length}
+use denote.Text.{Utf8}
+use denote.Shadow.{shadow}
 use Rattle.std.specs.Str.{chars}
-use Rattle.juniper_values.specs.Escapes.{unescape, unescape_from, IsStage}
+use Rattle.juniper_values.specs.View.{text_of}
+use Rattle.juniper_values.specs.Escapes.{unescape}
+use Rattle.juniper_values.proofs.Unescapes.{onto}
 use Rattle.juniper_values.proofs.escapes.replace_escapes.Given as goal
 
-abbrev pub invariant-loop-c : goal.invariant-loop-c
-invariant-loop-c l = record {
-  stage : IsStage l.stage;
-  read : option_map (λ t. chars (string_bytes l.out) ++ t) (unescape_from l.stage (drop (length l.yielded) (chars l.text))) ≡ unescape (chars l.text);
-}
+abbrev pub invariant-loop-plain : goal.invariant-loop-plain
+invariant-loop-plain l =
+    shadow (Utf8 l.rest) × (onto (text_of l.out) (unescape (chars l.rest)) ≡ unescape (chars l.fn.text))
+
+abbrev pub decreases-loop-plain : goal.decreases-loop-plain
+decreases-loop-plain l = length l.rest

@@ -45,9 +45,9 @@ constant_items-returns g t c =
     subst (Becoming (view_items (λ s. s) c.args.items.items)) (sym (view_items-prepend (λ s. s) c.loop-item.done.items))
     (c.loop-item.invariant no_items (subst (λ (xs : List (Spanning (InputValue g.row.S.Denot))). Becoming (view_items (λ s. s) xs) no_items) (sym nothing) refl))
 
-pub constant_fields-loop-field-preserved-in-Continue-branch-3 :
-    goal.constant_fields-loop-field-preserved-in-Continue-branch-3
-constant_fields-loop-field-preserved-in-Continue-branch-3 g t c =
+pub constant_fields-loop-field-preserved-in-Continue-branch-4 :
+    goal.constant_fields-loop-field-preserved-in-Continue-branch-4
+constant_fields-loop-field-preserved-in-Continue-branch-4 g t c =
     let Becoming = FieldsBecome g.S.PartialEq.eq (values_in (λ s. s) c.args.values.now) in
     let x = c.in-Some.field in
     record {
