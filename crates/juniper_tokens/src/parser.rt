@@ -1,5 +1,5 @@
 //! The cursor over the tokens of a source.
-ghost use Rattle.std.specs.Prelude.{◌≡◌, ◌<◌, ◌≤◌, ◌∷◌, drop, false, true, length, option_map, OnOk, IfOk};
+ghost use Rattle.std.specs.Prelude.{◌≡◌, ◌<◌, ◌≤◌, [], ◌∷◌, drop, false, true, length, option_map, OnOk, IfOk};
 ghost use Rattle.std.specs.List.{All};
 ghost use Rattle.std.specs.Global.{Global as Allocator};
 ghost use Rattle.std.specs.Str.{chars};
@@ -67,7 +67,8 @@ impl<'a> Parser<'a> {
         ensures lexer { IfMemory result (StandsLaterOrEnded lexer.old lexer.new) (lexer.new.ended ≡ true) }
     {
         let alloc = lexer.allocator();
-        let mut ranges = Vec::new(alloc);
+        let source = lexer.source();
+        let mut ranges = room_for_ranges(alloc, source);
         while !lexer.has_ended() {
             let range = match lexer.next_plain() {
                 Some(range) => range,
@@ -77,7 +78,7 @@ impl<'a> Parser<'a> {
                 return Err(LexFailure::Memory);
             }
         }
-        Ok(Parser::from_ranges(alloc, lexer.source(), ranges))
+        Ok(Parser::from_ranges(alloc, source, ranges))
     }
 
     // A cursor at the first of these tokens.
@@ -266,5 +267,15 @@ impl<'a> Parser<'a> {
             }
             _ => self.refuse(),
         }
+    }
+}
+
+// Room for a token every four bytes of a source, as few sources have more, if there is as much.
+fn room_for_ranges(alloc: Global, source: &str) -> Vec<TokenRange>
+    ensures { result.items ≡ [] }
+{
+    match Vec::with_capacity(alloc, source.len() / 4) {
+        Ok(room) => room,
+        Err(_) => Vec::new(alloc),
     }
 }

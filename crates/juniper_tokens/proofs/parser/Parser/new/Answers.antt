@@ -50,5 +50,5 @@ returns-then-is_err-clause-lexer c =
 pub from_ranges-requires-clause-ends : goal.from_ranges-requires-clause-ends
 from_ranges-requires-clause-ends c =
     let ended = sym c.has_ended.ensures ∙ c.loop-lexer-test.false in
-    let same = c.source.ensures ∙ c.loop-lexer.invariant.gathered.source in
+    let same = c.source-source.ensures in
     subst (λ (source : List ℕ). EndsOnce (range_lexemes source c.loop-lexer.ranges.items)) (sym same) (cut_ends_once _ _ _ (gathered_cut _ _ c.loop-lexer.lexer c.loop-lexer.invariant.gathered ended))
