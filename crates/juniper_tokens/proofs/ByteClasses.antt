@@ -2,14 +2,14 @@
 use Rattle.std.proofs.Common.{◌≡◌, ℕ, Bool, zero, suc, ◌+◌, ◌<◌, true, false, None, ◌==◌, refl, sym, ap, ◌∙◌, arith}
 use Rattle.std.specs.Prelude.{slice_index_or, nat_lt, nat_le}
 use denote.Enum.Bare.{sameb}
-use Rattle.graphql_lexical.specs.Characters.{is_name_character, is_digit, is_plain, is_comment_character}
+use Rattle.graphql_lexical.specs.Characters.{is_name_character, is_digit}
 use Rattle.graphql_lexical.specs.declared.state.State.TheVariants.{Start}
 use Rattle.graphql_lexical.specs.device.Scan.{step, gap_step}
 use Rattle.juniper_tokens.specs.device.ByteRuns.{is_inner}
 use Rattle.juniper_tokens.specs.contracts.byte_classes.ByteClass.{the_type}
 use Rattle.juniper_tokens.specs.declared.byte_classes.ByteClass.{ByteClass}
 use Rattle.juniper_tokens.specs.declared.byte_classes.ByteClass.TheVariants.{White, LineFeed, Hash, Quote, Dot, Minus, NameStart, Digit, Punctuator, Control, Other, Inner, Lead}
-use Rattle.juniper_tokens.specs.ByteClasses.{tabulate, class_of, name_class, digit_class, inner_class, first_state, plain_class, comment_class, gap_class}
+use Rattle.juniper_tokens.specs.ByteClasses.{tabulate, class_of, name_class, digit_class, inner_class, first_state, gap_class}
 
 first_place : (b : ℕ) → b ≡ b + 0
 first_place b = omega arith
@@ -65,17 +65,8 @@ lead_class_tests b l = agree_at (λ k. sameb the_type (class_of k) Lead) (λ k. 
 pub feed_class_tests : (b : ℕ) → b < 256 → sameb the_type (class_of b) LineFeed ≡ (b == 10)
 feed_class_tests b l = agree_at (λ k. sameb the_type (class_of k) LineFeed) (λ k. k == 10) refl b l
 
-pub hash_class_tests : (b : ℕ) → b < 256 → sameb the_type (class_of b) Hash ≡ (b == 35)
-hash_class_tests b l = agree_at (λ k. sameb the_type (class_of k) Hash) (λ k. k == 35) refl b l
-
 pub quote_class_tests : (b : ℕ) → b < 256 → sameb the_type (class_of b) Quote ≡ (b == 34)
 quote_class_tests b l = agree_at (λ k. sameb the_type (class_of k) Quote) (λ k. k == 34) refl b l
-
-pub plain_class_tests : (b : ℕ) → b < 256 → plain_class (class_of b) b ≡ is_plain b
-plain_class_tests b l = agree_at (λ k. plain_class (class_of k) k) is_plain refl b l
-
-pub comment_class_tests : (b : ℕ) → b < 256 → comment_class (class_of b) b ≡ is_comment_character b
-comment_class_tests b l = agree_at (λ k. comment_class (class_of k) k) is_comment_character refl b l
 
 pub gap_class_tests : (b : ℕ) → b < 256 → gap_class (class_of b) ≡ gap_step false b
 gap_class_tests b l = agree_at (λ k. gap_class (class_of k)) (gap_step false) refl b l

@@ -1,5 +1,5 @@
 -- A machine on characters goes over their bytes as over them.
-use Rattle.std.proofs.Common.{◌≡◌, ℕ, suc, ◌+◌, ◌≤◌, ◌<◌, ◌⊎◌, inl, inr, Bool, true, false, cond, List, [], ◌∷◌, ◌++◌, length, take, drop, drop-cons, add-one, get_or, Option, Some, None, refl, sym, ap, ap₂, ◌∙◌, arith, length-append}
+use Rattle.std.proofs.Common.{◌≡◌, ℕ, suc, ◌+◌, ◌≤◌, ◌<◌, ◌⊎◌, inl, inr, Bool, true, false, List, [], ◌∷◌, ◌++◌, length, take, drop, drop-cons, add-one, get_or, Option, Some, None, refl, sym, ap, ap₂, ◌∙◌, arith, length-append}
 use Rattle.std.specs.Prelude.{option_map, ◌/◌, ◌%◌}
 use Rattle.std.specs.List.{AllByRecursion, fold}
 use Rattle.std.proofs.lemmas.Str.{encode_ascii}
@@ -7,7 +7,7 @@ use Rattle.std.proofs.lemmas.List.{drop_all}
 use Rattle.graphql_lexical.specs.device.Machines.{onward, reach}
 use lib.Utf8.{encode, encodes, next}
 use lib.Dec.{ltb}
-use Rattle.juniper_tokens.specs.device.ByteRuns.{is_inner, byte_step, IsSamePastAscii, byte_at, with_value, byte_change, on, Walked}
+use Rattle.juniper_tokens.specs.device.ByteRuns.{is_inner, byte_step, IsSamePastAscii, byte_at, with_value, on, Walked}
 
 abbrev AreInner : List ℕ → Type 0
 AreInner = AllByRecursion (λ b. is_inner b ≡ true)
@@ -123,28 +123,10 @@ reach_with_value {S} {X} step f q x (c ∷ cs) =
 pub same_with_value : {S X : Type 0} (step : S → ℕ → Option S) (f : X → ℕ → X) → IsSamePastAscii step → ((x : X) (c d : ℕ) → 128 ≤ c → 128 ≤ d → f x c ≡ f x d) → IsSamePastAscii (with_value step f)
 same_with_value step f s g q c d l m = ap₂ (λ o y. option_map (λ p. (p, y)) o) (s q.0 c d l m) (g q.1 c d l m)
 
-pub bytes_with_value : {S X : Type 0} (step : S → ℕ → Option S) (f : X → ℕ → X) (q : S) (x : X) (b : ℕ) → byte_step (with_value step f) (q, x) b ≡ option_map (λ p. (p, byte_change f x b)) (byte_step step q b)
-bytes_with_value step f q x b = elim (is_inner b) as (λ i. cond i (Some (q, x)) (with_value step f (q, x) b) ≡ option_map (λ p. (p, cond i x (f x b))) (cond i (Some q) (step q b))) [
-  | true ↦ refl
-  | false ↦ refl
-]
-
 -- ---- a loop over a list
-
-pub walked_start : {S : Type 0} (step : S → ℕ → Option S) (q : S) (text : List ℕ) → Walked step q text 0 q
-walked_start step q text = record { within = omega arith; same = sym (on_none (reach step q text)) }
 
 step_once : {S : Type 0} (step : S → ℕ → Option S) (q : S) (t : List ℕ) (c : ℕ) (o : Option S) → step q c ≡ o → reach step q (c ∷ t) ≡ onward q (λ p. reach step p t) o
 step_once step q t c o e = rw e refl
-
--- a step more at the front
-pub walked_cons : {S : Type 0} (step : S → ℕ → Option S) (q0 p q : S) (b : ℕ) (bs : List ℕ) (n : ℕ) → step q0 b ≡ Some p → Walked step p bs n q → Walked step q0 (b ∷ bs) (suc n) q
-walked_cons {S} step q0 p q b bs n e w = record {
-  within = omega (arith, w.within);
-  same =
-      sym (on_next n (reach step q (drop n bs)))
-      ∙ (ap (λ (r : ℕ × S). pair (suc r.0) r.1) w.same ∙ sym (step_once step q0 bs b (Some p) e));
-}
 
 pub walked_on : {S : Type 0} (step : S → ℕ → Option S) (q0 q p : S) (text : List ℕ) (i : ℕ) → i < length text → step q (get_or text i 0) ≡ Some p → Walked step q0 text i q → Walked step q0 text (i + 1) p
 walked_on {S} step q0 q p text i l e w = record {

@@ -118,9 +118,6 @@ pub record InGap (cs : List ℕ) (start : Place) (i : ℕ) (p : Place) : Type 0 
   pub place : p ≡ fold past_character start (take size cs)
   pub gap : gap_size cs ≡ size + gap_size (drop size cs)
 
-pub gap_start : (cs : List ℕ) (start : Place) → InGap cs start 0 start
-gap_start cs start = record { size = 0; within = omega arith; bytes = refl; place = refl; gap = none_more (gap_size cs) }
-
 -- further by some characters
 gap_on : (cs : List ℕ) (start p q : Place) (i j n : ℕ) → (g : InGap cs start i p) → n ≤ length (drop g.size cs) → j ≡ i + byte_at n (drop g.size cs)
     → q ≡ fold past_character p (take n (drop g.size cs)) → gap_size (drop g.size cs) ≡ n + gap_size (drop n (drop g.size cs)) → InGap cs start j q

@@ -3,7 +3,7 @@ use Rattle.std.proofs.Common.{◌≡◌, ℕ, true, false, List, [], ◌∷◌, 
 use Rattle.std.specs.Prelude.{Some, Result, Ok, Err, ◌↔◌}
 use Rattle.std.specs.Result.{IsErrAnd}
 use Rattle.std.specs.List.{All}
-use Rattle.std.proofs.lemmas.List.Elements.{All-nil, All-push}
+use Rattle.std.proofs.lemmas.List.Elements.{All-push}
 use Rattle.std.proofs.lemmas.Bool.{cases_Bool}
 use Rattle.std.proofs.lemmas.List.{map-append}
 use Rattle.graphql_lexical.specs.declared.kind.Kind.TheVariants.{EndOfFile}
@@ -62,9 +62,6 @@ gathered_token s xs t u x l q stands ends =
 pub record GatheredRanges (s : LexerState) (ranges : List TokenRange) (t : LexerState) : Type 0 where
   pub gathered : Gathered s (range_lexemes s.source ranges) t
   pub are_ranges : All (IsRange s.source) ranges
-
-pub no_ranges : (s : LexerState) → s.ended ≡ false → GatheredRanges s [] s
-no_ranges s e = record { gathered = record { source = refl; tokens = inl (e, refl) }; are_ranges = All-nil (IsRange s.source) }
 
 pub ranges_more : (s : LexerState) (ranges : List TokenRange) (t u : LexerState) (r : TokenRange) → GatheredRanges s ranges t → range_steps t (Some (Ok r)) u → GatheredRanges s (ranges ++ r ∷ []) u
 ranges_more s ranges t u r g h =

@@ -1,9 +1,8 @@
 -- Tables of the beginnings of lines.
 use Rattle.std.proofs.Common.{◌≡◌, ℕ, zero, suc, ◌+◌, ◌-◌, ◌<◌, ◌≤◌, Bool, true, false, cond, ◌==◌, List, [], ◌∷◌, ◌++◌, length, take, refl, sym, ap, ap₂, ◌∙◌, subst, arith, Some, None, inl, inr, append-nil, add-one, length-append}
-use Rattle.std.specs.Prelude.{slice_get, nat_le}
+use Rattle.std.specs.Prelude.{slice_get}
 use Rattle.std.specs.List.{fold}
 use Rattle.std.proofs.lemmas.Bool.{le-leb, cases_Bool, eqb-true}
-use Rattle.std.proofs.lemmas.Bool.Decides.{leb_tells}
 use Rattle.std.proofs.lemmas.Option.{none-some, get_or_from_slice_get}
 use Rattle.graphql_lexical.specs.Place.{Place, place, past_character, next_line, next_column}
 use Rattle.juniper_tokens.specs.LineTables.{Lines, starts_after, lines_of, IsTable, place_within, AscendFrom, StartLines, IsOnLine}
@@ -97,17 +96,6 @@ counted_within source table k e w = subst (λ (t : Lines). k ≤ t.count) e w
 
 pub place_some : (source : List ℕ) (k : ℕ) (p : Place) → k ≤ length source → p ≡ place source k → Some p ≡ place_within source k
 place_some source k p w e = ap Some e ∙ ap (λ b. cond b (Some (place source k)) None) (sym (le-leb k (length source) w))
-
-not_within : (k n : ℕ) → n < k → nat_le k n ≡ false
-not_within k n l = elim (leb_tells k n) [
-  | inl h ↦ absurd (omega (arith, l, h.1))
-  | inr h ↦ h.0
-]
-
-pub place_none : (source : List ℕ) (table : Lines) (k : ℕ) → table ≡ lines_of source → table.count < k → None ≡ place_within source k
-place_none source table k e w =
-    let above : length source < k = subst (λ (t : Lines). t.count < k) e w in
-    ap (λ b. cond b (Some (place source k)) None) (sym (not_within k (length source) above))
 
 -- ---- the search
 

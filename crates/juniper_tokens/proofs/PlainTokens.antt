@@ -1,5 +1,5 @@
--- Tokens that a run finds: Names, Strings without escapes; and punctuators of one character.
-use Rattle.std.proofs.Common.{◌≡◌, ℕ, suc, ◌+◌, ◌-◌, ◌<◌, Bool, true, false, cond, ◌==◌, List, [], ◌∷◌, ◌++◌, length, take, drop, get_or, get_or-drop, Option, Some, None, refl, sym, ap, ap₂, subst, ◌∙◌, arith, length-drop}
+-- Tokens that a run finds: Names, Ints, Strings without escapes; and punctuators of one character.
+use Rattle.std.proofs.Common.{◌≡◌, ℕ, suc, ◌+◌, ◌-◌, ◌<◌, Bool, true, false, cond, ◌==◌, ◌||◌, List, [], ◌∷◌, ◌++◌, length, take, drop, get_or, get_or-drop, Option, Some, None, refl, sym, ap, ap₂, subst, ◌∙◌, arith, length-drop}
 use Rattle.std.specs.Prelude.{option_map}
 use Rattle.std.specs.Str.{chars, IsUtf8}
 use Rattle.std.proofs.lemmas.Bool.{eqb-true, ltb-true}
@@ -7,26 +7,29 @@ use Rattle.std.proofs.lemmas.List.{take_all}
 use Rattle.std.proofs.lemmas.Str.{encodes-chars, encode_ascii}
 use denote.Enum.Bare.{sameb}
 use lib.Utf8.{encodes}
-use Rattle.graphql_lexical.specs.Characters.{is_name_character, is_plain}
+use Rattle.graphql_lexical.specs.Characters.{is_name_character, is_digit, is_exponent_mark, is_plain}
 use Rattle.graphql_lexical.specs.declared.kind.Kind.{Kind}
 use Rattle.graphql_lexical.specs.declared.kind.Kind.TheVariants as kinds
 use Rattle.graphql_lexical.specs.declared.state.State.{State}
-use Rattle.graphql_lexical.specs.declared.state.State.TheVariants.{Start, Done, InName, Quote, InString, Backslash}
+use Rattle.graphql_lexical.specs.declared.state.State.TheVariants.{Start, Done, InName, Zero, Digits, Point, ExponentMark, Quote, InString, Backslash}
 use Rattle.graphql_lexical.specs.device.Machines.{onward, reach}
 use Rattle.graphql_lexical.specs.device.Scan.{step, answer}
 use Rattle.graphql_lexical.specs.device.Scan as scans
 use Rattle.graphql_lexical.specs.Tokens.{punctuator}
+use Rattle.graphql_lexical.proofs.Runs.{Stops, reach_is}
 use Rattle.juniper_tokens.specs.contracts.byte_classes.ByteClass.{the_type}
 use Rattle.juniper_tokens.specs.declared.byte_classes.ByteClass.{ByteClass}
 use Rattle.juniper_tokens.specs.declared.byte_classes.ByteClass.TheVariants as classes
+use Rattle.juniper_tokens.specs.declared.lexer.run.Run.{Run}
 use Rattle.juniper_tokens.specs.declared.lexer.run.Run.TheVariants as run
 use Rattle.juniper_tokens.specs.declared.lexer.text.Border.{Border}
-use Rattle.juniper_tokens.specs.ByteClasses.{class_of, name_class, first_state}
+use Rattle.juniper_tokens.specs.ByteClasses.{class_of, name_class, digit_class, first_state}
+use Rattle.juniper_tokens.specs.device.Borders.{IsBorder}
 use Rattle.juniper_tokens.specs.device.ByteRuns.{byte_at}
 use Rattle.juniper_tokens.specs.device.Scans.{Finds}
-use Rattle.juniper_tokens.specs.device.Walks.{run_size, RunsTo}
+use Rattle.juniper_tokens.specs.device.Walks.{run_test, run_step, run_size, RunsTo, is_in_float}
 use Rattle.juniper_tokens.proofs.Borders.{byte_at_on}
-use Rattle.juniper_tokens.proofs.ByteClasses.{name_class_tests, first_state_tests, low_class, low_class_tests, quote_class_tests}
+use Rattle.juniper_tokens.proofs.ByteClasses.{name_class_tests, digit_class_tests, first_state_tests, low_class, low_class_tests, quote_class_tests}
 use Rattle.juniper_tokens.proofs.Runs.{run_of, run_more, run_none, rest_bytes, FirstByte, first_byte, first_low}
 
 -- a token in state q, whose steps end after n characters
@@ -41,58 +44,87 @@ done_stays kind (c ∷ cs) = refl
 step_more : (q p r : State) (c n : ℕ) (cs : List ℕ) → step q c ≡ Some p → reach step p cs ≡ (n, r) → reach step q (c ∷ cs) ≡ (suc n, r)
 step_more q p r c n cs e h = rw (e, h) refl
 
+-- a token whose first character leads to a state in which it also stays
+begins_in : (q : State) (b : ℕ) (cs : List ℕ) → step Start b ≡ Some q → step q b ≡ Some q → reach step Start (b ∷ cs) ≡ reach step q (b ∷ cs)
+begins_in q b cs e s = rw (e, s) refl
+
 ascii_first : (b n : ℕ) (cs : List ℕ) → b < 128 → byte_at (suc n) (b ∷ cs) ≡ suc (byte_at n cs)
 ascii_first b n cs l = ap (λ t. length (t ++ encodes (take n cs))) (encode_ascii b l)
 
--- ---- names
-
-name_read : (cs : List ℕ) → reach step InName cs ≡ (run_size run.Name cs, InName)
-name_read [] = refl
-name_read (c ∷ cs) = by_name (is_name_character c) refl (name_read cs)
+-- Where a state is stayed in over a run, the steps go on from its end.
+in_run : (r : Run) (q : State) → ((c : ℕ) → run_test r c ≡ true → step q c ≡ Some q) → (cs : List ℕ) (n : ℕ) (p : State)
+    → reach step q (drop (run_size r cs) cs) ≡ (n, p) → reach step q cs ≡ (run_size r cs + n, p)
+in_run r q stays [] n p e = e ∙ ap (λ i. (i, p)) (omega arith)
+in_run r q stays (c ∷ cs) n p e = by_test (run_test r c) refl (in_run r q stays cs n p) e
   where
-    by_name : (is : Bool) → is_name_character c ≡ is → reach step InName cs ≡ (run_size run.Name cs, InName)
-        → reach step InName (c ∷ cs) ≡ (run_size run.Name (c ∷ cs), InName)
-    by_name true e h = step_more InName InName InName c (run_size run.Name cs) cs (ap (λ b. cond b (Some InName) None) e) h ∙ ap (λ k. (k, InName)) (sym (run_more run.Name c cs e))
-    by_name false e h = ap (onward InName (λ p. reach step p cs)) (ap (λ b. cond b (Some InName) None) e) ∙ ap (λ k. (k, InName)) (sym (run_none run.Name c cs e))
+    by_test : (goes : Bool) → run_test r c ≡ goes → (reach step q (drop (run_size r cs) cs) ≡ (n, p) → reach step q cs ≡ (run_size r cs + n, p))
+        → reach step q (drop (run_size r (c ∷ cs)) (c ∷ cs)) ≡ (n, p) → reach step q (c ∷ cs) ≡ (run_size r (c ∷ cs) + n, p)
+    by_test true t more e =
+        let k = run_more r c cs t in
+        step_more q q p c (run_size r cs + n) cs (stays c t) (more (ap (λ i. reach step q (drop i (c ∷ cs))) (sym k) ∙ e)) ∙ ap (λ i. (i, p)) (omega (arith, k))
+    by_test false t more e =
+        let k = run_none r c cs t in
+        ap (λ i. reach step q (drop i (c ∷ cs))) (sym k) ∙ (e ∙ ap (λ i. (i, p)) (omega (arith, k)))
 
-name_starts : (b : ℕ) (cs : List ℕ) → step Start b ≡ Some InName → step InName b ≡ Some InName → reach step Start (b ∷ cs) ≡ reach step InName (b ∷ cs)
-name_starts b cs e n = rw (e, n) refl
+-- the same, where they stop there
+over_run : (r : Run) (q : State) → ((c : ℕ) → run_test r c ≡ true → step q c ≡ Some q) → (cs : List ℕ)
+    → reach step q (drop (run_size r cs) cs) ≡ (0, q) → reach step q cs ≡ (run_size r cs, q)
+over_run r q stays cs e = in_run r q stays cs 0 q e ∙ ap (λ i. (i, q)) (omega arith)
 
--- ---- strings without escapes
+no_more : (u : Unit {0}) (goes : Bool) → cond goes (Some u) None ≡ None → goes ≡ false
+no_more u true e = absurd (cc e)
+no_more u false e = refl
+
+name_stays : (c : ℕ) → run_test run.Name c ≡ true → step InName c ≡ Some InName
+name_stays c e = ap (λ b. cond b (Some InName) None) e
+
+name_ends : (u : Unit {0}) (cs : List ℕ) → Stops (run_step run.Name) u cs → reach step InName cs ≡ (0, InName)
+name_ends u [] s = refl
+name_ends u (c ∷ cs) s = ap (λ b. onward InName (λ p. reach step p cs) (cond b (Some InName) None)) (no_more u (is_name_character c) s)
+
+-- the step from digits at another character
+abbrev step_by_mark : ℕ → Option State
+step_by_mark c = cond (c == 46) (Some Point) (cond (is_exponent_mark c) (Some ExponentMark) None)
+
+digit_stays : (c : ℕ) → run_test run.Digits c ≡ true → step Digits c ≡ Some Digits
+digit_stays c e = ap (λ b. cond b (Some Digits) (step_by_mark c)) e
+
+digits_end : (u : Unit {0}) (cs : List ℕ) → Stops (run_step run.Digits) u cs → is_in_float cs ≡ false → reach step Digits cs ≡ (0, Digits)
+digits_end u [] s f = refl
+digits_end u (c ∷ cs) s f =
+    ap (onward Digits (λ p. reach step p cs)) (ap (λ b. cond b (Some Digits) (step_by_mark c)) (no_more u (is_digit c) s) ∙ no_mark (c == 46) (is_exponent_mark c) f)
+  where
+    no_mark : (p x : Bool) → (p || x) ≡ false → cond p (Some Point) (cond x (Some ExponentMark) None) ≡ None
+    no_mark true x f = absurd (cc f)
+    no_mark false true f = absurd (cc f)
+    no_mark false false f = refl
+
+-- the step within a string at another character
+abbrev step_by_quote : ℕ → Option State
+step_by_quote c = cond (c == 34) (Some (Done kinds.String)) (cond (c == 92) (Some Backslash) None)
+
+plain_stays : (c : ℕ) → run_test run.Plain c ≡ true → step InString c ≡ Some InString
+plain_stays c e = ap (λ b. cond b (Some InString) (step_by_quote c)) e
+
+string_ends : (cs t : List ℕ) → cs ≡ 34 ∷ t → reach step InString cs ≡ (1, Done kinds.String)
+string_ends cs t e = ap (reach step InString) e ∙ step_more InString (Done kinds.String) (Done kinds.String) 34 0 t refl (done_stays kinds.String t)
 
 same_behind : (c : ℕ) (cs : List ℕ) → is_plain c ≡ true → reach step Quote (c ∷ cs) ≡ reach step InString (c ∷ cs)
 same_behind c cs e = rw e refl
 
--- the step at another character
-abbrev step_by_quote : ℕ → Option State
-step_by_quote c = cond (c == 34) (Some (Done kinds.String)) (cond (c == 92) (Some Backslash) None)
-
--- the steps over such characters, and over the quote behind them
-in_string : (cs t : List ℕ) → drop (run_size run.Plain cs) cs ≡ 34 ∷ t → reach step InString cs ≡ (suc (run_size run.Plain cs), Done kinds.String)
-in_string [] t d = absurd (cc d)
-in_string (c ∷ cs) t d = by_plain (is_plain c) refl (λ e. in_string cs t e) d
-  where
-    by_plain : (is : Bool) → is_plain c ≡ is
-        → (drop (run_size run.Plain cs) cs ≡ 34 ∷ t → reach step InString cs ≡ (suc (run_size run.Plain cs), Done kinds.String))
-        → drop (run_size run.Plain (c ∷ cs)) (c ∷ cs) ≡ 34 ∷ t → reach step InString (c ∷ cs) ≡ (suc (run_size run.Plain (c ∷ cs)), Done kinds.String)
-    by_plain true e more d =
-        let n = run_more run.Plain c cs e in
-        step_more InString InString (Done kinds.String) c (suc (run_size run.Plain cs)) cs (ap (λ b. cond b (Some InString) (step_by_quote c)) e) (more (ap (λ k. drop k (c ∷ cs)) (sym n) ∙ d))
-        ∙ ap (λ k. (suc k, Done kinds.String)) (sym n)
-    by_plain false e more d =
-        let n = run_none run.Plain c cs e in
-        let quote : c ≡ 34 = ap (λ t. get_or t 0 0) (ap (λ k. drop k (c ∷ cs)) (sym n) ∙ d) in
-        step_more InString (Done kinds.String) (Done kinds.String) c 0 cs (ap (step InString) quote) (done_stays kinds.String cs) ∙ ap (λ k. (suc k, Done kinds.String)) (sym n)
-
-string_read : (cs t : List ℕ) → 0 < run_size run.Plain cs → drop (run_size run.Plain cs) cs ≡ 34 ∷ t → reach step Start (34 ∷ cs) ≡ (suc (suc (run_size run.Plain cs)), Done kinds.String)
+string_read : (cs t : List ℕ) → 0 < run_size run.Plain cs → drop (run_size run.Plain cs) cs ≡ 34 ∷ t → reach step Start (34 ∷ cs) ≡ (suc (run_size run.Plain cs + 1), Done kinds.String)
 string_read [] t l d = absurd (omega (arith, l))
 string_read (c ∷ cs) t l d = by_plain (is_plain c) refl
   where
-    by_plain : (is : Bool) → is_plain c ≡ is → reach step Start (34 ∷ (c ∷ cs)) ≡ (suc (suc (run_size run.Plain (c ∷ cs))), Done kinds.String)
-    by_plain true e = step_more Start Quote (Done kinds.String) 34 _ (c ∷ cs) refl (same_behind c cs e ∙ in_string (c ∷ cs) t d)
+    by_plain : (is : Bool) → is_plain c ≡ is → reach step Start (34 ∷ (c ∷ cs)) ≡ (suc (run_size run.Plain (c ∷ cs) + 1), Done kinds.String)
+    by_plain true e = step_more Start Quote (Done kinds.String) 34 _ (c ∷ cs) refl (same_behind c cs e ∙ in_run run.Plain InString plain_stays (c ∷ cs) 1 (Done kinds.String) (string_ends _ t d))
     by_plain false e = absurd (omega (arith, l, run_none run.Plain c cs e))
 
 -- ---- by the class of the first byte
+
+pub digit_first : (text : List ℕ) → class_of (get_or text 0 0) ≡ classes.Digit → 0 < length text
+digit_first [] e = absurd (cc e)
+digit_first (b ∷ text) e = omega arith
 
 module _ (text bytes : List ℕ) (u : IsUtf8 text) (same : bytes ≡ text) (some : 0 < length text) (small : get_or text 0 0 < 256) where
   abbrev pub cs : List ℕ
@@ -123,11 +155,25 @@ module _ (text bytes : List ℕ) (u : IsUtf8 text) (same : bytes ≡ text) (some
   pub name_found : (r : Border) → classes.NameStart ≡ class_of b → RunsTo run.Name bytes r → Finds cs (record { kind = kinds.Name; end = r })
   name_found r c h =
       let name = run_of run.Name cs bytes r whole h in
-      let goes : step InName b ≡ Some InName = ap (λ x. cond x (Some InName) None) (sym (name_class_tests b small) ∙ ap name_class (sym c)) in
+      let goes : step InName b ≡ Some InName = name_stays b (sym (name_class_tests b small) ∙ ap name_class (sym c)) in
       let f = front classes.NameStart c refl in
       let begins : reach step Start cs ≡ reach step InName cs =
-      ap (reach step Start) f ∙ (name_starts b (drop 1 cs) (starts classes.NameStart c refl) goes ∙ sym (ap (reach step InName) f)) in
-      ended_token cs kinds.Name InName r.bytes r.characters (begins ∙ (name_read cs ∙ ap (λ k. (k, InName)) (sym name.characters))) refl name.border
+      ap (reach step Start) f ∙ (begins_in InName b (drop 1 cs) (starts classes.NameStart c refl) goes ∙ sym (ap (reach step InName) f)) in
+      ended_token cs kinds.Name InName r.bytes r.characters (begins ∙ (over_run run.Name InName name_stays cs (name_ends _ _ (reach_is (run_step run.Name) tt cs).stops) ∙ ap (λ k. (k, InName)) (sym name.characters))) refl name.border
+
+  pub digits_border : (r : Border) → RunsTo run.Digits bytes r → IsBorder r cs
+  digits_border r h = (run_of run.Digits cs bytes r whole h).border
+
+  pub int_found : (r : Border) → classes.Digit ≡ class_of b → (b == 48) ≡ false → RunsTo run.Digits bytes r → is_in_float (drop r.characters cs) ≡ false
+      → Finds cs (record { kind = kinds.Int; end = r })
+  int_found r c z h more =
+      let digits = run_of run.Digits cs bytes r whole h in
+      let goes : step Digits b ≡ Some Digits = digit_stays b (sym (digit_class_tests b small) ∙ ap digit_class (sym c)) in
+      let first : step Start b ≡ Some Digits = starts classes.Digit c refl ∙ ap (λ x. cond x (Some Zero) (Some Digits)) z in
+      let f = front classes.Digit c refl in
+      let begins : reach step Start cs ≡ reach step Digits cs = ap (reach step Start) f ∙ (begins_in Digits b (drop 1 cs) first goes ∙ sym (ap (reach step Digits) f)) in
+      ended_token cs kinds.Int Digits r.bytes r.characters
+      (begins ∙ (over_run run.Digits Digits digit_stays cs (digits_end _ _ (reach_is (run_step run.Digits) tt cs).stops (ap (λ k. is_in_float (drop k cs)) (sym digits.characters) ∙ more)) ∙ ap (λ k. (k, Digits)) (sym digits.characters))) refl digits.border
 
   pub mark_found : (kind : Kind) → classes.Punctuator ≡ class_of b → punctuator b ≡ Some kind
       → Finds cs (record { kind = kind; end = record { bytes = 1; characters = 1 } })

@@ -1,30 +1,12 @@
 -- The cursor's steps on the tokens that it holds.
-use Rattle.std.proofs.Common.{◌≡◌, ℕ, zero, suc, ◌+◌, ◌<◌, true, false, List, [], ◌∷◌, length, drop, Ok, Err, refl, sym, ap, ◌∙◌, subst, arith, add-one, length-drop, get_or, drop-cons}
+use Rattle.std.proofs.Common.{◌≡◌, ℕ, zero, suc, ◌+◌, ◌<◌, false, List, [], ◌∷◌, length, drop, refl, sym, ap, ◌∙◌, subst, arith, add-one, length-drop, get_or, drop-cons}
 use Rattle.graphql_lexical.specs.declared.kind.Kind.{Kind}
 use Rattle.graphql_lexical.specs.declared.kind.Kind.TheVariants.{EndOfFile}
 use Rattle.graphql_lexical.specs.Kinds.{same_kind}
 use Rattle.graphql_lexical.specs.Cutting.{Lexeme}
 use Rattle.juniper_tokens.specs.declared.token_range.TokenRange.{TokenRange}
-use Rattle.juniper_tokens.specs.Errors.{UnexpectedEndOfFile}
-use Rattle.std.specs.Prelude.{is_none}
-use Rattle.graphql_lexical.specs.Kinds.{spelling, fixed_text}
-use Rattle.juniper_tokens.specs.Tokens.{same_text}
-use Rattle.juniper_tokens.specs.Cursor.{next_at, first_of, kind_at, is_wanted, EndsOnce}
+use Rattle.juniper_tokens.specs.Cursor.{first_of, kind_at, EndsOnce}
 use Rattle.juniper_tokens.specs.device.Ranges.{range_lexeme, range_lexemes}
-
--- the next token, which is not the end
-pub next_taken : (ts : List Lexeme) (t : Lexeme) → EndsOnce ts → t ≡ first_of ts → same_kind t.kind EndOfFile ≡ false → next_at ts ≡ Ok (t, drop 1 ts)
-next_taken [] t h e k = absurd h
-next_taken (u ∷ us) t h e k = rw (← e, k) refl
-
--- the end, which stays
-pub next_stays : (ts : List Lexeme) (t : Lexeme) → EndsOnce ts → t ≡ first_of ts → same_kind t.kind EndOfFile ≡ true → next_at ts ≡ Err (record { error = UnexpectedEndOfFile; span = t.span }, ts)
-next_stays [] t h e k = absurd h
-next_stays (u ∷ us) t h e k = rw (e, ap (λ (x : Lexeme). same_kind x.kind EndOfFile) (sym e) ∙ k) refl
-
-pub taken_shorter : (ts : List Lexeme) → EndsOnce ts → length (drop 1 ts) < length ts
-taken_shorter [] h = absurd h
-taken_shorter (t ∷ ts) h = omega arith
 
 -- past a token that is not the end, the list still ends once
 pub still_ended : (ts : List Lexeme) → EndsOnce ts → same_kind (kind_at ts) EndOfFile ≡ false → EndsOnce (drop 1 ts)
@@ -65,8 +47,3 @@ pub left_within : (source : List ℕ) (ranges : List TokenRange) (i : ℕ) → E
 left_within source ranges i h = omega (arith, some_left source (drop i ranges) h, length-drop i ranges)
 
 -- ---- the wanted token
-
--- its kind leaves the text open
-pub wanted_open : (kind : Kind) (text : List ℕ) (t : Lexeme) → same_kind t.kind kind ≡ true → is_none (fixed_text (spelling kind)) ≡ true
-    → same_text t.text text ≡ is_wanted kind text t
-wanted_open kind text t e o = rw (o, e) refl

@@ -1,21 +1,22 @@
 //! Tokens that a run finds: Names, Ints, Strings without escapes; and punctuators of one character.
-ghost use Rattle.std.specs.Prelude.{◌≡◌, false, get_or, IfSome};
+ghost use Rattle.std.specs.Prelude.{◌≡◌, ◌==◌, false, get_or, IfSome};
 ghost use Rattle.std.specs.Str.{chars};
 ghost use Rattle.graphql_lexical.specs.declared.kind.Kind.TheVariants.{EndOfFile};
 ghost use Rattle.graphql_lexical.specs.Kinds.{same_kind};
-ghost use Rattle.juniper_tokens.specs.declared.byte_classes.ByteClass.TheVariants.{Quote};
+ghost use Rattle.juniper_tokens.specs.declared.byte_classes.ByteClass.TheVariants.{Digit, Quote};
 ghost use Rattle.juniper_tokens.specs.ByteClasses.{class_of};
 ghost use Rattle.juniper_tokens.specs.device.Scans.{Finds};
+ghost use Rattle.juniper_tokens.specs.device.Walks.{is_in_float};
 
 use crate::byte_classes::{ByteClass, byte_class};
 use crate::lexer::machine::punctuator_of;
 use crate::lexer::run::{Run, run_over};
 use crate::lexer::scan::Found;
-use crate::lexer::text::Border;
+use crate::lexer::text::{Border, first_character, text_from};
 use graphql_lexical::Kind;
 
-/// The token at the front of a text, if it is a Name, a punctuator of one character, or a String that is not empty and has
-/// no escape.
+/// The token at the front of a text, if it is a Name, an Int that begins with none of `-` and `0`, a punctuator of one
+/// character, or a String that is not empty and has no escape.
 #[inline(always)]
 pub(crate) fn plain_token(text: &str) -> Option<Found>
     ensures finds { IfSome result (Finds (chars text.now)) }
@@ -37,8 +38,41 @@ pub(crate) fn plain_token(text: &str) -> Option<Found>
                 characters: 1,
             },
         }),
+        ByteClass::Digit => {
+            if bytes[0] == b'0' {
+                return None;
+            }
+            plain_int(text)
+        }
         ByteClass::Quote => plain_string(text),
         _ => None,
+    }
+}
+
+// The Int whose first digit stands first, where it doesn't go on as a Float.
+fn plain_int(text: &str) -> Option<Found>
+    requires digit { class_of (get_or text.now 0 0) ≡ Digit }
+    requires nonzero { (get_or text.now 0 0 == 48) ≡ false }
+    ensures finds { IfSome result (Finds (chars text.now)) }
+    ensures more { IfSome result (λ found. same_kind found.kind EndOfFile ≡ false) }
+{
+    let end = run_over(Run::Digits, text.as_bytes());
+    if is_in_float(text_from(text, end)) {
+        return None;
+    }
+    Some(Found {
+        kind: Kind::Int,
+        end,
+    })
+}
+
+// Whether digits go on here with a fraction or an exponent.
+fn is_in_float(rest: &str) -> bool
+    ensures { result ≡ is_in_float (chars rest.now) }
+{
+    match first_character(rest) {
+        Some(c) => c == '.' || c == 'e' || c == 'E',
+        None => false,
     }
 }
 
