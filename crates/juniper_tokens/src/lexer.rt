@@ -191,7 +191,7 @@ impl<'a> Iterator for Lexer<'a> {
             return None;
         }
         match self.next_plain() {
-            Some(range) => Some(Ok(range.located(self.source))),
+            Some(range) => Some(Ok(range.located_to(self.source, self.position))),
             None => Some(self.next_other_token()),
         }
     }

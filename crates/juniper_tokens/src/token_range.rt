@@ -127,11 +127,22 @@ impl TokenRange {
         }
     }
 
+    /// The token with its places, of which the end is known.
+    #[inline(always)]
+    pub(crate) fn located_to<'a>(&self, source: &'a str, end: SourcePosition) -> Spanning<Token<'a>>
+        requires range { IsRange (chars source.now) self.now }
+        requires end { end ≡ place (chars source.now) self.now.end.characters }
+        ensures { view_token result ≡ range_lexeme (chars source.now) self.now }
+    {
+        Spanning::start_end(&self.start, &end, self.token(source))
+    }
+
     /// The token with its places.
+    #[inline(always)]
     pub(crate) fn located<'a>(&self, source: &'a str) -> Spanning<Token<'a>>
         requires { IsRange (chars source.now) self.now }
         ensures { view_token result ≡ range_lexeme (chars source.now) self.now }
     {
-        Spanning::start_end(&self.start, &self.end_position(source), self.token(source))
+        self.located_to(source, self.end_position(source))
     }
 }
