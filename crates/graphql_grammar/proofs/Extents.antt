@@ -1,11 +1,11 @@
 -- From where to where something was read.
-use Rattle.std.proofs.Common.{ℕ, suc, Bool, ◌≡◌, ◌<◌, ◌∷◌, [], List, ◌++◌, length, refl, sym, ap, ◌∙◌, arith, append_assoc, subst, inl, inr, length-append, Option, Some, None}
+use Rattle.std.proofs.Common.{ℕ, suc, ◌≡◌, ◌<◌, ◌∷◌, [], List, ◌++◌, length, refl, sym, ap, ◌∙◌, arith, append_assoc, subst, length-append, Option, Some, None}
 use Rattle.graphql_lexical.specs.Place.{Span}
 use Rattle.graphql_lexical.specs.declared.kind.Kind.{Kind}
 use Rattle.graphql_lexical.specs.Cutting.{Lexeme}
 use Rattle.graphql_grammar.specs.Tokens.{over, last_of, span_of}
-use Rattle.graphql_grammar.specs.Tree.{Scalars, Value, Null, Scalar, Enum, Variable, ListOf, Object, Arguments, Directive, Variables}
-use Rattle.graphql_grammar.specs.Grammar.{IsToken, IsValue, Between, IsArguments, IsDirective, IsVariables, Listed}
+use Rattle.graphql_grammar.specs.Tree.{Scalars, Value, Scalar, Variable, Arguments, Directive, Variables}
+use Rattle.graphql_grammar.specs.Grammar.{IsArguments, IsDirective, IsVariables, Listed}
 use Rattle.graphql_grammar.specs.Reading.{Test, Took, Reader, front, fully}
 use Rattle.graphql_grammar.proofs.Rules.{Meets, Rule, Closed, front_is}
 
@@ -51,10 +51,6 @@ abbrev pub to_end_of : Span → Option Span → Span
 to_end_of p None = p
 to_end_of p (Some q) = from_to p q
 
-pub runs_further : (ts mid rest : List Lexeme) (p : Span) (o : Option Span) → Runs ts mid p → RunsOn mid rest o → Runs ts rest (to_end_of p o)
-runs_further ts mid rest p None a b = subst (λ l. Runs ts l p) b a
-runs_further ts mid rest p (Some q) a b = runs_on ts mid rest p q a b
-
 module _ {F A : Type 0} (f : ℕ → Reader F A) (R : List Lexeme → A → Type 0) (rule : (n : ℕ) → Rule n (f n) (f n) R) where
   pub took_is : (ts rest : List Lexeme) (a : A) → fully f ts ≡ Took a rest → (us : List Lexeme) × (ts ≡ us ++ rest) × R us a
   unfolding fully
@@ -77,34 +73,7 @@ closed_runs close R us ts rest r e c =
 
 -- ---- the spans that parts of a tree have
 
-last_single : (first last : Lexeme) (inner : List Lexeme) → over first last ≡ span_of (first ∷ inner ++ (last ∷ []))
-last_single first last inner = ap (over first) (sym (last_joined first last inner []))
-
 module _ {C F : Type 0} (S : Scalars C F) where
-  abbrev pub value_span : Value C → Span
-  value_span (Null p) = p
-  value_span (Scalar c p) = p
-  value_span (Enum t p) = p
-  value_span (Variable t p) = p
-  value_span (ListOf vs p) = p
-  value_span (Object fs p) = p
-
-  token_has : (ts : List Lexeme) (kind : Kind) (text : List ℕ) (p : Span) → IsToken ts kind text p → (0 < length ts) × (p ≡ span_of ts)
-  token_has ts kind text p h = rw h.whole (omega arith, h.spans)
-
-  between_has : (opening closing : Kind) (ts inner : List Lexeme) (p : Span) → Between opening closing ts inner p → (0 < length ts) × (p ≡ span_of ts)
-  between_has opening closing ts inner p h = rw h.whole (omega arith, h.spans ∙ last_single h.first h.last inner)
-
-  pub value_has : (free : Bool) (us : List Lexeme) (v : Value C) → IsValue S free us v → (0 < length us) × (value_span v ≡ span_of us)
-  value_has free us (Null p) h = token_has us _ _ p h
-  value_has free us (Scalar c p) (inl h) = token_has us _ _ p h.2
-  value_has free us (Scalar c p) (inr (inl h)) = token_has us _ _ p h.0
-  value_has free us (Scalar c p) (inr (inr h)) = token_has us _ _ p h.0
-  value_has free us (Enum t p) h = token_has us _ _ p h.0
-  value_has free us (Variable t p) h = rw h.1.whole (omega arith, h.1.spans)
-  value_has free us (ListOf vs p) h = between_has _ _ us h.0 p h.1
-  value_has free us (Object fs p) h = between_has _ _ us h.0 p h.1
-
   listed_takes : {A : Type 0} (opening closing : Kind) (R : List Lexeme → A → Type 0) (us : List Lexeme) (xs : List A) → Listed opening closing R us xs → 0 < length us
   listed_takes opening closing R us [] h = absurd h
   listed_takes opening closing R us (x ∷ xs) h = rw h.whole (omega arith)

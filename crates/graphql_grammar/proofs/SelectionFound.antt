@@ -1,5 +1,5 @@
 -- What is in the grammar of selections and definitions is read.
-use Rattle.std.proofs.Common.{ℕ, zero, suc, Bool, true, false, ◌≡◌, ◌≤◌, ◌<◌, ◌+◌, ◌∷◌, [], List, ◌++◌, length, refl, sym, ap, ap₂, ◌∙◌, arith, append_assoc, length-append, codes, inl, inr, ◌⊎◌, ◌||◌, ◌&&◌, not, bytes_eq, Option, Some, None}
+use Rattle.std.proofs.Common.{ℕ, zero, suc, Bool, true, false, ◌≡◌, ◌≤◌, ◌<◌, ◌+◌, ◌∷◌, [], List, ◌++◌, length, refl, sym, ap, ap₂, ◌∙◌, arith, append_assoc, length-append, codes, inl, inr, ◌⊎◌, ◌&&◌, not, bytes_eq, Option, Some, None}
 use Rattle.std.proofs.Math.Bool.{and-false}
 use Rattle.graphql_lexical.specs.Place.{Span}
 use Rattle.graphql_lexical.specs.declared.kind.Kind.{Kind}
@@ -198,10 +198,6 @@ module _ {C F : Type 0} (S : Scalars C F) where
       ∙ ap (λ z. Took (InlineFragment condition ds ss z) rest) (sym h.9)
 
   -- Definitions
-  or_true : (a : Bool) → (a || true) ≡ true
-  or_true true = refl
-  or_true false = refl
-
   operation_test : (t : Lexeme) (type : OperationType) → Says t (operation_name type) → passes operation_word t ≡ true
   operation_test t Query s = ap₂ operation_word s.kind s.text
   operation_test t Mutation s = ap₂ operation_word s.kind s.text
@@ -211,10 +207,6 @@ module _ {C F : Type 0} (S : Scalars C F) where
   operation_is t Query s = ap operation_of s.text
   operation_is t Mutation s = ap operation_of s.text
   operation_is t Subscription s = ap operation_of s.text
-
-  word_may : (us : List Lexeme) (x : Option Word) → Optional IsWord us x → MayStart Name us
-  word_may us None h = inl h
-  word_may us (Some w) h = inr (word_starts us w h)
 
   variables_may : (n : ℕ) (us : List Lexeme) (x : Option (Variables C)) → Optional (IsVariables S) us x → MayStart ParenOpen us
   variables_may n us None h = inl h

@@ -13,10 +13,6 @@ use Rattle.juniper.specs.Values.{then_others}
 abbrev pub with_front : {A B : Type 0} → List A → Read (List A × B) → Read (List A × B)
 with_front front r = r >>= λ x. Ok ((front ++ x.0.0, x.0.1), x.1)
 
-pub no_front : {A B : Type 0} (r : Read (List A × B)) → with_front [] r ≡ r
-no_front (Ok x) = refl
-no_front (Err e) = refl
-
 regroup : {A B : Type 0} (front : List A) (a : A) (r : Read (List A × B)) → with_front front (then_others a r) ≡ with_front (front ++ a ∷ []) r
 regroup front a (Ok x) = ap (λ (as' : List _). Ok ((as', x.0.1), x.1)) (sym (append_assoc front (a ∷ []) x.0.0))
 regroup front a (Err e) = refl

@@ -111,10 +111,3 @@ type_seen ts =
     let r = plain_has ts x e in
     sym (marked ts x.1 x.0 (span_of (front ts x.1)) (subst (λ q. Runs ts x.1 q) (sym (runs_front ts x.1 r.0 r.1)) r.1)))
     ∙ sym (bind_assoc (plain ts) _ _) ∙ sym (ap (λ (r : Read (TypeRef × Span)). r >>= λ x. non_null_read x.0 x.1) (plain_runs ts))
-
--- What was read has its span.
-pub spanned_type_runs : (ts : List Lexeme) (x : (TypeRef × Span) × List Lexeme) → type_read ts ≡ Ok x → Runs ts x.1 x.0.1
-spanned_type_runs ts x e =
-    let b = bind_ok (bare ts) (with_type ts) x (sym (spanned_is ts) ∙ e) in
-    let r = type_runs ts b.0 b.1 in
-    subst (λ (z : (TypeRef × Span) × List Lexeme). Runs ts z.1 z.0.1) (ok_is _ x b.2) (subst (λ q. Runs ts b.0.1 q) (sym (runs_front ts b.0.1 r.0 r.1)) r.1)

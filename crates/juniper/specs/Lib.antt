@@ -7,8 +7,6 @@ pub mod Selections
 pub mod Definitions
 pub mod Promise
 pub mod Within
-pub mod Equality
-pub mod EqualityLaws
 pub mod Named
 pub mod ReadBack
 pub mod Sources

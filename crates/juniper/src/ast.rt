@@ -4,7 +4,7 @@ use juniper_tokens::Spanning;
 use juniper_values::{InputValue, Type};
 
 /// What a variable is declared as (GraphQL specification, October 2021, section 2.10).
-#[derive(Drop)]
+#[derive(Drop, PartialEq)]
 pub struct VariableDefinition<'a, S: Drop> {
     pub var_type: Spanning<Type<&'a str>>,
     pub default_value: Option<Spanning<InputValue<S>>>,
@@ -13,20 +13,20 @@ pub struct VariableDefinition<'a, S: Drop> {
 
 /// The variables of an operation, by their names, without the `$`
 /// (GraphQL specification, October 2021, section 2.10).
-#[derive(Drop)]
+#[derive(Drop, PartialEq)]
 pub struct VariableDefinitions<'a, S: Drop> {
     pub items: Vec<(Spanning<&'a str>, VariableDefinition<'a, S>)>,
 }
 
 /// The arguments of a field or a directive, in the order in which they are written
 /// (GraphQL specification, October 2021, section 2.6).
-#[derive(Drop)]
+#[derive(Drop, PartialEq)]
 pub struct Arguments<'a, S: Drop> {
     pub items: Vec<(Spanning<&'a str>, Spanning<InputValue<S>>)>,
 }
 
 /// A field of a selection set (GraphQL specification, October 2021, section 2.5).
-#[derive(Drop)]
+#[derive(Drop, PartialEq)]
 #[cycle(ast)]
 pub struct Field<'a, S: Drop> {
     /// The name that the answer uses in place of the field's own.
@@ -40,7 +40,7 @@ pub struct Field<'a, S: Drop> {
 }
 
 /// The use of a fragment by its name (GraphQL specification, October 2021, section 2.8).
-#[derive(Drop)]
+#[derive(Drop, PartialEq)]
 pub struct FragmentSpread<'a, S: Drop> {
     pub name: Spanning<&'a str>,
     /// None where there is none, and else not empty.
@@ -49,7 +49,7 @@ pub struct FragmentSpread<'a, S: Drop> {
 
 /// Selections that stand under a type condition or under directives
 /// (GraphQL specification, October 2021, section 2.8.2).
-#[derive(Drop)]
+#[derive(Drop, PartialEq)]
 #[cycle(ast)]
 pub struct InlineFragment<'a, S: Drop> {
     /// The type on which the selections apply; None where they apply on any.
@@ -60,7 +60,7 @@ pub struct InlineFragment<'a, S: Drop> {
 }
 
 /// An entry of a selection set (GraphQL specification, October 2021, section 2.4).
-#[derive(Drop)]
+#[derive(Drop, PartialEq)]
 #[cycle(ast)]
 pub enum Selection<'a, S: Drop> {
     Field(Spanning<Field<'a, S>>),
@@ -69,7 +69,7 @@ pub enum Selection<'a, S: Drop> {
 }
 
 /// A directive (GraphQL specification, October 2021, section 2.12).
-#[derive(Drop)]
+#[derive(Drop, PartialEq)]
 pub struct Directive<'a, S: Drop> {
     /// The name, without its `@`.
     pub name: Spanning<&'a str>,
@@ -88,7 +88,7 @@ pub enum OperationType {
 }
 
 /// An operation (GraphQL specification, October 2021, section 2.3).
-#[derive(Drop)]
+#[derive(Drop, PartialEq)]
 pub struct Operation<'a, S: Drop> {
     pub operation_type: OperationType,
     pub name: Option<Spanning<&'a str>>,
@@ -99,7 +99,7 @@ pub struct Operation<'a, S: Drop> {
 }
 
 /// The definition of a fragment (GraphQL specification, October 2021, section 2.8).
-#[derive(Drop)]
+#[derive(Drop, PartialEq)]
 pub struct Fragment<'a, S: Drop> {
     pub name: Spanning<&'a str>,
     /// The type on which the fragment applies.
@@ -110,7 +110,7 @@ pub struct Fragment<'a, S: Drop> {
 }
 
 /// A definition of an executable document (GraphQL specification, October 2021, section 2.2).
-#[derive(Drop)]
+#[derive(Drop, PartialEq)]
 pub enum Definition<'a, S: Drop> {
     Operation(Spanning<Operation<'a, S>>),
     Fragment(Spanning<Fragment<'a, S>>),

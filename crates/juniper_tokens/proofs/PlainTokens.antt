@@ -1,17 +1,17 @@
 -- Tokens that a run finds: Names, Ints, Strings without escapes; and punctuators of one character.
-use Rattle.std.proofs.Common.{◌≡◌, ℕ, suc, ◌+◌, ◌-◌, ◌<◌, Bool, true, false, cond, ◌==◌, ◌||◌, List, [], ◌∷◌, ◌++◌, length, take, drop, get_or, get_or-drop, Option, Some, None, refl, sym, ap, ap₂, subst, ◌∙◌, arith, length-drop}
-use Rattle.std.specs.Prelude.{option_map}
+use Rattle.std.proofs.Common.{◌≡◌, ℕ, suc, ◌+◌, ◌-◌, ◌<◌, Bool, true, false, cond, ◌==◌, List, [], ◌∷◌, ◌++◌, length, take, drop, get_or, get_or-drop, Option, Some, None, refl, sym, ap, ap₂, subst, ◌∙◌, arith, length-drop}
+use Rattle.std.specs.Prelude.{option_map, is_some}
 use Rattle.std.specs.Str.{chars, IsUtf8}
 use Rattle.std.proofs.lemmas.Bool.{eqb-true, ltb-true}
 use Rattle.std.proofs.lemmas.List.{take_all}
 use Rattle.std.proofs.lemmas.Str.{encodes-chars, encode_ascii}
 use denote.Enum.Bare.{sameb}
 use lib.Utf8.{encodes}
-use Rattle.graphql_lexical.specs.Characters.{is_name_character, is_digit, is_exponent_mark, is_plain}
+use Rattle.graphql_lexical.specs.Characters.{is_name_character, is_digit, is_plain}
 use Rattle.graphql_lexical.specs.declared.kind.Kind.{Kind}
 use Rattle.graphql_lexical.specs.declared.kind.Kind.TheVariants as kinds
 use Rattle.graphql_lexical.specs.declared.state.State.{State}
-use Rattle.graphql_lexical.specs.declared.state.State.TheVariants.{Start, Done, InName, Zero, Digits, Point, ExponentMark, Quote, InString, Backslash}
+use Rattle.graphql_lexical.specs.declared.state.State.TheVariants.{Start, Done, InName, Zero, Digits, Quote, InString, Backslash}
 use Rattle.graphql_lexical.specs.device.Machines.{onward, reach}
 use Rattle.graphql_lexical.specs.device.Scan.{step, answer}
 use Rattle.graphql_lexical.specs.device.Scan as scans
@@ -82,22 +82,17 @@ name_ends : (u : Unit {0}) (cs : List ℕ) → Stops (run_step run.Name) u cs �
 name_ends u [] s = refl
 name_ends u (c ∷ cs) s = ap (λ b. onward InName (λ p. reach step p cs) (cond b (Some InName) None)) (no_more u (is_name_character c) s)
 
--- the step from digits at another character
-abbrev step_by_mark : ℕ → Option State
-step_by_mark c = cond (c == 46) (Some Point) (cond (is_exponent_mark c) (Some ExponentMark) None)
-
 digit_stays : (c : ℕ) → run_test run.Digits c ≡ true → step Digits c ≡ Some Digits
-digit_stays c e = ap (λ b. cond b (Some Digits) (step_by_mark c)) e
+digit_stays c e = ap (λ b. cond b (Some Digits) (step Zero c)) e
 
 digits_end : (u : Unit {0}) (cs : List ℕ) → Stops (run_step run.Digits) u cs → is_in_float cs ≡ false → reach step Digits cs ≡ (0, Digits)
 digits_end u [] s f = refl
 digits_end u (c ∷ cs) s f =
-    ap (onward Digits (λ p. reach step p cs)) (ap (λ b. cond b (Some Digits) (step_by_mark c)) (no_more u (is_digit c) s) ∙ no_mark (c == 46) (is_exponent_mark c) f)
+    ap (onward Digits (λ p. reach step p cs)) (ap (λ b. cond b (Some Digits) (step Zero c)) (no_more u (is_digit c) s) ∙ no_step (step Zero c) f)
   where
-    no_mark : (p x : Bool) → (p || x) ≡ false → cond p (Some Point) (cond x (Some ExponentMark) None) ≡ None
-    no_mark true x f = absurd (cc f)
-    no_mark false true f = absurd (cc f)
-    no_mark false false f = refl
+    no_step : (q : Option State) → is_some q ≡ false → q ≡ None
+    no_step None f = refl
+    no_step (Some q) f = absurd (cc f)
 
 -- the step within a string at another character
 abbrev step_by_quote : ℕ → Option State
@@ -152,14 +147,20 @@ module _ (text bytes : List ℕ) (u : IsUtf8 text) (same : bytes ≡ text) (some
         e ∙ (take_all (length bytes - 1) (drop 1 bytes) (omega (arith, length-drop 1 bytes))
         ∙ (ap (drop 1) (whole ∙ ap encodes front) ∙ ap (λ t. drop 1 (t ++ encodes (drop 1 cs))) (encode_ascii b below)))
 
+  -- a token whose characters are a run, in one state
+  of_run : (kind : Kind) (q : State) (r : Run) → ((c : ℕ) → run_test r c ≡ true → step q c ≡ Some q) → (class : ByteClass) → class ≡ class_of b → low_class class ≡ true
+      → first_state class b ≡ Some q → run_test r b ≡ true → (e : Border) → RunsTo r bytes e → reach step q (drop (run_size r cs) cs) ≡ (0, q)
+      → answer q e.characters cs ≡ scans.found e.characters kind cs → Finds cs (record { kind = kind; end = e })
+  of_run kind q r stays class c low first is e h ends a =
+      let over = run_of r cs bytes e whole h in
+      let f = front class c low in
+      let begins : reach step Start cs ≡ reach step q cs = ap (reach step Start) f ∙ (begins_in q b (drop 1 cs) (starts class c low ∙ first) (stays b is) ∙ sym (ap (reach step q) f)) in
+      ended_token cs kind q e.bytes e.characters (begins ∙ (over_run r q stays cs ends ∙ ap (λ k. (k, q)) (sym over.characters))) a over.border
+
   pub name_found : (r : Border) → classes.NameStart ≡ class_of b → RunsTo run.Name bytes r → Finds cs (record { kind = kinds.Name; end = r })
   name_found r c h =
-      let name = run_of run.Name cs bytes r whole h in
-      let goes : step InName b ≡ Some InName = name_stays b (sym (name_class_tests b small) ∙ ap name_class (sym c)) in
-      let f = front classes.NameStart c refl in
-      let begins : reach step Start cs ≡ reach step InName cs =
-      ap (reach step Start) f ∙ (begins_in InName b (drop 1 cs) (starts classes.NameStart c refl) goes ∙ sym (ap (reach step InName) f)) in
-      ended_token cs kinds.Name InName r.bytes r.characters (begins ∙ (over_run run.Name InName name_stays cs (name_ends _ _ (reach_is (run_step run.Name) tt cs).stops) ∙ ap (λ k. (k, InName)) (sym name.characters))) refl name.border
+      of_run kinds.Name InName run.Name name_stays classes.NameStart c refl refl (sym (name_class_tests b small) ∙ ap name_class (sym c)) r h
+      (name_ends _ _ (reach_is (run_step run.Name) tt cs).stops) refl
 
   pub digits_border : (r : Border) → RunsTo run.Digits bytes r → IsBorder r cs
   digits_border r h = (run_of run.Digits cs bytes r whole h).border
@@ -167,13 +168,8 @@ module _ (text bytes : List ℕ) (u : IsUtf8 text) (same : bytes ≡ text) (some
   pub int_found : (r : Border) → classes.Digit ≡ class_of b → (b == 48) ≡ false → RunsTo run.Digits bytes r → is_in_float (drop r.characters cs) ≡ false
       → Finds cs (record { kind = kinds.Int; end = r })
   int_found r c z h more =
-      let digits = run_of run.Digits cs bytes r whole h in
-      let goes : step Digits b ≡ Some Digits = digit_stays b (sym (digit_class_tests b small) ∙ ap digit_class (sym c)) in
-      let first : step Start b ≡ Some Digits = starts classes.Digit c refl ∙ ap (λ x. cond x (Some Zero) (Some Digits)) z in
-      let f = front classes.Digit c refl in
-      let begins : reach step Start cs ≡ reach step Digits cs = ap (reach step Start) f ∙ (begins_in Digits b (drop 1 cs) first goes ∙ sym (ap (reach step Digits) f)) in
-      ended_token cs kinds.Int Digits r.bytes r.characters
-      (begins ∙ (over_run run.Digits Digits digit_stays cs (digits_end _ _ (reach_is (run_step run.Digits) tt cs).stops (ap (λ k. is_in_float (drop k cs)) (sym digits.characters) ∙ more)) ∙ ap (λ k. (k, Digits)) (sym digits.characters))) refl digits.border
+      of_run kinds.Int Digits run.Digits digit_stays classes.Digit c refl (ap (λ x. cond x (Some Zero) (Some Digits)) z) (sym (digit_class_tests b small) ∙ ap digit_class (sym c)) r h
+      (digits_end _ _ (reach_is (run_step run.Digits) tt cs).stops (ap (λ k. is_in_float (drop k cs)) (sym (run_of run.Digits cs bytes r whole h).characters) ∙ more)) refl
 
   pub mark_found : (kind : Kind) → classes.Punctuator ≡ class_of b → punctuator b ≡ Some kind
       → Finds cs (record { kind = kind; end = record { bytes = 1; characters = 1 } })

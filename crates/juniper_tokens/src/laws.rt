@@ -1,5 +1,5 @@
 //! Laws of the lexer.
-ghost use Rattle.std.specs.Prelude.{◌≡◌, ℕ, List, Option, Some, IsTrue, ◌↔◌};
+ghost use Rattle.std.specs.Prelude.{◌≡◌, ◌&&◌, ℕ, List, Option, Some, IsTrue, ◌↔◌};
 ghost use Rattle.juniper_tokens.specs.laws.PositionOrder.{compare_places};
 ghost use Rattle.std.specs.Ordering.{is_eq};
 ghost use Rattle.graphql_lexical.specs.Place.{Place};
@@ -95,6 +95,13 @@ pub fn positions_agree()
     ensures partial { (p q : Place) → ⟦<SourcePosition as PartialOrd>⟧.partial_cmp p q ≡ Some (⟦<SourcePosition as Ord>⟧.cmp p q) }
     ensures places { (p q : Place) → IsTrue (⟦<SourcePosition as PartialEq>⟧.eq p q) ↔ (p ≡ q) }
     ensures order { (p q : Place) → ⟦<SourcePosition as Ord>⟧.cmp p q ≡ compare_places p q }
+{}
+
+/// Spans are equal where they are the same, and items with their spans where both the items and the spans are.
+pub fn spanned_items_are_compared_whole<T: PartialEq>()
+    ensures spans { (s t : Span) → IsTrue (⟦<Span as PartialEq>⟧.eq s t) ↔ (s ≡ t) }
+    ensures items { (x y : Spanning T) → ⟦<Spanning<T> as PartialEq>⟧.eq x y
+        ≡ (T.eq x.item y.item && ⟦<Span as PartialEq>⟧.eq x.span y.span) }
 {}
 
 /// Equal positions, equal spans, and equal items with equal spans hash alike.

@@ -27,10 +27,6 @@ GoesOverBytes {S} step = IsSamePastAscii step → (q : S) (cs : List ℕ) → re
 abbrev pub with_value : {S X : Type 0} → (S → ℕ → Option S) → (X → ℕ → X) → S × X → ℕ → Option (S × X)
 with_value step f s c = option_map (λ p. (p, f s.1 c)) (step s.0 c)
 
--- the same change over bytes
-abbrev pub byte_change : {X : Type 0} → (X → ℕ → X) → X → ℕ → X
-byte_change f x b = if is_inner b then x else f x b
-
 -- one more
 abbrev pub count_one : ℕ → ℕ → ℕ
 count_one n c = n + 1

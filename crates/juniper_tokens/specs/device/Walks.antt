@@ -1,10 +1,11 @@
 -- Where the loops over bytes stop.
-use Rattle.std.specs.Prelude.{◌≡◌, ℕ, ◌==◌, Bool, false, ◌||◌, if◌then◌else◌, Option, Some, None, List, [], ◌∷◌, take}
+use Rattle.std.specs.Prelude.{◌≡◌, ℕ, ◌==◌, Bool, false, if◌then◌else◌, Option, Some, None, is_some, List, [], ◌∷◌, take}
 use Rattle.std.specs.List.{fold}
-use Rattle.graphql_lexical.specs.Characters.{is_name_character, is_digit, is_plain, is_comment_character, is_exponent_mark}
+use Rattle.graphql_lexical.specs.Characters.{is_name_character, is_digit, is_plain, is_comment_character}
 use Rattle.graphql_lexical.specs.device.Machines.{reach}
 use Rattle.graphql_lexical.specs.Place.{Place, past_character}
-use Rattle.graphql_lexical.specs.device.Scan.{gap_size}
+use Rattle.graphql_lexical.specs.declared.state.State.TheVariants.{Zero}
+use Rattle.graphql_lexical.specs.device.Scan.{gap_size, step}
 use Rattle.juniper_tokens.specs.declared.lexer.run.Run.{Run}
 use Rattle.juniper_tokens.specs.declared.lexer.run.Run.TheVariants as run
 use Rattle.juniper_tokens.specs.declared.lexer.text.Border.{Border}
@@ -36,7 +37,7 @@ RunsTo run bytes b = reach (run_machine run) (tt, 0) bytes ≡ (b.bytes, (tt, b.
 -- digits go on here with a fraction or an exponent
 abbrev pub is_in_float : List ℕ → Bool
 is_in_float [] = false
-is_in_float (c ∷ cs) = c == 46 || is_exponent_mark c
+is_in_float (c ∷ cs) = is_some (step Zero c)
 
 -- the byte at which a gap ends, and its place
 pub record EndsGap (cs : List ℕ) (start : Place) (bytes : ℕ) (position : Place) : Type 0 where

@@ -85,8 +85,8 @@ fn first_step(c: char) -> Option<State>
     }
 }
 
-// The step after an integer part, where no digit follows it.
-fn step_after_integer(c: char) -> Option<State>
+/// The step after an integer part, where no digit follows it.
+pub(crate) fn step_after_integer(c: char) -> Option<State>
     ensures { result ≡ next_state Zero c }
 {
     if c == '.' {

@@ -9,7 +9,7 @@ ghost use Rattle.juniper_tokens.specs.device.Scans.{Finds};
 ghost use Rattle.juniper_tokens.specs.device.Walks.{is_in_float};
 
 use crate::byte_classes::{ByteClass, byte_class};
-use crate::lexer::machine::punctuator_of;
+use crate::lexer::machine::{punctuator_of, step_after_integer};
 use crate::lexer::run::{Run, run_over};
 use crate::lexer::scan::Found;
 use crate::lexer::text::{Border, first_character, text_from};
@@ -71,7 +71,7 @@ fn is_in_float(rest: &str) -> bool
     ensures { result ≡ is_in_float (chars rest.now) }
 {
     match first_character(rest) {
-        Some(c) => c == '.' || c == 'e' || c == 'E',
+        Some(c) => step_after_integer(c).is_some(),
         None => false,
     }
 }
