@@ -9,6 +9,7 @@ mod write;
 
 use kinds::completed::is_completed;
 use rows::{Row, rows_of};
+use std::alloc::{AllocError, Global};
 use std::process::ExitCode;
 use std::rt::{Env, Files};
 use std::{env, fs, io};
@@ -49,23 +50,33 @@ fn tell_file<R: Print + AllocGlobal>(
     tally: &mut Tally,
 ) -> io::Result<()> {
     for row in rows_of(rt.alloc(), text)? {
-        let wanted = row.wanted(rt.alloc())?;
-        let found = kinds::answer(
-            rt.alloc(),
-            row.kind,
-            row.text(rt.alloc())?.as_slice(),
-            &wanted,
-        )?;
-        let holds = found.as_str() == wanted.as_str();
-        tally.count(rt.alloc(), row.kind, holds)?;
-        if !holds {
-            let number = row.number;
-            let kind = row.kind;
-            println!(rt; "{name}:{number}: {kind} is answered by\n{found}")?;
-        }
+        tell_row(rt, name, &row, tally)?;
         tell_completion(rt, name, &row, tally)?;
     }
     Ok(())
+}
+
+fn tell_row<R: Print + AllocGlobal>(
+    rt: &R,
+    name: &str,
+    row: &Row<'_>,
+    tally: &mut Tally,
+) -> io::Result<()> {
+    let wanted = row.wanted(rt.alloc())?;
+    let found = answer_of(rt.alloc(), row, &wanted)?;
+    let holds = found.as_str() == wanted.as_str();
+    tally.count(rt.alloc(), row.kind, holds)?;
+    if holds {
+        return Ok(());
+    }
+    let number = row.number;
+    let kind = row.kind;
+    println!(rt; "{name}:{number}: {kind} is answered by\n{found}")
+}
+
+fn answer_of(alloc: Global, row: &Row<'_>, wanted: &str) -> Result<String, AllocError> {
+    let text = row.text(alloc)?;
+    kinds::answer(alloc, row.kind, text.as_slice(), wanted)
 }
 
 // Tries to complete what stands before the fault of a refused text.

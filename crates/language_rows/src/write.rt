@@ -79,6 +79,11 @@ pub fn write_separator(out: &mut String, before: usize) -> Result<(), AllocError
     Ok(())
 }
 
+/// Writes `true` or `false`.
+pub fn write_truth(out: &mut String, truth: bool) -> Result<(), AllocError> {
+    write!(out, "{truth}")
+}
+
 /// Writes a text, or `None`.
 pub fn write_optional_text(out: &mut String, text: Option<&str>) -> Result<(), AllocError> {
     match text {

@@ -2,7 +2,7 @@
 
 use crate::kinds::input_values::{Input, literal};
 use crate::kinds::{call_of, word_of};
-use crate::write::write_separator;
+use crate::write::{write_separator, write_truth};
 use juniper::{
     DefaultScalarValue, InputValue, IntoValue, Name, NameFailure, Object, Span, Spanning,
     ToInputValue, Value, value_from_str,
@@ -40,16 +40,19 @@ fn answer_in(alloc: Global, text: &str) -> Result<Option<Answer>, AllocError> {
 fn answer_of(alloc: Global, value: &Input) -> Result<Answer, AllocError> {
     match value {
         InputValue::Null => Ok(Value::null()),
-        InputValue::Scalar(DefaultScalarValue::Int(number)) => Some(*number).into_value(alloc),
-        InputValue::Scalar(DefaultScalarValue::Boolean(truth)) => truth.into_value(alloc),
-        InputValue::Scalar(DefaultScalarValue::String(text)) => value_from_str(
-            alloc,
-            text.as_str(),
-        ),
+        InputValue::Scalar(scalar) => scalar_of(alloc, scalar),
         InputValue::Enum(name) => CowStr::Borrowed(name.as_str()).into_value(alloc),
         InputValue::Variable(_) => None::<i32>.into_value(alloc),
         InputValue::List(items) => list_of(alloc, items),
-        InputValue::Object(fields) => Ok(Value::object(object_of(alloc, fields)?)),
+        InputValue::Object(fields) => object_of(alloc, fields),
+    }
+}
+
+fn scalar_of(alloc: Global, scalar: &DefaultScalarValue) -> Result<Answer, AllocError> {
+    match scalar {
+        DefaultScalarValue::Int(number) => Some(*number).into_value(alloc),
+        DefaultScalarValue::Boolean(truth) => truth.into_value(alloc),
+        DefaultScalarValue::String(text) => value_from_str(alloc, text.as_str()),
     }
 }
 
@@ -66,12 +69,17 @@ fn list_of(alloc: Global, items: &[Spanning<Input>]) -> Result<Answer, AllocErro
 fn object_of(
     alloc: Global,
     fields: &[(Spanning<String>, Spanning<Input>)],
-) -> Result<Object<DefaultScalarValue>, AllocError> {
+) -> Result<Answer, AllocError> {
     let mut pairs = Vec::new(alloc);
     for (key, value) in fields {
         pairs.push((key.item.clone()?, answer_of(alloc, &value.item)?))?;
     }
-    Object::from_iter(alloc, pairs.into_iter())
+    object_from(alloc, pairs)
+}
+
+fn object_from(alloc: Global, pairs: Vec<(String, Answer)>) -> Result<Answer, AllocError> {
+    let object: Object<DefaultScalarValue> = Object::from_iter(alloc, pairs.into_iter())?;
+    Ok(Value::object(object))
 }
 
 fn answer_call(
@@ -99,6 +107,7 @@ fn answer_whole(
 ) -> Result<(), AllocError> {
     match word {
         "try_clone" => write_copied(alloc, out, value),
+        "into_object" => write_taken_apart(out, value.try_clone(alloc)?),
         "map_scalar_value" => write_mapped(alloc, out, value),
         "==" => write_compared(alloc, out, value, rest),
         _ => answer_part(alloc, out, value, word, rest),
@@ -119,8 +128,7 @@ fn answer_part(
 }
 
 fn write_copied(alloc: Global, out: &mut String, value: &Answer) -> Result<(), AllocError> {
-    let is_equal = value.try_clone(alloc)? == *value;
-    write!(out, "{is_equal}")
+    write_truth(out, value.try_clone(alloc)? == *value)
 }
 
 fn write_mapped(alloc: Global, out: &mut String, value: &Answer) -> Result<(), AllocError> {
@@ -148,10 +156,13 @@ fn write_both(out: &mut String, there: bool, back: bool) -> Result<(), AllocErro
 
 // The input value of an answer, and whether it has no place.
 fn write_input(alloc: Global, out: &mut String, value: &Answer) -> Result<(), AllocError> {
-    let input = value.to_input_value(alloc)?;
+    write_unlocated(out, &value.to_input_value(alloc)?)
+}
+
+fn write_unlocated(out: &mut String, input: &Input) -> Result<(), AllocError> {
     write!(out, "{input}")?;
-    if is_unlocated(&input) {
-        out.push_str(", unlocated")?;
+    if is_unlocated(input) {
+        return out.push_str(", unlocated");
     }
     Ok(())
 }
@@ -170,20 +181,20 @@ fn is_unlocated(value: &Input) -> bool {
 // Which variant a value is, as its calls tell it.
 fn write_parts(out: &mut String, value: &Answer) -> Result<(), AllocError> {
     if value.is_null() {
-        out.push_str("null")?;
+        return out.push_str("null");
     }
     if let Some(scalar) = value.as_scalar() {
-        write!(out, "scalar {scalar}")?;
+        return write!(out, "scalar {scalar}");
     }
     if let Some(items) = value.as_list_value() {
         let len = items.len();
-        write!(out, "list of {len}")?;
+        return write!(out, "list of {len}");
     }
-    if let Some(object) = value.as_object_value() {
-        let count = object.field_count();
-        write!(out, "object of {count}")?;
-    }
-    Ok(())
+    let count = match value.as_object_value() {
+        Some(object) => object.field_count(),
+        None => return Ok(()),
+    };
+    write!(out, "object of {count}")
 }
 
 fn answer_object(
@@ -195,29 +206,38 @@ fn answer_object(
 ) -> Result<(), AllocError> {
     let (key, text) = word_of(rest);
     match word {
+        "contains_field" => write_truth(out, object.contains_field(key)),
+        "get_field_value" => write_optional(out, object.get_field_value(key)),
+        "get_mut_field_value" => write_cleared(out, object.get_mut_field_value(key)),
+        "add_field" => write_added(alloc, out, object, key, text),
+        _ => write_all(out, object, word),
+    }
+}
+
+// A call on all of an object.
+fn write_all(
+    out: &mut String,
+    object: &Object<DefaultScalarValue>,
+    word: &str,
+) -> Result<(), AllocError> {
+    match word {
         "field_count" => {
             let count = object.field_count();
             write!(out, "{count}")
         }
-        "contains_field" => {
-            let is_there = object.contains_field(key);
-            write!(out, "{is_there}")
-        }
-        "get_field_value" => match object.get_field_value(key) {
-            Some(value) => write!(out, "{value}"),
-            None => out.push_str("None"),
-        },
         "iter" => write_pairs(out, object),
-        "add_field" => write_added(alloc, out, object, key, text),
-        "get_mut_field_value" => match object.get_mut_field_value(key) {
-            Some(value) => {
-                *value = Value::null();
-                out.push_str("null")
-            }
-            None => out.push_str("None"),
-        },
-        "into_object" => write_owned_pairs(alloc, out, object),
         _ => out.push_str("no such call"),
+    }
+}
+
+// Puts null in the place of the value.
+fn write_cleared(out: &mut String, value: Option<&mut Answer>) -> Result<(), AllocError> {
+    match value {
+        Some(value) => {
+            *value = Value::null();
+            out.push_str("null")
+        }
+        None => out.push_str("None"),
     }
 }
 
@@ -228,13 +248,27 @@ fn write_added(
     key: &str,
     text: &str,
 ) -> Result<(), AllocError> {
-    let Some(value) = answer_in(alloc, text)? else {
-        return out.push_str("no value");
-    };
-    match object.add_field(String::from_str(alloc, key)?, value) {
-        Ok(Some(old)) => write!(out, "{old}"),
-        Ok(None) => out.push_str("None"),
-        Err(_pair) => Err(AllocError),
+    match answer_in(alloc, text)? {
+        Some(value) => write_optional(out, added(alloc, object, key, value)?.as_ref()),
+        None => out.push_str("no value"),
+    }
+}
+
+// Adds a pair, and answers the value that was there.
+fn added(
+    alloc: Global,
+    object: &mut Object<DefaultScalarValue>,
+    key: &str,
+    value: Answer,
+) -> Result<Option<Answer>, AllocError> {
+    let key = String::from_str(alloc, key)?;
+    object.add_field(key, value).map_err(|_pair| AllocError)
+}
+
+fn write_optional(out: &mut String, value: Option<&Answer>) -> Result<(), AllocError> {
+    match value {
+        Some(value) => write!(out, "{value}"),
+        None => out.push_str("None"),
     }
 }
 
@@ -247,26 +281,17 @@ fn write_pairs(out: &mut String, object: &Object<DefaultScalarValue>) -> Result<
     Ok(())
 }
 
-// The pairs of a copy, which is taken apart.
-fn write_owned_pairs(
-    alloc: Global,
-    out: &mut String,
-    object: &Object<DefaultScalarValue>,
-) -> Result<(), AllocError> {
-    let mut copy = Object::with_capacity(alloc, object.field_count())?;
-    for (key, value) in object.iter() {
-        if copy
-            .add_field(key.clone()?, value.try_clone(alloc)?)
-            .is_err()
-        {
-            return Err(AllocError);
-        }
+// The pairs of an answer, which is taken apart.
+fn write_taken_apart(out: &mut String, value: Answer) -> Result<(), AllocError> {
+    match value.into_object() {
+        Some(object) => write_own_pairs(out, object),
+        None => out.push_str("no object"),
     }
-    let Some(copy) = Value::object(copy).into_object() else {
-        return out.push_str("no object");
-    };
+}
+
+fn write_own_pairs(out: &mut String, object: Object<DefaultScalarValue>) -> Result<(), AllocError> {
     let before = out.len();
-    for (key, value) in copy.into_iter() {
+    for (key, value) in object.into_iter() {
         write_separator(out, before)?;
         write!(out, "{key}: {value}")?;
     }
@@ -279,19 +304,20 @@ pub fn name_calls(alloc: Global, text: &str, wanted: &str) -> Result<String, All
     for line in wanted.lines() {
         let call = call_of(line);
         write!(out, "{call} -> ")?;
-        match call {
-            "is_valid" => {
-                let is_valid = Name::is_valid(text);
-                write!(out, "{is_valid}")?;
-            }
-            "new" => match Name::new(alloc, text) {
-                Ok(name) => out.push_str(name.as_str())?,
-                Err(NameFailure::Invalid(error)) => write!(out, "Invalid {error}")?,
-                Err(NameFailure::Memory) => return Err(AllocError),
-            },
-            _ => out.push_str("no such call")?,
-        }
+        name_call(alloc, &mut out, text, call)?;
         out.push('\n')?;
     }
     Ok(out)
+}
+
+fn name_call(alloc: Global, out: &mut String, text: &str, call: &str) -> Result<(), AllocError> {
+    match call {
+        "is_valid" => write_truth(out, Name::is_valid(text)),
+        "new" => match Name::new(alloc, text) {
+            Ok(name) => out.push_str(name.as_str()),
+            Err(NameFailure::Invalid(error)) => write!(out, "Invalid {error}"),
+            Err(NameFailure::Memory) => Err(AllocError),
+        },
+        _ => out.push_str("no such call"),
+    }
 }

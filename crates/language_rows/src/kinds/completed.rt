@@ -113,18 +113,27 @@ pub fn calls(alloc: Global, text: &str, wanted: &str) -> Result<String, AllocErr
         return String::from_str(alloc, "not refused, or it cannot be cut\n");
     };
     for line in wanted.lines() {
-        let call = call_of(line);
-        let number = refusal.number;
-        let front = refusal.front.as_str();
-        let whole = format!(in alloc; "{front} {call}")?;
-        let is_tree = matches!(outcome_of(alloc, whole.as_str())?, Outcome::Tree);
-        let is_same = same_tokens(alloc, text, whole.as_str(), number);
-        writeln!(
-            out,
-            "{call} -> {number} tokens, tree {is_tree}, same tokens {is_same}"
-        )?;
+        write_completion(alloc, &mut out, text, &refusal, call_of(line))?;
     }
     Ok(out)
+}
+
+fn write_completion(
+    alloc: Global,
+    out: &mut String,
+    text: &str,
+    refusal: &Refusal,
+    call: &str,
+) -> Result<(), AllocError> {
+    let number = refusal.number;
+    let front = refusal.front.as_str();
+    let whole = format!(in alloc; "{front} {call}")?;
+    let is_tree = matches!(outcome_of(alloc, whole.as_str())?, Outcome::Tree);
+    let is_same = same_tokens(alloc, text, whole.as_str(), number);
+    writeln!(
+        out,
+        "{call} -> {number} tokens, tree {is_tree}, same tokens {is_same}"
+    )
 }
 
 // What may go on, in the order in which it is tried: first what closes.

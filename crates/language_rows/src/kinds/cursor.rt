@@ -95,12 +95,22 @@ fn write_spanned(out: &mut String, name: &Spanning<&str>) -> Result<(), AllocErr
 fn answer_list(out: &mut String, parser: &mut Parser<'_>, call: &str) -> Result<(), AllocError> {
     let (word, brackets) = word_of(call);
     let (opening, closing) = word_of(brackets);
-    let alloc = parser.allocator();
-    match (&first_item(alloc, opening), &first_item(alloc, closing)) {
-        (Some(Ok(opening)), Some(Ok(closing))) => {
-            answer_between(out, parser, word, &opening.item, &closing.item)
-        }
-        _ => out.push_str("no tokens"),
+    match &first_item(parser.allocator(), opening) {
+        Some(Ok(opening)) => answer_closed(out, parser, word, &opening.item, closing),
+        _ => out.push_str("no opening token"),
+    }
+}
+
+fn answer_closed(
+    out: &mut String,
+    parser: &mut Parser<'_>,
+    word: &str,
+    opening: &Token<'_>,
+    closing: &str,
+) -> Result<(), AllocError> {
+    match &first_item(parser.allocator(), closing) {
+        Some(Ok(closing)) => answer_between(out, parser, word, opening, &closing.item),
+        _ => out.push_str("no closing token"),
     }
 }
 

@@ -53,14 +53,16 @@ pub fn are_equal(alloc: Global, text: &str) -> Result<String, AllocError> {
     let Some((one, other)) = text.split_once(" == ") else {
         return String::from_str(alloc, "no two texts\n");
     };
-    match (document(alloc, one), document(alloc, other)) {
-        (Ok(one), Ok(other)) => {
-            let there = one == other;
-            let back = other == one;
-            format!(in alloc; "{there} {back}\n")
-        }
-        _ => String::from_str(alloc, "refused\n"),
+    match compared(alloc, one, other) {
+        Ok((there, back)) => format!(in alloc; "{there} {back}\n"),
+        Err(_) => String::from_str(alloc, "refused\n"),
     }
+}
+
+fn compared(alloc: Global, one: &str, other: &str) -> Result<(bool, bool), ParseFailure> {
+    let one = document(alloc, one)?;
+    let other = document(alloc, other)?;
+    Ok((one == other, other == one))
 }
 
 type Given<'a> = Arguments<'a, DefaultScalarValue>;
@@ -78,15 +80,7 @@ fn argument_answers(
     fields: &[(Spanning<String>, Spanning<Input>)],
     wanted: &str,
 ) -> Result<String, AllocError> {
-    let mut items = Vec::new(alloc);
-    for (name, value) in fields {
-        let name = Spanning::new(name.span, name.item.as_str());
-        items.push((
-            name,
-            Spanning::new(value.span, value.item.try_clone(alloc)?),
-        ))?;
-    }
-    let mut given = Arguments { items };
+    let mut given = given_of(alloc, fields)?;
     let mut out = String::new(alloc);
     for line in wanted.lines() {
         let call = call_of(line);
@@ -95,6 +89,18 @@ fn argument_answers(
         out.push('\n')?;
     }
     Ok(out)
+}
+
+fn given_of(
+    alloc: Global,
+    fields: &[(Spanning<String>, Spanning<Input>)],
+) -> Result<Given<'_>, AllocError> {
+    let mut items = Vec::new(alloc);
+    for (name, value) in fields {
+        let value = Spanning::new(value.span, value.item.try_clone(alloc)?);
+        items.push((Spanning::new(name.span, name.item.as_str()), value))?;
+    }
+    Ok(Arguments { items })
 }
 
 fn answer_call(out: &mut String, given: &mut Given<'_>, call: &str) -> Result<(), AllocError> {

@@ -1,7 +1,7 @@
 //! Rows of input values.
 
 use crate::kinds::{call_of, word_of};
-use crate::write::{write_optional_text, write_separator};
+use crate::write::{write_optional_text, write_separator, write_truth};
 use indexmap::IndexMap;
 use juniper::{
     DefaultScalarValue, InputValue, IntoInputValue, Lexer, Parser, Span, Spanning, Variables,
@@ -25,16 +25,16 @@ pub(crate) fn literal(alloc: Global, text: &str) -> Result<Option<Input>, AllocE
     }
 }
 
-/// `input_value`: calls on the value literal that is the text, each on a value read anew.
+/// `input_value`: calls on the value literal that the text begins with, `into_const` on a copy.
 pub fn calls(alloc: Global, text: &str, wanted: &str) -> Result<String, AllocError> {
     let mut out = String::new(alloc);
+    let Some(value) = literal(alloc, text)? else {
+        return String::from_str(alloc, "no value\n");
+    };
     for line in wanted.lines() {
         let call = call_of(line);
         write!(out, "{call} -> ")?;
-        match literal(alloc, text)? {
-            Some(value) => answer_call(alloc, &mut out, value, call)?,
-            None => out.push_str("no value")?,
-        }
+        answer_call(alloc, &mut out, &value, call)?;
         out.push('\n')?;
     }
     Ok(out)
@@ -43,7 +43,7 @@ pub fn calls(alloc: Global, text: &str, wanted: &str) -> Result<String, AllocErr
 fn answer_call(
     alloc: Global,
     out: &mut String,
-    value: Input,
+    value: &Input,
     call: &str,
 ) -> Result<(), AllocError> {
     let (word, rest) = word_of(call);
@@ -60,15 +60,15 @@ fn answer_call(
 fn answer_parts(
     alloc: Global,
     out: &mut String,
-    value: Input,
+    value: &Input,
     word: &str,
     rest: &str,
 ) -> Result<(), AllocError> {
     match word {
-        "as_scalar" => write_scalar(out, &value),
-        "to_list_value" => write_list(alloc, out, &value),
-        "to_object_value" => write_object(alloc, out, &value),
-        "referenced_variables" => write_variables(alloc, out, &value),
+        "as_scalar" => write_scalar(out, value),
+        "to_list_value" => write_list(alloc, out, value),
+        "to_object_value" => write_object(alloc, out, value),
+        "referenced_variables" => write_variables(alloc, out, value),
         _ => answer_whole(alloc, out, value, word, rest),
     }
 }
@@ -77,13 +77,13 @@ fn answer_parts(
 fn answer_whole(
     alloc: Global,
     out: &mut String,
-    value: Input,
+    value: &Input,
     word: &str,
     rest: &str,
 ) -> Result<(), AllocError> {
     match word {
-        "made_anew" => write_made_anew(alloc, out, &value),
-        "try_clone" => write_copied(alloc, out, &value),
+        "made_anew" => write_made_anew(alloc, out, value),
+        "try_clone" => write_copied(alloc, out, value),
         _ => answer_two(alloc, out, value, word, rest),
     }
 }
@@ -103,7 +103,7 @@ fn write_copied(alloc: Global, out: &mut String, value: &Input) -> Result<(), Al
 fn answer_two(
     alloc: Global,
     out: &mut String,
-    value: Input,
+    value: &Input,
     word: &str,
     rest: &str,
 ) -> Result<(), AllocError> {
@@ -111,22 +111,29 @@ fn answer_two(
         return out.push_str("no value");
     };
     match word {
-        "==" => write_truth(out, value == other),
-        "unlocated_eq" => {
-            let there = value.unlocated_eq(&other);
-            let back = other.unlocated_eq(&value);
-            write!(out, "{there} {back}")
-        }
-        "into_const" => match value.into_const(alloc, &variables_of(alloc, other)?)? {
-            Some(left) => write!(out, "{left}"),
-            None => out.push_str("None"),
-        },
+        "==" => write_truth(out, *value == other),
+        "unlocated_eq" => write_both_ways(out, value, &other),
+        "into_const" => write_resolved(alloc, out, value, &variables_of(alloc, other)?),
         _ => out.push_str("no such call"),
     }
 }
 
-fn write_truth(out: &mut String, truth: bool) -> Result<(), AllocError> {
-    write!(out, "{truth}")
+fn write_both_ways(out: &mut String, value: &Input, other: &Input) -> Result<(), AllocError> {
+    let there = value.unlocated_eq(other);
+    let back = other.unlocated_eq(value);
+    write!(out, "{there} {back}")
+}
+
+fn write_resolved(
+    alloc: Global,
+    out: &mut String,
+    value: &Input,
+    variables: &Variables<DefaultScalarValue>,
+) -> Result<(), AllocError> {
+    match value.try_clone(alloc)?.into_const(alloc, variables)? {
+        Some(left) => write!(out, "{left}"),
+        None => out.push_str("None"),
+    }
 }
 
 fn write_list(alloc: Global, out: &mut String, value: &Input) -> Result<(), AllocError> {
@@ -142,9 +149,13 @@ fn write_list(alloc: Global, out: &mut String, value: &Input) -> Result<(), Allo
 }
 
 fn write_object(alloc: Global, out: &mut String, value: &Input) -> Result<(), AllocError> {
-    let Some(map) = value.to_object_value(alloc)? else {
-        return out.push_str("None");
-    };
+    match value.to_object_value(alloc)? {
+        Some(map) => write_map(out, &map),
+        None => out.push_str("None"),
+    }
+}
+
+fn write_map(out: &mut String, map: &IndexMap<&str, &Input>) -> Result<(), AllocError> {
     let before = out.len();
     for (key, value) in map.iter() {
         write_separator(out, before)?;
@@ -191,17 +202,19 @@ fn write_made_anew(alloc: Global, out: &mut String, value: &Input) -> Result<(),
 fn made_anew(alloc: Global, value: &Input) -> Result<Input, AllocError> {
     match value {
         InputValue::Null => None::<i32>.into_input_value(alloc),
-        InputValue::Scalar(DefaultScalarValue::Int(number)) => {
-            Some(*number).into_input_value(alloc)
-        }
-        InputValue::Scalar(DefaultScalarValue::Boolean(truth)) => truth.into_input_value(alloc),
-        InputValue::Scalar(DefaultScalarValue::String(text)) => {
-            input_value_from_str(alloc, text.as_str())
-        }
+        InputValue::Scalar(scalar) => made_scalar(alloc, scalar),
         InputValue::Enum(name) => InputValue::enum_value(alloc, name.as_str()),
         InputValue::Variable(name) => InputValue::variable(alloc, name.as_str()),
         InputValue::List(items) => made_list(alloc, items),
         InputValue::Object(fields) => made_object(alloc, fields),
+    }
+}
+
+fn made_scalar(alloc: Global, scalar: &DefaultScalarValue) -> Result<Input, AllocError> {
+    match scalar {
+        DefaultScalarValue::Int(number) => Some(*number).into_input_value(alloc),
+        DefaultScalarValue::Boolean(truth) => truth.into_input_value(alloc),
+        DefaultScalarValue::String(text) => input_value_from_str(alloc, text.as_str()),
     }
 }
 

@@ -14,16 +14,19 @@ pub fn type_in(alloc: Global, text: &str) -> Result<String, AllocError> {
     let mut lexer = Lexer::new(alloc, text);
     match Parser::new(&mut lexer) {
         Ok(mut parser) => {
-            let literal: ParseResult<Type<&str>> = parse_type(&mut parser);
-            match &literal {
-                Ok(literal) => write_type(&mut out, literal)?,
-                Err(failure) => write_refusal(&mut out, failure)?,
-            }
+            write_type_in(&mut out, &parse_type(&mut parser))?;
             write_next(&mut out, &parser)?;
         }
         Err(failure) => write_refusal(&mut out, &ParseFailure::from(failure))?,
     }
     Ok(out)
+}
+
+fn write_type_in(out: &mut String, literal: &ParseResult<Type<&str>>) -> Result<(), AllocError> {
+    match literal {
+        Ok(literal) => write_type(out, literal),
+        Err(failure) => write_refusal(out, failure),
+    }
 }
 
 /// `value` and `const`: what `parse_value_literal` answers, const or not.
@@ -32,19 +35,22 @@ pub fn value_in(alloc: Global, text: &str, is_const: bool) -> Result<String, All
     let mut lexer = Lexer::new(alloc, text);
     match Parser::new(&mut lexer) {
         Ok(mut parser) => {
-            let literal: ParseResult<InputValue<DefaultScalarValue>> = parse_value_literal(
-                &mut parser,
-                is_const,
-            );
-            match &literal {
-                Ok(literal) => write_value(&mut out, &literal.span, &literal.item)?,
-                Err(failure) => write_refusal(&mut out, failure)?,
-            }
+            write_value_in(&mut out, &parse_value_literal(&mut parser, is_const))?;
             write_next(&mut out, &parser)?;
         }
         Err(failure) => write_refusal(&mut out, &ParseFailure::from(failure))?,
     }
     Ok(out)
+}
+
+fn write_value_in(
+    out: &mut String,
+    literal: &ParseResult<InputValue<DefaultScalarValue>>,
+) -> Result<(), AllocError> {
+    match literal {
+        Ok(literal) => write_value(out, &literal.span, &literal.item),
+        Err(failure) => write_refusal(out, failure),
+    }
 }
 
 fn write_refusal(out: &mut String, failure: &ParseFailure) -> Result<(), AllocError> {

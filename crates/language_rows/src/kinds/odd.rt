@@ -26,10 +26,14 @@ pub fn arguments_of(alloc: Global, text: &str) -> Result<String, AllocError> {
     let (name, source) = word_of(text);
     match name {
         "RefuseAll" => told(alloc, &documents_without_scalars(alloc, source)),
-        "Thousandths" => told::<Thousandths>(alloc, &parse_document_source(alloc, source)),
-        "OddError" => told::<OddError>(alloc, &parse_document_source(alloc, source)),
+        "Thousandths" => arguments_at::<Thousandths>(alloc, source),
+        "OddError" => arguments_at::<OddError>(alloc, source),
         _ => String::from_str(alloc, "no such type\n"),
     }
+}
+
+fn arguments_at<S: ScalarValue>(alloc: Global, source: &str) -> Result<String, AllocError> {
+    told::<S>(alloc, &parse_document_source(alloc, source))
 }
 
 fn told<S: ScalarValue>(

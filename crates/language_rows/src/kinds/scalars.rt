@@ -2,7 +2,7 @@
 
 use crate::kinds::input_values::converted;
 use crate::kinds::{call_of, word_of};
-use crate::write::{write_error, write_optional_text};
+use crate::write::{write_error, write_optional_text, write_truth};
 use juniper::{
     DefaultScalarValue, InputValue, ParseScalarResult, ParseScalarValue, ReadFailure, Scalar,
     ScalarToken, ScalarValue, ToScalarValue, WrongInputScalarTypeError, scalar_from_str,
@@ -20,7 +20,7 @@ pub fn calls<S: ScalarValue>(
         let call = call_of(line);
         write!(out, "{call} -> ")?;
         match read::<S>(alloc, text) {
-            Ok(scalar) => answer_call(alloc, &mut out, scalar, call)?,
+            Ok(scalar) => answer_call(alloc, &mut out, &scalar, call)?,
             Err(ReadFailure::Refused(error)) => {
                 out.push_str("Refused")?;
                 write_error(&mut out, &error)?;
@@ -46,42 +46,67 @@ fn read<S: ScalarValue>(alloc: Global, text: &str) -> ParseScalarResult<S> {
 fn answer_call<S: ScalarValue>(
     alloc: Global,
     out: &mut String,
-    scalar: S,
+    scalar: &S,
     call: &str,
 ) -> Result<(), AllocError> {
     let (word, rest) = word_of(call);
     match word {
         "from_str" => write!(out, "{scalar}"),
-        "try_to_int" => match scalar.try_to_int() {
-            Some(number) => write!(out, "{number}"),
-            None => out.push_str("None"),
-        },
-        "try_to_bool" => match scalar.try_to_bool() {
-            Some(truth) => write!(out, "{truth}"),
-            None => out.push_str("None"),
-        },
+        "try_to_int" => write_int(out, scalar.try_to_int()),
+        "try_to_bool" => write_bool(out, scalar.try_to_bool()),
         "try_as_str" => write_optional_text(out, scalar.try_as_str()),
+        "try_to" => write_lent(out, scalar),
+        "wrong_type" => write_wrong_type(out, scalar, rest),
+        _ => answer_owned(alloc, out, scalar, word, rest),
+    }
+}
+
+// A call that takes memory, or a copy of the scalar.
+fn answer_owned<S: ScalarValue>(
+    alloc: Global,
+    out: &mut String,
+    scalar: &S,
+    word: &str,
+    rest: &str,
+) -> Result<(), AllocError> {
+    match word {
         "try_to_string" => write_owned(out, &scalar.try_to_string(alloc)?),
-        "try_into_string" => write_owned(out, &scalar.try_into_string(alloc)?),
-        "try_clone" => {
-            let is_equal = scalar.try_clone(alloc)? == scalar;
-            write!(out, "{is_equal}")
-        }
-        "into_another" => {
-            let other: DefaultScalarValue = scalar.into_another(alloc)?;
-            write!(out, "{other}")
-        }
-        "wrong_type" => {
-            let error = WrongInputScalarTypeError {
-                type_name: rest,
-                input: &scalar,
-            };
-            write!(out, "{error}")
-        }
-        "try_to" => write_lent(out, &scalar),
+        "try_into_string" => write_owned(out, &scalar.try_clone(alloc)?.try_into_string(alloc)?),
+        "try_clone" => write_truth(out, scalar.try_clone(alloc)? == *scalar),
+        "into_another" => write_made_of(out, &scalar.try_clone(alloc)?.into_another(alloc)?),
         "made" => write_made(alloc, out, rest),
         _ => out.push_str("no such call"),
     }
+}
+
+fn write_int(out: &mut String, number: Option<i32>) -> Result<(), AllocError> {
+    match number {
+        Some(number) => write!(out, "{number}"),
+        None => out.push_str("None"),
+    }
+}
+
+fn write_bool(out: &mut String, truth: Option<bool>) -> Result<(), AllocError> {
+    match truth {
+        Some(truth) => write_truth(out, truth),
+        None => out.push_str("None"),
+    }
+}
+
+fn write_wrong_type<S: ScalarValue>(
+    out: &mut String,
+    scalar: &S,
+    type_name: &str,
+) -> Result<(), AllocError> {
+    let error = WrongInputScalarTypeError {
+        type_name,
+        input: scalar,
+    };
+    write!(out, "{error}")
+}
+
+fn write_made_of(out: &mut String, scalar: &DefaultScalarValue) -> Result<(), AllocError> {
+    write!(out, "{scalar}")
 }
 
 fn write_owned(out: &mut String, text: &Option<String>) -> Result<(), AllocError> {
@@ -105,11 +130,18 @@ fn write_lent<S: ScalarValue>(out: &mut String, scalar: &S) -> Result<(), AllocE
 
 // The scalars that are made of a text, of an integer and of a truth value, and the input values of a text.
 fn write_made(alloc: Global, out: &mut String, text: &str) -> Result<(), AllocError> {
-    let lent: DefaultScalarValue = scalar_from_str(alloc, text)?;
-    let owned: DefaultScalarValue = String::from_str(alloc, text)?.to_scalar_value(alloc)?;
-    let number: DefaultScalarValue = 7.to_scalar_value(alloc)?;
-    let truth: DefaultScalarValue = true.to_scalar_value(alloc)?;
+    write_made_of(out, &scalar_from_str(alloc, text)?)?;
+    out.push(' ')?;
+    write_made_of(out, &String::from_str(alloc, text)?.to_scalar_value(alloc)?)?;
+    out.push(' ')?;
+    write_constants(alloc, out)?;
     let (one, other) = converted(alloc, text)?;
     let is_equal = one == other && one == InputValue::scalar(scalar_from_str(alloc, text)?);
-    write!(out, "{lent} {owned} {number} {truth} {is_equal}")
+    write!(out, "{is_equal}")
+}
+
+fn write_constants(alloc: Global, out: &mut String) -> Result<(), AllocError> {
+    let number: DefaultScalarValue = 7.to_scalar_value(alloc)?;
+    let truth: DefaultScalarValue = true.to_scalar_value(alloc)?;
+    write!(out, "{number} {truth} ")
 }
