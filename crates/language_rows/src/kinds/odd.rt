@@ -6,6 +6,7 @@ use juniper::{
     Definition, Field, OwnedDocument, ScalarValue, Selection, UnlocatedParseResult,
     parse_document_source,
 };
+use juniper_nodes::Literal;
 use juniper_odd::laws::documents_without_scalars;
 use juniper_odd::{OddError, RefuseAll, Thousandths};
 use std::alloc::{AllocError, Global};
@@ -17,6 +18,7 @@ pub fn scalar_calls(alloc: Global, text: &str, wanted: &str) -> Result<String, A
         "RefuseAll" => scalars::calls::<RefuseAll>(alloc, token, wanted),
         "Thousandths" => scalars::calls::<Thousandths>(alloc, token, wanted),
         "OddError" => scalars::calls::<OddError>(alloc, token, wanted),
+        "Literal" => scalars::calls::<Literal>(alloc, token, wanted),
         _ => String::from_str(alloc, "no such type\n"),
     }
 }
@@ -28,6 +30,7 @@ pub fn arguments_of(alloc: Global, text: &str) -> Result<String, AllocError> {
         "RefuseAll" => told(alloc, &documents_without_scalars(alloc, source)),
         "Thousandths" => arguments_at::<Thousandths>(alloc, source),
         "OddError" => arguments_at::<OddError>(alloc, source),
+        "Literal" => arguments_at::<Literal>(alloc, source),
         _ => String::from_str(alloc, "no such type\n"),
     }
 }
