@@ -1,4 +1,4 @@
-//! The code of the guide: what a caller does with a text, as functions that are proved, each with a test that is run.
+//! The code of the guide: what a caller does with a text, as functions that are proved. `language_rows` calls each of them.
 #![tactic(auto)]
 
 mod arguments;
@@ -7,8 +7,6 @@ mod documents;
 mod faults;
 mod kept;
 mod limits;
-#[cfg(test)]
-mod tests;
 mod walk;
 
 pub use arguments::argument_value;

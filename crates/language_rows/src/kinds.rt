@@ -6,6 +6,7 @@ pub mod completed;
 mod cursor;
 mod devices;
 mod documents;
+mod guide_calls;
 mod input_values;
 mod lexing;
 mod literals;
@@ -51,6 +52,7 @@ fn answer_text(alloc: Global, kind: &str, text: &str, wanted: &str) -> Result<St
         "type_literal" => types::calls(alloc, text, wanted),
         "answer" => answers::calls(alloc, text, wanted),
         "name" => answers::name_calls(alloc, text, wanted),
+        "guide" => guide_calls::calls(alloc, text, wanted),
         _ => String::from_str(alloc, "no such kind\n"),
     }
 }

@@ -173,8 +173,11 @@ fn write_variables(alloc: Global, out: &mut String, value: &Input) -> Result<(),
     Ok(())
 }
 
-// The fields of an object as a map of variables; no variables for another value.
-fn variables_of(alloc: Global, value: Input) -> Result<Variables<DefaultScalarValue>, AllocError> {
+/// The fields of an object as a map of variables; no variables for another value.
+pub(crate) fn variables_of(
+    alloc: Global,
+    value: Input,
+) -> Result<Variables<DefaultScalarValue>, AllocError> {
     let mut variables = HashMap::new(alloc);
     if let InputValue::Object(fields) = value {
         for (key, value) in fields {

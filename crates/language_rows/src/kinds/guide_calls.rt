@@ -1,0 +1,143 @@
+//! Rows of the functions of the guide.
+
+use crate::kinds::input_values::{Input, literal, variables_of};
+use crate::kinds::{call_of, word_of};
+use crate::write::{write_failure, write_optional_text, write_separator, write_span, write_truth};
+use guide::{
+    argument_value, fault_line, field_names, is_document, is_document_within, kept_up_to,
+    same_literal,
+};
+use juniper::{
+    DefaultScalarValue, Definition, Field, OwnedDocument, ParseFailure, Selection, Span,
+    UnlocatedParseResult, parse_document_source,
+};
+use std::alloc::{AllocError, Global};
+
+type Document<'a> = OwnedDocument<'a, DefaultScalarValue>;
+
+/// `guide`: calls on the text. `is_document_within` takes a limit, `same_literal` another text, `argument_value` the name
+/// of an argument of the first field of the first operation, and the variables as the fields of an object.
+pub fn calls(alloc: Global, text: &str, wanted: &str) -> Result<String, AllocError> {
+    let mut out = String::new(alloc);
+    for line in wanted.lines() {
+        let call = call_of(line);
+        write!(out, "{call} -> ")?;
+        answer_call(alloc, &mut out, text, call)?;
+        out.push('\n')?;
+    }
+    Ok(out)
+}
+
+fn answer_call(alloc: Global, out: &mut String, text: &str, call: &str) -> Result<(), AllocError> {
+    let (word, rest) = word_of(call);
+    match word {
+        "is_document" => write_truth(out, is_document(alloc, text)?),
+        "is_document_within" => write_truth(out, is_document_within(alloc, text, limit(rest))?),
+        "fault_line" => write_line(out, &fault_line(alloc, text)?),
+        "kept_up_to" => write_place(out, kept_up_to(alloc, text)?),
+        "same_literal" => write_same(out, &same_literal::<DefaultScalarValue>(alloc, text, rest)),
+        _ => answer_tree(alloc, out, text, word, rest),
+    }
+}
+
+fn limit(text: &str) -> usize {
+    text.parse::<usize>().unwrap_or(0)
+}
+
+fn write_line(out: &mut String, line: &Option<String>) -> Result<(), AllocError> {
+    match line {
+        Some(line) => out.push_str(line.as_str()),
+        None => out.push_str("None"),
+    }
+}
+
+fn write_place(out: &mut String, span: Option<Span>) -> Result<(), AllocError> {
+    match span {
+        Some(span) => write_span(out, &span),
+        None => out.push_str("None"),
+    }
+}
+
+fn write_same(out: &mut String, same: &Result<bool, ParseFailure>) -> Result<(), AllocError> {
+    match same {
+        Ok(same) => write_truth(out, *same),
+        Err(failure) => write_failure(out, failure),
+    }
+}
+
+// A call on the text's tree.
+fn answer_tree(
+    alloc: Global,
+    out: &mut String,
+    text: &str,
+    word: &str,
+    rest: &str,
+) -> Result<(), AllocError> {
+    let parsed: UnlocatedParseResult<Document<'_>> = parse_document_source(alloc, text);
+    match &parsed {
+        Ok(document) => answer_document(alloc, out, document, word, rest),
+        Err(failure) => write_failure(out, failure),
+    }
+}
+
+fn answer_document(
+    alloc: Global,
+    out: &mut String,
+    document: &Document<'_>,
+    word: &str,
+    rest: &str,
+) -> Result<(), AllocError> {
+    match word {
+        "field_names" => write_names(out, &field_names(alloc, document)?),
+        "argument_value" => write_argument(alloc, out, document, rest),
+        _ => out.push_str("no such call"),
+    }
+}
+
+fn write_names(out: &mut String, names: &[&str]) -> Result<(), AllocError> {
+    let before = out.len();
+    for name in names {
+        write_separator(out, before)?;
+        out.push_str(name)?;
+    }
+    Ok(())
+}
+
+// What an argument of the first field is worth.
+fn write_argument(
+    alloc: Global,
+    out: &mut String,
+    document: &Document<'_>,
+    call: &str,
+) -> Result<(), AllocError> {
+    let (name, variables) = word_of(call);
+    match (first_field(document), literal(alloc, variables)?) {
+        (Some(field), Some(variables)) => write_worth(alloc, out, field, name, variables),
+        _ => out.push_str("no field, or no variables"),
+    }
+}
+
+// The first field of the first operation.
+fn first_field<'a, 'b>(document: &'b Document<'a>) -> Option<&'b Field<'a, DefaultScalarValue>> {
+    match document.first()? {
+        Definition::Operation(operation) => match operation.item.selection_set.first()? {
+            Selection::Field(field) => Some(&field.item),
+            _ => None,
+        },
+        Definition::Fragment(_) => None,
+    }
+}
+
+fn write_worth(
+    alloc: Global,
+    out: &mut String,
+    field: &Field<'_, DefaultScalarValue>,
+    name: &str,
+    variables: Input,
+) -> Result<(), AllocError> {
+    let variables = variables_of(alloc, variables)?;
+    match argument_value(alloc, field, name, &variables)? {
+        Some(value) => write!(out, "{value}"),
+        None => out.push_str("None"),
+    }
+}
