@@ -1,0 +1,53 @@
+-- A document has fewer nodes than tokens, and no more than its source has characters.
+use Rattle.std.proofs.Common.{ℕ, ◌≡◌, ◌≤◌, ◌<◌, ◌∷◌, [], List, length, ap, subst, length-append, arith, rules}
+use Rattle.std.specs.List.{sum_by}
+use Rattle.std.proofs.lemmas.List.Sums.{sum_by-cons}
+use Rattle.graphql_lexical.specs.Cutting.{Lexeme, Cut}
+use Rattle.graphql_lexical.proofs.Joints.{few_tokens}
+use Rattle.graphql_grammar.specs.Tree.{Scalars, TypeRef, NamedType, ListType, NonNullType, Definition}
+use Rattle.graphql_grammar.specs.Grammar.{IsType, IsDocument}
+use Rattle.graphql_nodes.specs.Nodes.{document_nodes}
+use Rattle.graphql_nodes.proofs.Measures.{Weighs, document_front}
+
+-- each counts for one
+abbrev one : {A : Type 0} → A → ℕ
+one x = 1
+
+sum_of_ones : {A : Type 0} (xs : List A) → sum_by one xs ≡ length xs
+sum_of_ones [] = search rules
+sum_of_ones (x ∷ xs) = omega (arith, sum_by-cons one x xs, sum_of_ones xs)
+
+some_token : (ts : List Lexeme) (x : TypeRef) → IsType ts x → 1 ≤ length ts
+some_token ts (NamedType name) h = omega (arith, ap length h.1)
+some_token ts (ListType size x) h = omega (arith, ap length h.3)
+some_token ts (NonNullType x) h = omega (arith, ap length h.2, length-append h.0 (h.1 ∷ []))
+
+module _ {C F : Type 0} (S : Scalars C F) where
+  ones : Weighs S one one
+  ones = record {
+    types = λ ts type span h. omega (arith, some_token ts type h, sum_of_ones ts);
+    scalars = λ t content span s e. omega arith;
+    truths = λ t b span. omega arith;
+    others = λ t k span label inner u. omega arith;
+  }
+
+  pub few_nodes : (ts : List Lexeme) (ds : List (Definition C)) → IsDocument S ts ds
+      → length (document_nodes ds) < length ts
+  few_nodes ts ds h =
+      let front = document_front S one one ones ts ds h in
+      omega (
+        arith,
+        front.le,
+        sum_of_ones (document_nodes ds),
+        sum_of_ones front.front,
+        ap length front.whole,
+        length-append front.front (front.end ∷ []),
+      )
+
+  pub few_nodes_of_source : (source : List ℕ) (ts : List Lexeme) (ds : List (Definition C)) → Cut source ts
+      → IsDocument S ts ds
+      → length (document_nodes ds) ≤ length source
+  few_nodes_of_source source ts ds c h =
+      let front = document_front S one one ones ts ds h in
+      let few = few_tokens source front.front front.end (subst (Cut source) front.whole c) in
+      omega (arith, front.le, sum_of_ones (document_nodes ds), sum_of_ones front.front, few.0)

@@ -1,0 +1,9 @@
+pub mod Splits
+pub mod Heads
+pub mod ToldValues
+pub mod Filled
+pub mod ToldParts
+pub mod Told
+pub mod Forests
+pub mod Measures
+pub mod Few

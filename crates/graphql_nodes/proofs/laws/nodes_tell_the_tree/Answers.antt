@@ -1,0 +1,5 @@
+use Rattle.graphql_nodes.proofs.Told.{document_told}
+use Rattle.graphql_nodes.proofs.laws.nodes_tell_the_tree.Goals as goal
+
+pub returns : goal.returns
+returns g c = document_told

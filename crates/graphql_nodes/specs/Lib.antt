@@ -1,0 +1,4 @@
+pub mod Kinds
+pub mod Nodes
+pub mod Forests
+pub mod Types

@@ -1,0 +1,25 @@
+//! Laws of nodes.
+ghost use Rattle.std.specs.Prelude.{◌≡◌, ◌≤◌, ◌<◌, ℕ, List, ◌∷◌, ◌++◌, length};
+ghost use Rattle.graphql_lexical.specs.Cutting.{Lexeme, Cut};
+ghost use Rattle.graphql_grammar.specs.Tree.{Scalars, Definition};
+ghost use Rattle.graphql_grammar.specs.Grammar.{IsDocument};
+ghost use Rattle.graphql_nodes.specs.Nodes.{Node, document_nodes};
+ghost use Rattle.graphql_nodes.specs.Forests.{IsForest};
+
+/// Documents of the same nodes are the same tree, of whatever scalar types and tokens.
+pub fn nodes_tell_the_tree<C, F, G>()
+    ensures { (S : Scalars C F) (T : Scalars C G) (ts us : List Lexeme) (a b : List (Definition C)) → IsDocument S ts a → IsDocument T us b → document_nodes a ≡ document_nodes b → a ≡ b }
+{}
+
+/// The nodes of every tree are a forest: each one's descendants stand behind it, as many as it says, before the next
+/// node that is none of them.
+pub fn nodes_are_a_forest<C>()
+    ensures forest { (a : List (Definition C)) → IsForest (document_nodes a) }
+    ensures behind { (a : List (Definition C)) (before after : List (Node C)) (node : Node C) → document_nodes a ≡ before ++ node ∷ after → node.descendants ≤ length after }
+{}
+
+/// A document has fewer nodes than tokens, and no more than its source has characters.
+pub fn few_nodes<C, F>()
+    ensures tokens { (S : Scalars C F) (ts : List Lexeme) (a : List (Definition C)) → IsDocument S ts a → length (document_nodes a) < length ts }
+    ensures characters { (S : Scalars C F) (source : List ℕ) (ts : List Lexeme) (a : List (Definition C)) → Cut source ts → IsDocument S ts a → length (document_nodes a) ≤ length source }
+{}
