@@ -2,13 +2,13 @@
 use Rattle.std.proofs.Common.{◌≡◌, ℕ, List, [], ◌∷◌, refl}
 use Rattle.std.specs.Borrow.{Bor}
 use Rattle.graphql_grammar.specs.Tree.{TypeRef, NamedType, ListType, NonNullType}
+use Rattle.graphql_nodes.specs.Types.{type_text}
 use Rattle.juniper_values.specs.TypeLiteral as literal
 use Rattle.juniper_values.specs.TypeLiteral.{TypeShape}
 use Rattle.juniper_values.specs.declared.type_literal.TypeModifier.{TypeModifier}
 use Rattle.juniper_values.specs.declared.type_literal.TypeModifier.TheVariants as modifier
 use Rattle.juniper.specs.View.{wrapped, view_type}
 use Rattle.std.specs.Str.{chars}
-use Rattle.gqlcheck_report.specs.Lines.{type_text}
 
 wrapped-text : (t : TypeRef) (ms : List TypeModifier) → type_text (wrapped t ms) ≡ literal.type_text (type_text t) ms
 unfolding type_text

@@ -1,5 +1,3 @@
-pub mod Kinds
 pub mod Lines
-pub mod Parts
 pub mod Report
 pub mod Watched

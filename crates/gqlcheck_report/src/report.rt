@@ -6,7 +6,7 @@ ghost use Rattle.juniper_tokens.specs.Errors.{view_fault};
 ghost use Rattle.juniper_tokens.specs.Spans.{view_span};
 ghost use Rattle.gqlcheck_report.specs.Report.{Report, OneReport, IsReportEnd, fault_line, deep_line};
 
-use crate::lines::write_document;
+use crate::lines::document_text;
 use crate::watched::Watched;
 use juniper::laws::{document_or_fault, one_too_deep};
 use juniper::{
@@ -155,11 +155,7 @@ fn report(alloc: Global, bytes: &[u8]) -> Result<(RunEnd, String), AllocError>
         return Ok((RunEnd::NotUtf8, String::from_str(alloc, NOT_UTF8)?));
     };
     match parse_document_source_within::<DefaultScalarValue>(alloc, source, LIMIT) {
-        Ok(document) => {
-            let mut text = String::new(alloc);
-            write_document(&mut text, &document)?;
-            Ok((RunEnd::Tree, text))
-        }
+        Ok(document) => Ok((RunEnd::Tree, document_text(alloc, &document)?)),
         Err(DepthFailure::Parse(ParseFailure::Refused(fault))) => {
             Ok((RunEnd::Refused, fault_text(alloc, &fault)?))
         }

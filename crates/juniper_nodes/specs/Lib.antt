@@ -1,2 +1,4 @@
 pub mod Literal
 pub mod LiteralLaws
+pub mod NodeTexts
+pub mod NodeViews

@@ -1,0 +1,5 @@
+use Rattle.juniper_nodes.proofs.NodeTexts.{short_texts}
+use Rattle.juniper_nodes.proofs.laws.short_texts.Goals as goal
+
+pub returns : goal.returns
+returns c = short_texts

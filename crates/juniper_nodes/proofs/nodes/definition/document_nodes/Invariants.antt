@@ -1,0 +1,10 @@
+-- The nodes so far, and those of what is left, are the nodes of all.
+use Rattle.graphql_nodes.specs.Nodes.{definition_nodes}
+use Rattle.juniper.specs.View.{view_definition}
+use Rattle.juniper_nodes.proofs.Rows.{Goes}
+use Rattle.juniper_nodes.proofs.nodes.definition.document_nodes.Given as goal
+
+abbrev pub invariant-loop-definition : goal.invariant-loop-definition
+invariant-loop-definition g l =
+    let content = g.S.ParseScalarValue.content in
+    Goes content definition_nodes (view_definition content) l.initial.nodes l.nodes l.document l.definition-index

@@ -1,0 +1,62 @@
+use Rattle.std.proofs.Common.{arith}
+use Rattle.graphql_nodes.specs.Nodes.{selection_nodes, selections_nodes, optional_nodes}
+use Rattle.juniper.specs.View.{view_selection}
+use Rattle.juniper_tokens.specs.Spans.{view_span}
+use Rattle.juniper_nodes.proofs.Growth.{grown, grown_none, closed}
+use Rattle.juniper_nodes.proofs.Rows.{next_part, no_part}
+use Rattle.juniper_nodes.proofs.SelectionNodes.{field_alone, field_above, selections_in_row}
+use Rattle.juniper_nodes.proofs.nodes.selection.+selection.Goals as goal
+
+pub push_selection-returns-in-Field : goal.push_selection-returns-in-Field
+push_selection-returns-in-Field g t c =
+    rw (c.in-Field.is, c.selections_are_seen.ensures.field c.in-Field.field) c.push_field.ensures
+
+pub push_selection-returns-in-FragmentSpread : goal.push_selection-returns-in-FragmentSpread
+push_selection-returns-in-FragmentSpread g t c = rw c.in-FragmentSpread.is c.push_spread.ensures
+
+pub push_selection-returns-in-InlineFragment : goal.push_selection-returns-in-InlineFragment
+push_selection-returns-in-InlineFragment g t c =
+    let fragment = c.in-InlineFragment.fragment in
+    rw (c.in-InlineFragment.is, c.selections_are_seen.ensures.inline_fragment fragment) c.push_inline.ensures
+
+pub push_field-returns-in-None : goal.push_field-returns-in-None
+push_field-returns-in-None g t c =
+    let content = g.S.ParseScalarValue.content in
+    let parts = grown content c.in_ok-push_directives.ensures (grown_none content _) in
+    let all = grown content c.in_ok-push_alias.ensures (grown content c.in_ok-push_optional_arguments.ensures parts) in
+    rw (field_alone content c.args.field.now c.in-None.is) (closed content c.in_ok-place.ensures all c.close.ensures)
+
+pub push_field-returns-in_ok-push_selections-in-Some : goal.push_field-returns-in_ok-push_selections-in-Some
+push_field-returns-in_ok-push_selections-in-Some g t c =
+    let content = g.S.ParseScalarValue.content in
+    let parts = grown content c.in_ok-push_directives.ensures c.in_ok-push_selections-in-Some.ensures in
+    let all = grown content c.in_ok-push_alias.ensures (grown content c.in_ok-push_optional_arguments.ensures parts) in
+    rw (field_above content c.args.field.now c.in-Some.selections c.in-Some.is, ← c.deref.ensures.value)
+    (closed content c.in_ok-place.ensures all c.close-in-Some.ensures)
+
+pub push_inline-returns : goal.push_inline-returns
+unfolding selection_nodes selections_nodes optional_nodes
+push_inline-returns g t c =
+    let content = g.S.ParseScalarValue.content in
+    let parts = grown content c.in_ok-push_directives.ensures c.in_ok-push_selections.ensures in
+    rw (← c.deref.ensures.value, ← c.label_of-condition.ensures (view_span c.args.fragment.now.span))
+    (closed content c.in_ok-place.ensures parts c.close.ensures)
+
+pub push_selections-loop-selection-preserved : goal.push_selections-loop-selection-preserved
+push_selections-loop-selection-preserved g t c =
+    let content = g.S.ParseScalarValue.content in
+    let l = c.loop-selection in
+    let xs = c.args.selections.now in
+    let x = c.selection-item in
+    let view = view_selection content in
+    next_part content selection_nodes view c.args.nodes.now l.nodes _ xs l.selection-index x.result (omega arith) x.is
+    l.invariant c.in_ok-push_selection.ensures
+
+pub push_selections-returns : goal.push_selections-returns
+push_selections-returns g t c =
+    let content = g.S.ParseScalarValue.content in
+    let l = c.loop-selection in
+    let xs = c.args.selections.now in
+    let view = view_selection content in
+    rw (selections_in_row content xs)
+    (no_part content selection_nodes view c.args.nodes.now l.nodes xs l.selection-index (omega arith) l.invariant)

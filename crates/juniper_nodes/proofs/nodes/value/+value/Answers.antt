@@ -1,0 +1,87 @@
+use Rattle.std.proofs.Common.{map, arith}
+use Rattle.graphql_nodes.specs.Nodes.{value_nodes}
+use Rattle.juniper.specs.View.{view_value, view_object_field}
+use Rattle.juniper_nodes.proofs.Growth.{closed}
+use Rattle.juniper_nodes.proofs.Rows.{next_part, no_part}
+use Rattle.juniper_nodes.proofs.ValueNodes.{field_nodes, items_in_row, fields_in_row, null-nodes, scalar-nodes, enum-nodes, variable-nodes, list-nodes, object-nodes}
+use Rattle.juniper_nodes.proofs.nodes.value.+value.Goals as goal
+
+pub push_value-returns-in-Null : goal.push_value-returns-in-Null
+push_value-returns-in-Null g t c =
+    let content = g.S.ParseScalarValue.content in
+    rw (null-nodes content c.values_are_seen.ensures c.args.value.now c.in-Null.is) c.push_leaf.ensures
+
+pub push_value-returns-in-Scalar : goal.push_value-returns-in-Scalar
+push_value-returns-in-Scalar g t c =
+    let content = g.S.ParseScalarValue.content in
+    rw (scalar-nodes content c.values_are_seen.ensures c.args.value.now _ c.in-Scalar.is) c.push_scalar.ensures
+
+pub push_value-returns-in-Enum : goal.push_value-returns-in-Enum
+push_value-returns-in-Enum g t c =
+    let content = g.S.ParseScalarValue.content in
+    let at = c.in-Enum in
+    rw (enum-nodes content c.values_are_seen.ensures c.args.value.now at.name at.is, ← c.as_str.ensures.value)
+    c.push_leaf-in-Enum.ensures
+
+pub push_value-returns-in-Variable : goal.push_value-returns-in-Variable
+push_value-returns-in-Variable g t c =
+    let content = g.S.ParseScalarValue.content in
+    let at = c.in-Variable in
+    let name = c.as_str-in-Variable in
+    rw (variable-nodes content c.values_are_seen.ensures c.args.value.now at.name at.is, ← name.ensures.value)
+    c.push_leaf-in-Variable.ensures
+
+pub push_value-returns-in_ok-push_items-in-List : goal.push_value-returns-in_ok-push_items-in-List
+push_value-returns-in_ok-push_items-in-List g t c =
+    let content = g.S.ParseScalarValue.content in
+    let at = c.in-List in
+    rw (list-nodes content c.values_are_seen.ensures c.args.value.now at.items at.is, ← c.deref.ensures.value)
+    (closed content c.in_ok-place-in-List.ensures c.in_ok-push_items-in-List.ensures c.close.ensures)
+
+pub push_value-returns-in_ok-push_fields-in-Object : goal.push_value-returns-in_ok-push_fields-in-Object
+push_value-returns-in_ok-push_fields-in-Object g t c =
+    let content = g.S.ParseScalarValue.content in
+    let at = c.in-Object in
+    let fields = c.deref-in-Object in
+    rw (object-nodes content c.values_are_seen.ensures c.args.value.now at.fields at.is, ← fields.ensures.value)
+    (closed content c.in_ok-place-in-Object.ensures c.in_ok-push_fields-in-Object.ensures c.close-in-Object.ensures)
+
+pub push_items-loop-item-preserved : goal.push_items-loop-item-preserved
+push_items-loop-item-preserved g t c =
+    let content = g.S.ParseScalarValue.content in
+    let l = c.loop-item in
+    let xs = c.args.items.now in
+    let x = c.item-item in
+    let view = view_value content in
+    next_part content value_nodes view c.args.nodes.now l.nodes _ xs l.item-index x.result (omega arith) x.is
+    l.invariant c.in_ok-push_value.ensures
+
+pub push_items-returns : goal.push_items-returns
+push_items-returns g t c =
+    let content = g.S.ParseScalarValue.content in
+    let l = c.loop-item in
+    let xs = c.args.items.now in
+    let view = view_value content in
+    rw (items_in_row (map view xs))
+    (no_part content value_nodes view c.args.nodes.now l.nodes xs l.item-index (omega arith) l.invariant)
+
+pub push_fields-loop-key-preserved : goal.push_fields-loop-key-preserved
+push_fields-loop-key-preserved g t c =
+    let content = g.S.ParseScalarValue.content in
+    let l = c.loop-key in
+    let xs = c.args.fields.now in
+    let x = c.loop-key-item in
+    let view = view_object_field content in
+    let new = c.close.new.nodes in
+    next_part content field_nodes view c.args.nodes.now l.nodes new xs l.key-index x.result (omega arith) x.is
+    l.invariant
+    (rw (← c.as_str.ensures.value) (closed content c.in_ok-place.ensures c.in_ok-push_value.ensures c.close.ensures))
+
+pub push_fields-returns : goal.push_fields-returns
+push_fields-returns g t c =
+    let content = g.S.ParseScalarValue.content in
+    let l = c.loop-key in
+    let xs = c.args.fields.now in
+    let view = view_object_field content in
+    rw (fields_in_row (map view xs))
+    (no_part content field_nodes view c.args.nodes.now l.nodes xs l.key-index (omega arith) l.invariant)

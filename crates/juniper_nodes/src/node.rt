@@ -1,0 +1,32 @@
+//! A node of a document, and what names it.
+use graphql_nodes::NodeKind;
+use juniper::{Span, Spanning, Type};
+
+/// What names a node (GraphQL specification, October 2021, section 2).
+#[derive(Clone, Copy, Drop)]
+pub enum Label<'t, 'a> {
+    /// Nothing.
+    Unnamed,
+    /// A name that the source writes, with its place.
+    Name(&'t Spanning<&'a str>),
+    /// A name that is all of its node: an enum, a variable without its `$`, an object's key.
+    Text(&'t str),
+    /// A fragment's name and its type condition.
+    Fragment(&'t Spanning<&'a str>, &'t Spanning<&'a str>),
+    /// A variable's type.
+    Type(&'t Type<&'a str>),
+}
+
+/// A part of a document (GraphQL specification, October 2021, section 2). It lends what it tells from the document's tree.
+#[derive(Drop)]
+pub struct Node<'t, 'a, S: Drop> {
+    pub kind: NodeKind,
+    /// From the part's first character to the place behind its last.
+    pub span: &'t Span,
+    pub label: Label<'t, 'a>,
+    /// The scalar, at a node of that kind alone.
+    pub scalar: Option<&'t S>,
+    /// How many of the nodes behind this one are of parts in it: the next node that isn't stands at this one's index plus one
+    /// plus this number.
+    pub descendants: usize,
+}

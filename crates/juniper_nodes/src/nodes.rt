@@ -1,0 +1,11 @@
+//! The nodes of a document, part by part.
+#![tactic(auto, using(crate::proofs::Growth::grown, crate::proofs::Growth::grown_none))]
+
+mod definition;
+mod directives;
+mod push;
+mod selection;
+mod value;
+mod variables;
+
+pub use definition::document_nodes;

@@ -1,0 +1,83 @@
+//! The nodes of values.
+ghost use Rattle.std.specs.Prelude.{OnOk, map};
+ghost use Rattle.graphql_grammar.specs.Reading.{items_of, fields_of};
+ghost use Rattle.graphql_nodes.specs.Nodes.{value_nodes, items_nodes, fields_nodes};
+ghost use Rattle.juniper.specs.View.{view_value, view_object_field};
+ghost use Rattle.juniper_nodes.specs.NodeViews.{Gains};
+
+use crate::node::{Label, Node};
+use crate::nodes::push::{close, push_leaf, push_open, push_scalar};
+use graphql_nodes::NodeKind;
+use juniper::laws::values_are_seen;
+use juniper::{InputValue, ScalarValue, Spanning};
+use std::alloc::AllocError;
+
+/// Puts the nodes of a value behind the others (GraphQL specification, October 2021, section 2.9).
+#[cycle(value)]
+pub(crate) fn push_value<'t, 'a, S: ScalarValue>(
+    nodes: &mut Vec<Node<'t, 'a, S>>,
+    value: &'t Spanning<InputValue<S>>,
+) -> Result<(), AllocError>
+    ensures { OnOk result (Gains S.content nodes.old nodes.new (value_nodes (view_value S.content value.now))) }
+{
+    // The law that the proof cites.
+    values_are_seen::<S>();
+    let span = &value.span;
+    match &value.item {
+        InputValue::Null => push_leaf(nodes, NodeKind::Null, span, Label::Unnamed),
+        InputValue::Scalar(scalar) => push_scalar(nodes, scalar, span),
+        InputValue::Enum(name) => push_leaf(
+            nodes,
+            NodeKind::Enum,
+            span,
+            Label::Text(name.as_str()),
+        ),
+        InputValue::Variable(name) => push_leaf(
+            nodes,
+            NodeKind::Reference,
+            span,
+            Label::Text(name.as_str()),
+        ),
+        InputValue::List(items) => {
+            let place = push_open(nodes, NodeKind::List, span, Label::Unnamed)?;
+            push_items(nodes, items)?;
+            close(nodes, place);
+            Ok(())
+        }
+        InputValue::Object(fields) => {
+            let place = push_open(nodes, NodeKind::Object, span, Label::Unnamed)?;
+            push_fields(nodes, fields)?;
+            close(nodes, place);
+            Ok(())
+        }
+    }
+}
+
+#[cycle(value)]
+fn push_items<'t, 'a, S: ScalarValue>(
+    nodes: &mut Vec<Node<'t, 'a, S>>,
+    items: &'t [Spanning<InputValue<S>>],
+) -> Result<(), AllocError>
+    ensures { OnOk result (Gains S.content nodes.old nodes.new (items_nodes (items_of (map (view_value S.content) items.now)))) }
+{
+    for item in items {
+        push_value(nodes, item)?;
+    }
+    Ok(())
+}
+
+#[cycle(value)]
+fn push_fields<'t, 'a, S: ScalarValue>(
+    nodes: &mut Vec<Node<'t, 'a, S>>,
+    fields: &'t [(Spanning<String>, Spanning<InputValue<S>>)],
+) -> Result<(), AllocError>
+    ensures { OnOk result (Gains S.content nodes.old nodes.new (fields_nodes (fields_of (map (view_object_field S.content) fields.now)))) }
+{
+    for (key, value) in fields {
+        let name = Label::Text(key.item.as_str());
+        let place = push_open(nodes, NodeKind::Key, &key.span, name)?;
+        push_value(nodes, value)?;
+        close(nodes, place);
+    }
+    Ok(())
+}
