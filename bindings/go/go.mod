@@ -1,0 +1,3 @@
+module juniper
+
+go 1.19

@@ -1,0 +1,4 @@
+pub mod Bytes
+pub mod Types
+pub mod Told
+pub mod Bounds

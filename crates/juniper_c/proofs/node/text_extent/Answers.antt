@@ -1,0 +1,7 @@
+use Rattle.std.proofs.Common.{ap, ◌∙◌, arith, rules}
+use Rattle.juniper_c.specs.declared.node.Extent.{Extent}
+use Rattle.juniper_c.proofs.Told.{before_end}
+use Rattle.juniper_c.proofs.node.text_extent.Goals as goal
+
+pub returns : goal.returns
+returns c = rw (← before_end c.args.end c.args.text.now (omega (arith, c.ranges.end.fits)) c.utf8.text) (search rules)

@@ -1,0 +1,6 @@
+use Rattle.std.proofs.Common.{rules}
+use Rattle.juniper_c.proofs.Types.{type-text}
+use Rattle.juniper_c.proofs.node.write_type.Goals as goal
+
+pub returns : goal.returns
+returns c = rw (type-text c.args.literal.now) (search rules)

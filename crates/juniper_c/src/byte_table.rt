@@ -1,0 +1,56 @@
+//! From characters to bytes.
+ghost use Rattle.std.specs.Prelude.{◌≡◌, ◌<◌, ◌^◌, ℕ, length, IfOk};
+ghost use Rattle.std.specs.Str.{chars};
+ghost use Rattle.juniper_c.specs.Places.{byte_behind};
+ghost use Rattle.juniper_c.specs.ByteTables.{byte_in, IsTableOf};
+
+use crate::place::in_word;
+use std::alloc::{AllocError, Global};
+
+/// Where the characters of a text begin in its bytes.
+#[derive(Drop)]
+pub(crate) struct ByteTable {
+    // The first byte of each character; None where each character is one byte.
+    starts: Option<Vec<u32>>,
+    // How many bytes the text has.
+    length: u32,
+}
+
+impl ByteTable {
+    /// The table of a text. It takes no memory where the text is ASCII.
+    pub(crate) fn new(alloc: Global, source: &str) -> Result<Self, AllocError>
+        requires { length source.now < 2 ^ 32 }
+        ensures { IfOk result (λ table. IsTableOf (chars source.now) table) }
+    {
+        let length = source.len() as u32;
+        if source.is_ascii() {
+            return Ok(ByteTable {
+                starts: None,
+                length,
+            });
+        }
+        let mut starts = Vec::with_capacity(alloc, source.len())?;
+        let mut bytes = 0;
+        for c in source.chars() {
+            starts.push(bytes as u32)?;
+            bytes += c.len_utf8();
+        }
+        Ok(ByteTable {
+            starts: Some(starts),
+            length,
+        })
+    }
+
+    /// How many bytes stand before the character of this index; all of them where there is none.
+    pub(crate) fn byte(&self, index: usize) -> u32
+        ensures { result ≡ byte_in self.now index }
+    {
+        match &self.starts {
+            None => in_word(index).min(self.length),
+            Some(starts) => match starts.get(index) {
+                Some(start) => *start,
+                None => self.length,
+            },
+        }
+    }
+}

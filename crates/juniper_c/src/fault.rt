@@ -1,0 +1,93 @@
+//! Why a source has no tree, as C is told it.
+ghost use Rattle.std.specs.Prelude.{◌≡◌, ℕ, List};
+ghost use Rattle.juniper_tokens.specs.Errors.{view_error, view_fault, view_lexer_error};
+ghost use Rattle.juniper_tokens.specs.Spans.{view_span};
+ghost use Rattle.juniper_c.specs.ByteTables.{IsTableOf};
+ghost use Rattle.juniper_c.specs.Faults.{lexical_reason, error_reason, fault_at, told_fault, deep_fault};
+
+use crate::byte_table::ByteTable;
+use crate::place::{Place, place_at};
+use juniper::{LexerError, ParseError, Span, Spanning};
+
+/// Why a source has no tree, and where.
+#[repr(C)]
+#[derive(Clone, Copy)]
+pub struct Fault {
+    /// 0 for an unexpected token, 1 for an unexpected end, 2 where there is no token, 3 for a scalar, 4 for nesting.
+    pub kind: u32,
+    /// A number for each `LexerError`, from 1 on in their order; 0 where the source is refused for no such error.
+    pub detail: u32,
+    /// The character that the lexer's error tells, or 0.
+    pub character: u32,
+    pub start: Place,
+    pub end: Place,
+}
+
+// The first three of them.
+#[derive(Clone, Copy)]
+struct Reason {
+    kind: u32,
+    detail: u32,
+    character: u32,
+}
+
+/// The fault of a source that is refused.
+pub(crate) fn told_fault(table: &ByteTable, fault: &Spanning<ParseError>) -> Fault
+    ensures { (source : List ℕ) → IsTableOf source table.now → result ≡ told_fault source (view_fault fault.now) }
+{
+    fault_at(table, error_reason(&fault.item), &fault.span)
+}
+
+/// The fault of a source with a token that is nested too deep.
+pub(crate) fn deep_fault(table: &ByteTable, span: Span) -> Fault
+    ensures { (source : List ℕ) → IsTableOf source table.now → result ≡ deep_fault source (view_span span) }
+{
+    fault_at(table, because(4, 0, 0), &span)
+}
+
+fn fault_at(table: &ByteTable, reason: Reason, span: &Span) -> Fault
+    ensures { (source : List ℕ) → IsTableOf source table.now → result ≡ fault_at source reason (view_span span.now) }
+{
+    Fault {
+        kind: reason.kind,
+        detail: reason.detail,
+        character: reason.character,
+        start: place_at(table, span.start),
+        end: place_at(table, span.end),
+    }
+}
+
+fn error_reason(error: &ParseError) -> Reason
+    ensures { result ≡ error_reason (view_error error.now) }
+{
+    match error {
+        ParseError::UnexpectedToken(_) => because(0, 0, 0),
+        ParseError::UnexpectedEndOfFile => because(1, 0, 0),
+        ParseError::LexerError(error) => lexical_reason(error),
+        ParseError::ExpectedScalarError(_) => because(3, 0, 0),
+    }
+}
+
+fn lexical_reason(error: &LexerError) -> Reason
+    ensures { result ≡ lexical_reason (view_lexer_error error.now) }
+{
+    match error {
+        LexerError::UnknownCharacter(c) => because(2, 1, *c as u32),
+        LexerError::UnexpectedCharacter(c) => because(2, 2, *c as u32),
+        LexerError::UnterminatedString => because(2, 3, 0),
+        LexerError::UnknownCharacterInString(c) => because(2, 4, *c as u32),
+        LexerError::UnknownEscapeSequence(_) => because(2, 5, 0),
+        LexerError::UnexpectedEndOfFile => because(2, 6, 0),
+        LexerError::InvalidNumber => because(2, 7, 0),
+    }
+}
+
+fn because(kind: u32, detail: u32, character: u32) -> Reason
+    ensures { result ≡ record { kind = kind; detail = detail; character = character } }
+{
+    Reason {
+        kind,
+        detail,
+        character,
+    }
+}

@@ -1,0 +1,104 @@
+//! What there is to tell of a source, before the caller's rooms are looked at.
+ghost use Rattle.std.specs.Prelude.{◌≡◌, ◌<◌, ◌≤◌, ◌^◌, ℕ, List, length, map, IfOk, string_bytes, encode_utf8_all};
+ghost use Rattle.std.specs.Str.{chars};
+ghost use Rattle.juniper_nodes.specs.Literal.{literal_content};
+ghost use Rattle.juniper_nodes.specs.NodeTexts.{node_texts};
+ghost use Rattle.juniper_nodes.specs.NodeViews.{view_node};
+ghost use Rattle.juniper_c.specs.ByteTables.{IsTableOf};
+ghost use Rattle.juniper_c.specs.Nodes.{told_nodes};
+ghost use Rattle.juniper_c.specs.Answers.{AnswersFlat};
+
+use crate::byte_table::ByteTable;
+use crate::fault::{Fault, deep_fault, told_fault};
+use crate::node::{Node, told_node, write_node};
+use juniper::{DepthFailure, ParseFailure, parse_document_source_within};
+use juniper_nodes::{Literal, document_nodes};
+use std::alloc::{AllocError, Global};
+
+const LIMIT: usize = 1 << 32;
+
+/// The nodes of a document, and their texts one behind the other.
+#[derive(Drop)]
+pub(crate) struct Flat {
+    pub(crate) nodes: Vec<Node>,
+    pub(crate) texts: String,
+}
+
+/// Why there are no nodes.
+#[derive(Clone, Copy)]
+pub(crate) enum Stop {
+    /// The source is no document.
+    Refused(Fault),
+    /// A token is nested too deep, and those up to it begin a document.
+    TooDeep(Fault),
+    /// The bytes are no text.
+    NotUtf8,
+    Memory,
+    /// The source has 4 GiB or more.
+    TooLong,
+}
+
+impl From<AllocError> for Stop {
+    ghost use Rattle.juniper_c.specs.declared.flat.Stop.TheVariants.{Memory};
+
+    ghost from_gives = { λ _ e. e ≡ Memory };
+
+    fn from(_error: AllocError) -> Stop {
+        Stop::Memory
+    }
+}
+
+/// The nodes of a source.
+pub(crate) fn flat_of(alloc: Global, source: &[u8], depth: u32) -> Result<Flat, Stop>
+    ensures answer { AnswersFlat source.now depth result }
+    ensures bounds { IfOk result (λ flat. (length flat.nodes.items ≤ length source.now) × (length (string_bytes flat.texts) ≤ length source.now)) }
+{
+    if source.len() >= LIMIT {
+        return Err(Stop::TooLong);
+    }
+    match std::str::from_utf8(source) {
+        Ok(text) => flat_of_text(alloc, text, depth),
+        Err(_) => Err(Stop::NotUtf8),
+    }
+}
+
+fn flat_of_text(alloc: Global, text: &str, depth: u32) -> Result<Flat, Stop>
+    requires { length text.now < 2 ^ 32 }
+    ensures { AnswersFlat text.now depth result }
+{
+    match parse_document_source_within::<Literal>(alloc, text, depth as usize) {
+        Ok(document) => {
+            let table = ByteTable::new(alloc, text)?;
+            let nodes = document_nodes(alloc, &document)?;
+            Ok(flattened(alloc, &table, &nodes)?)
+        }
+        Err(DepthFailure::Parse(ParseFailure::Refused(found))) => {
+            let table = ByteTable::new(alloc, text)?;
+            Err(Stop::Refused(told_fault(&table, &found)))
+        }
+        Err(DepthFailure::TooDeep(span)) => {
+            let table = ByteTable::new(alloc, text)?;
+            Err(Stop::TooDeep(deep_fault(&table, span)))
+        }
+        Err(DepthFailure::Parse(ParseFailure::Memory)) => Err(Stop::Memory),
+    }
+}
+
+// The nodes as C is told them.
+fn flattened(
+    alloc: Global,
+    table: &ByteTable,
+    nodes: &[juniper_nodes::Node<'_, '_, Literal>],
+) -> Result<Flat, AllocError>
+    ensures nodes { (source : List ℕ) → IsTableOf source table.now → IfOk result (λ flat. flat.nodes.items ≡ told_nodes source 0 (map (view_node literal_content) nodes.now)) }
+    ensures texts { IfOk result (λ flat. string_bytes flat.texts ≡ encode_utf8_all (node_texts (map (view_node literal_content) nodes.now))) }
+{
+    let mut told = Vec::with_capacity(alloc, nodes.len())?;
+    let mut texts = String::new(alloc);
+    for node in nodes {
+        let at = texts.len();
+        write_node(&mut texts, node)?;
+        told.push(told_node(table, node, at, texts.len() - at))?;
+    }
+    Ok(Flat { nodes: told, texts })
+}

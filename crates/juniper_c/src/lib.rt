@@ -1,0 +1,12 @@
+//! The parser for callers in C and through C.
+#![tactic(auto)]
+
+mod byte_table;
+mod fault;
+mod flat;
+mod message;
+mod node;
+mod parse;
+mod place;
+mod status;
+mod version;

@@ -1,0 +1,328 @@
+//! Nodes, as C is told them.
+ghost use Rattle.std.specs.Prelude.{◌≡◌, ◌-◌, ◌++◌, ℕ, List, [], length, pos, option_map, option_and_then, OnOk, string_bytes, encode_utf8_all};
+ghost use Rattle.std.specs.Option.{unwrap_or};
+ghost use Rattle.std.specs.Str.{chars};
+ghost use Rattle.graphql_nodes.specs.Types.{type_text};
+ghost use Rattle.juniper_tokens.specs.Spans.{view_span};
+ghost use Rattle.juniper_values.specs.Default.{bool_in, default_content};
+ghost use Rattle.juniper.specs.View.{view_type, view_word};
+ghost use Rattle.juniper_nodes.specs.Literal.{literal_content, int_in, str_in};
+ghost use Rattle.juniper_nodes.specs.NodeTexts.{text_of_node};
+ghost use Rattle.juniper_nodes.specs.NodeViews.{view_label, view_node};
+ghost use Rattle.juniper_c.specs.Places.{in_word};
+ghost use Rattle.juniper_c.specs.ByteTables.{IsTableOf};
+ghost use Rattle.juniper_c.specs.Nodes.{kind_number, node_number, content_number, byte_count, word_extent, span_extent, no_extent, unnamed_extent, node_extent, content_value, scalar_value, condition_value, node_value, told_node};
+
+use crate::byte_table::ByteTable;
+use crate::place::{Place, in_word, place_at};
+use juniper::{DefaultScalarValue, ScalarValue, Span, Spanning, Type};
+use juniper_nodes::{Label, Literal, NodeKind};
+use std::alloc::AllocError;
+
+/// A part of a document.
+#[repr(C)]
+#[derive(Clone, Copy)]
+pub struct Node {
+    /// What it stands for, a number for each `NodeKind` in their order, for a scalar one for each kind of literal.
+    pub kind: u32,
+    /// How many of the nodes behind it are of parts in it.
+    pub descendants: u32,
+    pub start: Place,
+    pub end: Place,
+    /// The first byte of the source that names it, and the one behind the last.
+    pub name_start: u32,
+    pub name_end: u32,
+    /// An Int's number, a Boolean's 0 or 1, the byte of the texts where a string's meaning or a type begins, the byte of
+    /// the source where a fragment's type condition begins.
+    pub value: i64,
+    /// How many bytes the text or the type condition has.
+    pub value_length: u32,
+}
+
+// Two places between bytes.
+#[derive(Clone, Copy)]
+struct Extent {
+    start: u32,
+    end: u32,
+}
+
+#[derive(Clone, Copy)]
+struct Value {
+    number: i64,
+    length: u32,
+}
+
+const NO_VALUE: Value = Value {
+    number: 0,
+    length: 0,
+};
+
+/// The node of a part whose text begins at the byte `at` of the texts and has `length` bytes.
+pub(crate) fn told_node(
+    table: &ByteTable,
+    node: &juniper_nodes::Node<'_, '_, Literal>,
+    at: usize,
+    length: usize,
+) -> Node
+    ensures { (source : List ℕ) → IsTableOf source table.now → length ≡ byte_count (text_of_node (view_node literal_content node.now)) → result ≡ told_node source at (view_node literal_content node.now) }
+{
+    let name = extent_of(table, node);
+    let value = value_of(table, node, at, length);
+    Node {
+        kind: node_number(node.kind, node.scalar),
+        descendants: in_word(node.descendants),
+        start: place_at(table, node.span.start),
+        end: place_at(table, node.span.end),
+        name_start: name.start,
+        name_end: name.end,
+        value: value.number,
+        value_length: value.length,
+    }
+}
+
+/// Puts what the node has in the texts behind the others.
+pub(crate) fn write_node(
+    texts: &mut String,
+    node: &juniper_nodes::Node<'_, '_, Literal>,
+) -> Result<(), AllocError>
+    ensures { OnOk result (string_bytes texts.new ≡ string_bytes texts.old ++ encode_utf8_all (text_of_node (view_node literal_content node.now))) }
+{
+    match node.label {
+        Label::Type(literal) => write_type(texts, literal),
+        Label::Unnamed | Label::Name(_) | Label::Text(_) | Label::Fragment(..) => {
+            write_scalar(texts, node.scalar)
+        }
+    }
+}
+
+// ---- kinds
+
+fn node_number(kind: NodeKind, scalar: Option<&Literal>) -> u32
+    ensures { result ≡ node_number kind (option_map (λ literal. literal_content literal.now) scalar.entry) }
+{
+    match scalar {
+        None => kind_number(kind),
+        Some(literal) => literal_number(literal),
+    }
+}
+
+fn kind_number(kind: NodeKind) -> u32
+    ensures { result ≡ kind_number kind }
+{
+    match kind {
+        NodeKind::Query => 0,
+        NodeKind::Mutation => 1,
+        NodeKind::Subscription => 2,
+        NodeKind::Fragment => 3,
+        NodeKind::Variables => 4,
+        NodeKind::Variable => 5,
+        NodeKind::Type => 6,
+        NodeKind::Field => 7,
+        NodeKind::Alias => 8,
+        NodeKind::Spread => 9,
+        NodeKind::Inline => 10,
+        NodeKind::Directive => 11,
+        NodeKind::Arguments => 12,
+        NodeKind::Argument => 13,
+        NodeKind::Null => 14,
+        NodeKind::Scalar => 15,
+        NodeKind::Enum => 16,
+        NodeKind::Reference => 17,
+        NodeKind::List => 18,
+        NodeKind::Object => 19,
+        NodeKind::Key => 20,
+    }
+}
+
+fn literal_number(literal: &Literal) -> u32
+    ensures { result ≡ content_number (literal_content literal.now) }
+{
+    match literal {
+        Literal::Default(scalar) => default_number(scalar),
+        Literal::Int(_) => 21,
+        Literal::LargeInt(_) => 22,
+        Literal::Float(_) => 23,
+        Literal::String(_) => 24,
+        Literal::BlockString(_) => 25,
+    }
+}
+
+fn default_number(scalar: &DefaultScalarValue) -> u32
+    ensures { result ≡ content_number (default_content scalar.now) }
+{
+    match scalar {
+        DefaultScalarValue::Int(_) => 21,
+        DefaultScalarValue::String(_) => 24,
+        DefaultScalarValue::Boolean(_) => 26,
+    }
+}
+
+// ---- names
+
+fn extent_of(table: &ByteTable, node: &juniper_nodes::Node<'_, '_, Literal>) -> Extent
+    ensures { (source : List ℕ) → IsTableOf source table.now → result ≡ node_extent source node.now.kind (view_span node.now.span.now) (view_label (view_span node.now.span.now) node.now.label) }
+{
+    match node.label {
+        Label::Unnamed => unnamed_extent(table, node.kind, node.span),
+        Label::Name(name) => word_extent(table, name),
+        Label::Text(text) => text_extent(table.byte(node.span.end.index()), text),
+        Label::Fragment(name, _) => word_extent(table, name),
+        Label::Type(_) => span_extent(table, node.span),
+    }
+}
+
+fn unnamed_extent(table: &ByteTable, kind: NodeKind, span: &Span) -> Extent
+    ensures { (source : List ℕ) → IsTableOf source table.now → result ≡ unnamed_extent kind source (view_span span.now) }
+{
+    match kind {
+        NodeKind::Scalar | NodeKind::Null => span_extent(table, span),
+        NodeKind::Query
+        | NodeKind::Mutation
+        | NodeKind::Subscription
+        | NodeKind::Fragment
+        | NodeKind::Variables
+        | NodeKind::Variable
+        | NodeKind::Type
+        | NodeKind::Field
+        | NodeKind::Alias
+        | NodeKind::Spread
+        | NodeKind::Inline
+        | NodeKind::Directive
+        | NodeKind::Arguments
+        | NodeKind::Argument
+        | NodeKind::Enum
+        | NodeKind::Reference
+        | NodeKind::List
+        | NodeKind::Object
+        | NodeKind::Key => no_extent(table, span),
+    }
+}
+
+fn span_extent(table: &ByteTable, span: &Span) -> Extent
+    ensures { (source : List ℕ) → IsTableOf source table.now → result ≡ span_extent source (view_span span.now) }
+{
+    Extent {
+        start: table.byte(span.start.index()),
+        end: table.byte(span.end.index()),
+    }
+}
+
+fn no_extent(table: &ByteTable, span: &Span) -> Extent
+    ensures { (source : List ℕ) → IsTableOf source table.now → result ≡ no_extent source (view_span span.now) }
+{
+    let start = table.byte(span.start.index());
+    Extent { start, end: start }
+}
+
+fn word_extent(table: &ByteTable, word: &Spanning<&str>) -> Extent
+    ensures { (source : List ℕ) → IsTableOf source table.now → result ≡ word_extent source (view_word word.now) }
+{
+    text_extent(table.byte(word.span.end.index()), word.item)
+}
+
+// The bytes of a text that ends there.
+fn text_extent(end: u32, text: &str) -> Extent
+    ensures { result ≡ record { start = end - byte_count (chars text.now); end = end } }
+{
+    Extent {
+        start: end.saturating_sub(in_word(text.len())),
+        end,
+    }
+}
+
+// ---- values
+
+fn value_of(
+    table: &ByteTable,
+    node: &juniper_nodes::Node<'_, '_, Literal>,
+    at: usize,
+    length: usize,
+) -> Value
+    ensures { (source : List ℕ) → IsTableOf source table.now → let seen = view_node literal_content node.now in length ≡ byte_count (text_of_node seen) → result ≡ node_value source at seen.content seen.label }
+{
+    match node.label {
+        Label::Fragment(_, condition) => condition_value(word_extent(table, condition)),
+        Label::Type(_) => text_value(at, length),
+        Label::Unnamed | Label::Name(_) | Label::Text(_) => scalar_value(node.scalar, at, length),
+    }
+}
+
+fn scalar_value(scalar: Option<&Literal>, at: usize, length: usize) -> Value
+    ensures { let content = option_map (λ literal. literal_content literal.now) scalar.entry in length ≡ byte_count (unwrap_or (option_and_then str_in content) []) → result ≡ scalar_value at content }
+{
+    match scalar {
+        Some(literal) => literal_value(literal, at, length),
+        None => NO_VALUE,
+    }
+}
+
+fn literal_value(literal: &Literal, at: usize, length: usize) -> Value
+    ensures { let content = literal_content literal.now in length ≡ byte_count (unwrap_or (str_in content) []) → result ≡ content_value at (int_in content) (bool_in content) (str_in content) }
+{
+    if let Some(number) = literal.try_to_int() {
+        return Value {
+            number: i64::from(number),
+            length: 0,
+        };
+    }
+    if let Some(truth) = literal.try_to_bool() {
+        return Value {
+            number: if truth { 1 } else { 0 },
+            length: 0,
+        };
+    }
+    match literal.try_as_str() {
+        Some(_) => text_value(at, length),
+        None => NO_VALUE,
+    }
+}
+
+fn condition_value(extent: Extent) -> Value
+    ensures { result ≡ condition_value extent }
+{
+    Value {
+        number: i64::from(extent.start),
+        length: extent.end.saturating_sub(extent.start),
+    }
+}
+
+fn text_value(at: usize, length: usize) -> Value
+    ensures { result ≡ record { number = pos (in_word at); length = in_word length } }
+{
+    Value {
+        number: i64::from(in_word(at)),
+        length: in_word(length),
+    }
+}
+
+// ---- texts
+
+fn write_scalar(texts: &mut String, scalar: Option<&Literal>) -> Result<(), AllocError>
+    ensures { let content = option_map (λ literal. literal_content literal.now) scalar.entry in OnOk result (string_bytes texts.new ≡ string_bytes texts.old ++ encode_utf8_all (unwrap_or (option_and_then str_in content) [])) }
+{
+    match scalar {
+        Some(literal) => write_literal(texts, literal),
+        None => Ok(()),
+    }
+}
+
+fn write_literal(texts: &mut String, literal: &Literal) -> Result<(), AllocError>
+    ensures { OnOk result (string_bytes texts.new ≡ string_bytes texts.old ++ encode_utf8_all (unwrap_or (str_in (literal_content literal.now)) [])) }
+{
+    match literal.try_as_str() {
+        Some(text) => write_text(texts, text),
+        None => Ok(()),
+    }
+}
+
+fn write_type(texts: &mut String, literal: &Type<&str>) -> Result<(), AllocError>
+    ensures { OnOk result (string_bytes texts.new ≡ string_bytes texts.old ++ encode_utf8_all (type_text (view_type literal.now))) }
+{
+    write!(texts, "{literal}")
+}
+
+fn write_text(texts: &mut String, text: &str) -> Result<(), AllocError>
+    ensures { OnOk result (string_bytes texts.new ≡ string_bytes texts.old ++ encode_utf8_all (chars text.now)) }
+{
+    texts.push_str(text)
+}

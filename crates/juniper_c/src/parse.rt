@@ -1,0 +1,90 @@
+//! A source's nodes, in the caller's memory.
+ghost use Rattle.std.specs.Prelude.{◌≡◌, ◌≢◌, ◌<◌, ◌≤◌, ◌^◌, ◌⊎◌, ◌↔◌, ◌++◌, ℕ, List, length, drop, true, false, IsUtf8};
+ghost use Rattle.std.specs.Str.{chars};
+ghost use Rattle.graphql_lexical.specs.Place as places;
+ghost use Rattle.graphql_grammar.specs.Tree.{Definition};
+ghost use Rattle.juniper_tokens.specs.Errors as errors;
+ghost use Rattle.juniper_values.specs.Scalar.{Content};
+ghost use Rattle.juniper_c.specs.Faults.{told_fault, deep_fault};
+ghost use Rattle.juniper_c.specs.Answers.{HasDocument, HasRefusal, HasDeepToken, nodes_of, texts_of, Begins, IsStatus};
+
+use crate::fault::Fault;
+use crate::flat::{Stop, flat_of};
+use crate::node::Node;
+use crate::status::{MEMORY, NOT_UTF8, REFUSED, ROOM, TOO_DEEP, TOO_LONG, TREE};
+use std::alloc::Global;
+
+/// Writes the nodes of a source's tree and their texts into the caller's rooms, or its fault.
+#[unsafe(no_mangle)]
+pub extern "C" fn juniper_parse(
+    alloc: Global,
+    source: &[u8],
+    depth: u32,
+    nodes: &mut [Node],
+    nodes_needed: &mut usize,
+    texts: &mut [u8],
+    texts_needed: &mut usize,
+    fault: &mut Fault,
+) -> u32
+    ensures statuses { IsStatus result }
+
+    // The rooms begin with the nodes of the source's tree and with their texts.
+    ensures tree { result ≡ TREE → (tree : List (Definition Content)) × HasDocument source.now depth tree
+        × Begins (nodes_of source.now tree) nodes.old nodes.new × Begins (texts_of tree) texts.old texts.new
+        × (nodes_needed.new ≡ length (nodes_of source.now tree)) × (texts_needed.new ≡ length (texts_of tree)) }
+
+    // One of the two has not the room for them.
+    ensures room { result ≡ ROOM → (tree : List (Definition Content)) × HasDocument source.now depth tree
+        × ((length nodes.old < length (nodes_of source.now tree)) ⊎ (length texts.old < length (texts_of tree)))
+        × (nodes_needed.new ≡ length (nodes_of source.now tree)) × (texts_needed.new ≡ length (texts_of tree)) }
+
+    // So rooms as long as the source are never too short.
+    ensures bounds { (nodes_needed.new ≤ length source.now) × (texts_needed.new ≤ length source.now) }
+    ensures refused { result ≡ REFUSED → (found : errors.Fault) × HasRefusal source.now depth found × (fault.new ≡ told_fault (chars source.now) found) }
+    ensures too_deep { result ≡ TOO_DEEP → (span : places.Span) × HasDeepToken source.now depth span × (fault.new ≡ deep_fault (chars source.now) span) }
+    ensures no_text { result ≡ NOT_UTF8 → ¬ IsUtf8 source.now }
+    ensures too_long { result ≡ TOO_LONG ↔ 2 ^ 32 ≤ length source.now }
+
+    // What is kept.
+    ensures rooms_kept { result ≢ TREE → (nodes.new ≡ nodes.old) × (texts.new ≡ texts.old) }
+    ensures no_counts { result ≢ TREE → result ≢ ROOM → (nodes_needed.new ≡ 0) × (texts_needed.new ≡ 0) }
+    ensures fault_kept { result ≢ REFUSED → result ≢ TOO_DEEP → fault.new ≡ fault.old }
+{
+    *nodes_needed = 0;
+    *texts_needed = 0;
+    match flat_of(alloc, source, depth) {
+        Ok(flat) => {
+            *nodes_needed = flat.nodes.len();
+            *texts_needed = flat.texts.len();
+            if fill(nodes, texts, &flat.nodes, flat.texts.as_bytes()) {
+                TREE
+            } else {
+                ROOM
+            }
+        }
+        Err(Stop::Refused(found)) => {
+            *fault = found;
+            REFUSED
+        }
+        Err(Stop::TooDeep(found)) => {
+            *fault = found;
+            TOO_DEEP
+        }
+        Err(Stop::NotUtf8) => NOT_UTF8,
+        Err(Stop::Memory) => MEMORY,
+        Err(Stop::TooLong) => TOO_LONG,
+    }
+}
+
+// Copies both to the beginnings of their rooms, if both are long enough, and says whether they are.
+fn fill(nodes: &mut [Node], texts: &mut [u8], told: &[Node], bytes: &[u8]) -> bool
+    ensures filled { result ≡ true → Begins told.now nodes.old nodes.new × Begins bytes.now texts.old texts.new }
+    ensures short { result ≡ false → ((length nodes.old < length told.now) ⊎ (length texts.old < length bytes.now)) × (nodes.new ≡ nodes.old) × (texts.new ≡ texts.old) }
+{
+    if nodes.len() < told.len() || texts.len() < bytes.len() {
+        return false;
+    }
+    nodes[..told.len()].copy_from_slice(told);
+    texts[..bytes.len()].copy_from_slice(bytes);
+    true
+}

@@ -1,0 +1,39 @@
+//! Places of a source, as C is told them.
+ghost use Rattle.std.specs.Prelude.{◌≡◌, ℕ, List};
+ghost use Rattle.juniper_c.specs.Places.{in_word, told_place};
+ghost use Rattle.juniper_c.specs.ByteTables.{IsTableOf};
+
+use crate::byte_table::ByteTable;
+use juniper_tokens::SourcePosition;
+
+/// A place of the source: how many characters, line feeds, characters of its line and bytes stand before it.
+#[repr(C)]
+#[derive(Clone, Copy)]
+pub struct Place {
+    pub index: u32,
+    pub line: u32,
+    pub column: u32,
+    pub byte: u32,
+}
+
+pub(crate) fn place_at(table: &ByteTable, position: SourcePosition) -> Place
+    ensures { (source : List ℕ) → IsTableOf source table.now → result ≡ told_place source position }
+{
+    Place {
+        index: in_word(position.index()),
+        line: in_word(position.line()),
+        column: in_word(position.column()),
+        byte: table.byte(position.index()),
+    }
+}
+
+/// A number in 32 bits, the largest of them where it is larger.
+pub(crate) fn in_word(number: usize) -> u32
+    ensures { result ≡ in_word number }
+{
+    if number <= u32::MAX as usize {
+        number as u32
+    } else {
+        u32::MAX
+    }
+}

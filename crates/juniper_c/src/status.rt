@@ -1,0 +1,15 @@
+//! What a call answers.
+
+pub(crate) const TREE: u32 = 0;
+
+pub(crate) const REFUSED: u32 = 1;
+
+pub(crate) const NOT_UTF8: u32 = 2;
+
+pub(crate) const MEMORY: u32 = 4;
+
+pub(crate) const TOO_DEEP: u32 = 5;
+
+pub(crate) const ROOM: u32 = 6;
+
+pub(crate) const TOO_LONG: u32 = 7;

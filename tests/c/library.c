@@ -1,0 +1,279 @@
+/* What the library writes, and where: rooms of every size, no source, threads, a large text, every status. */
+#define _GNU_SOURCE
+#include "../../include/juniper.h"
+#include "checks.h"
+#include <pthread.h>
+#include <stdlib.h>
+#include <string.h>
+#include <sys/mman.h>
+
+enum { CANARY = 0xA5, BEYOND = 64, DEPTH = 200 };
+
+static const char *const SOURCES[] = {
+    "{a}",
+    "query Q($v: [T! ]! = [1, \"\\u00e9b\"] @d) { x: a(v: {k: 1.5, l: 99999999999, m: E, n: $v, o: true, p: null}) }",
+    "{ a(b: \"\"\"\n  \xc3\xa9\n    c\n\"\"\") { ...F @d ... on T { b } ... { c } } }\nfragment F on T { d }",
+    "mutation { m }\nsubscription S { s }",
+};
+
+/* A block of memory, written all over with one byte; no pointer at all where nobody may look. */
+static uint8_t *canaries(size_t length) {
+    uint8_t *room = malloc(length);
+    if (room == NULL) abort();
+    memset(room, CANARY, length);
+    return room;
+}
+
+static int are_canaries(const uint8_t *room, size_t length) {
+    for (size_t i = 0; i < length; i++)
+        if (room[i] != CANARY) return 0;
+    return 1;
+}
+
+/* What stands behind a node's last field says nothing. */
+static int same_nodes(const juniper_node *a, const juniper_node *b, size_t count) {
+    for (size_t i = 0; i < count; i++)
+        if (memcmp(&a[i], &b[i], offsetof(juniper_node, value_length) + sizeof a[i].value_length)) return 0;
+    return 1;
+}
+
+/* A parse into rooms of these sizes. */
+typedef struct {
+    uint32_t status;
+    size_t nodes_room, texts_room, nodes_needed, texts_needed;
+    juniper_node *nodes;
+    uint8_t *texts;
+    juniper_fault fault;
+} run;
+
+static run parsed(const char *source, size_t length, uint32_t depth, size_t nodes_room, size_t texts_room) {
+    run r = {.nodes_room = nodes_room, .texts_room = texts_room, .nodes_needed = 1, .texts_needed = 1};
+    r.nodes = (juniper_node *)canaries(nodes_room * sizeof *r.nodes + BEYOND);
+    r.texts = canaries(texts_room + BEYOND);
+    memset(&r.fault, CANARY, sizeof r.fault);
+    r.status = juniper_parse((const uint8_t *)source, length, depth, r.nodes, nodes_room, &r.nodes_needed, r.texts,
+                             texts_room, &r.texts_needed, &r.fault);
+    return r;
+}
+
+static void give_back(run r) {
+    free(r.nodes);
+    free(r.texts);
+}
+
+/* Nothing is written behind the room, nor behind what is needed, and nothing at all where there is no tree. */
+static int is_kept(run r) {
+    size_t nodes = r.status == JUNIPER_TREE ? r.nodes_needed : 0, texts = r.status == JUNIPER_TREE ? r.texts_needed : 0;
+    return are_canaries((uint8_t *)(r.nodes + nodes), (r.nodes_room - nodes) * sizeof *r.nodes + BEYOND)
+        && are_canaries(r.texts + texts, r.texts_room - texts + BEYOND);
+}
+
+static int is_fault_kept(run r) {
+    return are_canaries((uint8_t *)&r.fault, sizeof r.fault);
+}
+
+static void every_room(const char *source) {
+    size_t length = strlen(source);
+    run whole = parsed(source, length, DEPTH, length, length);
+    check(whole.status == JUNIPER_TREE && is_kept(whole) && is_fault_kept(whole), "ample rooms for %s", source);
+    check(whole.nodes_needed <= length && whole.texts_needed <= length, "one call suffices for %s", source);
+    for (size_t nodes = 0; nodes <= whole.nodes_needed; nodes++) {
+        for (size_t texts = 0; texts <= whole.texts_needed; texts++) {
+            int fits = nodes == whole.nodes_needed && texts == whole.texts_needed;
+            run r = parsed(source, length, DEPTH, nodes, texts);
+            check(r.status == (fits ? JUNIPER_TREE : JUNIPER_ROOM) && r.nodes_needed == whole.nodes_needed
+                      && r.texts_needed == whole.texts_needed && is_kept(r) && is_fault_kept(r),
+                  "room for %zu nodes and %zu bytes, for %s", nodes, texts, source);
+            if (r.status == JUNIPER_TREE)
+                check(same_nodes(r.nodes, whole.nodes, nodes) && !memcmp(r.texts, whole.texts, texts),
+                      "the same in exact rooms, for %s", source);
+            give_back(r);
+        }
+    }
+    give_back(whole);
+}
+
+static void every_message_room(const char *source, uint32_t depth, uint32_t status, const char *wanted) {
+    size_t length = strlen(source), needed = 0;
+    for (size_t room = 0; room <= strlen(wanted) + 1; room++) {
+        uint8_t *words = canaries(room + BEYOND);
+        uint32_t found = juniper_message((const uint8_t *)source, length, depth, words, room, &needed);
+        int fits = room >= strlen(wanted);
+        check(found == (fits ? status : JUNIPER_ROOM) && needed == strlen(wanted)
+                  && (!fits || !memcmp(words, wanted, needed))
+                  && are_canaries(words + (fits ? needed : 0), room - (fits ? needed : 0) + BEYOND),
+              "a message room of %zu bytes for %s", room, source);
+        free(words);
+    }
+}
+
+/* A source without a tree. */
+static void refused(const char *source, uint32_t depth, uint32_t status, uint32_t kind, uint32_t detail,
+                    uint32_t character, uint32_t line, uint32_t column, uint32_t byte, const char *message) {
+    run r = parsed(source, strlen(source), depth, 9, 9);
+    check(r.status == status && r.nodes_needed == 0 && r.texts_needed == 0 && is_kept(r), "the status for %s", source);
+    check(r.fault.kind == kind && r.fault.detail == detail && r.fault.character == character
+              && r.fault.start.line == line && r.fault.start.column == column && r.fault.start.byte == byte,
+          "the fault of %s: %u %u %u at %u:%u, byte %u", source, r.fault.kind, r.fault.detail, r.fault.character,
+          r.fault.start.line, r.fault.start.column, r.fault.start.byte);
+    give_back(r);
+    every_message_room(source, depth, status, message);
+}
+
+static void statuses(void) {
+    refused("{ a ) }", DEPTH, JUNIPER_REFUSED, JUNIPER_UNEXPECTED_TOKEN, 0, 0, 0, 4, 4, "Unexpected \")\". At 0:4");
+    refused("#\xc3\xa9\n{ a", DEPTH, JUNIPER_REFUSED, JUNIPER_UNEXPECTED_END, 0, 0, 1, 3, 7,
+            "Unexpected end of input. At 1:3");
+    refused("{ \xc3\xa9 }", DEPTH, JUNIPER_REFUSED, JUNIPER_LEXICAL, JUNIPER_UNKNOWN_CHARACTER, 0xE9, 0, 2, 2,
+            "Unknown character \"\xc3\xa9\". At 0:2");
+    refused("{ .a }", DEPTH, JUNIPER_REFUSED, JUNIPER_LEXICAL, JUNIPER_UNEXPECTED_CHARACTER, '.', 0, 2, 2,
+            "Unexpected character \".\". At 0:2");
+    refused("{a(b:\"c", DEPTH, JUNIPER_REFUSED, JUNIPER_LEXICAL, JUNIPER_UNTERMINATED_STRING, 0, 0, 7, 7,
+            "Unterminated string literal. At 0:7");
+    refused("{a(b:\"\x01\")}", DEPTH, JUNIPER_REFUSED, JUNIPER_LEXICAL, JUNIPER_UNKNOWN_CHARACTER_IN_STRING, 1, 0, 6, 6,
+            "Unknown character \"\x01\" in string literal. At 0:6");
+    refused("{a(b:\"\\q\")}", DEPTH, JUNIPER_REFUSED, JUNIPER_LEXICAL, JUNIPER_UNKNOWN_ESCAPE, 0, 0, 7, 7,
+            "Unknown escape sequence \"\\q\" in string. At 0:7");
+    refused("{a{b}}", 1, JUNIPER_TOO_DEEP, JUNIPER_NESTED, 0, 0, 0, 2, 2, "Too deeply nested. At 0:2");
+    refused("{a}", 0, JUNIPER_TOO_DEEP, JUNIPER_NESTED, 0, 0, 0, 0, 0, "Too deeply nested. At 0:0");
+
+    size_t needed = 1;
+    run r = parsed("\xff{", 2, DEPTH, 3, 3);
+    check(r.status == JUNIPER_NOT_UTF8 && is_kept(r) && is_fault_kept(r) && !r.nodes_needed, "bytes that are no text");
+    give_back(r);
+    check(juniper_message((const uint8_t *)"\xff{", 2, DEPTH, NULL, 0, &needed) == JUNIPER_NOT_UTF8 && needed == 0,
+          "no words for bytes that are no text");
+    needed = 1;
+    check(juniper_message((const uint8_t *)"{a}", 3, DEPTH, NULL, 0, &needed) == JUNIPER_TREE && needed == 0,
+          "no words for a document");
+    check(juniper_version() == JUNIPER_VERSION, "the number of the interface");
+}
+
+/* Where a count is 0 there need be no memory. */
+static void no_memory(void) {
+    size_t nodes_needed = 1, texts_needed = 1;
+    juniper_fault fault;
+    memset(&fault, CANARY, sizeof fault);
+    check(juniper_parse(NULL, 0, DEPTH, NULL, 0, &nodes_needed, NULL, 0, &texts_needed, &fault) == JUNIPER_REFUSED
+              && fault.kind == JUNIPER_UNEXPECTED_END && fault.start.index == 0 && fault.end.byte == 0 && !nodes_needed
+              && !texts_needed,
+          "no source");
+    check(juniper_parse((const uint8_t *)"{a}", 3, DEPTH, NULL, 0, &nodes_needed, NULL, 0, &texts_needed, &fault)
+                  == JUNIPER_ROOM
+              && nodes_needed == 2 && texts_needed == 0,
+          "no rooms");
+    juniper_node nodes[2];
+    check(juniper_parse((const uint8_t *)"{a}", 3, DEPTH, nodes, 2, &nodes_needed, NULL, 0, &texts_needed, &fault)
+                  == JUNIPER_TREE
+              && nodes[0].kind == JUNIPER_QUERY && nodes[1].kind == JUNIPER_FIELD,
+          "no room for texts where there are none");
+    check(juniper_message(NULL, 0, DEPTH, NULL, 0, &nodes_needed) == JUNIPER_ROOM && nodes_needed == 31,
+          "no source and no room for words");
+}
+
+/* A source that is too long is not looked at. */
+static void too_long(void) {
+    size_t length = (size_t)1 << 32, needed = 1;
+    void *source = mmap(NULL, length, PROT_NONE, MAP_PRIVATE | MAP_ANONYMOUS | MAP_NORESERVE, -1, 0);
+    if (source == MAP_FAILED) {
+        printf("library: no address space for 4 GiB, so status %d was not tried\n", JUNIPER_TOO_LONG);
+        return;
+    }
+    run r = parsed(source, length, DEPTH, 1, 1);
+    check(r.status == JUNIPER_TOO_LONG && is_kept(r) && is_fault_kept(r) && !r.nodes_needed && !r.texts_needed, "4 GiB");
+    give_back(r);
+    check(juniper_message(source, length, DEPTH, NULL, 0, &needed) == JUNIPER_TOO_LONG && needed == 0, "4 GiB, in words");
+    munmap(source, length);
+}
+
+/* Strings' meanings and a type's text, values and names, in one place each. */
+static void fields(void) {
+    const char *s = SOURCES[1];
+    run r = parsed(s, strlen(s), DEPTH, 99, 99);
+    check(r.nodes_needed == 25 && r.texts_needed == 8 && !memcmp(r.texts, "[T!]!\xc3\xa9" "b", 8), "the texts of %s", s);
+    for (size_t i = 0; i < r.nodes_needed; i++) {
+        juniper_node n = r.nodes[i];
+        size_t name = n.name_end - n.name_start;
+        const char *at = s + n.name_start;
+        check(n.descendants < r.nodes_needed - i, "descendants of node %zu", i);
+        if (n.kind == JUNIPER_VARIABLE) check(name == 1 && *at == 'v' && n.start.byte + 1 == n.name_start, "a variable");
+        if (n.kind == JUNIPER_TYPE) check(n.value == 0 && n.value_length == 5 && name == 6, "a type");
+        if (n.kind == JUNIPER_STRING) check(n.value == 5 && n.value_length == 3 && name == 9, "a string");
+        if (n.kind == JUNIPER_INT) check(n.value == 1 && n.value_length == 0 && name == 1, "an Int");
+        if (n.kind == JUNIPER_LARGE_INT) check(!n.value && !n.value_length && !strncmp(at, "99999999999", name), "a large Int");
+        if (n.kind == JUNIPER_FLOAT) check(!n.value && !n.value_length && !strncmp(at, "1.5", name), "a Float");
+        if (n.kind == JUNIPER_BOOLEAN) check(n.value == 1 && !n.value_length && name == 4, "a Boolean");
+        if (n.kind == JUNIPER_NULL) check(!n.value && !n.value_length && name == 4, "null");
+        if (n.kind == JUNIPER_ENUM) check(name == 1 && *at == 'E', "an enum");
+        if (n.kind == JUNIPER_REFERENCE) check(name == 1 && *at == 'v' && n.start.byte + 1 == n.name_start, "a reference");
+        if (n.kind == JUNIPER_LIST || n.kind == JUNIPER_OBJECT) check(name == 0 && n.name_start == n.start.byte, "no name");
+    }
+    give_back(r);
+    s = SOURCES[2];
+    r = parsed(s, strlen(s), DEPTH, 99, 99);
+    int fragments = 0;
+    for (size_t i = 0; i < r.nodes_needed; i++) {
+        if (r.nodes[i].kind != JUNIPER_FRAGMENT) continue;
+        fragments++;
+        check(s[r.nodes[i].name_start] == 'F' && s[r.nodes[i].value] == 'T' && r.nodes[i].value_length == 1, "a fragment");
+    }
+    check(fragments == 1, "one fragment");
+    give_back(r);
+}
+
+static void *many(void *failures) {
+    for (int round = 0; round < 200; round++) {
+        for (size_t i = 0; i < sizeof SOURCES / sizeof *SOURCES; i++) {
+            size_t length = strlen(SOURCES[i]);
+            run a = parsed(SOURCES[i], length, DEPTH, length, length), b = parsed(SOURCES[i], length, DEPTH, length, length);
+            if (a.status != JUNIPER_TREE || !is_kept(a) || !same_nodes(a.nodes, b.nodes, a.nodes_needed)
+                || memcmp(a.texts, b.texts, a.texts_needed))
+                ++*(long *)failures;
+            give_back(a);
+            give_back(b);
+        }
+    }
+    return NULL;
+}
+
+static void threads(void) {
+    pthread_t thread[4];
+    long failures[4] = {0};
+    for (int i = 0; i < 4; i++)
+        if (pthread_create(&thread[i], NULL, many, &failures[i])) abort();
+    for (int i = 0; i < 4; i++) {
+        pthread_join(thread[i], NULL);
+        check(failures[i] == 0, "thread %d", i);
+    }
+}
+
+/* Ten million bytes, with and without characters beyond ASCII. */
+static void large(const char *part, size_t nodes, size_t texts) {
+    size_t step = strlen(part), count = 10000000 / step + 1, length = count * step + 2;
+    char *source = malloc(length);
+    if (source == NULL) abort();
+    source[0] = '{';
+    for (size_t i = 0; i < count; i++) memcpy(source + 1 + i * step, part, step);
+    source[length - 1] = '}';
+    run r = parsed(source, length, DEPTH, count * nodes + 1, length);
+    check(r.status == JUNIPER_TREE && r.nodes_needed == count * nodes + 1 && r.texts_needed == count * texts && is_kept(r),
+          "ten million bytes of %s", part);
+    if (r.status == JUNIPER_TREE)
+        check(r.nodes[0].descendants == count * nodes && r.nodes[0].end.byte == length
+                  && r.nodes[r.nodes_needed - 1].end.byte < length,
+              "the places in ten million bytes of %s", part);
+    give_back(r);
+    free(source);
+}
+
+int main(void) {
+    for (size_t i = 0; i < sizeof SOURCES / sizeof *SOURCES; i++) every_room(SOURCES[i]);
+    statuses();
+    no_memory();
+    too_long();
+    fields();
+    threads();
+    large("user(id: 4, b: {c: [1, \"x\"]}) { id name } ", 12, 1);
+    large("say(text: \"\xd0\xbc\xd0\xb8\xd1\x80\") # \xd0\xbc\xd0\xb8\xd1\x80\n", 4, 6);
+    return counted();
+}

@@ -1,0 +1,106 @@
+/* Refuses each request for memory of each call in turn: that one alone, or it and all after it. The call answers want of
+ * memory, or what it answers where memory is ample, and gives back what it was given. Linked with --wrap. */
+#include "../../include/juniper.h"
+#include "checks.h"
+#include <stdlib.h>
+#include <string.h>
+
+extern void *__real_malloc(size_t);
+extern void *__real_realloc(void *, size_t);
+extern void __real_free(void *);
+
+static long asked, refused_request, live;
+static int is_onwards;
+
+static int is_refused(void) {
+    asked++;
+    return refused_request != 0 && (asked == refused_request || (is_onwards && asked > refused_request));
+}
+
+void *__wrap_malloc(size_t size) {
+    if (is_refused()) return NULL;
+    void *block = __real_malloc(size);
+    if (block != NULL) live++;
+    return block;
+}
+
+void *__wrap_realloc(void *block, size_t size) {
+    if (is_refused()) return NULL;
+    void *grown = __real_realloc(block, size);
+    if (block == NULL && grown != NULL) live++;
+    return grown;
+}
+
+void __wrap_free(void *block) {
+    if (block != NULL) live--;
+    __real_free(block);
+}
+
+static uint8_t words[4096];
+static juniper_node nodes[4096];
+
+typedef struct {
+    uint32_t status;
+    size_t nodes_needed, texts_needed;
+} answer;
+
+static answer parse(const char *source) {
+    answer a = {.nodes_needed = 1, .texts_needed = 1};
+    juniper_fault fault;
+    a.status = juniper_parse((const uint8_t *)source, strlen(source), 200, nodes, 4096, &a.nodes_needed, words, 4096,
+                             &a.texts_needed, &fault);
+    return a;
+}
+
+static answer message(const char *source) {
+    answer a = {.nodes_needed = 1, .texts_needed = 0};
+    a.status = juniper_message((const uint8_t *)source, strlen(source), 200, words, 4096, &a.nodes_needed);
+    return a;
+}
+
+/* The call with this request refused, and whether it gave back all. */
+static answer with_refused(answer (*call)(const char *), const char *source, long number, int onwards) {
+    asked = live = 0;
+    refused_request = number;
+    is_onwards = onwards;
+    answer a = call(source);
+    refused_request = 0;
+    check(live == 0, "%ld blocks kept where request %ld is refused, of %s", live, number, source);
+    return a;
+}
+
+static void each(answer (*call)(const char *), const char *source) {
+    answer ample = with_refused(call, source, 0, 0);
+    long requests = asked, memory = 0;
+    check(ample.status != JUNIPER_MEMORY, "memory is ample for %s", source);
+    for (int onwards = 0; onwards < 2; onwards++) {
+        for (long number = 1; number <= requests; number++) {
+            answer a = with_refused(call, source, number, onwards);
+            if (a.status == JUNIPER_MEMORY) {
+                memory++;
+                check(a.nodes_needed == 0 && a.texts_needed == 0, "the counts where memory ran out, for %s", source);
+            } else {
+                check(a.status == ample.status && a.nodes_needed == ample.nodes_needed
+                          && a.texts_needed == ample.texts_needed,
+                      "the answer for %s where request %ld is refused: %u", source, number, a.status);
+            }
+        }
+    }
+    check(requests == 0 || memory > 0, "want of memory is answered, for %s", source);
+}
+
+int main(void) {
+    static const char *const sources[] = {
+        "{a}",
+        "query Q($x: [Int!]! = [1] @d) { b: c(d: {e: $x, s: \"q\\n\", f: 1.5, g: 99999999999}) { ... on T { g } ...F } }",
+        "# \xc3\xa9\n{ a(b: \"\"\"\n  \xc3\xa9\n\"\"\") }\nfragment F on T { a }",
+        "# \xc3\xa9\n{ a ) }",
+        "{ a(b: \"\\q\") }",
+        "# \xc3\xa9\n{",
+    };
+    for (size_t i = 0; i < sizeof sources / sizeof *sources; i++) {
+        each(parse, sources[i]);
+        each(message, sources[i]);
+    }
+    return counted();
+}
