@@ -9,3 +9,4 @@ mod value;
 mod variables;
 
 pub use definition::document_nodes;
+pub use value::value_nodes;

@@ -1,16 +1,30 @@
 //! The nodes of values.
-ghost use Rattle.std.specs.Prelude.{OnOk, map};
+ghost use Rattle.std.specs.Prelude.{◌≡◌, OnOk, IfOk, map};
 ghost use Rattle.graphql_grammar.specs.Reading.{items_of, fields_of};
 ghost use Rattle.graphql_nodes.specs.Nodes.{value_nodes, items_nodes, fields_nodes};
 ghost use Rattle.juniper.specs.View.{view_value, view_object_field};
-ghost use Rattle.juniper_nodes.specs.NodeViews.{Gains};
+ghost use Rattle.juniper_nodes.specs.NodeViews.{view_nodes, Gains};
 
 use crate::node::{Label, Node};
 use crate::nodes::push::{close, push_leaf, push_open, push_scalar};
 use graphql_nodes::NodeKind;
 use juniper::laws::values_are_seen;
 use juniper::{InputValue, ScalarValue, Spanning};
-use std::alloc::AllocError;
+use std::alloc::{AllocError, Global};
+
+/// The nodes of a value (GraphQL specification, October 2021, section 2.9).
+///
+/// `AllocError` where memory ran out.
+pub fn value_nodes<'t, S: ScalarValue>(
+    alloc: Global,
+    value: &'t Spanning<InputValue<S>>,
+) -> Result<Vec<Node<'t, 't, S>>, AllocError>
+    ensures { IfOk result (λ nodes. view_nodes S.content nodes ≡ value_nodes (view_value S.content value.now)) }
+{
+    let mut nodes = Vec::new(alloc);
+    push_value(&mut nodes, value)?;
+    Ok(nodes)
+}
 
 /// Puts the nodes of a value behind the others (GraphQL specification, October 2021, section 2.9).
 #[cycle(value)]

@@ -20,7 +20,7 @@ fn document(alloc: Global, source: &str) -> Result<Document<'_>, ParseFailure> {
 pub fn tree_of(alloc: Global, text: &str) -> Result<String, AllocError> {
     let mut out = String::new(alloc);
     match document(alloc, text) {
-        Ok(document) => write_document(&mut out, &document)?,
+        Ok(document) => write_document(alloc, &mut out, &document)?,
         Err(failure) => {
             write_failure(&mut out, &failure)?;
             out.push('\n')?;
@@ -35,7 +35,7 @@ pub fn tree_within(alloc: Global, text: &str) -> Result<String, AllocError> {
     let depth = depth.parse::<usize>().unwrap_or(0);
     let mut out = String::new(alloc);
     match parse_document_source_within::<DefaultScalarValue>(alloc, source, depth) {
-        Ok(document) => write_document(&mut out, &document)?,
+        Ok(document) => write_document(alloc, &mut out, &document)?,
         Err(DepthFailure::Parse(failure)) => {
             write_failure(&mut out, &failure)?;
             out.push('\n')?;
@@ -85,7 +85,7 @@ fn argument_answers(
     for line in wanted.lines() {
         let call = call_of(line);
         write!(out, "{call} -> ")?;
-        answer_call(&mut out, &mut given, call)?;
+        answer_call(alloc, &mut out, &mut given, call)?;
         out.push('\n')?;
     }
     Ok(out)
@@ -103,7 +103,12 @@ fn given_of(
     Ok(Arguments { items })
 }
 
-fn answer_call(out: &mut String, given: &mut Given<'_>, call: &str) -> Result<(), AllocError> {
+fn answer_call(
+    alloc: Global,
+    out: &mut String,
+    given: &mut Given<'_>,
+    call: &str,
+) -> Result<(), AllocError> {
     let (word, name) = word_of(call);
     match word {
         "len" => {
@@ -112,7 +117,7 @@ fn answer_call(out: &mut String, given: &mut Given<'_>, call: &str) -> Result<()
         }
         "iter" => write_names(out, given),
         "get" => match given.get(name) {
-            Some(value) => write_line_of(out, value),
+            Some(value) => write_line_of(alloc, out, value),
             None => out.push_str("None"),
         },
         "get_mut" => match given.get_mut(name) {
@@ -139,11 +144,12 @@ fn write_names(out: &mut String, given: &Given<'_>) -> Result<(), AllocError> {
 
 // The lines of a value on one line.
 fn write_line_of(
+    alloc: Global,
     out: &mut String,
     value: &Spanning<InputValue<DefaultScalarValue>>,
 ) -> Result<(), AllocError> {
     let before = out.len();
-    write_value(out, &value.span, &value.item)?;
+    write_value(alloc, out, value)?;
     if out.len() > before {
         out.pop();
     }

@@ -35,7 +35,7 @@ pub fn value_in(alloc: Global, text: &str, is_const: bool) -> Result<String, All
     let mut lexer = Lexer::new(alloc, text);
     match Parser::new(&mut lexer) {
         Ok(mut parser) => {
-            write_value_in(&mut out, &parse_value_literal(&mut parser, is_const))?;
+            write_value_in(alloc, &mut out, &parse_value_literal(&mut parser, is_const))?;
             write_next(&mut out, &parser)?;
         }
         Err(failure) => write_refusal(&mut out, &ParseFailure::from(failure))?,
@@ -44,11 +44,12 @@ pub fn value_in(alloc: Global, text: &str, is_const: bool) -> Result<String, All
 }
 
 fn write_value_in(
+    alloc: Global,
     out: &mut String,
     literal: &ParseResult<InputValue<DefaultScalarValue>>,
 ) -> Result<(), AllocError> {
     match literal {
-        Ok(literal) => write_value(out, &literal.span, &literal.item),
+        Ok(literal) => write_value(alloc, out, literal),
         Err(failure) => write_refusal(out, failure),
     }
 }
