@@ -84,12 +84,12 @@ typedef struct {
     uint32_t value_length;
 } juniper_node;
 
-/* Why a source is refused. */
+/* Why a source has no tree. */
 enum juniper_refusal {
     JUNIPER_UNEXPECTED_TOKEN = 0, /* no document goes on with the token */
     JUNIPER_UNEXPECTED_END = 1,   /* the source ends within a document */
     JUNIPER_LEXICAL = 2,          /* there is no token here; `detail` says why */
-    JUNIPER_SCALAR = 3,           /* the literal means nothing: a string with an escape that names no character */
+    JUNIPER_SCALAR = 3,           /* the scalar is refused; never told, since every literal that is a token is read */
     JUNIPER_NESTED = 4            /* the token is nested too deep */
 };
 
@@ -105,7 +105,7 @@ enum juniper_detail {
     JUNIPER_INVALID_NUMBER = 7               /* never told */
 };
 
-/* Why there is no tree, and where. */
+/* The same with its place: of a token its places, else of zero width. */
 typedef struct {
     uint32_t kind;      /* a juniper_refusal */
     uint32_t detail;    /* a juniper_detail */

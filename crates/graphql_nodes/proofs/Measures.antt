@@ -1,5 +1,5 @@
--- What is counted of a document's nodes is no more than what is counted of its tokens, where this holds of each node and
--- the tokens that are its own.
+-- What is counted of a document's nodes is no more than what is counted of its tokens, where this holds of each node
+-- and the tokens that are its own.
 use Rattle.std.proofs.Common.{ℕ, Bool, true, false, ◌≡◌, ◌≤◌, ◌∷◌, [], List, ◌++◌, Option, Some, None, Ok, inl, inr, sym, ap, ap₂, ◌∙◌, subst, arith, rules}
 use Rattle.std.specs.List.{sum_by}
 use Rattle.std.proofs.lemmas.List.Sums.{sum_by-cons, sum_by-append}
@@ -26,7 +26,7 @@ untyped_name : (name : Option Word) → IsUntyped (name_of name)
 untyped_name None = tt
 untyped_name (Some word) = tt
 
--- A node measures at most what the tokens weigh that are its own: of a type all of its tokens, of every other node one.
+-- A node measures at most what the tokens weigh that are its own: of a type all of its tokens, of each other node one.
 pub record Weighs {C F : Type 0} (S : Scalars C F) (measure : Node C → ℕ) (weight : Lexeme → ℕ) : Type 0 where
   pub types : (ts : List Lexeme) (type : TypeRef) (span : Span) → IsType ts type
       → measure (node_over kind.Type span (Typed type) []) ≤ sum_by weight ts

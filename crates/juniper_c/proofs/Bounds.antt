@@ -1,5 +1,5 @@
 -- A source is as long as what there is to tell of it.
-use Rattle.std.proofs.Common.{◌≡◌, ◌∙◌, ℕ, suc, ◌+◌, ◌≤◌, List, [], ◌∷◌, length, refl, ap, arith}
+use Rattle.std.proofs.Common.{◌≡◌, ℕ, suc, ◌+◌, ◌≤◌, List, [], ◌∷◌, length, refl, ap, arith}
 use Rattle.std.specs.Prelude.{Result, Ok, Err, IfOk, string_bytes}
 use Rattle.std.specs.Str.{chars}
 use Rattle.std.proofs.lemmas.Str.{encodes-chars}
@@ -30,7 +30,8 @@ within_source source depth tree h =
     )
 
 pub flat_within : (source : List ℕ) (depth : ℕ) (result : Result Flat Stop) → AnswersFlat source depth result
-    → IfOk result (λ flat. (length flat.nodes.items ≤ length source) × (length (string_bytes flat.texts) ≤ length source))
+    → IfOk result (λ flat.
+    (length flat.nodes.items ≤ length source) × (length (string_bytes flat.texts) ≤ length source))
 flat_within source depth (Ok flat) h =
     let within = within_source source depth h.1.0 h.1.1 in
     (omega (arith, within.0, ap length h.1.2), omega (arith, within.1, ap length h.1.3))

@@ -1,4 +1,3 @@
 pub mod Bytes
-pub mod Types
 pub mod Told
 pub mod Bounds

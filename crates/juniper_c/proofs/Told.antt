@@ -11,28 +11,35 @@ use Rattle.juniper_c.specs.Places.{in_word}
 use Rattle.juniper_c.specs.Nodes.{byte_count, told_node, told_nodes}
 use Rattle.juniper_c.specs.declared.node.Node.{Node}
 
-less_word : (b : Bool) (end n : ℕ) → nat_le n (2 ^ 32 - 1) ≡ b → end < 2 ^ 32 → end - (if b then n else 2 ^ 32 - 1) ≡ end - n
+less_word : (b : Bool) (end n : ℕ) → nat_le n (2 ^ 32 - 1) ≡ b → end < 2 ^ 32
+    → end - (if b then n else 2 ^ 32 - 1) ≡ end - n
 less_word true end n e l = refl
 less_word false end n e l = grind (arith, nat_tests)
 
 -- a text before the end of the source, as long as its bytes are
-pub before_end : (end : ℕ) (text : List ℕ) → end < 2 ^ 32 → IsUtf8 text → end - in_word (length text) ≡ end - byte_count (chars text)
+pub before_end : (end : ℕ) (text : List ℕ) → end < 2 ^ 32 → IsUtf8 text
+    → end - in_word (length text) ≡ end - byte_count (chars text)
 before_end end text l u = less_word _ end (length text) refl l ∙ ap (λ bs. end - length bs) (sym (encodes-chars text u))
 
-pub next_told : (source : List ℕ) (at next : ℕ) (ns rest : List (nodes.Node Content)) (n : nodes.Node Content) (all told new : List Node) (t : Node)
-    → all ≡ told ++ told_nodes source at ns → ns ≡ n ∷ rest → new ≡ told ++ t ∷ [] → t ≡ told_node source at n → next ≡ at + byte_count (text_of_node n)
+pub next_told : (source : List ℕ) (at next : ℕ) (ns rest : List (nodes.Node Content)) (n : nodes.Node Content)
+    → (all told new : List Node) (t : Node)
+    → all ≡ told ++ told_nodes source at ns → ns ≡ n ∷ rest → new ≡ told ++ t ∷ [] → t ≡ told_node source at n
+    → next ≡ at + byte_count (text_of_node n)
     → all ≡ new ++ told_nodes source next rest
 next_told source at next ns rest n all told new t h here grown is on =
     h ∙ (ap (λ ms. told ++ told_nodes source at ms) here
     ∙ (ap₂ (λ (x : Node) (k : ℕ). told ++ x ∷ told_nodes source k rest) (sym is) (sym on)
-    ∙ (sym (append_assoc told (t ∷ []) (told_nodes source next rest)) ∙ ap (λ xs. xs ++ told_nodes source next rest) (sym grown))))
+    ∙ (sym (append_assoc told (t ∷ []) (told_nodes source next rest))
+    ∙ ap (λ xs. xs ++ told_nodes source next rest) (sym grown))))
 
 pub next_texts : (ns rest : List (nodes.Node Content)) (n : nodes.Node Content) (all bytes new : List ℕ)
-    → all ≡ bytes ++ encode_utf8_all (node_texts ns) → ns ≡ n ∷ rest → new ≡ bytes ++ encode_utf8_all (text_of_node n) → all ≡ new ++ encode_utf8_all (node_texts rest)
+    → all ≡ bytes ++ encode_utf8_all (node_texts ns) → ns ≡ n ∷ rest → new ≡ bytes ++ encode_utf8_all (text_of_node n)
+    → all ≡ new ++ encode_utf8_all (node_texts rest)
 next_texts ns rest n all bytes new h here grown =
     h ∙ (ap (λ ms. bytes ++ encode_utf8_all (node_texts ms)) here
     ∙ (ap (λ bs. bytes ++ bs) (encodes-append (text_of_node n) (node_texts rest))
-    ∙ (sym (append_assoc bytes (encode_utf8_all (text_of_node n)) (encode_utf8_all (node_texts rest))) ∙ ap (λ bs. bs ++ encode_utf8_all (node_texts rest)) (sym grown))))
+    ∙ (sym (append_assoc bytes (encode_utf8_all (text_of_node n)) (encode_utf8_all (node_texts rest)))
+    ∙ ap (λ bs. bs ++ encode_utf8_all (node_texts rest)) (sym grown))))
 
 -- how many bytes a text added
 pub added : (old new text : List ℕ) → new ≡ old ++ encode_utf8_all text → length new ≡ length old + byte_count text

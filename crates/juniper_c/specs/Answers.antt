@@ -1,6 +1,5 @@
 -- What a call answers of a source, and what it leaves in the caller's memory.
-use Rattle.std.specs.Prelude.{◌≡◌, ◌<◌, ◌≤◌, ◌^◌, ◌⊎◌, ℕ, List, ◌++◌, drop, length, codes, encode_utf8_all, IsUtf8, chars, Result, Ok, Err, String, string_bytes}
-use Rattle.std.specs.declared.alloc.Global.{Global}
+use Rattle.std.specs.Prelude.{◌≡◌, ◌<◌, ◌≤◌, ◌^◌, ◌⊎◌, ℕ, List, ◌++◌, drop, length, codes, encode_utf8_all, IsUtf8, chars, Result, Ok, Err, string_bytes}
 use Rattle.graphql_lexical.specs.Place.{Span}
 use Rattle.graphql_grammar.specs.Tree.{Scalars, Definition}
 use Rattle.graphql_nodes.specs.Nodes.{document_nodes}

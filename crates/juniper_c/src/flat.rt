@@ -11,11 +11,10 @@ ghost use Rattle.juniper_c.specs.Answers.{AnswersFlat};
 use crate::byte_table::ByteTable;
 use crate::fault::{Fault, deep_fault, told_fault};
 use crate::node::{Node, told_node, write_node};
+use crate::status::TOO_LONG_FROM;
 use juniper::{DepthFailure, ParseFailure, parse_document_source_within};
 use juniper_nodes::{Literal, document_nodes};
 use std::alloc::{AllocError, Global};
-
-const LIMIT: usize = 1 << 32;
 
 /// The nodes of a document, and their texts one behind the other.
 #[derive(Drop)]
@@ -53,7 +52,7 @@ pub(crate) fn flat_of(alloc: Global, source: &[u8], depth: u32) -> Result<Flat, 
     ensures answer { AnswersFlat source.now depth result }
     ensures bounds { IfOk result (λ flat. (length flat.nodes.items ≤ length source.now) × (length (string_bytes flat.texts) ≤ length source.now)) }
 {
-    if source.len() >= LIMIT {
+    if source.len() >= TOO_LONG_FROM {
         return Err(Stop::TooLong);
     }
     match std::str::from_utf8(source) {

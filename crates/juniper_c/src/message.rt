@@ -8,14 +8,12 @@ ghost use Rattle.juniper_tokens.specs.Spans.{view_span};
 ghost use Rattle.juniper_values.specs.Scalar.{Content};
 ghost use Rattle.juniper_c.specs.Answers.{AnswersSaid, Begins, HasDocument, HasRefusal, HasDeepToken, HasMessage, IsStatus, refusal_message, deep_message};
 
-use crate::status::{MEMORY, NOT_UTF8, REFUSED, ROOM, TOO_DEEP, TOO_LONG, TREE};
+use crate::status::{MEMORY, NOT_UTF8, REFUSED, ROOM, TOO_DEEP, TOO_LONG, TOO_LONG_FROM, TREE};
 use juniper::{
     DepthFailure, ParseError, ParseFailure, Span, Spanning, parse_document_source_within,
 };
 use juniper_nodes::Literal;
 use std::alloc::{AllocError, Global};
-
-const LIMIT: usize = 1 << 32;
 
 /// Writes into the caller's room why a source has no tree.
 #[unsafe(no_mangle)]
@@ -79,7 +77,7 @@ enum Said {
 fn message_of(alloc: Global, source: &[u8], depth: u32) -> Said
     ensures { AnswersSaid source.now depth result }
 {
-    if source.len() >= LIMIT {
+    if source.len() >= TOO_LONG_FROM {
         return Said::TooLong;
     }
     match std::str::from_utf8(source) {

@@ -13,3 +13,6 @@ pub(crate) const TOO_DEEP: u32 = 5;
 pub(crate) const ROOM: u32 = 6;
 
 pub(crate) const TOO_LONG: u32 = 7;
+
+/// How many bytes of a source are too many: a byte's place in it is told in 32 bits.
+pub(crate) const TOO_LONG_FROM: usize = 1 << 32;

@@ -6,3 +6,4 @@ pub mod NodeTexts
 pub mod Rows
 pub mod SelectionNodes
 pub mod ValueNodes
+pub mod TypeTexts

@@ -65,6 +65,16 @@ type_is_short ts (NonNullType type) (us, m, e, k, p, h) =
 abbrev IsShort : Text → Content → Type 0
 IsShort t content = size (unwrap_or (str_in content) []) ≤ size t
 
+abbrev read_as : Content → Reading
+read_as content = Ok content
+
+-- a content that has no text
+without_text : (t : Text) (b c : Content) → str_in b ≡ None → read_as b ≡ read_as c → IsShort t c
+without_text t b c none e =
+    let same : b ≡ c = cc in
+    let empty : unwrap_or (str_in b) [] ≡ [] = ap (λ m. unwrap_or m []) none in
+    subst (IsShort t) same (omega (arith, ap size empty))
+
 of_string_means : (t u : Text) → str_in (of_string t u) ≡ Some u
 of_string_means t u = ap (λ v. Some v) (behind t u)
 
@@ -75,10 +85,8 @@ of_block_means t u = ap (λ v. Some v) (behind t u)
 string_kept : (t : Text) (of : Text → Content) → ((u : Text) → str_in (of u) ≡ Some u)
     → (r : Reading) → ((u : Text) → r ≡ Ok (text u) → size u ≤ size t) → ((ns : List ℤ) → r ≡ Ok (custom ns) → ⊥)
     → (c : Content) → literal.string_reading of r ≡ Ok c → IsShort t c
-string_kept t of means (Ok (integer n)) short none c e = let same : integer n ≡ c =
-    cc in subst (IsShort t) same (omega arith)
-string_kept t of means (Ok (boolean b)) short none c e = let same : boolean b ≡ c =
-    cc in subst (IsShort t) same (omega arith)
+string_kept t of means (Ok (integer n)) short none c e = without_text t (integer n) c refl e
+string_kept t of means (Ok (boolean b)) short none c e = without_text t (boolean b) c refl e
 string_kept t of means (Ok (custom ns)) short none c e = absurd (none ns refl)
 string_kept t of means (Err f) short none c e = absurd (cc)
 string_kept t of means (Ok (text u)) short none c e =
@@ -89,13 +97,11 @@ string_kept t of means (Ok (text u)) short none c e =
 -- of an Int, whose content has no text
 int_kept : (t : Text) (r : Reading) → ((u : Text) → r ≡ Ok (text u) → ⊥) → ((ns : List ℤ) → r ≡ Ok (custom ns) → ⊥)
     → (c : Content) → literal.int_reading t r ≡ Ok c → IsShort t c
-int_kept t (Ok (integer n)) no_text no_custom c e = let same : of_int n t ≡ c =
-    cc in subst (IsShort t) same (omega arith)
+int_kept t (Ok (integer n)) no_text no_custom c e = without_text t (of_int n t) c refl e
 int_kept t (Ok (text u)) no_text no_custom c e = absurd (no_text u refl)
-int_kept t (Ok (boolean b)) no_text no_custom c e = let same : boolean b ≡ c =
-    cc in subst (IsShort t) same (omega arith)
+int_kept t (Ok (boolean b)) no_text no_custom c e = without_text t (boolean b) c refl e
 int_kept t (Ok (custom ns)) no_text no_custom c e = absurd (no_custom ns refl)
-int_kept t (Err f) no_text no_custom c e = let same : of_large_int t ≡ c = cc in subst (IsShort t) same (omega arith)
+int_kept t (Err f) no_text no_custom c e = without_text t (of_large_int t) c refl e
 
 -- ---- what the default type reads
 
@@ -128,8 +134,7 @@ scalar_is_short k t c (inr (inl s)) e =
     (ap (λ k. literal_reading k t) (sym s) ∙ e)
 scalar_is_short k t c (inr (inr (inl s))) e =
     let read : literal_reading Float t ≡ Ok c = ap (λ k. literal_reading k t) (sym s) ∙ e in
-    let same : of_float t ≡ c = cc in
-    subst (IsShort t) same (omega arith)
+    without_text t (of_float t) c refl read
 scalar_is_short k t c (inr (inr (inr s))) e =
     int_kept t (default_reading Int t) (int_no_text t) (int_no_custom t) c (ap (λ k. literal_reading k t) (sym s) ∙ e)
 

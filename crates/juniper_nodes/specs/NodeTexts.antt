@@ -8,7 +8,8 @@ use Rattle.juniper_values.specs.Text.{Text}
 use Rattle.juniper_values.specs.Scalar.{Content}
 use Rattle.juniper_nodes.specs.Literal.{str_in}
 
--- of a type how it is written, of a String and of a block string what it means; what else a node tells stands in the source
+-- Of a type how it is written, of a String and of a block string what it means. What else a node tells stands in the
+-- source.
 abbrev pub text_of_label : Label → Option Text → Text
 text_of_label (Typed type) meaning = type_text type
 text_of_label label meaning = unwrap_or meaning []

@@ -6,4 +6,5 @@ pub returns-clause-forest : goal.returns-clause-forest
 returns-clause-forest g c = document_forest
 
 pub returns-clause-behind : goal.returns-clause-behind
-returns-clause-behind g c = λ a before after node. descendants_behind (document_nodes a) before after node (document_forest a)
+returns-clause-behind g c a before after node =
+    descendants_behind (document_nodes a) before after node (document_forest a)

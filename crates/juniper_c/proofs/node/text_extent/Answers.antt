@@ -1,5 +1,4 @@
-use Rattle.std.proofs.Common.{ap, ◌∙◌, arith, rules}
-use Rattle.juniper_c.specs.declared.node.Extent.{Extent}
+use Rattle.std.proofs.Common.{arith, rules}
 use Rattle.juniper_c.proofs.Told.{before_end}
 use Rattle.juniper_c.proofs.node.text_extent.Goals as goal
 

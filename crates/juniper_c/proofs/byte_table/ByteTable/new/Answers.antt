@@ -12,19 +12,34 @@ overflow_cast-bytes c = omega (arith, begun_within c.args.source.now _ _ _ c.utf
 
 pub overflow_add-bytes : goal.overflow_add-bytes
 overflow_add-bytes c =
-    let turn = YieldsList-turn (YieldsList-from_chars c.args.source.now c.utf8.source cc) c.loop-c.yielded _ c.loop-c.yielded_by _ _ c.in-Some.c c.in-Some.is c.next.ensures.steps in
-    let next = begun_on c.args.source.now _ _ c.loop-c.yielded _ c.in-Some.c _ c.utf8.source c.loop-c.invariant c.in_ok-push.ensures.items turn c.len_utf8-bytes.ensures.value in
+    let source = c.args.source.now in
+    let l = c.loop-c in
+    let all = YieldsList-from_chars source c.utf8.source cc in
+    let turn = YieldsList-turn all l.yielded _ l.yielded_by _ _ c.in-Some.c c.in-Some.is c.next.ensures.steps in
+    let next = begun_on source _ _ l.yielded _ c.in-Some.c _ c.utf8.source l.invariant c.in_ok-push.ensures.items turn
+    c.len_utf8-bytes.ensures.value in
     omega (arith, next.1, c.requires)
 
 pub loop-c-init : goal.loop-c-init
-loop-c-init c = record { before = refl; counted = ap length c.in_ok-starts.ensures.items; each = λ k d l. absurd (omega (arith, l)) }
+loop-c-init c = record {
+  before = refl;
+  counted = ap length c.in_ok-starts.ensures.items;
+  each = λ k d l. absurd (omega (arith, l));
+}
 
 pub loop-c-preserved : goal.loop-c-preserved
 loop-c-preserved c =
-    let turn = YieldsList-turn (YieldsList-from_chars c.args.source.now c.utf8.source cc) c.loop-c.yielded _ c.loop-c.yielded_by _ _ c.in-Some.c c.in-Some.is c.next.ensures.steps in
-    (begun_on c.args.source.now _ _ c.loop-c.yielded _ c.in-Some.c _ c.utf8.source c.loop-c.invariant c.in_ok-push.ensures.items turn c.len_utf8-bytes.ensures.value).0
+    let source = c.args.source.now in
+    let l = c.loop-c in
+    let all = YieldsList-from_chars source c.utf8.source cc in
+    let turn = YieldsList-turn all l.yielded _ l.yielded_by _ _ c.in-Some.c c.in-Some.is c.next.ensures.steps in
+    (begun_on source _ _ l.yielded _ c.in-Some.c _ c.utf8.source l.invariant c.in_ok-push.ensures.items turn
+    c.len_utf8-bytes.ensures.value).0
 
 pub returns : goal.returns
 returns c =
-    let all = YieldsList-end (YieldsList-from_chars c.args.source.now c.utf8.source cc) c.loop-c.yielded _ c.loop-c.yielded_by _ _ c.in-None.is c.next.ensures.steps in
-    begun_whole c.args.source.now _ c.loop-c.yielded _ c.utf8.source c.loop-c.invariant all.1
+    let source = c.args.source.now in
+    let l = c.loop-c in
+    let all = YieldsList-from_chars source c.utf8.source cc in
+    let ended = YieldsList-end all l.yielded _ l.yielded_by _ _ c.in-None.is c.next.ensures.steps in
+    begun_whole source _ l.yielded _ c.utf8.source l.invariant ended.1
