@@ -1,3 +1,4 @@
 pub mod Bytes
 pub mod Told
 pub mod Bounds
+pub mod Scalars

@@ -1,5 +1,7 @@
 pub mod Places
 pub mod ByteTables
 pub mod Nodes
+pub mod Scalars
+pub mod ScalarLaws
 pub mod Faults
 pub mod Answers

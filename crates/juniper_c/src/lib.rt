@@ -8,5 +8,6 @@ mod message;
 mod node;
 mod parse;
 mod place;
+mod scalar;
 mod status;
 mod version;
