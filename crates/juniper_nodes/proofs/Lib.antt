@@ -2,7 +2,9 @@ pub mod Growth
 pub mod Literals
 pub mod TextLengths
 pub mod SourceBytes
+pub mod ShortContents
 pub mod NodeTexts
+pub mod ShortLiterals
 pub mod Rows
 pub mod SelectionNodes
 pub mod ValueNodes

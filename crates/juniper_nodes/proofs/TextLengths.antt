@@ -172,12 +172,10 @@ reading_is_short t u None short e = absurd (cc e)
 reading_is_short t u (Some w) short e = let same : w ≡ u = cc in subst (λ (z : Text). size z ≤ size t) same (short w refl)
 
 -- A String means a text that is no longer than it is written.
-pub string_is_short : (t u : Text) → default_reading String t ≡ Ok (text u) → length (encode_utf8_all u) ≤ length (encode_utf8_all t)
-string_is_short t u e = omega (arith, size_is t, size_is u, reading_is_short t u (unescape t) (unescape_is_short t) e)
+pub string_is_short : (t u : Text) → default_reading String t ≡ Ok (text u) → size u ≤ size t
+string_is_short t u e = reading_is_short t u (unescape t) (unescape_is_short t) e
 
 -- So does a block string.
-pub block_is_short : (t u : Text) → default_reading BlockString t ≡ Ok (text u) → length (encode_utf8_all u) ≤ length (encode_utf8_all t)
+pub block_is_short : (t u : Text) → default_reading BlockString t ≡ Ok (text u) → size u ≤ size t
 block_is_short t u e =
-    let same : block_value t ≡ u = cc in
-    let short : size u ≤ size t = subst (λ (z : Text). size z ≤ size t) same (block_value_is_short t) in
-    omega (arith, size_is t, size_is u, short)
+    let same : block_value t ≡ u = cc in subst (λ (z : Text). size z ≤ size t) same (block_value_is_short t)

@@ -1,4 +1,4 @@
-use Rattle.juniper_nodes.proofs.NodeTexts.{short_texts}
+use Rattle.juniper_nodes.proofs.ShortLiterals.{short_texts}
 use Rattle.juniper_nodes.proofs.laws.short_texts.Goals as goal
 
 pub returns : goal.returns
