@@ -85,10 +85,8 @@ named = re.findall(r"^    (\w+),$", re.search(r"pub enum NodeKind \{(.*?)\n\}", 
 check("the order of kinds", list(kinds), [upper(name) for name in named])
 check("the numbers of kinds", list(kinds.values()), list(range(len(named))))
 check("the number of a scalar, which no node has", kinds.pop("SCALAR"), 15)
-literals = {upper(w): int(n) for w, n in re.findall(r"Literal::(\w+)\(_\) => (\d+),", source("node"))}
-scalars = {upper(w): int(n) for w, n in re.findall(r"DefaultScalarValue::(\w+)\(_\) => (\d+),", source("node"))}
-check("an Int and a String that no token wrote", (scalars["INT"], scalars["STRING"]), (literals["INT"], literals["STRING"]))
-check("kinds", enum("juniper_kind"), {**kinds, **literals, "BOOLEAN": scalars["BOOLEAN"]})
+scalars = {upper(w): int(n) for w, n in re.findall(r"Scalar(?:Value)?::(\w+)(?:\(_\)+)? => (\d+),", source("node"))}
+check("kinds", enum("juniper_kind"), {**kinds, **scalars})
 
 fault = source("fault")
 names = {"UNEXPECTED_TOKEN": "UnexpectedToken", "UNEXPECTED_END": "UnexpectedEndOfFile", "SCALAR": "ExpectedScalarError"}

@@ -9,12 +9,12 @@ use Rattle.graphql_nodes.specs.Nodes.{document_nodes}
 use Rattle.graphql_nodes.proofs.Few.{few_nodes_of_source}
 use Rattle.juniper_tokens.proofs.Borders.{chars_within}
 use Rattle.juniper_values.specs.Scalar.{Content}
-use Rattle.juniper_nodes.proofs.NodeTexts.{short_texts}
 use Rattle.juniper_c.specs.Nodes.{byte_count, told_nodes}
 use Rattle.juniper_nodes.specs.NodeTexts.{text_of_node}
 use Rattle.juniper_c.specs.declared.flat.Flat.{Flat}
 use Rattle.juniper_c.specs.declared.flat.Stop.{Stop}
-use Rattle.juniper_c.specs.Answers.{AnswersFlat, HasDocument, literals, nodes_of, texts_of}
+use Rattle.juniper_c.specs.Answers.{AnswersFlat, HasDocument, scalars, nodes_of, texts_of}
+use Rattle.juniper_c.proofs.ShortScalars.{short_texts}
 
 told-length : (source : List ℕ) (at : ℕ) (ns : List (nodes.Node Content)) → length (told_nodes source at ns) ≡ length ns
 told-length source at [] = refl
@@ -23,7 +23,7 @@ told-length source at (n ∷ ns) = ap suc (told-length source (at + byte_count (
 pub within_source : (source : List ℕ) (depth : ℕ) (tree : List (Definition Content)) → HasDocument source depth tree
     → (length (nodes_of source tree) ≤ length source) × (length (texts_of tree) ≤ length source)
 within_source source depth tree h =
-    let few = few_nodes_of_source literals (chars source) h.has_tree.lexemes tree h.has_tree.cut h.has_tree.document in
+    let few = few_nodes_of_source scalars (chars source) h.has_tree.lexemes tree h.has_tree.cut h.has_tree.document in
     let short = short_texts (chars source) h.has_tree.lexemes tree h.has_tree.cut h.has_tree.document in (
       omega (arith, few, told-length (chars source) 0 (document_nodes tree), chars_within source h.utf8),
       omega (arith, short, ap length (encodes-chars source h.utf8)),

@@ -1,4 +1,5 @@
 pub mod Bytes
 pub mod Told
-pub mod Bounds
 pub mod Scalars
+pub mod ShortScalars
+pub mod Bounds

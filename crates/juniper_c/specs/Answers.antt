@@ -10,9 +10,9 @@ use Rattle.juniper_values.specs.Scalar.{Content, boolean}
 use Rattle.juniper.specs.Scalars.{stated}
 use Rattle.juniper.specs.Promise.{HasTree, IsRefusal}
 use Rattle.juniper.specs.Within.{HasTooDeep, IsWithin}
-use Rattle.juniper_nodes.specs.Literal.{literal_reading}
 use Rattle.juniper_nodes.specs.NodeTexts.{node_texts}
 use Rattle.juniper_c.specs.Nodes.{told_nodes}
+use Rattle.juniper_c.specs.Scalars.{scalar_reading}
 use Rattle.juniper_c.specs.Faults.{told_fault, deep_fault}
 use Rattle.juniper_c.specs.declared.flat.Flat.{Flat}
 use Rattle.juniper_c.specs.declared.flat.Stop.{Stop}
@@ -22,8 +22,8 @@ use Rattle.juniper_c.specs.declared.message.Said.TheVariants as said
 use Rattle.juniper_c.specs.declared.node.Node.{Node}
 
 -- every scalar that a source can write is read
-abbrev pub literals : Scalars Content errors.Error
-literals = stated literal_reading boolean
+abbrev pub scalars : Scalars Content errors.Error
+scalars = stated scalar_reading boolean
 
 -- the statuses of include/juniper.h
 abbrev pub IsStatus : ℕ → Type 0
@@ -34,19 +34,19 @@ IsStatus n = (n ≤ 2) ⊎ ((4 ≤ n) × (n ≤ 7))
 -- The source is a document with this tree, nested within the depth.
 pub record HasDocument (source : List ℕ) (depth : ℕ) (tree : List (Definition Content)) : Type 0 where
   pub utf8 : IsUtf8 source
-  pub has_tree : HasTree literals (chars source) tree
-  pub within : IsWithin literals depth (chars source)
+  pub has_tree : HasTree scalars (chars source) tree
+  pub within : IsWithin scalars depth (chars source)
 
 -- The source is a text and no document, and this is its fault; no token before is nested too deep.
 pub record HasRefusal (source : List ℕ) (depth : ℕ) (fault : errors.Fault) : Type 0 where
   pub utf8 : IsUtf8 source
-  pub refusal : IsRefusal literals (chars source) fault
-  pub within : IsWithin literals depth (chars source)
+  pub refusal : IsRefusal scalars (chars source) fault
+  pub within : IsWithin scalars depth (chars source)
 
 -- The source's first token that is nested too deep has this span, and those up to it begin a document.
 pub record HasDeepToken (source : List ℕ) (depth : ℕ) (span : Span) : Type 0 where
   pub utf8 : IsUtf8 source
-  pub deep : HasTooDeep literals depth (chars source) span
+  pub deep : HasTooDeep scalars depth (chars source) span
 
 -- ---- what is told
 

@@ -41,17 +41,16 @@ kind_number kind.List = 18
 kind_number kind.Object = 19
 kind_number kind.Key = 20
 
--- A literal's content begins with its kind's number: 0 for an Int, 1 for a large Int, 2 for a Float, 3 for a String, 4 for
--- a block string.
-abbrev pub literal_number : List ℤ → ℕ
-literal_number [] = kind_number kind.Scalar
-literal_number (n ∷ ns) = 21 + unsigned_abs n
+-- A large Int's content begins with 1, a Float's with 2, a block string's with 4.
+abbrev pub custom_number : List ℤ → ℕ
+custom_number [] = kind_number kind.Scalar
+custom_number (n ∷ ns) = 21 + unsigned_abs n
 
 abbrev pub content_number : Content → ℕ
 content_number (integer n) = 21
 content_number (text t) = 24
 content_number (boolean b) = 26
-content_number (custom ns) = literal_number ns
+content_number (custom ns) = custom_number ns
 
 -- a scalar's number tells what stands
 abbrev pub node_number : NodeKind → Option Content → ℕ

@@ -1,19 +1,20 @@
 //! What there is to tell of a source, before the caller's rooms are looked at.
 ghost use Rattle.std.specs.Prelude.{◌≡◌, ◌<◌, ◌≤◌, ◌^◌, ℕ, List, length, map, IfOk, string_bytes, encode_utf8_all};
 ghost use Rattle.std.specs.Str.{chars};
-ghost use Rattle.juniper_nodes.specs.Literal.{literal_content};
 ghost use Rattle.juniper_nodes.specs.NodeTexts.{node_texts};
 ghost use Rattle.juniper_nodes.specs.NodeViews.{view_node};
 ghost use Rattle.juniper_c.specs.ByteTables.{IsTableOf};
 ghost use Rattle.juniper_c.specs.Nodes.{told_nodes};
+ghost use Rattle.juniper_c.specs.Scalars.{scalar_content};
 ghost use Rattle.juniper_c.specs.Answers.{AnswersFlat};
 
 use crate::byte_table::ByteTable;
 use crate::fault::{Fault, deep_fault, told_fault};
 use crate::node::{Node, told_node, write_node};
+use crate::scalar::Scalar;
 use crate::status::TOO_LONG_FROM;
 use juniper::{DepthFailure, ParseFailure, parse_document_source_within};
-use juniper_nodes::{Literal, document_nodes};
+use juniper_nodes::document_nodes;
 use std::alloc::{AllocError, Global};
 
 /// The nodes of a document, and their texts one behind the other.
@@ -65,7 +66,7 @@ fn flat_of_text(alloc: Global, text: &str, depth: u32) -> Result<Flat, Stop>
     requires { length text.now < 2 ^ 32 }
     ensures { AnswersFlat text.now depth result }
 {
-    match parse_document_source_within::<Literal>(alloc, text, depth as usize) {
+    match parse_document_source_within::<Scalar>(alloc, text, depth as usize) {
         Ok(document) => {
             let table = ByteTable::new(alloc, text)?;
             let nodes = document_nodes(alloc, &document)?;
@@ -87,10 +88,10 @@ fn flat_of_text(alloc: Global, text: &str, depth: u32) -> Result<Flat, Stop>
 fn flattened(
     alloc: Global,
     table: &ByteTable,
-    nodes: &[juniper_nodes::Node<'_, '_, Literal>],
+    nodes: &[juniper_nodes::Node<'_, '_, Scalar>],
 ) -> Result<Flat, AllocError>
-    ensures nodes { (source : List ℕ) → IsTableOf source table.now → IfOk result (λ flat. flat.nodes.items ≡ told_nodes source 0 (map (view_node literal_content) nodes.now)) }
-    ensures texts { IfOk result (λ flat. string_bytes flat.texts ≡ encode_utf8_all (node_texts (map (view_node literal_content) nodes.now))) }
+    ensures nodes { (source : List ℕ) → IsTableOf source table.now → IfOk result (λ flat. flat.nodes.items ≡ told_nodes source 0 (map (view_node scalar_content) nodes.now)) }
+    ensures texts { IfOk result (λ flat. string_bytes flat.texts ≡ encode_utf8_all (node_texts (map (view_node scalar_content) nodes.now))) }
 {
     let mut told = Vec::with_capacity(alloc, nodes.len())?;
     let mut texts = String::new(alloc);

@@ -8,11 +8,11 @@ ghost use Rattle.juniper_tokens.specs.Spans.{view_span};
 ghost use Rattle.juniper_values.specs.Scalar.{Content};
 ghost use Rattle.juniper_c.specs.Answers.{AnswersSaid, Begins, HasDocument, HasRefusal, HasDeepToken, HasMessage, IsStatus, refusal_message, deep_message};
 
+use crate::scalar::Scalar;
 use crate::status::{MEMORY, NOT_UTF8, REFUSED, ROOM, TOO_DEEP, TOO_LONG, TOO_LONG_FROM, TREE};
 use juniper::{
     DepthFailure, ParseError, ParseFailure, Span, Spanning, parse_document_source_within,
 };
-use juniper_nodes::Literal;
 use std::alloc::{AllocError, Global};
 
 /// Writes into the caller's room why a source has no tree.
@@ -90,7 +90,7 @@ fn message_of_text(alloc: Global, text: &str, depth: u32) -> Said
     requires { length text.now < 2 ^ 32 }
     ensures { AnswersSaid text.now depth result }
 {
-    match parse_document_source_within::<Literal>(alloc, text, depth as usize) {
+    match parse_document_source_within::<Scalar>(alloc, text, depth as usize) {
         Ok(_) => Said::Tree,
         Err(DepthFailure::Parse(ParseFailure::Refused(fault))) => {
             match refusal_message(alloc, &fault) {

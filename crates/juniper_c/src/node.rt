@@ -4,19 +4,20 @@ ghost use Rattle.std.specs.Option.{unwrap_or};
 ghost use Rattle.std.specs.Str.{chars};
 ghost use Rattle.graphql_nodes.specs.Types.{type_text};
 ghost use Rattle.juniper_tokens.specs.Spans.{view_span};
-ghost use Rattle.juniper_values.specs.Default.{bool_in, default_content};
 ghost use Rattle.juniper.specs.View.{view_type, view_word};
-ghost use Rattle.juniper_nodes.specs.Literal.{literal_content, int_in, str_in};
+ghost use Rattle.juniper_nodes.specs.Literal.{str_in};
 ghost use Rattle.juniper_nodes.specs.NodeTexts.{text_of_node};
 ghost use Rattle.juniper_nodes.specs.NodeViews.{view_label, view_node};
 ghost use Rattle.juniper_c.specs.Places.{in_word};
 ghost use Rattle.juniper_c.specs.ByteTables.{IsTableOf};
-ghost use Rattle.juniper_c.specs.Nodes.{kind_number, node_number, content_number, byte_count, word_extent, span_extent, no_extent, unnamed_extent, node_extent, content_value, scalar_value, condition_value, node_value, told_node};
+ghost use Rattle.juniper_c.specs.Nodes.{kind_number, node_number, content_number, byte_count, word_extent, span_extent, no_extent, unnamed_extent, node_extent, scalar_value, condition_value, node_value, told_node};
+ghost use Rattle.juniper_c.specs.Scalars.{scalar_content};
 
 use crate::byte_table::ByteTable;
 use crate::place::{Place, in_word, place_at};
+use crate::scalar::Scalar;
 use juniper::{DefaultScalarValue, ScalarValue, Span, Spanning, Type};
-use juniper_nodes::{Label, Literal, NodeKind};
+use juniper_nodes::{Label, NodeKind};
 use std::alloc::AllocError;
 
 /// A part of a document.
@@ -60,11 +61,11 @@ const NO_VALUE: Value = Value {
 /// The node of a part whose text begins at the byte `at` of the texts and has `length` bytes.
 pub(crate) fn told_node(
     table: &ByteTable,
-    node: &juniper_nodes::Node<'_, '_, Literal>,
+    node: &juniper_nodes::Node<'_, '_, Scalar>,
     at: usize,
     length: usize,
 ) -> Node
-    ensures { (source : List ℕ) → IsTableOf source table.now → length ≡ byte_count (text_of_node (view_node literal_content node.now)) → result ≡ told_node source at (view_node literal_content node.now) }
+    ensures { (source : List ℕ) → IsTableOf source table.now → length ≡ byte_count (text_of_node (view_node scalar_content node.now)) → result ≡ told_node source at (view_node scalar_content node.now) }
 {
     let name = extent_of(table, node);
     let value = value_of(table, node, at, length);
@@ -83,9 +84,9 @@ pub(crate) fn told_node(
 /// Puts what the node has in the texts behind the others.
 pub(crate) fn write_node(
     texts: &mut String,
-    node: &juniper_nodes::Node<'_, '_, Literal>,
+    node: &juniper_nodes::Node<'_, '_, Scalar>,
 ) -> Result<(), AllocError>
-    ensures { OnOk result (string_bytes texts.new ≡ string_bytes texts.old ++ encode_utf8_all (text_of_node (view_node literal_content node.now))) }
+    ensures { OnOk result (string_bytes texts.new ≡ string_bytes texts.old ++ encode_utf8_all (text_of_node (view_node scalar_content node.now))) }
 {
     match node.label {
         Label::Type(literal) => write_type(texts, literal),
@@ -97,12 +98,12 @@ pub(crate) fn write_node(
 
 // ---- kinds
 
-fn node_number(kind: NodeKind, scalar: Option<&Literal>) -> u32
-    ensures { result ≡ node_number kind (option_map (λ literal. literal_content literal.now) scalar.entry) }
+fn node_number(kind: NodeKind, scalar: Option<&Scalar>) -> u32
+    ensures { result ≡ node_number kind (option_map (λ scalar. scalar_content scalar.now) scalar.entry) }
 {
     match scalar {
         None => kind_number(kind),
-        Some(literal) => literal_number(literal),
+        Some(scalar) => scalar_number(scalar),
     }
 }
 
@@ -134,32 +135,22 @@ fn kind_number(kind: NodeKind) -> u32
     }
 }
 
-fn literal_number(literal: &Literal) -> u32
-    ensures { result ≡ content_number (literal_content literal.now) }
-{
-    match literal {
-        Literal::Default(scalar) => default_number(scalar),
-        Literal::Int(_) => 21,
-        Literal::LargeInt(_) => 22,
-        Literal::Float(_) => 23,
-        Literal::String(_) => 24,
-        Literal::BlockString(_) => 25,
-    }
-}
-
-fn default_number(scalar: &DefaultScalarValue) -> u32
-    ensures { result ≡ content_number (default_content scalar.now) }
+fn scalar_number(scalar: &Scalar) -> u32
+    ensures { result ≡ content_number (scalar_content scalar.now) }
 {
     match scalar {
-        DefaultScalarValue::Int(_) => 21,
-        DefaultScalarValue::String(_) => 24,
-        DefaultScalarValue::Boolean(_) => 26,
+        Scalar::Default(DefaultScalarValue::Int(_)) => 21,
+        Scalar::LargeInt => 22,
+        Scalar::Float => 23,
+        Scalar::Default(DefaultScalarValue::String(_)) => 24,
+        Scalar::BlockString(_) => 25,
+        Scalar::Default(DefaultScalarValue::Boolean(_)) => 26,
     }
 }
 
 // ---- names
 
-fn extent_of(table: &ByteTable, node: &juniper_nodes::Node<'_, '_, Literal>) -> Extent
+fn extent_of(table: &ByteTable, node: &juniper_nodes::Node<'_, '_, Scalar>) -> Extent
     ensures { (source : List ℕ) → IsTableOf source table.now → result ≡ node_extent source node.now.kind (view_span node.now.span.now) (view_label (view_span node.now.span.now) node.now.label) }
 {
     match node.label {
@@ -234,11 +225,11 @@ fn text_extent(end: u32, text: &str) -> Extent
 
 fn value_of(
     table: &ByteTable,
-    node: &juniper_nodes::Node<'_, '_, Literal>,
+    node: &juniper_nodes::Node<'_, '_, Scalar>,
     at: usize,
     length: usize,
 ) -> Value
-    ensures { (source : List ℕ) → IsTableOf source table.now → let seen = view_node literal_content node.now in length ≡ byte_count (text_of_node seen) → result ≡ node_value source at seen.content seen.label }
+    ensures { (source : List ℕ) → IsTableOf source table.now → let seen = view_node scalar_content node.now in length ≡ byte_count (text_of_node seen) → result ≡ node_value source at seen.content seen.label }
 {
     match node.label {
         Label::Fragment(_, condition) => condition_value(word_extent(table, condition)),
@@ -247,33 +238,22 @@ fn value_of(
     }
 }
 
-fn scalar_value(scalar: Option<&Literal>, at: usize, length: usize) -> Value
-    ensures { let content = option_map (λ literal. literal_content literal.now) scalar.entry in length ≡ byte_count (unwrap_or (option_and_then str_in content) []) → result ≡ scalar_value at content }
+fn scalar_value(scalar: Option<&Scalar>, at: usize, length: usize) -> Value
+    ensures { let content = option_map (λ scalar. scalar_content scalar.now) scalar.entry in length ≡ byte_count (unwrap_or (option_and_then str_in content) []) → result ≡ scalar_value at content }
 {
     match scalar {
-        Some(literal) => literal_value(literal, at, length),
-        None => NO_VALUE,
-    }
-}
-
-fn literal_value(literal: &Literal, at: usize, length: usize) -> Value
-    ensures { let content = literal_content literal.now in length ≡ byte_count (unwrap_or (str_in content) []) → result ≡ content_value at (int_in content) (bool_in content) (str_in content) }
-{
-    if let Some(number) = literal.try_to_int() {
-        return Value {
-            number: i64::from(number),
+        Some(Scalar::Default(DefaultScalarValue::Int(number))) => Value {
+            number: i64::from(*number),
             length: 0,
-        };
-    }
-    if let Some(truth) = literal.try_to_bool() {
-        return Value {
-            number: if truth { 1 } else { 0 },
+        },
+        Some(Scalar::Default(DefaultScalarValue::Boolean(truth))) => Value {
+            number: if *truth { 1 } else { 0 },
             length: 0,
-        };
-    }
-    match literal.try_as_str() {
-        Some(_) => text_value(at, length),
-        None => NO_VALUE,
+        },
+        Some(Scalar::Default(DefaultScalarValue::String(_)) | Scalar::BlockString(_)) => {
+            text_value(at, length)
+        }
+        Some(Scalar::LargeInt | Scalar::Float) | None => NO_VALUE,
     }
 }
 
@@ -297,19 +277,10 @@ fn text_value(at: usize, length: usize) -> Value
 
 // ---- texts
 
-fn write_scalar(texts: &mut String, scalar: Option<&Literal>) -> Result<(), AllocError>
-    ensures { let content = option_map (λ literal. literal_content literal.now) scalar.entry in OnOk result (string_bytes texts.new ≡ string_bytes texts.old ++ encode_utf8_all (unwrap_or (option_and_then str_in content) [])) }
+fn write_scalar(texts: &mut String, scalar: Option<&Scalar>) -> Result<(), AllocError>
+    ensures { let content = option_map (λ scalar. scalar_content scalar.now) scalar.entry in OnOk result (string_bytes texts.new ≡ string_bytes texts.old ++ encode_utf8_all (unwrap_or (option_and_then str_in content) [])) }
 {
-    match scalar {
-        Some(literal) => write_literal(texts, literal),
-        None => Ok(()),
-    }
-}
-
-fn write_literal(texts: &mut String, literal: &Literal) -> Result<(), AllocError>
-    ensures { OnOk result (string_bytes texts.new ≡ string_bytes texts.old ++ encode_utf8_all (unwrap_or (str_in (literal_content literal.now)) [])) }
-{
-    match literal.try_as_str() {
+    match scalar.and_then(|scalar| scalar.try_as_str()) {
         Some(text) => write_text(texts, text),
         None => Ok(()),
     }
