@@ -1,15 +1,16 @@
 -- Tables from characters to bytes.
-use Rattle.std.proofs.Common.{◌≡◌, ◌∙◌, ℕ, zero, suc, ◌+◌, ◌-◌, ◌^◌, ◌<◌, ◌≤◌, Bool, true, false, List, [], ◌∷◌, ◌++◌, length, take, get_or, length-append, ◌⊎◌, refl, sym, ap, arith, inl, inr, min}
-use Rattle.std.specs.Prelude.{nat_le, if◌then◌else◌, slice_get, encode_utf8_all}
+use Rattle.std.proofs.Common.{◌≡◌, ◌∙◌, ℕ, zero, suc, ◌+◌, ◌-◌, ◌^◌, ◌<◌, Bool, true, false, List, [], ◌∷◌, ◌++◌, length, take, get_or, length-append, append-nil, refl, sym, ap, ap₂, add-one, arith, inl, inr, min}
+use Rattle.std.specs.Prelude.{nat_le, not, if◌then◌else◌, slice_get, encode_utf8_all}
 use Rattle.std.specs.Str.{chars, IsUtf8, IsAscii}
-use Rattle.std.specs.Char.{len_utf8}
+use Rattle.std.specs.Char.{encode_utf8}
+use Rattle.std.specs.List.{AllByRecursion}
 use Rattle.std.specs.Option.{unwrap_or}
 use Rattle.std.proofs.lemmas.Bool.Decides.{nat_tests}
-use Rattle.std.proofs.lemmas.Bool.{cases_lt}
-use Rattle.std.proofs.lemmas.List.{length-take, take_all, get_or_push}
+use Rattle.std.proofs.lemmas.List.{length-take}
 use Rattle.std.proofs.lemmas.Option.{unwrap_or-slice_get}
-use Rattle.std.proofs.lemmas.Str.{chars-IsAscii, encodes-IsAscii, encodes-chars, IsAscii-take}
-use Rattle.juniper_tokens.proofs.Borders.{border_on, byte_at_within}
+use Rattle.std.proofs.lemmas.Str.{chars-IsAscii, encodes-IsAscii, encodes-chars, encode_ascii, IsAscii-take}
+use Rattle.juniper_tokens.specs.device.ByteRuns.{is_inner}
+use Rattle.juniper_tokens.proofs.ByteRuns.{wide, inner_low, inner_high, low_or_high}
 use Rattle.juniper_c.specs.Places.{byte_behind, in_word}
 
 within_word : (b : Bool) (k n : ℕ) → nat_le k (2 ^ 32 - 1) ≡ b → n < 2 ^ 32
@@ -27,66 +28,107 @@ ascii_bytes bs a l k =
 
 -- ---- a text of other characters
 
--- the table of so many characters of a source, and their bytes
-pub record IsBegun (source : List ℕ) (starts : List ℕ) (count bytes : ℕ) : Type 0 where
-  pub before : bytes ≡ byte_behind source count
-  pub counted : length starts ≡ count
-  pub each : (k d : ℕ) → k < count → get_or starts k d ≡ byte_behind source k
+-- where the characters of these bytes begin, the first byte being at a place
+abbrev pub starts_in : ℕ → List ℕ → List ℕ
+starts_in at [] = []
+starts_in at (b ∷ bs) = if is_inner b then starts_in (suc at) bs else at ∷ starts_in (suc at) bs
 
-get_or-front : (xs : List ℕ) (y d k : ℕ) → k < length xs → get_or (xs ++ y ∷ []) k d ≡ get_or xs k d
-get_or-front [] y d k l = absurd (omega (arith, l))
-get_or-front (x ∷ xs) y d zero l = refl
-get_or-front (x ∷ xs) y d (suc k) l = get_or-front xs y d k (omega (arith, l))
+-- one byte more
+by_byte : (i : Bool) (at : ℕ) (both front last : List ℕ) → both ≡ front ++ last
+    → (if i then both else at ∷ both) ≡ (if i then front else at ∷ front) ++ last
+by_byte true at both front last e = e
+by_byte false at both front last e = ap (λ ks. at ∷ ks) e
 
--- one character more
-pub begun_on : (text starts new front : List ℕ) (b c n : ℕ) → IsUtf8 text → IsBegun (chars text) starts (length front) b
-    → new ≡ starts ++ b ∷ []
-    → (length front < length (chars text)) × (c ≡ get_or (chars text) (length front) c) → n ≡ len_utf8 c
-    → IsBegun (chars text) new (length (front ++ c ∷ [])) (b + n) × (b + n ≤ length text)
-begun_on text starts new front b c n u h grown here size =
-    let i = length front in
-    let next = border_on text i b c n u here.0 here.1 h.before size in
-    let one : length (front ++ c ∷ []) ≡ i + 1 = length-append front (c ∷ []) in
-    let at : (k d : ℕ) → k < i + 1 → get_or (starts ++ b ∷ []) k d ≡ byte_behind (chars text) k =
-    λ k d l. elim (lt_or_eq k i l) [
-      | inl before ↦ get_or-front starts b d k (omega (arith, before, h.counted)) ∙ h.each k d before
-      | inr same ↦
-          get_or_push starts b d k (h.counted ∙ sym same) ∙ (h.before ∙ ap (byte_behind (chars text)) (sym same))
-    ] in (
-      record {
-        before = next.0 ∙ ap (byte_behind (chars text)) (sym one);
-        counted = ap length grown ∙ (length-append starts (b ∷ []) ∙ (ap (λ m. m + 1) h.counted ∙ sym one));
-        each = λ k d l. ap (λ xs. get_or xs k d) grown ∙ at k d (omega (arith, l, one));
-      },
-      next.1,
-    )
-  where
-    lt_or_eq : (k i : ℕ) → k < i + 1 → (k < i) ⊎ (k ≡ i)
-    lt_or_eq k i l = elim (cases_lt k i) [
-      | inl before ↦ inl before
-      | inr behind ↦ inr (omega (arith, l, behind))
-    ]
+pub starts-more : (at : ℕ) (bs : List ℕ) (b : ℕ) → starts_in at (bs ++ b ∷ []) ≡ starts_in at bs ++ starts_in (at + length bs) (b ∷ [])
+starts-more at [] b = ap (λ k. starts_in k (b ∷ [])) (omega arith)
+starts-more at (x ∷ xs) b =
+    let more = starts-more (suc at) xs b in
+    let same : suc at + length xs ≡ at + length (x ∷ xs) = omega arith in
+    by_byte (is_inner x) at _ _ _ (more ∙ ap (λ k. starts_in (suc at) xs ++ starts_in k (b ∷ [])) same)
 
-pub begun_within : (text starts : List ℕ) (count bytes : ℕ) → IsUtf8 text → IsBegun (chars text) starts count bytes
-    → bytes ≤ length text
-begun_within text starts count bytes u h = byte_at_within count bytes text u h.before
+no_starts : (at : ℕ) (bs rest : List ℕ) → AllByRecursion (λ b. is_inner b ≡ true) bs
+    → starts_in at (bs ++ rest) ≡ starts_in (at + length bs) rest
+no_starts at [] rest h = ap (λ k. starts_in k rest) (omega arith)
+no_starts at (b ∷ bs) rest h = rw h.0 (no_starts (suc at) bs rest h.1 ∙ ap (λ k. starts_in k rest) (omega arith))
 
--- the table of all characters
-pub begun_whole : (text starts front : List ℕ) (b : ℕ) → IsUtf8 text → IsBegun (chars text) starts (length front) b
-    → length front ≡ length (chars text)
+-- where these characters begin, the first one's first byte being at a place
+abbrev starts_of : ℕ → List ℕ → List ℕ
+starts_of at [] = []
+starts_of at (c ∷ cs) = at ∷ starts_of (at + length (encode_utf8 c)) cs
+
+first_start : (at b : ℕ) (bs rest : List ℕ) → is_inner b ≡ false → AllByRecursion (λ b. is_inner b ≡ true) bs
+    → starts_in at ((b ∷ bs) ++ rest) ≡ at ∷ starts_in (at + length (b ∷ bs)) rest
+first_start at b bs rest e h = rw e (ap (λ ks. at ∷ ks) (no_starts (suc at) bs rest h ∙ ap (λ k. starts_in k rest) (omega arith)))
+
+one_start : (at c : ℕ) (rest : List ℕ) → starts_in at (encode_utf8 c ++ rest) ≡ at ∷ starts_in (at + length (encode_utf8 c)) rest
+one_start at c rest = elim (low_or_high c) [
+  | inl l ↦ rw (encode_ascii c l) (first_start at c [] rest (inner_low c l) tt)
+  | inr h ↦ let w = wide c h in rw w.is (first_start at w.lead w.inners rest (inner_high w.lead w.high) w.inner)
+]
+
+starts_same : (at : ℕ) (cs : List ℕ) → starts_in at (encode_utf8_all cs) ≡ starts_of at cs
+starts_same at [] = refl
+starts_same at (c ∷ cs) = one_start at c (encode_utf8_all cs) ∙ ap (λ ks. at ∷ ks) (starts_same (at + length (encode_utf8 c)) cs)
+
+start_is : (at : ℕ) (cs : List ℕ) (k : ℕ)
+    → get_or (starts_of at cs) k (at + length (encode_utf8_all cs)) ≡ at + length (encode_utf8_all (take k cs))
+start_is at [] zero = refl
+start_is at [] (suc k) = refl
+start_is at (c ∷ cs) zero = omega arith
+start_is at (c ∷ cs) (suc k) =
+    let next = at + length (encode_utf8 c) in
+    let all : at + length (encode_utf8_all (c ∷ cs)) ≡ next + length (encode_utf8_all cs) =
+    omega (arith, length-append (encode_utf8 c) (encode_utf8_all cs)) in
+    let front : next + length (encode_utf8_all (take k cs)) ≡ at + length (encode_utf8_all (c ∷ take k cs)) =
+    omega (arith, length-append (encode_utf8 c) (encode_utf8_all (take k cs))) in
+    ap (get_or (starts_of next cs) k) all ∙ (start_is next cs k ∙ front)
+
+-- the table of all bytes of a text is that of its characters
+pub starts_whole : (text starts : List ℕ) → IsUtf8 text → starts ≡ starts_in 0 text
     → (k : ℕ) → unwrap_or (slice_get starts k) (length text) ≡ byte_behind (chars text) k
-begun_whole text starts front b u h all k =
-    unwrap_or-slice_get starts k (length text) ∙ elim (cases_lt k (length front)) [
-      | inl before ↦ h.each k (length text) before
-      | inr behind ↦ get_or-past starts k (length text) (omega (arith, behind, h.counted)) ∙ sym (whole behind)
-    ]
+starts_whole text starts u e k =
+    let cs = chars text in
+    let whole = encodes-chars text u in
+    let table : starts ≡ starts_of 0 cs = e ∙ (ap (starts_in 0) (sym whole) ∙ starts_same 0 cs) in
+    unwrap_or-slice_get starts k (length text)
+    ∙ (ap₂ (λ ks d. get_or ks k d) table (ap length (sym whole) ∙ from_none _) ∙ (start_is 0 cs k ∙ sym (from_none _)))
   where
-    get_or-past : (xs : List ℕ) (k d : ℕ) → length xs ≤ k → get_or xs k d ≡ d
-    get_or-past [] k d l = refl
-    get_or-past (x ∷ xs) zero d l = absurd (omega (arith, l))
-    get_or-past (x ∷ xs) (suc k) d l = get_or-past xs k d (omega (arith, l))
+    from_none : (n : ℕ) → n ≡ 0 + n
+    from_none n = omega arith
 
-    whole : (length front ≤ k) → byte_behind (chars text) k ≡ length text
-    whole behind =
-        ap (λ cs. length (encode_utf8_all cs)) (take_all k (chars text) (omega (arith, behind, all)))
-        ∙ ap length (encodes-chars text u)
+pub take_more : {A : Type 0} (xs : List A) (i : ℕ) (d : A) → i < length xs → take (suc i) xs ≡ take i xs ++ get_or xs i d ∷ []
+take_more [] i d l = absurd (omega (arith, l))
+take_more (y ∷ ys) zero d l = refl
+take_more (y ∷ ys) (suc i) d l = ap (λ zs. y ∷ zs) (take_more ys i d (omega (arith, l)))
+
+-- the starts in one byte more
+starts_to : (bytes : List ℕ) (at d : ℕ) → at < length bytes
+    → starts_in 0 (take at bytes) ++ starts_in at (get_or bytes at d ∷ []) ≡ starts_in 0 (take (at + 1) bytes)
+starts_to bytes at d l =
+    let front = take at bytes in
+    let b = get_or bytes at d in
+    let count : 0 + length front ≡ at = omega (arith, length-take at bytes, l) in
+    ap (λ k. starts_in 0 front ++ starts_in k (b ∷ [])) (sym count)
+    ∙ (sym (starts-more 0 front b)
+    ∙ ap (starts_in 0) (sym (take_more bytes at d l) ∙ ap (λ k. take k bytes) (sym (add-one at))))
+
+one : (i : Bool) (at : ℕ) → not i ≡ true → at ∷ [] ≡ (if i then [] else at ∷ [])
+one true at n = absurd (cc n)
+one false at n = refl
+
+none : (i : Bool) (at : ℕ) → not i ≡ false → [] ≡ (if i then [] else at ∷ [])
+none true at n = refl
+none false at n = absurd (cc n)
+
+-- a character begins with this byte
+pub next_start : (bytes starts new : List ℕ) (at d : ℕ) → at < length bytes
+    → starts ≡ starts_in 0 (take at bytes) → not (is_inner (get_or bytes at d)) ≡ true → new ≡ starts ++ at ∷ []
+    → new ≡ starts_in 0 (take (at + 1) bytes)
+next_start bytes starts new at d l e begins grown =
+    grown ∙ (ap₂ (λ xs ys. xs ++ ys) e (one (is_inner (get_or bytes at d)) at begins) ∙ starts_to bytes at d l)
+
+-- none does
+pub same_starts : (bytes starts : List ℕ) (at d : ℕ) → at < length bytes
+    → starts ≡ starts_in 0 (take at bytes) → not (is_inner (get_or bytes at d)) ≡ false → starts ≡ starts_in 0 (take (at + 1) bytes)
+same_starts bytes starts at d l e inner =
+    sym (append-nil starts) ∙ (ap₂ (λ xs ys. xs ++ ys) e (none (is_inner (get_or bytes at d)) at inner) ∙ starts_to bytes at d l)

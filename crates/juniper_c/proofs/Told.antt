@@ -1,10 +1,13 @@
 -- One node more is told.
-use Rattle.std.proofs.Common.{◌≡◌, ◌∙◌, ℕ, ◌+◌, ◌-◌, ◌^◌, ◌<◌, Bool, true, false, List, [], ◌∷◌, ◌++◌, length, refl, sym, ap, ap₂, arith, append_assoc, length-append}
+use Rattle.std.proofs.Common.{◌≡◌, ◌∙◌, ℕ, ◌+◌, ◌-◌, ◌^◌, ◌<◌, Bool, true, false, List, [], ◌∷◌, ◌++◌, length, refl, sym, ap, ap₂, arith, append_assoc, append-nil, length-append}
 use Rattle.std.specs.Prelude.{nat_le, if◌then◌else◌, encode_utf8_all}
 use Rattle.std.specs.Str.{chars, IsUtf8}
 use Rattle.std.proofs.lemmas.Bool.Decides.{nat_tests}
+use Rattle.std.proofs.lemmas.Grind.{flat_map-append}
 use Rattle.std.proofs.lemmas.Str.{encodes-append, encodes-chars}
+use Rattle.graphql_grammar.specs.Tree.{Definition}
 use Rattle.graphql_nodes.specs.Nodes as nodes
+use Rattle.graphql_nodes.specs.Nodes.{each, definition_nodes, document_nodes}
 use Rattle.juniper_values.specs.Scalar.{Content}
 use Rattle.juniper_nodes.specs.NodeTexts.{text_of_node, node_texts}
 use Rattle.juniper_c.specs.Places.{in_word}
@@ -40,6 +43,40 @@ next_texts ns rest n all bytes new h here grown =
     ∙ (ap (λ bs. bytes ++ bs) (encodes-append (text_of_node n) (node_texts rest))
     ∙ (sym (append_assoc bytes (encode_utf8_all (text_of_node n)) (encode_utf8_all (node_texts rest)))
     ∙ ap (λ bs. bs ++ encode_utf8_all (node_texts rest)) (sym grown))))
+
+bytes-append : (t u : List ℕ) → byte_count (t ++ u) ≡ byte_count t + byte_count u
+bytes-append t u = ap length (encodes-append t u) ∙ length-append (encode_utf8_all t) (encode_utf8_all u)
+
+-- some nodes, and then others
+pub told-append : (source : List ℕ) (at : ℕ) (ns ms : List (nodes.Node Content))
+    → told_nodes source at ns ++ told_nodes source (at + byte_count (node_texts ns)) ms ≡ told_nodes source at (ns ++ ms)
+told-append source at [] ms = ap (λ k. told_nodes source k ms) (omega arith)
+told-append source at (n ∷ ns) ms =
+    let next = at + byte_count (text_of_node n) in
+    let same : at + byte_count (node_texts (n ∷ ns)) ≡ next + byte_count (node_texts ns) =
+    omega (arith, bytes-append (text_of_node n) (node_texts ns)) in
+    ap (λ ts. told_node source at n ∷ ts) (ap (λ k. told_nodes source next ns ++ told_nodes source k ms) same ∙ told-append source next ns ms)
+
+pub texts-append : (ns ms : List (nodes.Node Content))
+    → encode_utf8_all (node_texts ns) ++ encode_utf8_all (node_texts ms) ≡ encode_utf8_all (node_texts (ns ++ ms))
+texts-append ns ms =
+    sym (encodes-append (node_texts ns) (node_texts ms)) ∙ ap encode_utf8_all (sym (flat_map-append text_of_node ns ms))
+
+-- behind the nodes of some definitions, those of one more
+pub told-next : (source : List ℕ) (done ns : List (nodes.Node Content)) (told new : List Node) (bytes : List ℕ)
+    → told ≡ told_nodes source 0 done → bytes ≡ encode_utf8_all (node_texts done)
+    → new ≡ told ++ told_nodes source (length bytes) ns → new ≡ told_nodes source 0 (done ++ ns)
+told-next source done ns told new bytes a b e =
+    let at : length bytes ≡ 0 + byte_count (node_texts done) = omega (arith, ap length b) in
+    e ∙ (ap₂ (λ ts k. ts ++ told_nodes source k ns) a at ∙ told-append source 0 done ns)
+
+pub document-more : (ds : List (Definition Content)) (d : Definition Content)
+    → document_nodes (ds ++ d ∷ []) ≡ document_nodes ds ++ definition_nodes d
+unfolding document_nodes each
+document-more [] d = append-nil (definition_nodes d)
+document-more (x ∷ xs) d =
+    ap (λ ns. definition_nodes x ++ ns) (document-more xs d)
+    ∙ sym (append_assoc (definition_nodes x) (document_nodes xs) (definition_nodes d))
 
 -- how many bytes a text added
 pub added : (old new text : List ℕ) → new ≡ old ++ encode_utf8_all text → length new ≡ length old + byte_count text

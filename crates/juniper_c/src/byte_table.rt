@@ -1,7 +1,7 @@
 //! From characters to bytes.
-ghost use Rattle.std.specs.Prelude.{◌≡◌, ◌<◌, ◌^◌, ℕ, length, IfOk};
+ghost use Rattle.std.specs.Prelude.{◌≡◌, ◌<◌, ◌^◌, not, length, IfOk};
 ghost use Rattle.std.specs.Str.{chars};
-ghost use Rattle.juniper_c.specs.Places.{byte_behind};
+ghost use Rattle.juniper_tokens.specs.device.ByteRuns.{is_inner};
 ghost use Rattle.juniper_c.specs.ByteTables.{byte_in, IsTableOf};
 
 use crate::place::in_word;
@@ -30,15 +30,23 @@ impl ByteTable {
             });
         }
         let mut starts = Vec::with_capacity(alloc, source.len())?;
-        let mut bytes = 0;
-        for c in source.chars() {
-            starts.push(bytes as u32)?;
-            bytes += c.len_utf8();
+        let bytes = source.as_bytes();
+        for at in 0..bytes.len() {
+            if begins_character(bytes[at]) {
+                starts.push(at as u32)?;
+            }
         }
         Ok(ByteTable {
             starts: Some(starts),
             length,
         })
+    }
+
+    /// How many bytes the text has.
+    pub(crate) fn length(&self) -> usize
+        ensures { result ≡ self.now.length }
+    {
+        self.length as usize
     }
 
     /// How many bytes stand before the character of this index; all of them where there is none.
@@ -53,4 +61,11 @@ impl ByteTable {
             },
         }
     }
+}
+
+// Whether a byte of a text is the first one of a character.
+fn begins_character(byte: u8) -> bool
+    ensures { result ≡ not (is_inner byte) }
+{
+    byte < 0x80 || 0xc0 <= byte
 }

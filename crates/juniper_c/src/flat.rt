@@ -1,11 +1,13 @@
 //! What there is to tell of a source, before the caller's rooms are looked at.
-ghost use Rattle.std.specs.Prelude.{◌≡◌, ◌<◌, ◌≤◌, ◌^◌, ℕ, List, length, map, IfOk, string_bytes, encode_utf8_all};
+ghost use Rattle.std.specs.Prelude.{◌≡◌, ◌<◌, ◌≤◌, ◌^◌, ◌++◌, ℕ, List, length, map, IfOk, OnOk, string_bytes, encode_utf8_all};
 ghost use Rattle.std.specs.Str.{chars};
+ghost use Rattle.graphql_nodes.specs.Nodes.{document_nodes};
+ghost use Rattle.juniper.specs.View.{view_definition};
+ghost use Rattle.juniper_c.specs.Scalars.{scalar_content};
 ghost use Rattle.juniper_nodes.specs.NodeTexts.{node_texts};
 ghost use Rattle.juniper_nodes.specs.NodeViews.{view_node};
 ghost use Rattle.juniper_c.specs.ByteTables.{IsTableOf};
 ghost use Rattle.juniper_c.specs.Nodes.{told_nodes};
-ghost use Rattle.juniper_c.specs.Scalars.{scalar_content};
 ghost use Rattle.juniper_c.specs.Answers.{AnswersFlat};
 
 use crate::byte_table::ByteTable;
@@ -13,8 +15,8 @@ use crate::fault::{Fault, deep_fault, told_fault};
 use crate::node::{Node, told_node, write_node};
 use crate::scalar::Scalar;
 use crate::status::TOO_LONG_FROM;
-use juniper::{DepthFailure, ParseFailure, parse_document_source_within};
-use juniper_nodes::document_nodes;
+use juniper::{Definition, DepthFailure, ParseFailure, parse_document_source_within};
+use juniper_nodes::push_definition;
 use std::alloc::{AllocError, Global};
 
 /// The nodes of a document, and their texts one behind the other.
@@ -23,6 +25,9 @@ pub(crate) struct Flat {
     pub(crate) nodes: Vec<Node>,
     pub(crate) texts: String,
 }
+
+// About how many bytes of a source there are for a node: more nodes ask for more memory.
+const BYTES_OF_A_NODE: usize = 8;
 
 /// Why there are no nodes.
 #[derive(Clone, Copy)]
@@ -69,8 +74,7 @@ fn flat_of_text(alloc: Global, text: &str, depth: u32) -> Result<Flat, Stop>
     match parse_document_source_within::<Scalar>(alloc, text, depth as usize) {
         Ok(document) => {
             let table = ByteTable::new(alloc, text)?;
-            let nodes = document_nodes(alloc, &document)?;
-            Ok(flattened(alloc, &table, &nodes)?)
+            Ok(flattened(alloc, &table, &document)?)
         }
         Err(DepthFailure::Parse(ParseFailure::Refused(found))) => {
             let table = ByteTable::new(alloc, text)?;
@@ -84,21 +88,43 @@ fn flat_of_text(alloc: Global, text: &str, depth: u32) -> Result<Flat, Stop>
     }
 }
 
-// The nodes as C is told them.
+// The nodes of a document as C is told them. Those of a definition are told as soon as they are listed, while what they
+// tell of is still at hand.
 fn flattened(
     alloc: Global,
     table: &ByteTable,
-    nodes: &[juniper_nodes::Node<'_, '_, Scalar>],
+    document: &[Definition<'_, Scalar>],
 ) -> Result<Flat, AllocError>
-    ensures nodes { (source : List ℕ) → IsTableOf source table.now → IfOk result (λ flat. flat.nodes.items ≡ told_nodes source 0 (map (view_node scalar_content) nodes.now)) }
-    ensures texts { IfOk result (λ flat. string_bytes flat.texts ≡ encode_utf8_all (node_texts (map (view_node scalar_content) nodes.now))) }
+    ensures nodes { (source : List ℕ) → IsTableOf source table.now → IfOk result (λ flat. flat.nodes.items ≡ told_nodes source 0 (document_nodes (map (view_definition scalar_content) document.now))) }
+    ensures texts { IfOk result (λ flat. string_bytes flat.texts ≡ encode_utf8_all (node_texts (document_nodes (map (view_definition scalar_content) document.now)))) }
 {
-    let mut told = Vec::with_capacity(alloc, nodes.len())?;
-    let mut texts = String::new(alloc);
-    for node in nodes {
-        let at = texts.len();
-        write_node(&mut texts, node)?;
-        told.push(told_node(table, node, at, texts.len() - at))?;
+    let mut flat = Flat {
+        nodes: Vec::with_capacity(alloc, table.length() / BYTES_OF_A_NODE)?,
+        texts: String::new(alloc),
+    };
+    let mut nodes = Vec::new(alloc);
+    for definition in document {
+        nodes.clear();
+        push_definition(&mut nodes, definition)?;
+        tell(&mut flat, table, &nodes)?;
     }
-    Ok(Flat { nodes: told, texts })
+    Ok(flat)
+}
+
+// Tells these nodes behind the others.
+fn tell(
+    flat: &mut Flat,
+    table: &ByteTable,
+    nodes: &[juniper_nodes::Node<'_, '_, Scalar>],
+) -> Result<(), AllocError>
+    ensures nodes { (source : List ℕ) → IsTableOf source table.now → OnOk result (flat.new.nodes.items ≡ flat.old.nodes.items ++ told_nodes source (length (string_bytes flat.old.texts)) (map (view_node scalar_content) nodes.now)) }
+    ensures texts { OnOk result (string_bytes flat.new.texts ≡ string_bytes flat.old.texts ++ encode_utf8_all (node_texts (map (view_node scalar_content) nodes.now))) }
+{
+    for node in nodes {
+        let at = flat.texts.len();
+        write_node(&mut flat.texts, node)?;
+        let length = flat.texts.len() - at;
+        flat.nodes.push(told_node(table, node, at, length))?;
+    }
+    Ok(())
 }

@@ -9,4 +9,4 @@ mod nodes;
 pub use graphql_nodes::NodeKind;
 pub use literal::{IntLiteral, Literal, StringLiteral};
 pub use node::{Label, Node};
-pub use nodes::{document_nodes, value_nodes};
+pub use nodes::{document_nodes, push_definition, value_nodes};

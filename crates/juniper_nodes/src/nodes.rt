@@ -8,5 +8,5 @@ mod selection;
 mod value;
 mod variables;
 
-pub use definition::document_nodes;
+pub use definition::{document_nodes, push_definition};
 pub use value::value_nodes;

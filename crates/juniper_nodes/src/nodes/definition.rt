@@ -30,7 +30,10 @@ pub fn document_nodes<'t, 'a, S: ScalarValue>(
     Ok(nodes)
 }
 
-fn push_definition<'t, 'a, S: ScalarValue>(
+/// Puts the nodes of a definition behind the others (GraphQL specification, October 2021, section 2.2).
+///
+/// `AllocError` where memory ran out: some of its nodes may stand behind the others then.
+pub fn push_definition<'t, 'a, S: ScalarValue>(
     nodes: &mut Vec<Node<'t, 'a, S>>,
     definition: &'t Definition<'a, S>,
 ) -> Result<(), AllocError>

@@ -1,18 +1,18 @@
--- What is told so far, and of the nodes that are left, is what is told of all.
-use Rattle.std.proofs.Common.{◌≡◌, ◌++◌, ℕ, List, drop, length, map, string_bytes, encode_utf8_all}
+-- What is told so far is what is told of so many definitions.
+use Rattle.std.proofs.Common.{◌≡◌, ℕ, List, take, map, string_bytes, encode_utf8_all}
 use Rattle.graphql_nodes.specs.Nodes as nodes
+use Rattle.graphql_nodes.specs.Nodes.{document_nodes}
+use Rattle.juniper.specs.View.{view_definition}
 use Rattle.juniper_values.specs.Scalar.{Content}
+use Rattle.juniper_c.specs.Scalars.{scalar_content}
 use Rattle.juniper_nodes.specs.NodeTexts.{node_texts}
-use Rattle.juniper_nodes.specs.NodeViews.{view_node}
 use Rattle.juniper_c.specs.ByteTables.{IsTableOf}
 use Rattle.juniper_c.specs.Nodes.{told_nodes}
-use Rattle.juniper_c.specs.Scalars.{scalar_content}
 use Rattle.juniper_c.proofs.flat.flattened.Given as goal
 
-abbrev pub invariant-loop-node : goal.invariant-loop-node
-invariant-loop-node l = let seen : List (nodes.Node Content) = map (view_node scalar_content) l.nodes in
-    let left : List (nodes.Node Content) = map (view_node scalar_content) (drop l.node-index l.nodes) in record {
-      told : (source : List ℕ) → IsTableOf source l.table → told_nodes source 0 seen
-          ≡ l.told.items ++ told_nodes source (length (string_bytes l.texts)) left;
-      texts : encode_utf8_all (node_texts seen) ≡ string_bytes l.texts ++ encode_utf8_all (node_texts left);
+abbrev pub invariant-loop-definition : goal.invariant-loop-definition
+invariant-loop-definition l =
+    let done : List (nodes.Node Content) = document_nodes (map (view_definition scalar_content) (take l.definition-index l.document)) in record {
+      told : (source : List ℕ) → IsTableOf source l.table → l.flat.nodes.items ≡ told_nodes source 0 done;
+      texts : string_bytes l.flat.texts ≡ encode_utf8_all (node_texts done);
     }

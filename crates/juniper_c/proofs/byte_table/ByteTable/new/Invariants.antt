@@ -1,8 +1,7 @@
--- The table so far is that of the characters so far.
-use Rattle.std.proofs.Common.{length}
-use Rattle.std.specs.Str.{chars}
-use Rattle.juniper_c.proofs.Bytes.{IsBegun}
+-- The starts so far are those of the characters that begin in the bytes so far.
+use Rattle.std.proofs.Common.{◌≡◌, take}
+use Rattle.juniper_c.proofs.Bytes.{starts_in}
 use Rattle.juniper_c.proofs.byte_table.ByteTable.new.Given as goal
 
-abbrev pub invariant-loop-c : goal.invariant-loop-c
-invariant-loop-c l = IsBegun (chars l.source) l.starts.items (length l.yielded) l.bytes
+abbrev pub invariant-loop-at : goal.invariant-loop-at
+invariant-loop-at l = l.starts.items ≡ starts_in 0 (take l.at l.bytes)
