@@ -110,6 +110,10 @@ repeats_as skip item other some h u = record { unfolds = λ ts. u.unfolds ts ∙
 abbrev pub before_others : {A : Type 0} → List A → Read (List A) → Read (List A)
 before_others front r = r >>= λ x. Ok (front ++ x.0, x.1)
 
+pub before_none : {A : Type 0} (r : Read (List A)) → before_others [] r ≡ r
+before_none (Ok x) = refl
+before_none (Err e) = refl
+
 pub before_regroup : {A : Type 0} (front : List A) (a : A) (r : Read (List A)) → before_others front (r >>= λ x. Ok (a ∷ x.0, x.1)) ≡ before_others (front ++ a ∷ []) r
 before_regroup front a (Ok x) = ap (λ (as' : List _). Ok (as', x.1)) (sym (append_assoc front (a ∷ []) x.0))
 before_regroup front a (Err e) = refl

@@ -7,6 +7,7 @@ pub mod Selections
 pub mod Definitions
 pub mod Promise
 pub mod Within
+pub mod Sinks
 pub mod Named
 pub mod ReadBack
 pub mod Sources

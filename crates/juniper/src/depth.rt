@@ -64,9 +64,9 @@ fn parse_within<'a, S: ScalarValue>(
     }
 }
 
-// Why tokens that were ended behind a deep one have no tree: where they are refused at that end, they are too deep. No
-// other token has a span of zero width.
-fn told(deep: Option<Span>, failure: ParseFailure) -> DepthFailure
+/// Why tokens that were ended behind a deep one have no tree: where they are refused at that end, they are too deep. No
+/// other token has a span of zero width.
+pub(crate) fn told(deep: Option<Span>, failure: ParseFailure) -> DepthFailure
     ensures { result ≡ told_within deep failure }
 {
     match deep {

@@ -1,0 +1,33 @@
+-- What takes the definitions of a document, and what comes to it.
+use Rattle.std.specs.Prelude.{◌≡◌, ℕ, List, ◌++◌, Result, Ok, Err, OnOk}
+use Rattle.graphql_lexical.specs.Cutting.{Lexeme}
+use Rattle.graphql_grammar.specs.Tree.{Scalars, Definition}
+use Rattle.juniper_tokens.specs.declared.error.ParseFailure.{ParseFailure}
+use Rattle.juniper_tokens.specs.Errors.{Error}
+use Rattle.juniper_tokens.specs.Cursor.{Read, Fails}
+use Rattle.juniper.specs.declared.depth.DepthFailure.{DepthFailure}
+use Rattle.juniper.specs.Promise.{HasTree}
+use Rattle.juniper.specs.Within.{AnswersWithin}
+
+-- It holds the definitions of a source that it has taken.
+module _ {D C : Type 0} (holds : List ℕ → D → List (Definition C) → Type 0) (old new : D) where
+  -- these definitions have come behind the others
+  pub record Gains (added : List (Definition C)) : Type 0 where
+    pub definitions : (source : List ℕ) (before : List (Definition C)) → holds source old before → holds source new (before ++ added)
+
+  -- the source's tree has come behind the others
+  pub record GainsTree (S : Scalars C Error) (source : List ℕ) : Type 0 where
+    pub tree : List (Definition C)
+    pub has_tree : HasTree S source tree
+    pub gains : Gains tree
+
+  -- What was read has come behind the others, unless memory ran out. Nothing is said of what is left.
+  abbrev pub GivesAs : {X : Type 0} → Result X ParseFailure → Read (List (Definition C)) → Type 0
+  GivesAs (Ok x) read = (tree : List (Definition C)) × (left : List Lexeme) × (read ≡ Ok (tree, left)) × Gains tree
+  GivesAs (Err e) read = (left : List Lexeme) × Fails e left read
+
+  -- The same within a limit on nesting, in the words of the grammar.
+  pub record GivesWithin {X : Type 0} (S : Scalars C Error) (depth : ℕ) (source : List ℕ) (result : Result X DepthFailure) : Type 0 where
+    pub tree : List (Definition C)
+    pub answers : AnswersWithin S depth source (λ x. tree) result
+    pub gains : OnOk result (Gains tree)
