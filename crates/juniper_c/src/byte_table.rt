@@ -42,13 +42,6 @@ impl ByteTable {
         })
     }
 
-    /// How many bytes the text has.
-    pub(crate) fn length(&self) -> usize
-        ensures { result ≡ self.now.length }
-    {
-        self.length as usize
-    }
-
     /// How many bytes stand before the character of this index; all of them where there is none.
     pub(crate) fn byte(&self, index: usize) -> u32
         ensures { result ≡ byte_in self.now index }

@@ -1,9 +1,9 @@
 //! What there is to tell of a source, before the caller's rooms are looked at.
 ghost use Rattle.std.specs.Prelude.{◌≡◌, ◌<◌, ◌≤◌, ◌^◌, ◌++◌, ℕ, List, length, map, IfOk, OnOk, string_bytes, encode_utf8_all};
 ghost use Rattle.std.specs.Str.{chars};
-ghost use Rattle.graphql_nodes.specs.Nodes.{document_nodes};
-ghost use Rattle.juniper.specs.View.{view_definition};
 ghost use Rattle.juniper_c.specs.Scalars.{scalar_content};
+ghost use Rattle.graphql_nodes.specs.Nodes.{definition_nodes};
+ghost use Rattle.juniper.specs.View.{view_definition};
 ghost use Rattle.juniper_nodes.specs.NodeTexts.{node_texts};
 ghost use Rattle.juniper_nodes.specs.NodeViews.{view_node};
 ghost use Rattle.juniper_c.specs.ByteTables.{IsTableOf};
@@ -15,7 +15,7 @@ use crate::fault::{Fault, deep_fault, told_fault};
 use crate::node::{Node, told_node, write_node};
 use crate::scalar::Scalar;
 use crate::status::TOO_LONG_FROM;
-use juniper::{Definition, DepthFailure, ParseFailure, parse_document_source_within};
+use juniper::{Definition, DefinitionSink, DepthFailure, ParseFailure, parse_document_source_into};
 use juniper_nodes::push_definition;
 use std::alloc::{AllocError, Global};
 
@@ -26,8 +26,33 @@ pub(crate) struct Flat {
     pub(crate) texts: String,
 }
 
+// What takes the definitions of a source and keeps what C is told of them, so that no tree is larger than a definition.
+#[derive(Drop)]
+struct Telling<'b> {
+    alloc: Global,
+    table: &'b ByteTable,
+    flat: Flat,
+}
+
+impl DefinitionSink<Scalar> for Telling<'_> {
+    ghost use Rattle.std.specs.Prelude.{◌∷◌, []};
+    ghost use Rattle.juniper.specs.Sinks.{Gains};
+    ghost use Rattle.juniper_c.specs.Tellings.{Holds};
+
+    ghost holds = { Holds };
+
+    fn take(&mut self, definition: Definition<'_, Scalar>) -> Result<(), AllocError>
+        ensures { OnOk result (Gains Holds self.old self.new (view_definition scalar_content definition.entry ∷ [])) }
+    {
+        tell_definition(self.alloc, &mut self.flat, self.table, &definition)
+    }
+}
+
 // About how many bytes of a source there are for a node: more nodes ask for more memory.
 const BYTES_OF_A_NODE: usize = 8;
+
+// About how many nodes a definition has.
+const NODES_OF_A_DEFINITION: usize = 64;
 
 /// Why there are no nodes.
 #[derive(Clone, Copy)]
@@ -71,44 +96,46 @@ fn flat_of_text(alloc: Global, text: &str, depth: u32) -> Result<Flat, Stop>
     requires { length text.now < 2 ^ 32 }
     ensures { AnswersFlat text.now depth result }
 {
-    match parse_document_source_within::<Scalar>(alloc, text, depth as usize) {
-        Ok(document) => {
-            let table = ByteTable::new(alloc, text)?;
-            Ok(flattened(alloc, &table, &document)?)
-        }
+    let table = ByteTable::new(alloc, text)?;
+    let mut telling = Telling {
+        alloc,
+        table: &table,
+        flat: Flat {
+            nodes: Vec::with_capacity(alloc, text.len() / BYTES_OF_A_NODE)?,
+            texts: String::new(alloc),
+        },
+    };
+    match parse_document_source_into::<Scalar, Telling<'_>>(
+        alloc,
+        text,
+        depth as usize,
+        &mut telling,
+    ) {
+        Ok(()) => Ok(telling.flat),
         Err(DepthFailure::Parse(ParseFailure::Refused(found))) => {
-            let table = ByteTable::new(alloc, text)?;
             Err(Stop::Refused(told_fault(&table, &found)))
         }
-        Err(DepthFailure::TooDeep(span)) => {
-            let table = ByteTable::new(alloc, text)?;
-            Err(Stop::TooDeep(deep_fault(&table, span)))
-        }
+        Err(DepthFailure::TooDeep(span)) => Err(Stop::TooDeep(deep_fault(&table, span))),
         Err(DepthFailure::Parse(ParseFailure::Memory)) => Err(Stop::Memory),
     }
 }
 
-// The nodes of a document as C is told them. Those of a definition are told as soon as they are listed, while what they
-// tell of is still at hand.
-fn flattened(
+// Tells the nodes of a definition behind the others.
+fn tell_definition<'t, 'a>(
     alloc: Global,
+    flat: &mut Flat,
     table: &ByteTable,
-    document: &[Definition<'_, Scalar>],
-) -> Result<Flat, AllocError>
-    ensures nodes { (source : List ℕ) → IsTableOf source table.now → IfOk result (λ flat. flat.nodes.items ≡ told_nodes source 0 (document_nodes (map (view_definition scalar_content) document.now))) }
-    ensures texts { IfOk result (λ flat. string_bytes flat.texts ≡ encode_utf8_all (node_texts (document_nodes (map (view_definition scalar_content) document.now)))) }
+    definition: &'t Definition<'a, Scalar>,
+) -> Result<(), AllocError>
+    ensures nodes { (source : List ℕ) → IsTableOf source table.now → OnOk result (flat.new.nodes.items ≡ flat.old.nodes.items ++ told_nodes source (length (string_bytes flat.old.texts)) (definition_nodes (view_definition scalar_content definition.now))) }
+    ensures texts { OnOk result (string_bytes flat.new.texts ≡ string_bytes flat.old.texts ++ encode_utf8_all (node_texts (definition_nodes (view_definition scalar_content definition.now)))) }
 {
-    let mut flat = Flat {
-        nodes: Vec::with_capacity(alloc, table.length() / BYTES_OF_A_NODE)?,
-        texts: String::new(alloc),
-    };
-    let mut nodes = Vec::new(alloc);
-    for definition in document {
-        nodes.clear();
-        push_definition(&mut nodes, definition)?;
-        tell(&mut flat, table, &nodes)?;
-    }
-    Ok(flat)
+    let mut nodes: Vec<juniper_nodes::Node<'t, 'a, Scalar>> = Vec::with_capacity(
+        alloc,
+        NODES_OF_A_DEFINITION,
+    )?;
+    push_definition(&mut nodes, definition)?;
+    tell(flat, table, &nodes)
 }
 
 // Tells these nodes behind the others.

@@ -1,0 +1,10 @@
+use Rattle.juniper.specs.View.{view_definition}
+use Rattle.juniper_c.specs.Scalars.{scalar_content}
+use Rattle.juniper_c.proofs.Tellings.{gains-definition}
+use Rattle.juniper_c.proofs.flat.TellingDefinitionSinkScalar.take.Goals as goal
+
+pub returns : goal.returns
+returns c =
+    let told = c.tell_definition in
+    let d = view_definition scalar_content c.args.definition in
+    gains-definition told.result c.args.self.now told.new.flat d told.ensures.nodes told.ensures.texts
