@@ -1,5 +1,5 @@
 -- What takes definitions, and grows.
-use Rattle.std.proofs.Common.{◌≡◌, List, ◌++◌, [], ℕ, sym, subst, append_assoc, append-nil}
+use Rattle.std.proofs.Common.{List, ◌++◌, [], ℕ, sym, subst, append_assoc, append-nil}
 use Rattle.std.specs.Prelude.{Result, Ok, Err, IfOk}
 use Rattle.graphql_grammar.specs.Tree.{Scalars, Definition}
 use Rattle.juniper_tokens.specs.Errors.{Error}

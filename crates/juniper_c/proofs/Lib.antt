@@ -3,4 +3,4 @@ pub mod Told
 pub mod Scalars
 pub mod ShortScalars
 pub mod Bounds
-pub mod Tellings
+pub mod FlatWriters

@@ -5,4 +5,4 @@ pub mod Scalars
 pub mod ScalarLaws
 pub mod Faults
 pub mod Answers
-pub mod Tellings
+pub mod FlatWriters

@@ -33,7 +33,7 @@ impl ByteTable {
         let bytes = source.as_bytes();
         for at in 0..bytes.len() {
             if begins_character(bytes[at]) {
-                starts.push(at as u32)?;
+                starts.push_reserved(at as u32);
             }
         }
         Ok(ByteTable {

@@ -1,12 +1,12 @@
 //! What there is to tell of a source, before the caller's rooms are looked at.
 ghost use Rattle.std.specs.Prelude.{◌≡◌, ◌<◌, ◌≤◌, ◌^◌, ◌++◌, ℕ, List, length, map, IfOk, OnOk, string_bytes, encode_utf8_all};
 ghost use Rattle.std.specs.Str.{chars};
-ghost use Rattle.juniper_c.specs.Scalars.{scalar_content};
 ghost use Rattle.graphql_nodes.specs.Nodes.{definition_nodes};
 ghost use Rattle.juniper.specs.View.{view_definition};
 ghost use Rattle.juniper_nodes.specs.NodeTexts.{node_texts};
 ghost use Rattle.juniper_nodes.specs.NodeViews.{view_node};
 ghost use Rattle.juniper_c.specs.ByteTables.{IsTableOf};
+ghost use Rattle.juniper_c.specs.Scalars.{scalar_content};
 ghost use Rattle.juniper_c.specs.Nodes.{told_nodes};
 ghost use Rattle.juniper_c.specs.Answers.{AnswersFlat};
 
@@ -28,16 +28,16 @@ pub(crate) struct Flat {
 
 // What takes the definitions of a source and keeps what C is told of them, so that no tree is larger than a definition.
 #[derive(Drop)]
-struct Telling<'b> {
+struct FlatWriter<'b> {
     alloc: Global,
     table: &'b ByteTable,
     flat: Flat,
 }
 
-impl DefinitionSink<Scalar> for Telling<'_> {
+impl DefinitionSink<Scalar> for FlatWriter<'_> {
     ghost use Rattle.std.specs.Prelude.{◌∷◌, []};
     ghost use Rattle.juniper.specs.Sinks.{Gains};
-    ghost use Rattle.juniper_c.specs.Tellings.{Holds};
+    ghost use Rattle.juniper_c.specs.FlatWriters.{Holds};
 
     ghost holds = { Holds };
 
@@ -97,7 +97,7 @@ fn flat_of_text(alloc: Global, text: &str, depth: u32) -> Result<Flat, Stop>
     ensures { AnswersFlat text.now depth result }
 {
     let table = ByteTable::new(alloc, text)?;
-    let mut telling = Telling {
+    let mut writer = FlatWriter {
         alloc,
         table: &table,
         flat: Flat {
@@ -105,13 +105,13 @@ fn flat_of_text(alloc: Global, text: &str, depth: u32) -> Result<Flat, Stop>
             texts: String::new(alloc),
         },
     };
-    match parse_document_source_into::<Scalar, Telling<'_>>(
+    match parse_document_source_into::<Scalar, FlatWriter<'_>>(
         alloc,
         text,
         depth as usize,
-        &mut telling,
+        &mut writer,
     ) {
-        Ok(()) => Ok(telling.flat),
+        Ok(()) => Ok(writer.flat),
         Err(DepthFailure::Parse(ParseFailure::Refused(found))) => {
             Err(Stop::Refused(told_fault(&table, &found)))
         }

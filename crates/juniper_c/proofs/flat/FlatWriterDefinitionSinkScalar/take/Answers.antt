@@ -1,7 +1,7 @@
 use Rattle.juniper.specs.View.{view_definition}
 use Rattle.juniper_c.specs.Scalars.{scalar_content}
-use Rattle.juniper_c.proofs.Tellings.{gains-definition}
-use Rattle.juniper_c.proofs.flat.TellingDefinitionSinkScalar.take.Goals as goal
+use Rattle.juniper_c.proofs.FlatWriters.{gains-definition}
+use Rattle.juniper_c.proofs.flat.FlatWriterDefinitionSinkScalar.take.Goals as goal
 
 pub returns : goal.returns
 returns c =

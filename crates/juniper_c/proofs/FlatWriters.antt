@@ -8,15 +8,15 @@ use Rattle.juniper_values.specs.Scalar.{Content}
 use Rattle.juniper_nodes.specs.NodeTexts.{node_texts}
 use Rattle.juniper_c.specs.ByteTables.{IsTableOf}
 use Rattle.juniper_c.specs.Nodes.{told_nodes}
-use Rattle.juniper_c.specs.Tellings.{Holds}
+use Rattle.juniper_c.specs.FlatWriters.{Holds}
 use Rattle.juniper_c.specs.declared.flat.Flat.{Flat}
-use Rattle.juniper_c.specs.declared.flat.Telling.{Telling}
+use Rattle.juniper_c.specs.declared.flat.FlatWriter.{FlatWriter}
 use Rattle.juniper_c.proofs.Told.{told-next, texts-append, document-more}
 
 -- one definition more
-pub gains-definition : {X E : Type 0} (result : Result X E) (old : Telling) (flat : Flat) (d : Definition Content)
+pub gains-definition : {X E : Type 0} (result : Result X E) (old : FlatWriter) (flat : Flat) (d : Definition Content)
     → ((source : List ℕ) → IsTableOf source old.table.now → OnOk result (flat.nodes.items
-        ≡ old.flat.nodes.items ++ told_nodes source (length (string_bytes old.flat.texts)) (definition_nodes d)))
+    ≡ old.flat.nodes.items ++ told_nodes source (length (string_bytes old.flat.texts)) (definition_nodes d)))
     → OnOk result (string_bytes flat.texts ≡ string_bytes old.flat.texts ++ encode_utf8_all (node_texts (definition_nodes d)))
     → OnOk result (Gains Holds old (record old { flat = flat }) (d ∷ []))
 gains-definition (Err e) old flat d nodes texts = tt
