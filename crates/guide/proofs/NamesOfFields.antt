@@ -5,11 +5,11 @@ use Rattle.std.specs.Str.{chars}
 use Rattle.std.proofs.lemmas.List.{map-append}
 use Rattle.graphql_grammar.specs.Tokens.{Text}
 use Rattle.juniper_tokens.specs.declared.span.Spanning.{Spanning}
-use Rattle.juniper.specs.declared.ast.Field.{Field}
-use Rattle.juniper.specs.declared.ast.InlineFragment.{InlineFragment}
-use Rattle.juniper.specs.declared.ast.Selection.{Selection}
-use Rattle.juniper.specs.declared.ast.Selection.TheVariants as V
-use Rattle.juniper.specs.declared.ast.Definition.{Definition}
+use Rattle.juniper.specs.declared.tree.ast.Field.{Field}
+use Rattle.juniper.specs.declared.tree.ast.InlineFragment.{InlineFragment}
+use Rattle.juniper.specs.declared.tree.ast.Selection.{Selection}
+use Rattle.juniper.specs.declared.tree.ast.Selection.TheVariants as V
+use Rattle.juniper.specs.declared.tree.ast.Definition.{Definition}
 use Rattle.juniper.specs.View.{view_word, view_selection, view_selections, view_field, view_definition}
 use Rattle.juniper.specs.Laws.{SeesSelections}
 use Rattle.guide.specs.Fields.{texts, fields_of, fields_within, fields_among, fields_in, field_names}

@@ -5,7 +5,7 @@ use Rattle.juniper_values.specs.Value.{Value}
 use Rattle.juniper_values.specs.Resolve.{Values, resolve}
 use Rattle.juniper_values.specs.View.{view}
 use Rattle.juniper_values.specs.declared.input_value.InputValue.{InputValue}
-use Rattle.juniper.specs.declared.ast.Arguments.{Arguments}
+use Rattle.juniper.specs.declared.tree.ast.Arguments.{Arguments}
 use Rattle.juniper.specs.Named.{first_named}
 
 module _ {S C : Type 0} (content : S → C) (values : Values C) where

@@ -8,7 +8,7 @@ use Rattle.juniper_tokens.specs.declared.span.Span.{Span as SpanOf}
 use Rattle.juniper_tokens.specs.Errors.{Error}
 use Rattle.juniper_tokens.specs.Spans.{view_span, covering_span, span_between}
 use Rattle.juniper_tokens.specs.declared.span.Spanning.{Spanning}
-use Rattle.juniper.specs.declared.ast.Directive as ast
+use Rattle.juniper.specs.declared.tree.ast.Directive as ast
 use Rattle.juniper.specs.View.{view_directive, view_directives}
 use Rattle.juniper.specs.Parts.{to_end_of, spanned, last_end, view_spanned_directives}
 

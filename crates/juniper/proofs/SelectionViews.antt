@@ -9,13 +9,13 @@ use Rattle.graphql_grammar.specs.Reading.{selections_of}
 use Rattle.juniper_tokens.specs.Spans.{view_span}
 use Rattle.juniper_tokens.specs.declared.span.Span.{Span as SpanOf}
 use Rattle.juniper_tokens.specs.declared.span.Spanning.{Spanning}
-use Rattle.juniper.specs.declared.ast.Arguments.{Arguments}
-use Rattle.juniper.specs.declared.ast.Directive.{Directive}
-use Rattle.juniper.specs.declared.ast.Selection.{Selection, Row_of-Selection, end_of-Selection, more_of-Selection, items-the_row-Selection, items_hidden-the_row-Selection-0, back-Field-selection_set}
-use Rattle.juniper.specs.declared.ast.Selection.TheBlock.{hidden-the_row-Selection-0}
-use Rattle.juniper.specs.declared.ast.Selection.TheVariants.{Field, InlineFragment}
-use Rattle.juniper.specs.declared.ast.Field.{Field as FieldOf}
-use Rattle.juniper.specs.declared.ast.InlineFragment.{InlineFragment as InlineOf}
+use Rattle.juniper.specs.declared.tree.ast.Arguments.{Arguments}
+use Rattle.juniper.specs.declared.tree.ast.Directive.{Directive}
+use Rattle.juniper.specs.declared.tree.ast.Selection.{Selection, Row_of-Selection, end_of-Selection, more_of-Selection, items-the_row-Selection, items_hidden-the_row-Selection-0, back-Field-selection_set}
+use Rattle.juniper.specs.declared.tree.ast.Selection.TheBlock.{hidden-the_row-Selection-0}
+use Rattle.juniper.specs.declared.tree.ast.Selection.TheVariants.{Field, InlineFragment}
+use Rattle.juniper.specs.declared.tree.ast.Field.{Field as FieldOf}
+use Rattle.juniper.specs.declared.tree.ast.InlineFragment.{InlineFragment as InlineOf}
 use Rattle.juniper.specs.View.{view_word, view_arguments, view_directive, view_directives, view_selection, view_held, view_row, view_selections, view_set, view_field, view_inline}
 use Rattle.juniper.specs.Parts.{to_end_of, from_start_of, view_spanned_directives}
 use Rattle.juniper.specs.Selections.{optional_of, directives_of, view_spanned_set, names_span}

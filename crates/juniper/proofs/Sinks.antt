@@ -3,7 +3,7 @@ use Rattle.std.proofs.Common.{List, ◌++◌, [], ℕ, sym, subst, append_assoc,
 use Rattle.std.specs.Prelude.{Result, Ok, Err, IfOk}
 use Rattle.graphql_grammar.specs.Tree.{Scalars, Definition}
 use Rattle.juniper_tokens.specs.Errors.{Error}
-use Rattle.juniper.specs.declared.depth.DepthFailure.{DepthFailure}
+use Rattle.juniper.specs.declared.parser.depth.DepthFailure.{DepthFailure}
 use Rattle.juniper.specs.Sinks.{Gains, GainsTree, GivesWithin}
 
 module _ {D C : Type 0} (holds : List ℕ → D → List (Definition C) → Type 0) where

@@ -14,9 +14,9 @@ use Rattle.juniper_tokens.specs.Errors.{view_fault, view_lexer_error}
 use Rattle.juniper_tokens.specs.Gathering.{IfFault}
 use Rattle.juniper_values.specs.declared.input_value.InputValue.{InputValue}
 use Rattle.juniper_values.specs.declared.input_value.InputValue.TheVariants as value
-use Rattle.juniper.specs.declared.ast.Field.{Field}
-use Rattle.juniper.specs.declared.ast.InlineFragment.{InlineFragment}
-use Rattle.juniper.specs.declared.ast.Selection.TheVariants as selection
+use Rattle.juniper.specs.declared.tree.ast.Field.{Field}
+use Rattle.juniper.specs.declared.tree.ast.InlineFragment.{InlineFragment}
+use Rattle.juniper.specs.declared.tree.ast.Selection.TheVariants as selection
 use Rattle.juniper.specs.Promise.{lexical_fault}
 use Rattle.juniper.specs.View.{text_of, view_at, view_value, view_object_field, view_selection, view_field, view_inline}
 

@@ -16,7 +16,7 @@ use Rattle.juniper_tokens.specs.declared.token.Token.TheVariants as token
 use Rattle.juniper_tokens.specs.Errors.{Error}
 use Rattle.juniper_tokens.specs.Cursor.{Read, ◌>>=◌, kind_at, next_at, expect_at, expect_name_at}
 use Rattle.juniper_values.specs.TypeLiteral.{TypeShape}
-use Rattle.juniper.specs.declared.ast.Directive as code
+use Rattle.juniper.specs.declared.tree.ast.Directive as code
 use Rattle.juniper.specs.View.{view_type, view_directive}
 use Rattle.juniper.specs.Seen.{seen}
 use Rattle.juniper.specs.Values.{from_to, closed_by, then_others, value_read}

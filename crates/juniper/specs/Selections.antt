@@ -14,8 +14,8 @@ use Rattle.juniper_tokens.specs.declared.span.Spanning.{Spanning}
 use Rattle.juniper_tokens.specs.declared.token.Token.TheVariants as token
 use Rattle.juniper_tokens.specs.Errors.{Error}
 use Rattle.juniper_tokens.specs.Cursor.{Read, ◌>>=◌, first_of, kind_at, next_at, expect_at, expect_name_at}
-use Rattle.juniper.specs.declared.ast.Selection as code
-use Rattle.juniper.specs.declared.ast.Directive as directive
+use Rattle.juniper.specs.declared.tree.ast.Selection as code
+use Rattle.juniper.specs.declared.tree.ast.Directive as directive
 use Rattle.juniper.specs.View.{view_word, view_directives, view_selections}
 use Rattle.juniper.specs.Seen.{seen}
 use Rattle.juniper.specs.Values.{from_to, closed_by, then_others}

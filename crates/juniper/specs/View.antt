@@ -16,17 +16,17 @@ use Rattle.juniper_values.specs.declared.input_value.InputValue.{InputValue, fol
 use Rattle.juniper_values.specs.declared.input_value.InputValue.TheOpen.{InputValue-F}
 use Rattle.juniper_values.specs.declared.type_literal.TypeModifier.{TypeModifier}
 use Rattle.juniper_values.specs.declared.type_literal.TypeModifier.TheVariants as modifier
-use Rattle.juniper.specs.declared.ast.Arguments.{Arguments}
-use Rattle.juniper.specs.declared.ast.Directive.{Directive}
-use Rattle.juniper.specs.declared.ast.VariableDefinition.{VariableDefinition}
-use Rattle.juniper.specs.declared.ast.VariableDefinitions.{VariableDefinitions}
-use Rattle.juniper.specs.declared.ast.Field.{Field}
-use Rattle.juniper.specs.declared.ast.InlineFragment.{InlineFragment}
-use Rattle.juniper.specs.declared.ast.Selection as code
-use Rattle.juniper.specs.declared.ast.OperationType.{OperationType}
-use Rattle.juniper.specs.declared.ast.OperationType.TheVariants as operation
-use Rattle.juniper.specs.declared.ast.Definition as definitions
-use Rattle.juniper.specs.declared.ast.Definition.TheVariants as definition
+use Rattle.juniper.specs.declared.tree.ast.Arguments.{Arguments}
+use Rattle.juniper.specs.declared.tree.ast.Directive.{Directive}
+use Rattle.juniper.specs.declared.tree.ast.VariableDefinition.{VariableDefinition}
+use Rattle.juniper.specs.declared.tree.ast.VariableDefinitions.{VariableDefinitions}
+use Rattle.juniper.specs.declared.tree.ast.Field.{Field}
+use Rattle.juniper.specs.declared.tree.ast.InlineFragment.{InlineFragment}
+use Rattle.juniper.specs.declared.tree.ast.Selection as code
+use Rattle.juniper.specs.declared.tree.ast.OperationType.{OperationType}
+use Rattle.juniper.specs.declared.tree.ast.OperationType.TheVariants as operation
+use Rattle.juniper.specs.declared.tree.ast.Definition as definitions
+use Rattle.juniper.specs.declared.tree.ast.Definition.TheVariants as definition
 
 -- ---- words
 

@@ -1,0 +1,22 @@
+use Rattle.std.proofs.Common.{sym, subst, Ok, Err}
+use Rattle.juniper.specs.View.{view_document}
+use Rattle.juniper.specs.Scalars.{stated}
+use Rattle.juniper.specs.Within.{AnswersWithin}
+use Rattle.juniper.specs.declared.parser.depth.DepthFailure.{DepthFailure}
+use Rattle.juniper.proofs.Limits.{answers_within}
+use Rattle.juniper.proofs.parser.depth.parse_within.Goals as goal
+
+pub returns-in-Ok : goal.returns-in-Ok
+returns-in-Ok g c = λ source cut.
+    let S = stated g.S.ParseScalarValue.reading g.S.ScalarValue.of_bool in
+    let view = view_document g.S.ParseScalarValue.content in
+    let deep = c.end_at_nesting-deep in
+    answers_within S c.args.depth source view c.args.parser.now cut deep.result deep.new.self (Ok c.in-Ok.tree) deep.ensures c.in-Ok.ensures
+
+pub returns-in-Err : goal.returns-in-Err
+returns-in-Err g c = λ source cut.
+    let S = stated g.S.ParseScalarValue.reading g.S.ScalarValue.of_bool in
+    let view = view_document g.S.ParseScalarValue.content in
+    let deep = c.end_at_nesting-deep in
+    subst (λ (e : DepthFailure). AnswersWithin S c.args.depth source view (Err e)) (sym c.told.ensures)
+    (answers_within S c.args.depth source view c.args.parser.now cut deep.result deep.new.self (Err c.in-Err.failure) deep.ensures c.in-Err.ensures)

@@ -1,0 +1,42 @@
+use Rattle.std.proofs.Common.{◌≡◌, ◌≤◌, length, map, ◌+◌, ◌*◌}
+use Rattle.juniper.specs.Scalars.{stated}
+use Rattle.juniper.specs.View.{view_selection}
+use Rattle.juniper.specs.Selections.{selections_inner_read}
+use Rattle.juniper.proofs.Loops.{with_front}
+use Rattle.juniper.proofs.parser.selection.+selection.Given as goal
+
+abbrev pub decreases-parse_selection_set : goal.decreases-parse_selection_set
+decreases-parse_selection_set g l = 5 * length l.parser.now + 0
+
+abbrev pub decreases-parse_field : goal.decreases-parse_field
+decreases-parse_field g l = 5 * length l.parser.now + 1
+
+abbrev pub decreases-parse_optional_selection_set : goal.decreases-parse_optional_selection_set
+decreases-parse_optional_selection_set g l = 5 * length l.parser.now + 1
+
+abbrev pub decreases-parse_spread : goal.decreases-parse_spread
+decreases-parse_spread g l = 5 * length l.parser.now + 2
+
+abbrev pub decreases-parse_typed_fragment : goal.decreases-parse_typed_fragment
+decreases-parse_typed_fragment g l = 5 * length l.parser.now + 2
+
+abbrev pub decreases-parse_untyped_fragment : goal.decreases-parse_untyped_fragment
+decreases-parse_untyped_fragment g l = 5 * length l.parser.now + 2
+
+abbrev pub decreases-parse_selection : goal.decreases-parse_selection
+decreases-parse_selection g l = 5 * length l.parser.now + 3
+
+abbrev pub decreases-parse_selection_list : goal.decreases-parse_selection_list
+decreases-parse_selection_list g l = 5 * length l.parser.now + 4
+
+abbrev pub invariant-parse_selection_list-loop-items : goal.invariant-parse_selection_list-loop-items
+invariant-parse_selection_list-loop-items g l = record {
+  so_far : with_front (map (view_selection g.S.ParseScalarValue.content) l.items.items) (selections_inner_read (stated g.S.ParseScalarValue.reading g.S.ScalarValue.of_bool) l.parser) ≡ selections_inner_read (stated g.S.ParseScalarValue.reading g.S.ScalarValue.of_bool) l.fn.parser;
+  not_longer : length l.parser ≤ length l.fn.parser;
+}
+
+abbrev pub decreases-parse_selection_list-loop-items : goal.decreases-parse_selection_list-loop-items
+decreases-parse_selection_list-loop-items g l = length l.parser
+
+abbrev pub decreases-parse_inline_parts : goal.decreases-parse_inline_parts
+decreases-parse_inline_parts g l = 5 * length l.parser.now + 1

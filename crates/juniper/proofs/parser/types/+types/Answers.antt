@@ -1,0 +1,26 @@
+use Rattle.std.proofs.Common.{rules}
+use Rattle.juniper.proofs.SeenTypes.{type_seen}
+use Rattle.juniper_tokens.proofs.Rests.{further}
+use Rattle.juniper.proofs.parser.types.+types.Goals as goal
+
+pub parse_any_type-returns-clause-gives : goal.parse_any_type-returns-clause-gives
+parse_any_type-returns-clause-gives t c = rw (type_seen c.args.parser.now) (search rules)
+
+pub parse_any_type-returns-in_err-inner-clause-gives :
+    goal.parse_any_type-returns-in_err-inner-clause-gives
+parse_any_type-returns-in_err-inner-clause-gives t c = rw (type_seen c.args.parser.now) (search rules)
+
+pub parse_any_type-returns-clause-rest : goal.parse_any_type-returns-clause-rest
+parse_any_type-returns-clause-rest t c = further _ _ _ c.in_ok-inner.ensures.rest c.parse_non_null.ensures.rest
+
+pub parse_list_type-returns-in_err-inner-clause-rest : goal.parse_list_type-returns-in_err-inner-clause-rest
+parse_list_type-returns-in_err-inner-clause-rest t c = further _ _ _ c.in_ok-opening.ensures.rest c.in_err-inner.ensures.rest
+
+pub parse_list_type-returns-in_err-closing-clause-rest : goal.parse_list_type-returns-in_err-closing-clause-rest
+parse_list_type-returns-in_err-closing-clause-rest t c = further _ _ _ c.in_ok-opening.ensures.rest (further _ _ _ c.in_ok-inner.ensures.rest c.in_err-closing.ensures.rest)
+
+pub parse_list_type-returns-in-Ok-clause-rest : goal.parse_list_type-returns-in-Ok-clause-rest
+parse_list_type-returns-in-Ok-clause-rest t c = further _ _ _ c.in_ok-opening.ensures.rest (further _ _ _ c.in_ok-inner.ensures.rest c.in_ok-closing.ensures.rest)
+
+pub parse_list_type-returns-clause-rest : goal.parse_list_type-returns-clause-rest
+parse_list_type-returns-clause-rest t c = further _ _ _ c.in_ok-opening.ensures.rest (further _ _ _ c.in_ok-inner.ensures.rest c.in_ok-closing.ensures.rest)

@@ -1,7 +1,0 @@
-use Rattle.std.proofs.Common.{refl}
-use Rattle.juniper.specs.Parts.{variables_read}
-use Rattle.juniper.proofs.variables.parse_variables.Goals as goal
-
-pub returns-clause-gives : goal.returns-clause-gives
-unfolding variables_read
-returns-clause-gives g c = rw (c.in_ok-opening.ensures.gives, c.in_ok-list.ensures.gives, c.start_end.ensures) refl

@@ -1,0 +1,168 @@
+//! Operations and fragments (GraphQL specification, October 2021, sections 2.2, 2.3 and 2.8).
+ghost use Rattle.std.specs.Prelude.{◌≡◌, ◌<◌, ◌≤◌, length, option_map, OnOk, codes};
+ghost use Rattle.std.specs.Str.{chars};
+ghost use Rattle.juniper_tokens.specs.Tokens.{view_name};
+ghost use Rattle.juniper_tokens.specs.Cursor.{EndsOnce, Gives, first_of, refused_at};
+ghost use Rattle.juniper.specs.View.{view_word, view_operation_type, view_definition};
+ghost use Rattle.juniper.specs.Scalars.{stated};
+ghost use Rattle.juniper.specs.Definitions.{operation_at, optional_name_read, fragment_name_read, condition_read, operation_read, fragment_read, shorthand_read, definition_read};
+
+use crate::parser::next::{next_is, next_is_word, refuse};
+use crate::parser::selection::{parse_inline_parts, parse_selection_set};
+use crate::parser::variables::parse_optional_variables;
+use crate::tree::ast::{Definition, Fragment, Operation, OperationType};
+use juniper_tokens::{
+    Kind, OptionParseResult, ParseResult, Parser, Spanning, UnlocatedParseResult,
+};
+use juniper_values::ScalarValue;
+
+/// `Definition = SelectionSet
+///            | ("query" | "mutation" | "subscription") Name? Variables? Directive* SelectionSet
+///            | "fragment" FragmentName "on" Name Directive* SelectionSet`
+#[tactic(auto, using(crate::proofs::Names::fragment_is), unfolding(crate::specs::Definitions::definition_read))]
+pub(crate) fn parse_definition<'a, S: ScalarValue>(
+    parser: &mut Parser<'a>,
+) -> UnlocatedParseResult<Definition<'a, S>>
+    ensures gives { Gives (view_definition S.content) result parser.new (definition_read (stated S.reading S.of_bool) parser.old) }
+    ensures shorter { OnOk result (length parser.new < length parser.old) }
+{
+    match next_operation(parser) {
+        Some(operation_type) => parse_operation(parser, operation_type),
+        None => {
+            if next_is_word(parser, "fragment") {
+                parse_fragment(parser)
+            } else {
+                parse_shorthand(parser)
+            }
+        }
+    }
+}
+
+/// The type of the operation that the next token begins, if it begins one. The token is left there.
+#[tactic(auto, using(crate::proofs::Names::query_is, crate::proofs::Names::mutation_is, crate::proofs::Names::subscription_is))]
+fn next_operation(parser: &Parser<'_>) -> Option<OperationType>
+    ensures { option_map view_operation_type result ≡ operation_at (first_of parser.now) }
+{
+    if next_is_word(parser, "mutation") {
+        Some(OperationType::Mutation)
+    } else if next_is_word(parser, "subscription") {
+        Some(OperationType::Subscription)
+    } else if next_is_word(parser, "query") {
+        Some(OperationType::Query)
+    } else {
+        None
+    }
+}
+
+/// `SelectionSet`
+#[tactic(auto, unfolding(crate::specs::Definitions::shorthand_read))]
+fn parse_shorthand<'a, S: ScalarValue>(
+    parser: &mut Parser<'a>,
+) -> UnlocatedParseResult<Definition<'a, S>>
+    ensures gives { Gives (view_definition S.content) result parser.new (shorthand_read (stated S.reading S.of_bool) parser.old) }
+    ensures shorter { OnOk result (length parser.new < length parser.old) }
+{
+    let set = parse_selection_set(parser)?;
+    Ok(Definition::Operation(Spanning::new(
+        set.span,
+        Operation {
+            operation_type: OperationType::Query,
+            name: None,
+            variable_definitions: None,
+            directives: None,
+            selection_set: set.item,
+        },
+    )))
+}
+
+/// `("query" | "mutation" | "subscription") Name? Variables? Directive* SelectionSet`, of this type.
+#[tactic(auto, unfolding(crate::specs::Definitions::operation_read))]
+fn parse_operation<'a, S: ScalarValue>(
+    parser: &mut Parser<'a>,
+    operation_type: OperationType,
+) -> UnlocatedParseResult<Definition<'a, S>>
+    ensures gives { Gives (view_definition S.content) result parser.new (operation_read (stated S.reading S.of_bool) (view_operation_type operation_type) parser.old) }
+    ensures shorter { OnOk result (length parser.new < length parser.old) }
+{
+    let start = parser.next_token()?.span.start;
+    let name = parse_optional_name(parser)?;
+    let variable_definitions = parse_optional_variables(parser)?;
+    let (directives, set) = parse_inline_parts(parser)?;
+    let end = set.span.end;
+    Ok(Definition::Operation(Spanning::start_end(
+        &start,
+        &end,
+        Operation {
+            operation_type,
+            name,
+            variable_definitions,
+            directives,
+            selection_set: set.item,
+        },
+    )))
+}
+
+/// `Name?`
+#[tactic(auto, unfolding(crate::specs::Definitions::optional_name_read))]
+fn parse_optional_name<'a>(parser: &mut Parser<'a>) -> OptionParseResult<&'a str>
+    ensures gives { Gives (option_map view_word) result parser.new (optional_name_read parser.old) }
+    ensures not_longer { OnOk result (length parser.new ≤ length parser.old) }
+{
+    if next_is(parser, Kind::Name) {
+        Ok(Some(parser.expect_name()?))
+    } else {
+        Ok(None)
+    }
+}
+
+/// `"fragment" FragmentName "on" Name Directive* SelectionSet`
+#[tactic(auto, unfolding(crate::specs::Definitions::fragment_read))]
+fn parse_fragment<'a, S: ScalarValue>(
+    parser: &mut Parser<'a>,
+) -> UnlocatedParseResult<Definition<'a, S>>
+    ensures gives { Gives (view_definition S.content) result parser.new (fragment_read (stated S.reading S.of_bool) parser.old) }
+    ensures shorter { OnOk result (length parser.new < length parser.old) }
+{
+    let start = parser.next_token()?.span.start;
+    let name = parse_fragment_name(parser)?;
+    let type_condition = parse_type_condition(parser)?;
+    let (directives, set) = parse_inline_parts(parser)?;
+    let end = set.span.end;
+    Ok(Definition::Fragment(Spanning::start_end(
+        &start,
+        &end,
+        Fragment {
+            name,
+            type_condition,
+            directives,
+            selection_set: set.item,
+        },
+    )))
+}
+
+/// `FragmentName = a Name other than "on"`
+#[tactic(auto, using(crate::proofs::Names::on_is), unfolding(crate::specs::Definitions::fragment_name_read))]
+fn parse_fragment_name<'a>(parser: &mut Parser<'a>) -> ParseResult<&'a str>
+    ensures gives { Gives view_name result parser.new (fragment_name_read parser.old) }
+    ensures shorter { OnOk result (length parser.new < length parser.old) }
+{
+    if next_is_word(parser, "on") {
+        refuse(parser)
+    } else {
+        parser.expect_name()
+    }
+}
+
+/// `"on" Name`
+#[tactic(auto, using(crate::proofs::Names::on_is), unfolding(crate::specs::Definitions::condition_read))]
+fn parse_type_condition<'a>(parser: &mut Parser<'a>) -> ParseResult<&'a str>
+    ensures gives { Gives view_name result parser.new (condition_read parser.old) }
+    ensures shorter { OnOk result (length parser.new < length parser.old) }
+{
+    if next_is_word(parser, "on") {
+        parser.next_token()?;
+        parser.expect_name()
+    } else {
+        refuse(parser)
+    }
+}

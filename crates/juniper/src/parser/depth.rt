@@ -1,0 +1,85 @@
+//! Documents within a limit on nesting.
+ghost use Rattle.std.specs.Prelude.{◌≡◌, ℕ, List, IfOk};
+ghost use Rattle.std.specs.Str.{chars};
+ghost use Rattle.graphql_lexical.specs.Cutting.{Cut};
+ghost use Rattle.juniper_tokens.specs.Errors.{view_fault};
+ghost use Rattle.juniper_tokens.specs.Spans.{view_span};
+ghost use Rattle.juniper.specs.View.{view_document};
+ghost use Rattle.juniper.specs.Scalars.{stated};
+ghost use Rattle.juniper.specs.Promise.{HasTree, IsRefusal, IsRefusalInText};
+ghost use Rattle.juniper.specs.Within.{IfRefusedWithin, IfTooDeep, IfDecided, HasTooDeep, IsWithin, AnswersWithin, told_within};
+
+use crate::parser::document::parse_definitions;
+use crate::tree::ast::OwnedDocument;
+use juniper_tokens::{Lexer, ParseFailure, Parser, Span};
+use juniper_values::ScalarValue;
+use std::alloc::Global;
+
+/// Why a source has no tree within a limit on nesting.
+#[derive(Debug, Drop)]
+pub enum DepthFailure {
+    /// What `parse_document_source` answers.
+    Parse(ParseFailure),
+    /// The span of the first token that is nested too deep.
+    TooDeep(Span),
+}
+
+/// The tree of a source text whose brackets are not nested deeper than `depth`.
+///
+/// A bracket is `(`, `[` or `{`. The nesting at a token is the number of brackets that are opened up to it, and with
+/// it, less that of those that are closed. `TooDeep` is answered with the span of the first token whose nesting exceeds
+/// `depth`, exactly where the text can be cut into tokens and those up to that one begin a document. Otherwise the
+/// answer is that of `parse_document_source`: so a lexical fault anywhere wins, and so does a fault of the grammar at
+/// or before that token. No token behind it is parsed, so the calls that read the parts of a part go no deeper than
+/// `depth` allows. `TooDeep` itself takes no memory.
+pub fn parse_document_source_within<'a, S: ScalarValue>(
+    alloc: Global,
+    s: &'a str,
+    depth: usize,
+) -> Result<OwnedDocument<'a, S>, DepthFailure>
+    ensures accepted { IfOk result (λ tree. HasTree (stated S.reading S.of_bool) (chars s.now) (view_document S.content tree)) }
+    ensures refused { IfRefusedWithin result (λ fault. IsRefusal (stated S.reading S.of_bool) (chars s.now) (view_fault fault)) }
+    ensures in_characters { IfRefusedWithin result (λ fault. IsRefusalInText (stated S.reading S.of_bool) (chars s.now) (view_fault fault)) }
+    ensures within { IfDecided result (IsWithin (stated S.reading S.of_bool) depth (chars s.now)) }
+    ensures too_deep { IfTooDeep result (λ span. HasTooDeep (stated S.reading S.of_bool) depth (chars s.now) (view_span span)) }
+{
+    let mut lexer = Lexer::new(alloc, s);
+    match Parser::new(&mut lexer) {
+        Ok(mut parser) => parse_within(&mut parser, depth),
+        Err(failure) => Err(DepthFailure::Parse(ParseFailure::from(failure))),
+    }
+}
+
+// The tree of the tokens of a source.
+fn parse_within<'a, S: ScalarValue>(
+    parser: &mut Parser<'a>,
+    depth: usize,
+) -> Result<OwnedDocument<'a, S>, DepthFailure>
+    ensures { (source : List ℕ) → Cut source parser.old → AnswersWithin (stated S.reading S.of_bool) depth source (view_document S.content) result }
+{
+    let deep = parser.end_at_nesting(depth);
+    match parse_definitions(parser) {
+        Ok(tree) => Ok(tree),
+        Err(failure) => Err(told(deep, failure)),
+    }
+}
+
+/// Why tokens that were ended behind a deep one have no tree: where they are refused at that end, they are too deep. No
+/// other token has a span of zero width.
+pub(crate) fn told(deep: Option<Span>, failure: ParseFailure) -> DepthFailure
+    ensures { result ≡ told_within deep failure }
+{
+    match deep {
+        None => DepthFailure::Parse(failure),
+        Some(span) => match failure {
+            ParseFailure::Refused(fault) => {
+                if fault.span.start.index() == fault.span.end.index() {
+                    DepthFailure::TooDeep(span)
+                } else {
+                    DepthFailure::Parse(ParseFailure::Refused(fault))
+                }
+            }
+            ParseFailure::Memory => DepthFailure::Parse(ParseFailure::Memory),
+        },
+    }
+}

@@ -1,0 +1,101 @@
+//! Arguments and directives (GraphQL specification, October 2021, sections 2.6 and 2.12).
+ghost use Rattle.std.specs.Prelude.{◌≡◌, ◌<◌, ◌≤◌, length, map, option_map, OnOk};
+ghost use Rattle.juniper_tokens.specs.Cursor.{Gives};
+ghost use Rattle.juniper.specs.View.{view_argument, view_arguments, view_directive};
+ghost use Rattle.juniper.specs.Scalars.{stated};
+ghost use Rattle.juniper.specs.Values.{view_list};
+ghost use Rattle.juniper.specs.Parts.{argument_read, arguments_inner_read, arguments_read, optional_arguments_read, directive_read, directives_read, spanned, view_spanned_directives};
+
+use crate::parser::next::next_is;
+use crate::parser::spans::{span_of, up_to};
+use crate::parser::value::parse_value;
+use crate::tree::ast::{Arguments, Directive};
+use juniper_tokens::{Kind, OptionParseResult, ParseFailure, ParseResult, Parser, Spanning, Token};
+use juniper_values::{InputValue, ScalarValue};
+
+/// `Name ":" Value(free)`
+#[tactic(auto, unfolding(crate::specs::Parts::argument_read))]
+fn parse_argument<'a, S: ScalarValue>(
+    parser: &mut Parser<'a>,
+) -> Result<(Spanning<&'a str>, Spanning<InputValue<S>>), ParseFailure>
+    ensures gives { Gives (view_argument S.content) result parser.new (argument_read (stated S.reading S.of_bool) parser.old) }
+    ensures shorter { OnOk result (length parser.new < length parser.old) }
+{
+    let name = parser.expect_name()?;
+    parser.expect(&Token::Colon)?;
+    let value = parse_value(parser, false)?;
+    Ok((name, value))
+}
+
+/// `(Name ":" Value(free))+ ")"`, with the place of the parenthesis.
+fn parse_argument_list<'a, S: ScalarValue>(
+    parser: &mut Parser<'a>,
+) -> ParseResult<Vec<(Spanning<&'a str>, Spanning<InputValue<S>>)>>
+    ensures gives { Gives (view_list (view_argument S.content)) result parser.new (arguments_inner_read (stated S.reading S.of_bool) parser.old) }
+    ensures shorter { OnOk result (length parser.new < length parser.old) }
+{
+    let mut items = Vec::new(parser.allocator());
+    loop {
+        items.push(parse_argument(parser)?)?;
+        if let Some(closing) = parser.skip(&Token::ParenClose)? {
+            return Ok(Spanning::new(closing.span, items));
+        }
+    }
+}
+
+/// `Arguments = "(" (Name ":" Value(free))+ ")"`
+#[tactic(auto, unfolding(crate::specs::Parts::arguments_read))]
+fn parse_arguments<'a, S: ScalarValue>(parser: &mut Parser<'a>) -> ParseResult<Arguments<'a, S>>
+    ensures gives { Gives (view_arguments S.content) result parser.new (arguments_read (stated S.reading S.of_bool) parser.old) }
+    ensures shorter { OnOk result (length parser.new < length parser.old) }
+{
+    let opening = parser.expect(&Token::ParenOpen)?.span;
+    let list = parse_argument_list(parser)?;
+    let end = list.span.end;
+    Ok(Spanning::start_end(&opening.start, &end, Arguments { items: list.item }))
+}
+
+/// `Arguments?`
+#[tactic(auto, unfolding(crate::specs::Parts::optional_arguments_read))]
+pub(crate) fn parse_optional_arguments<'a, S: ScalarValue>(
+    parser: &mut Parser<'a>,
+) -> OptionParseResult<Arguments<'a, S>>
+    ensures gives { Gives (option_map (view_arguments S.content)) result parser.new (optional_arguments_read (stated S.reading S.of_bool) parser.old) }
+    ensures not_longer { OnOk result (length parser.new ≤ length parser.old) }
+{
+    if next_is(parser, Kind::ParenOpen) {
+        Ok(Some(parse_arguments(parser)?))
+    } else {
+        Ok(None)
+    }
+}
+
+/// `Directive = "@" Name Arguments?`
+#[tactic(auto, unfolding(crate::specs::Parts::directive_read))]
+fn parse_directive<'a, S: ScalarValue>(parser: &mut Parser<'a>) -> ParseResult<Directive<'a, S>>
+    ensures gives { Gives (view_directive S.content) result parser.new (directive_read (stated S.reading S.of_bool) parser.old) }
+    ensures shorter { OnOk result (length parser.new < length parser.old) }
+{
+    let start = parser.expect(&Token::At)?.span.start;
+    let name = parser.expect_name()?;
+    let arguments = parse_optional_arguments(parser)?;
+    let span = up_to(
+        Spanning::start_end(&start, &name.span.end, ()).span,
+        span_of(&arguments),
+    );
+    Ok(Spanning::new(span, Directive { name, arguments }))
+}
+
+/// `Directive*`
+pub(crate) fn parse_directives<'a, S: ScalarValue>(
+    parser: &mut Parser<'a>,
+) -> OptionParseResult<Vec<Spanning<Directive<'a, S>>>>
+    ensures gives { Gives (view_spanned_directives S.content) result parser.new (directives_read (stated S.reading S.of_bool) parser.old) }
+    ensures not_longer { OnOk result (length parser.new ≤ length parser.old) }
+{
+    let mut items = Vec::new(parser.allocator());
+    while next_is(parser, Kind::At) {
+        items.push(parse_directive(parser)?)?;
+    }
+    Ok(Spanning::spanning(items))
+}

@@ -1,0 +1,51 @@
+//! Documents (GraphQL specification, October 2021, section 2.2).
+ghost use Rattle.std.specs.Prelude.{IfOk};
+ghost use Rattle.std.specs.Str.{chars};
+ghost use Rattle.juniper_tokens.specs.Errors.{view_fault};
+ghost use Rattle.juniper.specs.View.{view_document};
+ghost use Rattle.juniper.specs.Scalars.{stated};
+ghost use Rattle.juniper.specs.Definitions.{document_read};
+ghost use Rattle.juniper.specs.Promise.{HasTree, IsRefusal, IsRefusalInText, IfRefused, AnswersAs};
+
+use crate::parser::definition::parse_definition;
+use crate::parser::next::next_is;
+use crate::tree::ast::OwnedDocument;
+use juniper_tokens::{Kind, Lexer, Parser, UnlocatedParseResult};
+use juniper_values::ScalarValue;
+use std::alloc::Global;
+
+/// The tree of a source text: `Document = Definition+ EndOfFile`
+///
+/// A tree is answered exactly where the text is a document of the grammar, and then it is its one tree, in which each
+/// span runs from the first character of its part's first token to the place behind the last one. A text that can't
+/// be cut into tokens is refused as `ParseError::LexerError` at its first lexical fault, whatever stands before it.
+/// Any other text is refused at the first token with which no document goes on: at the end as `UnexpectedEndOfFile`, at
+/// a scalar that the scalar type refuses with that type's error, and else as `UnexpectedToken`. What is written up to
+/// the end of the token before goes on to a document's text, after a space and with the same tokens in the same places.
+pub fn parse_document_source<'a, S: ScalarValue>(
+    alloc: Global,
+    s: &'a str,
+) -> UnlocatedParseResult<OwnedDocument<'a, S>>
+    ensures accepted { IfOk result (λ tree. HasTree (stated S.reading S.of_bool) (chars s.now) (view_document S.content tree)) }
+    ensures refused { IfRefused result (λ fault. IsRefusal (stated S.reading S.of_bool) (chars s.now) (view_fault fault)) }
+    ensures in_characters { IfRefused result (λ fault. IsRefusalInText (stated S.reading S.of_bool) (chars s.now) (view_fault fault)) }
+{
+    let mut lexer = Lexer::new(alloc, s);
+    let mut parser = Parser::new(&mut lexer)?;
+    parse_definitions(&mut parser)
+}
+
+/// `Definition+`, up to the end, which is left there.
+pub(crate) fn parse_definitions<'a, S: ScalarValue>(
+    parser: &mut Parser<'a>,
+) -> UnlocatedParseResult<OwnedDocument<'a, S>>
+    ensures { AnswersAs (view_document S.content) result (document_read (stated S.reading S.of_bool) parser.old) }
+{
+    let mut definitions = Vec::new(parser.allocator());
+    loop {
+        definitions.push(parse_definition(parser)?)?;
+        if next_is(parser, Kind::EndOfFile) {
+            return Ok(definitions);
+        }
+    }
+}

@@ -1,0 +1,73 @@
+//! The items of arguments and of variable definitions.
+ghost use Rattle.std.specs.Prelude.{◌≡◌, length, option_copied};
+ghost use Rattle.std.specs.Option.{option_copied_mut};
+ghost use Rattle.std.specs.Slice.Iter.{iter_rest};
+ghost use Rattle.std.specs.Vec.Iter.{into_iter_items};
+ghost use Rattle.juniper.specs.Named.{first_named};
+
+use crate::tree::ast::{Arguments, VariableDefinition, VariableDefinitions};
+use juniper_tokens::Spanning;
+use juniper_values::InputValue;
+use std::{slice, vec};
+
+impl<'a, S: Drop> Arguments<'a, S> {
+    /// The arguments by value, in their order (GraphQL specification, October 2021, section 2.6).
+    pub fn into_iter(self) -> vec::IntoIter<(Spanning<&'a str>, Spanning<InputValue<S>>)>
+        ensures { into_iter_items result ≡ self.entry.items.items }
+    {
+        self.items.into_iter()
+    }
+
+    /// The arguments, in their order (GraphQL specification, October 2021, section 2.6).
+    pub fn iter(&self) -> slice::Iter<'_, (Spanning<&'a str>, Spanning<InputValue<S>>)>
+        ensures { iter_rest result ≡ self.now.items.items }
+    {
+        self.items.iter()
+    }
+
+    /// How many arguments there are (GraphQL specification, October 2021, section 2.6).
+    pub fn len(&self) -> usize
+        ensures { result ≡ length self.now.items.items }
+    {
+        self.items.len()
+    }
+
+    /// The value of the first argument of this name; None where there is none of it
+    /// (GraphQL specification, October 2021, section 2.6).
+    pub fn get(&self, name: &str) -> Option<&Spanning<InputValue<S>>>
+        ensures { option_copied result ≡ first_named name.now self.now.items.items }
+    {
+        for argument in &self.items {
+            if argument.0.item == name {
+                return Some(&argument.1);
+            }
+        }
+        None
+    }
+
+    /// The value of the first argument of this name, to write; None where there is none of it
+    /// (GraphQL specification, October 2021, section 2.6).
+    ///
+    /// The contract says which value is lent. It does not say that a write leaves the other arguments, their number and the
+    /// names as they were.
+    // A loan of a part of an element that holds a reference is not followed, so no clause can say what stays.
+    pub fn get_mut(&mut self, name: &str) -> Option<&mut Spanning<InputValue<S>>>
+        ensures { option_copied_mut result ≡ first_named name.now self.old.items.items }
+    {
+        for i in 0..self.items.len() {
+            if self.items[i].0.item == name {
+                return Some(&mut self.items[i].1);
+            }
+        }
+        None
+    }
+}
+
+impl<'a, S: Drop> VariableDefinitions<'a, S> {
+    /// The variable definitions, in their order (GraphQL specification, October 2021, section 2.10).
+    pub fn iter(&self) -> slice::Iter<'_, (Spanning<&'a str>, VariableDefinition<'a, S>)>
+        ensures { iter_rest result ≡ self.now.items.items }
+    {
+        self.items.iter()
+    }
+}

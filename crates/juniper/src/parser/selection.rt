@@ -1,0 +1,238 @@
+//! Selection sets, fields and fragments (GraphQL specification, October 2021, sections 2.4, 2.5 and 2.8).
+ghost use Rattle.std.specs.Prelude.{◌≡◌, ◌<◌, ◌≤◌, length, option_map, None, OnOk};
+ghost use Rattle.juniper_tokens.specs.Spans.{view_span};
+ghost use Rattle.juniper_tokens.specs.Cursor.{Gives};
+ghost use Rattle.juniper.specs.View.{view_selection, view_field};
+ghost use Rattle.juniper.specs.Scalars.{stated};
+ghost use Rattle.juniper.specs.Values.{view_list};
+ghost use Rattle.juniper.specs.Selections.{view_names, view_spanned_set, view_inline_parts, names_read, selections_inner_read, set_read, optional_set_read, field_read, named_spread_read, inline_parts_read, inline_read, typed_read, spread_read, selection_read};
+
+use crate::parser::directives::{parse_directives, parse_optional_arguments};
+use crate::parser::next::{next_is, next_is_word};
+use crate::parser::spans::{from_part, item_of, span_of, up_to};
+use crate::tree::ast::{Directive, Field, FragmentSpread, InlineFragment, Selection};
+use juniper_tokens::{
+    Kind, OptionParseResult, ParseFailure, ParseResult, Parser, Span, Spanning, Token,
+    UnlocatedParseResult,
+};
+use juniper_values::ScalarValue;
+
+/// `SelectionSet = "{" Selection+ "}"`
+#[cycle(selection)]
+#[tactic(auto, unfolding(crate::specs::Selections::set_read))]
+pub(crate) fn parse_selection_set<'a, S: ScalarValue>(
+    parser: &mut Parser<'a>,
+) -> ParseResult<Vec<Selection<'a, S>>>
+    ensures gives { Gives (view_spanned_set S.content) result parser.new (set_read (stated S.reading S.of_bool) parser.old) }
+    ensures shorter { OnOk result (length parser.new < length parser.old) }
+{
+    let opening = parser.expect(&Token::CurlyOpen)?.span;
+    let list = parse_selection_list(parser)?;
+    let end = list.span.end;
+    Ok(Spanning::start_end(&opening.start, &end, list.item))
+}
+
+/// `Selection+ "}"`, with the place of the brace.
+#[cycle(selection)]
+fn parse_selection_list<'a, S: ScalarValue>(
+    parser: &mut Parser<'a>,
+) -> ParseResult<Vec<Selection<'a, S>>>
+    ensures gives { Gives (view_list (view_selection S.content)) result parser.new (selections_inner_read (stated S.reading S.of_bool) parser.old) }
+    ensures shorter { OnOk result (length parser.new < length parser.old) }
+{
+    // Most sets have no more than three.
+    let mut items = Vec::with_capacity(parser.allocator(), 3)?;
+    loop {
+        items.push(parse_selection(parser)?)?;
+        if let Some(closing) = parser.skip(&Token::CurlyClose)? {
+            return Ok(Spanning::new(closing.span, items));
+        }
+    }
+}
+
+/// `SelectionSet?`
+#[cycle(selection)]
+#[tactic(auto, unfolding(crate::specs::Selections::optional_set_read))]
+fn parse_optional_selection_set<'a, S: ScalarValue>(
+    parser: &mut Parser<'a>,
+) -> OptionParseResult<Vec<Selection<'a, S>>>
+    ensures gives { Gives (option_map (view_spanned_set S.content)) result parser.new (optional_set_read (stated S.reading S.of_bool) parser.old) }
+    ensures not_longer { OnOk result (length parser.new ≤ length parser.old) }
+{
+    if next_is(parser, Kind::CurlyOpen) {
+        Ok(Some(parse_selection_set(parser)?))
+    } else {
+        Ok(None)
+    }
+}
+
+/// `Selection = Field | "..." FragmentName Directive* | "..." ("on" Name)? Directive* SelectionSet`
+#[cycle(selection)]
+#[tactic(auto, using(crate::proofs::SelectionViews::view_of_field), unfolding(crate::specs::Selections::selection_read))]
+fn parse_selection<'a, S: ScalarValue>(
+    parser: &mut Parser<'a>,
+) -> UnlocatedParseResult<Selection<'a, S>>
+    ensures gives { Gives (view_selection S.content) result parser.new (selection_read (stated S.reading S.of_bool) parser.old) }
+    ensures shorter { OnOk result (length parser.new < length parser.old) }
+{
+    if next_is(parser, Kind::Ellipsis) {
+        parse_spread(parser)
+    } else {
+        Ok(Selection::Field(parse_field(parser)?))
+    }
+}
+
+/// `Field = (Name ":")? Name Arguments? Directive* SelectionSet?`
+#[cycle(selection)]
+#[tactic(auto, unfolding(crate::specs::Selections::field_read))]
+fn parse_field<'a, S: ScalarValue>(parser: &mut Parser<'a>) -> ParseResult<Field<'a, S>>
+    ensures gives { Gives (view_field S.content) result parser.new (field_read (stated S.reading S.of_bool) parser.old) }
+    ensures shorter { OnOk result (length parser.new < length parser.old) }
+{
+    let (alias, name) = parse_names(parser)?;
+    let arguments = parse_optional_arguments(parser)?;
+    let directives = parse_directives(parser)?;
+    let set = parse_optional_selection_set(parser)?;
+    let named = from_part(span_of(&alias), name.span);
+    let span = up_to(
+        up_to(up_to(named, span_of(&arguments)), span_of(&directives)),
+        span_of(&set),
+    );
+    Ok(Spanning::new(
+        span,
+        Field {
+            alias,
+            name,
+            arguments,
+            directives: item_of(directives),
+            selection_set: item_of(set),
+        },
+    ))
+}
+
+/// `(Name ":")? Name`
+#[tactic(auto, unfolding(crate::specs::Selections::names_read))]
+fn parse_names<'a>(
+    parser: &mut Parser<'a>,
+) -> Result<(Option<Spanning<&'a str>>, Spanning<&'a str>), ParseFailure>
+    ensures gives { Gives view_names result parser.new (names_read parser.old) }
+    ensures shorter { OnOk result (length parser.new < length parser.old) }
+{
+    let first = parser.expect_name()?;
+    if next_is(parser, Kind::Colon) {
+        parser.next_token()?;
+        let name = parser.expect_name()?;
+        Ok((Some(first), name))
+    } else {
+        Ok((None, first))
+    }
+}
+
+/// `"..." FragmentName Directive* | "..." ("on" Name)? Directive* SelectionSet`
+#[cycle(selection)]
+#[tactic(auto, using(crate::proofs::Names::on_is), unfolding(crate::specs::Selections::spread_read))]
+fn parse_spread<'a, S: ScalarValue>(
+    parser: &mut Parser<'a>,
+) -> UnlocatedParseResult<Selection<'a, S>>
+    ensures gives { Gives (view_selection S.content) result parser.new (spread_read (stated S.reading S.of_bool) parser.old) }
+    ensures shorter { OnOk result (length parser.new < length parser.old) }
+{
+    let dots = parser.expect(&Token::Ellipsis)?.span;
+    if next_is_word(parser, "on") {
+        parse_typed_fragment(parser, dots)
+    } else if next_is(parser, Kind::Name) {
+        parse_named_spread(parser, dots)
+    } else {
+        parse_untyped_fragment(parser, dots)
+    }
+}
+
+/// `FragmentName Directive*`, after three dots.
+#[tactic(auto, unfolding(crate::specs::Selections::named_spread_read))]
+fn parse_named_spread<'a, S: ScalarValue>(
+    parser: &mut Parser<'a>,
+    dots: Span,
+) -> UnlocatedParseResult<Selection<'a, S>>
+    ensures gives { Gives (view_selection S.content) result parser.new (named_spread_read (stated S.reading S.of_bool) (view_span dots) parser.old) }
+    ensures shorter { OnOk result (length parser.new < length parser.old) }
+{
+    let name = parser.expect_name()?;
+    let directives = parse_directives(parser)?;
+    let named = from_part(Some(dots), name.span);
+    let span = up_to(named, span_of(&directives));
+    Ok(Selection::FragmentSpread(Spanning::new(
+        span,
+        FragmentSpread {
+            name,
+            directives: item_of(directives),
+        },
+    )))
+}
+
+/// `"on" Name Directive* SelectionSet`, after three dots.
+#[cycle(selection)]
+#[tactic(auto, using(crate::proofs::SelectionViews::view_of_inline), unfolding(crate::specs::Selections::typed_read, crate::specs::Selections::inline_read))]
+fn parse_typed_fragment<'a, S: ScalarValue>(
+    parser: &mut Parser<'a>,
+    dots: Span,
+) -> UnlocatedParseResult<Selection<'a, S>>
+    ensures gives { Gives (view_selection S.content) result parser.new (typed_read (stated S.reading S.of_bool) (view_span dots) parser.old) }
+    ensures shorter { OnOk result (length parser.new < length parser.old) }
+{
+    parser.next_token()?;
+    let name = parser.expect_name()?;
+    let (directives, set) = parse_inline_parts(parser)?;
+    let end = set.span.end;
+    Ok(Selection::InlineFragment(Spanning::start_end(
+        &dots.start,
+        &end,
+        InlineFragment {
+            type_condition: Some(name),
+            directives,
+            selection_set: set.item,
+        },
+    )))
+}
+
+/// `Directive* SelectionSet`, after three dots.
+#[cycle(selection)]
+#[tactic(auto, using(crate::proofs::SelectionViews::view_of_inline), unfolding(crate::specs::Selections::inline_read))]
+fn parse_untyped_fragment<'a, S: ScalarValue>(
+    parser: &mut Parser<'a>,
+    dots: Span,
+) -> UnlocatedParseResult<Selection<'a, S>>
+    ensures gives { Gives (view_selection S.content) result parser.new (inline_read (stated S.reading S.of_bool) (view_span dots) None parser.old) }
+    ensures shorter { OnOk result (length parser.new < length parser.old) }
+{
+    let (directives, set) = parse_inline_parts(parser)?;
+    let end = set.span.end;
+    Ok(Selection::InlineFragment(Spanning::start_end(
+        &dots.start,
+        &end,
+        InlineFragment {
+            type_condition: None,
+            directives,
+            selection_set: set.item,
+        },
+    )))
+}
+
+/// `Directive* SelectionSet`
+#[cycle(selection)]
+#[tactic(auto, using(crate::proofs::PartViews::without_span), unfolding(crate::specs::Selections::inline_parts_read))]
+pub(crate) fn parse_inline_parts<'a, S: ScalarValue>(
+    parser: &mut Parser<'a>,
+) -> Result<
+    (
+        Option<Vec<Spanning<Directive<'a, S>>>>,
+        Spanning<Vec<Selection<'a, S>>>,
+    ),
+    ParseFailure,
+>
+    ensures gives { Gives (view_inline_parts S.content) result parser.new (inline_parts_read (stated S.reading S.of_bool) parser.old) }
+    ensures shorter { OnOk result (length parser.new < length parser.old) }
+{
+    let directives = item_of(parse_directives(parser)?);
+    let set = parse_selection_set(parser)?;
+    Ok((directives, set))
+}

@@ -1,0 +1,88 @@
+//! Documents whose definitions are given away one by one.
+ghost use Rattle.std.specs.Prelude.{◌∷◌, [], ℕ, List, IfOk, OnOk};
+ghost use Rattle.std.specs.Str.{chars};
+ghost use Rattle.graphql_lexical.specs.Cutting.{Cut};
+ghost use Rattle.graphql_grammar.specs.Tree.{Definition as Seen};
+ghost use Rattle.juniper_tokens.specs.Errors.{view_fault};
+ghost use Rattle.juniper_tokens.specs.Spans.{view_span};
+ghost use Rattle.juniper_values.specs.Scalar.{Content};
+ghost use Rattle.juniper.specs.View.{view_definition};
+ghost use Rattle.juniper.specs.Scalars.{stated};
+ghost use Rattle.juniper.specs.Definitions.{document_read};
+ghost use Rattle.juniper.specs.Promise.{IsRefusal, IsRefusalInText};
+ghost use Rattle.juniper.specs.Within.{IfRefusedWithin, IfTooDeep, IfDecided, HasTooDeep, IsWithin};
+ghost use Rattle.juniper.specs.Sinks.{Gains, GainsTree, GivesAs, GivesWithin};
+
+use crate::parser::definition::parse_definition;
+use crate::parser::depth::{DepthFailure, told};
+use crate::parser::next::next_is;
+use crate::tree::ast::Definition;
+use juniper_tokens::{Kind, Lexer, ParseFailure, Parser, UnlocatedParseResult};
+use juniper_values::ScalarValue;
+use std::alloc::{AllocError, Global};
+
+/// What takes the definitions of a document one behind the other.
+pub trait DefinitionSink<S: ScalarValue> {
+    // It has taken these definitions of a document that this source writes.
+    ghost holds: { List ℕ → Self → List (Seen Content) → Type 0 };
+
+    /// Takes a definition, behind the others.
+    ///
+    /// `AllocError` where memory ran out.
+    fn take(&mut self, definition: Definition<'_, S>) -> Result<(), AllocError>
+        ensures { OnOk result (Gains holds self.old self.new (view_definition S.content definition.entry ∷ [])) };
+}
+
+/// Gives the definitions of a source text whose brackets are not nested deeper than `depth` to what takes them, each as
+/// soon as it is read: so no more than one needs to be in memory at a time.
+///
+/// The answer is that of `parse_document_source_within`, and where that is a tree, its definitions have been given in
+/// order. Elsewhere some of those before the fault may have been given.
+pub fn parse_document_source_into<S: ScalarValue, D: DefinitionSink<S>>(
+    alloc: Global,
+    s: &str,
+    depth: usize,
+    definitions: &mut D,
+) -> Result<(), DepthFailure>
+    ensures accepted { IfOk result (λ _. GainsTree D.holds definitions.old definitions.new (stated S.reading S.of_bool) (chars s.now)) }
+    ensures refused { IfRefusedWithin result (λ fault. IsRefusal (stated S.reading S.of_bool) (chars s.now) (view_fault fault)) }
+    ensures in_characters { IfRefusedWithin result (λ fault. IsRefusalInText (stated S.reading S.of_bool) (chars s.now) (view_fault fault)) }
+    ensures within { IfDecided result (IsWithin (stated S.reading S.of_bool) depth (chars s.now)) }
+    ensures too_deep { IfTooDeep result (λ span. HasTooDeep (stated S.reading S.of_bool) depth (chars s.now) (view_span span)) }
+{
+    let mut lexer = Lexer::new(alloc, s);
+    match Parser::new(&mut lexer) {
+        Ok(mut parser) => give_within(&mut parser, depth, definitions),
+        Err(failure) => Err(DepthFailure::Parse(ParseFailure::from(failure))),
+    }
+}
+
+// Gives the definitions of the tokens of a source.
+fn give_within<S: ScalarValue, D: DefinitionSink<S>>(
+    parser: &mut Parser<'_>,
+    depth: usize,
+    definitions: &mut D,
+) -> Result<(), DepthFailure>
+    ensures { (source : List ℕ) → Cut source parser.old → GivesWithin D.holds definitions.old definitions.new (stated S.reading S.of_bool) depth source result }
+{
+    let deep = parser.end_at_nesting(depth);
+    match give_definitions(parser, definitions) {
+        Ok(()) => Ok(()),
+        Err(failure) => Err(told(deep, failure)),
+    }
+}
+
+/// `Definition+`, up to the end, which is left there.
+fn give_definitions<S: ScalarValue, D: DefinitionSink<S>>(
+    parser: &mut Parser<'_>,
+    definitions: &mut D,
+) -> UnlocatedParseResult<()>
+    ensures { GivesAs D.holds definitions.old definitions.new result (document_read (stated S.reading S.of_bool) parser.old) }
+{
+    loop {
+        definitions.take(parse_definition(parser)?)?;
+        if next_is(parser, Kind::EndOfFile) {
+            return Ok(());
+        }
+    }
+}

@@ -1,0 +1,99 @@
+//! Types as they are written (GraphQL specification, October 2021, section 2.11).
+ghost use Rattle.std.specs.Prelude.{◌≡◌, ◌<◌, ◌≤◌, length, OnOk};
+ghost use Rattle.juniper_tokens.specs.Cursor.{EndsOnce, Gives, OnMemory};
+ghost use Rattle.juniper_tokens.specs.Delimited.{IsRest};
+ghost use Rattle.juniper.specs.Promise.{AnswersType};
+ghost use Rattle.juniper.specs.Parts.{view_spanned_type, type_read, list_type_read, named_type_read, nullable_type_read, non_null_read};
+
+use crate::parser::next::next_is;
+use juniper_tokens::{Kind, ParseFailure, ParseResult, Parser, Spanning, Token};
+use juniper_values::Type;
+
+/// Takes the type that stands next (GraphQL specification, October 2021, section 2.11).
+///
+/// A type is answered exactly where a front of the tokens is one, and the longest such front is taken. Else the tokens
+/// are refused at the first one with which no type goes on, which is taken, unless it is the end. Where memory
+/// ran out, a rest of the tokens is left.
+pub fn parse_type<'a>(parser: &mut Parser<'a>) -> ParseResult<Type<&'a str>>
+    ensures answers { AnswersType view_spanned_type result parser.old parser.new }
+    ensures memory { OnMemory result (IsRest parser.old parser.new) }
+{
+    parse_any_type(parser)
+}
+
+/// `Type = Name "!"? | "[" Type "]" "!"?`
+#[cycle(types)]
+pub(crate) fn parse_any_type<'a>(parser: &mut Parser<'a>) -> ParseResult<Type<&'a str>>
+    ensures gives { Gives view_spanned_type result parser.new (type_read parser.old) }
+    ensures ended { EndsOnce parser.old }
+    ensures shorter { OnOk result (length parser.new < length parser.old) }
+    ensures rest { IsRest parser.old parser.new }
+{
+    let inner = parse_nullable_type(parser)?;
+    parse_non_null(parser, inner)
+}
+
+/// `Name | "[" Type "]"`
+#[cycle(types)]
+#[tactic(auto, unfolding(crate::specs::Parts::nullable_type_read))]
+fn parse_nullable_type<'a>(parser: &mut Parser<'a>) -> ParseResult<Type<&'a str>>
+    ensures gives { Gives view_spanned_type result parser.new (nullable_type_read parser.old) }
+    ensures ended { EndsOnce parser.old }
+    ensures shorter { OnOk result (length parser.new < length parser.old) }
+    ensures rest { IsRest parser.old parser.new }
+{
+    if next_is(parser, Kind::Name) {
+        parse_named_type(parser)
+    } else {
+        parse_list_type(parser)
+    }
+}
+
+/// `Name`
+#[tactic(auto, unfolding(crate::specs::Parts::named_type_read))]
+fn parse_named_type<'a>(parser: &mut Parser<'a>) -> ParseResult<Type<&'a str>>
+    ensures gives { Gives view_spanned_type result parser.new (named_type_read parser.old) }
+    ensures shorter { OnOk result (length parser.new < length parser.old) }
+    ensures rest { IsRest parser.old parser.new }
+{
+    let name = parser.expect_name()?;
+    Ok(Spanning::new(name.span, Type::nullable(name.item)))
+}
+
+/// `"[" Type "]"`
+#[cycle(types)]
+#[tactic(auto, using(crate::proofs::Wrapping::wrapped_list), unfolding(crate::specs::Parts::list_type_read))]
+fn parse_list_type<'a>(parser: &mut Parser<'a>) -> ParseResult<Type<&'a str>>
+    ensures gives { Gives view_spanned_type result parser.new (list_type_read parser.old) }
+    ensures shorter { OnOk result (length parser.new < length parser.old) }
+    ensures rest { IsRest parser.old parser.new }
+{
+    let opening = parser.expect(&Token::BracketOpen)?.span;
+    let inner = parse_any_type(parser)?;
+    let closing = parser.expect(&Token::BracketClose)?.span;
+    match inner.item.wrap_list(parser.allocator(), None) {
+        Ok(list) => Ok(Spanning::start_end(&opening.start, &closing.end, list)),
+        Err(_) => Err(ParseFailure::Memory),
+    }
+}
+
+/// `"!"?`, after this type.
+#[tactic(auto, using(crate::proofs::Wrapping::wrapped_non_null), unfolding(crate::specs::Parts::non_null_read))]
+fn parse_non_null<'a>(
+    parser: &mut Parser<'a>,
+    inner: Spanning<Type<&'a str>>,
+) -> ParseResult<Type<&'a str>>
+    ensures gives { Gives view_spanned_type result parser.new (non_null_read (view_spanned_type inner.entry) parser.old) }
+    ensures not_longer { OnOk result (length parser.new ≤ length parser.old) }
+    ensures rest { IsRest parser.old parser.new }
+{
+    if !next_is(parser, Kind::ExclamationMark) {
+        return Ok(inner);
+    }
+    let start = inner.span.start;
+    let mark = parser.next_token()?.span;
+    match inner.item.wrap_non_null(parser.allocator()) {
+        Ok(of_type) => Ok(Spanning::start_end(&start, &mark.end, of_type)),
+        Err(_) => Err(ParseFailure::Memory),
+    }
+}

@@ -1,0 +1,231 @@
+//! Value literals (GraphQL specification, October 2021, section 2.9).
+ghost use Rattle.std.specs.Prelude.{◌≡◌, ◌<◌, length, OnOk, IfOk, not};
+ghost use Rattle.std.specs.Str.{chars};
+ghost use Rattle.graphql_lexical.specs.Kinds.{same_kind};
+ghost use Rattle.graphql_grammar.specs.Reading.{by_name};
+ghost use Rattle.juniper_tokens.specs.Tokens.{token_kind, token_text};
+ghost use Rattle.juniper_tokens.specs.Spans.{view_span};
+ghost use Rattle.juniper_tokens.specs.Cursor.{EndsOnce, Gives, OnMemory};
+ghost use Rattle.juniper_tokens.specs.Delimited.{IsRest};
+ghost use Rattle.juniper.specs.Promise.{AnswersValue};
+ghost use Rattle.juniper.specs.View.{view_value, view_object_field};
+ghost use Rattle.juniper.specs.Values.{view_list, values_read, fields_read, list_read, object_read, variable_read, literal_read, literal_here, name_read, value_read, field_read};
+ghost use Rattle.juniper.specs.Scalars.{stated};
+ghost use Rattle.juniper_values.specs.Scalar.{MeetsReading};
+
+use crate::parser::next::same_text;
+use juniper_tokens::{Kind, ParseError, ParseFailure, ParseResult, Parser, Spanning, Token};
+use juniper_values::{InputValue, ReadFailure, ScalarValue};
+use std::alloc::{AllocError, Global};
+
+/// Takes the value that stands next; constant ones have no variables (GraphQL specification, October 2021, section 2.9).
+///
+/// A value is answered exactly where a front of the tokens is one. Else the tokens are refused at the first one with
+/// which no value goes on, which is taken, unless it is the end. Where memory ran out, a rest of
+/// the tokens is left.
+pub fn parse_value_literal<'a, S: ScalarValue>(
+    parser: &mut Parser<'a>,
+    is_const: bool,
+) -> ParseResult<InputValue<S>>
+    ensures answers { AnswersValue (stated S.reading S.of_bool) (not is_const) (view_value S.content) result parser.old parser.new }
+    ensures memory { OnMemory result (IsRest parser.old parser.new) }
+{
+    parse_value(parser, is_const)
+}
+
+/// `Value(c) = a scalar token that the scalar type reads | Name | "$" Name where c is free
+///           | "[" Value(c)* "]" | "{" (Name ":" Value(c))* "}"`
+#[cycle(value)]
+#[tactic(auto, unfolding(crate::specs::Values::value_read))]
+pub(crate) fn parse_value<'a, S: ScalarValue>(
+    parser: &mut Parser<'a>,
+    is_const: bool,
+) -> ParseResult<InputValue<S>>
+    ensures gives { Gives (view_value S.content) result parser.new (value_read (stated S.reading S.of_bool) (not is_const) parser.old) }
+    ensures ended { EndsOnce parser.old }
+    ensures shorter { OnOk result (length parser.new < length parser.old) }
+    ensures rest { IsRest parser.old parser.new }
+{
+    match parser.kind() {
+        Kind::BracketOpen => parse_list(parser, is_const),
+        Kind::CurlyOpen => parse_object(parser, is_const),
+        Kind::Dollar if !is_const => parse_variable(parser),
+        Kind::Name => parse_named_value(parser),
+        Kind::String
+        | Kind::BlockString
+        | Kind::Float
+        | Kind::Int
+        | Kind::ExclamationMark
+        | Kind::Dollar
+        | Kind::ParenOpen
+        | Kind::ParenClose
+        | Kind::BracketClose
+        | Kind::CurlyClose
+        | Kind::Ellipsis
+        | Kind::Colon
+        | Kind::Equals
+        | Kind::At
+        | Kind::Pipe
+        | Kind::EndOfFile => parse_scalar(parser),
+    }
+}
+
+/// `"[" Value(c)* "]"`
+#[cycle(value)]
+#[tactic(auto, unfolding(crate::specs::Values::list_read))]
+fn parse_list<'a, S: ScalarValue>(
+    parser: &mut Parser<'a>,
+    is_const: bool,
+) -> ParseResult<InputValue<S>>
+    ensures gives { Gives (view_value S.content) result parser.new (list_read (stated S.reading S.of_bool) (not is_const) parser.old) }
+    ensures shorter { OnOk result (length parser.new < length parser.old) }
+    ensures rest { IsRest parser.old parser.new }
+{
+    let opening = parser.expect(&Token::BracketOpen)?.span;
+    let items = parse_items(parser, is_const)?;
+    let end = items.span.end;
+    Ok(Spanning::start_end(&opening.start, &end, InputValue::List(items.item)))
+}
+
+/// `Value(c)* "]"`, with the place of the bracket.
+#[cycle(value)]
+fn parse_items<'a, S: ScalarValue>(
+    parser: &mut Parser<'a>,
+    is_const: bool,
+) -> ParseResult<Vec<Spanning<InputValue<S>>>>
+    ensures gives { Gives (view_list (view_value S.content)) result parser.new (values_read (stated S.reading S.of_bool) (not is_const) parser.old) }
+    ensures shorter { OnOk result (length parser.new < length parser.old) }
+    ensures rest { IsRest parser.old parser.new }
+{
+    let mut items = Vec::new(parser.allocator());
+    loop {
+        if let Some(closing) = parser.skip(&Token::BracketClose)? {
+            return Ok(Spanning::new(closing.span, items));
+        }
+        items.push(parse_value(parser, is_const)?)?;
+    }
+}
+
+/// `"{" (Name ":" Value(c))* "}"`
+#[cycle(value)]
+#[tactic(auto, unfolding(crate::specs::Values::object_read))]
+fn parse_object<'a, S: ScalarValue>(
+    parser: &mut Parser<'a>,
+    is_const: bool,
+) -> ParseResult<InputValue<S>>
+    ensures gives { Gives (view_value S.content) result parser.new (object_read (stated S.reading S.of_bool) (not is_const) parser.old) }
+    ensures shorter { OnOk result (length parser.new < length parser.old) }
+    ensures rest { IsRest parser.old parser.new }
+{
+    let opening = parser.expect(&Token::CurlyOpen)?.span;
+    let fields = parse_fields(parser, is_const)?;
+    let end = fields.span.end;
+    Ok(Spanning::start_end(&opening.start, &end, InputValue::Object(fields.item)))
+}
+
+/// `(Name ":" Value(c))* "}"`, with the place of the brace.
+#[cycle(value)]
+fn parse_fields<'a, S: ScalarValue>(
+    parser: &mut Parser<'a>,
+    is_const: bool,
+) -> ParseResult<Vec<(Spanning<String>, Spanning<InputValue<S>>)>>
+    ensures gives { Gives (view_list (view_object_field S.content)) result parser.new (fields_read (stated S.reading S.of_bool) (not is_const) parser.old) }
+    ensures shorter { OnOk result (length parser.new < length parser.old) }
+    ensures rest { IsRest parser.old parser.new }
+{
+    let mut fields = Vec::new(parser.allocator());
+    loop {
+        if let Some(closing) = parser.skip(&Token::CurlyClose)? {
+            return Ok(Spanning::new(closing.span, fields));
+        }
+        fields.push(parse_object_field(parser, is_const)?)?;
+    }
+}
+
+/// `Name ":" Value(c)`
+#[cycle(value)]
+#[tactic(auto, unfolding(crate::specs::Values::field_read))]
+fn parse_object_field<'a, S: ScalarValue>(
+    parser: &mut Parser<'a>,
+    is_const: bool,
+) -> Result<(Spanning<String>, Spanning<InputValue<S>>), ParseFailure>
+    ensures gives { Gives (view_object_field S.content) result parser.new (field_read (stated S.reading S.of_bool) (not is_const) parser.old) }
+    ensures shorter { OnOk result (length parser.new < length parser.old) }
+    ensures rest { IsRest parser.old parser.new }
+{
+    let key = parser.expect_name()?;
+    parser.expect(&Token::Colon)?;
+    let value = parse_value(parser, is_const)?;
+    let text = String::from_str(parser.allocator(), key.item)?;
+    Ok((Spanning::new(key.span, text), value))
+}
+
+/// `"$" Name`
+#[tactic(auto, using(crate::proofs::ValueViews::view_of_variable), unfolding(crate::specs::Values::variable_read))]
+fn parse_variable<'a, S: ScalarValue>(parser: &mut Parser<'a>) -> ParseResult<InputValue<S>>
+    ensures gives { Gives (view_value S.content) result parser.new (variable_read (stated S.reading S.of_bool) parser.old) }
+    ensures shorter { OnOk result (length parser.new < length parser.old) }
+    ensures rest { IsRest parser.old parser.new }
+{
+    let dollar = parser.expect(&Token::Dollar)?.span;
+    let name = parser.expect_name()?;
+    let text = String::from_str(parser.allocator(), name.item)?;
+    Ok(Spanning::start_end(&dollar.start, &name.span.end, InputValue::Variable(text)))
+}
+
+/// A scalar token. Another token is refused.
+#[tactic(auto, using(crate::proofs::ValueViews::view_of_scalar), unfolding(crate::specs::Values::literal_read))]
+fn parse_scalar<'a, S: ScalarValue>(parser: &mut Parser<'a>) -> ParseResult<InputValue<S>>
+    ensures gives { Gives (view_value S.content) result parser.new (literal_read (stated S.reading S.of_bool) parser.old) }
+    ensures shorter { OnOk result (length parser.new < length parser.old) }
+    ensures rest { IsRest parser.old parser.new }
+{
+    let token = parser.next_token()?;
+    match scalar_of(parser.allocator(), token.item) {
+        Ok(scalar) => Ok(Spanning::new(token.span, InputValue::Scalar(scalar))),
+        Err(ReadFailure::Refused(error)) => {
+            Err(ParseFailure::Refused(Spanning::new(token.span, error)))
+        }
+        Err(ReadFailure::Memory) => Err(ParseFailure::Memory),
+    }
+}
+
+/// The scalar of a scalar token, or the error that tells the token.
+fn scalar_of<S: ScalarValue>(alloc: Global, token: Token<'_>) -> Result<S, ReadFailure>
+    ensures { MeetsReading S.content (literal_here S.reading (token_kind token.entry) (token_text token.entry)) result }
+{
+    match token {
+        Token::Scalar(scalar) => S::from_str(alloc, scalar),
+        other => Err(ReadFailure::Refused(ParseError::unexpected_token(alloc, other)?)),
+    }
+}
+
+/// A Name as a value.
+#[tactic(auto, unfolding(crate::specs::Values::name_read))]
+fn parse_named_value<'a, S: ScalarValue>(parser: &mut Parser<'a>) -> ParseResult<InputValue<S>>
+    ensures gives { Gives (view_value S.content) result parser.new (name_read (stated S.reading S.of_bool) parser.old) }
+    ensures shorter { OnOk result (length parser.new < length parser.old) }
+    ensures rest { IsRest parser.old parser.new }
+{
+    let name = parser.expect_name()?;
+    Ok(value_of_name(parser.allocator(), name)?)
+}
+
+/// `true` and `false` are scalars, `null` is of its own, any other name is one of an enum.
+fn value_of_name<'a, S: ScalarValue>(
+    alloc: Global,
+    name: Spanning<&'a str>,
+) -> Result<Spanning<InputValue<S>>, AllocError>
+    ensures { IfOk result (λ v. view_value S.content v ≡ by_name (stated S.reading S.of_bool) (chars name.entry.item.now) (view_span name.entry.span)) }
+{
+    if same_text(name.item, "true") {
+        Ok(Spanning::new(name.span, InputValue::Scalar(S::from_bool(true))))
+    } else if same_text(name.item, "false") {
+        Ok(Spanning::new(name.span, InputValue::Scalar(S::from_bool(false))))
+    } else if same_text(name.item, "null") {
+        Ok(Spanning::new(name.span, InputValue::Null))
+    } else {
+        let text = String::from_str(alloc, name.item)?;
+        Ok(Spanning::new(name.span, InputValue::Enum(text)))
+    }
+}

@@ -1,0 +1,104 @@
+//! Definitions of variables (GraphQL specification, October 2021, section 2.10).
+ghost use Rattle.std.specs.Prelude.{◌≡◌, ◌<◌, ◌≤◌, length, option_map, OnOk};
+ghost use Rattle.juniper_tokens.specs.Cursor.{Gives};
+ghost use Rattle.juniper.specs.View.{view_value, view_variable, view_variables};
+ghost use Rattle.juniper.specs.Scalars.{stated};
+ghost use Rattle.juniper.specs.Values.{view_list};
+ghost use Rattle.juniper.specs.Parts.{default_read, variable_definition_read, variables_inner_read, variables_read, optional_variables_read};
+
+use crate::parser::directives::parse_directives;
+use crate::parser::next::next_is;
+use crate::parser::spans::item_of;
+use crate::parser::types::parse_any_type;
+use crate::parser::value::parse_value;
+use crate::tree::ast::{VariableDefinition, VariableDefinitions};
+use juniper_tokens::{Kind, OptionParseResult, ParseFailure, ParseResult, Parser, Spanning, Token};
+use juniper_values::{InputValue, ScalarValue};
+
+/// `("=" Value(const))?`
+#[tactic(auto, unfolding(crate::specs::Parts::default_read))]
+fn parse_default<'a, S: ScalarValue>(parser: &mut Parser<'a>) -> OptionParseResult<InputValue<S>>
+    ensures gives { Gives (option_map (view_value S.content)) result parser.new (default_read (stated S.reading S.of_bool) parser.old) }
+    ensures not_longer { OnOk result (length parser.new ≤ length parser.old) }
+{
+    if next_is(parser, Kind::Equals) {
+        parser.expect(&Token::Equals)?;
+        Ok(Some(parse_value(parser, true)?))
+    } else {
+        Ok(None)
+    }
+}
+
+/// `"$" Name ":" Type ("=" Value(const))? Directive*`
+#[tactic(auto, using(crate::proofs::PartViews::without_span), unfolding(crate::specs::Parts::variable_definition_read))]
+fn parse_variable_definition<'a, S: ScalarValue>(
+    parser: &mut Parser<'a>,
+) -> Result<(Spanning<&'a str>, VariableDefinition<'a, S>), ParseFailure>
+    ensures gives { Gives (view_variable S.content) result parser.new (variable_definition_read (stated S.reading S.of_bool) parser.old) }
+    ensures shorter { OnOk result (length parser.new < length parser.old) }
+{
+    let start = parser.expect(&Token::Dollar)?.span.start;
+    let name = parser.expect_name()?;
+    parser.expect(&Token::Colon)?;
+    let var_type = parse_any_type(parser)?;
+    let default_value = parse_default(parser)?;
+    let directives = item_of(parse_directives(parser)?);
+    let end = name.span.end;
+    Ok((
+        Spanning::start_end(&start, &end, name.item),
+        VariableDefinition {
+            var_type,
+            default_value,
+            directives,
+        },
+    ))
+}
+
+/// `("$" Name ":" Type ("=" Value(const))? Directive*)+ ")"`, with the place of the parenthesis.
+fn parse_variable_list<'a, S: ScalarValue>(
+    parser: &mut Parser<'a>,
+) -> ParseResult<Vec<(Spanning<&'a str>, VariableDefinition<'a, S>)>>
+    ensures gives { Gives (view_list (view_variable S.content)) result parser.new (variables_inner_read (stated S.reading S.of_bool) parser.old) }
+    ensures shorter { OnOk result (length parser.new < length parser.old) }
+{
+    let mut items = Vec::new(parser.allocator());
+    loop {
+        items.push(parse_variable_definition(parser)?)?;
+        if let Some(closing) = parser.skip(&Token::ParenClose)? {
+            return Ok(Spanning::new(closing.span, items));
+        }
+    }
+}
+
+/// `Variables = "(" ("$" Name ":" Type ("=" Value(const))? Directive*)+ ")"`
+#[tactic(auto, unfolding(crate::specs::Parts::variables_read))]
+fn parse_variables<'a, S: ScalarValue>(
+    parser: &mut Parser<'a>,
+) -> ParseResult<VariableDefinitions<'a, S>>
+    ensures gives { Gives (view_variables S.content) result parser.new (variables_read (stated S.reading S.of_bool) parser.old) }
+    ensures shorter { OnOk result (length parser.new < length parser.old) }
+{
+    let opening = parser.expect(&Token::ParenOpen)?.span;
+    let list = parse_variable_list(parser)?;
+    let end = list.span.end;
+    Ok(Spanning::start_end(
+        &opening.start,
+        &end,
+        VariableDefinitions { items: list.item },
+    ))
+}
+
+/// `Variables?`
+#[tactic(auto, unfolding(crate::specs::Parts::optional_variables_read))]
+pub(crate) fn parse_optional_variables<'a, S: ScalarValue>(
+    parser: &mut Parser<'a>,
+) -> OptionParseResult<VariableDefinitions<'a, S>>
+    ensures gives { Gives (option_map (view_variables S.content)) result parser.new (optional_variables_read (stated S.reading S.of_bool) parser.old) }
+    ensures not_longer { OnOk result (length parser.new ≤ length parser.old) }
+{
+    if next_is(parser, Kind::ParenOpen) {
+        Ok(Some(parse_variables(parser)?))
+    } else {
+        Ok(None)
+    }
+}

@@ -1,0 +1,3 @@
+//! The tree of a document, and how trees are compared.
+pub(crate) mod ast;
+pub(crate) mod equality;
