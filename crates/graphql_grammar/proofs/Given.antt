@@ -16,7 +16,7 @@ use Rattle.graphql_grammar.proofs.Rules.{Meets}
 use Rattle.graphql_grammar.proofs.Found.{value_found}
 use Rattle.graphql_grammar.proofs.Ends.{values, types, document_ends}
 use Rattle.graphql_grammar.proofs.Faulty.{Reads, cut_front, at_fault}
-use Rattle.graphql_grammar.proofs.Turns.{Turn, value_turns, type_turns, document_turns}
+use Rattle.graphql_grammar.proofs.ScalarFaults.{TellsFault, value_tells, type_tells, document_tells}
 use Rattle.graphql_grammar.proofs.Readers.{value_reads, type_reads, document_reads}
 use Rattle.graphql_grammar.proofs.Named.{refused_at, drop_next}
 use Rattle.graphql_grammar.proofs.Spelling.{sample_spelled}
@@ -94,11 +94,11 @@ any_allowed ts = all_each AnyToken (λ t. tt) ts
 module _ {C F : Type 0} (S : Scalars C F) where
   pub document_given : (ts : List Lexeme) → AllByRecursion IsSpelled ts → EndsOnce ts → GivesWhole (IsDocument S) (DocumentRefusedAt S ts) ts (fully (document S) ts)
   document_given ts spelled ends = whole_given (document S) (IsDocument S) (document_reads S) (DocumentRefusedAt S ts) ts ends
-      (λ rest t e. refused_at S (document S) (IsDocument S) (document_reads S) true (document_turns S) IsSpelled sample_spelled (suc (length ts)) ts rest t e spelled) (document_ends S)
+      (λ rest t e. refused_at S (document S) (IsDocument S) (document_reads S) true (document_tells S) IsSpelled sample_spelled (suc (length ts)) ts rest t e spelled) (document_ends S)
 
   pub value_given : (free : Bool) (ts : List Lexeme) → EndsOnce ts → GivesFront (IsValue S free) (ValueRefusedAt S free ts) ts (value_of S free ts)
   value_given free ts ends = front_given (value_at S free) (IsValue S free) (value_reads S free) (ValueRefusedAt S free ts) ts ends
-      (λ rest t e. refused_at S (value_at S free) (IsValue S free) (value_reads S free) true (value_turns S free) AnyToken (λ u h. tt) (suc (length ts)) ts rest t e (any_allowed ts))
+      (λ rest t e. refused_at S (value_at S free) (IsValue S free) (value_reads S free) true (value_tells S free) AnyToken (λ u h. tt) (suc (length ts)) ts rest t e (any_allowed ts))
       (values S free) (λ us vs v h m le. (v, [], vs, value_found S free m us vs v (let l = length-append us vs in omega (arith, l)) h, refl))
 
 -- ---- types
@@ -114,11 +114,11 @@ module _ (F : Type 0) where
 
   type_refused : (ts rest : List Lexeme) (t : Lexeme) (e : Fault F) → type_at (suc (length ts)) ts ≡ Refused (t ∷ rest) e → (i : ℕ) × (rest ≡ drop (suc i) ts) × TypeRefusedAt ts i t e
   unfolding every_scalar fault_of
-  type_refused ts rest t e p = by_turn (subst (λ z. Turn every_scalar false (type_at (suc (length ts))) ts z) p ((type_turns every_scalar (suc (length ts))).at ts))
+  type_refused ts rest t e p = by_tell (subst (λ z. TellsFault every_scalar false (type_at (suc (length ts))) ts z) p ((type_tells every_scalar (suc (length ts))).at ts))
     where
-      by_turn : Turn every_scalar false (type_at (suc (length ts))) ts (Refused (t ∷ rest) e) → (i : ℕ) × (rest ≡ drop (suc i) ts) × TypeRefusedAt ts i t e
-      by_turn (us, q, inl (y, x, s, d)) = absurd (cc d)
-      by_turn (us, q, inr o) =
+      by_tell : TellsFault every_scalar false (type_at (suc (length ts))) ts (Refused (t ∷ rest) e) → (i : ℕ) × (rest ≡ drop (suc i) ts) × TypeRefusedAt ts i t e
+      by_tell (us, q, inl (y, x, s, d)) = absurd (cc d)
+      by_tell (us, q, inr o) =
           let a = at_fault (type_at {F = F}) IsType (type_reads F) AnyToken (λ u h. tt) (suc (length ts)) ts rest t e (any_allowed ts) p in (
             length a.0,
             sym (ap (drop (suc (length a.0))) a.1 ∙ drop_next a.0 rest t),

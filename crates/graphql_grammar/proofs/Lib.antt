@@ -14,7 +14,7 @@ pub mod ReadScalars
 pub mod OtherScalars
 pub mod Faulty
 pub mod Readers
-pub mod Turns
+pub mod ScalarFaults
 pub mod Named
 pub mod Fuel
 pub mod Spelling

@@ -2,5 +2,5 @@ pub mod Documents
 pub mod Fields
 pub mod Fronts
 pub mod Literals
-pub mod Telling
-pub mod Worth
+pub mod FaultLines
+pub mod ArgumentValues

@@ -1,7 +1,7 @@
-//! What a field's argument is worth.
+//! The value of a field's argument.
 ghost use Rattle.std.specs.Prelude.{◌≡◌, IfOk, option_map};
 ghost use Rattle.juniper_values.specs.View.{view, values_in};
-ghost use Rattle.guide.specs.Worth.{worth};
+ghost use Rattle.guide.specs.ArgumentValues.{argument_value};
 
 use juniper::{Field, InputValue, ScalarValue, Variables};
 use std::alloc::{AllocError, Global};
@@ -15,7 +15,7 @@ pub fn argument_value<S: ScalarValue>(
     name: &str,
     variables: &Variables<S>,
 ) -> Result<Option<InputValue<S>>, AllocError>
-    ensures { IfOk result (λ value. option_map (view S.content) value ≡ worth S.content (values_in S.content variables.now) name.now field.now.arguments) }
+    ensures { IfOk result (λ value. option_map (view S.content) value ≡ argument_value S.content (values_in S.content variables.now) name.now field.now.arguments) }
 {
     let Some(arguments) = &field.arguments else {
         return Ok(None);

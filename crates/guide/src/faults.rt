@@ -2,7 +2,7 @@
 ghost use Rattle.std.specs.Prelude.{◌≡◌, IfOk, string_bytes};
 ghost use Rattle.std.specs.Str.{chars};
 ghost use Rattle.juniper_tokens.specs.Errors.{view_fault};
-ghost use Rattle.guide.specs.Telling.{IsTold, fault_text};
+ghost use Rattle.guide.specs.FaultLines.{IsTold, fault_text};
 
 use juniper::{DefaultScalarValue, ParseError, ParseFailure, Spanning, parse_document_source};
 use std::alloc::{AllocError, Global};

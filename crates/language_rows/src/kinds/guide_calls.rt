@@ -103,7 +103,7 @@ fn write_names(out: &mut String, names: &[&str]) -> Result<(), AllocError> {
     Ok(())
 }
 
-// What an argument of the first field is worth.
+// The value of an argument of the first field.
 fn write_argument(
     alloc: Global,
     out: &mut String,

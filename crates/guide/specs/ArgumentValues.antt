@@ -1,4 +1,4 @@
--- What an argument is worth.
+-- The value of an argument, its variables replaced.
 use Rattle.std.specs.Prelude.{ℕ, List, Option, Some, None}
 use Rattle.juniper_tokens.specs.declared.span.Spanning.{Spanning}
 use Rattle.juniper_values.specs.Value.{Value}
@@ -15,6 +15,6 @@ module _ {S C : Type 0} (content : S → C) (values : Values C) where
   replaced (Some value) = resolve values (view content value.item)
 
   -- the first argument of this name, its variables replaced
-  abbrev pub worth : List ℕ → Option (Spanning (Arguments S)) → Option (Value C)
-  worth name None = None
-  worth name (Some arguments) = replaced (first_named name arguments.item.items.items)
+  abbrev pub argument_value : List ℕ → Option (Spanning (Arguments S)) → Option (Value C)
+  argument_value name None = None
+  argument_value name (Some arguments) = replaced (first_named name arguments.item.items.items)
