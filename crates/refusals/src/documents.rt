@@ -1,13 +1,34 @@
 //! Documents.
 
 use juniper::{
-    DefaultScalarValue, DepthFailure, OwnedDocument, ParseFailure, parse_document_source,
-    parse_document_source_within,
+    DefaultScalarValue, Definition, DefinitionSink, DepthFailure, OwnedDocument, ParseFailure,
+    parse_document_source, parse_document_source_into, parse_document_source_within,
 };
-use std::alloc::Global;
+use std::alloc::{AllocError, Global};
 use std::io;
 
 type Document<'a> = OwnedDocument<'a, DefaultScalarValue>;
+
+// How many definitions were given.
+#[derive(Drop)]
+struct Given(usize);
+
+impl DefinitionSink<DefaultScalarValue> for Given {
+    ghost use Rattle.std.specs.Prelude.{OnOk, ◌∷◌, []};
+    ghost use Rattle.juniper.specs.Sinks.{Gains};
+    ghost use Rattle.juniper.specs.View.{view_definition};
+    ghost use Rattle.juniper_values.specs.Default.{default_content};
+
+    // Nothing is said of what it was given.
+    ghost holds = { λ _ _ _. Unit {0} };
+
+    fn take(&mut self, definition: Definition<'_, DefaultScalarValue>) -> Result<(), AllocError>
+        ensures { OnOk result (Gains (λ _ _ _. Unit {0}) self.old self.new (view_definition default_content definition.entry ∷ [])) }
+    {
+        self.0 = self.0.saturating_add(1);
+        Ok(())
+    }
+}
 
 // The tree of a text, within a limit on nesting where the word is a number.
 fn parsed<'a>(alloc: Global, word: &str, text: &'a str) -> Result<Document<'a>, DepthFailure> {
@@ -29,9 +50,12 @@ fn is_same<'a>(alloc: Global, word: &str, text: &'a str, document: Document<'a>)
 }
 
 /// Tells whether the text has a tree, and then whether another parse gives the same one. The second line that is
-/// written tells that the first parse is over.
+/// written tells that the first parse is over. With the word `into` it tells how many definitions were given.
 pub fn tell<R: Print + AllocGlobal>(rt: &R, word: &str, text: &str) -> io::Result<()> {
     println!(rt; "calling")?;
+    if word == "into" {
+        return tell_given(rt, text);
+    }
     match parsed(rt.alloc(), word, text) {
         Ok(document) => {
             let count = document.len();
@@ -39,17 +63,33 @@ pub fn tell<R: Print + AllocGlobal>(rt: &R, word: &str, text: &str) -> io::Resul
             let is_same = is_same(rt.alloc(), word, text, document);
             println!(rt; "the same tree again: {is_same}")
         }
-        Err(DepthFailure::Parse(failure)) => tell_failure(rt, &failure),
-        Err(DepthFailure::TooDeep(span)) => {
-            let start = span.start;
-            println!(rt; "Too deeply nested. At {start}")
-        }
+        Err(failure) => tell_failure(rt, &failure),
     }
 }
 
-fn tell_failure<R: Print + AllocGlobal>(rt: &R, failure: &ParseFailure) -> io::Result<()> {
+fn tell_given<R: Print + AllocGlobal>(rt: &R, text: &str) -> io::Result<()> {
+    let mut given = Given(0);
+    match parse_document_source_into::<DefaultScalarValue, Given>(
+        rt.alloc(),
+        text,
+        200,
+        &mut given,
+    ) {
+        Ok(()) => {
+            let count = given.0;
+            println!(rt; "{count} definitions")
+        }
+        Err(failure) => tell_failure(rt, &failure),
+    }
+}
+
+fn tell_failure<R: Print + AllocGlobal>(rt: &R, failure: &DepthFailure) -> io::Result<()> {
     match failure {
-        ParseFailure::Refused(fault) => println!(rt; "{fault}"),
-        ParseFailure::Memory => println!(rt; "Memory"),
+        DepthFailure::Parse(ParseFailure::Refused(fault)) => println!(rt; "{fault}"),
+        DepthFailure::Parse(ParseFailure::Memory) => println!(rt; "Memory"),
+        DepthFailure::TooDeep(span) => {
+            let start = span.start;
+            println!(rt; "Too deeply nested. At {start}")
+        }
     }
 }
