@@ -1,5 +1,6 @@
 use Rattle.std.proofs.Common.{rules, arith, refl, ◌≡◌, ◌<◌, ◌∙◌, ap, sym, length, false, ◌&&◌}
 use Rattle.std.proofs.lemmas.List.{at_drop_all}
+use Rattle.std.proofs.lemmas.Grind.{common_steps}
 use Rattle.juniper_values.specs.Same.{same_but_place, same_items_but_place, wanted, is_found, is_wanted, all_found, all_wanted, field_count}
 use Rattle.juniper_values.specs.Text.{same_text}
 use Rattle.juniper_values.specs.View.{view, view_items, view_fields, text_of}
@@ -108,3 +109,12 @@ is_met-loop-field-preserved g t c =
     c.loop-field.invariant
     ∙ ap (λ xs. is_wanted (text_of c.args.key.now) v (wanted eq (view_fields (λ s. s) xs))) (drop_read c.deref-field-items.result.now c.loop-field.field-index x c.loop-field-test.true c.field-item.is)
     ∙ or_false _ _ here
+
+pub is_among-returns : goal.is_among-returns
+is_among-returns g t c = grind (arith, common_steps)
+
+pub is_met-returns : goal.is_met-returns
+is_met-returns g t c = grind (arith, common_steps)
+
+pub same_list-returns : goal.same_list-returns
+same_list-returns g t c = grind (arith, common_steps)

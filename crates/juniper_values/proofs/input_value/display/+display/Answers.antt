@@ -2,6 +2,7 @@ use Rattle.std.proofs.Common.{rules, refl, sym, ap, subst, ◌∙◌, ◌+◌, �
 use Rattle.std.specs.Prelude.{codes}
 use Rattle.std.proofs.Output.{has_written_of_eq}
 use lib.Utf8.{encodes}
+use Rattle.std.proofs.lemmas.Grind.{common_steps}
 use Rattle.juniper_values.specs.Display.{value_text, item_texts, field_texts, joined}
 use Rattle.juniper_values.specs.ScalarDisplay.{scalar_display}
 use Rattle.juniper_values.specs.View.{view, view_items, view_fields, text_of}
@@ -61,3 +62,9 @@ write_value-returns-in_ok-write_fields-in-Object g t c p ok =
     let inner = c.in_ok-write_fields-in-Object.ensures first.plain refl in
     has_written_of_eq _ _ _ _ _ (ap (λ v. encodes (value_text shown v)) (sym (ap (view (λ s. s)) c.in-Object.is ∙ view-Object (λ s. s) c.in-Object.fields)))
     (between g.W.Write.write_str_gives _ _ _ _ 123 125 (joined (field_texts shown (view_fields (λ s. s) c.in-Object.fields.items))) (omega arith) (omega arith) first inner (c.write_str-in-Object-2.ensures.writes inner.plain ok))
+
+pub write_fields-returns : goal.write_fields-returns
+write_fields-returns g t c = grind (arith, common_steps)
+
+pub write_items-returns : goal.write_items-returns
+write_items-returns g t c = grind (arith, common_steps)

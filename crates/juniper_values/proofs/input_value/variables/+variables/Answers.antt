@@ -1,6 +1,6 @@
 use Rattle.std.proofs.Common.{rules, arith, refl}
-use Rattle.juniper_values.specs.Variables.{variables, field_variables}
-use Rattle.juniper_values.specs.View.{view, view_fields}
+use Rattle.juniper_values.specs.Variables.{variables, item_variables, field_variables}
+use Rattle.juniper_values.specs.View.{view, view_items, view_fields}
 use Rattle.juniper_values.proofs.Reading.{gathered, within_most}
 use Rattle.juniper_values.proofs.input_value.variables.+variables.Goals as goal
 use Rattle.juniper_values.proofs.input_value.InputValue.TheLaws.{the_size}
@@ -19,3 +19,9 @@ note_field_variables-loop-field-preserved g t c =
     gathered (λ fs. field_variables (view_fields (λ s. s) fs)) (λ x. variables (view (λ s. s) x.1.item)) (λ x xs. refl)
     c.deref-field-items.result.now c.loop-field.field-index c.field-item.result c.loop-field-test.true c.field-item.is _ _ _
     c.loop-field.invariant c.in_ok-note_variables.ensures
+
+pub note_item_variables-loop-item-preserved : goal.note_item_variables-loop-item-preserved
+note_item_variables-loop-item-preserved g t c =
+    gathered (λ is. item_variables (view_items (λ s. s) is)) (λ x. variables (view (λ s. s) x.item)) (λ x xs. refl)
+    c.deref-item-items.result.now c.loop-item.item-index c.item-item.result c.loop-item-test.true c.item-item.is _ _ _
+    c.loop-item.invariant c.in_ok-note_variables.ensures
