@@ -1,4 +1,5 @@
 use Rattle.std.proofs.Common.{refl, sym, ◌<◌, ◌&&◌, length, arith}
+use Rattle.std.proofs.lemmas.Grind.{common_steps}
 use Rattle.juniper_tokens.specs.Spans.{view_span}
 use Rattle.juniper_values.specs.Text.{same_text}
 use Rattle.juniper_values.specs.Equality.{same_span, same_value, same_items, same_fields}
@@ -30,3 +31,27 @@ equal_fields-returns-then-len g t c =
     (λ x y. (same_text (text_of x.0.item) (text_of y.0.item) && same_span (view_span x.0.span) (view_span y.0.span))
     && (same_value eq (view (λ s. s) x.1.item) (view (λ s. s) y.1.item) && same_span (view_span x.1.span) (view_span y.1.span)))
     refl (λ y ys. refl) (λ x xs. refl) (λ x y xs ys. refl) c.args.a.now.items c.args.b.now.items (λ e. omega (arith, c.args.a.now.ok.0, c.args.b.now.ok.0, e)))
+
+pub equal_items-loop-i-preserved : goal.equal_items-loop-i-preserved
+equal_items-loop-i-preserved g t c = grind (arith, common_steps)
+
+pub equal_items-returns-then-not-same_span : goal.equal_items-returns-then-not-same_span
+equal_items-returns-then-not-same_span g t c = grind (arith, common_steps)
+
+pub equal_items-returns : goal.equal_items-returns
+equal_items-returns g t c = grind (arith, common_steps)
+
+pub equal_fields-loop-i-preserved : goal.equal_fields-loop-i-preserved
+equal_fields-loop-i-preserved g t c = grind (arith, common_steps)
+
+pub equal_fields-returns-then-not-same_key : goal.equal_fields-returns-then-not-same_key
+equal_fields-returns-then-not-same_key g t c = grind (arith, common_steps)
+
+pub equal_fields-returns-then-not-equal : goal.equal_fields-returns-then-not-equal
+equal_fields-returns-then-not-equal g t c = grind (arith, common_steps)
+
+pub equal_fields-returns-then-not-same_span : goal.equal_fields-returns-then-not-same_span
+equal_fields-returns-then-not-same_span g t c = grind (arith, common_steps)
+
+pub equal_fields-returns : goal.equal_fields-returns
+equal_fields-returns g t c = grind (arith, common_steps)
