@@ -15,7 +15,8 @@ alike_trans [] [] (c ∷ cs) p q = absurd q
 alike_trans [] (b ∷ bs) cs p q = absurd p
 alike_trans (a ∷ as') [] cs p q = absurd p
 alike_trans (a ∷ as') (b ∷ bs) [] p q = absurd q
-alike_trans (a ∷ as') (b ∷ bs) (c ∷ cs) p q = (record { kind = p.0.kind ∙ q.0.kind; text = p.0.text ∙ q.0.text }, alike_trans as' bs cs p.1 q.1)
+alike_trans (a ∷ as') (b ∷ bs) (c ∷ cs) p q =
+    (record { kind = p.0.kind ∙ q.0.kind; text = p.0.text ∙ q.0.text }, alike_trans as' bs cs p.1 q.1)
 
 pub alike_join : (as' bs cs ds : List Lexeme) → AllAlike as' bs → AllAlike cs ds → AllAlike (as' ++ cs) (bs ++ ds)
 alike_join [] [] cs ds p q = q

@@ -42,7 +42,8 @@ closed_cons t ts = sum_by-cons (λ (x : Lexeme). one (is_closing x.kind)) t ts
 
 join : (us vs : List Lexeme) → IsBalanced us → IsBalanced vs → IsBalanced (us ++ vs)
 join us vs a b =
-    sum_by-append (λ (x : Lexeme). one (is_opening x.kind)) us vs ∙ ap₂ (λ m n. m + n) a b ∙ sym (sum_by-append (λ (x : Lexeme). one (is_closing x.kind)) us vs)
+    sum_by-append (λ (x : Lexeme). one (is_opening x.kind)) us vs ∙ ap₂ (λ m n. m + n) a b
+    ∙ sym (sum_by-append (λ (x : Lexeme). one (is_closing x.kind)) us vs)
 
 plain_opens : (k : Kind) → is_plain k ≡ true → is_opening k ≡ false
 plain_opens k e = not-true _ (both _ _ e).0
@@ -75,24 +76,43 @@ record Counts (o c : Kind) : Type 0 where
 
 pair_counts : (o c : Kind) → IsPair o c → Counts o c
 pair_counts o c (inl (a, b)) =
-    record { opens = ap is_opening a; opens_not = ap is_opening b; closes = ap is_closing b; closes_not = ap is_closing a }
+    record {
+      opens = ap is_opening a;
+      opens_not = ap is_opening b;
+      closes = ap is_closing b;
+      closes_not = ap is_closing a;
+    }
 pair_counts o c (inr (inl (a, b))) =
-    record { opens = ap is_opening a; opens_not = ap is_opening b; closes = ap is_closing b; closes_not = ap is_closing a }
+    record {
+      opens = ap is_opening a;
+      opens_not = ap is_opening b;
+      closes = ap is_closing b;
+      closes_not = ap is_closing a;
+    }
 pair_counts o c (inr (inr (a, b))) =
-    record { opens = ap is_opening a; opens_not = ap is_opening b; closes = ap is_closing b; closes_not = ap is_closing a }
+    record {
+      opens = ap is_opening a;
+      opens_not = ap is_opening b;
+      closes = ap is_closing b;
+      closes_not = ap is_closing a;
+    }
 
 around : (o c : Lexeme) (us : List Lexeme) → IsPair o.kind c.kind → IsBalanced us → IsBalanced (o ∷ us ++ (c ∷ []))
 around o c us p h =
     let k = pair_counts o.kind c.kind p in
-    let a : opened (o ∷ us ++ (c ∷ [])) ≡ 1 + (opened us + 0) = opened_cons o (us ++ (c ∷ [])) ∙ ap₂ (λ x y. one x + y) k.opens (opened_push us c ∙ ap (λ x. opened us + one x) k.opens_not) in
-    let b : closed (o ∷ us ++ (c ∷ [])) ≡ 0 + (closed us + 1) = closed_cons o (us ++ (c ∷ [])) ∙ ap₂ (λ x y. one x + y) k.closes_not (closed_push us c ∙ ap (λ x. closed us + one x) k.closes) in
+    let a : opened (o ∷ us ++ (c ∷ [])) ≡ 1 + (opened us + 0) = opened_cons o (us ++ (c ∷ []))
+    ∙ ap₂ (λ x y. one x + y) k.opens (opened_push us c ∙ ap (λ x. opened us + one x) k.opens_not) in
+    let b : closed (o ∷ us ++ (c ∷ [])) ≡ 0 + (closed us + 1) = closed_cons o (us ++ (c ∷ []))
+    ∙ ap₂ (λ x y. one x + y) k.closes_not (closed_push us c ∙ ap (λ x. closed us + one x) k.closes) in
     omega (arith, a, b, h)
 
 -- an end counts for nothing
 end_balanced : (us : List Lexeme) (t : Lexeme) → t.kind ≡ EndOfFile
     → (opened (us ++ t ∷ []) ≡ opened us + 0) × (closed (us ++ t ∷ []) ≡ closed us + 0)
-end_balanced us t e =
-    (opened_push us t ∙ ap (λ k. opened us + one (is_opening k)) e, closed_push us t ∙ ap (λ k. closed us + one (is_closing k)) e)
+end_balanced us t e = (
+  opened_push us t ∙ ap (λ k. opened us + one (is_opening k)) e,
+  closed_push us t ∙ ap (λ k. closed us + one (is_closing k)) e,
+)
 
 -- ---- a refusal sees no token behind it
 
@@ -110,7 +130,8 @@ within (u ∷ us) vs (b ∷ bs) after t e l =
 pub same_front : (i : ℕ) (us vs ws : List Lexeme) → i ≤ length us → take i (us ++ vs) ≡ take i (us ++ ws)
 same_front i us vs ws l = take-append-le i us vs l ∙ sym (take-append-le i us ws l)
 
-pub refused_in_front : (Allowed : Lexeme → Type 0) {F A : Type 0} (R : List Lexeme → A → Type 0) (Error : List Lexeme → Lexeme → Fault F → Type 0) (us vs ws : List Lexeme) (i : ℕ) (t : Lexeme) (e : Fault F)
+pub refused_in_front : (Allowed : Lexeme → Type 0) {F A : Type 0} (R : List Lexeme → A → Type 0)
+    (Error : List Lexeme → Lexeme → Fault F → Type 0) (us vs ws : List Lexeme) (i : ℕ) (t : Lexeme) (e : Fault F)
     → i < length us
     → RefusedAt Allowed R Error (us ++ vs) i t e → RefusedAt Allowed R Error (us ++ ws) i t e
 refused_in_front Allowed R Error us vs ws i t e l h =
@@ -149,9 +170,9 @@ middle_of P [] vs t h = h.0
 middle_of P (u ∷ us) vs t h = middle_of P us vs t h.1
 
 module _ {C F : Type 0} (S : Scalars C F) where
-  -- Of the tokens up to token i, which is t and opens a bracket, and then an end, token j, which is u, is refused. Either
-  -- that is the end, and then the tokens up to t begin a document. Or it is no end, and then they don't, and all tokens are
-  -- refused there too.
+  -- Of the tokens up to token i, which is t and opens a bracket, and then an end, token j, which is u, is refused.
+  -- Either that is the end, and then the tokens up to t begin a document. Or it is no end, and then they don't, and all
+  -- tokens are refused there too.
   abbrev pub TellsDepth : List Lexeme → ℕ → Lexeme → ℕ → Lexeme → Fault F → Type 0
   TellsDepth ts i t j u e =
       ((u ≡ end_behind t) × BeginsDocument S (take (suc i) ts))
@@ -183,7 +204,9 @@ module _ {C F : Type 0} (S : Scalars C F) where
     -- They are no document: a bracket is still open.
     pub short_no_document : (ds : List (Definition C)) → IsDocument S (ended_by d.before t) ds → ⊥
     short_no_document ds h =
-        let b : opened (front ++ end_behind t ∷ []) ≡ closed (front ++ end_behind t ∷ []) = subst IsBalanced short_parts (document_balanced (ended_by d.before t) ds h) in
+        let b : opened (front ++ end_behind t ∷ [])
+        ≡ closed (front ++ end_behind t ∷ []) =
+        subst IsBalanced short_parts (document_balanced (ended_by d.before t) ds h) in
         let c = end_balanced front (end_behind t) refl in
         let still = deep_count depth ts i t d in
         absurd (omega (arith, b, c.0, c.1, still))
@@ -195,7 +218,10 @@ module _ {C F : Type 0} (S : Scalars C F) where
 
       pub short_spelled : AllByRecursion IsSpelled (ended_by d.before t)
       short_spelled =
-          subst (AllByRecursion IsSpelled) (sym short_parts) (all_join IsSpelled front (end_behind t ∷ []) (all_front IsSpelled front d.after (subst (AllByRecursion IsSpelled) whole_parts spelled)) (inr (refl, refl), tt))
+          subst (AllByRecursion IsSpelled) (sym short_parts)
+          (all_join IsSpelled front (end_behind t ∷ [])
+          (all_front IsSpelled front d.after (subst (AllByRecursion IsSpelled) whole_parts spelled))
+          (inr (refl, refl), tt))
 
       pub short_ends : EndsOnce (ended_by d.before t)
       short_ends =
@@ -204,29 +230,51 @@ module _ {C F : Type 0} (S : Scalars C F) where
       -- the fronts of both lists are one
       one_front : (k : ℕ) → k ≤ suc i → take k (front ++ end_behind t ∷ []) ≡ take k ts
       one_front k l =
-          same_front k front (end_behind t ∷ []) d.after (omega (arith, l, front_length)) ∙ ap (take k) (sym whole_parts)
+          same_front k front (end_behind t ∷ []) d.after (omega (arith, l, front_length))
+          ∙ ap (take k) (sym whole_parts)
 
       at_end : (j : ℕ) (u : Lexeme) (e : Fault F) → DocumentRefusedAt S (front ++ end_behind t ∷ []) j u e → j ≡ suc i
           → TellsDepth ts i t j u e
       at_end j u e h same =
-          let parts = same_parts IsSpelled S (IsDocument S) front h.before [] h.after (end_behind t) u (front_length ∙ sym same ∙ sym h.number) h.whole in
-          inl (sym parts.1, subst (BeginsDocument S) (ap (λ k. take k (front ++ end_behind t ∷ [])) same ∙ one_front (suc i) (omega arith)) h.fault.begins)
+          let parts = same_parts IsSpelled S (IsDocument S) front h.before [] h.after (end_behind t) u
+          (front_length ∙ sym same ∙ sym h.number) h.whole in
+          inl (
+            sym parts.1,
+            subst (BeginsDocument S) (ap (λ k. take k (front ++ end_behind t ∷ [])) same
+                ∙ one_front (suc i) (omega arith)) h.fault.begins,
+          )
 
       before_end : (j : ℕ) (u : Lexeme) (e : Fault F) → DocumentRefusedAt S (front ++ end_behind t ∷ []) j u e
           → j < suc i → TellsDepth ts i t j u e
       before_end j u e h l =
-          let inside = within front (end_behind t ∷ []) h.before h.after u h.whole (omega (arith, l, front_length, h.number)) in
-          let goes_on : u.kind ≡ EndOfFile → ⊥ = middle_of (λ (x : Lexeme). x.kind ≡ EndOfFile → ⊥) h.before inside.0 u (subst NoEnd inside.1 front_no_end) in
-          let refused : DocumentRefusedAt S ts j u e = subst (λ l. DocumentRefusedAt S l j u e) (sym whole_parts) (refused_in_front IsSpelled (IsDocument S) _ front (end_behind t ∷ []) d.after j u e (omega (arith, l, front_length)) h) in
-          let s = split (document S) (IsDocument S) (document_reads S) IsSpelled sample_spelled (suc j) (suc i) ts (omega (arith, l)) in
-          inr (goes_on, (λ b. refused.fault.ends (front_begins (document S) (IsDocument S) (document_reads S) IsSpelled sample_spelled (take (suc j) ts) s.0 (subst (BeginsDocument S) s.1 b))), refused)
+          let inside = within front (end_behind t ∷ []) h.before h.after u h.whole
+          (omega (arith, l, front_length, h.number)) in
+          let goes_on : u.kind ≡ EndOfFile → ⊥ = middle_of (λ (x : Lexeme). x.kind ≡ EndOfFile → ⊥) h.before inside.0 u
+          (subst NoEnd inside.1 front_no_end) in
+          let refused : DocumentRefusedAt S ts j u e = subst (λ l. DocumentRefusedAt S l j u e) (sym whole_parts)
+          (refused_in_front IsSpelled (IsDocument S) _ front (end_behind t ∷ []) d.after j u e
+          (omega (arith, l, front_length)) h) in
+          let s = split (document S) (IsDocument S) (document_reads S) IsSpelled sample_spelled (suc j) (suc i) ts
+          (omega (arith, l)) in
+          inr (
+            goes_on,
+            (λ b. refused.fault.ends (front_begins (document S) (IsDocument S) (document_reads S) IsSpelled
+                sample_spelled (take (suc j) ts) s.0 (subst (BeginsDocument S) s.1 b))),
+            refused,
+          )
 
       -- Where they are refused tells of all tokens.
       pub short_tells : (j : ℕ) (u : Lexeme) (e : Fault F) → DocumentRefusedAt S (ended_by d.before t) j u e
           → TellsDepth ts i t j u e
       short_tells j u e h =
-          let g : DocumentRefusedAt S (front ++ end_behind t ∷ []) j u e = subst (λ l. DocumentRefusedAt S l j u e) short_parts h in
-          let inside : j < suc (suc i) = omega (arith, g.fault.inside, length-append front (end_behind t ∷ []), front_length) in
+          let g : DocumentRefusedAt S (front ++ end_behind t ∷ []) j u e =
+          subst (λ l. DocumentRefusedAt S l j u e) short_parts h in
+          let inside : j < suc (suc i) = omega (
+            arith,
+            g.fault.inside,
+            length-append front (end_behind t ∷ []),
+            front_length,
+          ) in
           let up_to : j ≤ suc i = omega (arith, inside) in
           elim (eq-or-lt_of_le up_to) [
             | inl same ↦ at_end j u e g same

@@ -17,13 +17,16 @@ use Rattle.graphql_grammar.proofs.Values.{value_rule}
 abbrev IsNullableType : List Lexeme → TypeRef → Type 0
 IsNullableType ts t = IsType ts t × IsNullable t
 
-plain_rule : {F : Type 0} (n : ℕ) (f g : Reader F TypeRef) → Rule n f g IsType → Rule (suc n) (plain_type f) (plain_type g) IsNullableType
+plain_rule : {F : Type 0} (n : ℕ) (f g : Reader F TypeRef) → Rule n f g IsType
+    → Rule (suc n) (plain_type f) (plain_type g) IsNullableType
 unfolding plain_type
 plain_rule n f g r = on_rule (suc n) (of Name) _ _ _ _ IsNullableType
     (λ t u p. done_rule n (NamedType t.text) (NamedType u.text) _ ((t, refl, of_kind Name t p, refl), tt))
-    (want_step (suc n) (of BracketOpen) (sample BracketOpen) _ _ IsNullableType refl (inl refl) (λ o o' p. step n n f g _ _ IsType _ (le_refl n) r (λ us x y h.
+    (want_step (suc n) (of BracketOpen) (sample BracketOpen) _ _ IsNullableType refl (inl refl)
+    (λ o o' p. step n n f g _ _ IsType _ (le_refl n) r (λ us x y h.
     want_step (less n us) (of BracketClose) (sample BracketClose) _ _ _ refl (inl refl) (λ c c' q.
-    done_rule _ (ListType None x) (ListType None y) _ ((o, c, us, refl, of_kind BracketOpen o p, of_kind BracketClose c q, refl, h), tt)))))
+    done_rule _ (ListType None x) (ListType None y) _
+    ((o, c, us, refl, of_kind BracketOpen o p, of_kind BracketClose c q, refl, h), tt)))))
 
 some_type : Some_of IsType
 some_type = (sample Name ∷ [], NamedType (sample_text Name), (sample Name, refl, refl, refl), (inl refl, tt))
@@ -32,8 +35,10 @@ pub type_rule : {F : Type 0} (n m : ℕ) → n ≤ m → Rule {F = F} n (type_at
 unfolding type_at maybe_non_null
 type_rule zero m le = record { at = λ ts. (zero-le, [], ts, refl, some_type) }
 type_rule (suc n) zero le = absurd (omega arith)
-type_rule (suc n) (suc m) le = step (suc n) (suc n) _ _ maybe_non_null maybe_non_null IsNullableType IsType (le_refl (suc n)) (plain_rule n _ _ (type_rule n m (omega arith))) (λ us x y h.
-    on_rule (less (suc n) us) (of ExclamationMark) _ _ _ _ _ (λ b b' p. done_rule _ (NonNullType x) (NonNullType y) _ (us, b, refl, of_kind ExclamationMark b p, h.1, h.0))
+type_rule (suc n) (suc m) le = step (suc n) (suc n) _ _ maybe_non_null maybe_non_null IsNullableType IsType
+    (le_refl (suc n)) (plain_rule n _ _ (type_rule n m (omega arith))) (λ us x y h.
+    on_rule (less (suc n) us) (of ExclamationMark) _ _ _ _ _
+    (λ b b' p. done_rule _ (NonNullType x) (NonNullType y) _ (us, b, refl, of_kind ExclamationMark b p, h.1, h.0))
     (done_rule _ x y _ (rw append-nil h.0)))
 
 abbrev pub IsSpannedType : List Lexeme → TypeRef × Span → Type 0
@@ -41,7 +46,8 @@ IsSpannedType ts x = IsType ts x.0 × (x.1 ≡ span_of ts)
 
 pub spanned_type_rule : {F : Type 0} (n m : ℕ) → n ≤ m → Rule {F = F} n (spanned_type n) (spanned_type m) IsSpannedType
 unfolding spanned_type
-spanned_type_rule n m le = span_rule n _ _ IsSpannedType (step n n _ _ _ _ IsType _ (le_refl n) (type_rule n m le) (λ us x y h.
+spanned_type_rule n m le = span_rule n _ _ IsSpannedType (step n n _ _ _ _ IsType _ (le_refl n) (type_rule n m le)
+    (λ us x y h.
     done_rule _ (λ p. (x, p)) (λ p. (y, p)) _ (rw append-nil (h, refl))))
 
 module _ {C F : Type 0} (S : Scalars C F) (n m : ℕ) (le : n ≤ m) where
@@ -63,58 +69,115 @@ module _ {C F : Type 0} (S : Scalars C F) (n m : ℕ) (le : n ≤ m) where
   -- Arguments and directives
   pub argument_rule : Rule n (argument S n) (argument S m) (IsArgument S)
   unfolding argument
-  argument_rule = want_step n (of Name) (sample Name) _ _ _ refl (inl refl) (λ k k' p. want_step _ (of Colon) (sample Colon) _ _ _ refl (inl refl) (λ c c' q.
-      step n _ (value_at S true n) (value_at S true m) _ _ (IsValue S true) _ (low2 (k ∷ []) (c ∷ [])) (value_rule S true n m le) (λ us v w h.
+  argument_rule = want_step n (of Name) (sample Name) _ _ _ refl (inl refl)
+      (λ k k' p. want_step _ (of Colon) (sample Colon) _ _ _ refl (inl refl) (λ c c' q.
+      step n _ (value_at S true n) (value_at S true m) _ _ (IsValue S true) _ (low2 (k ∷ []) (c ∷ []))
+      (value_rule S true n m le) (λ us v w h.
       done_rule _ (record { name = word_of k; value = v }) (record { name = word_of k'; value = w }) _
-      (rw append-nil (record { key = k; colon = c; rest = us; whole = refl; key_is = of_kind Name k p; colon_is = of_kind Colon c q; names = refl; value = h })))))
+      (rw append-nil (record {
+        key = k;
+        colon = c;
+        rest = us;
+        whole = refl;
+        key_is = of_kind Name k p;
+        colon_is = of_kind Colon c q;
+        names = refl;
+        value = h;
+      })))))
 
   pub argument_takes : (ts : List Lexeme) (a : Argument C) → IsArgument S ts a → 0 < length ts
   argument_takes ts a h = rw h.whole (omega arith)
 
-  pub listed : {A : Type 0} (opening closing : Kind) (R : List Lexeme → A → Type 0) (t : Lexeme) (us : List Lexeme) (xs : List A) → passes (of opening) t ≡ true → ClosedSome (of closing) R us xs → Listed opening closing R (t ∷ us) xs
+  pub listed : {A : Type 0} (opening closing : Kind) (R : List Lexeme → A → Type 0) (t : Lexeme) (us : List Lexeme)
+      (xs : List A) → passes (of opening) t ≡ true → ClosedSome (of closing) R us xs
+      → Listed opening closing R (t ∷ us) xs
   listed opening closing R t us [] p c = absurd c
-  listed opening closing R t us (x ∷ xs) p c = record { first = t; last = c.last; inner = c.inner; whole = ap (λ z. t ∷ z) c.whole; opens = of_kind opening t p; closes = of_kind closing c.last c.closes; parts = c.each }
+  listed opening closing R t us (x ∷ xs) p c =
+      record {
+        first = t;
+        last = c.last;
+        inner = c.inner;
+        whole = ap (λ z. t ∷ z) c.whole;
+        opens = of_kind opening t p;
+        closes = of_kind closing c.last c.closes;
+        parts = c.each;
+      }
 
   pub arguments_rule : Rule n (arguments S n) (arguments S m) (IsArguments S)
   unfolding arguments
-  arguments_rule = span_rule n _ _ (IsArguments S) (want_step n (of ParenOpen) (sample ParenOpen) _ _ _ refl (inl refl) (λ o o' p.
-      step n _ _ _ _ _ (ClosedSome (of ParenClose) (IsArgument S)) _ (low1 (o ∷ [])) (one_or_more_rule (IsArgument S) argument_takes (of ParenClose) (sample ParenClose) refl (inl refl) _ _ n m le argument_rule) (λ us xs ys h.
-      done_rule _ (λ p. record { items = xs; span = p }) (λ p. record { items = ys; span = p }) _ (rw append-nil (listed ParenOpen ParenClose (IsArgument S) o us xs p h, refl)))))
+  arguments_rule = span_rule n _ _ (IsArguments S) (want_step n (of ParenOpen) (sample ParenOpen) _ _ _ refl (inl refl)
+      (λ o o' p.
+      step n _ _ _ _ _ (ClosedSome (of ParenClose) (IsArgument S)) _ (low1 (o ∷ []))
+      (one_or_more_rule (IsArgument S) argument_takes (of ParenClose) (sample ParenClose) refl (inl refl) _ _ n m le
+      argument_rule) (λ us xs ys h.
+      done_rule _ (λ p. record { items = xs; span = p }) (λ p. record { items = ys; span = p }) _
+      (rw append-nil (listed ParenOpen ParenClose (IsArgument S) o us xs p h, refl)))))
 
   pub directive_rule : Rule n (directive S n) (directive S m) (IsDirective S)
   unfolding directive
-  directive_rule = span_rule n _ _ (IsDirective S) (want_step n (of At) (sample At) _ _ _ refl (inl refl) (λ a a' p. want_step _ (of Name) (sample Name) _ _ _ refl (inl refl) (λ t t' q.
-      step n _ _ _ _ _ (Optional (IsArguments S)) _ (low2 (a ∷ []) (t ∷ [])) (maybe_rule n (of ParenOpen) _ _ (IsArguments S) arguments_rule) (λ us xs ys h.
-      done_rule _ (λ p. record { name = word_of t; arguments = xs; span = p }) (λ p. record { name = word_of t'; arguments = ys; span = p }) _
-      (rw append-nil (record { at = a; name = t; rest = us; whole = refl; at_is = of_kind At a p; name_is = of_kind Name t q; names = refl; arguments = h; spans = refl }))))))
+  directive_rule = span_rule n _ _ (IsDirective S) (want_step n (of At) (sample At) _ _ _ refl (inl refl)
+      (λ a a' p. want_step _ (of Name) (sample Name) _ _ _ refl (inl refl) (λ t t' q.
+      step n _ _ _ _ _ (Optional (IsArguments S)) _ (low2 (a ∷ []) (t ∷ []))
+      (maybe_rule n (of ParenOpen) _ _ (IsArguments S) arguments_rule) (λ us xs ys h.
+      done_rule _ (λ p. record { name = word_of t; arguments = xs; span = p })
+      (λ p. record { name = word_of t'; arguments = ys; span = p }) _
+      (rw append-nil (record {
+        at = a;
+        name = t;
+        rest = us;
+        whole = refl;
+        at_is = of_kind At a p;
+        name_is = of_kind Name t q;
+        names = refl;
+        arguments = h;
+        spans = refl;
+      }))))))
 
   pub directive_takes : (ts : List Lexeme) (d : Directive C) → IsDirective S ts d → 0 < length ts
   directive_takes ts d h = rw h.whole (omega arith)
 
-  directives_are : (ts : List Lexeme) (ds : List (Directive C)) → Each (IsDirective S) ts ds → IsDirectives S ts (unless_empty ds)
+  directives_are : (ts : List Lexeme) (ds : List (Directive C)) → Each (IsDirective S) ts ds
+      → IsDirectives S ts (unless_empty ds)
   directives_are ts [] h = h
   directives_are ts (d ∷ ds) h = h
 
   pub directives_rule : Rule n (directives S n) (directives S m) (IsDirectives S)
   unfolding directives
-  directives_rule = step n n _ _ _ _ (Each (IsDirective S)) _ (le_refl n) (repeated_rule (IsDirective S) directive_takes (of At) _ _ n m n le (le_refl n) directive_rule) (λ us ds ds' h.
+  directives_rule = step n n _ _ _ _ (Each (IsDirective S)) _ (le_refl n)
+      (repeated_rule (IsDirective S) directive_takes (of At) _ _ n m n le (le_refl n) directive_rule) (λ us ds ds' h.
       done_rule _ (unless_empty ds) (unless_empty ds') _ (rw append-nil (directives_are us ds h)))
 
   -- Variables
   pub default_rule : Rule n (default_value S n) (default_value S m) (IsDefault S)
   unfolding default_value
   default_rule = want_step n (of Equals) (sample Equals) _ _ _ refl (inl refl) (λ e e' p.
-      weaken n _ _ _ (IsValue S false) _ (low1 (e ∷ [])) (λ us v h. (e, us, refl, of_kind Equals e p, h)) (value_rule S false n m le))
+      weaken n _ _ _ (IsValue S false) _ (low1 (e ∷ [])) (λ us v h. (e, us, refl, of_kind Equals e p, h))
+      (value_rule S false n m le))
 
   pub variable_definition_rule : Rule n (variable_definition S n) (variable_definition S m) (IsVariableDefinition S)
   unfolding variable_definition
   variable_definition_rule =
-      want_step n (of Dollar) (sample Dollar) _ _ _ refl (inl refl) (λ d d' p. want_step _ (of Name) (sample Name) _ _ _ refl (inl refl) (λ t t' q. want_step _ (of Colon) (sample Colon) _ _ _ refl (inl refl) (λ c c' r.
+      want_step n (of Dollar) (sample Dollar) _ _ _ refl (inl refl)
+      (λ d d' p. want_step _ (of Name) (sample Name) _ _ _ refl (inl refl)
+      (λ t t' q. want_step _ (of Colon) (sample Colon) _ _ _ refl (inl refl) (λ c c' r.
       step n _ _ _ _ _ IsSpannedType _ (low3 (d ∷ []) (t ∷ []) (c ∷ [])) (spanned_type_rule n m le) (λ us x x' h.
-      step n _ _ _ _ _ (Optional (IsDefault S)) _ (low4 (d ∷ []) (t ∷ []) (c ∷ []) us) (maybe_rule n (of Equals) _ _ (IsDefault S) default_rule) (λ vs v v' k.
+      step n _ _ _ _ _ (Optional (IsDefault S)) _ (low4 (d ∷ []) (t ∷ []) (c ∷ []) us)
+      (maybe_rule n (of Equals) _ _ (IsDefault S) default_rule) (λ vs v v' k.
       step n _ _ _ _ _ (IsDirectives S) _ (low5 (d ∷ []) (t ∷ []) (c ∷ []) us vs) directives_rule (λ ws ds ds' e.
-      done_rule _ (record { name = record { text = t.text; span = over d t }; of_type = x.0; type_span = x.1; default = v; directives = ds })
-      (record { name = record { text = t'.text; span = over d' t' }; of_type = x'.0; type_span = x'.1; default = v'; directives = ds' }) _
+      done_rule _ (record {
+        name = record { text = t.text; span = over d t };
+        of_type = x.0;
+        type_span = x.1;
+        default = v;
+        directives = ds;
+      })
+      (record {
+        name = record { text = t'.text; span = over d' t' };
+        of_type = x'.0;
+        type_span = x'.1;
+        default = v';
+        directives = ds';
+      }) _
       (rw append-nil (record {
         dollar = d;
         name = t;
@@ -138,6 +201,10 @@ module _ {C F : Type 0} (S : Scalars C F) (n m : ℕ) (le : n ≤ m) where
 
   pub variables_rule : Rule n (variables S n) (variables S m) (IsVariables S)
   unfolding variables
-  variables_rule = span_rule n _ _ (IsVariables S) (want_step n (of ParenOpen) (sample ParenOpen) _ _ _ refl (inl refl) (λ o o' p.
-      step n _ _ _ _ _ (ClosedSome (of ParenClose) (IsVariableDefinition S)) _ (low1 (o ∷ [])) (one_or_more_rule (IsVariableDefinition S) variable_takes (of ParenClose) (sample ParenClose) refl (inl refl) _ _ n m le variable_definition_rule) (λ us xs ys h.
-      done_rule _ (λ p. record { items = xs; span = p }) (λ p. record { items = ys; span = p }) _ (rw append-nil (listed ParenOpen ParenClose (IsVariableDefinition S) o us xs p h, refl)))))
+  variables_rule = span_rule n _ _ (IsVariables S) (want_step n (of ParenOpen) (sample ParenOpen) _ _ _ refl (inl refl)
+      (λ o o' p.
+      step n _ _ _ _ _ (ClosedSome (of ParenClose) (IsVariableDefinition S)) _ (low1 (o ∷ []))
+      (one_or_more_rule (IsVariableDefinition S) variable_takes (of ParenClose) (sample ParenClose) refl (inl refl)
+      _ _ n m le variable_definition_rule) (λ us xs ys h.
+      done_rule _ (λ p. record { items = xs; span = p }) (λ p. record { items = ys; span = p }) _
+      (rw append-nil (listed ParenOpen ParenClose (IsVariableDefinition S) o us xs p h, refl)))))

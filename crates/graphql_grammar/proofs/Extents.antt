@@ -30,13 +30,16 @@ pub runs_on : (ts mid rest : List Lexeme) (p q : Span) → Runs ts mid p → Run
 runs_on ts mid rest p q a b = record {
   first = a.first;
   inner = a.inner ++ (b.first ∷ b.inner);
-  whole = a.whole ∙ ap (λ l. a.first ∷ a.inner ++ l) b.whole ∙ ap (λ l. a.first ∷ l) (sym (append_assoc a.inner (b.first ∷ b.inner) rest));
-  span = ap (λ (s : Span). from_to s q) a.span ∙ ap (λ (s : Span). from_to (over a.first a.first) s) b.span ∙ ap (over a.first) (sym (last_joined a.first b.first a.inner b.inner));
+  whole = a.whole ∙ ap (λ l. a.first ∷ a.inner ++ l) b.whole
+      ∙ ap (λ l. a.first ∷ l) (sym (append_assoc a.inner (b.first ∷ b.inner) rest));
+  span = ap (λ (s : Span). from_to s q) a.span ∙ ap (λ (s : Span). from_to (over a.first a.first) s) b.span
+      ∙ ap (over a.first) (sym (last_joined a.first b.first a.inner b.inner));
 }
 
 -- What was read has the span p of its tokens.
 pub runs_front : (ts rest : List Lexeme) (p : Span) → Runs ts rest p → span_of (front ts rest) ≡ p
-runs_front ts rest p r = ap (λ l. span_of (front l rest)) r.whole ∙ ap span_of (front_is (r.first ∷ r.inner) rest) ∙ sym r.span
+runs_front ts rest p r = ap (λ l. span_of (front l rest)) r.whole ∙ ap span_of (front_is (r.first ∷ r.inner) rest)
+    ∙ sym r.span
 
 pub runs_of : (us ts rest : List Lexeme) → ts ≡ us ++ rest → 0 < length us → Runs ts rest (span_of us)
 runs_of [] ts rest e h = absurd (omega arith)
@@ -51,21 +54,32 @@ abbrev pub to_end_of : Span → Option Span → Span
 to_end_of p None = p
 to_end_of p (Some q) = from_to p q
 
-module _ {F A : Type 0} (f : ℕ → Reader F A) (R : List Lexeme → A → Type 0) (rule : (n : ℕ) → Rule n (f n) (f n) R) where
-  pub took_is : (ts rest : List Lexeme) (a : A) → fully f ts ≡ Took a rest → (us : List Lexeme) × (ts ≡ us ++ rest) × R us a
-  unfolding fully
-  took_is ts rest a e = let h = subst (λ z. Meets (suc (length ts)) R (f (suc (length ts))) ts z) e ((rule (suc (length ts))).at ts) in (h.0, h.1, h.2)
+module _ {F A : Type 0} (f : ℕ → Reader F A) (R : List Lexeme → A → Type 0) (rule : (n : ℕ) → Rule n (f n) (f n) R)
+  where
+    pub took_is : (ts rest : List Lexeme) (a : A) → fully f ts ≡ Took a rest
+        → (us : List Lexeme) × (ts ≡ us ++ rest) × R us a
+    unfolding fully
+    took_is ts rest a e = let h = subst (λ z. Meets (suc (length ts)) R (f (suc (length ts))) ts z) e
+        ((rule (suc (length ts))).at ts) in (h.0, h.1, h.2)
 
-  pub took_some : ((us : List Lexeme) (a : A) → R us a → 0 < length us) → (ts rest : List Lexeme) (a : A) → fully f ts ≡ Took a rest → (p : Span) × Runs ts rest p
-  took_some takes ts rest a e = let h = took_is ts rest a e in (span_of h.0, runs_of h.0 ts rest h.1 (takes h.0 a h.2))
+    pub took_some : ((us : List Lexeme) (a : A) → R us a → 0 < length us) → (ts rest : List Lexeme) (a : A)
+        → fully f ts ≡ Took a rest → (p : Span) × Runs ts rest p
+    took_some takes ts rest a e =
+        let h = took_is ts rest a e in (span_of h.0, runs_of h.0 ts rest h.1 (takes h.0 a h.2))
 
-  pub took_runs : (sp : A → Span) → ((us : List Lexeme) (a : A) → R us a → (0 < length us) × (sp a ≡ span_of us)) → (ts rest : List Lexeme) (a : A) → fully f ts ≡ Took a rest → Runs ts rest (sp a)
-  took_runs sp has ts rest a e = let h = took_is ts rest a e in let k = has h.0 a h.2 in subst (λ p. Runs ts rest p) (sym k.1) (runs_of h.0 ts rest h.1 k.0)
+    pub took_runs : (sp : A → Span) → ((us : List Lexeme) (a : A) → R us a → (0 < length us) × (sp a ≡ span_of us))
+        → (ts rest : List Lexeme) (a : A) → fully f ts ≡ Took a rest → Runs ts rest (sp a)
+    took_runs sp has ts rest a e = let h = took_is ts rest a e in let k = has h.0 a h.2 in
+        subst (λ p. Runs ts rest p) (sym k.1) (runs_of h.0 ts rest h.1 k.0)
 
 -- items up to the closing token
-pub closed_runs : {A : Type 0} (close : Test) (R : List Lexeme → A → Type 0) (us ts rest : List Lexeme) (r : List A × Lexeme) → ts ≡ us ++ rest → Closed close R us r → (p : Span) × Runs ts rest p × (p.end ≡ r.1.span.end)
-closed_runs close R us ts rest r e c =
-    (span_of us, runs_of us ts rest e (rw (c.whole, length-append c.inner (r.1 ∷ [])) (omega arith)), ap (λ l. (span_of l).end) c.whole ∙ last_end c.inner)
+pub closed_runs : {A : Type 0} (close : Test) (R : List Lexeme → A → Type 0) (us ts rest : List Lexeme)
+    (r : List A × Lexeme) → ts ≡ us ++ rest → Closed close R us r → (p : Span) × Runs ts rest p × (p.end ≡ r.1.span.end)
+closed_runs close R us ts rest r e c = (
+  span_of us,
+  runs_of us ts rest e (rw (c.whole, length-append c.inner (r.1 ∷ [])) (omega arith)),
+  ap (λ l. (span_of l).end) c.whole ∙ last_end c.inner,
+)
   where
     last_end : (vs : List Lexeme) → (span_of (vs ++ (r.1 ∷ []))).end ≡ r.1.span.end
     last_end [] = refl
@@ -74,15 +88,19 @@ closed_runs close R us ts rest r e c =
 -- ---- the spans that parts of a tree have
 
 module _ {C F : Type 0} (S : Scalars C F) where
-  listed_takes : {A : Type 0} (opening closing : Kind) (R : List Lexeme → A → Type 0) (us : List Lexeme) (xs : List A) → Listed opening closing R us xs → 0 < length us
+  listed_takes : {A : Type 0} (opening closing : Kind) (R : List Lexeme → A → Type 0) (us : List Lexeme) (xs : List A)
+      → Listed opening closing R us xs → 0 < length us
   listed_takes opening closing R us [] h = absurd h
   listed_takes opening closing R us (x ∷ xs) h = rw h.whole (omega arith)
 
-  pub arguments_have : (us : List Lexeme) (a : Arguments C) → IsArguments S us a → (0 < length us) × (a.span ≡ span_of us)
+  pub arguments_have : (us : List Lexeme) (a : Arguments C) → IsArguments S us a
+      → (0 < length us) × (a.span ≡ span_of us)
   arguments_have us a h = (listed_takes _ _ _ us a.items h.0, h.1)
 
-  pub variables_have : (us : List Lexeme) (a : Variables C) → IsVariables S us a → (0 < length us) × (a.span ≡ span_of us)
+  pub variables_have : (us : List Lexeme) (a : Variables C) → IsVariables S us a
+      → (0 < length us) × (a.span ≡ span_of us)
   variables_have us a h = (listed_takes _ _ _ us a.items h.0, h.1)
 
-  pub directive_has : (us : List Lexeme) (d : Directive C) → IsDirective S us d → (0 < length us) × (d.span ≡ span_of us)
+  pub directive_has : (us : List Lexeme) (d : Directive C) → IsDirective S us d
+      → (0 < length us) × (d.span ≡ span_of us)
   directive_has us d h = (rw h.whole (omega arith), h.spans)

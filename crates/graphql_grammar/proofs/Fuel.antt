@@ -20,7 +20,8 @@ pub record Under {F A : Type 0} (f g : Reader F A) : Type 0 where
 pub under_refl : {F A : Type 0} (f : Reader F A) → Under f f
 under_refl f = record { at = λ ts. inr refl }
 
-after_below : {F A B : Type 0} (r s : Read F A) (k l : A → Reader F B) → Below r s → ((a : A) → Under (k a) (l a)) → Below (after r k) (after s l)
+after_below : {F A B : Type 0} (r s : Read F A) (k l : A → Reader F B) → Below r s → ((a : A) → Under (k a) (l a))
+    → Below (after r k) (after s l)
 after_below r s k l (inl e) h = inl (ap (λ z. after z k) e)
 after_below {F} {B = B} (Took a rest) s k l (inr e) h = by_second (k a rest) ((h a).at rest)
   where
@@ -30,11 +31,13 @@ after_below {F} {B = B} (Took a rest) s k l (inr e) h = by_second (k a rest) ((h
 after_below (Refused rest x) s k l (inr e) h = inr (ap (λ y. after y l) e)
 after_below Out s k l (inr e) h = inl refl
 
-pub seq_under : {F A B : Type 0} (f g : Reader F A) (k l : A → Reader F B) → Under f g → ((a : A) → Under (k a) (l a)) → Under (seq f k) (seq g l)
+pub seq_under : {F A B : Type 0} (f g : Reader F A) (k l : A → Reader F B) → Under f g → ((a : A) → Under (k a) (l a))
+    → Under (seq f k) (seq g l)
 unfolding seq
 seq_under f g k l p h = record { at = λ ts. after_below (f ts) (g ts) k l (p.at ts) h }
 
-pub on_under : {F A : Type 0} (test : Test) (k l : Lexeme → Reader F A) (f g : Reader F A) → ((t : Lexeme) → Under (k t) (l t)) → Under f g → Under (on test k f) (on test l g)
+pub on_under : {F A : Type 0} (test : Test) (k l : Lexeme → Reader F A) (f g : Reader F A)
+    → ((t : Lexeme) → Under (k t) (l t)) → Under f g → Under (on test k f) (on test l g)
 unfolding on
 on_under {F} {A} test k l f g h p = record { at = by_list }
   where
@@ -46,24 +49,30 @@ on_under {F} {A} test k l f g h p = record { at = by_list }
     by_list [] = p.at []
     by_list (t ∷ ts) = by_test (passes test t) t ts
 
-pub many_under : {F A : Type 0} (close : Test) (f g : Reader F A) → Under f g → (n m : ℕ) → n ≤ m → Under (many close f n) (many close g m)
+pub many_under : {F A : Type 0} (close : Test) (f g : Reader F A) → Under f g → (n m : ℕ) → n ≤ m
+    → Under (many close f n) (many close g m)
 unfolding many
 many_under close f g p zero m le = record { at = λ ts. inl refl }
 many_under close f g p (suc n) zero le = absurd (omega arith)
 many_under close f g p (suc n) (suc m) le =
-    on_under close _ _ _ _ (λ t. under_refl _) (seq_under f g _ _ p (λ x. seq_under _ _ _ _ (many_under close f g p n m (omega arith)) (λ r. under_refl _)))
+    on_under close _ _ _ _ (λ t. under_refl _)
+    (seq_under f g _ _ p (λ x. seq_under _ _ _ _ (many_under close f g p n m (omega arith)) (λ r. under_refl _)))
 
 pub field_under : {C F : Type 0} (f g : Reader F (Value C)) → Under f g → Under (key_and_value f) (key_and_value g)
 unfolding key_and_value
-field_under f g p = seq_under _ _ _ _ (under_refl _) (λ k. seq_under _ _ _ _ (under_refl _) (λ c. seq_under f g _ _ p (λ v. under_refl _)))
+field_under f g p = seq_under _ _ _ _ (under_refl _) (λ k. seq_under _ _ _ _ (under_refl _)
+    (λ c. seq_under f g _ _ p (λ v. under_refl _)))
 
-pub value_under : {C F : Type 0} (S : Scalars C F) (free : Bool) (n m : ℕ) → n ≤ m → Under (value_at S free n) (value_at S free m)
+pub value_under : {C F : Type 0} (S : Scalars C F) (free : Bool) (n m : ℕ) → n ≤ m
+    → Under (value_at S free n) (value_at S free m)
 unfolding value_at
 value_under S free zero m le = record { at = λ ts. inl refl }
 value_under S free (suc n) zero le = absurd (omega arith)
 value_under S free (suc n) (suc m) le =
-    on_under (of BracketOpen) _ _ _ _ (λ o. seq_under _ _ _ _ (many_under (of BracketClose) _ _ (value_under S free n m (omega arith)) n m (omega arith)) (λ r. under_refl _))
-    (on_under (of CurlyOpen) _ _ _ _ (λ o. seq_under _ _ _ _ (many_under (of CurlyClose) _ _ (field_under _ _ (value_under S free n m (omega arith))) n m (omega arith)) (λ r. under_refl _))
+    on_under (of BracketOpen) _ _ _ _ (λ o. seq_under _ _ _ _ (many_under (of BracketClose) _ _
+    (value_under S free n m (omega arith)) n m (omega arith)) (λ r. under_refl _))
+    (on_under (of CurlyOpen) _ _ _ _ (λ o. seq_under _ _ _ _ (many_under (of CurlyClose) _ _
+    (field_under _ _ (value_under S free n m (omega arith))) n m (omega arith)) (λ r. under_refl _))
     (under_refl _))
 
 -- A reader that answers wherever the fuel exceeds the list.
@@ -72,7 +81,8 @@ pub record Grows {F A : Type 0} (f : ℕ → Reader F A) : Type 0 where
   pub answers : (n : ℕ) (ts : List Lexeme) → length ts < n → f n ts ≡ Out → ⊥
 
 -- A reader that keeps a rule answers where the fuel exceeds the list.
-pub not_out : {F A : Type 0} (n : ℕ) (f g : Reader F A) (R : List Lexeme → A → Type 0) → Rule n f g R → (ts : List Lexeme) → length ts < n → f ts ≡ Out → ⊥
+pub not_out : {F A : Type 0} (n : ℕ) (f g : Reader F A) (R : List Lexeme → A → Type 0) → Rule n f g R
+    → (ts : List Lexeme) → length ts < n → f ts ≡ Out → ⊥
 not_out n f g R r ts le e = by_meets (f ts) e (r.at ts)
   where
     by_meets : (z : Read _ _) → z ≡ Out → Meets n R g ts z → ⊥
@@ -111,18 +121,26 @@ module _ {F A : Type 0} (f : ℕ → Reader F A) (w : Grows f) where
 
 module _ {C F : Type 0} (S : Scalars C F) (free : Bool) where
   pub value_grows : Grows (value_at S free)
-  value_grows = record { under = value_under S free; answers = λ n ts le. not_out n _ _ (IsValue S free) (value_rule S free n n (le_refl n)) ts le }
+  value_grows = record {
+    under = value_under S free;
+    answers = λ n ts le.
+        not_out n _ _ (IsValue S free) (value_rule S free n n (le_refl n)) ts le;
+  }
 
   pub items_grow : Grows (items_at S free)
   items_grow = record {
     under = λ n m le. many_under (of BracketClose) _ _ (value_under S free n m le) n m le;
-    answers = λ n ts le. not_out n _ _ (Closed (of BracketClose) (IsValue S free)) (many_rule (of BracketClose) (sample BracketClose) refl (inl refl) (IsValue S free) (value_takes S free) _ _ n n n (le_refl n) (le_refl n) (value_rule S free n n (le_refl n))) ts le;
+    answers = λ n ts le. not_out n _ _ (Closed (of BracketClose) (IsValue S free))
+        (many_rule (of BracketClose) (sample BracketClose) refl (inl refl) (IsValue S free) (value_takes S free) _ _ n n
+        n (le_refl n) (le_refl n) (value_rule S free n n (le_refl n))) ts le;
   }
 
   pub fields_grow : Grows (fields_at S free)
   fields_grow = record {
     under = λ n m le. many_under (of CurlyClose) _ _ (field_under _ _ (value_under S free n m le)) n m le;
-    answers = λ n ts le. not_out n _ _ (Closed (of CurlyClose) (IsField S free)) (many_rule (of CurlyClose) (sample CurlyClose) refl (inl refl) (IsField S free) (field_takes S free) _ _ n n n (le_refl n) (le_refl n) (field_rule S free n _ _ (value_rule S free n n (le_refl n)))) ts le;
+    answers = λ n ts le. not_out n _ _ (Closed (of CurlyClose) (IsField S free))
+        (many_rule (of CurlyClose) (sample CurlyClose) refl (inl refl) (IsField S free) (field_takes S free) _ _ n n n
+        (le_refl n) (le_refl n) (field_rule S free n _ _ (value_rule S free n n (le_refl n)))) ts le;
   }
 
   abbrev pub value_body : Reader F (Value C)
@@ -136,8 +154,10 @@ module _ {C F : Type 0} (S : Scalars C F) (free : Bool) where
   pub value_steps : (ts : List Lexeme) → value_of S free ts ≡ value_body ts
   unfolding value_at
   value_steps ts = steps (value_at S free) value_grows value_body ts
-      ((on_under (of BracketOpen) _ _ _ _ (λ o. seq_under _ _ _ _ (settled (items_at S free) items_grow (length ts)) (λ r. under_refl _))
-      (on_under (of CurlyOpen) _ _ _ _ (λ o. seq_under _ _ _ _ (settled (fields_at S free) fields_grow (length ts)) (λ r. under_refl _)) (under_refl _))).at ts)
+      ((on_under (of BracketOpen) _ _ _ _ (λ o. seq_under _ _ _ _ (settled (items_at S free) items_grow (length ts))
+      (λ r. under_refl _))
+      (on_under (of CurlyOpen) _ _ _ _ (λ o. seq_under _ _ _ _ (settled (fields_at S free) fields_grow (length ts))
+      (λ r. under_refl _)) (under_refl _))).at ts)
 
   below_trans : {A : Type 0} (a b c : Read F A) → Below a b → Below b c → Below a c
   below_trans a b c (inl e) q = inl e
@@ -148,21 +168,27 @@ module _ {C F : Type 0} (S : Scalars C F) (free : Bool) where
   under_trans f g h p q = record { at = λ ts. below_trans (f ts) (g ts) (h ts) (p.at ts) (q.at ts) }
 
   abbrev pub items_body : Reader F (List (Value C) × Lexeme)
-  items_body = on (of BracketClose) (λ t. done ([], t)) (seq (value_of S free) (λ x. seq (fully (items_at S free)) (λ r. done (x ∷ r.0, r.1))))
+  items_body = on (of BracketClose) (λ t. done ([], t)) (seq (value_of S free)
+      (λ x. seq (fully (items_at S free)) (λ r. done (x ∷ r.0, r.1))))
 
   pub items_step : (ts : List Lexeme) → fully (items_at S free) ts ≡ items_body ts
   unfolding many
   items_step ts = steps (items_at S free) items_grow items_body ts
       ((on_under (of BracketClose) _ _ _ _ (λ t. under_refl _)
       (seq_under _ _ _ _ (settled (value_at S free) value_grows (suc (length ts)))
-      (λ x. seq_under _ _ _ _ (under_trans _ _ _ (many_under (of BracketClose) _ _ (under_refl (value_at S free (suc (length ts)))) (length ts) (suc (length ts)) (omega arith)) (settled (items_at S free) items_grow (suc (length ts)))) (λ r. under_refl _)))).at ts)
+      (λ x. seq_under _ _ _ _ (under_trans _ _ _ (many_under (of BracketClose) _ _
+      (under_refl (value_at S free (suc (length ts)))) (length ts) (suc (length ts)) (omega arith))
+      (settled (items_at S free) items_grow (suc (length ts)))) (λ r. under_refl _)))).at ts)
 
   abbrev pub fields_body : Reader F (List (Word × Value C) × Lexeme)
-  fields_body = on (of CurlyClose) (λ t. done ([], t)) (seq (key_and_value (value_of S free)) (λ x. seq (fully (fields_at S free)) (λ r. done (x ∷ r.0, r.1))))
+  fields_body = on (of CurlyClose) (λ t. done ([], t)) (seq (key_and_value (value_of S free))
+      (λ x. seq (fully (fields_at S free)) (λ r. done (x ∷ r.0, r.1))))
 
   pub fields_step : (ts : List Lexeme) → fully (fields_at S free) ts ≡ fields_body ts
   unfolding many
   fields_step ts = steps (fields_at S free) fields_grow fields_body ts
       ((on_under (of CurlyClose) _ _ _ _ (λ t. under_refl _)
       (seq_under _ _ _ _ (field_under _ _ (settled (value_at S free) value_grows (suc (length ts))))
-      (λ x. seq_under _ _ _ _ (under_trans _ _ _ (many_under (of CurlyClose) _ _ (under_refl (key_and_value (value_at S free (suc (length ts))))) (length ts) (suc (length ts)) (omega arith)) (settled (fields_at S free) fields_grow (suc (length ts)))) (λ r. under_refl _)))).at ts)
+      (λ x. seq_under _ _ _ _ (under_trans _ _ _ (many_under (of CurlyClose) _ _
+      (under_refl (key_and_value (value_at S free (suc (length ts))))) (length ts) (suc (length ts)) (omega arith))
+      (settled (fields_at S free) fields_grow (suc (length ts)))) (λ r. under_refl _)))).at ts)

@@ -22,8 +22,10 @@ use Rattle.graphql_grammar.proofs.Named.{refused_at, drop_next}
 use Rattle.graphql_grammar.proofs.Spelling.{sample_spelled}
 use Rattle.graphql_grammar.proofs.DocumentFound.{type_covers}
 
-module _ {F A : Type 0} (f : ℕ → Reader F A) (R : List Lexeme → A → Type 0) (r : Reads f R) (Refuses : ℕ → Lexeme → Fault F → Type 0) (ts : List Lexeme) (ends : EndsOnce ts)
-    (refused : (rest : List Lexeme) (t : Lexeme) (e : Fault F) → f (suc (length ts)) ts ≡ Refused (t ∷ rest) e → (i : ℕ) × (rest ≡ drop (suc i) ts) × Refuses i t e) where
+module _ {F A : Type 0} (f : ℕ → Reader F A) (R : List Lexeme → A → Type 0) (r : Reads f R)
+    (Refuses : ℕ → Lexeme → Fault F → Type 0) (ts : List Lexeme) (ends : EndsOnce ts)
+    (refused : (rest : List Lexeme) (t : Lexeme) (e : Fault F) → f (suc (length ts)) ts ≡ Refused (t ∷ rest) e
+    → (i : ℕ) × (rest ≡ drop (suc i) ts) × Refuses i t e) where
   n : ℕ
   n = suc (length ts)
 
@@ -58,21 +60,28 @@ module _ {F A : Type 0} (f : ℕ → Reader F A) (R : List Lexeme → A → Type
   ended_has (t ∷ us) end e h = ended_has us end e h.1
 
   module _ (inner : (us : List Lexeme) (a : A) → R us a → NoEnd us)
-      (covers : (us vs : List Lexeme) (b : A) → R us b → (m : ℕ) → length (us ++ vs) < m → (a : A) × (more rest : List Lexeme) × (f m (us ++ vs) ≡ Took a rest) × (vs ≡ more ++ rest)) where
-    covered : (us vs : List Lexeme) (b : A) → ts ≡ us ++ vs → R us b → (a : A) × (more rest : List Lexeme) × (f n ts ≡ Took a rest) × (vs ≡ more ++ rest)
+      (covers : (us vs : List Lexeme) (b : A) → R us b → (m : ℕ) → length (us ++ vs) < m
+      → (a : A) × (more rest : List Lexeme) × (f m (us ++ vs) ≡ Took a rest) × (vs ≡ more ++ rest)) where
+    covered : (us vs : List Lexeme) (b : A) → ts ≡ us ++ vs → R us b
+        → (a : A) × (more rest : List Lexeme) × (f n ts ≡ Took a rest) × (vs ≡ more ++ rest)
     unfolding n
-    covered us vs b e h = let c = covers us vs b h (suc (length ts)) (rw e (omega arith)) in (c.0, c.1, c.2, ap (f (suc (length ts))) e ∙ c.3, c.4)
+    covered us vs b e h = let c = covers us vs b h (suc (length ts)) (rw e (omega arith)) in
+        (c.0, c.1, c.2, ap (f (suc (length ts))) e ∙ c.3, c.4)
 
-    longest : (front rest us vs : List Lexeme) (a b : A) → f n ts ≡ Took a rest → ts ≡ front ++ rest → ts ≡ us ++ vs → R us b → length us ≤ length front
+    longest : (front rest us vs : List Lexeme) (a b : A) → f n ts ≡ Took a rest → ts ≡ front ++ rest → ts ≡ us ++ vs
+        → R us b → length us ≤ length front
     longest front rest us vs a b e p q h =
         let c = covered us vs b q h in
         let both : Took a rest ≡ Took c.0 c.2 = sym e ∙ c.3 in
         let same : rest ≡ c.2 = cc in
-        let whole : front ++ c.2 ≡ (us ++ c.1) ++ c.2 = ap (λ l. front ++ l) (sym same) ∙ sym p ∙ q ∙ ap (λ l. us ++ l) c.4 ∙ sym (append_assoc us c.1 c.2) in
-        let l : length front ≡ length us + length c.1 = ap length (append_cancel_right front (us ++ c.1) c.2 whole) ∙ length-append us c.1 in
+        let whole : front ++ c.2 ≡ (us ++ c.1) ++ c.2 = ap (λ l. front ++ l) (sym same) ∙ sym p ∙ q
+        ∙ ap (λ l. us ++ l) c.4 ∙ sym (append_assoc us c.1 c.2) in
+        let l : length front ≡ length us + length c.1 = ap length (append_cancel_right front (us ++ c.1) c.2 whole)
+        ∙ length-append us c.1 in
         omega arith
 
-    none : (t : Lexeme) (rest us vs : List Lexeme) (x : Fault F) (b : A) → f n ts ≡ Refused (t ∷ rest) x → ts ≡ us ++ vs → R us b → ⊥
+    none : (t : Lexeme) (rest us vs : List Lexeme) (x : Fault F) (b : A) → f n ts ≡ Refused (t ∷ rest) x → ts ≡ us ++ vs
+        → R us b → ⊥
     none t rest us vs x b e q h = let c = covered us vs b q h in let both = sym e ∙ c.3 in absurd (cc both)
 
     by_front : (z : Read F A) → f n ts ≡ z → Meets n R (f n) ts z → GivesFront R Refuses ts z
@@ -80,7 +89,8 @@ module _ {F A : Type 0} (f : ℕ → Reader F A) (R : List Lexeme → A → Type
     by_front (Took a rest) e (us, p, h, s) = (us, p, h, λ vs ws b q k. longest us rest vs ws a b e p q k)
     by_front (Refused [] x) e (us, p, (more, a, h, w), s, y) =
         let q : us ≡ ends.inner ++ (ends.end ∷ []) = sym (append-nil us) ∙ sym p ∙ ends.whole in
-        absurd (ended_has ends.inner ends.end ends.is_end (subst NoEnd q (all_front (λ (t : Lexeme). t.kind ≡ EndOfFile → ⊥) us more (inner (us ++ more) a h))))
+        absurd (ended_has ends.inner ends.end ends.is_end
+        (subst NoEnd q (all_front (λ (t : Lexeme). t.kind ≡ EndOfFile → ⊥) us more (inner (us ++ more) a h))))
     by_front (Refused (t ∷ rest) x) e m = ((λ us vs b q h. none t rest us vs x b e q h), refused rest t x e)
     by_front Out e m = absurd (never_out e)
 
@@ -92,14 +102,27 @@ any_allowed : (ts : List Lexeme) → AllByRecursion AnyToken ts
 any_allowed ts = all_each AnyToken (λ t. tt) ts
 
 module _ {C F : Type 0} (S : Scalars C F) where
-  pub document_given : (ts : List Lexeme) → AllByRecursion IsSpelled ts → EndsOnce ts → GivesWhole (IsDocument S) (DocumentRefusedAt S ts) ts (fully (document S) ts)
-  document_given ts spelled ends = whole_given (document S) (IsDocument S) (document_reads S) (DocumentRefusedAt S ts) ts ends
-      (λ rest t e. refused_at S (document S) (IsDocument S) (document_reads S) true (document_tells S) IsSpelled sample_spelled (suc (length ts)) ts rest t e spelled) (document_ends S)
+  pub document_given : (ts : List Lexeme) → AllByRecursion IsSpelled ts → EndsOnce ts
+      → GivesWhole (IsDocument S) (DocumentRefusedAt S ts) ts (fully (document S) ts)
+  document_given ts spelled ends = whole_given (document S) (IsDocument S) (document_reads S) (DocumentRefusedAt S ts)
+      ts ends
+      (λ rest t e. refused_at S (document S) (IsDocument S) (document_reads S) true (document_tells S) IsSpelled
+      sample_spelled (suc (length ts)) ts rest t e spelled) (document_ends S)
 
-  pub value_given : (free : Bool) (ts : List Lexeme) → EndsOnce ts → GivesFront (IsValue S free) (ValueRefusedAt S free ts) ts (value_of S free ts)
-  value_given free ts ends = front_given (value_at S free) (IsValue S free) (value_reads S free) (ValueRefusedAt S free ts) ts ends
-      (λ rest t e. refused_at S (value_at S free) (IsValue S free) (value_reads S free) true (value_tells S free) AnyToken (λ u h. tt) (suc (length ts)) ts rest t e (any_allowed ts))
-      (values S free) (λ us vs v h m le. (v, [], vs, value_found S free m us vs v (let l = length-append us vs in omega (arith, l)) h, refl))
+  pub value_given : (free : Bool) (ts : List Lexeme) → EndsOnce ts
+      → GivesFront (IsValue S free) (ValueRefusedAt S free ts) ts (value_of S free ts)
+  value_given free ts ends = front_given (value_at S free) (IsValue S free) (value_reads S free)
+      (ValueRefusedAt S free ts) ts ends
+      (λ rest t e. refused_at S (value_at S free) (IsValue S free) (value_reads S free) true (value_tells S free)
+      AnyToken (λ u h. tt) (suc (length ts)) ts rest t e (any_allowed ts))
+      (values S free) (λ us vs v h m le. (
+        v,
+        [],
+        vs,
+        value_found S free m us vs v
+            (let l = length-append us vs in omega (arith, l)) h,
+        refl,
+      ))
 
 -- ---- types
 
@@ -108,18 +131,29 @@ module _ (F : Type 0) where
   every_scalar : Scalars (Unit {0}) F
   every_scalar = record { read = λ kind text. Ok tt; of_bool = λ b. tt }
 
-  type_error : (t : Lexeme) (b : Bool) → of EndOfFile t.kind t.text ≡ b → TypeError {F = F} t (cond b UnexpectedEndOfFile (UnexpectedToken t.kind t.text))
+  type_error : (t : Lexeme) (b : Bool) → of EndOfFile t.kind t.text ≡ b
+      → TypeError {F = F} t (cond b UnexpectedEndOfFile (UnexpectedToken t.kind t.text))
   type_error t true e = of_kind EndOfFile t e
-  type_error t false e = (refl, refl, λ k. let same : of EndOfFile t.kind t.text ≡ true = ap (λ (z : Kind). of EndOfFile z t.text) k in absurd (cc (sym e ∙ same)))
+  type_error t false e = (
+    refl,
+    refl,
+    λ k. let same : of EndOfFile t.kind t.text
+        ≡ true = ap (λ (z : Kind). of EndOfFile z t.text) k in absurd (cc (sym e ∙ same)),
+  )
 
-  type_refused : (ts rest : List Lexeme) (t : Lexeme) (e : Fault F) → type_at (suc (length ts)) ts ≡ Refused (t ∷ rest) e → (i : ℕ) × (rest ≡ drop (suc i) ts) × TypeRefusedAt ts i t e
+  type_refused : (ts rest : List Lexeme) (t : Lexeme) (e : Fault F)
+      → type_at (suc (length ts)) ts ≡ Refused (t ∷ rest) e
+      → (i : ℕ) × (rest ≡ drop (suc i) ts) × TypeRefusedAt ts i t e
   unfolding every_scalar fault_of
-  type_refused ts rest t e p = by_tell (subst (λ z. TellsFault every_scalar false (type_at (suc (length ts))) ts z) p ((type_tells every_scalar (suc (length ts))).at ts))
+  type_refused ts rest t e p = by_tell (subst (λ z. TellsFault every_scalar false (type_at (suc (length ts))) ts z) p
+      ((type_tells every_scalar (suc (length ts))).at ts))
     where
-      by_tell : TellsFault every_scalar false (type_at (suc (length ts))) ts (Refused (t ∷ rest) e) → (i : ℕ) × (rest ≡ drop (suc i) ts) × TypeRefusedAt ts i t e
+      by_tell : TellsFault every_scalar false (type_at (suc (length ts))) ts (Refused (t ∷ rest) e)
+          → (i : ℕ) × (rest ≡ drop (suc i) ts) × TypeRefusedAt ts i t e
       by_tell (us, q, inl (y, x, s, d)) = absurd (cc d)
       by_tell (us, q, inr o) =
-          let a = at_fault (type_at {F = F}) IsType (type_reads F) AnyToken (λ u h. tt) (suc (length ts)) ts rest t e (any_allowed ts) p in (
+          let a = at_fault (type_at {F = F}) IsType (type_reads F) AnyToken (λ u h. tt) (suc (length ts)) ts rest t e
+          (any_allowed ts) p in (
             length a.0,
             sym (ap (drop (suc (length a.0))) a.1 ∙ drop_next a.0 rest t),
             record {
@@ -132,5 +166,7 @@ module _ (F : Type 0) where
             },
           )
 
-  pub type_given : (ts : List Lexeme) → EndsOnce ts → GivesFront IsType (TypeRefusedAt ts) ts (fully (type_at {F = F}) ts)
-  type_given ts ends = front_given (type_at {F = F}) IsType (type_reads F) (TypeRefusedAt ts) ts ends (type_refused ts) types (λ us vs x h n le. type_covers us vs x h n le)
+  pub type_given : (ts : List Lexeme) → EndsOnce ts
+      → GivesFront IsType (TypeRefusedAt ts) ts (fully (type_at {F = F}) ts)
+  type_given ts ends = front_given (type_at {F = F}) IsType (type_reads F) (TypeRefusedAt ts) ts ends (type_refused ts)
+      types (λ us vs x h n le. type_covers us vs x h n le)

@@ -17,7 +17,8 @@ use Rattle.graphql_grammar.proofs.ScalarFaults.{TellsFault, TellsFaults, NoValue
 use Rattle.std.specs.List.{AllByRecursion}
 use Rattle.graphql_grammar.proofs.Alike.{alike_sym, alike_join}
 
-not_scalar_error : {F : Type 0} (b : Bool) (t : Lexeme) (y : F) → cond b UnexpectedEndOfFile (UnexpectedToken t.kind t.text) ≡ ScalarError y → ⊥
+not_scalar_error : {F : Type 0} (b : Bool) (t : Lexeme) (y : F)
+    → cond b UnexpectedEndOfFile (UnexpectedToken t.kind t.text) ≡ ScalarError y → ⊥
 not_scalar_error true t y e = absurd (cc e)
 not_scalar_error false t y e = absurd (cc e)
 
@@ -25,34 +26,49 @@ pub drop_next : (us rest : List Lexeme) (t : Lexeme) → drop (suc (length us)) 
 drop_next [] rest t = refl
 drop_next (u ∷ us) rest t = drop_next us rest t
 
-module _ {C F A : Type 0} (S : Scalars C F) (f : ℕ → Reader F A) (R : List Lexeme → A → Type 0) (r : Reads f R) (strict : Bool) (tells : (n : ℕ) → TellsFaults S strict (f n)) (Allowed : Lexeme → Type 0) (fills : (t : Lexeme) → IsSample t → Allowed t) where
+module _ {C F A : Type 0} (S : Scalars C F) (f : ℕ → Reader F A) (R : List Lexeme → A → Type 0) (r : Reads f R)
+    (strict : Bool) (tells : (n : ℕ) → TellsFaults S strict (f n)) (Allowed : Lexeme → Type 0)
+    (fills : (t : Lexeme) → IsSample t → Allowed t) where
   -- What begins so is read to its end, with enough fuel.
-  begun : (us : List Lexeme) (w : Lexeme) → Begins Allowed R (us ++ (w ∷ [])) → (N : ℕ) × (more : List Lexeme) × ((m : ℕ) → N ≤ m → (b : A) × (f m (us ++ (w ∷ more)) ≡ Took b []))
-  begun us w (vs, more, a, h, k, al) = (suc (length (vs ++ more)), more, λ m le. by_agrees m (subst (λ z. Meets m R (f m) (vs ++ more) z) (r.finds m (vs ++ more) a (omega arith) k) ((r.keeps m m (le_refl m)).at (vs ++ more))))
+  begun : (us : List Lexeme) (w : Lexeme) → Begins Allowed R (us ++ (w ∷ []))
+      → (N : ℕ) × (more : List Lexeme) × ((m : ℕ) → N ≤ m → (b : A) × (f m (us ++ (w ∷ more)) ≡ Took b []))
+  begun us w (vs, more, a, h, k, al) = (
+    suc (length (vs ++ more)),
+    more,
+    λ m le. by_agrees m (subst (λ z. Meets m R (f m) (vs ++ more) z) (r.finds m (vs ++ more) a (omega arith) k)
+        ((r.keeps m m (le_refl m)).at (vs ++ more))),
+  )
     where
       by_agrees : (m : ℕ) → Meets m R (f m) (vs ++ more) (Took a []) → (b : A) × (f m (us ++ (w ∷ more)) ≡ Took b [])
       by_agrees m (ws, e, g, agrees) =
           let same : vs ++ more ≡ ws = e ∙ append-nil ws in
-          let alike : AllAlike (vs ++ more) ((us ++ (w ∷ [])) ++ more) = alike_join vs (us ++ (w ∷ [])) more more (alike_sym (us ++ (w ∷ [])) vs h) (AllAlike_refl more) in
-          let z = agrees ((us ++ (w ∷ [])) ++ more) [] (subst (λ l. AllAlike l ((us ++ (w ∷ [])) ++ more)) same alike) tt in
+          let alike : AllAlike (vs ++ more) ((us ++ (w ∷ [])) ++ more) =
+          alike_join vs (us ++ (w ∷ [])) more more (alike_sym (us ++ (w ∷ [])) vs h) (AllAlike_refl more) in
+          let z = agrees ((us ++ (w ∷ [])) ++ more) [] (subst (λ l. AllAlike l ((us ++ (w ∷ [])) ++ more)) same alike)
+          tt in
           (z.0, ap (f m) (sym (append-nil ((us ++ (w ∷ [])) ++ more) ∙ append_assoc us (w ∷ []) more)) ∙ z.1)
 
   -- A scalar token that is refused as a token stands where no value may.
-  no_value : (n : ℕ) (ts us rest : List Lexeme) (t : Lexeme) (e : Fault F) → f n ts ≡ Refused (t ∷ rest) e → ts ≡ us ++ (t ∷ rest) → e ≡ fault_of t.kind t.text → IsScalarKind t.kind → ValueMayStand Allowed R us → ⊥
+  no_value : (n : ℕ) (ts us rest : List Lexeme) (t : Lexeme) (e : Fault F) → f n ts ≡ Refused (t ∷ rest) e
+      → ts ≡ us ++ (t ∷ rest) → e ≡ fault_of t.kind t.text → IsScalarKind t.kind → ValueMayStand Allowed R us → ⊥
   unfolding fault_of
-  no_value n ts us rest t e p q xe s v = by_tell (subst (λ z. TellsFault S strict (f m) (us ++ (t ∷ rest)) z) refused ((tells m).at (us ++ (t ∷ rest))))
+  no_value n ts us rest t e p q xe s v = by_tell (subst (λ z. TellsFault S strict (f m) (us ++ (t ∷ rest)) z) refused
+      ((tells m).at (us ++ (t ∷ rest))))
     where
-      b1 : (N : ℕ) × (more : List Lexeme) × ((m : ℕ) → N ≤ m → (b : A) × (f m (us ++ (sample BracketOpen ∷ more)) ≡ Took b []))
+      b1 : (N : ℕ) × (more : List Lexeme) × ((m : ℕ) → N ≤ m → (b : A)
+          × (f m (us ++ (sample BracketOpen ∷ more)) ≡ Took b []))
       b1 = begun us (sample BracketOpen) v.bracket
 
-      b2 : (N : ℕ) × (more : List Lexeme) × ((m : ℕ) → N ≤ m → (b : A) × (f m (us ++ (sample CurlyOpen ∷ more)) ≡ Took b []))
+      b2 : (N : ℕ) × (more : List Lexeme) × ((m : ℕ) → N ≤ m → (b : A)
+          × (f m (us ++ (sample CurlyOpen ∷ more)) ≡ Took b []))
       b2 = begun us (sample CurlyOpen) v.curly
 
       m : ℕ
       m = n + (b1.0 + b2.0)
 
       refused : f m (us ++ (t ∷ rest)) ≡ Refused (t ∷ rest) e
-      refused = fails_all f R r n m (omega arith) ts us rest t e p q us (t ∷ rest) (AllAlike_refl us) (SameHead_refl (t ∷ rest))
+      refused = fails_all f R r n m (omega arith) ts us rest t e p q us (t ∷ rest) (AllAlike_refl us)
+          (SameHead_refl (t ∷ rest))
 
       by_no_value : (vs : List Lexeme) → vs ≡ us → NoValueBehind strict (f m) vs → ⊥
       by_no_value vs h (inl g) =
@@ -71,25 +87,37 @@ module _ {C F A : Type 0} (S : Scalars C F) (f : ℕ → Reader F A) (R : List L
       by_tell (vs, h, inr o) = by_no_value vs (append_cancel_right vs us (t ∷ rest) (sym h)) (o.1 s)
 
   -- The reader's fault is the one of the definition.
-  names : (n : ℕ) (ts rest : List Lexeme) (t : Lexeme) (e : Fault F) → AllByRecursion Allowed ts → f n ts ≡ Refused (t ∷ rest) e → (us : List Lexeme) × (ts ≡ us ++ (t ∷ rest)) × NamedError Allowed S R us t e
+  names : (n : ℕ) (ts rest : List Lexeme) (t : Lexeme) (e : Fault F) → AllByRecursion Allowed ts
+      → f n ts ≡ Refused (t ∷ rest) e → (us : List Lexeme) × (ts ≡ us ++ (t ∷ rest)) × NamedError Allowed S R us t e
   unfolding fault_of
   names n ts rest t e al p = by_tell (subst (λ z. TellsFault S strict (f n) ts z) p ((tells n).at ts))
     where
-      by_fault : (us : List Lexeme) (b : Bool) → ts ≡ us ++ (t ∷ rest) → of EndOfFile t.kind t.text ≡ b → e ≡ cond b UnexpectedEndOfFile (UnexpectedToken t.kind t.text) → e ≡ fault_of t.kind t.text → NamedError Allowed S R us t e
+      by_fault : (us : List Lexeme) (b : Bool) → ts ≡ us ++ (t ∷ rest) → of EndOfFile t.kind t.text ≡ b
+          → e ≡ cond b UnexpectedEndOfFile (UnexpectedToken t.kind t.text) → e ≡ fault_of t.kind t.text
+          → NamedError Allowed S R us t e
       by_fault us true q h x xe = rw x (of_kind EndOfFile t h)
-      by_fault us false q h x xe = rw x (refl, refl, (λ c. absurd (cc (sym h ∙ ap (λ (k : Kind). of EndOfFile k t.text) c))), λ s i v. no_value n ts us rest t e p q xe s v)
+      by_fault us false q h x xe = rw x (
+        refl,
+        refl,
+        (λ c. absurd
+            (cc (sym h ∙ ap (λ (k : Kind). of EndOfFile k t.text) c))),
+        λ s i v. no_value n ts us rest t e p q xe s v,
+      )
 
       by_scalar_fault : (us : List Lexeme) → ts ≡ us ++ (t ∷ rest) → IsScalarFault S t e → NamedError Allowed S R us t e
       by_scalar_fault us q (y, x, s, d) =
-          let w = value_stands f R r Allowed fills n ts rest t y al (p ∙ ap (λ (z : Fault F). Refused (t ∷ rest) z) x) in
+          let w = value_stands f R r Allowed fills n ts rest t y al
+          (p ∙ ap (λ (z : Fault F). Refused (t ∷ rest) z) x) in
           rw x (s, d, subst (λ z. ValueMayStand Allowed R z) (append_cancel_right w.0 us (t ∷ rest) (sym w.1 ∙ q)) w.2)
 
-      by_tell : TellsFault S strict (f n) ts (Refused (t ∷ rest) e) → (us : List Lexeme) × (ts ≡ us ++ (t ∷ rest)) × NamedError Allowed S R us t e
+      by_tell : TellsFault S strict (f n) ts (Refused (t ∷ rest) e)
+          → (us : List Lexeme) × (ts ≡ us ++ (t ∷ rest)) × NamedError Allowed S R us t e
       by_tell (us, q, inl o) = (us, q, by_scalar_fault us q o)
       by_tell (us, q, inr o) = (us, q, by_fault us (of EndOfFile t.kind t.text) q refl o.0 o.0)
 
   -- Where the reader refuses, the definitions do.
-  pub refused_at : (n : ℕ) (ts rest : List Lexeme) (t : Lexeme) (e : Fault F) → AllByRecursion Allowed ts → f n ts ≡ Refused (t ∷ rest) e
+  pub refused_at : (n : ℕ) (ts rest : List Lexeme) (t : Lexeme) (e : Fault F) → AllByRecursion Allowed ts
+      → f n ts ≡ Refused (t ∷ rest) e
       → (i : ℕ) × (rest ≡ drop (suc i) ts) × RefusedAt Allowed R (NamedError Allowed S R) ts i t e
   refused_at n ts rest t e al p =
       let a = at_fault f R r Allowed fills n ts rest t e al p in
@@ -102,6 +130,7 @@ module _ {C F A : Type 0} (S : Scalars C F) (f : ℕ → Reader F A) (R : List L
           whole = a.1;
           number = refl;
           fault = a.2;
-          named = subst (λ z. NamedError Allowed S R z t e) (append_cancel_right w.0 a.0 (t ∷ rest) (sym w.1 ∙ a.1)) w.2;
+          named = subst (λ z. NamedError Allowed S R z t e) (append_cancel_right w.0 a.0 (t ∷ rest) (sym w.1 ∙ a.1))
+              w.2;
         },
       )

@@ -24,29 +24,31 @@ module _ {C F : Type 0} (S T : Scalars C F) (truths : S.of_bool ≡ T.of_bool) w
 
   -- ---- parts in a row
 
-  module _ {A : Type 0} (R Q : List Lexeme → A → Type 0) (f : (us : List Lexeme) (x : A) → Also us → R us x → Q us x) where
-    each : (ts : List Lexeme) (xs : List A) → Also ts → Each R ts xs → Each Q ts xs
-    each ts [] a h = h
-    each ts (x ∷ xs) a (us, vs, e, h, k) =
-        let b = subst Also e a in
-        (us, vs, e, f us x (front us vs b) h, each vs xs (back us vs b) k)
+  module _ {A : Type 0} (R Q : List Lexeme → A → Type 0) (f : (us : List Lexeme) (x : A) → Also us → R us x → Q us x)
+    where
+      each : (ts : List Lexeme) (xs : List A) → Also ts → Each R ts xs → Each Q ts xs
+      each ts [] a h = h
+      each ts (x ∷ xs) a (us, vs, e, h, k) =
+          let b = subst Also e a in
+          (us, vs, e, f us x (front us vs b) h, each vs xs (back us vs b) k)
 
-    optional : (ts : List Lexeme) (x : Option A) → Also ts → Optional R ts x → Optional Q ts x
-    optional ts None a h = h
-    optional ts (Some x) a h = f ts x a h
+      optional : (ts : List Lexeme) (x : Option A) → Also ts → Optional R ts x → Optional Q ts x
+      optional ts None a h = h
+      optional ts (Some x) a h = f ts x a h
 
-    listed : (opening closing : Kind) (ts : List Lexeme) (xs : List A) → Also ts → Listed opening closing R ts xs → Listed opening closing Q ts xs
-    listed opening closing ts [] a h = h
-    listed opening closing ts (x ∷ xs) a h =
-        record {
-          first = h.first;
-          last = h.last;
-          inner = h.inner;
-          whole = h.whole;
-          opens = h.opens;
-          closes = h.closes;
-          parts = each h.inner (x ∷ xs) (inside ts h.inner h.first h.last h.whole a) h.parts;
-        }
+      listed : (opening closing : Kind) (ts : List Lexeme) (xs : List A) → Also ts → Listed opening closing R ts xs
+          → Listed opening closing Q ts xs
+      listed opening closing ts [] a h = h
+      listed opening closing ts (x ∷ xs) a h =
+          record {
+            first = h.first;
+            last = h.last;
+            inner = h.inner;
+            whole = h.whole;
+            opens = h.opens;
+            closes = h.closes;
+            parts = each h.inner (x ∷ xs) (inside ts h.inner h.first h.last h.whole a) h.parts;
+          }
 
   -- ---- values
 
@@ -73,7 +75,8 @@ module _ {C F : Type 0} (S T : Scalars C F) (truths : S.of_bool ≡ T.of_bool) w
         let b = subst Also e a in
         (us, ws, e, values free us v (front us ws b) h, items free ws vs (back us ws b) k)
 
-    fields : (free : Bool) (ts : List Lexeme) (fs : ObjectFields C) → Also ts → AreFields S free ts fs → AreFields T free ts fs
+    fields : (free : Bool) (ts : List Lexeme) (fs : ObjectFields C) → Also ts → AreFields S free ts fs
+        → AreFields T free ts fs
     fields free ts no_fields a h = h
     fields free ts (object_field w p v fs) a (key, colon, us, ws, e, h1, h2, h3, h4, h, k) =
         let b = (subst Also e a).1.1 in
@@ -120,7 +123,8 @@ module _ {C F : Type 0} (S T : Scalars C F) (truths : S.of_bool ≡ T.of_bool) w
   default : (ts : List Lexeme) (v : Value C) → Also ts → IsDefault S ts v → IsDefault T ts v
   default ts v a (equals, us, e, k, h) = (equals, us, e, k, values false us v (subst Also e a).1 h)
 
-  variable : (ts : List Lexeme) (v : VariableDefinition C) → Also ts → IsVariableDefinition S ts v → IsVariableDefinition T ts v
+  variable : (ts : List Lexeme) (v : VariableDefinition C) → Also ts → IsVariableDefinition S ts v
+      → IsVariableDefinition T ts v
   variable ts v a h =
       let b = back h.of_type (h.default ++ h.directives) (subst Also h.whole a).1.1.1 in
       let default_also = front h.default h.directives b in
@@ -162,7 +166,8 @@ module _ {C F : Type 0} (S T : Scalars C F) (truths : S.of_bool ≡ T.of_bool) w
         let c = back u1 (u2 ++ u3) (subst Also e a).1 in
         (t, u1, u2, u3, e, k, i, directives u2 ds (front u2 u3 c) h, selection_set u3 ss (back u2 u3 c) b, q)
 
-    may_select : (ts : List Lexeme) (ss : OptionalSelections C) → Also ts → IsOptionalSelectionSet S ts ss → IsOptionalSelectionSet T ts ss
+    may_select : (ts : List Lexeme) (ss : OptionalSelections C) → Also ts → IsOptionalSelectionSet S ts ss
+        → IsOptionalSelectionSet T ts ss
     may_select ts absent a h = h
     may_select ts (present ss) a h = selection_set ts ss a h
 
@@ -182,7 +187,8 @@ module _ {C F : Type 0} (S T : Scalars C F) (truths : S.of_bool ≡ T.of_bool) w
   -- ---- documents
 
   definition : (ts : List Lexeme) (d : Definition C) → Also ts → IsDefinition S ts d → IsDefinition T ts d
-  definition ts (Operation kind name vars ds ss p) a (q, inl (h, i, j, k, l)) = (q, inl (selection_set ts ss a h, i, j, k, l))
+  definition ts (Operation kind name vars ds ss p) a (q, inl (h, i, j, k, l)) =
+      (q, inl (selection_set ts ss a h, i, j, k, l))
   definition ts (Operation kind name vars ds ss p) a (q, inr (t, u1, u2, u3, u4, e, s, h1, h2, h3, h4)) =
       let b = back u1 (u2 ++ (u3 ++ u4)) (subst Also e a).1 in
       let c = back u2 (u3 ++ u4) b in
@@ -193,7 +199,14 @@ module _ {C F : Type 0} (S T : Scalars C F) (truths : S.of_bool ≡ T.of_bool) w
       let c = back u2 (u3 ++ u4) (back u1 (u2 ++ (u3 ++ u4)) (subst Also e a).1) in
       (t, u1, u2, u3, u4, e, s, w, i, directives u3 ds (front u3 u4 c) h3, selection_set u4 ss (back u3 u4 c) h4, q)
 
-  pub document : (ts : List Lexeme) (ds : List (Definition C)) → AllByRecursion (IsReadAlso S T) ts → IsDocument S ts ds → IsDocument T ts ds
+  pub document : (ts : List Lexeme) (ds : List (Definition C)) → AllByRecursion (IsReadAlso S T) ts → IsDocument S ts ds
+      → IsDocument T ts ds
   document ts [] a h = h
-  document ts (d ∷ ds) a (us, end, e, k, h) =
-      (us, end, e, k, each (IsDefinition S) (IsDefinition T) definition us (d ∷ ds) (front us (end ∷ []) (subst Also e a)) h)
+  document ts (d ∷ ds) a (us, end, e, k, h) = (
+    us,
+    end,
+    e,
+    k,
+    each (IsDefinition S) (IsDefinition T) definition us (d ∷ ds)
+        (front us (end ∷ []) (subst Also e a)) h,
+  )

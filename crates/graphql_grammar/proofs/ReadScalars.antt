@@ -52,14 +52,17 @@ module _ {C F : Type 0} (S : Scalars C F) where
   plain t p = none t (plain_is_none t.kind p)
 
   around : (o c : Lexeme) (us : List Lexeme) → IsPair o.kind c.kind → AreRead us → AreRead (o ∷ us ++ (c ∷ []))
-  around o c us p h = join (o ∷ []) (us ++ (c ∷ [])) (none o (opening_is_none o.kind c.kind p)) (join us (c ∷ []) h (none c (closing_is_none o.kind c.kind p)))
+  around o c us p h = join (o ∷ []) (us ++ (c ∷ [])) (none o (opening_is_none o.kind c.kind p))
+      (join us (c ∷ []) h (none c (closing_is_none o.kind c.kind p)))
 
   scalar : (t : Lexeme) (c : C) → IsScalarKind t.kind → S.read t.kind t.text ≡ Ok c → AreRead (t ∷ [])
   unfolding AreRead
   scalar t c s e = ((λ k. ap is_ok e), tt)
 
-  pub document_is_read : (ts : List Lexeme) (ds : List (Definition C)) → IsDocument S ts ds → AllByRecursion (IsRead S) ts
+  pub document_is_read : (ts : List Lexeme) (ds : List (Definition C)) → IsDocument S ts ds
+      → AllByRecursion (IsRead S) ts
   unfolding AreRead
   document_is_read ts [] h = absurd h
   document_is_read ts (d ∷ ds) (us, end, e, k, h) =
-      subst AreRead (sym e) (join us (end ∷ []) (nested.definitions AreRead tt join plain around S scalar us (d ∷ ds) h) (none end (end_is_none end.kind k)))
+      subst AreRead (sym e) (join us (end ∷ []) (nested.definitions AreRead tt join plain around S scalar us (d ∷ ds) h)
+      (none end (end_is_none end.kind k)))

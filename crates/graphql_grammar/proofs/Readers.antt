@@ -13,7 +13,11 @@ use Rattle.graphql_grammar.proofs.SelectionFound.{document_found}
 use Rattle.graphql_grammar.proofs.Faulty.{Reads, one_tree}
 
 pub type_reads : (F : Type 0) → Reads (type_at {F = F}) IsType
-type_reads F = record { keeps = type_rule; finds = λ n ts x le h. ap (type_at n) (sym (append-nil ts)) ∙ type_found n ts [] x (omega arith) h tt }
+type_reads F = record {
+  keeps = type_rule;
+  finds = λ n ts x le h.
+      ap (type_at n) (sym (append-nil ts)) ∙ type_found n ts [] x (omega arith) h tt;
+}
 
 -- No list has two types.
 pub one_type : (ts : List Lexeme) (a b : TypeRef) → IsType ts a → IsType ts b → a ≡ b
@@ -21,7 +25,11 @@ one_type = one_tree (type_at {F = Unit {0}}) IsType (type_reads (Unit {0}))
 
 module _ {C F : Type 0} (S : Scalars C F) where
   pub value_reads : (free : Bool) → Reads (value_at S free) (IsValue S free)
-  value_reads free = record { keeps = value_rule S free; finds = λ n ts v le h. ap (value_at S free n) (sym (append-nil ts)) ∙ value_found S free n ts [] v (omega arith) h }
+  value_reads free = record {
+    keeps = value_rule S free;
+    finds = λ n ts v le h.
+        ap (value_at S free n) (sym (append-nil ts)) ∙ value_found S free n ts [] v (omega arith) h;
+  }
 
   pub document_reads : Reads (document S) (IsDocument S)
   document_reads = record { keeps = document_rule S; finds = document_found S }
@@ -39,8 +47,11 @@ module _ {C F : Type 0} (S : Scalars C F) where
   took_rest d Out = d
 
   -- No value's tokens are a proper front of another's.
-  pub value_front : (free : Bool) (us vs : List Lexeme) (v w : Value C) → IsValue S free us v → IsValue S free (us ++ vs) w → vs ≡ []
+  pub value_front : (free : Bool) (us vs : List Lexeme) (v w : Value C) → IsValue S free us v
+      → IsValue S free (us ++ vs) w → vs ≡ []
   unfolding took_rest
   value_front free us vs v w h k =
       let n : ℕ = length us + length vs in
-      ap (took_rest []) (sym (value_found S free n us vs v (omega arith) h) ∙ ap (value_at S free n) (sym (append-nil (us ++ vs))) ∙ value_found S free n (us ++ vs) [] w (rw (length-append us vs) (le_refl n)) k)
+      ap (took_rest []) (sym (value_found S free n us vs v (omega arith) h)
+      ∙ ap (value_at S free n) (sym (append-nil (us ++ vs)))
+      ∙ value_found S free n (us ++ vs) [] w (rw (length-append us vs) (le_refl n)) k)

@@ -31,7 +31,8 @@ Stops {F} f us rest = (x : Fault F) × (f (us ++ rest) ≡ Refused rest x)
 
 -- After these tokens `[` is refused, or `{` is. A strict reader refuses `{` alone only after a token of its own.
 abbrev pub NoValueBehind : {F A : Type 0} → Bool → Reader F A → List Lexeme → Type 0
-NoValueBehind b f us = ((rest : List Lexeme) → Starts BracketOpen rest → Stops f us rest) ⊎ ((b ≡ true → 0 < length us) × ((rest : List Lexeme) → Starts CurlyOpen rest → Stops f us rest))
+NoValueBehind b f us = ((rest : List Lexeme) → Starts BracketOpen rest → Stops f us rest)
+    ⊎ ((b ≡ true → 0 < length us) × ((rest : List Lexeme) → Starts CurlyOpen rest → Stops f us rest))
 
 exchanged : (vs last other : List Lexeme) → Exchange last other → Exchange (vs ++ last) (vs ++ other)
 exchanged [] last other x = x
@@ -41,7 +42,8 @@ exchanged_some : (vs last other : List Lexeme) → 0 < length vs → Exchange (v
 exchanged_some [] last other x = absurd (omega (arith, x))
 exchanged_some (v ∷ vs) last other x = inl refl
 
-exchanged_bracket : (t : Lexeme) (ts other : List Lexeme) → IsScalarKind t.kind → Starts BracketOpen other → Exchange (t ∷ ts) other
+exchanged_bracket : (t : Lexeme) (ts other : List Lexeme) → IsScalarKind t.kind → Starts BracketOpen other
+    → Exchange (t ∷ ts) other
 exchanged_bracket t ts [] s x = absurd x
 exchanged_bracket t ts (u ∷ us) s x = inr (s, x)
 
@@ -50,7 +52,9 @@ pub record PassesNoValue (test : Test) : Type 0 where
   pub scalar : (k : Kind) (w : Text) → IsScalarKind k → test k w ≡ false
   pub bracket : (w : Text) → test BracketOpen w ≡ false
 
-pub passes_no_value : (test : Test) → ((w : Text) → test String w ≡ false) → ((w : Text) → test BlockString w ≡ false) → ((w : Text) → test Float w ≡ false) → ((w : Text) → test Int w ≡ false) → ((w : Text) → test BracketOpen w ≡ false) → PassesNoValue test
+pub passes_no_value : (test : Test) → ((w : Text) → test String w ≡ false) → ((w : Text) → test BlockString w ≡ false)
+    → ((w : Text) → test Float w ≡ false) → ((w : Text) → test Int w ≡ false)
+    → ((w : Text) → test BracketOpen w ≡ false) → PassesNoValue test
 passes_no_value test a b c d e = record { scalar = by_kind; bracket = e }
   where
     by_kind : (k : Kind) (w : Text) → IsScalarKind k → test k w ≡ false
@@ -64,37 +68,59 @@ module _ {C F : Type 0} (S : Scalars C F) where
   IsScalarFault t x = (y : F) × (x ≡ ScalarError y) × IsScalarKind t.kind × (S.read t.kind t.text ≡ Err y)
 
   abbrev pub TellsFault : {A : Type 0} → Bool → Reader F A → List Lexeme → Read F A → Type 0
-  TellsFault b f ts (Took a rest) = (us : List Lexeme) × (ts ≡ us ++ rest) × ((other : List Lexeme) → Exchange rest other → f (us ++ other) ≡ Took a other)
+  TellsFault b f ts (Took a rest) = (us : List Lexeme) × (ts ≡ us ++ rest)
+      × ((other : List Lexeme) → Exchange rest other → f (us ++ other) ≡ Took a other)
   TellsFault b f ts (Refused [] x) = Unit {0}
-  TellsFault b f ts (Refused (t ∷ rest) x) = (us : List Lexeme) × (ts ≡ us ++ (t ∷ rest)) × (IsScalarFault t x ⊎ ((x ≡ fault_of t.kind t.text) × (IsScalarKind t.kind → NoValueBehind b f us)))
+  TellsFault b f ts (Refused (t ∷ rest) x) =
+      (us : List Lexeme) × (ts ≡ us ++ (t ∷ rest))
+      × (IsScalarFault t x ⊎ ((x ≡ fault_of t.kind t.text) × (IsScalarKind t.kind → NoValueBehind b f us)))
   TellsFault b f ts Out = Unit {0}
 
   pub record TellsFaults {A : Type 0} (b : Bool) (f : Reader F A) : Type 0 where
     pub at : (ts : List Lexeme) → TellsFault b f ts (f ts)
 
   -- A reader that goes as another does.
-  same_tell : {A : Type 0} (b : Bool) (g h : Reader F A) (ts : List Lexeme) (r : Read F A) → ((other : List Lexeme) → Exchange ts other → h other ≡ g other)
-      → (b ≡ false → (other : List Lexeme) → Starts CurlyOpen other → h other ≡ g other) → TellsFault b g ts r → TellsFault b h ts r
-  same_tell b g h ts (Took a rest) x y (us, e, p) = (us, e, λ other q. x (us ++ other) (rw e (exchanged us rest other q)) ∙ p other q)
+  same_tell : {A : Type 0} (b : Bool) (g h : Reader F A) (ts : List Lexeme) (r : Read F A)
+      → ((other : List Lexeme) → Exchange ts other → h other ≡ g other)
+      → (b ≡ false → (other : List Lexeme) → Starts CurlyOpen other → h other ≡ g other) → TellsFault b g ts r
+      → TellsFault b h ts r
+  same_tell b g h ts (Took a rest) x y (us, e, p) =
+      (us, e, λ other q. x (us ++ other) (rw e (exchanged us rest other q)) ∙ p other q)
   same_tell b g h ts (Refused [] z) x y p = tt
   same_tell b g h ts (Refused (t ∷ rest) z) x y (us, e, inl o) = (us, e, inl o)
   same_tell {A} b g h ts (Refused (t ∷ rest) z) x y (us, e, inr (q, off)) = (us, e, inr (q, λ s. by_no_value s (off s)))
     where
-      by_front : (b : Bool) (vs other : List Lexeme) → (b ≡ true → 0 < length vs) → Starts CurlyOpen other → ((o : List Lexeme) → Exchange (vs ++ (t ∷ rest)) o → h o ≡ g o)
+      by_front : (b : Bool) (vs other : List Lexeme) → (b ≡ true → 0 < length vs) → Starts CurlyOpen other
+          → ((o : List Lexeme) → Exchange (vs ++ (t ∷ rest)) o → h o ≡ g o)
           → (b ≡ false → (o : List Lexeme) → Starts CurlyOpen o → h o ≡ g o) → h (vs ++ other) ≡ g (vs ++ other)
       by_front true vs other n st x' y' = x' (vs ++ other) (exchanged_some vs (t ∷ rest) other (n refl))
       by_front false [] other n st x' y' = y' refl other st
       by_front false (v ∷ vs) other n st x' y' = x' (v ∷ vs ++ other) (inl refl)
 
       by_no_value : IsScalarKind t.kind → NoValueBehind b g us → NoValueBehind b h us
-      by_no_value s (inl p) = inl (λ other st. ((p other st).0, x (us ++ other) (rw e (exchanged us (t ∷ rest) other (exchanged_bracket t rest other s st))) ∙ (p other st).1))
-      by_no_value s (inr (n, p)) = inr (n, λ other st. ((p other st).0, by_front b us other n st (λ o c. x o (rw e c)) y ∙ (p other st).1))
+      by_no_value s (inl p) = inl (λ other st. (
+        (p other st).0,
+        x (us ++ other)
+            (rw e (exchanged us (t ∷ rest) other (exchanged_bracket t rest other s st))) ∙ (p other st).1,
+      ))
+      by_no_value s (inr (n, p)) = inr (
+        n,
+        λ other st. (
+          (p other st).0,
+          by_front b us other n st (λ o c. x o (rw e c)) y ∙ (p other st).1,
+        ),
+      )
   same_tell b g h ts Out x y p = tt
 
-  pub same_tells : {A : Type 0} (b : Bool) (g h : Reader F A) → ((ts : List Lexeme) → h ts ≡ g ts) → TellsFaults b g → TellsFaults b h
-  same_tells b g h e r = record { at = λ ts. subst (λ z. TellsFault b h ts z) (sym (e ts)) (same_tell b g h ts (g ts) (λ o x. e o) (λ q o s. e o) (r.at ts)) }
+  pub same_tells : {A : Type 0} (b : Bool) (g h : Reader F A) → ((ts : List Lexeme) → h ts ≡ g ts) → TellsFaults b g
+      → TellsFaults b h
+  same_tells b g h e r = record {
+    at = λ ts. subst (λ z. TellsFault b h ts z) (sym (e ts))
+        (same_tell b g h ts (g ts) (λ o x. e o) (λ q o s. e o) (r.at ts));
+  }
 
-  weak_tell : {A : Type 0} (f : Reader F A) (ts : List Lexeme) (r : Read F A) → TellsFault true f ts r → TellsFault false f ts r
+  weak_tell : {A : Type 0} (f : Reader F A) (ts : List Lexeme) (r : Read F A) → TellsFault true f ts r
+      → TellsFault false f ts r
   weak_tell f ts (Took a rest) p = p
   weak_tell f ts (Refused [] x) p = p
   weak_tell f ts (Refused (t ∷ rest) x) (us, e, inl o) = (us, e, inl o)
@@ -126,26 +152,50 @@ module _ {C F : Type 0} (S : Scalars C F) where
   refuse_tells {A} b = record { at = λ ts. refuse_tell A b ts }
 
   -- seq
-  seq_refused : {A B : Type 0} (f : Reader F A) (k : A → Reader F B) (ts rest : List Lexeme) (x : Fault F) → f ts ≡ Refused rest x → seq f k ts ≡ Refused rest x
+  seq_refused : {A B : Type 0} (f : Reader F A) (k : A → Reader F B) (ts rest : List Lexeme) (x : Fault F)
+      → f ts ≡ Refused rest x → seq f k ts ≡ Refused rest x
   unfolding seq
   seq_refused f k ts rest x e = ap (λ r. after r k) e
 
   module _ {A B : Type 0} (b : Bool) (f : Reader F A) (k : A → Reader F B) where
-    goes : (us vs mid last other : List Lexeme) (a : A) → mid ≡ vs ++ last → Exchange (vs ++ last) (vs ++ other) → ((o : List Lexeme) → Exchange mid o → f (us ++ o) ≡ Took a o) → seq f k ((us ++ vs) ++ other) ≡ k a (vs ++ other)
-    goes us vs mid last other a q x h = ap (seq f k) (append_assoc us vs other) ∙ seq_took f k (us ++ (vs ++ other)) (vs ++ other) a (h (vs ++ other) (rw q x))
+    goes : (us vs mid last other : List Lexeme) (a : A) → mid ≡ vs ++ last → Exchange (vs ++ last) (vs ++ other)
+        → ((o : List Lexeme) → Exchange mid o → f (us ++ o) ≡ Took a o)
+        → seq f k ((us ++ vs) ++ other) ≡ k a (vs ++ other)
+    goes us vs mid last other a q x h = ap (seq f k) (append_assoc us vs other)
+        ∙ seq_took f k (us ++ (vs ++ other)) (vs ++ other) a (h (vs ++ other) (rw q x))
 
-    second : (ts us mid : List Lexeme) (a : A) → ts ≡ us ++ mid → ((o : List Lexeme) → Exchange mid o → f (us ++ o) ≡ Took a o) → (r : Read F B) → TellsFault true (k a) mid r → TellsFault b (seq f k) ts r
-    second ts us mid a e h (Took y last) (vs, q, g) = (us ++ vs, e ∙ ap (λ z. us ++ z) q ∙ sym (append_assoc us vs last), λ other x. goes us vs mid last other a q (exchanged vs last other x) h ∙ g other x)
+    second : (ts us mid : List Lexeme) (a : A) → ts ≡ us ++ mid
+        → ((o : List Lexeme) → Exchange mid o → f (us ++ o) ≡ Took a o) → (r : Read F B) → TellsFault true (k a) mid r
+        → TellsFault b (seq f k) ts r
+    second ts us mid a e h (Took y last) (vs, q, g) = (
+      us ++ vs,
+      e ∙ ap (λ z. us ++ z) q ∙ sym (append_assoc us vs last),
+      λ other x. goes us vs mid last other a q (exchanged vs last other x) h ∙ g other x,
+    )
     second ts us mid a e h (Refused [] x) g = tt
-    second ts us mid a e h (Refused (t ∷ last) x) (vs, q, inl o) = (us ++ vs, e ∙ ap (λ z. us ++ z) q ∙ sym (append_assoc us vs (t ∷ last)), inl o)
-    second ts us mid a e h (Refused (t ∷ last) x) (vs, q, inr (xe, off)) = (us ++ vs, e ∙ ap (λ z. us ++ z) q ∙ sym (append_assoc us vs (t ∷ last)), inr (xe, λ s. by_no_value s (off s)))
+    second ts us mid a e h (Refused (t ∷ last) x) (vs, q, inl o) =
+        (us ++ vs, e ∙ ap (λ z. us ++ z) q ∙ sym (append_assoc us vs (t ∷ last)), inl o)
+    second ts us mid a e h (Refused (t ∷ last) x) (vs, q, inr (xe, off)) =
+        (us ++ vs, e ∙ ap (λ z. us ++ z) q ∙ sym (append_assoc us vs (t ∷ last)), inr (xe, λ s. by_no_value s (off s)))
       where
         by_no_value : IsScalarKind t.kind → NoValueBehind true (k a) vs → NoValueBehind b (seq f k) (us ++ vs)
-        by_no_value s (inl p) = inl (λ other st. ((p other st).0, goes us vs mid (t ∷ last) other a q (exchanged vs (t ∷ last) other (exchanged_bracket t last other s st)) h ∙ (p other st).1))
-        by_no_value s (inr (n, p)) = inr ((λ c. let l = n refl in rw (length-append us vs) (omega (arith, l))), λ other st. ((p other st).0, goes us vs mid (t ∷ last) other a q (exchanged_some vs (t ∷ last) other (n refl)) h ∙ (p other st).1))
+        by_no_value s (inl p) = inl (λ other st. (
+          (p other st).0,
+          goes us vs mid (t ∷ last) other a q
+              (exchanged vs (t ∷ last) other (exchanged_bracket t last other s st)) h ∙ (p other st).1,
+        ))
+        by_no_value s (inr (n, p)) = inr (
+          (λ c. let l = n refl in rw (length-append us vs) (omega (arith, l))),
+          λ other st. (
+            (p other st).0,
+            goes us vs mid (t ∷ last) other a q
+                (exchanged_some vs (t ∷ last) other (n refl)) h ∙ (p other st).1,
+          ),
+        )
     second ts us mid a e h Out g = tt
 
-    seq_tell : (ts : List Lexeme) (r : Read F A) → TellsFault b f ts r → ((a : A) → TellsFaults true (k a)) → TellsFault b (seq f k) ts (after r k)
+    seq_tell : (ts : List Lexeme) (r : Read F A) → TellsFault b f ts r → ((a : A) → TellsFaults true (k a))
+        → TellsFault b (seq f k) ts (after r k)
     seq_tell ts (Took a mid) (us, e, h) g = second ts us mid a e h (k a mid) ((g a).at mid)
     seq_tell ts (Refused [] x) p g = tt
     seq_tell ts (Refused (t ∷ rest) x) (us, e, inl o) g = (us, e, inl o)
@@ -153,7 +203,13 @@ module _ {C F : Type 0} (S : Scalars C F) where
       where
         by_no_value : NoValueBehind b f us → NoValueBehind b (seq f k) us
         by_no_value (inl p) = inl (λ other st. ((p other st).0, seq_refused f k (us ++ other) other _ (p other st).1))
-        by_no_value (inr (n, p)) = inr (n, λ other st. ((p other st).0, seq_refused f k (us ++ other) other _ (p other st).1))
+        by_no_value (inr (n, p)) = inr (
+          n,
+          λ other st. (
+            (p other st).0,
+            seq_refused f k (us ++ other) other _ (p other st).1,
+          ),
+        )
     seq_tell ts Out p g = tt
 
     pub seq_tells : TellsFaults b f → ((a : A) → TellsFaults true (k a)) → TellsFaults b (seq f k)
@@ -162,22 +218,37 @@ module _ {C F : Type 0} (S : Scalars C F) where
 
   -- on
   module _ {A : Type 0} (b : Bool) (test : Test) (k : Lexeme → Reader F A) (g : Reader F A) where
-    push : (t : Lexeme) (ts : List Lexeme) (r : Read F A) → passes test t ≡ true → TellsFault false (k t) ts r → TellsFault b (on test k g) (t ∷ ts) r
-    push t ts (Took a rest) e (us, q, p) = (t ∷ us, ap (λ z. t ∷ z) q, λ other x. on_passed test k g t (us ++ other) e ∙ p other x)
+    push : (t : Lexeme) (ts : List Lexeme) (r : Read F A) → passes test t ≡ true → TellsFault false (k t) ts r
+        → TellsFault b (on test k g) (t ∷ ts) r
+    push t ts (Took a rest) e (us, q, p) = (
+      t ∷ us,
+      ap (λ z. t ∷ z) q,
+      λ other x. on_passed test k g t (us ++ other) e ∙ p other x,
+    )
     push t ts (Refused [] x) e p = tt
     push t ts (Refused (u ∷ rest) x) e (us, q, inl o) = (t ∷ us, ap (λ z. t ∷ z) q, inl o)
-    push t ts (Refused (u ∷ rest) x) e (us, q, inr (xe, off)) = (t ∷ us, ap (λ z. t ∷ z) q, inr (xe, λ s. by_no_value (off s)))
+    push t ts (Refused (u ∷ rest) x) e (us, q, inr (xe, off)) =
+        (t ∷ us, ap (λ z. t ∷ z) q, inr (xe, λ s. by_no_value (off s)))
       where
         by_no_value : NoValueBehind false (k t) us → NoValueBehind b (on test k g) (t ∷ us)
         by_no_value (inl p) = inl (λ other st. ((p other st).0, on_passed test k g t (us ++ other) e ∙ (p other st).1))
-        by_no_value (inr (n, p)) = inr ((λ c. omega arith), λ other st. ((p other st).0, on_passed test k g t (us ++ other) e ∙ (p other st).1))
+        by_no_value (inr (n, p)) = inr (
+          (λ c. omega arith),
+          λ other st.
+              ((p other st).0, on_passed test k g t (us ++ other) e ∙ (p other st).1),
+        )
     push t ts Out e p = tt
 
     -- at one list
-    on_at : (t : Lexeme) (ts : List Lexeme) (v : Bool) → passes test t ≡ v → (IsScalarKind t.kind → (w : Text) → test BracketOpen w ≡ false) → (b ≡ false → (w : Text) → test CurlyOpen w ≡ false)
-        → ((u : Lexeme) → passes test u ≡ true → TellsFaults false (k u)) → TellsFault b g (t ∷ ts) (g (t ∷ ts)) → TellsFault b (on test k g) (t ∷ ts) (on test k g (t ∷ ts))
-    on_at t ts true e br cu hk hg = subst (λ z. TellsFault b (on test k g) (t ∷ ts) z) (sym (on_passed test k g t ts e)) (push t ts (k t ts) e ((hk t e).at ts))
-    on_at t ts false e br cu hk hg = subst (λ z. TellsFault b (on test k g) (t ∷ ts) z) (sym (on_failed test k g t ts e)) (same_tell b g (on test k g) (t ∷ ts) (g (t ∷ ts)) by_head by_curly hg)
+    on_at : (t : Lexeme) (ts : List Lexeme) (v : Bool) → passes test t ≡ v
+        → (IsScalarKind t.kind → (w : Text) → test BracketOpen w ≡ false)
+        → (b ≡ false → (w : Text) → test CurlyOpen w ≡ false)
+        → ((u : Lexeme) → passes test u ≡ true → TellsFaults false (k u)) → TellsFault b g (t ∷ ts) (g (t ∷ ts))
+        → TellsFault b (on test k g) (t ∷ ts) (on test k g (t ∷ ts))
+    on_at t ts true e br cu hk hg = subst (λ z. TellsFault b (on test k g) (t ∷ ts) z) (sym (on_passed test k g t ts e))
+        (push t ts (k t ts) e ((hk t e).at ts))
+    on_at t ts false e br cu hk hg = subst (λ z. TellsFault b (on test k g) (t ∷ ts) z)
+        (sym (on_failed test k g t ts e)) (same_tell b g (on test k g) (t ∷ ts) (g (t ∷ ts)) by_head by_curly hg)
       where
         by_head : (other : List Lexeme) → Exchange (t ∷ ts) other → on test k g other ≡ g other
         by_head [] x = absurd x
@@ -188,7 +259,8 @@ module _ {C F : Type 0} (S : Scalars C F) where
         by_curly c [] x = absurd x
         by_curly c (u ∷ us) x = on_failed test k g u us (ap (λ (z : Kind). test z u.text) x ∙ cu c u.text)
 
-    by_curly : (b ≡ false → (w : Text) → test CurlyOpen w ≡ false) → b ≡ false → (other : List Lexeme) → Starts CurlyOpen other → on test k g other ≡ g other
+    by_curly : (b ≡ false → (w : Text) → test CurlyOpen w ≡ false) → b ≡ false → (other : List Lexeme)
+        → Starts CurlyOpen other → on test k g other ≡ g other
     by_curly cu c [] x = absurd x
     by_curly cu c (u ∷ us) x = on_failed test k g u us (ap (λ (z : Kind). test z u.text) x ∙ cu c u.text)
 
@@ -197,21 +269,28 @@ module _ {C F : Type 0} (S : Scalars C F) where
     by_empty [] x = refl
     by_empty (u ∷ us) x = absurd x
 
-    on_list : (ts : List Lexeme) → PassesNoValue test → (b ≡ false → (w : Text) → test CurlyOpen w ≡ false) → ((u : Lexeme) → passes test u ≡ true → TellsFaults false (k u)) → TellsFaults b g → TellsFault b (on test k g) ts (on test k g ts)
-    on_list [] bl cu hk hg = subst (λ z. TellsFault b (on test k g) [] z) (sym (by_empty [] tt)) (same_tell b g (on test k g) [] (g []) by_empty (by_curly cu) (hg.at []))
+    on_list : (ts : List Lexeme) → PassesNoValue test → (b ≡ false → (w : Text) → test CurlyOpen w ≡ false)
+        → ((u : Lexeme) → passes test u ≡ true → TellsFaults false (k u)) → TellsFaults b g
+        → TellsFault b (on test k g) ts (on test k g ts)
+    on_list [] bl cu hk hg = subst (λ z. TellsFault b (on test k g) [] z) (sym (by_empty [] tt))
+        (same_tell b g (on test k g) [] (g []) by_empty (by_curly cu) (hg.at []))
     on_list (t ∷ ts) bl cu hk hg = on_at t ts (passes test t) refl (λ s. bl.bracket) cu hk (hg.at (t ∷ ts))
 
-    pub on_turns_by : PassesNoValue test → (b ≡ false → (w : Text) → test CurlyOpen w ≡ false) → ((u : Lexeme) → passes test u ≡ true → TellsFaults false (k u)) → TellsFaults b g → TellsFaults b (on test k g)
+    pub on_turns_by : PassesNoValue test → (b ≡ false → (w : Text) → test CurlyOpen w ≡ false)
+        → ((u : Lexeme) → passes test u ≡ true → TellsFaults false (k u)) → TellsFaults b g
+        → TellsFaults b (on test k g)
     on_turns_by bl cu hk hg = record { at = λ ts. on_list ts bl cu hk hg }
 
   no_curly : {X : Type 0} → true ≡ false → X
   no_curly c = absurd (cc c)
 
-  pub on_tells : {A : Type 0} (test : Test) (k : Lexeme → Reader F A) (g : Reader F A) → PassesNoValue test → ((u : Lexeme) → TellsFaults true (k u)) → TellsFaults true g → TellsFaults true (on test k g)
+  pub on_tells : {A : Type 0} (test : Test) (k : Lexeme → Reader F A) (g : Reader F A) → PassesNoValue test
+      → ((u : Lexeme) → TellsFaults true (k u)) → TellsFaults true g → TellsFaults true (on test k g)
   on_tells test k g bl hk hg = on_turns_by true test k g bl (λ c. no_curly c) (λ u e. weak (k u) (hk u)) hg
 
   -- a token that is wanted, and then
-  want_on : {A : Type 0} (test : Test) (k : Lexeme → Reader F A) (ts : List Lexeme) → seq (want test) k ts ≡ on test k refuse ts
+  want_on : {A : Type 0} (test : Test) (k : Lexeme → Reader F A) (ts : List Lexeme)
+      → seq (want test) k ts ≡ on test k refuse ts
   unfolding seq want on done refuse
   want_on test k [] = refl
   want_on test k (t ∷ ts) = by_test (passes test t)
@@ -220,27 +299,37 @@ module _ {C F : Type 0} (S : Scalars C F) where
       by_test true = refl
       by_test false = refl
 
-  pub want_type : {A : Type 0} (test : Test) (k : Lexeme → Reader F A) → PassesNoValue test → ((u : Lexeme) → TellsFaults false (k u)) → TellsFaults true (seq (want test) k)
-  want_type test k bl hk = same_tells true (on test k refuse) (seq (want test) k) (want_on test k) (on_turns_by true test k refuse bl (λ c. no_curly c) (λ u e. hk u) (refuse_tells true))
+  pub want_type : {A : Type 0} (test : Test) (k : Lexeme → Reader F A) → PassesNoValue test
+      → ((u : Lexeme) → TellsFaults false (k u)) → TellsFaults true (seq (want test) k)
+  want_type test k bl hk = same_tells true (on test k refuse) (seq (want test) k) (want_on test k)
+      (on_turns_by true test k refuse bl (λ c. no_curly c) (λ u e. hk u) (refuse_tells true))
 
-  pub want_tells : {A : Type 0} (test : Test) (k : Lexeme → Reader F A) → PassesNoValue test → ((u : Lexeme) → TellsFaults true (k u)) → TellsFaults true (seq (want test) k)
+  pub want_tells : {A : Type 0} (test : Test) (k : Lexeme → Reader F A) → PassesNoValue test
+      → ((u : Lexeme) → TellsFaults true (k u)) → TellsFaults true (seq (want test) k)
   want_tells test k bl hk = want_type test k bl (λ u. weak (k u) (hk u))
 
   -- look
-  module _ {A : Type 0} (test : Test) (f g : Reader F A) (bl : PassesNoValue test) (hf : TellsFaults true f) (hg : TellsFaults true g) where
-    chosen : (v : Bool) (u : Lexeme) (us : List Lexeme) → passes test u ≡ v → look test f g (u ∷ us) ≡ choose v f g (u ∷ us)
+  module _ {A : Type 0} (test : Test) (f g : Reader F A) (bl : PassesNoValue test) (hf : TellsFaults true f)
+      (hg : TellsFaults true g) where
+    chosen : (v : Bool) (u : Lexeme) (us : List Lexeme) → passes test u ≡ v
+        → look test f g (u ∷ us) ≡ choose v f g (u ∷ us)
     unfolding look
     chosen v u us e = ap (λ z. choose z f g (u ∷ us)) e
 
-    look_head : (t : Lexeme) (ts : List Lexeme) (v : Bool) → passes test t ≡ v → (other : List Lexeme) → Exchange (t ∷ ts) other → look test f g other ≡ choose v f g other
+    look_head : (t : Lexeme) (ts : List Lexeme) (v : Bool) → passes test t ≡ v → (other : List Lexeme)
+        → Exchange (t ∷ ts) other → look test f g other ≡ choose v f g other
     look_head t ts v e [] x = absurd x
     look_head t ts v e (u ∷ us) (inl x) = chosen v u us (ap (passes test) x ∙ e)
     look_head t ts true e (u ∷ us) (inr x) = absurd (cc (sym e ∙ bl.scalar t.kind t.text x.0))
-    look_head t ts false e (u ∷ us) (inr x) = chosen false u us (ap (λ (z : Kind). test z u.text) x.1 ∙ bl.bracket u.text)
+    look_head t ts false e (u ∷ us) (inr x) =
+        chosen false u us (ap (λ (z : Kind). test z u.text) x.1 ∙ bl.bracket u.text)
 
-    look_at : (t : Lexeme) (ts : List Lexeme) (v : Bool) → passes test t ≡ v → TellsFault true (look test f g) (t ∷ ts) (choose v f g (t ∷ ts))
-    look_at t ts true e = same_tell true f (look test f g) (t ∷ ts) (f (t ∷ ts)) (look_head t ts true e) (λ c. no_curly c) (hf.at (t ∷ ts))
-    look_at t ts false e = same_tell true g (look test f g) (t ∷ ts) (g (t ∷ ts)) (look_head t ts false e) (λ c. no_curly c) (hg.at (t ∷ ts))
+    look_at : (t : Lexeme) (ts : List Lexeme) (v : Bool) → passes test t ≡ v
+        → TellsFault true (look test f g) (t ∷ ts) (choose v f g (t ∷ ts))
+    look_at t ts true e = same_tell true f (look test f g) (t ∷ ts) (f (t ∷ ts)) (look_head t ts true e)
+        (λ c. no_curly c) (hf.at (t ∷ ts))
+    look_at t ts false e = same_tell true g (look test f g) (t ∷ ts) (g (t ∷ ts)) (look_head t ts false e)
+        (λ c. no_curly c) (hg.at (t ∷ ts))
 
     look_empty : (other : List Lexeme) → Exchange [] other → look test f g other ≡ g other
     unfolding look
@@ -257,7 +346,8 @@ module _ {C F : Type 0} (S : Scalars C F) where
 
   -- with_span
   module _ {A : Type 0} (b : Bool) (f : Reader F (Span → A)) where
-    span_took : (ts rest : List Lexeme) (k : Span → A) → f ts ≡ Took k rest → with_span f ts ≡ Took (k (span_of (front ts rest))) rest
+    span_took : (ts rest : List Lexeme) (k : Span → A) → f ts ≡ Took k rest
+        → with_span f ts ≡ Took (k (span_of (front ts rest))) rest
     unfolding with_span
     span_took ts rest k e = ap (λ z. after z (give_span ts)) e
 
@@ -265,15 +355,28 @@ module _ {C F : Type 0} (S : Scalars C F) where
     unfolding with_span
     span_refused ts rest x e = ap (λ z. after z (give_span ts)) e
 
-    span_tell : (ts : List Lexeme) (r : Read F (Span → A)) → TellsFault b f ts r → TellsFault b (with_span f) ts (after r (give_span ts))
-    span_tell ts (Took k rest) (us, e, p) = (us, e, λ other x. span_took (us ++ other) other k (p other x) ∙ ap (λ (z : List Lexeme). Took (k (span_of z)) other) (front_is us other ∙ sym (ap (λ (z : List Lexeme). front z rest) e ∙ front_is us rest)))
+    span_tell : (ts : List Lexeme) (r : Read F (Span → A)) → TellsFault b f ts r
+        → TellsFault b (with_span f) ts (after r (give_span ts))
+    span_tell ts (Took k rest) (us, e, p) = (
+      us,
+      e,
+      λ other x. span_took (us ++ other) other k (p other x)
+          ∙ ap (λ (z : List Lexeme). Took (k (span_of z)) other)
+          (front_is us other ∙ sym (ap (λ (z : List Lexeme). front z rest) e ∙ front_is us rest)),
+    )
     span_tell ts (Refused [] x) p = tt
     span_tell ts (Refused (t ∷ rest) x) (us, e, inl o) = (us, e, inl o)
     span_tell ts (Refused (t ∷ rest) x) (us, e, inr (xe, off)) = (us, e, inr (xe, λ s. by_no_value (off s)))
       where
         by_no_value : NoValueBehind b f us → NoValueBehind b (with_span f) us
         by_no_value (inl p) = inl (λ other st. ((p other st).0, span_refused (us ++ other) other _ (p other st).1))
-        by_no_value (inr (n, p)) = inr (n, λ other st. ((p other st).0, span_refused (us ++ other) other _ (p other st).1))
+        by_no_value (inr (n, p)) = inr (
+          n,
+          λ other st. (
+            (p other st).0,
+            span_refused (us ++ other) other _ (p other st).1,
+          ),
+        )
     span_tell ts Out p = tt
 
     pub span_tells : TellsFaults b f → TellsFaults b (with_span f)
@@ -284,30 +387,43 @@ module _ {C F : Type 0} (S : Scalars C F) where
   out_tells : {A : Type 0} (f : Reader F A) → ((ts : List Lexeme) → f ts ≡ Out) → TellsFaults true f
   out_tells f e = record { at = λ ts. subst (λ z. TellsFault true f ts z) (sym (e ts)) tt }
 
-  pub many_tells : {A : Type 0} (close : Test) (f : Reader F A) (n : ℕ) → PassesNoValue close → TellsFaults true f → TellsFaults true (many close f n)
+  pub many_tells : {A : Type 0} (close : Test) (f : Reader F A) (n : ℕ) → PassesNoValue close → TellsFaults true f
+      → TellsFaults true (many close f n)
   unfolding many
   many_tells close f zero bl r = out_tells (many close f zero) (λ ts. refl)
-  many_tells close f (suc n) bl r = on_tells close _ _ bl (λ t. done_tells true _) (seq_tells true f _ r (λ x. seq_tells true _ _ (many_tells close f n bl r) (λ q. done_tells true _)))
+  many_tells close f (suc n) bl r = on_tells close _ _ bl (λ t. done_tells true _)
+      (seq_tells true f _ r (λ x. seq_tells true _ _ (many_tells close f n bl r) (λ q. done_tells true _)))
 
-  pub one_or_more_tells : {A : Type 0} (close : Test) (f : Reader F A) (n : ℕ) → PassesNoValue close → TellsFaults true f → TellsFaults true (one_or_more close f n)
+  pub one_or_more_tells : {A : Type 0} (close : Test) (f : Reader F A) (n : ℕ) → PassesNoValue close
+      → TellsFaults true f → TellsFaults true (one_or_more close f n)
   unfolding one_or_more
-  one_or_more_tells close f n bl r = seq_tells true f _ r (λ x. seq_tells true _ _ (many_tells close f n bl r) (λ q. done_tells true _))
+  one_or_more_tells close f n bl r = seq_tells true f _ r (λ x.
+      seq_tells true _ _ (many_tells close f n bl r) (λ q. done_tells true _))
 
-  pub repeated_tells : {A : Type 0} (test : Test) (f : Reader F A) (n : ℕ) → PassesNoValue test → TellsFaults true f → TellsFaults true (repeated test f n)
+  pub repeated_tells : {A : Type 0} (test : Test) (f : Reader F A) (n : ℕ) → PassesNoValue test → TellsFaults true f
+      → TellsFaults true (repeated test f n)
   unfolding repeated
   repeated_tells test f zero bl r = out_tells (repeated test f zero) (λ ts. refl)
-  repeated_tells test f (suc n) bl r = look_tells test _ _ bl (seq_tells true f _ r (λ x. seq_tells true _ _ (repeated_tells test f n bl r) (λ q. done_tells true _))) (done_tells true _)
+  repeated_tells test f (suc n) bl r = look_tells test _ _ bl
+      (seq_tells true f _ r (λ x. seq_tells true _ _ (repeated_tells test f n bl r) (λ q. done_tells true _)))
+      (done_tells true _)
 
-  pub maybe_tells : {A : Type 0} (test : Test) (f : Reader F A) → PassesNoValue test → TellsFaults true f → TellsFaults true (maybe test f)
+  pub maybe_tells : {A : Type 0} (test : Test) (f : Reader F A) → PassesNoValue test → TellsFaults true f
+      → TellsFaults true (maybe test f)
   unfolding maybe
   maybe_tells test f bl r = look_tells test _ _ bl (seq_tells true f _ r (λ x. done_tells true _)) (done_tells true _)
 
   -- values
-  literal_tell : (h : Reader F (Value C)) (t : Lexeme) (ts : List Lexeme) (z : Result C F) → passes scalar_token t ≡ true → S.read t.kind t.text ≡ z → ((us : List Lexeme) → h (t ∷ us) ≡ literal S (t ∷ us)) → TellsFault true h (t ∷ ts) (h (t ∷ ts))
-  literal_tell h t ts (Ok c) e q same = subst (λ r. TellsFault true h (t ∷ ts) r) (sym (same ts ∙ literal_ok S t ts c e q)) (t ∷ [], refl, λ other x. same other ∙ literal_ok S t other c e q)
-  literal_tell h t ts (Err x) e q same = subst (λ r. TellsFault true h (t ∷ ts) r) (sym (same ts ∙ literal_bad S t ts x e q)) ([], refl, inl (x, refl, is_scalar_kind t e, q))
+  literal_tell : (h : Reader F (Value C)) (t : Lexeme) (ts : List Lexeme) (z : Result C F)
+      → passes scalar_token t ≡ true → S.read t.kind t.text ≡ z → ((us : List Lexeme) → h (t ∷ us) ≡ literal S (t ∷ us))
+      → TellsFault true h (t ∷ ts) (h (t ∷ ts))
+  literal_tell h t ts (Ok c) e q same = subst (λ r. TellsFault true h (t ∷ ts) r)
+      (sym (same ts ∙ literal_ok S t ts c e q)) (t ∷ [], refl, λ other x. same other ∙ literal_ok S t other c e q)
+  literal_tell h t ts (Err x) e q same = subst (λ r. TellsFault true h (t ∷ ts) r)
+      (sym (same ts ∙ literal_bad S t ts x e q)) ([], refl, inl (x, refl, is_scalar_kind t e, q))
 
-  value_literal : (free : Bool) (n : ℕ) (t : Lexeme) → IsScalarKind t.kind → (us : List Lexeme) → value_at S free (suc n) (t ∷ us) ≡ literal S (t ∷ us)
+  value_literal : (free : Bool) (n : ℕ) (t : Lexeme) → IsScalarKind t.kind → (us : List Lexeme)
+      → value_at S free (suc n) (t ∷ us) ≡ literal S (t ∷ us)
   value_literal free n t (inl e) us = at_literal_kind S free n t us String e refl refl refl refl
   value_literal free n t (inr (inl e)) us = at_literal_kind S free n t us BlockString e refl refl refl refl
   value_literal free n t (inr (inr (inl e))) us = at_literal_kind S free n t us Float e refl refl refl refl
@@ -319,8 +435,11 @@ module _ {C F : Type 0} (S : Scalars C F) where
   not_scalar t e (inr (inr (inl s))) = absurd (cc (sym e ∙ ap (λ (k : Kind). scalar_token k t.text) s))
   not_scalar t e (inr (inr (inr s))) = absurd (cc (sym e ∙ ap (λ (k : Kind). scalar_token k t.text) s))
 
-  other_literal : (t : Lexeme) (ts : List Lexeme) → passes scalar_token t ≡ false → TellsFault true (literal S) (t ∷ ts) (literal S (t ∷ ts))
-  other_literal t ts e = subst (λ z. TellsFault true (literal S) (t ∷ ts) z) (sym (literal_other S t ts e)) (same_tell true refuse (literal S) (t ∷ ts) (refuse (t ∷ ts)) by_head (λ c. no_curly c) ((refuse_tells true).at (t ∷ ts)))
+  other_literal : (t : Lexeme) (ts : List Lexeme) → passes scalar_token t ≡ false
+      → TellsFault true (literal S) (t ∷ ts) (literal S (t ∷ ts))
+  other_literal t ts e = subst (λ z. TellsFault true (literal S) (t ∷ ts) z) (sym (literal_other S t ts e))
+      (same_tell true refuse (literal S) (t ∷ ts) (refuse (t ∷ ts)) by_head (λ c. no_curly c)
+      ((refuse_tells true).at (t ∷ ts)))
     where
       by_head : (other : List Lexeme) → Exchange (t ∷ ts) other → literal S other ≡ refuse other
       by_head [] x = absurd x
@@ -335,19 +454,32 @@ module _ {C F : Type 0} (S : Scalars C F) where
 
   pub field_tells : (f : Reader F (Value C)) → TellsFaults true f → TellsFaults true (key_and_value f)
   unfolding key_and_value
-  field_tells f r = want_tells (of Name) _ no_value_by_name (λ k. want_tells (of Colon) _ no_value_by_of_colon (λ c. seq_tells true f _ r (λ v. done_tells true _)))
+  field_tells f r = want_tells (of Name) _ no_value_by_name (λ k.
+      want_tells (of Colon) _ no_value_by_of_colon (λ c. seq_tells true f _ r (λ v. done_tells true _)))
 
-  value_one : (free : Bool) (n : ℕ) (r : TellsFaults true (value_at S free n)) (t : Lexeme) (ts : List Lexeme) (v : Bool) → passes scalar_token t ≡ v → TellsFault true (value_at S free (suc n)) (t ∷ ts) (value_at S free (suc n) (t ∷ ts))
+  value_one : (free : Bool) (n : ℕ) (r : TellsFaults true (value_at S free n)) (t : Lexeme) (ts : List Lexeme)
+      (v : Bool) → passes scalar_token t ≡ v → TellsFault true (value_at S free (suc n)) (t ∷ ts)
+      (value_at S free (suc n) (t ∷ ts))
   unfolding value_at
-  value_one free n r t ts true e = literal_tell (value_at S free (suc n)) t ts (S.read t.kind t.text) e refl (value_literal free n t (is_scalar_kind t e))
+  value_one free n r t ts true e = literal_tell (value_at S free (suc n)) t ts (S.read t.kind t.text) e refl
+      (value_literal free n t (is_scalar_kind t e))
   value_one free n r t ts false e =
-      on_at true (of BracketOpen) _ _ t ts (passes (of BracketOpen) t) refl (λ s. absurd (not_scalar t e s)) (λ c. no_curly c) (λ u q. weak _ (seq_tells true _ _ (many_tells (of BracketClose) _ n (passes_no_value (of BracketClose) (λ w. refl) (λ w. refl) (λ w. refl) (λ w. refl) (λ w. refl)) r) (λ x. done_tells true _)))
-      (on_at true (of CurlyOpen) _ _ t ts (passes (of CurlyOpen) t) refl (λ s. absurd (not_scalar t e s)) (λ c. no_curly c) (λ u q. weak _ (seq_tells true _ _ (many_tells (of CurlyClose) _ n (passes_no_value (of CurlyClose) (λ w. refl) (λ w. refl) (λ w. refl) (λ w. refl) (λ w. refl)) (field_tells _ r)) (λ x. done_tells true _)))
-      (on_at true (variable_start free) _ _ t ts (passes (variable_start free) t) refl (λ s. absurd (not_scalar t e s)) (λ c. no_curly c) (λ u q. weak _ (want_tells (of Name) _ no_value_by_name (λ x. done_tells true _)))
-      (on_at true (of Name) _ _ t ts (passes (of Name) t) refl (λ s. absurd (not_scalar t e s)) (λ c. no_curly c) (λ u q. done_tells false _)
+      on_at true (of BracketOpen) _ _ t ts (passes (of BracketOpen) t) refl (λ s. absurd (not_scalar t e s))
+      (λ c. no_curly c) (λ u q. weak _ (seq_tells true _ _ (many_tells (of BracketClose) _ n
+      (passes_no_value (of BracketClose) (λ w. refl) (λ w. refl) (λ w. refl) (λ w. refl) (λ w. refl)) r)
+      (λ x. done_tells true _)))
+      (on_at true (of CurlyOpen) _ _ t ts (passes (of CurlyOpen) t) refl (λ s. absurd (not_scalar t e s))
+      (λ c. no_curly c) (λ u q. weak _ (seq_tells true _ _ (many_tells (of CurlyClose) _ n
+      (passes_no_value (of CurlyClose) (λ w. refl) (λ w. refl) (λ w. refl) (λ w. refl) (λ w. refl))
+      (field_tells _ r)) (λ x. done_tells true _)))
+      (on_at true (variable_start free) _ _ t ts (passes (variable_start free) t) refl (λ s. absurd (not_scalar t e s))
+      (λ c. no_curly c) (λ u q. weak _ (want_tells (of Name) _ no_value_by_name (λ x. done_tells true _)))
+      (on_at true (of Name) _ _ t ts (passes (of Name) t) refl (λ s. absurd (not_scalar t e s)) (λ c. no_curly c)
+      (λ u q. done_tells false _)
       (other_literal t ts e))))
 
-  value_list : (free : Bool) (n : ℕ) (r : TellsFaults true (value_at S free n)) (ts : List Lexeme) → TellsFault true (value_at S free (suc n)) ts (value_at S free (suc n) ts)
+  value_list : (free : Bool) (n : ℕ) (r : TellsFaults true (value_at S free n)) (ts : List Lexeme)
+      → TellsFault true (value_at S free (suc n)) ts (value_at S free (suc n) ts)
   unfolding value_at on literal
   value_list free n r [] = tt
   value_list free n r (t ∷ ts) = value_one free n r t ts (passes scalar_token t) refl
@@ -358,27 +490,39 @@ module _ {C F : Type 0} (S : Scalars C F) where
   value_tells free (suc n) = record { at = value_list free n (value_tells free n) }
 
   -- types
-  bracket_on : {A : Type 0} (k : Lexeme → Reader F A) (ts : List Lexeme) → ((u : Lexeme) → TellsFaults false (k u)) → TellsFault false (on (of BracketOpen) k refuse) ts (on (of BracketOpen) k refuse ts)
+  bracket_on : {A : Type 0} (k : Lexeme → Reader F A) (ts : List Lexeme) → ((u : Lexeme) → TellsFaults false (k u))
+      → TellsFault false (on (of BracketOpen) k refuse) ts (on (of BracketOpen) k refuse ts)
   unfolding on refuse
   bracket_on k [] hk = tt
   bracket_on {A} k (t ∷ ts) hk = by_test (passes (of BracketOpen) t) refl
     where
-      by_test : (b : Bool) → passes (of BracketOpen) t ≡ b → TellsFault false (on (of BracketOpen) k refuse) (t ∷ ts) (pick b k refuse t ts)
+      by_test : (b : Bool) → passes (of BracketOpen) t ≡ b
+          → TellsFault false (on (of BracketOpen) k refuse) (t ∷ ts) (pick b k refuse t ts)
       by_test true e = push false (of BracketOpen) k refuse t ts (k t ts) e ((hk t).at ts)
       by_test false e = ([], refl, inr (refl, λ s. inr ((λ c. absurd (cc c)), λ rest st. by_rest rest st)))
         where
           by_rest : (rest : List Lexeme) → Starts CurlyOpen rest → Stops (on (of BracketOpen) k refuse) [] rest
           by_rest [] st = absurd st
-          by_rest (u ∷ us) st = (fault_of u.kind u.text, on_failed (of BracketOpen) k refuse u us (ap (λ (z : Kind). of BracketOpen z u.text) st))
+          by_rest (u ∷ us) st = (
+            fault_of u.kind u.text,
+            on_failed (of BracketOpen) k refuse u us
+                (ap (λ (z : Kind). of BracketOpen z u.text) st),
+          )
 
   maybe_non_null_tells : (x : TypeRef) → TellsFaults true (maybe_non_null {F = F} x)
   unfolding maybe_non_null
-  maybe_non_null_tells x = on_tells (of ExclamationMark) _ _ (passes_no_value (of ExclamationMark) (λ w. refl) (λ w. refl) (λ w. refl) (λ w. refl) (λ w. refl)) (λ u. done_tells true _) (done_tells true _)
+  maybe_non_null_tells x = on_tells (of ExclamationMark) _ _ (passes_no_value (of ExclamationMark) (λ w. refl)
+      (λ w. refl) (λ w. refl) (λ w. refl) (λ w. refl)) (λ u. done_tells true _) (done_tells true _)
 
   plain_tells : (inner : Reader F TypeRef) → TellsFaults false inner → TellsFaults false (plain_type inner)
   unfolding plain_type
   plain_tells inner r = on_turns_by false (of Name) _ _ no_value_by_name (λ c w. refl) (λ u e. done_tells false _)
-      (same_tells false (on (of BracketOpen) _ refuse) _ (want_on (of BracketOpen) _) (record { at = λ ts. bracket_on _ ts (λ o. seq_tells false inner _ r (λ x. want_tells (of BracketClose) _ (passes_no_value (of BracketClose) (λ w. refl) (λ w. refl) (λ w. refl) (λ w. refl) (λ w. refl)) (λ c. done_tells true _))) }))
+      (same_tells false (on (of BracketOpen) _ refuse) _ (want_on (of BracketOpen) _)
+      (record {
+        at = λ ts. bracket_on _ ts (λ o. seq_tells false inner _ r
+            (λ x. want_tells (of BracketClose) _ (passes_no_value (of BracketClose) (λ w. refl) (λ w. refl) (λ w. refl)
+            (λ w. refl) (λ w. refl)) (λ c. done_tells true _)));
+      }))
 
   pub type_tells : (n : ℕ) → TellsFaults false (type_at {F = F} n)
   unfolding type_at
@@ -408,66 +552,96 @@ module _ {C F : Type 0} (S : Scalars C F) where
 
     argument_tells : TellsFaults true (argument S n)
     unfolding argument
-    argument_tells = want_tells (of Name) _ no_value_by_name (λ k. want_tells (of Colon) _ no_value_by_colon (λ c. seq_tells true _ _ (value_tells true n) (λ v. done_tells true _)))
+    argument_tells = want_tells (of Name) _ no_value_by_name (λ k.
+        want_tells (of Colon) _ no_value_by_colon
+        (λ c. seq_tells true _ _ (value_tells true n) (λ v. done_tells true _)))
 
     arguments_tells : TellsFaults true (arguments S n)
     unfolding arguments
-    arguments_tells = span_tells true _ (want_tells (of ParenOpen) _ no_value_by_paren (λ o. seq_tells true _ _ (one_or_more_tells (of ParenClose) _ n no_value_by_close argument_tells) (λ xs. done_tells true _)))
+    arguments_tells = span_tells true _ (want_tells (of ParenOpen) _ no_value_by_paren
+        (λ o. seq_tells true _ _ (one_or_more_tells (of ParenClose) _ n no_value_by_close argument_tells)
+        (λ xs. done_tells true _)))
 
     directive_tells : TellsFaults true (directive S n)
     unfolding directive
-    directive_tells = span_tells true _ (want_tells (of At) _ no_value_by_at (λ a. want_tells (of Name) _ no_value_by_name (λ t. seq_tells true _ _ (maybe_tells (of ParenOpen) _ no_value_by_paren arguments_tells) (λ xs. done_tells true _))))
+    directive_tells = span_tells true _ (want_tells (of At) _ no_value_by_at
+        (λ a. want_tells (of Name) _ no_value_by_name
+        (λ t. seq_tells true _ _ (maybe_tells (of ParenOpen) _ no_value_by_paren arguments_tells)
+        (λ xs. done_tells true _))))
 
     directives_tells : TellsFaults true (directives S n)
     unfolding directives
-    directives_tells = seq_tells true _ _ (repeated_tells (of At) _ n no_value_by_at directive_tells) (λ ds. done_tells true _)
+    directives_tells = seq_tells true _ _ (repeated_tells (of At) _ n no_value_by_at directive_tells)
+        (λ ds. done_tells true _)
 
     default_tells : TellsFaults true (default_value S n)
     unfolding default_value
-    default_tells = want_tells (of Equals) _ (passes_no_value (of Equals) (λ w. refl) (λ w. refl) (λ w. refl) (λ w. refl) (λ w. refl)) (λ e. value_tells false n)
+    default_tells = want_tells (of Equals) _ (passes_no_value (of Equals) (λ w. refl) (λ w. refl) (λ w. refl)
+        (λ w. refl) (λ w. refl)) (λ e. value_tells false n)
 
     -- after the colon a type, which refuses `{`
     variable_tells : TellsFaults true (variable_definition S n)
     unfolding variable_definition
-    variable_tells = want_tells (of Dollar) _ (passes_no_value (of Dollar) (λ w. refl) (λ w. refl) (λ w. refl) (λ w. refl) (λ w. refl)) (λ d. want_tells (of Name) _ no_value_by_name (λ t. want_type (of Colon) _ no_value_by_colon (λ c.
-        seq_tells false _ _ (spanned_tells n) (λ x. seq_tells true _ _ (maybe_tells (of Equals) _ (passes_no_value (of Equals) (λ w. refl) (λ w. refl) (λ w. refl) (λ w. refl) (λ w. refl)) default_tells) (λ v. seq_tells true _ _ directives_tells (λ ds. done_tells true _))))))
+    variable_tells = want_tells (of Dollar) _ (passes_no_value (of Dollar) (λ w. refl) (λ w. refl) (λ w. refl)
+        (λ w. refl) (λ w. refl)) (λ d. want_tells (of Name) _ no_value_by_name
+        (λ t. want_type (of Colon) _ no_value_by_colon (λ c.
+        seq_tells false _ _ (spanned_tells n) (λ x. seq_tells true _ _
+        (maybe_tells (of Equals) _ (passes_no_value (of Equals) (λ w. refl) (λ w. refl) (λ w. refl) (λ w. refl)
+        (λ w. refl)) default_tells) (λ v. seq_tells true _ _ directives_tells (λ ds. done_tells true _))))))
 
     variables_tells : TellsFaults true (variables S n)
     unfolding variables
-    variables_tells = span_tells true _ (want_tells (of ParenOpen) _ no_value_by_paren (λ o. seq_tells true _ _ (one_or_more_tells (of ParenClose) _ n no_value_by_close variable_tells) (λ xs. done_tells true _)))
+    variables_tells = span_tells true _ (want_tells (of ParenOpen) _ no_value_by_paren
+        (λ o. seq_tells true _ _ (one_or_more_tells (of ParenClose) _ n no_value_by_close variable_tells)
+        (λ xs. done_tells true _)))
 
     field_name_tells : TellsFaults true (field_name S n)
     unfolding field_name
-    field_name_tells = want_tells (of Name) _ no_value_by_name (λ a. on_tells (of Colon) _ _ no_value_by_colon (λ c. want_tells (of Name) _ no_value_by_name (λ t. done_tells true _)) (done_tells true _))
+    field_name_tells = want_tells (of Name) _ no_value_by_name (λ a.
+        on_tells (of Colon) _ _ no_value_by_colon
+        (λ c. want_tells (of Name) _ no_value_by_name (λ t. done_tells true _)) (done_tells true _))
 
     module _ (f : Reader F (Selection C)) (r : TellsFaults true f) where
       braces_tells : TellsFaults true (braces f n)
       unfolding braces
-      braces_tells = want_tells (of CurlyOpen) _ no_value_by_curly (λ o. seq_tells true _ _ (one_or_more_tells (of CurlyClose) _ n (passes_no_value (of CurlyClose) (λ w. refl) (λ w. refl) (λ w. refl) (λ w. refl) (λ w. refl)) r) (λ xs. done_tells true _))
+      braces_tells = want_tells (of CurlyOpen) _ no_value_by_curly
+          (λ o. seq_tells true _ _ (one_or_more_tells (of CurlyClose) _ n
+          (passes_no_value (of CurlyClose) (λ w. refl) (λ w. refl) (λ w. refl) (λ w. refl) (λ w. refl)) r)
+          (λ xs. done_tells true _))
 
       may_tells : TellsFaults true (may_select S n f)
       unfolding may_select
-      may_tells = look_tells (of CurlyOpen) _ _ no_value_by_curly (seq_tells true _ _ braces_tells (λ ss. done_tells true _)) (done_tells true _)
+      may_tells = look_tells (of CurlyOpen) _ _ no_value_by_curly
+          (seq_tells true _ _ braces_tells (λ ss. done_tells true _)) (done_tells true _)
 
       field_with_tells : TellsFaults true (field_with S n f)
       unfolding field_with
-      field_with_tells = seq_tells true _ _ field_name_tells (λ h. seq_tells true _ _ (maybe_tells (of ParenOpen) _ no_value_by_paren arguments_tells) (λ xs. seq_tells true _ _ directives_tells (λ ds. seq_tells true _ _ may_tells (λ ss. done_tells true _))))
+      field_with_tells = seq_tells true _ _ field_name_tells (λ h.
+          seq_tells true _ _ (maybe_tells (of ParenOpen) _ no_value_by_paren arguments_tells)
+          (λ xs. seq_tells true _ _ directives_tells (λ ds. seq_tells true _ _ may_tells (λ ss. done_tells true _))))
 
       inline_tells : (w : Option Word) → TellsFaults true (inline_tail S n w f)
       unfolding inline_tail
-      inline_tells w = seq_tells true _ _ directives_tells (λ ds. seq_tells true _ _ braces_tells (λ ss. done_tells true _))
+      inline_tells w = seq_tells true _ _ directives_tells (λ ds.
+          seq_tells true _ _ braces_tells (λ ss. done_tells true _))
 
       spread_tells : TellsFaults true (spread_with S n f)
       unfolding spread_with
-      spread_tells = want_tells (of Ellipsis) _ (passes_no_value (of Ellipsis) (λ w. refl) (λ w. refl) (λ w. refl) (λ w. refl) (λ w. refl)) (λ e.
-          on_tells (word (codes "on")) _ _ (passes_no_value (word (codes "on")) (λ w. refl) (λ w. refl) (λ w. refl) (λ w. refl) (λ w. refl)) (λ o. want_tells (of Name) _ no_value_by_name (λ t. inline_tells (Some (word_of t))))
-          (on_tells other_than_on _ _ (passes_no_value other_than_on (λ w. refl) (λ w. refl) (λ w. refl) (λ w. refl) (λ w. refl)) (λ t. seq_tells true _ _ directives_tells (λ ds. done_tells true _))
+      spread_tells = want_tells (of Ellipsis) _ (passes_no_value (of Ellipsis) (λ w. refl) (λ w. refl) (λ w. refl)
+          (λ w. refl) (λ w. refl)) (λ e.
+          on_tells (word (codes "on")) _ _ (passes_no_value (word (codes "on")) (λ w. refl) (λ w. refl) (λ w. refl)
+          (λ w. refl) (λ w. refl)) (λ o. want_tells (of Name) _ no_value_by_name
+          (λ t. inline_tells (Some (word_of t))))
+          (on_tells other_than_on _ _ (passes_no_value other_than_on (λ w. refl) (λ w. refl) (λ w. refl) (λ w. refl)
+          (λ w. refl)) (λ t. seq_tells true _ _ directives_tells (λ ds. done_tells true _))
           (inline_tells None)))
 
   selection_tells : (n : ℕ) → TellsFaults true (selection_at S n)
   unfolding selection_at
   selection_tells zero = out_tells (selection_at S zero) (λ ts. refl)
-  selection_tells (suc n) = span_tells true _ (look_tells (of Ellipsis) _ _ (passes_no_value (of Ellipsis) (λ w. refl) (λ w. refl) (λ w. refl) (λ w. refl) (λ w. refl)) (spread_tells n _ (selection_tells n)) (field_with_tells n _ (selection_tells n)))
+  selection_tells (suc n) = span_tells true _ (look_tells (of Ellipsis) _ _
+      (passes_no_value (of Ellipsis) (λ w. refl) (λ w. refl) (λ w. refl) (λ w. refl) (λ w. refl))
+      (spread_tells n _ (selection_tells n)) (field_with_tells n _ (selection_tells n)))
 
   module _ (n : ℕ) where
     body_tells : TellsFaults true (braces (selection_at S n) n)
@@ -479,20 +653,30 @@ module _ {C F : Type 0} (S : Scalars C F) where
 
     operation_tells : (w : Lexeme) → TellsFaults true (operation_with S n w)
     unfolding operation_with
-    operation_tells w = seq_tells true _ _ (maybe_tells (of Name) _ no_value_by_name name_tells) (λ name. seq_tells true _ _ (maybe_tells (of ParenOpen) _ (no_value_by_paren n) (variables_tells n)) (λ vars. seq_tells true _ _ (directives_tells n) (λ ds. seq_tells true _ _ body_tells (λ ss. done_tells true _))))
+    operation_tells w = seq_tells true _ _ (maybe_tells (of Name) _ no_value_by_name name_tells)
+        (λ name. seq_tells true _ _ (maybe_tells (of ParenOpen) _ (no_value_by_paren n) (variables_tells n))
+        (λ vars. seq_tells true _ _ (directives_tells n)
+        (λ ds. seq_tells true _ _ body_tells (λ ss. done_tells true _))))
 
     fragment_tells : TellsFaults true (fragment_with S n)
     unfolding fragment_with
-    fragment_tells = want_tells other_than_on _ (passes_no_value other_than_on (λ w. refl) (λ w. refl) (λ w. refl) (λ w. refl) (λ w. refl)) (λ a. want_tells (word (codes "on")) _ (passes_no_value (word (codes "on")) (λ w. refl) (λ w. refl) (λ w. refl) (λ w. refl) (λ w. refl)) (λ o. want_tells (of Name) _ no_value_by_name (λ t.
+    fragment_tells = want_tells other_than_on _ (passes_no_value other_than_on (λ w. refl) (λ w. refl) (λ w. refl)
+        (λ w. refl) (λ w. refl)) (λ a. want_tells (word (codes "on")) _
+        (passes_no_value (word (codes "on")) (λ w. refl) (λ w. refl) (λ w. refl) (λ w. refl) (λ w. refl))
+        (λ o. want_tells (of Name) _ no_value_by_name (λ t.
         seq_tells true _ _ (directives_tells n) (λ ds. seq_tells true _ _ body_tells (λ ss. done_tells true _)))))
 
     definition_tells : TellsFaults true (definition S n)
     unfolding definition
     definition_tells = span_tells true _
-        (on_tells operation_word _ _ (passes_no_value operation_word (λ w. refl) (λ w. refl) (λ w. refl) (λ w. refl) (λ w. refl)) operation_tells
-        (on_tells (word (codes "fragment")) _ _ (passes_no_value (word (codes "fragment")) (λ w. refl) (λ w. refl) (λ w. refl) (λ w. refl) (λ w. refl)) (λ w. fragment_tells)
+        (on_tells operation_word _ _ (passes_no_value operation_word (λ w. refl) (λ w. refl) (λ w. refl) (λ w. refl)
+        (λ w. refl)) operation_tells
+        (on_tells (word (codes "fragment")) _ _
+        (passes_no_value (word (codes "fragment")) (λ w. refl) (λ w. refl) (λ w. refl) (λ w. refl) (λ w. refl))
+        (λ w. fragment_tells)
         (seq_tells true _ _ body_tells (λ ss. done_tells true _))))
 
     pub document_tells : TellsFaults true (document S n)
     unfolding document
-    document_tells = one_or_more_tells (of EndOfFile) _ n (passes_no_value (of EndOfFile) (λ w. refl) (λ w. refl) (λ w. refl) (λ w. refl) (λ w. refl)) definition_tells
+    document_tells = one_or_more_tells (of EndOfFile) _ n (passes_no_value (of EndOfFile) (λ w. refl) (λ w. refl)
+        (λ w. refl) (λ w. refl) (λ w. refl)) definition_tells

@@ -17,11 +17,13 @@ module _ {C F : Type 0} (S : Scalars C F) where
   pub word_takes : (ts : List Lexeme) (w : Word) → IsWord ts w → 0 < length ts
   word_takes ts w h = rw h.whole (omega arith)
 
-  selections_are : (ts : List Lexeme) (xs : List (Selection C)) → Each (IsSelection S) ts xs → AreSelections S ts (selections_of xs)
+  selections_are : (ts : List Lexeme) (xs : List (Selection C)) → Each (IsSelection S) ts xs
+      → AreSelections S ts (selections_of xs)
   selections_are ts [] h = h
   selections_are ts (x ∷ xs) (us, ws, e, h, k) = (us, ws, e, h, selections_are ws xs k)
 
-  select_is : (t : Lexeme) (us : List Lexeme) (xs : List (Selection C)) → passes (of CurlyOpen) t ≡ true → ClosedSome (of CurlyClose) (IsSelection S) us xs → IsSelectionSet S (t ∷ us) (selections_of xs)
+  select_is : (t : Lexeme) (us : List Lexeme) (xs : List (Selection C)) → passes (of CurlyOpen) t ≡ true
+      → ClosedSome (of CurlyClose) (IsSelection S) us xs → IsSelectionSet S (t ∷ us) (selections_of xs)
   select_is t us [] p c = absurd c
   select_is t us (x ∷ xs) p c = (
     t,
@@ -50,7 +52,26 @@ module _ {C F : Type 0} (S : Scalars C F) where
   some_selection = (
     x ∷ [],
     Field None (word_of x) None None absent (span_of (x ∷ [])),
-    ([], x ∷ [], [], [], [], refl, refl, record { token = x; whole = refl; kind_is = refl; text_is = refl; spans = refl }, refl, refl, refl, refl),
+    (
+      [],
+      x ∷ [],
+      [],
+      [],
+      [],
+      refl,
+      refl,
+      record {
+        token = x;
+        whole = refl;
+        kind_is = refl;
+        text_is = refl;
+        spans = refl;
+      },
+      refl,
+      refl,
+      refl,
+      refl,
+    ),
     (inl refl, tt),
   )
     where
@@ -69,32 +90,73 @@ module _ {C F : Type 0} (S : Scalars C F) where
   unfolding field_name
   field_name_rule k n m = want_step k (of Name) (sample Name) _ _ _ refl (inl refl) (λ a a' p.
       on_rule _ (of Colon) _ _ _ _ _
-      (λ c c' q. want_step _ (of Name) (sample Name) _ _ _ refl (inl refl) (λ t t' r. done_rule _ (Some (word_of a), word_of t) (Some (word_of a'), word_of t') _
-      (a ∷ c ∷ [], t ∷ [], refl, (a, c, refl, of_kind Name a p, of_kind Colon c q, refl), record { token = t; whole = refl; kind_is = of_kind Name t r; text_is = refl; spans = refl })))
-      (done_rule _ (None, word_of a) (None, word_of a') _ ([], a ∷ [], refl, refl, record { token = a; whole = refl; kind_is = of_kind Name a p; text_is = refl; spans = refl })))
+      (λ c c' q. want_step _ (of Name) (sample Name) _ _ _ refl (inl refl)
+      (λ t t' r. done_rule _ (Some (word_of a), word_of t) (Some (word_of a'), word_of t') _ (
+        a ∷ c ∷ [],
+        t ∷ [],
+        refl,
+        (a, c, refl, of_kind Name a p, of_kind Colon c q, refl),
+        record { token = t; whole = refl; kind_is = of_kind Name t r; text_is = refl; spans = refl },
+      )))
+      (done_rule _ (None, word_of a) (None, word_of a') _ (
+        [],
+        a ∷ [],
+        refl,
+        refl,
+        record {
+          token = a;
+          whole = refl;
+          kind_is = of_kind Name a p;
+          text_is = refl;
+          spans = refl;
+        },
+      )))
 
   module _ (n m : ℕ) (le : n ≤ m) (f g : Reader F (Selection C)) (r : Rule n f g (IsSelection S)) where
     pub braces_rule : Rule n (braces f n) (braces g m) (IsSelectionSet S)
     unfolding braces
     braces_rule = want_step n (of CurlyOpen) (sample CurlyOpen) _ _ _ refl (inl refl) (λ o o' p.
-        step n _ _ _ _ _ (ClosedSome (of CurlyClose) (IsSelection S)) _ (lower n n (o ∷ []) (le_refl n)) (one_or_more_rule (IsSelection S) selection_takes (of CurlyClose) (sample CurlyClose) refl (inl refl) f g n m le r) (λ us xs ys h.
+        step n _ _ _ _ _ (ClosedSome (of CurlyClose) (IsSelection S)) _ (lower n n (o ∷ []) (le_refl n))
+        (one_or_more_rule (IsSelection S) selection_takes (of CurlyClose) (sample CurlyClose) refl (inl refl) f g n
+        m le r) (λ us xs ys h.
         done_rule _ (selections_of xs) (selections_of ys) _ (rw append-nil (select_is o us xs p h))))
 
     may_rule : Rule n (may_select S n f) (may_select S m g) (IsOptionalSelectionSet S)
     unfolding may_select
-    may_rule = look_rule n (of CurlyOpen) _ _ _ _ _ (step n n _ _ _ _ (IsSelectionSet S) _ (le_refl n) braces_rule (λ us ss ss' h. done_rule _ (present ss) (present ss') _ (rw append-nil h))) (done_rule n absent absent _ refl)
+    may_rule = look_rule n (of CurlyOpen) _ _ _ _ _
+        (step n n _ _ _ _ (IsSelectionSet S) _ (le_refl n) braces_rule
+        (λ us ss ss' h. done_rule _ (present ss) (present ss') _ (rw append-nil h))) (done_rule n absent absent _ refl)
 
     field_rule : Rule (suc n) (field_with S n f) (field_with S m g) (λ us k. IsSelection S us (k (span_of us)))
     unfolding field_with
-    field_rule = step (suc n) (suc n) _ _ _ _ IsFieldName _ (le_refl (suc n)) (field_name_rule (suc n) n m) (λ us h h' a.
-        step n (less (suc n) us) _ _ _ _ (Optional (IsArguments S)) _ (less_short n us (field_name_takes us h a)) (maybe_rule n (of ParenOpen) _ _ (IsArguments S) (arguments_rule S n m le)) (λ vs xs xs' b.
-        step n _ _ _ _ _ (IsDirectives S) _ (lower n _ vs (less_short n us (field_name_takes us h a))) (directives_rule S n m le) (λ ws ds ds' c.
-        step n _ _ _ _ _ (IsOptionalSelectionSet S) _ (lower n _ ws (lower n _ vs (less_short n us (field_name_takes us h a)))) may_rule (λ zs ss ss' d.
+    field_rule = step (suc n) (suc n) _ _ _ _ IsFieldName _ (le_refl (suc n)) (field_name_rule (suc n) n m)
+        (λ us h h' a.
+        step n (less (suc n) us) _ _ _ _ (Optional (IsArguments S)) _ (less_short n us (field_name_takes us h a))
+        (maybe_rule n (of ParenOpen) _ _ (IsArguments S) (arguments_rule S n m le)) (λ vs xs xs' b.
+        step n _ _ _ _ _ (IsDirectives S) _ (lower n _ vs (less_short n us (field_name_takes us h a)))
+        (directives_rule S n m le) (λ ws ds ds' c.
+        step n _ _ _ _ _ (IsOptionalSelectionSet S) _
+        (lower n _ ws (lower n _ vs (less_short n us (field_name_takes us h a)))) may_rule (λ zs ss ss' d.
         done_rule _ (Field h.0 h.1 xs ds ss) (Field h'.0 h'.1 xs' ds' ss') _
-        (rw append-nil (a.0, a.1, vs, ws, zs, ap (λ l. l ++ (vs ++ (ws ++ zs))) a.2 ∙ append_assoc a.0 a.1 (vs ++ (ws ++ zs)), a.3, a.4, b, c, d, refl))))))
+        (rw append-nil (
+          a.0,
+          a.1,
+          vs,
+          ws,
+          zs,
+          ap (λ l. l ++ (vs ++ (ws ++ zs))) a.2
+              ∙ append_assoc a.0 a.1 (vs ++ (ws ++ zs)),
+          a.3,
+          a.4,
+          b,
+          c,
+          d,
+          refl,
+        ))))))
 
     inline_rule : (k : ℕ) (w w' : Option Word) (G : List Lexeme → (Span → Selection C) → Type 0) → k ≤ n
-        → ((us vs : List Lexeme) (ds : Directives C) (ss : Selections C) → IsDirectives S us ds → IsSelectionSet S vs ss → G (us ++ vs) (InlineFragment w ds ss))
+        → ((us vs : List Lexeme) (ds : Directives C) (ss : Selections C) → IsDirectives S us ds → IsSelectionSet S vs ss
+        → G (us ++ vs) (InlineFragment w ds ss))
         → Rule k (inline_tail S n w f) (inline_tail S m w' g) G
     unfolding inline_tail
     inline_rule k w w' G lk h = step n k _ _ _ _ (IsDirectives S) _ lk (directives_rule S n m le) (λ us ds ds' c.
@@ -106,29 +168,65 @@ module _ {C F : Type 0} (S : Scalars C F) where
     spread_rule = want_step (suc n) (of Ellipsis) (sample Ellipsis) _ _ _ refl (inl refl) (λ e e' p.
         on_rule n (word (codes "on")) _ _ _ _ _
         (λ o o' q. want_step _ (of Name) (sample Name) _ _ _ refl (inl refl) (λ t t' x.
-        inline_rule _ (Some (word_of t)) (Some (word_of t')) _ (lower n _ (t ∷ []) (lower n n (o ∷ []) (le_refl n))) (λ us vs ds ss c d.
-        (e, o ∷ t ∷ [], us, vs, refl, of_kind Ellipsis e p, (o, t, refl, says _ o q, of_kind Name t x, refl), c, d, refl))))
+        inline_rule _ (Some (word_of t)) (Some (word_of t')) _ (lower n _ (t ∷ []) (lower n n (o ∷ []) (le_refl n)))
+        (λ us vs ds ss c d. (
+          e,
+          o ∷ t ∷ [],
+          us,
+          vs,
+          refl,
+          of_kind Ellipsis e p,
+          (o, t, refl, says _ o q, of_kind Name t x, refl),
+          c,
+          d,
+          refl,
+        ))))
         (on_rule n other_than_on _ _ _ _ _
-        (λ t t' q. step n _ _ _ _ _ (IsDirectives S) _ (lower n n (t ∷ []) (le_refl n)) (directives_rule S n m le) (λ us ds ds' c.
-        done_rule _ (FragmentSpread (word_of t) ds) (FragmentSpread (word_of t') ds') _ (rw append-nil
-        (e, t ∷ [], us, refl, of_kind Ellipsis e p, (record { token = t; whole = refl; kind_is = (other t q).0; text_is = refl; spans = refl }, (other t q).1), c, refl))))
-        (inline_rule n None None _ (le_refl n) (λ us vs ds ss c d. (e, [], us, vs, refl, of_kind Ellipsis e p, refl, c, d, refl)))))
+        (λ t t' q. step n _ _ _ _ _ (IsDirectives S) _ (lower n n (t ∷ []) (le_refl n)) (directives_rule S n m le)
+        (λ us ds ds' c.
+        done_rule _ (FragmentSpread (word_of t) ds) (FragmentSpread (word_of t') ds') _ (rw append-nil (
+          e,
+          t ∷ [],
+          us,
+          refl,
+          of_kind Ellipsis e p,
+          (record { token = t; whole = refl; kind_is = (other t q).0; text_is = refl; spans = refl }, (other t q).1),
+          c,
+          refl,
+        ))))
+        (inline_rule n None None _ (le_refl n) (λ us vs ds ss c d. (
+          e,
+          [],
+          us,
+          vs,
+          refl,
+          of_kind Ellipsis e p,
+          refl,
+          c,
+          d,
+          refl,
+        )))))
 
   pub selection_rule : (n m : ℕ) → n ≤ m → Rule n (selection_at S n) (selection_at S m) (IsSelection S)
   unfolding selection_at
   selection_rule zero m le = record { at = λ ts. (zero-le, [], ts, refl, some_selection) }
   selection_rule (suc n) zero le = absurd (omega arith)
   selection_rule (suc n) (suc m) le = span_rule (suc n) _ _ (IsSelection S)
-      (look_rule (suc n) (of Ellipsis) _ _ _ _ _ (spread_rule n m (omega arith) _ _ (selection_rule n m (omega arith))) (field_rule n m (omega arith) _ _ (selection_rule n m (omega arith))))
+      (look_rule (suc n) (of Ellipsis) _ _ _ _ _ (spread_rule n m (omega arith) _ _ (selection_rule n m (omega arith)))
+      (field_rule n m (omega arith) _ _ (selection_rule n m (omega arith))))
 
   -- Definitions
-  two_words : (t : Lexeme) → (passes (word (codes "query")) t ≡ true) ⊎ (passes (word (codes "mutation")) t ≡ true) → Says t (operation_name (operation_of t.text))
+  two_words : (t : Lexeme) → (passes (word (codes "query")) t ≡ true) ⊎ (passes (word (codes "mutation")) t ≡ true)
+      → Says t (operation_name (operation_of t.text))
   two_words t (inl x) = let s : Says t (codes "query") = says _ t x in record { kind = s.kind; text = rw s.text refl }
-  two_words t (inr x) = let s : Says t (codes "mutation") = says _ t x in record { kind = s.kind; text = rw s.text refl }
+  two_words t (inr x) = let s : Says t (codes "mutation") = says _ t x in
+      record { kind = s.kind; text = rw s.text refl }
 
-  three_words : (t : Lexeme) → ((passes (word (codes "query")) t || passes (word (codes "mutation")) t) ≡ true) ⊎ (passes (word (codes "subscription")) t ≡ true) → Says t (operation_name (operation_of t.text))
+  three_words : (t : Lexeme) → ((passes (word (codes "query")) t || passes (word (codes "mutation")) t) ≡ true)
+      ⊎ (passes (word (codes "subscription")) t ≡ true) → Says t (operation_name (operation_of t.text))
   three_words t (inl x) = two_words t (or_cases _ _ x)
-  three_words t (inr x) = let s : Says t (codes "subscription") = says _ t x in record { kind = s.kind; text = rw s.text refl }
+  three_words t (inr x) = let s : Says t (codes "subscription") = says _ t x in
+      record { kind = s.kind; text = rw s.text refl }
 
   operation_says : (t : Lexeme) → passes operation_word t ≡ true → Says t (operation_name (operation_of t.text))
   operation_says t e = three_words t (or_cases _ _ e)
@@ -140,7 +238,9 @@ module _ {C F : Type 0} (S : Scalars C F) where
 
   name_word_rule : (n : ℕ) → Rule {F = F} n name_word name_word IsWord
   unfolding name_word
-  name_word_rule n = want_step n (of Name) (sample Name) _ _ _ refl (inl refl) (λ t t' p. done_rule _ (word_of t) (word_of t') _ (record { token = t; whole = refl; kind_is = of_kind Name t p; text_is = refl; spans = refl }))
+  name_word_rule n = want_step n (of Name) (sample Name) _ _ _ refl (inl refl)
+      (λ t t' p. done_rule _ (word_of t) (word_of t') _
+      (record { token = t; whole = refl; kind_is = of_kind Name t p; text_is = refl; spans = refl }))
 
   module _ (n m : ℕ) (le : n ≤ m) where
     body_rule : Rule n (braces (selection_at S n) n) (braces (selection_at S m) m) (IsSelectionSet S)
@@ -149,20 +249,29 @@ module _ {C F : Type 0} (S : Scalars C F) where
     abbrev IsOperation : List Lexeme → (Span → Definition C) → Type 0
     IsOperation us k = IsDefinition S us (k (span_of us))
 
-    operation_rule : (t t' : Lexeme) → passes operation_word t ≡ true → Rule (less n (t ∷ [])) (operation_with S n t) (operation_with S m t') (λ us k. IsOperation (t ∷ us) k)
+    operation_rule : (t t' : Lexeme) → passes operation_word t ≡ true
+        → Rule (less n (t ∷ [])) (operation_with S n t) (operation_with S m t') (λ us k. IsOperation (t ∷ us) k)
     unfolding operation_with
-    operation_rule t t' p = step n (less n (t ∷ [])) _ _ _ _ (Optional IsWord) _ (low1 S n m le (t ∷ [])) (maybe_rule n (of Name) _ _ IsWord (name_word_rule n)) (λ us name name' a.
-        step n _ _ _ _ _ (Optional (IsVariables S)) _ (low2 S n m le (t ∷ []) us) (maybe_rule n (of ParenOpen) _ _ (IsVariables S) (variables_rule S n m le)) (λ vs vars vars' b.
+    operation_rule t t' p = step n (less n (t ∷ [])) _ _ _ _ (Optional IsWord) _ (low1 S n m le (t ∷ []))
+        (maybe_rule n (of Name) _ _ IsWord (name_word_rule n)) (λ us name name' a.
+        step n _ _ _ _ _ (Optional (IsVariables S)) _ (low2 S n m le (t ∷ []) us)
+        (maybe_rule n (of ParenOpen) _ _ (IsVariables S) (variables_rule S n m le)) (λ vs vars vars' b.
         step n _ _ _ _ _ (IsDirectives S) _ (low3 S n m le (t ∷ []) us vs) (directives_rule S n m le) (λ ws ds ds' c.
         step n _ _ _ _ _ (IsSelectionSet S) _ (low4 S n m le (t ∷ []) us vs ws) body_rule (λ zs ss ss' d.
-        done_rule _ (Operation (operation_of t.text) name vars ds ss) (Operation (operation_of t'.text) name' vars' ds' ss') _
+        done_rule _ (Operation (operation_of t.text) name vars ds ss)
+        (Operation (operation_of t'.text) name' vars' ds' ss') _
         (rw append-nil (refl, inr (t, us, vs, ws, zs, refl, operation_says t p, a, b, c, d)))))))
 
-    fragment_rule : (t : Lexeme) → passes (word (codes "fragment")) t ≡ true → Rule (less n (t ∷ [])) (fragment_with S n) (fragment_with S m) (λ us k. IsOperation (t ∷ us) k)
+    fragment_rule : (t : Lexeme) → passes (word (codes "fragment")) t ≡ true
+        → Rule (less n (t ∷ [])) (fragment_with S n) (fragment_with S m) (λ us k. IsOperation (t ∷ us) k)
     unfolding fragment_with
-    fragment_rule t p = want_step _ other_than_on (sample Name) _ _ _ refl (inl refl) (λ a a' x. want_step _ (word (codes "on")) (token_of Name (codes "on")) _ _ _ refl (inr (inr (refl, refl))) (λ o o' y. want_step _ (of Name) (sample Name) _ _ _ refl (inl refl) (λ c c' z.
-        step n _ _ _ _ _ (IsDirectives S) _ (low4 S n m le (t ∷ []) (a ∷ []) (o ∷ []) (c ∷ [])) (directives_rule S n m le) (λ ws ds ds' d.
-        step n _ _ _ _ _ (IsSelectionSet S) _ (lower n _ ws (low4 S n m le (t ∷ []) (a ∷ []) (o ∷ []) (c ∷ []))) body_rule (λ zs ss ss' b.
+    fragment_rule t p = want_step _ other_than_on (sample Name) _ _ _ refl (inl refl)
+        (λ a a' x. want_step _ (word (codes "on")) (token_of Name (codes "on")) _ _ _ refl (inr (inr (refl, refl)))
+        (λ o o' y. want_step _ (of Name) (sample Name) _ _ _ refl (inl refl) (λ c c' z.
+        step n _ _ _ _ _ (IsDirectives S) _ (low4 S n m le (t ∷ []) (a ∷ []) (o ∷ []) (c ∷ []))
+        (directives_rule S n m le) (λ ws ds ds' d.
+        step n _ _ _ _ _ (IsSelectionSet S) _ (lower n _ ws (low4 S n m le (t ∷ []) (a ∷ []) (o ∷ []) (c ∷ [])))
+        body_rule (λ zs ss ss' b.
         done_rule _ (Fragment (word_of a) (word_of c) ds ss) (Fragment (word_of a') (word_of c') ds' ss') _
         (rw append-nil (
           t,
@@ -185,13 +294,16 @@ module _ {C F : Type 0} (S : Scalars C F) where
         (on_rule n operation_word _ _ _ _ _ (λ t t' p. operation_rule t t' p)
         (on_rule n (word (codes "fragment")) _ _ _ _ _ (λ t t' p. fragment_rule t p)
         (step n n _ _ _ _ (IsSelectionSet S) _ (le_refl n) body_rule (λ us ss ss' h.
-        done_rule _ (Operation Query None None None ss) (Operation Query None None None ss') _ (rw append-nil (refl, inl (h, refl, refl, refl, refl)))))))
+        done_rule _ (Operation Query None None None ss) (Operation Query None None None ss') _
+        (rw append-nil (refl, inl (h, refl, refl, refl, refl)))))))
 
-    document_is : (ts : List Lexeme) (ds : List (Definition C)) → ClosedSome (of EndOfFile) (IsDefinition S) ts ds → IsDocument S ts ds
+    document_is : (ts : List Lexeme) (ds : List (Definition C)) → ClosedSome (of EndOfFile) (IsDefinition S) ts ds
+        → IsDocument S ts ds
     document_is ts [] h = absurd h
     document_is ts (d ∷ ds) h = (h.inner, h.last, h.whole, of_kind EndOfFile h.last h.closes, h.each)
 
     pub document_rule : Rule n (document S n) (document S m) (IsDocument S)
     unfolding document
     document_rule = weaken n n _ _ (ClosedSome (of EndOfFile) (IsDefinition S)) (IsDocument S) (le_refl n) document_is
-        (one_or_more_rule (IsDefinition S) definition_takes (of EndOfFile) (sample EndOfFile) refl (inl refl) _ _ n m le definition_rule)
+        (one_or_more_rule (IsDefinition S) definition_takes (of EndOfFile) (sample EndOfFile) refl (inl refl) _ _ n m le
+        definition_rule)

@@ -53,7 +53,8 @@ no_end_alike (u ∷ us) (v ∷ vs) a h = ((λ e. h.0 (a.0.kind ∙ e)), no_end_a
 behind : (us more inner : List Lexeme) (end : Lexeme) → us ++ more ≡ inner ++ end ∷ [] → NoEnd us
     → end.kind ≡ EndOfFile → (others : List Lexeme) × (more ≡ others ++ end ∷ []) × (inner ≡ us ++ others)
 behind [] more inner end e h k = (inner, e, refl)
-behind (u ∷ us) more [] end e h k = let same : end ≡ u = cc in absurd (h.0 (subst (λ (t : Lexeme). t.kind ≡ EndOfFile) same k))
+behind (u ∷ us) more [] end e h k = let same : end ≡ u = cc in
+    absurd (h.0 (subst (λ (t : Lexeme). t.kind ≡ EndOfFile) same k))
 behind (u ∷ us) more (x ∷ inner) end e h k =
     let heads : x ≡ u = cc in
     let tails : us ++ more ≡ inner ++ end ∷ [] = cc in
@@ -85,15 +86,26 @@ module _ {C F : Type 0} (S : Scalars C F) where
       let ends = document_ends S (front ++ more) tree document in
       let b = behind front more ends.inner ends.end ends.whole (no_end_alike before front alike no_end) ends.is_end in
       let others : List Lexeme = b.0 in
-      let all : AllByRecursion IsSpelled (others ++ ends.end ∷ []) = subst (AllByRecursion IsSpelled) b.1 (all_back IsSpelled front more spelled) in
+      let all : AllByRecursion IsSpelled (others ++ ends.end ∷ []) =
+      subst (AllByRecursion IsSpelled) b.1 (all_back IsSpelled front more spelled) in
       let last = all_back IsSpelled others (ends.end ∷ []) all in
-      let text = spaced others (all_back (λ t. t.kind ≡ EndOfFile → ⊥) front others (subst NoEnd b.2 ends.no_end)) (all_front IsSpelled others (ends.end ∷ []) all) in
+      let text = spaced others (all_back (λ t. t.kind ≡ EndOfFile → ⊥) front others (subst NoEnd b.2 ends.no_end))
+      (all_front IsSpelled others (ends.end ∷ []) all) in
       let g = goes_on_spaced source before next after others text.0 cut text.1 in
-      let end_spelled = all_back IsSpelled g.added (g.end ∷ []) (all_back IsSpelled before (g.added ++ g.end ∷ []) (cut_spelled _ _ g.cut)) in
-      let end_alike : AllAlike (ends.end ∷ []) (g.end ∷ []) = (record { kind = ends.is_end ∙ sym g.is_end; text = end_text ends.end last.0 ends.is_end ∙ sym (end_text g.end end_spelled.0 g.is_end) }, tt) in
+      let end_spelled = all_back IsSpelled g.added (g.end ∷ []) (all_back IsSpelled before (g.added ++ g.end ∷ [])
+      (cut_spelled _ _ g.cut)) in
+      let end_alike : AllAlike (ends.end ∷ []) (g.end ∷ []) = (
+        record {
+          kind = ends.is_end ∙ sym g.is_end;
+          text = end_text ends.end last.0 ends.is_end
+              ∙ sym (end_text g.end end_spelled.0 g.is_end);
+        },
+        tt,
+      ) in
       let all_alike : AllAlike (front ++ more) (before ++ (g.added ++ g.end ∷ [])) =
       alike_join front before more (g.added ++ g.end ∷ []) (alike_sym before front alike)
-      (subst (λ (ts : List Lexeme). AllAlike ts (g.added ++ g.end ∷ [])) (sym b.1) (alike_join others g.added (ends.end ∷ []) (g.end ∷ []) (alike_sym g.added others g.alike) end_alike)) in
+      (subst (λ (ts : List Lexeme). AllAlike ts (g.added ++ g.end ∷ [])) (sym b.1)
+      (alike_join others g.added (ends.end ∷ []) (g.end ∷ []) (alike_sym g.added others g.alike) end_alike)) in
       let d = document_alike S (front ++ more) (before ++ (g.added ++ g.end ∷ [])) tree all_alike document in
       record { further = text.0; after = g.added ++ g.end ∷ []; tree = d.0; cut = g.cut; document = d.1 }
 

@@ -14,15 +14,18 @@ use Rattle.graphql_grammar.proofs.TokenTests.{of_kind, both, is_scalar_kind, tex
 
 -- a literal
 module _ {C F : Type 0} (S : Scalars C F) where
-  pub literal_ok : (t : Lexeme) (ts : List Lexeme) (c : C) → passes scalar_token t ≡ true → S.read t.kind t.text ≡ Ok c → literal S (t ∷ ts) ≡ Took (Scalar c t.span) ts
+  pub literal_ok : (t : Lexeme) (ts : List Lexeme) (c : C) → passes scalar_token t ≡ true → S.read t.kind t.text ≡ Ok c
+      → literal S (t ∷ ts) ≡ Took (Scalar c t.span) ts
   unfolding literal
   literal_ok t ts c e h = ap₂ (λ b z. cond b (read_as t ts z) (refuse (t ∷ ts))) e h
 
-  pub literal_bad : (t : Lexeme) (ts : List Lexeme) (x : F) → passes scalar_token t ≡ true → S.read t.kind t.text ≡ Err x → literal S (t ∷ ts) ≡ Refused (t ∷ ts) (ScalarError x)
+  pub literal_bad : (t : Lexeme) (ts : List Lexeme) (x : F) → passes scalar_token t ≡ true
+      → S.read t.kind t.text ≡ Err x → literal S (t ∷ ts) ≡ Refused (t ∷ ts) (ScalarError x)
   unfolding literal
   literal_bad t ts x e h = ap₂ (λ b z. cond b (read_as t ts z) (refuse (t ∷ ts))) e h
 
-  pub literal_other : (t : Lexeme) (ts : List Lexeme) → passes scalar_token t ≡ false → literal S (t ∷ ts) ≡ refuse (t ∷ ts)
+  pub literal_other : (t : Lexeme) (ts : List Lexeme) → passes scalar_token t ≡ false
+      → literal S (t ∷ ts) ≡ refuse (t ∷ ts)
   unfolding literal
   literal_other t ts e = ap (λ b. cond b (read_as t ts (S.read t.kind t.text)) (refuse (t ∷ ts))) e
 
@@ -37,36 +40,49 @@ module _ {C F : Type 0} (S : Scalars C F) where
   read_alike : (t u : Lexeme) → Alike t u → S.read u.kind u.text ≡ S.read t.kind t.text
   read_alike t u a = ap₂ S.read (sym a.kind) (sym a.text)
 
-  other_alike : (t : Lexeme) (ts other : List Lexeme) → passes scalar_token t ≡ false → SameHead (t ∷ ts) other → literal S other ≡ refuse other
+  other_alike : (t : Lexeme) (ts other : List Lexeme) → passes scalar_token t ≡ false → SameHead (t ∷ ts) other
+      → literal S other ≡ refuse other
   other_alike t ts [] e p = absurd p
   other_alike t ts (u ∷ us) e p = literal_other u us (pass_alike t u p ∙ e)
 
-  ok_agrees : (t : Lexeme) (ts : List Lexeme) (c : C) → passes scalar_token t ≡ true → S.read t.kind t.text ≡ Ok c → Agrees (t ∷ []) ts (literal S)
+  ok_agrees : (t : Lexeme) (ts : List Lexeme) (c : C) → passes scalar_token t ≡ true → S.read t.kind t.text ≡ Ok c
+      → Agrees (t ∷ []) ts (literal S)
   ok_agrees t ts c e h [] rest' p q = absurd p
-  ok_agrees t ts c e h (u ∷ []) rest' p q = (Scalar c u.span, literal_ok u rest' c (pass_alike t u p.0 ∙ e) (read_alike t u p.0 ∙ h))
+  ok_agrees t ts c e h (u ∷ []) rest' p q =
+      (Scalar c u.span, literal_ok u rest' c (pass_alike t u p.0 ∙ e) (read_alike t u p.0 ∙ h))
   ok_agrees t ts c e h (u ∷ v ∷ us) rest' p q = absurd p.1
 
-  bad_fails : (t : Lexeme) (ts : List Lexeme) (x : F) → passes scalar_token t ≡ true → S.read t.kind t.text ≡ Err x → Fails [] (t ∷ ts) (ScalarError x) (literal S)
+  bad_fails : (t : Lexeme) (ts : List Lexeme) (x : F) → passes scalar_token t ≡ true → S.read t.kind t.text ≡ Err x
+      → Fails [] (t ∷ ts) (ScalarError x) (literal S)
   bad_fails t ts x e h [] [] p q = absurd q
   bad_fails t ts x e h [] (u ∷ rest') p q = literal_bad u rest' x (pass_alike t u q ∙ e) (read_alike t u q ∙ h)
   bad_fails t ts x e h (u ∷ us) rest' p q = absurd p
 
-  module _ (n : ℕ) (Q : List Lexeme → Value C → Type 0) (some : Some_of Q) (openers : (w : Lexeme) → IsOpener w → More Q [] w) (h : (t : Lexeme) (c : C) → IsScalarKind t.kind → S.read t.kind t.text ≡ Ok c → Q (t ∷ []) (Scalar c t.span)) where
-    literal_read : (t : Lexeme) (ts : List Lexeme) → passes scalar_token t ≡ true → (z : Result C F) → S.read t.kind t.text ≡ z → Meets n Q (literal S) (t ∷ ts) (literal S (t ∷ ts))
-    literal_read t ts e (Ok c) q = subst (λ r. Meets n Q (literal S) (t ∷ ts) r) (sym (literal_ok t ts c e q)) (t ∷ [], refl, h t c (is_scalar_kind t e) q, ok_agrees t ts c e q)
-    literal_read t ts e (Err x) q = subst (λ r. Meets n Q (literal S) (t ∷ ts) r) (sym (literal_bad t ts x e q)) ([], refl, some, bad_fails t ts x e q, openers)
+  module _ (n : ℕ) (Q : List Lexeme → Value C → Type 0) (some : Some_of Q)
+      (openers : (w : Lexeme) → IsOpener w → More Q [] w)
+      (h : (t : Lexeme) (c : C) → IsScalarKind t.kind → S.read t.kind t.text ≡ Ok c → Q (t ∷ []) (Scalar c t.span))
+    where
+      literal_read : (t : Lexeme) (ts : List Lexeme) → passes scalar_token t ≡ true → (z : Result C F)
+          → S.read t.kind t.text ≡ z → Meets n Q (literal S) (t ∷ ts) (literal S (t ∷ ts))
+      literal_read t ts e (Ok c) q = subst (λ r. Meets n Q (literal S) (t ∷ ts) r) (sym (literal_ok t ts c e q))
+          (t ∷ [], refl, h t c (is_scalar_kind t e) q, ok_agrees t ts c e q)
+      literal_read t ts e (Err x) q = subst (λ r. Meets n Q (literal S) (t ∷ ts) r) (sym (literal_bad t ts x e q))
+          ([], refl, some, bad_fails t ts x e q, openers)
 
-    literal_case : (t : Lexeme) (ts : List Lexeme) (b : Bool) → passes scalar_token t ≡ b → Meets n Q (literal S) (t ∷ ts) (literal S (t ∷ ts))
-    literal_case t ts true e = literal_read t ts e (S.read t.kind t.text) refl
-    literal_case t ts false e = subst (λ r. Meets n Q (literal S) (t ∷ ts) r) (sym (literal_other t ts e))
-        (turn n Q refuse (literal S) (t ∷ ts) (refuse (t ∷ ts)) (λ other. other_alike t ts other e) ((refuse_rule n Q some).at (t ∷ ts)))
+      literal_case : (t : Lexeme) (ts : List Lexeme) (b : Bool) → passes scalar_token t ≡ b
+          → Meets n Q (literal S) (t ∷ ts) (literal S (t ∷ ts))
+      literal_case t ts true e = literal_read t ts e (S.read t.kind t.text) refl
+      literal_case t ts false e = subst (λ r. Meets n Q (literal S) (t ∷ ts) r) (sym (literal_other t ts e))
+          (turn n Q refuse (literal S) (t ∷ ts) (refuse (t ∷ ts)) (λ other. other_alike t ts other e)
+          ((refuse_rule n Q some).at (t ∷ ts)))
 
-    literal_meets : (ts : List Lexeme) → Meets n Q (literal S) ts (literal S ts)
-    literal_meets [] = subst (λ r. Meets n Q (literal S) [] r) (sym (literal_empty [] tt)) (turn n Q refuse (literal S) [] (refuse []) literal_empty ((refuse_rule n Q some).at []))
-    literal_meets (t ∷ ts) = literal_case t ts (passes scalar_token t) refl
+      literal_meets : (ts : List Lexeme) → Meets n Q (literal S) ts (literal S ts)
+      literal_meets [] = subst (λ r. Meets n Q (literal S) [] r) (sym (literal_empty [] tt))
+          (turn n Q refuse (literal S) [] (refuse []) literal_empty ((refuse_rule n Q some).at []))
+      literal_meets (t ∷ ts) = literal_case t ts (passes scalar_token t) refl
 
-    pub literal_rule : Rule n (literal S) (literal S) Q
-    literal_rule = record { at = literal_meets }
+      pub literal_rule : Rule n (literal S) (literal S) Q
+      literal_rule = record { at = literal_meets }
 
 -- Values
 module _ {C F : Type 0} (S : Scalars C F) (free : Bool) where
@@ -85,7 +101,8 @@ module _ {C F : Type 0} (S : Scalars C F) (free : Bool) where
 
   -- one field of an object, as it is read
   abbrev pub IsField : List Lexeme → Word × Value C → Type 0
-  IsField ts x = (key colon : Lexeme) × (us : List Lexeme) × (ts ≡ key ∷ colon ∷ us) × (key.kind ≡ Name) × (x.0 ≡ word_of key) × (colon.kind ≡ Colon) × IsValue S free us x.1
+  IsField ts x = (key colon : Lexeme) × (us : List Lexeme) × (ts ≡ key ∷ colon ∷ us) × (key.kind ≡ Name)
+      × (x.0 ≡ word_of key) × (colon.kind ≡ Colon) × IsValue S free us x.1
 
   items_are : (ts : List Lexeme) (vs : List (Value C)) → Each (IsValue S free) ts vs → AreItems S free ts (items_of vs)
   items_are ts [] h = h
@@ -93,46 +110,126 @@ module _ {C F : Type 0} (S : Scalars C F) (free : Bool) where
 
   fields_are : (ts : List Lexeme) (xs : List (Word × Value C)) → Each IsField ts xs → AreFields S free ts (fields_of xs)
   fields_are ts [] h = h
-  fields_are ts (x ∷ xs) (us, ws, e, (key, colon, vs, q, a, w, b, v), more) = (key, colon, vs, ws, e ∙ ap (λ z. z ++ ws) q, a, ap (λ (z : Word). z.text) (sym w), ap (λ (z : Word). z.span) (sym w), b, v, fields_are ws xs more)
+  fields_are ts (x ∷ xs) (us, ws, e, (key, colon, vs, q, a, w, b, v), more) = (
+    key,
+    colon,
+    vs,
+    ws,
+    e ∙ ap (λ z. z ++ ws) q,
+    a,
+    ap (λ (z : Word). z.text) (sym w),
+    ap (λ (z : Word). z.span) (sym w),
+    b,
+    v,
+    fields_are ws xs more,
+  )
 
-  list_is : (t : Lexeme) (us : List Lexeme) (r : List (Value C) × Lexeme) → passes (of BracketOpen) t ≡ true → Closed (of BracketClose) (IsValue S free) us r → IsValue S free (t ∷ us) (ListOf (items_of r.0) (over t r.1))
-  list_is t us r p c = (c.inner, record { first = t; last = r.1; whole = ap (λ z. t ∷ z) c.whole; opens = of_kind BracketOpen t p; closes = of_kind BracketClose r.1 c.closes; spans = refl }, items_are c.inner r.0 c.each)
+  list_is : (t : Lexeme) (us : List Lexeme) (r : List (Value C) × Lexeme) → passes (of BracketOpen) t ≡ true
+      → Closed (of BracketClose) (IsValue S free) us r → IsValue S free (t ∷ us) (ListOf (items_of r.0) (over t r.1))
+  list_is t us r p c = (
+    c.inner,
+    record {
+      first = t;
+      last = r.1;
+      whole = ap (λ z. t ∷ z) c.whole;
+      opens = of_kind BracketOpen t p;
+      closes = of_kind BracketClose r.1 c.closes;
+      spans = refl;
+    },
+    items_are c.inner r.0 c.each,
+  )
 
-  object_is : (t : Lexeme) (us : List Lexeme) (r : List (Word × Value C) × Lexeme) → passes (of CurlyOpen) t ≡ true → Closed (of CurlyClose) IsField us r → IsValue S free (t ∷ us) (Object (fields_of r.0) (over t r.1))
-  object_is t us r p c = (c.inner, record { first = t; last = r.1; whole = ap (λ z. t ∷ z) c.whole; opens = of_kind CurlyOpen t p; closes = of_kind CurlyClose r.1 c.closes; spans = refl }, fields_are c.inner r.0 c.each)
+  object_is : (t : Lexeme) (us : List Lexeme) (r : List (Word × Value C) × Lexeme) → passes (of CurlyOpen) t ≡ true
+      → Closed (of CurlyClose) IsField us r → IsValue S free (t ∷ us) (Object (fields_of r.0) (over t r.1))
+  object_is t us r p c = (
+    c.inner,
+    record {
+      first = t;
+      last = r.1;
+      whole = ap (λ z. t ∷ z) c.whole;
+      opens = of_kind CurlyOpen t p;
+      closes = of_kind CurlyClose r.1 c.closes;
+      spans = refl;
+    },
+    fields_are c.inner r.0 c.each,
+  )
 
   null_token : Lexeme
   null_token = token_of Name (codes "null")
 
   some_value : Some_of (IsValue S free)
   unfolding null_token
-  some_value = (null_token ∷ [], Null (null_token.span), record { token = null_token; whole = refl; kind_is = refl; text_is = refl; spans = refl }, (inr (inl (refl, refl)), tt))
+  some_value = (
+    null_token ∷ [],
+    Null (null_token.span),
+    record {
+      token = null_token;
+      whole = refl;
+      kind_is = refl;
+      text_is = refl;
+      spans = refl;
+    },
+    (inr (inl (refl, refl)), tt),
+  )
 
   value_opens : (w : Lexeme) → IsOpener w → More (IsValue S free) [] w
-  value_opens w (inl e) = (sample BracketClose ∷ [], ListOf no_items (over w (sample BracketClose)), ([], record { first = w; last = sample BracketClose; whole = refl; opens = e; closes = refl; spans = refl }, refl), (inl refl, tt))
-  value_opens w (inr (inl e)) = (sample CurlyClose ∷ [], Object no_fields (over w (sample CurlyClose)), ([], record { first = w; last = sample CurlyClose; whole = refl; opens = e; closes = refl; spans = refl }, refl), (inl refl, tt))
-  value_opens w (inr (inr e)) = ([], Null w.span, record { token = w; whole = refl; kind_is = e.0; text_is = e.1; spans = refl }, tt)
+  value_opens w (inl e) = (
+    sample BracketClose ∷ [],
+    ListOf no_items (over w (sample BracketClose)),
+    (
+      [],
+      record { first = w; last = sample BracketClose; whole = refl; opens = e; closes = refl; spans = refl },
+      refl,
+    ),
+    (inl refl, tt),
+  )
+  value_opens w (inr (inl e)) = (
+    sample CurlyClose ∷ [],
+    Object no_fields (over w (sample CurlyClose)),
+    ([], record { first = w; last = sample CurlyClose; whole = refl; opens = e; closes = refl; spans = refl }, refl),
+    (inl refl, tt),
+  )
+  value_opens w (inr (inr e)) = (
+    [],
+    Null w.span,
+    record {
+      token = w;
+      whole = refl;
+      kind_is = e.0;
+      text_is = e.1;
+      spans = refl;
+    },
+    tt,
+  )
 
   name_is : (t : Lexeme) → passes (of Name) t ≡ true → IsValue S free (t ∷ []) (by_name S t.text t.span)
-  name_is t p = cases (bytes_eq t.text (codes "true")) (bytes_eq t.text (codes "false")) (bytes_eq t.text (codes "null")) refl refl refl
+  name_is t p = cases (bytes_eq t.text (codes "true")) (bytes_eq t.text (codes "false"))
+      (bytes_eq t.text (codes "null")) refl refl refl
     where
       token : (w : Text) → t.text ≡ w → IsToken (t ∷ []) Name w t.span
       token w e = record { token = t; whole = refl; kind_is = of_kind Name t p; text_is = e; spans = refl }
 
-      cases : (a b c : Bool) → bytes_eq t.text (codes "true") ≡ a → bytes_eq t.text (codes "false") ≡ b → bytes_eq t.text (codes "null") ≡ c
-          → IsValue S free (t ∷ []) (if a then Scalar (S.of_bool true) t.span else if b then Scalar (S.of_bool false) t.span else if c then Null t.span else Enum t.text t.span)
+      cases : (a b c : Bool) → bytes_eq t.text (codes "true") ≡ a → bytes_eq t.text (codes "false") ≡ b
+          → bytes_eq t.text (codes "null") ≡ c
+          → IsValue S free (t ∷ []) (if a then Scalar (S.of_bool true) t.span else if b
+          then Scalar (S.of_bool false) t.span else if c then Null t.span else Enum t.text t.span)
       cases true b c x y z = inr (inl (token _ (text_yes _ _ x), refl))
       cases false true c x y z = inr (inr (token _ (text_yes _ _ y), refl))
       cases false false true x y z = token _ (text_yes _ _ z)
       cases false false false x y z = (token _ refl, (text_no _ _ x, text_no _ _ y, text_no _ _ z))
 
-  pub field_rule : (n : ℕ) (f g : Reader F (Value C)) → Rule n f g (IsValue S free) → Rule n (key_and_value f) (key_and_value g) IsField
+  pub field_rule : (n : ℕ) (f g : Reader F (Value C)) → Rule n f g (IsValue S free)
+      → Rule n (key_and_value f) (key_and_value g) IsField
   unfolding key_and_value
   field_rule n f g r =
-      seq_rule n (want (of Name)) (want (of Name)) _ _ IsField (want_rule F n (of Name) _ (sample Name) refl (inl refl) (λ k p k'.
-      seq_rule (less n (k ∷ [])) (want (of Colon)) (want (of Colon)) _ _ _ (want_rule F (less n (k ∷ [])) (of Colon) _ (sample Colon) refl (inl refl) (λ c q c'.
-      seq_rule _ f g _ _ _ (weaken n _ f g (IsValue S free) _ (omega (arith, less_below n (k ∷ []), less_below (less n (k ∷ [])) (c ∷ []))) (λ us v h v'.
-      done_rule _ (word_of k, v) (word_of k', v') _ (k, c, us, ap (λ z. k ∷ c ∷ z) (append-nil us), of_kind Name k p, refl, of_kind Colon c q, h)) r)))))
+      seq_rule n (want (of Name)) (want (of Name)) _ _ IsField
+      (want_rule F n (of Name) _ (sample Name) refl (inl refl) (λ k p k'.
+      seq_rule (less n (k ∷ [])) (want (of Colon)) (want (of Colon)) _ _ _
+      (want_rule F (less n (k ∷ [])) (of Colon) _ (sample Colon) refl (inl refl) (λ c q c'.
+      seq_rule _ f g _ _ _ (weaken n _ f g (IsValue S free) _ (omega
+      (arith, less_below n (k ∷ []), less_below (less n (k ∷ [])) (c ∷ []))) (λ us v h v'.
+      done_rule _ (word_of k, v) (word_of k', v') _
+      (k, c, us, ap (λ z. k ∷ c ∷ z) (append-nil us), of_kind Name k p, refl, of_kind Colon c q, h)) r)))))
 
   pub field_takes : (ts : List Lexeme) (x : Word × Value C) → IsField ts x → 0 < length ts
   field_takes ts x h = nonempty ts _ _ h.3
@@ -144,17 +241,37 @@ module _ {C F : Type 0} (S : Scalars C F) (free : Bool) where
   value_rule (suc n) (suc m) le =
       on_rule (suc n) (of BracketOpen) _ _ _ _ (IsValue S free)
       (λ t u p. seq_rule n _ _ _ _ _ (weaken n n _ _ _ _ (le_refl n)
-      (λ us r h r'. done_rule _ (ListOf (items_of r.0) (over t r.1)) (ListOf (items_of r'.0) (over u r'.1)) _ (rw append-nil (list_is t us r p h)))
-      (many_rule (of BracketClose) (sample BracketClose) refl (inl refl) (IsValue S free) value_takes _ _ n m n (omega arith) (le_refl n) (value_rule n m (omega arith)))))
+      (λ us r h r'. done_rule _ (ListOf (items_of r.0) (over t r.1)) (ListOf (items_of r'.0) (over u r'.1)) _
+      (rw append-nil (list_is t us r p h)))
+      (many_rule (of BracketClose) (sample BracketClose) refl (inl refl) (IsValue S free) value_takes _ _ n m n
+      (omega arith) (le_refl n) (value_rule n m (omega arith)))))
       (on_rule (suc n) (of CurlyOpen) _ _ _ _ (IsValue S free)
       (λ t u p. seq_rule n _ _ _ _ _ (weaken n n _ _ _ _ (le_refl n)
-      (λ us r h r'. done_rule _ (Object (fields_of r.0) (over t r.1)) (Object (fields_of r'.0) (over u r'.1)) _ (rw append-nil (object_is t us r p h)))
-      (many_rule (of CurlyClose) (sample CurlyClose) refl (inl refl) IsField field_takes _ _ n m n (omega arith) (le_refl n) (field_rule n _ _ (value_rule n m (omega arith))))))
+      (λ us r h r'. done_rule _ (Object (fields_of r.0) (over t r.1)) (Object (fields_of r'.0) (over u r'.1)) _
+      (rw append-nil (object_is t us r p h)))
+      (many_rule (of CurlyClose) (sample CurlyClose) refl (inl refl) IsField field_takes _ _ n m n (omega arith)
+      (le_refl n) (field_rule n _ _ (value_rule n m (omega arith))))))
       (on_rule (suc n) (variable_start free) _ _ _ _ (IsValue S free)
       (λ t u p. seq_rule n _ _ _ _ _ (want_rule F n (of Name) _ (sample Name) refl (inl refl)
-      (λ w q w'. done_rule _ (Variable w.text (over t w)) (Variable w'.text (over u w')) _
-      ((both _ _ p).0, record { dollar = t; word = w; whole = refl; dollar_is = of_kind Dollar t (both _ _ p).1; word_is = of_kind Name w q; names = refl; spans = refl }))))
+      (λ w q w'. done_rule _ (Variable w.text (over t w)) (Variable w'.text (over u w')) _ (
+        (both _ _ p).0,
+        record {
+          dollar = t;
+          word = w;
+          whole = refl;
+          dollar_is = of_kind Dollar t (both _ _ p).1;
+          word_is = of_kind Name w q;
+          names = refl;
+          spans = refl;
+        },
+      ))))
       (on_rule (suc n) (of Name) _ _ _ _ (IsValue S free)
       (λ t u p. done_rule _ (by_name S t.text t.span) (by_name S u.text u.span) _ (name_is t p))
       (literal_rule S (suc n) (IsValue S free) some_value value_opens
-      (λ t c k h. inl (t.kind, t.text, record { token = t; whole = refl; kind_is = refl; text_is = refl; spans = refl }, k, h))))))
+      (λ t c k h. inl (
+        t.kind,
+        t.text,
+        record { token = t; whole = refl; kind_is = refl; text_is = refl; spans = refl },
+        k,
+        h,
+      ))))))

@@ -35,7 +35,8 @@ IsRead Digits t = IsLongInteger t
 IsRead Point t = (w : List ℕ) × (t ≡ w ++ 46 ∷ []) × IsInteger w
 IsRead Fraction t = IsDecimal t
 IsRead ExponentMark t = (b : List ℕ) × (e : ℕ) × (t ≡ b ++ e ∷ []) × IsBase b × IsTrue (is_exponent_mark e)
-IsRead ExponentSign t = (b : List ℕ) × (e : ℕ) × (s : ℕ) × (t ≡ b ++ e ∷ s ∷ []) × IsBase b × IsTrue (is_exponent_mark e) × IsTrue (is_sign s)
+IsRead ExponentSign t = (b : List ℕ) × (e : ℕ) × (s : ℕ) × (t ≡ b ++ e ∷ s ∷ []) × IsBase b
+    × IsTrue (is_exponent_mark e) × IsTrue (is_sign s)
 IsRead Exponent t = (b : List ℕ) × (x : List ℕ) × (t ≡ b ++ x) × IsBase b × IsExponent x
 IsRead Quote t = t ≡ 34 ∷ []
 IsRead EmptyString t = t ≡ 34 ∷ 34 ∷ []
@@ -45,19 +46,22 @@ IsRead NoHexDigit t = IsOpen (92 ∷ 117 ∷ []) t
 IsRead OneHexDigit t = (h : ℕ) × IsTrue (is_hex h) × (is_hex_d h ≡ false) × IsOpen (92 ∷ 117 ∷ h ∷ []) t
 IsRead HexDigitD t = (h : ℕ) × IsTrue (is_hex_d h) × IsOpen (92 ∷ 117 ∷ h ∷ []) t
 IsRead TwoHexDigits t = (h : ℕ) × (i : ℕ) × IsPair h i × IsOpen (92 ∷ 117 ∷ h ∷ i ∷ []) t
-IsRead ThreeHexDigits t = (h : ℕ) × (i : ℕ) × (j : ℕ) × IsPair h i × IsTrue (is_hex j) × IsOpen (92 ∷ 117 ∷ h ∷ i ∷ j ∷ []) t
+IsRead ThreeHexDigits t = (h : ℕ) × (i : ℕ) × (j : ℕ) × IsPair h i × IsTrue (is_hex j)
+    × IsOpen (92 ∷ 117 ∷ h ∷ i ∷ j ∷ []) t
 IsRead (InBlock part) t = (s : List ℕ) × (t ≡ mark ++ s) × (run block_step Inside s ≡ Some part)
 
 -- ---- tests, one after another
 
-pub if_then : {A : Type 0} (P : A → Type 0) (b : Bool) (x : A) (o : Option A) → (b ≡ true → P x) → ((y : A) → o ≡ Some y → P y) → (y : A) → cond b (Some x) o ≡ Some y → P y
+pub if_then : {A : Type 0} (P : A → Type 0) (b : Bool) (x : A) (o : Option A) → (b ≡ true → P x)
+    → ((y : A) → o ≡ Some y → P y) → (y : A) → cond b (Some x) o ≡ Some y → P y
 if_then P true x o f g y e = subst P (same_Some x y e) (f refl)
 if_then P false x o f g y e = g y e
 
 pub if_none : {A : Type 0} (P : A → Type 0) (y : A) → None ≡ Some y → P y
 if_none P y e = absurd (none-some y e)
 
-pub if_not : {A : Type 0} (P : A → Type 0) (b : Bool) (x : A) (o : Option A) → (b ≡ true → P x) → (b ≡ false → (y : A) → o ≡ Some y → P y) → (y : A) → cond b (Some x) o ≡ Some y → P y
+pub if_not : {A : Type 0} (P : A → Type 0) (b : Bool) (x : A) (o : Option A) → (b ≡ true → P x)
+    → (b ≡ false → (y : A) → o ≡ Some y → P y) → (y : A) → cond b (Some x) o ≡ Some y → P y
 if_not P true x o f g y e = subst P (same_Some x y e) (f refl)
 if_not P false x o f g y e = g refl y e
 
@@ -75,7 +79,8 @@ All_push P (x ∷ xs) c h p = (h.0, All_push P xs c h.1 p)
 pub units_then : (us u : List ℕ) → AreUnits us → IsUnit u → AreUnits (us ++ u)
 units_then us u h x = (h.0 ++ u ∷ [], pieces_then h.0 u h.1 x, rw (h.2) (concat_then h.0 u))
   where
-    pieces_then : (ps : List (List ℕ)) (u : List ℕ) → AllByRecursion IsUnit ps → IsUnit u → AllByRecursion IsUnit (ps ++ u ∷ [])
+    pieces_then : (ps : List (List ℕ)) (u : List ℕ) → AllByRecursion IsUnit ps → IsUnit u
+        → AllByRecursion IsUnit (ps ++ u ∷ [])
     pieces_then [] u h x = (x, tt)
     pieces_then (p ∷ ps) u h x = (h.0, pieces_then ps u h.1 x)
 
@@ -87,25 +92,46 @@ units_then us u h x = (h.0 ++ u ∷ [], pieces_then h.0 u h.1 x, rw (h.2) (conca
 pub open_more : (tail t : List ℕ) (c : ℕ) → IsOpen tail t → IsOpen (tail ++ c ∷ []) (t ++ c ∷ [])
 open_more tail t c h = record {
   units = h.units;
-  text_is = ap (λ (x : List ℕ). x ++ c ∷ []) h.text_is ∙ ap (λ (x : List ℕ). 34 ∷ x) (append_assoc h.units tail (c ∷ []));
+  text_is = ap (λ (x : List ℕ). x ++ c ∷ []) h.text_is
+      ∙ ap (λ (x : List ℕ). 34 ∷ x) (append_assoc h.units tail (c ∷ []));
   made = h.made;
 }
 
 -- the tail is a unit
 pub open_unit : (u t : List ℕ) → IsOpen u t → IsUnit u → IsOpen [] t
-open_unit u t h x = record { units = h.units ++ u; text_is = h.text_is ∙ ap (λ (y : List ℕ). 34 ∷ y) (sym (append-nil (h.units ++ u))); made = units_then h.units u h.made x }
+open_unit u t h x = record {
+  units = h.units ++ u;
+  text_is = h.text_is
+      ∙ ap (λ (y : List ℕ). 34 ∷ y) (sym (append-nil (h.units ++ u)));
+  made = units_then h.units u h.made x;
+}
 
 pub digits_push : (ds : List ℕ) (c : ℕ) → AreSomeDigits ds → IsTrue (is_digit c) → AreSomeDigits (ds ++ c ∷ [])
 digits_push ds c h p = (omega (arith, length-append ds (c ∷ [])), All_push (λ d. IsTrue (is_digit d)) ds c h.1 p)
 
 pub counting_push : (ds : List ℕ) (c : ℕ) → IsCounting ds → IsTrue (is_digit c) → IsCounting (ds ++ c ∷ [])
-counting_push ds c h p = (h.0, h.1 ++ c ∷ [], ap (λ (x : List ℕ). x ++ c ∷ []) h.2, h.3, All_push (λ d. IsTrue (is_digit d)) h.1 c h.4 p)
+counting_push ds c h p = (
+  h.0,
+  h.1 ++ c ∷ [],
+  ap (λ (x : List ℕ). x ++ c ∷ []) h.2,
+  h.3,
+  All_push (λ d. IsTrue (is_digit d)) h.1 c h.4 p,
+)
 
 pub fraction_push : (f : List ℕ) (c : ℕ) → IsFraction f → IsTrue (is_digit c) → IsFraction (f ++ c ∷ [])
 fraction_push f c h p = (h.0 ++ c ∷ [], ap (λ (x : List ℕ). x ++ c ∷ []) h.1, digits_push h.0 c h.2 p)
 
 pub exponent_push : (x : List ℕ) (c : ℕ) → IsExponent x → IsTrue (is_digit c) → IsExponent (x ++ c ∷ [])
-exponent_push x c h p = (h.0, h.1, h.2 ++ c ∷ [], ap (λ (y : List ℕ). y ++ c ∷ []) h.3 ∙ ap (λ (y : List ℕ). h.0 ∷ y) (append_assoc h.1 h.2 (c ∷ [])), h.4, h.5, digits_push h.2 c h.6 p)
+exponent_push x c h p = (
+  h.0,
+  h.1,
+  h.2 ++ c ∷ [],
+  ap (λ (y : List ℕ). y ++ c ∷ []) h.3
+      ∙ ap (λ (y : List ℕ). h.0 ∷ y) (append_assoc h.1 h.2 (c ∷ [])),
+  h.4,
+  h.5,
+  digits_push h.2 c h.6 p,
+)
 
 -- a part at the end goes on
 pub end_push : (t a b : List ℕ) (c : ℕ) → t ≡ a ++ b → t ++ c ∷ [] ≡ a ++ (b ++ c ∷ [])
@@ -127,7 +153,8 @@ punctuator_spells c kind e =
     by_character None s h = absurd cc
     by_character (Some d) s h = subst (λ x. Admits x (c ∷ [])) (sym s) (ap (λ (x : ℕ). x ∷ []) (eqb-true c d h))
 
-pub punctuator_read : (c : ℕ) (o : Option Kind) → ((kind : Kind) → o ≡ Some kind → Spells (c ∷ []) kind) → (p : State) → option_map Done o ≡ Some p → IsRead p (c ∷ [])
+pub punctuator_read : (c : ℕ) (o : Option Kind) → ((kind : Kind) → o ≡ Some kind → Spells (c ∷ []) kind) → (p : State)
+    → option_map Done o ≡ Some p → IsRead p (c ∷ [])
 punctuator_read c None h p e = absurd (none-some p e)
 punctuator_read c (Some kind) h p e = subst (λ (s : State). IsRead s (c ∷ [])) (same_Some (Done kind) p e) (h kind refl)
 
@@ -135,12 +162,16 @@ punctuator_read c (Some kind) h p e = subst (λ (s : State). IsRead s (c ∷ [])
 pub open_none : (t : List ℕ) → t ≡ 34 ∷ [] → IsOpen [] t
 open_none t e = record { units = []; text_is = e; made = ([], tt, refl) }
 
-block_push : (part next : Block) (s : List ℕ) (c : ℕ) → run block_step Inside s ≡ Some part → block_step part c ≡ Some next → run block_step Inside (s ++ c ∷ []) ≡ Some next
+block_push : (part next : Block) (s : List ℕ) (c : ℕ) → run block_step Inside s ≡ Some part
+    → block_step part c ≡ Some next → run block_step Inside (s ++ c ∷ []) ≡ Some next
 block_push part next s c e f = run_on block_step Inside part s (c ∷ []) e ∙ rw f
 
-in_block_read : (part : Block) (t : List ℕ) (c : ℕ) (o : Option Block) → block_step part c ≡ o → IsRead (InBlock part) t → (p : State) → option_map InBlock o ≡ Some p → IsRead p (t ++ c ∷ [])
+in_block_read : (part : Block) (t : List ℕ) (c : ℕ) (o : Option Block) → block_step part c ≡ o → IsRead (InBlock part) t
+    → (p : State) → option_map InBlock o ≡ Some p → IsRead p (t ++ c ∷ [])
 in_block_read part t c None h r p e = absurd (none-some p e)
-in_block_read part t c (Some next) h r p e = subst (λ (s : State). IsRead s (t ++ c ∷ [])) (same_Some (InBlock next) p e) (r.0 ++ c ∷ [], ap (λ (x : List ℕ). x ++ c ∷ []) r.1, block_push part next r.0 c r.2 h)
+in_block_read part t c (Some next) h r p e =
+    subst (λ (s : State). IsRead s (t ++ c ∷ [])) (same_Some (InBlock next) p e)
+    (r.0 ++ c ∷ [], ap (λ (x : List ℕ). x ++ c ∷ []) r.1, block_push part next r.0 c r.2 h)
 
 -- a mark after an integer part or a decimal
 mark_read : (t : List ℕ) (c : ℕ) → IsBase t → IsTrue (is_exponent_mark c) → IsRead ExponentMark (t ++ c ∷ [])
@@ -168,7 +199,13 @@ read_step TwoDots t c r =
     if_then P _ (Done Ellipsis) _ (λ h. rw (r, eqb-true c 46 h) refl) (if_none P)
 read_step InName t c r =
     let P = λ (p : State). IsRead p (t ++ c ∷ []) in
-    if_then P _ InName _ (λ h. (r.0, r.1 ++ c ∷ [], ap (λ (x : List ℕ). x ++ c ∷ []) r.2, r.3, All_push (λ d. IsTrue (is_name_character d)) r.1 c r.4 h)) (if_none P)
+    if_then P _ InName _ (λ h. (
+      r.0,
+      r.1 ++ c ∷ [],
+      ap (λ (x : List ℕ). x ++ c ∷ []) r.2,
+      r.3,
+      All_push (λ d. IsTrue (is_name_character d)) r.1 c r.4 h,
+    )) (if_none P)
 read_step Minus t c r =
     let P = λ (p : State). IsRead p (t ++ c ∷ []) in
     if_then P _ Digits _ (λ h. inr (c ∷ [], ap (λ (x : List ℕ). x ++ c ∷ []) r, (c, [], refl, h, tt))) (
@@ -179,26 +216,48 @@ read_step Zero t c r =
     if_then P _ ExponentMark _ (λ h. mark_read t c (inl (inl r)) h) (if_none P))
 read_step Digits t c r =
     let P = λ (p : State). IsRead p (t ++ c ∷ []) in
-    if_then P _ Digits _ (λ h. elim r [ inl x ↦ inl (counting_push t c x h) | inr x ↦ inr (x.0 ++ c ∷ [], ap (λ (y : List ℕ). y ++ c ∷ []) x.1, counting_push x.0 c x.2 h) ]) (
+    if_then P _ Digits _ (λ h. elim r [
+      | inl x ↦ inl (counting_push t c x h)
+      | inr x ↦ inr (x.0 ++ c ∷ [], ap (λ (y : List ℕ). y ++ c ∷ []) x.1, counting_push x.0 c x.2 h)
+    ]) (
     if_then P _ Point _ (λ h. (t, ap (λ (x : ℕ). t ++ x ∷ []) (eqb-true c 46 h), inr r)) (
     if_then P _ ExponentMark _ (λ h. mark_read t c (inl (inr r)) h) (if_none P)))
 read_step Point t c r =
     let P = λ (p : State). IsRead p (t ++ c ∷ []) in
-    if_then P _ Fraction _ (λ h. (r.0, 46 ∷ c ∷ [], end_push t r.0 (46 ∷ []) c r.1, r.2, (c ∷ [], refl, (omega arith, (h, tt))))) (if_none P)
+    if_then P _ Fraction _ (λ h. (
+      r.0,
+      46 ∷ c ∷ [],
+      end_push t r.0 (46 ∷ []) c r.1,
+      r.2,
+      (c ∷ [], refl, (omega arith, (h, tt))),
+    )) (if_none P)
 read_step Fraction t c r =
     let P = λ (p : State). IsRead p (t ++ c ∷ []) in
     if_then P _ Fraction _ (λ h. (r.0, r.1 ++ c ∷ [], end_push t r.0 r.1 c r.2, r.3, fraction_push r.1 c r.4 h)) (
     if_then P _ ExponentMark _ (λ h. mark_read t c (inr r) h) (if_none P))
 read_step ExponentMark t c r =
     let P = λ (p : State). IsRead p (t ++ c ∷ []) in
-    if_then P _ Exponent _ (λ h. (r.0, r.1 ∷ c ∷ [], end_push t r.0 (r.1 ∷ []) c r.2, r.3, (r.1, [], c ∷ [], refl, r.4, inl refl, (omega arith, (h, tt))))) (
+    if_then P _ Exponent _ (λ h. (
+      r.0,
+      r.1 ∷ c ∷ [],
+      end_push t r.0 (r.1 ∷ []) c r.2,
+      r.3,
+      (r.1, [], c ∷ [], refl, r.4, inl refl, (omega arith, (h, tt))),
+    )) (
     if_then P _ ExponentSign _ (λ h. (r.0, r.1, c, end_push t r.0 (r.1 ∷ []) c r.2, r.3, r.4, h)) (if_none P))
 read_step ExponentSign t c r =
     let P = λ (p : State). IsRead p (t ++ c ∷ []) in
-    if_then P _ Exponent _ (λ h. (r.0, r.1 ∷ r.2 ∷ c ∷ [], end_push t r.0 (r.1 ∷ r.2 ∷ []) c r.3, r.4, (r.1, r.2 ∷ [], c ∷ [], refl, r.5, inr (r.2, refl, r.6), (omega arith, (h, tt))))) (if_none P)
+    if_then P _ Exponent _ (λ h. (
+      r.0,
+      r.1 ∷ r.2 ∷ c ∷ [],
+      end_push t r.0 (r.1 ∷ r.2 ∷ []) c r.3,
+      r.4,
+      (r.1, r.2 ∷ [], c ∷ [], refl, r.5, inr (r.2, refl, r.6), (omega arith, (h, tt))),
+    )) (if_none P)
 read_step Exponent t c r =
     let P = λ (p : State). IsRead p (t ++ c ∷ []) in
-    if_then P _ Exponent _ (λ h. (r.0, r.1 ++ c ∷ [], end_push t r.0 r.1 c r.2, r.3, exponent_push r.1 c r.4 h)) (if_none P)
+    if_then P _ Exponent _ (λ h. (r.0, r.1 ++ c ∷ [], end_push t r.0 r.1 c r.2, r.3, exponent_push r.1 c r.4 h))
+    (if_none P)
 read_step Quote t c r =
     let P = λ (p : State). IsRead p (t ++ c ∷ []) in
     let more = open_more [] t c (open_none t r) in
@@ -212,20 +271,27 @@ read_step InString t c r =
     let P = λ (p : State). IsRead p (t ++ c ∷ []) in
     let more = open_more [] t c r in
     if_then P _ InString _ (λ h. open_unit (c ∷ []) (t ++ c ∷ []) more (plain h)) (
-    if_then P _ (Done String) _ (λ h. (more.units, more.text_is ∙ ap (λ (x : ℕ). 34 ∷ more.units ++ x ∷ []) (eqb-true c 34 h), more.made)) (
+    if_then P _ (Done String) _ (λ h. (
+      more.units,
+      more.text_is
+          ∙ ap (λ (x : ℕ). 34 ∷ more.units ++ x ∷ []) (eqb-true c 34 h),
+      more.made,
+    )) (
     if_then P _ Backslash _ (λ h. subst (λ (x : ℕ). IsOpen (x ∷ []) (t ++ c ∷ [])) (eqb-true c 92 h) more) (if_none P)))
 read_step Backslash t c r =
     let P = λ (p : State). IsRead p (t ++ c ∷ []) in
     let more = open_more (92 ∷ []) t c r in
     if_then P _ InString _ (λ h. open_unit (92 ∷ c ∷ []) (t ++ c ∷ []) more (escape h)) (
-    if_then P _ NoHexDigit _ (λ h. subst (λ (x : ℕ). IsOpen (92 ∷ x ∷ []) (t ++ c ∷ [])) (eqb-true c 117 h) more) (if_none P))
+    if_then P _ NoHexDigit _ (λ h. subst (λ (x : ℕ). IsOpen (92 ∷ x ∷ []) (t ++ c ∷ [])) (eqb-true c 117 h) more)
+    (if_none P))
 read_step NoHexDigit t c r =
     let P = λ (p : State). IsRead p (t ++ c ∷ []) in
     let more = open_more (92 ∷ 117 ∷ []) t c r in
     if_not P _ HexDigitD _ (λ h. (c, h, more)) (λ g. if_then P _ OneHexDigit _ (λ h. (c, h, g, more)) (if_none P))
 read_step OneHexDigit t c r =
     let P = λ (p : State). IsRead p (t ++ c ∷ []) in
-    if_then P _ TwoHexDigits _ (λ h. (r.0, c, pair_other r.0 c r.1 r.2 h, open_more (92 ∷ 117 ∷ r.0 ∷ []) t c r.3)) (if_none P)
+    if_then P _ TwoHexDigits _ (λ h. (r.0, c, pair_other r.0 c r.1 r.2 h, open_more (92 ∷ 117 ∷ r.0 ∷ []) t c r.3))
+    (if_none P)
 read_step HexDigitD t c r =
     let P = λ (p : State). IsRead p (t ++ c ∷ []) in
     if_then P _ TwoHexDigits _ (λ h. (r.0, c, pair_d r.0 c r.1 h, open_more (92 ∷ 117 ∷ r.0 ∷ []) t c r.2)) (if_none P)
@@ -234,7 +300,9 @@ read_step TwoHexDigits t c r =
     if_then P _ ThreeHexDigits _ (λ h. (r.0, r.1, c, r.2, h, open_more (92 ∷ 117 ∷ r.0 ∷ r.1 ∷ []) t c r.3)) (if_none P)
 read_step ThreeHexDigits t c r =
     let P = λ (p : State). IsRead p (t ++ c ∷ []) in
-    if_then P _ InString _ (λ h. open_unit (92 ∷ 117 ∷ r.0 ∷ r.1 ∷ r.2 ∷ c ∷ []) (t ++ c ∷ []) (open_more (92 ∷ 117 ∷ r.0 ∷ r.1 ∷ r.2 ∷ []) t c r.5) (unicode (scalar_from r.0 r.1 r.2 c r.3 r.4 h))) (if_none P)
+    if_then P _ InString _ (λ h. open_unit (92 ∷ 117 ∷ r.0 ∷ r.1 ∷ r.2 ∷ c ∷ []) (t ++ c ∷ [])
+    (open_more (92 ∷ 117 ∷ r.0 ∷ r.1 ∷ r.2 ∷ []) t c r.5) (unicode (scalar_from r.0 r.1 r.2 c r.3 r.4 h)))
+    (if_none P)
 read_step (InBlock part) t c r = in_block_read part t c (block_step part c) refl r
 
 -- what has been read after a run

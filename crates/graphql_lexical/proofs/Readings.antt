@@ -53,7 +53,8 @@ pub record Finds (q : State) (n : ℕ) (rest : List ℕ) (f : Found) : Type 0 wh
 pub same_Ok : (x y : Found) → ◌≡◌ {A = Result Found Missed} (Ok x) (Ok y) → x ≡ y
 same_Ok x y e = cc
 
-found_finds : (q : State) (n : ℕ) (kind : Kind) (rest : List ℕ) (f : Found) → accepts q ≡ Some kind → (q ≡ Zero → BeginsWithDigit (drop n rest) → ⊥) → found n kind rest ≡ Ok f → Finds q n rest f
+found_finds : (q : State) (n : ℕ) (kind : Kind) (rest : List ℕ) (f : Found) → accepts q ≡ Some kind
+    → (q ≡ Zero → BeginsWithDigit (drop n rest) → ⊥) → found n kind rest ≡ Ok f → Finds q n rest f
 found_finds q n kind rest f a z e =
     let d = same_Ok (record { size = n; kind = kind; text = text_of kind (take n rest) }) f e in
     subst (λ (x : Found). Finds q n rest x) d (record { accepted = a; size_is = refl; text_is = refl; alone = z })
@@ -75,7 +76,8 @@ cond_not false x y f g h e = h e
 
 units_not : (n : ℕ) (b : List ℕ) (f : Found) → after_units n b ≡ Ok f → ⊥
 units_not n [] f e = cc
-units_not n (c ∷ b) f e = cond_not (is_line_end c) (missed n UnterminatedString) (missed n (UnknownCharacterInString c)) f (not_Ok n UnterminatedString f) (not_Ok n (UnknownCharacterInString c) f) e
+units_not n (c ∷ b) f e = cond_not (is_line_end c) (missed n UnterminatedString) (missed n (UnknownCharacterInString c))
+    f (not_Ok n UnterminatedString f) (not_Ok n (UnknownCharacterInString c) f) e
 
 block_not : (n : ℕ) (b : List ℕ) (f : Found) → after_block n b ≡ Ok f → ⊥
 block_not n [] f e = cc
@@ -86,16 +88,20 @@ backslash_not n [] f e = cc
 backslash_not n (c ∷ b) f e = cc
 
 u_not : (n : ℕ) (b : List ℕ) (f : Found) → after_u n b ≡ Ok f → ⊥
-u_not n b f e = cond_not (nat_lt (counted b) 4 && counted b == length b) (missed (suc n + length b) UnterminatedString) (missed n (UnknownEscapeSequence (92 ∷ 117 ∷ take (max 1 (counted b)) b))) f (not_Ok _ _ f) (not_Ok _ _ f) e
+u_not n b f e = cond_not (nat_lt (counted b) 4 && counted b == length b) (missed (suc n + length b) UnterminatedString)
+    (missed n (UnknownEscapeSequence (92 ∷ 117 ∷ take (max 1 (counted b)) b))) f (not_Ok _ _ f) (not_Ok _ _ f) e
 
-cond_zero : (b : Bool) (x y : Result Found Missed) (f : Found) → (x ≡ Ok f → ⊥) → cond b x y ≡ Ok f → (b ≡ false) × (y ≡ Ok f)
+cond_zero : (b : Bool) (x y : Result Found Missed) (f : Found) → (x ≡ Ok f → ⊥) → cond b x y ≡ Ok f
+    → (b ≡ false) × (y ≡ Ok f)
 cond_zero true x y f g e = absurd (g e)
 cond_zero false x y f g e = (refl, e)
 
-zero_finds : (n : ℕ) (rest b : List ℕ) (f : Found) → after_zero n rest b ≡ Ok f → (found n Int rest ≡ Ok f) × (BeginsWithDigit b → ⊥)
+zero_finds : (n : ℕ) (rest b : List ℕ) (f : Found) → after_zero n rest b ≡ Ok f
+    → (found n Int rest ≡ Ok f) × (BeginsWithDigit b → ⊥)
 zero_finds n rest [] f e = (e, λ d. d)
 zero_finds n rest (c ∷ b) f e =
-    let h = cond_zero (is_digit c) (missed n (UnexpectedCharacter c)) (found n Int rest) f (not_Ok n (UnexpectedCharacter c) f) e in
+    let h = cond_zero (is_digit c) (missed n (UnexpectedCharacter c)) (found n Int rest) f
+    (not_Ok n (UnexpectedCharacter c) f) e in
     (h.1, λ d. let g = sym d ∙ h.0 in absurd cc)
 
 pub answer_finds : (q : State) (n c : ℕ) (cs : List ℕ) (f : Found) → answer q n (c ∷ cs) ≡ Ok f → Finds q n (c ∷ cs) f
@@ -105,7 +111,8 @@ answer_finds OneDot n c cs f e = absurd (dots_not _ _ f e)
 answer_finds TwoDots n c cs f e = absurd (dots_not _ _ f e)
 answer_finds InName n c cs f e = found_finds InName n Name (c ∷ cs) f refl (λ z. absurd cc) e
 answer_finds Minus n c cs f e = absurd (stopped_not _ _ f e)
-answer_finds Zero n c cs f e = let h = zero_finds n (c ∷ cs) (drop n (c ∷ cs)) f e in found_finds Zero n Int (c ∷ cs) f refl (λ z. h.1) h.0
+answer_finds Zero n c cs f e = let h = zero_finds n (c ∷ cs) (drop n (c ∷ cs)) f e in
+    found_finds Zero n Int (c ∷ cs) f refl (λ z. h.1) h.0
 answer_finds Digits n c cs f e = found_finds Digits n Int (c ∷ cs) f refl (λ z. absurd cc) e
 answer_finds Point n c cs f e = absurd (stopped_not _ _ f e)
 answer_finds Fraction n c cs f e = found_finds Fraction n Float (c ∷ cs) f refl (λ z. absurd cc) e
@@ -130,10 +137,12 @@ zero_found : (n : ℕ) (rest b : List ℕ) → (BeginsWithDigit b → ⊥) → a
 zero_found n rest [] h = refl
 zero_found n rest (c ∷ b) h = cond-false (is_digit c) _ _ (false_from_ne_true (is_digit c) h)
 
-pub accepts_answer : (q : State) (n : ℕ) (rest : List ℕ) (kind : Kind) → accepts q ≡ Some kind → (q ≡ Zero → BeginsWithDigit (drop n rest) → ⊥) → answer q n rest ≡ found n kind rest
+pub accepts_answer : (q : State) (n : ℕ) (rest : List ℕ) (kind : Kind) → accepts q ≡ Some kind
+    → (q ≡ Zero → BeginsWithDigit (drop n rest) → ⊥) → answer q n rest ≡ found n kind rest
 accepts_answer (Done k) n rest kind e z = ap (λ (x : Kind). found n x rest) (same_Some k kind e)
 accepts_answer InName n rest kind e z = ap (λ (x : Kind). found n x rest) (same_Some Name kind e)
-accepts_answer Zero n rest kind e z = zero_found n rest (drop n rest) (z refl) ∙ ap (λ (x : Kind). found n x rest) (same_Some Int kind e)
+accepts_answer Zero n rest kind e z = zero_found n rest (drop n rest) (z refl)
+    ∙ ap (λ (x : Kind). found n x rest) (same_Some Int kind e)
 accepts_answer Digits n rest kind e z = ap (λ (x : Kind). found n x rest) (same_Some Int kind e)
 accepts_answer Fraction n rest kind e z = ap (λ (x : Kind). found n x rest) (same_Some Float kind e)
 accepts_answer Exponent n rest kind e z = ap (λ (x : Kind). found n x rest) (same_Some Float kind e)
@@ -147,7 +156,8 @@ some_read : (rest : List ℕ) (n : ℕ) (q : State) (kind : Kind) → Reached re
 some_read rest zero q kind h a = let e = same_Some Start q h.runs in absurd (none-some kind (ap accepts e ∙ a))
 some_read rest (suc n) q kind h a = omega arith
 
-finds_reads : (rest : List ℕ) (n : ℕ) (q : State) (f : Found) → Reached rest n q → Finds q n rest f → ReadsToken rest f.size f.kind f.text
+finds_reads : (rest : List ℕ) (n : ℕ) (q : State) (f : Found) → Reached rest n q → Finds q n rest f
+    → ReadsToken rest f.size f.kind f.text
 finds_reads rest n q f h g =
     subst (λ (k : ℕ). ReadsToken rest k f.kind f.text) g.size_is (record {
       longest = starts_longest rest n q h;
@@ -159,20 +169,25 @@ finds_reads rest n q f h g =
 
 pub scan_reads : (rest : List ℕ) (f : Found) → scan rest ≡ Ok f → Reads rest f.size f.kind f.text
 scan_reads [] f e =
-    subst (λ (x : Found). Reads [] x.size x.kind x.text) (same_Ok (record { size = 0; kind = EndOfFile; text = [] }) f e) (refl, refl, refl)
+    subst (λ (x : Found). Reads [] x.size x.kind x.text)
+    (same_Ok (record { size = 0; kind = EndOfFile; text = [] }) f e) (refl, refl, refl)
 scan_reads (c ∷ cs) f e =
     let r = reach step Start (c ∷ cs) in
     finds_reads (c ∷ cs) r.0 r.1 f (reached (c ∷ cs)) (answer_finds r.1 r.0 c cs f e)
 
-reads_answer : (rest : List ℕ) (m n : ℕ) (q : State) (kind : Kind) (text : List ℕ) → ReadsToken rest n kind text → Reached rest m q → answer q m rest ≡ Ok (record { size = n; kind = kind; text = text })
+reads_answer : (rest : List ℕ) (m n : ℕ) (q : State) (kind : Kind) (text : List ℕ) → ReadsToken rest n kind text
+    → Reached rest m q → answer q m rest ≡ Ok (record { size = n; kind = kind; text = text })
 reads_answer rest m n q kind text r h =
     let same : n ≡ m = Longest_same Starts rest n m r.longest (starts_longest rest m q h) in
     let spelled : Spells (take m rest) kind = subst (λ (k : ℕ). Spells (take k rest) kind) same r.spells in
     let a = spells_accepts (take m rest) q kind h.runs spelled in
-    let alone : q ≡ Zero → BeginsWithDigit (drop m rest) → ⊥ = λ z. subst (λ (k : ℕ). IsZero (take k rest) → BeginsWithDigit (drop k rest) → ⊥) same r.alone (subst (λ (x : State). IsRead x (take m rest)) z (front_read rest m q h)) in
+    let alone : q ≡ Zero → BeginsWithDigit (drop m rest)
+    → ⊥ = λ z. subst (λ (k : ℕ). IsZero (take k rest) → BeginsWithDigit (drop k rest) → ⊥) same r.alone
+    (subst (λ (x : State). IsRead x (take m rest)) z (front_read rest m q h)) in
     accepts_answer q m rest kind a alone ∙ rw (r.text_is, ← same)
 
-pub reads_scan : (rest : List ℕ) (n : ℕ) (kind : Kind) (text : List ℕ) → Reads rest n kind text → scan rest ≡ Ok (record { size = n; kind = kind; text = text })
+pub reads_scan : (rest : List ℕ) (n : ℕ) (kind : Kind) (text : List ℕ) → Reads rest n kind text
+    → scan rest ≡ Ok (record { size = n; kind = kind; text = text })
 reads_scan [] n kind text r = rw (r.0, r.1, r.2)
 reads_scan (c ∷ cs) n kind text r =
     let x = reach step Start (c ∷ cs) in

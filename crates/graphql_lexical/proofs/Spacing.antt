@@ -37,8 +37,11 @@ alike_bares (x ∷ xs) (y ∷ others) h = (record { kind = h.0; text = h.1 }, al
 spaced_cut : (text : List ℕ) (others : List Lexeme) → IsSpaced text others → IsCutInto text (bares others)
 spaced_cut text [] h = subst (λ (t : List ℕ). IsCutInto t []) (sym h) writes_nothing
 spaced_cut text (x ∷ xs) (whole, rest, e, spells, is, more) =
-    let w = writes_token whole x.kind (after_space rest) (bares xs) spells (inr (space_apart rest)) (writes_space rest (bares xs) (spaced_cut rest xs more)) in
-    subst (λ (t : List ℕ). IsCutInto t (bares (x ∷ xs))) (sym e) (subst (λ (t : List ℕ). IsCutInto (whole ++ after_space rest) (record { kind = x.kind; text = t } ∷ bares xs)) (sym is) w)
+    let w = writes_token whole x.kind (after_space rest) (bares xs) spells (inr (space_apart rest))
+    (writes_space rest (bares xs) (spaced_cut rest xs more)) in
+    subst (λ (t : List ℕ). IsCutInto t (bares (x ∷ xs))) (sym e)
+    (subst (λ (t : List ℕ). IsCutInto (whole ++ after_space rest) (record { kind = x.kind; text = t } ∷ bares xs))
+    (sym is) w)
 
 -- ---- tokens of a source before others
 
@@ -96,21 +99,26 @@ goes_on source front others n text h spaced =
     let a : List ℕ = take n source in
     let b : List ℕ = after_space text in
     let w = writes_space text (bares others) (spaced_cut text others spaced) in
-    let lead = front_joins a b front n (leads_shorter source front 0 n zero-le h) (space_is_seam source front n text h) in
+    let lead = front_joins a b front n (leads_shorter source front 0 n zero-le h)
+    (space_is_seam source front n text h) in
     let c = after_front a b front (w.lexemes ++ w.end ∷ []) lead w.cut in
     let f = alike_front c.0 w.lexemes w.end (bares others) c.2 w.are in
-    let cut : Cut (a ++ b) (front ++ (f.0 ++ f.1 ∷ [])) = subst (λ (z : List Lexeme). Cut (a ++ b) (front ++ z)) f.2 c.1 in
+    let cut : Cut (a ++ b) (front ++ (f.0 ++ f.1 ∷ [])) =
+    subst (λ (z : List Lexeme). Cut (a ++ b) (front ++ z)) f.2 c.1 in
     record {
       added = f.0;
       end = f.1;
       cut = cut;
       alike = alike_bares f.0 others f.3;
       is_end =
-          (few_tokens (a ++ b) (front ++ f.0) f.1 (subst (Cut (a ++ b)) (sym (append_assoc front f.0 (f.1 ∷ []))) cut)).1;
+          (few_tokens (a ++ b) (front ++ f.0) f.1
+          (subst (Cut (a ++ b)) (sym (append_assoc front f.0 (f.1 ∷ []))) cut)).1;
     }
 
 pub goes_on_spaced : (source : List ℕ) → GoesOnSpaced source
 goes_on_spaced source front next after others text cut spaced =
     let p = before_others front cut.front next cut.last after cut.parts in
-    let q = leads_front source front p.0 0 cut.before (subst (λ (xs : List Lexeme). Leads source 0 xs cut.before) p.1 cut.leads) in
-    subst (λ (t : List ℕ). GoesOn (t ++ after_space text) front others) (sym (front_is source front q.0 q.1)) (goes_on source front others q.0 text q.1 spaced)
+    let q = leads_front source front p.0 0 cut.before
+    (subst (λ (xs : List Lexeme). Leads source 0 xs cut.before) p.1 cut.leads) in
+    subst (λ (t : List ℕ). GoesOn (t ++ after_space text) front others) (sym (front_is source front q.0 q.1))
+    (goes_on source front others q.0 text q.1 spaced)

@@ -30,7 +30,8 @@ alike_of (x ∷ xs) [] bs a o = absurd a
 alike_of (x ∷ xs) (y ∷ ys) [] a o = absurd o
 
 -- the front of a list that is alike with tokens and the end
-pub alike_front : (vs xs : List Lexeme) (e : Lexeme) (bs : List Bare) → AllAlike vs (xs ++ e ∷ []) → AreOf xs bs → (ys : List Lexeme) × (y : Lexeme) × (vs ≡ ys ++ y ∷ []) × AreOf ys bs
+pub alike_front : (vs xs : List Lexeme) (e : Lexeme) (bs : List Bare) → AllAlike vs (xs ++ e ∷ []) → AreOf xs bs
+    → (ys : List Lexeme) × (y : Lexeme) × (vs ≡ ys ++ y ∷ []) × AreOf ys bs
 alike_front [] [] e bs a o = absurd a
 alike_front [] (x ∷ xs) e bs a o = absurd a
 alike_front (v ∷ []) [] e bs a o = ([], v, refl, o)
@@ -43,7 +44,14 @@ alike_front (v ∷ vs) (x ∷ xs) e (b ∷ bs) a o =
 -- ---- a token begins with no gap
 
 white_starts_none : (c : ℕ) → IsTrue (is_white c) → step Start c ≡ None
-white_starts_none c h = elim (cases c h) [ inl e ↦ rw e | inr (inl e) ↦ rw e | inr (inr (inl e)) ↦ rw e | inr (inr (inr (inl e))) ↦ rw e | inr (inr (inr (inr (inl e)))) ↦ rw e | inr (inr (inr (inr (inr e)))) ↦ rw e ]
+white_starts_none c h = elim (cases c h) [
+  | inl e ↦ rw e
+  | inr (inl e) ↦ rw e
+  | inr (inr (inl e)) ↦ rw e
+  | inr (inr (inr (inl e))) ↦ rw e
+  | inr (inr (inr (inr (inl e)))) ↦ rw e
+  | inr (inr (inr (inr (inr e)))) ↦ rw e
+]
   where
     cases : (c : ℕ) → IsTrue (is_white c) → (c ≡ 32) ⊎ (c ≡ 44) ⊎ (c ≡ 9) ⊎ (c ≡ 65279) ⊎ (c ≡ 10) ⊎ (c ≡ 13)
     cases c h = grind (arith, nat_tests)
@@ -97,9 +105,14 @@ whole_reads (c ∷ cs) kind s =
     }
 
 abbrev lone_lexeme : List ℕ → Kind → Lexeme
-lone_lexeme whole kind = record { kind = kind; text = text_of kind whole; span = record { start = place whole 0; end = place whole (length whole) } }
+lone_lexeme whole kind = record {
+  kind = kind;
+  text = text_of kind whole;
+  span = record { start = place whole 0; end = place whole (length whole) };
+}
 
-whole_stands : (whole : List ℕ) (kind : Kind) → Spells whole kind → Stands whole 0 (lone_lexeme whole kind) (length whole)
+whole_stands : (whole : List ℕ) (kind : Kind) → Spells whole kind
+    → Stands whole 0 (lone_lexeme whole kind) (length whole)
 whole_stands whole kind s =
     let r = spells_run whole kind s in
     record {
@@ -115,11 +128,13 @@ whole_stands whole kind s =
 no_end : (whole : List ℕ) (kind : Kind) → Spells whole kind → kind ≡ EndOfFile → ⊥
 no_end whole kind s e = subst (λ (k : Kind). Spells whole k) e s
 
-pub writes_token : (whole : List ℕ) (kind : Kind) (rest : List ℕ) (bares : List Bare) → WritesToken whole kind rest bares
+pub writes_token : (whole : List ℕ) (kind : Kind) (rest : List ℕ) (bares : List Bare)
+    → WritesToken whole kind rest bares
 writes_token whole kind rest bares s may w =
     let x : Lexeme = lone_lexeme whole kind in
     let stands = whole_stands whole kind s in
-    let leads = front_joins whole rest (x ∷ []) (length whole) (length whole, stands, no_end whole kind s, refl) (inr ([], x, refl, refl, may)) in
+    let leads = front_joins whole rest (x ∷ []) (length whole) (length whole, stands, no_end whole kind s, refl)
+    (inr ([], x, refl, refl, may)) in
     let c = after_front whole rest (x ∷ []) (w.lexemes ++ w.end ∷ []) leads w.cut in
     let f = alike_front c.0 w.lexemes w.end bares c.2 w.are in
     record {
@@ -131,14 +146,17 @@ writes_token whole kind rest bares s may w =
 
 -- ---- white characters
 
-white_gap : (c : ℕ) (rest : List ℕ) (n : ℕ) → IsTrue (is_white c) → Longest IsGap rest n → Longest IsGap (c ∷ rest) (suc n)
+white_gap : (c : ℕ) (rest : List ℕ) (n : ℕ) → IsTrue (is_white c) → Longest IsGap rest n
+    → Longest IsGap (c ∷ rest) (suc n)
 white_gap c rest n h l =
     let same : gap_size rest ≡ n = Longest_same IsGap rest (gap_size rest) n (gap_longest rest) l in
     let stepped : gap_step false c ≡ Some false = cond-true (is_white c) _ _ h in
-    let size : gap_size (c ∷ rest) ≡ suc (gap_size rest) = ap (λ (o : Option Bool). (onward false (λ p. reach gap_step p rest) o).0) stepped in
+    let size : gap_size (c ∷ rest) ≡ suc (gap_size rest) = ap (λ (o : Option Bool). (onward false
+    (λ p. reach gap_step p rest) o).0) stepped in
     subst (Longest IsGap (c ∷ rest)) (size ∙ ap suc same) (gap_longest (c ∷ rest))
 
-stands_back : (c : ℕ) (rest : List ℕ) (x : Lexeme) (n : ℕ) → IsTrue (is_white c) → Stands (c ∷ rest) 1 x n → Stands (c ∷ rest) 0 x n
+stands_back : (c : ℕ) (rest : List ℕ) (x : Lexeme) (n : ℕ) → IsTrue (is_white c) → Stands (c ∷ rest) 1 x n
+    → Stands (c ∷ rest) 0 x n
 stands_back c rest x n h s =
     let next = s.next_is in
     let one_more : 1 + s.gap ≡ 0 + suc s.gap = omega arith in
@@ -152,7 +170,9 @@ stands_back c rest x n h s =
       next_is = omega arith;
     }
 
-cut_back : (c : ℕ) (rest : List ℕ) (front : List Lexeme) (last : Lexeme) (before after : ℕ) → IsTrue (is_white c) → Leads (c ∷ rest) 1 front before → Stands (c ∷ rest) before last after → last.kind ≡ EndOfFile → Cut (c ∷ rest) (front ++ last ∷ [])
+cut_back : (c : ℕ) (rest : List ℕ) (front : List Lexeme) (last : Lexeme) (before after : ℕ) → IsTrue (is_white c)
+    → Leads (c ∷ rest) 1 front before → Stands (c ∷ rest) before last after → last.kind ≡ EndOfFile
+    → Cut (c ∷ rest) (front ++ last ∷ [])
 cut_back c rest [] last before after h l s e = record {
   front = [];
   last = last;
@@ -179,8 +199,10 @@ writes_white c rest bares h w =
     let k = w.cut in
     let p = leads_past (c ∷ []) rest k.front 0 k.before k.leads in
     let y : Lexeme = moved (c ∷ rest) ((1 + k.before) + k.stands.gap) (1 + k.after) k.last in
-    let cut = cut_back c rest p.0 y (1 + k.before) (1 + k.after) h p.1 (stands_past (c ∷ []) rest k.before k.last k.after k.stands) k.ends in
-    let alike = subst (AllAlike (p.0 ++ y ∷ [])) (sym k.parts) (alike_push p.0 k.front y k.last p.2 (record { kind = refl; text = refl })) in
+    let cut = cut_back c rest p.0 y (1 + k.before) (1 + k.after) h p.1
+    (stands_past (c ∷ []) rest k.before k.last k.after k.stands) k.ends in
+    let alike = subst (AllAlike (p.0 ++ y ∷ [])) (sym k.parts) (alike_push p.0 k.front y k.last p.2
+    (record { kind = refl; text = refl })) in
     let f = alike_front (p.0 ++ y ∷ []) w.lexemes w.end bares alike w.are in
     record {
       lexemes = f.0;
@@ -202,7 +224,15 @@ writes_nothing = record {
     after = 0;
     parts = refl;
     leads = refl;
-    stands = record { gap = 0; size = 0; gap_is = gap_longest []; reads = (refl, refl, refl); start = refl; end = refl; next_is = refl };
+    stands = record {
+      gap = 0;
+      size = 0;
+      gap_is = gap_longest [];
+      reads = (refl, refl, refl);
+      start = refl;
+      end = refl;
+      next_is = refl;
+    };
     ends = refl;
   };
   are = tt;

@@ -21,27 +21,40 @@ scalars_drop (suc k) (c ∷ cs) e = scalars_drop k cs (second_so (scalar c) (sca
 scalars_take : (k : ℕ) (cs : List ℕ) → scalars cs ≡ true → scalars (take k cs) ≡ true
 scalars_take zero cs e = refl
 scalars_take (suc k) [] e = e
-scalars_take (suc k) (c ∷ cs) e = and_both (scalar c) (scalars cs) (scalars (take k cs)) e (scalars_take k cs (second_so (scalar c) (scalars cs) e))
+scalars_take (suc k) (c ∷ cs) e = and_both (scalar c) (scalars cs) (scalars (take k cs)) e
+    (scalars_take k cs (second_so (scalar c) (scalars cs) e))
 
 -- the bytes before and after
 pub seam : (k : ℕ) (t : List ℕ) → IsUtf8 t → t ≡ encodes (take k (chars t)) ++ encodes (drop k (chars t))
-seam k t u = sym (encodes-chars t u) ∙ (ap encodes (sym (take-append-drop k (chars t))) ∙ encodes-append (take k (chars t)) (drop k (chars t)))
+seam k t u = sym (encodes-chars t u) ∙ (ap encodes (sym (take-append-drop k (chars t)))
+    ∙ encodes-append (take k (chars t)) (drop k (chars t)))
 
 pub byte_at_within : (k n : ℕ) (t : List ℕ) → IsUtf8 t → n ≡ byte_at k (chars t) → n ≤ length t
-byte_at_within k n t u e = omega (arith, e, ap length (seam k t u), length-append (encodes (take k (chars t))) (encodes (drop k (chars t))))
+byte_at_within k n t u e = omega (
+  arith,
+  e,
+  ap length (seam k t u),
+  length-append (encodes (take k (chars t))) (encodes (drop k (chars t))),
+)
 
 pub byte_at_boundary : (k n : ℕ) (t : List ℕ) → IsUtf8 t → n ≡ byte_at k (chars t) → IsCharBoundary t n
-byte_at_boundary k n t u e = subst (IsCharBoundary t) (sym e) (IsCharBoundary-at_seam t (encodes (take k (chars t))) (encodes (drop k (chars t))) (seam k t u) (drop k (chars t), (scalars_drop k (chars t) (scalars-chars t u), refl)))
+byte_at_boundary k n t u e = subst (IsCharBoundary t) (sym e)
+    (IsCharBoundary-at_seam t (encodes (take k (chars t))) (encodes (drop k (chars t))) (seam k t u)
+    (drop k (chars t), (scalars_drop k (chars t) (scalars-chars t u), refl)))
 
 pub chars_take : (k n : ℕ) (t : List ℕ) → IsUtf8 t → n ≡ byte_at k (chars t) → chars (take n t) ≡ take k (chars t)
 chars_take k n t u e =
     let a = encodes (take k (chars t)) in
-    ap chars (ap (λ m. take m t) e ∙ (ap (take (length a)) (seam k t u) ∙ take-append_seam a (encodes (drop k (chars t))))) ∙ chars-encodes (take k (chars t)) (scalars_take k (chars t) (scalars-chars t u))
+    ap chars (ap (λ m. take m t) e ∙ (ap (take (length a)) (seam k t u)
+    ∙ take-append_seam a (encodes (drop k (chars t)))))
+    ∙ chars-encodes (take k (chars t)) (scalars_take k (chars t) (scalars-chars t u))
 
 pub chars_drop : (k n : ℕ) (t : List ℕ) → IsUtf8 t → n ≡ byte_at k (chars t) → chars (drop n t) ≡ drop k (chars t)
 chars_drop k n t u e =
     let a = encodes (take k (chars t)) in
-    ap chars (ap (λ m. drop m t) e ∙ (ap (drop (length a)) (seam k t u) ∙ drop-append_seam a (encodes (drop k (chars t))))) ∙ chars-encodes (drop k (chars t)) (scalars_drop k (chars t) (scalars-chars t u))
+    ap chars (ap (λ m. drop m t) e ∙ (ap (drop (length a)) (seam k t u)
+    ∙ drop-append_seam a (encodes (drop k (chars t)))))
+    ∙ chars-encodes (drop k (chars t)) (scalars_drop k (chars t) (scalars-chars t u))
 
 pub first_border : (n c : ℕ) (cs ds : List ℕ) → n ≡ length (encode c) → cs ≡ c ∷ ds → n ≡ byte_at 1 cs
 first_border n c cs ds e h = e ∙ (sym (ap length (append-nil (encode c))) ∙ ap (byte_at 1) (sym h))
@@ -63,14 +76,20 @@ byte_at_on j g cs =
     ∙ length-append (encodes (take j cs)) (encodes (take g (drop j cs)))))
 
 -- the border behind one more character
-pub border_on : (text : List ℕ) (i b c n : ℕ) → IsUtf8 text → i < length (chars text) → c ≡ get_or (chars text) i c → b ≡ byte_at i (chars text) → n ≡ len_utf8 c
+pub border_on : (text : List ℕ) (i b c n : ℕ) → IsUtf8 text → i < length (chars text) → c ≡ get_or (chars text) i c
+    → b ≡ byte_at i (chars text) → n ≡ len_utf8 c
     → (b + n ≡ byte_at (i + 1) (chars text)) × (b + n ≤ length text) × (i + 1 ≤ length text)
 border_on text i b c n u l here e size =
     let cs = chars text in
-    let first : n ≡ byte_at 1 (drop i cs) = first_border n c (drop i cs) (drop (suc i) cs) (size ∙ sym (length-encode c)) (drop-cons cs i c l ∙ ap (λ x. x ∷ drop (suc i) cs) (sym here)) in
+    let first : n ≡ byte_at 1 (drop i cs) = first_border n c (drop i cs) (drop (suc i) cs)
+    (size ∙ sym (length-encode c)) (drop-cons cs i c l ∙ ap (λ x. x ∷ drop (suc i) cs) (sym here)) in
     let next : b + n ≡ byte_at (i + 1) cs = ap₂ (λ x y. x + y) e first ∙ byte_at_on i 1 cs in
     let within : b + n ≤ length text = byte_at_within (i + 1) (b + n) text u next in
-    let wide : i + 1 ≤ byte_at (i + 1) cs = omega (arith, length-le-encodes (take (i + 1) cs), length-take-le (i + 1) cs (omega (arith, l))) in (
+    let wide : i + 1 ≤ byte_at (i + 1) cs = omega (
+      arith,
+      length-le-encodes (take (i + 1) cs),
+      length-take-le (i + 1) cs (omega (arith, l)),
+    ) in (
       next,
       within,
       omega (arith, wide, next, within),

@@ -72,7 +72,8 @@ pub gap_class_tests : (b : ℕ) → b < 256 → gap_class (class_of b) ≡ gap_s
 gap_class_tests b l = agree_at (λ k. gap_class (class_of k)) (gap_step false) refl b l
 
 -- where a gap doesn't go on
-pub gap_none : (class : ByteClass) → (class ≡ White → ⊥) → (class ≡ LineFeed → ⊥) → (class ≡ Hash → ⊥) → gap_class class ≡ None
+pub gap_none : (class : ByteClass) → (class ≡ White → ⊥) → (class ≡ LineFeed → ⊥) → (class ≡ Hash → ⊥)
+    → gap_class class ≡ None
 gap_none White w l h = absurd (w refl)
 gap_none LineFeed w l h = absurd (l refl)
 gap_none Hash w l h = absurd (h refl)

@@ -48,33 +48,42 @@ spaces_gap : (cs : List ℕ) → gap_size cs ≡ run_size run.Spaces cs + gap_si
 spaces_gap [] = refl
 spaces_gap (c ∷ cs) = by_test (c == 32) refl (spaces_gap cs)
   where
-    by_test : (goes : Bool) → (c == 32) ≡ goes → gap_size cs ≡ run_size run.Spaces cs + gap_size (drop (run_size run.Spaces cs) cs)
+    by_test : (goes : Bool) → (c == 32) ≡ goes
+        → gap_size cs ≡ run_size run.Spaces cs + gap_size (drop (run_size run.Spaces cs) cs)
         → gap_size (c ∷ cs) ≡ run_size run.Spaces (c ∷ cs) + gap_size (drop (run_size run.Spaces (c ∷ cs)) (c ∷ cs))
     by_test true e h =
-        one_white c cs (ap (gap_step false) (eqb-true c 32 e)) ∙ (ap suc h ∙ (one_more (run_size run.Spaces cs) (gap_size (drop (run_size run.Spaces cs) cs))
+        one_white c cs (ap (gap_step false) (eqb-true c 32 e))
+        ∙ (ap suc h ∙ (one_more (run_size run.Spaces cs) (gap_size (drop (run_size run.Spaces cs) cs))
         ∙ sym (ap (λ k. k + gap_size (drop k (c ∷ cs))) (run_more run.Spaces c cs e))))
-    by_test false e h = none_more (gap_size (c ∷ cs)) ∙ sym (ap (λ k. k + gap_size (drop k (c ∷ cs))) (run_none run.Spaces c cs e))
+    by_test false e h = none_more (gap_size (c ∷ cs)) ∙ sym (ap (λ k. k + gap_size (drop k (c ∷ cs)))
+        (run_none run.Spaces c cs e))
 
 -- where a comment ends a gap goes on as outside
-comment_gap : (cs : List ℕ) → (reach gap_step true cs).0 ≡ run_size run.Comment cs + gap_size (drop (run_size run.Comment cs) cs)
+comment_gap : (cs : List ℕ) → (reach gap_step true cs).0 ≡ run_size run.Comment cs
+    + gap_size (drop (run_size run.Comment cs) cs)
 comment_gap [] = refl
 comment_gap (c ∷ cs) = by_test (is_comment_character c) refl (comment_gap cs)
   where
-    outside : (o : Option Bool) → (onward true (λ p. reach gap_step p cs) o).0 ≡ (onward false (λ p. reach gap_step p cs) o).0
+    outside : (o : Option Bool) → (onward true (λ p. reach gap_step p cs) o).0
+        ≡ (onward false (λ p. reach gap_step p cs) o).0
     outside None = refl
     outside (Some p) = refl
 
     steps : (goes : Bool) → is_comment_character c ≡ goes → gap_step true c ≡ cond goes (Some true) (gap_step false c)
     steps goes e = ap (λ b. cond b (Some true) (gap_step false c)) e
 
-    by_test : (goes : Bool) → is_comment_character c ≡ goes → (reach gap_step true cs).0 ≡ run_size run.Comment cs + gap_size (drop (run_size run.Comment cs) cs)
-        → (reach gap_step true (c ∷ cs)).0 ≡ run_size run.Comment (c ∷ cs) + gap_size (drop (run_size run.Comment (c ∷ cs)) (c ∷ cs))
+    by_test : (goes : Bool) → is_comment_character c ≡ goes
+        → (reach gap_step true cs).0 ≡ run_size run.Comment cs + gap_size (drop (run_size run.Comment cs) cs)
+        → (reach gap_step true (c ∷ cs)).0 ≡ run_size run.Comment (c ∷ cs)
+        + gap_size (drop (run_size run.Comment (c ∷ cs)) (c ∷ cs))
     by_test true e h =
-        ap (λ o. (onward true (λ p. reach gap_step p cs) o).0) (steps true e) ∙ (ap suc h ∙ (one_more (run_size run.Comment cs) (gap_size (drop (run_size run.Comment cs) cs))
+        ap (λ o. (onward true (λ p. reach gap_step p cs) o).0) (steps true e)
+        ∙ (ap suc h ∙ (one_more (run_size run.Comment cs) (gap_size (drop (run_size run.Comment cs) cs))
         ∙ sym (ap (λ k. k + gap_size (drop k (c ∷ cs))) (run_more run.Comment c cs e))))
     by_test false e h =
         ap (λ o. (onward true (λ p. reach gap_step p cs) o).0) (steps false e) ∙ (outside (gap_step false c)
-        ∙ (none_more (gap_size (c ∷ cs)) ∙ sym (ap (λ k. k + gap_size (drop k (c ∷ cs))) (run_none run.Comment c cs e))))
+        ∙ (none_more (gap_size (c ∷ cs)) ∙ sym (ap (λ k. k + gap_size (drop k (c ∷ cs)))
+        (run_none run.Comment c cs e))))
 
 -- a character with which a gap doesn't go on
 no_gap : (c : ℕ) (cs : List ℕ) → gap_step false c ≡ None → gap_size (c ∷ cs) ≡ 0
@@ -87,12 +96,14 @@ past_ascii c l n = grind arith
 other_stops : (ds : List ℕ) (b : ℕ) → FirstByte ds b → b < 256 → (class : ByteClass) → class ≡ class_of b
     → (class ≡ White → ⊥) → (class ≡ LineFeed → ⊥) → (class ≡ Hash → ⊥) → (class ≡ Lead → ⊥) → gap_size ds ≡ 0
 other_stops [] b x s class e w f h n = elim x [ ]
-other_stops (c ∷ cs) b (low m) s class e w f h n = no_gap c cs (sym (gap_class_tests c s) ∙ (ap gap_class (sym e) ∙ gap_none class w f h))
+other_stops (c ∷ cs) b (low m) s class e w f h n =
+    no_gap c cs (sym (gap_class_tests c s) ∙ (ap gap_class (sym e) ∙ gap_none class w f h))
 other_stops (c ∷ cs) b (high m l) s class e w f h n =
     absurd (n (e ∙ same_true the_type (search rules) (class_of b) Lead (lead_class_tests b s ∙ le-leb 192 b l)))
 
 -- the first byte of a character past ASCII that is no byte order mark
-lead_stops : (ds : List ℕ) (b : ℕ) → FirstByte ds b → b < 256 → Lead ≡ class_of b → begins_with_mark ds ≡ false → gap_size ds ≡ 0
+lead_stops : (ds : List ℕ) (b : ℕ) → FirstByte ds b → b < 256 → Lead ≡ class_of b → begins_with_mark ds ≡ false
+    → gap_size ds ≡ 0
 lead_stops [] b x s e n = elim x [ ]
 lead_stops (c ∷ cs) b (low m) s e n = absurd (cc (ap low_class e ∙ low_class_tests c s ∙ lt-ltb c 128 m))
 lead_stops (c ∷ cs) b (high m l) s e n = no_gap c cs (past_ascii c m n)
@@ -119,36 +130,47 @@ pub record InGap (cs : List ℕ) (start : Place) (i : ℕ) (p : Place) : Type 0 
   pub gap : gap_size cs ≡ size + gap_size (drop size cs)
 
 -- further by some characters
-gap_on : (cs : List ℕ) (start p q : Place) (i j n : ℕ) → (g : InGap cs start i p) → n ≤ length (drop g.size cs) → j ≡ i + byte_at n (drop g.size cs)
-    → q ≡ fold past_character p (take n (drop g.size cs)) → gap_size (drop g.size cs) ≡ n + gap_size (drop n (drop g.size cs)) → InGap cs start j q
+gap_on : (cs : List ℕ) (start p q : Place) (i j n : ℕ) → (g : InGap cs start i p) → n ≤ length (drop g.size cs)
+    → j ≡ i + byte_at n (drop g.size cs)
+    → q ≡ fold past_character p (take n (drop g.size cs))
+    → gap_size (drop g.size cs) ≡ n + gap_size (drop n (drop g.size cs)) → InGap cs start j q
 gap_on cs start p q i j n g l e f h = record {
   size = g.size + n;
   within = omega (arith, l, g.within, length-drop g.size cs);
   bytes = e ∙ (ap (λ k. k + byte_at n (drop g.size cs)) g.bytes ∙ byte_at_on g.size n cs);
   place =
       f ∙ (ap (λ x. fold past_character x (take n (drop g.size cs))) g.place
-      ∙ (sym (fold-append past_character start (take g.size cs) (take n (drop g.size cs))) ∙ ap (fold past_character start) (sym (take-add g.size n cs))));
+      ∙ (sym (fold-append past_character start (take g.size cs) (take n (drop g.size cs)))
+      ∙ ap (fold past_character start) (sym (take-add g.size n cs))));
   gap =
-      g.gap ∙ (ap (λ k. g.size + k) (h ∙ ap (λ t. n + gap_size t) (drop-drop n g.size cs)) ∙ plus_plus g.size n (gap_size (drop (g.size + n) cs)));
+      g.gap ∙ (ap (λ k. g.size + k) (h ∙ ap (λ t. n + gap_size t) (drop-drop n g.size cs))
+      ∙ plus_plus g.size n (gap_size (drop (g.size + n) cs)));
 }
   where
     plus_plus : (a b c : ℕ) → a + (b + c) ≡ (a + b) + c
     plus_plus a b c = omega arith
 
 -- The gap ends there.
-gap_ended : (cs : List ℕ) (start p : Place) (i : ℕ) → (g : InGap cs start i p) → gap_size (drop g.size cs) ≡ 0 → EndsGap cs start i p
+gap_ended : (cs : List ℕ) (start p : Place) (i : ℕ) → (g : InGap cs start i p) → gap_size (drop g.size cs) ≡ 0
+    → EndsGap cs start i p
 gap_ended cs start p i g e =
     let size : g.size ≡ gap_size cs = omega (arith, g.gap, e) in
-    record { bytes_is = g.bytes ∙ ap (λ k. byte_at k cs) size; position_is = g.place ∙ ap (λ k. fold past_character start (take k cs)) size }
+    record {
+      bytes_is = g.bytes ∙ ap (λ k. byte_at k cs) size;
+      position_is = g.place ∙ ap (λ k. fold past_character start (take k cs)) size;
+    }
 
-module _ (text bytes : List ℕ) (start p : Place) (i : ℕ) (u : IsUtf8 text) (same : bytes ≡ text) (g : InGap (chars text) start i p) where
+module _ (text bytes : List ℕ) (start p : Place) (i : ℕ) (u : IsUtf8 text) (same : bytes ≡ text)
+    (g : InGap (chars text) start i p) where
   abbrev pub cs : List ℕ
   cs = chars text
 
   -- its bytes and its index fit
-  pub gap_room : start.index + length text < 2 ^ 64 → (i ≤ length text) × (p.index ≡ start.index + g.size) × (p.index < 2 ^ 64)
+  pub gap_room : start.index + length text < 2 ^ 64
+      → (i ≤ length text) × (p.index ≡ start.index + g.size) × (p.index < 2 ^ 64)
   gap_room r =
-      let index : p.index ≡ start.index + g.size = ap (λ (x : Place). x.index) g.place ∙ (index_on start (take g.size cs) ∙ ap (λ k. start.index + k) (length-take-le g.size cs g.within)) in
+      let index : p.index ≡ start.index + g.size = ap (λ (x : Place). x.index) g.place
+      ∙ (index_on start (take g.size cs) ∙ ap (λ k. start.index + k) (length-take-le g.size cs g.within)) in
       (byte_at_within g.size i text u g.bytes, index, omega (arith, index, r, g.within, chars_within text u))
 
   rest : drop i bytes ≡ encodes (drop g.size cs)
@@ -157,7 +179,8 @@ module _ (text bytes : List ℕ) (start p : Place) (i : ℕ) (u : IsUtf8 text) (
   pub all_read : length bytes ≤ i → EndsGap cs start i p
   all_read l =
       let none : length (encodes (drop g.size cs)) ≡ length (drop i bytes) = ap length (sym rest) in
-      gap_ended cs start p i g (none_left (drop g.size cs) (omega (arith, l, none, length-drop i bytes, length-le-encodes (drop g.size cs))))
+      gap_ended cs start p i g (none_left (drop g.size cs) (omega
+      (arith, l, none, length-drop i bytes, length-le-encodes (drop g.size cs))))
 
   -- the number of characters before it, by its index
   pub size_is : start.index + length text < 2 ^ 64 → p.index - start.index ≡ g.size
@@ -182,17 +205,21 @@ module _ (text bytes : List ℕ) (start p : Place) (i : ℕ) (u : IsUtf8 text) (
         → (class ≡ White → ⊥) → (class ≡ LineFeed → ⊥) → (class ≡ Hash → ⊥) → (class ≡ Lead → ⊥) → EndsGap cs start i p
     other_ends class e w f h n = gap_ended cs start p i g (other_stops (drop g.size cs) b first small class e w f h n)
 
-    pub lead_ends : Lead ≡ class_of b → (k : ℕ) → k ≡ g.size → begins_with_mark (drop k cs) ≡ false → EndsGap cs start i p
-    lead_ends e k k_is n = gap_ended cs start p i g (lead_stops (drop g.size cs) b first small e (ap (λ j. begins_with_mark (drop j cs)) (sym k_is) ∙ n))
+    pub lead_ends : Lead ≡ class_of b → (k : ℕ) → k ≡ g.size → begins_with_mark (drop k cs) ≡ false
+        → EndsGap cs start i p
+    lead_ends e k k_is n = gap_ended cs start p i g (lead_stops (drop g.size cs) b first small e
+        (ap (λ j. begins_with_mark (drop j cs)) (sym k_is) ∙ n))
 
-    pub mark_on : (q : Place) (k : ℕ) → k ≡ g.size → begins_with_mark (drop k cs) ≡ true → q ≡ next_column p → InGap cs start (i + 3) q
+    pub mark_on : (q : Place) (k : ℕ) → k ≡ g.size → begins_with_mark (drop k cs) ≡ true → q ≡ next_column p
+        → InGap cs start (i + 3) q
     mark_on q k k_is m f = by_rest (drop g.size cs) refl (ap (λ j. begins_with_mark (drop j cs)) (sym k_is) ∙ m)
       where
         by_rest : (es : List ℕ) → drop g.size cs ≡ es → begins_with_mark es ≡ true → InGap cs start (i + 3) q
         by_rest [] e w = absurd (cc w)
         by_rest (c ∷ es) e w =
             let mark : drop g.size cs ≡ 65279 ∷ es = e ∙ ap (λ (x : ℕ). x ∷ es) (eqb-true c 65279 w) in
-            gap_on cs start p q i (i + 3) 1 g (omega (arith, ap length mark)) (ap (λ k. i + k) (sym (ap (byte_at 1) mark ∙ three_bytes es)))
+            gap_on cs start p q i (i + 3) 1 g (omega (arith, ap length mark))
+            (ap (λ k. i + k) (sym (ap (byte_at 1) mark ∙ three_bytes es)))
             (f ∙ sym (ap (λ t. fold past_character p (take 1 t)) mark))
             (ap gap_size mark ∙ (suc_one (gap_size es) ∙ ap (λ t. 1 + gap_size t) (sym (ap (drop 1) mark))))
 
@@ -207,46 +234,62 @@ module _ (text bytes : List ℕ) (start p : Place) (i : ℕ) (u : IsUtf8 text) (
       step_is : gap_step false b ≡ gap_class class
       step_is = sym (gap_class_tests b small) ∙ ap gap_class (sym class_is)
 
-      over : (n m : ℕ) (q : Place) → n ≤ length ds → m ≡ byte_at n ds → q ≡ fold past_character (past_character p b) (take n ds)
+      over : (n m : ℕ) (q : Place) → n ≤ length ds → m ≡ byte_at n ds
+          → q ≡ fold past_character (past_character p b) (take n ds)
           → gap_size (b ∷ ds) ≡ suc (n + gap_size (drop n ds)) → InGap cs start (i + (1 + m)) q
       over n m q w e f h =
           gap_on cs start p q i (i + (1 + m)) (suc n) g (omega (arith, ap length here, w))
           (omega (arith, e, ap (byte_at (suc n)) here ∙ ascii_first b n ds below))
           (f ∙ sym (ap (λ t. fold past_character p (take (suc n) t)) here))
-          (ap gap_size here ∙ (h ∙ (one_more n (gap_size (drop n ds)) ∙ ap (λ t. suc n + gap_size t) (sym (ap (drop (suc n)) here)))))
+          (ap gap_size here ∙ (h ∙ (one_more n (gap_size (drop n ds))
+          ∙ ap (λ t. suc n + gap_size t) (sym (ap (drop (suc n)) here)))))
 
       -- the bytes behind it
       behind : (tail : List ℕ) → tail ≡ take (length bytes - (i + 1)) (drop (i + 1) bytes) → tail ≡ encodes ds
       behind tail e =
           e ∙ (take_all (length bytes - (i + 1)) (drop (i + 1) bytes) (omega (arith, length-drop (i + 1) bytes))
-          ∙ (sym (drop-drop 1 i bytes) ∙ (ap (drop 1) (rest ∙ ap encodes here) ∙ ap (λ t. drop 1 (t ++ encodes ds)) (encode_ascii b below))))
+          ∙ (sym (drop-drop 1 i bytes) ∙ (ap (drop 1) (rest ∙ ap encodes here)
+          ∙ ap (λ t. drop 1 (t ++ encodes ds)) (encode_ascii b below))))
 
     pub white_on : (q : Place) → White ≡ class_of b → q ≡ next_column p → InGap cs start (i + 1) q
     white_on q c f =
-        over White c refl 0 0 q (omega arith) refl (f ∙ ap (λ x. cond x (next_line p) (next_column p)) (ap (λ k. sameb the_type k LineFeed) c ∙ feed_class_tests b small))
+        over White c refl 0 0 q (omega arith) refl
+        (f ∙ ap (λ x. cond x (next_line p) (next_column p))
+        (ap (λ k. sameb the_type k LineFeed) c ∙ feed_class_tests b small))
         (one_white b ds (step_is White c refl) ∙ ap suc (none_more (gap_size ds)))
 
-    pub feed_on : (q : Place) (r : Border) (tail : List ℕ) → LineFeed ≡ class_of b → tail ≡ take (length bytes - (i + 1)) (drop (i + 1) bytes) → RunsTo run.Spaces tail r
+    pub feed_on : (q : Place) (r : Border) (tail : List ℕ) → LineFeed ≡ class_of b
+        → tail ≡ take (length bytes - (i + 1)) (drop (i + 1) bytes) → RunsTo run.Spaces tail r
         → q ≡ columns_on r.characters (next_line p) → InGap cs start (i + (1 + r.bytes)) q
     feed_on q r tail c e h f =
         let spaces = run_of run.Spaces ds tail r (behind LineFeed c refl tail e) h in
         let n = r.characters in
         let within : n ≤ length ds = omega (arith, spaces.characters, run_within run.Spaces ds) in
-        let feed : past_character p b ≡ next_line p = ap (λ x. cond x (next_line p) (next_column p)) (sym (ap (λ k. sameb the_type k LineFeed) c ∙ feed_class_tests b small)) in
+        let feed : past_character p b ≡ next_line p = ap (λ x. cond x (next_line p) (next_column p))
+        (sym (ap (λ k. sameb the_type k LineFeed) c ∙ feed_class_tests b small)) in
         let line : OnLine (take n ds) = subst (λ k. OnLine (take k ds)) (sym spaces.characters) (spaces_on_line ds) in
         over LineFeed c refl n r.bytes q within spaces.border
-        (f ∙ (ap (λ k. columns_on k (next_line p)) (sym (length-take-le n ds within)) ∙ (sym (line_fold (next_line p) (take n ds) line) ∙ ap (λ x. fold past_character x (take n ds)) (sym feed))))
-        (one_white b ds (step_is LineFeed c refl) ∙ ap suc (subst (λ k. gap_size ds ≡ k + gap_size (drop k ds)) (sym spaces.characters) (spaces_gap ds)))
+        (f ∙ (ap (λ k. columns_on k (next_line p)) (sym (length-take-le n ds within))
+        ∙ (sym (line_fold (next_line p) (take n ds) line)
+        ∙ ap (λ x. fold past_character x (take n ds)) (sym feed))))
+        (one_white b ds (step_is LineFeed c refl)
+        ∙ ap suc (subst (λ k. gap_size ds ≡ k + gap_size (drop k ds)) (sym spaces.characters) (spaces_gap ds)))
 
-    pub comment_on : (q : Place) (r : Border) (tail : List ℕ) → Hash ≡ class_of b → tail ≡ take (length bytes - (i + 1)) (drop (i + 1) bytes) → RunsTo run.Comment tail r
+    pub comment_on : (q : Place) (r : Border) (tail : List ℕ) → Hash ≡ class_of b
+        → tail ≡ take (length bytes - (i + 1)) (drop (i + 1) bytes) → RunsTo run.Comment tail r
         → q ≡ columns_on (1 + r.characters) p → InGap cs start (i + (1 + r.bytes)) q
     comment_on q r tail c e h f =
         let comment = run_of run.Comment ds tail r (behind Hash c refl tail e) h in
         let n = r.characters in
         let within : n ≤ length ds = omega (arith, comment.characters, run_within run.Comment ds) in
-        let column : past_character p b ≡ next_column p = ap (λ x. cond x (next_line p) (next_column p)) (sym (ap (λ k. sameb the_type k LineFeed) c ∙ feed_class_tests b small)) in
+        let column : past_character p b ≡ next_column p = ap (λ x. cond x (next_line p) (next_column p))
+        (sym (ap (λ k. sameb the_type k LineFeed) c ∙ feed_class_tests b small)) in
         let line : OnLine (take n ds) = subst (λ k. OnLine (take k ds)) (sym comment.characters) (comment_on_line ds) in
         over Hash c refl n r.bytes q within comment.border
-        (f ∙ (ap (λ k. columns_on k p) (sym (suc_one n)) ∙ (sym (one_column_more n p) ∙ (ap (λ k. columns_on k (next_column p)) (sym (length-take-le n ds within))
-        ∙ (sym (line_fold (next_column p) (take n ds) line) ∙ ap (λ x. fold past_character x (take n ds)) (sym column))))))
-        (one_comment b ds (step_is Hash c refl) ∙ ap suc (subst (λ k. (reach gap_step true ds).0 ≡ k + gap_size (drop k ds)) (sym comment.characters) (comment_gap ds)))
+        (f ∙ (ap (λ k. columns_on k p) (sym (suc_one n))
+        ∙ (sym (one_column_more n p) ∙ (ap (λ k. columns_on k (next_column p)) (sym (length-take-le n ds within))
+        ∙ (sym (line_fold (next_column p) (take n ds) line)
+        ∙ ap (λ x. fold past_character x (take n ds)) (sym column))))))
+        (one_comment b ds (step_is Hash c refl)
+        ∙ ap suc (subst (λ k. (reach gap_step true ds).0 ≡ k + gap_size (drop k ds)) (sym comment.characters)
+        (comment_gap ds)))

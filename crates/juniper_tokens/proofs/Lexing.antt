@@ -20,13 +20,15 @@ left_open s e = ap (λ b. cond b 0 ((length s.source - s.index) + 1)) e
 left_ended : (s : LexerState) → s.ended ≡ true → items_left s ≡ 0
 left_ended s e = ap (λ b. cond b 0 ((length s.source - s.index) + 1)) e
 
-stands_nearer : (s t : LexerState) (x : Lexeme) → Stands s.source s.index x t.index → (x.kind ≡ EndOfFile → ⊥) → length s.source - t.index < length s.source - s.index
+stands_nearer : (s t : LexerState) (x : Lexeme) → Stands s.source s.index x t.index → (x.kind ≡ EndOfFile → ⊥)
+    → length s.source - t.index < length s.source - s.index
 stands_nearer s t x h n =
     let rest = drop (s.index + h.gap) s.source in
     let size = reads_size rest h.size x.kind x.text h.reads n in
     omega (arith, size.0, size.1, length-drop (s.index + h.gap) s.source, h.next_is)
 
-fewer_behind_token : (s t : LexerState) (x : Lexeme) → s.ended ≡ false → t.source ≡ s.source → Stands s.source s.index x t.index → ((t.ended ≡ true) ↔ (x.kind ≡ EndOfFile)) → items_left t < items_left s
+fewer_behind_token : (s t : LexerState) (x : Lexeme) → s.ended ≡ false → t.source ≡ s.source
+    → Stands s.source s.index x t.index → ((t.ended ≡ true) ↔ (x.kind ≡ EndOfFile)) → items_left t < items_left s
 fewer_behind_token s t x going same stands ends = elim (cases_Bool t.ended) [
   | inl y ↦ omega (arith, left_open s going, left_ended t y)
   | inr n ↦
@@ -37,12 +39,14 @@ fewer_behind_token s t x going same stands ends = elim (cases_Bool t.ended) [
 fewer_at_end : (s t : LexerState) → s.ended ≡ false → t.ended ≡ true → items_left t < items_left s
 fewer_at_end s t going ended = omega (arith, left_open s going, left_ended t ended)
 
-pub items_fewer : (s : LexerState) (item : Result (Spanning Token) LexFailure) (t : LexerState) → lexer_steps s (Some item) t → items_left t < items_left s
+pub items_fewer : (s : LexerState) (item : Result (Spanning Token) LexFailure) (t : LexerState)
+    → lexer_steps s (Some item) t → items_left t < items_left s
 items_fewer s (Ok token) t h = fewer_behind_token s t (view_token token) h.0 h.1 h.2.stands h.2.ends
 items_fewer s (Err (failure.Fault fault)) t h = fewer_at_end s t h.0 h.2.ends
 items_fewer s (Err failure.Memory) t h = fewer_at_end s t h.0 h.2.ends
 
-pub ranges_fewer : (s : LexerState) (item : Result TokenRange LexFailure) (t : LexerState) → range_steps s (Some item) t → items_left t < items_left s
+pub ranges_fewer : (s : LexerState) (item : Result TokenRange LexFailure) (t : LexerState) → range_steps s (Some item) t
+    → items_left t < items_left s
 ranges_fewer s (Ok range) t h = fewer_behind_token s t (range_lexeme s.source range) h.0 h.1 h.2.stands h.2.ends
 ranges_fewer s (Err (failure.Fault fault)) t h = fewer_at_end s t h.0 h.2.ends
 ranges_fewer s (Err failure.Memory) t h = fewer_at_end s t h.0 h.2.ends

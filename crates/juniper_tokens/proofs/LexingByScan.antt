@@ -31,42 +31,63 @@ use Rattle.juniper_tokens.proofs.Borders.{byte_at_within, byte_at_on}
 use Rattle.juniper_tokens.proofs.Places.{place_on}
 
 -- from one place to the next
-pub placed_on : (source : List ℕ) (at g n : ℕ) (p q : Place) → IsPlaced source at p → g ≤ length (drop p.index (chars source)) → n ≡ byte_at g (drop p.index (chars source)) → q ≡ place (chars source) (p.index + g) → (q.index ≡ p.index + g) × IsPlaced source (at + n) q
+pub placed_on : (source : List ℕ) (at g n : ℕ) (p q : Place) → IsPlaced source at p
+    → g ≤ length (drop p.index (chars source)) → n ≡ byte_at g (drop p.index (chars source))
+    → q ≡ place (chars source) (p.index + g) → (q.index ≡ p.index + g) × IsPlaced source (at + n) q
 placed_on source at g n p q h l e s =
     let within : p.index + g ≤ length (chars source) = omega (arith, l, h.within, length-drop p.index (chars source)) in
-    let index : q.index ≡ p.index + g = ap (λ (x : Place). x.index) s ∙ place_index (chars source) (p.index + g) within in (
+    let index : q.index ≡ p.index + g = ap (λ (x : Place). x.index) s
+    ∙ place_index (chars source) (p.index + g) within in (
       index,
       record {
-        byte_is = ap₂ (λ a b. a + b) h.byte_is e ∙ (byte_at_on p.index g (chars source) ∙ ap (λ k. byte_at k (chars source)) (sym index));
+        byte_is = ap₂ (λ a b. a + b) h.byte_is e
+            ∙ (byte_at_on p.index g (chars source) ∙ ap (λ k. byte_at k (chars source)) (sym index));
         place_is = s ∙ ap (place (chars source)) (sym index);
         within = subst (λ k. k ≤ length (chars source)) (sym index) within;
         room = h.room;
       },
     )
 
-pub chars_room : (at n : ℕ) (p : Place) (source rest : List ℕ) → IsPlaced source at p → at + length rest ≡ length source → IsUtf8 rest → chars rest ≡ drop p.index (chars source) → p.index + length rest < 2 ^ 64
-chars_room at n p source rest h e u c = omega (arith, e, h.room, h.byte_is, length-le-encodes (take p.index (chars source)), length-take-le p.index (chars source) h.within)
+pub chars_room : (at n : ℕ) (p : Place) (source rest : List ℕ) → IsPlaced source at p → at + length rest ≡ length source
+    → IsUtf8 rest → chars rest ≡ drop p.index (chars source) → p.index + length rest < 2 ^ 64
+chars_room at n p source rest h e u c =
+    omega (
+      arith,
+      e,
+      h.room,
+      h.byte_is,
+      length-le-encodes (take p.index (chars source)),
+      length-take-le p.index (chars source) h.within,
+    )
 
-pub gap_placed : (source rest : List ℕ) (at n : ℕ) (p q : Place) → IsPlaced source at p → chars rest ≡ drop p.index (chars source)
-    → EndsGap (chars rest) p n q → (q.index ≡ p.index + gap_size (drop p.index (chars source))) × IsPlaced source (at + n) q
+pub gap_placed : (source rest : List ℕ) (at n : ℕ) (p q : Place) → IsPlaced source at p
+    → chars rest ≡ drop p.index (chars source)
+    → EndsGap (chars rest) p n q → (q.index ≡ p.index + gap_size (drop p.index (chars source)))
+    × IsPlaced source (at + n) q
 gap_placed source rest at n p q h c e =
     let d = drop p.index (chars source) in
     placed_on source at (gap_size d) n p q h (reach_is gap_step false d).within
     (e.bytes_is ∙ ap (λ t. byte_at (gap_size t) t) c)
-    (e.position_is ∙ (ap₂ (λ s t. fold past_character s (take (gap_size t) t)) h.place_is c ∙ place_on (chars source) p.index (gap_size d)))
+    (e.position_is ∙ (ap₂ (λ s t. fold past_character s (take (gap_size t) t)) h.place_is c
+    ∙ place_on (chars source) p.index (gap_size d)))
 
-pub sum_room : (source rest : List ℕ) (at n k : ℕ) → at + length rest ≡ length source → length source < 2 ^ 64 → IsUtf8 rest → n ≡ byte_at k (chars rest) → at + n < 2 ^ 64
+pub sum_room : (source rest : List ℕ) (at n k : ℕ) → at + length rest ≡ length source → length source < 2 ^ 64
+    → IsUtf8 rest → n ≡ byte_at k (chars rest) → at + n < 2 ^ 64
 sum_room source rest at n k e r u b = omega (arith, e, r, byte_at_within k n rest u b)
 
-pub fault_placed : (source rest : List ℕ) (at k : ℕ) (p : Place) → IsPlaced source at p → chars rest ≡ drop p.index (chars source) → fold past_character p (take k (chars rest)) ≡ place (chars source) (p.index + k)
-fault_placed source rest at k p h c = ap₂ (λ s t. fold past_character s (take k t)) h.place_is c ∙ place_on (chars source) p.index k
+pub fault_placed : (source rest : List ℕ) (at k : ℕ) (p : Place) → IsPlaced source at p
+    → chars rest ≡ drop p.index (chars source)
+    → fold past_character p (take k (chars rest)) ≡ place (chars source) (p.index + k)
+fault_placed source rest at k p h c = ap₂ (λ s t. fold past_character s (take k t)) h.place_is c
+    ∙ place_on (chars source) p.index k
 
 -- ---- in the words of the definitions
 
 pub same_end : (kind : Kind) → (same_kind kind EndOfFile ≡ true) ↔ (kind ≡ EndOfFile)
 same_end kind = (λ e. same_true the_type (search rules) kind EndOfFile e, λ e. ap (λ k. same_kind k EndOfFile) e)
 
-pub breaks_by_scan : (s : LexerState) (m : Missed) → scan (drop (past_gap s).index s.source) ≡ Err m → BreaksAt s.source s.index m.error (place s.source ((past_gap s).index + m.at))
+pub breaks_by_scan : (s : LexerState) (m : Missed) → scan (drop (past_gap s).index s.source) ≡ Err m
+    → BreaksAt s.source s.index m.error (place s.source ((past_gap s).index + m.at))
 breaks_by_scan s m e = record {
   gap = gap_size (drop s.index s.source);
   size = m.at;
@@ -75,7 +96,8 @@ breaks_by_scan s m e = record {
   at_is = refl;
 }
 
-pub fault_by_scan : (s : LexerState) (fault : Spanning LexerError) (t : LexerState) → FailsThere (past_gap s) fault t → GivesFault s fault t
+pub fault_by_scan : (s : LexerState) (fault : Spanning LexerError) (t : LexerState) → FailsThere (past_gap s) fault t
+    → GivesFault s fault t
 fault_by_scan s fault t h = record {
   breaks =
       subst (BreaksAt s.source s.index (view_lexer_error fault.item)) (sym h.start)
@@ -84,11 +106,21 @@ fault_by_scan s fault t h = record {
   ends = h.ends;
 }
 
-pub memory_by_scan : (s t : LexerState) → scans.MissesEscape (scan (drop (past_gap s).index s.source)) → t.ended ≡ true → WantsMemory s t
+pub memory_by_scan : (s t : LexerState) → scans.MissesEscape (scan (drop (past_gap s).index s.source)) → t.ended ≡ true
+    → WantsMemory s t
 memory_by_scan s t h e = by_scan (scan (drop (past_gap s).index s.source)) refl h
   where
-    by_error : (m : Missed) (error : LexicalError) → m.error ≡ error → IsEscape error → scan (drop (past_gap s).index s.source) ≡ Err m → WantsMemory s t
-    by_error m (UnknownEscapeSequence text) i w x = record { text = text; at = place s.source ((past_gap s).index + m.at); breaks = subst (λ (q : LexicalError). BreaksAt s.source s.index q (place s.source ((past_gap s).index + m.at))) i (breaks_by_scan s m x); ends = e }
+    by_error : (m : Missed) (error : LexicalError) → m.error ≡ error → IsEscape error
+        → scan (drop (past_gap s).index s.source) ≡ Err m → WantsMemory s t
+    by_error m (UnknownEscapeSequence text) i w x =
+        record {
+          text = text;
+          at = place s.source ((past_gap s).index + m.at);
+          breaks =
+              subst (λ (q : LexicalError). BreaksAt s.source s.index q (place s.source ((past_gap s).index + m.at)))
+              i (breaks_by_scan s m x);
+          ends = e;
+        }
     by_error m (errors.UnknownCharacter c) i w x = absurd w
     by_error m (errors.UnexpectedCharacter c) i w x = absurd w
     by_error m errors.UnterminatedString i w x = absurd w
@@ -96,6 +128,7 @@ memory_by_scan s t h e = by_scan (scan (drop (past_gap s).index s.source)) refl 
     by_error m errors.UnexpectedEndOfFile i w x = absurd w
     by_error m errors.InvalidNumber i w x = absurd w
 
-    by_scan : (r : Result Found Missed) → scan (drop (past_gap s).index s.source) ≡ r → scans.MissesEscape r → WantsMemory s t
+    by_scan : (r : Result Found Missed) → scan (drop (past_gap s).index s.source) ≡ r → scans.MissesEscape r
+        → WantsMemory s t
     by_scan (Ok f) x w = absurd w
     by_scan (Err m) x w = by_error m m.error refl w x

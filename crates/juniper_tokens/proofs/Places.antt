@@ -28,9 +28,11 @@ plus_none m = omega arith
 
 pub place_fold : (front xs : List ℕ) → fold past_character (place_after front) xs ≡ place_after (front ++ xs)
 place_fold front [] = ap place_after (sym (append-nil front))
-place_fold front (c ∷ cs) = ap (λ p. fold past_character p cs) (sym (place_push front c)) ∙ (place_fold (front ++ c ∷ []) cs ∙ ap place_after (append_assoc front (c ∷ []) cs))
+place_fold front (c ∷ cs) = ap (λ p. fold past_character p cs) (sym (place_push front c))
+    ∙ (place_fold (front ++ c ∷ []) cs ∙ ap place_after (append_assoc front (c ∷ []) cs))
 
-pub place_on : (source : List ℕ) (j k : ℕ) → fold past_character (place source j) (take k (drop j source)) ≡ place source (j + k)
+pub place_on : (source : List ℕ) (j k : ℕ)
+    → fold past_character (place source j) (take k (drop j source)) ≡ place source (j + k)
 place_on source j k = place_fold (take j source) (take k (drop j source)) ∙ ap place_after (sym (take-add j k source))
 
 pub no_columns : (p : Place) → p ≡ columns_on 0 p
@@ -49,7 +51,8 @@ OnLine = AllByRecursion (λ c. (c == 10) ≡ false)
 pub line_fold : (p : Place) (xs : List ℕ) → OnLine xs → fold past_character p xs ≡ columns_on (length xs) p
 line_fold p [] h = no_columns p
 line_fold p (c ∷ cs) h =
-    ap (λ b. fold past_character (cond b (next_line p) (next_column p)) cs) h.0 ∙ (line_fold (next_column p) cs h.1 ∙ one_column_more (length cs) p)
+    ap (λ b. fold past_character (cond b (next_line p) (next_column p)) cs) h.0
+    ∙ (line_fold (next_column p) cs h.1 ∙ one_column_more (length cs) p)
 
 -- ---- what the steps of a token go over has no line feed, but in a block string
 
@@ -60,7 +63,8 @@ in_block _ = false
 block_stays : (part : Block) (cs : List ℕ) → in_block (reach step (InBlock part) cs).1 ≡ true
 block_stays part [] = refl
 block_stays part (c ∷ cs) =
-    elim (block_step part c) as (λ o. in_block (onward (InBlock part) (λ p. reach step p cs) (option_map InBlock o)).1 ≡ true) [
+    elim (block_step part c) as (λ o. in_block (onward (InBlock part) (λ p. reach step p cs) (option_map InBlock o)).1
+    ≡ true) [
       | None ↦ refl
       | Some p ↦ block_stays p cs
     ]
@@ -77,13 +81,15 @@ same_feed : (c : ℕ) → (c == 10) ≡ true → c ≡ 10
 same_feed c e = eqb-true c 10 e
 
 not_feed : (q p : State) (c : ℕ) (b : Bool) → in_block q ≡ false → (c == 10) ≡ b → step q c ≡ Some p → b ≡ false
-not_feed q p c true o e s = let same : c ≡ 10 = same_feed c e in absurd (none-some p (sym (step_feed q o) ∙ (ap (step q) (sym same) ∙ s)))
+not_feed q p c true o e s = let same : c ≡ 10 = same_feed c e in
+    absurd (none-some p (sym (step_feed q o) ∙ (ap (step q) (sym same) ∙ s)))
 not_feed q p c false o e s = refl
 
 reach_line : (q : State) (cs : List ℕ) → in_block (reach step q cs).1 ≡ false → OnLine (take (reach step q cs).0 cs)
 reach_line q [] h = tt
 reach_line q (c ∷ cs) h =
-    (elim (step q c) as (λ o. step q c ≡ o → in_block (onward q (λ p. reach step p cs) o).1 ≡ false → OnLine (take (onward q (λ p. reach step p cs) o).0 (c ∷ cs))) [
+    (elim (step q c) as (λ o. step q c ≡ o → in_block (onward q (λ p. reach step p cs) o).1 ≡ false
+    → OnLine (take (onward q (λ p. reach step p cs) o).0 (c ∷ cs))) [
       | None ↦ λ e k. tt
       | Some p ↦ λ e k. (not_feed q p c (c == 10) (outside q (c ∷ cs) h) refl e, reach_line p cs k)
     ]) refl h
@@ -101,7 +107,8 @@ accepted_outside (InBlock Closed) kind e n = absurd (n (sym (same_Some BlockStri
 accepted_outside (InBlock _) kind e n = absurd (none-some kind e)
 accepted_outside _ kind e n = refl
 
-found_line : (cs : List ℕ) (f : Found) → scan cs ≡ Ok f → (f.kind ≡ BlockString → ⊥) → OnLine (take (reach step Start cs).0 cs)
+found_line : (cs : List ℕ) (f : Found) → scan cs ≡ Ok f → (f.kind ≡ BlockString → ⊥)
+    → OnLine (take (reach step Start cs).0 cs)
 found_line [] f e n = tt
 found_line (c ∷ cs) f e n =
     let r = reach step Start (c ∷ cs) in
@@ -119,4 +126,5 @@ line_end p cs f e n =
     let size : f.size ≡ (reach step Start cs).0 = found_size cs f e in
     let count : length (take f.size cs) ≡ f.size = length-take-le f.size cs (omega (arith, size, within)) in
     ap (λ k. columns_on k p) (sym count)
-    ∙ sym (line_fold p (take f.size cs) (on_line_less f.size (reach step Start cs).0 cs (omega (arith, size)) (found_line cs f e n)))
+    ∙ sym (line_fold p (take f.size cs) (on_line_less f.size (reach step Start cs).0 cs (omega (arith, size))
+    (found_line cs f e n)))

@@ -33,7 +33,8 @@ use Rattle.juniper_tokens.proofs.ByteClasses.{name_class_tests, digit_class_test
 use Rattle.juniper_tokens.proofs.Runs.{run_of, run_more, run_none, rest_bytes, FirstByte, first_byte, first_low}
 
 -- a token in state q, whose steps end after n characters
-ended_token : (cs : List ℕ) (kind : Kind) (q : State) (b n : ℕ) → reach step Start cs ≡ (n, q) → answer q n cs ≡ scans.found n kind cs
+ended_token : (cs : List ℕ) (kind : Kind) (q : State) (b n : ℕ) → reach step Start cs ≡ (n, q)
+    → answer q n cs ≡ scans.found n kind cs
     → b ≡ byte_at n cs → Finds cs (record { kind = kind; end = record { bytes = b; characters = n } })
 ended_token cs kind q b n r a e = (ap (λ (x : ℕ × State). answer x.1 x.0 cs) r ∙ a, e)
 
@@ -41,11 +42,13 @@ done_stays : (kind : Kind) (cs : List ℕ) → reach step (Done kind) cs ≡ (0,
 done_stays kind [] = refl
 done_stays kind (c ∷ cs) = refl
 
-step_more : (q p r : State) (c n : ℕ) (cs : List ℕ) → step q c ≡ Some p → reach step p cs ≡ (n, r) → reach step q (c ∷ cs) ≡ (suc n, r)
+step_more : (q p r : State) (c n : ℕ) (cs : List ℕ) → step q c ≡ Some p → reach step p cs ≡ (n, r)
+    → reach step q (c ∷ cs) ≡ (suc n, r)
 step_more q p r c n cs e h = rw (e, h) refl
 
 -- a token whose first character leads to a state in which it also stays
-begins_in : (q : State) (b : ℕ) (cs : List ℕ) → step Start b ≡ Some q → step q b ≡ Some q → reach step Start (b ∷ cs) ≡ reach step q (b ∷ cs)
+begins_in : (q : State) (b : ℕ) (cs : List ℕ) → step Start b ≡ Some q → step q b ≡ Some q
+    → reach step Start (b ∷ cs) ≡ reach step q (b ∷ cs)
 begins_in q b cs e s = rw (e, s) refl
 
 ascii_first : (b n : ℕ) (cs : List ℕ) → b < 128 → byte_at (suc n) (b ∷ cs) ≡ suc (byte_at n cs)
@@ -57,11 +60,14 @@ in_run : (r : Run) (q : State) → ((c : ℕ) → run_test r c ≡ true → step
 in_run r q stays [] n p e = e ∙ ap (λ i. (i, p)) (omega arith)
 in_run r q stays (c ∷ cs) n p e = by_test (run_test r c) refl (in_run r q stays cs n p) e
   where
-    by_test : (goes : Bool) → run_test r c ≡ goes → (reach step q (drop (run_size r cs) cs) ≡ (n, p) → reach step q cs ≡ (run_size r cs + n, p))
-        → reach step q (drop (run_size r (c ∷ cs)) (c ∷ cs)) ≡ (n, p) → reach step q (c ∷ cs) ≡ (run_size r (c ∷ cs) + n, p)
+    by_test : (goes : Bool) → run_test r c ≡ goes
+        → (reach step q (drop (run_size r cs) cs) ≡ (n, p) → reach step q cs ≡ (run_size r cs + n, p))
+        → reach step q (drop (run_size r (c ∷ cs)) (c ∷ cs)) ≡ (n, p)
+        → reach step q (c ∷ cs) ≡ (run_size r (c ∷ cs) + n, p)
     by_test true t more e =
         let k = run_more r c cs t in
-        step_more q q p c (run_size r cs + n) cs (stays c t) (more (ap (λ i. reach step q (drop i (c ∷ cs))) (sym k) ∙ e)) ∙ ap (λ i. (i, p)) (omega (arith, k))
+        step_more q q p c (run_size r cs + n) cs (stays c t)
+        (more (ap (λ i. reach step q (drop i (c ∷ cs))) (sym k) ∙ e)) ∙ ap (λ i. (i, p)) (omega (arith, k))
     by_test false t more e =
         let k = run_none r c cs t in
         ap (λ i. reach step q (drop i (c ∷ cs))) (sym k) ∙ (e ∙ ap (λ i. (i, p)) (omega (arith, k)))
@@ -80,15 +86,18 @@ name_stays c e = ap (λ b. cond b (Some InName) None) e
 
 name_ends : (u : Unit {0}) (cs : List ℕ) → Stops (run_step run.Name) u cs → reach step InName cs ≡ (0, InName)
 name_ends u [] s = refl
-name_ends u (c ∷ cs) s = ap (λ b. onward InName (λ p. reach step p cs) (cond b (Some InName) None)) (no_more u (is_name_character c) s)
+name_ends u (c ∷ cs) s = ap (λ b. onward InName (λ p. reach step p cs) (cond b (Some InName) None))
+    (no_more u (is_name_character c) s)
 
 digit_stays : (c : ℕ) → run_test run.Digits c ≡ true → step Digits c ≡ Some Digits
 digit_stays c e = ap (λ b. cond b (Some Digits) (step Zero c)) e
 
-digits_end : (u : Unit {0}) (cs : List ℕ) → Stops (run_step run.Digits) u cs → is_in_float cs ≡ false → reach step Digits cs ≡ (0, Digits)
+digits_end : (u : Unit {0}) (cs : List ℕ) → Stops (run_step run.Digits) u cs → is_in_float cs ≡ false
+    → reach step Digits cs ≡ (0, Digits)
 digits_end u [] s f = refl
 digits_end u (c ∷ cs) s f =
-    ap (onward Digits (λ p. reach step p cs)) (ap (λ b. cond b (Some Digits) (step Zero c)) (no_more u (is_digit c) s) ∙ no_step (step Zero c) f)
+    ap (onward Digits (λ p. reach step p cs))
+    (ap (λ b. cond b (Some Digits) (step Zero c)) (no_more u (is_digit c) s) ∙ no_step (step Zero c) f)
   where
     no_step : (q : Option State) → is_some q ≡ false → q ≡ None
     no_step None f = refl
@@ -102,17 +111,21 @@ plain_stays : (c : ℕ) → run_test run.Plain c ≡ true → step InString c �
 plain_stays c e = ap (λ b. cond b (Some InString) (step_by_quote c)) e
 
 string_ends : (cs t : List ℕ) → cs ≡ 34 ∷ t → reach step InString cs ≡ (1, Done kinds.String)
-string_ends cs t e = ap (reach step InString) e ∙ step_more InString (Done kinds.String) (Done kinds.String) 34 0 t refl (done_stays kinds.String t)
+string_ends cs t e = ap (reach step InString) e ∙ step_more InString (Done kinds.String) (Done kinds.String) 34 0 t refl
+    (done_stays kinds.String t)
 
 same_behind : (c : ℕ) (cs : List ℕ) → is_plain c ≡ true → reach step Quote (c ∷ cs) ≡ reach step InString (c ∷ cs)
 same_behind c cs e = rw e refl
 
-string_read : (cs t : List ℕ) → 0 < run_size run.Plain cs → drop (run_size run.Plain cs) cs ≡ 34 ∷ t → reach step Start (34 ∷ cs) ≡ (suc (run_size run.Plain cs + 1), Done kinds.String)
+string_read : (cs t : List ℕ) → 0 < run_size run.Plain cs → drop (run_size run.Plain cs) cs ≡ 34 ∷ t
+    → reach step Start (34 ∷ cs) ≡ (suc (run_size run.Plain cs + 1), Done kinds.String)
 string_read [] t l d = absurd (omega (arith, l))
 string_read (c ∷ cs) t l d = by_plain (is_plain c) refl
   where
-    by_plain : (is : Bool) → is_plain c ≡ is → reach step Start (34 ∷ (c ∷ cs)) ≡ (suc (run_size run.Plain (c ∷ cs) + 1), Done kinds.String)
-    by_plain true e = step_more Start Quote (Done kinds.String) 34 _ (c ∷ cs) refl (same_behind c cs e ∙ in_run run.Plain InString plain_stays (c ∷ cs) 1 (Done kinds.String) (string_ends _ t d))
+    by_plain : (is : Bool) → is_plain c ≡ is
+        → reach step Start (34 ∷ (c ∷ cs)) ≡ (suc (run_size run.Plain (c ∷ cs) + 1), Done kinds.String)
+    by_plain true e = step_more Start Quote (Done kinds.String) 34 _ (c ∷ cs) refl
+        (same_behind c cs e ∙ in_run run.Plain InString plain_stays (c ∷ cs) 1 (Done kinds.String) (string_ends _ t d))
     by_plain false e = absurd (omega (arith, l, run_none run.Plain c cs e))
 
 -- ---- by the class of the first byte
@@ -121,7 +134,8 @@ pub digit_first : (text : List ℕ) → class_of (get_or text 0 0) ≡ classes.D
 digit_first [] e = absurd (cc e)
 digit_first (b ∷ text) e = omega arith
 
-module _ (text bytes : List ℕ) (u : IsUtf8 text) (same : bytes ≡ text) (some : 0 < length text) (small : get_or text 0 0 < 256) where
+module _ (text bytes : List ℕ) (u : IsUtf8 text) (same : bytes ≡ text) (some : 0 < length text)
+    (small : get_or text 0 0 < 256) where
   abbrev pub cs : List ℕ
   cs = chars text
 
@@ -148,59 +162,87 @@ module _ (text bytes : List ℕ) (u : IsUtf8 text) (same : bytes ≡ text) (some
         ∙ (ap (drop 1) (whole ∙ ap encodes front) ∙ ap (λ t. drop 1 (t ++ encodes (drop 1 cs))) (encode_ascii b below)))
 
   -- a token whose characters are a run, in one state
-  of_run : (kind : Kind) (q : State) (r : Run) → ((c : ℕ) → run_test r c ≡ true → step q c ≡ Some q) → (class : ByteClass) → class ≡ class_of b → low_class class ≡ true
-      → first_state class b ≡ Some q → run_test r b ≡ true → (e : Border) → RunsTo r bytes e → reach step q (drop (run_size r cs) cs) ≡ (0, q)
+  of_run : (kind : Kind) (q : State) (r : Run) → ((c : ℕ) → run_test r c ≡ true → step q c ≡ Some q)
+      → (class : ByteClass) → class ≡ class_of b → low_class class ≡ true
+      → first_state class b ≡ Some q → run_test r b ≡ true → (e : Border) → RunsTo r bytes e
+      → reach step q (drop (run_size r cs) cs) ≡ (0, q)
       → answer q e.characters cs ≡ scans.found e.characters kind cs → Finds cs (record { kind = kind; end = e })
   of_run kind q r stays class c low first is e h ends a =
       let over = run_of r cs bytes e whole h in
       let f = front class c low in
-      let begins : reach step Start cs ≡ reach step q cs = ap (reach step Start) f ∙ (begins_in q b (drop 1 cs) (starts class c low ∙ first) (stays b is) ∙ sym (ap (reach step q) f)) in
-      ended_token cs kind q e.bytes e.characters (begins ∙ (over_run r q stays cs ends ∙ ap (λ k. (k, q)) (sym over.characters))) a over.border
+      let begins : reach step Start cs ≡ reach step q cs = ap (reach step Start) f
+      ∙ (begins_in q b (drop 1 cs) (starts class c low ∙ first) (stays b is) ∙ sym (ap (reach step q) f)) in
+      ended_token cs kind q e.bytes e.characters
+      (begins ∙ (over_run r q stays cs ends ∙ ap (λ k. (k, q)) (sym over.characters))) a over.border
 
-  pub name_found : (r : Border) → classes.NameStart ≡ class_of b → RunsTo run.Name bytes r → Finds cs (record { kind = kinds.Name; end = r })
+  pub name_found : (r : Border) → classes.NameStart ≡ class_of b → RunsTo run.Name bytes r
+      → Finds cs (record { kind = kinds.Name; end = r })
   name_found r c h =
-      of_run kinds.Name InName run.Name name_stays classes.NameStart c refl refl (sym (name_class_tests b small) ∙ ap name_class (sym c)) r h
+      of_run kinds.Name InName run.Name name_stays classes.NameStart c refl refl
+      (sym (name_class_tests b small) ∙ ap name_class (sym c)) r h
       (name_ends _ _ (reach_is (run_step run.Name) tt cs).stops) refl
 
   pub digits_border : (r : Border) → RunsTo run.Digits bytes r → IsBorder r cs
   digits_border r h = (run_of run.Digits cs bytes r whole h).border
 
-  pub int_found : (r : Border) → classes.Digit ≡ class_of b → (b == 48) ≡ false → RunsTo run.Digits bytes r → is_in_float (drop r.characters cs) ≡ false
+  pub int_found : (r : Border) → classes.Digit ≡ class_of b → (b == 48) ≡ false → RunsTo run.Digits bytes r
+      → is_in_float (drop r.characters cs) ≡ false
       → Finds cs (record { kind = kinds.Int; end = r })
   int_found r c z h more =
-      of_run kinds.Int Digits run.Digits digit_stays classes.Digit c refl (ap (λ x. cond x (Some Zero) (Some Digits)) z) (sym (digit_class_tests b small) ∙ ap digit_class (sym c)) r h
-      (digits_end _ _ (reach_is (run_step run.Digits) tt cs).stops (ap (λ k. is_in_float (drop k cs)) (sym (run_of run.Digits cs bytes r whole h).characters) ∙ more)) refl
+      of_run kinds.Int Digits run.Digits digit_stays classes.Digit c refl (ap (λ x. cond x (Some Zero) (Some Digits)) z)
+      (sym (digit_class_tests b small) ∙ ap digit_class (sym c)) r h
+      (digits_end _ _ (reach_is (run_step run.Digits) tt cs).stops
+      (ap (λ k. is_in_float (drop k cs)) (sym (run_of run.Digits cs bytes r whole h).characters) ∙ more)) refl
 
   pub mark_found : (kind : Kind) → classes.Punctuator ≡ class_of b → punctuator b ≡ Some kind
       → Finds cs (record { kind = kind; end = record { bytes = 1; characters = 1 } })
   mark_found kind c e =
       let f = front classes.Punctuator c refl in
       let goes : step Start b ≡ Some (Done kind) = starts classes.Punctuator c refl ∙ ap (option_map Done) e in
-      ended_token cs kind (Done kind) 1 1 (ap (reach step Start) f ∙ step_more Start (Done kind) (Done kind) b 0 (drop 1 cs) goes (done_stays kind (drop 1 cs))) refl
+      ended_token cs kind (Done kind) 1 1 (ap (reach step Start) f
+      ∙ step_more Start (Done kind) (Done kind) b 0 (drop 1 cs) goes (done_stays kind (drop 1 cs))) refl
       (sym (ap (byte_at 1) f ∙ ascii_first b 0 (drop 1 cs) (below classes.Punctuator c refl)))
 
   -- at a quote behind the run
-  pub string_found : (r : Border) (tail : List ℕ) → classes.Quote ≡ class_of b → tail ≡ take (length bytes - 1) (drop 1 bytes) → RunsTo run.Plain tail r
+  pub string_found : (r : Border) (tail : List ℕ) → classes.Quote ≡ class_of b
+      → tail ≡ take (length bytes - 1) (drop 1 bytes) → RunsTo run.Plain tail r
       → 0 < r.characters → 1 + r.bytes < length bytes → get_or bytes (1 + r.bytes) 0 ≡ 34
-      → Finds cs (record { kind = kinds.String; end = record { bytes = (1 + r.bytes) + 1; characters = 2 + r.characters } })
+      → Finds cs (record {
+        kind = kinds.String;
+        end = record {
+          bytes = (1 + r.bytes) + 1;
+          characters = 2 + r.characters;
+        };
+      })
   string_found r tail c t h l k e =
       let ds = drop 1 cs in
       let n = r.characters in
-      let quote : b ≡ 34 = eqb-true b 34 (sym (quote_class_tests b small) ∙ ap (λ k. sameb the_type k classes.Quote) (sym c)) in
+      let quote : b ≡ 34 = eqb-true b 34 (sym (quote_class_tests b small)
+      ∙ ap (λ k. sameb the_type k classes.Quote) (sym c)) in
       let units = run_of run.Plain ds tail r (behind classes.Quote c refl tail t) h in
       let f = front classes.Quote c refl in
-      let border : 1 + r.bytes ≡ byte_at (suc n) cs = omega (arith, units.border, ap (byte_at (suc n)) f ∙ ascii_first b n ds (below classes.Quote c refl)) in
-      let rest : drop (1 + r.bytes) bytes ≡ encodes (drop n ds) = ap (drop (1 + r.bytes)) same ∙ (rest_bytes text (1 + r.bytes) (suc n) u border ∙ ap encodes (ap (drop (suc n)) f)) in
+      let border : 1 + r.bytes ≡ byte_at (suc n) cs = omega (
+        arith,
+        units.border,
+        ap (byte_at (suc n)) f ∙ ascii_first b n ds (below classes.Quote c refl),
+      ) in
+      let rest : drop (1 + r.bytes) bytes ≡ encodes (drop n ds) = ap (drop (1 + r.bytes)) same
+      ∙ (rest_bytes text (1 + r.bytes) (suc n) u border ∙ ap encodes (ap (drop (suc n)) f)) in
       let last : drop n ds ≡ 34 ∷ drop 1 (drop n ds) =
-      first_low (drop n ds) 34 (subst (λ x. FirstByte (drop n ds) x) (get_or-drop (1 + r.bytes) bytes 0 0 ∙ (ap (λ k. get_or bytes k 0) (plus_none (1 + r.bytes)) ∙ e))
-      (first_byte (drop n ds) (drop (1 + r.bytes) bytes) rest (omega (arith, k, length-drop (1 + r.bytes) bytes)))) (omega arith) in
+      first_low (drop n ds) 34 (subst (λ x. FirstByte (drop n ds) x)
+      (get_or-drop (1 + r.bytes) bytes 0 0 ∙ (ap (λ k. get_or bytes k 0) (plus_none (1 + r.bytes)) ∙ e))
+      (first_byte (drop n ds) (drop (1 + r.bytes) bytes) rest (omega (arith, k, length-drop (1 + r.bytes) bytes))))
+      (omega arith) in
       let reached : reach step Start cs ≡ (2 + n, Done kinds.String) =
       ap (reach step Start) (f ∙ ap (λ (x : ℕ). x ∷ ds) quote)
-      ∙ (string_read ds (drop 1 (drop n ds)) (omega (arith, units.characters, l)) (ap (λ k. drop k ds) (sym units.characters) ∙ last)
+      ∙ (string_read ds (drop 1 (drop n ds)) (omega (arith, units.characters, l))
+      (ap (λ k. drop k ds) (sym units.characters) ∙ last)
       ∙ ap (λ k. (k, Done kinds.String)) (omega (arith, units.characters))) in
       let two : 2 + n ≡ suc n + 1 = omega arith in
       let ends : (1 + r.bytes) + 1 ≡ byte_at (2 + n) cs =
-      ap₂ (λ x y. x + y) border (sym (ap (byte_at 1) (ap (drop (suc n)) f ∙ last) ∙ ascii_first 34 0 (drop 1 (drop n ds)) (omega arith))) ∙ (byte_at_on (suc n) 1 cs ∙ ap (λ k. byte_at k cs) (sym two)) in
+      ap₂ (λ x y. x + y) border (sym (ap (byte_at 1) (ap (drop (suc n)) f ∙ last)
+      ∙ ascii_first 34 0 (drop 1 (drop n ds)) (omega arith)))
+      ∙ (byte_at_on (suc n) 1 cs ∙ ap (λ k. byte_at k cs) (sym two)) in
       ended_token cs kinds.String (Done kinds.String) ((1 + r.bytes) + 1) (2 + n) reached refl ends
     where
       plus_none : (n : ℕ) → n + 0 ≡ n

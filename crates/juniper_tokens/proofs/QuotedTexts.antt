@@ -29,7 +29,12 @@ before_last width n cs units l h =
     let whole : cs ≡ front ++ last =
     sym (take-append-drop n cs) ∙ (ap (λ t. t ++ drop n cs) (h ∙ sym (append_assoc (quotes width) units (quotes width)))
     ∙ append_assoc front (quotes width) (drop n cs)) in
-    let front_len : n - width ≡ length front = omega (arith, count, length-append (quotes width) units, quotes_length width) in
+    let front_len : n - width ≡ length front = omega (
+      arith,
+      count,
+      length-append (quotes width) units,
+      quotes_length width,
+    ) in
     ap (λ k. take k cs) front_len ∙ (ap (take (length front)) whole ∙ take-append_seam front last)
 
 -- the border before the last quotes
@@ -40,10 +45,13 @@ pub record IsBack (cs : List ℕ) (n k : ℕ) : Type 0 where
 pub string_back : (width : ℕ) (cs : List ℕ) (bytes chars : ℕ) → EndsQuoted width cs bytes chars → IsBack cs chars width
 string_back width cs bytes chars e =
     let front : List ℕ = quotes width ++ e.units in
-    let whole : take chars cs ≡ front ++ quotes width = e.whole ∙ sym (append_assoc (quotes width) e.units (quotes width)) in
-    let count : chars ≡ length front + width = sym (length-take-le chars cs e.within) ∙ (ap length whole ∙ (length-append front (quotes width) ∙ ap (λ k. length front + k) (quotes_length width))) in
+    let whole : take chars cs ≡ front ++ quotes width = e.whole
+    ∙ sym (append_assoc (quotes width) e.units (quotes width)) in
+    let count : chars ≡ length front + width = sym (length-take-le chars cs e.within)
+    ∙ (ap length whole ∙ (length-append front (quotes width) ∙ ap (λ k. length front + k) (quotes_length width))) in
     let all : byte_at chars cs ≡ length (encodes front) + width =
-    ap (λ t. length (encodes t)) whole ∙ (ap length (encodes-append front (quotes width)) ∙ (length-append (encodes front) (encodes (quotes width))
+    ap (λ t. length (encodes t)) whole ∙ (ap length (encodes-append front (quotes width))
+    ∙ (length-append (encodes front) (encodes (quotes width))
     ∙ ap (λ k. length (encodes front) + k) (ap length (quotes_plain width) ∙ quotes_length width))) in
     record {
       within = omega (arith, count, e.some, length-append (quotes width) e.units, quotes_length width);
@@ -54,11 +62,13 @@ behind_quotes : (width : ℕ) (units : List ℕ) → drop width (quotes width ++
 behind_quotes width units =
     ap (λ k. drop k (quotes width ++ units)) (sym (quotes_length width)) ∙ drop-append_seam (quotes width) units
 
-between_quotes : (width : ℕ) (units : List ℕ) → 0 < width → between (quotes width) (quotes width ++ (units ++ quotes width)) ≡ units
+between_quotes : (width : ℕ) (units : List ℕ) → 0 < width
+    → between (quotes width) (quotes width ++ (units ++ quotes width)) ≡ units
 between_quotes zero units l = absurd (omega arith)
 between_quotes (suc n) units l = unquoted 34 (quotes n) units
 
-pub unquoted_text : (width : ℕ) (cs : List ℕ) (b n : ℕ) (t : List ℕ) → EndsQuoted width cs b n → t ≡ drop width (take (n - width) cs)
+pub unquoted_text : (width : ℕ) (cs : List ℕ) (b n : ℕ) (t : List ℕ) → EndsQuoted width cs b n
+    → t ≡ drop width (take (n - width) cs)
     → t ≡ between (quotes width) (take n cs)
 unquoted_text width cs b n t e h =
     h ∙ (ap (drop width) (before_last width n cs e.units e.within e.whole) ∙ (behind_quotes width e.units
@@ -69,5 +79,6 @@ pub first_quotes : (width : ℕ) (cs : List ℕ) (b n : ℕ) (t : List ℕ) → 
 first_quotes width cs b n t e h =
     let front : take width t ≡ quotes width =
     ap (take width) (h ∙ before_last width n cs e.units e.within e.whole)
-    ∙ (ap (λ k. take k (quotes width ++ e.units)) (sym (quotes_length width)) ∙ take-append_seam (quotes width) e.units) in
+    ∙ (ap (λ k. take k (quotes width ++ e.units)) (sym (quotes_length width))
+    ∙ take-append_seam (quotes width) e.units) in
     sym (ap (λ x. length (encodes x)) front ∙ (ap length (quotes_plain width) ∙ quotes_length width))

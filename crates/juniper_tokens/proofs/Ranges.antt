@@ -40,26 +40,32 @@ use Rattle.juniper_tokens.proofs.Places.{place_on, line_end}
 -- ---- from border to border
 
 -- so many bytes on from the start is the end
-range_bytes : (source : List ℕ) (r : TokenRange) → IsRange source r → r.at + byte_at (r.end.characters - r.start.index) (drop r.start.index source) ≡ r.end.bytes
+range_bytes : (source : List ℕ) (r : TokenRange) → IsRange source r
+    → r.at + byte_at (r.end.characters - r.start.index) (drop r.start.index source) ≡ r.end.bytes
 range_bytes source r h =
     let j = r.start.index in
     let g = r.end.characters - r.start.index in
     let sum : j + g ≡ r.end.characters = omega (arith, h.forward) in
-    ap (λ b. b + byte_at g (drop j source)) h.at_is ∙ (byte_at_on j g source ∙ (ap (λ k. byte_at k source) sum ∙ sym h.end))
+    ap (λ b. b + byte_at g (drop j source)) h.at_is
+    ∙ (byte_at_on j g source ∙ (ap (λ k. byte_at k source) sum ∙ sym h.end))
 
 pub range_order : (source : List ℕ) (r : TokenRange) → IsRange source r → r.at ≤ r.end.bytes
 range_order source r h = omega (arith, range_bytes source r h)
 
-pub range_width : (source rest : List ℕ) (r : TokenRange) → IsRange source r → rest ≡ drop r.start.index source → r.end.bytes - r.at ≡ byte_at (r.end.characters - r.start.index) rest
+pub range_width : (source rest : List ℕ) (r : TokenRange) → IsRange source r → rest ≡ drop r.start.index source
+    → r.end.bytes - r.at ≡ byte_at (r.end.characters - r.start.index) rest
 range_width source rest r h e =
-    let width : r.end.bytes - r.at ≡ byte_at (r.end.characters - r.start.index) (drop r.start.index source) = omega (arith, range_bytes source r h) in
+    let width : r.end.bytes - r.at ≡ byte_at (r.end.characters - r.start.index) (drop r.start.index source) =
+    omega (arith, range_bytes source r h) in
     width ∙ ap (byte_at (r.end.characters - r.start.index)) (sym e)
 
 -- what is left from its start on is no longer than the source
-pub range_room : (source rest : List ℕ) (r : TokenRange) → IsRange (chars source) r → r.at + length rest ≡ length source → length source < 2 ^ 64
+pub range_room : (source rest : List ℕ) (r : TokenRange) → IsRange (chars source) r → r.at + length rest ≡ length source
+    → length source < 2 ^ 64
     → r.start.index + length rest < 2 ^ 64
 range_room source rest r h e l =
-    let before : length (take r.start.index (chars source)) ≡ r.start.index = length-take-le r.start.index (chars source) (omega (arith, h.forward, h.within)) in
+    let before : length (take r.start.index (chars source)) ≡ r.start.index =
+    length-take-le r.start.index (chars source) (omega (arith, h.forward, h.within)) in
     omega (arith, e, l, h.at_is, length-le-encodes (take r.start.index (chars source)), before)
 
 -- the place behind it
@@ -71,10 +77,12 @@ range_end source rest r h e =
     ∙ (place_on source r.start.index (r.end.characters - r.start.index) ∙ ap (place source) sum)
 
 -- where a lexer stands behind it
-pub placed_behind : (source : List ℕ) (at : ℕ) (p q : Place) (r : TokenRange) → IsPlaced source at p → IsRange (chars source) r
+pub placed_behind : (source : List ℕ) (at : ℕ) (p q : Place) (r : TokenRange) → IsPlaced source at p
+    → IsRange (chars source) r
     → q ≡ place (chars source) r.end.characters → (q.index ≡ r.end.characters) × IsPlaced source r.end.bytes q
 placed_behind source at p q r h i e =
-    let index : q.index ≡ r.end.characters = ap (λ (x : Place). x.index) e ∙ place_index (chars source) r.end.characters i.within in (
+    let index : q.index ≡ r.end.characters = ap (λ (x : Place). x.index) e
+    ∙ place_index (chars source) r.end.characters i.within in (
       index,
       record {
         byte_is = i.end ∙ ap (λ k. byte_at k (chars source)) (sym index);
@@ -90,13 +98,15 @@ read_within : (rest : List ℕ) (n : ℕ) (kind : Kind) (text : List ℕ) → Re
 read_within [] n kind text r = omega (arith, r.0)
 read_within (c ∷ cs) n kind text r = r.longest.within
 
-read_spelled : (rest : List ℕ) (n : ℕ) (kind k : Kind) (text : List ℕ) → Reads rest n kind text → kind ≡ k → (k ≡ kinds.EndOfFile → ⊥)
+read_spelled : (rest : List ℕ) (n : ℕ) (kind k : Kind) (text : List ℕ) → Reads rest n kind text → kind ≡ k
+    → (k ≡ kinds.EndOfFile → ⊥)
     → Spells (take n rest) k
 read_spelled [] n kind k text r e no_end = absurd (no_end (sym e ∙ r.1))
 read_spelled (c ∷ cs) n kind k text r e no_end = subst (Spells (take n (c ∷ cs))) e r.spells
 
 -- a token that stands where a lexer does
-pub found_range : (source : List ℕ) (at : ℕ) (p : Place) (f : Found) → IsPlaced source at p → Finds (drop p.index (chars source)) f
+pub found_range : (source : List ℕ) (at : ℕ) (p : Place) (f : Found) → IsPlaced source at p
+    → Finds (drop p.index (chars source)) f
     → IsRange (chars source) (range_of f at p)
 found_range source at p f h s =
     let j = p.index in
@@ -109,7 +119,8 @@ found_range source at p f h s =
     let bytes : (at + f.end.bytes) - at ≡ f.end.bytes = omega arith in
     let quoted_by : (width : ℕ) (units : List ℕ) → take n rest ≡ quotes width ++ (units ++ quotes width) → 0 < width
     → EndsQuoted width rest ((at + f.end.bytes) - at) ((j + n) - j) =
-    λ width units whole some. subst (λ b. EndsQuoted width rest b ((j + n) - j)) (sym bytes) (subst (EndsQuoted width rest f.end.bytes) (sym size) (record {
+    λ width units whole some. subst (λ b. EndsQuoted width rest b ((j + n) - j)) (sym bytes)
+    (subst (EndsQuoted width rest f.end.bytes) (sym size) (record {
       units = units;
       whole = whole;
       some = some;
@@ -122,27 +133,36 @@ found_range source at p f h s =
       end = ap₂ (λ a b. a + b) h.byte_is s.1 ∙ byte_at_on j n text;
       forward = omega arith;
       within = omega (arith, within, h.within, length-drop j text);
-      quoted = λ k. let units = read_spelled rest n f.kind kinds.String _ reads k (λ e. absurd (cc e)) in quoted_by 1 units.0 units.1 (omega arith);
-      marked = λ k. let units = read_spelled rest n f.kind kinds.BlockString _ reads k (λ e. absurd (cc e)) in quoted_by 3 units.0 units.1 (omega arith);
+      quoted = λ k. let units = read_spelled rest n f.kind kinds.String _ reads k (λ e. absurd (cc e)) in
+          quoted_by 1 units.0 units.1 (omega arith);
+      marked = λ k. let units = read_spelled rest n f.kind kinds.BlockString _ reads k (λ e. absurd (cc e)) in
+          quoted_by 3 units.0 units.1 (omega arith);
       lined = λ k.
           ap (λ m. columns_on m p) size ∙ (line_end p rest _ s.0 k
           ∙ (ap (λ x. fold past_character x (take n rest)) h.place_is ∙ place_on text j n));
     }
 
 -- its end is within the source
-pub found_room : (source : List ℕ) (at : ℕ) (p : Place) (f : Found) → IsUtf8 source → IsPlaced source at p → Finds (drop p.index (chars source)) f
+pub found_room : (source : List ℕ) (at : ℕ) (p : Place) (f : Found) → IsUtf8 source → IsPlaced source at p
+    → Finds (drop p.index (chars source)) f
     → (at + f.end.bytes < 2 ^ 64) × (p.index + f.end.characters < 2 ^ 64)
 found_room source at p f u h s =
     let range = found_range source at p f h s in
-    let few : length (chars source) ≤ length source = omega (arith, length-le-encodes (chars source), ap length (encodes-chars source u)) in (
+    let few : length (chars source) ≤ length source = omega (
+      arith,
+      length-le-encodes (chars source),
+      ap length (encodes-chars source u),
+    ) in (
       omega (arith, byte_at_within (p.index + f.end.characters) (at + f.end.bytes) source u range.end, h.room),
       omega (arith, few, range.within, h.room),
     )
 
 -- what a lexer takes that stands at such a token
 pub found_taken : (source : List ℕ) (at : ℕ) (p q : Place) (f : Found) (ended was : Bool) → IsPlaced source at p
-    → Finds (drop p.index (chars source)) f → q ≡ place (chars source) (p.index + f.end.characters) → ended ≡ same_kind f.kind kinds.EndOfFile
-    → TakesRange (record { source = chars source; index = p.index; ended = was }) (range_of f at p) (record { source = chars source; index = q.index; ended = ended })
+    → Finds (drop p.index (chars source)) f → q ≡ place (chars source) (p.index + f.end.characters)
+    → ended ≡ same_kind f.kind kinds.EndOfFile
+    → TakesRange (record { source = chars source; index = p.index; ended = was }) (range_of f at p)
+    (record { source = chars source; index = q.index; ended = ended })
 found_taken source at p q f ended was h s e n =
     let rest = drop p.index (chars source) in
     let range = found_range source at p f h s in
@@ -168,7 +188,8 @@ spelled_text Ints whole h = refl
 spelled_text (Fixed text) whole h = h
 spelled_text NoText whole h = absurd h
 
-read_text : (rest : List ℕ) (n : ℕ) (kind : Kind) (text : List ℕ) → Reads rest n kind text → text ≡ kind_text kind (text_of kind (take n rest))
+read_text : (rest : List ℕ) (n : ℕ) (kind : Kind) (text : List ℕ) → Reads rest n kind text
+    → text ≡ kind_text kind (text_of kind (take n rest))
 read_text [] n kind text r = r.2 ∙ sym (ap₂ (λ k (m : ℕ). kind_text k (text_of k (take m []))) r.1 r.0)
 read_text (c ∷ cs) n kind text r = r.text_is ∙ spelled_text (spelling kind) (take n (c ∷ cs)) r.spells
 
@@ -181,7 +202,8 @@ range_given s r t h =
     let n = r.end.characters - j in
     let kind = r.kind in
     let reads : Reads rest n kind (text_of kind (take n rest)) = (finds_what_reads rest _).0 h.scanned in
-    let slice : take n rest ≡ range_slice s.source r = ap (λ i. take (r.end.characters - i) (drop i s.source)) (sym h.from) in
+    let slice : take n rest ≡ range_slice s.source r = ap (λ i. take (r.end.characters - i) (drop i s.source))
+    (sym h.from) in
     let text : text_of kind (take n rest) ≡ kind_text kind (text_of kind (range_slice s.source r)) =
     read_text rest n kind _ reads ∙ ap (λ x. kind_text kind (text_of kind x)) slice in
     let forward : j ≤ r.end.characters = omega (arith, h.from, h.is_range.forward) in
@@ -199,12 +221,14 @@ range_given s r t h =
       ends = (λ x. (same_end kind).0 (sym h.ends ∙ x), λ x. h.ends ∙ (same_end kind).1 x);
     }
 
-pub item_given : (s : LexerState) (item : Result TokenRange LexFailure) (t : LexerState) → TakesItem (past_gap s) item t → GivesRangeItem s item t
+pub item_given : (s : LexerState) (item : Result TokenRange LexFailure) (t : LexerState) → TakesItem (past_gap s) item t
+    → GivesRangeItem s item t
 item_given s (Ok range) t h = range_given s range t h
 item_given s (Err (failures.Fault fault)) t h = fault_by_scan s fault t h
 item_given s (Err failures.Memory) t h = memory_by_scan s t h.0 h.1
 
-pub token_given : (s : LexerState) (r : TokenRange) (token : Spanning Token) (t : LexerState) → TakesRange (past_gap s) r t
+pub token_given : (s : LexerState) (r : TokenRange) (token : Spanning Token) (t : LexerState)
+    → TakesRange (past_gap s) r t
     → view_token token ≡ range_lexeme s.source r → GivesToken s token t
 token_given s r token t h e =
     let g = range_given s r t h in
@@ -213,12 +237,14 @@ token_given s r token t h e =
       ends = subst (λ k. (t.ended ≡ true) ↔ (k ≡ kinds.EndOfFile)) (sym (ap (λ (x : Lexeme). x.kind) e)) g.ends;
     }
 
-failure_given : (s : LexerState) (failure : LexFailure) (t : LexerState) → GivesRangeItem s (Err failure) t → GivesItem s (Err failure) t
+failure_given : (s : LexerState) (failure : LexFailure) (t : LexerState) → GivesRangeItem s (Err failure) t
+    → GivesItem s (Err failure) t
 failure_given s (failures.Fault fault) t h = h
 failure_given s failures.Memory t h = h
 
 -- a failure is passed on
-pub failure_passed : (s : LexerState) (item : Result (Spanning Token) LexFailure) (failure : LexFailure) (t : LexerState)
+pub failure_passed : (s : LexerState) (item : Result (Spanning Token) LexFailure) (failure : LexFailure)
+    (t : LexerState)
     → IsErrAnd item (λ x. x ≡ failure) → TakesItem (past_gap s) (Err failure) t → GivesItem s item t
 failure_passed s (Ok token) failure t e h = absurd e
 failure_passed s (Err x) failure t e h =
@@ -230,5 +256,6 @@ module _ (s t : LexerState) (going : s.ended ≡ false) (same : t.source ≡ s.s
   pub plain_steps : (r : TokenRange) → MayTake s (Some r) t → range_steps s (Some (Ok r)) t
   plain_steps r h = (going, same, range_given s r t h)
 
-  pub other_steps : (u : LexerState) (item : Result TokenRange LexFailure) → MayTake s None u → TakesItem u item t → range_steps s (Some item) t
+  pub other_steps : (u : LexerState) (item : Result TokenRange LexFailure) → MayTake s None u → TakesItem u item t
+      → range_steps s (Some item) t
   other_steps u item e h = (going, same, item_given s item t (subst (λ x. TakesItem x item t) e h))

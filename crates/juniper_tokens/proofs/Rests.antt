@@ -14,15 +14,23 @@ pub one_taken : (old new : List Lexeme) → new ≡ drop 1 old → IsRest old ne
 one_taken old new e = record { taken = 1; left = e }
 
 pub further : (a b c : List Lexeme) → IsRest a b → IsRest b c → IsRest a c
-further a b c r s = record { taken = r.taken + s.taken; left = s.left ∙ ap (drop s.taken) r.left ∙ drop-drop s.taken r.taken a }
+further a b c r s = record {
+  taken = r.taken + s.taken;
+  left = s.left ∙ ap (drop s.taken) r.left
+      ∙ drop-drop s.taken r.taken a;
+}
 
 pub no_longer : (old new : List Lexeme) → IsRest old new → length new ≤ length old
 no_longer old new rest = omega (arith, ap length rest.left, length-drop rest.taken old)
 
 pub properly_further : (a b c : List Lexeme) → IsProperRest a b → IsRest b c → IsProperRest a c
-properly_further a b c r s = record { rest = further a b c r.rest s; shorter = omega (arith, r.shorter, no_longer b c s) }
+properly_further a b c r s = record {
+  rest = further a b c r.rest s;
+  shorter = omega (arith, r.shorter, no_longer b c s);
+}
 
-pub on_memory : {X : Type 0} (result : Result X ParseFailure) (a b : List Lexeme) → IsRest a b → OnMemory result (IsRest a b)
+pub on_memory : {X : Type 0} (result : Result X ParseFailure) (a b : List Lexeme) → IsRest a b
+    → OnMemory result (IsRest a b)
 on_memory (Ok x) a b r = tt
 on_memory (Err (failures.Refused e)) a b r = tt
 on_memory (Err failures.Memory) a b r = r

@@ -48,7 +48,8 @@ count_same n c d l m = refl
 abbrev step_by : ℕ → Bool → Bool → Option (Unit {0} × ℕ)
 step_by n inner goes = cond inner (Some (tt, n)) (option_map (λ (q : Unit {0}). (q, n + 1)) (cond goes (Some tt) None))
 
-pub run_goes : (r : Run) (n b : ℕ) → (not (is_inner b) && run_test r b) ≡ true → run_machine r (tt, n) b ≡ Some (tt, n + 1)
+pub run_goes : (r : Run) (n b : ℕ) → (not (is_inner b) && run_test r b) ≡ true
+    → run_machine r (tt, n) b ≡ Some (tt, n + 1)
 run_goes r n b e = by_tests (is_inner b) (run_test r b) e
   where
     by_tests : (i t : Bool) → (not i && t) ≡ true → step_by n i t ≡ Some (tt, n + 1)
@@ -59,7 +60,8 @@ run_goes r n b e = by_tests (is_inner b) (run_test r b) e
 pub run_stays : (r : Run) (n b : ℕ) → is_inner b ≡ true → run_machine r (tt, n) b ≡ Some (tt, n)
 run_stays r n b e = ap (λ i. step_by n i (run_test r b)) e
 
-pub run_stops : (r : Run) (n b : ℕ) → (not (is_inner b) && run_test r b) ≡ false → is_inner b ≡ false → run_machine r (tt, n) b ≡ None
+pub run_stops : (r : Run) (n b : ℕ) → (not (is_inner b) && run_test r b) ≡ false → is_inner b ≡ false
+    → run_machine r (tt, n) b ≡ None
 run_stops r n b e f = by_tests (is_inner b) (run_test r b) e f
   where
     by_tests : (i t : Bool) → (not i && t) ≡ false → i ≡ false → step_by n i t ≡ None
@@ -84,13 +86,21 @@ pub record IsRunOf (r : Run) (cs : List ℕ) (b : Border) : Type 0 where
 pub run_of : (r : Run) (cs bytes : List ℕ) (b : Border) → bytes ≡ encodes cs → RunsTo r bytes b → IsRunOf r cs b
 run_of r cs bytes b e h =
     let n : ℕ = run_size r cs in
-    let both : (b.bytes, (tt {0}, b.characters)) ≡ in_bytes cs (n, ((reach (run_step r) tt cs).1, fold count_one 0 (take n cs))) =
+    let both : (b.bytes, (tt {0}, b.characters))
+    ≡ in_bytes cs (n, ((reach (run_step r) tt cs).1, fold count_one 0 (take n cs))) =
     sym h ∙ (ap (reach (run_machine r) (tt, 0)) e
-    ∙ (reach_bytes (with_value (run_step r) count_one) (same_with_value (run_step r) count_one (run_same r) count_same) (tt, 0) cs
+    ∙ (reach_bytes (with_value (run_step r) count_one) (same_with_value (run_step r) count_one (run_same r) count_same)
+    (tt, 0) cs
     ∙ ap (in_bytes cs) (reach_with_value (run_step r) count_one tt 0 cs))) in
     let characters : b.characters ≡ n =
-    ap (λ (x : ℕ × (Unit {0} × ℕ)). x.1.1) both ∙ (counted_by_ones 0 (take n cs) ∙ (none_before (length (take n cs)) ∙ length-take-le n cs (reach_is (run_step r) tt cs).within)) in
-    record { characters = characters; border = ap (λ (x : ℕ × (Unit {0} × ℕ)). x.0) both ∙ ap (λ k. byte_at k cs) (sym characters) }
+    ap (λ (x : ℕ × (Unit {0} × ℕ)). x.1.1) both
+    ∙ (counted_by_ones 0 (take n cs) ∙ (none_before (length (take n cs))
+    ∙ length-take-le n cs (reach_is (run_step r) tt cs).within)) in
+    record {
+      characters = characters;
+      border = ap (λ (x : ℕ × (Unit {0} × ℕ)). x.0) both
+          ∙ ap (λ k. byte_at k cs) (sym characters);
+    }
   where
     none_before : (k : ℕ) → 0 + k ≡ k
     none_before k = omega arith
@@ -105,11 +115,13 @@ pub run_none : (r : Run) (c : ℕ) (cs : List ℕ) → run_test r c ≡ false �
 run_none r c cs e = ap (λ b. (onward tt (λ q. reach (run_step r) q cs) (cond b (Some tt) None)).0) e
 
 -- what ends no line makes a run on one line
-run_on_line : (r : Run) → ((c : ℕ) → run_test r c ≡ true → (c == 10) ≡ false) → (cs : List ℕ) → OnLine (take (run_size r cs) cs)
+run_on_line : (r : Run) → ((c : ℕ) → run_test r c ≡ true → (c == 10) ≡ false) → (cs : List ℕ)
+    → OnLine (take (run_size r cs) cs)
 run_on_line r no_feed [] = tt
 run_on_line r no_feed (c ∷ cs) = by_test (run_test r c) refl (run_on_line r no_feed cs)
   where
-    by_test : (goes : Bool) → run_test r c ≡ goes → OnLine (take (run_size r cs) cs) → OnLine (take (run_size r (c ∷ cs)) (c ∷ cs))
+    by_test : (goes : Bool) → run_test r c ≡ goes → OnLine (take (run_size r cs) cs)
+        → OnLine (take (run_size r (c ∷ cs)) (c ∷ cs))
     by_test true e h = subst (λ k. OnLine (take k (c ∷ cs))) (sym (run_more r c cs e)) (no_feed c e, h)
     by_test false e h = subst (λ k. OnLine (take k (c ∷ cs))) (sym (run_none r c cs e)) tt
 
@@ -124,8 +136,10 @@ comment_on_line = run_on_line run.Comment no_feed
 
 -- ---- what stands at a border
 
-pub rest_bytes : (text : List ℕ) (i k : ℕ) → IsUtf8 text → i ≡ byte_at k (chars text) → drop i text ≡ encodes (drop k (chars text))
-rest_bytes text i k u e = ap₂ (λ x t. drop x t) e (seam k text u) ∙ drop-append_seam (encodes (take k (chars text))) (encodes (drop k (chars text)))
+pub rest_bytes : (text : List ℕ) (i k : ℕ) → IsUtf8 text → i ≡ byte_at k (chars text)
+    → drop i text ≡ encodes (drop k (chars text))
+rest_bytes text i k u e = ap₂ (λ x t. drop x t) e (seam k text u)
+    ∙ drop-append_seam (encodes (take k (chars text))) (encodes (drop k (chars text)))
 
 -- A text's first byte is its first character, or begins a character past ASCII.
 pub data FirstByte : List ℕ → ℕ → Type 0 where
@@ -148,7 +162,8 @@ first_low _ b (high m h) l = absurd (omega (arith, h, l))
 
 pub index_on : (p : Place) (cs : List ℕ) → (fold past_character p cs).index ≡ p.index + length cs
 index_on p [] = omega arith
-index_on p (c ∷ cs) = index_on (past_character p c) cs ∙ (ap (λ k. k + length cs) (one_more (c == 10)) ∙ plus_one p.index (length cs))
+index_on p (c ∷ cs) = index_on (past_character p c) cs ∙ (ap (λ k. k + length cs) (one_more (c == 10))
+    ∙ plus_one p.index (length cs))
   where
     one_more : (feed : Bool) → (cond feed (next_line p) (next_column p)).index ≡ p.index + 1
     one_more true = refl
@@ -158,6 +173,14 @@ index_on p (c ∷ cs) = index_on (past_character p c) cs ∙ (ap (λ k. k + leng
     plus_one a b = omega arith
 
 -- where some characters are left, the place can go on
-pub place_room : (start : Place) (read text : List ℕ) (n : ℕ) → IsUtf8 text → start.index + length text < 2 ^ 64 → length read < length (take n (chars text))
+pub place_room : (start : Place) (read text : List ℕ) (n : ℕ) → IsUtf8 text → start.index + length text < 2 ^ 64
+    → length read < length (take n (chars text))
     → (fold past_character start read).index + 1 < 2 ^ 64
-place_room start read text n u r l = omega (arith, index_on start read, r, l, length-take n (chars text), chars_within text u)
+place_room start read text n u r l = omega (
+  arith,
+  index_on start read,
+  r,
+  l,
+  length-take n (chars text),
+  chars_within text u,
+)

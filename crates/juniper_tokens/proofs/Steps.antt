@@ -16,15 +16,18 @@ still_ended (t ∷ u ∷ ts) h e = h.1
 
 -- ---- on the ranges that are left
 
-pub some_left : (source : List ℕ) (ranges : List TokenRange) → EndsOnce (range_lexemes source ranges) → 0 < length ranges
+pub some_left : (source : List ℕ) (ranges : List TokenRange) → EndsOnce (range_lexemes source ranges)
+    → 0 < length ranges
 some_left source [] h = absurd h
 some_left source (r ∷ rs) h = omega arith
 
-pub drop_one_more : (source : List ℕ) (ranges : List TokenRange) (i : ℕ) → range_lexemes source (drop (i + 1) ranges) ≡ drop 1 (range_lexemes source (drop i ranges))
+pub drop_one_more : (source : List ℕ) (ranges : List TokenRange) (i : ℕ)
+    → range_lexemes source (drop (i + 1) ranges) ≡ drop 1 (range_lexemes source (drop i ranges))
 drop_one_more source [] zero = refl
 drop_one_more source [] (suc i) = rw add-one refl
 drop_one_more source (x ∷ xs) zero = refl
-drop_one_more source (x ∷ xs) (suc i) = rw add-one (sym (ap (λ k. range_lexemes source (drop k xs)) (add-one i)) ∙ drop_one_more source xs i)
+drop_one_more source (x ∷ xs) (suc i) =
+    rw add-one (sym (ap (λ k. range_lexemes source (drop k xs)) (add-one i)) ∙ drop_one_more source xs i)
 
 -- what is left of these ranges once so many have been taken still ends once
 pub record StillEnds (source : List ℕ) (ranges : List TokenRange) (taken : ℕ) : Type 0 where
@@ -32,18 +35,23 @@ pub record StillEnds (source : List ℕ) (ranges : List TokenRange) (taken : ℕ
   pub ended : EndsOnce (range_lexemes source (drop taken ranges))
 
 -- what a cursor keeps where it goes past a token
-pub left_ended : (source : List ℕ) (ranges : List TokenRange) (i : ℕ) → EndsOnce (range_lexemes source (drop i ranges)) → same_kind (kind_at (range_lexemes source (drop i ranges))) EndOfFile ≡ false → StillEnds source ranges (i + 1)
+pub left_ended : (source : List ℕ) (ranges : List TokenRange) (i : ℕ) → EndsOnce (range_lexemes source (drop i ranges))
+    → same_kind (kind_at (range_lexemes source (drop i ranges))) EndOfFile ≡ false → StillEnds source ranges (i + 1)
 left_ended source ranges i h e =
-    let g : EndsOnce (range_lexemes source (drop (i + 1) ranges)) = subst EndsOnce (sym (drop_one_more source ranges i)) (still_ended _ h e) in
+    let g : EndsOnce (range_lexemes source (drop (i + 1) ranges)) =
+    subst EndsOnce (sym (drop_one_more source ranges i)) (still_ended _ h e) in
     let l : 0 < length (drop (i + 1) ranges) = some_left source (drop (i + 1) ranges) g in
     record { within = omega (arith, l, length-drop (i + 1) ranges); ended = g }
 
 -- the token that stands next
-pub first_left : (source : List ℕ) (ranges : List TokenRange) (i : ℕ) (r : TokenRange) → i < length ranges → get_or ranges i r ≡ r → first_of (range_lexemes source (drop i ranges)) ≡ range_lexeme source r
-first_left source ranges i r l e = ap (λ rs. first_of (range_lexemes source rs)) (drop-cons ranges i r l) ∙ ap (range_lexeme source) e
+pub first_left : (source : List ℕ) (ranges : List TokenRange) (i : ℕ) (r : TokenRange) → i < length ranges
+    → get_or ranges i r ≡ r → first_of (range_lexemes source (drop i ranges)) ≡ range_lexeme source r
+first_left source ranges i r l e = ap (λ rs. first_of (range_lexemes source rs)) (drop-cons ranges i r l)
+    ∙ ap (range_lexeme source) e
 
 -- something is left
-pub left_within : (source : List ℕ) (ranges : List TokenRange) (i : ℕ) → EndsOnce (range_lexemes source (drop i ranges)) → i < length ranges
+pub left_within : (source : List ℕ) (ranges : List TokenRange) (i : ℕ) → EndsOnce (range_lexemes source (drop i ranges))
+    → i < length ranges
 left_within source ranges i h = omega (arith, some_left source (drop i ranges) h, length-drop i ranges)
 
 -- ---- the wanted token

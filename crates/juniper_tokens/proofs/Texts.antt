@@ -17,26 +17,34 @@ use Rattle.juniper_tokens.specs.Errors.{error_text, UnexpectedToken}
 pub chars_injective : (xs ys : List ℕ) → IsUtf8 xs → IsUtf8 ys → chars xs ≡ chars ys → xs ≡ ys
 chars_injective xs ys u v e = sym (encodes-chars xs u) ∙ ap encodes e ∙ encodes-chars ys v
 
-pub pointwise-chars : (xs ys : List ℕ) → IsUtf8 xs → IsUtf8 ys → pointwise nat_eq xs ys ≡ pointwise nat_eq (chars xs) (chars ys)
+pub pointwise-chars : (xs ys : List ℕ) → IsUtf8 xs → IsUtf8 ys
+    → pointwise nat_eq xs ys ≡ pointwise nat_eq (chars xs) (chars ys)
 pointwise-chars xs ys u v =
     same_from_decides (pointwise nat_eq xs ys) (pointwise nat_eq (chars xs) (chars ys))
-    (bytes_decides xs ys)
-    ((λ e. chars_injective xs ys u v ((bytes_decides (chars xs) (chars ys)).0 e)), (λ e. (bytes_decides (chars xs) (chars ys)).1 (ap chars e)))
+    (bytes_decides xs ys) (
+      (λ e. chars_injective xs ys u v ((bytes_decides (chars xs) (chars ys)).0 e)),
+      (λ e. (bytes_decides (chars xs) (chars ys)).1 (ap chars e)),
+    )
 
 -- quotes round a text, as bytes
-pub encodes-quoted : (before bs after : List ℕ) → IsUtf8 bs → encodes (before ++ quoted (chars bs) ++ after) ≡ encodes before ++ (34 ∷ (bs ++ 34 ∷ encodes after))
+pub encodes-quoted : (before bs after : List ℕ) → IsUtf8 bs
+    → encodes (before ++ quoted (chars bs) ++ after) ≡ encodes before ++ (34 ∷ (bs ++ 34 ∷ encodes after))
 unfolding encode
 encodes-quoted before bs after u = simp (encodes-append, encodes-chars bs u, append_assoc)
 
-pub encodes-quoted_last : (before bs : List ℕ) → IsUtf8 bs → encodes (before ++ quoted (chars bs)) ≡ encodes before ++ (34 ∷ (bs ++ 34 ∷ []))
+pub encodes-quoted_last : (before bs : List ℕ) → IsUtf8 bs
+    → encodes (before ++ quoted (chars bs)) ≡ encodes before ++ (34 ∷ (bs ++ 34 ∷ []))
 unfolding encode
 encodes-quoted_last before bs u = simp (encodes-append, encodes-chars bs u, append_assoc)
 
-pub unknown_escape-text : (bs : List ℕ) → IsUtf8 bs → codes "Unknown escape sequence \"" ++ (bs ++ codes "\" in string") ≡ encodes (lexical_text (UnknownEscapeSequence (chars bs)))
+pub unknown_escape-text : (bs : List ℕ) → IsUtf8 bs
+    → codes "Unknown escape sequence \"" ++ (bs ++ codes "\" in string")
+    ≡ encodes (lexical_text (UnknownEscapeSequence (chars bs)))
 unfolding encode
 unknown_escape-text bs u = sym (encodes-quoted (codes "Unknown escape sequence ") bs (codes " in string") u)
 
-pub unexpected_token-text : (bs : List ℕ) → IsUtf8 bs → codes "Unexpected \"" ++ (bs ++ codes "\"") ≡ encodes (error_text (UnexpectedToken (chars bs)))
+pub unexpected_token-text : (bs : List ℕ) → IsUtf8 bs
+    → codes "Unexpected \"" ++ (bs ++ codes "\"") ≡ encodes (error_text (UnexpectedToken (chars bs)))
 unfolding encode
 unexpected_token-text bs u = sym (encodes-quoted_last (codes "Unexpected ") bs u)
 
@@ -53,5 +61,6 @@ unfolding encode
 marked-bytes cs = ap (λ l. mark ++ l) (sym (encodes-append cs mark))
 
 -- the characters of a String that holds the bytes of those characters
-pub chars-from_bytes : {Z : Type 0} (s : String Z) (cs : List ℕ) → string_bytes s ≡ encodes cs → chars (string_bytes s) ≡ cs
+pub chars-from_bytes : {Z : Type 0} (s : String Z) (cs : List ℕ) → string_bytes s ≡ encodes cs
+    → chars (string_bytes s) ≡ cs
 chars-from_bytes s cs e = encodes_same _ _ (encodes-chars _ (IsUtf8-string_bytes s) ∙ e)

@@ -6,15 +6,28 @@ use Rattle.juniper_tokens.proofs.LexingByScan.{chars_room, sum_room, gap_placed}
 use Rattle.juniper_tokens.proofs.lexer.Lexer.skip_gap.Goals as goal
 
 pub walk_gap-gap-requires : goal.walk_gap-gap-requires
-walk_gap-gap-requires c = chars_room _ 0 _ _ _ c.self.invariant c.text_from.ensures.length c.text_from.utf8 (c.text_from.ensures.characters ∙ ap (λ k. drop k (chars c.self.inside.source.now)) c.index.ensures)
+walk_gap-gap-requires c = chars_room _ 0 _ _ _ c.self.invariant c.text_from.ensures.length c.text_from.utf8
+    (c.text_from.ensures.characters ∙ ap (λ k. drop k (chars c.self.inside.source.now)) c.index.ensures)
 
 pub overflow_add-self : goal.overflow_add-self
-overflow_add-self c = omega (arith, sum_room _ _ _ _ _ c.text_from.ensures.length c.self.invariant.room c.text_from.utf8 c.walk_gap-gap.ensures.bytes_is)
+overflow_add-self c = omega (
+  arith,
+  sum_room _ _ _ _ _ c.text_from.ensures.length c.self.invariant.room c.text_from.utf8
+      c.walk_gap-gap.ensures.bytes_is,
+)
 
 pub invariant_of-self : goal.invariant_of-self
-invariant_of-self c = (gap_placed _ _ _ _ _ _ c.self.invariant (c.text_from.ensures.characters ∙ ap (λ k. drop k (chars c.self.inside.source.now)) c.index.ensures) c.walk_gap-gap.ensures).1
+invariant_of-self c = (gap_placed _ _ _ _ _ _ c.self.invariant
+    (c.text_from.ensures.characters ∙ ap (λ k. drop k (chars c.self.inside.source.now)) c.index.ensures)
+    c.walk_gap-gap.ensures).1
 
 pub returns : goal.returns
 returns c =
-    let made : ℕ → LexerState = λ i. record { source = chars c.self.inside.source.now; index = i; ended = c.self.inside.ended } in
-    ap made (gap_placed _ _ _ _ _ _ c.self.invariant (c.text_from.ensures.characters ∙ ap (λ k. drop k (chars c.self.inside.source.now)) c.index.ensures) c.walk_gap-gap.ensures).0 ∙ ap past_gap c.self.view_is
+    let made : ℕ → LexerState = λ i. record {
+      source = chars c.self.inside.source.now;
+      index = i;
+      ended = c.self.inside.ended;
+    } in
+    ap made (gap_placed _ _ _ _ _ _ c.self.invariant
+    (c.text_from.ensures.characters ∙ ap (λ k. drop k (chars c.self.inside.source.now)) c.index.ensures)
+    c.walk_gap-gap.ensures).0 ∙ ap past_gap c.self.view_is

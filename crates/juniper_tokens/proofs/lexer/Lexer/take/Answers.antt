@@ -12,27 +12,46 @@ use Rattle.juniper_tokens.proofs.Ranges.{found_range, found_taken, placed_behind
 use Rattle.juniper_tokens.proofs.lexer.Lexer.take.Goals as goal
 
 pub from_found-range-requires-clause-found : goal.from_found-range-requires-clause-found
-from_found-range-requires-clause-found c = subst (λ (w : LexerState). Finds (drop w.index w.source) c.args.found) (sym c.self.view_is) c.requires
+from_found-range-requires-clause-found c =
+    subst (λ (w : LexerState). Finds (drop w.index w.source) c.args.found) (sym c.self.view_is) c.requires
 
 pub end_position-self-inside-requires : goal.end_position-self-inside-requires
 end_position-self-inside-requires c =
-    let finds = subst (λ (w : LexerState). Finds (drop w.index w.source) c.args.found) (sym c.self.view_is) c.requires in
-    subst (IsRange (chars c.self.inside.source.now)) (sym c.from_found-range.ensures) (found_range _ _ _ _ c.self.invariant finds)
+    let finds = subst (λ (w : LexerState). Finds (drop w.index w.source) c.args.found) (sym c.self.view_is)
+    c.requires in
+    subst (IsRange (chars c.self.inside.source.now)) (sym c.from_found-range.ensures)
+    (found_range _ _ _ _ c.self.invariant finds)
 
 pub invariant_of-self : goal.invariant_of-self
 invariant_of-self c =
-    let finds = subst (λ (w : LexerState). Finds (drop w.index w.source) c.args.found) (sym c.self.view_is) c.requires in
+    let finds = subst (λ (w : LexerState). Finds (drop w.index w.source) c.args.found) (sym c.self.view_is)
+    c.requires in
     let range = found_range _ _ _ _ c.self.invariant finds in
-    let place = c.end_position-self-inside.ensures ∙ ap (λ (r : TokenRange). place (chars c.self.inside.source.now) r.end.characters) c.from_found-range.ensures in
-    subst (λ b. IsPlaced c.self.inside.source.now b c.end_position-self-inside.result) (sym (ap (λ (r : TokenRange). r.end.bytes) c.from_found-range.ensures))
+    let place = c.end_position-self-inside.ensures
+    ∙ ap (λ (r : TokenRange). place (chars c.self.inside.source.now) r.end.characters) c.from_found-range.ensures in
+    subst (λ b. IsPlaced c.self.inside.source.now b c.end_position-self-inside.result)
+    (sym (ap (λ (r : TokenRange). r.end.bytes) c.from_found-range.ensures))
     (placed_behind _ _ _ _ _ c.self.invariant range place).1
 
 pub returns-clause-takes : goal.returns-clause-takes
 returns-clause-takes c =
-    let finds = subst (λ (w : LexerState). Finds (drop w.index w.source) c.args.found) (sym c.self.view_is) c.requires in
-    let place = c.end_position-self-inside.ensures ∙ ap (λ (r : TokenRange). place (chars c.self.inside.source.now) r.end.characters) c.from_found-range.ensures in
-    let ended = c.eq-self-inside.ensures ∙ ap (λ (r : TokenRange). same_kind r.kind EndOfFile) c.from_found-range.ensures in
-    let new : LexerState = record { source = chars c.self.inside.source.now; index = c.end_position-self-inside.result.index; ended = c.eq-self-inside.result } in
-    let taken = found_taken _ _ _ c.end_position-self-inside.result c.args.found c.eq-self-inside.result c.self.inside.ended c.self.invariant finds place ended in
+    let finds = subst (λ (w : LexerState). Finds (drop w.index w.source) c.args.found) (sym c.self.view_is)
+    c.requires in
+    let place = c.end_position-self-inside.ensures
+    ∙ ap (λ (r : TokenRange). place (chars c.self.inside.source.now) r.end.characters) c.from_found-range.ensures in
+    let ended = c.eq-self-inside.ensures ∙ ap (λ (r : TokenRange). same_kind r.kind EndOfFile)
+    c.from_found-range.ensures in
+    let new : LexerState = record {
+      source = chars c.self.inside.source.now;
+      index = c.end_position-self-inside.result.index;
+      ended = c.eq-self-inside.result;
+    } in
+    let taken = found_taken _ _ _ c.end_position-self-inside.result c.args.found c.eq-self-inside.result
+    c.self.inside.ended c.self.invariant finds place ended in
     subst (λ (s : LexerState). TakesRange s c.from_found-range.result new) c.self.view_is
-    (subst (λ (r : TokenRange). TakesRange (record { source = chars c.self.inside.source.now; index = c.self.inside.position.index; ended = c.self.inside.ended }) r new) (sym c.from_found-range.ensures) taken)
+    (subst (λ (r : TokenRange). TakesRange (record {
+      source = chars c.self.inside.source.now;
+      index = c.self.inside.position.index;
+      ended = c.self.inside.ended;
+    }) r new) (sym c.from_found-range.ensures)
+    taken)

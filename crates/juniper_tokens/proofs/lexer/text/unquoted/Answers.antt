@@ -15,4 +15,5 @@ pub text_from-requires : goal.text_from-requires
 text_from-requires c = first_quotes _ _ _ _ _ c.requires c.text_before-units.ensures
 
 pub returns : goal.returns
-returns c = unquoted_text _ _ _ _ _ c.requires (c.text_from.ensures.characters ∙ ap (drop c.args.width) c.text_before-units.ensures)
+returns c = unquoted_text _ _ _ _ _ c.requires (c.text_from.ensures.characters
+    ∙ ap (drop c.args.width) c.text_before-units.ensures)

@@ -8,9 +8,11 @@ line_of-requires c = rw c.deref.ensures.value (table_starts _ c.self.invariant)
 
 pub position-requires-clause-below : goal.position-requires-clause-below
 position-requires-clause-below c =
-    number_below c.deref.result.now _ _ (rw c.deref.ensures.value (table_starts _ c.self.invariant)) c.line_of.ensures.begins
+    number_below c.deref.result.now _ _ (rw c.deref.ensures.value (table_starts _ c.self.invariant))
+    c.line_of.ensures.begins
 
 pub returns : goal.returns
 returns c source e w =
-    let starts = c.deref.ensures.value ∙ (ap (λ (t : Lines). t.starts) c.self.view_is ∙ ap (λ (t : Lines). t.starts) e) in
+    let starts = c.deref.ensures.value ∙ (ap (λ (t : Lines). t.starts) c.self.view_is
+    ∙ ap (λ (t : Lines). t.starts) e) in
     rw c.position.ensures (line_place source c.deref.result.now c.args.index _ _ starts w c.line_of.ensures)

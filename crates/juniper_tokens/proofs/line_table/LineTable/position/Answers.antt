@@ -8,5 +8,6 @@ returns-clause-table c = subst IsTable c.self.view_is c.self.invariant
 
 pub returns-clause-place : goal.returns-clause-place
 returns-clause-place c source e =
-    let within = counted_within source c.args.self.now c.args.index e (rw (← ap (λ (t : Lines). t.count) c.self.view_is) c.if-index-self.false) in
+    let within = counted_within source c.args.self.now c.args.index e
+    (rw (← ap (λ (t : Lines). t.count) c.self.view_is) c.if-index-self.false) in
     place_some source c.args.index _ within (c.place.ensures source e within)

@@ -19,7 +19,8 @@ loop-list-preserved g c =
 pub returns-in_err-take_item-clause-refused : goal.returns-in_err-take_item-clause-refused
 returns-in_err-take_item-clause-refused g c =
     let goes = rw c.in_default.is at c.in_ok-end.ensures in
-    passed_on _ _ c.from_residual-in_err-take_item.ensures.1 (list_item c.loop-list.invariant goes c.in_err-take_item.ensures)
+    passed_on _ _ c.from_residual-in_err-take_item.ensures.1
+    (list_item c.loop-list.invariant goes c.in_err-take_item.ensures)
 
 pub returns-in_err-take_item-clause-rest : goal.returns-in_err-take_item-clause-rest
 returns-in_err-take_item-clause-rest g c =

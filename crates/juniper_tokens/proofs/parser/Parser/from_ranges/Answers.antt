@@ -9,7 +9,9 @@ pub located-current-requires : goal.located-current-requires
 located-current-requires c =
     let source = chars c.args.source.now in
     let ranges = c.args.ranges.items in
-    subst (IsRange source) (sym c.index.ensures) (All-get_or (IsRange source) ranges 0 c.index.result.now (some_left source ranges c.requires.ends) c.requires.ranges)
+    subst (IsRange source) (sym c.index.ensures)
+    (All-get_or (IsRange source) ranges 0 c.index.result.now (some_left source ranges c.requires.ends)
+    c.requires.ranges)
 
 pub invariant_of-result : goal.invariant_of-result
 invariant_of-result c =
@@ -17,5 +19,6 @@ invariant_of-result c =
     record {
       are_ranges = c.requires.ranges;
       ended = c.requires.ends;
-      first = c.located-current.ensures ∙ sym (first_left source c.args.ranges.items 0 _ (some_left source c.args.ranges.items c.requires.ends) (sym c.index.ensures));
+      first = c.located-current.ensures ∙ sym (first_left source c.args.ranges.items 0 _
+          (some_left source c.args.ranges.items c.requires.ends) (sym c.index.ensures));
     }

@@ -3,14 +3,17 @@ use Rattle.juniper_tokens.proofs.parser.Parser.unlocated_delimited_nonempty_list
 
 pub returns-in_err-take_item-clause-refused : goal.returns-in_err-take_item-clause-refused
 returns-in_err-take_item-clause-refused g c =
-    passed_on _ _ c.from_residual-in_err-take_item.ensures.1 (nonempty_item c.loop-items.invariant c.in_err-take_item.ensures)
+    passed_on _ _ c.from_residual-in_err-take_item.ensures.1
+    (nonempty_item c.loop-items.invariant c.in_err-take_item.ensures)
 
 pub returns-in_err-take_item-clause-rest : goal.returns-in_err-take_item-clause-rest
-returns-in_err-take_item-clause-rest g c = no_item_rest c.requires c.loop-items.invariant.further c.in_err-take_item.ensures
+returns-in_err-take_item-clause-rest g c =
+    no_item_rest c.requires c.loop-items.invariant.further c.in_err-take_item.ensures
 
 pub returns-in_err-end-clause-refused : goal.returns-in_err-end-clause-refused
 returns-in_err-end-clause-refused g c =
-    passed_on _ _ c.from_residual-in_err-end.ensures.1 (nonempty_closing c.loop-items.invariant c.in_ok-take_item.ensures c.in_err-end.ensures.0)
+    passed_on _ _ c.from_residual-in_err-end.ensures.1
+    (nonempty_closing c.loop-items.invariant c.in_ok-take_item.ensures c.in_err-end.ensures.0)
 
 pub returns-in-Some-clause-list : goal.returns-in-Some-clause-list
 returns-in-Some-clause-list g c =
@@ -23,7 +26,8 @@ loop-items-preserved g c =
     nonempty_more c.requires c.loop-items.invariant c.in_ok-take_item.ensures goes
 
 pub returns-in_err-end-clause-rest : goal.returns-in_err-end-clause-rest
-returns-in_err-end-clause-rest g c = (behind_item c.requires c.loop-items.invariant.further c.in_ok-take_item.ensures.1 c.in_err-end.ensures.1).rest
+returns-in_err-end-clause-rest g c = (behind_item c.requires c.loop-items.invariant.further c.in_ok-take_item.ensures.1
+    c.in_err-end.ensures.1).rest
 
 pub returns-in-Some-clause-taken : goal.returns-in-Some-clause-taken
 returns-in-Some-clause-taken g c =
