@@ -427,8 +427,7 @@ module _ {C F : Type 0} (S : Scalars C F) (n : ℕ) where
   variable_starts : (ts : List Lexeme) (d : VariableDefinition C) → IsVariableDefinition S ts d → StartsWith Dollar ts
   variable_starts ts d h = record {
     first = h.dollar;
-    tail = h.name ∷ h.colon
-        ∷ (h.of_type ++ (h.default ++ h.directives));
+    tail = h.name ∷ h.colon ∷ (h.of_type ++ (h.default ++ h.directives));
     whole = h.whole;
     kind_is = h.dollar_is;
   }

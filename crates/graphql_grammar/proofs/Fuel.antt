@@ -123,8 +123,7 @@ module _ {C F : Type 0} (S : Scalars C F) (free : Bool) where
   pub value_grows : Grows (value_at S free)
   value_grows = record {
     under = value_under S free;
-    answers = λ n ts le.
-        not_out n _ _ (IsValue S free) (value_rule S free n n (le_refl n)) ts le;
+    answers = λ n ts le. not_out n _ _ (IsValue S free) (value_rule S free n n (le_refl n)) ts le;
   }
 
   pub items_grow : Grows (items_at S free)

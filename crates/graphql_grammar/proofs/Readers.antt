@@ -15,8 +15,7 @@ use Rattle.graphql_grammar.proofs.Faulty.{Reads, one_tree}
 pub type_reads : (F : Type 0) → Reads (type_at {F = F}) IsType
 type_reads F = record {
   keeps = type_rule;
-  finds = λ n ts x le h.
-      ap (type_at n) (sym (append-nil ts)) ∙ type_found n ts [] x (omega arith) h tt;
+  finds = λ n ts x le h. ap (type_at n) (sym (append-nil ts)) ∙ type_found n ts [] x (omega arith) h tt;
 }
 
 -- No list has two types.
@@ -27,8 +26,7 @@ module _ {C F : Type 0} (S : Scalars C F) where
   pub value_reads : (free : Bool) → Reads (value_at S free) (IsValue S free)
   value_reads free = record {
     keeps = value_rule S free;
-    finds = λ n ts v le h.
-        ap (value_at S free n) (sym (append-nil ts)) ∙ value_found S free n ts [] v (omega arith) h;
+    finds = λ n ts v le h. ap (value_at S free n) (sym (append-nil ts)) ∙ value_found S free n ts [] v (omega arith) h;
   }
 
   pub document_reads : Reads (document S) (IsDocument S)

@@ -97,8 +97,7 @@ module _ {C F : Type 0} (S : Scalars C F) where
       let end_alike : AllAlike (ends.end ∷ []) (g.end ∷ []) = (
         record {
           kind = ends.is_end ∙ sym g.is_end;
-          text = end_text ends.end last.0 ends.is_end
-              ∙ sym (end_text g.end end_spelled.0 g.is_end);
+          text = end_text ends.end last.0 ends.is_end ∙ sym (end_text g.end end_spelled.0 g.is_end);
         },
         tt,
       ) in

@@ -101,8 +101,7 @@ open_more tail t c h = record {
 pub open_unit : (u t : List ℕ) → IsOpen u t → IsUnit u → IsOpen [] t
 open_unit u t h x = record {
   units = h.units ++ u;
-  text_is = h.text_is
-      ∙ ap (λ (y : List ℕ). 34 ∷ y) (sym (append-nil (h.units ++ u)));
+  text_is = h.text_is ∙ ap (λ (y : List ℕ). 34 ∷ y) (sym (append-nil (h.units ++ u)));
   made = units_then h.units u h.made x;
 }
 

@@ -25,7 +25,8 @@ use Rattle.juniper_answers.proofs.Views.{view-Null, view-Scalar, view-List, view
 
 module _ {S : Type 0} where
   abbrev IsVariant : Value S → Type 0
-  IsVariant v = (v ≡ V.Null) ⊎ (((s : S) × (v ≡ V.Scalar s)) ⊎ (((vs : Vec (Value S) Global) × (v ≡ V.List vs)) ⊎ ((o : Object S) × (v ≡ V.Object o))))
+  IsVariant v = (v ≡ V.Null) ⊎ (((s : S) × (v ≡ V.Scalar s)) ⊎ (((vs : Vec (Value S) Global) × (v ≡ V.List vs))
+      ⊎ ((o : Object S) × (v ≡ V.Object o))))
 
   of_layer : (x : Value-F S (Value S) (Object S)) → IsVariant (roll-Value S x)
   of_layer Value-F.Null = inl (rolls-Null)
@@ -147,7 +148,8 @@ same_key : (key k l : String Global) → chars (string_bytes k) ≡ chars (strin
     → string_eq key k ≡ string_eq key l
 same_key key k l e =
     ap (bytes_eq (string_bytes key))
-    (sym (encodes-chars (string_bytes k) (IsUtf8-string_bytes k)) ∙ ap encodes e ∙ encodes-chars (string_bytes l) (IsUtf8-string_bytes l))
+    (sym (encodes-chars (string_bytes k) (IsUtf8-string_bytes k)) ∙ ap encodes e
+    ∙ encodes-chars (string_bytes l) (IsUtf8-string_bytes l))
 
 -- what is found at a key, where the first values are equal and what is found behind them is
 found : {A : Type 0} (E : A → A → Bool) (v w : A) (m n : Option A) (b : Bool) → E v w ≡ true → option_eq E m n ≡ true
@@ -155,12 +157,14 @@ found : {A : Type 0} (E : A → A → Bool) (v w : A) (m n : Option A) (b : Bool
 found E v w m n true e h = e
 found E v w m n false e h = h
 
-module _ {S : Type 0} (R : S → S → Type 0) (eq : S → S → Bool) (told : (s t : S) → R s t → eq s t ≡ true) (E : Value S → Value S → Bool) (parts : ComparesParts eq E) where
+module _ {S : Type 0} (R : S → S → Type 0) (eq : S → S → Bool) (told : (s t : S) → R s t → eq s t ≡ true)
+    (E : Value S → Value S → Bool) (parts : ComparesParts eq E) where
   mutual
     equal : (d e : Data S) (v w : Value S) → shape v ≡ d → shape w ≡ e → Lifts R d e → E v w ≡ true
     equal null null v w p q l = ap₂ E (null_seen v p) (null_seen w q) ∙ parts.nulls
     equal null e v w p q l = absurd l
-    equal (scalar s) (scalar t) v w p q l = ap₂ E (scalar_seen v s p) (scalar_seen w t q) ∙ parts.scalars s t ∙ told s t l
+    equal (scalar s) (scalar t) v w p q l =
+        ap₂ E (scalar_seen v s p) (scalar_seen w t q) ∙ parts.scalars s t ∙ told s t l
     equal (scalar s) e v w p q l = absurd l
     equal (list ds) (list es) v w p q l =
         let x = list_seen v ds p in
@@ -171,7 +175,8 @@ module _ {S : Type 0} (R : S → S → Type 0) (eq : S → S → Bool) (told : (
         let x = object_seen v fs p in
         let y = object_seen w gs q in
         ap₂ E x.1 y.1 ∙ parts.objects x.0 y.0
-        ∙ hash_map_eq_from_get string_eq E (as_map (pairs x.0)) (as_map (pairs y.0)) (fields_equal fs gs (pairs x.0) (pairs y.0) x.2 y.2 l)
+        ∙ hash_map_eq_from_get string_eq E (as_map (pairs x.0)) (as_map (pairs y.0))
+        (fields_equal fs gs (pairs x.0) (pairs y.0) x.2 y.2 l)
     equal (object fs) e v w p q l = absurd l
 
     items_equal : (ds es : Items S) (vs ws : List (Value S)) → items_view (λ x. x) vs ≡ ds
@@ -197,9 +202,12 @@ module _ {S : Type 0} (R : S → S → Type 0) (eq : S → S → Bool) (told : (
     fields_equal (field k d fs) (field m e gs) [] qs p q l key = absurd (cc)
     fields_equal (field k d fs) (field m e gs) (x ∷ ps) [] p q l key = absurd (cc)
     fields_equal (field k d fs) (field m e gs) (x ∷ ps) (y ∷ qs) p q l key =
-        let keys : chars (string_bytes x.0) ≡ chars (string_bytes y.0) = let a : chars (string_bytes x.0) ≡ k = cc in let b : chars (string_bytes y.0) ≡ m = cc in a ∙ sym l.0 ∙ sym b in
-        ap (λ b. option_eq E (cond (string_eq key x.0) (Some x.1) (lookup (string_eq key) ps)) (cond b (Some y.1) (lookup (string_eq key) qs))) (sym (same_key key x.0 y.0 keys))
-        ∙ found E x.1 y.1 _ _ (string_eq key x.0) (equal d e x.1 y.1 (cc) (cc) l.1) (fields_equal fs gs ps qs (cc) (cc) l.2 key)
+        let keys : chars (string_bytes x.0) ≡ chars (string_bytes y.0) = let a : chars (string_bytes x.0) ≡ k = cc in
+        let b : chars (string_bytes y.0) ≡ m = cc in a ∙ sym l.0 ∙ sym b in
+        ap (λ b. option_eq E (cond (string_eq key x.0) (Some x.1) (lookup (string_eq key) ps))
+        (cond b (Some y.1) (lookup (string_eq key) qs))) (sym (same_key key x.0 y.0 keys))
+        ∙ found E x.1 y.1 _ _ (string_eq key x.0) (equal d e x.1 y.1 (cc) (cc) l.1)
+        (fields_equal fs gs ps qs (cc) (cc) l.2 key)
 
   -- copies
   pub copies_equal : (v w : Value S) → Lifts R (shape v) (shape w) → E v w ≡ true
@@ -208,4 +216,5 @@ module _ {S : Type 0} (R : S → S → Type 0) (eq : S → S → Bool) (told : (
 -- values of the same data are related by the contents of their scalars
 pub same_data-lifts : {S C : Type 0} (f : S → C) (v w : Value S) → view f v ≡ view f w
     → Lifts (λ s t. f t ≡ f s) (shape v) (shape w)
-same_data-lifts f v w e = lifts f (shape v) (shape w) (sym (view_replaced f (shape v) v refl) ∙ e ∙ view_replaced f (shape w) w refl)
+same_data-lifts f v w e = lifts f (shape v) (shape w) (sym (view_replaced f (shape v) v refl) ∙ e
+    ∙ view_replaced f (shape w) w refl)

@@ -5,6 +5,7 @@ use Rattle.std.proofs.lemmas.Str.{encodes-chars, encodes-append}
 use lib.Utf8.{encode, encodes}
 use Rattle.graphql_lexical.specs.Display.{quoted}
 
-pub encodes-key : (bs : List ℕ) → IsUtf8 bs → 34 ∷ (bs ++ 34 ∷ 58 ∷ 32 ∷ []) ≡ encodes (quoted (chars bs) ++ 58 ∷ 32 ∷ [])
+pub encodes-key : (bs : List ℕ) → IsUtf8 bs
+    → 34 ∷ (bs ++ 34 ∷ 58 ∷ 32 ∷ []) ≡ encodes (quoted (chars bs) ++ 58 ∷ 32 ∷ [])
 unfolding encode
 encodes-key bs u = sym (simp (encodes-append, append_assoc, encodes-chars bs u))

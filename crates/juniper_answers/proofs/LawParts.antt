@@ -28,7 +28,8 @@ module _ {C : Type 0} where
     plain_fields (field k d fs) = (refl, plain d, refl, plain_fields fs)
 
 module _ {A X : Type 0} (shows : A → X) where
-  drained : (xs : List A) (s t u : List X) → Yields (TakesFirst shows) s xs t → TakesFirst shows t None u → map shows xs ≡ s
+  drained : (xs : List A) (s t u : List X) → Yields (TakesFirst shows) s xs t → TakesFirst shows t None u
+      → map shows xs ≡ s
   drained [] s t u y n = sym (y ∙ n.0)
   drained (x ∷ xs) s t u y n = ap (λ (l : List X). shows x ∷ l) (drained xs y.0 t u y.2 n) ∙ sym y.1
 

@@ -17,9 +17,13 @@ use Rattle.juniper_answers.specs.Names.{is_name}
 
 all_held : (cs : List ℕ) → list_all is_name_character cs ≡ true → AllByRecursion (λ d. IsTrue (is_name_character d)) cs
 all_held [] e = tt
-all_held (c ∷ cs) e = (first_so (is_name_character c) (list_all is_name_character cs) e, all_held cs (second_so (is_name_character c) (list_all is_name_character cs) e))
+all_held (c ∷ cs) e = (
+  first_so (is_name_character c) (list_all is_name_character cs) e,
+  all_held cs (second_so (is_name_character c) (list_all is_name_character cs) e),
+)
 
-all_tested : (cs : List ℕ) → AllByRecursion (λ d. IsTrue (is_name_character d)) cs → list_all is_name_character cs ≡ true
+all_tested : (cs : List ℕ) → AllByRecursion (λ d. IsTrue (is_name_character d)) cs
+    → list_all is_name_character cs ≡ true
 all_tested [] a = refl
 all_tested (c ∷ cs) a = and_from (is_name_character c) (list_all is_name_character cs) a.0 (all_tested cs a.1)
 
@@ -30,16 +34,26 @@ spelled (c ∷ cs) e =
     (c, cs, refl, first_so (is_name_start c) (list_all is_name_character (c ∷ cs)) e, all.1)
 
 tested : (text : List ℕ) → IsName text → is_name text ≡ true
-tested text n = subst (λ t. is_name t ≡ true) (sym n.2) (and_from (is_name_start n.0) (list_all is_name_character (n.0 ∷ n.1)) n.3 (all_tested (n.0 ∷ n.1) (or_left (is_name_start n.0) (is_digit n.0) n.3, n.4)))
+tested text n = subst (λ t. is_name t ≡ true) (sym n.2) (and_from (is_name_start n.0)
+    (list_all is_name_character (n.0 ∷ n.1)) n.3
+    (all_tested (n.0 ∷ n.1) (or_left (is_name_start n.0) (is_digit n.0) n.3, n.4)))
 
 one_token : (text : List ℕ) → IsName text → IsOneName text
 one_token text n =
     let w = writes_token text Name [] [] n (inr tt) writes_nothing in
     subst IsOneName (append-nil text) (go w.lexemes w.end w.cut w.are)
   where
-    go : (xs : List Lexeme) (e : Lexeme) → Cut (text ++ []) (xs ++ e ∷ []) → AreOf xs (record { kind = Name; text = text } ∷ []) → IsOneName (text ++ [])
+    go : (xs : List Lexeme) (e : Lexeme) → Cut (text ++ []) (xs ++ e ∷ [])
+        → AreOf xs (record { kind = Name; text = text } ∷ []) → IsOneName (text ++ [])
     go [] e c a = absurd a
-    go (x ∷ []) e c a = record { name = x; end = e; cut = c; kind = a.0; same = a.1 ∙ sym (append-nil text); ends = (few_tokens (text ++ []) (x ∷ []) e c).1 }
+    go (x ∷ []) e c a = record {
+      name = x;
+      end = e;
+      cut = c;
+      kind = a.0;
+      same = a.1 ∙ sym (append-nil text);
+      ends = (few_tokens (text ++ []) (x ∷ []) e c).1;
+    }
     go (x ∷ y ∷ ys) e c a = absurd a.2
 
 name_read : (rest : List ℕ) (n : ℕ) (kind : Kind) (text : List ℕ) → Reads rest n kind text → kind ≡ Name → IsName text
@@ -52,11 +66,13 @@ name_read (c ∷ cs) n kind text r e =
 only_name : (text : List ℕ) → IsOneName text → IsName text
 only_name text o = go o.cut.front o.cut.last o.cut.before o.cut.parts o.cut.leads
   where
-    go : (front : List Lexeme) (last : Lexeme) (before : ℕ) → o.name ∷ o.end ∷ [] ≡ front ++ last ∷ [] → Leads text 0 front before → IsName text
+    go : (front : List Lexeme) (last : Lexeme) (before : ℕ) → o.name ∷ o.end ∷ [] ≡ front ++ last ∷ []
+        → Leads text 0 front before → IsName text
     go [] last before parts leads = absurd (cc)
     go (x ∷ xs) last before parts leads =
         let first : o.name ≡ x = cc in
-        let named = name_read (drop (0 + leads.1.gap) text) leads.1.size x.kind x.text leads.1.reads (ap (λ (y : Lexeme). y.kind) (sym first) ∙ o.kind) in
+        let named = name_read (drop (0 + leads.1.gap) text) leads.1.size x.kind x.text leads.1.reads
+        (ap (λ (y : Lexeme). y.kind) (sym first) ∙ o.kind) in
         subst IsName (ap (λ (y : Lexeme). y.text) (sym first) ∙ o.same) named
 
 pub name_is_token : (text : List ℕ) → (is_name text ≡ true) ↔ IsOneName text

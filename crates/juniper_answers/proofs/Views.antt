@@ -15,7 +15,8 @@ module _ {S C : Type 0} (content : S → C) where
   view-List v = search (rules, the_lemmas)
 
   pub view-Object : (o : Object S) → view content (V.Object o) ≡ object (fields_view content (pairs o))
-  view-Object o = search (rules, the_lemmas) ∙ ap (λ ps. object (fields_of ps)) (zip_map (view content) o.entries.keys.keys o.entries.values.items)
+  view-Object o = search (rules, the_lemmas) ∙ ap (λ ps. object (fields_of ps))
+      (zip_map (view content) o.entries.keys.keys o.entries.values.items)
 
   pub view-Scalar : (s : S) → view content (V.Scalar s) ≡ scalar (content s)
   view-Scalar s = search (rules, the_lemmas)

@@ -16,8 +16,7 @@ one_taken old new e = record { taken = 1; left = e }
 pub further : (a b c : List Lexeme) → IsRest a b → IsRest b c → IsRest a c
 further a b c r s = record {
   taken = r.taken + s.taken;
-  left = s.left ∙ ap (drop s.taken) r.left
-      ∙ drop-drop s.taken r.taken a;
+  left = s.left ∙ ap (drop s.taken) r.left ∙ drop-drop s.taken r.taken a;
 }
 
 pub no_longer : (old new : List Lexeme) → IsRest old new → length new ≤ length old

@@ -98,8 +98,7 @@ run_of r cs bytes b e h =
     ∙ length-take-le n cs (reach_is (run_step r) tt cs).within)) in
     record {
       characters = characters;
-      border = ap (λ (x : ℕ × (Unit {0} × ℕ)). x.0) both
-          ∙ ap (λ k. byte_at k cs) (sym characters);
+      border = ap (λ (x : ℕ × (Unit {0} × ℕ)). x.0) both ∙ ap (λ k. byte_at k cs) (sym characters);
     }
   where
     none_before : (k : ℕ) → 0 + k ≡ k

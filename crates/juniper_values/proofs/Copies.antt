@@ -21,7 +21,8 @@ use Rattle.juniper_values.specs.declared.input_value.InputValue.TheFolds.{map-In
 abbrev pub at_item : {A B : Type 0} → (A → B) → Spanning A → Spanning B
 at_item f x = record { item = f x.item; span = x.span }
 
-abbrev pub at_value : {A B : Type 0} → (A → B) → Spanning (String Global) × Spanning A → Spanning (String Global) × Spanning B
+abbrev pub at_value : {A B : Type 0} → (A → B) → Spanning (String Global) × Spanning A
+    → Spanning (String Global) × Spanning B
 at_value f x = (x.0, at_item f x.1)
 
 -- each scalar replaced
@@ -44,17 +45,24 @@ module _ {S C : Type 0} (f : S → C) where
     replaced_fields (field k s v t fs) = field k s (replaced v) t (replaced_fields fs)
 
   -- one level, where it holds of the values within
-  module _ {V E : Type 0} (part : E → V) (a : V → Value C) (b : V → Value S) (within : (e : E) → a (part e) ≡ replaced (b (part e))) where
-    items_replaced : (xs : List (Spanning E)) → items_of (map (at_item a) (map (at_item part) xs)) ≡ replaced_items (items_of (map (at_item b) (map (at_item part) xs)))
+  module _ {V E : Type 0} (part : E → V) (a : V → Value C) (b : V → Value S)
+      (within : (e : E) → a (part e) ≡ replaced (b (part e))) where
+    items_replaced : (xs : List (Spanning E))
+        → items_of (map (at_item a) (map (at_item part) xs))
+        ≡ replaced_items (items_of (map (at_item b) (map (at_item part) xs)))
     items_replaced [] = refl
     items_replaced (x ∷ xs) = λ i. item (within x.item i) (view_span x.span) (items_replaced xs i)
 
-    fields_replaced : (xs : List (Spanning (String Global) × Spanning E)) → fields_of (map (at_value a) (map (at_value part) xs)) ≡ replaced_fields (fields_of (map (at_value b) (map (at_value part) xs)))
+    fields_replaced : (xs : List (Spanning (String Global) × Spanning E))
+        → fields_of (map (at_value a) (map (at_value part) xs))
+        ≡ replaced_fields (fields_of (map (at_value b) (map (at_value part) xs)))
     fields_replaced [] = refl
-    fields_replaced (x ∷ xs) = λ i. field (text_of x.0.item) (view_span x.0.span) (within x.1.item i) (view_span x.1.span) (fields_replaced xs i)
+    fields_replaced (x ∷ xs) = λ i. field (text_of x.0.item) (view_span x.0.span) (within x.1.item i)
+        (view_span x.1.span) (fields_replaced xs i)
 
     level : (y : InputValue-F S E)
-        → view_step f (map-InputValue S V (Value C) a (map-InputValue S E V part y)) ≡ replaced (view_step (λ s. s) (map-InputValue S V (Value S) b (map-InputValue S E V part y)))
+        → view_step f (map-InputValue S V (Value C) a (map-InputValue S E V part y))
+        ≡ replaced (view_step (λ s. s) (map-InputValue S V (Value S) b (map-InputValue S E V part y)))
     level (InputValue-F.Null) = refl
     level (InputValue-F.Scalar s) = refl
     level (InputValue-F.Enum t) = refl
@@ -64,8 +72,10 @@ module _ {S C : Type 0} (f : S → C) where
 
   pub view-replaced : (v : InputValue S) → view f v ≡ replaced (view (λ s. s) v)
   view-replaced v = ind-InputValue S (λ v. view f v ≡ replaced (view (λ s. s) v)) (λ x y e.
-      subst (λ (z : InputValue-F S (InputValue S)). view f (roll-InputValue S z) ≡ replaced (view (λ s. s) (roll-InputValue S z))) e
-      (fold-roll-InputValue S (Value C) (view_step f) _ ∙ level (λ p. p.0) (view f) (view (λ s. s)) (λ p. p.1) y ∙ ap replaced (sym (fold-roll-InputValue S (Value S) (view_step (λ s. s)) _)))) v
+      subst (λ (z : InputValue-F S (InputValue S)). view f (roll-InputValue S z)
+      ≡ replaced (view (λ s. s) (roll-InputValue S z))) e
+      (fold-roll-InputValue S (Value C) (view_step f) _ ∙ level (λ p. p.0) (view f) (view (λ s. s)) (λ p. p.1) y
+      ∙ ap replaced (sym (fold-roll-InputValue S (Value S) (view_step (λ s. s)) _)))) v
 
 -- ---- how a value is shown whose scalars are known by their contents
 
@@ -81,11 +91,14 @@ module _ {S C : Type 0} (f : S → C) (shown : C → Text) where
 
     items_text_replaced : (xs : Items S) → item_texts shown (replaced_items f xs) ≡ item_texts (λ s. shown (f s)) xs
     items_text_replaced no_items = refl
-    items_text_replaced (item v s xs) = ap₂ (λ (t : Text) (ts : List Text). t ∷ ts) (text_replaced v) (items_text_replaced xs)
+    items_text_replaced (item v s xs) = ap₂ (λ (t : Text) (ts : List Text). t ∷ ts) (text_replaced v)
+        (items_text_replaced xs)
 
-    fields_text_replaced : (fs : Fields S) → field_texts shown (replaced_fields f fs) ≡ field_texts (λ s. shown (f s)) fs
+    fields_text_replaced : (fs : Fields S) → field_texts shown (replaced_fields f fs)
+        ≡ field_texts (λ s. shown (f s)) fs
     fields_text_replaced no_fields = refl
-    fields_text_replaced (field k s v t fs) = ap₂ (λ (u : Text) (ts : List Text). (k ++ (codes ": " ++ u)) ∷ ts) (text_replaced v) (fields_text_replaced fs)
+    fields_text_replaced (field k s v t fs) =
+        ap₂ (λ (u : Text) (ts : List Text). (k ++ (codes ": " ++ u)) ∷ ts) (text_replaced v) (fields_text_replaced fs)
 
 -- ---- values whose scalars have the same contents are equal
 
@@ -112,7 +125,8 @@ module _ {S C : Type 0} (f : S → C) (eq : S → S → Bool) (same : (a b : S) 
     items_equal no_items no_items e = refl
     items_equal no_items ys e = absurd (cc)
     items_equal (item v s xs) (item w t ys) e =
-        and_from (same_value eq v w && same_span s t) _ (and_from (same_value eq v w) _ (equal v w (cc)) (span_equal s t (cc))) (items_equal xs ys (cc))
+        and_from (same_value eq v w && same_span s t) _
+        (and_from (same_value eq v w) _ (equal v w (cc)) (span_equal s t (cc))) (items_equal xs ys (cc))
     items_equal (item v s xs) ys e = absurd (cc)
 
     fields_equal : (fs gs : Fields S) → replaced_fields f fs ≡ replaced_fields f gs → same_fields eq fs gs ≡ true
@@ -120,11 +134,14 @@ module _ {S C : Type 0} (f : S → C) (eq : S → S → Bool) (same : (a b : S) 
     fields_equal no_fields gs e = absurd (cc)
     fields_equal (field k a v s fs) (field l b w t gs) e =
         and_from ((same_text k l && same_span a b) && (same_value eq v w && same_span s t)) _
-        (and_from (same_text k l && same_span a b) _ (and_from (same_text k l) _ (text_equal k l (cc)) (span_equal a b (cc))) (and_from (same_value eq v w) _ (equal v w (cc)) (span_equal s t (cc))))
+        (and_from (same_text k l && same_span a b) _
+        (and_from (same_text k l) _ (text_equal k l (cc)) (span_equal a b (cc)))
+        (and_from (same_value eq v w) _ (equal v w (cc)) (span_equal s t (cc))))
         (fields_equal fs gs (cc))
     fields_equal (field k a v s fs) gs e = absurd (cc)
 
-  pub copies_equal : (a b : InputValue S) → view f a ≡ view f b → same_value eq (view (λ s. s) a) (view (λ s. s) b) ≡ true
+  pub copies_equal : (a b : InputValue S) → view f a ≡ view f b
+      → same_value eq (view (λ s. s) a) (view (λ s. s) b) ≡ true
   copies_equal a b e = equal (view (λ s. s) a) (view (λ s. s) b) (sym (view-replaced f a) ∙ e ∙ view-replaced f b)
 
 -- ---- equal values have scalars of the same contents
@@ -184,10 +201,12 @@ module _ {S C : Type 0} (f : S → C) (eq : S → S → Bool) (told : (a b : S) 
         let key_span = span_is a b (second_so (same_text k l) _ names) in
         let value = same_contents v w (first_so _ _ values) in
         let span = span_is s t (second_so (same_value eq v w) _ values) in
-        let rest = same_field_contents fs gs (second_so ((same_text k l && same_span a b) && (same_value eq v w && same_span s t)) _ e) in
+        let rest = same_field_contents fs gs (second_so ((same_text k l && same_span a b)
+        && (same_value eq v w && same_span s t)) _ e) in
         λ i. field (key i) (key_span i) (value i) (span i) (rest i)
     same_field_contents (field k a v s fs) gs e = absurd (true≢false (sym e))
 
   pub equal_contents : (a b : InputValue S) → same_value eq (view (λ s. s) a) (view (λ s. s) b) ≡ true
       → view f a ≡ view f b
-  equal_contents a b e = view-replaced f a ∙ same_contents (view (λ s. s) a) (view (λ s. s) b) e ∙ sym (view-replaced f b)
+  equal_contents a b e = view-replaced f a ∙ same_contents (view (λ s. s) a) (view (λ s. s) b) e
+      ∙ sym (view-replaced f b)

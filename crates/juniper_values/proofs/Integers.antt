@@ -59,9 +59,11 @@ module _ {E : Type 0} where
   at_plus : (cs : Text) (r : Result ℤ E) → ParsesSigned w32 10 (43 ∷ cs) r → Reads (43 ∷ cs) r
   at_plus cs r h = by_digits r cs _ _ _ (positive_i32 (number_of cs)) (parse_signed_plus own w32 (43 ∷ cs) r h refl)
 
-  at_digit : (c : ℕ) (cs : Text) (r : Result ℤ E) → (c == 45) ≡ false → (c == 43) ≡ false → ParsesSigned w32 10 (c ∷ cs) r → Reads (c ∷ cs) r
+  at_digit : (c : ℕ) (cs : Text) (r : Result ℤ E) → (c == 45) ≡ false → (c == 43) ≡ false
+      → ParsesSigned w32 10 (c ∷ cs) r → Reads (c ∷ cs) r
   at_digit c cs r e f h =
-      rw (e, f) (by_digits r (c ∷ cs) _ _ _ (positive_i32 (number_of (c ∷ cs))) (parse_signed_plain own w32 (c ∷ cs) r h (grind (arith, nat_tests)) (grind (arith, nat_tests))))
+      rw (e, f) (by_digits r (c ∷ cs) _ _ _ (positive_i32 (number_of (c ∷ cs)))
+      (parse_signed_plain own w32 (c ∷ cs) r h (grind (arith, nat_tests)) (grind (arith, nat_tests))))
 
   at_nothing : (r : Result ℤ E) → ParsesSigned w32 10 [] r → Reads [] r
   at_nothing (Ok x) h = absurd (omega (arith, h.0.0.0))
@@ -72,8 +74,10 @@ module _ {E : Type 0} where
   reads (c ∷ cs) r h = by_sign (c == 45) (c == 43) refl refl
     where
       by_sign : (m p : Bool) → (c == 45) ≡ m → (c == 43) ≡ p → Reads (c ∷ cs) r
-      by_sign true p e f = let is : 45 ≡ c = grind (arith, nat_tests) in subst (λ d. ParsesSigned w32 10 (d ∷ cs) r → Reads (d ∷ cs) r) is (at_minus cs r) h
-      by_sign false true e f = let is : 43 ≡ c = grind (arith, nat_tests) in subst (λ d. ParsesSigned w32 10 (d ∷ cs) r → Reads (d ∷ cs) r) is (at_plus cs r) h
+      by_sign true p e f = let is : 45 ≡ c = grind (arith, nat_tests) in
+          subst (λ d. ParsesSigned w32 10 (d ∷ cs) r → Reads (d ∷ cs) r) is (at_minus cs r) h
+      by_sign false true e f = let is : 43 ≡ c = grind (arith, nat_tests) in
+          subst (λ d. ParsesSigned w32 10 (d ∷ cs) r → Reads (d ∷ cs) r) is (at_plus cs r) h
       by_sign false false e f = at_digit c cs r e f h
 
   fits : (bs : Text) (z : ℤ) (r : Result ℤ E) → ParsesSigned w32 10 bs r → r ≡ Ok z → SFits w32 z
@@ -112,18 +116,23 @@ unless_read : (t : Text) → is_read t ≡ false → int_reading t ≡ Err (Unex
 unless_read t e = rw e
 
 module _ {E : Type 0} (bs : List ℕ) (u : IsUtf8 bs) where
-  pub read : (z : ℤ) (r : Result ℤ E) → ParsesSigned w32 10 bs r → r ≡ Ok z → int_reading (chars bs) ≡ Ok (integer (to_z w32 (of_z w32 z)))
+  pub read : (z : ℤ) (r : Result ℤ E) → ParsesSigned w32 10 bs r → r ≡ Ok z
+      → int_reading (chars bs) ≡ Ok (integer (to_z w32 (of_z w32 z)))
   read z r h e =
       let f : SFits w32 z = fits bs z r h e in
-      let k : OkIff {E = E} (Ok z) (is_read bs ≡ true) (integer_of bs) = subst (λ o. OkIff o (is_read bs ≡ true) (integer_of bs)) e (reads bs r h) in
+      let k : OkIff {E = E} (Ok z) (is_read bs ≡ true) (integer_of bs) =
+      subst (λ o. OkIff o (is_read bs ≡ true) (integer_of bs)) e (reads bs r h) in
       let same : chars bs ≡ bs = same_chars bs u (inl (first_so (is_integer bs) _ k.0)) in
       ap int_reading same ∙ if_read bs k.0 ∙ ap (λ y. Ok (integer y)) (sym k.1 ∙ sym (to_z-of_z w32 z f))
 
-  pub refused : (x : E) (r : Result ℤ E) → ParsesSigned w32 10 bs r → r ≡ Err x → int_reading (chars bs) ≡ Err (UnexpectedToken (chars bs))
+  pub refused : (x : E) (r : Result ℤ E) → ParsesSigned w32 10 bs r → r ≡ Err x
+      → int_reading (chars bs) ≡ Err (UnexpectedToken (chars bs))
   refused x r h e =
-      let none : OkIff (Err x) (is_read bs ≡ true) (integer_of bs) = subst (λ o. OkIff o (is_read bs ≡ true) (integer_of bs)) e (reads bs r h) in
+      let none : OkIff (Err x) (is_read bs ≡ true) (integer_of bs) =
+      subst (λ o. OkIff o (is_read bs ≡ true) (integer_of bs)) e (reads bs r h) in
       unless_read (chars bs) (by_test (is_read (chars bs)) refl none)
     where
       by_test : (b : Bool) → is_read (chars bs) ≡ b → ¬ (is_read bs ≡ true) → is_read (chars bs) ≡ false
       by_test false t none = t
-      by_test true t none = absurd (none (subst (λ y. is_read y ≡ true) (same_chars bs u (inr (first_so (is_integer (chars bs)) _ t))) t))
+      by_test true t none = absurd (none (subst (λ y. is_read y ≡ true)
+          (same_chars bs u (inr (first_so (is_integer (chars bs)) _ t))) t))

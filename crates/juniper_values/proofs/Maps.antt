@@ -28,34 +28,41 @@ module _ {V W : Type 0} (f : V → W) where
   abbrev pub AreTexts : List (Bor (List ℕ) × V) → Type 0
   AreTexts = AllByRecursion (λ e. IsUtf8 e.0.now)
 
-  pub seen-insert : (es : List (Bor (List ℕ) × V)) (k : Bor (List ℕ)) (v : V) → AreTexts es → IsUtf8 k.now → map seen (insert_entry eq es k v) ≡ put (map seen es) (chars k.now) (f v)
+  pub seen-insert : (es : List (Bor (List ℕ) × V)) (k : Bor (List ℕ)) (v : V) → AreTexts es → IsUtf8 k.now
+      → map seen (insert_entry eq es k v) ≡ put (map seen es) (chars k.now) (f v)
   seen-insert [] k v t u = refl
   seen-insert (e ∷ es) k v t u =
       by_key (eq k e.0) (seen-insert es k v t.1 u)
-      ∙ ap (λ b. if b then (chars e.0.now, f v) ∷ map seen es else seen e ∷ put (map seen es) (chars k.now) (f v)) (sym (same_text-chars k.now e.0.now u t.0))
+      ∙ ap (λ b. if b then (chars e.0.now, f v) ∷ map seen es else seen e ∷ put (map seen es) (chars k.now) (f v))
+      (sym (same_text-chars k.now e.0.now u t.0))
     where
       by_key : (b : Bool) → map seen (insert_entry eq es k v) ≡ put (map seen es) (chars k.now) (f v)
-          → map seen (if b then (e.0, v) ∷ es else e ∷ insert_entry eq es k v) ≡ (if b then (chars e.0.now, f v) ∷ map seen es else seen e ∷ put (map seen es) (chars k.now) (f v))
+          → map seen (if b then (e.0, v) ∷ es else e ∷ insert_entry eq es k v)
+          ≡ (if b then (chars e.0.now, f v) ∷ map seen es else seen e ∷ put (map seen es) (chars k.now) (f v))
       by_key true later = refl
       by_key false later = ap (λ ps. seen e ∷ ps) later
 
-  texts-insert : (es : List (Bor (List ℕ) × V)) (k : Bor (List ℕ)) (v : V) → AreTexts es → IsUtf8 k.now → AreTexts (insert_entry eq es k v)
+  texts-insert : (es : List (Bor (List ℕ) × V)) (k : Bor (List ℕ)) (v : V) → AreTexts es → IsUtf8 k.now
+      → AreTexts (insert_entry eq es k v)
   texts-insert [] k v t u = (u, tt)
   texts-insert (e ∷ es) k v t u = by_key (eq k e.0) (texts-insert es k v t.1 u)
     where
-      by_key : (b : Bool) → AreTexts (insert_entry eq es k v) → AreTexts (if b then (e.0, v) ∷ es else e ∷ insert_entry eq es k v)
+      by_key : (b : Bool) → AreTexts (insert_entry eq es k v)
+          → AreTexts (if b then (e.0, v) ∷ es else e ∷ insert_entry eq es k v)
       by_key true later = (t.0, t.1)
       by_key false later = (t.0, later)
 
 -- one field more in the map
-module _ {V C : Type 0} (f : V → Value C) (new es : List (Bor (List ℕ) × V)) (k : Bor (List ℕ)) (v : V) (texts : AreTexts f es) (text : IsUtf8 k.now) (is : new ≡ insert_entry (λ a b. bytes_eq a.now b.now) es k v) where
+module _ {V C : Type 0} (f : V → Value C) (new es : List (Bor (List ℕ) × V)) (k : Bor (List ℕ)) (v : V)
+    (texts : AreTexts f es) (text : IsUtf8 k.now) (is : new ≡ insert_entry (λ a b. bytes_eq a.now b.now) es k v) where
   pub still_texts : AreTexts f new
   still_texts = subst (AreTexts f) (sym is) (texts-insert f es k v texts text)
 
   pub put_more : (key : Text) (s r : Span) (rest : Fields C) (all : List (Text × Value C)) → chars k.now ≡ key
       → put_all (map (seen f) es) (field key s (f v) r rest) ≡ all → put_all (map (seen f) new) rest ≡ all
   put_more key s r rest all e so_far =
-      ap (λ ps. put_all ps rest) (ap (map (seen f)) is ∙ seen-insert f es k v texts text ∙ ap (λ t. put (map (seen f) es) t (f v)) e) ∙ so_far
+      ap (λ ps. put_all ps rest) (ap (map (seen f)) is ∙ seen-insert f es k v texts text
+      ∙ ap (λ t. put (map (seen f) es) t (f v)) e) ∙ so_far
 
 -- the fields that are made of pairs
 abbrev pub placed : {S : Type 0} → List (String Global × InputValue S) → Fields S

@@ -16,12 +16,14 @@ module _ {A : Type 0} (all : List A → List A → Bool) (test : A → A → Boo
   differ (x ∷ xs) [] h = longer x xs
   differ (x ∷ xs) (y ∷ ys) h = more x y xs ys ∙ and_later (test x y) (all xs ys) (differ xs ys (λ e. h (ap suc e)))
 
-  module _ (xs ys : List A) (i : ℕ) (x y : A) (p : i < length xs) (q : i < length ys) (e : x ≡ get_or xs i x) (f : y ≡ get_or ys i y) where
+  module _ (xs ys : List A) (i : ℕ) (x y : A) (p : i < length xs) (q : i < length ys) (e : x ≡ get_or xs i x)
+      (f : y ≡ get_or ys i y) where
     step : all (drop i xs) (drop i ys) ≡ (test x y && all (drop (i + 1) xs) (drop (i + 1) ys))
     step = (λ j. all (drop_read xs i x p e j) (drop_read ys i y q f j)) ∙ more x y (drop (i + 1) xs) (drop (i + 1) ys)
 
     -- a turn at items that pass
-    pub passed : (r : Bool) → r ≡ all (drop i xs) (drop i ys) → test x y ≡ true → r ≡ all (drop (i + 1) xs) (drop (i + 1) ys)
+    pub passed : (r : Bool) → r ≡ all (drop i xs) (drop i ys) → test x y ≡ true
+        → r ≡ all (drop (i + 1) xs) (drop (i + 1) ys)
     passed r so_far t = so_far ∙ step ∙ and_true (test x y) _ t
 
     -- and at items that do not
@@ -29,5 +31,7 @@ module _ {A : Type 0} (all : List A → List A → Bool) (test : A → A → Boo
     failed r so_far t = sym (so_far ∙ step ∙ and_false (test x y) _ t)
 
   -- after the last turn
-  pub ended : (xs ys : List A) (i : ℕ) (r : Bool) → length xs ≤ i → length ys ≤ i → r ≡ all (drop i xs) (drop i ys) → true ≡ r
-  ended xs ys i r p q so_far = sym (so_far ∙ at_drop_all (λ zs. all zs (drop i ys)) xs i p ∙ at_drop_all (all []) ys i q ∙ none)
+  pub ended : (xs ys : List A) (i : ℕ) (r : Bool) → length xs ≤ i → length ys ≤ i → r ≡ all (drop i xs) (drop i ys)
+      → true ≡ r
+  ended xs ys i r p q so_far = sym (so_far ∙ at_drop_all (λ zs. all zs (drop i ys)) xs i p ∙ at_drop_all (all []) ys i q
+      ∙ none)

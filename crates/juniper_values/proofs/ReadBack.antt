@@ -33,10 +33,12 @@ abbrev WritesLone : Text → List Bare → Type 0
 WritesLone t bs = (rest : Text) (cs : List Bare) → IsCutInto rest cs → IsCutInto (t ++ rest) (bs ++ cs)
 
 written_alone : (t : Text) (bs : List Bare) → Writes t bs → IsCutInto t bs
-written_alone t bs w = subst (λ (x : Text). IsCutInto x bs) (append-nil t) (subst (λ (ys : List Bare). IsCutInto (t ++ []) ys) (append-nil bs) (w [] [] tt writes_nothing))
+written_alone t bs w = subst (λ (x : Text). IsCutInto x bs) (append-nil t)
+    (subst (λ (ys : List Bare). IsCutInto (t ++ []) ys) (append-nil bs) (w [] [] tt writes_nothing))
 
 -- two parts in a row, the second of which begins apart, or the first of which ends so
-in_a_row : (t u : Text) (bs cs : List Bare) → Writes t bs → Writes u cs → ((rest : Text) → BeginsApart rest → BeginsApart (u ++ rest)) → Writes (t ++ u) (bs ++ cs)
+in_a_row : (t u : Text) (bs cs : List Bare) → Writes t bs → Writes u cs
+    → ((rest : Text) → BeginsApart rest → BeginsApart (u ++ rest)) → Writes (t ++ u) (bs ++ cs)
 in_a_row t u bs cs w v apart rest ds a k =
     subst (λ (x : Text). IsCutInto x ((bs ++ cs) ++ ds)) (sym (append_assoc t u rest))
     (subst (λ (ys : List Bare). IsCutInto (t ++ (u ++ rest)) ys) (sym (append_assoc bs cs ds))
@@ -53,8 +55,10 @@ lone_first t u bs cs w v rest ds a k =
 name_written : (t : Text) → IsName t → Writes t (token Name t ∷ [])
 name_written t n rest cs a k = writes_token t Name rest cs n (inr a) k
 
-lone_written : (t : Text) (kind : Kind) → Spells t kind → text_of kind t ≡ t → IsTrue (is_lone kind) → WritesLone t (token kind t ∷ [])
-lone_written t kind s same l rest cs k = subst (λ (x : Text). IsCutInto (t ++ rest) (token kind x ∷ cs)) same (writes_token t kind rest cs s (inl l) k)
+lone_written : (t : Text) (kind : Kind) → Spells t kind → text_of kind t ≡ t → IsTrue (is_lone kind)
+    → WritesLone t (token kind t ∷ [])
+lone_written t kind s same l rest cs k =
+    subst (λ (x : Text). IsCutInto (t ++ rest) (token kind x ∷ cs)) same (writes_token t kind rest cs s (inl l) k)
 
 lone_as_any : (t : Text) (bs : List Bare) → WritesLone t bs → Writes t bs
 lone_as_any t bs w rest cs a k = w rest cs k
@@ -86,25 +90,35 @@ colon rest cs k = lone_written (codes ":") Colon refl refl refl (32 ∷ rest) cs
 comma : WritesLone (separator false) []
 comma rest cs k = writes_white 44 (32 ∷ rest) cs refl (writes_white 32 rest cs refl k)
 
-closing_apart : (c : ℕ) (kind : Kind) → Spells (c ∷ []) kind → IsTrue (is_lone kind) → (rest : Text) → BeginsApart ((c ∷ []) ++ rest)
+closing_apart : (c : ℕ) (kind : Kind) → Spells (c ∷ []) kind → IsTrue (is_lone kind) → (rest : Text)
+    → BeginsApart ((c ∷ []) ++ rest)
 closing_apart c kind s l rest = inr (kind, l, s)
 
 -- ---- types
 
 closed : (m : TypeModifier) (t : Text) (bs : List Bare) → Writes t bs → Writes (t ++ closing m) (bs ++ closing_tokens m)
-closed NonNull t bs w = in_a_row t (codes "!") bs (closing_tokens NonNull) w (lone_as_any (codes "!") (closing_tokens NonNull) marks) (λ rest a. closing_apart 33 ExclamationMark refl refl rest)
-closed (ListOf size) t bs w = in_a_row t (codes "]") bs (closing_tokens (ListOf size)) w (lone_as_any (codes "]") (closing_tokens (ListOf size)) closes_list) (λ rest a. closing_apart 93 BracketClose refl refl rest)
+closed NonNull t bs w = in_a_row t (codes "!") bs (closing_tokens NonNull) w
+    (lone_as_any (codes "!") (closing_tokens NonNull) marks) (λ rest a. closing_apart 33 ExclamationMark refl refl rest)
+closed (ListOf size) t bs w = in_a_row t (codes "]") bs (closing_tokens (ListOf size)) w
+    (lone_as_any (codes "]") (closing_tokens (ListOf size)) closes_list)
+    (λ rest a. closing_apart 93 BracketClose refl refl rest)
 
-wrapped_once : (m : TypeModifier) (t : Text) (bs : List Bare) → Writes t bs → Writes (opening m ++ (t ++ closing m)) (opening_tokens m ++ (bs ++ closing_tokens m))
+wrapped_once : (m : TypeModifier) (t : Text) (bs : List Bare) → Writes t bs
+    → Writes (opening m ++ (t ++ closing m)) (opening_tokens m ++ (bs ++ closing_tokens m))
 wrapped_once NonNull t bs w = closed NonNull t bs w
-wrapped_once (ListOf size) t bs w = lone_first (codes "[") (t ++ closing (ListOf size)) (opening_tokens (ListOf size)) (bs ++ closing_tokens (ListOf size)) opens_list (closed (ListOf size) t bs w)
+wrapped_once (ListOf size) t bs w = lone_first (codes "[") (t ++ closing (ListOf size)) (opening_tokens (ListOf size))
+    (bs ++ closing_tokens (ListOf size)) opens_list (closed (ListOf size) t bs w)
 
-wrapped_all : (ms : List TypeModifier) (t : Text) (bs : List Bare) → Writes t bs → Writes (type_text t ms) (wrapped_tokens bs ms)
+wrapped_all : (ms : List TypeModifier) (t : Text) (bs : List Bare) → Writes t bs
+    → Writes (type_text t ms) (wrapped_tokens bs ms)
 wrapped_all [] t bs w = w
-wrapped_all (m ∷ ms) t bs w = wrapped_all ms (opening m ++ (t ++ closing m)) (opening_tokens m ++ (bs ++ closing_tokens m)) (wrapped_once m t bs w)
+wrapped_all (m ∷ ms) t bs w = wrapped_all ms (opening m ++ (t ++ closing m))
+    (opening_tokens m ++ (bs ++ closing_tokens m)) (wrapped_once m t bs w)
 
-pub type_is_cut : (name : Text) (ms : List TypeModifier) → IsName name → IsCutInto (type_text name ms) (type_tokens name ms)
-type_is_cut name ms n = written_alone (type_text name ms) (type_tokens name ms) (wrapped_all ms name _ (name_written name n))
+pub type_is_cut : (name : Text) (ms : List TypeModifier) → IsName name
+    → IsCutInto (type_text name ms) (type_tokens name ms)
+type_is_cut name ms n = written_alone (type_text name ms) (type_tokens name ms)
+    (wrapped_all ms name _ (name_written name n))
 
 -- ---- scalars
 
@@ -153,16 +167,21 @@ commas_apart : (ts : List Text) (rest : Text) → BeginsApart rest → BeginsApa
 commas_apart [] rest a = a
 commas_apart (t ∷ ts) rest a = inl refl
 
-between : (o c : Text) (opens closes inner : List Bare) (t : Text) → WritesLone o opens → WritesLone c closes → ((rest : Text) → BeginsApart (c ++ rest)) → Writes t inner → Writes (o ++ (t ++ c)) (opens ++ (inner ++ closes))
-between o c opens closes inner t f g apart w = lone_first o (t ++ c) opens (inner ++ closes) f (in_a_row t c inner closes w (lone_as_any c closes g) (λ rest a. apart rest))
+between : (o c : Text) (opens closes inner : List Bare) (t : Text) → WritesLone o opens → WritesLone c closes
+    → ((rest : Text) → BeginsApart (c ++ rest)) → Writes t inner → Writes (o ++ (t ++ c)) (opens ++ (inner ++ closes))
+between o c opens closes inner t f g apart w =
+    lone_first o (t ++ c) opens (inner ++ closes) f
+    (in_a_row t c inner closes w (lone_as_any c closes g) (λ rest a. apart rest))
 
 nothing_written : Writes [] []
 nothing_written rest cs a k = k
 
 -- a value and those after it
-item_row : (v : Value Content) (xs : Items Content) → Writes (value_text plain_shown v) (value_tokens v) → Writes (after_commas (item_texts plain_shown xs)) (items_tokens xs)
+item_row : (v : Value Content) (xs : Items Content) → Writes (value_text plain_shown v) (value_tokens v)
+    → Writes (after_commas (item_texts plain_shown xs)) (items_tokens xs)
     → Writes (value_text plain_shown v ++ after_commas (item_texts plain_shown xs)) (value_tokens v ++ items_tokens xs)
-item_row v xs w more = in_a_row (value_text plain_shown v) (after_commas (item_texts plain_shown xs)) (value_tokens v) (items_tokens xs) w more (commas_apart (item_texts plain_shown xs))
+item_row v xs w more = in_a_row (value_text plain_shown v) (after_commas (item_texts plain_shown xs)) (value_tokens v)
+    (items_tokens xs) w more (commas_apart (item_texts plain_shown xs))
 
 abbrev field_text : Text → Value Content → Text
 field_text k v = k ++ (codes ": " ++ value_text plain_shown v)
@@ -171,41 +190,57 @@ abbrev field_tokens : Text → Value Content → List Bare
 field_tokens k v = token Name k ∷ punctuation Colon ∷ value_tokens v
 
 -- a key, its value and the fields after it
-field_row : (k : Text) (v : Value Content) (fs : Fields Content) → IsName k → Writes (value_text plain_shown v) (value_tokens v) → Writes (after_commas (field_texts plain_shown fs)) (fields_tokens fs)
+field_row : (k : Text) (v : Value Content) (fs : Fields Content) → IsName k
+    → Writes (value_text plain_shown v) (value_tokens v)
+    → Writes (after_commas (field_texts plain_shown fs)) (fields_tokens fs)
     → Writes (field_text k v ++ after_commas (field_texts plain_shown fs)) (field_tokens k v ++ fields_tokens fs)
 field_row k v fs n w more =
     let pair = lone_first (codes ": ") (value_text plain_shown v) (punctuation Colon ∷ []) (value_tokens v) colon w in
-    let one = in_a_row k (codes ": " ++ value_text plain_shown v) (token Name k ∷ []) (punctuation Colon ∷ value_tokens v) (name_written k n) pair (λ rest a. closing_apart 58 Colon refl refl (32 ∷ (value_text plain_shown v ++ rest))) in
-    in_a_row (field_text k v) (after_commas (field_texts plain_shown fs)) (field_tokens k v) (fields_tokens fs) one more (commas_apart (field_texts plain_shown fs))
+    let one = in_a_row k (codes ": " ++ value_text plain_shown v) (token Name k ∷ [])
+    (punctuation Colon ∷ value_tokens v) (name_written k n) pair
+    (λ rest a. closing_apart 58 Colon refl refl (32 ∷ (value_text plain_shown v ++ rest))) in
+    in_a_row (field_text k v) (after_commas (field_texts plain_shown fs)) (field_tokens k v) (fields_tokens fs) one more
+    (commas_apart (field_texts plain_shown fs))
 
 mutual
   value_written : (v : Value Content) → IsPlain v → Writes (value_text plain_shown v) (value_tokens v)
   value_written null h = name_written (codes "null") is_name_null
   value_written (scalar s) h = scalar_written s h
   value_written (enum_value t) h = name_written t h.name
-  value_written (variable t) h = lone_first (codes "$") t (punctuation Dollar ∷ []) (token Name t ∷ []) dollar (name_written t h)
+  value_written (variable t) h = lone_first (codes "$") t (punctuation Dollar ∷ []) (token Name t ∷ []) dollar
+      (name_written t h)
   value_written (list xs) h =
-      between (codes "[") (codes "]") (punctuation BracketOpen ∷ []) (punctuation BracketClose ∷ []) (items_tokens xs) (joined (item_texts plain_shown xs)) opens_list closes_list (λ rest. closing_apart 93 BracketClose refl refl rest) (items_written xs h)
+      between (codes "[") (codes "]") (punctuation BracketOpen ∷ []) (punctuation BracketClose ∷ []) (items_tokens xs)
+      (joined (item_texts plain_shown xs)) opens_list closes_list
+      (λ rest. closing_apart 93 BracketClose refl refl rest) (items_written xs h)
   value_written (object fs) h =
-      between (codes "{") (codes "}") (punctuation CurlyOpen ∷ []) (punctuation CurlyClose ∷ []) (fields_tokens fs) (joined (field_texts plain_shown fs)) opens_object closes_object (λ rest. closing_apart 125 CurlyClose refl refl rest) (fields_written fs h)
+      between (codes "{") (codes "}") (punctuation CurlyOpen ∷ []) (punctuation CurlyClose ∷ []) (fields_tokens fs)
+      (joined (field_texts plain_shown fs)) opens_object closes_object
+      (λ rest. closing_apart 125 CurlyClose refl refl rest) (fields_written fs h)
 
-  items_written : (xs : Items Content) → ArePlainItems xs → Writes (joined (item_texts plain_shown xs)) (items_tokens xs)
+  items_written : (xs : Items Content) → ArePlainItems xs
+      → Writes (joined (item_texts plain_shown xs)) (items_tokens xs)
   items_written no_items h = nothing_written
   items_written (item v s xs) h = item_row v xs (value_written v h.0) (more_items xs h.1)
 
-  more_items : (xs : Items Content) → ArePlainItems xs → Writes (after_commas (item_texts plain_shown xs)) (items_tokens xs)
+  more_items : (xs : Items Content) → ArePlainItems xs
+      → Writes (after_commas (item_texts plain_shown xs)) (items_tokens xs)
   more_items no_items h = nothing_written
   more_items (item v s xs) h =
-      lone_first (separator false) (value_text plain_shown v ++ after_commas (item_texts plain_shown xs)) [] (value_tokens v ++ items_tokens xs) comma (item_row v xs (value_written v h.0) (more_items xs h.1))
+      lone_first (separator false) (value_text plain_shown v ++ after_commas (item_texts plain_shown xs)) []
+      (value_tokens v ++ items_tokens xs) comma (item_row v xs (value_written v h.0) (more_items xs h.1))
 
-  fields_written : (fs : Fields Content) → ArePlainFields fs → Writes (joined (field_texts plain_shown fs)) (fields_tokens fs)
+  fields_written : (fs : Fields Content) → ArePlainFields fs
+      → Writes (joined (field_texts plain_shown fs)) (fields_tokens fs)
   fields_written no_fields h = nothing_written
   fields_written (field k s v t fs) h = field_row k v fs h.0 (value_written v h.1) (more_fields fs h.2)
 
-  more_fields : (fs : Fields Content) → ArePlainFields fs → Writes (after_commas (field_texts plain_shown fs)) (fields_tokens fs)
+  more_fields : (fs : Fields Content) → ArePlainFields fs
+      → Writes (after_commas (field_texts plain_shown fs)) (fields_tokens fs)
   more_fields no_fields h = nothing_written
   more_fields (field k s v t fs) h =
-      lone_first (separator false) (field_text k v ++ after_commas (field_texts plain_shown fs)) [] (field_tokens k v ++ fields_tokens fs) comma (field_row k v fs h.0 (value_written v h.1) (more_fields fs h.2))
+      lone_first (separator false) (field_text k v ++ after_commas (field_texts plain_shown fs)) []
+      (field_tokens k v ++ fields_tokens fs) comma (field_row k v fs h.0 (value_written v h.1) (more_fields fs h.2))
 
 pub value_is_cut : (v : Value Content) → IsPlain v → IsCutInto (value_text plain_shown v) (value_tokens v)
 value_is_cut v h = written_alone (value_text plain_shown v) (value_tokens v) (value_written v h)

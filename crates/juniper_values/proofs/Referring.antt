@@ -42,14 +42,16 @@ module _ {C : Type 0} where
   none_in_no_items : ItemsHaveNone no_items
   none_in_no_items t r = elim r [ ]
 
-  none_in_items : (v : Value C) (s : Span) (xs : Items C) → HasNoVariable v → ItemsHaveNone xs → ItemsHaveNone (item v s xs)
+  none_in_items : (v : Value C) (s : Span) (xs : Items C) → HasNoVariable v → ItemsHaveNone xs
+      → ItemsHaveNone (item v s xs)
   none_in_items v s xs p q t (first_item _ _ _ _ r) = p t r
   none_in_items v s xs p q t (later_item _ _ _ _ r) = q t r
 
   none_in_no_fields : FieldsHaveNone no_fields
   none_in_no_fields t r = elim r [ ]
 
-  none_in_fields : (k : Text) (s : Span) (v : Value C) (r : Span) (fs : Fields C) → HasNoVariable v → FieldsHaveNone fs → FieldsHaveNone (field k s v r fs)
+  none_in_fields : (k : Text) (s : Span) (v : Value C) (r : Span) (fs : Fields C) → HasNoVariable v → FieldsHaveNone fs
+      → FieldsHaveNone (field k s v r fs)
   none_in_fields k s v r fs p q t (first_field _ _ _ _ _ _ h) = p t h
   none_in_fields k s v r fs p q t (later_field _ _ _ _ _ _ h) = q t h
 
@@ -66,11 +68,13 @@ module _ {C : Type 0} where
 
     no_item_names : (xs : Items C) → ItemsHaveNone xs → item_variables xs ≡ []
     no_item_names no_items p = refl
-    no_item_names (item v s xs) p = λ i. no_names v (λ t r. p t (first_item v s xs t r)) i ++ no_item_names xs (λ t r. p t (later_item v s xs t r)) i
+    no_item_names (item v s xs) p = λ i. no_names v (λ t r. p t (first_item v s xs t r)) i
+        ++ no_item_names xs (λ t r. p t (later_item v s xs t r)) i
 
     no_field_names : (fs : Fields C) → FieldsHaveNone fs → field_variables fs ≡ []
     no_field_names no_fields p = refl
-    no_field_names (field k s v r fs) p = λ i. no_names v (λ t h. p t (first_field k s v r fs t h)) i ++ no_field_names fs (λ t h. p t (later_field k s v r fs t h)) i
+    no_field_names (field k s v r fs) p = λ i. no_names v (λ t h. p t (first_field k s v r fs t h)) i
+        ++ no_field_names fs (λ t h. p t (later_field k s v r fs t h)) i
 
   mutual
     none : (v : Value C) → variables v ≡ [] → HasNoVariable v
@@ -83,11 +87,13 @@ module _ {C : Type 0} where
 
     items_none : (xs : Items C) → item_variables xs ≡ [] → ItemsHaveNone xs
     items_none no_items e = none_in_no_items
-    items_none (item v s xs) e = none_in_items v s xs (none v (left_empty (variables v) _ e)) (items_none xs (right_empty (variables v) _ e))
+    items_none (item v s xs) e = none_in_items v s xs (none v (left_empty (variables v) _ e))
+        (items_none xs (right_empty (variables v) _ e))
 
     fields_none : (fs : Fields C) → field_variables fs ≡ [] → FieldsHaveNone fs
     fields_none no_fields e = none_in_no_fields
-    fields_none (field k s v r fs) e = none_in_fields k s v r fs (none v (left_empty (variables v) _ e)) (fields_none fs (right_empty (variables v) _ e))
+    fields_none (field k s v r fs) e = none_in_fields k s v r fs (none v (left_empty (variables v) _ e))
+        (fields_none fs (right_empty (variables v) _ e))
 
   pub empty_without_variables : (v : Value C) → IsEmptyWithoutVariables v
   empty_without_variables v = (none v, no_names v)
@@ -106,12 +112,14 @@ module _ {C : Type 0} where
 
       items_kept : (xs : Items C) → ItemsHaveNone xs → resolve_items m xs ≡ xs
       items_kept no_items p = refl
-      items_kept (item v s xs) p = λ i. item (or_null (kept v (λ t r. p t (first_item v s xs t r)) i)) s (items_kept xs (λ t r. p t (later_item v s xs t r)) i)
+      items_kept (item v s xs) p = λ i. item (or_null (kept v (λ t r. p t (first_item v s xs t r)) i)) s
+          (items_kept xs (λ t r. p t (later_item v s xs t r)) i)
 
       fields_kept : (fs : Fields C) → FieldsHaveNone fs → resolve_fields m fs ≡ fs
       fields_kept no_fields p = refl
       fields_kept (field k s v r fs) p = λ i.
-          field_if k s (kept v (λ t h. p t (first_field k s v r fs t h)) i) r (fields_kept fs (λ t h. p t (later_field k s v r fs t h)) i)
+          field_if k s (kept v (λ t h. p t (first_field k s v r fs t h)) i) r
+          (fields_kept fs (λ t h. p t (later_field k s v r fs t h)) i)
 
     module _ (closed : HaveNoVariables m) where
       at_variable : (n : Text) (o : Option (Value C)) → m n ≡ o → LeavesNoVariable m (variable n) o
@@ -138,11 +146,13 @@ module _ {C : Type 0} where
 
         items_removed : (xs : Items C) → ItemsHaveNone (resolve_items m xs)
         items_removed no_items = none_in_no_items
-        items_removed (item v s xs) = none_in_items (or_null (resolve m v)) s (resolve_items m xs) (at_item v (resolve m v) (removed v)) (items_removed xs)
+        items_removed (item v s xs) = none_in_items (or_null (resolve m v)) s (resolve_items m xs)
+            (at_item v (resolve m v) (removed v)) (items_removed xs)
 
         fields_removed : (fs : Fields C) → FieldsHaveNone (resolve_fields m fs)
         fields_removed no_fields = none_in_no_fields
-        fields_removed (field k s v r fs) = at_field k s v r (resolve_fields m fs) (resolve m v) (removed v) (fields_removed fs)
+        fields_removed (field k s v r fs) = at_field k s v r (resolve_fields m fs) (resolve m v) (removed v)
+            (fields_removed fs)
 
   pub resolving_keeps : (m : Values C) (v : Value C) → HasNoVariable v → resolve m v ≡ Some v
   resolving_keeps = kept

@@ -6,6 +6,7 @@ use Rattle.juniper_values.specs.View.{view_fields}
 use Rattle.juniper_values.specs.declared.input_value.InputValue.{InputValue}
 
 module _ {S : Type 0} where
-  pub field_count-view : (xs : List (Spanning (String Global) × Spanning (InputValue S))) → field_count (view_fields (λ s. s) xs) ≡ length xs
+  pub field_count-view : (xs : List (Spanning (String Global) × Spanning (InputValue S)))
+      → field_count (view_fields (λ s. s) xs) ≡ length xs
   field_count-view [] = refl
   field_count-view (x ∷ xs) = ap (λ n. n + 1) (field_count-view xs) ∙ add-one (length xs)

@@ -16,17 +16,23 @@ use Rattle.juniper_values.specs.View.{text_of}
 pub same_text-chars : (a b : List ℕ) → IsUtf8 a → IsUtf8 b → same_text (chars a) (chars b) ≡ bytes_eq a b
 same_text-chars a b u v =
     sym (same_from_decides (bytes_eq a b) (bytes_eq (chars a) (chars b))
-    (bytes_eq-Decides a b)
-    ((λ e. sym (encodes-chars a u) ∙ ap encodes ((bytes_eq-Decides (chars a) (chars b)).0 e) ∙ encodes-chars b v), (λ e. (bytes_eq-Decides (chars a) (chars b)).1 (ap chars e))))
+    (bytes_eq-Decides a b) (
+      (λ e. sym (encodes-chars a u) ∙ ap encodes ((bytes_eq-Decides (chars a) (chars b)).0 e) ∙ encodes-chars b v),
+      (λ e. (bytes_eq-Decides (chars a) (chars b)).1 (ap chars e)),
+    ))
 
-pub same_text-strings : (s t : String Global) → same_text (text_of s) (text_of t) ≡ bytes_eq (string_bytes s) (string_bytes t)
-same_text-strings s t = same_text-chars (string_bytes s) (string_bytes t) (IsUtf8-string_bytes s) (IsUtf8-string_bytes t)
+pub same_text-strings : (s t : String Global)
+    → same_text (text_of s) (text_of t) ≡ bytes_eq (string_bytes s) (string_bytes t)
+same_text-strings s t = same_text-chars (string_bytes s) (string_bytes t) (IsUtf8-string_bytes s)
+    (IsUtf8-string_bytes t)
 
 -- a look-up by a name's text is one by its bytes
-pub found_by_text : {V H : Type 0} (name : String Global) (q : List ℕ) (m : HashMap (String Global) V H) (r : Option V) → q ≡ string_bytes name
+pub found_by_text : {V H : Type 0} (name : String Global) (q : List ℕ) (m : HashMap (String Global) V H) (r : Option V)
+    → q ≡ string_bytes name
     → r ≡ get_by (λ k. bytes_eq q (string_bytes k)) m → r ≡ get_by (λ k. same_text (text_of name) (text_of k)) m
 found_by_text name q m r e found =
-    found ∙ ap (λ b. get_by (λ k. bytes_eq b (string_bytes k)) m) e ∙ sym (λ i. get_by (λ k. same_text-strings name k i) m)
+    found ∙ ap (λ b. get_by (λ k. bytes_eq b (string_bytes k)) m) e
+    ∙ sym (λ i. get_by (λ k. same_text-strings name k i) m)
 
 -- ---- what is written in parts
 
@@ -34,6 +40,7 @@ pub encodes-quoted : (bs : List ℕ) → IsUtf8 bs → 34 ∷ (bs ++ 34 ∷ []) 
 unfolding encode
 encodes-quoted bs u = sym (simp (encodes-append, encodes-chars bs u))
 
-pub encodes-wanted : (name : List ℕ) → IsUtf8 name → codes "Expected `" ++ (name ++ codes "`, found: ") ≡ encodes (wanted_text (chars name))
+pub encodes-wanted : (name : List ℕ) → IsUtf8 name
+    → codes "Expected `" ++ (name ++ codes "`, found: ") ≡ encodes (wanted_text (chars name))
 unfolding encode wanted_text
 encodes-wanted name u = sym (simp (encodes-append, encodes-chars name u))

@@ -20,19 +20,23 @@ module _ {S C : Type 0} (known_by : S → C) where
   view_items-prepend [] = refl
   view_items-prepend (x ∷ xs) = ap (put_item x) (view_items-prepend xs)
 
-  pub view_fields-prepend : (xs : List (Spanning (String Global) × Spanning (InputValue S))) → view_fields known_by xs ≡ prepend put_field xs no_fields
+  pub view_fields-prepend : (xs : List (Spanning (String Global) × Spanning (InputValue S)))
+      → view_fields known_by xs ≡ prepend put_field xs no_fields
   view_fields-prepend [] = refl
   view_fields-prepend (x ∷ xs) = ap (put_field x) (view_fields-prepend xs)
 
   pub view-Null : view known_by InputValue.Null ≡ null
   view-Null = search (rules, the_lemmas)
 
-  pub view-List : (v : Vec (Spanning (InputValue S)) Global) → view known_by (InputValue.List v) ≡ list (view_items known_by v.items)
+  pub view-List : (v : Vec (Spanning (InputValue S)) Global)
+      → view known_by (InputValue.List v) ≡ list (view_items known_by v.items)
   view-List v = search (rules, the_lemmas)
 
-  pub view-Object : (v : Vec (Spanning (String Global) × Spanning (InputValue S)) Global) → view known_by (InputValue.Object v) ≡ object (view_fields known_by v.items)
+  pub view-Object : (v : Vec (Spanning (String Global) × Spanning (InputValue S)) Global)
+      → view known_by (InputValue.Object v) ≡ object (view_fields known_by v.items)
   view-Object v = search (rules, the_lemmas)
 
-  pub view_or_null : (o : Option (InputValue S)) → view known_by (unwrap_or o InputValue.Null) ≡ or_null (option_map (view known_by) o)
+  pub view_or_null : (o : Option (InputValue S))
+      → view known_by (unwrap_or o InputValue.Null) ≡ or_null (option_map (view known_by) o)
   view_or_null None = view-Null
   view_or_null (Some v) = refl

@@ -19,13 +19,15 @@ outermost-wrapped : (ms : List TypeModifier) (m : TypeModifier) → outermost (m
 outermost-wrapped ms m =
     let n : length (ms ++ m ∷ []) - 1 ≡ length ms = omega (arith, length-append ms (m ∷ [])) in
     let within : length ms < length (ms ++ m ∷ []) = omega (arith, length-append ms (m ∷ [])) in
-    ap (slice_get (ms ++ m ∷ [])) n ∙ slice_get-get_or (ms ++ m ∷ []) (length ms) m within ∙ ap Some (get_or-append_seam ms m [] m)
+    ap (slice_get (ms ++ m ∷ [])) n ∙ slice_get-get_or (ms ++ m ∷ []) (length ms) m within
+    ∙ ap Some (get_or-append_seam ms m [] m)
 
 one_any : (b : Bool) → (b || false) ≡ b
 one_any true = refl
 one_any false = refl
 
-type_text-wrapped : (name : Text) (ms : List TypeModifier) (m : TypeModifier) → type_text name (ms ++ m ∷ []) ≡ opening m ++ (type_text name ms ++ closing m)
+type_text-wrapped : (name : Text) (ms : List TypeModifier) (m : TypeModifier)
+    → type_text name (ms ++ m ∷ []) ≡ opening m ++ (type_text name ms ++ closing m)
 type_text-wrapped name [] m = refl
 type_text-wrapped name (x ∷ ms) m = type_text-wrapped (opening x ++ (name ++ closing x)) ms m
 
@@ -52,9 +54,11 @@ same_modifier-Decides : (m n : TypeModifier) → Decides (same_modifier m n) (m 
 same_modifier-Decides NonNull NonNull = ((λ e. refl), (λ e. refl))
 same_modifier-Decides NonNull (ListOf n) = ((λ e. absurd (true≢false (sym e))), (λ e. absurd (cc)))
 same_modifier-Decides (ListOf m) NonNull = ((λ e. absurd (true≢false (sym e))), (λ e. absurd (cc)))
-same_modifier-Decides (ListOf m) (ListOf n) = ((λ e. ap ListOf ((same_size-Decides m n).0 e)), (λ e. (same_size-Decides m n).1 (cc)))
+same_modifier-Decides (ListOf m) (ListOf n) =
+    ((λ e. ap ListOf ((same_size-Decides m n).0 e)), (λ e. (same_size-Decides m n).1 (cc)))
 
-pub same_type-Decides : {N : Type 0} (text_of : N → Text) (a b : TypeShape N) → Decides (same_type text_of a b) ((text_of a.name ≡ text_of b.name) × (a.modifiers ≡ b.modifiers))
+pub same_type-Decides : {N : Type 0} (text_of : N → Text) (a b : TypeShape N)
+    → Decides (same_type text_of a b) ((text_of a.name ≡ text_of b.name) × (a.modifiers ≡ b.modifiers))
 same_type-Decides text_of a b =
     let names = bytes_eq-Decides (text_of a.name) (text_of b.name) in
     let modifiers = slice_eq-Decides same_modifier-Decides a.modifiers b.modifiers _ refl in (

@@ -36,7 +36,8 @@ counting [] f d = absurd (omega arith)
 counting (c ∷ cs) f d = let k = digit_from_value c d.0 in (c, cs, refl, nonzero_is c f k.1, are_digits cs d.1)
 
 decimal_counts : (n : ℕ) → suc n < 2 ^ 64 → IsCounting (decimal (suc n))
-decimal_counts n h = counting (decimal (suc n)) (first_decimal (suc n) (omega arith) h) (decimal_is_IsNumeral (suc n) h).0.1
+decimal_counts n h = counting (decimal (suc n)) (first_decimal (suc n) (omega arith) h)
+    (decimal_is_IsNumeral (suc n) h).0.1
 
 pub spells_integer : (z : ℤ) → IsTrue (is_i32 z) → Spells (signed_decimal z) Int
 spells_integer (pos zero) h = inl (inl (decimal_digit 0 (omega arith)))
@@ -67,8 +68,11 @@ integer_read_back (pos n) h =
     let sign = no_sign (decimal n) (decimal_is_IsNumeral n small).0.1 in
     let digits : is_integer (decimal n) ≡ true = ap is_digits sign.1 ∙ written_digits n small in
     let number : integer_of (decimal n) ≡ pos n = rw (sign.0, sign.1, written_number n small) refl in
-    if_read (decimal n) (and_from (is_integer (decimal n)) _ digits (ap is_i32 number ∙ h)) ∙ ap (λ z. Ok (integer z)) number
+    if_read (decimal n) (and_from (is_integer (decimal n)) _ digits (ap is_i32 number ∙ h))
+    ∙ ap (λ z. Ok (integer z)) number
 integer_read_back (negsuc n) h =
     let small = negative_small n h in
-    let number : integer_of (45 ∷ decimal (suc n)) ≡ negsuc n = ap (λ m. neg_ℤ (pos m)) (written_number (suc n) small) in
-    if_read (45 ∷ decimal (suc n)) (and_from (is_integer (45 ∷ decimal (suc n))) _ (written_digits (suc n) small) (ap is_i32 number ∙ h)) ∙ ap (λ z. Ok (integer z)) number
+    let number : integer_of (45 ∷ decimal (suc n)) ≡ negsuc n =
+    ap (λ m. neg_ℤ (pos m)) (written_number (suc n) small) in
+    if_read (45 ∷ decimal (suc n)) (and_from (is_integer (45 ∷ decimal (suc n))) _ (written_digits (suc n) small)
+    (ap is_i32 number ∙ h)) ∙ ap (λ z. Ok (integer z)) number

@@ -28,8 +28,10 @@ write_items-loop-item-preserved g t c p =
     let xs = c.deref-item-items.result.now in
     let i = c.loop-item.invariant p in
     let first = c.in_ok-write_separator.ensures i.wrote.plain refl in
-    one_more took c.args.f.now _ _ _ (data_text shown (shape c.item-item.result)) c.loop-item.first (item_texts shown (items_view (λ s. s) (drop (c.loop-item.item-index + 1) xs)))
-    (subst (λ ys. IsWritten took c.args.f.now (joined (item_texts shown (items_view (λ s. s) xs))) (left c.loop-item.first (item_texts shown (items_view (λ s. s) ys))) c.loop-item.f)
+    one_more took c.args.f.now _ _ _ (data_text shown (shape c.item-item.result)) c.loop-item.first
+    (item_texts shown (items_view (λ s. s) (drop (c.loop-item.item-index + 1) xs)))
+    (subst (λ ys. IsWritten took c.args.f.now (joined (item_texts shown (items_view (λ s. s) xs)))
+    (left c.loop-item.first (item_texts shown (items_view (λ s. s) ys))) c.loop-item.f)
     (drop_read xs c.loop-item.item-index c.item-item.result c.loop-item-test.true c.item-item.is) i)
     (two took _ _ _ _ _ first (c.in_ok-write_value.ensures first.plain refl))
 
@@ -39,23 +41,32 @@ write_value-returns-in_ok-write_items-in-List g t c p ok =
     let shown = scalar_display g.S.ParseScalarValue.content g.S.ScalarValue.str_in g.S.ScalarValue.shown in
     let first = c.in_ok-write_str-in-List.ensures.writes p refl in
     let inner = c.in_ok-write_items-in-List.ensures first.plain refl in
-    has_written_of_eq _ _ _ _ _ (ap (λ v. encodes (data_text shown v)) (sym (ap shape c.in-List.is ∙ view-List (λ s. s) c.in-List.items)))
-    (between g.W.Write.write_str_gives _ _ _ _ 91 93 (joined (item_texts shown (items_view (λ s. s) c.in-List.items.items))) (omega arith) (omega arith) first inner (c.write_str-in-List-2.ensures.writes inner.plain ok))
+    has_written_of_eq _ _ _ _ _ (ap (λ v. encodes (data_text shown v))
+    (sym (ap shape c.in-List.is ∙ view-List (λ s. s) c.in-List.items)))
+    (between g.W.Write.write_str_gives _ _ _ _ 91 93
+    (joined (item_texts shown (items_view (λ s. s) c.in-List.items.items))) (omega arith) (omega arith) first inner
+    (c.write_str-in-List-2.ensures.writes inner.plain ok))
 
 pub write_fields-write_value-requires : goal.write_fields-write_value-requires
 write_fields-write_value-requires g t c =
     let i = c.loop-key.invariant.split in
-    let m = most_within (size-Value g.row.S.Denot) (pairs c.args.object.now) i.0 c.next.new.self (c.in-Some.key.now, c.in-Some.value.now) (i.1 ∙ ap (λ es. i.0 ++ es) c.in-Some.ensures.steps) in
+    let m = most_within (size-Value g.row.S.Denot) (pairs c.args.object.now) i.0 c.next.new.self
+    (c.in-Some.key.now, c.in-Some.value.now) (i.1 ∙ ap (λ es. i.0 ++ es) c.in-Some.ensures.steps) in
     let e : 2 * size-Object g.row.S.Denot c.args.object.now + 1 ≡ t = c.decreases in
     λ κs h. (omega (arith, m, e, below_object g.row.S.Denot c.args.object.now), h)
 
 pub write_fields-loop-key-init : goal.write_fields-loop-key-init
 write_fields-loop-key-init g t c =
     let shown = scalar_display g.S.ParseScalarValue.content g.S.ScalarValue.str_in g.S.ScalarValue.shown in
-    let start : pairs c.args.object.now ≡ c.into_iter-key-iterator.result = sym c.iter-key-items.ensures.rest ∙ sym c.into_iter-key-iterator.ensures.into_iter_gives in
+    let start : pairs c.args.object.now ≡ c.into_iter-key-iterator.result = sym c.iter-key-items.ensures.rest
+    ∙ sym c.into_iter-key-iterator.ensures.into_iter_gives in
     record {
       split = ([], start);
-      written = λ p. record { done = []; wrote = search rules; left_is = ap (λ es. joined (field_texts shown (fields_view (λ s. s) es))) (sym start) };
+      written = λ p. record {
+        done = [];
+        wrote = search rules;
+        left_is = ap (λ es. joined (field_texts shown (fields_view (λ s. s) es))) (sym start);
+      };
     }
 
 pub write_fields-loop-key-preserved : goal.write_fields-loop-key-preserved
@@ -66,17 +77,28 @@ write_fields-loop-key-preserved g t c =
     let shown = scalar_display g.S.ParseScalarValue.content g.S.ScalarValue.str_in g.S.ScalarValue.shown in
     let took = g.W.Write.write_str_gives in
     record {
-      split = (i.split.0 ++ e ∷ [], i.split.1 ∙ ap (λ es. i.split.0 ++ es) c.in-Some.ensures.steps ∙ sym (append_assoc i.split.0 (e ∷ []) rest));
+      split = (
+        i.split.0 ++ e ∷ [],
+        i.split.1 ∙ ap (λ es. i.split.0 ++ es) c.in-Some.ensures.steps
+            ∙ sym (append_assoc i.split.0 (e ∷ []) rest),
+      );
       written = λ p.
           let w = i.written p in
           let first = c.in_ok-write_separator.ensures w.wrote.plain refl in
           let name = quoted (chars (string_bytes e.0)) in
-          let key : HasWritten took c.write_separator.new.f (encodes (name ++ codes ": ")) c.write_key.new.f = subst (λ bs. HasWritten took c.write_separator.new.f (encodes (quoted (chars bs) ++ codes ": ")) c.write_key.new.f) c.as_str.ensures.value (c.in_ok-write_key.ensures first.plain refl) in
+          let key : HasWritten took c.write_separator.new.f (encodes (name ++ codes ": ")) c.write_key.new.f =
+          subst (λ bs. HasWritten took c.write_separator.new.f (encodes (quoted (chars bs) ++ codes ": "))
+          c.write_key.new.f) c.as_str.ensures.value (c.in_ok-write_key.ensures first.plain refl) in
           let text = data_text shown (shape e.1) in
           let pair = two took _ _ _ (name ++ codes ": ") text key (c.in_ok-write_value.ensures key.plain refl) in
-          one_more took c.args.f.now _ _ _ (name ++ (codes ": " ++ text)) c.loop-key.first (field_texts shown (fields_view (λ s. s) rest))
-          (subst (λ es. IsWritten took c.args.f.now (joined (field_texts shown (fields_view (λ s. s) (pairs c.args.object.now)))) (left c.loop-key.first (field_texts shown (fields_view (λ s. s) es))) c.loop-key.f) c.in-Some.ensures.steps w)
-          (two took _ _ _ _ _ first (has_written_of_eq _ _ _ _ _ (ap encodes (append_assoc name (codes ": ") text)) pair));
+          one_more took c.args.f.now _ _ _ (name ++ (codes ": " ++ text)) c.loop-key.first
+          (field_texts shown (fields_view (λ s. s) rest))
+          (subst (λ es. IsWritten took c.args.f.now (joined (field_texts shown
+          (fields_view (λ s. s) (pairs c.args.object.now))))
+          (left c.loop-key.first (field_texts shown (fields_view (λ s. s) es))) c.loop-key.f)
+          c.in-Some.ensures.steps w)
+          (two took _ _ _ _ _ first (has_written_of_eq _ _ _ _ _ (ap encodes (append_assoc name (codes ": ") text))
+          pair));
     }
 
 pub write_value-returns-in_ok-write_fields-in-Object :
@@ -85,5 +107,8 @@ write_value-returns-in_ok-write_fields-in-Object g t c p ok =
     let shown = scalar_display g.S.ParseScalarValue.content g.S.ScalarValue.str_in g.S.ScalarValue.shown in
     let first = c.in_ok-write_str-in-Object.ensures.writes p refl in
     let inner = c.in_ok-write_fields-in-Object.ensures first.plain refl in
-    has_written_of_eq _ _ _ _ _ (ap (λ v. encodes (data_text shown v)) (sym (ap shape c.in-Object.is ∙ view-Object (λ s. s) c.in-Object.object)))
-    (between g.W.Write.write_str_gives _ _ _ _ 123 125 (joined (field_texts shown (fields_view (λ s. s) (pairs c.in-Object.object)))) (omega arith) (omega arith) first inner (c.write_str-in-Object-2.ensures.writes inner.plain ok))
+    has_written_of_eq _ _ _ _ _ (ap (λ v. encodes (data_text shown v))
+    (sym (ap shape c.in-Object.is ∙ view-Object (λ s. s) c.in-Object.object)))
+    (between g.W.Write.write_str_gives _ _ _ _ 123 125
+    (joined (field_texts shown (fields_view (λ s. s) (pairs c.in-Object.object)))) (omega arith) (omega arith) first
+    inner (c.write_str-in-Object-2.ensures.writes inner.plain ok))

@@ -12,7 +12,8 @@ abbrev pub invariant-write_items-loop-item : goal.invariant-write_items-loop-ite
 invariant-write_items-loop-item g l =
     let shown = scalar_display g.S.ParseScalarValue.content g.S.ScalarValue.str_in g.S.ScalarValue.shown in
     IsPlainFormatter l.initial.f
-    → IsWritten g.W.Write.write_str_gives l.initial.f (joined (item_texts shown (items_view (λ s. s) l.item-items))) (left l.first (item_texts shown (items_view (λ s. s) (drop l.item-index l.item-items)))) l.f
+    → IsWritten g.W.Write.write_str_gives l.initial.f (joined (item_texts shown (items_view (λ s. s) l.item-items)))
+    (left l.first (item_texts shown (items_view (λ s. s) (drop l.item-index l.item-items)))) l.f
 
 abbrev pub invariant-write_fields-loop-key : goal.invariant-write_fields-loop-key
 invariant-write_fields-loop-key g l =
@@ -20,7 +21,9 @@ invariant-write_fields-loop-key g l =
     record {
       split : (done : List (String Global × Value g.row.S.Denot)) × (pairs l.object ≡ done ++ l.key-iterator);
       written : IsPlainFormatter l.initial.f
-          → IsWritten g.W.Write.write_str_gives l.initial.f (joined (field_texts shown (fields_view (λ s. s) (pairs l.object)))) (left l.first (field_texts shown (fields_view (λ s. s) l.key-iterator))) l.f;
+          → IsWritten g.W.Write.write_str_gives l.initial.f
+          (joined (field_texts shown (fields_view (λ s. s) (pairs l.object))))
+          (left l.first (field_texts shown (fields_view (λ s. s) l.key-iterator))) l.f;
     }
 
 abbrev pub decreases-write_value : goal.decreases-write_value

@@ -22,30 +22,38 @@ pub input_items-loop-item-preserved : goal.input_items-loop-item-preserved
 input_items-loop-item-preserved g t c =
     let content = g.S.ParseScalarValue.content in
     turn (put_item content) _ _ c.unlocated.result _ _ _ c.loop-item.invariant c.in_ok-push.ensures.items
-    (ap (λ xs. items_as_input (items_view content xs)) (drop_read c.deref-item-items.result.now c.loop-item.item-index c.item-item.result c.loop-item-test.true c.item-item.is)
+    (ap (λ xs. items_as_input (items_view content xs))
+    (drop_read c.deref-item-items.result.now c.loop-item.item-index c.item-item.result c.loop-item-test.true
+    c.item-item.is)
     ∙ rw (c.unlocated.ensures, c.in_ok-input_of.ensures) refl)
 
 pub input_items-returns : goal.input_items-returns
 input_items-returns g t c =
     let content = g.S.ParseScalarValue.content in
     view_items-prepend content c.loop-item.made.items
-    ∙ ap (prepend (put_item content) c.loop-item.made.items) (sym (at_drop_all (λ xs. items_as_input (items_view content xs)) c.deref-item-items.result.now c.loop-item.item-index c.loop-item-test.false))
+    ∙ ap (prepend (put_item content) c.loop-item.made.items)
+    (sym (at_drop_all (λ xs. items_as_input (items_view content xs)) c.deref-item-items.result.now
+    c.loop-item.item-index c.loop-item-test.false))
     ∙ c.loop-item.invariant ∙ ap (λ xs. items_as_input (items_view content xs)) c.deref-item-items.ensures.value
 
 pub input_fields-input_of-requires : goal.input_fields-input_of-requires
 input_fields-input_of-requires g t c =
     let i = c.loop-key.invariant.split in
-    let m = most_within (size-Value g.row.S.Denot) (pairs c.args.object.now) i.0 c.next.new.self (c.in-Some.key.now, c.in-Some.value.now) (i.1 ∙ ap (λ es. i.0 ++ es) c.in-Some.ensures.steps) in
+    let m = most_within (size-Value g.row.S.Denot) (pairs c.args.object.now) i.0 c.next.new.self
+    (c.in-Some.key.now, c.in-Some.value.now) (i.1 ∙ ap (λ es. i.0 ++ es) c.in-Some.ensures.steps) in
     let e : 2 * size-Object g.row.S.Denot c.args.object.now + 1 ≡ t = c.decreases in
     λ κs h. (omega (arith, m, e, below_object g.row.S.Denot c.args.object.now), h)
 
 pub input_fields-loop-key-init : goal.input_fields-loop-key-init
 input_fields-loop-key-init g t c =
     let content = g.S.ParseScalarValue.content in
-    let start : pairs c.args.object.now ≡ c.into_iter-key-iterator.result = sym c.iter-key-items.ensures.rest ∙ sym c.into_iter-key-iterator.ensures.into_iter_gives in
+    let start : pairs c.args.object.now ≡ c.into_iter-key-iterator.result = sym c.iter-key-items.ensures.rest
+    ∙ sym c.into_iter-key-iterator.ensures.into_iter_gives in
     record {
       split = ([], start);
-      made = ap (λ ys. prepend (put_field content) ys (fields_as_input (fields_view content c.into_iter-key-iterator.result))) c.in_ok-made.ensures.items ∙ ap (λ es. fields_as_input (fields_view content es)) (sym start);
+      made = ap (λ ys. prepend (put_field content) ys (fields_as_input
+          (fields_view content c.into_iter-key-iterator.result))) c.in_ok-made.ensures.items
+          ∙ ap (λ es. fields_as_input (fields_view content es)) (sym start);
     }
 
 pub input_fields-loop-key-preserved : goal.input_fields-loop-key-preserved
@@ -54,15 +62,27 @@ input_fields-loop-key-preserved g t c =
     let i = c.loop-key.invariant in
     let e : String Global × Value g.row.S.Denot = (c.in-Some.key.now, c.in-Some.value.now) in
     record {
-      split = (i.split.0 ++ e ∷ [], i.split.1 ∙ ap (λ es. i.split.0 ++ es) c.in-Some.ensures.steps ∙ sym (append_assoc i.split.0 (e ∷ []) c.next.new.self));
+      split = (
+        i.split.0 ++ e ∷ [],
+        i.split.1 ∙ ap (λ es. i.split.0 ++ es) c.in-Some.ensures.steps
+            ∙ sym (append_assoc i.split.0 (e ∷ []) c.next.new.self),
+      );
       made =
-          turn (put_field content) _ _ (c.unlocated.result, c.unlocated-in-loop-key.result) _ _ _ i.made c.in_ok-push.ensures.items
-          (ap (λ es. fields_as_input (fields_view content es)) c.in-Some.ensures.steps ∙ rw (c.unlocated.ensures, c.unlocated-in-loop-key.ensures, c.in_ok-input.ensures, c.in_ok-name.ensures.cases) refl);
+          turn (put_field content) _ _ (c.unlocated.result, c.unlocated-in-loop-key.result) _ _ _ i.made
+          c.in_ok-push.ensures.items
+          (ap (λ es. fields_as_input (fields_view content es)) c.in-Some.ensures.steps
+          ∙ rw (
+            c.unlocated.ensures,
+            c.unlocated-in-loop-key.ensures,
+            c.in_ok-input.ensures,
+            c.in_ok-name.ensures.cases,
+          ) refl);
     }
 
 pub input_fields-returns : goal.input_fields-returns
 input_fields-returns g t c =
     let content = g.S.ParseScalarValue.content in
     view_fields-prepend content c.loop-key.made.items
-    ∙ ap (λ es. prepend (put_field content) c.loop-key.made.items (fields_as_input (fields_view content es))) (sym c.in-None.ensures.steps.0)
+    ∙ ap (λ es. prepend (put_field content) c.loop-key.made.items (fields_as_input (fields_view content es)))
+    (sym c.in-None.ensures.steps.0)
     ∙ c.loop-key.invariant.made

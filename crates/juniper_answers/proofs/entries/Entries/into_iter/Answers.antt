@@ -16,4 +16,5 @@ pub returns-clause-distinct : goal.returns-clause-distinct
 returns-clause-distinct g c =
     let ks = c.args.self.keys.keys in
     let vs = c.args.self.values.items in
-    subst (IsDistinct string_eq) (sym (keys_shown ks vs)) (distinct-take string_eq_equiv (length vs) ks c.into_iter.ensures.into_iter_gives.3)
+    subst (IsDistinct string_eq) (sym (keys_shown ks vs))
+    (distinct-take string_eq_equiv (length vs) ks c.into_iter.ensures.into_iter_gives.3)

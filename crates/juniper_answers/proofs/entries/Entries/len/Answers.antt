@@ -17,4 +17,5 @@ pub returns-clause-distinct : goal.returns-clause-distinct
 returns-clause-distinct g c =
     let ks = c.args.self.now.keys.keys in
     let vs = c.args.self.now.values.items in
-    subst (IsDistinct string_eq) (sym (keys_shown ks vs)) (distinct-take string_eq_equiv (length vs) ks c.len.ensures.unique)
+    subst (IsDistinct string_eq) (sym (keys_shown ks vs))
+    (distinct-take string_eq_equiv (length vs) ks c.len.ensures.unique)

@@ -12,4 +12,5 @@ returns-clause-resolved g c =
     IfOk-weaker c.constant.result
     (λ o. Becomes g.S.PartialEq.eq (values_in (λ s. s) m) (view (λ s. s) c.args.self) (option_map (view (λ s. s)) o))
     (λ o. option_map (view content) o ≡ resolve (values_in content m) (view content c.args.self))
-    (resolved_by_content content g.S.PartialEq.eq (λ s t e. (g.met.S.ScalarValue.equal_by_content s t).0 e) m c.args.self) c.constant.ensures
+    (resolved_by_content content g.S.PartialEq.eq (λ s t e. (g.met.S.ScalarValue.equal_by_content s t).0 e) m
+    c.args.self) c.constant.ensures

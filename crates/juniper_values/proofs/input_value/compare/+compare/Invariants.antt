@@ -31,4 +31,5 @@ abbrev pub invariant-is_met-loop-field : goal.invariant-is_met-loop-field
 invariant-is_met-loop-field g l =
     let eq = g.S.PartialEq.eq in
     is_wanted (text_of l.key) (view (λ s. s) l.value) (wanted eq (view_fields (λ s. s) l.fields.items))
-    ≡ is_wanted (text_of l.key) (view (λ s. s) l.value) (wanted eq (view_fields (λ s. s) (drop l.field-index l.field-items)))
+    ≡ is_wanted (text_of l.key) (view (λ s. s) l.value)
+    (wanted eq (view_fields (λ s. s) (drop l.field-index l.field-items)))

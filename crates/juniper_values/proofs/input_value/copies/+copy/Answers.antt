@@ -10,7 +10,10 @@ use Rattle.juniper_values.specs.declared.input_value.InputValue.TheShapes.{weigh
 pub copy_fields-copy-requires : goal.copy_fields-copy-requires
 copy_fields-copy-requires g t c κs within =
     let x = c.field-item.result in
-    let h = within_most ((weighed-InputValue-Object-0-at-4 g.row.S.Denot).weight _ (the_size g.row.S g.S.laws)) c.args.fields.now.items c.loop-field.field-index x (rw c.deref-field-items.ensures.value at c.loop-field-test.true) (rw c.deref-field-items.ensures.value at c.field-item.is) in
+    let h = within_most ((weighed-InputValue-Object-0-at-4 g.row.S.Denot).weight _ (the_size g.row.S g.S.laws))
+    c.args.fields.now.items c.loop-field.field-index x
+    (rw c.deref-field-items.ensures.value at c.loop-field-test.true)
+    (rw c.deref-field-items.ensures.value at c.field-item.is) in
     let d = c.decreases in
     (omega (arith, h, d), search rules)
 
@@ -19,27 +22,34 @@ copy_items-loop-item-preserved g t c =
     let content = g.S.ParseScalarValue.content in
     let x = c.item-item.result in
     turn (put_item content) _ _ c.new.result _ _ _ c.loop-item.invariant c.in_ok-push.ensures.items
-    (ap (view_items content) (drop_read c.deref-item-items.result.now c.loop-item.item-index x c.loop-item-test.true c.item-item.is)
+    (ap (view_items content) (drop_read c.deref-item-items.result.now c.loop-item.item-index x c.loop-item-test.true
+    c.item-item.is)
     ∙ rw (c.new.ensures, c.in_ok-copy.ensures) refl)
 
 pub copy_fields-loop-field-preserved : goal.copy_fields-loop-field-preserved
 copy_fields-loop-field-preserved g t c =
     let content = g.S.ParseScalarValue.content in
     let x = c.field-item.result in
-    turn (put_field content) _ _ (c.new-key.result, c.new-value.result) _ _ _ c.loop-field.invariant c.in_ok-push.ensures.items
-    (ap (view_fields content) (drop_read c.deref-field-items.result.now c.loop-field.field-index x c.loop-field-test.true c.field-item.is)
+    turn (put_field content) _ _ (c.new-key.result, c.new-value.result) _ _ _ c.loop-field.invariant
+    c.in_ok-push.ensures.items
+    (ap (view_fields content) (drop_read c.deref-field-items.result.now c.loop-field.field-index x
+    c.loop-field-test.true c.field-item.is)
     ∙ rw (c.new-key.ensures, c.new-value.ensures, c.in_ok-copy.ensures, c.in_ok-copied.ensures) refl)
 
 pub copy_items-returns : goal.copy_items-returns
 copy_items-returns g t c =
     let content = g.S.ParseScalarValue.content in
     view_items-prepend content c.loop-item.copies.items
-    ∙ ap (prepend (put_item content) c.loop-item.copies.items) (sym (at_drop_all (view_items content) c.deref-item-items.result.now c.loop-item.item-index c.loop-item-test.false))
+    ∙ ap (prepend (put_item content) c.loop-item.copies.items)
+    (sym (at_drop_all (view_items content) c.deref-item-items.result.now c.loop-item.item-index
+    c.loop-item-test.false))
     ∙ c.loop-item.invariant ∙ ap (view_items content) c.deref-item-items.ensures.value
 
 pub copy_fields-returns : goal.copy_fields-returns
 copy_fields-returns g t c =
     let content = g.S.ParseScalarValue.content in
     view_fields-prepend content c.loop-field.copies.items
-    ∙ ap (prepend (put_field content) c.loop-field.copies.items) (sym (at_drop_all (view_fields content) c.deref-field-items.result.now c.loop-field.field-index c.loop-field-test.false))
+    ∙ ap (prepend (put_field content) c.loop-field.copies.items)
+    (sym (at_drop_all (view_fields content) c.deref-field-items.result.now c.loop-field.field-index
+    c.loop-field-test.false))
     ∙ c.loop-field.invariant ∙ ap (view_fields content) c.deref-field-items.ensures.value

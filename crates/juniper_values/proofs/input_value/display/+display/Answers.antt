@@ -21,8 +21,10 @@ write_items-loop-item-preserved g t c p =
     let xs = c.deref-item-items.result.now in
     let i = c.loop-item.invariant p in
     let first = c.in_ok-write_separator.ensures i.wrote.plain refl in
-    one_more took c.args.f.now _ _ _ (value_text shown (view (λ s. s) c.item-item.result.item)) c.loop-item.first (item_texts shown (view_items (λ s. s) (drop (c.loop-item.item-index + 1) xs)))
-    (subst (λ ys. IsWritten took c.args.f.now (joined (item_texts shown (view_items (λ s. s) xs))) (left c.loop-item.first (item_texts shown (view_items (λ s. s) ys))) c.loop-item.f)
+    one_more took c.args.f.now _ _ _ (value_text shown (view (λ s. s) c.item-item.result.item)) c.loop-item.first
+    (item_texts shown (view_items (λ s. s) (drop (c.loop-item.item-index + 1) xs)))
+    (subst (λ ys. IsWritten took c.args.f.now (joined (item_texts shown (view_items (λ s. s) xs)))
+    (left c.loop-item.first (item_texts shown (view_items (λ s. s) ys))) c.loop-item.f)
     (drop_read xs c.loop-item.item-index c.item-item.result c.loop-item-test.true c.item-item.is) i)
     (two took _ _ _ _ _ first (c.in_ok-write_value.ensures first.plain refl))
 
@@ -32,8 +34,11 @@ write_value-returns-in_ok-write_items-in-List g t c p ok =
     let shown = scalar_display g.S.ParseScalarValue.content g.S.ScalarValue.str_in g.S.ScalarValue.shown in
     let first = c.in_ok-write_str-in-List.ensures.writes p refl in
     let inner = c.in_ok-write_items-in-List.ensures first.plain refl in
-    has_written_of_eq _ _ _ _ _ (ap (λ v. encodes (value_text shown v)) (sym (ap (view (λ s. s)) c.in-List.is ∙ view-List (λ s. s) c.in-List.items)))
-    (between g.W.Write.write_str_gives _ _ _ _ 91 93 (joined (item_texts shown (view_items (λ s. s) c.in-List.items.items))) (omega arith) (omega arith) first inner (c.write_str-in-List-2.ensures.writes inner.plain ok))
+    has_written_of_eq _ _ _ _ _ (ap (λ v. encodes (value_text shown v))
+    (sym (ap (view (λ s. s)) c.in-List.is ∙ view-List (λ s. s) c.in-List.items)))
+    (between g.W.Write.write_str_gives _ _ _ _ 91 93
+    (joined (item_texts shown (view_items (λ s. s) c.in-List.items.items))) (omega arith) (omega arith) first inner
+    (c.write_str-in-List-2.ensures.writes inner.plain ok))
 
 pub write_fields-loop-field-init : goal.write_fields-loop-field-init
 write_fields-loop-field-init g t c p = record { done = []; wrote = search rules; left_is = refl }
@@ -47,12 +52,16 @@ write_fields-loop-field-preserved g t c p =
     let i = c.loop-field.invariant p in
     let first = c.in_ok-write_separator.ensures i.wrote.plain refl in
     let key = c.in_ok-write_key.ensures first.plain refl in
-    let pair = two took _ _ _ (text_of x.0.item ++ codes ": ") (value_text shown (view (λ s. s) x.1.item)) key (c.in_ok-write_value.ensures key.plain refl) in
-    one_more took c.args.f.now _ _ _ (text_of x.0.item ++ (codes ": " ++ value_text shown (view (λ s. s) x.1.item))) c.loop-field.first (field_texts shown (view_fields (λ s. s) (drop (c.loop-field.field-index + 1) xs)))
-    (subst (λ ys. IsWritten took c.args.f.now (joined (field_texts shown (view_fields (λ s. s) xs))) (left c.loop-field.first (field_texts shown (view_fields (λ s. s) ys))) c.loop-field.f)
+    let pair = two took _ _ _ (text_of x.0.item ++ codes ": ") (value_text shown (view (λ s. s) x.1.item)) key
+    (c.in_ok-write_value.ensures key.plain refl) in
+    one_more took c.args.f.now _ _ _ (text_of x.0.item ++ (codes ": " ++ value_text shown (view (λ s. s) x.1.item)))
+    c.loop-field.first (field_texts shown (view_fields (λ s. s) (drop (c.loop-field.field-index + 1) xs)))
+    (subst (λ ys. IsWritten took c.args.f.now (joined (field_texts shown (view_fields (λ s. s) xs)))
+    (left c.loop-field.first (field_texts shown (view_fields (λ s. s) ys))) c.loop-field.f)
     (drop_read xs c.loop-field.field-index x c.loop-field-test.true c.field-item.is) i)
     (two took _ _ _ _ _ first
-    (has_written_of_eq _ _ _ _ _ (ap encodes (append_assoc (text_of x.0.item) (codes ": ") (value_text shown (view (λ s. s) x.1.item)))) pair))
+    (has_written_of_eq _ _ _ _ _ (ap encodes (append_assoc (text_of x.0.item) (codes ": ")
+    (value_text shown (view (λ s. s) x.1.item)))) pair))
 
 pub write_value-returns-in_ok-write_fields-in-Object :
     goal.write_value-returns-in_ok-write_fields-in-Object
@@ -60,8 +69,11 @@ write_value-returns-in_ok-write_fields-in-Object g t c p ok =
     let shown = scalar_display g.S.ParseScalarValue.content g.S.ScalarValue.str_in g.S.ScalarValue.shown in
     let first = c.in_ok-write_str-in-Object.ensures.writes p refl in
     let inner = c.in_ok-write_fields-in-Object.ensures first.plain refl in
-    has_written_of_eq _ _ _ _ _ (ap (λ v. encodes (value_text shown v)) (sym (ap (view (λ s. s)) c.in-Object.is ∙ view-Object (λ s. s) c.in-Object.fields)))
-    (between g.W.Write.write_str_gives _ _ _ _ 123 125 (joined (field_texts shown (view_fields (λ s. s) c.in-Object.fields.items))) (omega arith) (omega arith) first inner (c.write_str-in-Object-2.ensures.writes inner.plain ok))
+    has_written_of_eq _ _ _ _ _ (ap (λ v. encodes (value_text shown v))
+    (sym (ap (view (λ s. s)) c.in-Object.is ∙ view-Object (λ s. s) c.in-Object.fields)))
+    (between g.W.Write.write_str_gives _ _ _ _ 123 125
+    (joined (field_texts shown (view_fields (λ s. s) c.in-Object.fields.items))) (omega arith) (omega arith) first
+    inner (c.write_str-in-Object-2.ensures.writes inner.plain ok))
 
 pub write_fields-returns : goal.write_fields-returns
 write_fields-returns g t c = grind (arith, common_steps)

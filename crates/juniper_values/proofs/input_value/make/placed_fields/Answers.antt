@@ -9,16 +9,24 @@ loop-key-init g c =
     let all = c.into_iter-key-iterator.ensures.into_iter_gives.0 in
     record {
       room = omega (arith, ap length all, ap length c.requires.empty, c.args.room.ok.0, c.requires.fits);
-      made = ap (λ ys. prepend (put_field (λ s. s)) ys (placed c.into_iter-key-iterator.result)) c.requires.empty ∙ ap placed all;
+      made = ap (λ ys. prepend (put_field (λ s. s)) ys (placed c.into_iter-key-iterator.result)) c.requires.empty
+          ∙ ap placed all;
     }
 
 pub loop-key-preserved : goal.loop-key-preserved
 loop-key-preserved g c =
     let s = c.in-Some.ensures.steps in
     record {
-      room = omega (arith, ap length s, c.push_reserved.ensures.len, c.push_reserved.ensures.capacity, c.loop-key.invariant.room);
+      room = omega (
+        arith,
+        ap length s,
+        c.push_reserved.ensures.len,
+        c.push_reserved.ensures.capacity,
+        c.loop-key.invariant.room,
+      );
       made =
-          turn (put_field (λ s. s)) _ _ (c.unlocated.result, c.unlocated-in-loop-key.result) _ _ _ c.loop-key.invariant.made c.push_reserved.ensures.items
+          turn (put_field (λ s. s)) _ _ (c.unlocated.result, c.unlocated-in-loop-key.result) _ _ _
+          c.loop-key.invariant.made c.push_reserved.ensures.items
           (ap placed s ∙ rw (c.unlocated.ensures, c.unlocated-in-loop-key.ensures) refl);
     }
 

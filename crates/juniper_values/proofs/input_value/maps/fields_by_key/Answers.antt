@@ -15,9 +15,14 @@ loop-field-preserved g c =
     let xs = c.deref-field-items.result.now in
     let es = c.loop-field.by_key.entries in
     record {
-      texts = still_texts f c.insert.new.self.entries es c.as_str.result _ c.loop-field.invariant.texts c.as_str.utf8 c.in_ok-insert.ensures.entries;
+      texts = still_texts f c.insert.new.self.entries es c.as_str.result _ c.loop-field.invariant.texts c.as_str.utf8
+          c.in_ok-insert.ensures.entries;
       made =
-          put_more f c.insert.new.self.entries es c.as_str.result _ c.loop-field.invariant.texts c.as_str.utf8 c.in_ok-insert.ensures.entries
-          (text_of x.0.item) (view_span x.0.span) (view_span x.1.span) (view_fields (λ s. s) (drop (c.loop-field.field-index + 1) xs)) _ (ap chars c.as_str.ensures.value)
-          (ap (λ ys. put_all (map (seen f) es) (view_fields (λ s. s) ys)) (sym (drop_read xs c.loop-field.field-index x c.loop-field-test.true c.field-item.is)) ∙ c.loop-field.invariant.made);
+          put_more f c.insert.new.self.entries es c.as_str.result _ c.loop-field.invariant.texts c.as_str.utf8
+          c.in_ok-insert.ensures.entries
+          (text_of x.0.item) (view_span x.0.span) (view_span x.1.span)
+          (view_fields (λ s. s) (drop (c.loop-field.field-index + 1) xs)) _ (ap chars c.as_str.ensures.value)
+          (ap (λ ys. put_all (map (seen f) es) (view_fields (λ s. s) ys))
+          (sym (drop_read xs c.loop-field.field-index x c.loop-field-test.true c.field-item.is))
+          ∙ c.loop-field.invariant.made);
     }

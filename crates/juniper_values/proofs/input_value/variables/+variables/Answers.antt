@@ -10,14 +10,18 @@ pub note_field_variables-note_variables-requires :
     goal.note_field_variables-note_variables-requires
 note_field_variables-note_variables-requires g t c κs within =
     let x = c.field-item.result in
-    let h = within_most ((weighed-InputValue-Object-0-at-4 g.row.S.Denot).weight _ (the_size g.row.S g.S.laws)) c.args.fields.now.items c.loop-field.field-index x (rw c.deref-field-items.ensures.value at c.loop-field-test.true) (rw c.deref-field-items.ensures.value at c.field-item.is) in
+    let h = within_most ((weighed-InputValue-Object-0-at-4 g.row.S.Denot).weight _ (the_size g.row.S g.S.laws))
+    c.args.fields.now.items c.loop-field.field-index x
+    (rw c.deref-field-items.ensures.value at c.loop-field-test.true)
+    (rw c.deref-field-items.ensures.value at c.field-item.is) in
     let d = c.decreases in
     (omega (arith, h, d), search rules)
 
 pub note_field_variables-loop-field-preserved : goal.note_field_variables-loop-field-preserved
 note_field_variables-loop-field-preserved g t c =
     gathered (λ fs. field_variables (view_fields (λ s. s) fs)) (λ x. variables (view (λ s. s) x.1.item)) (λ x xs. refl)
-    c.deref-field-items.result.now c.loop-field.field-index c.field-item.result c.loop-field-test.true c.field-item.is _ _ _
+    c.deref-field-items.result.now c.loop-field.field-index c.field-item.result c.loop-field-test.true c.field-item.is _
+    _ _
     c.loop-field.invariant c.in_ok-note_variables.ensures
 
 pub note_item_variables-loop-item-preserved : goal.note_item_variables-loop-item-preserved

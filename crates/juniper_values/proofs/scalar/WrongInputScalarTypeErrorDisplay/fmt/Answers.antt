@@ -9,4 +9,6 @@ pub returns-clause-writes : goal.returns-clause-writes
 returns-clause-writes g c p ok =
     let first = c.in_ok-write_wanted.ensures p refl in
     put_two _ _ _ _ _ _ _ first (c.write_scalar.ensures first.plain ok)
-    (sym (encodes-append (wanted_text (chars c.args.self.now.type_name.now)) (scalar_display g.S.ParseScalarValue.content g.S.ScalarValue.str_in g.S.ScalarValue.shown c.args.self.now.input.now)))
+    (sym (encodes-append (wanted_text (chars c.args.self.now.type_name.now))
+    (scalar_display g.S.ParseScalarValue.content g.S.ScalarValue.str_in g.S.ScalarValue.shown
+    c.args.self.now.input.now)))
