@@ -15,7 +15,8 @@ pub ok_is : {A : Type 0} (x y : A × List Lexeme) → ◌≡◌ {A = Read A} (Ok
 ok_is x y e = cc
 
 -- what both steps gave
-pub bind_ok : {A B : Type 0} (r : Read A) (f : (A × List Lexeme) → Read B) (y : B × List Lexeme) → (r >>= f) ≡ Ok y → (x : A × List Lexeme) × (r ≡ Ok x) × (f x ≡ Ok y)
+pub bind_ok : {A B : Type 0} (r : Read A) (f : (A × List Lexeme) → Read B) (y : B × List Lexeme) → (r >>= f) ≡ Ok y
+    → (x : A × List Lexeme) × (r ≡ Ok x) × (f x ≡ Ok y)
 bind_ok (Ok x) f y e = (x, refl, e)
 bind_ok (Err d) f y e = absurd (cc e)
 
@@ -23,7 +24,8 @@ pub next_takes : (ts : List Lexeme) (x : Lexeme × List Lexeme) → next_at ts �
 next_takes [] x e = absurd (cc e)
 next_takes (t ∷ ts) x e = by_end (same_kind t.kind EndOfFile) e
   where
-    by_end : (b : Bool) → cond {A = Read Lexeme} b (Err (record { error = UnexpectedEndOfFile; span = t.span }, t ∷ ts)) (Ok (t, ts)) ≡ Ok x → t ∷ ts ≡ x.0 ∷ x.1
+    by_end : (b : Bool) → cond {A = Read Lexeme} b (Err (record { error = UnexpectedEndOfFile; span = t.span }, t ∷ ts))
+        (Ok (t, ts)) ≡ Ok x → t ∷ ts ≡ x.0 ∷ x.1
     by_end true p = absurd (cc p)
     by_end false p = ap (λ (y : Lexeme × List Lexeme). y.0 ∷ y.1) (ok_is (t, ts) x p)
 
@@ -31,21 +33,26 @@ pub if_takes : (b : Bool) (ts : List Lexeme) (x : Lexeme × List Lexeme) → nex
 if_takes true ts x e = next_takes ts x e
 if_takes false ts x e = let h = bind_ok (next_at ts) _ x e in absurd (cc h.2)
 
-shorter_if : (b : Bool) (ts : List Lexeme) (t : Lexeme) (us : List Lexeme) → skip_if b ts ≡ Ok (Some t, us) → length us < length ts
+shorter_if : (b : Bool) (ts : List Lexeme) (t : Lexeme) (us : List Lexeme) → skip_if b ts ≡ Ok (Some t, us)
+    → length us < length ts
 shorter_if true ts t us e =
     let x = bind_ok (next_at ts) (λ x. Ok (Some x.0, x.1)) (Some t, us) e in
-    let left : x.0.1 ≡ us = ap (λ (z : Option Lexeme × List Lexeme). z.1) (ok_is (Some x.0.0, x.0.1) (Some t, us) x.2) in
+    let left : x.0.1 ≡ us = ap (λ (z : Option Lexeme × List Lexeme). z.1)
+    (ok_is (Some x.0.0, x.0.1) (Some t, us) x.2) in
     omega (arith, ap length left, ap length (next_takes ts x.0 x.1))
 shorter_if false ts t us e = by_end (same_kind (kind_at ts) EndOfFile) e
   where
-    by_end : (b : Bool) → cond {A = Read (Option Lexeme)} b (Err (record { error = UnexpectedEndOfFile; span = (first_of ts).span }, ts)) (Ok (None, ts)) ≡ Ok (Some t, us) → length us < length ts
+    by_end : (b : Bool) → cond {A = Read (Option Lexeme)} b (Err
+        (record { error = UnexpectedEndOfFile; span = (first_of ts).span }, ts)) (Ok (None, ts)) ≡ Ok (Some t, us)
+        → length us < length ts
     by_end true p = absurd (cc p)
     by_end false p =
         let none : None ≡ Some t = ap (λ (z : Option Lexeme × List Lexeme). z.0) (ok_is (None, ts) (Some t, us) p) in
         absurd (cc none)
 
 -- a token that is skipped is taken
-pub skip_shorter : (wanted : Token) (ts : List Lexeme) (t : Lexeme) (us : List Lexeme) → skip_at wanted ts ≡ Ok (Some t, us) → length us < length ts
+pub skip_shorter : (wanted : Token) (ts : List Lexeme) (t : Lexeme) (us : List Lexeme)
+    → skip_at wanted ts ≡ Ok (Some t, us) → length us < length ts
 unfolding skip_at
 skip_shorter wanted ts t us e = shorter_if _ ts t us e
 
@@ -54,5 +61,6 @@ pub next_runs : (b : Bool) (ts : List Lexeme) (x : Lexeme × List Lexeme) → ne
 next_runs b ts x e = runs_one x.0 ts x.1 (if_takes b ts x e)
 
 -- what was read, at the span of its tokens, where that is p
-pub at_span : {A : Type 0} (k : Span → A) (ts rest : List Lexeme) (p : Span) → Runs ts rest p → ◌≡◌ {A = Read A} (Ok (k (span_of (front ts rest)), rest)) (Ok (k p, rest))
+pub at_span : {A : Type 0} (k : Span → A) (ts rest : List Lexeme) (p : Span) → Runs ts rest p
+    → ◌≡◌ {A = Read A} (Ok (k (span_of (front ts rest)), rest)) (Ok (k p, rest))
 at_span k ts rest p r = ap (λ (q : Span). Ok (k q, rest)) (runs_front ts rest p r)

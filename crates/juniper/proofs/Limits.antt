@@ -130,7 +130,8 @@ module _ {C : Type 0} (S : Scalars C Error) (depth : ℕ) (source : List ℕ) wh
         deep_fault span fault e h (inr (goes_on, none, refused)) =
             let all_wide = subst (AllByRecursion IsWide) refused.whole (tokens_wide source ts cut) in
             let wide = middle_of IsWide refused.before refused.after h.token all_wide goes_on in
-            let some : fault.span.start.index < fault.span.end.index = subst (λ (p : Span). p.start.index < p.end.index) (sym h.span) wide in
+            let some : fault.span.start.index < fault.span.end.index = subst (λ (p : Span). p.start.index < p.end.index)
+            (sym h.span) wide in
             let at : IsRefusedAt S ts (view_fault fault) = record {
               number = h.number;
               token = h.token;
@@ -149,7 +150,8 @@ module _ {C : Type 0} (S : Scalars C Error) (depth : ℕ) (source : List ℕ) wh
         ends = short_ends S depth ts i t d (cut_spelled source ts cut) (cut_ends source ts cut)
 
         deep_answer : (span : spans.Span) (result : Result X ParseFailure) → view_span span ≡ t.span
-            → AnswersAs view result (document_read S (ended_by d.before t)) → Promised (answer_within (Some span) result)
+            → AnswersAs view result (document_read S (ended_by d.before t))
+            → Promised (answer_within (Some span) result)
         deep_answer span (Ok x) e a =
             let document = document_is S (ended_by d.before t) spelled ends (view x) a.0 a.1 in
             absurd (short_no_document S depth ts i t d (view x) document)
@@ -165,17 +167,21 @@ module _ {C : Type 0} (S : Scalars C Error) (depth : ℕ) (source : List ℕ) wh
       answers_within None left result e a =
           shallow_answer result e.0 (subst (λ (xs : List Lexeme). AnswersAs view result (document_read S xs)) e.1 a)
       answers_within (Some span) left result (i, t, d, at, is) a =
-          deep_answer i t d span result at (subst (λ (xs : List Lexeme). AnswersAs view result (document_read S xs)) is a)
+          deep_answer i t d span result at (subst (λ (xs : List Lexeme). AnswersAs view result (document_read S xs)) is
+          a)
 
     -- ---- a lexical fault
 
     pub lexical_within : (state : LexerState) (failed : LexFailure) → state ≡ started source
-        → IfFault {X = List Lexeme} (Err failed) (λ fault. BreaksFrom state.source state.index (view_lexer_error fault.item) fault.span.start)
+        → IfFault {X = List Lexeme} (Err failed)
+        (λ fault. BreaksFrom state.source state.index (view_lexer_error fault.item) fault.span.start)
         → IfFault {X = List Lexeme} (Err failed) (λ fault. fault.span.end ≡ fault.span.start)
         → Promised (Err (limited.Parse (failure_of failed)))
     lexical_within state (lexing.Fault fault) e b z =
         let breaks = break_from_start state source _ _ e b in
-        let uncut : IsWithin S depth source = record { none = λ span h. cut_or_break source h.lexemes _ _ h.cut breaks } in
+        let uncut : IsWithin S depth source = record {
+          none = λ span h. cut_or_break source h.lexemes _ _ h.cut breaks;
+        } in
         refusal_within _ (lexical S source _ _ _ breaks (told_lexical fault z)) uncut
     lexical_within state lexing.Memory e b z = memory_within
 
@@ -186,5 +192,6 @@ module _ {C : Type 0} (S : Scalars C Error) (depth : ℕ) (source : List ℕ) wh
       let d = h.deep.deeper in
       let e = (deep_there h.lexemes h.cut b k).deeper in
       let number = one_deep depth h.lexemes h.number k.number h.token k.token d e in
-      let parts = same_parts IsSpelled S (IsDocument S) d.before e.before d.after e.after h.token k.token (d.number ∙ number ∙ sym e.number) (sym d.whole ∙ e.whole) in
+      let parts = same_parts IsSpelled S (IsDocument S) d.before e.before d.after e.after h.token k.token
+      (d.number ∙ number ∙ sym e.number) (sym d.whole ∙ e.whole) in
       h.at ∙ ap (λ (t : Lexeme). t.span) parts.1 ∙ sym k.at

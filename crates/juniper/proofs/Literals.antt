@@ -39,15 +39,25 @@ ends_once (t ∷ u ∷ ts) h =
       inner = t ∷ r.inner;
       end = r.end;
       whole = ap (λ (l : List Lexeme). t ∷ l) r.whole;
-      no_end = ((λ k. let same : same_kind t.kind EndOfFile ≡ true = ap (λ (z : Kind). same_kind z EndOfFile) k in absurd (cc (sym h.0 ∙ same))), r.no_end);
+      no_end = (
+        (λ k. let same : same_kind t.kind EndOfFile ≡ true = ap (λ (z : Kind). same_kind z EndOfFile) k in
+            absurd (cc (sym h.0 ∙ same))),
+        r.no_end,
+      );
       is_end = r.is_end;
     }
 
-fault_is : {A : Type 0} (a b : Fault) (p q : List Lexeme) → ◌≡◌ {A = Read A} (Err (a, p)) (Err (b, q)) → (b ≡ a) × (q ≡ p)
-fault_is a b p q e = let h : (a, p) ≡ (b, q) = cc in (sym (ap (λ (x : Fault × List Lexeme). x.0) h), sym (ap (λ (x : Fault × List Lexeme). x.1) h))
+fault_is : {A : Type 0} (a b : Fault) (p q : List Lexeme) → ◌≡◌ {A = Read A} (Err (a, p)) (Err (b, q))
+    → (b ≡ a) × (q ≡ p)
+fault_is a b p q e = let h : (a, p) ≡ (b, q) = cc in (
+  sym (ap (λ (x : Fault × List Lexeme). x.0) h),
+  sym (ap (λ (x : Fault × List Lexeme). x.1) h),
+)
 
-module _ {A : Type 0} (R : List Lexeme → A → Type 0) (RefusedAt : List Lexeme → ℕ → Lexeme → grammar.Fault Error → Type 0) (old left : List Lexeme) where
-  refuses : (fault : Fault) (z : reading.Read Error A) → GivesFront R (RefusedAt old) old z → seen z ≡ Err (fault, left) → Refuses R RefusedAt fault old left
+module _ {A : Type 0} (R : List Lexeme → A → Type 0)
+    (RefusedAt : List Lexeme → ℕ → Lexeme → grammar.Fault Error → Type 0) (old left : List Lexeme) where
+  refuses : (fault : Fault) (z : reading.Read Error A) → GivesFront R (RefusedAt old) old z → seen z ≡ Err (fault, left)
+      → Refuses R RefusedAt fault old left
   refuses fault (Took x rest) g q = absurd (cc q)
   refuses fault (Refused [] x) g q = absurd g
   refuses fault (Refused (t ∷ rest) x) (none, (i, r, at)) q =
@@ -65,34 +75,52 @@ module _ {A : Type 0} (R : List Lexeme → A → Type 0) (RefusedAt : List Lexem
   refuses fault Out g q = absurd g
 
 module _ {C : Type 0} (S : Scalars C Error) (free : Bool) where
-  pub answers_value : {X : Type 0} (view : X → Value C) (result : Result X ParseFailure) (old left : List Lexeme) → EndsOnce old → Gives view result left (value_read S free old) → AnswersValue S free view result old left
+  pub answers_value : {X : Type 0} (view : X → Value C) (result : Result X ParseFailure) (old left : List Lexeme)
+      → EndsOnce old → Gives view result left (value_read S free old) → AnswersValue S free view result old left
   unfolding fully
   answers_value view (Ok x) old left ended h =
       let took = seen_took (value_of S free old) (view x) left (value_seen S free old ∙ h) in
-      let g = subst (λ z. GivesFront (IsValue S free) (ValueRefusedAt S free old) old z) took (value_given S free old (ends_once old ended)) in (
+      let g = subst (λ z. GivesFront (IsValue S free) (ValueRefusedAt S free old) old z) took
+      (value_given S free old (ends_once old ended)) in (
         record { taken = g.0; whole = g.1; means = g.2 },
         λ us vs y e k. (
-            let both : Took y vs ≡ Took (view x) left = sym (ap (value_at S free (suc (length old))) e ∙ value_found S free (suc (length old)) us vs y (let l = ap length e ∙ length-append us vs in omega (arith, l)) k) ∙ took in
+            let both : Took y vs ≡ Took (view x) left = sym (ap (value_at S free (suc (length old))) e
+            ∙ value_found S free (suc (length old)) us vs y
+            (let l = ap length e ∙ length-append us vs in omega (arith, l)) k) ∙ took in
             (cc both, cc both)),
       )
   answers_value view (Err (failure.Refused e)) old left ended h =
-      refuses (IsValue S free) (ValueRefusedAt S free) old left (view_fault e) (value_of S free old) (value_given S free old (ends_once old ended)) (value_seen S free old ∙ h)
+      refuses (IsValue S free) (ValueRefusedAt S free) old left (view_fault e) (value_of S free old)
+      (value_given S free old (ends_once old ended)) (value_seen S free old ∙ h)
   answers_value view (Err failure.Memory) old left ended h = tt
 
 -- ---- types
 
-bare_fails : (ts : List Lexeme) (r : Read TypeRef) (e : Fault × List Lexeme) → ◌≡◌ {A = Read (TypeRef × Span)} (r >>= with_type ts) (Err e) → r ≡ Err e
+bare_fails : (ts : List Lexeme) (r : Read TypeRef) (e : Fault × List Lexeme)
+    → ◌≡◌ {A = Read (TypeRef × Span)} (r >>= with_type ts) (Err e) → r ≡ Err e
 bare_fails ts (Ok x) e h = absurd (cc h)
 bare_fails ts (Err d) e h = let same : d ≡ e = cc in ap (λ (z : Fault × List Lexeme). Err z) same
 
-pub answers_type : {X : Type 0} (view : X → TypeRef × Span) (result : Result X ParseFailure) (old left : List Lexeme) → EndsOnce old → Gives view result left (type_read old) → AnswersType view result old left
+pub answers_type : {X : Type 0} (view : X → TypeRef × Span) (result : Result X ParseFailure) (old left : List Lexeme)
+    → EndsOnce old → Gives view result left (type_read old) → AnswersType view result old left
 answers_type view (Ok x) old left ended h =
     let b = bind_ok (bare old) (with_type old) (view x, left) (sym (spanned_is old) ∙ h) in
     let same = ok_is ((b.0.0, span_of (front old b.0.1)), b.0.1) (view x, left) b.2 in
     let took = seen_took (fully (type_at {F = Error}) old) b.0.0 b.0.1 b.1 in
-    let g = subst (λ z. GivesFront IsType (TypeRefusedAt old) old z) took (type_given Error old (ends_once old ended)) in
-    subst (λ (z : (TypeRef × Span) × List Lexeme). Takes (λ ts (y : TypeRef × Span). IsType ts y.0 × (y.1 ≡ span_of ts)) z.0 old z.1 × ((us vs : List Lexeme) (y : TypeRef) → old ≡ us ++ vs → IsType us y → length z.1 ≤ length vs)) same (
-      record { taken = g.0; whole = g.1; means = (g.2, ap (λ (l : List Lexeme). span_of (front l b.0.1)) g.1 ∙ ap span_of (front_is g.0 b.0.1)) },
+    let g = subst (λ z. GivesFront IsType (TypeRefusedAt old) old z) took
+    (type_given Error old (ends_once old ended)) in
+    subst (λ (z : (TypeRef × Span) × List Lexeme). Takes (λ ts (y : TypeRef × Span). IsType ts y.0 × (y.1 ≡ span_of ts))
+    z.0 old z.1 × ((us vs : List Lexeme) (y : TypeRef) → old ≡ us ++ vs → IsType us y → length z.1 ≤ length vs))
+    same (
+      record {
+        taken = g.0;
+        whole = g.1;
+        means = (
+          g.2,
+          ap (λ (l : List Lexeme). span_of (front l b.0.1)) g.1
+              ∙ ap span_of (front_is g.0 b.0.1),
+        );
+      },
       λ us vs y e k. (
           let longest : length us ≤ length g.0 = g.3 us vs y e k in
           let one = ap length e ∙ length-append us vs in
@@ -100,5 +128,7 @@ answers_type view (Ok x) old left ended h =
           omega (arith, longest, one, two)),
     )
 answers_type view (Err (failure.Refused e)) old left ended h =
-    refuses IsType TypeRefusedAt old left (view_fault e) (fully (type_at {F = Error}) old) (type_given Error old (ends_once old ended)) (bare_fails old (bare old) (view_fault e, left) (sym (spanned_is old) ∙ h))
+    refuses IsType TypeRefusedAt old left (view_fault e) (fully (type_at {F = Error}) old)
+    (type_given Error old (ends_once old ended))
+    (bare_fails old (bare old) (view_fault e, left) (sym (spanned_is old) ∙ h))
 answers_type view (Err failure.Memory) old left ended h = tt

@@ -13,24 +13,29 @@ use Rattle.juniper.specs.Values.{then_others}
 abbrev pub with_front : {A B : Type 0} → List A → Read (List A × B) → Read (List A × B)
 with_front front r = r >>= λ x. Ok ((front ++ x.0.0, x.0.1), x.1)
 
-regroup : {A B : Type 0} (front : List A) (a : A) (r : Read (List A × B)) → with_front front (then_others a r) ≡ with_front (front ++ a ∷ []) r
+regroup : {A B : Type 0} (front : List A) (a : A) (r : Read (List A × B))
+    → with_front front (then_others a r) ≡ with_front (front ++ a ∷ []) r
 regroup front a (Ok x) = ap (λ (as' : List _). Ok ((as', x.0.1), x.1)) (sym (append_assoc front (a ∷ []) x.0.0))
 regroup front a (Err e) = refl
 
 -- ---- a closing token is looked for before each item
 
-abbrev pub closed_or : {A : Type 0} → (List Lexeme → Read A) → (List Lexeme → Read (List A × Span)) → Option Lexeme → List Lexeme → Read (List A × Span)
+abbrev pub closed_or : {A : Type 0} → (List Lexeme → Read A) → (List Lexeme → Read (List A × Span)) → Option Lexeme
+    → List Lexeme → Read (List A × Span)
 closed_or item more (Some c) ts = Ok (([], c.span), ts)
 closed_or item more None ts = item ts >>= λ x. then_others x.0 (more x.1)
 
 -- items up to the closing token
-pub record Repeats {A : Type 0} (skip : List Lexeme → Read (Option Lexeme)) (item : List Lexeme → Read A) (more : List Lexeme → Read (List A × Span)) : Type 0 where
+pub record Repeats {A : Type 0} (skip : List Lexeme → Read (Option Lexeme)) (item : List Lexeme → Read A)
+    (more : List Lexeme → Read (List A × Span)) : Type 0 where
   pub unfolds : (ts : List Lexeme) → more ts ≡ (skip ts >>= λ c. closed_or item more c.0 c.1)
 
 -- p is what is left where a turn of the loop begins
-module _ {A : Type 0} (skip : List Lexeme → Read (Option Lexeme)) (item : List Lexeme → Read A) (more : List Lexeme → Read (List A × Span)) (u : Repeats skip item more)
+module _ {A : Type 0} (skip : List Lexeme → Read (Option Lexeme)) (item : List Lexeme → Read A)
+    (more : List Lexeme → Read (List A × Span)) (u : Repeats skip item more)
     (front : List A) (p : List Lexeme) (total : Read (List A × Span)) (so_far : with_front front (more p) ≡ total) where
-  pub goes_on : (a : A) (q r : List Lexeme) → skip p ≡ Ok (None, q) → item q ≡ Ok (a, r) → with_front (front ++ a ∷ []) (more r) ≡ total
+  pub goes_on : (a : A) (q r : List Lexeme) → skip p ≡ Ok (None, q) → item q ≡ Ok (a, r)
+      → with_front (front ++ a ∷ []) (more r) ≡ total
   goes_on a q r opened first =
       let one : more p ≡ then_others a (more r) = u.unfolds p ∙ rw (opened, first) refl in
       sym (ap (with_front front) one ∙ regroup front a (more r)) ∙ so_far
@@ -46,7 +51,8 @@ module _ {A : Type 0} (skip : List Lexeme → Read (Option Lexeme)) (item : List
       let one : more p ≡ Err (view_fault e, left) = u.unfolds p ∙ rw fails refl in
       sym so_far ∙ ap (with_front front) one
 
-  pub item_fails : (e : ParseFailure) (q left : List Lexeme) → skip p ≡ Ok (None, q) → Fails e left (item q) → Fails e left total
+  pub item_fails : (e : ParseFailure) (q left : List Lexeme) → skip p ≡ Ok (None, q) → Fails e left (item q)
+      → Fails e left total
   item_fails failures.Memory q left opened fails = tt
   item_fails (failures.Refused e) q left opened fails =
       let one : more p ≡ Err (view_fault e, left) = u.unfolds p ∙ rw (opened, fails) refl in
@@ -54,22 +60,27 @@ module _ {A : Type 0} (skip : List Lexeme → Read (Option Lexeme)) (item : List
 
 -- ---- a closing token is looked for behind each item
 
-abbrev pub ended_or : {A : Type 0} → A → (List Lexeme → Read (List A × Span)) → Option Lexeme → List Lexeme → Read (List A × Span)
+abbrev pub ended_or : {A : Type 0} → A → (List Lexeme → Read (List A × Span)) → Option Lexeme → List Lexeme
+    → Read (List A × Span)
 ended_or a some (Some c) ts = Ok ((a ∷ [], c.span), ts)
 ended_or a some None ts = then_others a (some ts)
 
 -- one item or more, up to the closing token
-pub record RepeatsSome {A : Type 0} (skip : List Lexeme → Read (Option Lexeme)) (item : List Lexeme → Read A) (some : List Lexeme → Read (List A × Span)) : Type 0 where
+pub record RepeatsSome {A : Type 0} (skip : List Lexeme → Read (Option Lexeme)) (item : List Lexeme → Read A)
+    (some : List Lexeme → Read (List A × Span)) : Type 0 where
   pub unfolds : (ts : List Lexeme) → some ts ≡ (item ts >>= λ x. skip x.1 >>= λ c. ended_or x.0 some c.0 c.1)
 
-module _ {A : Type 0} (skip : List Lexeme → Read (Option Lexeme)) (item : List Lexeme → Read A) (some : List Lexeme → Read (List A × Span)) (u : RepeatsSome skip item some)
+module _ {A : Type 0} (skip : List Lexeme → Read (Option Lexeme)) (item : List Lexeme → Read A)
+    (some : List Lexeme → Read (List A × Span)) (u : RepeatsSome skip item some)
     (front : List A) (p : List Lexeme) (total : Read (List A × Span)) (so_far : with_front front (some p) ≡ total) where
-  pub some_go_on : (a : A) (q r : List Lexeme) → item p ≡ Ok (a, q) → skip q ≡ Ok (None, r) → with_front (front ++ a ∷ []) (some r) ≡ total
+  pub some_go_on : (a : A) (q r : List Lexeme) → item p ≡ Ok (a, q) → skip q ≡ Ok (None, r)
+      → with_front (front ++ a ∷ []) (some r) ≡ total
   some_go_on a q r first opened =
       let one : some p ≡ then_others a (some r) = u.unfolds p ∙ rw (first, opened) refl in
       sym (ap (with_front front) one ∙ regroup front a (some r)) ∙ so_far
 
-  pub some_end : (a : A) (c : Lexeme) (q r : List Lexeme) → item p ≡ Ok (a, q) → skip q ≡ Ok (Some c, r) → total ≡ Ok ((front ++ a ∷ [], c.span), r)
+  pub some_end : (a : A) (c : Lexeme) (q r : List Lexeme) → item p ≡ Ok (a, q) → skip q ≡ Ok (Some c, r)
+      → total ≡ Ok ((front ++ a ∷ [], c.span), r)
   some_end a c q r first closed =
       let one : some p ≡ Ok ((a ∷ [], c.span), r) = u.unfolds p ∙ rw (first, closed) refl in
       sym so_far ∙ ap (with_front front) one
@@ -80,29 +91,38 @@ module _ {A : Type 0} (skip : List Lexeme → Read (Option Lexeme)) (item : List
       let one : some p ≡ Err (view_fault e, left) = u.unfolds p ∙ rw fails refl in
       sym so_far ∙ ap (with_front front) one
 
-  pub some_close_fails : (e : ParseFailure) (a : A) (q left : List Lexeme) → item p ≡ Ok (a, q) → Fails e left (skip q) → Fails e left total
+  pub some_close_fails : (e : ParseFailure) (a : A) (q left : List Lexeme) → item p ≡ Ok (a, q) → Fails e left (skip q)
+      → Fails e left total
   some_close_fails failures.Memory a q left first fails = tt
   some_close_fails (failures.Refused e) a q left first fails =
       let one : some p ≡ Err (view_fault e, left) = u.unfolds p ∙ rw (first, fails) refl in
       sym so_far ∙ ap (with_front front) one
 
 -- where a list of any length goes so, one of one item or more does
-pub some_repeats : {A : Type 0} (skip : List Lexeme → Read (Option Lexeme)) (item : List Lexeme → Read A) (more : List Lexeme → Read (List A × Span)) → Repeats skip item more
+pub some_repeats : {A : Type 0} (skip : List Lexeme → Read (Option Lexeme)) (item : List Lexeme → Read A)
+    (more : List Lexeme → Read (List A × Span)) → Repeats skip item more
     → RepeatsSome skip item (λ ts. item ts >>= λ x. then_others x.0 (more x.1))
 some_repeats {A} skip item more u = record { unfolds = λ ts. by_item (item ts) }
   where
-    by_skip : (a : A) (r : Read (Option Lexeme)) → then_others a (r >>= λ c. closed_or item more c.0 c.1) ≡ (r >>= λ c. ended_or a (λ ts. item ts >>= λ x. then_others x.0 (more x.1)) c.0 c.1)
+    by_skip : (a : A) (r : Read (Option Lexeme))
+        → then_others a (r >>= λ c. closed_or item more c.0 c.1)
+        ≡ (r >>= λ c. ended_or a (λ ts. item ts >>= λ x. then_others x.0 (more x.1)) c.0 c.1)
     by_skip a (Ok (Some c, ts)) = refl
     by_skip a (Ok (None, ts)) = refl
     by_skip a (Err e) = refl
 
-    by_item : (r : Read A) → (r >>= λ x. then_others x.0 (more x.1)) ≡ (r >>= λ x. skip x.1 >>= λ c. ended_or x.0 (λ ts. item ts >>= λ y. then_others y.0 (more y.1)) c.0 c.1)
+    by_item : (r : Read A) → (r >>= λ x. then_others x.0 (more x.1))
+        ≡ (r >>= λ x. skip x.1 >>= λ c. ended_or x.0 (λ ts. item ts >>= λ y. then_others y.0 (more y.1)) c.0 c.1)
     by_item (Ok x) = ap (then_others x.0) (u.unfolds x.1) ∙ by_skip x.0 (skip x.1)
     by_item (Err e) = refl
 
 -- by another reading of the same items
-pub repeats_as : {A : Type 0} (skip : List Lexeme → Read (Option Lexeme)) (item other : List Lexeme → Read A) (some : List Lexeme → Read (List A × Span)) → ((ts : List Lexeme) → item ts ≡ other ts) → RepeatsSome skip item some → RepeatsSome skip other some
-repeats_as skip item other some h u = record { unfolds = λ ts. u.unfolds ts ∙ ap (λ (r : Read _). r >>= λ x. skip x.1 >>= λ c. ended_or x.0 some c.0 c.1) (h ts) }
+pub repeats_as : {A : Type 0} (skip : List Lexeme → Read (Option Lexeme)) (item other : List Lexeme → Read A)
+    (some : List Lexeme → Read (List A × Span)) → ((ts : List Lexeme) → item ts ≡ other ts) → RepeatsSome skip item some
+    → RepeatsSome skip other some
+repeats_as skip item other some h u = record {
+  unfolds = λ ts. u.unfolds ts ∙ ap (λ (r : Read _). r >>= λ x. skip x.1 >>= λ c. ended_or x.0 some c.0 c.1) (h ts);
+}
 
 -- ---- items as long as a token stands next
 
@@ -114,14 +134,18 @@ pub before_none : {A : Type 0} (r : Read (List A)) → before_others [] r ≡ r
 before_none (Ok x) = refl
 before_none (Err e) = refl
 
-pub before_regroup : {A : Type 0} (front : List A) (a : A) (r : Read (List A)) → before_others front (r >>= λ x. Ok (a ∷ x.0, x.1)) ≡ before_others (front ++ a ∷ []) r
+pub before_regroup : {A : Type 0} (front : List A) (a : A) (r : Read (List A))
+    → before_others front (r >>= λ x. Ok (a ∷ x.0, x.1)) ≡ before_others (front ++ a ∷ []) r
 before_regroup front a (Ok x) = ap (λ (as' : List _). Ok (as', x.1)) (sym (append_assoc front (a ∷ []) x.0))
 before_regroup front a (Err e) = refl
 
 -- from p, where the test of a turn of the loop is b
-module _ {A : Type 0} (front : List A) (item : Read A) (each : List Lexeme → Read (List A)) (here total : Read (List A)) (b : Bool) (p : List Lexeme)
-    (unfolds : here ≡ cond b (item >>= λ d. each d.1 >>= λ ds. Ok (d.0 ∷ ds.0, ds.1)) (Ok ([], p))) (so_far : before_others front here ≡ total) where
-  pub before_go_on : b ≡ true → (a : A) (q : List Lexeme) → item ≡ Ok (a, q) → before_others (front ++ a ∷ []) (each q) ≡ total
+module _ {A : Type 0} (front : List A) (item : Read A) (each : List Lexeme → Read (List A)) (here total : Read (List A))
+    (b : Bool) (p : List Lexeme)
+    (unfolds : here ≡ cond b (item >>= λ d. each d.1 >>= λ ds. Ok (d.0 ∷ ds.0, ds.1)) (Ok ([], p)))
+    (so_far : before_others front here ≡ total) where
+  pub before_go_on : b ≡ true → (a : A) (q : List Lexeme) → item ≡ Ok (a, q)
+      → before_others (front ++ a ∷ []) (each q) ≡ total
   before_go_on test a q first =
       let one : here ≡ (each q >>= λ ds. Ok (a ∷ ds.0, ds.1)) = unfolds ∙ rw (test, first) refl in
       sym (ap (before_others front) one ∙ before_regroup front a (each q)) ∙ so_far
@@ -138,6 +162,7 @@ module _ {A : Type 0} (front : List A) (item : Read A) (each : List Lexeme → R
       sym so_far ∙ ap (before_others front) one
 
 -- what fails first fails in all
-pub after_fails : {A B : Type 0} (e : ParseFailure) (left : List Lexeme) (r : Read A) (f : (A × List Lexeme) → Read B) → Fails e left r → Fails e left (r >>= f)
+pub after_fails : {A B : Type 0} (e : ParseFailure) (left : List Lexeme) (r : Read A) (f : (A × List Lexeme) → Read B)
+    → Fails e left r → Fails e left (r >>= f)
 after_fails failures.Memory left r f fails = tt
 after_fails (failures.Refused e) left r f fails = rw fails refl

@@ -33,17 +33,24 @@ abbrev mutual
 
 module _ {S C : Type 0} (content : S → C) where
   -- one level, where it holds of the values within
-  module _ {V E : Type 0} (part : E → V) (a : V → Span → Value C) (b : V → input.Value C) (within : (e : E) (p : Span) → a (part e) p ≡ placed (b (part e)) p) where
-    items_placed : (xs : List (Spanning E)) → items_by (map (at_item a) (map (at_item part) xs)) ≡ placed_items (items_of (map (at_item b) (map (at_item part) xs)))
+  module _ {V E : Type 0} (part : E → V) (a : V → Span → Value C) (b : V → input.Value C)
+      (within : (e : E) (p : Span) → a (part e) p ≡ placed (b (part e)) p) where
+    items_placed : (xs : List (Spanning E))
+        → items_by (map (at_item a) (map (at_item part) xs))
+        ≡ placed_items (items_of (map (at_item b) (map (at_item part) xs)))
     items_placed [] = refl
     items_placed (x ∷ xs) = ap₂ item (within x.item (view_span x.span)) (items_placed xs)
 
-    fields_placed : (xs : List (Spanning (String Global) × Spanning E)) → fields_by (map (at_value a) (map (at_value part) xs)) ≡ placed_fields (fields_of (map (at_value b) (map (at_value part) xs)))
+    fields_placed : (xs : List (Spanning (String Global) × Spanning E))
+        → fields_by (map (at_value a) (map (at_value part) xs))
+        ≡ placed_fields (fields_of (map (at_value b) (map (at_value part) xs)))
     fields_placed [] = refl
-    fields_placed (x ∷ xs) = ap₂ (object_field (text_of x.0.item) (view_span x.0.span)) (within x.1.item (view_span x.1.span)) (fields_placed xs)
+    fields_placed (x ∷ xs) = ap₂ (object_field (text_of x.0.item) (view_span x.0.span))
+        (within x.1.item (view_span x.1.span)) (fields_placed xs)
 
     level : (y : InputValue-F S E) (p : Span)
-        → view_step content (map-InputValue S V (Span → Value C) a (map-InputValue S E V part y)) p ≡ placed (inputs.view_step content (map-InputValue S V (input.Value C) b (map-InputValue S E V part y))) p
+        → view_step content (map-InputValue S V (Span → Value C) a (map-InputValue S E V part y)) p
+        ≡ placed (inputs.view_step content (map-InputValue S V (input.Value C) b (map-InputValue S E V part y))) p
     level (InputValue-F.Null) p = refl
     level (InputValue-F.Scalar s) p = refl
     level (InputValue-F.Enum t) p = refl
@@ -53,6 +60,9 @@ module _ {S C : Type 0} (content : S → C) where
 
   pub placed_view : (v : InputValue S) (p : Span) → view_at content v p ≡ placed (view content v) p
   placed_view v = ind-InputValue S (λ v. (p : Span) → view_at content v p ≡ placed (view content v) p) (λ x y e.
-      subst (λ (z : InputValue-F S (InputValue S)). (p : Span) → view_at content (roll-InputValue S z) p ≡ placed (view content (roll-InputValue S z)) p) e
-      (λ p. ap (λ (g : Span → Value C). g p) (fold-roll-InputValue S (Span → Value C) (view_step content) _) ∙ level (λ p. p.0) (view_at content) (view content) (λ p. p.1) y p
-      ∙ ap (λ (z : input.Value C). placed z p) (sym (fold-roll-InputValue S (input.Value C) (inputs.view_step content) _)))) v
+      subst (λ (z : InputValue-F S (InputValue S)). (p : Span)
+      → view_at content (roll-InputValue S z) p ≡ placed (view content (roll-InputValue S z)) p) e
+      (λ p. ap (λ (g : Span → Value C). g p) (fold-roll-InputValue S (Span → Value C) (view_step content) _)
+      ∙ level (λ p. p.0) (view_at content) (view content) (λ p. p.1) y p
+      ∙ ap (λ (z : input.Value C). placed z p)
+      (sym (fold-roll-InputValue S (input.Value C) (inputs.view_step content) _)))) v

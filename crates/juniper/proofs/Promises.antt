@@ -59,7 +59,8 @@ same_break source d e p q b c = elim (one_end source) [
 
 -- ---- what is read of tokens that end once
 
-module _ {C : Type 0} (S : Scalars C Error) (ts : List Lexeme) (spelled : AllByRecursion IsSpelled ts) (ends : EndsOnce ts) where
+module _ {C : Type 0} (S : Scalars C Error) (ts : List Lexeme) (spelled : AllByRecursion IsSpelled ts)
+    (ends : EndsOnce ts) where
   given : GivesWhole (IsDocument S) (DocumentRefusedAt S ts) ts (fully (document S) ts)
   given = document_given S ts spelled ends
 
@@ -99,7 +100,8 @@ module _ {C : Type 0} (S : Scalars C Error) (ts : List Lexeme) (spelled : AllByR
 module _ {C : Type 0} (S : Scalars C Error) (source : List ℕ) (ts : List Lexeme) (cut : Cut source ts) where
   document_there : (others : List Lexeme) (tree : List (Definition C)) → Cut source others → IsDocument S others tree
       → IsDocument S ts tree
-  document_there others tree d h = subst (λ (xs : List Lexeme). IsDocument S xs tree) (same_cut source others ts d cut) h
+  document_there others tree d h = subst (λ (xs : List Lexeme). IsDocument S xs tree) (same_cut source others ts d cut)
+      h
 
   pub tree_of : (tree : List (Definition C)) → IsDocument S ts tree → HasTree S source tree
   tree_of tree document = record {
@@ -111,20 +113,24 @@ module _ {C : Type 0} (S : Scalars C Error) (source : List ℕ) (ts : List Lexem
 
   pub refusal_at : (fault : Fault) → IsRefusedAt S ts fault → IsRefusal S source fault
   refusal_at fault at = record {
-    no_document = λ others tree d h. never_both S ts tree at.number (cut_spelled source ts cut) (document_there others tree d h) at.refused.fault;
+    no_document = λ others tree d h. never_both S ts tree at.number (cut_spelled source ts cut)
+        (document_there others tree d h) at.refused.fault;
     lexical = λ error place b. absurd (cut_or_break source ts error place cut b);
     grammatical = λ others d. subst (λ (xs : List Lexeme). IsRefusedAt S xs fault) (same_cut source ts others cut d) at;
   }
 
   pub accepts : {X : Type 0} (view : X → List (Definition C)) (result : Result X ParseFailure)
       → AnswersAs view result (document_read S ts) → IfOk result (λ x. HasTree S source (view x))
-  accepts view (Ok x) a = tree_of (view x) (document_is S ts (cut_spelled source ts cut) (cut_ends source ts cut) (view x) a.0 a.1)
+  accepts view (Ok x) a = tree_of (view x) (document_is S ts (cut_spelled source ts cut) (cut_ends source ts cut)
+      (view x) a.0 a.1)
   accepts view (Err e) a = tt
 
   pub refuses : {X : Type 0} (view : X → List (Definition C)) (result : Result X ParseFailure)
       → AnswersAs view result (document_read S ts) → IfRefused result (λ fault. IsRefusal S source (view_fault fault))
   refuses view (Ok x) a = tt
-  refuses view (Err (failure.Refused fault)) a = refusal_at (view_fault fault) (refused_is S ts (cut_spelled source ts cut) (cut_ends source ts cut) (view_fault fault) a.0 a.1)
+  refuses view (Err (failure.Refused fault)) a =
+      refusal_at (view_fault fault) (refused_is S ts (cut_spelled source ts cut) (cut_ends source ts cut)
+      (view_fault fault) a.0 a.1)
   refuses view (Err failure.Memory) a = tt
 
 pub lexical : {C : Type 0} (S : Scalars C Error) (source : List ℕ) (error : LexicalError) (at : Place) (fault : Fault)
@@ -160,24 +166,36 @@ break_from_start state source error at e b = subst (λ (s : LexerState). BreaksF
 
 -- a lexical fault, as the parser tells it
 pub told_lexical : (fault : Spanning LexerError) → fault.span.end ≡ fault.span.start
-    → view_fault (record { item = parse.LexerError fault.item; span = fault.span }) ≡ lexical_fault (view_lexer_error fault.item) fault.span.start
-told_lexical fault e = ap (λ (end : Place). record { error = Lexical (view_lexer_error fault.item); span = record { start = fault.span.start; end = end } }) e
+    → view_fault (record { item = parse.LexerError fault.item; span = fault.span })
+    ≡ lexical_fault (view_lexer_error fault.item) fault.span.start
+told_lexical fault e = ap (λ (end : Place). record {
+  error = Lexical (view_lexer_error fault.item);
+  span = record { start = fault.span.start; end = end };
+}) e
 
-pub told_break : (source : List ℕ) (failed : LexFailure) → FailsAtBreak source failed → IsRefusedAtBreak source (failure_of failed)
-told_break source (lexing.Fault fault) f = (view_lexer_error fault.item, fault.span.start, f.breaks, told_lexical fault f.zero_width)
+pub told_break : (source : List ℕ) (failed : LexFailure) → FailsAtBreak source failed
+    → IsRefusedAtBreak source (failure_of failed)
+told_break source (lexing.Fault fault) f =
+    (view_lexer_error fault.item, fault.span.start, f.breaks, told_lexical fault f.zero_width)
 told_break source lexing.Memory f = tt
 
 -- What a lexer that was just made failed for is why its text is refused: P is what is promised of a fault.
-module _ {Y : Type 0} (X : Type 0) (source : List ℕ) (P : Fault → Type 0) (broken : (error : LexicalError) (at : Place) (fault : Fault) → Breaks source error at → fault ≡ lexical_fault error at → P fault) where
+module _ {Y : Type 0} (X : Type 0) (source : List ℕ) (P : Fault → Type 0)
+    (broken : (error : LexicalError) (at : Place) (fault : Fault) → Breaks source error at
+    → fault ≡ lexical_fault error at → P fault) where
   pub refused_by_lexer : (state : LexerState) (failed : LexFailure) (result : Result Y ParseFailure)
       → state ≡ started source
-      → IfFault {X = X} (Err failed) (λ fault. BreaksFrom state.source state.index (view_lexer_error fault.item) fault.span.start) → IfFault {X = X} (Err failed) (λ fault. fault.span.end ≡ fault.span.start)
+      → IfFault {X = X} (Err failed) (λ fault. BreaksFrom state.source state.index (view_lexer_error fault.item)
+      fault.span.start) → IfFault {X = X} (Err failed) (λ fault. fault.span.end ≡ fault.span.start)
       → IsErrAnd result (λ e. e ≡ failure_of failed) → IfRefused result (λ fault. P (view_fault fault))
   refused_by_lexer state failed (Ok y) e b z h = tt
-  refused_by_lexer state failed (Err x) e b z h = subst (λ (y : ParseFailure). IfRefused {X = Y} (Err y) (λ fault. P (view_fault fault))) (sym h) (by_failure failed b z)
+  refused_by_lexer state failed (Err x) e b z h =
+      subst (λ (y : ParseFailure). IfRefused {X = Y} (Err y) (λ fault. P (view_fault fault))) (sym h)
+      (by_failure failed b z)
     where
       by_failure : (f : LexFailure)
-          → IfFault {X = X} (Err f) (λ fault. BreaksFrom state.source state.index (view_lexer_error fault.item) fault.span.start)
+          → IfFault {X = X} (Err f) (λ fault. BreaksFrom state.source state.index (view_lexer_error fault.item)
+          fault.span.start)
           → IfFault {X = X} (Err f) (λ fault. fault.span.end ≡ fault.span.start)
           → IfRefused {X = Y} (Err (failure_of f)) (λ fault. P (view_fault fault))
       by_failure (lexing.Fault fault) b z = broken _ _ _ (break_from_start state source _ _ e b) (told_lexical fault z)

@@ -1,13 +1,15 @@
 -- What is written is read back.
 use Rattle.std.proofs.Common.{◌≡◌, refl, sym, ap, ap₂, ◌∙◌, subst, ◌⊎◌, inl, inr, true, false, List, [], ◌∷◌, ◌++◌, Some, None}
 use Rattle.std.specs.Prelude.{codes}
+use Rattle.graphql_lexical.specs.declared.kind.Kind.{Kind}
+use Rattle.graphql_lexical.specs.Place.{Span}
 use Rattle.graphql_lexical.specs.declared.kind.Kind.TheVariants.{Name, String, Int, ExclamationMark, Dollar, BracketOpen, BracketClose, CurlyOpen, CurlyClose, Colon}
 use Rattle.graphql_lexical.specs.Cutting.{Lexeme, Cut}
 use Rattle.graphql_lexical.specs.Tokens.{IsName}
 use Rattle.graphql_lexical.specs.laws.Written.{Bare, AreOf}
 use Rattle.graphql_grammar.specs.Tokens.{Text, nowhere, over}
 use Rattle.graphql_grammar.specs.Tree.{Value, Null, Scalar, Enum, Variable, ListOf, Object, Items, no_items, item, ObjectFields, no_fields, object_field, TypeRef, NamedType, ListType, NonNullType}
-use Rattle.graphql_grammar.specs.Grammar.{IsToken, IsValue, AreItems, AreFields, IsNullable, IsType}
+use Rattle.graphql_grammar.specs.Grammar.{IsToken, Between, IsValue, AreItems, AreFields, IsNullable, IsType}
 use Rattle.graphql_grammar.specs.Unlocated.{unlocated_value, unlocated_items, unlocated_fields}
 use Rattle.juniper_values.specs.Value as input
 use Rattle.juniper_values.specs.Scalar.{Content, integer, text, boolean, custom}
@@ -44,7 +46,13 @@ parted ts [] cs a = record { front = []; rest = ts; whole = refl; front_are = tt
 parted [] (b ∷ bs) cs a = absurd a
 parted (t ∷ ts) (b ∷ bs) cs a =
     let p = parted ts bs cs a.2 in
-    record { front = t ∷ p.front; rest = p.rest; whole = ap (λ (us : List Lexeme). t ∷ us) p.whole; front_are = (a.0, a.1, p.front_are); rest_are = p.rest_are }
+    record {
+      front = t ∷ p.front;
+      rest = p.rest;
+      whole = ap (λ (us : List Lexeme). t ∷ us) p.whole;
+      front_are = (a.0, a.1, p.front_are);
+      rest_are = p.rest_are;
+    }
 
 -- one token
 record One (ts : List Lexeme) (b : Bare) : Type 0 where
@@ -83,7 +91,39 @@ closed : (ts : List Lexeme) (bs : List Bare) (b : Bare) → AreOf ts (bs ++ b �
 closed ts bs b a =
     let p = parted ts bs (b ∷ []) a in
     let o = one p.rest b p.rest_are in
-    record { inner = p.front; last = o.token; whole = p.whole ∙ ap (λ (us : List Lexeme). p.front ++ us) o.alone; inner_are = p.front_are; kind = o.kind }
+    record {
+      inner = p.front;
+      last = o.token;
+      whole = p.whole ∙ ap (λ (us : List Lexeme). p.front ++ us) o.alone;
+      inner_are = p.front_are;
+      kind = o.kind;
+    }
+
+-- tokens between an opening and a closing one
+record Enclosed (opening closing : Kind) (ts : List Lexeme) (bs : List Bare) : Type 0 where
+  inner : List Lexeme
+  span : Span
+  between : Between opening closing ts inner span
+  inner_are : AreOf inner bs
+
+enclosed : (opening closing : Kind) (ts : List Lexeme) (bs : List Bare)
+    → AreOf ts (punctuation opening ∷ (bs ++ punctuation closing ∷ [])) → Enclosed opening closing ts bs
+enclosed opening closing ts bs a =
+    let f = first_of ts (punctuation opening) (bs ++ punctuation closing ∷ []) a in
+    let c = closed f.others bs (punctuation closing) f.others_are in
+    record {
+      inner = c.inner;
+      span = over f.first c.last;
+      between = record {
+        first = f.first;
+        last = c.last;
+        whole = f.whole ∙ ap (λ (us : List Lexeme). f.first ∷ us) c.whole;
+        opens = f.kind;
+        closes = c.kind;
+        spans = refl;
+      };
+      inner_are = c.inner_are;
+    }
 
 -- ---- types
 
@@ -94,31 +134,51 @@ Mean bs type = (ts : List Lexeme) → AreOf ts bs → IsType ts type
 named : (name : Text) → Mean (token Name name ∷ []) (NamedType name)
 named name ts a = let o = one ts (token Name name) a in (o.token, o.alone, o.kind, o.text)
 
-marked : (bs : List Bare) (type : TypeRef) → IsNullable type → Mean bs type → Mean (bs ++ closing_tokens NonNull) (NonNullType type)
-marked bs type n m ts a = let c = closed ts bs (punctuation ExclamationMark) a in (c.inner, c.last, c.whole, c.kind, n, m c.inner c.inner_are)
+marked : (bs : List Bare) (type : TypeRef) → IsNullable type → Mean bs type
+    → Mean (bs ++ closing_tokens NonNull) (NonNullType type)
+marked bs type n m ts a = let c = closed ts bs (punctuation ExclamationMark) a in
+    (c.inner, c.last, c.whole, c.kind, n, m c.inner c.inner_are)
 
-listed : (bs : List Bare) (type : TypeRef) → Mean bs type → Mean (opening_tokens (ListModifier None) ++ (bs ++ closing_tokens (ListModifier None))) (ListType None type)
+listed : (bs : List Bare) (type : TypeRef) → Mean bs type
+    → Mean (opening_tokens (ListModifier None) ++ (bs ++ closing_tokens (ListModifier None))) (ListType None type)
 listed bs type m ts a =
     let f = first_of ts (punctuation BracketOpen) (bs ++ closing_tokens (ListModifier None)) a in
-    let c = closed f.others bs (punctuation BracketClose) f.others_are in
-    (f.first, c.last, c.inner, f.whole ∙ ap (λ (us : List Lexeme). f.first ∷ us) c.whole, f.kind, c.kind, refl, m c.inner c.inner_are)
+    let c = closed f.others bs (punctuation BracketClose) f.others_are in (
+      f.first,
+      c.last,
+      c.inner,
+      f.whole ∙ ap (λ (us : List Lexeme). f.first ∷ us) c.whole,
+      f.kind,
+      c.kind,
+      refl,
+      m c.inner c.inner_are,
+    )
 
 -- an exclamation mark may follow, or does not
 abbrev MayMark : TypeRef → List TypeModifier → Type 0
 MayMark type ms = IsNullable type ⊎ BeginsUnmarked ms
 
-means_type : (ms : List TypeModifier) (bs : List Bare) (type : TypeRef) → AreWritable ms → MayMark type ms → Mean bs type → Mean (wrapped_tokens bs ms) (wrapped type ms)
+means_type : (ms : List TypeModifier) (bs : List Bare) (type : TypeRef) → AreWritable ms → MayMark type ms
+    → Mean bs type → Mean (wrapped_tokens bs ms) (wrapped type ms)
 means_type [] bs type w may m = m
-means_type (NonNull ∷ ms) bs type w (inl n) m = means_type ms (bs ++ closing_tokens NonNull) (NonNullType type) w.1 (inr w.0) (marked bs type n m)
+means_type (NonNull ∷ ms) bs type w (inl n) m =
+    means_type ms (bs ++ closing_tokens NonNull) (NonNullType type) w.1 (inr w.0) (marked bs type n m)
 means_type (NonNull ∷ ms) bs type w (inr n) m = absurd n
 means_type (ListModifier None ∷ ms) bs type w may m =
-    means_type ms (opening_tokens (ListModifier None) ++ (bs ++ closing_tokens (ListModifier None))) (ListType None type) w (inl tt) (listed bs type m)
+    means_type ms (opening_tokens (ListModifier None) ++ (bs ++ closing_tokens (ListModifier None)))
+    (ListType None type) w (inl tt) (listed bs type m)
 means_type (ListModifier (Some size) ∷ ms) bs type w may m = absurd w
 
-pub type_read_back : (name : Text) (ms : List TypeModifier) → IsName name → AreWritable ms → IsReadAsType (type_text name ms) (type_of name ms)
+pub type_read_back : (name : Text) (ms : List TypeModifier) → IsName name → AreWritable ms
+    → IsReadAsType (type_text name ms) (type_of name ms)
 type_read_back name ms n w =
     let c = type_is_cut name ms n in
-    record { lexemes = c.lexemes; end = c.end; cut = c.cut; means = means_type ms (token Name name ∷ []) (NamedType name) w (inl tt) (named name) c.lexemes c.are }
+    record {
+      lexemes = c.lexemes;
+      end = c.end;
+      cut = c.cut;
+      means = means_type ms (token Name name ∷ []) (NamedType name) w (inl tt) (named name) c.lexemes c.are;
+    }
 
 -- ---- values
 
@@ -140,19 +200,36 @@ record AreFieldsBack (ts : List Lexeme) (fs : input.Fields Content) : Type 0 whe
 is_token : (ts : List Lexeme) (b : Bare) (o : One ts b) → IsToken ts b.kind b.text o.token.span
 is_token ts b o = record { token = o.token; whole = o.alone; kind_is = o.kind; text_is = o.text; spans = refl }
 
-scalar_back : (ts : List Lexeme) (s : Content) → IsPlainScalar s → AreOf ts (scalar_token s ∷ []) → IsBack ts (input.scalar s)
+scalar_back : (ts : List Lexeme) (s : Content) → IsPlainScalar s → AreOf ts (scalar_token s ∷ [])
+    → IsBack ts (input.scalar s)
 scalar_back ts (integer n) h a =
     let o = one ts (scalar_token (integer n)) a in
-    record { tree = Scalar (integer n) o.token.span; means = inl (Int, _, is_token ts (scalar_token (integer n)) o, inr (inr (inr refl)), integer_read_back n h); same = refl }
+    record {
+      tree = Scalar (integer n) o.token.span;
+      means = inl (Int, _, is_token ts (scalar_token (integer n)) o, inr (inr (inr refl)), integer_read_back n h);
+      same = refl;
+    }
 scalar_back ts (text t) h a =
     let o = one ts (scalar_token (text t)) a in
-    record { tree = Scalar (text t) o.token.span; means = inl (String, t, is_token ts (scalar_token (text t)) o, inl refl, rw (plain_unescaped t h) refl); same = refl }
+    record {
+      tree = Scalar (text t) o.token.span;
+      means = inl (String, t, is_token ts (scalar_token (text t)) o, inl refl, rw (plain_unescaped t h) refl);
+      same = refl;
+    }
 scalar_back ts (boolean true) h a =
     let o = one ts (scalar_token (boolean true)) a in
-    record { tree = Scalar (boolean true) o.token.span; means = inr (inl (is_token ts (scalar_token (boolean true)) o, refl)); same = refl }
+    record {
+      tree = Scalar (boolean true) o.token.span;
+      means = inr (inl (is_token ts (scalar_token (boolean true)) o, refl));
+      same = refl;
+    }
 scalar_back ts (boolean false) h a =
     let o = one ts (scalar_token (boolean false)) a in
-    record { tree = Scalar (boolean false) o.token.span; means = inr (inr (is_token ts (scalar_token (boolean false)) o, refl)); same = refl }
+    record {
+      tree = Scalar (boolean false) o.token.span;
+      means = inr (inr (is_token ts (scalar_token (boolean false)) o, refl));
+      same = refl;
+    }
 scalar_back ts (custom ns) h a = absurd h
 
 -- spans differ alone
@@ -166,48 +243,71 @@ unlocated_placed (input.object fs) p q = refl
 
 mutual
   value_back : (v : input.Value Content) (ts : List Lexeme) → IsPlain v → AreOf ts (value_tokens v) → IsBack ts v
-  value_back input.null ts h a = let o = one ts (token Name (codes "null")) a in record { tree = Null o.token.span; means = is_token ts (token Name (codes "null")) o; same = refl }
+  value_back input.null ts h a = let o = one ts (token Name (codes "null")) a in
+      record { tree = Null o.token.span; means = is_token ts (token Name (codes "null")) o; same = refl }
   value_back (input.scalar s) ts h a = scalar_back ts s h a
   value_back (input.enum_value t) ts h a =
       let o = one ts (token Name t) a in
-      record { tree = Enum t o.token.span; means = (is_token ts (token Name t) o, (h.not_true, h.not_false, h.not_null)); same = refl }
+      record {
+        tree = Enum t o.token.span;
+        means = (
+          is_token ts (token Name t) o,
+          (h.not_true, h.not_false, h.not_null),
+        );
+        same = refl;
+      }
   value_back (input.variable t) ts h a =
       let f = first_of ts (punctuation Dollar) (token Name t ∷ []) a in
       let o = one f.others (token Name t) f.others_are in
       record {
         tree = Variable t (over f.first o.token);
-        means = (refl, record { dollar = f.first; word = o.token; whole = f.whole ∙ ap (λ (us : List Lexeme). f.first ∷ us) o.alone; dollar_is = f.kind; word_is = o.kind; names = sym o.text; spans = refl });
+        means = (
+          refl,
+          record {
+            dollar = f.first;
+            word = o.token;
+            whole = f.whole ∙ ap (λ (us : List Lexeme). f.first ∷ us) o.alone;
+            dollar_is = f.kind;
+            word_is = o.kind;
+            names = sym o.text;
+            spans = refl;
+          },
+        );
         same = refl;
       }
   value_back (input.list xs) ts h a =
-      let f = first_of ts (punctuation BracketOpen) (items_tokens xs ++ punctuation BracketClose ∷ []) a in
-      let c = closed f.others (items_tokens xs) (punctuation BracketClose) f.others_are in
-      let b = items_back xs c.inner h c.inner_are in
+      let e = enclosed BracketOpen BracketClose ts (items_tokens xs) a in
+      let b = items_back xs e.inner h e.inner_are in
       record {
-        tree = ListOf b.trees (over f.first c.last);
-        means = (c.inner, record { first = f.first; last = c.last; whole = f.whole ∙ ap (λ (us : List Lexeme). f.first ∷ us) c.whole; opens = f.kind; closes = c.kind; spans = refl }, b.means);
+        tree = ListOf b.trees e.span;
+        means = (e.inner, e.between, b.means);
         same = ap (λ (ys : Items Content). ListOf ys nowhere) b.same;
       }
   value_back (input.object fs) ts h a =
-      let f = first_of ts (punctuation CurlyOpen) (fields_tokens fs ++ punctuation CurlyClose ∷ []) a in
-      let c = closed f.others (fields_tokens fs) (punctuation CurlyClose) f.others_are in
-      let b = fields_back fs c.inner h c.inner_are in
+      let e = enclosed CurlyOpen CurlyClose ts (fields_tokens fs) a in
+      let b = fields_back fs e.inner h e.inner_are in
       record {
-        tree = Object b.trees (over f.first c.last);
-        means = (c.inner, record { first = f.first; last = c.last; whole = f.whole ∙ ap (λ (us : List Lexeme). f.first ∷ us) c.whole; opens = f.kind; closes = c.kind; spans = refl }, b.means);
+        tree = Object b.trees e.span;
+        means = (e.inner, e.between, b.means);
         same = ap (λ (gs : ObjectFields Content). Object gs nowhere) b.same;
       }
 
-  items_back : (xs : input.Items Content) (ts : List Lexeme) → ArePlainItems xs → AreOf ts (items_tokens xs) → AreItemsBack ts xs
+  items_back : (xs : input.Items Content) (ts : List Lexeme) → ArePlainItems xs → AreOf ts (items_tokens xs)
+      → AreItemsBack ts xs
   items_back input.no_items [] h a = record { trees = no_items; means = refl; same = refl }
   items_back input.no_items (t ∷ ts) h a = absurd a
   items_back (input.item v s xs) ts h a =
       let p = parted ts (value_tokens v) (items_tokens xs) a in
       let b = value_back v p.front h.0 p.front_are in
       let m = items_back xs p.rest h.1 p.rest_are in
-      record { trees = item b.tree m.trees; means = (p.front, p.rest, p.whole, b.means, m.means); same = ap₂ item (b.same ∙ unlocated_placed v nowhere s) m.same }
+      record {
+        trees = item b.tree m.trees;
+        means = (p.front, p.rest, p.whole, b.means, m.means);
+        same = ap₂ item (b.same ∙ unlocated_placed v nowhere s) m.same;
+      }
 
-  fields_back : (fs : input.Fields Content) (ts : List Lexeme) → ArePlainFields fs → AreOf ts (fields_tokens fs) → AreFieldsBack ts fs
+  fields_back : (fs : input.Fields Content) (ts : List Lexeme) → ArePlainFields fs → AreOf ts (fields_tokens fs)
+      → AreFieldsBack ts fs
   fields_back input.no_fields [] h a = record { trees = no_fields; means = refl; same = refl }
   fields_back input.no_fields (t ∷ ts) h a = absurd a
   fields_back (input.field k s v q fs) ts h a =
@@ -218,13 +318,29 @@ mutual
       let m = fields_back fs p.rest h.2 p.rest_are in
       record {
         trees = object_field k f.first.span b.tree m.trees;
-        means = (f.first, g.first, p.front, p.rest, f.whole ∙ ap (λ (us : List Lexeme). f.first ∷ us) (g.whole ∙ ap (λ (us : List Lexeme). g.first ∷ us) p.whole), f.kind, f.text, refl, g.kind, b.means, m.means);
+        means = (
+          f.first,
+          g.first,
+          p.front,
+          p.rest,
+          f.whole ∙ ap (λ (us : List Lexeme). f.first ∷ us)
+              (g.whole ∙ ap (λ (us : List Lexeme). g.first ∷ us) p.whole),
+          f.kind,
+          f.text,
+          refl,
+          g.kind,
+          b.means,
+          m.means,
+        );
         same = ap₂ (object_field k nowhere) (b.same ∙ unlocated_placed v nowhere q) m.same;
       }
 
 -- the display of an input value, by the contents of its scalars
-shown_by_content : (v : InputValue DefaultScalarValue) → value_text plain_shown (view default_content v) ≡ value_text (scalar_display default_content text_in default_shown) (view (λ s. s) v)
-shown_by_content v = ap (value_text plain_shown) (view-replaced default_content v) ∙ text_replaced default_content plain_shown (view (λ s. s) v)
+shown_by_content : (v : InputValue DefaultScalarValue)
+    → value_text plain_shown (view default_content v)
+    ≡ value_text (scalar_display default_content text_in default_shown) (view (λ s. s) v)
+shown_by_content v = ap (value_text plain_shown) (view-replaced default_content v)
+    ∙ text_replaced default_content plain_shown (view (λ s. s) v)
 
 pub value_read_back : (v : InputValue DefaultScalarValue) → IsPlain (view default_content v) → IsReadBack v
 value_read_back v h =

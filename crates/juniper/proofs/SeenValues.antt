@@ -20,14 +20,17 @@ use Rattle.juniper.proofs.Stepping.{bind_assoc, bind_same, seen_seq, seq_as, wan
 use Rattle.juniper.proofs.Loops.{Repeats, closed_or}
 
 module _ {C : Type 0} (S : Scalars C Error) where
-  scalar_seen : (t : Lexeme) (ts : List Lexeme) (z : Result C Error) → past (t ∷ ts) ≡ ts → seen (read_as t ts z) ≡ read_here z t.span ts
+  scalar_seen : (t : Lexeme) (ts : List Lexeme) (z : Result C Error) → past (t ∷ ts) ≡ ts
+      → seen (read_as t ts z) ≡ read_here z t.span ts
   scalar_seen t ts (Ok c) e = refl
   scalar_seen t ts (Err x) e = ap (λ (us : List Lexeme). Err (record { error = x; span = t.span }, us)) e
 
   abbrev a_token : Kind → Text → Span → Lexeme
   a_token k w p = record { kind = k; text = w; span = p }
 
-  bound : {A B : Type 0} (r : Read (List A × Lexeme)) (f : List A → Lexeme → B) (g : List A → Span → B) → ((xs : List A) (c : Lexeme) → f xs c ≡ g xs c.span) → (r >>= λ x. Ok (f x.0.0 x.0.1, x.1)) ≡ (closed_by r >>= λ x. Ok (g x.0.0 x.0.1, x.1))
+  bound : {A B : Type 0} (r : Read (List A × Lexeme)) (f : List A → Lexeme → B) (g : List A → Span → B)
+      → ((xs : List A) (c : Lexeme) → f xs c ≡ g xs c.span)
+      → (r >>= λ x. Ok (f x.0.0 x.0.1, x.1)) ≡ (closed_by r >>= λ x. Ok (g x.0.0 x.0.1, x.1))
   bound (Ok x) f g h = ap (λ (b : _). Ok (b, x.1)) (h x.0.0 x.0.1)
   bound (Err e) f g h = refl
 
@@ -122,43 +125,62 @@ module _ {C : Type 0} (S : Scalars C Error) where
 
   field_seen : (free : Bool) (ts : List Lexeme) → seen (key_and_value (value_of S free) ts) ≡ field_read S free ts
   unfolding key_and_value field_read done expect_at expect_name_at
-  field_seen free ts = want_as Name refl _ ts _ (λ k. want_as Colon refl _ k.1 _ (λ c. seq_as (value_of S free) _ c.1 _ _ (value_seen free c.1) (λ v. refl)))
+  field_seen free ts = want_as Name refl _ ts _ (λ k. want_as Colon refl _ k.1 _
+      (λ c. seq_as (value_of S free) _ c.1 _ _ (value_seen free c.1) (λ v. refl)))
 
 -- ---- items up to the closing token
 
 abbrev pub AtEnd : {A : Type 0} → (List Lexeme → Read A) → Type 0
-AtEnd item = (t : Lexeme) (ts : List Lexeme) → same_kind t.kind EndOfFile ≡ true → item (t ∷ ts) ≡ Err (record { error = UnexpectedEndOfFile; span = t.span }, t ∷ ts)
+AtEnd item = (t : Lexeme) (ts : List Lexeme) → same_kind t.kind EndOfFile ≡ true
+    → item (t ∷ ts) ≡ Err (record { error = UnexpectedEndOfFile; span = t.span }, t ∷ ts)
 
 -- At the end nothing is read.
-pub at_end : {A : Type 0} (item : List Lexeme → Read A) → ((w : Text) (p : Span) (ts : List Lexeme) → item (record { kind = EndOfFile; text = w; span = p } ∷ ts) ≡ Err (record { error = UnexpectedEndOfFile; span = p }, record { kind = EndOfFile; text = w; span = p } ∷ ts)) → AtEnd item
-at_end {A} item h t ts e = ap (λ (k : Kind). item (record { kind = k; text = t.text; span = t.span } ∷ ts)) (of_kind EndOfFile t e) ∙ h t.text t.span ts
-    ∙ ap (λ (k : Kind). Err (record { error = UnexpectedEndOfFile; span = t.span }, record { kind = k; text = t.text; span = t.span } ∷ ts)) (sym (of_kind EndOfFile t e))
+pub at_end : {A : Type 0} (item : List Lexeme → Read A)
+    → ((w : Text) (p : Span) (ts : List Lexeme)
+    → item (record { kind = EndOfFile; text = w; span = p } ∷ ts)
+    ≡ Err (record { error = UnexpectedEndOfFile; span = p }, record { kind = EndOfFile; text = w; span = p } ∷ ts))
+    → AtEnd item
+at_end {A} item h t ts e = ap (λ (k : Kind). item (record { kind = k; text = t.text; span = t.span } ∷ ts))
+    (of_kind EndOfFile t e) ∙ h t.text t.span ts
+    ∙ ap (λ (k : Kind). Err (
+      record { error = UnexpectedEndOfFile; span = t.span },
+      record { kind = k; text = t.text; span = t.span } ∷ ts,
+    )) (sym (of_kind EndOfFile t e))
 
-module _ {A : Type 0} (k : Kind) (f : Reader Error A) (rest : Reader Error (List A × Lexeme)) (item : List Lexeme → Read A)
-    (same : (ts : List Lexeme) → seen (f ts) ≡ item ts) (no_end : same_kind k EndOfFile ≡ false) (no_at : same_kind At k ≡ false) (ends : AtEnd item) where
+module _ {A : Type 0} (k : Kind) (f : Reader Error A) (rest : Reader Error (List A × Lexeme))
+    (item : List Lexeme → Read A)
+    (same : (ts : List Lexeme) → seen (f ts) ≡ item ts) (no_end : same_kind k EndOfFile ≡ false)
+    (no_at : same_kind At k ≡ false) (ends : AtEnd item) where
   abbrev others : Reader Error (List A × Lexeme)
   others = seq f (λ x. seq rest (λ r. done (x ∷ r.0, r.1)))
 
   abbrev more : List Lexeme → Read (List A × Span)
   more ts = closed_by (seen (rest ts))
 
-  closed_others : (x : A) (r : Read (List A × Lexeme)) → closed_by (r >>= λ y. Ok ((x ∷ y.0.0, y.0.1), y.1)) ≡ then_others x (closed_by r)
+  closed_others : (x : A) (r : Read (List A × Lexeme))
+      → closed_by (r >>= λ y. Ok ((x ∷ y.0.0, y.0.1), y.1)) ≡ then_others x (closed_by r)
   closed_others x (Ok y) = refl
   closed_others x (Err e) = refl
 
   others_seen : (ts : List Lexeme) → closed_by (seen (others ts)) ≡ (item ts >>= λ x. then_others x.0 (more x.1))
   unfolding done
-  others_seen ts = ap closed_by (seq_as f _ ts (item ts) (λ x. seen (rest x.1) >>= λ y. Ok ((x.0 ∷ y.0.0, y.0.1), y.1)) (same ts) (λ x. seq_as rest _ x.1 _ _ refl (λ y. refl)))
+  others_seen ts = ap closed_by (seq_as f _ ts (item ts) (λ x. seen (rest x.1) >>= λ y. Ok ((x.0 ∷ y.0.0, y.0.1), y.1))
+      (same ts) (λ x. seq_as rest _ x.1 _ _ refl (λ y. refl)))
       ∙ bind_assoc (item ts) _ _ ∙ bind_same (item ts) _ _ (λ x. closed_others x.0 (seen (rest x.1)))
 
   by_next : (t : Lexeme) (ts : List Lexeme) (b e : Bool) → passes (of k) t ≡ b → same_kind t.kind EndOfFile ≡ e
-      → closed_by (seen (pick b (λ c. done ([], c)) others t ts)) ≡ ((cond b (next_at (t ∷ ts) >>= λ c. Ok (Some c.0, c.1)) (cond e (Err (record { error = UnexpectedEndOfFile; span = t.span }, t ∷ ts)) (Ok (None, t ∷ ts)))) >>= λ c. closed_or item more c.0 c.1)
+      → closed_by (seen (pick b (λ c. done ([], c)) others t ts))
+      ≡ ((cond b (next_at (t ∷ ts) >>= λ c. Ok (Some c.0, c.1))
+      (cond e (Err (record { error = UnexpectedEndOfFile; span = t.span }, t ∷ ts)) (Ok (None, t ∷ ts)))) >>= λ c.
+      closed_or item more c.0 c.1)
   unfolding done
-  by_next t ts true e p q = ap (λ (r : Read Lexeme). (r >>= λ c. Ok (Some c.0, c.1)) >>= λ c. closed_or item more c.0 c.1) (taken t ts (kind_no_end k no_end t p))
+  by_next t ts true e p q = ap (λ (r : Read Lexeme). (r >>= λ c. Ok (Some c.0, c.1)) >>= λ c.
+      closed_or item more c.0 c.1) (taken t ts (kind_no_end k no_end t p))
   by_next t ts false true p q = others_seen (t ∷ ts) ∙ ap (λ r. r >>= λ x. then_others x.0 (more x.1)) (ends t ts q)
   by_next t ts false false p q = others_seen (t ∷ ts)
 
-  pub skip_seen : (ts : List Lexeme) → closed_by (seen (on (of k) (λ c. done ([], c)) others ts)) ≡ (skip_if (same_kind (kind_at ts) k) ts >>= λ c. closed_or item more c.0 c.1)
+  pub skip_seen : (ts : List Lexeme) → closed_by (seen (on (of k) (λ c. done ([], c)) others ts))
+      ≡ (skip_if (same_kind (kind_at ts) k) ts >>= λ c. closed_or item more c.0 c.1)
   unfolding on
   skip_seen [] = others_seen [] ∙ sym (ap (λ (b : Bool). skip_if b [] >>= λ c. closed_or item more c.0 c.1) no_at)
   skip_seen (t ∷ ts) = by_next t ts (passes (of k) t) (same_kind t.kind EndOfFile) refl refl
@@ -168,12 +190,14 @@ module _ {C : Type 0} (S : Scalars C Error) (free : Bool) where
   unfolding values_read value_read literal_read skip_at
   values_repeat = record {
     unfolds = λ ts. ap (λ r. closed_by (seen r)) (items_step S free ts)
-        ∙ skip_seen BracketClose (value_of S free) (fully (items_at S free)) (value_read S free) (value_seen S free) refl refl (at_end (value_read S free) (λ w p us. refl)) ts;
+        ∙ skip_seen BracketClose (value_of S free) (fully (items_at S free)) (value_read S free) (value_seen S free)
+        refl refl (at_end (value_read S free) (λ w p us. refl)) ts;
   }
 
   pub fields_repeat : Repeats (skip_at token.CurlyClose) (field_read S free) (fields_read S free)
   unfolding fields_read field_read skip_at expect_name_at
   fields_repeat = record {
     unfolds = λ ts. ap (λ r. closed_by (seen r)) (fields_step S free ts)
-        ∙ skip_seen CurlyClose (key_and_value (value_of S free)) (fully (fields_at S free)) (field_read S free) (field_seen S free) refl refl (at_end (field_read S free) (λ w p us. refl)) ts;
+        ∙ skip_seen CurlyClose (key_and_value (value_of S free)) (fully (fields_at S free)) (field_read S free)
+        (field_seen S free) refl refl (at_end (field_read S free) (λ w p us. refl)) ts;
   }

@@ -21,7 +21,8 @@ module _ {D C : Type 0} (holds : List ℕ → D → List (Definition C) → Type
   grown_none it = record { definitions = λ source before h. subst (holds source it) (sym (append-nil before)) h }
 
   -- What is given of a text within a limit is its tree, where it has one.
-  pub gains_tree : {X : Type 0} (S : Scalars C Error) (depth : ℕ) (source : List ℕ) (old new : D) (result : Result X DepthFailure)
+  pub gains_tree : {X : Type 0} (S : Scalars C Error) (depth : ℕ) (source : List ℕ) (old new : D)
+      (result : Result X DepthFailure)
       → GivesWithin holds old new S depth source result → IfOk result (λ x. GainsTree holds old new S source)
   gains_tree S depth source old new (Ok x) p = record { tree = p.tree; has_tree = p.answers.accepted; gains = p.gains }
   gains_tree S depth source old new (Err e) p = tt

@@ -17,36 +17,44 @@ use Rattle.juniper.specs.Seen.{seen, error_of}
 
 -- ---- steps in a row
 
-pub bind_assoc : {A B C : Type 0} (r : Read A) (f : (A × List Lexeme) → Read B) (g : (B × List Lexeme) → Read C) → ((r >>= f) >>= g) ≡ (r >>= λ x. f x >>= g)
+pub bind_assoc : {A B C : Type 0} (r : Read A) (f : (A × List Lexeme) → Read B) (g : (B × List Lexeme) → Read C)
+    → ((r >>= f) >>= g) ≡ (r >>= λ x. f x >>= g)
 bind_assoc (Ok x) f g = refl
 bind_assoc (Err e) f g = refl
 
-pub bind_same : {A B : Type 0} (r : Read A) (f g : (A × List Lexeme) → Read B) → ((x : A × List Lexeme) → f x ≡ g x) → (r >>= f) ≡ (r >>= g)
+pub bind_same : {A B : Type 0} (r : Read A) (f g : (A × List Lexeme) → Read B) → ((x : A × List Lexeme) → f x ≡ g x)
+    → (r >>= f) ≡ (r >>= g)
 bind_same (Ok x) f g h = h x
 bind_same (Err e) f g h = refl
 
 -- the same, where the first step gave x
-pub bind_given : {A B : Type 0} (r : Read A) (f g : (A × List Lexeme) → Read B) → ((x : A × List Lexeme) → r ≡ Ok x → f x ≡ g x) → (r >>= f) ≡ (r >>= g)
+pub bind_given : {A B : Type 0} (r : Read A) (f g : (A × List Lexeme) → Read B)
+    → ((x : A × List Lexeme) → r ≡ Ok x → f x ≡ g x) → (r >>= f) ≡ (r >>= g)
 bind_given (Ok x) f g h = h x refl
 bind_given (Err e) f g h = refl
 
 -- ---- readers in a row
 
-seen_after : {A B : Type 0} (r : reading.Read Error A) (k : A → Reader Error B) → seen (after r k) ≡ (seen r >>= λ x. seen (k x.0 x.1))
+seen_after : {A B : Type 0} (r : reading.Read Error A) (k : A → Reader Error B)
+    → seen (after r k) ≡ (seen r >>= λ x. seen (k x.0 x.1))
 seen_after (Took a rest) k = refl
 seen_after (Refused [] x) k = refl
 seen_after (Refused (t ∷ rest) x) k = refl
 seen_after Out k = refl
 
-pub seen_seq : {A B : Type 0} (f : Reader Error A) (k : A → Reader Error B) (ts : List Lexeme) → seen (seq f k ts) ≡ (seen (f ts) >>= λ x. seen (k x.0 x.1))
+pub seen_seq : {A B : Type 0} (f : Reader Error A) (k : A → Reader Error B) (ts : List Lexeme)
+    → seen (seq f k ts) ≡ (seen (f ts) >>= λ x. seen (k x.0 x.1))
 unfolding seq
 seen_seq f k ts = seen_after (f ts) k
 
 -- f is seen as r, and k of what it reads as l
-pub seq_as : {A B : Type 0} (f : Reader Error A) (k : A → Reader Error B) (ts : List Lexeme) (r : Read A) (l : (A × List Lexeme) → Read B) → seen (f ts) ≡ r → ((x : A × List Lexeme) → seen (k x.0 x.1) ≡ l x) → seen (seq f k ts) ≡ (r >>= l)
+pub seq_as : {A B : Type 0} (f : Reader Error A) (k : A → Reader Error B) (ts : List Lexeme) (r : Read A)
+    (l : (A × List Lexeme) → Read B) → seen (f ts) ≡ r → ((x : A × List Lexeme) → seen (k x.0 x.1) ≡ l x)
+    → seen (seq f k ts) ≡ (r >>= l)
 seq_as f k ts r l e h = seen_seq f k ts ∙ ap (λ z. z >>= λ x. seen (k x.0 x.1)) e ∙ bind_same r _ l h
 
-pub seen_took : {A : Type 0} (r : reading.Read Error A) (a : A) (rest : List Lexeme) → seen r ≡ Ok (a, rest) → r ≡ Took a rest
+pub seen_took : {A : Type 0} (r : reading.Read Error A) (a : A) (rest : List Lexeme) → seen r ≡ Ok (a, rest)
+    → r ≡ Took a rest
 seen_took (Took b left) a rest e =
     let same : (b, left) ≡ (a, rest) = cc in
     ap (λ (x : _ × List Lexeme). Took x.0 x.1) same
@@ -57,8 +65,15 @@ seen_took Out a rest e = absurd (cc e)
 -- ---- single tokens
 
 by_end : {A : Type 0} (t : Lexeme) (ts : List Lexeme) (b : Bool)
-    → ◌≡◌ {A = Read A} (Err (record { error = error_of (cond b grammar.UnexpectedEndOfFile (grammar.UnexpectedToken t.kind t.text)); span = t.span }, cond b (t ∷ ts) ts))
-    (cond {A = Read Lexeme} b (Err (record { error = UnexpectedEndOfFile; span = t.span }, t ∷ ts)) (Ok (t, ts)) >>= λ x. Err (record { error = UnexpectedToken (shown x.0.kind x.0.text); span = x.0.span }, x.1))
+    → ◌≡◌ {A = Read A} (Err (
+      record {
+        error = error_of (cond b grammar.UnexpectedEndOfFile (grammar.UnexpectedToken t.kind t.text));
+        span = t.span;
+      },
+      cond b (t ∷ ts) ts,
+    ))
+    (cond {A = Read Lexeme} b (Err (record { error = UnexpectedEndOfFile; span = t.span }, t ∷ ts)) (Ok (t, ts)) >>=
+    λ x. Err (record { error = UnexpectedToken (shown x.0.kind x.0.text); span = x.0.span }, x.1))
 by_end t ts true = refl
 by_end t ts false = refl
 
@@ -68,7 +83,8 @@ seen_refuse [] = refl
 seen_refuse {A} (t ∷ ts) = by_end t ts (same_kind t.kind EndOfFile)
 
 pub taken : (t : Lexeme) (ts : List Lexeme) → same_kind t.kind EndOfFile ≡ false → Ok (t, ts) ≡ next_at (t ∷ ts)
-taken t ts e = ap (λ (b : Bool). cond {A = Read Lexeme} b (Err (record { error = UnexpectedEndOfFile; span = t.span }, t ∷ ts)) (Ok (t, ts))) (sym e)
+taken t ts e = ap (λ (b : Bool). cond {A = Read Lexeme} b (Err
+    (record { error = UnexpectedEndOfFile; span = t.span }, t ∷ ts)) (Ok (t, ts))) (sym e)
 
 -- No token that passes is the end.
 abbrev pub PassesNoEnd : Test → Type 0
@@ -77,7 +93,8 @@ PassesNoEnd test = (t : Lexeme) → passes test t ≡ true → same_kind t.kind 
 pub kind_no_end : (k : Kind) → same_kind k EndOfFile ≡ false → PassesNoEnd (of k)
 kind_no_end k e t p = ap (λ (z : Kind). same_kind z EndOfFile) (of_kind k t p) ∙ e
 
-wanted : (test : Test) (t : Lexeme) (ts : List Lexeme) (b : Bool) → PassesNoEnd test → passes test t ≡ b → seen (pick b done refuse t ts) ≡ next_if b (t ∷ ts)
+wanted : (test : Test) (t : Lexeme) (ts : List Lexeme) (b : Bool) → PassesNoEnd test → passes test t ≡ b
+    → seen (pick b done refuse t ts) ≡ next_if b (t ∷ ts)
 unfolding done
 wanted test t ts true e p = taken t ts (e t p)
 wanted test t ts false e p = seen_refuse (t ∷ ts)
@@ -86,53 +103,66 @@ nothing_wanted : (b : Bool) → next_at [] ≡ next_if b []
 nothing_wanted true = refl
 nothing_wanted false = refl
 
-pub seen_test : (test : Test) → PassesNoEnd test → (ts : List Lexeme) → seen (want test ts) ≡ next_if (passes test (first_of ts)) ts
+pub seen_test : (test : Test) → PassesNoEnd test → (ts : List Lexeme)
+    → seen (want test ts) ≡ next_if (passes test (first_of ts)) ts
 unfolding want on refuse
 seen_test test e [] = nothing_wanted (passes test (first_of []))
 seen_test test e (t ∷ ts) = wanted test t ts (passes test t) e refl
 
-pub seen_want : (k : Kind) → same_kind k EndOfFile ≡ false → (ts : List Lexeme) → seen (want (of k) ts) ≡ next_if (same_kind (kind_at ts) k) ts
+pub seen_want : (k : Kind) → same_kind k EndOfFile ≡ false → (ts : List Lexeme)
+    → seen (want (of k) ts) ≡ next_if (same_kind (kind_at ts) k) ts
 seen_want k e ts = seen_test (of k) (kind_no_end k e) ts
 
 -- a token that is wanted, and then k
-pub want_as : {B : Type 0} (k : Kind) → same_kind k EndOfFile ≡ false → (f : Lexeme → Reader Error B) (ts : List Lexeme) (l : (Lexeme × List Lexeme) → Read B) → ((x : Lexeme × List Lexeme) → seen (f x.0 x.1) ≡ l x) → seen (seq (want (of k)) f ts) ≡ (next_if (same_kind (kind_at ts) k) ts >>= l)
+pub want_as : {B : Type 0} (k : Kind) → same_kind k EndOfFile ≡ false
+    → (f : Lexeme → Reader Error B) (ts : List Lexeme) (l : (Lexeme × List Lexeme) → Read B)
+    → ((x : Lexeme × List Lexeme) → seen (f x.0 x.1) ≡ l x)
+    → seen (seq (want (of k)) f ts) ≡ (next_if (same_kind (kind_at ts) k) ts >>= l)
 want_as k e f ts l h = seq_as (want (of k)) f ts _ l (seen_want k e ts) h
 
-chosen : {A : Type 0} (b : Bool) (f g : Reader Error A) (t : Lexeme) (ts : List Lexeme) → seen (choose b f g (t ∷ ts)) ≡ cond b (seen (f (t ∷ ts))) (seen (g (t ∷ ts)))
+chosen : {A : Type 0} (b : Bool) (f g : Reader Error A) (t : Lexeme) (ts : List Lexeme)
+    → seen (choose b f g (t ∷ ts)) ≡ cond b (seen (f (t ∷ ts))) (seen (g (t ∷ ts)))
 chosen true f g t ts = refl
 chosen false f g t ts = refl
 
 -- one of two readers, by the next token
-pub look_as : {A : Type 0} (test : Test) (f g : Reader Error A) (ts : List Lexeme) → passes test (first_of []) ≡ false → seen (look test f g ts) ≡ cond (passes test (first_of ts)) (seen (f ts)) (seen (g ts))
+pub look_as : {A : Type 0} (test : Test) (f g : Reader Error A) (ts : List Lexeme) → passes test (first_of []) ≡ false
+    → seen (look test f g ts) ≡ cond (passes test (first_of ts)) (seen (f ts)) (seen (g ts))
 unfolding look
 look_as test f g [] e = ap (λ (b : Bool). cond b (seen (f [])) (seen (g []))) (sym e)
 look_as test f g (t ∷ ts) e = chosen (passes test t) f g t ts
 
 -- the same where a token stands next
-pub look_ended : {A : Type 0} (test : Test) (f g : Reader Error A) (ts : List Lexeme) → EndsOnce ts → seen (look test f g ts) ≡ cond (passes test (first_of ts)) (seen (f ts)) (seen (g ts))
+pub look_ended : {A : Type 0} (test : Test) (f g : Reader Error A) (ts : List Lexeme) → EndsOnce ts
+    → seen (look test f g ts) ≡ cond (passes test (first_of ts)) (seen (f ts)) (seen (g ts))
 unfolding look
 look_ended test f g [] e = absurd e
 look_ended test f g (t ∷ ts) e = chosen (passes test t) f g t ts
 
 -- a token that is taken where it passes
-pub on_as : {A : Type 0} (test : Test) (k : Lexeme → Reader Error A) (g : Reader Error A) (ts : List Lexeme) → PassesNoEnd test → passes test (first_of []) ≡ false
+pub on_as : {A : Type 0} (test : Test) (k : Lexeme → Reader Error A) (g : Reader Error A) (ts : List Lexeme)
+    → PassesNoEnd test → passes test (first_of []) ≡ false
     → seen (on test k g ts) ≡ cond (passes test (first_of ts)) (next_at ts >>= λ t. seen (k t.0 t.1)) (seen (g ts))
 unfolding on
-on_as {A} test k g [] e n = ap (λ (b : Bool). cond {A = Read A} b (next_at [] >>= λ t. seen (k t.0 t.1)) (seen (g []))) (sym n)
+on_as {A} test k g [] e n = ap (λ (b : Bool). cond {A = Read A} b (next_at [] >>= λ t. seen (k t.0 t.1)) (seen (g [])))
+    (sym n)
 on_as {A} test k g (t ∷ ts) e n = by_test (passes test t) refl
   where
-    by_test : (b : Bool) → passes test t ≡ b → seen (pick b k g t ts) ≡ cond b (next_at (t ∷ ts) >>= λ x. seen (k x.0 x.1)) (seen (g (t ∷ ts)))
+    by_test : (b : Bool) → passes test t ≡ b
+        → seen (pick b k g t ts) ≡ cond b (next_at (t ∷ ts) >>= λ x. seen (k x.0 x.1)) (seen (g (t ∷ ts)))
     by_test true p = ap (λ (r : Read Lexeme). r >>= λ x. seen (k x.0 x.1)) (taken t ts (e t p))
     by_test false p = refl
 
 -- ---- spans
 
-spans_after : {A : Type 0} (ts : List Lexeme) (r : reading.Read Error (Span → A)) → seen (after r (give_span ts)) ≡ (seen r >>= λ x. Ok (x.0 (span_of (front ts x.1)), x.1))
+spans_after : {A : Type 0} (ts : List Lexeme) (r : reading.Read Error (Span → A))
+    → seen (after r (give_span ts)) ≡ (seen r >>= λ x. Ok (x.0 (span_of (front ts x.1)), x.1))
 spans_after ts (Took a rest) = refl
 spans_after ts (Refused [] x) = refl
 spans_after ts (Refused (t ∷ rest) x) = refl
 spans_after ts Out = refl
 
-pub seen_span : {A : Type 0} (f : Reader Error (Span → A)) (ts : List Lexeme) → seen (with_span f ts) ≡ (seen (f ts) >>= λ x. Ok (x.0 (span_of (front ts x.1)), x.1))
+pub seen_span : {A : Type 0} (f : Reader Error (Span → A)) (ts : List Lexeme)
+    → seen (with_span f ts) ≡ (seen (f ts) >>= λ x. Ok (x.0 (span_of (front ts x.1)), x.1))
 unfolding with_span
 seen_span f ts = spans_after ts (f ts)

@@ -11,13 +11,28 @@ use Rattle.juniper.proofs.parser.depth.parse_document_source_within.Goals as goa
 
 pub returns-in-Ok : goal.returns-in-Ok
 returns-in-Ok g c =
-    let p = c.parse_within.ensures (chars c.args.s.now) (cut_from_start _ _ _ c.new-lexer.ensures c.in-Ok.ensures.tokens) in
-    record { accepted = p.accepted; refused = p.refused; in_characters = p.in_characters; within = p.within; too_deep = p.too_deep }
+    let p = c.parse_within.ensures (chars c.args.s.now)
+    (cut_from_start _ _ _ c.new-lexer.ensures c.in-Ok.ensures.tokens) in
+    record {
+      accepted = p.accepted;
+      refused = p.refused;
+      in_characters = p.in_characters;
+      within = p.within;
+      too_deep = p.too_deep;
+    }
 
 pub returns-in-Err : goal.returns-in-Err
 returns-in-Err g c =
     let S = stated g.S.ParseScalarValue.reading g.S.ScalarValue.of_bool in
     let view = view_document g.S.ParseScalarValue.content in
-    let told = lexical_within S c.args.depth (chars c.args.s.now) view c.new-lexer.result c.in-Err.failure c.new-lexer.ensures c.in-Err.ensures.fault c.in-Err.ensures.zero_width in
-    let p = subst (λ (e : ParseFailure). AnswersWithin S c.args.depth (chars c.args.s.now) view (Err (Parse e))) (sym c.from.ensures) told in
-    record { accepted = p.accepted; refused = p.refused; in_characters = p.in_characters; within = p.within; too_deep = p.too_deep }
+    let told = lexical_within S c.args.depth (chars c.args.s.now) view c.new-lexer.result c.in-Err.failure
+    c.new-lexer.ensures c.in-Err.ensures.fault c.in-Err.ensures.zero_width in
+    let p = subst (λ (e : ParseFailure). AnswersWithin S c.args.depth (chars c.args.s.now) view (Err (Parse e)))
+    (sym c.from.ensures) told in
+    record {
+      accepted = p.accepted;
+      refused = p.refused;
+      in_characters = p.in_characters;
+      within = p.within;
+      too_deep = p.too_deep;
+    }

@@ -7,7 +7,9 @@ use Rattle.juniper.proofs.parser.directives.parse_argument_list.Given as goal
 
 abbrev pub invariant-loop-items : goal.invariant-loop-items
 invariant-loop-items g l = record {
-  so_far : with_front (map (view_argument g.S.ParseScalarValue.content) l.items.items) (arguments_inner_read (stated g.S.ParseScalarValue.reading g.S.ScalarValue.of_bool) l.parser) ≡ arguments_inner_read (stated g.S.ParseScalarValue.reading g.S.ScalarValue.of_bool) l.fn.parser;
+  so_far : with_front (map (view_argument g.S.ParseScalarValue.content) l.items.items)
+      (arguments_inner_read (stated g.S.ParseScalarValue.reading g.S.ScalarValue.of_bool) l.parser)
+      ≡ arguments_inner_read (stated g.S.ParseScalarValue.reading g.S.ScalarValue.of_bool) l.fn.parser;
   not_longer : length l.parser ≤ length l.fn.parser;
 }
 

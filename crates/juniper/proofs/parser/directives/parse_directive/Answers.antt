@@ -12,6 +12,15 @@ pub returns-clause-gives : goal.returns-clause-gives
 unfolding directive_read
 returns-clause-gives g c =
     rw (c.in_ok-start.ensures.gives, c.in_ok-name.ensures.gives, c.in_ok-arguments.ensures.gives, c.new.ensures)
-    (ap (λ (p : Span). Ok (record { name = view_word c.in_ok-name.name; arguments = option_map (view_arguments g.S.ParseScalarValue.content) c.in_ok-arguments.arguments; span = p }, c.parse_optional_arguments.new.parser))
-    (sym (c.up_to-span.ensures ∙ rw (c.span_of.ensures, c.start_end.ensures) (ap (to_end_of (from_to (view_span c.in_ok-start.field-0.span) (view_span c.in_ok-name.name.span)))
-    (end_of_part (view_arguments g.S.ParseScalarValue.content) (λ a. a.span) (λ s. refl) c.in_ok-arguments.arguments)))))
+    (ap (λ (p : Span). Ok (
+      record {
+        name = view_word c.in_ok-name.name;
+        arguments = option_map (view_arguments g.S.ParseScalarValue.content) c.in_ok-arguments.arguments;
+        span = p;
+      },
+      c.parse_optional_arguments.new.parser,
+    ))
+    (sym (c.up_to-span.ensures ∙ rw (c.span_of.ensures, c.start_end.ensures)
+    (ap (to_end_of (from_to (view_span c.in_ok-start.field-0.span) (view_span c.in_ok-name.name.span)))
+    (end_of_part (view_arguments g.S.ParseScalarValue.content) (λ a. a.span) (λ s. refl)
+    c.in_ok-arguments.arguments)))))

@@ -18,18 +18,44 @@ use Rattle.juniper.proofs.parser.directives.parse_directives.Goals as goal
 pub returns-in_err-parse_directive-clause-gives : goal.returns-in_err-parse_directive-clause-gives
 unfolding directives_read
 returns-in_err-parse_directive-clause-gives g c =
+    let scalars = stated g.S.ParseScalarValue.reading g.S.ScalarValue.of_bool in
     let p = err_from_is_err_and c.from_residual.result c.from_residual.ensures.1 in
-    rw (p.1, p.2) (after_fails c.in_err-parse_directive.field-0.0 c.parse_directive.new.parser (each_directive_read (stated g.S.ParseScalarValue.reading g.S.ScalarValue.of_bool) c.args.parser.now) _
-    (before_fail (map (view_directive g.S.ParseScalarValue.content) c.loop-items.items.items) (directive_read (stated g.S.ParseScalarValue.reading g.S.ScalarValue.of_bool) c.loop-items.parser) (each_directive_read (stated g.S.ParseScalarValue.reading g.S.ScalarValue.of_bool)) ((each_directive_read (stated g.S.ParseScalarValue.reading g.S.ScalarValue.of_bool)) c.loop-items.parser) ((each_directive_read (stated g.S.ParseScalarValue.reading g.S.ScalarValue.of_bool)) c.args.parser.now) (same_kind (kind_at c.loop-items.parser) At) c.loop-items.parser (each_directive_unfolds (stated g.S.ParseScalarValue.reading g.S.ScalarValue.of_bool) c.loop-items.parser c.next_is.ensures.ended) c.loop-items.invariant.so_far (sym c.next_is.ensures.is ∙ c.loop-items-test.true) c.in_err-parse_directive.field-0.0 c.parse_directive.new.parser c.in_err-parse_directive.ensures.gives))
+    rw (p.1, p.2) (after_fails c.in_err-parse_directive.field-0.0 c.parse_directive.new.parser
+    (each_directive_read scalars c.args.parser.now) _
+    (before_fail (map (view_directive g.S.ParseScalarValue.content) c.loop-items.items.items)
+    (directive_read scalars c.loop-items.parser) (each_directive_read scalars)
+    ((each_directive_read scalars) c.loop-items.parser) ((each_directive_read scalars) c.args.parser.now)
+    (same_kind (kind_at c.loop-items.parser) At) c.loop-items.parser
+    (each_directive_unfolds scalars c.loop-items.parser c.next_is.ensures.ended) c.loop-items.invariant.so_far
+    (sym c.next_is.ensures.is ∙ c.loop-items-test.true) c.in_err-parse_directive.field-0.0
+    c.parse_directive.new.parser c.in_err-parse_directive.ensures.gives))
 
 pub loop-items-preserved : goal.loop-items-preserved
-loop-items-preserved g c = record {
-  so_far = rw (c.in_ok-push.ensures.items, map-append) (before_go_on (map (view_directive g.S.ParseScalarValue.content) c.loop-items.items.items) (directive_read (stated g.S.ParseScalarValue.reading g.S.ScalarValue.of_bool) c.loop-items.parser) (each_directive_read (stated g.S.ParseScalarValue.reading g.S.ScalarValue.of_bool)) ((each_directive_read (stated g.S.ParseScalarValue.reading g.S.ScalarValue.of_bool)) c.loop-items.parser) ((each_directive_read (stated g.S.ParseScalarValue.reading g.S.ScalarValue.of_bool)) c.args.parser.now) (same_kind (kind_at c.loop-items.parser) At) c.loop-items.parser (each_directive_unfolds (stated g.S.ParseScalarValue.reading g.S.ScalarValue.of_bool) c.loop-items.parser c.next_is.ensures.ended) c.loop-items.invariant.so_far (sym c.next_is.ensures.is ∙ c.loop-items-test.true) (view_directive g.S.ParseScalarValue.content c.in_ok-parse_directive.field-0) c.parse_directive.new.parser c.in_ok-parse_directive.ensures.gives);
-  not_longer = search rules;
-}
+loop-items-preserved g c =
+    let scalars = stated g.S.ParseScalarValue.reading g.S.ScalarValue.of_bool in record {
+      so_far = rw (c.in_ok-push.ensures.items, map-append)
+          (before_go_on (map (view_directive g.S.ParseScalarValue.content) c.loop-items.items.items)
+          (directive_read scalars c.loop-items.parser) (each_directive_read scalars)
+          ((each_directive_read scalars) c.loop-items.parser) ((each_directive_read scalars) c.args.parser.now)
+          (same_kind (kind_at c.loop-items.parser) At) c.loop-items.parser
+          (each_directive_unfolds scalars c.loop-items.parser c.next_is.ensures.ended) c.loop-items.invariant.so_far
+          (sym c.next_is.ensures.is ∙ c.loop-items-test.true)
+          (view_directive g.S.ParseScalarValue.content c.in_ok-parse_directive.field-0) c.parse_directive.new.parser
+          c.in_ok-parse_directive.ensures.gives);
+      not_longer = search rules;
+    }
 
 pub returns-clause-gives : goal.returns-clause-gives
 unfolding directives_read
 returns-clause-gives g c =
-    ap (λ (r : Read (List (Directive Content))). r >>= λ ds. Ok (spanned (stated g.S.ParseScalarValue.reading g.S.ScalarValue.of_bool) ds.0, ds.1)) (before_end (map (view_directive g.S.ParseScalarValue.content) c.loop-items.items.items) (directive_read (stated g.S.ParseScalarValue.reading g.S.ScalarValue.of_bool) c.loop-items.parser) (each_directive_read (stated g.S.ParseScalarValue.reading g.S.ScalarValue.of_bool)) ((each_directive_read (stated g.S.ParseScalarValue.reading g.S.ScalarValue.of_bool)) c.loop-items.parser) ((each_directive_read (stated g.S.ParseScalarValue.reading g.S.ScalarValue.of_bool)) c.args.parser.now) (same_kind (kind_at c.loop-items.parser) At) c.loop-items.parser (each_directive_unfolds (stated g.S.ParseScalarValue.reading g.S.ScalarValue.of_bool) c.loop-items.parser c.next_is.ensures.ended) c.loop-items.invariant.so_far (sym c.next_is.ensures.is ∙ c.loop-items-test.false))
-    ∙ ap (λ (o : Option (List (Directive Content) × Span)). Ok (o, c.loop-items.parser)) (sym (spanned_is g.S.ParseScalarValue.content (stated g.S.ParseScalarValue.reading g.S.ScalarValue.of_bool) c.loop-items.items c.spanning.result c.spanning.ensures.span c.spanning.ensures.items))
+    let scalars = stated g.S.ParseScalarValue.reading g.S.ScalarValue.of_bool in
+    ap (λ (r : Read (List (Directive Content))). r >>= λ ds. Ok (spanned scalars ds.0, ds.1))
+    (before_end (map (view_directive g.S.ParseScalarValue.content) c.loop-items.items.items)
+    (directive_read scalars c.loop-items.parser) (each_directive_read scalars)
+    ((each_directive_read scalars) c.loop-items.parser) ((each_directive_read scalars) c.args.parser.now)
+    (same_kind (kind_at c.loop-items.parser) At) c.loop-items.parser
+    (each_directive_unfolds scalars c.loop-items.parser c.next_is.ensures.ended) c.loop-items.invariant.so_far
+    (sym c.next_is.ensures.is ∙ c.loop-items-test.false))
+    ∙ ap (λ (o : Option (List (Directive Content) × Span)). Ok (o, c.loop-items.parser))
+    (sym (spanned_is g.S.ParseScalarValue.content scalars c.loop-items.items c.spanning.result
+    c.spanning.ensures.span c.spanning.ensures.items))

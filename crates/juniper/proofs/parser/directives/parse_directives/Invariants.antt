@@ -7,7 +7,9 @@ use Rattle.juniper.proofs.parser.directives.parse_directives.Given as goal
 
 abbrev pub invariant-loop-items : goal.invariant-loop-items
 invariant-loop-items g l = record {
-  so_far : before_others (map (view_directive g.S.ParseScalarValue.content) l.items.items) (each_directive_read (stated g.S.ParseScalarValue.reading g.S.ScalarValue.of_bool) l.parser) ≡ each_directive_read (stated g.S.ParseScalarValue.reading g.S.ScalarValue.of_bool) l.fn.parser;
+  so_far : before_others (map (view_directive g.S.ParseScalarValue.content) l.items.items)
+      (each_directive_read (stated g.S.ParseScalarValue.reading g.S.ScalarValue.of_bool) l.parser)
+      ≡ each_directive_read (stated g.S.ParseScalarValue.reading g.S.ScalarValue.of_bool) l.fn.parser;
   not_longer : length l.parser ≤ length l.fn.parser;
 }
 

@@ -9,20 +9,29 @@ use Rattle.juniper.proofs.parser.document.parse_document_source.Goals as goal
 
 pub returns-clause-accepted : goal.returns-clause-accepted
 returns-clause-accepted g c =
-    accepts (stated g.S.ParseScalarValue.reading g.S.ScalarValue.of_bool) (chars c.args.s.now) c.in_ok-parser.parser (cut_from_start _ _ _ c.new-lexer.ensures c.in_ok-parser.ensures.tokens) (view_document g.S.ParseScalarValue.content) c.parse_definitions.result c.parse_definitions.ensures
+    accepts (stated g.S.ParseScalarValue.reading g.S.ScalarValue.of_bool) (chars c.args.s.now) c.in_ok-parser.parser
+    (cut_from_start _ _ _ c.new-lexer.ensures c.in_ok-parser.ensures.tokens)
+    (view_document g.S.ParseScalarValue.content) c.parse_definitions.result c.parse_definitions.ensures
 
 pub returns-clause-refused : goal.returns-clause-refused
 returns-clause-refused g c =
-    refuses (stated g.S.ParseScalarValue.reading g.S.ScalarValue.of_bool) (chars c.args.s.now) c.in_ok-parser.parser (cut_from_start _ _ _ c.new-lexer.ensures c.in_ok-parser.ensures.tokens) (view_document g.S.ParseScalarValue.content) c.parse_definitions.result c.parse_definitions.ensures
+    refuses (stated g.S.ParseScalarValue.reading g.S.ScalarValue.of_bool) (chars c.args.s.now) c.in_ok-parser.parser
+    (cut_from_start _ _ _ c.new-lexer.ensures c.in_ok-parser.ensures.tokens)
+    (view_document g.S.ParseScalarValue.content) c.parse_definitions.result c.parse_definitions.ensures
 
 pub returns-in_err-parser-clause-refused : goal.returns-in_err-parser-clause-refused
 returns-in_err-parser-clause-refused g c =
-    refused_by_lexer (List Lexeme) (chars c.args.s.now) (IsRefusal (stated g.S.ParseScalarValue.reading g.S.ScalarValue.of_bool) (chars c.args.s.now)) (lexical (stated g.S.ParseScalarValue.reading g.S.ScalarValue.of_bool) (chars c.args.s.now)) _ c.in_err-parser.field-0.0 _ c.new-lexer.ensures c.in_err-parser.ensures.fault c.in_err-parser.ensures.zero_width c.from_residual.ensures.1
+    let scalars = stated g.S.ParseScalarValue.reading g.S.ScalarValue.of_bool in
+    refused_by_lexer (List Lexeme) (chars c.args.s.now) (IsRefusal scalars (chars c.args.s.now))
+    (lexical scalars (chars c.args.s.now)) _ c.in_err-parser.field-0.0 _ c.new-lexer.ensures
+    c.in_err-parser.ensures.fault c.in_err-parser.ensures.zero_width c.from_residual.ensures.1
 
 pub returns-clause-in_characters : goal.returns-clause-in_characters
 returns-clause-in_characters g c =
-    in_text (stated g.S.ParseScalarValue.reading g.S.ScalarValue.of_bool) (chars c.args.s.now) c.parse_definitions.result (returns-clause-refused g c)
+    in_text (stated g.S.ParseScalarValue.reading g.S.ScalarValue.of_bool) (chars c.args.s.now)
+    c.parse_definitions.result (returns-clause-refused g c)
 
 pub returns-in_err-parser-clause-in_characters : goal.returns-in_err-parser-clause-in_characters
 returns-in_err-parser-clause-in_characters g c =
-    in_text (stated g.S.ParseScalarValue.reading g.S.ScalarValue.of_bool) (chars c.args.s.now) c.from_residual.result (returns-in_err-parser-clause-refused g c)
+    in_text (stated g.S.ParseScalarValue.reading g.S.ScalarValue.of_bool) (chars c.args.s.now) c.from_residual.result
+    (returns-in_err-parser-clause-refused g c)

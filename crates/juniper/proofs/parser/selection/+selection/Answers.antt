@@ -16,38 +16,81 @@ use Rattle.juniper.proofs.SeenSelections.{selections_repeat}
 use Rattle.juniper.proofs.SelectionViews.{selections_are, field_view, whole_span}
 use Rattle.juniper.proofs.parser.selection.+selection.Goals as goal
 
-pub parse_selection_list-returns-in_err-parse_selection-clause-gives : goal.parse_selection_list-returns-in_err-parse_selection-clause-gives
+pub parse_selection_list-returns-in_err-parse_selection-clause-gives :
+    goal.parse_selection_list-returns-in_err-parse_selection-clause-gives
 parse_selection_list-returns-in_err-parse_selection-clause-gives g t c =
-    let p = err_from_is_err_and c.from_residual-in_err-parse_selection.result c.from_residual-in_err-parse_selection.ensures.1 in
-    rw (p.1, p.2) (some_item_fails (skip_at token.CurlyClose) (selection_read (stated g.S.ParseScalarValue.reading g.S.ScalarValue.of_bool)) (selections_inner_read (stated g.S.ParseScalarValue.reading g.S.ScalarValue.of_bool)) (selections_repeat (stated g.S.ParseScalarValue.reading g.S.ScalarValue.of_bool)) (map (view_selection g.S.ParseScalarValue.content) c.loop-items.items.items) c.loop-items.parser _ c.loop-items.invariant.so_far c.in_err-parse_selection.field-0.0 c.parse_selection.new.parser c.in_err-parse_selection.ensures.gives)
+    let scalars = stated g.S.ParseScalarValue.reading g.S.ScalarValue.of_bool in
+    let p = err_from_is_err_and c.from_residual-in_err-parse_selection.result
+    c.from_residual-in_err-parse_selection.ensures.1 in
+    rw (p.1, p.2) (some_item_fails (skip_at token.CurlyClose) (selection_read scalars) (selections_inner_read scalars)
+    (selections_repeat scalars) (map (view_selection g.S.ParseScalarValue.content) c.loop-items.items.items)
+    c.loop-items.parser _ c.loop-items.invariant.so_far c.in_err-parse_selection.field-0.0
+    c.parse_selection.new.parser c.in_err-parse_selection.ensures.gives)
 
-pub parse_selection_list-returns-in_err-closing-clause-gives : goal.parse_selection_list-returns-in_err-closing-clause-gives
+pub parse_selection_list-returns-in_err-closing-clause-gives :
+    goal.parse_selection_list-returns-in_err-closing-clause-gives
 parse_selection_list-returns-in_err-closing-clause-gives g t c =
+    let scalars = stated g.S.ParseScalarValue.reading g.S.ScalarValue.of_bool in
     let p = err_from_is_err_and c.from_residual-in_err-closing.result c.from_residual-in_err-closing.ensures.1 in
-    rw (p.1, p.2) (some_close_fails (skip_at token.CurlyClose) (selection_read (stated g.S.ParseScalarValue.reading g.S.ScalarValue.of_bool)) (selections_inner_read (stated g.S.ParseScalarValue.reading g.S.ScalarValue.of_bool)) (selections_repeat (stated g.S.ParseScalarValue.reading g.S.ScalarValue.of_bool)) (map (view_selection g.S.ParseScalarValue.content) c.loop-items.items.items) c.loop-items.parser _ c.loop-items.invariant.so_far c.in_err-closing.field-0.0 (view_selection g.S.ParseScalarValue.content c.in_ok-parse_selection.field-0) c.parse_selection.new.parser c.skip.new.self c.in_ok-parse_selection.ensures.gives c.in_err-closing.ensures.gives)
+    rw (p.1, p.2) (some_close_fails (skip_at token.CurlyClose) (selection_read scalars) (selections_inner_read scalars)
+    (selections_repeat scalars) (map (view_selection g.S.ParseScalarValue.content) c.loop-items.items.items)
+    c.loop-items.parser _ c.loop-items.invariant.so_far c.in_err-closing.field-0.0
+    (view_selection g.S.ParseScalarValue.content c.in_ok-parse_selection.field-0) c.parse_selection.new.parser
+    c.skip.new.self c.in_ok-parse_selection.ensures.gives c.in_err-closing.ensures.gives)
 
 pub parse_selection_list-returns-in-Some-clause-gives : goal.parse_selection_list-returns-in-Some-clause-gives
 parse_selection_list-returns-in-Some-clause-gives g t c =
-    some_end (skip_at token.CurlyClose) (selection_read (stated g.S.ParseScalarValue.reading g.S.ScalarValue.of_bool)) (selections_inner_read (stated g.S.ParseScalarValue.reading g.S.ScalarValue.of_bool)) (selections_repeat (stated g.S.ParseScalarValue.reading g.S.ScalarValue.of_bool)) (map (view_selection g.S.ParseScalarValue.content) c.loop-items.items.items) c.loop-items.parser _ c.loop-items.invariant.so_far (view_selection g.S.ParseScalarValue.content c.in_ok-parse_selection.field-0) (view_token c.in-Some.closing) c.parse_selection.new.parser c.skip.new.self c.in_ok-parse_selection.ensures.gives (rw c.in-Some.is at c.in_ok-closing.ensures.gives)
+    let scalars = stated g.S.ParseScalarValue.reading g.S.ScalarValue.of_bool in
+    some_end (skip_at token.CurlyClose) (selection_read scalars) (selections_inner_read scalars)
+    (selections_repeat scalars) (map (view_selection g.S.ParseScalarValue.content) c.loop-items.items.items)
+    c.loop-items.parser _ c.loop-items.invariant.so_far
+    (view_selection g.S.ParseScalarValue.content c.in_ok-parse_selection.field-0) (view_token c.in-Some.closing)
+    c.parse_selection.new.parser c.skip.new.self c.in_ok-parse_selection.ensures.gives
+    (rw c.in-Some.is at c.in_ok-closing.ensures.gives)
     ∙ rw (c.new.ensures, c.in_ok-push.ensures.items, map-append) refl
 
 pub parse_selection_list-loop-items-preserved : goal.parse_selection_list-loop-items-preserved
-parse_selection_list-loop-items-preserved g t c = record {
-  so_far = rw (c.in_ok-push.ensures.items, map-append) (some_go_on (skip_at token.CurlyClose) (selection_read (stated g.S.ParseScalarValue.reading g.S.ScalarValue.of_bool)) (selections_inner_read (stated g.S.ParseScalarValue.reading g.S.ScalarValue.of_bool)) (selections_repeat (stated g.S.ParseScalarValue.reading g.S.ScalarValue.of_bool)) (map (view_selection g.S.ParseScalarValue.content) c.loop-items.items.items) c.loop-items.parser _ c.loop-items.invariant.so_far (view_selection g.S.ParseScalarValue.content c.in_ok-parse_selection.field-0) c.parse_selection.new.parser c.skip.new.self c.in_ok-parse_selection.ensures.gives (rw c.in_default.is at c.in_ok-closing.ensures.gives));
-  not_longer = search rules;
-}
+parse_selection_list-loop-items-preserved g t c =
+    let scalars = stated g.S.ParseScalarValue.reading g.S.ScalarValue.of_bool in record {
+      so_far = rw (c.in_ok-push.ensures.items, map-append)
+          (some_go_on (skip_at token.CurlyClose) (selection_read scalars) (selections_inner_read scalars)
+          (selections_repeat scalars) (map (view_selection g.S.ParseScalarValue.content) c.loop-items.items.items)
+          c.loop-items.parser _ c.loop-items.invariant.so_far
+          (view_selection g.S.ParseScalarValue.content c.in_ok-parse_selection.field-0) c.parse_selection.new.parser
+          c.skip.new.self c.in_ok-parse_selection.ensures.gives (rw c.in_default.is at c.in_ok-closing.ensures.gives));
+      not_longer = search rules;
+    }
 
 pub parse_selection_set-returns-clause-gives : goal.parse_selection_set-returns-clause-gives
 unfolding set_read
 parse_selection_set-returns-clause-gives g t c =
     rw (c.in_ok-opening.ensures.gives, c.in_ok-list.ensures.gives, c.start_end.ensures)
-    (ap (λ (ss : Selections Content). Ok ((ss, from_to (view_span c.in_ok-opening.field-0.span) (view_span c.in_ok-list.list.span)), c.parse_selection_list.new.parser)) (selections_are g.S.ParseScalarValue.content c.in_ok-list.list.item.items))
+    (ap (λ (ss : Selections Content). Ok (
+      (
+        ss,
+        from_to (view_span c.in_ok-opening.field-0.span)
+            (view_span c.in_ok-list.list.span),
+      ),
+      c.parse_selection_list.new.parser,
+    ))
+    (selections_are g.S.ParseScalarValue.content c.in_ok-list.list.item.items))
 
 pub parse_field-returns-clause-gives : goal.parse_field-returns-clause-gives
 unfolding field_read
 parse_field-returns-clause-gives g t c =
-    rw (c.in_ok-alias.ensures.gives, c.in_ok-arguments.ensures.gives, c.in_ok-directives.ensures.gives, c.in_ok-set.ensures.gives, c.new.ensures)
+    rw (
+      c.in_ok-alias.ensures.gives,
+      c.in_ok-arguments.ensures.gives,
+      c.in_ok-directives.ensures.gives,
+      c.in_ok-set.ensures.gives,
+      c.new.ensures,
+    )
     (ap (λ (s : Selection Content). Ok (s, c.parse_optional_selection_set.new.parser))
-    (field_view g.S.ParseScalarValue.content c.in_ok-alias.alias c.in_ok-alias.name c.in_ok-arguments.arguments c.in_ok-directives.directives c.in_ok-set.set c.item_of.result c.item_of-2.result c.up_to-span.result _ c.item_of.ensures c.item_of-2.ensures
-    (whole_span g.S.ParseScalarValue.content c.in_ok-alias.alias c.in_ok-alias.name c.in_ok-arguments.arguments c.in_ok-directives.directives c.in_ok-set.set c.span_of.result c.span_of-2.result c.span_of-3.result c.span_of-4.result c.from_part-named.result c.up_to.result c.up_to-2.result c.up_to-span.result
-    c.span_of.ensures c.from_part-named.ensures c.span_of-2.ensures c.up_to.ensures c.span_of-3.ensures c.up_to-2.ensures c.span_of-4.ensures c.up_to-span.ensures)))
+    (field_view g.S.ParseScalarValue.content c.in_ok-alias.alias c.in_ok-alias.name c.in_ok-arguments.arguments
+    c.in_ok-directives.directives c.in_ok-set.set c.item_of.result c.item_of-2.result c.up_to-span.result _
+    c.item_of.ensures c.item_of-2.ensures
+    (whole_span g.S.ParseScalarValue.content c.in_ok-alias.alias c.in_ok-alias.name c.in_ok-arguments.arguments
+    c.in_ok-directives.directives c.in_ok-set.set c.span_of.result c.span_of-2.result c.span_of-3.result
+    c.span_of-4.result c.from_part-named.result c.up_to.result c.up_to-2.result c.up_to-span.result
+    c.span_of.ensures c.from_part-named.ensures c.span_of-2.ensures c.up_to.ensures c.span_of-3.ensures
+    c.up_to-2.ensures c.span_of-4.ensures c.up_to-span.ensures)))

@@ -31,7 +31,9 @@ decreases-parse_selection_list g l = 5 * length l.parser.now + 4
 
 abbrev pub invariant-parse_selection_list-loop-items : goal.invariant-parse_selection_list-loop-items
 invariant-parse_selection_list-loop-items g l = record {
-  so_far : with_front (map (view_selection g.S.ParseScalarValue.content) l.items.items) (selections_inner_read (stated g.S.ParseScalarValue.reading g.S.ScalarValue.of_bool) l.parser) ≡ selections_inner_read (stated g.S.ParseScalarValue.reading g.S.ScalarValue.of_bool) l.fn.parser;
+  so_far : with_front (map (view_selection g.S.ParseScalarValue.content) l.items.items)
+      (selections_inner_read (stated g.S.ParseScalarValue.reading g.S.ScalarValue.of_bool) l.parser)
+      ≡ selections_inner_read (stated g.S.ParseScalarValue.reading g.S.ScalarValue.of_bool) l.fn.parser;
   not_longer : length l.parser ≤ length l.fn.parser;
 }
 

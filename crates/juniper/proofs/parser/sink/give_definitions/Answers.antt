@@ -23,7 +23,8 @@ loop-parser-preserved g c =
     let total = document_read S c.args.parser.now in
     let other = sym c.next_is.ensures.is ∙ c.if-next_is.false in record {
       front = front ++ a ∷ [];
-      so_far = go_on S front l.parser total l.invariant.so_far a left c.in_ok-parse_definition.ensures.gives c.next_is.ensures.ended other;
+      so_far = go_on S front l.parser total l.invariant.so_far a left c.in_ok-parse_definition.ensures.gives
+          c.next_is.ensures.ended other;
       gains = grown g.D.DefinitionSink.holds l.invariant.gains c.in_ok-take.ensures;
     }
 
@@ -35,7 +36,11 @@ returns-in_err-parse_definition g c =
     let failed = c.in_err-parse_definition in
     let left = c.parse_definition.new.parser in
     let total = document_read S c.args.parser.now in
-    rw (p.1, p.2) (left, fail S l.invariant.front l.parser total l.invariant.so_far failed.field-0.0 left failed.ensures.gives)
+    rw (p.1, p.2) (
+      left,
+      fail S l.invariant.front l.parser total l.invariant.so_far failed.field-0.0 left
+          failed.ensures.gives,
+    )
 
 pub returns-then-next_is : goal.returns-then-next_is
 returns-then-next_is g c =
@@ -48,6 +53,7 @@ returns-then-next_is g c =
     let last = sym c.next_is.ensures.is ∙ c.if-next_is.true in (
       front ++ a ∷ [],
       drop 1 left,
-      end S front l.parser total l.invariant.so_far a left c.in_ok-parse_definition.ensures.gives c.next_is.ensures.ended last,
+      end S front l.parser total l.invariant.so_far a left c.in_ok-parse_definition.ensures.gives
+          c.next_is.ensures.ended last,
       grown g.D.DefinitionSink.holds l.invariant.gains c.in_ok-take.ensures,
     )

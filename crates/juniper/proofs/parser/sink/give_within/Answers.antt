@@ -14,7 +14,8 @@ returns-in-Ok g c = λ source cut.
     let given = c.in-Ok.ensures in
     let view : Unit {0} → List (Definition Content) = λ x. given.0 in record {
       tree = given.0;
-      answers = answers_within S c.args.depth source view c.args.parser.now cut deep.result deep.new.self (Ok tt) deep.ensures (given.1, given.2);
+      answers = answers_within S c.args.depth source view c.args.parser.now cut deep.result deep.new.self (Ok tt)
+          deep.ensures (given.1, given.2);
       gains = given.3;
     }
 
@@ -24,8 +25,10 @@ returns-in-Err g c = λ source cut.
     let deep = c.end_at_nesting-deep in
     let failed = c.in-Err in
     let view : Unit {0} → List (Definition Content) = λ x. [] in
-    let answers = answers_within S c.args.depth source view c.args.parser.now cut deep.result deep.new.self (Err failed.failure) deep.ensures failed.ensures in record {
+    let answers = answers_within S c.args.depth source view c.args.parser.now cut deep.result deep.new.self
+    (Err failed.failure) deep.ensures failed.ensures in record {
       tree = [];
-      answers = subst (λ (e : DepthFailure). AnswersWithin S c.args.depth source view (Err e)) (sym c.told.ensures) answers;
+      answers = subst (λ (e : DepthFailure). AnswersWithin S c.args.depth source view (Err e)) (sym c.told.ensures)
+          answers;
       gains = tt;
     }

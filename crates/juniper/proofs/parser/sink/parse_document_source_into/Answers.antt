@@ -17,9 +17,16 @@ returns-in-Ok g c =
     let source = chars c.args.s.now in
     let given = c.give_within in
     let p = given.ensures source (cut_from_start _ _ _ c.new-lexer.ensures c.in-Ok.ensures.tokens) in
-    let tree = gains_tree g.D.DefinitionSink.holds S c.args.depth source c.args.definitions.now given.new.definitions given.result p in
+    let tree = gains_tree g.D.DefinitionSink.holds S c.args.depth source c.args.definitions.now given.new.definitions
+    given.result p in
     let answers = p.answers in
-    record { accepted = tree; refused = answers.refused; in_characters = answers.in_characters; within = answers.within; too_deep = answers.too_deep }
+    record {
+      accepted = tree;
+      refused = answers.refused;
+      in_characters = answers.in_characters;
+      within = answers.within;
+      too_deep = answers.too_deep;
+    }
 
 pub returns-in-Err : goal.returns-in-Err
 returns-in-Err g c =
@@ -27,6 +34,14 @@ returns-in-Err g c =
     let source = chars c.args.s.now in
     let view : Unit {0} → List (Definition Content) = λ x. [] in
     let failed = c.in-Err in
-    let told = lexical_within S c.args.depth source view c.new-lexer.result failed.failure c.new-lexer.ensures failed.ensures.fault failed.ensures.zero_width in
-    let p = subst (λ (e : ParseFailure). AnswersWithin S c.args.depth source view (Err (Parse e))) (sym c.from.ensures) told in
-    record { accepted = p.accepted; refused = p.refused; in_characters = p.in_characters; within = p.within; too_deep = p.too_deep }
+    let told = lexical_within S c.args.depth source view c.new-lexer.result failed.failure c.new-lexer.ensures
+    failed.ensures.fault failed.ensures.zero_width in
+    let p = subst (λ (e : ParseFailure). AnswersWithin S c.args.depth source view (Err (Parse e))) (sym c.from.ensures)
+    told in
+    record {
+      accepted = p.accepted;
+      refused = p.refused;
+      in_characters = p.in_characters;
+      within = p.within;
+      too_deep = p.too_deep;
+    }

@@ -14,13 +14,17 @@ pub parse_any_type-returns-clause-rest : goal.parse_any_type-returns-clause-rest
 parse_any_type-returns-clause-rest t c = further _ _ _ c.in_ok-inner.ensures.rest c.parse_non_null.ensures.rest
 
 pub parse_list_type-returns-in_err-inner-clause-rest : goal.parse_list_type-returns-in_err-inner-clause-rest
-parse_list_type-returns-in_err-inner-clause-rest t c = further _ _ _ c.in_ok-opening.ensures.rest c.in_err-inner.ensures.rest
+parse_list_type-returns-in_err-inner-clause-rest t c =
+    further _ _ _ c.in_ok-opening.ensures.rest c.in_err-inner.ensures.rest
 
 pub parse_list_type-returns-in_err-closing-clause-rest : goal.parse_list_type-returns-in_err-closing-clause-rest
-parse_list_type-returns-in_err-closing-clause-rest t c = further _ _ _ c.in_ok-opening.ensures.rest (further _ _ _ c.in_ok-inner.ensures.rest c.in_err-closing.ensures.rest)
+parse_list_type-returns-in_err-closing-clause-rest t c =
+    further _ _ _ c.in_ok-opening.ensures.rest (further _ _ _ c.in_ok-inner.ensures.rest c.in_err-closing.ensures.rest)
 
 pub parse_list_type-returns-in-Ok-clause-rest : goal.parse_list_type-returns-in-Ok-clause-rest
-parse_list_type-returns-in-Ok-clause-rest t c = further _ _ _ c.in_ok-opening.ensures.rest (further _ _ _ c.in_ok-inner.ensures.rest c.in_ok-closing.ensures.rest)
+parse_list_type-returns-in-Ok-clause-rest t c =
+    further _ _ _ c.in_ok-opening.ensures.rest (further _ _ _ c.in_ok-inner.ensures.rest c.in_ok-closing.ensures.rest)
 
 pub parse_list_type-returns-clause-rest : goal.parse_list_type-returns-clause-rest
-parse_list_type-returns-clause-rest t c = further _ _ _ c.in_ok-opening.ensures.rest (further _ _ _ c.in_ok-inner.ensures.rest c.in_ok-closing.ensures.rest)
+parse_list_type-returns-clause-rest t c =
+    further _ _ _ c.in_ok-opening.ensures.rest (further _ _ _ c.in_ok-inner.ensures.rest c.in_ok-closing.ensures.rest)

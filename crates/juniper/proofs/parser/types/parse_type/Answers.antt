@@ -4,7 +4,9 @@ use Rattle.juniper.proofs.Literals.{answers_type}
 use Rattle.juniper.proofs.parser.types.parse_type.Goals as goal
 
 pub returns-clause-answers : goal.returns-clause-answers
-returns-clause-answers c = answers_type view_spanned_type c.parse_any_type.result c.args.parser.now c.parse_any_type.new.parser c.parse_any_type.ensures.ended c.parse_any_type.ensures.gives
+returns-clause-answers c = answers_type view_spanned_type c.parse_any_type.result c.args.parser.now
+    c.parse_any_type.new.parser c.parse_any_type.ensures.ended c.parse_any_type.ensures.gives
 
 pub returns-clause-memory : goal.returns-clause-memory
-returns-clause-memory c = on_memory c.parse_any_type.result c.args.parser.now c.parse_any_type.new.parser c.parse_any_type.ensures.rest
+returns-clause-memory c = on_memory c.parse_any_type.result c.args.parser.now c.parse_any_type.new.parser
+    c.parse_any_type.ensures.rest

@@ -19,108 +19,189 @@ use Rattle.juniper.proofs.parser.value.+value.Goals as goal
 
 pub parse_items-returns-in_err-closing-clause-gives : goal.parse_items-returns-in_err-closing-clause-gives
 parse_items-returns-in_err-closing-clause-gives g t c =
+    let scalars = stated g.S.ParseScalarValue.reading g.S.ScalarValue.of_bool in
     let p = err_from_is_err_and c.from_residual.result c.from_residual.ensures.1 in
-    rw (p.1, p.2) (close_fails (skip_at token.BracketClose) (value_read (stated g.S.ParseScalarValue.reading g.S.ScalarValue.of_bool) (not c.args.is_const)) (values_read (stated g.S.ParseScalarValue.reading g.S.ScalarValue.of_bool) (not c.args.is_const)) (values_repeat (stated g.S.ParseScalarValue.reading g.S.ScalarValue.of_bool) (not c.args.is_const)) (map (view_value g.S.ParseScalarValue.content) c.loop-items.items.items) c.loop-items.parser _ c.loop-items.invariant.so_far c.in_err-closing.field-0.0 c.skip.new.self c.in_err-closing.ensures.gives)
+    rw (p.1, p.2) (close_fails (skip_at token.BracketClose) (value_read scalars (not c.args.is_const))
+    (values_read scalars (not c.args.is_const)) (values_repeat scalars (not c.args.is_const))
+    (map (view_value g.S.ParseScalarValue.content) c.loop-items.items.items) c.loop-items.parser _
+    c.loop-items.invariant.so_far c.in_err-closing.field-0.0 c.skip.new.self c.in_err-closing.ensures.gives)
 
 pub parse_items-returns-in-Some-clause-gives : goal.parse_items-returns-in-Some-clause-gives
 parse_items-returns-in-Some-clause-gives g t c =
-    ends (skip_at token.BracketClose) (value_read (stated g.S.ParseScalarValue.reading g.S.ScalarValue.of_bool) (not c.args.is_const)) (values_read (stated g.S.ParseScalarValue.reading g.S.ScalarValue.of_bool) (not c.args.is_const)) (values_repeat (stated g.S.ParseScalarValue.reading g.S.ScalarValue.of_bool) (not c.args.is_const)) (map (view_value g.S.ParseScalarValue.content) c.loop-items.items.items) c.loop-items.parser _ c.loop-items.invariant.so_far (view_token c.in-Some.closing) c.skip.new.self (rw c.in-Some.is at c.in_ok-closing.ensures.gives) ∙ rw c.new.ensures refl
+    let scalars = stated g.S.ParseScalarValue.reading g.S.ScalarValue.of_bool in
+    ends (skip_at token.BracketClose) (value_read scalars (not c.args.is_const))
+    (values_read scalars (not c.args.is_const)) (values_repeat scalars (not c.args.is_const))
+    (map (view_value g.S.ParseScalarValue.content) c.loop-items.items.items) c.loop-items.parser _
+    c.loop-items.invariant.so_far (view_token c.in-Some.closing) c.skip.new.self
+    (rw c.in-Some.is at c.in_ok-closing.ensures.gives) ∙ rw c.new.ensures refl
 
 pub parse_items-returns-in_err-parse_value-clause-gives : goal.parse_items-returns-in_err-parse_value-clause-gives
 parse_items-returns-in_err-parse_value-clause-gives g t c =
-    let p = err_from_is_err_and c.from_residual-in_err-parse_value.result c.from_residual-in_err-parse_value.ensures.1 in
-    rw (p.1, p.2) (item_fails (skip_at token.BracketClose) (value_read (stated g.S.ParseScalarValue.reading g.S.ScalarValue.of_bool) (not c.args.is_const)) (values_read (stated g.S.ParseScalarValue.reading g.S.ScalarValue.of_bool) (not c.args.is_const)) (values_repeat (stated g.S.ParseScalarValue.reading g.S.ScalarValue.of_bool) (not c.args.is_const)) (map (view_value g.S.ParseScalarValue.content) c.loop-items.items.items) c.loop-items.parser _ c.loop-items.invariant.so_far c.in_err-parse_value.field-0.0 c.skip.new.self c.parse_value.new.parser (rw c.in_default.is at c.in_ok-closing.ensures.gives) c.in_err-parse_value.ensures.gives)
+    let scalars = stated g.S.ParseScalarValue.reading g.S.ScalarValue.of_bool in
+    let p = err_from_is_err_and c.from_residual-in_err-parse_value.result
+    c.from_residual-in_err-parse_value.ensures.1 in
+    rw (p.1, p.2) (item_fails (skip_at token.BracketClose) (value_read scalars (not c.args.is_const))
+    (values_read scalars (not c.args.is_const)) (values_repeat scalars (not c.args.is_const))
+    (map (view_value g.S.ParseScalarValue.content) c.loop-items.items.items) c.loop-items.parser _
+    c.loop-items.invariant.so_far c.in_err-parse_value.field-0.0 c.skip.new.self c.parse_value.new.parser
+    (rw c.in_default.is at c.in_ok-closing.ensures.gives) c.in_err-parse_value.ensures.gives)
 
 pub parse_items-loop-items-preserved : goal.parse_items-loop-items-preserved
-parse_items-loop-items-preserved g t c = record {
-  so_far = rw (c.in_ok-push.ensures.items, map-append) (goes_on (skip_at token.BracketClose) (value_read (stated g.S.ParseScalarValue.reading g.S.ScalarValue.of_bool) (not c.args.is_const)) (values_read (stated g.S.ParseScalarValue.reading g.S.ScalarValue.of_bool) (not c.args.is_const)) (values_repeat (stated g.S.ParseScalarValue.reading g.S.ScalarValue.of_bool) (not c.args.is_const)) (map (view_value g.S.ParseScalarValue.content) c.loop-items.items.items) c.loop-items.parser _ c.loop-items.invariant.so_far (view_value g.S.ParseScalarValue.content c.in_ok-parse_value.field-0) c.skip.new.self c.parse_value.new.parser (rw c.in_default.is at c.in_ok-closing.ensures.gives) c.in_ok-parse_value.ensures.gives);
-  not_longer = search rules;
-  rest = further _ _ _ c.loop-items.invariant.rest (further _ _ _ c.in_ok-closing.ensures.rest c.in_ok-parse_value.ensures.rest);
-}
+parse_items-loop-items-preserved g t c =
+    let scalars = stated g.S.ParseScalarValue.reading g.S.ScalarValue.of_bool in record {
+      so_far = rw (c.in_ok-push.ensures.items, map-append)
+          (goes_on (skip_at token.BracketClose) (value_read scalars (not c.args.is_const))
+          (values_read scalars (not c.args.is_const)) (values_repeat scalars (not c.args.is_const))
+          (map (view_value g.S.ParseScalarValue.content) c.loop-items.items.items) c.loop-items.parser _
+          c.loop-items.invariant.so_far (view_value g.S.ParseScalarValue.content c.in_ok-parse_value.field-0)
+          c.skip.new.self c.parse_value.new.parser (rw c.in_default.is at c.in_ok-closing.ensures.gives)
+          c.in_ok-parse_value.ensures.gives);
+      not_longer = search rules;
+      rest = further _ _ _ c.loop-items.invariant.rest
+          (further _ _ _ c.in_ok-closing.ensures.rest c.in_ok-parse_value.ensures.rest);
+    }
 
 pub parse_fields-returns-in_err-closing-clause-gives : goal.parse_fields-returns-in_err-closing-clause-gives
 parse_fields-returns-in_err-closing-clause-gives g t c =
+    let scalars = stated g.S.ParseScalarValue.reading g.S.ScalarValue.of_bool in
     let p = err_from_is_err_and c.from_residual.result c.from_residual.ensures.1 in
-    rw (p.1, p.2) (close_fails (skip_at token.CurlyClose) (field_read (stated g.S.ParseScalarValue.reading g.S.ScalarValue.of_bool) (not c.args.is_const)) (fields_read (stated g.S.ParseScalarValue.reading g.S.ScalarValue.of_bool) (not c.args.is_const)) (fields_repeat (stated g.S.ParseScalarValue.reading g.S.ScalarValue.of_bool) (not c.args.is_const)) (map (view_object_field g.S.ParseScalarValue.content) c.loop-fields.fields.items) c.loop-fields.parser _ c.loop-fields.invariant.so_far c.in_err-closing.field-0.0 c.skip.new.self c.in_err-closing.ensures.gives)
+    rw (p.1, p.2) (close_fails (skip_at token.CurlyClose) (field_read scalars (not c.args.is_const))
+    (fields_read scalars (not c.args.is_const)) (fields_repeat scalars (not c.args.is_const))
+    (map (view_object_field g.S.ParseScalarValue.content) c.loop-fields.fields.items) c.loop-fields.parser _
+    c.loop-fields.invariant.so_far c.in_err-closing.field-0.0 c.skip.new.self c.in_err-closing.ensures.gives)
 
 pub parse_fields-returns-in-Some-clause-gives : goal.parse_fields-returns-in-Some-clause-gives
 parse_fields-returns-in-Some-clause-gives g t c =
-    ends (skip_at token.CurlyClose) (field_read (stated g.S.ParseScalarValue.reading g.S.ScalarValue.of_bool) (not c.args.is_const)) (fields_read (stated g.S.ParseScalarValue.reading g.S.ScalarValue.of_bool) (not c.args.is_const)) (fields_repeat (stated g.S.ParseScalarValue.reading g.S.ScalarValue.of_bool) (not c.args.is_const)) (map (view_object_field g.S.ParseScalarValue.content) c.loop-fields.fields.items) c.loop-fields.parser _ c.loop-fields.invariant.so_far (view_token c.in-Some.closing) c.skip.new.self (rw c.in-Some.is at c.in_ok-closing.ensures.gives) ∙ rw c.new.ensures refl
+    let scalars = stated g.S.ParseScalarValue.reading g.S.ScalarValue.of_bool in
+    ends (skip_at token.CurlyClose) (field_read scalars (not c.args.is_const))
+    (fields_read scalars (not c.args.is_const)) (fields_repeat scalars (not c.args.is_const))
+    (map (view_object_field g.S.ParseScalarValue.content) c.loop-fields.fields.items) c.loop-fields.parser _
+    c.loop-fields.invariant.so_far (view_token c.in-Some.closing) c.skip.new.self
+    (rw c.in-Some.is at c.in_ok-closing.ensures.gives) ∙ rw c.new.ensures refl
 
-pub parse_fields-returns-in_err-parse_object_field-clause-gives : goal.parse_fields-returns-in_err-parse_object_field-clause-gives
+pub parse_fields-returns-in_err-parse_object_field-clause-gives :
+    goal.parse_fields-returns-in_err-parse_object_field-clause-gives
 parse_fields-returns-in_err-parse_object_field-clause-gives g t c =
-    let p = err_from_is_err_and c.from_residual-in_err-parse_object_field.result c.from_residual-in_err-parse_object_field.ensures.1 in
-    rw (p.1, p.2) (item_fails (skip_at token.CurlyClose) (field_read (stated g.S.ParseScalarValue.reading g.S.ScalarValue.of_bool) (not c.args.is_const)) (fields_read (stated g.S.ParseScalarValue.reading g.S.ScalarValue.of_bool) (not c.args.is_const)) (fields_repeat (stated g.S.ParseScalarValue.reading g.S.ScalarValue.of_bool) (not c.args.is_const)) (map (view_object_field g.S.ParseScalarValue.content) c.loop-fields.fields.items) c.loop-fields.parser _ c.loop-fields.invariant.so_far c.in_err-parse_object_field.field-0.0 c.skip.new.self c.parse_object_field.new.parser (rw c.in_default.is at c.in_ok-closing.ensures.gives) c.in_err-parse_object_field.ensures.gives)
+    let scalars = stated g.S.ParseScalarValue.reading g.S.ScalarValue.of_bool in
+    let p = err_from_is_err_and c.from_residual-in_err-parse_object_field.result
+    c.from_residual-in_err-parse_object_field.ensures.1 in
+    rw (p.1, p.2) (item_fails (skip_at token.CurlyClose) (field_read scalars (not c.args.is_const))
+    (fields_read scalars (not c.args.is_const)) (fields_repeat scalars (not c.args.is_const))
+    (map (view_object_field g.S.ParseScalarValue.content) c.loop-fields.fields.items) c.loop-fields.parser _
+    c.loop-fields.invariant.so_far c.in_err-parse_object_field.field-0.0 c.skip.new.self
+    c.parse_object_field.new.parser (rw c.in_default.is at c.in_ok-closing.ensures.gives)
+    c.in_err-parse_object_field.ensures.gives)
 
 pub parse_fields-loop-fields-preserved : goal.parse_fields-loop-fields-preserved
-parse_fields-loop-fields-preserved g t c = record {
-  so_far = rw (c.in_ok-push.ensures.items, map-append) (goes_on (skip_at token.CurlyClose) (field_read (stated g.S.ParseScalarValue.reading g.S.ScalarValue.of_bool) (not c.args.is_const)) (fields_read (stated g.S.ParseScalarValue.reading g.S.ScalarValue.of_bool) (not c.args.is_const)) (fields_repeat (stated g.S.ParseScalarValue.reading g.S.ScalarValue.of_bool) (not c.args.is_const)) (map (view_object_field g.S.ParseScalarValue.content) c.loop-fields.fields.items) c.loop-fields.parser _ c.loop-fields.invariant.so_far (view_object_field g.S.ParseScalarValue.content c.in_ok-parse_object_field.field-0) c.skip.new.self c.parse_object_field.new.parser (rw c.in_default.is at c.in_ok-closing.ensures.gives) c.in_ok-parse_object_field.ensures.gives);
-  not_longer = search rules;
-  rest = further _ _ _ c.loop-fields.invariant.rest (further _ _ _ c.in_ok-closing.ensures.rest c.in_ok-parse_object_field.ensures.rest);
-}
+parse_fields-loop-fields-preserved g t c =
+    let scalars = stated g.S.ParseScalarValue.reading g.S.ScalarValue.of_bool in record {
+      so_far = rw (c.in_ok-push.ensures.items, map-append)
+          (goes_on (skip_at token.CurlyClose) (field_read scalars (not c.args.is_const))
+          (fields_read scalars (not c.args.is_const)) (fields_repeat scalars (not c.args.is_const))
+          (map (view_object_field g.S.ParseScalarValue.content) c.loop-fields.fields.items) c.loop-fields.parser _
+          c.loop-fields.invariant.so_far (view_object_field g.S.ParseScalarValue.content c.in_ok-parse_object_field.field-0)
+          c.skip.new.self c.parse_object_field.new.parser (rw c.in_default.is at c.in_ok-closing.ensures.gives)
+          c.in_ok-parse_object_field.ensures.gives);
+      not_longer = search rules;
+      rest = further _ _ _ c.loop-fields.invariant.rest
+          (further _ _ _ c.in_ok-closing.ensures.rest c.in_ok-parse_object_field.ensures.rest);
+    }
 
 pub parse_list-returns-clause-gives : goal.parse_list-returns-clause-gives
 unfolding list_read
 parse_list-returns-clause-gives g t c =
-    rw (c.in_ok-opening.ensures.gives, c.in_ok-items.ensures.gives, c.start_end.ensures) (ap (λ (v : Value Content). Ok (v, c.parse_items.new.parser)) (sym (view_of_list g.S.ParseScalarValue.content c.in_ok-items.items.item (from_to (view_span c.in_ok-opening.field-0.span) (view_span c.in_ok-items.items.span)))))
+    rw (c.in_ok-opening.ensures.gives, c.in_ok-items.ensures.gives, c.start_end.ensures)
+    (ap (λ (v : Value Content). Ok (v, c.parse_items.new.parser))
+    (sym (view_of_list g.S.ParseScalarValue.content c.in_ok-items.items.item
+    (from_to (view_span c.in_ok-opening.field-0.span) (view_span c.in_ok-items.items.span)))))
 
 pub parse_object-returns-clause-gives : goal.parse_object-returns-clause-gives
 unfolding object_read
 parse_object-returns-clause-gives g t c =
-    rw (c.in_ok-opening.ensures.gives, c.in_ok-fields.ensures.gives, c.start_end.ensures) (ap (λ (v : Value Content). Ok (v, c.parse_fields.new.parser)) (sym (view_of_object g.S.ParseScalarValue.content c.in_ok-fields.fields.item (from_to (view_span c.in_ok-opening.field-0.span) (view_span c.in_ok-fields.fields.span)))))
+    rw (c.in_ok-opening.ensures.gives, c.in_ok-fields.ensures.gives, c.start_end.ensures)
+    (ap (λ (v : Value Content). Ok (v, c.parse_fields.new.parser))
+    (sym (view_of_object g.S.ParseScalarValue.content c.in_ok-fields.fields.item
+    (from_to (view_span c.in_ok-opening.field-0.span) (view_span c.in_ok-fields.fields.span)))))
 
 pub parse_items-returns-in_err-closing-clause-rest : goal.parse_items-returns-in_err-closing-clause-rest
-parse_items-returns-in_err-closing-clause-rest g t c = further _ _ _ c.loop-items.invariant.rest c.in_err-closing.ensures.rest
+parse_items-returns-in_err-closing-clause-rest g t c =
+    further _ _ _ c.loop-items.invariant.rest c.in_err-closing.ensures.rest
 
 pub parse_items-returns-in-Some-clause-rest : goal.parse_items-returns-in-Some-clause-rest
 parse_items-returns-in-Some-clause-rest g t c = further _ _ _ c.loop-items.invariant.rest c.in_ok-closing.ensures.rest
 
 pub parse_items-returns-in_err-parse_value-clause-rest : goal.parse_items-returns-in_err-parse_value-clause-rest
-parse_items-returns-in_err-parse_value-clause-rest g t c = further _ _ _ c.loop-items.invariant.rest (further _ _ _ c.in_ok-closing.ensures.rest c.in_err-parse_value.ensures.rest)
+parse_items-returns-in_err-parse_value-clause-rest g t c =
+    further _ _ _ c.loop-items.invariant.rest
+    (further _ _ _ c.in_ok-closing.ensures.rest c.in_err-parse_value.ensures.rest)
 
 pub parse_items-returns-in_err-push-clause-rest : goal.parse_items-returns-in_err-push-clause-rest
-parse_items-returns-in_err-push-clause-rest g t c = further _ _ _ c.loop-items.invariant.rest (further _ _ _ c.in_ok-closing.ensures.rest c.in_ok-parse_value.ensures.rest)
+parse_items-returns-in_err-push-clause-rest g t c =
+    further _ _ _ c.loop-items.invariant.rest
+    (further _ _ _ c.in_ok-closing.ensures.rest c.in_ok-parse_value.ensures.rest)
 
 pub parse_fields-returns-in_err-closing-clause-rest : goal.parse_fields-returns-in_err-closing-clause-rest
-parse_fields-returns-in_err-closing-clause-rest g t c = further _ _ _ c.loop-fields.invariant.rest c.in_err-closing.ensures.rest
+parse_fields-returns-in_err-closing-clause-rest g t c =
+    further _ _ _ c.loop-fields.invariant.rest c.in_err-closing.ensures.rest
 
 pub parse_fields-returns-in-Some-clause-rest : goal.parse_fields-returns-in-Some-clause-rest
 parse_fields-returns-in-Some-clause-rest g t c = further _ _ _ c.loop-fields.invariant.rest c.in_ok-closing.ensures.rest
 
-pub parse_fields-returns-in_err-parse_object_field-clause-rest : goal.parse_fields-returns-in_err-parse_object_field-clause-rest
-parse_fields-returns-in_err-parse_object_field-clause-rest g t c = further _ _ _ c.loop-fields.invariant.rest (further _ _ _ c.in_ok-closing.ensures.rest c.in_err-parse_object_field.ensures.rest)
+pub parse_fields-returns-in_err-parse_object_field-clause-rest :
+    goal.parse_fields-returns-in_err-parse_object_field-clause-rest
+parse_fields-returns-in_err-parse_object_field-clause-rest g t c =
+    further _ _ _ c.loop-fields.invariant.rest
+    (further _ _ _ c.in_ok-closing.ensures.rest c.in_err-parse_object_field.ensures.rest)
 
 pub parse_fields-returns-in_err-push-clause-rest : goal.parse_fields-returns-in_err-push-clause-rest
-parse_fields-returns-in_err-push-clause-rest g t c = further _ _ _ c.loop-fields.invariant.rest (further _ _ _ c.in_ok-closing.ensures.rest c.in_ok-parse_object_field.ensures.rest)
+parse_fields-returns-in_err-push-clause-rest g t c =
+    further _ _ _ c.loop-fields.invariant.rest
+    (further _ _ _ c.in_ok-closing.ensures.rest c.in_ok-parse_object_field.ensures.rest)
 
 pub parse_list-returns-in_err-items-clause-rest : goal.parse_list-returns-in_err-items-clause-rest
-parse_list-returns-in_err-items-clause-rest g t c = further _ _ _ c.in_ok-opening.ensures.rest c.in_err-items.ensures.rest
+parse_list-returns-in_err-items-clause-rest g t c =
+    further _ _ _ c.in_ok-opening.ensures.rest c.in_err-items.ensures.rest
 
 pub parse_list-returns-clause-rest : goal.parse_list-returns-clause-rest
 parse_list-returns-clause-rest g t c = further _ _ _ c.in_ok-opening.ensures.rest c.in_ok-items.ensures.rest
 
 pub parse_object-returns-in_err-fields-clause-rest : goal.parse_object-returns-in_err-fields-clause-rest
-parse_object-returns-in_err-fields-clause-rest g t c = further _ _ _ c.in_ok-opening.ensures.rest c.in_err-fields.ensures.rest
+parse_object-returns-in_err-fields-clause-rest g t c =
+    further _ _ _ c.in_ok-opening.ensures.rest c.in_err-fields.ensures.rest
 
 pub parse_object-returns-clause-rest : goal.parse_object-returns-clause-rest
 parse_object-returns-clause-rest g t c = further _ _ _ c.in_ok-opening.ensures.rest c.in_ok-fields.ensures.rest
 
 pub parse_object_field-returns-in_err-expect-clause-rest : goal.parse_object_field-returns-in_err-expect-clause-rest
-parse_object_field-returns-in_err-expect-clause-rest g t c = further _ _ _ c.in_ok-key.ensures.rest c.in_err-expect.ensures.rest
+parse_object_field-returns-in_err-expect-clause-rest g t c =
+    further _ _ _ c.in_ok-key.ensures.rest c.in_err-expect.ensures.rest
 
 pub parse_object_field-returns-in_err-value-clause-rest : goal.parse_object_field-returns-in_err-value-clause-rest
-parse_object_field-returns-in_err-value-clause-rest g t c = further _ _ _ c.in_ok-key.ensures.rest (further _ _ _ c.in_ok-expect.ensures.rest c.in_err-value.ensures.rest)
+parse_object_field-returns-in_err-value-clause-rest g t c =
+    further _ _ _ c.in_ok-key.ensures.rest (further _ _ _ c.in_ok-expect.ensures.rest c.in_err-value.ensures.rest)
 
 pub parse_object_field-returns-in_err-text-clause-rest : goal.parse_object_field-returns-in_err-text-clause-rest
-parse_object_field-returns-in_err-text-clause-rest g t c = further _ _ _ c.in_ok-key.ensures.rest (further _ _ _ c.in_ok-expect.ensures.rest c.in_ok-value.ensures.rest)
+parse_object_field-returns-in_err-text-clause-rest g t c =
+    further _ _ _ c.in_ok-key.ensures.rest (further _ _ _ c.in_ok-expect.ensures.rest c.in_ok-value.ensures.rest)
 
 pub parse_object_field-returns-clause-rest : goal.parse_object_field-returns-clause-rest
-parse_object_field-returns-clause-rest g t c = further _ _ _ c.in_ok-key.ensures.rest (further _ _ _ c.in_ok-expect.ensures.rest c.in_ok-value.ensures.rest)
+parse_object_field-returns-clause-rest g t c =
+    further _ _ _ c.in_ok-key.ensures.rest (further _ _ _ c.in_ok-expect.ensures.rest c.in_ok-value.ensures.rest)
 
 pub parse_items-returns-in-Some-clause-shorter : goal.parse_items-returns-in-Some-clause-shorter
 parse_items-returns-in-Some-clause-shorter g t c =
-    omega (arith, c.loop-items.invariant.not_longer, skip_shorter token.BracketClose _ (view_token c.in-Some.closing) c.skip.new.self (rw c.in-Some.is at c.in_ok-closing.ensures.gives))
+    omega (
+      arith,
+      c.loop-items.invariant.not_longer,
+      skip_shorter token.BracketClose _ (view_token c.in-Some.closing) c.skip.new.self
+          (rw c.in-Some.is at c.in_ok-closing.ensures.gives),
+    )
 
 pub parse_fields-returns-in-Some-clause-shorter : goal.parse_fields-returns-in-Some-clause-shorter
 parse_fields-returns-in-Some-clause-shorter g t c =
-    omega (arith, c.loop-fields.invariant.not_longer, skip_shorter token.CurlyClose _ (view_token c.in-Some.closing) c.skip.new.self (rw c.in-Some.is at c.in_ok-closing.ensures.gives))
+    omega (
+      arith,
+      c.loop-fields.invariant.not_longer,
+      skip_shorter token.CurlyClose _ (view_token c.in-Some.closing) c.skip.new.self
+          (rw c.in-Some.is at c.in_ok-closing.ensures.gives),
+    )

@@ -26,7 +26,9 @@ decreases-parse_fields g l = 4 * length l.parser.now + 1
 
 abbrev pub invariant-parse_items-loop-items : goal.invariant-parse_items-loop-items
 invariant-parse_items-loop-items g l = record {
-  so_far : with_front (map (view_value g.S.ParseScalarValue.content) l.items.items) (values_read (stated g.S.ParseScalarValue.reading g.S.ScalarValue.of_bool) (not l.is_const) l.parser) ≡ values_read (stated g.S.ParseScalarValue.reading g.S.ScalarValue.of_bool) (not l.is_const) l.fn.parser;
+  so_far : with_front (map (view_value g.S.ParseScalarValue.content) l.items.items)
+      (values_read (stated g.S.ParseScalarValue.reading g.S.ScalarValue.of_bool) (not l.is_const) l.parser)
+      ≡ values_read (stated g.S.ParseScalarValue.reading g.S.ScalarValue.of_bool) (not l.is_const) l.fn.parser;
   not_longer : length l.parser ≤ length l.fn.parser;
   rest : IsRest l.fn.parser l.parser;
 }
@@ -36,7 +38,9 @@ decreases-parse_items-loop-items g l = length l.parser
 
 abbrev pub invariant-parse_fields-loop-fields : goal.invariant-parse_fields-loop-fields
 invariant-parse_fields-loop-fields g l = record {
-  so_far : with_front (map (view_object_field g.S.ParseScalarValue.content) l.fields.items) (fields_read (stated g.S.ParseScalarValue.reading g.S.ScalarValue.of_bool) (not l.is_const) l.parser) ≡ fields_read (stated g.S.ParseScalarValue.reading g.S.ScalarValue.of_bool) (not l.is_const) l.fn.parser;
+  so_far : with_front (map (view_object_field g.S.ParseScalarValue.content) l.fields.items)
+      (fields_read (stated g.S.ParseScalarValue.reading g.S.ScalarValue.of_bool) (not l.is_const) l.parser)
+      ≡ fields_read (stated g.S.ParseScalarValue.reading g.S.ScalarValue.of_bool) (not l.is_const) l.fn.parser;
   not_longer : length l.parser ≤ length l.fn.parser;
   rest : IsRest l.fn.parser l.parser;
 }

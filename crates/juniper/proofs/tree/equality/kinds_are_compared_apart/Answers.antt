@@ -28,14 +28,21 @@ module _ (g : Over) where
   -- what selections of each kind are compared by
   abbrev each : Each Bool parts
   each = (
-    λ x y. compared _ _ (the_depth g.row.S.Denot) _ true step member-Field x.0.item y.0.item && (spans.ghosts).eq x.0.span y.0.span,
+    λ x y. compared _ _ (the_depth g.row.S.Denot) _ true step member-Field x.0.item y.0.item
+        && (spans.ghosts).eq x.0.span y.0.span,
     (
-      λ x y. (spread.ghosts g.row.S g.S.PartialEq g.S.PartialEq-dict g.S.Destruct-dict).eq x.0.item y.0.item && (spans.ghosts).eq x.0.span y.0.span,
-      (λ x y. compared _ _ (the_depth g.row.S.Denot) _ true step member-InlineFragment x.0.item y.0.item && (spans.ghosts).eq x.0.span y.0.span, tt),
+      λ x y. (spread.ghosts g.row.S g.S.PartialEq g.S.PartialEq-dict g.S.Destruct-dict).eq x.0.item y.0.item
+          && (spans.ghosts).eq x.0.span y.0.span,
+      (
+        λ x y. compared _ _ (the_depth g.row.S.Denot) _ true step member-InlineFragment x.0.item y.0.item
+            && (spans.ghosts).eq x.0.span y.0.span,
+        tt,
+      ),
     ),
   )
 
-  told : (c d : Choice parts) → (selection.ghosts g.row.S g.S.PartialEq g.S.PartialEq-dict g.S.Destruct-dict).eq (the_make static_lft g.row.S c) (the_make static_lft g.row.S d) ≡ by false false parts each c d
+  told : (c d : Choice parts) → (selection.ghosts g.row.S g.S.PartialEq g.S.PartialEq-dict g.S.Destruct-dict).eq
+      (the_make static_lft g.row.S c) (the_make static_lft g.row.S d) ≡ by false false parts each c d
   told c d =
       is g.row.S g.S.PartialEq g.S.PartialEq-dict g.S.Destruct-dict (record { laws = g.met.S.PartialEq.laws }) _ _
       ∙ ap₂ (λ x y. by false false parts each x y) (the_beta static_lft g.row.S c) (the_beta static_lft g.row.S d)
@@ -60,7 +67,8 @@ module _ (g : Over) where
 pub returns-clause-fields : goal.returns-clause-fields
 returns-clause-fields g c a b =
     told g (inl (a, tt)) (inl (b, tt))
-    ∙ ap (λ step. compared _ _ (the_depth g.row.S.Denot) _ true step member-Field a.item b.item && (spans.ghosts).eq a.span b.span) (to_field g)
+    ∙ ap (λ step. compared _ _ (the_depth g.row.S.Denot) _ true step member-Field a.item b.item
+    && (spans.ghosts).eq a.span b.span) (to_field g)
 
 pub returns-clause-spreads : goal.returns-clause-spreads
 returns-clause-spreads g c a b = told g (inr (inl (a, tt))) (inr (inl (b, tt)))
@@ -68,7 +76,8 @@ returns-clause-spreads g c a b = told g (inr (inl (a, tt))) (inr (inl (b, tt)))
 pub returns-clause-inlines : goal.returns-clause-inlines
 returns-clause-inlines g c a b =
     told g (inr (inr (inl (a, tt)))) (inr (inr (inl (b, tt))))
-    ∙ ap (λ step. compared _ _ (the_depth g.row.S.Denot) _ true step member-InlineFragment a.item b.item && (spans.ghosts).eq a.span b.span) (to_inline g)
+    ∙ ap (λ step. compared _ _ (the_depth g.row.S.Denot) _ true step member-InlineFragment a.item b.item
+    && (spans.ghosts).eq a.span b.span) (to_inline g)
 
 pub returns-clause-field_and_spread : goal.returns-clause-field_and_spread
 returns-clause-field_and_spread g c a b = told g (inl (a, tt)) (inr (inl (b, tt)))
