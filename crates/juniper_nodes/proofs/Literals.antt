@@ -23,7 +23,8 @@ custom_no ns (default.Boolean b) = refl
 
 -- numbers are compared as integers
 same_number : (x y : ℕ) → int_eq (pos x) (pos y) ≡ (x == y)
-same_number x y = same_from_decides (int_eq (pos x) (pos y)) (x == y) (Decides-int_eq (pos x) (pos y)) ((λ e. ap pos ((Decides-eqb x y).0 e)), (λ e. (Decides-eqb x y).1 (ap unsigned_abs e)))
+same_number x y = same_from_decides (int_eq (pos x) (pos y)) (x == y) (Decides-int_eq (pos x) (pos y))
+    ((λ e. ap pos ((Decides-eqb x y).0 e)), (λ e. (Decides-eqb x y).1 (ap unsigned_abs e)))
 
 pub same_texts : (a b : Text) → pointwise int_eq (map pos a) (map pos b) ≡ same_text a b
 same_texts [] [] = refl
@@ -32,7 +33,8 @@ same_texts (x ∷ a) [] = refl
 same_texts (x ∷ a) (y ∷ b) = ap₂ (λ h r. h && r) (same_number x y) (same_texts a b)
 
 one_more : (m n : ℕ) → (suc m == suc n) ≡ (m == n)
-one_more m n = same_from_decides (suc m == suc n) (m == n) (Decides-eqb (suc m) (suc n)) ((λ e. ap suc ((Decides-eqb m n).0 e)), (λ e. (Decides-eqb m n).1 (omega (arith, e))))
+one_more m n = same_from_decides (suc m == suc n) (m == n) (Decides-eqb (suc m) (suc n))
+    ((λ e. ap suc ((Decides-eqb m n).0 e)), (λ e. (Decides-eqb m n).1 (omega (arith, e))))
 
 zero_first : (n : ℕ) → (0 == suc n) ≡ false
 zero_first n = grind (arith, nat_tests)
@@ -41,12 +43,17 @@ zero_last : (n : ℕ) → (suc n == 0) ≡ false
 zero_last n = grind (arith, nat_tests)
 
 -- texts, and what they mean
-pub same_meant : (a b m n : Text) → (int_eq (pos (length a)) (pos (length b)) && pointwise int_eq (map pos (a ++ m)) (map pos (b ++ n))) ≡ (same_text a b && same_text m n)
+pub same_meant : (a b m n : Text) → (int_eq (pos (length a)) (pos (length b))
+    && pointwise int_eq (map pos (a ++ m)) (map pos (b ++ n))) ≡ (same_text a b && same_text m n)
 same_meant [] [] m n = same_texts m n
-same_meant [] (y ∷ b) m n = ap (λ h. h && pointwise int_eq (map pos m) (map pos ((y ∷ b) ++ n))) (same_number 0 (suc (length b)) ∙ zero_first (length b))
-same_meant (x ∷ a) [] m n = ap (λ h. h && pointwise int_eq (map pos ((x ∷ a) ++ m)) (map pos n)) (same_number (suc (length a)) 0 ∙ zero_last (length a))
+same_meant [] (y ∷ b) m n = ap (λ h. h && pointwise int_eq (map pos m) (map pos ((y ∷ b) ++ n)))
+    (same_number 0 (suc (length b)) ∙ zero_first (length b))
+same_meant (x ∷ a) [] m n = ap (λ h. h && pointwise int_eq (map pos ((x ∷ a) ++ m)) (map pos n))
+    (same_number (suc (length a)) 0 ∙ zero_last (length a))
 same_meant (x ∷ a) (y ∷ b) m n =
-    ap₂ (λ l h. l && (h && pointwise int_eq (map pos (a ++ m)) (map pos (b ++ n)))) (same_number (suc (length a)) (suc (length b)) ∙ one_more (length a) (length b) ∙ sym (same_number (length a) (length b))) (same_number x y)
+    ap₂ (λ l h. l && (h && pointwise int_eq (map pos (a ++ m)) (map pos (b ++ n))))
+    (same_number (suc (length a)) (suc (length b)) ∙ one_more (length a) (length b)
+    ∙ sym (same_number (length a) (length b))) (same_number x y)
     ∙ by_first _ _ _ (x == y) (int_eq (pos (length a)) (pos (length b))) (same_meant a b m n)
   where
     by_first : (p s t h l : Bool) → (l && p) ≡ (s && t) → (l && (h && p)) ≡ ((h && s) && t)

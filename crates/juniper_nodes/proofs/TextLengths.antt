@@ -29,22 +29,27 @@ size_joins (c ∷ t) u = omega (arith, size_joins t u)
 
 -- ---- escapes
 
-front_is : (c : Option ℕ) (t : Option Text) (u : Text) → in_front c t ≡ Some u → (d : ℕ) × (v : Text) × (c ≡ Some d) × (t ≡ Some v) × (d ∷ v ≡ u)
+front_is : (c : Option ℕ) (t : Option Text) (u : Text) → in_front c t ≡ Some u
+    → (d : ℕ) × (v : Text) × (c ≡ Some d) × (t ≡ Some v) × (d ∷ v ≡ u)
 front_is None t u e = absurd (cc e)
 front_is (Some d) None u e = absurd (cc e)
 front_is (Some d) (Some v) u e = (d, v, refl, refl, cc)
 
 -- a character that takes one byte in place of two
-one_byte : (d n : ℕ) (b : Bool) (others : Option ℕ) → len_utf8 n ≡ 1 → (others ≡ Some d → len_utf8 d ≡ 1) → cond b (Some n) others ≡ Some d → len_utf8 d ≡ 1
+one_byte : (d n : ℕ) (b : Bool) (others : Option ℕ) → len_utf8 n ≡ 1 → (others ≡ Some d → len_utf8 d ≡ 1)
+    → cond b (Some n) others ≡ Some d → len_utf8 d ≡ 1
 one_byte d n true others one h e = let same : n ≡ d = cc in subst (λ (z : ℕ). len_utf8 z ≡ 1) same one
 one_byte d n false others one h e = h e
 
 short_is_one : (c d : ℕ) → short_escape c ≡ Some d → len_utf8 d ≡ 1
-short_is_one c d = one_byte d 34 (c == 34) _ refl (one_byte d 92 (c == 92) _ refl (one_byte d 47 (c == 47) _ refl (one_byte d 8 (c == 98) _ refl
-    (one_byte d 12 (c == 102) _ refl (one_byte d 10 (c == 110) _ refl (one_byte d 13 (c == 114) _ refl (one_byte d 9 (c == 116) _ refl (λ e. absurd (cc e)))))))))
+short_is_one c d = one_byte d 34 (c == 34) _ refl (one_byte d 92 (c == 92) _ refl
+    (one_byte d 47 (c == 47) _ refl (one_byte d 8 (c == 98) _ refl
+    (one_byte d 12 (c == 102) _ refl (one_byte d 10 (c == 110) _ refl
+    (one_byte d 13 (c == 114) _ refl (one_byte d 9 (c == 116) _ refl (λ e. absurd (cc e)))))))))
 
 -- One character, and what stands behind it, which is no longer than its own text: w bytes are there for the character.
-in_front_is_short : (c : Option ℕ) (w : ℕ) (t u : Text) → ((d : ℕ) → c ≡ Some d → len_utf8 d ≤ w) → ((v : Text) → unescape t ≡ Some v → size v ≤ size t)
+in_front_is_short : (c : Option ℕ) (w : ℕ) (t u : Text) → ((d : ℕ) → c ≡ Some d → len_utf8 d ≤ w)
+    → ((v : Text) → unescape t ≡ Some v → size v ≤ size t)
     → in_front c (unescape t) ≡ Some u → size u ≤ w + size t
 in_front_is_short c w t u narrow short e =
     let (d, v, first, rest, whole) = front_is c (unescape t) u e in
@@ -53,25 +58,33 @@ in_front_is_short c w t u narrow short e =
 itself : (c d : ℕ) → Some c ≡ Some d → len_utf8 d ≤ len_utf8 c
 itself c d e = let same : c ≡ d = cc in subst (λ (z : ℕ). len_utf8 z ≤ len_utf8 c) same (le_refl (len_utf8 c))
 
-by_backslash : (c : ℕ) (t u : Text) (b : Bool) → ((v : Text) → unescape t ≡ Some v → size v ≤ size t) → (behind_backslash t ≡ Some u → size u ≤ 1 + size t)
+by_backslash : (c : ℕ) (t u : Text) (b : Bool) → ((v : Text) → unescape t ≡ Some v → size v ≤ size t)
+    → (behind_backslash t ≡ Some u → size u ≤ 1 + size t)
     → cond b (behind_backslash t) (in_front (Some c) (unescape t)) ≡ Some u → size u ≤ len_utf8 c + size t
 by_backslash c t u true short behind e = omega (arith, behind e, (len_utf8_bounds c).0)
 by_backslash c t u false short behind e = in_front_is_short (Some c) (len_utf8 c) t u (itself c) short e
 
-by_u : (c : ℕ) (t u : Text) (b : Bool) → ((v : Text) → unescape t ≡ Some v → size v ≤ size t) → (behind_u t ≡ Some u → size u ≤ 2 + size t)
+by_u : (c : ℕ) (t u : Text) (b : Bool) → ((v : Text) → unescape t ≡ Some v → size v ≤ size t)
+    → (behind_u t ≡ Some u → size u ≤ 2 + size t)
     → cond b (behind_u t) (in_front (short_escape c) (unescape t)) ≡ Some u → size u ≤ 1 + (len_utf8 c + size t)
 by_u c t u true short behind e = omega (arith, behind e, (len_utf8_bounds c).0)
 by_u c t u false short behind e =
-    omega (arith, in_front_is_short (short_escape c) 1 t u (λ d p. subst (λ (z : ℕ). z ≤ 1) (sym (short_is_one c d p)) (le_refl 1)) short e)
+    omega (
+      arith,
+      in_front_is_short (short_escape c) 1 t u (λ d p.
+          subst (λ (z : ℕ). z ≤ 1) (sym (short_is_one c d p)) (le_refl 1)) short e,
+    )
 
 mutual
   unescape_is_short : (t u : Text) → unescape t ≡ Some u → size u ≤ size t
   unescape_is_short [] u e = let same : [] ≡ u = cc in subst (λ (z : Text). size z ≤ 0) same (le_refl 0)
-  unescape_is_short (c ∷ t) u e = by_backslash c t u (c == 92) (λ v p. unescape_is_short t v p) (λ p. behind_backslash_is_short t u p) e
+  unescape_is_short (c ∷ t) u e = by_backslash c t u (c == 92) (λ v p. unescape_is_short t v p)
+      (λ p. behind_backslash_is_short t u p) e
 
   behind_backslash_is_short : (t u : Text) → behind_backslash t ≡ Some u → size u ≤ 1 + size t
   behind_backslash_is_short [] u e = absurd (cc e)
-  behind_backslash_is_short (c ∷ t) u e = by_u c t u (c == 117) (λ v p. unescape_is_short t v p) (λ p. behind_u_is_short t u p) e
+  behind_backslash_is_short (c ∷ t) u e =
+      by_u c t u (c == 117) (λ v p. unescape_is_short t v p) (λ p. behind_u_is_short t u p) e
 
   behind_u_is_short : (t u : Text) → behind_u t ≡ Some u → size u ≤ 2 + size t
   behind_u_is_short [] u e = absurd (cc e)
@@ -79,7 +92,8 @@ mutual
   behind_u_is_short (h ∷ i ∷ []) u e = absurd (cc e)
   behind_u_is_short (h ∷ i ∷ j ∷ []) u e = absurd (cc e)
   behind_u_is_short (h ∷ i ∷ j ∷ k ∷ t) u e =
-      let short = in_front_is_short (unicode_escape h i j k) 4 t u (λ d p. (len_utf8_bounds d).1) (λ v p. unescape_is_short t v p) e in
+      let short = in_front_is_short (unicode_escape h i j k) 4 t u (λ d p. (len_utf8_bounds d).1)
+      (λ v p. unescape_is_short t v p) e in
       omega (arith, short, (len_utf8_bounds h).0, (len_utf8_bounds i).0, (len_utf8_bounds j).0, (len_utf8_bounds k).0)
 
 -- ---- block strings
@@ -88,7 +102,8 @@ with_quotes_is_short : (t : Text) → size (with_quotes t) ≤ size t
 with_quotes_is_short [] = le_refl 0
 with_quotes_is_short (c ∷ t) = by_mark (c == 92 && starts_with nat_eq t mark) (with_quotes_is_short t)
   where
-    by_mark : (b : Bool) → size (with_quotes t) ≤ size t → size (cond b (with_quotes t) (c ∷ with_quotes t)) ≤ len_utf8 c + size t
+    by_mark : (b : Bool) → size (with_quotes t) ≤ size t
+        → size (cond b (with_quotes t) (c ∷ with_quotes t)) ≤ len_utf8 c + size t
     by_mark true short = omega (arith, short)
     by_mark false short = omega (arith, short)
 
@@ -109,7 +124,8 @@ lines_some : (t : Text) → 0 < length (lines t)
 lines_some [] = omega arith
 lines_some (c ∷ t) = by_end (c == 13 && starts_with nat_eq t line_feed) (is_line_end c) (lines_some t)
   where
-    by_end : (a b : Bool) → 0 < length (lines t) → 0 < length (cond a (lines t) (cond b ([] ∷ lines t) (onto_first c (lines t))))
+    by_end : (a b : Bool) → 0 < length (lines t)
+        → 0 < length (cond a (lines t) (cond b ([] ∷ lines t) (onto_first c (lines t))))
     by_end true b some = some
     by_end false true some = omega arith
     by_end false false some = onto_first_some c (lines t)
@@ -118,7 +134,8 @@ lines_are_short : (t : Text) → measure (lines t) ≤ suc (size t)
 lines_are_short [] = omega arith
 lines_are_short (c ∷ t) = by_end (c == 13 && starts_with nat_eq t line_feed) (is_line_end c) (lines_are_short t)
   where
-    by_end : (a b : Bool) → measure (lines t) ≤ suc (size t) → measure (cond a (lines t) (cond b ([] ∷ lines t) (onto_first c (lines t)))) ≤ suc (len_utf8 c + size t)
+    by_end : (a b : Bool) → measure (lines t) ≤ suc (size t)
+        → measure (cond a (lines t) (cond b ([] ∷ lines t) (onto_first c (lines t)))) ≤ suc (len_utf8 c + size t)
     by_end true b short = omega (arith, short)
     by_end false true short = omega (arith, short, (len_utf8_bounds c).0)
     by_end false false short = omega (arith, short, some_measure c (lines t) (lines_some t))
@@ -140,7 +157,8 @@ front_dropped : (ls : List Text) → measure (drop_blank_front ls) ≤ measure l
 front_dropped [] = le_refl 0
 front_dropped (line ∷ ls) = by_blank (is_blank line) (front_dropped ls)
   where
-    by_blank : (b : Bool) → measure (drop_blank_front ls) ≤ measure ls → measure (cond b (drop_blank_front ls) (line ∷ ls)) ≤ suc (size line + measure ls)
+    by_blank : (b : Bool) → measure (drop_blank_front ls) ≤ measure ls
+        → measure (cond b (drop_blank_front ls) (line ∷ ls)) ≤ suc (size line + measure ls)
     by_blank true short = omega (arith, short)
     by_blank false short = omega arith
 
@@ -148,7 +166,8 @@ end_dropped : (ls : List Text) → measure (drop_blank_end ls) ≤ measure ls
 end_dropped [] = le_refl 0
 end_dropped (line ∷ ls) = by_blank (list_all is_blank (line ∷ ls)) (end_dropped ls)
   where
-    by_blank : (b : Bool) → measure (drop_blank_end ls) ≤ measure ls → measure (cond b [] (line ∷ drop_blank_end ls)) ≤ suc (size line + measure ls)
+    by_blank : (b : Bool) → measure (drop_blank_end ls) ≤ measure ls
+        → measure (cond b [] (line ∷ drop_blank_end ls)) ≤ suc (size line + measure ls)
     by_blank true short = omega arith
     by_blank false short = omega (arith, short)
 
@@ -163,13 +182,22 @@ block_value_is_short : (t : Text) → size (block_value t) ≤ size t
 block_value_is_short t =
     let ls = lines (with_quotes t) in
     joined_is_short (drop_blank_end (drop_blank_front (unindented ls))) (size t)
-    (omega (arith, end_dropped (drop_blank_front (unindented ls)), front_dropped (unindented ls), unindented_are_short ls, lines_are_short (with_quotes t), with_quotes_is_short t))
+    (omega (
+      arith,
+      end_dropped (drop_blank_front (unindented ls)),
+      front_dropped (unindented ls),
+      unindented_are_short ls,
+      lines_are_short (with_quotes t),
+      with_quotes_is_short t,
+    ))
 
 -- ---- readings
 
-reading_is_short : (t u : Text) (v : Option Text) → ((w : Text) → v ≡ Some w → size w ≤ size t) → string_reading t v ≡ Ok (text u) → size u ≤ size t
+reading_is_short : (t u : Text) (v : Option Text) → ((w : Text) → v ≡ Some w → size w ≤ size t)
+    → string_reading t v ≡ Ok (text u) → size u ≤ size t
 reading_is_short t u None short e = absurd (cc e)
-reading_is_short t u (Some w) short e = let same : w ≡ u = cc in subst (λ (z : Text). size z ≤ size t) same (short w refl)
+reading_is_short t u (Some w) short e =
+    let same : w ≡ u = cc in subst (λ (z : Text). size z ≤ size t) same (short w refl)
 
 -- A String means a text that is no longer than it is written.
 pub string_is_short : (t u : Text) → default_reading String t ≡ Ok (text u) → size u ≤ size t

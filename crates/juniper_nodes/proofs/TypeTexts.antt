@@ -16,6 +16,7 @@ wrapped-text t [] = refl
 wrapped-text t (modifier.NonNull ∷ ms) = wrapped-text (NonNullType t) ms
 wrapped-text t (modifier.List size ∷ ms) = wrapped-text (ListType size t) ms
 
-pub type-text : (t : TypeShape (Bor (List ℕ))) → type_text (view_type t) ≡ literal.type_text (chars t.name.now) t.modifiers
+pub type-text : (t : TypeShape (Bor (List ℕ)))
+    → type_text (view_type t) ≡ literal.type_text (chars t.name.now) t.modifiers
 unfolding type_text
 type-text t = wrapped-text (NamedType (chars t.name.now)) t.modifiers

@@ -55,7 +55,8 @@ module _ {S C : Type 0} (content : S → C) (sees : SeesValues content) where
   variable-nodes x name e = seen x _ _ e (sees.variable name (view_span x.span))
 
   pub list-nodes : (x : Spanning (InputValue S)) (v : Vec (Spanning (InputValue S)) Global) → x.item ≡ V.List v
-      → nodes_of x ≡ over kind.List (view_span x.span) Unnamed (items_nodes (items_of (map (view_value content) v.items)))
+      → nodes_of x ≡ over kind.List (view_span x.span) Unnamed (items_nodes
+      (items_of (map (view_value content) v.items)))
   unfolding value_nodes items_nodes fields_nodes
   list-nodes x v e = seen x _ _ e (sees.list v (view_span x.span))
 

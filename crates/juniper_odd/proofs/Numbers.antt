@@ -27,7 +27,8 @@ some_digits (c ∷ cs) = ((λ e. (e, omega arith)), (λ h. h.0))
 
 pub all_joined : (a b : Text) → all_ascii_digits a ≡ true → all_ascii_digits b ≡ true → all_ascii_digits (a ++ b) ≡ true
 all_joined [] b h k = k
-all_joined (c ∷ cs) b h k = and_from (is_ascii_digit c) _ (first_so (is_ascii_digit c) _ h) (all_joined cs b (second_so (is_ascii_digit c) _ h) k)
+all_joined (c ∷ cs) b h k = and_from (is_ascii_digit c) _ (first_so (is_ascii_digit c) _ h)
+    (all_joined cs b (second_so (is_ascii_digit c) _ h) k)
 
 zeros_are_digits : (n : ℕ) → all_ascii_digits (zeros n) ≡ true
 zeros_are_digits n = by_tests (n == 1) (n == 2)
@@ -55,21 +56,27 @@ module _ {E : Type 0} where
   same_premise (Ok x) P Q v f g h = (f h.0, h.1)
   same_premise (Err e) P Q v f g h = λ q. h (g q)
 
-  by_digits : (r : Result ℤ E) (ds : Text) (b : Bool) (P : Type 0) (v : ℤ) → Decides b P → all_ascii_digits ds ≡ true → 0 < length ds
+  by_digits : (r : Result ℤ E) (ds : Text) (b : Bool) (P : Type 0) (v : ℤ) → Decides b P → all_ascii_digits ds ≡ true
+      → 0 < length ds
       → OkIff r ((all_ascii_digits ds ≡ true) × (0 < length ds) × P) v → OkIff r (b ≡ true) v
   by_digits r ds b P v d k l h = same_premise r _ _ v (λ p. d.1 p.2) (λ e. (k, l, d.0 e)) h
 
-  at_minus : (ds : Text) (r : Result ℤ E) → all_ascii_digits ds ≡ true → 0 < length ds → ParsesSigned w64 10 (45 ∷ ds) r → Reads (45 ∷ ds) r
-  at_minus ds r k l h = by_digits r ds _ _ _ (negative_i64 (number_of ds)) k l (parse_signed_minus own w64 (45 ∷ ds) r h refl)
+  at_minus : (ds : Text) (r : Result ℤ E) → all_ascii_digits ds ≡ true → 0 < length ds → ParsesSigned w64 10 (45 ∷ ds) r
+      → Reads (45 ∷ ds) r
+  at_minus ds r k l h = by_digits r ds _ _ _ (negative_i64 (number_of ds)) k l
+      (parse_signed_minus own w64 (45 ∷ ds) r h refl)
 
-  at_digit : (c : ℕ) (cs : Text) (r : Result ℤ E) → all_ascii_digits (c ∷ cs) ≡ true → ParsesSigned w64 10 (c ∷ cs) r → Reads (c ∷ cs) r
+  at_digit : (c : ℕ) (cs : Text) (r : Result ℤ E) → all_ascii_digits (c ∷ cs) ≡ true → ParsesSigned w64 10 (c ∷ cs) r
+      → Reads (c ∷ cs) r
   at_digit c cs r k h =
       let digit = first_so (is_ascii_digit c) _ k in
       let no_minus : (c == 45) ≡ false = grind (arith, nat_tests) in
       let no_plus : (c == 43) ≡ false = grind (arith, nat_tests) in
-      rw (no_minus, no_plus) (by_digits r (c ∷ cs) _ _ _ (positive_i64 (number_of (c ∷ cs))) k (omega arith) (parse_signed_plain own w64 (c ∷ cs) r h (grind (arith, nat_tests)) (grind (arith, nat_tests))))
+      rw (no_minus, no_plus) (by_digits r (c ∷ cs) _ _ _ (positive_i64 (number_of (c ∷ cs))) k (omega arith)
+      (parse_signed_plain own w64 (c ∷ cs) r h (grind (arith, nat_tests)) (grind (arith, nat_tests))))
 
-  reads : (before places : Text) (r : Result ℤ E) → is_digits (without_minus before) ≡ true → all_ascii_digits places ≡ true
+  reads : (before places : Text) (r : Result ℤ E) → is_digits (without_minus before) ≡ true
+      → all_ascii_digits places ≡ true
       → ParsesSigned w64 10 (before ++ places) r → Reads (before ++ places) r
   reads [] places r d k h = absurd (true≢false (sym d))
   reads (c ∷ cs) places r d k h = by_sign (c == 45) refl d
@@ -78,19 +85,24 @@ module _ {E : Type 0} where
       by_sign true e d =
           let is : 45 ≡ c = grind (arith, nat_tests) in
           let s = (some_digits cs).0 d in
-          subst (λ x. ParsesSigned w64 10 (x ∷ (cs ++ places)) r → Reads (x ∷ (cs ++ places)) r) is (at_minus (cs ++ places) r (all_joined cs places s.0 k) (omega (arith, s.1, length-append cs places))) h
+          subst (λ x. ParsesSigned w64 10 (x ∷ (cs ++ places)) r → Reads (x ∷ (cs ++ places)) r) is
+          (at_minus (cs ++ places) r (all_joined cs places s.0 k) (omega (arith, s.1, length-append cs places))) h
       by_sign false e d = at_digit c (cs ++ places) r (all_joined (c ∷ cs) places d k) h
 
-told : {E : Type 0} (r : Result ℤ E) (b : Bool) (v : ℤ) → OkIff r (b ≡ true) v → result_ok r ≡ (if b then Some v else None)
+told : {E : Type 0} (r : Result ℤ E) (b : Bool) (v : ℤ) → OkIff r (b ≡ true) v
+    → result_ok r ≡ (if b then Some v else None)
 told (Ok z) true v h = ap Some h.1
 told (Ok z) false v h = absurd (true≢false (sym h.0))
 told (Err e) true v h = absurd (h refl)
 told (Err e) false v h = refl
 
-pub read : {E : Type 0} (before after : Text) (r : Result ℤ E) → is_decimal before after ≡ true → ParsesSigned w64 10 (before ++ filled after) r
+pub read : {E : Type 0} (before after : Text) (r : Result ℤ E) → is_decimal before after ≡ true
+    → ParsesSigned w64 10 (before ++ filled after) r
     → result_ok r ≡ thousandths_of before after
 read before after r e h =
     let parts = first_so (is_digits (without_minus before) && is_digits after) _ e in
     let d = first_so (is_digits (without_minus before)) _ parts in
     let k = ((some_digits after).0 (second_so (is_digits (without_minus before)) _ parts)).0 in
-    rw e (told r (is_i64 (thousandths before after)) (thousandths before after) (reads before (filled after) r d (all_joined after (zeros (length after)) k (zeros_are_digits (length after))) h))
+    rw e (told r (is_i64 (thousandths before after)) (thousandths before after)
+    (reads before (filled after) r d (all_joined after (zeros (length after)) k (zeros_are_digits (length after)))
+    h))

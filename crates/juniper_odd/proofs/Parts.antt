@@ -64,8 +64,10 @@ with_parts : (t : Text) → IsAscii (whole t) → IsAscii (fraction t) → 0 < l
 with_parts [] h k l = IsAscii-nil
 with_parts (c ∷ cs) h k l = by_point (c == 46) refl (with_parts cs) h k l
   where
-    by_point : (b : Bool) → (c == 46) ≡ b → (IsAscii (whole cs) → IsAscii (fraction cs) → 0 < length (fraction cs) → IsAscii cs)
-        → IsAscii (if b then [] else c ∷ whole cs) → IsAscii (if b then cs else fraction cs) → 0 < length (if b then cs else fraction cs) → IsAscii (c ∷ cs)
+    by_point : (b : Bool) → (c == 46) ≡ b → (IsAscii (whole cs) → IsAscii (fraction cs) → 0 < length (fraction cs)
+        → IsAscii cs)
+        → IsAscii (if b then [] else c ∷ whole cs) → IsAscii (if b then cs else fraction cs)
+        → 0 < length (if b then cs else fraction cs) → IsAscii (c ∷ cs)
     by_point true e more h k l = IsAscii-cons c cs (grind (arith, nat_tests)) k
     by_point false e more h k l = IsAscii-cons c cs (h 0) (more (λ i. h (suc i)) k l)
 
@@ -77,7 +79,8 @@ decimals_are_ascii t e =
     let parts = first_so (is_digits (without_minus (whole t)) && is_digits (fraction t)) _ e in
     let before = first_so (is_digits (without_minus (whole t))) _ parts in
     let after = second_so (is_digits (without_minus (whole t))) _ parts in
-    with_parts t (with_minus (whole t) (digits_are_ascii _ before)) (digits_are_ascii _ after) ((some_digits (fraction t)).0 after).1
+    with_parts t (with_minus (whole t) (digits_are_ascii _ before)) (digits_are_ascii _ after)
+    ((some_digits (fraction t)).0 after).1
 
 pub if_none : (before after : Text) → is_decimal before after ≡ false → None ≡ thousandths_of before after
 if_none before after e = rw e refl
@@ -97,10 +100,13 @@ same_number bs u = by_test (are_parts bs) (are_parts (chars bs)) refl refl
   where
     by_test : (a b : Bool) → are_parts bs ≡ a → are_parts (chars bs) ≡ b → thousandths_in bs ≡ thousandths_in (chars bs)
     by_test true b e f = ap thousandths_in (sym (chars-IsAscii bs (decimals_are_ascii bs e)))
-    by_test false true e f = ap thousandths_in (sym (encodes-chars bs u) ∙ encodes-IsAscii (chars bs) (decimals_are_ascii (chars bs) f))
-    by_test false false e f = sym (if_none (whole bs) (fraction bs) e) ∙ if_none (whole (chars bs)) (fraction (chars bs)) f
+    by_test false true e f = ap thousandths_in (sym (encodes-chars bs u)
+        ∙ encodes-IsAscii (chars bs) (decimals_are_ascii (chars bs) f))
+    by_test false false e f = sym (if_none (whole bs) (fraction bs) e)
+        ∙ if_none (whole (chars bs)) (fraction (chars bs)) f
 
-pub of_parts : (bs a b : List ℕ) → IsUtf8 bs → bs ≡ a ++ 46 ∷ b → HasNoPoint a → thousandths_of a b ≡ thousandths_in (chars bs)
+pub of_parts : (bs a b : List ℕ) → IsUtf8 bs → bs ≡ a ++ 46 ∷ b → HasNoPoint a
+    → thousandths_of a b ≡ thousandths_in (chars bs)
 of_parts bs a b u e h =
     let p = at_point a b h in
     sym (ap₂ thousandths_of p.0 p.1) ∙ ap thousandths_in (sym e) ∙ same_number bs u

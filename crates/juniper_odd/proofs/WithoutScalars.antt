@@ -19,19 +19,23 @@ unread [] h = tt
 unread (t ∷ ts) h = ((λ s. true≢false (sym (h.0 s))), unread ts h.1)
 
 -- where there is no scalar, all that is read from one is read also by another
-read_also : (S T : Scalars Content Error) (ts : List Lexeme) → AllByRecursion IsNoScalar ts → AllByRecursion (IsReadAlso S T) ts
+read_also : (S T : Scalars Content Error) (ts : List Lexeme) → AllByRecursion IsNoScalar ts
+    → AllByRecursion (IsReadAlso S T) ts
 read_also S T [] h = tt
 read_also S T (t ∷ ts) h = ((λ c s e. absurd (h.0 s)), read_also S T ts h.1)
 
 abbrev pub Read : Type 0
-Read = (ts : List Lexeme) (tree : List (Definition Content)) → IsDocument no_literals ts tree → AllByRecursion (IsRead no_literals) ts
+Read = (ts : List Lexeme) (tree : List (Definition Content)) → IsDocument no_literals ts tree
+    → AllByRecursion (IsRead no_literals) ts
 
 abbrev pub OfOthers : Type 0
 OfOthers = (T : Scalars Content Error) (ts : List Lexeme) (tree : List (Definition Content)) → T.of_bool ≡ boolean
     → AllByRecursion (IsReadAlso T no_literals) ts → IsDocument T ts tree → IsDocument no_literals ts tree
 
-pub accepts_exactly : {X : Type 0} (view : X → List (Definition Content)) (source : List ℕ) (result : Result X ParseFailure) → Read → OfOthers
-    → IfOk result (λ tree. HasTree no_literals source (view tree)) → IfRefused result (λ fault. IsRefusal no_literals source (view_fault fault))
+pub accepts_exactly : {X : Type 0} (view : X → List (Definition Content)) (source : List ℕ)
+    (result : Result X ParseFailure) → Read → OfOthers
+    → IfOk result (λ tree. HasTree no_literals source (view tree))
+    → IfRefused result (λ fault. IsRefusal no_literals source (view_fault fault))
     → AcceptsExactly result (IsDocumentWithoutScalars source)
 accepts_exactly view source (Ok x) read of_others h k = record {
   lexemes = h.lexemes;
@@ -43,5 +47,7 @@ accepts_exactly view source (Ok x) read of_others h k = record {
   document = h.document;
 }
 accepts_exactly view source (Err (failure.Refused fault)) read of_others h k =
-    λ d. k.no_document d.lexemes d.tree d.cut (of_others d.scalars d.lexemes d.tree d.truths (read_also d.scalars no_literals d.lexemes d.no_scalar) d.document)
+    λ d. k.no_document d.lexemes d.tree d.cut
+    (of_others d.scalars d.lexemes d.tree d.truths (read_also d.scalars no_literals d.lexemes d.no_scalar)
+    d.document)
 accepts_exactly view source (Err failure.Memory) read of_others h k = tt

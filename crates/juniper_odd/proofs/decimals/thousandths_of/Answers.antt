@@ -9,4 +9,5 @@ returns c =
     let before = c.args.whole.now in
     let after = c.args.fraction.now in
     c.ok.ensures.value ∙ read before after c.parse.result (sym c.is_decimal.ensures ∙ c.if-not-is_decimal.false)
-    (subst (λ (digits : List ℕ). ParsesSigned w64 10 digits c.parse.result) (c.deref.ensures ∙ c.in_ok-digits.ensures) c.parse.ensures.value.0)
+    (subst (λ (digits : List ℕ). ParsesSigned w64 10 digits c.parse.result) (c.deref.ensures ∙ c.in_ok-digits.ensures)
+    c.parse.ensures.value.0)

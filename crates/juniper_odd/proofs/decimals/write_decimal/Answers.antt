@@ -13,5 +13,6 @@ returns g c p ok =
     let small : unsigned_abs n < 2 ^ 64 = omega (arith, ints, c.ranges.number.sfits) in
     let same = to_z-of_z w64 n c.ranges.number in
     let s : c.sign-sign.result.now ≡ sign n = c.sign-sign.ensures ∙ ap sign same in
-    let v : c.unsigned_abs-places.result ≡ unsigned_abs n = c.unsigned_abs-places.ensures.value ∙ ap unsigned_abs same in
+    let v : c.unsigned_abs-places.result ≡ unsigned_abs n = c.unsigned_abs-places.ensures.value
+    ∙ ap unsigned_abs same in
     rw (encodes-IsAscii (milli_text n) (milli_is_ascii n small), ← s, ← v) (c.write.ensures.writes p ok)

@@ -10,4 +10,5 @@ pub returns : goal.returns
 returns c =
     let n = c.args.number in
     made c.to_string.result n (omega (arith, ints, c.ranges.number.sfits))
-    (subst (λ (m : ℤ). IfOk c.to_string.result (λ s. string_bytes s ≡ encode_utf8_all (milli_text m))) (to_z-of_z w64 n c.ranges.number) c.to_string.ensures.ok)
+    (subst (λ (m : ℤ). IfOk c.to_string.result (λ s. string_bytes s ≡ encode_utf8_all (milli_text m)))
+    (to_z-of_z w64 n c.ranges.number) c.to_string.ensures.ok)
