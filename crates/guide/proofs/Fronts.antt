@@ -16,15 +16,18 @@ use Rattle.guide.specs.Literals.{HasNoValue}
 
 module _ {C : Type 0} (S : Scalars C Error) (source : List ℕ) (ends : CutsOnce source) where
   module _ (ts left : List Lexeme) (cut : Cut source ts) where
-    refused : (fault : Fault) → Refuses (IsValue S true) (ValueRefusedAt S true) fault ts left → HasNoValue S source fault
+    refused : (fault : Fault) → Refuses (IsValue S true) (ValueRefusedAt S true) fault ts left
+        → HasNoValue S source fault
     refused fault r = record {
       none = λ value b. r.none b.front b.left value (ends.one_cut ts b.lexemes cut b.cut ∙ b.whole) b.means;
       lexical = λ error at b. absurd (ends.never_both ts error at cut b);
-      grammatical = λ others d. subst (λ (xs : List Lexeme). (rest : List Lexeme) × Refuses (IsValue S true) (ValueRefusedAt S true) fault xs rest) (ends.one_cut ts others cut d) (left, r);
+      grammatical = λ others d. subst (λ (xs : List Lexeme). (rest : List Lexeme)
+          × Refuses (IsValue S true) (ValueRefusedAt S true) fault xs rest) (ends.one_cut ts others cut d) (left, r);
     }
 
     -- what is refused of the tokens is refused of the text
-    pub no_value_begins : {X : Type 0} (view : X → Value C) (result : Result X ParseFailure) → AnswersValue S true view result ts left → IfRefused result (λ fault. HasNoValue S source (view_fault fault))
+    pub no_value_begins : {X : Type 0} (view : X → Value C) (result : Result X ParseFailure)
+        → AnswersValue S true view result ts left → IfRefused result (λ fault. HasNoValue S source (view_fault fault))
     no_value_begins view (Ok x) a = tt
     no_value_begins view (Err (failure.Refused fault)) a = refused (view_fault fault) a
     no_value_begins view (Err failure.Memory) a = tt

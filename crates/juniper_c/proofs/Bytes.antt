@@ -39,7 +39,8 @@ by_byte : (i : Bool) (at : ℕ) (both front last : List ℕ) → both ≡ front 
 by_byte true at both front last e = e
 by_byte false at both front last e = ap (λ ks. at ∷ ks) e
 
-pub starts-more : (at : ℕ) (bs : List ℕ) (b : ℕ) → starts_in at (bs ++ b ∷ []) ≡ starts_in at bs ++ starts_in (at + length bs) (b ∷ [])
+pub starts-more : (at : ℕ) (bs : List ℕ) (b : ℕ)
+    → starts_in at (bs ++ b ∷ []) ≡ starts_in at bs ++ starts_in (at + length bs) (b ∷ [])
 starts-more at [] b = ap (λ k. starts_in k (b ∷ [])) (omega arith)
 starts-more at (x ∷ xs) b =
     let more = starts-more (suc at) xs b in
@@ -58,9 +59,11 @@ starts_of at (c ∷ cs) = at ∷ starts_of (at + length (encode_utf8 c)) cs
 
 first_start : (at b : ℕ) (bs rest : List ℕ) → is_inner b ≡ false → AllByRecursion (λ b. is_inner b ≡ true) bs
     → starts_in at ((b ∷ bs) ++ rest) ≡ at ∷ starts_in (at + length (b ∷ bs)) rest
-first_start at b bs rest e h = rw e (ap (λ ks. at ∷ ks) (no_starts (suc at) bs rest h ∙ ap (λ k. starts_in k rest) (omega arith)))
+first_start at b bs rest e h = rw e (ap (λ ks. at ∷ ks) (no_starts (suc at) bs rest h
+    ∙ ap (λ k. starts_in k rest) (omega arith)))
 
-one_start : (at c : ℕ) (rest : List ℕ) → starts_in at (encode_utf8 c ++ rest) ≡ at ∷ starts_in (at + length (encode_utf8 c)) rest
+one_start : (at c : ℕ) (rest : List ℕ) → starts_in at (encode_utf8 c ++ rest)
+    ≡ at ∷ starts_in (at + length (encode_utf8 c)) rest
 one_start at c rest = elim (low_or_high c) [
   | inl l ↦ rw (encode_ascii c l) (first_start at c [] rest (inner_low c l) tt)
   | inr h ↦ let w = wide c h in rw w.is (first_start at w.lead w.inners rest (inner_high w.lead w.high) w.inner)
@@ -68,7 +71,8 @@ one_start at c rest = elim (low_or_high c) [
 
 starts_same : (at : ℕ) (cs : List ℕ) → starts_in at (encode_utf8_all cs) ≡ starts_of at cs
 starts_same at [] = refl
-starts_same at (c ∷ cs) = one_start at c (encode_utf8_all cs) ∙ ap (λ ks. at ∷ ks) (starts_same (at + length (encode_utf8 c)) cs)
+starts_same at (c ∷ cs) = one_start at c (encode_utf8_all cs)
+    ∙ ap (λ ks. at ∷ ks) (starts_same (at + length (encode_utf8 c)) cs)
 
 start_is : (at : ℕ) (cs : List ℕ) (k : ℕ)
     → get_or (starts_of at cs) k (at + length (encode_utf8_all cs)) ≡ at + length (encode_utf8_all (take k cs))
@@ -96,7 +100,8 @@ starts_whole text starts u e k =
     from_none : (n : ℕ) → n ≡ 0 + n
     from_none n = omega arith
 
-pub take_more : {A : Type 0} (xs : List A) (i : ℕ) (d : A) → i < length xs → take (suc i) xs ≡ take i xs ++ get_or xs i d ∷ []
+pub take_more : {A : Type 0} (xs : List A) (i : ℕ) (d : A) → i < length xs
+    → take (suc i) xs ≡ take i xs ++ get_or xs i d ∷ []
 take_more [] i d l = absurd (omega (arith, l))
 take_more (y ∷ ys) zero d l = refl
 take_more (y ∷ ys) (suc i) d l = ap (λ zs. y ∷ zs) (take_more ys i d (omega (arith, l)))
@@ -129,6 +134,8 @@ next_start bytes starts new at d l e begins grown =
 
 -- none does
 pub same_starts : (bytes starts : List ℕ) (at d : ℕ) → at < length bytes
-    → starts ≡ starts_in 0 (take at bytes) → not (is_inner (get_or bytes at d)) ≡ false → starts ≡ starts_in 0 (take (at + 1) bytes)
+    → starts ≡ starts_in 0 (take at bytes) → not (is_inner (get_or bytes at d)) ≡ false
+    → starts ≡ starts_in 0 (take (at + 1) bytes)
 same_starts bytes starts at d l e inner =
-    sym (append-nil starts) ∙ (ap₂ (λ xs ys. xs ++ ys) e (none (is_inner (get_or bytes at d)) at inner) ∙ starts_to bytes at d l)
+    sym (append-nil starts) ∙ (ap₂ (λ xs ys. xs ++ ys) e (none (is_inner (get_or bytes at d)) at inner)
+    ∙ starts_to bytes at d l)

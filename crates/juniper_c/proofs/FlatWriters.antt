@@ -17,7 +17,8 @@ use Rattle.juniper_c.proofs.Told.{told-next, texts-append, document-more}
 pub gains-definition : {X E : Type 0} (result : Result X E) (old : FlatWriter) (flat : Flat) (d : Definition Content)
     → ((source : List ℕ) → IsTableOf source old.table.now → OnOk result (flat.nodes.items
     ≡ old.flat.nodes.items ++ told_nodes source (length (string_bytes old.flat.texts)) (definition_nodes d)))
-    → OnOk result (string_bytes flat.texts ≡ string_bytes old.flat.texts ++ encode_utf8_all (node_texts (definition_nodes d)))
+    → OnOk result (string_bytes flat.texts ≡ string_bytes old.flat.texts
+    ++ encode_utf8_all (node_texts (definition_nodes d)))
     → OnOk result (Gains Holds old (record old { flat = flat }) (d ∷ []))
 gains-definition (Err e) old flat d nodes texts = tt
 gains-definition (Ok x) old flat d nodes texts = record {

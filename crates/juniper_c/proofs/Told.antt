@@ -49,13 +49,15 @@ bytes-append t u = ap length (encodes-append t u) ∙ length-append (encode_utf8
 
 -- some nodes, and then others
 pub told-append : (source : List ℕ) (at : ℕ) (ns ms : List (nodes.Node Content))
-    → told_nodes source at ns ++ told_nodes source (at + byte_count (node_texts ns)) ms ≡ told_nodes source at (ns ++ ms)
+    → told_nodes source at ns ++ told_nodes source (at + byte_count (node_texts ns)) ms
+    ≡ told_nodes source at (ns ++ ms)
 told-append source at [] ms = ap (λ k. told_nodes source k ms) (omega arith)
 told-append source at (n ∷ ns) ms =
     let next = at + byte_count (text_of_node n) in
     let same : at + byte_count (node_texts (n ∷ ns)) ≡ next + byte_count (node_texts ns) =
     omega (arith, bytes-append (text_of_node n) (node_texts ns)) in
-    ap (λ ts. told_node source at n ∷ ts) (ap (λ k. told_nodes source next ns ++ told_nodes source k ms) same ∙ told-append source next ns ms)
+    ap (λ ts. told_node source at n ∷ ts) (ap (λ k. told_nodes source next ns ++ told_nodes source k ms) same
+    ∙ told-append source next ns ms)
 
 pub texts-append : (ns ms : List (nodes.Node Content))
     → encode_utf8_all (node_texts ns) ++ encode_utf8_all (node_texts ms) ≡ encode_utf8_all (node_texts (ns ++ ms))

@@ -7,7 +7,8 @@ use Rattle.gqlcheck_report.proofs.report.write_text.Given as goal
 abbrev pub invariant-writes : goal.invariant-writes
 invariant-writes g l = record {
   within : l.written ≤ length l.text;
-  out : Appends (g.W.Write.contents (inner_of l.fn.writer)) (g.W.Write.contents (inner_of l.writer)) (take l.written l.text);
+  out : Appends (g.W.Write.contents (inner_of l.fn.writer)) (g.W.Write.contents (inner_of l.writer))
+      (take l.written l.text);
   sound : has_failed l.writer ≡ false;
 }
 

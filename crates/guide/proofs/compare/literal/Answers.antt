@@ -12,8 +12,10 @@ use Rattle.guide.proofs.compare.literal.Goals as goal
 pub returns-clause-refused : goal.returns-clause-refused
 returns-clause-refused g c =
     let source = chars c.args.source.now in
-    no_value_begins (stated g.S.ParseScalarValue.reading g.S.ScalarValue.of_bool) source (c.one_cut_or_break.ensures source) c.in_ok-parser.parser c.parse_value_literal.new.parser
-    (subst (λ (s : LexerState). CutFrom s.source s.index c.in_ok-parser.parser) c.new-lexer.ensures c.in_ok-parser.ensures.tokens)
+    no_value_begins (stated g.S.ParseScalarValue.reading g.S.ScalarValue.of_bool) source
+    (c.one_cut_or_break.ensures source) c.in_ok-parser.parser c.parse_value_literal.new.parser
+    (subst (λ (s : LexerState). CutFrom s.source s.index c.in_ok-parser.parser) c.new-lexer.ensures
+    c.in_ok-parser.ensures.tokens)
     (view_value g.S.ParseScalarValue.content) c.parse_value_literal.result c.parse_value_literal.ensures.answers
 
 pub returns-in_err-parser-clause-refused : goal.returns-in_err-parser-clause-refused
@@ -21,7 +23,10 @@ returns-in_err-parser-clause-refused g c =
     let source = chars c.args.source.now in
     let failed = c.in_err-parser.field-0.0 in
     let told = c.lexer_failures_are_told.ensures source failed (record {
-      breaks = subst (λ (s : LexerState). IfFault {X = List Lexeme} (Err failed) (λ fault. BreaksFrom s.source s.index (view_lexer_error fault.item) fault.span.start)) c.new-lexer.ensures c.in_err-parser.ensures.fault;
+      breaks = subst (λ (s : LexerState). IfFault {X = List Lexeme} (Err failed)
+          (λ fault. BreaksFrom s.source s.index (view_lexer_error fault.item) fault.span.start)) c.new-lexer.ensures
+          c.in_err-parser.ensures.fault;
       zero_width = c.in_err-parser.ensures.zero_width;
     }) in
-    refused_by_lexer (stated g.S.ParseScalarValue.reading g.S.ScalarValue.of_bool) source (c.one_cut_or_break.ensures source) _ failed c.from_residual.ensures.1 told
+    refused_by_lexer (stated g.S.ParseScalarValue.reading g.S.ScalarValue.of_bool) source
+    (c.one_cut_or_break.ensures source) _ failed c.from_residual.ensures.1 told

@@ -14,4 +14,5 @@ loop-definition-preserved g c =
 pub returns : goal.returns
 returns g c =
     let l = c.loop-definition in
-    sym (l.invariant ∙ no_definition g.S.ParseScalarValue.content _ _ (drop_all l.definition-index c.args.document.now (omega arith)))
+    sym (l.invariant ∙ no_definition g.S.ParseScalarValue.content _ _
+    (drop_all l.definition-index c.args.document.now (omega arith)))

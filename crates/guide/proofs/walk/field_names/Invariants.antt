@@ -7,4 +7,5 @@ use Rattle.guide.proofs.walk.field_names.Given as goal
 abbrev pub invariant-loop-definition : goal.invariant-loop-definition
 invariant-loop-definition g l =
     field_names (map (view_definition g.S.ParseScalarValue.content) l.document)
-    ≡ texts l.names.items ++ field_names (map (view_definition g.S.ParseScalarValue.content) (drop l.definition-index l.document))
+    ≡ texts l.names.items ++ field_names (map (view_definition g.S.ParseScalarValue.content)
+    (drop l.definition-index l.document))

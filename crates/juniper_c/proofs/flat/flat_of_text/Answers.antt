@@ -9,7 +9,17 @@ returns-in-Ok c =
     let source = chars c.args.text.now in
     let given = c.in-Ok.ensures in
     let tree = given.accepted in
-    let told = tree.gains.definitions source [] record { table = c.in_ok-table.ensures; nodes = c.in_ok-with_capacity.ensures.items; texts = c.new-2.ensures.bytes } in (
+    let told = tree.gains.definitions source []
+    record {
+      table = c.in_ok-table.ensures;
+      nodes = c.in_ok-with_capacity.ensures.items;
+      texts = c.new-2.ensures.bytes;
+    } in (
       c.requires,
-      (tree.tree, record { utf8 = c.utf8.text; has_tree = tree.has_tree; within = given.within }, told.nodes, told.texts),
+      (
+        tree.tree,
+        record { utf8 = c.utf8.text; has_tree = tree.has_tree; within = given.within },
+        told.nodes,
+        told.texts,
+      ),
     )

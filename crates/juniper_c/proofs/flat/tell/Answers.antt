@@ -15,7 +15,8 @@ loop-node-preserved c =
     let here = ap (map (view_node scalar_content)) more in
     let grown = c.in_ok-write_node.ensures in
     let on = added _ _ _ grown in
-    let at : c.len-at.result ≡ length (string_bytes l.flat.texts) = c.len-at.ensures ∙ l.flat.texts.bytes.ok.0 in record {
+    let at : c.len-at.result ≡ length (string_bytes l.flat.texts) = c.len-at.ensures ∙ l.flat.texts.bytes.ok.0 in
+    record {
       told = λ source table.
           let fits = c.write_node.new.texts.bytes.ok.0 in
           let node = c.told_node.ensures source table (omega (arith, on, at, c.len.ensures, fits)) in

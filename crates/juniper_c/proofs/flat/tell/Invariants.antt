@@ -14,7 +14,9 @@ invariant-loop-node l =
     let seen : List (nodes.Node Content) = map (view_node scalar_content) l.nodes in
     let left : List (nodes.Node Content) = map (view_node scalar_content) (drop l.node-index l.nodes) in
     let first = string_bytes l.initial.flat.texts in record {
-      told : (source : List ℕ) → IsTableOf source l.table → l.initial.flat.nodes.items ++ told_nodes source (length first) seen
+      told : (source : List ℕ) → IsTableOf source l.table
+          → l.initial.flat.nodes.items ++ told_nodes source (length first) seen
           ≡ l.flat.nodes.items ++ told_nodes source (length (string_bytes l.flat.texts)) left;
-      texts : first ++ encode_utf8_all (node_texts seen) ≡ string_bytes l.flat.texts ++ encode_utf8_all (node_texts left);
+      texts : first ++ encode_utf8_all (node_texts seen)
+          ≡ string_bytes l.flat.texts ++ encode_utf8_all (node_texts left);
     }
