@@ -179,11 +179,8 @@ module _ {C F : Type 0} (S : Scalars C F) where
       ⊎ ((u.kind ≡ EndOfFile → ⊥) × (BeginsDocument S (take (suc i) ts) → ⊥) × DocumentRefusedAt S ts j u e)
 
   pub document_balanced : (ts : List Lexeme) (ds : List (Definition C)) → IsDocument S ts ds → opened ts ≡ closed ts
-  document_balanced ts [] h = absurd h
-  document_balanced ts (d ∷ ds) (us, end, e, k, h) =
-      let b = nested.definitions IsBalanced refl join plain around S (λ t c k h. scalar t k) us (d ∷ ds) h in
-      let c = end_balanced us end k in
-      subst IsBalanced (sym e) (c.0 ∙ ap (λ n. n + 0) b ∙ sym c.1)
+  document_balanced = nested.document IsBalanced refl join plain around S (λ t c k e. scalar t k)
+      (λ t e. uncounted t (ap is_opening e) (ap is_closing e))
 
   module _ (depth : ℕ) (ts : List Lexeme) (i : ℕ) (t : Lexeme) (d : IsFirstDeeper depth ts i t) where
     abbrev pub front : List Lexeme

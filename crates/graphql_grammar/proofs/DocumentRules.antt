@@ -1,5 +1,5 @@
 -- What the readings of types, fields and definitions keep.
-use Rattle.std.proofs.Common.{ℕ, zero, suc, true, false, ◌≡◌, ◌≤◌, ◌<◌, ◌∷◌, [], List, length, refl, ap, arith, append-nil, zero-le, le_refl, inl, None}
+use Rattle.std.proofs.Common.{ℕ, zero, suc, true, false, ◌≡◌, ◌≤◌, ◌<◌, ◌∷◌, [], List, ◌++◌, length, refl, sym, subst, arith, append-nil, zero-le, le_refl, inl, None}
 use Rattle.graphql_lexical.specs.Place.{Span}
 use Rattle.graphql_lexical.specs.declared.kind.Kind.{Kind}
 use Rattle.graphql_lexical.specs.declared.kind.Kind.TheVariants.{Name, ExclamationMark, Dollar, ParenOpen, ParenClose, BracketOpen, BracketClose, Colon, Equals, At}
@@ -10,6 +10,7 @@ use Rattle.graphql_grammar.specs.Reading.{passes, of, Reader, maybe_non_null, pl
 use Rattle.graphql_grammar.specs.Tree.{Scalars, TypeRef, NamedType, ListType, NonNullType, Argument, Directive, VariableDefinition}
 use Rattle.graphql_grammar.specs.Grammar.{IsValue, Optional, Listed, IsNullable, IsType, IsArgument, IsArguments, IsDirective, IsDirectives, IsDefault, IsVariableDefinition, IsVariables, Each}
 use Rattle.graphql_grammar.proofs.Rules.{less, Rule, Some_of, done_rule, weaken, on_rule, span_rule, maybe_rule, one_or_more_rule, repeated_rule, step, want_step, lower, ClosedSome}
+use Rattle.graphql_grammar.proofs.Sequences.{row, enclosed, kind_is, word_is, says_is, one_takes, is_takes, front_takes}
 use Rattle.graphql_grammar.proofs.TokenTests.{of_kind}
 use Rattle.graphql_grammar.proofs.Values.{value_rule}
 
@@ -21,15 +22,17 @@ plain_rule : {F : Type 0} (n : ℕ) (f g : Reader F TypeRef) → Rule n f g IsTy
     → Rule (suc n) (plain_type f) (plain_type g) IsNullableType
 unfolding plain_type
 plain_rule n f g r = on_rule (suc n) (of Name) _ _ _ _ IsNullableType
-    (λ t u p. done_rule n (NamedType t.text) (NamedType u.text) _ ((t, refl, of_kind Name t p, refl), tt))
+    (λ t u p. done_rule n (NamedType t.text) (NamedType u.text) _ (says_is t.text t (of_kind Name t p) refl, tt))
     (want_step (suc n) (of BracketOpen) (sample BracketOpen) _ _ IsNullableType refl (inl refl)
     (λ o o' p. step n n f g _ _ IsType _ (le_refl n) r (λ us x y h.
     want_step (less n us) (of BracketClose) (sample BracketClose) _ _ _ refl (inl refl) (λ c c' q.
-    done_rule _ (ListType None x) (ListType None y) _
-    ((o, c, us, refl, of_kind BracketOpen o p, of_kind BracketClose c q, refl, h), tt)))))
+    done_rule _ (ListType None x) (ListType None y) _ (
+      (enclosed BracketOpen BracketClose o c us (of_kind BracketOpen o p) (of_kind BracketClose c q) h, refl),
+      tt,
+    )))))
 
 some_type : Some_of IsType
-some_type = (sample Name ∷ [], NamedType (sample_text Name), (sample Name, refl, refl, refl), (inl refl, tt))
+some_type = (sample Name ∷ [], NamedType (sample_text Name), says_is _ (sample Name) refl refl, (inl refl, tt))
 
 pub type_rule : {F : Type 0} (n m : ℕ) → n ≤ m → Rule {F = F} n (type_at n) (type_at m) IsType
 unfolding type_at maybe_non_null
@@ -38,7 +41,8 @@ type_rule (suc n) zero le = absurd (omega arith)
 type_rule (suc n) (suc m) le = step (suc n) (suc n) _ _ maybe_non_null maybe_non_null IsNullableType IsType
     (le_refl (suc n)) (plain_rule n _ _ (type_rule n m (omega arith))) (λ us x y h.
     on_rule (less (suc n) us) (of ExclamationMark) _ _ _ _ _
-    (λ b b' p. done_rule _ (NonNullType x) (NonNullType y) _ (us, b, refl, of_kind ExclamationMark b p, h.1, h.0))
+    (λ b b' p. done_rule _ (NonNullType x) (NonNullType y) _
+    (row us (b ∷ []) h.0 (kind_is ExclamationMark b (of_kind ExclamationMark b p)), h.1))
     (done_rule _ x y _ (rw append-nil h.0)))
 
 abbrev pub IsSpannedType : List Lexeme → TypeRef × Span → Type 0
@@ -74,34 +78,18 @@ module _ {C F : Type 0} (S : Scalars C F) (n m : ℕ) (le : n ≤ m) where
       step n _ (value_at S true n) (value_at S true m) _ _ (IsValue S true) _ (low2 (k ∷ []) (c ∷ []))
       (value_rule S true n m le) (λ us v w h.
       done_rule _ (record { name = word_of k; value = v }) (record { name = word_of k'; value = w }) _
-      (rw append-nil (record {
-        key = k;
-        colon = c;
-        rest = us;
-        whole = refl;
-        key_is = of_kind Name k p;
-        colon_is = of_kind Colon c q;
-        names = refl;
-        value = h;
-      })))))
+      (rw append-nil (row (k ∷ []) (c ∷ us) (word_is k (of_kind Name k p))
+      (row (c ∷ []) us (kind_is Colon c (of_kind Colon c q)) h))))))
 
   pub argument_takes : (ts : List Lexeme) (a : Argument C) → IsArgument S ts a → 0 < length ts
-  argument_takes ts a h = rw h.whole (omega arith)
+  argument_takes ts a h = front_takes (λ us w. one_takes us _ w) ts h
 
   pub listed : {A : Type 0} (opening closing : Kind) (R : List Lexeme → A → Type 0) (t : Lexeme) (us : List Lexeme)
       (xs : List A) → passes (of opening) t ≡ true → ClosedSome (of closing) R us xs
       → Listed opening closing R (t ∷ us) xs
   listed opening closing R t us [] p c = absurd c
-  listed opening closing R t us (x ∷ xs) p c =
-      record {
-        first = t;
-        last = c.last;
-        inner = c.inner;
-        whole = ap (λ z. t ∷ z) c.whole;
-        opens = of_kind opening t p;
-        closes = of_kind closing c.last c.closes;
-        parts = c.each;
-      }
+  listed opening closing R t us (x ∷ xs) p c = subst (λ l. Listed opening closing R (t ∷ l) (x ∷ xs)) (sym c.whole)
+      (enclosed opening closing t c.last c.inner (of_kind opening t p) (of_kind closing c.last c.closes) c.each)
 
   pub arguments_rule : Rule n (arguments S n) (arguments S m) (IsArguments S)
   unfolding arguments
@@ -121,20 +109,14 @@ module _ {C F : Type 0} (S : Scalars C F) (n m : ℕ) (le : n ≤ m) where
       (maybe_rule n (of ParenOpen) _ _ (IsArguments S) arguments_rule) (λ us xs ys h.
       done_rule _ (λ p. record { name = word_of t; arguments = xs; span = p })
       (λ p. record { name = word_of t'; arguments = ys; span = p }) _
-      (rw append-nil (record {
-        at = a;
-        name = t;
-        rest = us;
-        whole = refl;
-        at_is = of_kind At a p;
-        name_is = of_kind Name t q;
-        names = refl;
-        arguments = h;
-        spans = refl;
-      }))))))
+      (rw append-nil (
+        row (a ∷ []) (t ∷ us) (kind_is At a (of_kind At a p))
+            (row (t ∷ []) us (word_is t (of_kind Name t q)) h),
+        refl,
+      ))))))
 
   pub directive_takes : (ts : List Lexeme) (d : Directive C) → IsDirective S ts d → 0 < length ts
-  directive_takes ts d h = rw h.whole (omega arith)
+  directive_takes ts d h = front_takes (is_takes At) ts h.0
 
   directives_are : (ts : List Lexeme) (ds : List (Directive C)) → Each (IsDirective S) ts ds
       → IsDirectives S ts (unless_empty ds)
@@ -151,7 +133,8 @@ module _ {C F : Type 0} (S : Scalars C F) (n m : ℕ) (le : n ≤ m) where
   pub default_rule : Rule n (default_value S n) (default_value S m) (IsDefault S)
   unfolding default_value
   default_rule = want_step n (of Equals) (sample Equals) _ _ _ refl (inl refl) (λ e e' p.
-      weaken n _ _ _ (IsValue S false) _ (low1 (e ∷ [])) (λ us v h. (e, us, refl, of_kind Equals e p, h))
+      weaken n _ _ _ (IsValue S false) _ (low1 (e ∷ []))
+      (λ us v h. row (e ∷ []) us (kind_is Equals e (of_kind Equals e p)) h)
       (value_rule S false n m le))
 
   pub variable_definition_rule : Rule n (variable_definition S n) (variable_definition S m) (IsVariableDefinition S)
@@ -178,26 +161,13 @@ module _ {C F : Type 0} (S : Scalars C F) (n m : ℕ) (le : n ≤ m) where
         default = v';
         directives = ds';
       }) _
-      (rw append-nil (record {
-        dollar = d;
-        name = t;
-        colon = c;
-        of_type = us;
-        default = vs;
-        directives = ws;
-        whole = refl;
-        dollar_is = of_kind Dollar d p;
-        name_is = of_kind Name t q;
-        colon_is = of_kind Colon c r;
-        names = refl;
-        type_is = h.0;
-        type_spans = h.1;
-        default_is = k;
-        directives_are = e;
-      }))))))))
+      (rw append-nil (row (d ∷ t ∷ []) (c ∷ us ++ (vs ++ ws))
+      (row (d ∷ []) (t ∷ []) (kind_is Dollar d (of_kind Dollar d p)) (says_is t.text t (of_kind Name t q) refl), refl)
+      (row (c ∷ []) (us ++ (vs ++ ws)) (kind_is Colon c (of_kind Colon c r))
+      (row us (vs ++ ws) h (row vs ws k e)))))))))))
 
   pub variable_takes : (ts : List Lexeme) (d : VariableDefinition C) → IsVariableDefinition S ts d → 0 < length ts
-  variable_takes ts d h = rw h.whole (omega arith)
+  variable_takes ts d h = front_takes (λ us v. front_takes (is_takes Dollar) us v.0) ts h
 
   pub variables_rule : Rule n (variables S n) (variables S m) (IsVariables S)
   unfolding variables

@@ -2,12 +2,14 @@
 use Rattle.std.proofs.Common.{ℕ, suc, ◌≡◌, ◌<◌, ◌∷◌, [], List, ◌++◌, length, refl, sym, ap, ◌∙◌, arith, append_assoc, subst, length-append, Option, Some, None}
 use Rattle.graphql_lexical.specs.Place.{Span}
 use Rattle.graphql_lexical.specs.declared.kind.Kind.{Kind}
+use Rattle.graphql_lexical.specs.declared.kind.Kind.TheVariants.{At}
 use Rattle.graphql_lexical.specs.Cutting.{Lexeme}
 use Rattle.graphql_grammar.specs.Tokens.{over, last_of, span_of}
-use Rattle.graphql_grammar.specs.Tree.{Scalars, Value, Scalar, Variable, Arguments, Directive, Variables}
+use Rattle.graphql_grammar.specs.Tree.{Scalars, Arguments, Directive, Variables}
 use Rattle.graphql_grammar.specs.Grammar.{IsArguments, IsDirective, IsVariables, Listed}
 use Rattle.graphql_grammar.specs.Reading.{Test, Took, Reader, front, fully}
 use Rattle.graphql_grammar.proofs.Rules.{Meets, Rule, Closed, front_is}
+use Rattle.graphql_grammar.proofs.Sequences.{is_takes, front_takes, last_joined}
 
 -- Some tokens stand in ts before rest, from the start of the first to the end of the last one.
 pub record Runs (ts rest : List Lexeme) (p : Span) : Type 0 where
@@ -18,10 +20,6 @@ pub record Runs (ts rest : List Lexeme) (p : Span) : Type 0 where
 
 pub runs_one : (t : Lexeme) (ts rest : List Lexeme) → ts ≡ t ∷ rest → Runs ts rest t.span
 runs_one t ts rest e = record { first = t; inner = []; whole = e; span = refl }
-
-last_joined : (t u : Lexeme) (us vs : List Lexeme) → last_of t (us ++ (u ∷ vs)) ≡ last_of u vs
-last_joined t u [] vs = refl
-last_joined t u (w ∷ us) vs = last_joined w u us vs
 
 abbrev pub from_to : Span → Span → Span
 from_to a b = record { start = a.start; end = b.end }
@@ -90,8 +88,7 @@ closed_runs close R us ts rest r e c = (
 module _ {C F : Type 0} (S : Scalars C F) where
   listed_takes : {A : Type 0} (opening closing : Kind) (R : List Lexeme → A → Type 0) (us : List Lexeme) (xs : List A)
       → Listed opening closing R us xs → 0 < length us
-  listed_takes opening closing R us [] h = absurd h
-  listed_takes opening closing R us (x ∷ xs) h = rw h.whole (omega arith)
+  listed_takes opening closing R us xs h = front_takes (is_takes opening) us h
 
   pub arguments_have : (us : List Lexeme) (a : Arguments C) → IsArguments S us a
       → (0 < length us) × (a.span ≡ span_of us)
@@ -103,4 +100,4 @@ module _ {C F : Type 0} (S : Scalars C F) where
 
   pub directive_has : (us : List Lexeme) (d : Directive C) → IsDirective S us d
       → (0 < length us) × (d.span ≡ span_of us)
-  directive_has us d h = (rw h.whole (omega arith), h.spans)
+  directive_has us d h = (front_takes (is_takes At) us h.0, h.1)

@@ -1,10 +1,12 @@
 pub mod Elements
+pub mod Sequences
 pub mod Alike
 pub mod TokenTests
 pub mod Rules
 pub mod Values
 pub mod DocumentRules
 pub mod SelectionRules
+pub mod Finds
 pub mod Found
 pub mod DocumentFound
 pub mod SelectionFound

@@ -1,9 +1,8 @@
 -- The scalar tokens of a document are those that its scalar type reads.
-use Rattle.std.proofs.Common.{true, false, ◌≡◌, ◌∷◌, [], List, ◌++◌, sym, ap, ◌∙◌, inl, inr, subst, Ok}
+use Rattle.std.proofs.Common.{true, false, ◌≡◌, ◌∷◌, [], List, ◌++◌, sym, ap, ◌∙◌, inl, inr, Ok}
 use Rattle.std.specs.Result.{is_ok}
 use Rattle.std.specs.List.{AllByRecursion}
 use Rattle.graphql_lexical.specs.declared.kind.Kind.{Kind}
-use Rattle.graphql_lexical.specs.declared.kind.Kind.TheVariants.{EndOfFile}
 use Rattle.graphql_lexical.specs.Cutting.{Lexeme}
 use Rattle.graphql_grammar.specs.Tree.{Scalars, Definition}
 use Rattle.graphql_grammar.specs.Grammar.{IsScalarKind, IsDocument}
@@ -33,9 +32,6 @@ closing_is_none o c (inl (a, b)) = ap is_scalar b
 closing_is_none o c (inr (inl (a, b))) = ap is_scalar b
 closing_is_none o c (inr (inr (a, b))) = ap is_scalar b
 
-end_is_none : (k : Kind) → k ≡ EndOfFile → is_scalar k ≡ false
-end_is_none k e = ap is_scalar e
-
 module _ {C F : Type 0} (S : Scalars C F) where
   AreRead : List Lexeme → Type 0
   AreRead = AllByRecursion (IsRead S)
@@ -62,7 +58,4 @@ module _ {C F : Type 0} (S : Scalars C F) where
   pub document_is_read : (ts : List Lexeme) (ds : List (Definition C)) → IsDocument S ts ds
       → AllByRecursion (IsRead S) ts
   unfolding AreRead
-  document_is_read ts [] h = absurd h
-  document_is_read ts (d ∷ ds) (us, end, e, k, h) =
-      subst AreRead (sym e) (join us (end ∷ []) (nested.definitions AreRead tt join plain around S scalar us (d ∷ ds) h)
-      (none end (end_is_none end.kind k)))
+  document_is_read = nested.document AreRead tt join plain around S scalar (λ t e. none t (ap is_scalar e))

@@ -11,6 +11,7 @@ use Rattle.graphql_grammar.specs.Samples.{IsSample, AreSamples}
 use Rattle.graphql_grammar.specs.Reading.{Test, passes, of, Read, Took, Refused, Out, Reader, after, seq, done, fault_of, refuse, pick, on, want, many, look, choose, with_span, give_span, front, maybe, one_or_more, repeated}
 use Rattle.graphql_grammar.specs.Grammar.{Each, Optional}
 use Rattle.graphql_grammar.specs.Faults.{Fault, UnexpectedEndOfFile, UnexpectedToken, ScalarError}
+use Rattle.graphql_grammar.proofs.Sequences.{row}
 
 -- the first tokens are alike, or there is none
 abbrev pub SameHead : List Lexeme → List Lexeme → Type 0
@@ -441,7 +442,7 @@ closed_more close R us ts x r h c = record {
   inner = us ++ c.inner;
   whole = ap (λ z. us ++ z) c.whole ∙ sym (append_assoc us c.inner (r.1 ∷ []));
   closes = c.closes;
-  each = (us, c.inner, refl, h, c.each);
+  each = row us c.inner h c.each;
 }
 
 pub less_short : (n : ℕ) (us : List Lexeme) → 0 < length us → less (suc n) us ≤ n
@@ -576,7 +577,7 @@ maybe_rule n test f g R r = look_rule n test _ _ _ _ (Optional R)
 -- one_or_more and repeated
 each_more : {A : Type 0} (R : List Lexeme → A → Type 0) (us vs : List Lexeme) (x : A) (xs : List A) → R us x
     → Each R vs xs → Each R (us ++ vs) (x ∷ xs)
-each_more R us vs x xs h k = (us, vs, refl, h, k)
+each_more R us vs x xs h k = row us vs h k
 
 -- one item or more, and then the closing token
 pub record ClosedList {A : Type 0} (close : Test) (R : List Lexeme → A → Type 0) (ts : List Lexeme) (x : A)

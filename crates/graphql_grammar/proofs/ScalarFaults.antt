@@ -12,7 +12,8 @@ use Rattle.graphql_grammar.specs.Faults.{Fault, ScalarError}
 use Rattle.graphql_grammar.proofs.Rules.{on_passed, on_failed, front_is}
 use Rattle.graphql_grammar.proofs.TokenTests.{is_scalar_kind}
 use Rattle.graphql_grammar.proofs.Values.{literal_ok, literal_bad, literal_other}
-use Rattle.graphql_grammar.proofs.Found.{seq_took, at_literal_kind}
+use Rattle.graphql_grammar.proofs.Finds.{seq_took}
+use Rattle.graphql_grammar.proofs.Found.{at_literal_kind}
 
 -- The first tokens are the same, or a scalar token and an opening bracket.
 abbrev pub Exchange : List Lexeme → List Lexeme → Type 0

@@ -1,77 +1,50 @@
 -- What the readings of selections and definitions keep.
-use Rattle.std.proofs.Common.{ℕ, zero, suc, true, ◌≡◌, ◌≤◌, ◌<◌, ◌∷◌, [], List, ◌++◌, length, refl, ap, ◌∙◌, arith, append_assoc, append-nil, length-append, zero-le, le_refl, codes, inl, inr, ◌⊎◌, ◌||◌, Option, Some, None}
+use Rattle.std.proofs.Common.{ℕ, zero, suc, true, ◌≡◌, ◌≤◌, ◌<◌, ◌∷◌, [], List, ◌++◌, length, refl, sym, ap, ◌∙◌, subst, arith, append-nil, zero-le, le_refl, codes, inl, inr, ◌⊎◌, ◌||◌, Option, Some, None}
 use Rattle.std.proofs.lemmas.Bool.{or_cases}
 use Rattle.graphql_lexical.specs.Place.{Span}
 use Rattle.graphql_lexical.specs.declared.kind.Kind.TheVariants.{Name, ParenOpen, CurlyOpen, CurlyClose, Ellipsis, Colon, EndOfFile}
 use Rattle.graphql_lexical.specs.Cutting.{Lexeme}
-use Rattle.graphql_grammar.specs.Tokens.{word_of, Word, span_of}
+use Rattle.graphql_grammar.specs.Tokens.{Text, word_of, Word, span_of}
 use Rattle.graphql_grammar.specs.Samples.{sample, token_of}
 use Rattle.graphql_grammar.specs.Reading.{passes, of, word, Reader, name_word, field_name, may_select, field_with, inline_tail, spread_with, selection_at, braces, selections_of, operation_word, other_than_on, operation_with, fragment_with, definition, document, operation_of}
 use Rattle.graphql_grammar.specs.Tree.{Scalars, Selection, Field, FragmentSpread, InlineFragment, Selections, no_selections, selection, Definition, Operation, Fragment, absent, present, Query, operation_name, Directives}
-use Rattle.graphql_grammar.specs.Grammar.{Each, Optional, IsWord, Says, IsArguments, IsDirectives, IsVariables, IsAlias, IsSelection, IsOptionalSelectionSet, IsSelectionSet, AreSelections, IsDefinition, IsDocument}
+use Rattle.graphql_grammar.specs.Grammar.{◌·◌, ◌for◌, Each, Optional, Is, IsWord, Says, IsArguments, IsDirectives, IsVariables, IsAlias, IsSelection, IsOptionalSelectionSet, IsSelectionSet, AreSelections, IsDefinition, IsDocument}
 use Rattle.graphql_grammar.proofs.Rules.{less, Rule, Some_of, done_rule, weaken, on_rule, look_rule, span_rule, maybe_rule, one_or_more_rule, step, want_step, lower, less_short, ClosedSome}
-use Rattle.graphql_grammar.proofs.TokenTests.{of_kind, says, other}
+use Rattle.graphql_grammar.proofs.Sequences.{row, row_back, row_right, enclosed, kind_is, word_is, says_is, one_takes, is_takes, says_takes, front_takes, back_takes}
+use Rattle.graphql_grammar.proofs.TokenTests.{of_kind, both, text_yes, says, other}
 use Rattle.graphql_grammar.proofs.DocumentRules.{low1, low2, low3, low4, arguments_rule, directives_rule, variables_rule}
 
 module _ {C F : Type 0} (S : Scalars C F) where
   pub word_takes : (ts : List Lexeme) (w : Word) → IsWord ts w → 0 < length ts
-  word_takes ts w h = rw h.whole (omega arith)
+  word_takes ts w h = one_takes ts _ h
 
   selections_are : (ts : List Lexeme) (xs : List (Selection C)) → Each (IsSelection S) ts xs
       → AreSelections S ts (selections_of xs)
   selections_are ts [] h = h
-  selections_are ts (x ∷ xs) (us, ws, e, h, k) = (us, ws, e, h, selections_are ws xs k)
+  selections_are ts (x ∷ xs) h = row_back (λ us k. selections_are us xs k) ts h
 
   select_is : (t : Lexeme) (us : List Lexeme) (xs : List (Selection C)) → passes (of CurlyOpen) t ≡ true
       → ClosedSome (of CurlyClose) (IsSelection S) us xs → IsSelectionSet S (t ∷ us) (selections_of xs)
   select_is t us [] p c = absurd c
-  select_is t us (x ∷ xs) p c = (
-    t,
-    c.last,
-    c.each.0,
-    c.each.1,
-    ap (λ z. t ∷ z) (c.whole ∙ ap (λ z. z ++ (c.last ∷ [])) c.each.2 ∙ append_assoc c.each.0 c.each.1 (c.last ∷ [])),
-    of_kind CurlyOpen t p,
-    of_kind CurlyClose c.last c.closes,
-    c.each.3,
-    selections_are c.each.1 xs c.each.4,
-  )
+  select_is t us (x ∷ xs) p c = subst (λ l. IsSelectionSet S (t ∷ l) (selections_of (x ∷ xs))) (sym c.whole)
+      (row_back row_right _ (enclosed CurlyOpen CurlyClose t c.last c.inner (of_kind CurlyOpen t p)
+      (of_kind CurlyClose c.last c.closes) (selections_are c.inner (x ∷ xs) c.each)))
 
   pub select_takes : (ts : List Lexeme) (ss : Selections C) → IsSelectionSet S ts ss → 0 < length ts
   select_takes ts no_selections h = absurd h
-  select_takes ts (selection s ss) h = rw h.4 (omega arith)
+  select_takes ts (selection s ss) h = front_takes (is_takes CurlyOpen) ts h
 
   pub selection_takes : (ts : List Lexeme) (s : Selection C) → IsSelection S ts s → 0 < length ts
-  selection_takes ts (Field alias name args ds ss p) (u0, u1, u2, u3, u4, e, a, w, h1, h2, h3, h4) =
-      let l : 0 < length u1 = word_takes u1 name w in
-      rw (e, length-append u0 (u1 ++ (u2 ++ (u3 ++ u4))), length-append u1 (u2 ++ (u3 ++ u4))) (omega arith)
-  selection_takes ts (FragmentSpread name ds p) h = rw h.3 (omega arith)
-  selection_takes ts (InlineFragment condition ds ss p) h = rw h.4 (omega arith)
+  selection_takes ts (Field alias name args ds ss p) h =
+      back_takes (front_takes (λ us w. word_takes us name w)) ts h.0
+  selection_takes ts (FragmentSpread name ds p) h = front_takes (is_takes Ellipsis) ts h.0
+  selection_takes ts (InlineFragment condition ds ss p) h = front_takes (is_takes Ellipsis) ts h.0
 
   some_selection : Some_of (IsSelection S)
   some_selection = (
     x ∷ [],
     Field None (word_of x) None None absent (span_of (x ∷ [])),
-    (
-      [],
-      x ∷ [],
-      [],
-      [],
-      [],
-      refl,
-      refl,
-      record {
-        token = x;
-        whole = refl;
-        kind_is = refl;
-        text_is = refl;
-        spans = refl;
-      },
-      refl,
-      refl,
-      refl,
-      refl,
-    ),
+    (row [] (x ∷ []) refl (row (x ∷ []) [] refl (row [] [] refl (row [] [] refl refl))), refl),
     (inl refl, tt),
   )
     where
@@ -79,38 +52,20 @@ module _ {C F : Type 0} (S : Scalars C F) where
       x = sample Name
 
   abbrev IsFieldName : List Lexeme → Option Word × Word → Type 0
-  IsFieldName ts h = (us vs : List Lexeme) × (ts ≡ us ++ vs) × Optional (IsAlias S) us h.0 × IsWord vs h.1
+  IsFieldName ts h = (Optional (IsAlias S) for h.0 · IsWord for h.1) ts
 
   field_name_takes : (ts : List Lexeme) (h : Option Word × Word) → IsFieldName ts h → 0 < length ts
-  field_name_takes ts h (us, vs, e, a, w) =
-      let l : 0 < length vs = word_takes vs h.1 w in
-      rw (e, length-append us vs) (omega arith)
+  field_name_takes ts h k = back_takes (λ us w. word_takes us h.1 w) ts k
 
   field_name_rule : (k n m : ℕ) → Rule k (field_name S n) (field_name S m) IsFieldName
   unfolding field_name
   field_name_rule k n m = want_step k (of Name) (sample Name) _ _ _ refl (inl refl) (λ a a' p.
       on_rule _ (of Colon) _ _ _ _ _
       (λ c c' q. want_step _ (of Name) (sample Name) _ _ _ refl (inl refl)
-      (λ t t' r. done_rule _ (Some (word_of a), word_of t) (Some (word_of a'), word_of t') _ (
-        a ∷ c ∷ [],
-        t ∷ [],
-        refl,
-        (a, c, refl, of_kind Name a p, of_kind Colon c q, refl),
-        record { token = t; whole = refl; kind_is = of_kind Name t r; text_is = refl; spans = refl },
-      )))
-      (done_rule _ (None, word_of a) (None, word_of a') _ (
-        [],
-        a ∷ [],
-        refl,
-        refl,
-        record {
-          token = a;
-          whole = refl;
-          kind_is = of_kind Name a p;
-          text_is = refl;
-          spans = refl;
-        },
-      )))
+      (λ t t' r. done_rule _ (Some (word_of a), word_of t) (Some (word_of a'), word_of t') _ (row (a ∷ c ∷ []) (t ∷ [])
+      (row (a ∷ []) (c ∷ []) (word_is a (of_kind Name a p)) (kind_is Colon c (of_kind Colon c q)))
+      (word_is t (of_kind Name t r)))))
+      (done_rule _ (None, word_of a) (None, word_of a') _ (row [] (a ∷ []) refl (word_is a (of_kind Name a p)))))
 
   module _ (n m : ℕ) (le : n ≤ m) (f g : Reader F (Selection C)) (r : Rule n f g (IsSelection S)) where
     pub braces_rule : Rule n (braces f n) (braces g m) (IsSelectionSet S)
@@ -139,18 +94,7 @@ module _ {C F : Type 0} (S : Scalars C F) where
         (lower n _ ws (lower n _ vs (less_short n us (field_name_takes us h a)))) may_rule (λ zs ss ss' d.
         done_rule _ (Field h.0 h.1 xs ds ss) (Field h'.0 h'.1 xs' ds' ss') _
         (rw append-nil (
-          a.0,
-          a.1,
-          vs,
-          ws,
-          zs,
-          ap (λ l. l ++ (vs ++ (ws ++ zs))) a.2
-              ∙ append_assoc a.0 a.1 (vs ++ (ws ++ zs)),
-          a.3,
-          a.4,
-          b,
-          c,
-          d,
+          row_right _ (row us (vs ++ (ws ++ zs)) a (row vs (ws ++ zs) b (row ws zs c d))),
           refl,
         ))))))
 
@@ -170,42 +114,23 @@ module _ {C F : Type 0} (S : Scalars C F) where
         (λ o o' q. want_step _ (of Name) (sample Name) _ _ _ refl (inl refl) (λ t t' x.
         inline_rule _ (Some (word_of t)) (Some (word_of t')) _ (lower n _ (t ∷ []) (lower n n (o ∷ []) (le_refl n)))
         (λ us vs ds ss c d. (
-          e,
-          o ∷ t ∷ [],
-          us,
-          vs,
-          refl,
-          of_kind Ellipsis e p,
-          (o, t, refl, says _ o q, of_kind Name t x, refl),
-          c,
-          d,
+          row (e ∷ []) (o ∷ t ∷ us ++ vs) (dots e p)
+              (row (o ∷ t ∷ []) (us ++ vs) (row (o ∷ []) (t ∷ []) (says _ o q) (word_is t (of_kind Name t x)))
+              (row us vs c d)),
           refl,
         ))))
         (on_rule n other_than_on _ _ _ _ _
         (λ t t' q. step n _ _ _ _ _ (IsDirectives S) _ (lower n n (t ∷ []) (le_refl n)) (directives_rule S n m le)
         (λ us ds ds' c.
         done_rule _ (FragmentSpread (word_of t) ds) (FragmentSpread (word_of t') ds') _ (rw append-nil (
-          e,
-          t ∷ [],
-          us,
-          refl,
-          of_kind Ellipsis e p,
-          (record { token = t; whole = refl; kind_is = (other t q).0; text_is = refl; spans = refl }, (other t q).1),
-          c,
+          row (e ∷ []) (t ∷ us) (dots e p) (row (t ∷ []) us (word_is t (other t q).0, (other t q).1) c),
           refl,
         ))))
-        (inline_rule n None None _ (le_refl n) (λ us vs ds ss c d. (
-          e,
-          [],
-          us,
-          vs,
-          refl,
-          of_kind Ellipsis e p,
-          refl,
-          c,
-          d,
-          refl,
-        )))))
+        (inline_rule n None None _ (le_refl n)
+        (λ us vs ds ss c d. (row (e ∷ []) (us ++ vs) (dots e p) (row [] (us ++ vs) refl (row us vs c d)), refl)))))
+      where
+        dots : (e : Lexeme) → passes (of Ellipsis) e ≡ true → Is Ellipsis (e ∷ [])
+        dots e p = kind_is Ellipsis e (of_kind Ellipsis e p)
 
   pub selection_rule : (n m : ℕ) → n ≤ m → Rule n (selection_at S n) (selection_at S m) (IsSelection S)
   unfolding selection_at
@@ -216,31 +141,33 @@ module _ {C F : Type 0} (S : Scalars C F) where
       (field_rule n m (omega arith) _ _ (selection_rule n m (omega arith))))
 
   -- Definitions
+  one_word : (w : Text) (t : Lexeme) → operation_name (operation_of w) ≡ w → passes (word w) t ≡ true
+      → Says (operation_name (operation_of t.text)) (t ∷ [])
+  one_word w t k p = let e = text_yes t.text w (both _ _ p).1 in
+      says_is _ t (of_kind Name t (both _ _ p).0) (e ∙ sym k ∙ ap (λ z. operation_name (operation_of z)) (sym e))
+
   two_words : (t : Lexeme) → (passes (word (codes "query")) t ≡ true) ⊎ (passes (word (codes "mutation")) t ≡ true)
-      → Says t (operation_name (operation_of t.text))
-  two_words t (inl x) = let s : Says t (codes "query") = says _ t x in record { kind = s.kind; text = rw s.text refl }
-  two_words t (inr x) = let s : Says t (codes "mutation") = says _ t x in
-      record { kind = s.kind; text = rw s.text refl }
+      → Says (operation_name (operation_of t.text)) (t ∷ [])
+  two_words t (inl x) = one_word _ t refl x
+  two_words t (inr x) = one_word _ t refl x
 
   three_words : (t : Lexeme) → ((passes (word (codes "query")) t || passes (word (codes "mutation")) t) ≡ true)
-      ⊎ (passes (word (codes "subscription")) t ≡ true) → Says t (operation_name (operation_of t.text))
+      ⊎ (passes (word (codes "subscription")) t ≡ true) → Says (operation_name (operation_of t.text)) (t ∷ [])
   three_words t (inl x) = two_words t (or_cases _ _ x)
-  three_words t (inr x) = let s : Says t (codes "subscription") = says _ t x in
-      record { kind = s.kind; text = rw s.text refl }
+  three_words t (inr x) = one_word _ t refl x
 
-  operation_says : (t : Lexeme) → passes operation_word t ≡ true → Says t (operation_name (operation_of t.text))
+  operation_says : (t : Lexeme) → passes operation_word t ≡ true → Says (operation_name (operation_of t.text)) (t ∷ [])
   operation_says t e = three_words t (or_cases _ _ e)
 
   pub definition_takes : (ts : List Lexeme) (d : Definition C) → IsDefinition S ts d → 0 < length ts
   definition_takes ts (Operation kind name vars ds ss p) (q, inl h) = select_takes ts ss h.0
-  definition_takes ts (Operation kind name vars ds ss p) (q, inr h) = rw h.5 (omega arith)
-  definition_takes ts (Fragment name condition ds ss p) h = rw h.5 (omega arith)
+  definition_takes ts (Operation kind name vars ds ss p) (q, inr h) = front_takes (says_takes _) ts h
+  definition_takes ts (Fragment name condition ds ss p) h = front_takes (says_takes _) ts h.0
 
   name_word_rule : (n : ℕ) → Rule {F = F} n name_word name_word IsWord
   unfolding name_word
   name_word_rule n = want_step n (of Name) (sample Name) _ _ _ refl (inl refl)
-      (λ t t' p. done_rule _ (word_of t) (word_of t') _
-      (record { token = t; whole = refl; kind_is = of_kind Name t p; text_is = refl; spans = refl }))
+      (λ t t' p. done_rule _ (word_of t) (word_of t') _ (word_is t (of_kind Name t p)))
 
   module _ (n m : ℕ) (le : n ≤ m) where
     body_rule : Rule n (braces (selection_at S n) n) (braces (selection_at S m) m) (IsSelectionSet S)
@@ -260,7 +187,11 @@ module _ {C F : Type 0} (S : Scalars C F) where
         step n _ _ _ _ _ (IsSelectionSet S) _ (low4 S n m le (t ∷ []) us vs ws) body_rule (λ zs ss ss' d.
         done_rule _ (Operation (operation_of t.text) name vars ds ss)
         (Operation (operation_of t'.text) name' vars' ds' ss') _
-        (rw append-nil (refl, inr (t, us, vs, ws, zs, refl, operation_says t p, a, b, c, d)))))))
+        (rw append-nil (
+          refl,
+          inr (row (t ∷ []) (us ++ (vs ++ (ws ++ zs))) (operation_says t p)
+              (row us (vs ++ (ws ++ zs)) a (row vs (ws ++ zs) b (row ws zs c d)))),
+        ))))))
 
     fragment_rule : (t : Lexeme) → passes (word (codes "fragment")) t ≡ true
         → Rule (less n (t ∷ [])) (fragment_with S n) (fragment_with S m) (λ us k. IsOperation (t ∷ us) k)
@@ -274,17 +205,10 @@ module _ {C F : Type 0} (S : Scalars C F) where
         body_rule (λ zs ss ss' b.
         done_rule _ (Fragment (word_of a) (word_of c) ds ss) (Fragment (word_of a') (word_of c') ds' ss') _
         (rw append-nil (
-          t,
-          a ∷ [],
-          o ∷ c ∷ [],
-          ws,
-          zs,
-          refl,
-          says _ t p,
-          (record { token = a; whole = refl; kind_is = (other a x).0; text_is = refl; spans = refl }, (other a x).1),
-          (o, c, refl, says _ o y, of_kind Name c z, refl),
-          d,
-          b,
+          row (t ∷ []) (a ∷ o ∷ c ∷ ws ++ zs) (says _ t p)
+              (row (a ∷ []) (o ∷ c ∷ ws ++ zs) (word_is a (other a x).0, (other a x).1)
+              (row (o ∷ c ∷ []) (ws ++ zs) (row (o ∷ []) (c ∷ []) (says _ o y) (word_is c (of_kind Name c z)))
+              (row ws zs d b))),
           refl,
         )))))))
 
@@ -300,7 +224,13 @@ module _ {C F : Type 0} (S : Scalars C F) where
     document_is : (ts : List Lexeme) (ds : List (Definition C)) → ClosedSome (of EndOfFile) (IsDefinition S) ts ds
         → IsDocument S ts ds
     document_is ts [] h = absurd h
-    document_is ts (d ∷ ds) h = (h.inner, h.last, h.whole, of_kind EndOfFile h.last h.closes, h.each)
+    document_is ts (d ∷ ds) h = record {
+      front = h.inner;
+      back = h.last ∷ [];
+      whole = h.whole;
+      first = h.each;
+      second = kind_is EndOfFile h.last (of_kind EndOfFile h.last h.closes);
+    }
 
     pub document_rule : Rule n (document S n) (document S m) (IsDocument S)
     unfolding document

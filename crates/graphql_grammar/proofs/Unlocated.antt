@@ -1,13 +1,14 @@
 -- The grammar sees no span: a list of tokens without spans has the tree without spans.
-use Rattle.std.proofs.Common.{Bool, ◌≡◌, ◌∷◌, [], List, ◌++◌, refl, sym, ap, ap₂, ◌∙◌, inl, inr, Option, Some, None, map, true, false}
+use Rattle.std.proofs.Common.{Bool, ◌≡◌, ◌∷◌, [], List, refl, sym, ap, ap₂, ◌∙◌, inl, inr, Option, Some, None, map, true, false}
 use Rattle.std.proofs.lemmas.List.{map-append}
 use Rattle.graphql_lexical.specs.declared.kind.Kind.{Kind}
+use Rattle.graphql_lexical.specs.declared.kind.Kind.TheVariants.{Name, ExclamationMark, Dollar, ParenOpen, ParenClose, BracketOpen, BracketClose, CurlyOpen, CurlyClose, Ellipsis, Colon, Equals, At, EndOfFile}
 use Rattle.graphql_lexical.specs.Place.{Span}
 use Rattle.graphql_lexical.specs.Cutting.{Lexeme}
 use Rattle.graphql_lexical.specs.laws.Alike.{AllAlike}
 use Rattle.graphql_grammar.specs.Tokens.{Text, Word, last_of, nowhere, span_of}
 use Rattle.graphql_grammar.specs.Tree.{Scalars, Value, Null, Scalar, Enum, Variable, ListOf, Object, Items, no_items, item, ObjectFields, no_fields, object_field, TypeRef, NamedType, ListType, NonNullType, Argument, Arguments, Directive, Directives, VariableDefinition, Variables, Selection, Field, FragmentSpread, InlineFragment, Selections, no_selections, selection, OptionalSelections, absent, present, Definition, Operation, Fragment}
-use Rattle.graphql_grammar.specs.Grammar.{IsToken, Between, IsValue, AreItems, AreFields, Each, Optional, IsWord, Says, Listed, IsType, IsArgument, IsArguments, IsDirective, IsDirectives, IsDefault, IsVariableDefinition, IsVariables, IsAlias, IsTypeCondition, IsFragmentName, IsSelection, IsOptionalSelectionSet, IsSelectionSet, AreSelections, IsDefinition, IsDocument}
+use Rattle.graphql_grammar.specs.Grammar.{IsToken, Is, ◌·◌, ◌for◌, IsVariable, IsValue, AreItems, AreFields, Each, Optional, Several, IsWord, Says, Listed, IsType, IsArgument, IsArguments, IsDirective, IsDirectives, IsDefault, IsVariableDefinition, IsVariables, IsAlias, IsTypeCondition, IsFragmentName, IsSelection, IsOptionalSelectionSet, IsSelectionSet, AreSelections, IsDefinition, IsDocument}
 use Rattle.graphql_grammar.specs.Unlocated.{if_some, unlocated_word, unlocated_value, unlocated_items, unlocated_fields, unlocated_argument, unlocated_arguments, unlocated_directive, unlocated_directives, unlocated_variable, unlocated_variables, unlocated_selection, unlocated_selections, unlocated_optional, unlocated_definition}
 
 -- a token without its span
@@ -32,346 +33,178 @@ span_bare : (ts : List Lexeme) → span_of (all_bare ts) ≡ nowhere
 span_bare [] = refl
 span_bare (t ∷ ts) = ap (λ (p : Span). record { start = nowhere.start; end = p.end }) (last_bare t ts)
 
--- lists in a row
-two : (ts us vs : List Lexeme) → ts ≡ us ++ vs → all_bare ts ≡ all_bare us ++ all_bare vs
-two ts us vs e = ap all_bare e ∙ map-append bare us vs
+-- What is an A is a B without its spans.
+abbrev Bares : (A B : List Lexeme → Type 0) → Type 0
+Bares A B = (ts : List Lexeme) → A ts → B (all_bare ts)
 
-three : (ts us vs ws : List Lexeme) → ts ≡ us ++ (vs ++ ws) → all_bare ts ≡ all_bare us ++ (all_bare vs ++ all_bare ws)
-three ts us vs ws e = two ts us (vs ++ ws) e ∙ ap (λ l. all_bare us ++ l) (map-append bare vs ws)
+-- ---- tokens and parts in a row
 
-four : (ts us vs ws xs : List Lexeme) → ts ≡ us ++ (vs ++ (ws ++ xs))
-    → all_bare ts ≡ all_bare us ++ (all_bare vs ++ (all_bare ws ++ all_bare xs))
-four ts us vs ws xs e = two ts us (vs ++ (ws ++ xs)) e ∙ ap (λ l. all_bare us ++ l)
-    (three (vs ++ (ws ++ xs)) vs ws xs refl)
+token : (kind : Kind) (text : Text) (span : Span)
+    → Bares (λ ts. IsToken ts kind text span) (λ ts. IsToken ts kind text nowhere)
+token kind text span ts h = ap all_bare h
 
-five : (ts us vs ws xs ys : List Lexeme) → ts ≡ us ++ (vs ++ (ws ++ (xs ++ ys)))
-    → all_bare ts ≡ all_bare us ++ (all_bare vs ++ (all_bare ws ++ (all_bare xs ++ all_bare ys)))
-five ts us vs ws xs ys e = two ts us (vs ++ (ws ++ (xs ++ ys))) e
-    ∙ ap (λ l. all_bare us ++ l) (four (vs ++ (ws ++ (xs ++ ys))) vs ws xs ys refl)
+is : (kind : Kind) → Bares (Is kind) (Is kind)
+is kind ts h = (h.0, nowhere, ap all_bare h.2)
 
--- ---- parts
+says : (text : Text) → Bares (Says text) (Says text)
+says text ts h = (nowhere, ap all_bare h.1)
 
-token_bare : (ts : List Lexeme) (kind : Kind) (text : Text) (span : Span) → IsToken ts kind text span
-    → IsToken (all_bare ts) kind text nowhere
-token_bare ts kind text span h = record {
-  token = bare h.token;
-  whole = ap all_bare h.whole;
-  kind_is = h.kind_is;
-  text_is = h.text_is;
-  spans = refl;
+word : (w : Word) → Bares (IsWord for w) (IsWord for unlocated_word w)
+word w = token Name w.text w.span
+
+both : {A B A' B' : List Lexeme → Type 0} → Bares A A' → Bares B B' → Bares (A · B) (A' · B')
+both f g ts h = record {
+  front = all_bare h.front;
+  back = all_bare h.back;
+  whole = ap all_bare h.whole ∙ map-append bare h.front h.back;
+  first = f h.front h.first;
+  second = g h.back h.second;
 }
 
-word_bare : (ts : List Lexeme) (w : Word) → IsWord ts w → IsWord (all_bare ts) (unlocated_word w)
-word_bare ts w h = token_bare ts _ w.text w.span h
+spanned : {A B A' B' : List Lexeme → Type 0} {p : Span} → Bares (A · B) (A' · B')
+    → Bares (λ ts. (A · B) ts × (p ≡ span_of ts)) (λ ts. (A' · B') ts × (nowhere ≡ span_of ts))
+spanned f ts h = (f ts h.0, sym (span_bare ts))
 
-says_bare : (t : Lexeme) (w : Text) → Says t w → Says (bare t) w
-says_bare t w h = record { kind = h.kind; text = h.text }
+enclosed : {A B : List Lexeme → Type 0} (opening closing : Kind) → Bares A B
+    → Bares (Is opening · A · Is closing) (Is opening · B · Is closing)
+enclosed opening closing f = both (is opening) (both f (is closing))
 
-between_bare : (opening closing : Kind) (ts us : List Lexeme) (p : Span) → Between opening closing ts us p
-    → Between opening closing (all_bare ts) (all_bare us) nowhere
-between_bare opening closing ts us p h = record {
-  first = bare h.first;
-  last = bare h.last;
-  whole = ap all_bare h.whole ∙ ap (λ l. bare h.first ∷ l) (map-append bare us (h.last ∷ []));
-  opens = h.opens;
-  closes = h.closes;
-  spans = refl;
-}
+module _ {A : Type 0} {R : List Lexeme → A → Type 0} (g : A → A) (f : (x : A) → Bares (R for x) (R for g x)) where
+  each : (xs : List A) → Bares (Each R for xs) (Each R for map g xs)
+  each [] ts h = ap all_bare h
+  each (x ∷ xs) ts h = both (f x) (each xs) ts h
 
-each_bare : {A : Type 0} (R : List Lexeme → A → Type 0) (g : A → A)
-    → ((us : List Lexeme) (x : A) → R us x → R (all_bare us) (g x)) → (ts : List Lexeme) (xs : List A) → Each R ts xs
-    → Each R (all_bare ts) (map g xs)
-each_bare R g f ts [] h = ap all_bare h
-each_bare R g f ts (x ∷ xs) (us, vs, e, h, k) =
-    (all_bare us, all_bare vs, two ts us vs e, f us x h, each_bare R g f vs xs k)
+  optional : (x : Option A) → Bares (Optional R for x) (Optional R for if_some g x)
+  optional None ts h = ap all_bare h
+  optional (Some x) ts h = f x ts h
 
-optional_bare : {A : Type 0} (R : List Lexeme → A → Type 0) (g : A → A)
-    → ((us : List Lexeme) (x : A) → R us x → R (all_bare us) (g x)) → (ts : List Lexeme) (x : Option A)
-    → Optional R ts x → Optional R (all_bare ts) (if_some g x)
-optional_bare R g f ts None h = ap all_bare h
-optional_bare R g f ts (Some x) h = f ts x h
+  several : (xs : List A) → Bares (Several R for xs) (Several R for map g xs)
+  several [] ts h = absurd h
+  several (x ∷ xs) ts h = each (x ∷ xs) ts h
 
-listed_bare : {A : Type 0} (opening closing : Kind) (R : List Lexeme → A → Type 0) (g : A → A)
-    → ((us : List Lexeme) (x : A) → R us x → R (all_bare us) (g x)) → (ts : List Lexeme) (xs : List A)
-    → Listed opening closing R ts xs → Listed opening closing R (all_bare ts) (map g xs)
-listed_bare opening closing R g f ts [] h = absurd h
-listed_bare opening closing R g f ts (x ∷ xs) h = record {
-  first = bare h.first;
-  last = bare h.last;
-  inner = all_bare h.inner;
-  whole = ap all_bare h.whole ∙ ap (λ l. bare h.first ∷ l) (map-append bare h.inner (h.last ∷ []));
-  opens = h.opens;
-  closes = h.closes;
-  parts = each_bare R g f h.inner (x ∷ xs) h.parts;
-}
+  listed : (xs : List A) → Bares (Listed ParenOpen ParenClose R for xs) (Listed ParenOpen ParenClose R for map g xs)
+  listed xs = enclosed ParenOpen ParenClose (several xs)
 
 -- ---- types
-type_bare : (ts : List Lexeme) (x : TypeRef) → IsType ts x → IsType (all_bare ts) x
-type_bare ts (NamedType w) (t, e, k, q) = (bare t, ap all_bare e, k, q)
-type_bare ts (ListType size x) (o, c, us, e, a, b, s, h) = (
-  bare o,
-  bare c,
-  all_bare us,
-  ap all_bare e ∙ ap (λ l. bare o ∷ l) (map-append bare us (c ∷ [])),
-  a,
-  b,
-  s,
-  type_bare us x h,
-)
-type_bare ts (NonNullType x) (us, m, e, k, p, h) = (all_bare us, bare m, two ts us (m ∷ []) e, k, p, type_bare us x h)
+
+type : (x : TypeRef) → Bares (IsType for x) (IsType for x)
+type (NamedType w) ts h = says w ts h
+type (ListType size x) ts h = (enclosed BracketOpen BracketClose (type x) ts h.0, h.1)
+type (NonNullType x) ts h = (both (type x) (is ExclamationMark) ts h.0, h.1)
 
 module _ {C F : Type 0} (S : Scalars C F) where
   -- ---- values
+
+  variable_name : (w : Text) (p : Span) → Bares (λ ts. IsVariable ts w p) (λ ts. IsVariable ts w nowhere)
+  variable_name w p = spanned (both (is Dollar) (says w))
+
   mutual
-    pub value_bare : (free : Bool) (ts : List Lexeme) (v : Value C) → IsValue S free ts v
-        → IsValue S free (all_bare ts) (unlocated_value v)
-    value_bare free ts (Null p) h = token_bare ts _ _ p h
-    value_bare free ts (Scalar c p) (inl (k, w, h, s, e)) = inl (k, w, token_bare ts k w p h, s, e)
-    value_bare free ts (Scalar c p) (inr (inl h)) = inr (inl (token_bare ts _ _ p h.0, h.1))
-    value_bare free ts (Scalar c p) (inr (inr h)) = inr (inr (token_bare ts _ _ p h.0, h.1))
-    value_bare free ts (Enum w p) h = (token_bare ts _ w p h.0, h.1)
-    value_bare free ts (Variable w p) (f, h) = (
-      f,
-      record {
-        dollar = bare h.dollar;
-        word = bare h.word;
-        whole = ap all_bare h.whole;
-        dollar_is = h.dollar_is;
-        word_is = h.word_is;
-        names = h.names;
-        spans = refl;
-      },
-    )
-    value_bare free ts (ListOf vs p) (us, b, h) = (all_bare us, between_bare _ _ ts us p b, items_bare free us vs h)
-    value_bare free ts (Object fs p) (us, b, h) = (all_bare us, between_bare _ _ ts us p b, fields_bare free us fs h)
+    value : (free : Bool) (v : Value C) → Bares (IsValue S free for v) (IsValue S free for unlocated_value v)
+    value free (Null p) ts h = token Name _ p ts h
+    value free (Scalar c p) ts (inl (k, w, h, s, e)) = inl (k, w, token k w p ts h, s, e)
+    value free (Scalar c p) ts (inr (inl h)) = inr (inl (token Name _ p ts h.0, h.1))
+    value free (Scalar c p) ts (inr (inr h)) = inr (inr (token Name _ p ts h.0, h.1))
+    value free (Enum w p) ts h = (token Name w p ts h.0, h.1)
+    value free (Variable w p) ts h = (h.0, variable_name w p ts h.1)
+    value free (ListOf vs p) ts h = spanned (enclosed BracketOpen BracketClose (items free vs)) ts h
+    value free (Object fs p) ts h = spanned (enclosed CurlyOpen CurlyClose (fields free fs)) ts h
 
-    items_bare : (free : Bool) (ts : List Lexeme) (vs : Items C) → AreItems S free ts vs
-        → AreItems S free (all_bare ts) (unlocated_items vs)
-    items_bare free ts no_items h = ap all_bare h
-    items_bare free ts (item v vs) (us, ws, e, h, k) =
-        (all_bare us, all_bare ws, two ts us ws e, value_bare free us v h, items_bare free ws vs k)
+    items : (free : Bool) (vs : Items C) → Bares (AreItems S free for vs) (AreItems S free for unlocated_items vs)
+    items free no_items ts h = ap all_bare h
+    items free (item v vs) ts h = both (value free v) (items free vs) ts h
 
-    fields_bare : (free : Bool) (ts : List Lexeme) (fs : ObjectFields C) → AreFields S free ts fs
-        → AreFields S free (all_bare ts) (unlocated_fields fs)
-    fields_bare free ts no_fields h = ap all_bare h
-    fields_bare free ts (object_field w p v fs) (key, colon, us, ws, e, a, b, d, c, h, k) = (
-      bare key,
-      bare colon,
-      all_bare us,
-      all_bare ws,
-      ap all_bare e ∙ ap (λ l. bare key ∷ bare colon ∷ l) (map-append bare us ws),
-      a,
-      b,
-      refl,
-      c,
-      value_bare free us v h,
-      fields_bare free ws fs k,
-    )
+    fields : (free : Bool) (fs : ObjectFields C)
+        → Bares (AreFields S free for fs) (AreFields S free for unlocated_fields fs)
+    fields free no_fields ts h = ap all_bare h
+    fields free (object_field w p v fs) ts h =
+        both (token Name w p) (both (is Colon) (both (value free v) (fields free fs))) ts h
 
-  -- ---- arguments and directives
-  argument_bare : (ts : List Lexeme) (a : Argument C) → IsArgument S ts a
-      → IsArgument S (all_bare ts) (unlocated_argument a)
-  argument_bare ts a h = record {
-    key = bare h.key;
-    colon = bare h.colon;
-    rest = all_bare h.rest;
-    whole = ap all_bare h.whole;
-    key_is = h.key_is;
-    colon_is = h.colon_is;
-    names = ap unlocated_word h.names;
-    value = value_bare true h.rest a.value h.value;
-  }
+  pub value_bare : (free : Bool) (ts : List Lexeme) (v : Value C) → IsValue S free ts v
+      → IsValue S free (all_bare ts) (unlocated_value v)
+  value_bare free ts v = value free v ts
 
-  arguments_bare : (ts : List Lexeme) (a : Arguments C) → IsArguments S ts a
-      → IsArguments S (all_bare ts) (unlocated_arguments a)
-  arguments_bare ts a h = (
-    listed_bare _ _ (IsArgument S) unlocated_argument argument_bare ts a.items h.0,
-    sym (span_bare ts),
-  )
+  -- ---- arguments, directives and variable definitions
 
-  directive_bare : (ts : List Lexeme) (d : Directive C) → IsDirective S ts d
-      → IsDirective S (all_bare ts) (unlocated_directive d)
-  directive_bare ts d h = record {
-    at = bare h.at;
-    name = bare h.name;
-    rest = all_bare h.rest;
-    whole = ap all_bare h.whole;
-    at_is = h.at_is;
-    name_is = h.name_is;
-    names = ap unlocated_word h.names;
-    arguments = optional_bare (IsArguments S) unlocated_arguments arguments_bare h.rest d.arguments h.arguments;
-    spans = sym (span_bare ts);
-  }
+  argument : (a : Argument C) → Bares (IsArgument S for a) (IsArgument S for unlocated_argument a)
+  argument a = both (word a.name) (both (is Colon) (value true a.value))
 
-  directives_bare : (ts : List Lexeme) (ds : Directives C) → IsDirectives S ts ds
-      → IsDirectives S (all_bare ts) (unlocated_directives ds)
-  directives_bare ts None h = ap all_bare h
-  directives_bare ts (Some []) h = absurd h
-  directives_bare ts (Some (d ∷ ds)) h = each_bare (IsDirective S) unlocated_directive directive_bare ts (d ∷ ds) h
+  arguments : (a : Arguments C) → Bares (IsArguments S for a) (IsArguments S for unlocated_arguments a)
+  arguments a ts h = (listed unlocated_argument argument a.items ts h.0, sym (span_bare ts))
 
-  -- ---- variable definitions
-  default_bare : (ts : List Lexeme) (v : Value C) → IsDefault S ts v → IsDefault S (all_bare ts) (unlocated_value v)
-  default_bare ts v (e, us, q, k, h) = (bare e, all_bare us, ap all_bare q, k, value_bare false us v h)
+  directive : (d : Directive C) → Bares (IsDirective S for d) (IsDirective S for unlocated_directive d)
+  directive d = spanned (both (is At) (both (word d.name) (optional unlocated_arguments arguments d.arguments)))
 
-  variable_bare : (ts : List Lexeme) (v : VariableDefinition C) → IsVariableDefinition S ts v
-      → IsVariableDefinition S (all_bare ts) (unlocated_variable v)
-  variable_bare ts v h = record {
-    dollar = bare h.dollar;
-    name = bare h.name;
-    colon = bare h.colon;
-    of_type = all_bare h.of_type;
-    default = all_bare h.default;
-    directives = all_bare h.directives;
-    whole = ap all_bare h.whole ∙ ap (λ l. bare h.dollar ∷ bare h.name ∷ bare h.colon ∷ l)
-        (three (h.of_type ++ (h.default ++ h.directives)) h.of_type h.default h.directives refl);
-    dollar_is = h.dollar_is;
-    name_is = h.name_is;
-    colon_is = h.colon_is;
-    names = ap unlocated_word h.names;
-    type_is = type_bare h.of_type v.of_type h.type_is;
-    type_spans = sym (span_bare h.of_type);
-    default_is = optional_bare (IsDefault S) unlocated_value default_bare h.default v.default h.default_is;
-    directives_are = directives_bare h.directives v.directives h.directives_are;
-  }
+  directives : (ds : Directives C) → Bares (IsDirectives S for ds) (IsDirectives S for unlocated_directives ds)
+  directives = optional (map unlocated_directive) (several unlocated_directive directive)
 
-  variables_bare : (ts : List Lexeme) (a : Variables C) → IsVariables S ts a
-      → IsVariables S (all_bare ts) (unlocated_variables a)
-  variables_bare ts a h = (
-    listed_bare _ _ (IsVariableDefinition S) unlocated_variable variable_bare ts a.items h.0,
-    sym (span_bare ts),
-  )
+  default : (v : Value C) → Bares (IsDefault S for v) (IsDefault S for unlocated_value v)
+  default v = both (is Equals) (value false v)
+
+  variable : (v : VariableDefinition C)
+      → Bares (IsVariableDefinition S for v) (IsVariableDefinition S for unlocated_variable v)
+  variable v = both (variable_name v.name.text v.name.span) (both (is Colon)
+      (both (λ ts h. (type v.of_type ts h.0, sym (span_bare ts)))
+      (both (optional unlocated_value default v.default) (directives v.directives))))
+
+  variables : (a : Variables C) → Bares (IsVariables S for a) (IsVariables S for unlocated_variables a)
+  variables a ts h = (listed unlocated_variable variable a.items ts h.0, sym (span_bare ts))
 
   -- ---- selections
-  alias_bare : (ts : List Lexeme) (w : Word) → IsAlias S ts w → IsAlias S (all_bare ts) (unlocated_word w)
-  alias_bare ts w (n, c, e, j, k, q) = (bare n, bare c, ap all_bare e, j, k, ap unlocated_word q)
 
-  condition_bare : (ts : List Lexeme) (w : Word) → IsTypeCondition S ts w
-      → IsTypeCondition S (all_bare ts) (unlocated_word w)
-  condition_bare ts w (o, n, e, s, k, q) = (bare o, bare n, ap all_bare e, says_bare o _ s, k, ap unlocated_word q)
+  alias_of : (w : Word) → Bares (IsAlias S for w) (IsAlias S for unlocated_word w)
+  alias_of w = both (word w) (is Colon)
 
-  fragment_name_bare : (ts : List Lexeme) (w : Word) → IsFragmentName S ts w
-      → IsFragmentName S (all_bare ts) (unlocated_word w)
-  fragment_name_bare ts w h = (word_bare ts w h.0, h.1)
+  condition : (w : Word) → Bares (IsTypeCondition S for w) (IsTypeCondition S for unlocated_word w)
+  condition w = both (says _) (word w)
+
+  fragment_name : (w : Word) → Bares (IsFragmentName S for w) (IsFragmentName S for unlocated_word w)
+  fragment_name w ts h = (word w ts h.0, h.1)
 
   mutual
-    selection_bare : (ts : List Lexeme) (s : Selection C) → IsSelection S ts s
-        → IsSelection S (all_bare ts) (unlocated_selection s)
-    selection_bare ts (Field alias name arguments directives selections p)
-        (u0, u1, u2, u3, u4, e, a, w, h1, h2, h3, h4) = (
-          all_bare u0,
-          all_bare u1,
-          all_bare u2,
-          all_bare u3,
-          all_bare u4,
-          five ts u0 u1 u2 u3 u4 e,
-          optional_bare (IsAlias S) unlocated_word alias_bare u0 alias a,
-          word_bare u1 name w,
-          optional_bare (IsArguments S) unlocated_arguments arguments_bare u2 arguments h1,
-          directives_bare u3 directives h2,
-          optional_selections_bare u4 selections h3,
-          sym (span_bare ts),
-        )
-    selection_bare ts (FragmentSpread name directives p) (dots, u1, u2, e, k, w, h, q) = (
-      bare dots,
-      all_bare u1,
-      all_bare u2,
-      ap all_bare e ∙ ap (λ l. bare dots ∷ l) (map-append bare u1 u2),
-      k,
-      fragment_name_bare u1 name w,
-      directives_bare u2 directives h,
-      sym (span_bare ts),
-    )
-    selection_bare ts (InlineFragment condition directives selections p) (dots, u1, u2, u3, e, k, c, h, b, q) = (
-      bare dots,
-      all_bare u1,
-      all_bare u2,
-      all_bare u3,
-      ap all_bare e ∙ ap (λ l. bare dots ∷ l) (three (u1 ++ (u2 ++ u3)) u1 u2 u3 refl),
-      k,
-      optional_bare (IsTypeCondition S) unlocated_word condition_bare u1 condition c,
-      directives_bare u2 directives h,
-      selection_set_bare u3 selections b,
-      sym (span_bare ts),
-    )
+    selection_of : (s : Selection C) → Bares (IsSelection S for s) (IsSelection S for unlocated_selection s)
+    selection_of (Field alias name args ds ss p) ts h =
+        spanned (both (optional unlocated_word alias_of alias) (both (word name)
+        (both (optional unlocated_arguments arguments args) (both (directives ds) (may_select ss))))) ts h
+    selection_of (FragmentSpread name ds p) ts h =
+        spanned (both (is Ellipsis) (both (fragment_name name) (directives ds))) ts h
+    selection_of (InlineFragment on_type ds ss p) ts h = spanned (both (is Ellipsis)
+        (both (optional unlocated_word condition on_type) (both (directives ds) (selection_set ss)))) ts h
 
-    optional_selections_bare : (ts : List Lexeme) (ss : OptionalSelections C) → IsOptionalSelectionSet S ts ss
-        → IsOptionalSelectionSet S (all_bare ts) (unlocated_optional ss)
-    optional_selections_bare ts absent h = ap all_bare h
-    optional_selections_bare ts (present ss) h = selection_set_bare ts ss h
+    may_select : (ss : OptionalSelections C)
+        → Bares (IsOptionalSelectionSet S for ss) (IsOptionalSelectionSet S for unlocated_optional ss)
+    may_select absent ts h = ap all_bare h
+    may_select (present ss) ts h = selection_set ss ts h
 
-    selection_set_bare : (ts : List Lexeme) (ss : Selections C) → IsSelectionSet S ts ss
-        → IsSelectionSet S (all_bare ts) (unlocated_selections ss)
-    selection_set_bare ts no_selections h = absurd h
-    selection_set_bare ts (selection s ss) (o, c, us, vs, e, a, b, h, k) = (
-      bare o,
-      bare c,
-      all_bare us,
-      all_bare vs,
-      ap all_bare e ∙ ap (λ l. bare o ∷ l) (three (us ++ (vs ++ (c ∷ []))) us vs (c ∷ []) refl),
-      a,
-      b,
-      selection_bare us s h,
-      selections_bare vs ss k,
-    )
+    selection_set : (ss : Selections C) → Bares (IsSelectionSet S for ss) (IsSelectionSet S for unlocated_selections ss)
+    selection_set no_selections ts h = absurd h
+    selection_set (selection s ss) ts h =
+        both (is CurlyOpen) (both (selection_of s) (both (selections ss) (is CurlyClose))) ts h
 
-    selections_bare : (ts : List Lexeme) (ss : Selections C) → AreSelections S ts ss
-        → AreSelections S (all_bare ts) (unlocated_selections ss)
-    selections_bare ts no_selections h = ap all_bare h
-    selections_bare ts (selection s ss) (us, vs, e, h, k) =
-        (all_bare us, all_bare vs, two ts us vs e, selection_bare us s h, selections_bare vs ss k)
+    selections : (ss : Selections C) → Bares (AreSelections S for ss) (AreSelections S for unlocated_selections ss)
+    selections no_selections ts h = ap all_bare h
+    selections (selection s ss) ts h = both (selection_of s) (selections ss) ts h
 
   -- ---- documents
-  definition_bare : (ts : List Lexeme) (d : Definition C) → IsDefinition S ts d
-      → IsDefinition S (all_bare ts) (unlocated_definition d)
-  definition_bare ts (Operation type name variables directives selections p) (q, inl (h, a, b, c, e)) = (
+
+  definition : (d : Definition C) → Bares (IsDefinition S for d) (IsDefinition S for unlocated_definition d)
+  definition (Operation kind name vars ds ss p) ts (q, inl (h, a, b, c, e)) = (
     sym (span_bare ts),
     inl (
-      selection_set_bare ts selections h,
+      selection_set ss ts h,
       a,
       ap (if_some unlocated_word) b,
       ap (if_some unlocated_variables) c,
       ap unlocated_directives e,
     ),
   )
-  definition_bare ts (Operation type name variables directives selections p)
-      (q, inr (t, u1, u2, u3, u4, e, s, a, b, c, d)) = (
-        sym (span_bare ts),
-        inr (
-          bare t,
-          all_bare u1,
-          all_bare u2,
-          all_bare u3,
-          all_bare u4,
-          ap all_bare e ∙ ap (λ l. bare t ∷ l) (four (u1 ++ (u2 ++ (u3 ++ u4))) u1 u2 u3 u4 refl),
-          says_bare t _ s,
-          optional_bare IsWord unlocated_word word_bare u1 name a,
-          optional_bare (IsVariables S) unlocated_variables variables_bare u2 variables b,
-          directives_bare u3 directives c,
-          selection_set_bare u4 selections d,
-        ),
-      )
-  definition_bare ts (Fragment name condition directives selections p) (t, u1, u2, u3, u4, e, s, w, i, c, d, q) = (
-    bare t,
-    all_bare u1,
-    all_bare u2,
-    all_bare u3,
-    all_bare u4,
-    ap all_bare e ∙ ap (λ l. bare t ∷ l) (four (u1 ++ (u2 ++ (u3 ++ u4))) u1 u2 u3 u4 refl),
-    says_bare t _ s,
-    fragment_name_bare u1 name w,
-    condition_bare u2 condition i,
-    directives_bare u3 directives c,
-    selection_set_bare u4 selections d,
+  definition (Operation kind name vars ds ss p) ts (q, inr h) = (
     sym (span_bare ts),
+    inr (both (says _) (both (optional unlocated_word word name)
+        (both (optional unlocated_variables variables vars) (both (directives ds) (selection_set ss)))) ts h),
   )
+  definition (Fragment name on_type ds ss p) ts h = spanned (both (says _) (both (fragment_name name)
+      (both (condition on_type) (both (directives ds) (selection_set ss))))) ts h
 
   pub document_bare : (ts : List Lexeme) (ds : List (Definition C)) → IsDocument S ts ds
       → IsDocument S (all_bare ts) (map unlocated_definition ds)
-  document_bare ts [] h = absurd h
-  document_bare ts (d ∷ ds) (us, end, e, k, h) = (
-    all_bare us,
-    bare end,
-    two ts us (end ∷ []) e,
-    k,
-    each_bare (IsDefinition S) unlocated_definition definition_bare us (d ∷ ds) h,
-  )
+  document_bare ts ds h = both (several unlocated_definition definition ds) (is EndOfFile) ts h

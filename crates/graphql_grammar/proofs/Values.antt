@@ -1,5 +1,5 @@
 -- What the reading of a value keeps.
-use Rattle.std.proofs.Common.{ℕ, zero, suc, Bool, true, false, ◌≡◌, ◌≤◌, ◌<◌, ◌∷◌, [], List, ◌++◌, length, refl, sym, ap, ap₂, ◌∙◌, arith, append-nil, subst, Result, Ok, Err, zero-le, le_refl, codes, inl, inr, cond, bytes_eq, if◌then◌else◌}
+use Rattle.std.proofs.Common.{ℕ, zero, suc, Bool, true, false, ◌≡◌, ◌≤◌, ◌<◌, ◌∷◌, [], List, length, refl, sym, ap, ap₂, ◌∙◌, arith, append-nil, subst, Result, Ok, Err, zero-le, le_refl, codes, inl, inr, cond, bytes_eq, if◌then◌else◌}
 use Rattle.graphql_lexical.specs.declared.kind.Kind.TheVariants.{Name, Dollar, BracketOpen, BracketClose, CurlyOpen, CurlyClose, Colon}
 use Rattle.graphql_lexical.specs.Cutting.{Lexeme}
 use Rattle.graphql_lexical.specs.laws.Alike.{Alike}
@@ -7,7 +7,8 @@ use Rattle.graphql_grammar.specs.Tokens.{Word, word_of, Text, over}
 use Rattle.graphql_grammar.specs.Samples.{sample, token_of}
 use Rattle.graphql_grammar.specs.Reading.{passes, of, Took, Refused, Reader, refuse, want, literal, read_as, scalar_token, by_name, items_of, fields_of, variable_start, key_and_value, value_at}
 use Rattle.graphql_grammar.specs.Tree.{Scalars, Value, Null, Scalar, Enum, Variable, ListOf, Object, no_items, no_fields}
-use Rattle.graphql_grammar.specs.Grammar.{IsScalarKind, IsToken, IsValue, AreItems, AreFields, Each}
+use Rattle.graphql_grammar.specs.Grammar.{IsScalarKind, IsToken, Is, IsWord, IsValue, AreItems, AreFields, Each, ◌·◌, ◌for◌}
+use Rattle.graphql_grammar.proofs.Sequences.{row, row_back, row_right, enclosed, over_enclosed, kind_is, token_is, word_is, says_is, one_takes, is_takes, front_takes}
 use Rattle.graphql_grammar.specs.Faults.{ScalarError}
 use Rattle.graphql_grammar.proofs.Rules.{SameHead, less, Agrees, Fails, Meets, Rule, Some_of, done_rule, seq_rule, turn, weaken, refuse_rule, want_rule, on_rule, many_rule, Closed, less_below, IsOpener, More}
 use Rattle.graphql_grammar.proofs.TokenTests.{of_kind, both, is_scalar_kind, text_yes, text_no}
@@ -86,72 +87,43 @@ module _ {C F : Type 0} (S : Scalars C F) where
 
 -- Values
 module _ {C F : Type 0} (S : Scalars C F) (free : Bool) where
-  pub nonempty : (ts us : List Lexeme) (t : Lexeme) → ts ≡ t ∷ us → 0 < length ts
-  nonempty ts us t e = rw e (omega arith)
-
   pub value_takes : (ts : List Lexeme) (v : Value C) → IsValue S free ts v → 0 < length ts
-  value_takes ts (Null p) h = nonempty ts _ _ h.whole
-  value_takes ts (Scalar c p) (inl h) = nonempty ts _ _ h.2.whole
-  value_takes ts (Scalar c p) (inr (inl h)) = nonempty ts _ _ h.0.whole
-  value_takes ts (Scalar c p) (inr (inr h)) = nonempty ts _ _ h.0.whole
-  value_takes ts (Enum w p) h = nonempty ts _ _ h.0.whole
-  value_takes ts (Variable w p) h = nonempty ts _ _ h.1.whole
-  value_takes ts (ListOf vs p) h = nonempty ts _ _ h.1.whole
-  value_takes ts (Object fs p) h = nonempty ts _ _ h.1.whole
+  value_takes ts (Null p) h = one_takes ts _ h
+  value_takes ts (Scalar c p) (inl h) = one_takes ts _ h.2
+  value_takes ts (Scalar c p) (inr (inl h)) = one_takes ts _ h.0
+  value_takes ts (Scalar c p) (inr (inr h)) = one_takes ts _ h.0
+  value_takes ts (Enum w p) h = one_takes ts _ h.0
+  value_takes ts (Variable w p) h = front_takes (is_takes Dollar) ts h.1.0
+  value_takes ts (ListOf vs p) h = front_takes (is_takes BracketOpen) ts h.0
+  value_takes ts (Object fs p) h = front_takes (is_takes CurlyOpen) ts h.0
 
   -- one field of an object, as it is read
   abbrev pub IsField : List Lexeme → Word × Value C → Type 0
-  IsField ts x = (key colon : Lexeme) × (us : List Lexeme) × (ts ≡ key ∷ colon ∷ us) × (key.kind ≡ Name)
-      × (x.0 ≡ word_of key) × (colon.kind ≡ Colon) × IsValue S free us x.1
+  IsField ts x = (IsWord for x.0 · Is Colon · IsValue S free for x.1) ts
 
   items_are : (ts : List Lexeme) (vs : List (Value C)) → Each (IsValue S free) ts vs → AreItems S free ts (items_of vs)
   items_are ts [] h = h
-  items_are ts (v ∷ vs) h = (h.0, h.1, h.2, h.3, items_are h.1 vs h.4)
+  items_are ts (v ∷ vs) h = row_back (λ us k. items_are us vs k) ts h
 
   fields_are : (ts : List Lexeme) (xs : List (Word × Value C)) → Each IsField ts xs → AreFields S free ts (fields_of xs)
   fields_are ts [] h = h
-  fields_are ts (x ∷ xs) (us, ws, e, (key, colon, vs, q, a, w, b, v), more) = (
-    key,
-    colon,
-    vs,
-    ws,
-    e ∙ ap (λ z. z ++ ws) q,
-    a,
-    ap (λ (z : Word). z.text) (sym w),
-    ap (λ (z : Word). z.span) (sym w),
-    b,
-    v,
-    fields_are ws xs more,
-  )
+  fields_are ts (x ∷ xs) h =
+      row_back row_right ts (row_right ts (row_back (λ us k. fields_are us xs k) ts h))
 
   list_is : (t : Lexeme) (us : List Lexeme) (r : List (Value C) × Lexeme) → passes (of BracketOpen) t ≡ true
       → Closed (of BracketClose) (IsValue S free) us r → IsValue S free (t ∷ us) (ListOf (items_of r.0) (over t r.1))
-  list_is t us r p c = (
-    c.inner,
-    record {
-      first = t;
-      last = r.1;
-      whole = ap (λ z. t ∷ z) c.whole;
-      opens = of_kind BracketOpen t p;
-      closes = of_kind BracketClose r.1 c.closes;
-      spans = refl;
-    },
-    items_are c.inner r.0 c.each,
+  list_is t us r p c = subst (λ l. IsValue S free (t ∷ l) (ListOf (items_of r.0) (over t r.1))) (sym c.whole) (
+    enclosed BracketOpen BracketClose t r.1 c.inner (of_kind BracketOpen t p) (of_kind BracketClose r.1 c.closes)
+        (items_are c.inner r.0 c.each),
+    over_enclosed t r.1 c.inner,
   )
 
   object_is : (t : Lexeme) (us : List Lexeme) (r : List (Word × Value C) × Lexeme) → passes (of CurlyOpen) t ≡ true
       → Closed (of CurlyClose) IsField us r → IsValue S free (t ∷ us) (Object (fields_of r.0) (over t r.1))
-  object_is t us r p c = (
-    c.inner,
-    record {
-      first = t;
-      last = r.1;
-      whole = ap (λ z. t ∷ z) c.whole;
-      opens = of_kind CurlyOpen t p;
-      closes = of_kind CurlyClose r.1 c.closes;
-      spans = refl;
-    },
-    fields_are c.inner r.0 c.each,
+  object_is t us r p c = subst (λ l. IsValue S free (t ∷ l) (Object (fields_of r.0) (over t r.1))) (sym c.whole) (
+    enclosed CurlyOpen CurlyClose t r.1 c.inner (of_kind CurlyOpen t p) (of_kind CurlyClose r.1 c.closes)
+        (fields_are c.inner r.0 c.each),
+    over_enclosed t r.1 c.inner,
   )
 
   null_token : Lexeme
@@ -159,55 +131,29 @@ module _ {C F : Type 0} (S : Scalars C F) (free : Bool) where
 
   some_value : Some_of (IsValue S free)
   unfolding null_token
-  some_value = (
-    null_token ∷ [],
-    Null (null_token.span),
-    record {
-      token = null_token;
-      whole = refl;
-      kind_is = refl;
-      text_is = refl;
-      spans = refl;
-    },
-    (inr (inl (refl, refl)), tt),
-  )
+  some_value = (null_token ∷ [], Null (null_token.span), refl, (inr (inl (refl, refl)), tt))
 
   value_opens : (w : Lexeme) → IsOpener w → More (IsValue S free) [] w
   value_opens w (inl e) = (
     sample BracketClose ∷ [],
     ListOf no_items (over w (sample BracketClose)),
-    (
-      [],
-      record { first = w; last = sample BracketClose; whole = refl; opens = e; closes = refl; spans = refl },
-      refl,
-    ),
+    (enclosed BracketOpen BracketClose w (sample BracketClose) [] e refl refl, refl),
     (inl refl, tt),
   )
   value_opens w (inr (inl e)) = (
     sample CurlyClose ∷ [],
     Object no_fields (over w (sample CurlyClose)),
-    ([], record { first = w; last = sample CurlyClose; whole = refl; opens = e; closes = refl; spans = refl }, refl),
+    (enclosed CurlyOpen CurlyClose w (sample CurlyClose) [] e refl refl, refl),
     (inl refl, tt),
   )
-  value_opens w (inr (inr e)) = (
-    [],
-    Null w.span,
-    record {
-      token = w;
-      whole = refl;
-      kind_is = e.0;
-      text_is = e.1;
-      spans = refl;
-    },
-    tt,
-  )
+  value_opens w (inr (inr e)) = ([], Null w.span, token_is Name (codes "null") w e.0 e.1, tt)
 
   name_is : (t : Lexeme) → passes (of Name) t ≡ true → IsValue S free (t ∷ []) (by_name S t.text t.span)
   name_is t p = cases (bytes_eq t.text (codes "true")) (bytes_eq t.text (codes "false"))
       (bytes_eq t.text (codes "null")) refl refl refl
     where
       token : (w : Text) → t.text ≡ w → IsToken (t ∷ []) Name w t.span
-      token w e = record { token = t; whole = refl; kind_is = of_kind Name t p; text_is = e; spans = refl }
+      token w e = token_is Name w t (of_kind Name t p) e
 
       cases : (a b c : Bool) → bytes_eq t.text (codes "true") ≡ a → bytes_eq t.text (codes "false") ≡ b
           → bytes_eq t.text (codes "null") ≡ c
@@ -229,10 +175,11 @@ module _ {C F : Type 0} (S : Scalars C F) (free : Bool) where
       seq_rule _ f g _ _ _ (weaken n _ f g (IsValue S free) _ (omega
       (arith, less_below n (k ∷ []), less_below (less n (k ∷ [])) (c ∷ []))) (λ us v h v'.
       done_rule _ (word_of k, v) (word_of k', v') _
-      (k, c, us, ap (λ z. k ∷ c ∷ z) (append-nil us), of_kind Name k p, refl, of_kind Colon c q, h)) r)))))
+      (rw append-nil (row (k ∷ []) (c ∷ us) (word_is k (of_kind Name k p))
+      (row (c ∷ []) us (kind_is Colon c (of_kind Colon c q)) h)))) r)))))
 
   pub field_takes : (ts : List Lexeme) (x : Word × Value C) → IsField ts x → 0 < length ts
-  field_takes ts x h = nonempty ts _ _ h.3
+  field_takes ts x h = front_takes (λ us w. one_takes us _ w) ts h
 
   pub value_rule : (n m : ℕ) → n ≤ m → Rule n (value_at S free n) (value_at S free m) (IsValue S free)
   unfolding value_at
@@ -255,15 +202,11 @@ module _ {C F : Type 0} (S : Scalars C F) (free : Bool) where
       (λ t u p. seq_rule n _ _ _ _ _ (want_rule F n (of Name) _ (sample Name) refl (inl refl)
       (λ w q w'. done_rule _ (Variable w.text (over t w)) (Variable w'.text (over u w')) _ (
         (both _ _ p).0,
-        record {
-          dollar = t;
-          word = w;
-          whole = refl;
-          dollar_is = of_kind Dollar t (both _ _ p).1;
-          word_is = of_kind Name w q;
-          names = refl;
-          spans = refl;
-        },
+        (
+          row (t ∷ []) (w ∷ []) (kind_is Dollar t (of_kind Dollar t (both _ _ p).1))
+              (says_is w.text w (of_kind Name w q) refl),
+          refl,
+        ),
       ))))
       (on_rule (suc n) (of Name) _ _ _ _ (IsValue S free)
       (λ t u p. done_rule _ (by_name S t.text t.span) (by_name S u.text u.span) _ (name_is t p))
@@ -271,7 +214,7 @@ module _ {C F : Type 0} (S : Scalars C F) (free : Bool) where
       (λ t c k h. inl (
         t.kind,
         t.text,
-        record { token = t; whole = refl; kind_is = refl; text_is = refl; spans = refl },
+        refl,
         k,
         h,
       ))))))

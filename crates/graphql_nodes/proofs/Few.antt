@@ -2,10 +2,12 @@
 use Rattle.std.proofs.Common.{ℕ, ◌≡◌, ◌≤◌, ◌<◌, ◌∷◌, [], List, length, ap, subst, length-append, arith, rules}
 use Rattle.std.specs.List.{sum_by}
 use Rattle.std.proofs.lemmas.List.Sums.{sum_by-cons}
+use Rattle.graphql_lexical.specs.declared.kind.Kind.TheVariants.{BracketOpen, ExclamationMark}
 use Rattle.graphql_lexical.specs.Cutting.{Lexeme, Cut}
 use Rattle.graphql_lexical.proofs.Joints.{few_tokens}
 use Rattle.graphql_grammar.specs.Tree.{Scalars, TypeRef, NamedType, ListType, NonNullType, Definition}
 use Rattle.graphql_grammar.specs.Grammar.{IsType, IsDocument}
+use Rattle.graphql_grammar.proofs.Sequences.{says_takes, is_takes, front_takes, back_takes}
 use Rattle.graphql_nodes.specs.Nodes.{document_nodes}
 use Rattle.graphql_nodes.proofs.Measures.{Weighs, document_front}
 
@@ -18,9 +20,9 @@ sum_of_ones [] = search rules
 sum_of_ones (x ∷ xs) = omega (arith, sum_by-cons one x xs, sum_of_ones xs)
 
 some_token : (ts : List Lexeme) (x : TypeRef) → IsType ts x → 1 ≤ length ts
-some_token ts (NamedType name) h = omega (arith, ap length h.1)
-some_token ts (ListType size x) h = omega (arith, ap length h.3)
-some_token ts (NonNullType x) h = omega (arith, ap length h.2, length-append h.0 (h.1 ∷ []))
+some_token ts (NamedType name) h = says_takes name ts h
+some_token ts (ListType size x) h = front_takes (is_takes BracketOpen) ts h.0
+some_token ts (NonNullType x) h = back_takes (is_takes ExclamationMark) ts h.0
 
 module _ {C F : Type 0} (S : Scalars C F) where
   ones : Weighs S one one

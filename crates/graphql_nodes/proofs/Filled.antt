@@ -5,7 +5,7 @@ use Rattle.graphql_lexical.specs.declared.kind.Kind.{Kind}
 use Rattle.graphql_lexical.specs.Cutting.{Lexeme}
 use Rattle.graphql_grammar.specs.Tree as tree
 use Rattle.graphql_grammar.specs.Tree.{Scalars, Directives, VariableDefinition, Variables, Selection, Selections, no_selections, selection, OptionalSelections, absent, present, Definition}
-use Rattle.graphql_grammar.specs.Grammar.{Each, Optional, Listed, IsDirectives, IsVariableDefinition, IsVariables, IsSelection, IsOptionalSelectionSet, IsSelectionSet, AreSelections, IsDefinition, IsDocument}
+use Rattle.graphql_grammar.specs.Grammar.{Each, Optional, Several, Listed, IsDirectives, IsVariableDefinition, IsVariables, IsSelection, IsOptionalSelectionSet, IsSelectionSet, AreSelections, IsDefinition, IsDocument}
 
 abbrev pub IfPresent : {A : Type 0} → (A → Type 0) → Option A → Type 0
 IfPresent P None = Unit {0}
@@ -50,13 +50,18 @@ each_filled : {A : Type 0} (R : List Lexeme → A → Type 0) (P : A → Type 0)
     → ((ts : List Lexeme) (x : A) → R ts x → P x)
     → (ts : List Lexeme) (xs : List A) → Each R ts xs → AllByRecursion P xs
 each_filled R P f ts [] h = tt
-each_filled R P f ts (x ∷ xs) (us, vs, e, h, k) = (f us x h, each_filled R P f vs xs k)
+each_filled R P f ts (x ∷ xs) h = (f h.front x h.first, each_filled R P f h.back xs h.second)
+
+several_filled : {A : Type 0} (R : List Lexeme → A → Type 0) (P : A → Type 0)
+    → ((ts : List Lexeme) (x : A) → R ts x → P x)
+    → (ts : List Lexeme) (xs : List A) → Several R ts xs → AllByRecursion P xs
+several_filled R P f ts [] h = absurd h
+several_filled R P f ts (x ∷ xs) h = each_filled R P f ts (x ∷ xs) h
 
 listed_filled : {A : Type 0} (opening closing : Kind) (R : List Lexeme → A → Type 0) (P : A → Type 0)
     → ((ts : List Lexeme) (x : A) → R ts x → P x)
     → (ts : List Lexeme) (xs : List A) → Listed opening closing R ts xs → AllByRecursion P xs
-listed_filled opening closing R P f ts [] h = absurd h
-listed_filled opening closing R P f ts (x ∷ xs) h = each_filled R P f h.inner (x ∷ xs) h.parts
+listed_filled opening closing R P f ts xs h = several_filled R P f h.second.front xs h.second.first
 
 optional_filled : {A : Type 0} (R : List Lexeme → A → Type 0) (P : A → Type 0)
     → ((ts : List Lexeme) (x : A) → R ts x → P x)
@@ -71,7 +76,7 @@ module _ {C F : Type 0} (S : Scalars C F) where
   directives_filled ts (Some (d ∷ ds)) h = tt
 
   variable_filled : (ts : List Lexeme) (v : VariableDefinition C) → IsVariableDefinition S ts v → FilledVariable v
-  variable_filled ts v h = directives_filled h.directives v.directives h.directives_are
+  variable_filled ts v h = let rest = h.second.second.second in directives_filled rest.back v.directives rest.second
 
   variables_filled : (ts : List Lexeme) (v : Variables C) → IsVariables S ts v → FilledVariables v
   variables_filled ts v h = listed_filled _ _ (IsVariableDefinition S) FilledVariable variable_filled ts v.items h.0
@@ -79,10 +84,13 @@ module _ {C F : Type 0} (S : Scalars C F) where
   mutual
     selection_filled : (ts : List Lexeme) (s : Selection C) → IsSelection S ts s → FilledSelection s
     selection_filled ts (tree.Field alias name arguments directives ss p) h =
-        (directives_filled h.3 directives h.9, optional_set_filled h.4 ss h.10)
-    selection_filled ts (tree.FragmentSpread name directives p) h = directives_filled h.2 directives h.6
+        let body = h.0.second.second.second in
+        (directives_filled body.front directives body.first, optional_set_filled body.back ss body.second)
+    selection_filled ts (tree.FragmentSpread name directives p) h =
+        directives_filled h.0.second.back directives h.0.second.second
     selection_filled ts (tree.InlineFragment condition directives ss p) h =
-        (directives_filled h.2 directives h.7, set_filled h.3 ss h.8)
+        let body = h.0.second.second in
+        (directives_filled body.front directives body.first, set_filled body.back ss body.second)
 
     optional_set_filled : (ts : List Lexeme) (ss : OptionalSelections C) → IsOptionalSelectionSet S ts ss
         → FilledOptional ss
@@ -92,25 +100,29 @@ module _ {C F : Type 0} (S : Scalars C F) where
 
     set_filled : (ts : List Lexeme) (ss : Selections C) → IsSelectionSet S ts ss → FilledSelections ss
     set_filled ts no_selections h = absurd h
-    set_filled ts (selection s ss) h = (selection_filled h.2 s h.7, selections_filled h.3 ss h.8)
+    set_filled ts (selection s ss) h =
+        let inner = h.second in let others = inner.second in
+        (selection_filled inner.front s inner.first, selections_filled others.front ss others.first)
 
     selections_filled : (ts : List Lexeme) (ss : Selections C) → AreSelections S ts ss → FilledSelections ss
     selections_filled ts no_selections h = tt
-    selections_filled ts (selection s ss) h = (selection_filled h.0 s h.3, selections_filled h.1 ss h.4)
+    selections_filled ts (selection s ss) h =
+        (selection_filled h.front s h.first, selections_filled h.back ss h.second)
 
   definition_filled : (ts : List Lexeme) (d : Definition C) → IsDefinition S ts d → FilledDefinition d
   definition_filled ts (tree.Operation type name variables directives ss p) (q, inl (h, t, n, v, d)) =
       (subst (IfPresent FilledVariables) (sym v) tt, subst FilledDirectives (sym d) tt, set_filled ts ss h)
-  definition_filled ts (tree.Operation type name variables directives ss p) (q, inr h) = (
-    optional_filled (IsVariables S) FilledVariables variables_filled h.2 variables h.8,
-    directives_filled h.3
-        directives h.9,
-    set_filled h.4 ss h.10,
-  )
+  definition_filled ts (tree.Operation type name variables directives ss p) (q, inr h) =
+      let rest = h.second.second in let body = rest.second in (
+        optional_filled (IsVariables S) FilledVariables variables_filled rest.front variables rest.first,
+        directives_filled body.front directives body.first,
+        set_filled body.back ss body.second,
+      )
   definition_filled ts (tree.Fragment name condition directives ss p) h =
-      (directives_filled h.3 directives h.9, set_filled h.4 ss h.10)
+      let body = h.0.second.second.second in
+      (directives_filled body.front directives body.first, set_filled body.back ss body.second)
 
   pub document_filled : (ts : List Lexeme) (ds : List (Definition C)) → IsDocument S ts ds
       → AllByRecursion FilledDefinition ds
-  document_filled ts [] h = absurd h
-  document_filled ts (d ∷ ds) h = each_filled (IsDefinition S) FilledDefinition definition_filled h.0 (d ∷ ds) h.4
+  document_filled ts ds h =
+      several_filled (IsDefinition S) FilledDefinition definition_filled h.front ds h.first

@@ -1,16 +1,17 @@
 -- What is counted of a document's nodes is no more than what is counted of its tokens, where this holds of each node
 -- and the tokens that are its own.
-use Rattle.std.proofs.Common.{ℕ, Bool, true, false, ◌≡◌, ◌≤◌, ◌∷◌, [], List, ◌++◌, Option, Some, None, Ok, inl, inr, sym, ap, ap₂, ◌∙◌, subst, arith, rules}
+use Rattle.std.proofs.Common.{ℕ, Bool, true, false, ◌≡◌, ◌≤◌, ◌∷◌, [], List, ◌++◌, Option, Some, None, Ok, inl, inr, refl, sym, ap, ◌∙◌, subst, arith, rules}
 use Rattle.std.specs.List.{sum_by}
 use Rattle.std.proofs.lemmas.List.Sums.{sum_by-cons, sum_by-append}
 use Rattle.graphql_lexical.specs.declared.kind.Kind.{Kind}
-use Rattle.graphql_lexical.specs.declared.kind.Kind.TheVariants.{EndOfFile}
+use Rattle.graphql_lexical.specs.declared.kind.Kind.TheVariants.{Name, Dollar, At, CurlyOpen, CurlyClose, Ellipsis, EndOfFile}
 use Rattle.graphql_lexical.specs.Place.{Span}
 use Rattle.graphql_lexical.specs.Cutting.{Lexeme}
 use Rattle.graphql_grammar.specs.Tokens.{Text, Word}
 use Rattle.graphql_grammar.specs.Tree as tree
 use Rattle.graphql_grammar.specs.Tree.{Scalars, TypeRef, Value, Items, no_items, item, ObjectFields, no_fields, object_field, Argument, Arguments, Directive, Directives, VariableDefinition, Variables, Selection, Selections, no_selections, selection, OptionalSelections, absent, present, OperationType, Definition}
-use Rattle.graphql_grammar.specs.Grammar.{IsToken, IsScalarKind, Between, IsValue, AreItems, AreFields, Each, Optional, Listed, IsType, IsArgument, IsArguments, IsDirective, IsDirectives, IsDefault, IsVariableDefinition, IsVariables, IsAlias, IsSelection, IsOptionalSelectionSet, IsSelectionSet, AreSelections, IsDefinition, IsDocument}
+use Rattle.graphql_grammar.specs.Grammar.{IsToken, Is, IsWord, Says, IsScalarKind, Sequence, IsValue, AreItems, AreFields, Each, Optional, Several, Listed, IsType, IsArgument, IsArguments, IsDirective, IsDirectives, IsDefault, IsVariableDefinition, IsVariables, IsAlias, IsSelection, IsOptionalSelectionSet, IsSelectionSet, AreSelections, IsDefinition, IsDocument}
+use Rattle.graphql_grammar.proofs.Sequences.{token_in, name_in, row_map, row_right}
 use Rattle.graphql_nodes.specs.declared.kind.NodeKind.{NodeKind}
 use Rattle.graphql_nodes.specs.declared.kind.NodeKind.TheVariants as kind
 use Rattle.graphql_nodes.specs.Nodes.{Node, Label, Unnamed, Named, OnType, Typed, name_of, over, scalar_node, if_present, each, value_nodes, items_nodes, fields_nodes, argument_nodes, arguments_nodes, directive_nodes, directives_nodes, variable_nodes, variables_nodes, alias_nodes, selection_nodes, optional_nodes, selections_nodes, definition_nodes, document_nodes}
@@ -51,15 +52,9 @@ module _ {C F : Type 0} (S : Scalars C F) (measure : Node C → ℕ) (weight : L
   join us vs ms ns h k = record
       { le = omega (arith, h.le, k.le, sum_by-append weight us vs, sum_by-append measure ms ns) }
 
-  -- tokens before and behind that have no node
-  before : (us ts : List Lexeme) (ns : List (Node C)) → Within ts ns → Within (us ++ ts) ns
-  before us ts ns h = record { le = omega (arith, h.le, sum_by-append weight us ts) }
-
-  behind : (ts us : List Lexeme) (ns : List (Node C)) → Within ts ns → Within (ts ++ us) ns
-  behind ts us ns h = record { le = omega (arith, h.le, sum_by-append weight ts us) }
-
-  skip : (t : Lexeme) (ts : List Lexeme) (ns : List (Node C)) → Within ts ns → Within (t ∷ ts) ns
-  skip t ts ns h = before (t ∷ []) ts ns h
+  -- tokens that have no node
+  none : (ts : List Lexeme) → Within ts []
+  none ts = record { le = omega (arith, nothing.le) }
 
   -- a token and its node
   node : (t : Lexeme) (ts : List Lexeme) (k : NodeKind) (p : Span) (l : Label) (inner : List (Node C)) → IsUntyped l
@@ -76,25 +71,81 @@ module _ {C F : Type 0} (S : Scalars C F) (measure : Node C → ℕ) (weight : L
     );
   }
 
-  -- in brackets, of which the first is the node's
-  bracketed : (o c : Lexeme) (us : List Lexeme) (k : NodeKind) (p : Span) (inner : List (Node C)) → Within us inner
-      → Within (o ∷ us ++ (c ∷ [])) (over k p Unnamed inner)
-  bracketed o c us k p inner h = node o (us ++ (c ∷ [])) k p Unnamed inner tt (behind us (c ∷ []) inner h)
+  -- Each list that is a P is one token.
+  abbrev AreOne : (List Lexeme → Type 0) → Type 0
+  AreOne P = (ts : List Lexeme) → P ts → (t : Lexeme) × (ts ≡ t ∷ [])
 
-  one_token : (ts : List Lexeme) (k : Kind) (w : Text) (q : Span) (n : NodeKind) (p : Span) (l : Label) → IsUntyped l
-      → IsToken ts k w q
+  is_one : (kind : Kind) → AreOne (Is kind)
+  is_one kind ts h = (token_in kind ts h, h.2)
+
+  says_one : (text : Text) → AreOne (Says text)
+  says_one text ts h = (name_in text ts h, h.1)
+
+  word_one : (w : Word) → AreOne (λ ts. IsWord ts w)
+  word_one w ts h = (record { kind = Name; text = w.text; span = w.span }, h)
+
+  one_token : (ts : List Lexeme) (t : Lexeme) (n : NodeKind) (p : Span) (l : Label) → IsUntyped l → ts ≡ t ∷ []
       → Within ts (over n p l [])
-  one_token ts k w q n p l u h =
-      subst (λ ts. Within ts (over n p l [])) (sym h.whole) (node h.token [] n p l [] u nothing)
+  one_token ts t n p l u e = subst (λ ts. Within ts (over n p l [])) (sym e) (node t [] n p l [] u nothing)
+
+  module _ {P Q : List Lexeme → Type 0} (ts : List Lexeme) (h : Sequence P Q ts) where
+    -- both parts have nodes
+    joined : (ms ns : List (Node C)) → (P h.front → Within h.front ms) → (Q h.back → Within h.back ns)
+        → Within ts (ms ++ ns)
+    joined ms ns f g = subst (λ ts. Within ts (ms ++ ns)) (sym h.whole)
+        (join h.front h.back ms ns (f h.first) (g h.second))
+
+    -- the second part alone has nodes
+    behind : (ns : List (Node C)) → (Q h.back → Within h.back ns) → Within ts ns
+    behind ns g = joined [] ns (λ p. none h.front) g
+
+    -- the first part alone has nodes
+    before : (ns : List (Node C)) → (P h.front → Within h.front ns) → Within ts ns
+    before ns f = subst (λ ts. Within ts ns) (sym h.whole)
+        (record { le = omega (arith, (f h.first).le, sum_by-append weight h.front h.back) })
+
+    -- the first part is the token of the node over the second one's
+    headed : AreOne P → (k : NodeKind) (p : Span) (l : Label) (inner : List (Node C)) → IsUntyped l
+        → (Q h.back → Within h.back inner) → Within ts (over k p l inner)
+    headed one k p l inner u g = let t = one h.front h.first in
+        subst (λ ts. Within ts (over k p l inner)) (sym (h.whole ∙ ap (λ us. us ++ h.back) t.1))
+        (node t.0 h.back k p l inner u (g h.second))
+
+  -- in brackets, of which the first is the node's
+  bracketed : {P : List Lexeme → Type 0} (opening closing : Kind) (ts : List Lexeme) (k : NodeKind) (p : Span)
+      (inner : List (Node C)) → ((us : List Lexeme) → P us → Within us inner)
+      → Sequence (Is opening) (Sequence P (Is closing)) ts → Within ts (over k p Unnamed inner)
+  bracketed opening closing ts k p inner f h =
+      headed ts h (is_one opening) k p Unnamed inner tt (λ q. before h.back q inner (f q.front))
+
+  -- the first part is the token of a node over the first nodes of the second one's
+  headed_before : {P Q : List Lexeme → Type 0} (ts : List Lexeme) (h : Sequence P Q ts) → AreOne P → (k : NodeKind)
+      (p : Span) (l : Label) (inner ns : List (Node C)) → IsUntyped l → (Q h.back → Within h.back (inner ++ ns))
+      → Within ts (over k p l inner ++ ns)
+  headed_before ts h one k p l inner ns u g = let t = one h.front h.first in let w = g h.second in
+      subst (λ ts. Within ts (over k p l inner ++ ns)) (sym (h.whole ∙ ap (λ us. us ++ h.back) t.1)) (record {
+        le = omega (
+          arith,
+          w.le,
+          weighs.others t.0 k p l inner u,
+          sum_by-cons weight t.0 h.back,
+          sum_by-cons measure (node_over k p l inner) (inner ++ ns),
+        );
+      })
 
   each_within : {A : Type 0} (R : List Lexeme → A → Type 0) (nodes : A → List (Node C))
       → ((ts : List Lexeme) (x : A) → R ts x → Within ts (nodes x))
       → (ts : List Lexeme) (xs : List A) → Each R ts xs → Within ts (each nodes xs)
   unfolding each
   each_within R nodes f ts [] h = subst (λ ts. Within ts []) (sym h) nothing
-  each_within R nodes f ts (x ∷ xs) (us, vs, e, h, k) =
-      subst (λ ts. Within ts (nodes x ++ each nodes xs)) (sym e)
-      (join us vs (nodes x) (each nodes xs) (f us x h) (each_within R nodes f vs xs k))
+  each_within R nodes f ts (x ∷ xs) h =
+      joined ts h (nodes x) (each nodes xs) (f h.front x) (each_within R nodes f h.back xs)
+
+  several_within : {A : Type 0} (R : List Lexeme → A → Type 0) (nodes : A → List (Node C))
+      → ((ts : List Lexeme) (x : A) → R ts x → Within ts (nodes x))
+      → (ts : List Lexeme) (xs : List A) → Several R ts xs → Within ts (each nodes xs)
+  several_within R nodes f ts [] h = absurd h
+  several_within R nodes f ts (x ∷ xs) h = each_within R nodes f ts (x ∷ xs) h
 
   optional_within : {A : Type 0} (R : List Lexeme → A → Type 0) (nodes : A → List (Node C))
       → ((ts : List Lexeme) (x : A) → R ts x → Within ts (nodes x))
@@ -106,10 +157,8 @@ module _ {C F : Type 0} (S : Scalars C F) (measure : Node C → ℕ) (weight : L
       → ((ts : List Lexeme) (x : A) → R ts x → Within ts (nodes x))
       → (k : NodeKind) (p : Span) (ts : List Lexeme) (xs : List A) → Listed opening closing R ts xs
       → Within ts (over k p Unnamed (each nodes xs))
-  listed_within opening closing R nodes f k p ts [] h = absurd h
-  listed_within opening closing R nodes f k p ts (x ∷ xs) h =
-      subst (λ ts. Within ts (over k p Unnamed (each nodes (x ∷ xs)))) (sym h.whole)
-      (bracketed h.first h.last h.inner k p _ (each_within R nodes f h.inner (x ∷ xs) h.parts))
+  listed_within opening closing R nodes f k p ts xs h =
+      bracketed opening closing ts k p _ (λ us. several_within R nodes f us xs) h
 
   -- ---- values
 
@@ -119,67 +168,52 @@ module _ {C F : Type 0} (S : Scalars C F) (measure : Node C → ℕ) (weight : L
     le = omega (arith, h, nothing.le, sum_by-cons weight t [], sum_by-cons measure (scalar_node c p) []);
   }
 
-  truth_within : (ts : List Lexeme) (k : Kind) (w : Text) (q : Span) (b : Bool) (c : C) (p : Span) → IsToken ts k w q
-      → c ≡ S.of_bool b
+  truth_within : (ts : List Lexeme) (t : Lexeme) (b : Bool) (c : C) (p : Span) → ts ≡ t ∷ [] → c ≡ S.of_bool b
       → Within ts (scalar_node c p ∷ [])
-  truth_within ts k w q b c p h e =
-      let one = scalar_within h.token (S.of_bool b) p (weighs.truths h.token b p) in
-      subst (λ ts. Within ts (scalar_node c p ∷ [])) (sym h.whole)
-      (subst (λ c. Within (h.token ∷ []) (scalar_node c p ∷ [])) (sym e) one)
+  truth_within ts t b c p h e = subst (λ ts. Within ts (scalar_node c p ∷ [])) (sym h)
+      (scalar_within t c p (subst (λ c. measure (scalar_node c p) ≤ weight t) (sym e) (weighs.truths t b p)))
 
-  read_within : (ts : List Lexeme) (k : Kind) (w : Text) (q : Span) (c : C) (p : Span) → IsToken ts k w q
-      → IsScalarKind k → S.read k w ≡ Ok c
+  read_within : (ts : List Lexeme) (k : Kind) (w : Text) (c : C) (p : Span) → IsToken ts k w p → IsScalarKind k
+      → S.read k w ≡ Ok c
       → Within ts (scalar_node c p ∷ [])
-  read_within ts k w q c p h s e =
-      let one = weighs.scalars h.token c p (subst IsScalarKind (sym h.kind_is) s)
-      (ap₂ S.read h.kind_is h.text_is ∙ e) in
-      subst (λ ts. Within ts (scalar_node c p ∷ [])) (sym h.whole) (scalar_within h.token c p one)
-
-  between_within : (opening closing : Kind) (ts us : List Lexeme) (q : Span) (k : NodeKind) (p : Span)
-      (inner : List (Node C))
-      → Between opening closing ts us q → Within us inner → Within ts (over k p Unnamed inner)
-  between_within opening closing ts us q k p inner h i =
-      subst (λ ts. Within ts (over k p Unnamed inner)) (sym h.whole) (bracketed h.first h.last us k p inner i)
+  read_within ts k w c p h s e = let t : Lexeme = record { kind = k; text = w; span = p } in
+      subst (λ ts. Within ts (scalar_node c p ∷ [])) (sym h) (scalar_within t c p (weighs.scalars t c p s e))
 
   mutual
     unfolding value_nodes
 
     value_within : (free : Bool) (ts : List Lexeme) (v : Value C) → IsValue S free ts v → Within ts (value_nodes v)
-    value_within free ts (tree.Null p) h = one_token ts _ _ p _ p _ tt h
-    value_within free ts (tree.Scalar c p) (inl (k, w, h, s, e)) = read_within ts k w p c p h s e
-    value_within free ts (tree.Scalar c p) (inr (inl h)) = truth_within ts _ _ p true c p h.0 h.1
-    value_within free ts (tree.Scalar c p) (inr (inr h)) = truth_within ts _ _ p false c p h.0 h.1
-    value_within free ts (tree.Enum w p) h = one_token ts _ _ p _ p _ tt h.0
-    value_within free ts (tree.Variable w p) (f, h) =
-        subst (λ ts. Within ts (value_nodes (tree.Variable w p))) (sym h.whole)
-        (node h.dollar (h.word ∷ []) _ _ _ [] tt (skip h.word [] [] nothing))
-    value_within free ts (tree.ListOf vs p) (us, b, h) =
-        between_within _ _ ts us p _ p (items_nodes vs) b (items_within free us vs h)
-    value_within free ts (tree.Object fs p) (us, b, h) =
-        between_within _ _ ts us p _ p (fields_nodes fs) b (fields_within free us fs h)
+    value_within free ts (tree.Null p) h = one_token ts _ _ p _ tt h
+    value_within free ts (tree.Scalar c p) (inl (k, w, h, s, e)) = read_within ts k w c p h s e
+    value_within free ts (tree.Scalar c p) (inr (inl h)) = truth_within ts _ true c p h.0 h.1
+    value_within free ts (tree.Scalar c p) (inr (inr h)) = truth_within ts _ false c p h.0 h.1
+    value_within free ts (tree.Enum w p) h = one_token ts _ _ p _ tt h.0
+    value_within free ts (tree.Variable w p) h =
+        headed ts h.1.0 (is_one Dollar) _ _ _ [] tt (λ q. none h.1.0.back)
+    value_within free ts (tree.ListOf vs p) h =
+        bracketed _ _ ts _ p (items_nodes vs) (λ us. items_within free us vs) h.0
+    value_within free ts (tree.Object fs p) h =
+        bracketed _ _ ts _ p (fields_nodes fs) (λ us. fields_within free us fs) h.0
 
     items_within : (free : Bool) (ts : List Lexeme) (vs : Items C) → AreItems S free ts vs → Within ts (items_nodes vs)
-    items_within free ts no_items h = subst (λ ts. Within ts []) (sym h) nothing
-    items_within free ts (item v vs) (us, ws, e, h, k) =
-        subst (λ ts. Within ts (items_nodes (item v vs))) (sym e)
-        (join us ws (value_nodes v) (items_nodes vs) (value_within free us v h) (items_within free ws vs k))
+    items_within free ts no_items h = none ts
+    items_within free ts (item v vs) h =
+        joined ts h (value_nodes v) (items_nodes vs) (value_within free h.front v) (items_within free h.back vs)
 
     fields_within : (free : Bool) (ts : List Lexeme) (fs : ObjectFields C) → AreFields S free ts fs
         → Within ts (fields_nodes fs)
-    fields_within free ts no_fields h = subst (λ ts. Within ts []) (sym h) nothing
-    fields_within free ts (object_field w p v fs) (key, colon, us, ws, e, a, b, d, c, h, k) =
-        let value = skip colon us (value_nodes v) (value_within free us v h) in
-        let first = node key (colon ∷ us) kind.Key p _ (value_nodes v) tt value in
-        subst (λ ts. Within ts (fields_nodes (object_field w p v fs))) (sym e)
-        (join (key ∷ colon ∷ us) ws _ (fields_nodes fs) first (fields_within free ws fs k))
+    fields_within free ts no_fields h = none ts
+    fields_within free ts (object_field w p v fs) h =
+        headed_before ts h (word_one _) kind.Key p _ (value_nodes v) (fields_nodes fs) tt
+        (λ q. behind h.back q _ (λ r. joined q.back r (value_nodes v) (fields_nodes fs) (value_within free r.front v)
+        (fields_within free r.back fs)))
 
   -- ---- arguments and directives
 
   argument_within : (ts : List Lexeme) (a : Argument C) → IsArgument S ts a → Within ts (argument_nodes a)
   unfolding argument_nodes
-  argument_within ts a h =
-      let value = skip h.colon h.rest (value_nodes a.value) (value_within true h.rest a.value h.value) in
-      subst (λ ts. Within ts (argument_nodes a)) (sym h.whole) (node h.key (h.colon ∷ h.rest) _ _ _ _ tt value)
+  argument_within ts a h = headed ts h (word_one a.name) _ _ _ (value_nodes a.value) tt
+      (λ q. behind h.back q (value_nodes a.value) (value_within true q.back a.value))
 
   arguments_within : (ts : List Lexeme) (a : Arguments C) → IsArguments S ts a → Within ts (arguments_nodes a)
   unfolding arguments_nodes
@@ -187,17 +221,13 @@ module _ {C F : Type 0} (S : Scalars C F) (measure : Node C → ℕ) (weight : L
 
   directive_within : (ts : List Lexeme) (d : Directive C) → IsDirective S ts d → Within ts (directive_nodes d)
   unfolding directive_nodes
-  directive_within ts d h =
-      let arguments = optional_within (IsArguments S) arguments_nodes arguments_within h.rest d.arguments
-      h.arguments in
-      subst (λ ts. Within ts (directive_nodes d)) (sym h.whole)
-      (node h.at (h.name ∷ h.rest) _ _ _ _ tt (skip h.name h.rest _ arguments))
+  directive_within ts d h = headed ts h.0 (is_one At) _ _ _ _ tt (λ q. behind h.0.back q _
+      (optional_within (IsArguments S) arguments_nodes arguments_within q.back d.arguments))
 
   directives_within : (ts : List Lexeme) (ds : Directives C) → IsDirectives S ts ds → Within ts (directives_nodes ds)
   unfolding directives_nodes
-  directives_within ts None h = subst (λ ts. Within ts []) (sym h) nothing
-  directives_within ts (Some []) h = absurd h
-  directives_within ts (Some (d ∷ ds)) h = each_within (IsDirective S) directive_nodes directive_within ts (d ∷ ds) h
+  directives_within = optional_within (Several (IsDirective S)) (each directive_nodes)
+      (several_within (IsDirective S) directive_nodes directive_within)
 
   -- ---- variable definitions
 
@@ -214,19 +244,18 @@ module _ {C F : Type 0} (S : Scalars C F) (measure : Node C → ℕ) (weight : L
   }
 
   default_within : (ts : List Lexeme) (v : Value C) → IsDefault S ts v → Within ts (value_nodes v)
-  default_within ts v (equals, us, e, k, h) =
-      subst (λ ts. Within ts (value_nodes v)) (sym e) (skip equals us (value_nodes v) (value_within false us v h))
+  default_within ts v h = behind ts h (value_nodes v) (value_within false h.back v)
 
   variable_within : (ts : List Lexeme) (v : VariableDefinition C) → IsVariableDefinition S ts v
       → Within ts (variable_nodes v)
   unfolding variable_nodes
   variable_within ts v h =
-      let default = optional_within (IsDefault S) value_nodes default_within h.default v.default h.default_is in
-      let directives = directives_within h.directives v.directives h.directives_are in
-      let type = type_within h.of_type v.of_type v.type_span h.type_is in
-      let tail = join h.of_type _ _ _ type (join h.default h.directives _ _ default directives) in
-      subst (λ ts. Within ts (variable_nodes v)) (sym h.whole)
-      (node h.dollar _ _ _ _ _ tt (skip h.name _ _ (skip h.colon _ _ tail)))
+      let dollar = row_right ts (row_map (λ us k. k.0) (λ us k. k) ts h) in
+      headed ts dollar (is_one Dollar) _ _ _ _ tt (λ name. behind dollar.back name _ (λ colon. behind name.back colon _
+      (λ type. joined colon.back type _ _ (λ t. type_within type.front v.of_type v.type_span t.0)
+      (λ rest. joined type.back rest _ _
+      (optional_within (IsDefault S) value_nodes default_within rest.front v.default)
+      (directives_within rest.back v.directives)))))
 
   variables_within : (ts : List Lexeme) (v : Variables C) → IsVariables S ts v → Within ts (variables_nodes v)
   unfolding variables_nodes
@@ -237,105 +266,87 @@ module _ {C F : Type 0} (S : Scalars C F) (measure : Node C → ℕ) (weight : L
 
   alias_within : (ts : List Lexeme) (w : Word) → IsAlias S ts w → Within ts (alias_nodes w)
   unfolding alias_nodes
-  alias_within ts w (name, colon, e, j, k, q) =
-      subst (λ ts. Within ts (alias_nodes w)) (sym e) (node name (colon ∷ []) _ _ _ [] tt (skip colon [] [] nothing))
+  alias_within ts w h = headed ts h (word_one w) _ _ _ [] tt (λ q. none h.back)
 
   -- a field's node is its name's
-  field_within : (us ts vs : List Lexeme) (t : Lexeme) (ms ns : List (Node C)) (k : NodeKind) (p : Span) (l : Label)
-      → IsUntyped l → ts ≡ t ∷ []
-      → Within us ms → Within vs ns → Within (us ++ (ts ++ vs)) (over k p l (ms ++ ns))
-  field_within us ts vs t ms ns k p l u e h i =
-      let first = weighs.others t k p l (ms ++ ns) u in
-      let named = ap (λ x. sum_by weight (x ++ vs)) e ∙ sum_by-cons weight t vs in
-      record {
+  field_within : {P W Q : List Lexeme → Type 0} (ts : List Lexeme) (h : Sequence P (Sequence W Q) ts) → AreOne W
+      → (k : NodeKind) (p : Span) (l : Label) (ms ns : List (Node C)) → IsUntyped l
+      → (P h.front → Within h.front ms) → (Q h.second.back → Within h.second.back ns)
+      → Within ts (over k p l (ms ++ ns))
+  field_within ts h one k p l ms ns u f g =
+      let named = h.second in
+      let t = one named.front named.first in
+      let a = f h.first in
+      let b = g named.second in
+      let whole = h.whole ∙ ap (λ us. h.front ++ us) (named.whole ∙ ap (λ us. us ++ named.back) t.1) in
+      subst (λ ts. Within ts (over k p l (ms ++ ns))) (sym whole) (record {
         le = omega (
           arith,
-          h.le,
-          i.le,
-          first,
-          named,
-          sum_by-append weight us (ts ++ vs),
+          a.le,
+          b.le,
+          weighs.others t.0 k p l (ms ++ ns) u,
+          sum_by-append weight h.front (t.0 ∷ named.back),
+          sum_by-cons weight t.0 named.back,
           sum_by-append measure ms ns,
           sum_by-cons measure (node_over k p l (ms ++ ns)) (ms ++ ns),
         );
-      }
-
-  -- a selection set, whose opening bracket is no node's
-  record Spares (ts : List Lexeme) (ns : List (Node C)) : Type 0 where
-    pub first : Lexeme
-    pub rest : List Lexeme
-    pub whole : ts ≡ first ∷ rest
-    pub within : Within rest ns
-
-  spared : (ts : List Lexeme) (ns : List (Node C)) → Spares ts ns → Within ts ns
-  spared ts ns h = subst (λ ts. Within ts ns) (sym h.whole) (skip h.first h.rest ns h.within)
+      })
 
   mutual
     unfolding selection_nodes
 
     selection_within : (ts : List Lexeme) (s : Selection C) → IsSelection S ts s → Within ts (selection_nodes s)
-    selection_within ts (tree.Field alias name arguments ds ss p) (u0, u1, u2, u3, u4, e, a, w, h1, h2, h3, q) =
-        let before_name = optional_within (IsAlias S) alias_nodes alias_within u0 alias a in
-        let directives = join u3 u4 _ _ (directives_within u3 ds h2) (optional_set_within u4 ss h3) in
-        let behind_name = join u2 (u3 ++ u4) _ _
-        (optional_within (IsArguments S) arguments_nodes arguments_within u2 arguments h1) directives in
-        subst (λ ts. Within ts (selection_nodes (tree.Field alias name arguments ds ss p))) (sym e)
-        (field_within u0 u1 _ w.token _ _ _ _ _ tt w.whole before_name behind_name)
-    selection_within ts (tree.FragmentSpread name ds p) (dots, u1, u2, e, k, w, h, q) =
-        subst (λ ts. Within ts (selection_nodes (tree.FragmentSpread name ds p))) (sym e)
-        (node dots (u1 ++ u2) _ _ _ _ tt (before u1 u2 _ (directives_within u2 ds h)))
-    selection_within ts (tree.InlineFragment condition ds ss p) (dots, u1, u2, u3, e, k, c, h, b, q) =
-        let inner = join u2 u3 _ _ (directives_within u2 ds h) (spared u3 _ (set_spares u3 ss b)) in
-        subst (λ ts. Within ts (selection_nodes (tree.InlineFragment condition ds ss p))) (sym e)
-        (node dots (u1 ++ (u2 ++ u3)) _ _ _ _ (untyped_name condition) (before u1 (u2 ++ u3) _ inner))
+    selection_within ts (tree.Field alias name arguments ds ss p) h = field_within ts h.0 (word_one name) _ _ _ _ _ tt
+        (optional_within (IsAlias S) alias_nodes alias_within h.0.front alias)
+        (λ q. joined h.0.second.back q _ _
+        (optional_within (IsArguments S) arguments_nodes arguments_within q.front arguments)
+        (λ r. joined q.back r _ _ (directives_within r.front ds) (optional_set_within r.back ss)))
+    selection_within ts (tree.FragmentSpread name ds p) h = headed ts h.0 (is_one Ellipsis) _ _ _ _ tt
+        (λ q. behind h.0.back q _ (directives_within q.back ds))
+    selection_within ts (tree.InlineFragment condition ds ss p) h =
+        headed ts h.0 (is_one Ellipsis) _ _ _ _ (untyped_name condition) (λ q. behind h.0.back q _
+        (λ r. joined q.back r _ _ (directives_within r.front ds) (set_within r.back ss)))
 
     optional_set_within : (ts : List Lexeme) (ss : OptionalSelections C) → IsOptionalSelectionSet S ts ss
         → Within ts (optional_nodes ss)
-    optional_set_within ts absent h = subst (λ ts. Within ts []) (sym h) nothing
-    optional_set_within ts (present ss) h = spared ts _ (set_spares ts ss h)
+    optional_set_within ts absent h = none ts
+    optional_set_within ts (present ss) h = set_within ts ss h
 
-    set_spares : (ts : List Lexeme) (ss : Selections C) → IsSelectionSet S ts ss → Spares ts (selections_nodes ss)
-    set_spares ts no_selections h = absurd h
-    set_spares ts (selection s ss) (o, c, us, vs, e, a, b, h, k) = record {
-      first = o;
-      rest = us ++ (vs ++ (c ∷ []));
-      whole = e;
-      within = join us (vs ++ (c ∷ [])) _ _ (selection_within us s h)
-          (behind vs (c ∷ []) _ (selections_within vs ss k));
-    }
+    set_within : (ts : List Lexeme) (ss : Selections C) → IsSelectionSet S ts ss → Within ts (selections_nodes ss)
+    set_within ts no_selections h = absurd h
+    set_within ts (selection s ss) h = behind ts h _ (λ q. joined h.back q _ _ (selection_within q.front s)
+        (λ r. before q.back r _ (selections_within r.front ss)))
 
     selections_within : (ts : List Lexeme) (ss : Selections C) → AreSelections S ts ss
         → Within ts (selections_nodes ss)
-    selections_within ts no_selections h = subst (λ ts. Within ts []) (sym h) nothing
-    selections_within ts (selection s ss) (us, vs, e, h, k) =
-        subst (λ ts. Within ts (selections_nodes (selection s ss))) (sym e)
-        (join us vs _ _ (selection_within us s h) (selections_within vs ss k))
-
-  set_within : (ts : List Lexeme) (ss : Selections C) → IsSelectionSet S ts ss → Within ts (selections_nodes ss)
-  set_within ts ss h = spared ts _ (set_spares ts ss h)
+    selections_within ts no_selections h = none ts
+    selections_within ts (selection s ss) h =
+        joined ts h _ _ (selection_within h.front s) (selections_within h.back ss)
 
   -- ---- documents
+
+  -- the opening bracket is a node's
+  set_over : (ts : List Lexeme) (ss : Selections C) (k : NodeKind) (p : Span) (l : Label) → IsUntyped l
+      → IsSelectionSet S ts ss → Within ts (over k p l (selections_nodes ss))
+  unfolding selection_nodes
+  set_over ts no_selections k p l u h = absurd h
+  set_over ts (selection s ss) k p l u h = headed ts h (is_one CurlyOpen) k p l _ u
+      (λ q. joined h.back q _ _ (selection_within q.front s) (λ r. before q.back r _ (selections_within r.front ss)))
 
   -- A query in short has no words: its node is the opening bracket's.
   definition_within : (ts : List Lexeme) (d : Definition C) → IsDefinition S ts d → Within ts (definition_nodes d)
   unfolding definition_nodes directives_nodes
   definition_within ts (tree.Operation type name variables ds ss p) (q, inl (h, t, n, v, d)) =
-      let set = set_spares ts ss h in
-      let short : Within ts (definition_nodes (tree.Operation type name None None ss p)) =
-      subst (λ ts. Within ts (definition_nodes (tree.Operation type name None None ss p))) (sym set.whole)
-      (node set.first set.rest _ _ _ _ (untyped_name name) set.within) in
       subst (λ vs. Within ts (definition_nodes (tree.Operation type name vs ds ss p))) (sym v)
-      (subst (λ ds. Within ts (definition_nodes (tree.Operation type name None ds ss p))) (sym d) short)
-  definition_within ts (tree.Operation type name variables ds ss p) (q, inr (t, u1, u2, u3, u4, e, s, a, b, c, d)) =
-      let directives = join u3 u4 _ _ (directives_within u3 ds c) (set_within u4 ss d) in
-      let inner = join u2 (u3 ++ u4) _ _
-      (optional_within (IsVariables S) variables_nodes variables_within u2 variables b) directives in
-      subst (λ ts. Within ts (definition_nodes (tree.Operation type name variables ds ss p))) (sym e)
-      (node t _ _ _ _ _ (untyped_name name) (before u1 _ _ inner))
-  definition_within ts (tree.Fragment name condition ds ss p) (t, u1, u2, u3, u4, e, s, w, i, c, d, q) =
-      let inner = join u3 u4 _ _ (directives_within u3 ds c) (set_within u4 ss d) in
-      subst (λ ts. Within ts (definition_nodes (tree.Fragment name condition ds ss p))) (sym e)
-      (node t _ _ _ _ _ tt (before u1 _ _ (before u2 _ _ inner)))
+      (subst (λ ds. Within ts (definition_nodes (tree.Operation type name None ds ss p))) (sym d)
+      (set_over ts ss _ _ _ (untyped_name name) h))
+  definition_within ts (tree.Operation type name variables ds ss p) (q, inr h) =
+      headed ts h (says_one _) _ _ _ _ (untyped_name name) (λ named. behind h.back named _ (λ r. joined named.back r _ _
+      (optional_within (IsVariables S) variables_nodes variables_within r.front variables)
+      (λ body. joined r.back body _ _ (directives_within body.front ds) (set_within body.back ss))))
+  definition_within ts (tree.Fragment name condition ds ss p) h =
+      headed ts h.0 (says_one _) _ _ _ _ tt (λ named. behind h.0.back named _ (λ typed. behind named.back typed _
+      (λ body. joined typed.back body _ _ (directives_within body.front ds) (set_within body.back ss))))
 
   -- a document's tokens before its end
   pub record Front (ts : List Lexeme) (ns : List (Node C)) : Type 0 where
@@ -348,11 +359,10 @@ module _ {C F : Type 0} (S : Scalars C F) (measure : Node C → ℕ) (weight : L
   pub document_front : (ts : List Lexeme) (ds : List (Definition C)) → IsDocument S ts ds
       → Front ts (document_nodes ds)
   unfolding document_nodes
-  document_front ts [] h = absurd h
-  document_front ts (d ∷ ds) (front, end, e, k, h) = record {
-    front = front;
-    end = end;
-    whole = e;
-    ends = k;
-    le = (each_within (IsDefinition S) definition_nodes definition_within front (d ∷ ds) h).le;
+  document_front ts ds h = record {
+    front = h.front;
+    end = token_in EndOfFile h.back h.second;
+    whole = h.whole ∙ ap (λ us. h.front ++ us) h.second.2;
+    ends = refl;
+    le = (several_within (IsDefinition S) definition_nodes definition_within h.front ds h.first).le;
   }

@@ -7,10 +7,11 @@ use Rattle.graphql_lexical.specs.declared.kind.Kind.TheVariants.{Name, String, I
 use Rattle.graphql_lexical.specs.Cutting.{Lexeme, Cut}
 use Rattle.graphql_lexical.specs.Tokens.{IsName}
 use Rattle.graphql_lexical.specs.laws.Written.{Bare, AreOf}
-use Rattle.graphql_grammar.specs.Tokens.{Text, nowhere, over}
+use Rattle.graphql_grammar.specs.Tokens.{Text, nowhere, span_of}
 use Rattle.graphql_grammar.specs.Tree.{Value, Null, Scalar, Enum, Variable, ListOf, Object, Items, no_items, item, ObjectFields, no_fields, object_field, TypeRef, NamedType, ListType, NonNullType}
-use Rattle.graphql_grammar.specs.Grammar.{IsToken, Between, IsValue, AreItems, AreFields, IsNullable, IsType}
+use Rattle.graphql_grammar.specs.Grammar.{◌·◌, Sequence, IsToken, Is, IsValue, AreItems, AreFields, IsNullable, IsType}
 use Rattle.graphql_grammar.specs.Unlocated.{unlocated_value, unlocated_items, unlocated_fields}
+use Rattle.graphql_grammar.proofs.Sequences.{row, row_map, token_is}
 use Rattle.juniper_values.specs.Value as input
 use Rattle.juniper_values.specs.Scalar.{Content, integer, text, boolean, custom}
 use Rattle.juniper_values.specs.Default.{default_content, default_shown, plain_shown, text_in}
@@ -33,97 +34,39 @@ use Rattle.juniper.proofs.PlacedValues.{placed, placed_items, placed_fields, pla
 
 -- ---- parts of a list of tokens
 
--- tokens of a row of two parts
-record Parted (ts : List Lexeme) (bs cs : List Bare) : Type 0 where
-  front : List Lexeme
-  rest : List Lexeme
-  whole : ts ≡ front ++ rest
-  front_are : AreOf front bs
-  rest_are : AreOf rest cs
+abbrev AreTokens : List Bare → List Lexeme → Type 0
+AreTokens bs ts = AreOf ts bs
 
-parted : (ts : List Lexeme) (bs cs : List Bare) → AreOf ts (bs ++ cs) → Parted ts bs cs
-parted ts [] cs a = record { front = []; rest = ts; whole = refl; front_are = tt; rest_are = a }
-parted [] (b ∷ bs) cs a = absurd a
-parted (t ∷ ts) (b ∷ bs) cs a =
-    let p = parted ts bs cs a.2 in
+-- tokens of a row of two parts
+parted : (bs cs : List Bare) (ts : List Lexeme) → AreOf ts (bs ++ cs) → (AreTokens bs · AreTokens cs) ts
+parted [] cs ts a = row [] ts tt a
+parted (b ∷ bs) cs [] a = absurd a
+parted (b ∷ bs) cs (t ∷ ts) a =
+    let p = parted bs cs ts a.2 in
     record {
       front = t ∷ p.front;
-      rest = p.rest;
+      back = p.back;
       whole = ap (λ (us : List Lexeme). t ∷ us) p.whole;
-      front_are = (a.0, a.1, p.front_are);
-      rest_are = p.rest_are;
+      first = (a.0, a.1, p.first);
+      second = p.second;
     }
 
--- one token
-record One (ts : List Lexeme) (b : Bare) : Type 0 where
-  token : Lexeme
-  alone : ts ≡ token ∷ []
-  kind : token.kind ≡ b.kind
-  text : token.text ≡ b.text
+-- one token, wherever it stands
+one : (b : Bare) (ts : List Lexeme) → AreOf ts (b ∷ []) → (span : Span) × IsToken ts b.kind b.text span
+one b [] a = absurd a
+one b (t ∷ []) a = (t.span, token_is b.kind b.text t a.0 a.1)
+one b (t ∷ u ∷ ts) a = absurd a.2
 
-one : (ts : List Lexeme) (b : Bare) → AreOf ts (b ∷ []) → One ts b
-one [] b a = absurd a
-one (t ∷ []) b a = record { token = t; alone = refl; kind = a.0; text = a.1 }
-one (t ∷ u ∷ ts) b a = absurd a.2
-
--- a first token and the others
-record First (ts : List Lexeme) (b : Bare) (bs : List Bare) : Type 0 where
-  first : Lexeme
-  others : List Lexeme
-  whole : ts ≡ first ∷ others
-  kind : first.kind ≡ b.kind
-  text : first.text ≡ b.text
-  others_are : AreOf others bs
-
-first_of : (ts : List Lexeme) (b : Bare) (bs : List Bare) → AreOf ts (b ∷ bs) → First ts b bs
-first_of [] b bs a = absurd a
-first_of (t ∷ ts) b bs a = record { first = t; others = ts; whole = refl; kind = a.0; text = a.1; others_are = a.2 }
-
--- tokens and a last one
-record Closed (ts : List Lexeme) (bs : List Bare) (b : Bare) : Type 0 where
-  inner : List Lexeme
-  last : Lexeme
-  whole : ts ≡ inner ++ last ∷ []
-  inner_are : AreOf inner bs
-  kind : last.kind ≡ b.kind
-
-closed : (ts : List Lexeme) (bs : List Bare) (b : Bare) → AreOf ts (bs ++ b ∷ []) → Closed ts bs b
-closed ts bs b a =
-    let p = parted ts bs (b ∷ []) a in
-    let o = one p.rest b p.rest_are in
-    record {
-      inner = p.front;
-      last = o.token;
-      whole = p.whole ∙ ap (λ (us : List Lexeme). p.front ++ us) o.alone;
-      inner_are = p.front_are;
-      kind = o.kind;
-    }
+mark : (kind : Kind) (ts : List Lexeme) → AreOf ts (punctuation kind ∷ []) → Is kind ts
+mark kind ts a = let o = one (punctuation kind) ts a in ((punctuation kind).text, o.0, o.1)
 
 -- tokens between an opening and a closing one
-record Enclosed (opening closing : Kind) (ts : List Lexeme) (bs : List Bare) : Type 0 where
-  inner : List Lexeme
-  span : Span
-  between : Between opening closing ts inner span
-  inner_are : AreOf inner bs
-
-enclosed : (opening closing : Kind) (ts : List Lexeme) (bs : List Bare)
-    → AreOf ts (punctuation opening ∷ (bs ++ punctuation closing ∷ [])) → Enclosed opening closing ts bs
-enclosed opening closing ts bs a =
-    let f = first_of ts (punctuation opening) (bs ++ punctuation closing ∷ []) a in
-    let c = closed f.others bs (punctuation closing) f.others_are in
-    record {
-      inner = c.inner;
-      span = over f.first c.last;
-      between = record {
-        first = f.first;
-        last = c.last;
-        whole = f.whole ∙ ap (λ (us : List Lexeme). f.first ∷ us) c.whole;
-        opens = f.kind;
-        closes = c.kind;
-        spans = refl;
-      };
-      inner_are = c.inner_are;
-    }
+between : (opening closing : Kind) (bs : List Bare) (ts : List Lexeme)
+    → AreOf ts (punctuation opening ∷ (bs ++ punctuation closing ∷ []))
+    → (Is opening · AreTokens bs · Is closing) ts
+between opening closing bs ts a = row_map (mark opening)
+    (λ us h. row_map (λ vs k. k) (mark closing) us (parted bs (punctuation closing ∷ []) us h)) ts
+    (parted (punctuation opening ∷ []) (bs ++ punctuation closing ∷ []) ts a)
 
 -- ---- types
 
@@ -132,27 +75,16 @@ abbrev Mean : List Bare → TypeRef → Type 0
 Mean bs type = (ts : List Lexeme) → AreOf ts bs → IsType ts type
 
 named : (name : Text) → Mean (token Name name ∷ []) (NamedType name)
-named name ts a = let o = one ts (token Name name) a in (o.token, o.alone, o.kind, o.text)
+named name ts a = one (token Name name) ts a
 
 marked : (bs : List Bare) (type : TypeRef) → IsNullable type → Mean bs type
     → Mean (bs ++ closing_tokens NonNull) (NonNullType type)
-marked bs type n m ts a = let c = closed ts bs (punctuation ExclamationMark) a in
-    (c.inner, c.last, c.whole, c.kind, n, m c.inner c.inner_are)
+marked bs type n m ts a = (row_map m (mark ExclamationMark) ts (parted bs (closing_tokens NonNull) ts a), n)
 
 listed : (bs : List Bare) (type : TypeRef) → Mean bs type
     → Mean (opening_tokens (ListModifier None) ++ (bs ++ closing_tokens (ListModifier None))) (ListType None type)
 listed bs type m ts a =
-    let f = first_of ts (punctuation BracketOpen) (bs ++ closing_tokens (ListModifier None)) a in
-    let c = closed f.others bs (punctuation BracketClose) f.others_are in (
-      f.first,
-      c.last,
-      c.inner,
-      f.whole ∙ ap (λ (us : List Lexeme). f.first ∷ us) c.whole,
-      f.kind,
-      c.kind,
-      refl,
-      m c.inner c.inner_are,
-    )
+    (row_map (λ us k. k) (row_map m (λ us k. k)) ts (between BracketOpen BracketClose bs ts a), refl)
 
 -- an exclamation mark may follow, or does not
 abbrev MayMark : TypeRef → List TypeModifier → Type 0
@@ -182,6 +114,16 @@ type_read_back name ms n w =
 
 -- ---- values
 
+-- the same parts, taken for others
+both : {P Q P' Q' : List Lexeme → Type 0} {ts : List Lexeme} (h : Sequence P Q ts) → P' h.front → Q' h.back
+    → Sequence P' Q' ts
+both h p q = record { front = h.front; back = h.back; whole = h.whole; first = p; second = q }
+
+-- the part between two tokens, taken for another one
+inside : {O P R P' : List Lexeme → Type 0} {ts : List Lexeme} (h : Sequence O (Sequence P R) ts)
+    → P' h.second.front → Sequence O (Sequence P' R) ts
+inside h p = both h h.first (both h.second p h.second.second)
+
 record IsBack (ts : List Lexeme) (v : input.Value Content) : Type 0 where
   tree : Value Content
   means : IsValue default_scalars true ts tree
@@ -197,39 +139,22 @@ record AreFieldsBack (ts : List Lexeme) (fs : input.Fields Content) : Type 0 whe
   means : AreFields default_scalars true ts trees
   same : unlocated_fields trees ≡ unlocated_fields (placed_fields fs)
 
-is_token : (ts : List Lexeme) (b : Bare) (o : One ts b) → IsToken ts b.kind b.text o.token.span
-is_token ts b o = record { token = o.token; whole = o.alone; kind_is = o.kind; text_is = o.text; spans = refl }
-
 scalar_back : (ts : List Lexeme) (s : Content) → IsPlainScalar s → AreOf ts (scalar_token s ∷ [])
     → IsBack ts (input.scalar s)
-scalar_back ts (integer n) h a =
-    let o = one ts (scalar_token (integer n)) a in
-    record {
-      tree = Scalar (integer n) o.token.span;
-      means = inl (Int, _, is_token ts (scalar_token (integer n)) o, inr (inr (inr refl)), integer_read_back n h);
-      same = refl;
-    }
-scalar_back ts (text t) h a =
-    let o = one ts (scalar_token (text t)) a in
-    record {
-      tree = Scalar (text t) o.token.span;
-      means = inl (String, t, is_token ts (scalar_token (text t)) o, inl refl, rw (plain_unescaped t h) refl);
-      same = refl;
-    }
-scalar_back ts (boolean true) h a =
-    let o = one ts (scalar_token (boolean true)) a in
-    record {
-      tree = Scalar (boolean true) o.token.span;
-      means = inr (inl (is_token ts (scalar_token (boolean true)) o, refl));
-      same = refl;
-    }
-scalar_back ts (boolean false) h a =
-    let o = one ts (scalar_token (boolean false)) a in
-    record {
-      tree = Scalar (boolean false) o.token.span;
-      means = inr (inr (is_token ts (scalar_token (boolean false)) o, refl));
-      same = refl;
-    }
+scalar_back ts (integer n) h a = let o = one (scalar_token (integer n)) ts a in record {
+  tree = Scalar (integer n) o.0;
+  means = inl (Int, _, o.1, inr (inr (inr refl)), integer_read_back n h);
+  same = refl;
+}
+scalar_back ts (text t) h a = let o = one (scalar_token (text t)) ts a in record {
+  tree = Scalar (text t) o.0;
+  means = inl (String, t, o.1, inl refl, rw (plain_unescaped t h) refl);
+  same = refl;
+}
+scalar_back ts (boolean true) h a = let o = one (scalar_token (boolean true)) ts a in
+    record { tree = Scalar (boolean true) o.0; means = inr (inl (o.1, refl)); same = refl }
+scalar_back ts (boolean false) h a = let o = one (scalar_token (boolean false)) ts a in
+    record { tree = Scalar (boolean false) o.0; means = inr (inr (o.1, refl)); same = refl }
 scalar_back ts (custom ns) h a = absurd h
 
 -- spans differ alone
@@ -243,52 +168,36 @@ unlocated_placed (input.object fs) p q = refl
 
 mutual
   value_back : (v : input.Value Content) (ts : List Lexeme) → IsPlain v → AreOf ts (value_tokens v) → IsBack ts v
-  value_back input.null ts h a = let o = one ts (token Name (codes "null")) a in
-      record { tree = Null o.token.span; means = is_token ts (token Name (codes "null")) o; same = refl }
+  value_back input.null ts h a = let o = one (token Name (codes "null")) ts a in
+      record { tree = Null o.0; means = o.1; same = refl }
   value_back (input.scalar s) ts h a = scalar_back ts s h a
-  value_back (input.enum_value t) ts h a =
-      let o = one ts (token Name t) a in
-      record {
-        tree = Enum t o.token.span;
-        means = (
-          is_token ts (token Name t) o,
-          (h.not_true, h.not_false, h.not_null),
-        );
-        same = refl;
-      }
-  value_back (input.variable t) ts h a =
-      let f = first_of ts (punctuation Dollar) (token Name t ∷ []) a in
-      let o = one f.others (token Name t) f.others_are in
-      record {
-        tree = Variable t (over f.first o.token);
-        means = (
-          refl,
-          record {
-            dollar = f.first;
-            word = o.token;
-            whole = f.whole ∙ ap (λ (us : List Lexeme). f.first ∷ us) o.alone;
-            dollar_is = f.kind;
-            word_is = o.kind;
-            names = sym o.text;
-            spans = refl;
-          },
-        );
-        same = refl;
-      }
+  value_back (input.enum_value t) ts h a = let o = one (token Name t) ts a in
+      record { tree = Enum t o.0; means = (o.1, (h.not_true, h.not_false, h.not_null)); same = refl }
+  value_back (input.variable t) ts h a = record {
+    tree = Variable t (span_of ts);
+    means = (
+      refl,
+      (
+        row_map (mark Dollar) (one (token Name t)) ts (parted (punctuation Dollar ∷ []) (token Name t ∷ []) ts a),
+        refl,
+      ),
+    );
+    same = refl;
+  }
   value_back (input.list xs) ts h a =
-      let e = enclosed BracketOpen BracketClose ts (items_tokens xs) a in
-      let b = items_back xs e.inner h e.inner_are in
+      let e = between BracketOpen BracketClose (items_tokens xs) ts a in
+      let b = items_back xs e.second.front h e.second.first in
       record {
-        tree = ListOf b.trees e.span;
-        means = (e.inner, e.between, b.means);
+        tree = ListOf b.trees (span_of ts);
+        means = (inside e b.means, refl);
         same = ap (λ (ys : Items Content). ListOf ys nowhere) b.same;
       }
   value_back (input.object fs) ts h a =
-      let e = enclosed CurlyOpen CurlyClose ts (fields_tokens fs) a in
-      let b = fields_back fs e.inner h e.inner_are in
+      let e = between CurlyOpen CurlyClose (fields_tokens fs) ts a in
+      let b = fields_back fs e.second.front h e.second.first in
       record {
-        tree = Object b.trees e.span;
-        means = (e.inner, e.between, b.means);
+        tree = Object b.trees (span_of ts);
+        means = (inside e b.means, refl);
         same = ap (λ (gs : ObjectFields Content). Object gs nowhere) b.same;
       }
 
@@ -297,12 +206,12 @@ mutual
   items_back input.no_items [] h a = record { trees = no_items; means = refl; same = refl }
   items_back input.no_items (t ∷ ts) h a = absurd a
   items_back (input.item v s xs) ts h a =
-      let p = parted ts (value_tokens v) (items_tokens xs) a in
-      let b = value_back v p.front h.0 p.front_are in
-      let m = items_back xs p.rest h.1 p.rest_are in
+      let p = parted (value_tokens v) (items_tokens xs) ts a in
+      let b = value_back v p.front h.0 p.first in
+      let m = items_back xs p.back h.1 p.second in
       record {
         trees = item b.tree m.trees;
-        means = (p.front, p.rest, p.whole, b.means, m.means);
+        means = both p b.means m.means;
         same = ap₂ item (b.same ∙ unlocated_placed v nowhere s) m.same;
       }
 
@@ -311,27 +220,15 @@ mutual
   fields_back input.no_fields [] h a = record { trees = no_fields; means = refl; same = refl }
   fields_back input.no_fields (t ∷ ts) h a = absurd a
   fields_back (input.field k s v q fs) ts h a =
-      let f = first_of ts (token Name k) (punctuation Colon ∷ (value_tokens v ++ fields_tokens fs)) a in
-      let g = first_of f.others (punctuation Colon) (value_tokens v ++ fields_tokens fs) f.others_are in
-      let p = parted g.others (value_tokens v) (fields_tokens fs) g.others_are in
-      let b = value_back v p.front h.1 p.front_are in
-      let m = fields_back fs p.rest h.2 p.rest_are in
+      let f = parted (token Name k ∷ []) (punctuation Colon ∷ (value_tokens v ++ fields_tokens fs)) ts a in
+      let g = parted (punctuation Colon ∷ []) (value_tokens v ++ fields_tokens fs) f.back f.second in
+      let p = parted (value_tokens v) (fields_tokens fs) g.back g.second in
+      let key = one (token Name k) f.front f.first in
+      let b = value_back v p.front h.1 p.first in
+      let m = fields_back fs p.back h.2 p.second in
       record {
-        trees = object_field k f.first.span b.tree m.trees;
-        means = (
-          f.first,
-          g.first,
-          p.front,
-          p.rest,
-          f.whole ∙ ap (λ (us : List Lexeme). f.first ∷ us)
-              (g.whole ∙ ap (λ (us : List Lexeme). g.first ∷ us) p.whole),
-          f.kind,
-          f.text,
-          refl,
-          g.kind,
-          b.means,
-          m.means,
-        );
+        trees = object_field k key.0 b.tree m.trees;
+        means = both f key.1 (both g (mark Colon g.front g.first) (both p b.means m.means));
         same = ap₂ (object_field k nowhere) (b.same ∙ unlocated_placed v nowhere q) m.same;
       }
 

@@ -9,6 +9,7 @@ use Rattle.graphql_grammar.specs.Tokens.{span_of, word_of}
 use Rattle.graphql_grammar.specs.Tree.{Scalars, Value, Arguments, Directive, Directives, Variables}
 use Rattle.graphql_grammar.specs.Grammar.{IsArgument, IsArguments, IsDirective, IsVariableDefinition, Each}
 use Rattle.graphql_grammar.specs.Reading.{of, done, front, fully, repeated, maybe, value_of, argument, arguments, directive, directives, default_value, variable_definition, variables, spanned_type, unless_empty}
+use Rattle.graphql_grammar.proofs.Sequences.{row_before}
 use Rattle.graphql_grammar.proofs.DocumentRules.{argument_rule, argument_takes, arguments_rule, directive_rule, directive_takes, variable_definition_rule, variable_takes, variables_rule}
 use Rattle.graphql_grammar.proofs.Rules.{repeated_rule}
 use Rattle.graphql_grammar.proofs.Extents.{Runs, RunsOn, runs_on, runs_of, took_is, took_runs, arguments_have, variables_have, directive_has}
@@ -112,21 +113,22 @@ module _ {C : Type 0} (S : Scalars C Error) where
   each_runs : (ts mid rest us : List Lexeme) (p : Span) (ds : List (Directive C)) → Runs ts mid p → mid ≡ us ++ rest
       → Each (IsDirective S) us ds → Runs ts rest (record { start = p.start; end = last_end S p.end ds })
   each_runs ts mid rest us p [] r e h = subst (λ l. Runs ts l p) (e ∙ ap (λ l. l ++ rest) h) r
-  each_runs ts mid rest us p (d ∷ ds) r e (vs, ws, s, h, k) =
-      let has = directive_has S vs d h in
-      let one : Runs mid (ws ++ rest) d.span =
-      subst (λ q. Runs mid (ws ++ rest) q) (sym has.1)
-      (runs_of vs mid (ws ++ rest) (e ∙ ap (λ l. l ++ rest) s ∙ append_assoc vs ws rest) has.0) in
-      each_runs ts (ws ++ rest) rest ws (from_to p d.span) ds (runs_on ts mid (ws ++ rest) p d.span r one) refl k
+  each_runs ts mid rest us p (d ∷ ds) r e h =
+      let has = directive_has S h.front d h.first in
+      let one : Runs mid (h.back ++ rest) d.span =
+      subst (λ q. Runs mid (h.back ++ rest) q) (sym has.1)
+      (runs_of h.front mid (h.back ++ rest) (e ∙ row_before us rest h) has.0) in
+      each_runs ts (h.back ++ rest) rest h.back (from_to p d.span) ds (runs_on ts mid (h.back ++ rest) p d.span r one)
+      refl h.second
 
   spanned_runs : (ts rest us : List Lexeme) (ds : List (Directive C)) → ts ≡ us ++ rest → Each (IsDirective S) us ds
       → RunsOn ts rest (option_map (λ o. o.1) (spanned S ds))
   spanned_runs ts rest us [] e h = e ∙ ap (λ l. l ++ rest) h
-  spanned_runs ts rest us (d ∷ ds) e (vs, ws, s, h, k) =
-      let has = directive_has S vs d h in
-      each_runs ts (ws ++ rest) rest ws d.span ds
-      (subst (λ q. Runs ts (ws ++ rest) q) (sym has.1)
-      (runs_of vs ts (ws ++ rest) (e ∙ ap (λ l. l ++ rest) s ∙ append_assoc vs ws rest) has.0)) refl k
+  spanned_runs ts rest us (d ∷ ds) e h =
+      let has = directive_has S h.front d h.first in
+      each_runs ts (h.back ++ rest) rest h.back d.span ds
+      (subst (λ q. Runs ts (h.back ++ rest) q) (sym has.1)
+      (runs_of h.front ts (h.back ++ rest) (e ∙ row_before us rest h) has.0)) refl h.second
 
   pub directives_run : (ts : List Lexeme) (x : Option (List (Directive C) × Span) × List Lexeme)
       → directives_read S ts ≡ Ok x → RunsOn ts x.1 (option_map (λ o. o.1) x.0)

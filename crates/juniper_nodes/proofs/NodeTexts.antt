@@ -1,6 +1,6 @@
 -- The texts of a document's nodes are together no longer, in bytes, than its source, where what each scalar means is
 -- no longer than its token.
-use Rattle.std.proofs.Common.{◌≡◌, ℕ, ◌≤◌, None, List, [], ◌∷◌, ◌++◌, length, refl, sym, ap, ◌∙◌, arith, rules}
+use Rattle.std.proofs.Common.{◌≡◌, ℕ, ◌+◌, ◌≤◌, None, List, [], ◌∷◌, ◌++◌, length, refl, sym, ap, ◌∙◌, arith, rules}
 use Rattle.std.specs.Prelude.{codes, encode_utf8_all}
 use Rattle.std.specs.List.{sum_by}
 use Rattle.std.proofs.lemmas.List.{same_from_push}
@@ -8,7 +8,7 @@ use Rattle.std.proofs.lemmas.List.Sums.{sum_by-cons, sum_by-append}
 use Rattle.graphql_lexical.specs.declared.kind.Kind.{Kind}
 use Rattle.graphql_lexical.specs.Cutting.{Lexeme, Cut}
 use Rattle.graphql_grammar.specs.Tree.{TypeRef, NamedType, ListType, NonNullType, Definition}
-use Rattle.graphql_grammar.specs.Grammar.{IsType, IsDocument}
+use Rattle.graphql_grammar.specs.Grammar.{Sequence, IsType, IsDocument}
 use Rattle.graphql_nodes.specs.Nodes.{Node, Label, Unnamed, Named, OnType, Typed, document_nodes}
 use Rattle.graphql_nodes.specs.Types.{type_text}
 use Rattle.graphql_nodes.proofs.Measures.{IsUntyped, Weighs, document_front}
@@ -25,32 +25,33 @@ use Rattle.juniper_nodes.proofs.ShortContents.{ReadsShort}
 own_token : (t : Lexeme) → (1 ≤ weight t) × (size t.text ≤ weight t)
 own_token t = (omega arith, omega arith)
 
+own_weight : (ts : List Lexeme) (t : Lexeme) → ts ≡ t ∷ [] → (1 ≤ sum_by weight ts) × (size t.text ≤ sum_by weight ts)
+own_weight ts t e = let one = ap (sum_by weight) e ∙ sum_by-cons weight t [] in
+    (omega (arith, one, (own_token t).0), omega (arith, one, (own_token t).1))
+
+row_weight : {P Q : List Lexeme → Type 0} (ts : List Lexeme) (h : Sequence P Q ts)
+    → sum_by weight ts ≡ sum_by weight h.front + sum_by weight h.back
+row_weight ts h = ap (sum_by weight) h.whole ∙ sum_by-append weight h.front h.back
+
 type_is_short : (ts : List Lexeme) (type : TypeRef) → IsType ts type → size (type_text type) ≤ sum_by weight ts
 unfolding type_text
-type_is_short ts (NamedType name) (t, e, k, q) =
-    omega (arith, (own_token t).1, ap size q, ap (sum_by weight) e, sum_by-cons weight t [])
-type_is_short ts (ListType size_of type) (o, c, us, e, a, b, s, h) =
+type_is_short ts (NamedType name) h = omega (arith, (own_weight ts _ h.1).1)
+type_is_short ts (ListType size_of type) (h, s) =
     omega (
       arith,
-      type_is_short us type h,
-      (own_token o).0,
-      (own_token c).0,
-      ap (sum_by weight) e,
-      sum_by-cons weight o
-          (us ++ (c ∷ [])),
-      sum_by-append weight us (c ∷ []),
-      sum_by-cons weight c [],
-      size_joins (type_text type)
-          (codes "]"),
+      row_weight ts h,
+      row_weight h.back h.second,
+      (own_weight h.front _ h.first.2).0,
+      type_is_short h.second.front type h.second.first,
+      (own_weight h.second.back _ h.second.second.2).0,
+      size_joins (type_text type) (codes "]"),
     )
-type_is_short ts (NonNullType type) (us, m, e, k, p, h) =
+type_is_short ts (NonNullType type) (h, n) =
     omega (
       arith,
-      type_is_short us type h,
-      (own_token m).0,
-      ap (sum_by weight) e,
-      sum_by-append weight us (m ∷ []),
-      sum_by-cons weight m [],
+      row_weight ts h,
+      type_is_short h.front type h.first,
+      (own_weight h.back _ h.second.2).0,
       size_joins (type_text type) (codes "!"),
     )
 
