@@ -133,4 +133,5 @@ over_enclosed o c us = ap (over o) (sym (last_joined o c us []))
 pub enclosed_span : {P : List Lexeme → Type 0} (opening closing : Kind) (ts : List Lexeme)
     (h : Sequence (Is opening) (Sequence P (Is closing)) ts)
     → span_of ts ≡ over (token_in opening h.front h.first) (token_in closing h.second.back h.second.second)
-enclosed_span opening closing ts h = ap span_of (enclosed_is opening closing ts h) ∙ sym (over_enclosed _ _ h.second.front)
+enclosed_span opening closing ts h =
+    ap span_of (enclosed_is opening closing ts h) ∙ sym (over_enclosed _ _ h.second.front)
