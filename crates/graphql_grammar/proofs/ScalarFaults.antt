@@ -1,8 +1,9 @@
 -- Where a scalar token is refused as such: what the reader says to an opening bracket in its place.
-use Rattle.std.proofs.Common.{ℕ, zero, suc, Bool, true, false, ◌≡◌, ◌<◌, ◌∷◌, [], List, ◌++◌, length, refl, sym, ap, ◌∙◌, arith, append_assoc, subst, length-append, ◌⊎◌, inl, inr, Result, Ok, Err, codes, Option, Some, None}
+use Rattle.std.proofs.Common.{ℕ, zero, suc, Bool, true, false, ◌≡◌, ◌<◌, ◌∷◌, [], List, ◌++◌, length, refl, sym, ap, ◌∙◌, arith, append_assoc, subst, length-append, ◌⊎◌, ◌||◌, inl, inr, Result, Ok, Err, codes, Option, Some, None}
 use Rattle.graphql_lexical.specs.Place.{Span}
 use Rattle.graphql_lexical.specs.declared.kind.Kind.{Kind}
 use Rattle.graphql_lexical.specs.declared.kind.Kind.TheVariants.{Name, String, BlockString, Float, Int, ExclamationMark, Dollar, ParenOpen, ParenClose, BracketOpen, BracketClose, CurlyOpen, CurlyClose, Ellipsis, Colon, Equals, At, EndOfFile}
+use Rattle.graphql_lexical.specs.Kinds.{same_kind}
 use Rattle.graphql_lexical.specs.Cutting.{Lexeme}
 use Rattle.graphql_grammar.specs.Tokens.{Word, word_of, Text, span_of}
 use Rattle.graphql_grammar.specs.Reading.{Test, passes, of, word, Read, Took, Refused, Out, Reader, after, seq, done, fault_of, refuse, pick, on, want, many, look, choose, with_span, give_span, front, maybe, one_or_more, repeated, literal, scalar_token, value_at, key_and_value, variable_start, name_word, maybe_non_null, plain_type, type_at, spanned_type, other_than_on, braces, argument, arguments, directive, directives, default_value, variable_definition, variables, field_name, may_select, field_with, inline_tail, spread_with, selection_at, operation_word, operation_with, fragment_with, definition, document}
@@ -63,6 +64,34 @@ passes_no_value test a b c d e = record { scalar = by_kind; bracket = e }
     by_kind k w (inr (inl x)) = ap (λ (z : Kind). test z w) x ∙ b w
     by_kind k w (inr (inr (inl x))) = ap (λ (z : Kind). test z w) x ∙ c w
     by_kind k w (inr (inr (inr x))) = ap (λ (z : Kind). test z w) x ∙ d w
+
+-- some value begins with a token of this kind that is no Name
+abbrev starts_value : Kind → Bool
+starts_value k = same_kind String k || same_kind BlockString k || same_kind Float k || same_kind Int k
+    || same_kind BracketOpen k
+
+no_value_by : (k : Kind) → starts_value k ≡ false → PassesNoValue (of k)
+no_value_by k h =
+    let n = none (same_kind String k) (same_kind BlockString k) (same_kind Float k) (same_kind Int k)
+    (same_kind BracketOpen k) h in
+    passes_no_value (of k) (λ w. n.0) (λ w. n.1) (λ w. n.2) (λ w. n.3) (λ w. n.4)
+  where
+    none : (a b c d e : Bool) → (a || b || c || d || e) ≡ false
+        → (a ≡ false) × (b ≡ false) × (c ≡ false) × (d ≡ false) × (e ≡ false)
+    none true b c d e h = absurd (cc h)
+    none false true c d e h = absurd (cc h)
+    none false false true d e h = absurd (cc h)
+    none false false false true e h = absurd (cc h)
+    none false false false false e h = (refl, refl, refl, refl, h)
+
+no_value_by_word : (text : Text) → PassesNoValue (word text)
+no_value_by_word text = passes_no_value (word text) (λ w. refl) (λ w. refl) (λ w. refl) (λ w. refl) (λ w. refl)
+
+no_value_by_other : PassesNoValue other_than_on
+no_value_by_other = passes_no_value other_than_on (λ w. refl) (λ w. refl) (λ w. refl) (λ w. refl) (λ w. refl)
+
+no_value_by_operation : PassesNoValue operation_word
+no_value_by_operation = passes_no_value operation_word (λ w. refl) (λ w. refl) (λ w. refl) (λ w. refl) (λ w. refl)
 
 module _ {C F : Type 0} (S : Scalars C F) where
   abbrev pub IsScalarFault : Lexeme → Fault F → Type 0
@@ -217,6 +246,11 @@ module _ {C F : Type 0} (S : Scalars C F) where
     unfolding seq
     seq_tells r g = record { at = λ ts. seq_tell ts (f ts) (r.at ts) g }
 
+  -- what is read, made into something else
+  pub map_tells : {A B : Type 0} (f : Reader F A) (k : A → B) → TellsFaults true f
+      → TellsFaults true (seq f (λ x. done (k x)))
+  map_tells f k r = seq_tells true f _ r (λ x. done_tells true (k x))
+
   -- on
   module _ {A : Type 0} (b : Bool) (test : Test) (k : Lexeme → Reader F A) (g : Reader F A) where
     push : (t : Lexeme) (ts : List Lexeme) (r : Read F A) → passes test t ≡ true → TellsFault false (k t) ts r
@@ -308,6 +342,11 @@ module _ {C F : Type 0} (S : Scalars C F) where
   pub want_tells : {A : Type 0} (test : Test) (k : Lexeme → Reader F A) → PassesNoValue test
       → ((u : Lexeme) → TellsFaults true (k u)) → TellsFaults true (seq (want test) k)
   want_tells test k bl hk = want_type test k bl (λ u. weak (k u) (hk u))
+
+  -- a token of a kind with which no value begins, and then
+  pub kind_tells : {A : Type 0} (j : Kind) → starts_value j ≡ false → (k : Lexeme → Reader F A)
+      → ((u : Lexeme) → TellsFaults true (k u)) → TellsFaults true (seq (want (of j)) k)
+  kind_tells j h k hk = want_tells (of j) k (no_value_by j h) hk
 
   -- look
   module _ {A : Type 0} (test : Test) (f g : Reader F A) (bl : PassesNoValue test) (hf : TellsFaults true f)
@@ -416,7 +455,8 @@ module _ {C F : Type 0} (S : Scalars C F) where
 
   -- values
   literal_tell : (h : Reader F (Value C)) (t : Lexeme) (ts : List Lexeme) (z : Result C F)
-      → passes scalar_token t ≡ true → S.read t.kind t.text ≡ z → ((us : List Lexeme) → h (t ∷ us) ≡ literal S (t ∷ us))
+      → passes scalar_token t ≡ true → S.read t.kind t.text ≡ z → ((us : List Lexeme) → h (t ∷ us) ≡ literal S (t ∷
+      us))
       → TellsFault true h (t ∷ ts) (h (t ∷ ts))
   literal_tell h t ts (Ok c) e q same = subst (λ r. TellsFault true h (t ∷ ts) r)
       (sym (same ts ∙ literal_ok S t ts c e q)) (t ∷ [], refl, λ other x. same other ∙ literal_ok S t other c e q)
@@ -447,16 +487,9 @@ module _ {C F : Type 0} (S : Scalars C F) where
       by_head (u ∷ us) (inl x) = literal_other S u us (ap (passes scalar_token) x ∙ e)
       by_head (u ∷ us) (inr x) = absurd (not_scalar t e x.0)
 
-  no_value_by_name : PassesNoValue (of Name)
-  no_value_by_name = passes_no_value (of Name) (λ w. refl) (λ w. refl) (λ w. refl) (λ w. refl) (λ w. refl)
-
-  no_value_by_of_colon : PassesNoValue (of Colon)
-  no_value_by_of_colon = passes_no_value (of Colon) (λ w. refl) (λ w. refl) (λ w. refl) (λ w. refl) (λ w. refl)
-
   pub field_tells : (f : Reader F (Value C)) → TellsFaults true f → TellsFaults true (key_and_value f)
   unfolding key_and_value
-  field_tells f r = want_tells (of Name) _ no_value_by_name (λ k.
-      want_tells (of Colon) _ no_value_by_of_colon (λ c. seq_tells true f _ r (λ v. done_tells true _)))
+  field_tells f r = kind_tells Name refl _ (λ k. kind_tells Colon refl _ (λ c. map_tells f _ r))
 
   value_one : (free : Bool) (n : ℕ) (r : TellsFaults true (value_at S free n)) (t : Lexeme) (ts : List Lexeme)
       (v : Bool) → passes scalar_token t ≡ v → TellsFault true (value_at S free (suc n)) (t ∷ ts)
@@ -466,15 +499,14 @@ module _ {C F : Type 0} (S : Scalars C F) where
       (value_literal free n t (is_scalar_kind t e))
   value_one free n r t ts false e =
       on_at true (of BracketOpen) _ _ t ts (passes (of BracketOpen) t) refl (λ s. absurd (not_scalar t e s))
-      (λ c. no_curly c) (λ u q. weak _ (seq_tells true _ _ (many_tells (of BracketClose) _ n
-      (passes_no_value (of BracketClose) (λ w. refl) (λ w. refl) (λ w. refl) (λ w. refl) (λ w. refl)) r)
-      (λ x. done_tells true _)))
+      (λ c. no_curly c) (λ u q. weak _
+      (map_tells _ _ (many_tells (of BracketClose) _ n (no_value_by BracketClose refl) r)))
       (on_at true (of CurlyOpen) _ _ t ts (passes (of CurlyOpen) t) refl (λ s. absurd (not_scalar t e s))
-      (λ c. no_curly c) (λ u q. weak _ (seq_tells true _ _ (many_tells (of CurlyClose) _ n
-      (passes_no_value (of CurlyClose) (λ w. refl) (λ w. refl) (λ w. refl) (λ w. refl) (λ w. refl))
-      (field_tells _ r)) (λ x. done_tells true _)))
-      (on_at true (variable_start free) _ _ t ts (passes (variable_start free) t) refl (λ s. absurd (not_scalar t e s))
-      (λ c. no_curly c) (λ u q. weak _ (want_tells (of Name) _ no_value_by_name (λ x. done_tells true _)))
+      (λ c. no_curly c) (λ u q. weak _ (map_tells _ _ (many_tells (of CurlyClose) _ n (no_value_by CurlyClose refl)
+      (field_tells _ r))))
+      (on_at true (variable_start free) _ _ t ts (passes (variable_start free) t) refl
+      (λ s. absurd (not_scalar t e s))
+      (λ c. no_curly c) (λ u q. weak _ (kind_tells Name refl _ (λ x. done_tells true _)))
       (on_at true (of Name) _ _ t ts (passes (of Name) t) refl (λ s. absurd (not_scalar t e s)) (λ c. no_curly c)
       (λ u q. done_tells false _)
       (other_literal t ts e))))
@@ -512,17 +544,17 @@ module _ {C F : Type 0} (S : Scalars C F) where
 
   maybe_non_null_tells : (x : TypeRef) → TellsFaults true (maybe_non_null {F = F} x)
   unfolding maybe_non_null
-  maybe_non_null_tells x = on_tells (of ExclamationMark) _ _ (passes_no_value (of ExclamationMark) (λ w. refl)
-      (λ w. refl) (λ w. refl) (λ w. refl) (λ w. refl)) (λ u. done_tells true _) (done_tells true _)
+  maybe_non_null_tells x = on_tells (of ExclamationMark) _ _ (no_value_by ExclamationMark refl)
+      (λ u. done_tells true _) (done_tells true _)
 
   plain_tells : (inner : Reader F TypeRef) → TellsFaults false inner → TellsFaults false (plain_type inner)
   unfolding plain_type
-  plain_tells inner r = on_turns_by false (of Name) _ _ no_value_by_name (λ c w. refl) (λ u e. done_tells false _)
+  plain_tells inner r = on_turns_by false (of Name) _ _ (no_value_by Name refl) (λ c w. refl)
+      (λ u e. done_tells false _)
       (same_tells false (on (of BracketOpen) _ refuse) _ (want_on (of BracketOpen) _)
       (record {
         at = λ ts. bracket_on _ ts (λ o. seq_tells false inner _ r
-            (λ x. want_tells (of BracketClose) _ (passes_no_value (of BracketClose) (λ w. refl) (λ w. refl) (λ w. refl)
-            (λ w. refl) (λ w. refl)) (λ c. done_tells true _)));
+            (λ x. kind_tells BracketClose refl _ (λ c. done_tells true _)));
       }))
 
   pub type_tells : (n : ℕ) → TellsFaults false (type_at {F = F} n)
@@ -536,112 +568,79 @@ module _ {C F : Type 0} (S : Scalars C F) where
 
   -- documents
   module _ (n : ℕ) where
-    no_value_by_at : PassesNoValue (of At)
-    no_value_by_at = passes_no_value (of At) (λ w. refl) (λ w. refl) (λ w. refl) (λ w. refl) (λ w. refl)
-
-    no_value_by_paren : PassesNoValue (of ParenOpen)
-    no_value_by_paren = passes_no_value (of ParenOpen) (λ w. refl) (λ w. refl) (λ w. refl) (λ w. refl) (λ w. refl)
-
-    no_value_by_close : PassesNoValue (of ParenClose)
-    no_value_by_close = passes_no_value (of ParenClose) (λ w. refl) (λ w. refl) (λ w. refl) (λ w. refl) (λ w. refl)
-
-    no_value_by_colon : PassesNoValue (of Colon)
-    no_value_by_colon = passes_no_value (of Colon) (λ w. refl) (λ w. refl) (λ w. refl) (λ w. refl) (λ w. refl)
-
-    no_value_by_curly : PassesNoValue (of CurlyOpen)
-    no_value_by_curly = passes_no_value (of CurlyOpen) (λ w. refl) (λ w. refl) (λ w. refl) (λ w. refl) (λ w. refl)
-
     argument_tells : TellsFaults true (argument S n)
     unfolding argument
-    argument_tells = want_tells (of Name) _ no_value_by_name (λ k.
-        want_tells (of Colon) _ no_value_by_colon
-        (λ c. seq_tells true _ _ (value_tells true n) (λ v. done_tells true _)))
+    argument_tells = kind_tells Name refl _ (λ k. kind_tells Colon refl _ (λ c. map_tells _ _ (value_tells true n)))
 
     arguments_tells : TellsFaults true (arguments S n)
     unfolding arguments
-    arguments_tells = span_tells true _ (want_tells (of ParenOpen) _ no_value_by_paren
-        (λ o. seq_tells true _ _ (one_or_more_tells (of ParenClose) _ n no_value_by_close argument_tells)
-        (λ xs. done_tells true _)))
+    arguments_tells = span_tells true _ (kind_tells ParenOpen refl _ (λ o.
+        map_tells _ _ (one_or_more_tells (of ParenClose) _ n (no_value_by ParenClose refl) argument_tells)))
 
     directive_tells : TellsFaults true (directive S n)
     unfolding directive
-    directive_tells = span_tells true _ (want_tells (of At) _ no_value_by_at
-        (λ a. want_tells (of Name) _ no_value_by_name
-        (λ t. seq_tells true _ _ (maybe_tells (of ParenOpen) _ no_value_by_paren arguments_tells)
-        (λ xs. done_tells true _))))
+    directive_tells = span_tells true _ (kind_tells At refl _ (λ a. kind_tells Name refl _ (λ t.
+        map_tells _ _ (maybe_tells (of ParenOpen) _ (no_value_by ParenOpen refl) arguments_tells))))
 
     directives_tells : TellsFaults true (directives S n)
     unfolding directives
-    directives_tells = seq_tells true _ _ (repeated_tells (of At) _ n no_value_by_at directive_tells)
-        (λ ds. done_tells true _)
+    directives_tells = map_tells _ _ (repeated_tells (of At) _ n (no_value_by At refl) directive_tells)
 
     default_tells : TellsFaults true (default_value S n)
     unfolding default_value
-    default_tells = want_tells (of Equals) _ (passes_no_value (of Equals) (λ w. refl) (λ w. refl) (λ w. refl)
-        (λ w. refl) (λ w. refl)) (λ e. value_tells false n)
+    default_tells = kind_tells Equals refl _ (λ e. value_tells false n)
 
     -- after the colon a type, which refuses `{`
     variable_tells : TellsFaults true (variable_definition S n)
     unfolding variable_definition
-    variable_tells = want_tells (of Dollar) _ (passes_no_value (of Dollar) (λ w. refl) (λ w. refl) (λ w. refl)
-        (λ w. refl) (λ w. refl)) (λ d. want_tells (of Name) _ no_value_by_name
-        (λ t. want_type (of Colon) _ no_value_by_colon (λ c.
-        seq_tells false _ _ (spanned_tells n) (λ x. seq_tells true _ _
-        (maybe_tells (of Equals) _ (passes_no_value (of Equals) (λ w. refl) (λ w. refl) (λ w. refl) (λ w. refl)
-        (λ w. refl)) default_tells) (λ v. seq_tells true _ _ directives_tells (λ ds. done_tells true _))))))
+    variable_tells = kind_tells Dollar refl _ (λ d. kind_tells Name refl _ (λ t.
+        want_type (of Colon) _ (no_value_by Colon refl) (λ c. seq_tells false _ _ (spanned_tells n) (λ x.
+        seq_tells true _ _ (maybe_tells (of Equals) _ (no_value_by Equals refl) default_tells)
+        (λ v. map_tells _ _ directives_tells)))))
 
     variables_tells : TellsFaults true (variables S n)
     unfolding variables
-    variables_tells = span_tells true _ (want_tells (of ParenOpen) _ no_value_by_paren
-        (λ o. seq_tells true _ _ (one_or_more_tells (of ParenClose) _ n no_value_by_close variable_tells)
-        (λ xs. done_tells true _)))
+    variables_tells = span_tells true _ (kind_tells ParenOpen refl _ (λ o.
+        map_tells _ _ (one_or_more_tells (of ParenClose) _ n (no_value_by ParenClose refl) variable_tells)))
 
     field_name_tells : TellsFaults true (field_name S n)
     unfolding field_name
-    field_name_tells = want_tells (of Name) _ no_value_by_name (λ a.
-        on_tells (of Colon) _ _ no_value_by_colon
-        (λ c. want_tells (of Name) _ no_value_by_name (λ t. done_tells true _)) (done_tells true _))
+    field_name_tells = kind_tells Name refl _ (λ a. on_tells (of Colon) _ _ (no_value_by Colon refl)
+        (λ c. kind_tells Name refl _ (λ t. done_tells true _)) (done_tells true _))
 
     module _ (f : Reader F (Selection C)) (r : TellsFaults true f) where
       braces_tells : TellsFaults true (braces f n)
       unfolding braces
-      braces_tells = want_tells (of CurlyOpen) _ no_value_by_curly
-          (λ o. seq_tells true _ _ (one_or_more_tells (of CurlyClose) _ n
-          (passes_no_value (of CurlyClose) (λ w. refl) (λ w. refl) (λ w. refl) (λ w. refl) (λ w. refl)) r)
-          (λ xs. done_tells true _))
+      braces_tells = kind_tells CurlyOpen refl _ (λ o.
+          map_tells _ _ (one_or_more_tells (of CurlyClose) _ n (no_value_by CurlyClose refl) r))
 
       may_tells : TellsFaults true (may_select S n f)
       unfolding may_select
-      may_tells = look_tells (of CurlyOpen) _ _ no_value_by_curly
-          (seq_tells true _ _ braces_tells (λ ss. done_tells true _)) (done_tells true _)
+      may_tells = look_tells (of CurlyOpen) _ _ (no_value_by CurlyOpen refl)
+          (map_tells _ _ braces_tells) (done_tells true _)
 
       field_with_tells : TellsFaults true (field_with S n f)
       unfolding field_with
       field_with_tells = seq_tells true _ _ field_name_tells (λ h.
-          seq_tells true _ _ (maybe_tells (of ParenOpen) _ no_value_by_paren arguments_tells)
-          (λ xs. seq_tells true _ _ directives_tells (λ ds. seq_tells true _ _ may_tells (λ ss. done_tells true _))))
+          seq_tells true _ _ (maybe_tells (of ParenOpen) _ (no_value_by ParenOpen refl) arguments_tells)
+          (λ xs. seq_tells true _ _ directives_tells (λ ds. map_tells _ _ may_tells)))
 
       inline_tells : (w : Option Word) → TellsFaults true (inline_tail S n w f)
       unfolding inline_tail
       inline_tells w = seq_tells true _ _ directives_tells (λ ds.
-          seq_tells true _ _ braces_tells (λ ss. done_tells true _))
+          map_tells _ _ braces_tells)
 
       spread_tells : TellsFaults true (spread_with S n f)
       unfolding spread_with
-      spread_tells = want_tells (of Ellipsis) _ (passes_no_value (of Ellipsis) (λ w. refl) (λ w. refl) (λ w. refl)
-          (λ w. refl) (λ w. refl)) (λ e.
-          on_tells (word (codes "on")) _ _ (passes_no_value (word (codes "on")) (λ w. refl) (λ w. refl) (λ w. refl)
-          (λ w. refl) (λ w. refl)) (λ o. want_tells (of Name) _ no_value_by_name
-          (λ t. inline_tells (Some (word_of t))))
-          (on_tells other_than_on _ _ (passes_no_value other_than_on (λ w. refl) (λ w. refl) (λ w. refl) (λ w. refl)
-          (λ w. refl)) (λ t. seq_tells true _ _ directives_tells (λ ds. done_tells true _))
-          (inline_tells None)))
+      spread_tells = kind_tells Ellipsis refl _ (λ e. on_tells (word (codes "on")) _
+          _ (no_value_by_word (codes "on")) (λ o. kind_tells Name refl _ (λ t. inline_tells (Some (word_of t))))
+          (on_tells other_than_on _ _ no_value_by_other (λ t. map_tells _ _ directives_tells) (inline_tells None)))
 
   selection_tells : (n : ℕ) → TellsFaults true (selection_at S n)
   unfolding selection_at
   selection_tells zero = out_tells (selection_at S zero) (λ ts. refl)
   selection_tells (suc n) = span_tells true _ (look_tells (of Ellipsis) _ _
-      (passes_no_value (of Ellipsis) (λ w. refl) (λ w. refl) (λ w. refl) (λ w. refl) (λ w. refl))
+      (no_value_by Ellipsis refl)
       (spread_tells n _ (selection_tells n)) (field_with_tells n _ (selection_tells n)))
 
   module _ (n : ℕ) where
@@ -650,34 +649,30 @@ module _ {C F : Type 0} (S : Scalars C F) where
 
     name_tells : TellsFaults true (name_word {F = F})
     unfolding name_word
-    name_tells = want_tells (of Name) _ no_value_by_name (λ t. done_tells true _)
+    name_tells = kind_tells Name refl _ (λ t. done_tells true _)
 
     operation_tells : (w : Lexeme) → TellsFaults true (operation_with S n w)
     unfolding operation_with
-    operation_tells w = seq_tells true _ _ (maybe_tells (of Name) _ no_value_by_name name_tells)
-        (λ name. seq_tells true _ _ (maybe_tells (of ParenOpen) _ (no_value_by_paren n) (variables_tells n))
+    operation_tells w = seq_tells true _ _ (maybe_tells (of Name) _ (no_value_by Name refl) name_tells)
+        (λ name. seq_tells true _ _ (maybe_tells (of ParenOpen) _ (no_value_by ParenOpen refl) (variables_tells n))
         (λ vars. seq_tells true _ _ (directives_tells n)
-        (λ ds. seq_tells true _ _ body_tells (λ ss. done_tells true _))))
+        (λ ds. map_tells _ _ body_tells)))
 
     fragment_tells : TellsFaults true (fragment_with S n)
     unfolding fragment_with
-    fragment_tells = want_tells other_than_on _ (passes_no_value other_than_on (λ w. refl) (λ w. refl) (λ w. refl)
-        (λ w. refl) (λ w. refl)) (λ a. want_tells (word (codes "on")) _
-        (passes_no_value (word (codes "on")) (λ w. refl) (λ w. refl) (λ w. refl) (λ w. refl) (λ w. refl))
-        (λ o. want_tells (of Name) _ no_value_by_name (λ t.
-        seq_tells true _ _ (directives_tells n) (λ ds. seq_tells true _ _ body_tells (λ ss. done_tells true _)))))
+    fragment_tells = want_tells other_than_on _ no_value_by_other (λ a. want_tells (word (codes "on")) _
+        (no_value_by_word (codes "on"))
+        (λ o. kind_tells Name refl _ (λ t. seq_tells true _ _ (directives_tells n) (λ ds. map_tells _ _ body_tells))))
 
     definition_tells : TellsFaults true (definition S n)
     unfolding definition
     definition_tells = span_tells true _
-        (on_tells operation_word _ _ (passes_no_value operation_word (λ w. refl) (λ w. refl) (λ w. refl) (λ w. refl)
-        (λ w. refl)) operation_tells
+        (on_tells operation_word _ _ no_value_by_operation operation_tells
         (on_tells (word (codes "fragment")) _ _
-        (passes_no_value (word (codes "fragment")) (λ w. refl) (λ w. refl) (λ w. refl) (λ w. refl) (λ w. refl))
+        (no_value_by_word (codes "fragment"))
         (λ w. fragment_tells)
-        (seq_tells true _ _ body_tells (λ ss. done_tells true _))))
+        (map_tells _ _ body_tells)))
 
     pub document_tells : TellsFaults true (document S n)
     unfolding document
-    document_tells = one_or_more_tells (of EndOfFile) _ n (passes_no_value (of EndOfFile) (λ w. refl) (λ w. refl)
-        (λ w. refl) (λ w. refl) (λ w. refl)) definition_tells
+    document_tells = one_or_more_tells (of EndOfFile) _ n (no_value_by EndOfFile refl) definition_tells
