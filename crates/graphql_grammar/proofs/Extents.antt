@@ -4,7 +4,7 @@ use Rattle.graphql_lexical.specs.Place.{Span}
 use Rattle.graphql_lexical.specs.declared.kind.Kind.{Kind}
 use Rattle.graphql_lexical.specs.declared.kind.Kind.TheVariants.{At}
 use Rattle.graphql_lexical.specs.Cutting.{Lexeme}
-use Rattle.graphql_grammar.specs.Tokens.{over, last_of, span_of}
+use Rattle.graphql_grammar.specs.Tokens.{over, last_of, span_of, from_to}
 use Rattle.graphql_grammar.specs.Tree.{Scalars, Arguments, Directive, Variables}
 use Rattle.graphql_grammar.specs.Grammar.{IsArguments, IsDirective, IsVariables, Listed}
 use Rattle.graphql_grammar.specs.Reading.{Test, Took, Reader, front, fully}
@@ -20,9 +20,6 @@ pub record Runs (ts rest : List Lexeme) (p : Span) : Type 0 where
 
 pub runs_one : (t : Lexeme) (ts rest : List Lexeme) → ts ≡ t ∷ rest → Runs ts rest t.span
 runs_one t ts rest e = record { first = t; inner = []; whole = e; span = refl }
-
-abbrev pub from_to : Span → Span → Span
-from_to a b = record { start = a.start; end = b.end }
 
 pub runs_on : (ts mid rest : List Lexeme) (p q : Span) → Runs ts mid p → Runs mid rest q → Runs ts rest (from_to p q)
 runs_on ts mid rest p q a b = record {
@@ -47,10 +44,6 @@ runs_of (u ∷ us) ts rest e h = record { first = u; inner = us; whole = e; span
 abbrev pub RunsOn : List Lexeme → List Lexeme → Option Span → Type 0
 RunsOn ts rest None = ts ≡ rest
 RunsOn ts rest (Some p) = Runs ts rest p
-
-abbrev pub to_end_of : Span → Option Span → Span
-to_end_of p None = p
-to_end_of p (Some q) = from_to p q
 
 module _ {F A : Type 0} (f : ℕ → Reader F A) (R : List Lexeme → A → Type 0) (rule : (n : ℕ) → Rule n (f n) (f n) R)
   where

@@ -9,7 +9,7 @@ use Rattle.graphql_lexical.specs.Cutting.{Lexeme}
 use Rattle.graphql_grammar.specs.Tokens.{Word, Text, span_of}
 use Rattle.graphql_grammar.specs.Reading.{Test, passes, of, Read, Took, Reader, after, seq, done, on, want, many, look, choose, maybe, with_span, give_span, one_or_more}
 use Rattle.graphql_grammar.specs.Grammar.{Is, IsWord, Says, Sequence, ◌·◌, ◌for◌, Each, Optional, Listed}
-use Rattle.graphql_grammar.proofs.Sequences.{one_takes, back_takes, row_length, row_before, row_right}
+use Rattle.graphql_grammar.proofs.Sequences.{row_as, one_takes, back_takes, row_length, row_before, row_right}
 use Rattle.graphql_grammar.proofs.Rules.{on_passed, on_failed, want_passed, front_is}
 
 -- ---- what is found, and what follows
@@ -238,7 +238,7 @@ done_found = record { at = λ ts rest le h g. rw h }
 
 pub last_one : {P : List Lexeme → Type 0} {k : Kind} (ts : List Lexeme) (h : Sequence P (Is k) ts)
     → Sequence P (Only (token k h.second.0 h.second.1)) ts
-last_one ts h = record { front = h.front; back = h.back; whole = h.whole; first = h.first; second = h.second.2 }
+last_one ts h = row_as h h.first h.second.2
 
 -- where a row begins or ends with one token, the reader may be told which
 module _ {F A : Type 0} {n : ℕ} {f : Reader F A} {Q After : List Lexeme → Type 0} {a : A} where
@@ -246,14 +246,14 @@ module _ {F A : Type 0} {n : ℕ} {f : Reader F A} {Q After : List Lexeme → Ty
       → Finds n f (Is k · Q) After a
   is_found q = record {
     at = λ ts rest le h g. (q h.first.0 h.first.1).at ts rest le
-        (record { front = h.front; back = h.back; whole = h.whole; first = h.first.2; second = h.second }) g;
+        (row_as h h.first.2 h.second) g;
   }
 
   pub says_found : {w : Text} → ((p : Span) → Finds n f (Only (token Name w p) · Q) After a)
       → Finds n f (Says w · Q) After a
   says_found q = record {
     at = λ ts rest le h g. (q h.first.0).at ts rest le
-        (record { front = h.front; back = h.back; whole = h.whole; first = h.first.1; second = h.second }) g;
+        (row_as h h.first.1 h.second) g;
   }
 
   pub closed_found : {k : Kind} → ((w : Text) (p : Span) → Finds n f (Q · Only (token k w p)) After a)

@@ -96,16 +96,14 @@ pub enclosed_is : {P : List Lexeme → Type 0} (opening closing : Kind) (ts : Li
 enclosed_is opening closing ts h =
     h.whole ∙ ap₂ (λ us vs. us ++ vs) h.first.2 (ended_is closing h.back h.second)
 
--- Each part of a row may be taken for another one.
+-- the same parts, taken for others
+pub row_as : {P Q P' Q' : List Lexeme → Type 0} {ts : List Lexeme} (h : Sequence P Q ts) → P' h.front → Q' h.back
+    → Sequence P' Q' ts
+row_as h p q = record { front = h.front; back = h.back; whole = h.whole; first = p; second = q }
+
 pub row_map : {P Q P' Q' : List Lexeme → Type 0} → ((us : List Lexeme) → P us → P' us)
     → ((us : List Lexeme) → Q us → Q' us) → (ts : List Lexeme) → Sequence P Q ts → Sequence P' Q' ts
-row_map f g ts h = record {
-  front = h.front;
-  back = h.back;
-  whole = h.whole;
-  first = f h.front h.first;
-  second = g h.back h.second;
-}
+row_map f g ts h = row_as h (f h.front h.first) (g h.back h.second)
 
 pub row_front : {P Q P' : List Lexeme → Type 0} → ((us : List Lexeme) → P us → P' us) → (ts : List Lexeme)
     → Sequence P Q ts → Sequence P' Q ts

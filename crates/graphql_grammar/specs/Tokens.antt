@@ -1,5 +1,5 @@
 -- Tokens, as the grammar sees them.
-use Rattle.std.specs.Prelude.{ℕ, ◌≡◌, ◌⊎◌, List, [], ◌∷◌}
+use Rattle.std.specs.Prelude.{ℕ, ◌≡◌, ◌⊎◌, List, [], ◌∷◌, Option, Some, None}
 use Rattle.graphql_lexical.specs.declared.kind.Kind.TheVariants.{EndOfFile}
 use Rattle.graphql_lexical.specs.Place.{Span}
 use Rattle.graphql_lexical.specs.Tokens.{Spells, text_of}
@@ -32,7 +32,16 @@ nowhere = record { start = record { index = 0; line = 0; column = 0 }; end = rec
 -- From the start of the first token to the end of the last. No node of a tree is an empty list of tokens.
 abbrev pub span_of : List Lexeme → Span
 span_of [] = nowhere
-span_of (t ∷ ts) = over t (last_of t ts)
+span_of (t ∷ ts) = record { start = t.span.start; end = (last_of t ts).span.end }
+
+-- from the start of one span to the end of another
+abbrev pub from_to : Span → Span → Span
+from_to a b = record { start = a.start; end = b.end }
+
+-- to the end of a part that may follow
+abbrev pub to_end_of : Span → Option Span → Span
+to_end_of p None = p
+to_end_of p (Some q) = from_to p q
 
 -- Some text spells the token, or it is the end, which has no text.
 abbrev pub IsSpelled : Lexeme → Type 0

@@ -4,14 +4,14 @@ use Rattle.std.proofs.Common.{ℕ, Bool, true, false, ◌≡◌, ◌≤◌, ◌�
 use Rattle.std.specs.List.{sum_by}
 use Rattle.std.proofs.lemmas.List.Sums.{sum_by-cons, sum_by-append}
 use Rattle.graphql_lexical.specs.declared.kind.Kind.{Kind}
-use Rattle.graphql_lexical.specs.declared.kind.Kind.TheVariants.{Name, Dollar, At, CurlyOpen, CurlyClose, Ellipsis, EndOfFile}
+use Rattle.graphql_lexical.specs.declared.kind.Kind.TheVariants.{Name, Dollar, At, CurlyOpen, Ellipsis, EndOfFile}
 use Rattle.graphql_lexical.specs.Place.{Span}
 use Rattle.graphql_lexical.specs.Cutting.{Lexeme}
 use Rattle.graphql_grammar.specs.Tokens.{Text, Word}
 use Rattle.graphql_grammar.specs.Tree as tree
 use Rattle.graphql_grammar.specs.Tree.{Scalars, TypeRef, Value, Items, no_items, item, ObjectFields, no_fields, object_field, Argument, Arguments, Directive, Directives, VariableDefinition, Variables, Selection, Selections, no_selections, selection, OptionalSelections, absent, present, OperationType, Definition}
 use Rattle.graphql_grammar.specs.Grammar.{IsToken, Is, IsWord, Says, IsScalarKind, Sequence, IsValue, AreItems, AreFields, Each, Optional, Several, Listed, IsType, IsArgument, IsArguments, IsDirective, IsDirectives, IsDefault, IsVariableDefinition, IsVariables, IsAlias, IsSelection, IsOptionalSelectionSet, IsSelectionSet, AreSelections, IsDefinition, IsDocument}
-use Rattle.graphql_grammar.proofs.Sequences.{token_in, name_in, row_map, row_right}
+use Rattle.graphql_grammar.proofs.Sequences.{token_in, name_in, row_front, row_right}
 use Rattle.graphql_nodes.specs.declared.kind.NodeKind.{NodeKind}
 use Rattle.graphql_nodes.specs.declared.kind.NodeKind.TheVariants as kind
 use Rattle.graphql_nodes.specs.Nodes.{Node, Label, Unnamed, Named, OnType, Typed, name_of, over, scalar_node, if_present, each, value_nodes, items_nodes, fields_nodes, argument_nodes, arguments_nodes, directive_nodes, directives_nodes, variable_nodes, variables_nodes, alias_nodes, selection_nodes, optional_nodes, selections_nodes, definition_nodes, document_nodes}
@@ -250,7 +250,7 @@ module _ {C F : Type 0} (S : Scalars C F) (measure : Node C → ℕ) (weight : L
       → Within ts (variable_nodes v)
   unfolding variable_nodes
   variable_within ts v h =
-      let dollar = row_right ts (row_map (λ us k. k.0) (λ us k. k) ts h) in
+      let dollar = row_right ts (row_front (λ us k. k.0) ts h) in
       headed ts dollar (is_one Dollar) _ _ _ _ tt (λ name. behind dollar.back name _ (λ colon. behind name.back colon _
       (λ type. joined colon.back type _ _ (λ t. type_within type.front v.of_type v.type_span t.0)
       (λ rest. joined type.back rest _ _

@@ -6,7 +6,7 @@ use Rattle.graphql_lexical.specs.declared.kind.Kind.{Kind}
 use Rattle.graphql_lexical.specs.declared.kind.Kind.TheVariants.{At, EndOfFile}
 use Rattle.graphql_lexical.specs.Kinds.{same_kind}
 use Rattle.graphql_lexical.specs.Cutting.{Lexeme}
-use Rattle.graphql_grammar.specs.Tokens.{span_of}
+use Rattle.graphql_grammar.specs.Tokens.{span_of, from_to, to_end_of}
 use Rattle.graphql_grammar.specs.Samples.{sample, IsSample}
 use Rattle.graphql_grammar.specs.Reading.{of, passes, Reader, seq, done, want, many, one_or_more, maybe, with_span, front, fully}
 use Rattle.graphql_grammar.proofs.Fuel.{Grows}
@@ -16,8 +16,7 @@ use Rattle.graphql_grammar.proofs.Extents.{Runs, RunsOn, runs_on, took_is, took_
 use Rattle.juniper_tokens.specs.Errors.{Error}
 use Rattle.juniper_tokens.specs.Cursor.{Read, ◌>>=◌, kind_at, next_if, skip_if}
 use Rattle.juniper.specs.Seen.{seen}
-use Rattle.juniper.specs.Values.{from_to, closed_by, then_others}
-use Rattle.juniper.specs.Parts.{to_end_of}
+use Rattle.juniper.specs.Values.{closed_by, then_others}
 use Rattle.juniper.proofs.Stepping.{bind_assoc, bind_same, bind_given, seq_as, want_as, look_as, seen_span, seen_took}
 use Rattle.juniper.proofs.Cursors.{ok_is, bind_ok, next_runs, at_span}
 use Rattle.juniper.proofs.Loops.{Repeats, RepeatsSome, some_repeats}

@@ -3,6 +3,7 @@ use Rattle.std.proofs.Common.{◌≡◌, ◌-◌, ℕ, List, [], ◌∷◌, leng
 use Rattle.std.specs.Prelude.{option_map, slice_get, IfSome}
 use Rattle.std.specs.Global.{Vec}
 use Rattle.graphql_lexical.specs.Place.{Place, Span}
+use Rattle.graphql_grammar.specs.Tokens.{to_end_of}
 use Rattle.graphql_grammar.specs.Tree.{Scalars}
 use Rattle.juniper_tokens.specs.declared.span.Span.{Span as SpanOf}
 use Rattle.juniper_tokens.specs.Errors.{Error}
@@ -10,7 +11,7 @@ use Rattle.juniper_tokens.specs.Spans.{view_span, covering_span, span_between}
 use Rattle.juniper_tokens.specs.declared.span.Spanning.{Spanning}
 use Rattle.juniper.specs.declared.tree.ast.Directive as ast
 use Rattle.juniper.specs.View.{view_directive, view_directives}
-use Rattle.juniper.specs.Parts.{to_end_of, spanned, last_end, view_spanned_directives}
+use Rattle.juniper.specs.Parts.{spanned, last_end, view_spanned_directives}
 
 -- the span of a part, seen before and after the part is
 pub end_of_part : {T B : Type 0} (view : Spanning T → B) (sp : B → Span)

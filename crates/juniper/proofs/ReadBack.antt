@@ -11,7 +11,7 @@ use Rattle.graphql_grammar.specs.Tokens.{Text, nowhere, span_of}
 use Rattle.graphql_grammar.specs.Tree.{Value, Null, Scalar, Enum, Variable, ListOf, Object, Items, no_items, item, ObjectFields, no_fields, object_field, TypeRef, NamedType, ListType, NonNullType}
 use Rattle.graphql_grammar.specs.Grammar.{◌·◌, Sequence, IsToken, Is, IsValue, AreItems, AreFields, IsNullable, IsType}
 use Rattle.graphql_grammar.specs.Unlocated.{unlocated_value, unlocated_items, unlocated_fields}
-use Rattle.graphql_grammar.proofs.Sequences.{row, row_map, token_is}
+use Rattle.graphql_grammar.proofs.Sequences.{row, row_as, row_map, row_front, row_back, token_is}
 use Rattle.juniper_values.specs.Value as input
 use Rattle.juniper_values.specs.Scalar.{Content, integer, text, boolean, custom}
 use Rattle.juniper_values.specs.Default.{default_content, default_shown, plain_shown, text_in}
@@ -65,7 +65,7 @@ between : (opening closing : Kind) (bs : List Bare) (ts : List Lexeme)
     → AreOf ts (punctuation opening ∷ (bs ++ punctuation closing ∷ []))
     → (Is opening · AreTokens bs · Is closing) ts
 between opening closing bs ts a = row_map (mark opening)
-    (λ us h. row_map (λ vs k. k) (mark closing) us (parted bs (punctuation closing ∷ []) us h)) ts
+    (λ us h. row_back (mark closing) us (parted bs (punctuation closing ∷ []) us h)) ts
     (parted (punctuation opening ∷ []) (bs ++ punctuation closing ∷ []) ts a)
 
 -- ---- types
@@ -84,7 +84,7 @@ marked bs type n m ts a = (row_map m (mark ExclamationMark) ts (parted bs (closi
 listed : (bs : List Bare) (type : TypeRef) → Mean bs type
     → Mean (opening_tokens (ListModifier None) ++ (bs ++ closing_tokens (ListModifier None))) (ListType None type)
 listed bs type m ts a =
-    (row_map (λ us k. k) (row_map m (λ us k. k)) ts (between BracketOpen BracketClose bs ts a), refl)
+    (row_back (row_front m) ts (between BracketOpen BracketClose bs ts a), refl)
 
 -- an exclamation mark may follow, or does not
 abbrev MayMark : TypeRef → List TypeModifier → Type 0
@@ -114,15 +114,10 @@ type_read_back name ms n w =
 
 -- ---- values
 
--- the same parts, taken for others
-both : {P Q P' Q' : List Lexeme → Type 0} {ts : List Lexeme} (h : Sequence P Q ts) → P' h.front → Q' h.back
-    → Sequence P' Q' ts
-both h p q = record { front = h.front; back = h.back; whole = h.whole; first = p; second = q }
-
 -- the part between two tokens, taken for another one
 inside : {O P R P' : List Lexeme → Type 0} {ts : List Lexeme} (h : Sequence O (Sequence P R) ts)
     → P' h.second.front → Sequence O (Sequence P' R) ts
-inside h p = both h h.first (both h.second p h.second.second)
+inside h p = row_as h h.first (row_as h.second p h.second.second)
 
 record IsBack (ts : List Lexeme) (v : input.Value Content) : Type 0 where
   tree : Value Content
@@ -211,7 +206,7 @@ mutual
       let m = items_back xs p.back h.1 p.second in
       record {
         trees = item b.tree m.trees;
-        means = both p b.means m.means;
+        means = row_as p b.means m.means;
         same = ap₂ item (b.same ∙ unlocated_placed v nowhere s) m.same;
       }
 
@@ -228,7 +223,7 @@ mutual
       let m = fields_back fs p.back h.2 p.second in
       record {
         trees = object_field k key.0 b.tree m.trees;
-        means = both f key.1 (both g (mark Colon g.front g.first) (both p b.means m.means));
+        means = row_as f key.1 (row_as g (mark Colon g.front g.first) (row_as p b.means m.means));
         same = ap₂ (object_field k nowhere) (b.same ∙ unlocated_placed v nowhere q) m.same;
       }
 

@@ -5,7 +5,7 @@ use Rattle.graphql_lexical.specs.Place.{Span}
 use Rattle.graphql_lexical.specs.declared.kind.Kind.TheVariants.{Name, ParenOpen}
 use Rattle.graphql_lexical.specs.Kinds.{same_kind}
 use Rattle.graphql_lexical.specs.Cutting.{Lexeme}
-use Rattle.graphql_grammar.specs.Tokens.{Word, word_of}
+use Rattle.graphql_grammar.specs.Tokens.{Word, word_of, from_to, to_end_of}
 use Rattle.graphql_grammar.specs.Tree.{Scalars, Directives, Selections, OperationType, Query, Mutation, Subscription, Definition, Operation, Fragment}
 use Rattle.graphql_grammar.specs.Reading.{of, word, passes, seq, done, want, fully, maybe, name_word, directives, variables, other_than_on, operation_word, operation_of, definition}
 use Rattle.graphql_grammar.proofs.Extents.{Runs, RunsOn, runs_on}
@@ -13,8 +13,7 @@ use Rattle.graphql_grammar.proofs.StepsOfSelections.{set_at, operation_by, fragm
 use Rattle.juniper_tokens.specs.Errors.{Error}
 use Rattle.juniper_tokens.specs.Cursor.{Read, ◌>>=◌, first_of, kind_at, next_at, next_if, refused_at, expect_name_at}
 use Rattle.juniper.specs.Seen.{seen}
-use Rattle.juniper.specs.Values.{from_to}
-use Rattle.juniper.specs.Parts.{to_end_of, directives_read, optional_variables_read}
+use Rattle.juniper.specs.Parts.{directives_read, optional_variables_read}
 use Rattle.juniper.specs.Selections.{is_word, directives_of, set_read, inline_parts_read}
 use Rattle.juniper.specs.Definitions.{operation_at, name_word_read, optional_name_read, fragment_name_read, condition_read, operation_read, fragment_read, shorthand_read, operation_or, definition_read}
 use Rattle.juniper.proofs.Stepping.{PassesNoEnd, bind_assoc, bind_same, bind_given, seq_as, want_as, on_as, kind_no_end, seen_span, seen_test}

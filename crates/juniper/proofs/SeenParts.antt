@@ -1,11 +1,11 @@
 -- Arguments, directives and variable definitions of the grammar, in the steps of a cursor.
-use Rattle.std.proofs.Common.{◌≡◌, true, false, cond, List, [], ◌∷◌, ◌++◌, Ok, Option, None, refl, sym, ap, ◌∙◌, le_refl, subst, inl, append_assoc}
+use Rattle.std.proofs.Common.{◌≡◌, true, false, cond, List, [], ◌∷◌, ◌++◌, Ok, Option, None, refl, sym, ap, ◌∙◌, le_refl, subst, inl}
 use Rattle.std.specs.Prelude.{option_map}
 use Rattle.graphql_lexical.specs.Place.{Span}
 use Rattle.graphql_lexical.specs.declared.kind.Kind.TheVariants.{Name, Dollar, ParenOpen, ParenClose, Colon, Equals, At}
 use Rattle.graphql_lexical.specs.Kinds.{same_kind}
 use Rattle.graphql_lexical.specs.Cutting.{Lexeme}
-use Rattle.graphql_grammar.specs.Tokens.{span_of, word_of}
+use Rattle.graphql_grammar.specs.Tokens.{span_of, word_of, from_to, to_end_of}
 use Rattle.graphql_grammar.specs.Tree.{Scalars, Value, Arguments, Directive, Directives, Variables}
 use Rattle.graphql_grammar.specs.Grammar.{IsArgument, IsArguments, IsDirective, IsVariableDefinition, Each}
 use Rattle.graphql_grammar.specs.Reading.{of, done, front, fully, repeated, maybe, value_of, argument, arguments, directive, directives, default_value, variable_definition, variables, spanned_type, unless_empty}
@@ -18,8 +18,8 @@ use Rattle.juniper_tokens.specs.declared.token.Token.TheVariants as token
 use Rattle.juniper_tokens.specs.Errors.{Error}
 use Rattle.juniper_tokens.specs.Cursor.{Read, ◌>>=◌, EndsOnce, kind_at, skip_at, expect_at, expect_name_at}
 use Rattle.juniper.specs.Seen.{seen}
-use Rattle.juniper.specs.Values.{from_to, value_read}
-use Rattle.juniper.specs.Parts.{to_end_of, type_read, argument_read, arguments_inner_read, arguments_read, optional_arguments_read, directive_read, each_directive_read, last_end, spanned, directives_read, default_read, variable_definition_read, variables_inner_read, variables_read, optional_variables_read}
+use Rattle.juniper.specs.Values.{value_read}
+use Rattle.juniper.specs.Parts.{type_read, argument_read, arguments_inner_read, arguments_read, optional_arguments_read, directive_read, each_directive_read, last_end, spanned, directives_read, default_read, variable_definition_read, variables_inner_read, variables_read, optional_variables_read}
 use Rattle.juniper.proofs.Stepping.{bind_assoc, bind_given, seq_as, want_as, look_ended, seen_span, seen_took}
 use Rattle.juniper.proofs.Cursors.{ok_is, bind_ok, next_runs, at_span}
 use Rattle.juniper.proofs.Loops.{RepeatsSome}

@@ -6,7 +6,7 @@ use Rattle.graphql_lexical.specs.Place.{Place, Span}
 use Rattle.graphql_lexical.specs.declared.kind.Kind.TheVariants.{Name, CurlyOpen, CurlyClose, Ellipsis, Colon, ParenOpen, EndOfFile}
 use Rattle.graphql_lexical.specs.Kinds.{same_kind}
 use Rattle.graphql_lexical.specs.Cutting.{Lexeme}
-use Rattle.graphql_grammar.specs.Tokens.{Word, word_of, span_of}
+use Rattle.graphql_grammar.specs.Tokens.{Word, word_of, span_of, from_to, to_end_of}
 use Rattle.graphql_grammar.specs.Tree.{Scalars, Selection, Field, FragmentSpread, InlineFragment, Selections, OptionalSelections}
 use Rattle.graphql_grammar.specs.Grammar.{IsSelection}
 use Rattle.graphql_grammar.specs.Reading.{of, word, passes, Reader, seq, done, on, look, want, refuse, fault_of, with_span, front, fully, maybe, one_or_more, arguments, directives, selection_at, selections_of, other_than_on}
@@ -17,8 +17,7 @@ use Rattle.juniper_tokens.specs.declared.token.Token.TheVariants as token
 use Rattle.juniper_tokens.specs.Errors.{Error}
 use Rattle.juniper_tokens.specs.Cursor.{Read, ◌>>=◌, first_of, kind_at, next_at, next_if, skip_at, expect_at, expect_name_at}
 use Rattle.juniper.specs.Seen.{seen}
-use Rattle.juniper.specs.Values.{from_to}
-use Rattle.juniper.specs.Parts.{to_end_of, optional_arguments_read, directives_read}
+use Rattle.juniper.specs.Parts.{optional_arguments_read, directives_read}
 use Rattle.juniper.specs.Selections.{is_word, names_span, alias_or, names_read, optional_of, directives_of, selections_inner_read, set_read, optional_set_read, field_read, named_spread_read, inline_parts_read, inline_read, typed_read, dots_read, spread_read, selection_read}
 use Rattle.juniper.proofs.Stepping.{PassesNoEnd, bind_assoc, bind_same, bind_given, seen_seq, seq_as, want_as, look_as, on_as, kind_no_end, seen_span}
 use Rattle.juniper.proofs.Cursors.{ok_is, bind_ok, next_runs, at_span}

@@ -4,7 +4,7 @@ use Rattle.graphql_lexical.specs.Place.{Span}
 use Rattle.graphql_lexical.specs.declared.kind.Kind.TheVariants.{Name, BracketOpen, BracketClose, ExclamationMark}
 use Rattle.graphql_lexical.specs.Kinds.{same_kind}
 use Rattle.graphql_lexical.specs.Cutting.{Lexeme}
-use Rattle.graphql_grammar.specs.Tokens.{span_of}
+use Rattle.graphql_grammar.specs.Tokens.{span_of, from_to}
 use Rattle.graphql_grammar.specs.Tree.{TypeRef, NamedType, ListType, NonNullType}
 use Rattle.graphql_grammar.specs.Grammar.{IsType}
 use Rattle.graphql_grammar.specs.Reading.{of, done, front, fully, plain_type, maybe_non_null, type_at}
@@ -16,7 +16,6 @@ use Rattle.juniper_tokens.specs.declared.token.Token.TheVariants as token
 use Rattle.juniper_tokens.specs.Errors.{Error}
 use Rattle.juniper_tokens.specs.Cursor.{Read, ◌>>=◌, kind_at, next_at, next_if, expect_at, expect_name_at}
 use Rattle.juniper.specs.Seen.{seen}
-use Rattle.juniper.specs.Values.{from_to}
 use Rattle.juniper.specs.Parts.{type_read, list_type_read, named_type_read, nullable_type_read, non_null_read}
 use Rattle.juniper.proofs.Stepping.{bind_assoc, bind_given, seen_seq, seq_as, want_as, on_as, kind_no_end, seen_span, seen_took}
 use Rattle.juniper.proofs.Cursors.{ok_is, bind_ok, next_runs, at_span}

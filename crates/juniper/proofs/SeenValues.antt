@@ -6,7 +6,7 @@ use Rattle.graphql_lexical.specs.declared.kind.Kind.{Kind}
 use Rattle.graphql_lexical.specs.declared.kind.Kind.TheVariants.{Name, Dollar, BracketOpen, BracketClose, CurlyOpen, CurlyClose, Colon, At, EndOfFile}
 use Rattle.graphql_lexical.specs.Kinds.{same_kind}
 use Rattle.graphql_lexical.specs.Cutting.{Lexeme}
-use Rattle.graphql_grammar.specs.Tokens.{Text, Word, over}
+use Rattle.graphql_grammar.specs.Tokens.{Text, Word, over, from_to}
 use Rattle.graphql_grammar.specs.Tree.{Scalars, Value, ListOf, Object, Variable}
 use Rattle.graphql_grammar.specs.Reading.{of, passes, scalar_token, Reader, seq, done, want, on, by_name, refuse, fault_of, pick, literal, read_as, key_and_value, items_of, fields_of, fully, value_of, items_at, fields_at}
 use Rattle.graphql_grammar.proofs.Fuel.{value_body, value_steps, items_step, fields_step}
@@ -15,7 +15,7 @@ use Rattle.juniper_tokens.specs.declared.token.Token.TheVariants as token
 use Rattle.juniper_tokens.specs.Errors.{Error, UnexpectedEndOfFile}
 use Rattle.juniper_tokens.specs.Cursor.{Read, ◌>>=◌, kind_at, next_at, skip_if, skip_at, expect_at, expect_name_at}
 use Rattle.juniper.specs.Seen.{seen, past}
-use Rattle.juniper.specs.Values.{from_to, closed_by, then_others, read_here, variable_read, literal_read, name_read, values_read, fields_read, list_read, object_read, value_by, value_read, field_read}
+use Rattle.juniper.specs.Values.{closed_by, then_others, read_here, variable_read, literal_read, name_read, values_read, fields_read, list_read, object_read, value_by, value_read, field_read}
 use Rattle.juniper.proofs.Stepping.{bind_assoc, bind_same, seen_seq, seq_as, want_as, taken, kind_no_end}
 use Rattle.juniper.proofs.Loops.{Repeats, closed_or}
 

@@ -4,6 +4,7 @@ use Rattle.std.specs.Borrow.{Bor}
 use Rattle.std.specs.Prelude.{option_map}
 use Rattle.std.specs.Global.{Vec}
 use Rattle.graphql_lexical.specs.Place.{Span}
+use Rattle.graphql_grammar.specs.Tokens.{to_end_of}
 use Rattle.graphql_grammar.specs.Tree as tree
 use Rattle.graphql_grammar.specs.Reading.{selections_of}
 use Rattle.juniper_tokens.specs.Spans.{view_span}
@@ -17,7 +18,7 @@ use Rattle.juniper.specs.declared.tree.ast.Selection.TheVariants.{Field, InlineF
 use Rattle.juniper.specs.declared.tree.ast.Field.{Field as FieldOf}
 use Rattle.juniper.specs.declared.tree.ast.InlineFragment.{InlineFragment as InlineOf}
 use Rattle.juniper.specs.View.{view_word, view_arguments, view_directive, view_directives, view_selection, view_held, view_row, view_selections, view_set, view_field, view_inline}
-use Rattle.juniper.specs.Parts.{to_end_of, from_start_of, view_spanned_directives}
+use Rattle.juniper.specs.Parts.{from_start_of, view_spanned_directives}
 use Rattle.juniper.specs.Selections.{optional_of, directives_of, view_spanned_set, names_span}
 use Rattle.juniper.proofs.PartViews.{end_of_part, up_to_part, without_span}
 

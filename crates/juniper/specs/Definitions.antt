@@ -3,13 +3,12 @@ use Rattle.std.specs.Prelude.{List, ◌∷◌, codes, Ok, Option, Some, None, if
 use Rattle.graphql_lexical.specs.declared.kind.Kind.TheVariants.{Name, EndOfFile}
 use Rattle.graphql_lexical.specs.Kinds.{same_kind}
 use Rattle.graphql_lexical.specs.Cutting.{Lexeme}
-use Rattle.graphql_grammar.specs.Tokens.{Word, word_of}
+use Rattle.graphql_grammar.specs.Tokens.{Word, word_of, from_to}
 use Rattle.graphql_grammar.specs.Tree.{Scalars, OperationType, Query, Mutation, Subscription, Definition, Operation, Fragment}
 use Rattle.graphql_grammar.specs.Reading.{of, many, fully, definition}
 use Rattle.juniper_tokens.specs.Errors.{Error}
 use Rattle.juniper_tokens.specs.Cursor.{Read, ◌>>=◌, first_of, kind_at, next_at, next_if, refused_at, expect_name_at}
 use Rattle.juniper.specs.Seen.{seen}
-use Rattle.juniper.specs.Values.{from_to}
 use Rattle.juniper.specs.Parts.{optional_variables_read}
 use Rattle.juniper.specs.Selections.{is_word, set_read, inline_parts_read}
 

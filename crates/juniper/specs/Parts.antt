@@ -6,7 +6,7 @@ use Rattle.graphql_lexical.specs.Place.{Place, Span}
 use Rattle.graphql_lexical.specs.declared.kind.Kind.TheVariants.{Name, ParenOpen, ParenClose, At, Equals, ExclamationMark}
 use Rattle.graphql_lexical.specs.Kinds.{same_kind}
 use Rattle.graphql_lexical.specs.Cutting.{Lexeme}
-use Rattle.graphql_grammar.specs.Tokens.{word_of, over}
+use Rattle.graphql_grammar.specs.Tokens.{word_of, over, from_to, to_end_of}
 use Rattle.graphql_grammar.specs.Tree.{Scalars, Value, TypeRef, NamedType, ListType, NonNullType, Argument, Arguments, Directive, VariableDefinition, Variables}
 use Rattle.graphql_grammar.specs.Reading.{of, many, repeated, fully, argument, directive, variable_definition}
 use Rattle.graphql_grammar.specs.Reading as grammar
@@ -19,7 +19,7 @@ use Rattle.juniper_values.specs.TypeLiteral.{TypeShape}
 use Rattle.juniper.specs.declared.tree.ast.Directive as code
 use Rattle.juniper.specs.View.{view_type, view_directive}
 use Rattle.juniper.specs.Seen.{seen}
-use Rattle.juniper.specs.Values.{from_to, closed_by, then_others, value_read}
+use Rattle.juniper.specs.Values.{closed_by, then_others, value_read}
 
 -- ---- types
 
@@ -43,10 +43,6 @@ unfoldable pub non_null_read : TypeRef × Span → List Lexeme → Read (TypeRef
 non_null_read x ts = if same_kind (kind_at ts) ExclamationMark then (next_at ts >>= λ m. Ok ((NonNullType x.0, from_to x.1 m.0.span), m.1)) else Ok (x, ts)
 
 -- ---- a part that may follow
-
-abbrev pub to_end_of : Span → Option Span → Span
-to_end_of p None = p
-to_end_of p (Some q) = from_to p q
 
 abbrev pub from_start_of : Option Span → Span → Span
 from_start_of None p = p

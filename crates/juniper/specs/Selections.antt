@@ -6,7 +6,7 @@ use Rattle.graphql_lexical.specs.Place.{Span}
 use Rattle.graphql_lexical.specs.declared.kind.Kind.TheVariants.{Name, CurlyOpen, CurlyClose, Ellipsis, Colon}
 use Rattle.graphql_lexical.specs.Kinds.{same_kind}
 use Rattle.graphql_lexical.specs.Cutting.{Lexeme}
-use Rattle.graphql_grammar.specs.Tokens.{Text, Word, word_of}
+use Rattle.graphql_grammar.specs.Tokens.{Text, Word, word_of, from_to, to_end_of}
 use Rattle.graphql_grammar.specs.Tree.{Scalars, Directive, Directives, Selection, Field, FragmentSpread, InlineFragment, Selections, OptionalSelections, absent, present}
 use Rattle.graphql_grammar.specs.Reading.{of, many, fully, selection_at, selections_of}
 use Rattle.juniper_tokens.specs.Spans.{view_span}
@@ -18,8 +18,8 @@ use Rattle.juniper.specs.declared.tree.ast.Selection as code
 use Rattle.juniper.specs.declared.tree.ast.Directive as directive
 use Rattle.juniper.specs.View.{view_word, view_directives, view_selections}
 use Rattle.juniper.specs.Seen.{seen}
-use Rattle.juniper.specs.Values.{from_to, closed_by, then_others}
-use Rattle.juniper.specs.Parts.{to_end_of, from_start_of, optional_arguments_read, directives_read}
+use Rattle.juniper.specs.Values.{closed_by, then_others}
+use Rattle.juniper.specs.Parts.{from_start_of, optional_arguments_read, directives_read}
 
 -- a Name of this text
 abbrev pub is_word : Text → Lexeme → Bool

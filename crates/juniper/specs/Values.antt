@@ -6,7 +6,7 @@ use Rattle.graphql_lexical.specs.declared.kind.Kind.{Kind}
 use Rattle.graphql_lexical.specs.declared.kind.Kind.TheVariants.{Name, Dollar, BracketOpen, CurlyOpen}
 use Rattle.graphql_lexical.specs.Kinds.{same_kind}
 use Rattle.graphql_lexical.specs.Cutting.{Lexeme}
-use Rattle.graphql_grammar.specs.Tokens.{Text, Word, word_of}
+use Rattle.graphql_grammar.specs.Tokens.{Text, Word, word_of, from_to}
 use Rattle.graphql_grammar.specs.Tree.{Scalars, Value, Scalar, Variable, ListOf, Object}
 use Rattle.graphql_grammar.specs.Reading.{scalar_token, fully, items_at, fields_at, by_name, items_of, fields_of}
 use Rattle.juniper_tokens.specs.Spans.{view_span}
@@ -15,9 +15,6 @@ use Rattle.juniper_tokens.specs.declared.token.Token.TheVariants as token
 use Rattle.juniper_tokens.specs.Errors.{Error, unexpected}
 use Rattle.juniper_tokens.specs.Cursor.{Read, ◌>>=◌, kind_at, next_at, expect_at, expect_name_at}
 use Rattle.juniper.specs.Seen.{seen}
-
-abbrev pub from_to : Span → Span → Span
-from_to a b = record { start = a.start; end = b.end }
 
 -- items, and the span of what closes them
 abbrev pub closed_by : {A : Type 0} → Read (List A × Lexeme) → Read (List A × Span)

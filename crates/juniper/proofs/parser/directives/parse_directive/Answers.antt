@@ -1,10 +1,10 @@
 use Rattle.std.proofs.Common.{refl, sym, ap, ◌∙◌, Ok}
 use Rattle.std.specs.Prelude.{option_map}
 use Rattle.graphql_lexical.specs.Place.{Span}
+use Rattle.graphql_grammar.specs.Tokens.{from_to, to_end_of}
 use Rattle.juniper_tokens.specs.Spans.{view_span}
 use Rattle.juniper.specs.View.{view_word, view_arguments}
-use Rattle.juniper.specs.Values.{from_to}
-use Rattle.juniper.specs.Parts.{directive_read, to_end_of}
+use Rattle.juniper.specs.Parts.{directive_read}
 use Rattle.juniper.proofs.PartViews.{end_of_part}
 use Rattle.juniper.proofs.parser.directives.parse_directive.Goals as goal
 

@@ -1,6 +1,7 @@
 use Rattle.std.proofs.Common.{rules, map, refl, ap, Ok, ◌∙◌}
 use Rattle.std.proofs.lemmas.Result.{err_from_is_err_and}
 use Rattle.std.proofs.lemmas.List.{map-append}
+use Rattle.graphql_grammar.specs.Tokens.{from_to}
 use Rattle.juniper_tokens.specs.declared.token.Token.TheVariants as token
 use Rattle.juniper_tokens.specs.Tokens.{view_token}
 use Rattle.juniper_tokens.specs.Cursor.{skip_at}
@@ -8,7 +9,6 @@ use Rattle.graphql_grammar.specs.Tree.{Selection, Selections}
 use Rattle.juniper_tokens.specs.Spans.{view_span}
 use Rattle.juniper_values.specs.Scalar.{Content}
 use Rattle.juniper.specs.Scalars.{stated}
-use Rattle.juniper.specs.Values.{from_to}
 use Rattle.juniper.specs.View.{view_selection}
 use Rattle.juniper.specs.Selections.{set_read, field_read, selection_read, selections_inner_read}
 use Rattle.juniper.proofs.Loops.{some_go_on, some_end, some_item_fails, some_close_fails}

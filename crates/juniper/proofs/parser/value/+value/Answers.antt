@@ -1,6 +1,7 @@
 use Rattle.std.proofs.Common.{rules, arith, not, map, refl, ap, sym, Ok, ◌∙◌}
 use Rattle.std.proofs.lemmas.Result.{err_from_is_err_and}
 use Rattle.std.proofs.lemmas.List.{map-append}
+use Rattle.graphql_grammar.specs.Tokens.{from_to}
 use Rattle.juniper_tokens.specs.declared.token.Token.TheVariants as token
 use Rattle.juniper_tokens.specs.Tokens.{view_token}
 use Rattle.juniper_tokens.specs.Cursor.{skip_at}
@@ -9,7 +10,7 @@ use Rattle.juniper_values.specs.Scalar.{Content}
 use Rattle.graphql_grammar.specs.Tree.{Value}
 use Rattle.juniper.specs.Scalars.{stated}
 use Rattle.juniper.specs.View.{view_value, view_object_field}
-use Rattle.juniper.specs.Values.{from_to, list_read, object_read, value_read, values_read, field_read, fields_read}
+use Rattle.juniper.specs.Values.{list_read, object_read, value_read, values_read, field_read, fields_read}
 use Rattle.juniper.proofs.Cursors.{skip_shorter}
 use Rattle.juniper.proofs.Loops.{goes_on, ends, close_fails, item_fails}
 use Rattle.juniper_tokens.proofs.Rests.{further}
