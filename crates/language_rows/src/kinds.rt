@@ -16,44 +16,63 @@ mod scalars;
 mod tree;
 mod types;
 
+use crate::write::Written;
 use juniper::DefaultScalarValue;
-use std::alloc::{AllocError, Global};
+use std::alloc::Global;
 
-/// What stands below a row of this kind and text, if it holds. The wanted lines say which calls are made.
-pub fn answer(alloc: Global, kind: &str, text: &[u8], wanted: &str) -> Result<String, AllocError> {
+/// Writes what stands below a row of this kind and text, if it holds. The wanted lines say which calls are made.
+pub fn write_answer(
+    alloc: Global,
+    out: &mut String,
+    kind: &str,
+    text: &[u8],
+    wanted: &str,
+) -> Written {
     if kind == "gqlcheck" {
-        return reports::report_of(alloc, text);
+        return reports::write_report(alloc, out, text);
     }
     match std::str::from_utf8(text) {
-        Ok(text) => answer_text(alloc, kind, text, wanted),
-        Err(_) => String::from_str(alloc, "the text is not UTF-8\n"),
+        Ok(text) => write_answer_of(alloc, out, kind, text, wanted),
+        Err(_) => out.push_str("the text is not UTF-8\n"),
     }
 }
 
-fn answer_text(alloc: Global, kind: &str, text: &str, wanted: &str) -> Result<String, AllocError> {
+fn write_answer_of(
+    alloc: Global,
+    out: &mut String,
+    kind: &str,
+    text: &str,
+    wanted: &str,
+) -> Written {
     match kind {
-        "lexer" => lexing::items_of(alloc, text),
-        "line_table" => lexing::lines_of(alloc, text),
-        "cursor" => cursor::calls(alloc, text, wanted),
-        "type" => literals::type_in(alloc, text),
-        "value" => literals::value_in(alloc, text, false),
-        "const" => literals::value_in(alloc, text, true),
-        "document" => documents::tree_of(alloc, text),
-        "within" => documents::tree_within(alloc, text),
-        "equal" => documents::are_equal(alloc, text),
-        "completed" => completed::calls(alloc, text, wanted),
-        "arguments" => documents::argument_calls(alloc, text, wanted),
-        "devices" => devices::runs(alloc, text, wanted),
-        "built" => built::lines_of(alloc, text),
-        "input_value" => input_values::calls(alloc, text, wanted),
-        "scalar" => scalars::calls::<DefaultScalarValue>(alloc, text, wanted),
-        "odd_scalar" => odd::scalar_calls(alloc, text, wanted),
-        "odd_document" => odd::arguments_of(alloc, text),
-        "type_literal" => types::calls(alloc, text, wanted),
-        "answer" => answers::calls(alloc, text, wanted),
-        "name" => answers::name_calls(alloc, text, wanted),
-        "guide" => guide_calls::calls(alloc, text, wanted),
-        _ => String::from_str(alloc, "no such kind\n"),
+        "lexer" => lexing::write_items(alloc, out, text),
+        "line_table" => lexing::write_places(alloc, out, text),
+        "type" => literals::write_type_in(alloc, out, text),
+        "value" => literals::write_value_in(alloc, out, text, false),
+        "const" => literals::write_value_in(alloc, out, text, true),
+        "document" => documents::write_tree(alloc, out, text),
+        "within" => documents::write_tree_within(alloc, out, text),
+        "equal" => documents::write_equal(alloc, out, text),
+        "built" => built::write_built(alloc, out, text),
+        "odd_document" => odd::write_arguments_of(alloc, out, text),
+        _ => write_calls(alloc, out, kind, text, wanted),
+    }
+}
+
+fn write_calls(alloc: Global, out: &mut String, kind: &str, text: &str, wanted: &str) -> Written {
+    match kind {
+        "cursor" => cursor::write_calls(alloc, out, text, wanted),
+        "completed" => completed::write_calls(alloc, out, text, wanted),
+        "arguments" => documents::write_calls(alloc, out, text, wanted),
+        "devices" => devices::write_runs(alloc, out, text, wanted),
+        "input_value" => input_values::write_calls(alloc, out, text, wanted),
+        "scalar" => scalars::write_calls::<DefaultScalarValue>(alloc, out, text, wanted),
+        "odd_scalar" => odd::write_calls(alloc, out, text, wanted),
+        "type_literal" => types::write_calls(alloc, out, text, wanted),
+        "answer" => answers::write_calls(alloc, out, text, wanted),
+        "name" => answers::write_name_calls(alloc, out, text, wanted),
+        "guide" => guide_calls::write_calls(alloc, out, text, wanted),
+        _ => out.push_str("no such kind\n"),
     }
 }
 

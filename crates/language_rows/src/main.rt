@@ -30,20 +30,39 @@ fn main(rt: HostRuntime) -> ExitCode {
 // Tells what becomes of the rows of all files, and answers whether each of them holds.
 fn tell_all<R: Files + Env + Print + AllocGlobal>(rt: &R) -> io::Result<bool> {
     let mut tally = Tally::new(rt.alloc());
+    tell_files(rt, &mut tally)?;
+    tell_counts(rt, &tally)?;
+    Ok(tally.all_held())
+}
+
+fn tell_files<R: Files + Env + Print + AllocGlobal>(rt: &R, tally: &mut Tally) -> io::Result<()> {
     for name in env::args(rt)?.skip(1) {
-        let text = fs::read_to_string(rt, name.as_str())?;
-        tell_file(rt, name.as_str(), text.as_str(), &mut tally)?;
+        tell_file(rt, name.as_str(), tally)?;
     }
+    Ok(())
+}
+
+// How many rows of each kind hold.
+fn tell_counts<R: Print>(rt: &R, tally: &Tally) -> io::Result<()> {
     for (kind, counts) in tally.counts() {
         let held = counts.held;
         let all = counts.all;
         println!(rt; "{kind}: {held} of {all} hold")?;
     }
-    Ok(tally.all_held())
+    Ok(())
+}
+
+fn tell_file<R: Files + Print + AllocGlobal>(
+    rt: &R,
+    name: &str,
+    tally: &mut Tally,
+) -> io::Result<()> {
+    let text = fs::read_to_string(rt, name)?;
+    tell_rows(rt, name, text.as_str(), tally)
 }
 
 // Tries the rows of one file, and tells those that don't hold.
-fn tell_file<R: Print + AllocGlobal>(
+fn tell_rows<R: Print + AllocGlobal>(
     rt: &R,
     name: &str,
     text: &str,
@@ -76,7 +95,9 @@ fn tell_row<R: Print + AllocGlobal>(
 
 fn answer_of(alloc: Global, row: &Row<'_>, wanted: &str) -> Result<String, AllocError> {
     let text = row.text(alloc)?;
-    kinds::answer(alloc, row.kind, text.as_slice(), wanted)
+    let mut out = String::new(alloc);
+    kinds::write_answer(alloc, &mut out, row.kind, text.as_slice(), wanted)?;
+    Ok(out)
 }
 
 // Tries to complete what stands before the fault of a refused text.

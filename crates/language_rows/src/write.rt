@@ -3,7 +3,10 @@
 use juniper::{LexerError, ParseError, ParseFailure, SourcePosition, Span, Spanning, Token};
 use std::alloc::AllocError;
 
-fn write_place(out: &mut String, place: SourcePosition) -> Result<(), AllocError> {
+/// What a writing comes to.
+pub type Written = Result<(), AllocError>;
+
+fn write_place(out: &mut String, place: SourcePosition) -> Written {
     let index = place.index();
     let line = place.line();
     let column = place.column();
@@ -11,14 +14,14 @@ fn write_place(out: &mut String, place: SourcePosition) -> Result<(), AllocError
 }
 
 /// Writes the index, line and column of a span's start and end.
-pub fn write_span(out: &mut String, span: &Span) -> Result<(), AllocError> {
+pub fn write_span(out: &mut String, span: &Span) -> Written {
     write_place(out, span.start)?;
     out.push('-')?;
     write_place(out, span.end)
 }
 
 /// Writes a token's span, its kind, and its text if that isn't empty.
-pub fn write_token(out: &mut String, token: &Spanning<Token<'_>>) -> Result<(), AllocError> {
+pub fn write_token(out: &mut String, token: &Spanning<Token<'_>>) -> Written {
     write_span(out, &token.span)?;
     let kind = token.item.kind();
     write!(out, " {kind:?}")?;
@@ -29,7 +32,7 @@ pub fn write_token(out: &mut String, token: &Spanning<Token<'_>>) -> Result<(), 
     write!(out, " {text}")
 }
 
-fn write_lexer_error(out: &mut String, error: &LexerError) -> Result<(), AllocError> {
+fn write_lexer_error(out: &mut String, error: &LexerError) -> Written {
     match error {
         LexerError::UnknownCharacter(c) => write!(out, " UnknownCharacter {c}"),
         LexerError::UnexpectedCharacter(c) => write!(out, " UnexpectedCharacter {c}"),
@@ -42,13 +45,13 @@ fn write_lexer_error(out: &mut String, error: &LexerError) -> Result<(), AllocEr
 }
 
 /// Writes a lexical fault: its span, its variant and what that holds.
-pub fn write_fault(out: &mut String, fault: &Spanning<LexerError>) -> Result<(), AllocError> {
+pub fn write_fault(out: &mut String, fault: &Spanning<LexerError>) -> Written {
     write_span(out, &fault.span)?;
     write_lexer_error(out, &fault.item)
 }
 
 /// Writes a space, a parser's error by its variant, and what that holds.
-pub fn write_error(out: &mut String, error: &ParseError) -> Result<(), AllocError> {
+pub fn write_error(out: &mut String, error: &ParseError) -> Written {
     match error {
         ParseError::UnexpectedToken(text) => write!(out, " UnexpectedToken {text}"),
         ParseError::UnexpectedEndOfFile => out.push_str(" UnexpectedEndOfFile"),
@@ -61,7 +64,7 @@ pub fn write_error(out: &mut String, error: &ParseError) -> Result<(), AllocErro
 }
 
 /// Writes why a parser gave nothing: a refusal's span and error, or want of memory.
-pub fn write_failure(out: &mut String, failure: &ParseFailure) -> Result<(), AllocError> {
+pub fn write_failure(out: &mut String, failure: &ParseFailure) -> Written {
     match failure {
         ParseFailure::Refused(fault) => {
             write_span(out, &fault.span)?;
@@ -72,7 +75,7 @@ pub fn write_failure(out: &mut String, failure: &ParseFailure) -> Result<(), All
 }
 
 /// Writes a comma and a space, unless nothing was written behind this many bytes.
-pub fn write_separator(out: &mut String, before: usize) -> Result<(), AllocError> {
+pub fn write_separator(out: &mut String, before: usize) -> Written {
     if out.len() > before {
         out.push_str(", ")?;
     }
@@ -80,14 +83,20 @@ pub fn write_separator(out: &mut String, before: usize) -> Result<(), AllocError
 }
 
 /// Writes `true` or `false`.
-pub fn write_truth(out: &mut String, truth: bool) -> Result<(), AllocError> {
+pub fn write_truth(out: &mut String, truth: bool) -> Written {
     write!(out, "{truth}")
 }
 
 /// Writes a text, or `None`.
-pub fn write_optional_text(out: &mut String, text: Option<&str>) -> Result<(), AllocError> {
+pub fn write_optional_text(out: &mut String, text: Option<&str>) -> Written {
     match text {
         Some(text) => out.push_str(text),
         None => out.push_str("None"),
     }
+}
+
+/// Writes a line of why a parser gave nothing.
+pub fn write_refusal(out: &mut String, failure: &ParseFailure) -> Written {
+    write_failure(out, failure)?;
+    out.push('\n')
 }

@@ -2,7 +2,7 @@
 
 use crate::kinds::input_values::{Input, literal};
 use crate::kinds::{call_of, word_of};
-use crate::write::{write_separator, write_truth};
+use crate::write::{Written, write_separator, write_truth};
 use juniper::{
     DefaultScalarValue, InputValue, IntoValue, Name, NameFailure, Object, Span, Spanning,
     ToInputValue, Value, value_from_str,
@@ -14,18 +14,17 @@ type Answer = Value<DefaultScalarValue>;
 
 /// `answer`: calls, one after the other, on the answer value that is made of the text, a value literal: of an enum its
 /// text, of a variable null.
-pub fn calls(alloc: Global, text: &str, wanted: &str) -> Result<String, AllocError> {
-    let mut out = String::new(alloc);
+pub fn write_calls(alloc: Global, out: &mut String, text: &str, wanted: &str) -> Written {
     let Some(mut value) = answer_in(alloc, text)? else {
-        return String::from_str(alloc, "no value\n");
+        return out.push_str("no value\n");
     };
     for line in wanted.lines() {
         let call = call_of(line);
         write!(out, "{call} -> ")?;
-        answer_call(alloc, &mut out, &mut value, call)?;
+        answer_call(alloc, out, &mut value, call)?;
         out.push('\n')?;
     }
-    Ok(out)
+    Ok(())
 }
 
 fn answer_in(alloc: Global, text: &str) -> Result<Option<Answer>, AllocError> {
@@ -82,12 +81,7 @@ fn object_from(alloc: Global, pairs: Vec<(String, Answer)>) -> Result<Answer, Al
     Ok(Value::object(object))
 }
 
-fn answer_call(
-    alloc: Global,
-    out: &mut String,
-    value: &mut Answer,
-    call: &str,
-) -> Result<(), AllocError> {
+fn answer_call(alloc: Global, out: &mut String, value: &mut Answer, call: &str) -> Written {
     let (word, rest) = word_of(call);
     match word {
         "display" => write!(out, "{value}"),
@@ -104,7 +98,7 @@ fn answer_whole(
     value: &mut Answer,
     word: &str,
     rest: &str,
-) -> Result<(), AllocError> {
+) -> Written {
     match word {
         "try_clone" => write_copied(alloc, out, value),
         "into_object" => write_taken_apart(out, value.try_clone(alloc)?),
@@ -120,46 +114,41 @@ fn answer_part(
     value: &mut Answer,
     word: &str,
     rest: &str,
-) -> Result<(), AllocError> {
+) -> Written {
     match value.as_mut_object_value() {
         Some(object) => answer_object(alloc, out, object, word, rest),
         None => out.push_str("no object"),
     }
 }
 
-fn write_copied(alloc: Global, out: &mut String, value: &Answer) -> Result<(), AllocError> {
+fn write_copied(alloc: Global, out: &mut String, value: &Answer) -> Written {
     write_truth(out, value.try_clone(alloc)? == *value)
 }
 
-fn write_mapped(alloc: Global, out: &mut String, value: &Answer) -> Result<(), AllocError> {
+fn write_mapped(alloc: Global, out: &mut String, value: &Answer) -> Written {
     let mapped: Answer = value.try_clone(alloc)?.map_scalar_value(alloc)?;
     let is_equal = mapped == *value;
     write!(out, "{mapped} {is_equal}")
 }
 
 // Whether an answer equals the one that is written, and the other way round.
-fn write_compared(
-    alloc: Global,
-    out: &mut String,
-    value: &Answer,
-    other: &str,
-) -> Result<(), AllocError> {
+fn write_compared(alloc: Global, out: &mut String, value: &Answer, other: &str) -> Written {
     match answer_in(alloc, other)? {
         Some(other) => write_both(out, *value == other, other == *value),
         None => out.push_str("no value"),
     }
 }
 
-fn write_both(out: &mut String, there: bool, back: bool) -> Result<(), AllocError> {
+fn write_both(out: &mut String, there: bool, back: bool) -> Written {
     write!(out, "{there} {back}")
 }
 
 // The input value of an answer, and whether it has no place.
-fn write_input(alloc: Global, out: &mut String, value: &Answer) -> Result<(), AllocError> {
+fn write_input(alloc: Global, out: &mut String, value: &Answer) -> Written {
     write_unlocated(out, &value.to_input_value(alloc)?)
 }
 
-fn write_unlocated(out: &mut String, input: &Input) -> Result<(), AllocError> {
+fn write_unlocated(out: &mut String, input: &Input) -> Written {
     write!(out, "{input}")?;
     if is_unlocated(input) {
         return out.push_str(", unlocated");
@@ -179,7 +168,7 @@ fn is_unlocated(value: &Input) -> bool {
 }
 
 // Which variant a value is, as its calls tell it.
-fn write_parts(out: &mut String, value: &Answer) -> Result<(), AllocError> {
+fn write_parts(out: &mut String, value: &Answer) -> Written {
     if value.is_null() {
         return out.push_str("null");
     }
@@ -203,7 +192,7 @@ fn answer_object(
     object: &mut Object<DefaultScalarValue>,
     word: &str,
     rest: &str,
-) -> Result<(), AllocError> {
+) -> Written {
     let (key, text) = word_of(rest);
     match word {
         "contains_field" => write_truth(out, object.contains_field(key)),
@@ -215,11 +204,7 @@ fn answer_object(
 }
 
 // A call on all of an object.
-fn write_all(
-    out: &mut String,
-    object: &Object<DefaultScalarValue>,
-    word: &str,
-) -> Result<(), AllocError> {
+fn write_all(out: &mut String, object: &Object<DefaultScalarValue>, word: &str) -> Written {
     match word {
         "field_count" => {
             let count = object.field_count();
@@ -231,7 +216,7 @@ fn write_all(
 }
 
 // Puts null in the place of the value.
-fn write_cleared(out: &mut String, value: Option<&mut Answer>) -> Result<(), AllocError> {
+fn write_cleared(out: &mut String, value: Option<&mut Answer>) -> Written {
     match value {
         Some(value) => {
             *value = Value::null();
@@ -247,7 +232,7 @@ fn write_added(
     object: &mut Object<DefaultScalarValue>,
     key: &str,
     text: &str,
-) -> Result<(), AllocError> {
+) -> Written {
     match answer_in(alloc, text)? {
         Some(value) => write_optional(out, added(alloc, object, key, value)?.as_ref()),
         None => out.push_str("no value"),
@@ -265,52 +250,55 @@ fn added(
     object.add_field(key, value).map_err(|_pair| AllocError)
 }
 
-fn write_optional(out: &mut String, value: Option<&Answer>) -> Result<(), AllocError> {
+fn write_optional(out: &mut String, value: Option<&Answer>) -> Written {
     match value {
         Some(value) => write!(out, "{value}"),
         None => out.push_str("None"),
     }
 }
 
-fn write_pairs(out: &mut String, object: &Object<DefaultScalarValue>) -> Result<(), AllocError> {
+fn write_pairs(out: &mut String, object: &Object<DefaultScalarValue>) -> Written {
     let before = out.len();
     for (key, value) in object.iter() {
-        write_separator(out, before)?;
-        write!(out, "{key}: {value}")?;
+        write_pair(out, before, key.as_str(), value)?;
     }
     Ok(())
 }
 
 // The pairs of an answer, which is taken apart.
-fn write_taken_apart(out: &mut String, value: Answer) -> Result<(), AllocError> {
+fn write_taken_apart(out: &mut String, value: Answer) -> Written {
     match value.into_object() {
         Some(object) => write_own_pairs(out, object),
         None => out.push_str("no object"),
     }
 }
 
-fn write_own_pairs(out: &mut String, object: Object<DefaultScalarValue>) -> Result<(), AllocError> {
+fn write_own_pairs(out: &mut String, object: Object<DefaultScalarValue>) -> Written {
     let before = out.len();
     for (key, value) in object.into_iter() {
-        write_separator(out, before)?;
-        write!(out, "{key}: {value}")?;
+        write_pair(out, before, key.as_str(), &value)?;
     }
     Ok(())
 }
 
+// Writes a pair of a list that begins behind this many bytes.
+fn write_pair(out: &mut String, before: usize, key: &str, value: &Answer) -> Written {
+    write_separator(out, before)?;
+    write!(out, "{key}: {value}")
+}
+
 /// `name`: calls on the text as a name.
-pub fn name_calls(alloc: Global, text: &str, wanted: &str) -> Result<String, AllocError> {
-    let mut out = String::new(alloc);
+pub fn write_name_calls(alloc: Global, out: &mut String, text: &str, wanted: &str) -> Written {
     for line in wanted.lines() {
         let call = call_of(line);
         write!(out, "{call} -> ")?;
-        name_call(alloc, &mut out, text, call)?;
+        name_call(alloc, out, text, call)?;
         out.push('\n')?;
     }
-    Ok(out)
+    Ok(())
 }
 
-fn name_call(alloc: Global, out: &mut String, text: &str, call: &str) -> Result<(), AllocError> {
+fn name_call(alloc: Global, out: &mut String, text: &str, call: &str) -> Written {
     match call {
         "is_valid" => write_truth(out, Name::is_valid(text)),
         "new" => match Name::new(alloc, text) {

@@ -1,6 +1,7 @@
 //! Rows of refused texts: what stands before the fault can be completed to a document.
 
 use crate::kinds::call_of;
+use crate::write::Written;
 use juniper::{
     DefaultScalarValue, LexFailure, Lexer, LexerResult, ParseFailure, SourcePosition, Span,
     Spanning, Token, parse_document_source,
@@ -107,15 +108,14 @@ fn token_of(item: Option<LexerResult<'_>>) -> Option<Spanning<Token<'_>>> {
 
 /// `completed`: each call is what is written behind the accepted front of the text and a space. Its answer says how
 /// many tokens the front has, whether there is a tree then, and whether these tokens are the same.
-pub fn calls(alloc: Global, text: &str, wanted: &str) -> Result<String, AllocError> {
-    let mut out = String::new(alloc);
+pub fn write_calls(alloc: Global, out: &mut String, text: &str, wanted: &str) -> Written {
     let Some(refusal) = refusal_of(alloc, text)? else {
-        return String::from_str(alloc, "not refused, or it cannot be cut\n");
+        return out.push_str("not refused, or it cannot be cut\n");
     };
     for line in wanted.lines() {
-        write_completion(alloc, &mut out, text, &refusal, call_of(line))?;
+        write_completion(alloc, out, text, &refusal, call_of(line))?;
     }
-    Ok(out)
+    Ok(())
 }
 
 fn write_completion(
@@ -124,7 +124,7 @@ fn write_completion(
     text: &str,
     refusal: &Refusal,
     call: &str,
-) -> Result<(), AllocError> {
+) -> Written {
     let number = refusal.number;
     let front = refusal.front.as_str();
     let whole = format!(in alloc; "{front} {call}")?;

@@ -2,37 +2,35 @@
 ghost use Rattle.juniper_tokens.specs.Delimited.{Leaves};
 
 use crate::kinds::{call_of, word_of};
-use crate::write::{write_failure, write_span, write_token};
+use crate::write::{Written, write_failure, write_refusal, write_span, write_token};
 use juniper::{
     Lexer, LexerResult, OptionParseResult, ParseFailure, ParseResult, Parser, Spanning, Token,
     UnlocatedParseResult,
 };
-use std::alloc::{AllocError, Global};
+use std::alloc::Global;
 
 /// `cursor`: calls on a parser of the text, one after the other. `expect` and `skip` take the token that is written
 /// behind them, the end where nothing is; the lists take their opening and their closing token, and their items are
 /// Names.
-pub fn calls(alloc: Global, text: &str, wanted: &str) -> Result<String, AllocError> {
-    let mut out = String::new(alloc);
+pub fn write_calls(alloc: Global, out: &mut String, text: &str, wanted: &str) -> Written {
     let mut lexer = Lexer::new(alloc, text);
     match Parser::new(&mut lexer) {
-        Ok(mut parser) => {
-            for line in wanted.lines() {
-                let call = call_of(line);
-                write!(out, "{call} -> ")?;
-                answer_call(&mut out, &mut parser, call)?;
-                out.push('\n')?;
-            }
-        }
-        Err(failure) => {
-            write_failure(&mut out, &ParseFailure::from(failure))?;
-            out.push('\n')?;
-        }
+        Ok(mut parser) => answer_calls(out, &mut parser, wanted),
+        Err(failure) => write_refusal(out, &ParseFailure::from(failure)),
     }
-    Ok(out)
 }
 
-fn answer_call(out: &mut String, parser: &mut Parser<'_>, call: &str) -> Result<(), AllocError> {
+fn answer_calls(out: &mut String, parser: &mut Parser<'_>, wanted: &str) -> Written {
+    for line in wanted.lines() {
+        let call = call_of(line);
+        write!(out, "{call} -> ")?;
+        answer_call(out, parser, call)?;
+        out.push('\n')?;
+    }
+    Ok(())
+}
+
+fn answer_call(out: &mut String, parser: &mut Parser<'_>, call: &str) -> Written {
     let (word, rest) = word_of(call);
     match word {
         "peek" => write_token(out, parser.peek()),
@@ -44,14 +42,14 @@ fn answer_call(out: &mut String, parser: &mut Parser<'_>, call: &str) -> Result<
     }
 }
 
-fn expect(out: &mut String, parser: &mut Parser<'_>, wanted: &str) -> Result<(), AllocError> {
+fn expect(out: &mut String, parser: &mut Parser<'_>, wanted: &str) -> Written {
     match &first_item(parser.allocator(), wanted) {
         Some(Ok(token)) => write_taken(out, &parser.expect(&token.item)),
         _ => out.push_str("no token"),
     }
 }
 
-fn skip(out: &mut String, parser: &mut Parser<'_>, wanted: &str) -> Result<(), AllocError> {
+fn skip(out: &mut String, parser: &mut Parser<'_>, wanted: &str) -> Written {
     match &first_item(parser.allocator(), wanted) {
         Some(Ok(token)) => write_skipped(out, &parser.skip(&token.item)),
         _ => out.push_str("no token"),
@@ -64,14 +62,14 @@ fn first_item(alloc: Global, text: &str) -> Option<LexerResult<'_>> {
     lexer.next()
 }
 
-fn write_taken(out: &mut String, taken: &ParseResult<Token<'_>>) -> Result<(), AllocError> {
+fn write_taken(out: &mut String, taken: &ParseResult<Token<'_>>) -> Written {
     match taken {
         Ok(token) => write_token(out, token),
         Err(failure) => write_failure(out, failure),
     }
 }
 
-fn write_skipped(out: &mut String, taken: &OptionParseResult<Token<'_>>) -> Result<(), AllocError> {
+fn write_skipped(out: &mut String, taken: &OptionParseResult<Token<'_>>) -> Written {
     match taken {
         Ok(Some(token)) => write_token(out, token),
         Ok(None) => out.push_str("None"),
@@ -79,20 +77,20 @@ fn write_skipped(out: &mut String, taken: &OptionParseResult<Token<'_>>) -> Resu
     }
 }
 
-fn write_name(out: &mut String, taken: &ParseResult<&str>) -> Result<(), AllocError> {
+fn write_name(out: &mut String, taken: &ParseResult<&str>) -> Written {
     match taken {
         Ok(name) => write_spanned(out, name),
         Err(failure) => write_failure(out, failure),
     }
 }
 
-fn write_spanned(out: &mut String, name: &Spanning<&str>) -> Result<(), AllocError> {
+fn write_spanned(out: &mut String, name: &Spanning<&str>) -> Written {
     write_span(out, &name.span)?;
     let text = name.item;
     write!(out, " {text}")
 }
 
-fn answer_list(out: &mut String, parser: &mut Parser<'_>, call: &str) -> Result<(), AllocError> {
+fn answer_list(out: &mut String, parser: &mut Parser<'_>, call: &str) -> Written {
     let (word, brackets) = word_of(call);
     let (opening, closing) = word_of(brackets);
     match &first_item(parser.allocator(), opening) {
@@ -107,7 +105,7 @@ fn answer_closed(
     word: &str,
     opening: &Token<'_>,
     closing: &str,
-) -> Result<(), AllocError> {
+) -> Written {
     match &first_item(parser.allocator(), closing) {
         Some(Ok(closing)) => answer_between(out, parser, word, opening, &closing.item),
         _ => out.push_str("no closing token"),
@@ -120,7 +118,7 @@ fn answer_between(
     word: &str,
     opening: &Token<'_>,
     closing: &Token<'_>,
-) -> Result<(), AllocError> {
+) -> Written {
     match word {
         "delimited_list" => write_names(out, &names(parser, opening, closing)),
         "delimited_nonempty_list" => write_names(out, &some_names(parser, opening, closing)),
@@ -175,10 +173,7 @@ fn some_texts<'a>(
     parser.unlocated_delimited_nonempty_list(opening, name_text, closing)
 }
 
-fn write_names(
-    out: &mut String,
-    list: &ParseResult<Vec<Spanning<&str>>>,
-) -> Result<(), AllocError> {
+fn write_names(out: &mut String, list: &ParseResult<Vec<Spanning<&str>>>) -> Written {
     match list {
         Ok(list) => {
             write_span(out, &list.span)?;
@@ -192,7 +187,7 @@ fn write_names(
     }
 }
 
-fn write_texts(out: &mut String, list: &ParseResult<Vec<&str>>) -> Result<(), AllocError> {
+fn write_texts(out: &mut String, list: &ParseResult<Vec<&str>>) -> Written {
     match list {
         Ok(list) => {
             write_span(out, &list.span)?;

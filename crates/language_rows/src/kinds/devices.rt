@@ -2,8 +2,9 @@
 
 use crate::kinds::call_of;
 use crate::kinds::reports::end_word;
+use crate::write::Written;
 use gqlcheck_report::{Watched, run};
-use std::alloc::{AllocError, Global};
+use std::alloc::Global;
 use std::io;
 use std::io::{ErrorKind, Read, Write};
 
@@ -64,17 +65,16 @@ impl Write for Target {
 /// takes, `write=N`, and which of them fails, `failed_read=N`, `interrupted_read=N`, `failed_write=N`,
 /// `interrupted_write=N`, `empty_write=N` by taking no byte; 1000 bytes and none where nothing is said. Its answer
 /// says how the run ended, whether the reader or the writer has failed, and how many bytes of the report were written.
-pub fn runs(alloc: Global, text: &str, wanted: &str) -> Result<String, AllocError> {
-    let mut out = String::new(alloc);
+pub fn write_runs(alloc: Global, out: &mut String, text: &str, wanted: &str) -> Written {
     for line in wanted.lines() {
         let call = call_of(line);
         write!(out, "{call} -> ")?;
-        write_run(alloc, &mut out, text.as_bytes(), call)?;
+        write_run(alloc, out, text.as_bytes(), call)?;
     }
-    Ok(out)
+    Ok(())
 }
 
-fn write_run(alloc: Global, out: &mut String, bytes: &[u8], call: &str) -> Result<(), AllocError> {
+fn write_run(alloc: Global, out: &mut String, bytes: &[u8], call: &str) -> Written {
     let is_interrupted = told(call, "interrupted_read=", 0) > 0;
     let mut reader = Watched::new(Source {
         rest: bytes,
@@ -124,12 +124,7 @@ fn kind_of_write(call: &str) -> Option<ErrorKind> {
 }
 
 // How many bytes of the report of these bytes were written.
-fn write_beginning(
-    alloc: Global,
-    out: &mut String,
-    bytes: &[u8],
-    written: &[u8],
-) -> Result<(), AllocError> {
+fn write_beginning(alloc: Global, out: &mut String, bytes: &[u8], written: &[u8]) -> Written {
     let mut reader = Watched::new(bytes);
     let mut whole = Watched::new(Vec::new(alloc));
     let _end = run(alloc, &mut reader, &mut whole);

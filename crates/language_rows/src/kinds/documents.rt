@@ -3,7 +3,7 @@
 use crate::kinds::input_values::{Input, literal};
 use crate::kinds::tree::{write_document, write_value};
 use crate::kinds::{call_of, word_of};
-use crate::write::{write_failure, write_separator, write_span};
+use crate::write::{Written, write_refusal, write_separator, write_span};
 use juniper::{
     Arguments, DefaultScalarValue, DepthFailure, InputValue, OwnedDocument, ParseFailure, Spanning,
     parse_document_source, parse_document_source_within,
@@ -17,45 +17,43 @@ fn document(alloc: Global, source: &str) -> Result<Document<'_>, ParseFailure> {
 }
 
 /// `document`: the lines of the tree, or the refusal.
-pub fn tree_of(alloc: Global, text: &str) -> Result<String, AllocError> {
-    let mut out = String::new(alloc);
-    match document(alloc, text) {
-        Ok(document) => write_document(alloc, &mut out, &document)?,
-        Err(failure) => {
-            write_failure(&mut out, &failure)?;
-            out.push('\n')?;
-        }
+pub fn write_tree(alloc: Global, out: &mut String, text: &str) -> Written {
+    match &document(alloc, text) {
+        Ok(document) => write_document(alloc, out, document),
+        Err(failure) => write_refusal(out, failure),
     }
-    Ok(out)
+}
+
+fn document_within(
+    alloc: Global,
+    source: &str,
+    depth: usize,
+) -> Result<Document<'_>, DepthFailure> {
+    parse_document_source_within(alloc, source, depth)
 }
 
 /// `within`: the same within a limit on nesting, which is the text's first word.
-pub fn tree_within(alloc: Global, text: &str) -> Result<String, AllocError> {
+pub fn write_tree_within(alloc: Global, out: &mut String, text: &str) -> Written {
     let (depth, source) = word_of(text);
     let depth = depth.parse::<usize>().unwrap_or(0);
-    let mut out = String::new(alloc);
-    match parse_document_source_within::<DefaultScalarValue>(alloc, source, depth) {
-        Ok(document) => write_document(alloc, &mut out, &document)?,
-        Err(DepthFailure::Parse(failure)) => {
-            write_failure(&mut out, &failure)?;
-            out.push('\n')?;
-        }
+    match &document_within(alloc, source, depth) {
+        Ok(document) => write_document(alloc, out, document),
+        Err(DepthFailure::Parse(failure)) => write_refusal(out, failure),
         Err(DepthFailure::TooDeep(span)) => {
-            write_span(&mut out, &span)?;
-            out.push_str(" TooDeep\n")?;
+            write_span(out, span)?;
+            out.push_str(" TooDeep\n")
         }
     }
-    Ok(out)
 }
 
 /// `equal`: whether the trees of two texts, between which ` == ` stands, are equal, both ways.
-pub fn are_equal(alloc: Global, text: &str) -> Result<String, AllocError> {
+pub fn write_equal(alloc: Global, out: &mut String, text: &str) -> Written {
     let Some((one, other)) = text.split_once(" == ") else {
-        return String::from_str(alloc, "no two texts\n");
+        return out.push_str("no two texts\n");
     };
-    match compared(alloc, one, other) {
-        Ok((there, back)) => format!(in alloc; "{there} {back}\n"),
-        Err(_) => String::from_str(alloc, "refused\n"),
+    match &compared(alloc, one, other) {
+        Ok((there, back)) => writeln!(out, "{there} {back}"),
+        Err(_) => out.push_str("refused\n"),
     }
 }
 
@@ -68,27 +66,27 @@ fn compared(alloc: Global, one: &str, other: &str) -> Result<(bool, bool), Parse
 type Given<'a> = Arguments<'a, DefaultScalarValue>;
 
 /// `arguments`: calls on the arguments that are written as the fields of an object.
-pub fn argument_calls(alloc: Global, text: &str, wanted: &str) -> Result<String, AllocError> {
+pub fn write_calls(alloc: Global, out: &mut String, text: &str, wanted: &str) -> Written {
     match literal(alloc, text)? {
-        Some(InputValue::Object(fields)) => argument_answers(alloc, &fields, wanted),
-        _ => String::from_str(alloc, "no object\n"),
+        Some(InputValue::Object(fields)) => answer_calls(alloc, out, &fields, wanted),
+        _ => out.push_str("no object\n"),
     }
 }
 
-fn argument_answers(
+fn answer_calls(
     alloc: Global,
+    out: &mut String,
     fields: &[(Spanning<String>, Spanning<Input>)],
     wanted: &str,
-) -> Result<String, AllocError> {
+) -> Written {
     let mut given = given_of(alloc, fields)?;
-    let mut out = String::new(alloc);
     for line in wanted.lines() {
         let call = call_of(line);
         write!(out, "{call} -> ")?;
-        answer_call(alloc, &mut out, &mut given, call)?;
+        answer_call(alloc, out, &mut given, call)?;
         out.push('\n')?;
     }
-    Ok(out)
+    Ok(())
 }
 
 fn given_of(
@@ -103,12 +101,7 @@ fn given_of(
     Ok(Arguments { items })
 }
 
-fn answer_call(
-    alloc: Global,
-    out: &mut String,
-    given: &mut Given<'_>,
-    call: &str,
-) -> Result<(), AllocError> {
+fn answer_call(alloc: Global, out: &mut String, given: &mut Given<'_>, call: &str) -> Written {
     let (word, name) = word_of(call);
     match word {
         "len" => {
@@ -131,7 +124,7 @@ fn answer_call(
     }
 }
 
-fn write_names(out: &mut String, given: &Given<'_>) -> Result<(), AllocError> {
+fn write_names(out: &mut String, given: &Given<'_>) -> Written {
     let before = out.len();
     for (name, value) in given.iter() {
         let name = name.item;
@@ -147,7 +140,7 @@ fn write_line_of(
     alloc: Global,
     out: &mut String,
     value: &Spanning<InputValue<DefaultScalarValue>>,
-) -> Result<(), AllocError> {
+) -> Written {
     let before = out.len();
     write_value(alloc, out, value)?;
     if out.len() > before {

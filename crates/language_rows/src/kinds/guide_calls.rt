@@ -2,7 +2,9 @@
 
 use crate::kinds::input_values::{Input, literal, variables_of};
 use crate::kinds::{call_of, word_of};
-use crate::write::{write_failure, write_optional_text, write_separator, write_span, write_truth};
+use crate::write::{
+    Written, write_failure, write_optional_text, write_separator, write_span, write_truth,
+};
 use guide::{
     argument_value, fault_line, field_names, is_document, is_document_within, kept_up_to,
     same_literal,
@@ -11,24 +13,23 @@ use juniper::{
     DefaultScalarValue, Definition, Field, OwnedDocument, ParseFailure, Selection, Span,
     UnlocatedParseResult, parse_document_source,
 };
-use std::alloc::{AllocError, Global};
+use std::alloc::Global;
 
 type Document<'a> = OwnedDocument<'a, DefaultScalarValue>;
 
 /// `guide`: calls on the text. `is_document_within` takes a limit, `same_literal` another text, `argument_value` the name
 /// of an argument of the first field of the first operation, and the variables as the fields of an object.
-pub fn calls(alloc: Global, text: &str, wanted: &str) -> Result<String, AllocError> {
-    let mut out = String::new(alloc);
+pub fn write_calls(alloc: Global, out: &mut String, text: &str, wanted: &str) -> Written {
     for line in wanted.lines() {
         let call = call_of(line);
         write!(out, "{call} -> ")?;
-        answer_call(alloc, &mut out, text, call)?;
+        answer_call(alloc, out, text, call)?;
         out.push('\n')?;
     }
-    Ok(out)
+    Ok(())
 }
 
-fn answer_call(alloc: Global, out: &mut String, text: &str, call: &str) -> Result<(), AllocError> {
+fn answer_call(alloc: Global, out: &mut String, text: &str, call: &str) -> Written {
     let (word, rest) = word_of(call);
     match word {
         "is_document" => write_truth(out, is_document(alloc, text)?),
@@ -44,21 +45,21 @@ fn limit(text: &str) -> usize {
     text.parse::<usize>().unwrap_or(0)
 }
 
-fn write_line(out: &mut String, line: &Option<String>) -> Result<(), AllocError> {
+fn write_line(out: &mut String, line: &Option<String>) -> Written {
     match line {
         Some(line) => out.push_str(line.as_str()),
         None => out.push_str("None"),
     }
 }
 
-fn write_place(out: &mut String, span: Option<Span>) -> Result<(), AllocError> {
+fn write_place(out: &mut String, span: Option<Span>) -> Written {
     match span {
         Some(span) => write_span(out, &span),
         None => out.push_str("None"),
     }
 }
 
-fn write_same(out: &mut String, same: &Result<bool, ParseFailure>) -> Result<(), AllocError> {
+fn write_same(out: &mut String, same: &Result<bool, ParseFailure>) -> Written {
     match same {
         Ok(same) => write_truth(out, *same),
         Err(failure) => write_failure(out, failure),
@@ -66,13 +67,7 @@ fn write_same(out: &mut String, same: &Result<bool, ParseFailure>) -> Result<(),
 }
 
 // A call on the text's tree.
-fn answer_tree(
-    alloc: Global,
-    out: &mut String,
-    text: &str,
-    word: &str,
-    rest: &str,
-) -> Result<(), AllocError> {
+fn answer_tree(alloc: Global, out: &mut String, text: &str, word: &str, rest: &str) -> Written {
     let parsed: UnlocatedParseResult<Document<'_>> = parse_document_source(alloc, text);
     match &parsed {
         Ok(document) => answer_document(alloc, out, document, word, rest),
@@ -86,7 +81,7 @@ fn answer_document(
     document: &Document<'_>,
     word: &str,
     rest: &str,
-) -> Result<(), AllocError> {
+) -> Written {
     match word {
         "field_names" => write_names(out, &field_names(alloc, document)?),
         "argument_value" => write_argument(alloc, out, document, rest),
@@ -94,7 +89,7 @@ fn answer_document(
     }
 }
 
-fn write_names(out: &mut String, names: &[&str]) -> Result<(), AllocError> {
+fn write_names(out: &mut String, names: &[&str]) -> Written {
     let before = out.len();
     for name in names {
         write_separator(out, before)?;
@@ -104,12 +99,7 @@ fn write_names(out: &mut String, names: &[&str]) -> Result<(), AllocError> {
 }
 
 // The value of an argument of the first field.
-fn write_argument(
-    alloc: Global,
-    out: &mut String,
-    document: &Document<'_>,
-    call: &str,
-) -> Result<(), AllocError> {
+fn write_argument(alloc: Global, out: &mut String, document: &Document<'_>, call: &str) -> Written {
     let (name, variables) = word_of(call);
     match (first_field(document), literal(alloc, variables)?) {
         (Some(field), Some(variables)) => write_worth(alloc, out, field, name, variables),
@@ -134,7 +124,7 @@ fn write_worth(
     field: &Field<'_, DefaultScalarValue>,
     name: &str,
     variables: Input,
-) -> Result<(), AllocError> {
+) -> Written {
     let variables = variables_of(alloc, variables)?;
     match argument_value(alloc, field, name, &variables)? {
         Some(value) => write!(out, "{value}"),

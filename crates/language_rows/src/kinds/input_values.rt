@@ -1,7 +1,7 @@
 //! Rows of input values.
 
 use crate::kinds::{call_of, word_of};
-use crate::write::{write_optional_text, write_separator, write_truth};
+use crate::write::{Written, write_optional_text, write_separator, write_truth};
 use indexmap::IndexMap;
 use juniper::{
     DefaultScalarValue, InputValue, IntoInputValue, Lexer, Parser, Span, Spanning, Variables,
@@ -26,26 +26,20 @@ pub(crate) fn literal(alloc: Global, text: &str) -> Result<Option<Input>, AllocE
 }
 
 /// `input_value`: calls on the value literal that the text begins with, `into_const` on a copy.
-pub fn calls(alloc: Global, text: &str, wanted: &str) -> Result<String, AllocError> {
-    let mut out = String::new(alloc);
+pub fn write_calls(alloc: Global, out: &mut String, text: &str, wanted: &str) -> Written {
     let Some(value) = literal(alloc, text)? else {
-        return String::from_str(alloc, "no value\n");
+        return out.push_str("no value\n");
     };
     for line in wanted.lines() {
         let call = call_of(line);
         write!(out, "{call} -> ")?;
-        answer_call(alloc, &mut out, &value, call)?;
+        answer_call(alloc, out, &value, call)?;
         out.push('\n')?;
     }
-    Ok(out)
+    Ok(())
 }
 
-fn answer_call(
-    alloc: Global,
-    out: &mut String,
-    value: &Input,
-    call: &str,
-) -> Result<(), AllocError> {
+fn answer_call(alloc: Global, out: &mut String, value: &Input, call: &str) -> Written {
     let (word, rest) = word_of(call);
     match word {
         "display" => write!(out, "{value}"),
@@ -57,13 +51,7 @@ fn answer_call(
 }
 
 // A call that gives a part of the value.
-fn answer_parts(
-    alloc: Global,
-    out: &mut String,
-    value: &Input,
-    word: &str,
-    rest: &str,
-) -> Result<(), AllocError> {
+fn answer_parts(alloc: Global, out: &mut String, value: &Input, word: &str, rest: &str) -> Written {
     match word {
         "as_scalar" => write_scalar(out, value),
         "to_list_value" => write_list(alloc, out, value),
@@ -74,13 +62,7 @@ fn answer_parts(
 }
 
 // A call that makes a value of the whole one.
-fn answer_whole(
-    alloc: Global,
-    out: &mut String,
-    value: &Input,
-    word: &str,
-    rest: &str,
-) -> Result<(), AllocError> {
+fn answer_whole(alloc: Global, out: &mut String, value: &Input, word: &str, rest: &str) -> Written {
     match word {
         "made_anew" => write_made_anew(alloc, out, value),
         "try_clone" => write_copied(alloc, out, value),
@@ -88,25 +70,19 @@ fn answer_whole(
     }
 }
 
-fn write_scalar(out: &mut String, value: &Input) -> Result<(), AllocError> {
+fn write_scalar(out: &mut String, value: &Input) -> Written {
     match value.as_scalar() {
         Some(scalar) => write!(out, "{scalar}"),
         None => out.push_str("None"),
     }
 }
 
-fn write_copied(alloc: Global, out: &mut String, value: &Input) -> Result<(), AllocError> {
+fn write_copied(alloc: Global, out: &mut String, value: &Input) -> Written {
     write_truth(out, value.try_clone(alloc)? == *value)
 }
 
 // A call on the value and another literal.
-fn answer_two(
-    alloc: Global,
-    out: &mut String,
-    value: &Input,
-    word: &str,
-    rest: &str,
-) -> Result<(), AllocError> {
+fn answer_two(alloc: Global, out: &mut String, value: &Input, word: &str, rest: &str) -> Written {
     let Some(other) = literal(alloc, rest)? else {
         return out.push_str("no value");
     };
@@ -118,7 +94,7 @@ fn answer_two(
     }
 }
 
-fn write_both_ways(out: &mut String, value: &Input, other: &Input) -> Result<(), AllocError> {
+fn write_both_ways(out: &mut String, value: &Input, other: &Input) -> Written {
     let there = value.unlocated_eq(other);
     let back = other.unlocated_eq(value);
     write!(out, "{there} {back}")
@@ -129,14 +105,14 @@ fn write_resolved(
     out: &mut String,
     value: &Input,
     variables: &Variables<DefaultScalarValue>,
-) -> Result<(), AllocError> {
+) -> Written {
     match value.try_clone(alloc)?.into_const(alloc, variables)? {
         Some(left) => write!(out, "{left}"),
         None => out.push_str("None"),
     }
 }
 
-fn write_list(alloc: Global, out: &mut String, value: &Input) -> Result<(), AllocError> {
+fn write_list(alloc: Global, out: &mut String, value: &Input) -> Written {
     let Some(items) = value.to_list_value(alloc)? else {
         return out.push_str("None");
     };
@@ -148,14 +124,14 @@ fn write_list(alloc: Global, out: &mut String, value: &Input) -> Result<(), Allo
     Ok(())
 }
 
-fn write_object(alloc: Global, out: &mut String, value: &Input) -> Result<(), AllocError> {
+fn write_object(alloc: Global, out: &mut String, value: &Input) -> Written {
     match value.to_object_value(alloc)? {
         Some(map) => write_map(out, &map),
         None => out.push_str("None"),
     }
 }
 
-fn write_map(out: &mut String, map: &IndexMap<&str, &Input>) -> Result<(), AllocError> {
+fn write_map(out: &mut String, map: &IndexMap<&str, &Input>) -> Written {
     let before = out.len();
     for (key, value) in map.iter() {
         write_separator(out, before)?;
@@ -164,7 +140,7 @@ fn write_map(out: &mut String, map: &IndexMap<&str, &Input>) -> Result<(), Alloc
     Ok(())
 }
 
-fn write_variables(alloc: Global, out: &mut String, value: &Input) -> Result<(), AllocError> {
+fn write_variables(alloc: Global, out: &mut String, value: &Input) -> Written {
     let before = out.len();
     for name in value.referenced_variables(alloc)? {
         write_separator(out, before)?;
@@ -188,7 +164,7 @@ pub(crate) fn variables_of(
 }
 
 // The display of the value that the constructors make of its parts, and what of it is as it was.
-fn write_made_anew(alloc: Global, out: &mut String, value: &Input) -> Result<(), AllocError> {
+fn write_made_anew(alloc: Global, out: &mut String, value: &Input) -> Written {
     let made = made_anew(alloc, value)?;
     write!(out, "{made}")?;
     if made.unlocated_eq(value) {

@@ -1,7 +1,7 @@
 //! Rows of a scalar type by choice: a row's text begins with its name.
 
 use crate::kinds::{scalars, word_of};
-use crate::write::write_failure;
+use crate::write::{Written, write_refusal};
 use juniper::{
     Definition, Field, OwnedDocument, ScalarValue, Selection, UnlocatedParseResult,
     parse_document_source,
@@ -9,55 +9,47 @@ use juniper::{
 use juniper_nodes::Literal;
 use juniper_odd::laws::documents_without_scalars;
 use juniper_odd::{OddError, RefuseAll, Thousandths};
-use std::alloc::{AllocError, Global};
+use std::alloc::Global;
 
 /// `odd_scalar`: calls on the scalar that a token is read as, as rows of `scalar` have them.
-pub fn scalar_calls(alloc: Global, text: &str, wanted: &str) -> Result<String, AllocError> {
+pub fn write_calls(alloc: Global, out: &mut String, text: &str, wanted: &str) -> Written {
     let (name, token) = word_of(text);
     match name {
-        "RefuseAll" => scalars::calls::<RefuseAll>(alloc, token, wanted),
-        "Thousandths" => scalars::calls::<Thousandths>(alloc, token, wanted),
-        "OddError" => scalars::calls::<OddError>(alloc, token, wanted),
-        "Literal" => scalars::calls::<Literal>(alloc, token, wanted),
-        _ => String::from_str(alloc, "no such type\n"),
+        "RefuseAll" => scalars::write_calls::<RefuseAll>(alloc, out, token, wanted),
+        "Thousandths" => scalars::write_calls::<Thousandths>(alloc, out, token, wanted),
+        "OddError" => scalars::write_calls::<OddError>(alloc, out, token, wanted),
+        "Literal" => scalars::write_calls::<Literal>(alloc, out, token, wanted),
+        _ => out.push_str("no such type\n"),
     }
 }
 
 /// `odd_document`: the arguments of a document's fields and their values, a line for each, or the refusal.
-pub fn arguments_of(alloc: Global, text: &str) -> Result<String, AllocError> {
+pub fn write_arguments_of(alloc: Global, out: &mut String, text: &str) -> Written {
     let (name, source) = word_of(text);
     match name {
-        "RefuseAll" => told(alloc, &documents_without_scalars(alloc, source)),
-        "Thousandths" => arguments_at::<Thousandths>(alloc, source),
-        "OddError" => arguments_at::<OddError>(alloc, source),
-        "Literal" => arguments_at::<Literal>(alloc, source),
-        _ => String::from_str(alloc, "no such type\n"),
+        "RefuseAll" => write_told(out, &documents_without_scalars(alloc, source)),
+        "Thousandths" => write_arguments_at::<Thousandths>(alloc, out, source),
+        "OddError" => write_arguments_at::<OddError>(alloc, out, source),
+        "Literal" => write_arguments_at::<Literal>(alloc, out, source),
+        _ => out.push_str("no such type\n"),
     }
 }
 
-fn arguments_at<S: ScalarValue>(alloc: Global, source: &str) -> Result<String, AllocError> {
-    told::<S>(alloc, &parse_document_source(alloc, source))
+fn write_arguments_at<S: ScalarValue>(alloc: Global, out: &mut String, source: &str) -> Written {
+    write_told::<S>(out, &parse_document_source(alloc, source))
 }
 
-fn told<S: ScalarValue>(
-    alloc: Global,
-    parsed: &UnlocatedParseResult<OwnedDocument<'_, S>>,
-) -> Result<String, AllocError> {
-    let mut out = String::new(alloc);
-    match parsed {
-        Ok(document) => write_definitions(&mut out, document)?,
-        Err(failure) => {
-            write_failure(&mut out, failure)?;
-            out.push('\n')?;
-        }
-    }
-    Ok(out)
-}
-
-fn write_definitions<S: ScalarValue>(
+fn write_told<S: ScalarValue>(
     out: &mut String,
-    document: &[Definition<'_, S>],
-) -> Result<(), AllocError> {
+    parsed: &UnlocatedParseResult<OwnedDocument<'_, S>>,
+) -> Written {
+    match parsed {
+        Ok(document) => write_definitions(out, document),
+        Err(failure) => write_refusal(out, failure),
+    }
+}
+
+fn write_definitions<S: ScalarValue>(out: &mut String, document: &[Definition<'_, S>]) -> Written {
     for definition in document {
         match definition {
             Definition::Operation(operation) => {
@@ -70,10 +62,7 @@ fn write_definitions<S: ScalarValue>(
 }
 
 // The arguments of the fields of a selection set, not of those within.
-fn write_fields<S: ScalarValue>(
-    out: &mut String,
-    selections: &[Selection<'_, S>],
-) -> Result<(), AllocError> {
+fn write_fields<S: ScalarValue>(out: &mut String, selections: &[Selection<'_, S>]) -> Written {
     for selection in selections {
         if let Selection::Field(field) = selection {
             write_arguments(out, &field.item)?;
@@ -82,10 +71,7 @@ fn write_fields<S: ScalarValue>(
     Ok(())
 }
 
-fn write_arguments<S: ScalarValue>(
-    out: &mut String,
-    field: &Field<'_, S>,
-) -> Result<(), AllocError> {
+fn write_arguments<S: ScalarValue>(out: &mut String, field: &Field<'_, S>) -> Written {
     let Some(arguments) = &field.arguments else {
         return Ok(());
     };

@@ -2,7 +2,7 @@
 
 use crate::kinds::input_values::converted;
 use crate::kinds::{call_of, word_of};
-use crate::write::{write_error, write_optional_text, write_truth};
+use crate::write::{Written, write_error, write_optional_text, write_truth};
 use juniper::{
     DefaultScalarValue, InputValue, ParseScalarResult, ParseScalarValue, ReadFailure, Scalar,
     ScalarToken, ScalarValue, ToScalarValue, WrongInputScalarTypeError, scalar_from_str,
@@ -10,26 +10,37 @@ use juniper::{
 use std::alloc::{AllocError, Global};
 
 /// `scalar`: calls on the scalar that a token is read as. The row's text is the token's kind, a space and its text.
-pub fn calls<S: ScalarValue>(
+pub fn write_calls<S: ScalarValue>(
     alloc: Global,
+    out: &mut String,
     text: &str,
     wanted: &str,
-) -> Result<String, AllocError> {
-    let mut out = String::new(alloc);
+) -> Written {
+    let scalar: ParseScalarResult<S> = read(alloc, text);
     for line in wanted.lines() {
         let call = call_of(line);
         write!(out, "{call} -> ")?;
-        match read::<S>(alloc, text) {
-            Ok(scalar) => answer_call(alloc, &mut out, &scalar, call)?,
-            Err(ReadFailure::Refused(error)) => {
-                out.push_str("Refused")?;
-                write_error(&mut out, &error)?;
-            }
-            Err(ReadFailure::Memory) => return Err(AllocError),
-        }
+        answer_read(alloc, out, &scalar, call)?;
         out.push('\n')?;
     }
-    Ok(out)
+    Ok(())
+}
+
+// A call on what a token is read as.
+fn answer_read<S: ScalarValue>(
+    alloc: Global,
+    out: &mut String,
+    scalar: &ParseScalarResult<S>,
+    call: &str,
+) -> Written {
+    match scalar {
+        Ok(scalar) => answer_call(alloc, out, scalar, call),
+        Err(ReadFailure::Refused(error)) => {
+            out.push_str("Refused")?;
+            write_error(out, error)
+        }
+        Err(ReadFailure::Memory) => Err(AllocError),
+    }
 }
 
 fn read<S: ScalarValue>(alloc: Global, text: &str) -> ParseScalarResult<S> {
@@ -43,12 +54,7 @@ fn read<S: ScalarValue>(alloc: Global, text: &str) -> ParseScalarResult<S> {
     S::from_str(alloc, token)
 }
 
-fn answer_call<S: ScalarValue>(
-    alloc: Global,
-    out: &mut String,
-    scalar: &S,
-    call: &str,
-) -> Result<(), AllocError> {
+fn answer_call<S: ScalarValue>(alloc: Global, out: &mut String, scalar: &S, call: &str) -> Written {
     let (word, rest) = word_of(call);
     match word {
         "from_str" => write!(out, "{scalar}"),
@@ -68,36 +74,44 @@ fn answer_owned<S: ScalarValue>(
     scalar: &S,
     word: &str,
     rest: &str,
-) -> Result<(), AllocError> {
+) -> Written {
     match word {
         "try_to_string" => write_owned(out, &scalar.try_to_string(alloc)?),
-        "try_into_string" => write_owned(out, &scalar.try_clone(alloc)?.try_into_string(alloc)?),
-        "try_clone" => write_truth(out, scalar.try_clone(alloc)? == *scalar),
-        "into_another" => write_made_of(out, &scalar.try_clone(alloc)?.into_another(alloc)?),
+        "try_into_string" => write_owned(out, &text_of(alloc, scalar)?),
+        "try_clone" => write_truth(out, is_copied(alloc, scalar)?),
+        "into_another" => write_made_of(out, &another(alloc, scalar)?),
         "made" => write_made(alloc, out, rest),
         _ => out.push_str("no such call"),
     }
 }
 
-fn write_int(out: &mut String, number: Option<i32>) -> Result<(), AllocError> {
+fn text_of<S: ScalarValue>(alloc: Global, scalar: &S) -> Result<Option<String>, AllocError> {
+    scalar.try_clone(alloc)?.try_into_string(alloc)
+}
+
+fn is_copied<S: ScalarValue>(alloc: Global, scalar: &S) -> Result<bool, AllocError> {
+    Ok(scalar.try_clone(alloc)? == *scalar)
+}
+
+fn another<S: ScalarValue>(alloc: Global, scalar: &S) -> Result<DefaultScalarValue, AllocError> {
+    scalar.try_clone(alloc)?.into_another(alloc)
+}
+
+fn write_int(out: &mut String, number: Option<i32>) -> Written {
     match number {
         Some(number) => write!(out, "{number}"),
         None => out.push_str("None"),
     }
 }
 
-fn write_bool(out: &mut String, truth: Option<bool>) -> Result<(), AllocError> {
+fn write_bool(out: &mut String, truth: Option<bool>) -> Written {
     match truth {
         Some(truth) => write_truth(out, truth),
         None => out.push_str("None"),
     }
 }
 
-fn write_wrong_type<S: ScalarValue>(
-    out: &mut String,
-    scalar: &S,
-    type_name: &str,
-) -> Result<(), AllocError> {
+fn write_wrong_type<S: ScalarValue>(out: &mut String, scalar: &S, type_name: &str) -> Written {
     let error = WrongInputScalarTypeError {
         type_name,
         input: scalar,
@@ -105,11 +119,11 @@ fn write_wrong_type<S: ScalarValue>(
     write!(out, "{error}")
 }
 
-fn write_made_of(out: &mut String, scalar: &DefaultScalarValue) -> Result<(), AllocError> {
+fn write_made_of(out: &mut String, scalar: &DefaultScalarValue) -> Written {
     write!(out, "{scalar}")
 }
 
-fn write_owned(out: &mut String, text: &Option<String>) -> Result<(), AllocError> {
+fn write_owned(out: &mut String, text: &Option<String>) -> Written {
     match text {
         Some(text) => out.push_str(text.as_str()),
         None => out.push_str("None"),
@@ -117,7 +131,7 @@ fn write_owned(out: &mut String, text: &Option<String>) -> Result<(), AllocError
 }
 
 // What the scalar is as a reference, and as a `Scalar`, which shows a text between quotes.
-fn write_lent<S: ScalarValue>(out: &mut String, scalar: &S) -> Result<(), AllocError> {
+fn write_lent<S: ScalarValue>(out: &mut String, scalar: &S) -> Written {
     match scalar.try_to::<&S>() {
         Ok(lent) => write!(out, "{lent} ")?,
         Err(never) => match never {},
@@ -129,18 +143,26 @@ fn write_lent<S: ScalarValue>(out: &mut String, scalar: &S) -> Result<(), AllocE
 }
 
 // The scalars that are made of a text, of an integer and of a truth value, and the input values of a text.
-fn write_made(alloc: Global, out: &mut String, text: &str) -> Result<(), AllocError> {
+fn write_made(alloc: Global, out: &mut String, text: &str) -> Written {
     write_made_of(out, &scalar_from_str(alloc, text)?)?;
     out.push(' ')?;
-    write_made_of(out, &String::from_str(alloc, text)?.to_scalar_value(alloc)?)?;
+    write_made_of(out, &owned(alloc, text)?)?;
     out.push(' ')?;
     write_constants(alloc, out)?;
-    let (one, other) = converted(alloc, text)?;
-    let is_equal = one == other && one == InputValue::scalar(scalar_from_str(alloc, text)?);
-    write!(out, "{is_equal}")
+    write_truth(out, is_converted(alloc, text)?)
 }
 
-fn write_constants(alloc: Global, out: &mut String) -> Result<(), AllocError> {
+fn owned(alloc: Global, text: &str) -> Result<DefaultScalarValue, AllocError> {
+    String::from_str(alloc, text)?.to_scalar_value(alloc)
+}
+
+// Whether the input values of a text are the one of its scalar.
+fn is_converted(alloc: Global, text: &str) -> Result<bool, AllocError> {
+    let (one, other) = converted(alloc, text)?;
+    Ok(one == other && one == InputValue::scalar(scalar_from_str(alloc, text)?))
+}
+
+fn write_constants(alloc: Global, out: &mut String) -> Written {
     let number: DefaultScalarValue = 7.to_scalar_value(alloc)?;
     let truth: DefaultScalarValue = true.to_scalar_value(alloc)?;
     write!(out, "{number} {truth} ")

@@ -1,9 +1,9 @@
 //! The lines of nodes: a span, the kind or the scalar, and what names the node, with its span where that is another one.
 
-use crate::write::write_span;
+use crate::write::{Written, write_span};
 use juniper::{DefaultScalarValue, Definition, InputValue, Span, Spanning, Type};
 use juniper_nodes::{Label, Node, document_nodes, value_nodes};
-use std::alloc::{AllocError, Global};
+use std::alloc::Global;
 
 type Scalars = DefaultScalarValue;
 
@@ -12,7 +12,7 @@ pub fn write_document(
     alloc: Global,
     out: &mut String,
     document: &[Definition<'_, Scalars>],
-) -> Result<(), AllocError> {
+) -> Written {
     write_nodes(out, &document_nodes(alloc, document)?)
 }
 
@@ -21,11 +21,11 @@ pub fn write_value(
     alloc: Global,
     out: &mut String,
     value: &Spanning<InputValue<Scalars>>,
-) -> Result<(), AllocError> {
+) -> Written {
     write_nodes(out, &value_nodes(alloc, value)?)
 }
 
-fn write_nodes(out: &mut String, nodes: &[Node<'_, '_, Scalars>]) -> Result<(), AllocError> {
+fn write_nodes(out: &mut String, nodes: &[Node<'_, '_, Scalars>]) -> Written {
     for node in nodes {
         write_node(out, node)?;
         out.push('\n')?;
@@ -33,7 +33,7 @@ fn write_nodes(out: &mut String, nodes: &[Node<'_, '_, Scalars>]) -> Result<(), 
     Ok(())
 }
 
-fn write_node(out: &mut String, node: &Node<'_, '_, Scalars>) -> Result<(), AllocError> {
+fn write_node(out: &mut String, node: &Node<'_, '_, Scalars>) -> Written {
     write_span(out, node.span)?;
     match node.scalar {
         Some(scalar) => write_scalar(out, scalar)?,
@@ -45,7 +45,7 @@ fn write_node(out: &mut String, node: &Node<'_, '_, Scalars>) -> Result<(), Allo
     write_label(out, node.span, &node.label)
 }
 
-fn write_scalar(out: &mut String, scalar: &Scalars) -> Result<(), AllocError> {
+fn write_scalar(out: &mut String, scalar: &Scalars) -> Written {
     match scalar {
         DefaultScalarValue::Int(number) => write!(out, " int {number}"),
         DefaultScalarValue::String(text) => write!(out, " string {text}"),
@@ -53,7 +53,7 @@ fn write_scalar(out: &mut String, scalar: &Scalars) -> Result<(), AllocError> {
     }
 }
 
-fn write_label(out: &mut String, span: &Span, label: &Label<'_, '_>) -> Result<(), AllocError> {
+fn write_label(out: &mut String, span: &Span, label: &Label<'_, '_>) -> Written {
     match label {
         Label::Unnamed => Ok(()),
         Label::Name(name) => write_name(out, span, name),
@@ -66,7 +66,7 @@ fn write_label(out: &mut String, span: &Span, label: &Label<'_, '_>) -> Result<(
     }
 }
 
-fn write_name(out: &mut String, span: &Span, name: &Spanning<&str>) -> Result<(), AllocError> {
+fn write_name(out: &mut String, span: &Span, name: &Spanning<&str>) -> Written {
     if name.span != *span {
         out.push(' ')?;
         write_span(out, &name.span)?;
@@ -76,7 +76,7 @@ fn write_name(out: &mut String, span: &Span, name: &Spanning<&str>) -> Result<()
 }
 
 /// Writes the line of a type literal.
-pub fn write_type(out: &mut String, literal: &Spanning<Type<&str>>) -> Result<(), AllocError> {
+pub fn write_type(out: &mut String, literal: &Spanning<Type<&str>>) -> Written {
     write_span(out, &literal.span)?;
     let shown = &literal.item;
     writeln!(out, " type {shown}")

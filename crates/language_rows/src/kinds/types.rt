@@ -1,21 +1,20 @@
 //! Rows of type literals that are made by their calls.
 
 use crate::kinds::{call_of, word_of};
-use crate::write::write_optional_text;
+use crate::write::{Written, write_optional_text};
 use juniper::{Type, TypeModifier};
 use std::alloc::{AllocError, Global};
 
 /// `type_literal`: calls on the type that the row's words make: a name, then from the innermost on `non_null`, `list`
 /// or `list=N` of a size.
-pub fn calls(alloc: Global, text: &str, wanted: &str) -> Result<String, AllocError> {
-    let mut out = String::new(alloc);
+pub fn write_calls(alloc: Global, out: &mut String, text: &str, wanted: &str) -> Written {
     for line in wanted.lines() {
         let call = call_of(line);
         write!(out, "{call} -> ")?;
-        answer_call(alloc, &mut out, &made(alloc, text)?, call)?;
+        answer_call(alloc, out, &made(alloc, text)?, call)?;
         out.push('\n')?;
     }
-    Ok(out)
+    Ok(())
 }
 
 fn made(alloc: Global, text: &str) -> Result<Type<String>, AllocError> {
@@ -32,12 +31,7 @@ fn made(alloc: Global, text: &str) -> Result<Type<String>, AllocError> {
     Ok(literal)
 }
 
-fn answer_call(
-    alloc: Global,
-    out: &mut String,
-    literal: &Type<String>,
-    call: &str,
-) -> Result<(), AllocError> {
+fn answer_call(alloc: Global, out: &mut String, literal: &Type<String>, call: &str) -> Written {
     let (word, rest) = word_of(call);
     match word {
         "display" => write!(out, "{literal}"),
@@ -64,7 +58,7 @@ fn answer_call(
     }
 }
 
-fn write_modifier(out: &mut String, modifier: &TypeModifier) -> Result<(), AllocError> {
+fn write_modifier(out: &mut String, modifier: &TypeModifier) -> Written {
     match modifier {
         TypeModifier::NonNull => out.push_str("non_null"),
         TypeModifier::List(None) => out.push_str("list"),
@@ -72,7 +66,7 @@ fn write_modifier(out: &mut String, modifier: &TypeModifier) -> Result<(), Alloc
     }
 }
 
-fn write_modifiers(out: &mut String, modifiers: &[TypeModifier]) -> Result<(), AllocError> {
+fn write_modifiers(out: &mut String, modifiers: &[TypeModifier]) -> Written {
     let before = out.len();
     for modifier in modifiers {
         if out.len() > before {
