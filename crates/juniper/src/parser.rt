@@ -4,6 +4,7 @@ pub(crate) mod depth;
 pub(crate) mod directives;
 pub(crate) mod document;
 pub(crate) mod items;
+pub(crate) mod lists;
 pub(crate) mod next;
 pub(crate) mod selection;
 pub(crate) mod sink;

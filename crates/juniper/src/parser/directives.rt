@@ -6,6 +6,7 @@ ghost use Rattle.juniper.specs.Scalars.{stated};
 ghost use Rattle.juniper.specs.Values.{view_list};
 ghost use Rattle.juniper.specs.Parts.{argument_read, arguments_inner_read, arguments_read, optional_arguments_read, directive_read, directives_read, spanned, view_spanned_directives};
 
+use crate::parser::lists::push_item;
 use crate::parser::next::next_is;
 use crate::parser::spans::{span_of, up_to};
 use crate::parser::value::parse_value;
@@ -36,7 +37,11 @@ fn parse_argument_list<'a, S: ScalarValue>(
 {
     let mut items = Vec::new(parser.allocator());
     loop {
-        items.push(parse_argument(parser)?)?;
+        push_item(
+            &mut items,
+            parse_argument(parser)?,
+            next_is(parser, Kind::ParenClose),
+        )?;
         if let Some(closing) = parser.skip(&Token::ParenClose)? {
             return Ok(Spanning::new(closing.span, items));
         }
@@ -95,7 +100,11 @@ pub(crate) fn parse_directives<'a, S: ScalarValue>(
 {
     let mut items = Vec::new(parser.allocator());
     while next_is(parser, Kind::At) {
-        items.push(parse_directive(parser)?)?;
+        push_item(
+            &mut items,
+            parse_directive(parser)?,
+            !next_is(parser, Kind::At),
+        )?;
     }
     Ok(Spanning::spanning(items))
 }

@@ -8,6 +8,7 @@ ghost use Rattle.juniper.specs.Definitions.{document_read};
 ghost use Rattle.juniper.specs.Promise.{HasTree, IsRefusal, IsRefusalInText, IfRefused, AnswersAs};
 
 use crate::parser::definition::parse_definition;
+use crate::parser::lists::push_item;
 use crate::parser::next::next_is;
 use crate::tree::ast::OwnedDocument;
 use juniper_tokens::{Kind, Lexer, Parser, UnlocatedParseResult};
@@ -43,8 +44,10 @@ pub(crate) fn parse_definitions<'a, S: ScalarValue>(
 {
     let mut definitions = Vec::new(parser.allocator());
     loop {
-        definitions.push(parse_definition(parser)?)?;
-        if next_is(parser, Kind::EndOfFile) {
+        let definition = parse_definition(parser)?;
+        let is_last = next_is(parser, Kind::EndOfFile);
+        push_item(&mut definitions, definition, is_last)?;
+        if is_last {
             return Ok(definitions);
         }
     }

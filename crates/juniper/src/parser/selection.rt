@@ -8,6 +8,7 @@ ghost use Rattle.juniper.specs.Values.{view_list};
 ghost use Rattle.juniper.specs.Selections.{view_names, view_spanned_set, view_inline_parts, names_read, selections_inner_read, set_read, optional_set_read, field_read, named_spread_read, inline_parts_read, inline_read, typed_read, spread_read, selection_read};
 
 use crate::parser::directives::{parse_directives, parse_optional_arguments};
+use crate::parser::lists::push_item;
 use crate::parser::next::{next_is, next_is_word};
 use crate::parser::spans::{from_part, item_of, span_of, up_to};
 use crate::tree::ast::{Directive, Field, FragmentSpread, InlineFragment, Selection};
@@ -40,10 +41,13 @@ fn parse_selection_list<'a, S: ScalarValue>(
     ensures gives { Gives (view_list (view_selection S.content)) result parser.new (selections_inner_read (stated S.reading S.of_bool) parser.old) }
     ensures shorter { OnOk result (length parser.new < length parser.old) }
 {
-    // Most sets have no more than three.
-    let mut items = Vec::with_capacity(parser.allocator(), 3)?;
+    let mut items = Vec::new(parser.allocator());
     loop {
-        items.push(parse_selection(parser)?)?;
+        push_item(
+            &mut items,
+            parse_selection(parser)?,
+            next_is(parser, Kind::CurlyClose),
+        )?;
         if let Some(closing) = parser.skip(&Token::CurlyClose)? {
             return Ok(Spanning::new(closing.span, items));
         }

@@ -13,7 +13,8 @@ ghost use Rattle.juniper.specs.Values.{view_list, values_read, fields_read, list
 ghost use Rattle.juniper.specs.Scalars.{stated};
 ghost use Rattle.juniper_values.specs.Scalar.{MeetsReading};
 
-use crate::parser::next::same_text;
+use crate::parser::lists::push_item;
+use crate::parser::next::{next_is, same_text};
 use juniper_tokens::{Kind, ParseError, ParseFailure, ParseResult, Parser, Spanning, Token};
 use juniper_values::{InputValue, ReadFailure, ScalarValue};
 use std::alloc::{AllocError, Global};
@@ -102,7 +103,11 @@ fn parse_items<'a, S: ScalarValue>(
         if let Some(closing) = parser.skip(&Token::BracketClose)? {
             return Ok(Spanning::new(closing.span, items));
         }
-        items.push(parse_value(parser, is_const)?)?;
+        push_item(
+            &mut items,
+            parse_value(parser, is_const)?,
+            next_is(parser, Kind::BracketClose),
+        )?;
     }
 }
 
@@ -138,7 +143,11 @@ fn parse_fields<'a, S: ScalarValue>(
         if let Some(closing) = parser.skip(&Token::CurlyClose)? {
             return Ok(Spanning::new(closing.span, fields));
         }
-        fields.push(parse_object_field(parser, is_const)?)?;
+        push_item(
+            &mut fields,
+            parse_object_field(parser, is_const)?,
+            next_is(parser, Kind::CurlyClose),
+        )?;
     }
 }
 

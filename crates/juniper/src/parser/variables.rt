@@ -7,6 +7,7 @@ ghost use Rattle.juniper.specs.Values.{view_list};
 ghost use Rattle.juniper.specs.Parts.{default_read, variable_definition_read, variables_inner_read, variables_read, optional_variables_read};
 
 use crate::parser::directives::parse_directives;
+use crate::parser::lists::push_item;
 use crate::parser::next::next_is;
 use crate::parser::spans::item_of;
 use crate::parser::types::parse_any_type;
@@ -63,7 +64,11 @@ fn parse_variable_list<'a, S: ScalarValue>(
 {
     let mut items = Vec::new(parser.allocator());
     loop {
-        items.push(parse_variable_definition(parser)?)?;
+        push_item(
+            &mut items,
+            parse_variable_definition(parser)?,
+            next_is(parser, Kind::ParenClose),
+        )?;
         if let Some(closing) = parser.skip(&Token::ParenClose)? {
             return Ok(Spanning::new(closing.span, items));
         }

@@ -39,12 +39,12 @@ returns-in-Some-clause-gives g c =
     (view_argument g.S.ParseScalarValue.content c.in_ok-parse_argument.field-0) (view_token c.in-Some.closing)
     c.parse_argument.new.parser c.skip.new.self c.in_ok-parse_argument.ensures.gives
     (rw c.in-Some.is at c.in_ok-closing.ensures.gives)
-    ∙ rw (c.new.ensures, c.in_ok-push.ensures.items, map-append) refl
+    ∙ rw (c.new.ensures, c.in_ok-push_item.ensures.items, map-append) refl
 
 pub loop-items-preserved : goal.loop-items-preserved
 loop-items-preserved g c =
     let scalars = stated g.S.ParseScalarValue.reading g.S.ScalarValue.of_bool in record {
-      so_far = rw (c.in_ok-push.ensures.items, map-append)
+      so_far = rw (c.in_ok-push_item.ensures.items, map-append)
           (some_go_on (skip_at token.ParenClose) (argument_read scalars) (arguments_inner_read scalars)
           (arguments_repeat scalars) (map (view_argument g.S.ParseScalarValue.content) c.loop-items.items.items)
           c.loop-items.parser _ c.loop-items.invariant.so_far

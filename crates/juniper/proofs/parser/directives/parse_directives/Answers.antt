@@ -33,7 +33,7 @@ returns-in_err-parse_directive-clause-gives g c =
 pub loop-items-preserved : goal.loop-items-preserved
 loop-items-preserved g c =
     let scalars = stated g.S.ParseScalarValue.reading g.S.ScalarValue.of_bool in record {
-      so_far = rw (c.in_ok-push.ensures.items, map-append)
+      so_far = rw (c.in_ok-push_item.ensures.items, map-append)
           (before_go_on (map (view_directive g.S.ParseScalarValue.content) c.loop-items.items.items)
           (directive_read scalars c.loop-items.parser) (each_directive_read scalars)
           ((each_directive_read scalars) c.loop-items.parser) ((each_directive_read scalars) c.args.parser.now)

@@ -20,8 +20,7 @@ pub parse_selection_list-returns-in_err-parse_selection-clause-gives :
     goal.parse_selection_list-returns-in_err-parse_selection-clause-gives
 parse_selection_list-returns-in_err-parse_selection-clause-gives g t c =
     let scalars = stated g.S.ParseScalarValue.reading g.S.ScalarValue.of_bool in
-    let p = err_from_is_err_and c.from_residual-in_err-parse_selection.result
-    c.from_residual-in_err-parse_selection.ensures.1 in
+    let p = err_from_is_err_and c.from_residual.result c.from_residual.ensures.1 in
     rw (p.1, p.2) (some_item_fails (skip_at token.CurlyClose) (selection_read scalars) (selections_inner_read scalars)
     (selections_repeat scalars) (map (view_selection g.S.ParseScalarValue.content) c.loop-items.items.items)
     c.loop-items.parser _ c.loop-items.invariant.so_far c.in_err-parse_selection.field-0.0
@@ -47,12 +46,12 @@ parse_selection_list-returns-in-Some-clause-gives g t c =
     (view_selection g.S.ParseScalarValue.content c.in_ok-parse_selection.field-0) (view_token c.in-Some.closing)
     c.parse_selection.new.parser c.skip.new.self c.in_ok-parse_selection.ensures.gives
     (rw c.in-Some.is at c.in_ok-closing.ensures.gives)
-    ∙ rw (c.new.ensures, c.in_ok-push.ensures.items, map-append) refl
+    ∙ rw (c.new.ensures, c.in_ok-push_item.ensures.items, map-append) refl
 
 pub parse_selection_list-loop-items-preserved : goal.parse_selection_list-loop-items-preserved
 parse_selection_list-loop-items-preserved g t c =
     let scalars = stated g.S.ParseScalarValue.reading g.S.ScalarValue.of_bool in record {
-      so_far = rw (c.in_ok-push.ensures.items, map-append)
+      so_far = rw (c.in_ok-push_item.ensures.items, map-append)
           (some_go_on (skip_at token.CurlyClose) (selection_read scalars) (selections_inner_read scalars)
           (selections_repeat scalars) (map (view_selection g.S.ParseScalarValue.content) c.loop-items.items.items)
           c.loop-items.parser _ c.loop-items.invariant.so_far

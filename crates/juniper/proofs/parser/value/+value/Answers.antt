@@ -50,7 +50,7 @@ parse_items-returns-in_err-parse_value-clause-gives g t c =
 pub parse_items-loop-items-preserved : goal.parse_items-loop-items-preserved
 parse_items-loop-items-preserved g t c =
     let scalars = stated g.S.ParseScalarValue.reading g.S.ScalarValue.of_bool in record {
-      so_far = rw (c.in_ok-push.ensures.items, map-append)
+      so_far = rw (c.in_ok-push_item.ensures.items, map-append)
           (goes_on (skip_at token.BracketClose) (value_read scalars (not c.args.is_const))
           (values_read scalars (not c.args.is_const)) (values_repeat scalars (not c.args.is_const))
           (map (view_value g.S.ParseScalarValue.content) c.loop-items.items.items) c.loop-items.parser _
@@ -96,7 +96,7 @@ parse_fields-returns-in_err-parse_object_field-clause-gives g t c =
 pub parse_fields-loop-fields-preserved : goal.parse_fields-loop-fields-preserved
 parse_fields-loop-fields-preserved g t c =
     let scalars = stated g.S.ParseScalarValue.reading g.S.ScalarValue.of_bool in record {
-      so_far = rw (c.in_ok-push.ensures.items, map-append)
+      so_far = rw (c.in_ok-push_item.ensures.items, map-append)
           (goes_on (skip_at token.CurlyClose) (field_read scalars (not c.args.is_const))
           (fields_read scalars (not c.args.is_const)) (fields_repeat scalars (not c.args.is_const))
           (map (view_object_field g.S.ParseScalarValue.content) c.loop-fields.fields.items) c.loop-fields.parser _
@@ -136,8 +136,8 @@ parse_items-returns-in_err-parse_value-clause-rest g t c =
     further _ _ _ c.loop-items.invariant.rest
     (further _ _ _ c.in_ok-closing.ensures.rest c.in_err-parse_value.ensures.rest)
 
-pub parse_items-returns-in_err-push-clause-rest : goal.parse_items-returns-in_err-push-clause-rest
-parse_items-returns-in_err-push-clause-rest g t c =
+pub parse_items-returns-in_err-push_item-clause-rest : goal.parse_items-returns-in_err-push_item-clause-rest
+parse_items-returns-in_err-push_item-clause-rest g t c =
     further _ _ _ c.loop-items.invariant.rest
     (further _ _ _ c.in_ok-closing.ensures.rest c.in_ok-parse_value.ensures.rest)
 
@@ -154,8 +154,8 @@ parse_fields-returns-in_err-parse_object_field-clause-rest g t c =
     further _ _ _ c.loop-fields.invariant.rest
     (further _ _ _ c.in_ok-closing.ensures.rest c.in_err-parse_object_field.ensures.rest)
 
-pub parse_fields-returns-in_err-push-clause-rest : goal.parse_fields-returns-in_err-push-clause-rest
-parse_fields-returns-in_err-push-clause-rest g t c =
+pub parse_fields-returns-in_err-push_item-clause-rest : goal.parse_fields-returns-in_err-push_item-clause-rest
+parse_fields-returns-in_err-push_item-clause-rest g t c =
     further _ _ _ c.loop-fields.invariant.rest
     (further _ _ _ c.in_ok-closing.ensures.rest c.in_ok-parse_object_field.ensures.rest)
 

@@ -1,0 +1,24 @@
+//! Lists that grow item by item.
+ghost use Rattle.std.specs.Prelude.{◌≡◌, ◌++◌, ◌∷◌, [], OnOk};
+
+use std::alloc::AllocError;
+
+// Room for so many is asked for at the first of several items. Most lists have no more.
+const FEW: usize = 3;
+
+/// Adds an item behind the others. The first one of a list asks for room for itself alone, if it is the last one too, so
+/// that a list of one item has no room that stays empty.
+#[inline(always)]
+pub(crate) fn push_item<T: Drop>(
+    items: &mut Vec<T>,
+    item: T,
+    is_last: bool,
+) -> Result<(), AllocError>
+    ensures items { OnOk result (items.new.items ≡ items.old.items ++ item ∷ []) }
+{
+    if items.is_empty() {
+        items.reserve_exact(if is_last { 1 } else { FEW })?;
+    }
+    items.push(item)?;
+    Ok(())
+}
