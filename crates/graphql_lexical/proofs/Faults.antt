@@ -16,7 +16,7 @@ use Rattle.graphql_lexical.proofs.Blocks.{block_open, stops_at}
 use Rattle.graphql_lexical.proofs.Spelled.{accepts, starts_run}
 use Rattle.graphql_lexical.proofs.Readings.{Reached, reached, starts_longest, front_read, spells_accepts}
 use Rattle.graphql_lexical.proofs.Units.{NoUnit, NoScalar, units_longest, units_stop, backslash_stop, no_scalar_unit, hex0_stop, hex1_stop, hexd_stop, hex2_stop, hex3_stop}
-use Rattle.graphql_lexical.proofs.NumberFronts.{begins_take, begins_append, longest_number, zero_begins, base_begins}
+use Rattle.graphql_lexical.proofs.NumberFronts.{begins_take, begins_append, longest_number, zero_begins, integer_begins, base_begins}
 use Rattle.graphql_lexical.proofs.Escapes.{same_Err, u_fails}
 
 abbrev pub FailsAs : List ℕ → Missed → Type 0
@@ -252,7 +252,7 @@ answer_missed Minus n rest m h r e = number_missed n rest (drop n rest) Minus m 
 answer_missed Zero n rest m h r e = zero_missed n rest (drop n rest) m h refl r e
 answer_missed Digits n rest m h r e = absurd (not_missed n Int rest m e)
 answer_missed Point n rest m h r e = number_missed n rest (drop n rest) Point m h refl refl
-    (begins_base r.0 (46 ∷ []) (take n rest) r.1 (inl r.2)) e
+    (rw r.1 (begins_append r.0 (46 ∷ []) (integer_begins r.0 r.2))) e
 answer_missed Fraction n rest m h r e = absurd (not_missed n Float rest m e)
 answer_missed ExponentMark n rest m h r e =
     number_missed n rest (drop n rest) ExponentMark m h refl refl (begins_base r.0 (r.1 ∷ []) (take n rest) r.2 r.3) e

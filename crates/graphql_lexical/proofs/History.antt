@@ -7,15 +7,16 @@ use Rattle.std.proofs.lemmas.Bool.{eqb-true}
 use Rattle.std.proofs.lemmas.Option.{none-some, same_Some}
 use Rattle.graphql_lexical.specs.Characters.{is_digit, is_name_character, is_exponent_mark, is_sign, is_hex}
 use Rattle.graphql_lexical.specs.Kinds.{Kind, String, Ellipsis, all_kinds, Fixed, spelling, character_of}
-use Rattle.graphql_lexical.specs.Tokens.{IsName, AreSomeDigits, IsZero, IsCounting, IsLongInteger, IsInteger, IsFraction, IsExponent, IsDecimal, IsUnit, plain, escape, unicode, AreUnits, Admits, Spells, is_character, punctuator, mark}
+use Rattle.graphql_lexical.specs.Tokens.{IsName, AreSomeDigits, IsZero, IsLongInteger, IsInteger, IsFraction, IsExponent, IsUnit, plain, escape, unicode, AreUnits, Admits, Spells, is_character, punctuator, mark}
 use Rattle.graphql_lexical.specs.device.Scan.{State, Start, Done, OneDot, TwoDots, InName, Minus, Zero, Digits, Point, Fraction, ExponentMark, ExponentSign, Exponent, InString, Backslash, NoHexDigit, OneHexDigit, HexDigitD, TwoHexDigits, ThreeHexDigits, is_hex_d, step, Quote, EmptyString, InBlock, Block, Inside, block_step}
 use Rattle.graphql_lexical.proofs.EachKind.{lone_spelling}
 use Rattle.graphql_lexical.proofs.Runs.{run, kept_run, run_on}
 use Rattle.graphql_lexical.proofs.Numbers.{IsPair, pair_d, pair_other, scalar_from}
 
--- an integer part or a decimal
+-- an integer part, and a fraction or nothing
 abbrev pub IsBase : List ℕ → Type 0
-IsBase base = IsInteger base ⊎ IsDecimal base
+IsBase base = (whole : List ℕ) × (fraction : List ℕ) × (base ≡ whole ++ fraction) × IsInteger whole
+    × ((fraction ≡ []) ⊎ IsFraction fraction)
 
 -- a quote, units, and this tail
 pub record IsOpen (tail text : List ℕ) : Type 0 where
@@ -33,7 +34,7 @@ IsRead Minus t = t ≡ 45 ∷ []
 IsRead Zero t = IsZero t
 IsRead Digits t = IsLongInteger t
 IsRead Point t = (w : List ℕ) × (t ≡ w ++ 46 ∷ []) × IsInteger w
-IsRead Fraction t = IsDecimal t
+IsRead Fraction t = (w : List ℕ) × (f : List ℕ) × (t ≡ w ++ f) × IsInteger w × IsFraction f
 IsRead ExponentMark t = (b : List ℕ) × (e : ℕ) × (t ≡ b ++ e ∷ []) × IsBase b × IsTrue (is_exponent_mark e)
 IsRead ExponentSign t = (b : List ℕ) × (e : ℕ) × (s : ℕ) × (t ≡ b ++ e ∷ s ∷ []) × IsBase b
     × IsTrue (is_exponent_mark e) × IsTrue (is_sign s)
@@ -108,15 +109,6 @@ open_unit u t h x = record {
 pub digits_push : (ds : List ℕ) (c : ℕ) → AreSomeDigits ds → IsTrue (is_digit c) → AreSomeDigits (ds ++ c ∷ [])
 digits_push ds c h p = (omega (arith, length-append ds (c ∷ [])), All_push (λ d. IsTrue (is_digit d)) ds c h.1 p)
 
-pub counting_push : (ds : List ℕ) (c : ℕ) → IsCounting ds → IsTrue (is_digit c) → IsCounting (ds ++ c ∷ [])
-counting_push ds c h p = (
-  h.0,
-  h.1 ++ c ∷ [],
-  ap (λ (x : List ℕ). x ++ c ∷ []) h.2,
-  h.3,
-  All_push (λ d. IsTrue (is_digit d)) h.1 c h.4 p,
-)
-
 pub fraction_push : (f : List ℕ) (c : ℕ) → IsFraction f → IsTrue (is_digit c) → IsFraction (f ++ c ∷ [])
 fraction_push f c h p = (h.0 ++ c ∷ [], ap (λ (x : List ℕ). x ++ c ∷ []) h.1, digits_push h.0 c h.2 p)
 
@@ -172,7 +164,10 @@ in_block_read part t c (Some next) h r p e =
     subst (λ (s : State). IsRead s (t ++ c ∷ [])) (same_Some (InBlock next) p e)
     (r.0 ++ c ∷ [], ap (λ (x : List ℕ). x ++ c ∷ []) r.1, block_push part next r.0 c r.2 h)
 
--- a mark after an integer part or a decimal
+integer_base : (t : List ℕ) → IsInteger t → IsBase t
+integer_base t h = (t, [], sym (append-nil t), h, inl refl)
+
+-- a mark after an integer part, or after a fraction
 mark_read : (t : List ℕ) (c : ℕ) → IsBase t → IsTrue (is_exponent_mark c) → IsRead ExponentMark (t ++ c ∷ [])
 mark_read t c h g = (t, c, refl, h, g)
 
@@ -181,7 +176,7 @@ read_step Start t c r =
     subst (λ (x : List ℕ). (p : State) → step Start c ≡ Some p → IsRead p (x ++ c ∷ [])) (sym r) (
     let P = λ (p : State). IsRead p (c ∷ []) in
     let at : (n : ℕ) → IsTrue (eqb c n) → c ∷ [] ≡ n ∷ [] = λ n h. ap (λ (x : ℕ). x ∷ []) (eqb-true c n h) in
-    if_then P _ Digits _ (λ h. inl (c, [], refl, h, tt)) (
+    if_then P _ Digits _ (λ h. ([], c, [], refl, inl refl, h, tt)) (
     if_then P _ InName _ (λ h. (c, [], refl, h, tt)) (
     if_then P _ Zero _ (λ h. inl (at 48 h)) (
     if_then P _ Minus _ (at 45) (
@@ -207,20 +202,25 @@ read_step InName t c r =
     )) (if_none P)
 read_step Minus t c r =
     let P = λ (p : State). IsRead p (t ++ c ∷ []) in
-    if_then P _ Digits _ (λ h. inr (c ∷ [], ap (λ (x : List ℕ). x ++ c ∷ []) r, (c, [], refl, h, tt))) (
+    if_then P _ Digits _ (λ h. (45 ∷ [], c, [], ap (λ (x : List ℕ). x ++ c ∷ []) r, inr refl, h, tt)) (
     if_then P _ Zero _ (λ h. inr (rw (r, eqb-true c 48 h) refl)) (if_none P))
 read_step Zero t c r =
     let P = λ (p : State). IsRead p (t ++ c ∷ []) in
     if_then P _ Point _ (λ h. (t, ap (λ (x : ℕ). t ++ x ∷ []) (eqb-true c 46 h), inl r)) (
-    if_then P _ ExponentMark _ (λ h. mark_read t c (inl (inl r)) h) (if_none P))
+    if_then P _ ExponentMark _ (λ h. mark_read t c (integer_base t (inl r)) h) (if_none P))
 read_step Digits t c r =
     let P = λ (p : State). IsRead p (t ++ c ∷ []) in
-    if_then P _ Digits _ (λ h. elim r [
-      | inl x ↦ inl (counting_push t c x h)
-      | inr x ↦ inr (x.0 ++ c ∷ [], ap (λ (y : List ℕ). y ++ c ∷ []) x.1, counting_push x.0 c x.2 h)
-    ]) (
+    if_then P _ Digits _ (λ h. (
+      r.0,
+      r.1,
+      r.2 ++ c ∷ [],
+      end_push t r.0 (r.1 ∷ r.2) c r.3,
+      r.4,
+      r.5,
+      All_push (λ d. IsTrue (is_digit d)) r.2 c r.6 h,
+    )) (
     if_then P _ Point _ (λ h. (t, ap (λ (x : ℕ). t ++ x ∷ []) (eqb-true c 46 h), inr r)) (
-    if_then P _ ExponentMark _ (λ h. mark_read t c (inl (inr r)) h) (if_none P)))
+    if_then P _ ExponentMark _ (λ h. mark_read t c (integer_base t (inr r)) h) (if_none P)))
 read_step Point t c r =
     let P = λ (p : State). IsRead p (t ++ c ∷ []) in
     if_then P _ Fraction _ (λ h. (
@@ -233,7 +233,7 @@ read_step Point t c r =
 read_step Fraction t c r =
     let P = λ (p : State). IsRead p (t ++ c ∷ []) in
     if_then P _ Fraction _ (λ h. (r.0, r.1 ++ c ∷ [], end_push t r.0 r.1 c r.2, r.3, fraction_push r.1 c r.4 h)) (
-    if_then P _ ExponentMark _ (λ h. mark_read t c (inr r) h) (if_none P))
+    if_then P _ ExponentMark _ (λ h. mark_read t c (r.0, r.1, r.2, r.3, inr r.4) h) (if_none P))
 read_step ExponentMark t c r =
     let P = λ (p : State). IsRead p (t ++ c ∷ []) in
     if_then P _ Exponent _ (λ h. (

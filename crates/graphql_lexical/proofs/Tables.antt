@@ -24,7 +24,7 @@ use Rattle.graphql_lexical.proofs.HexPlaces.{further, hex_place, hex_answer}
 -- ---- numbers
 
 digit_starts : (c : ℕ) → IsTrue (is_digit c) → (b : Bool) → is_nonzero_digit c ≡ b → Starts (c ∷ [])
-digit_starts c d true e = ([], Int, inr (inl (c, [], refl, e, tt)))
+digit_starts c d true e = ([], Int, inr ([], c, [], refl, inl refl, e, tt))
 digit_starts c d false e = let z = zero_is c d e in ([], Int, inl (inl (ap (λ (x : ℕ). x ∷ []) z)))
   where
     zero_is : (c : ℕ) → IsTrue (is_digit c) → is_nonzero_digit c ≡ false → c ≡ 48

@@ -28,13 +28,9 @@ AreSomeDigits text = (0 < length text) × AreDigits text
 abbrev pub IsZero : List ℕ → Type 0
 IsZero text = (text ≡ 48 ∷ []) ⊎ (text ≡ 45 ∷ 48 ∷ [])
 
--- a digit from 1 on, then any digits
-abbrev pub IsCounting : List ℕ → Type 0
-IsCounting text = (d : ℕ) × (ds : List ℕ) × (text ≡ d ∷ ds) × IsTrue (is_nonzero_digit d) × AreDigits ds
-
--- an optional `-`, and such digits
+-- an optional `-`, a digit from 1 on, then any digits
 abbrev pub IsLongInteger : List ℕ → Type 0
-IsLongInteger text = IsCounting text ⊎ ((ds : List ℕ) × (text ≡ 45 ∷ ds) × IsCounting ds)
+IsLongInteger text = (sign : List ℕ) × (d : ℕ) × (ds : List ℕ) × (text ≡ sign ++ d ∷ ds) × ((sign ≡ []) ⊎ (sign ≡ 45 ∷ [])) × IsTrue (is_nonzero_digit d) × AreDigits ds
 
 abbrev pub IsInteger : List ℕ → Type 0
 IsInteger text = IsZero text ⊎ IsLongInteger text
@@ -43,21 +39,13 @@ IsInteger text = IsZero text ⊎ IsLongInteger text
 abbrev pub IsFraction : List ℕ → Type 0
 IsFraction text = (ds : List ℕ) × (text ≡ 46 ∷ ds) × AreSomeDigits ds
 
--- an optional sign
-abbrev pub IsOptionalSign : List ℕ → Type 0
-IsOptionalSign text = (text ≡ []) ⊎ ((s : ℕ) × (text ≡ s ∷ []) × IsTrue (is_sign s))
-
 -- `e` or `E`, an optional sign, and digits
 abbrev pub IsExponent : List ℕ → Type 0
-IsExponent text = (e : ℕ) × (sign : List ℕ) × (ds : List ℕ) × (text ≡ e ∷ sign ++ ds) × IsTrue (is_exponent_mark e) × IsOptionalSign sign × AreSomeDigits ds
+IsExponent text = (e : ℕ) × (sign : List ℕ) × (ds : List ℕ) × (text ≡ e ∷ sign ++ ds) × IsTrue (is_exponent_mark e) × ((sign ≡ []) ⊎ ((s : ℕ) × (sign ≡ s ∷ []) × IsTrue (is_sign s))) × AreSomeDigits ds
 
--- an integer part and a fraction
-abbrev pub IsDecimal : List ℕ → Type 0
-IsDecimal text = (whole : List ℕ) × (fraction : List ℕ) × (text ≡ whole ++ fraction) × IsInteger whole × IsFraction fraction
-
--- a decimal, or an exponent after an integer part or a decimal
+-- an integer part, then a fraction, an exponent, or both
 abbrev pub IsFloat : List ℕ → Type 0
-IsFloat text = IsDecimal text ⊎ ((base : List ℕ) × (exponent : List ℕ) × (text ≡ base ++ exponent) × (IsInteger base ⊎ IsDecimal base) × IsExponent exponent)
+IsFloat text = (whole : List ℕ) × (fraction : List ℕ) × (exponent : List ℕ) × (text ≡ whole ++ (fraction ++ exponent)) × IsInteger whole × ((IsFraction fraction × (exponent ≡ [])) ⊎ (((fraction ≡ []) ⊎ IsFraction fraction) × IsExponent exponent))
 
 -- ---- strings
 
