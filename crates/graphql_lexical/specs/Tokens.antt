@@ -132,17 +132,13 @@ quotes Ints = []
 quotes (Fixed fixed) = []
 quotes NoText = []
 
--- what a token of this kind has on each side of its text
-abbrev pub quotes_of : Kind → List ℕ
-quotes_of kind = quotes (spelling kind)
-
 abbrev pub between : List ℕ → List ℕ → List ℕ
 between [] whole = whole
 between (q ∷ qs) whole = take (length whole - 2 * length (q ∷ qs)) (drop (length (q ∷ qs)) whole)
 
 -- the token's text: for a string what stands between its quotes, for a block string between its marks of three
 abbrev pub text_of : Kind → List ℕ → List ℕ
-text_of kind whole = between (quotes_of kind) whole
+text_of kind whole = between (quotes (spelling kind)) whole
 
 -- some token begins with the text
 abbrev pub Starts : List ℕ → Type 0

@@ -6,7 +6,8 @@ use Rattle.std.proofs.lemmas.Str.{len_utf8_bounds}
 use Rattle.std.proofs.lemmas.List.{take-append-drop, length-take-le, drop-drop}
 use Rattle.std.proofs.lemmas.List.Sums.{sum_by-cons}
 use Rattle.graphql_lexical.specs.declared.kind.Kind.TheVariants.{EndOfFile}
-use Rattle.graphql_lexical.specs.Tokens.{quotes_of, between}
+use Rattle.graphql_lexical.specs.Kinds.{spelling}
+use Rattle.graphql_lexical.specs.Tokens.{quotes, between}
 use Rattle.graphql_lexical.specs.Reading.{Reads}
 use Rattle.graphql_lexical.specs.Cutting.{Lexeme, Leads}
 use Rattle.graphql_lexical.proofs.Cuts.{reads_size}
@@ -47,7 +48,7 @@ reads_bytes (c ∷ cs) n t r none =
     let whole = take n (c ∷ cs) in
     let some = reads_size (c ∷ cs) n t.kind t.text r none in
     let text : size t.text ≤ size whole =
-    subst (λ (u : Text). size u ≤ size whole) (sym r.text_is) (between_is_short (quotes_of t.kind) whole) in
+    subst (λ (u : Text). size u ≤ size whole) (sym r.text_is) (between_is_short (quotes (spelling t.kind)) whole) in
     let bytes : 1 ≤ size whole = omega (arith, some.0, some.1, some_bytes whole, length-take-le n (c ∷ cs) some.1) in
     one_or (size t.text) (size whole) bytes text
 
