@@ -11,7 +11,7 @@ use Rattle.graphql_lexical.specs.Characters.{is_white, is_digit, is_name_charact
 use Rattle.graphql_lexical.specs.Place.{Place, place, place_after}
 use Rattle.graphql_lexical.specs.Kinds.{Kind, Name, EndOfFile, Fixed, spelling, character_of}
 use Rattle.graphql_lexical.specs.Tokens.{Admits, Spells, text_of}
-use Rattle.graphql_lexical.specs.Reading.{Longest, BeginsWithDigit, Reads}
+use Rattle.graphql_lexical.specs.Reading.{Longest, Reads}
 use Rattle.graphql_lexical.specs.Cutting.{IsGap, Lexeme, Stands, Leads, Cut}
 use Rattle.graphql_lexical.specs.device.Machines.{reach}
 use Rattle.graphql_lexical.specs.device.Scan.{State, Start, Done, InName, Zero, Digits, Fraction, Exponent, step, Found, Missed, answer, scan, gap_step, gap_size, EmptyString, InBlock, Closed}
@@ -20,7 +20,7 @@ use Rattle.graphql_lexical.specs.laws.Joining.{is_lone, BeginsApart, IsSeam, Joi
 use Rattle.graphql_lexical.proofs.EachKind.{each_kind, lone_spelling}
 use Rattle.graphql_lexical.proofs.Runs.{Stops, Reaches, reach_is, reach_on, Longest_same}
 use Rattle.graphql_lexical.proofs.Spelled.{accepts}
-use Rattle.graphql_lexical.proofs.Readings.{Reached, reached, Finds, answer_finds, accepts_answer, scan_reads, reads_scan}
+use Rattle.graphql_lexical.proofs.Readings.{NoDigit, no_digit, Reached, reached, Finds, answer_finds, accepts_answer, scan_reads, reads_scan}
 use Rattle.graphql_lexical.proofs.Gaps.{gap_longest}
 use Rattle.graphql_lexical.proofs.Cuts.{reads_size, stands_size, leads_size}
 
@@ -51,16 +51,16 @@ stops_more : {S : Type 0} (step : S → ℕ → Option S) (p : S) (t b : List �
 stops_more step p [] b s f = f refl
 stops_more step p (c ∷ t) b s f = s
 
-digit_more : (t b : List ℕ) → (BeginsWithDigit t → ⊥) → (t ≡ [] → BeginsWithDigit b → ⊥) → BeginsWithDigit (t ++ b) → ⊥
+digit_more : (t b : List ℕ) → NoDigit t → (t ≡ [] → NoDigit b) → NoDigit (t ++ b)
 digit_more [] b s f = f refl
-digit_more (c ∷ t) b s f = s
+digit_more (c ∷ t) b s f = no_digit c (t ++ b) (s c t refl)
 
 -- ---- a token goes no further
 
 -- no token of this state goes on into b
 pub record Ends (q : State) (b : List ℕ) : Type 0 where
   pub stops : Stops step q b
-  pub no_digit : q ≡ Zero → BeginsWithDigit b → ⊥
+  pub no_digit : q ≡ Zero → NoDigit b
 
 found_more : (q : State) (c : ℕ) (cs b : List ℕ) (n : ℕ) (f : Found) → Reached (c ∷ cs) n q → Finds q n (c ∷ cs) f
     → (drop n (c ∷ cs) ≡ [] → Ends q b) → scan ((c ∷ cs) ++ b) ≡ Ok f
@@ -68,8 +68,8 @@ found_more q c cs b n f h g e =
     let rest : List ℕ = c ∷ cs in
     let r = reach_longer step Start q rest b n h (stops_more step q (drop n rest) b h.stops (λ z. (e z).stops)) in
     let d : drop n (rest ++ b) ≡ drop n rest ++ b = drop-append-le n rest b h.within in
-    let alone : q ≡ Zero → BeginsWithDigit (drop n (rest ++ b))
-    → ⊥ = λ z x. digit_more (drop n rest) b (g.alone z) (λ w. (e w).no_digit z) (subst BeginsWithDigit d x) in
+    let alone : q ≡ Zero → NoDigit (drop n (rest ++ b)) =
+    λ z. subst NoDigit (sym d) (digit_more (drop n rest) b (g.alone z) (λ w. (e w).no_digit z)) in
     ap₂ (λ (i : ℕ) (p : State). answer p i (rest ++ b)) r.0 r.1
     ∙ (accepts_answer q n (rest ++ b) f.kind g.accepted alone
     ∙ same_found n f (take n (rest ++ b)) g.size_is
@@ -163,15 +163,15 @@ apart_stops (InBlock Closed) kind c a h = refl
 apart_stops _ kind c a h = absurd (none-some kind a)
 
 apart_ends : (q : State) (kind : Kind) (b : List ℕ) → accepts q ≡ Some kind → BeginsApart b → Ends q b
-apart_ends q kind [] a h = record { stops = tt; no_digit = λ z d. d }
+apart_ends q kind [] a h = record { stops = tt; no_digit = λ z c after e. absurd cc }
 apart_ends q kind (c ∷ b) a (inl w) = let x = apart c (white_apart c w) in
-    record { stops = apart_stops q kind c a x; no_digit = λ z d. let e = sym d ∙ x.no_digit in absurd cc }
+    record { stops = apart_stops q kind c a x; no_digit = λ z. no_digit c b x.no_digit }
 apart_ends q kind (c ∷ b) a (inr w) = let x = lone_apart c w.0 w.1 w.2 in
-    record { stops = apart_stops q kind c a x; no_digit = λ z d. let e = sym d ∙ x.no_digit in absurd cc }
+    record { stops = apart_stops q kind c a x; no_digit = λ z. no_digit c b x.no_digit }
 
 done_ends : (k : Kind) (b : List ℕ) → Ends (Done k) b
-done_ends k [] = record { stops = tt; no_digit = λ z d. d }
-done_ends k (c ∷ b) = record { stops = refl; no_digit = λ z d. absurd cc }
+done_ends k [] = record { stops = tt; no_digit = λ z. absurd cc }
+done_ends k (c ∷ b) = record { stops = refl; no_digit = λ z. absurd cc }
 
 lone_ends : (q : State) (kind : Kind) (b : List ℕ) → accepts q ≡ Some kind → IsTrue (is_lone kind) → Ends q b
 lone_ends (Done k) kind b a l = done_ends k b

@@ -1,11 +1,11 @@
 -- What scan finds is what is read, and the other way round.
-use Rattle.std.proofs.Common.{◌≡◌, ℕ, zero, suc, ◌+◌, ◌-◌, ◌<◌, inl, inr, Bool, true, false, cond, ◌==◌, nat_lt, max, ◌&&◌, List, [], ◌∷◌, length, take, drop, Some, Result, Ok, refl, sym, ap, ◌∙◌, subst, arith}
+use Rattle.std.proofs.Common.{◌≡◌, ℕ, zero, suc, ◌+◌, ◌-◌, ◌<◌, inl, inr, Bool, true, false, cond, ◌==◌, nat_lt, max, ◌&&◌, List, [], ◌∷◌, length, take, drop, IsFalse, Some, Result, Ok, refl, sym, ap, ◌∙◌, subst, arith}
 use Rattle.std.proofs.lemmas.Option.{none-some, same_Some}
-use Rattle.std.proofs.lemmas.Bool.{cond-false, false_from_ne_true}
+use Rattle.std.proofs.lemmas.Bool.{cond-false}
 use Rattle.graphql_lexical.specs.Characters.{is_digit, is_line_end}
 use Rattle.graphql_lexical.specs.Kinds.{Kind, Name, String, BlockString, Float, Int, EndOfFile, LexicalError, UnexpectedCharacter, UnterminatedString, UnknownCharacterInString, UnknownEscapeSequence}
 use Rattle.graphql_lexical.specs.Tokens.{Spells, Starts, IsZero, text_of}
-use Rattle.graphql_lexical.specs.Reading.{counted, Longest, BeginsWithDigit, ReadsToken, Reads}
+use Rattle.graphql_lexical.specs.Reading.{counted, Longest, ReadsToken, Reads}
 use Rattle.graphql_lexical.specs.device.Machines.{reach}
 use Rattle.graphql_lexical.specs.device.Scan.{State, Start, Done, OneDot, TwoDots, InName, Minus, Zero, Digits, Point, Fraction, ExponentMark, ExponentSign, Exponent, InString, Backslash, NoHexDigit, OneHexDigit, HexDigitD, TwoHexDigits, ThreeHexDigits, step, Found, Missed, found, missed, stopped, after_zero, after_dots, after_units, after_backslash, after_u, answer, scan, Quote, EmptyString, InBlock, Closed, after_block}
 use Rattle.graphql_lexical.proofs.Runs.{Reaches, reach_is, Longest_same}
@@ -44,17 +44,24 @@ zero_state t q e (inr z) = same_state t q Zero e (rw z)
 
 -- ---- what an answer that finds says
 
+-- no digit begins it
+abbrev pub NoDigit : List ℕ → Type 0
+NoDigit t = (c : ℕ) (after : List ℕ) → t ≡ c ∷ after → IsFalse (is_digit c)
+
+pub no_digit : (c : ℕ) (t : List ℕ) → IsFalse (is_digit c) → NoDigit (c ∷ t)
+no_digit c t h d after e = let same : d ≡ c = cc in ap is_digit same ∙ h
+
 pub record Finds (q : State) (n : ℕ) (rest : List ℕ) (f : Found) : Type 0 where
   pub accepted : accepts q ≡ Some f.kind
   pub size_is : n ≡ f.size
   pub text_is : f.text ≡ text_of f.kind (take n rest)
-  pub alone : q ≡ Zero → BeginsWithDigit (drop n rest) → ⊥
+  pub alone : q ≡ Zero → NoDigit (drop n rest)
 
 pub same_Ok : (x y : Found) → ◌≡◌ {A = Result Found Missed} (Ok x) (Ok y) → x ≡ y
 same_Ok x y e = cc
 
 found_finds : (q : State) (n : ℕ) (kind : Kind) (rest : List ℕ) (f : Found) → accepts q ≡ Some kind
-    → (q ≡ Zero → BeginsWithDigit (drop n rest) → ⊥) → found n kind rest ≡ Ok f → Finds q n rest f
+    → (q ≡ Zero → NoDigit (drop n rest)) → found n kind rest ≡ Ok f → Finds q n rest f
 found_finds q n kind rest f a z e =
     let d = same_Ok (record { size = n; kind = kind; text = text_of kind (take n rest) }) f e in
     subst (λ (x : Found). Finds q n rest x) d (record { accepted = a; size_is = refl; text_is = refl; alone = z })
@@ -97,12 +104,11 @@ cond_zero true x y f g e = absurd (g e)
 cond_zero false x y f g e = (refl, e)
 
 zero_finds : (n : ℕ) (rest b : List ℕ) (f : Found) → after_zero n rest b ≡ Ok f
-    → (found n Int rest ≡ Ok f) × (BeginsWithDigit b → ⊥)
-zero_finds n rest [] f e = (e, λ d. d)
+    → NoDigit b × (found n Int rest ≡ Ok f)
+zero_finds n rest [] f e = (λ c after g. absurd cc, e)
 zero_finds n rest (c ∷ b) f e =
-    let h = cond_zero (is_digit c) (missed n (UnexpectedCharacter c)) (found n Int rest) f
-    (not_Ok n (UnexpectedCharacter c) f) e in
-    (h.1, λ d. let g = sym d ∙ h.0 in absurd cc)
+    let h = cond_zero (is_digit c) (missed n (UnexpectedCharacter c)) (found n Int rest) f (not_Ok _ _ f) e in
+    (no_digit c b h.0, h.1)
 
 pub answer_finds : (q : State) (n c : ℕ) (cs : List ℕ) (f : Found) → answer q n (c ∷ cs) ≡ Ok f → Finds q n (c ∷ cs) f
 answer_finds Start n c cs f e = absurd (not_Ok _ _ f e)
@@ -112,7 +118,7 @@ answer_finds TwoDots n c cs f e = absurd (dots_not _ _ f e)
 answer_finds InName n c cs f e = found_finds InName n Name (c ∷ cs) f refl (λ z. absurd cc) e
 answer_finds Minus n c cs f e = absurd (stopped_not _ _ f e)
 answer_finds Zero n c cs f e = let h = zero_finds n (c ∷ cs) (drop n (c ∷ cs)) f e in
-    found_finds Zero n Int (c ∷ cs) f refl (λ z. h.1) h.0
+    found_finds Zero n Int (c ∷ cs) f refl (λ z. h.0) h.1
 answer_finds Digits n c cs f e = found_finds Digits n Int (c ∷ cs) f refl (λ z. absurd cc) e
 answer_finds Point n c cs f e = absurd (stopped_not _ _ f e)
 answer_finds Fraction n c cs f e = found_finds Fraction n Float (c ∷ cs) f refl (λ z. absurd cc) e
@@ -133,12 +139,12 @@ answer_finds (InBlock _) n c cs f e = absurd (block_not n (drop n (c ∷ cs)) f 
 
 -- ---- what is accepted is answered
 
-zero_found : (n : ℕ) (rest b : List ℕ) → (BeginsWithDigit b → ⊥) → after_zero n rest b ≡ found n Int rest
+zero_found : (n : ℕ) (rest b : List ℕ) → NoDigit b → after_zero n rest b ≡ found n Int rest
 zero_found n rest [] h = refl
-zero_found n rest (c ∷ b) h = cond-false (is_digit c) _ _ (false_from_ne_true (is_digit c) h)
+zero_found n rest (c ∷ b) h = cond-false (is_digit c) _ _ (h c b refl)
 
 pub accepts_answer : (q : State) (n : ℕ) (rest : List ℕ) (kind : Kind) → accepts q ≡ Some kind
-    → (q ≡ Zero → BeginsWithDigit (drop n rest) → ⊥) → answer q n rest ≡ found n kind rest
+    → (q ≡ Zero → NoDigit (drop n rest)) → answer q n rest ≡ found n kind rest
 accepts_answer (Done k) n rest kind e z = ap (λ (x : Kind). found n x rest) (same_Some k kind e)
 accepts_answer InName n rest kind e z = ap (λ (x : Kind). found n x rest) (same_Some Name kind e)
 accepts_answer Zero n rest kind e z = zero_found n rest (drop n rest) (z refl)
@@ -181,8 +187,8 @@ reads_answer rest m n q kind text r h =
     let same : n ≡ m = Longest_same Starts rest n m r.longest (starts_longest rest m q h) in
     let spelled : Spells (take m rest) kind = subst (λ (k : ℕ). Spells (take k rest) kind) same r.spells in
     let a = spells_accepts (take m rest) q kind h.runs spelled in
-    let alone : q ≡ Zero → BeginsWithDigit (drop m rest)
-    → ⊥ = λ z. subst (λ (k : ℕ). IsZero (take k rest) → BeginsWithDigit (drop k rest) → ⊥) same r.alone
+    let alone : q ≡ Zero → NoDigit (drop m rest) =
+    λ z. subst (λ (k : ℕ). IsZero (take k rest) → NoDigit (drop k rest)) same r.alone
     (subst (λ (x : State). IsRead x (take m rest)) z (front_read rest m q h)) in
     accepts_answer q m rest kind a alone ∙ rw (r.text_is, ← same)
 

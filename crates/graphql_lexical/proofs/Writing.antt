@@ -8,7 +8,7 @@ use Rattle.graphql_lexical.specs.Characters.{is_white}
 use Rattle.graphql_lexical.specs.Place.{place}
 use Rattle.graphql_lexical.specs.Kinds.{Kind, EndOfFile}
 use Rattle.graphql_lexical.specs.Tokens.{Spells, Starts, text_of}
-use Rattle.graphql_lexical.specs.Reading.{Longest, Reads, BeginsWithDigit}
+use Rattle.graphql_lexical.specs.Reading.{Longest, Reads}
 use Rattle.graphql_lexical.specs.Cutting.{IsGap, Lexeme, Stands, Leads, Cut}
 use Rattle.graphql_lexical.specs.device.Machines.{onward, reach}
 use Rattle.graphql_lexical.specs.device.Scan.{Start, State, step, gap_step, gap_size}
@@ -101,7 +101,7 @@ whole_reads (c ∷ cs) kind s =
       some = omega arith;
       spells = subst (λ (t : List ℕ). Spells t kind) (sym all) s;
       text_is = ap (text_of kind) (sym all);
-      alone = λ z d. subst BeginsWithDigit none d;
+      alone = λ z c after e. let g = sym none ∙ e in absurd cc;
     }
 
 abbrev lone_lexeme : List ℕ → Kind → Lexeme
