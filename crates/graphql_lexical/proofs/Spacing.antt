@@ -1,5 +1,7 @@
 -- Behind a front of a source tokens go on after a space.
-use Rattle.std.proofs.Common.{◌≡◌, ℕ, ◌≤◌, inl, inr, List, [], ◌∷◌, ◌++◌, length, take, refl, sym, ap, ap₂, ◌∙◌, subst, arith, append_assoc, zero-le, le_refl, length-append}
+use Rattle.std.proofs.Common.{◌≡◌, ℕ, ◌≤◌, inl, inr, List, [], ◌∷◌, ◌++◌, length, take, Some, refl, sym, ap, ap₂, ◌∙◌, subst, arith, append_assoc, zero-le, le_refl, length-append}
+use Rattle.std.specs.List.{last_or}
+use Rattle.std.specs.Option.{option_map_or}
 use Rattle.std.proofs.lemmas.List.{take_all}
 use Rattle.graphql_lexical.specs.Place.{Place, place, place_after}
 use Rattle.graphql_lexical.specs.Cutting.{Lexeme, Leads, Cut}
@@ -60,18 +62,18 @@ leads_front : (source : List ℕ) (xs ys : List Lexeme) (k n : ℕ) → Leads so
 leads_front source [] ys k n h = (k, refl)
 leads_front source (x ∷ xs) ys k n h = let r = leads_front source xs ys h.0 n h.3 in (r.0, (h.0, h.1, h.2, r.1))
 
-up_to_is : (source : List ℕ) (x : Lexeme) (xs : List Lexeme) (k n : ℕ) → k ≤ length source → Leads source k (x ∷ xs) n
-    → up_to source (x ∷ xs) ≡ take n source
-up_to_is source x [] k n l h =
+last_is : (source : List ℕ) (x : Lexeme) (xs : List Lexeme) (k n : ℕ) → k ≤ length source → Leads source k (x ∷ xs) n
+    → option_map_or (λ (y : Lexeme). y.span.end.index) (last_or (Some x) xs) 0 ≡ n
+last_is source x [] k n l h =
     let s = stands_size source k x h.0 l h.1 h.2 in
-    ap (λ (i : ℕ). take i source) (ap (λ (p : Place). p.index) h.1.end ∙ (place_index source h.0 s.1 ∙ h.3))
-up_to_is source x (y ∷ ys) k n l h =
+    ap (λ (p : Place). p.index) h.1.end ∙ (place_index source h.0 s.1 ∙ h.3)
+last_is source x (y ∷ ys) k n l h =
     let s = stands_size source k x h.0 l h.1 h.2 in
-    up_to_is source y ys h.0 n s.1 h.3
+    last_is source y ys h.0 n s.1 h.3
 
 front_is : (source : List ℕ) (front : List Lexeme) (n : ℕ) → Leads source 0 front n → up_to source front ≡ take n source
 front_is source [] n h = ap (λ (i : ℕ). take i source) h
-front_is source (x ∷ xs) n h = up_to_is source x xs 0 n zero-le h
+front_is source (x ∷ xs) n h = ap (λ (i : ℕ). take i source) (last_is source x xs 0 n zero-le h)
 
 last_ends : (source : List ℕ) (x : Lexeme) (xs : List Lexeme) (k n : ℕ) → Leads source k (x ∷ xs) n
     → (some : List Lexeme) × (y : Lexeme) × (x ∷ xs ≡ some ++ y ∷ []) × (y.span.end ≡ place source n)

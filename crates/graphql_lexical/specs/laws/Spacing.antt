@@ -1,5 +1,7 @@
 -- A front of a source, and tokens behind it with spaces between.
-use Rattle.std.specs.Prelude.{◌≡◌, ℕ, List, [], ◌∷◌, ◌++◌, take}
+use Rattle.std.specs.Prelude.{◌≡◌, ℕ, List, [], ◌∷◌, ◌++◌, take, None}
+use Rattle.std.specs.List.{last_or}
+use Rattle.std.specs.Option.{option_map_or}
 use Rattle.graphql_lexical.specs.Kinds.{EndOfFile}
 use Rattle.graphql_lexical.specs.Tokens.{Spells, text_of}
 use Rattle.graphql_lexical.specs.Cutting.{Lexeme, Cut}
@@ -11,9 +13,7 @@ after_space text = 32 ∷ text
 
 -- the source up to the end of the last of these tokens
 abbrev pub up_to : List ℕ → List Lexeme → List ℕ
-up_to source [] = []
-up_to source (x ∷ []) = take x.span.end.index source
-up_to source (x ∷ y ∷ more) = up_to source (y ∷ more)
+up_to source tokens = take (option_map_or (λ x. x.span.end.index) (last_or None tokens) 0) source
 
 -- The text is these tokens in a row, each spelled, with a space behind it.
 abbrev pub IsSpaced : List ℕ → List Lexeme → Type 0
