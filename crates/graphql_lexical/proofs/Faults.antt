@@ -7,7 +7,7 @@ use Rattle.std.specs.Prelude.{option_map}
 use Rattle.graphql_lexical.specs.Characters.{is_digit, is_line_end, is_source, is_plain, is_escape}
 use Rattle.graphql_lexical.specs.Kinds.{Kind, Name, String, Float, Int, Ellipsis, LexicalError, UnknownCharacter, UnexpectedCharacter, UnterminatedString, UnknownCharacterInString, UnknownEscapeSequence, UnexpectedEndOfFile, BlockString}
 use Rattle.graphql_lexical.specs.Tokens.{IsZero, IsNumber, AreUnits, mark}
-use Rattle.graphql_lexical.specs.Reading.{BeginsNumber, StringFails, at_end, at_line_end, at_control, lone_backslash, wrong_escape, Fails, number_ends, number_stops, zero_goes_on, string_fails, dot_ends, dots_end, dot_stops, dots_stop, unknown, block_ends, block_stops}
+use Rattle.graphql_lexical.specs.Reading.{StringFails, at_end, at_line_end, at_control, lone_backslash, wrong_escape, Fails, number_ends, number_stops, zero_goes_on, string_fails, dot_ends, dots_end, dot_stops, dots_stop, unknown, block_ends, block_stops}
 use Rattle.graphql_lexical.specs.device.Machines.{reach}
 use Rattle.graphql_lexical.specs.device.Scan.{State, Start, Done, OneDot, TwoDots, InName, Minus, Zero, Digits, Point, Fraction, ExponentMark, ExponentSign, Exponent, InString, Backslash, NoHexDigit, OneHexDigit, HexDigitD, TwoHexDigits, ThreeHexDigits, step, Missed, found, missed, stopped, after_zero, after_dots, after_units, after_backslash, after_u, answer, scan, Quote, EmptyString, InBlock, Block, Inside, Closed, block_step, after_block}
 use Rattle.graphql_lexical.proofs.Runs.{Stops, run}
@@ -16,7 +16,7 @@ use Rattle.graphql_lexical.proofs.Blocks.{block_open, stops_at}
 use Rattle.graphql_lexical.proofs.Spelled.{accepts, starts_run}
 use Rattle.graphql_lexical.proofs.Readings.{Reached, reached, starts_longest, front_read, spells_accepts}
 use Rattle.graphql_lexical.proofs.Units.{NoUnit, NoScalar, units_longest, units_stop, backslash_stop, no_scalar_unit, hex0_stop, hex1_stop, hexd_stop, hex2_stop, hex3_stop}
-use Rattle.graphql_lexical.proofs.NumberFronts.{begins_take, begins_append, longest_number, zero_begins, integer_begins, base_begins}
+use Rattle.graphql_lexical.proofs.NumberFronts.{BeginsNumber, begins_some, begins_append, longest_number, zero_begins, integer_begins, base_begins}
 use Rattle.graphql_lexical.proofs.Escapes.{same_Err, u_fails}
 
 abbrev pub FailsAs : List ℕ → Missed → Type 0
@@ -36,11 +36,11 @@ pub number_missed : (n : ℕ) (rest b : List ℕ) (q : State) (m : Missed) → R
     → accepts q ≡ None → BeginsNumber (take n rest) → stopped n b ≡ Err m → FailsAs rest m
 number_missed n rest [] q m h d a b e =
     missed_as rest n UnexpectedEndOfFile m e
-    (number_ends (begins_take n rest b) (longest_number rest n b (starts_longest rest n q h))
+    (number_ends (begins_some n rest b) (longest_number rest n b (starts_longest rest n q h))
     (no_number n rest q h a) d)
 number_missed n rest (c ∷ after) q m h d a b e =
     missed_as rest n (UnexpectedCharacter c) m e
-    (number_stops (begins_take n rest b) (longest_number rest n b (starts_longest rest n q h))
+    (number_stops (begins_some n rest b) (longest_number rest n b (starts_longest rest n q h))
     (no_number n rest q h a) d)
 
 not_missed : (n : ℕ) (kind : Kind) (rest : List ℕ) (m : Missed) → found n kind rest ≡ Err m → ⊥
@@ -59,7 +59,7 @@ zero_missed n rest (c ∷ after) m h d z e =
     let g = zero_goes n c rest after m (is_digit c) refl e in
     let b = zero_begins (take n rest) z in
     missed_as rest n (UnexpectedCharacter c) m g.1
-    (zero_goes_on (begins_take n rest b) (longest_number rest n b (starts_longest rest n Zero h)) z d g.0)
+    (zero_goes_on (longest_number rest n b (starts_longest rest n Zero h)) z d g.0)
 
 -- ---- strings
 

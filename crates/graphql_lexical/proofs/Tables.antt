@@ -1,14 +1,14 @@
 -- What the tables say is what scan misses.
-use Rattle.std.proofs.Common.{◌≡◌, ℕ, zero, suc, ◌+◌, ◌<◌, ◌≤◌, ◌⊎◌, inl, inr, Bool, true, false, eqb, not, ◌&&◌, List, [], ◌∷◌, ◌++◌, length, take, drop, Option, Some, None, Result, IsTrue, IsFalse, refl, sym, ap, ap₂, ◌∙◌, subst, arith, append-nil, take-append-drop}
+use Rattle.std.proofs.Common.{◌≡◌, ℕ, suc, ◌+◌, ◌<◌, ◌⊎◌, inl, inr, Bool, false, eqb, not, ◌&&◌, List, [], ◌∷◌, ◌++◌, length, take, drop, Option, Some, None, Result, IsTrue, IsFalse, refl, sym, ap, ap₂, ◌∙◌, subst, arith, append-nil, take-append-drop}
 use Rattle.std.proofs.lemmas.List.{length-take-le, drop_at}
 use Rattle.std.proofs.lemmas.Bool.{cond-true, cond-false, ne_eqb}
 use Rattle.std.proofs.lemmas.Bool.Decides.{nat_tests}
 use Rattle.std.proofs.lemmas.Option.{none-some}
 use Rattle.std.specs.Prelude.{option_map}
-use Rattle.graphql_lexical.specs.Characters.{is_digit, is_nonzero_digit, is_line_end, is_source, is_plain, is_escape}
+use Rattle.graphql_lexical.specs.Characters.{is_digit, is_line_end, is_source, is_plain, is_escape}
 use Rattle.graphql_lexical.specs.Kinds.{Kind, Name, Float, Int, LexicalError, UnexpectedCharacter, UnterminatedString, UnknownEscapeSequence, String}
 use Rattle.graphql_lexical.specs.Tokens.{Starts, IsZero, IsNumber, StartsNumber, AreUnits, mark}
-use Rattle.graphql_lexical.specs.Reading.{Longest, counted, BeginsNumber, StringFails, at_end, at_line_end, at_control, lone_backslash, wrong_escape, short_unicode, wrong_unicode, no_unicode, Fails, number_ends, number_stops, zero_goes_on, string_fails, dot_ends, dots_end, dot_stops, dots_stop, unknown, block_ends, block_stops}
+use Rattle.graphql_lexical.specs.Reading.{Longest, counted, StringFails, at_end, at_line_end, at_control, lone_backslash, wrong_escape, short_unicode, wrong_unicode, no_unicode, Fails, number_ends, number_stops, zero_goes_on, string_fails, dot_ends, dots_end, dot_stops, dots_stop, unknown, block_ends, block_stops}
 use Rattle.graphql_lexical.specs.device.Machines.{reach, onward}
 use Rattle.graphql_lexical.specs.device.Scan.{State, Start, Done, OneDot, TwoDots, InName, Minus, Zero, Digits, Point, Fraction, ExponentMark, ExponentSign, Exponent, InString, Backslash, NoHexDigit, OneHexDigit, HexDigitD, TwoHexDigits, ThreeHexDigits, step, Found, Missed, missed, stopped, after_zero, after_units, after_backslash, after_u, answer, scan, Quote, EmptyString, InBlock, Block, Closed, after_block}
 use Rattle.graphql_lexical.proofs.Runs.{reach_on, Longest_same, Stops}
@@ -17,30 +17,11 @@ use Rattle.graphql_lexical.proofs.Spelled.{accepts, accepts_spells, starts_from,
 use Rattle.graphql_lexical.proofs.Blocks.{control_stops as block_control_stops, IsOpenRun, units_run_open}
 use Rattle.graphql_lexical.proofs.Readings.{Reached, reached, starts_longest, front_read, zero_state}
 use Rattle.graphql_lexical.proofs.Units.{NoUnit, longest_no_unit, no_unit_scalar}
-use Rattle.graphql_lexical.proofs.NumberFronts.{not_number, longest_number, spells_number}
+use Rattle.graphql_lexical.proofs.NumberFronts.{BeginsNumber, not_number, begins_some, number_starts, longest_number, spells_number, zero_begins, longer_begins}
 use Rattle.graphql_lexical.proofs.Escapes.{u_short, u_wrong, u_none}
 use Rattle.graphql_lexical.proofs.HexPlaces.{further, hex_place, hex_answer}
 
 -- ---- numbers
-
-digit_starts : (c : ℕ) → IsTrue (is_digit c) → (b : Bool) → is_nonzero_digit c ≡ b → Starts (c ∷ [])
-digit_starts c d true e = ([], Int, inr ([], c, [], refl, inl refl, e, tt))
-digit_starts c d false e = let z = zero_is c d e in ([], Int, inl (inl (ap (λ (x : ℕ). x ∷ []) z)))
-  where
-    zero_is : (c : ℕ) → IsTrue (is_digit c) → is_nonzero_digit c ≡ false → c ≡ 48
-    zero_is c d e = grind (arith, nat_tests)
-
-number_begins : (rest : List ℕ) (m : ℕ) → BeginsNumber rest → Longest Starts rest m → BeginsNumber (take m rest)
-number_begins [] m b l = absurd b
-number_begins (c ∷ cs) m b l = with_one m (l.most 1 (omega arith) (one b))
-  where
-    one : (c ≡ 45) ⊎ IsTrue (is_digit c) → Starts (c ∷ [])
-    one (inl e) = (48 ∷ [], Int, inl (inr (ap (λ (x : ℕ). x ∷ 48 ∷ []) e)))
-    one (inr d) = digit_starts c d (is_nonzero_digit c) refl
-
-    with_one : (m : ℕ) → 1 ≤ m → BeginsNumber (take m (c ∷ cs))
-    with_one zero h = absurd (omega arith)
-    with_one (suc m) h = b
 
 open_no_number : (tail t : List ℕ) → IsOpen tail t → BeginsNumber t → ⊥
 open_no_number tail t o b = not_number 34 (o.units ++ tail) t refl o.text_is b
@@ -76,25 +57,29 @@ accepts_not : (o : Option Kind) → ((k : Kind) → o ≡ Some k → ⊥) → o 
 accepts_not None n = refl
 accepts_not (Some k) n = absurd (n k refl)
 
-number_stopped : (rest : List ℕ) (n m : ℕ) (q : State) → Reached rest m q → BeginsNumber rest
+-- the steps end where the longest front that begins a number does
+number_reached : (rest : List ℕ) (n m : ℕ) (q : State) → Reached rest m q → 0 < n → Longest StartsNumber rest n
+    → BeginsNumber (take m rest) × (m ≡ n)
+number_reached rest n m q h b l =
+    let s = starts_longest rest m q h in
+    let front = longer_begins rest n m b (s.most n l.within (number_starts (take n rest) l.holds)) l in
+    (front, Longest_same StartsNumber rest m n (longest_number rest m front s) l)
+
+number_stopped : (rest : List ℕ) (n m : ℕ) (q : State) → Reached rest m q → 0 < n
     → Longest StartsNumber rest n → (IsNumber (take n rest) → ⊥) → answer q m rest ≡ stopped n (drop n rest)
 number_stopped rest n m q h b l none =
-    let s = starts_longest rest m q h in
-    let front = number_begins rest m b s in
-    let same : m ≡ n = Longest_same StartsNumber rest m n (longest_number rest m front s) l in
+    let (front, same) = number_reached rest n m q h b l in
     let r = front_read rest m q h in
     let a : accepts q ≡ None = accepts_not (accepts q) (λ k e. none
     (subst (λ (x : ℕ). IsNumber (take x rest)) same
     (spells_number (take m rest) k front (accepts_spells q k (take m rest) e r)))) in
     number_answer q m rest r front a ∙ ap (λ (x : ℕ). stopped x (drop x rest)) same
 
-zero_stopped : (rest : List ℕ) (n m c : ℕ) (after : List ℕ) (q : State) → Reached rest m q → BeginsNumber rest
+zero_stopped : (rest : List ℕ) (n m c : ℕ) (after : List ℕ) (q : State) → Reached rest m q
     → Longest StartsNumber rest n → IsZero (take n rest) → drop n rest ≡ c ∷ after → IsTrue (is_digit c)
     → answer q m rest ≡ missed n (UnexpectedCharacter c)
-zero_stopped rest n m c after q h b l z d x =
-    let s = starts_longest rest m q h in
-    let front = number_begins rest m b s in
-    let same : m ≡ n = Longest_same StartsNumber rest m n (longest_number rest m front s) l in
+zero_stopped rest n m c after q h l z d x =
+    let same = (number_reached rest n m q h (begins_some n rest (zero_begins (take n rest) z)) l).1 in
     let is_zero : q ≡ Zero = zero_state (take m rest) q h.runs (subst (λ (k : ℕ). IsZero (take k rest)) (sym same) z) in
     ap (λ (p : State). answer p m rest) is_zero
     ∙ (ap (λ (k : ℕ). after_zero k rest (drop k rest)) same
@@ -271,9 +256,9 @@ fails_scan _ _ _ (number_ends {rest} {n} b l none d) =
 fails_scan _ _ _ (number_stops {rest} {n} b l none d) =
     let r = reach step Start rest in
     number_stopped rest n r.0 r.1 (reached rest) b l none ∙ ap (stopped n) d
-fails_scan _ _ _ (zero_goes_on {rest} {n} {c} {after} b l z d x) =
+fails_scan _ _ _ (zero_goes_on {rest} {n} {c} {after} l z d x) =
     let r = reach step Start rest in
-    zero_stopped rest n r.0 c after r.1 (reached rest) b l z d x
+    zero_stopped rest n r.0 c after r.1 (reached rest) l z d x
 fails_scan _ _ _ (string_fails {more} {k} {m} {error} l f) = string_scan more k m error l f
 fails_scan _ _ _ (block_ends {units} h) =
     ap (λ (x : List ℕ). scan (mark ++ x)) (sym (append-nil units)) ∙ block_scan units [] (units_run_open units [] h) tt
