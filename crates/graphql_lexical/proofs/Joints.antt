@@ -3,7 +3,7 @@ use Rattle.graphql_lexical.specs.laws.Laws.{HasFewTokens}
 use Rattle.std.specs.List.{AllByRecursion}
 use Rattle.std.proofs.Common.{◌≡◌, ◌≢◌, ℕ, ◌+◌, ◌-◌, ◌<◌, ◌≤◌, inl, inr, Bool, false, eqb, not, ◌&&◌, List, [], ◌∷◌, ◌++◌, length, take, drop, Option, Some, None, Result, Ok, IsTrue, refl, sym, ap, ap₂, ◌∙◌, subst, arith, length-drop, length-take, append_assoc, take-append-drop, drop-drop, zero-le}
 use Rattle.std.specs.Option.{is_some, IfSome}
-use Rattle.std.proofs.lemmas.List.{take-append-le, drop-append-le, drop_at, length-take-le, same_from_push}
+use Rattle.std.proofs.lemmas.List.{take-append-le, drop-append-le, drop_at, length-take-le}
 use Rattle.std.proofs.lemmas.Bool.{cond-false}
 use Rattle.std.proofs.lemmas.Bool.Decides.{nat_tests}
 use Rattle.std.proofs.lemmas.Option.{none-some}
@@ -12,17 +12,17 @@ use Rattle.graphql_lexical.specs.Place.{Place, place, place_after}
 use Rattle.graphql_lexical.specs.Kinds.{Kind, Name, EndOfFile, Fixed, spelling, character_of}
 use Rattle.graphql_lexical.specs.Tokens.{Admits, Spells, text_of}
 use Rattle.graphql_lexical.specs.Reading.{Longest, Reads}
-use Rattle.graphql_lexical.specs.Cutting.{IsGap, Lexeme, Stands, Leads, Cut}
+use Rattle.graphql_lexical.specs.Cutting.{IsGap, Lexeme, Stands, Leads, CutFrom, Cut}
 use Rattle.graphql_lexical.specs.device.Machines.{reach}
 use Rattle.graphql_lexical.specs.device.Scan.{State, Start, Done, InName, Zero, Digits, Fraction, Exponent, step, Found, Missed, answer, scan, gap_step, gap_size, EmptyString, InBlock, Closed}
-use Rattle.graphql_lexical.specs.laws.Alike.{Alike, AllAlike}
+use Rattle.graphql_lexical.specs.laws.Alike.{AllAlike}
 use Rattle.graphql_lexical.specs.laws.Joining.{is_lone, BeginsApart, IsSeam, Joins}
 use Rattle.graphql_lexical.proofs.EachKind.{each_kind, lone_spelling}
 use Rattle.graphql_lexical.proofs.Runs.{Stops, Reaches, reach_is, reach_on, Longest_same}
 use Rattle.graphql_lexical.proofs.Spelled.{accepts}
 use Rattle.graphql_lexical.proofs.Readings.{NoDigit, no_digit, Reached, reached, Finds, answer_finds, accepts_answer, scan_reads, reads_scan}
 use Rattle.graphql_lexical.proofs.Gaps.{gap_longest}
-use Rattle.graphql_lexical.proofs.Cuts.{reads_size, stands_size, leads_size}
+use Rattle.graphql_lexical.proofs.Cuts.{reads_size, stands_size, leads_size, cut_front, front_cut}
 
 -- ---- steps over a longer list
 
@@ -280,20 +280,19 @@ stands_past a b k x n s =
     sums : (a k g : ℕ) → (a + k) + g ≡ a + (k + g)
     sums a k g = omega arith
 
-pub leads_past : (a b : List ℕ) (xs : List Lexeme) (k n : ℕ) → Leads b k xs n
-    → (ys : List Lexeme) × Leads (a ++ b) (length a + k) ys (length a + n) × AllAlike ys xs
-leads_past a b [] k n h = ([], ap (λ (i : ℕ). length a + i) h, tt)
-leads_past a b (x ∷ xs) k n h =
-    let r = leads_past a b xs h.0 n h.3 in
-    let y : Lexeme = moved (a ++ b) ((length a + k) + h.1.gap) (length a + h.0) x in
-    (y ∷ r.0, (length a + h.0, stands_past a b k x h.0 h.1, h.2, r.1), (record { kind = refl; text = refl }, r.2))
-
-pub alike_push : (xs ys : List Lexeme) (x y : Lexeme) → AllAlike xs ys → Alike x y
-    → AllAlike (xs ++ x ∷ []) (ys ++ y ∷ [])
-alike_push [] [] x y h a = (a, tt)
-alike_push (z ∷ xs) (w ∷ ys) x y h a = (h.0, alike_push xs ys x y h.1 a)
-alike_push [] (w ∷ ys) x y h a = absurd h
-alike_push (z ∷ xs) [] x y h a = absurd h
+pub cut_past : (a b : List ℕ) (us : List Lexeme) (k : ℕ) → CutFrom b k us
+    → (vs : List Lexeme) × CutFrom (a ++ b) (length a + k) vs × AllAlike vs us
+cut_past a b [] k c = absurd c
+cut_past a b (x ∷ xs) k (n, s, inl (e, none)) =
+    let y : Lexeme = moved (a ++ b) ((length a + k) + s.gap) (length a + n) x in (
+      y ∷ [],
+      (length a + n, stands_past a b k x n s, inl (e, refl)),
+      subst (λ (us : List Lexeme). AllAlike (y ∷ []) (x ∷ us)) (sym none) (record { kind = refl; text = refl }, tt),
+    )
+cut_past a b (x ∷ xs) k (n, s, inr (e, c)) =
+    let r = cut_past a b xs n c in
+    let y : Lexeme = moved (a ++ b) ((length a + k) + s.gap) (length a + n) x in
+    (y ∷ r.0, (length a + n, stands_past a b k x n s, inr (e, r.1)), (record { kind = refl; text = refl }, r.2))
 
 -- ---- both
 
@@ -313,24 +312,10 @@ leads_split source (y ∷ xs) x k n h =
 pub after_front : (a b : List ℕ) (front us : List Lexeme) → Leads (a ++ b) 0 front (length a) → Cut b us
     → (vs : List Lexeme) × Cut (a ++ b) (front ++ vs) × AllAlike vs us
 after_front a b front us h c =
-    let p = leads_past a b c.front 0 c.before c.leads in
-    let y : Lexeme = moved (a ++ b) ((length a + c.before) + c.stands.gap) (length a + c.after) c.last in
-    let zero_more : length a ≡ length a + 0 = omega arith in (
-      p.0 ++ y ∷ [],
-      record {
-        front = front ++ p.0;
-        last = y;
-        before = length a + c.before;
-        after = length a + c.after;
-        parts = sym (append_assoc front p.0 (y ∷ []));
-        leads = leads_then (a ++ b) front p.0 0 (length a + 0) (length a + c.before)
-            (subst (Leads (a ++ b) 0 front) zero_more h) p.1;
-        stands = stands_past a b c.before c.last c.after c.stands;
-        ends = c.ends;
-      },
-      subst (AllAlike (p.0 ++ y ∷ [])) (sym c.parts)
-          (alike_push p.0 c.front y c.last p.2 (record { kind = refl; text = refl })),
-    )
+    let p = cut_past a b us 0 c in
+    let zero_more : length a ≡ length a + 0 = omega arith in
+    let leads = subst (Leads (a ++ b) 0 front) zero_more h in
+    (p.0, front_cut (a ++ b) front p.0 0 (length a + 0) leads p.1, p.2)
 
 -- the place after the whole is the whole's length
 end_place : (a : List ℕ) (n : ℕ) → n ≤ length a → place a n ≡ place a (length a) → n ≡ length a
@@ -355,20 +340,20 @@ front_joins a b front n h (inr (some, x, parts, stops, may)) =
 
 pub joins : (a b : List ℕ) → Joins a b
 joins a b front last us c d seam =
-    let same = same_from_push front c.front last c.last c.parts in
-    after_front a b front us (front_joins a b front c.before (subst (λ (xs : List Lexeme). Leads a 0 xs c.before)
-    (sym same.0) c.leads) seam) d
+    let f = cut_front a front last [] 0 c in
+    after_front a b front us (front_joins a b front f.0 f.1 seam) d
 
 leads_no_end : (source : List ℕ) (xs : List Lexeme) (k n : ℕ) → Leads source k xs n
     → AllByRecursion (λ x. x.kind ≢ EndOfFile) xs
 leads_no_end source [] k n h = tt
 leads_no_end source (x ∷ xs) k n h = (h.2, leads_no_end source xs h.0 n h.3)
 
+last_is_end : (source : List ℕ) (k : ℕ) (x : Lexeme) → CutFrom source k (x ∷ []) → x.kind ≡ EndOfFile
+last_is_end source k x (n, s, inl (e, none)) = e
+last_is_end source k x (n, s, inr (e, c)) = absurd c
+
 pub few_tokens : (source : List ℕ) → HasFewTokens source
 few_tokens source front last c =
-    let same = same_from_push front c.front last c.last c.parts in
-    let z = leads_size source c.front 0 c.before zero-le c.leads in (
-      omega (arith, z.0, z.1, ap length same.0),
-      ap (λ (x : Lexeme). x.kind) same.1 ∙ c.ends,
-      subst (AllByRecursion (λ x. x.kind ≢ EndOfFile)) (sym same.0) (leads_no_end source c.front 0 c.before c.leads),
-    )
+    let f = cut_front source front last [] 0 c in
+    let z = leads_size source front 0 f.0 zero-le f.1 in
+    (omega (arith, z.0, z.1), last_is_end source f.0 last f.2, leads_no_end source front 0 f.0 f.1)

@@ -1,5 +1,5 @@
 -- Behind a front of a source tokens go on after a space.
-use Rattle.std.proofs.Common.{◌≡◌, ℕ, ◌≤◌, inl, inr, List, [], ◌∷◌, ◌++◌, length, take, Some, refl, sym, ap, ap₂, ◌∙◌, subst, arith, append_assoc, zero-le, le_refl, length-append}
+use Rattle.std.proofs.Common.{◌≡◌, ℕ, ◌≤◌, inl, inr, List, [], ◌∷◌, ◌++◌, length, take, Some, refl, sym, ap, ◌∙◌, subst, append_assoc, zero-le, le_refl}
 use Rattle.std.specs.List.{last_or}
 use Rattle.std.specs.Option.{option_map_or}
 use Rattle.std.proofs.lemmas.List.{take_all}
@@ -10,7 +10,7 @@ use Rattle.graphql_lexical.specs.laws.Joining.{BeginsApart, IsSeam}
 use Rattle.graphql_lexical.specs.laws.Written.{Bare, AreOf, IsCutInto}
 use Rattle.graphql_lexical.specs.laws.Spacing.{after_space, up_to, IsSpaced, GoesOn, GoesOnSpaced}
 use Rattle.graphql_lexical.proofs.Slices.{place_index}
-use Rattle.graphql_lexical.proofs.Cuts.{stands_size}
+use Rattle.graphql_lexical.proofs.Cuts.{stands_size, cut_front}
 use Rattle.graphql_lexical.proofs.Joints.{after_front, front_joins, few_tokens}
 use Rattle.graphql_lexical.proofs.Writing.{alike_front, writes_token, writes_white, writes_nothing}
 use Rattle.graphql_lexical.proofs.Fronts.{leads_shorter}
@@ -46,21 +46,6 @@ spaced_cut text (x ∷ xs) (whole, rest, e, spells, is, more) =
     (sym is) w)
 
 -- ---- tokens of a source before others
-
-before_others : (front some : List Lexeme) (next last : Lexeme) (after : List Lexeme)
-    → front ++ next ∷ after ≡ some ++ last ∷ [] → (rest : List Lexeme) × (some ≡ front ++ rest)
-before_others [] some next last after e = (some, refl)
-before_others (x ∷ front) [] next last after e = absurd (omega (arith, ap length e, length-append front (next ∷ after)))
-before_others (x ∷ front) (y ∷ some) next last after e =
-    let tails : front ++ next ∷ after ≡ some ++ last ∷ [] = cc in
-    let heads : y ≡ x = cc in
-    let r = before_others front some next last after tails in
-    (r.0, ap₂ (λ (z : Lexeme) (zs : List Lexeme). z ∷ zs) heads r.1)
-
-leads_front : (source : List ℕ) (xs ys : List Lexeme) (k n : ℕ) → Leads source k (xs ++ ys) n
-    → (m : ℕ) × Leads source k xs m
-leads_front source [] ys k n h = (k, refl)
-leads_front source (x ∷ xs) ys k n h = let r = leads_front source xs ys h.0 n h.3 in (r.0, (h.0, h.1, h.2, r.1))
 
 last_is : (source : List ℕ) (x : Lexeme) (xs : List Lexeme) (k n : ℕ) → k ≤ length source → Leads source k (x ∷ xs) n
     → option_map_or (λ (y : Lexeme). y.span.end.index) (last_or (Some x) xs) 0 ≡ n
@@ -119,8 +104,6 @@ goes_on source front others n text h spaced =
 
 pub goes_on_spaced : (source : List ℕ) → GoesOnSpaced source
 goes_on_spaced source front next after others text cut spaced =
-    let p = before_others front cut.front next cut.last after cut.parts in
-    let q = leads_front source front p.0 0 cut.before
-    (subst (λ (xs : List Lexeme). Leads source 0 xs cut.before) p.1 cut.leads) in
-    subst (λ (t : List ℕ). GoesOn (t ++ after_space text) front others) (sym (front_is source front q.0 q.1))
-    (goes_on source front others q.0 text q.1 spaced)
+    let f = cut_front source front next after 0 cut in
+    subst (λ (t : List ℕ). GoesOn (t ++ after_space text) front others) (sym (front_is source front f.0 f.1))
+    (goes_on source front others f.0 text f.1 spaced)

@@ -9,7 +9,7 @@ use Rattle.graphql_lexical.specs.Place.{place}
 use Rattle.graphql_lexical.specs.Kinds.{Kind, EndOfFile}
 use Rattle.graphql_lexical.specs.Tokens.{Spells, Starts, text_of}
 use Rattle.graphql_lexical.specs.Reading.{Longest, Reads}
-use Rattle.graphql_lexical.specs.Cutting.{IsGap, Lexeme, Stands, Leads, Cut}
+use Rattle.graphql_lexical.specs.Cutting.{IsGap, Lexeme, Stands, CutFrom, Cut}
 use Rattle.graphql_lexical.specs.device.Machines.{onward, reach}
 use Rattle.graphql_lexical.specs.device.Scan.{Start, State, step, gap_step, gap_size}
 use Rattle.graphql_lexical.specs.laws.Alike.{AllAlike}
@@ -17,7 +17,7 @@ use Rattle.graphql_lexical.specs.laws.Written.{Bare, AreOf, IsCutInto, WritesTok
 use Rattle.graphql_lexical.proofs.Runs.{Longest_same}
 use Rattle.graphql_lexical.proofs.Spelled.{accepts, spells_run, Goes}
 use Rattle.graphql_lexical.proofs.Gaps.{gap_longest}
-use Rattle.graphql_lexical.proofs.Joints.{moved, stands_past, leads_past, alike_push, after_front, front_joins}
+use Rattle.graphql_lexical.proofs.Joints.{cut_past, after_front, front_joins}
 
 -- ---- lists that are alike
 
@@ -170,44 +170,19 @@ stands_back c rest x n h s =
       next_is = omega arith;
     }
 
-cut_back : (c : ℕ) (rest : List ℕ) (front : List Lexeme) (last : Lexeme) (before after : ℕ) → IsTrue (is_white c)
-    → Leads (c ∷ rest) 1 front before → Stands (c ∷ rest) before last after → last.kind ≡ EndOfFile
-    → Cut (c ∷ rest) (front ++ last ∷ [])
-cut_back c rest [] last before after h l s e = record {
-  front = [];
-  last = last;
-  before = 0;
-  after = after;
-  parts = refl;
-  leads = refl;
-  stands = stands_back c rest last after h (subst (λ (i : ℕ). Stands (c ∷ rest) i last after) (sym l) s);
-  ends = e;
-}
-cut_back c rest (x ∷ front) last before after h l s e = record {
-  front = x ∷ front;
-  last = last;
-  before = before;
-  after = after;
-  parts = refl;
-  leads = (l.0, stands_back c rest x l.0 h l.1, l.2, l.3);
-  stands = s;
-  ends = e;
-}
+cut_back : (c : ℕ) (rest : List ℕ) (xs : List Lexeme) → IsTrue (is_white c) → CutFrom (c ∷ rest) 1 xs
+    → Cut (c ∷ rest) xs
+cut_back c rest [] h k = k
+cut_back c rest (x ∷ xs) h k = (k.0, stands_back c rest x k.0 h k.1, k.2)
 
 pub writes_white : (c : ℕ) (rest : List ℕ) (bares : List Bare) → WritesWhite c rest bares
 writes_white c rest bares h w =
-    let k = w.cut in
-    let p = leads_past (c ∷ []) rest k.front 0 k.before k.leads in
-    let y : Lexeme = moved (c ∷ rest) ((1 + k.before) + k.stands.gap) (1 + k.after) k.last in
-    let cut = cut_back c rest p.0 y (1 + k.before) (1 + k.after) h p.1
-    (stands_past (c ∷ []) rest k.before k.last k.after k.stands) k.ends in
-    let alike = subst (AllAlike (p.0 ++ y ∷ [])) (sym k.parts) (alike_push p.0 k.front y k.last p.2
-    (record { kind = refl; text = refl })) in
-    let f = alike_front (p.0 ++ y ∷ []) w.lexemes w.end bares alike w.are in
+    let p = cut_past (c ∷ []) rest (w.lexemes ++ w.end ∷ []) 0 w.cut in
+    let f = alike_front p.0 w.lexemes w.end bares p.2 w.are in
     record {
       lexemes = f.0;
       end = f.1;
-      cut = subst (Cut (c ∷ rest)) f.2 cut;
+      cut = subst (Cut (c ∷ rest)) f.2 (cut_back c rest p.0 h p.1);
       are = f.3;
     }
 
@@ -217,14 +192,9 @@ pub writes_nothing : IsCutInto [] []
 writes_nothing = record {
   lexemes = [];
   end = record { kind = EndOfFile; text = []; span = record { start = place [] 0; end = place [] 0 } };
-  cut = record {
-    front = [];
-    last = record { kind = EndOfFile; text = []; span = record { start = place [] 0; end = place [] 0 } };
-    before = 0;
-    after = 0;
-    parts = refl;
-    leads = refl;
-    stands = record {
+  cut = (
+    0,
+    record {
       gap = 0;
       size = 0;
       gap_is = gap_longest [];
@@ -232,8 +202,8 @@ writes_nothing = record {
       start = refl;
       end = refl;
       next_is = refl;
-    };
-    ends = refl;
-  };
+    },
+    inl (refl, refl),
+  );
   are = tt;
 }

@@ -8,7 +8,7 @@ use Rattle.graphql_lexical.specs.declared.kind.Kind.{Kind}
 use Rattle.graphql_lexical.specs.declared.kind.Kind.TheVariants.{Name}
 use Rattle.graphql_lexical.specs.Tokens.{IsName, Spells, text_of}
 use Rattle.graphql_lexical.specs.Reading.{Reads}
-use Rattle.graphql_lexical.specs.Cutting.{Lexeme, Cut, Leads}
+use Rattle.graphql_lexical.specs.Cutting.{Lexeme, Cut}
 use Rattle.graphql_lexical.specs.laws.Written.{AreOf}
 use Rattle.graphql_lexical.proofs.Joints.{few_tokens}
 use Rattle.graphql_lexical.proofs.Writing.{writes_nothing, writes_token}
@@ -64,16 +64,9 @@ name_read (c ∷ cs) n kind text r e =
     subst IsName (sym (r.text_is ∙ ap (λ (k : Kind). text_of k front) e)) s
 
 only_name : (text : List ℕ) → IsOneName text → IsName text
-only_name text o = go o.cut.front o.cut.last o.cut.before o.cut.parts o.cut.leads
-  where
-    go : (front : List Lexeme) (last : Lexeme) (before : ℕ) → o.name ∷ o.end ∷ [] ≡ front ++ last ∷ []
-        → Leads text 0 front before → IsName text
-    go [] last before parts leads = absurd (cc)
-    go (x ∷ xs) last before parts leads =
-        let first : o.name ≡ x = cc in
-        let named = name_read (drop (0 + leads.1.gap) text) leads.1.size x.kind x.text leads.1.reads
-        (ap (λ (y : Lexeme). y.kind) (sym first) ∙ o.kind) in
-        subst IsName (ap (λ (y : Lexeme). y.text) (sym first) ∙ o.same) named
+only_name text o =
+    let s = o.cut.1 in
+    subst IsName o.same (name_read (drop (0 + s.gap) text) s.size o.name.kind o.name.text s.reads o.kind)
 
 pub name_is_token : (text : List ℕ) → (is_name text ≡ true) ↔ IsOneName text
 name_is_token text = ((λ e. one_token text (spelled text e)), (λ o. tested text (only_name text o)))

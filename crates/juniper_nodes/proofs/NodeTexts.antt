@@ -1,12 +1,12 @@
 -- The texts of a document's nodes are together no longer, in bytes, than its source, where what each scalar means is
 -- no longer than its token.
-use Rattle.std.proofs.Common.{◌≡◌, ℕ, ◌+◌, ◌≤◌, None, List, [], ◌∷◌, ◌++◌, length, refl, sym, ap, ◌∙◌, arith, rules}
+use Rattle.std.proofs.Common.{◌≡◌, ℕ, ◌+◌, ◌≤◌, None, List, [], ◌∷◌, length, refl, ap, subst, ◌∙◌, arith, rules}
 use Rattle.std.specs.Prelude.{codes, encode_utf8_all}
 use Rattle.std.specs.List.{sum_by}
-use Rattle.std.proofs.lemmas.List.{same_from_push}
 use Rattle.std.proofs.lemmas.List.Sums.{sum_by-cons, sum_by-append}
 use Rattle.graphql_lexical.specs.declared.kind.Kind.{Kind}
 use Rattle.graphql_lexical.specs.Cutting.{Lexeme, Cut}
+use Rattle.graphql_lexical.proofs.Cuts.{cut_front}
 use Rattle.graphql_grammar.specs.Tree.{TypeRef, NamedType, ListType, NonNullType, Definition}
 use Rattle.graphql_grammar.specs.Grammar.{Sequence, IsType, IsDocument}
 use Rattle.graphql_nodes.specs.Nodes.{Node, Label, Unnamed, Named, OnType, Typed, document_nodes}
@@ -85,12 +85,11 @@ pub texts_are_short : (reading : Kind → Text → Reading) → ReadsShort readi
     → length (encode_utf8_all (node_texts (document_nodes ds))) ≤ length (encode_utf8_all source)
 texts_are_short reading short source ts ds c h =
     let front = document_front (stated reading boolean) measure weight (texts_weigh reading short) ts ds h in
-    let same = same_from_push front.front c.front front.end c.last (sym front.whole ∙ c.parts) in
-    let tokens = leads_bytes source 0 c.front c.before c.leads in
+    let parts = cut_front source front.front front.end [] 0 (subst (Cut source) front.whole c) in
+    let tokens = leads_bytes source 0 front.front parts.0 parts.1 in
     omega (
       arith,
       front.le,
-      ap (sum_by weight) same.0,
       tokens,
       texts_size (document_nodes ds),
       size_is

@@ -9,6 +9,7 @@ use Rattle.std.proofs.lemmas.List.{map-append}
 use Rattle.graphql_lexical.specs.declared.kind.Kind.TheVariants.{EndOfFile}
 use Rattle.graphql_lexical.specs.Cutting.{Lexeme, Stands, Leads, CutFrom, BreaksFrom}
 use Rattle.graphql_lexical.proofs.EachKind.{other_kind}
+use Rattle.graphql_lexical.proofs.Cuts.{front_cut}
 use Rattle.juniper_tokens.specs.declared.token_range.TokenRange.{TokenRange}
 use Rattle.juniper_tokens.specs.declared.error.LexFailure.{LexFailure}
 use Rattle.juniper_tokens.specs.declared.error.LexFailure.TheVariants as failures
@@ -29,15 +30,11 @@ ends_once_more : (x : Lexeme) (xs : List Lexeme) → (x.kind ≡ EndOfFile → �
 ends_once_more x [] n h = absurd h
 ends_once_more x (y ∷ ys) n h = (other_kind x.kind EndOfFile n, h)
 
-leads_ends_once : (source : List ℕ) (xs : List Lexeme) (x : Lexeme) (k n : ℕ) → Leads source k xs n → x.kind ≡ EndOfFile
-    → EndsOnce (xs ++ x ∷ [])
-leads_ends_once source [] x k n l e = e
-leads_ends_once source (y ∷ ys) x k n l e =
-    ends_once_more y (ys ++ x ∷ []) l.2 (leads_ends_once source ys x l.0 n l.3 e)
-
 pub cut_ends_once : (source : List ℕ) (k : ℕ) (xs : List Lexeme) → CutFrom source k xs → EndsOnce xs
-cut_ends_once source k xs c = subst EndsOnce (sym c.parts) (leads_ends_once source c.front c.last k c.before c.leads
-    c.ends)
+cut_ends_once source k [] c = absurd c
+cut_ends_once source k (x ∷ xs) (n, s, inl (e, none)) =
+    subst (λ (ys : List Lexeme). EndsOnce (x ∷ ys)) (sym none) e
+cut_ends_once source k (x ∷ xs) (n, s, inr (e, c)) = ends_once_more x xs e (cut_ends_once source n xs c)
 
 -- ---- what the loop keeps
 
@@ -63,16 +60,7 @@ gathered_token s xs t u x l q stands ends =
       tokens = elim (cases_Bool u.ended) [
         | inl y ↦ inr (
           y,
-          record {
-            front = xs;
-            last = x;
-            before = t.index;
-            after = u.index;
-            parts = refl;
-            leads = l;
-            stands = stands;
-            ends = ends.0 y;
-          },
+          front_cut s.source xs (x ∷ []) s.index t.index l (u.index, stands, inl (ends.0 y, refl)),
         )
         | inr n ↦ inl (
           n,
