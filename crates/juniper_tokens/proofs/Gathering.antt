@@ -7,9 +7,9 @@ use Rattle.std.proofs.lemmas.List.Elements.{All-push}
 use Rattle.std.proofs.lemmas.Bool.{cases_Bool}
 use Rattle.std.proofs.lemmas.List.{map-append}
 use Rattle.graphql_lexical.specs.declared.kind.Kind.TheVariants.{EndOfFile}
-use Rattle.graphql_lexical.specs.Cutting.{Lexeme, Stands, Leads, CutFrom, BreaksFrom}
+use Rattle.graphql_lexical.specs.Cutting.{Lexeme, Stands, Leads, CutFrom, BreaksFrom, here}
 use Rattle.graphql_lexical.proofs.EachKind.{other_kind}
-use Rattle.graphql_lexical.proofs.Cuts.{front_cut}
+use Rattle.graphql_lexical.proofs.Cuts.{front_cut, front_breaks}
 use Rattle.juniper_tokens.specs.declared.token_range.TokenRange.{TokenRange}
 use Rattle.juniper_tokens.specs.declared.error.LexFailure.{LexFailure}
 use Rattle.juniper_tokens.specs.declared.error.LexFailure.TheVariants as failures
@@ -115,13 +115,7 @@ breaks_passed s ranges t u (Err (failures.Fault fault)) failure g h e =
     let breaks : BreaksAt s.source t.index (view_lexer_error fault.item) fault.span.start =
     subst (λ (source : List ℕ). BreaksAt source t.index (view_lexer_error fault.item) fault.span.start)
     g.gathered.source gives.breaks in
-    record {
-      front = range_lexemes s.source ranges;
-      before = t.index;
-      gap = breaks.gap;
-      size = breaks.size;
-      leads = gathered_open s (range_lexemes s.source ranges) t g.gathered h.0;
-      gap_is = breaks.gap_is;
-      fails = breaks.fails;
-      at_is = breaks.at_is;
-    }
+    front_breaks s.source (range_lexemes s.source ranges) s.index t.index _ _
+    (gathered_open s (range_lexemes s.source ranges) t g.gathered h.0)
+    (subst (BreaksFrom s.source t.index (view_lexer_error fault.item)) (sym breaks.at_is)
+    (here breaks.gap_is breaks.fails))
