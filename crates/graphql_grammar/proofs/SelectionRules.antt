@@ -7,7 +7,8 @@ use Rattle.graphql_lexical.specs.Cutting.{Lexeme}
 use Rattle.graphql_grammar.specs.Tokens.{Text, word_of, Word, span_of}
 use Rattle.graphql_grammar.specs.Samples.{sample, token_of}
 use Rattle.graphql_grammar.specs.Reading.{passes, of, word, Reader, name_word, field_name, may_select, field_with, inline_tail, spread_with, selection_at, braces, selections_of, operation_word, other_than_on, operation_with, fragment_with, definition, document, operation_of}
-use Rattle.graphql_grammar.specs.Tree.{Scalars, Selection, Field, FragmentSpread, InlineFragment, Selections, no_selections, selection, Definition, Operation, Fragment, absent, present, Query, operation_name, Directives}
+use Rattle.graphql_grammar.specs.Tree.{Scalars, Selection, Field, FragmentSpread, InlineFragment, Selections, no_selections, selection, Definition, Operation, Fragment, absent, present, operation_name, Directives}
+use Rattle.graphql_grammar.specs.declared.operation.OperationType.TheVariants.{Query}
 use Rattle.graphql_grammar.specs.Grammar.{◌·◌, ◌for◌, Each, Optional, Is, IsWord, Says, IsArguments, IsDirectives, IsVariables, IsAlias, IsSelection, IsOptionalSelectionSet, IsSelectionSet, AreSelections, IsDefinition, IsDocument}
 use Rattle.graphql_grammar.proofs.Rules.{less, Rule, Some_of, done_rule, weaken, on_rule, look_rule, span_rule, maybe_rule, one_or_more_rule, step, want_step, lower, less_short, ClosedSome}
 use Rattle.graphql_grammar.proofs.Sequences.{row, row_back, row_right, enclosed, kind_is, word_is, says_is, one_takes, is_takes, says_takes, front_takes, back_takes}

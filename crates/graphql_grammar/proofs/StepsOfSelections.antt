@@ -5,7 +5,8 @@ use Rattle.graphql_lexical.specs.declared.kind.Kind.TheVariants.{Name, CurlyOpen
 use Rattle.graphql_lexical.specs.Cutting.{Lexeme}
 use Rattle.graphql_grammar.specs.Tokens.{Word, word_of}
 use Rattle.graphql_grammar.specs.Samples.{sample}
-use Rattle.graphql_grammar.specs.Tree.{Scalars, Arguments, Directives, Variables, Selection, Field, FragmentSpread, InlineFragment, Selections, OptionalSelections, absent, present, Definition, Operation, Fragment, Query}
+use Rattle.graphql_grammar.specs.Tree.{Scalars, Arguments, Directives, Variables, Selection, Field, FragmentSpread, InlineFragment, Selections, OptionalSelections, absent, present, Definition, Operation, Fragment}
+use Rattle.graphql_grammar.specs.declared.operation.OperationType.TheVariants.{Query}
 use Rattle.graphql_grammar.specs.Grammar.{IsSelection, IsSelectionSet, IsDefinition, IsDocument}
 use Rattle.graphql_grammar.specs.Reading.{of, word, Reader, seq, done, on, look, want, with_span, maybe, fully, arguments, directives, variables, name_word, field_name, may_select, field_with, inline_tail, spread_with, selection_at, braces, selections_of, other_than_on, operation_word, operation_of, operation_with, fragment_with, definition, document}
 use Rattle.graphql_grammar.proofs.Rules.{Closed, ClosedSome, many_rule, one_or_more_rule}

@@ -3,6 +3,8 @@ use Rattle.std.specs.Prelude.{ℕ, Bool, List, Option, Result, codes}
 use Rattle.graphql_lexical.specs.declared.kind.Kind.{Kind}
 use Rattle.graphql_lexical.specs.Place.{Span}
 use Rattle.graphql_grammar.specs.Tokens.{Text, Word}
+use Rattle.graphql_grammar.specs.declared.operation.OperationType.{OperationType}
+use Rattle.graphql_grammar.specs.declared.operation.OperationType.TheVariants.{Query, Mutation, Subscription}
 
 -- What a scalar type states: the content or the error that it reads from a scalar token's kind and text, and
 -- the content of true and false. F is the type of its errors.
@@ -81,11 +83,6 @@ mutual
   pub data OptionalSelections (C : Type 0) : Type 0 where
     absent : OptionalSelections C
     present : Selections C → OptionalSelections C
-
-pub data OperationType : Type 0 where
-  Query : OperationType
-  Mutation : OperationType
-  Subscription : OperationType
 
 abbrev pub operation_name : OperationType → Text
 operation_name Query = codes "query"

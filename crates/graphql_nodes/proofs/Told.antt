@@ -5,7 +5,9 @@ use Rattle.graphql_lexical.specs.Place.{Span}
 use Rattle.graphql_lexical.specs.Cutting.{Lexeme}
 use Rattle.graphql_grammar.specs.Tokens.{Word}
 use Rattle.graphql_grammar.specs.Tree as tree
-use Rattle.graphql_grammar.specs.Tree.{Scalars, TypeRef, Value, Argument, Arguments, Directive, Directives, VariableDefinition, Variables, Selection, Selections, no_selections, selection, OptionalSelections, absent, present, OperationType, Definition}
+use Rattle.graphql_grammar.specs.Tree.{Scalars, TypeRef, Value, Argument, Arguments, Directive, Directives, VariableDefinition, Variables, Selection, Selections, no_selections, selection, OptionalSelections, absent, present, Definition}
+use Rattle.graphql_grammar.specs.declared.operation.OperationType.{OperationType}
+use Rattle.graphql_grammar.specs.declared.operation.OperationType.TheVariants as operation
 use Rattle.graphql_grammar.specs.Grammar.{IsDocument}
 use Rattle.graphql_grammar.proofs.Elements.{all_each}
 use Rattle.graphql_nodes.specs.declared.kind.NodeKind.TheVariants as kind
@@ -34,15 +36,15 @@ on_type_told : (a b c d : Word) → OnType a c ≡ OnType b d → (a ≡ b) × (
 on_type_told a b c d e = (cc, cc)
 
 operation_told : (a b : OperationType) → operation_kind a ≡ operation_kind b → a ≡ b
-operation_told tree.Query tree.Query e = refl
-operation_told tree.Mutation tree.Mutation e = refl
-operation_told tree.Subscription tree.Subscription e = refl
+operation_told operation.Query operation.Query e = refl
+operation_told operation.Mutation operation.Mutation e = refl
+operation_told operation.Subscription operation.Subscription e = refl
 operation_told a b e = absurd (cc)
 
 no_fragment : (a : OperationType) → operation_kind a ≡ kind.Fragment → ⊥
-no_fragment tree.Query e = absurd (cc)
-no_fragment tree.Mutation e = absurd (cc)
-no_fragment tree.Subscription e = absurd (cc)
+no_fragment operation.Query e = absurd (cc)
+no_fragment operation.Mutation e = absurd (cc)
+no_fragment operation.Subscription e = absurd (cc)
 
 -- what asks for nothing
 abbrev Any : {A : Type 0} → A → Type 0

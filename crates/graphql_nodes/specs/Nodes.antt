@@ -4,7 +4,9 @@ use Rattle.std.specs.Prelude.{ℕ, List, [], ◌∷◌, ◌++◌, length, Option
 use Rattle.graphql_lexical.specs.Place.{Span}
 use Rattle.graphql_grammar.specs.Tokens.{Text, Word}
 use Rattle.graphql_grammar.specs.Tree as tree
-use Rattle.graphql_grammar.specs.Tree.{Value, Items, no_items, item, ObjectFields, no_fields, object_field, TypeRef, Argument, Arguments, Directive, Directives, VariableDefinition, Variables, Selection, Selections, no_selections, selection, OptionalSelections, absent, present, OperationType, Definition}
+use Rattle.graphql_grammar.specs.Tree.{Value, Items, no_items, item, ObjectFields, no_fields, object_field, TypeRef, Argument, Arguments, Directive, Directives, VariableDefinition, Variables, Selection, Selections, no_selections, selection, OptionalSelections, absent, present, Definition}
+use Rattle.graphql_grammar.specs.declared.operation.OperationType.{OperationType}
+use Rattle.graphql_grammar.specs.declared.operation.OperationType.TheVariants as operation
 use Rattle.graphql_nodes.specs.declared.kind.NodeKind.{NodeKind}
 use Rattle.graphql_nodes.specs.declared.kind.NodeKind.TheVariants as kind
 
@@ -73,9 +75,9 @@ unfoldable mutual
   fields_nodes (object_field key span value fields) = over kind.Key span (named key span) (value_nodes value) ++ fields_nodes fields
 
 abbrev pub operation_kind : OperationType → NodeKind
-operation_kind tree.Query = kind.Query
-operation_kind tree.Mutation = kind.Mutation
-operation_kind tree.Subscription = kind.Subscription
+operation_kind operation.Query = kind.Query
+operation_kind operation.Mutation = kind.Mutation
+operation_kind operation.Subscription = kind.Subscription
 
 module _ {C : Type 0} where
   unfoldable pub argument_nodes : Argument C → List (Node C)

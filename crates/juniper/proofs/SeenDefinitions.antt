@@ -6,7 +6,9 @@ use Rattle.graphql_lexical.specs.declared.kind.Kind.TheVariants.{Name, ParenOpen
 use Rattle.graphql_lexical.specs.Kinds.{same_kind}
 use Rattle.graphql_lexical.specs.Cutting.{Lexeme}
 use Rattle.graphql_grammar.specs.Tokens.{Word, word_of, from_to, to_end_of}
-use Rattle.graphql_grammar.specs.Tree.{Scalars, Directives, Selections, OperationType, Query, Mutation, Subscription, Definition, Operation, Fragment}
+use Rattle.graphql_grammar.specs.Tree.{Scalars, Directives, Selections, Definition, Operation, Fragment}
+use Rattle.graphql_grammar.specs.declared.operation.OperationType.{OperationType}
+use Rattle.graphql_grammar.specs.declared.operation.OperationType.TheVariants.{Query, Mutation, Subscription}
 use Rattle.graphql_grammar.specs.Reading.{of, word, passes, seq, done, want, fully, maybe, name_word, directives, variables, other_than_on, operation_word, operation_of, definition}
 use Rattle.graphql_grammar.proofs.Extents.{Runs, RunsOn, runs_on}
 use Rattle.graphql_grammar.proofs.StepsOfSelections.{set_at, operation_by, fragment_by, definition_law}

@@ -4,7 +4,9 @@ use Rattle.graphql_lexical.specs.declared.kind.Kind.TheVariants.{Name, EndOfFile
 use Rattle.graphql_lexical.specs.Kinds.{same_kind}
 use Rattle.graphql_lexical.specs.Cutting.{Lexeme}
 use Rattle.graphql_grammar.specs.Tokens.{Word, word_of, from_to}
-use Rattle.graphql_grammar.specs.Tree.{Scalars, OperationType, Query, Mutation, Subscription, Definition, Operation, Fragment}
+use Rattle.graphql_grammar.specs.Tree.{Scalars, Definition, Operation, Fragment}
+use Rattle.graphql_grammar.specs.declared.operation.OperationType.{OperationType}
+use Rattle.graphql_grammar.specs.declared.operation.OperationType.TheVariants.{Query, Mutation, Subscription}
 use Rattle.graphql_grammar.specs.Reading.{of, many, fully, definition}
 use Rattle.juniper_tokens.specs.Errors.{Error}
 use Rattle.juniper_tokens.specs.Cursor.{Read, ◌>>=◌, first_of, kind_at, next_at, next_if, refused_at, expect_name_at}

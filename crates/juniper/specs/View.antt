@@ -23,8 +23,6 @@ use Rattle.juniper.specs.declared.tree.ast.VariableDefinitions.{VariableDefiniti
 use Rattle.juniper.specs.declared.tree.ast.Field.{Field}
 use Rattle.juniper.specs.declared.tree.ast.InlineFragment.{InlineFragment}
 use Rattle.juniper.specs.declared.tree.ast.Selection as code
-use Rattle.juniper.specs.declared.tree.ast.OperationType.{OperationType}
-use Rattle.juniper.specs.declared.tree.ast.OperationType.TheVariants as operation
 use Rattle.juniper.specs.declared.tree.ast.Definition as definitions
 use Rattle.juniper.specs.declared.tree.ast.Definition.TheVariants as definition
 
@@ -146,15 +144,10 @@ module _ {S C : Type 0} (content : S → C) where
 
 -- ---- definitions
 
-abbrev pub view_operation_type : OperationType → tree.OperationType
-view_operation_type operation.Query = tree.Query
-view_operation_type operation.Mutation = tree.Mutation
-view_operation_type operation.Subscription = tree.Subscription
-
 module _ {S C : Type 0} (content : S → C) where
   abbrev pub view_definition : definitions.Definition S → tree.Definition C
   view_definition (definition.Operation o) =
-      tree.Operation (view_operation_type o.item.operation_type) (option_map view_word o.item.name) (option_map (view_variables content) o.item.variable_definitions)
+      tree.Operation o.item.operation_type (option_map view_word o.item.name) (option_map (view_variables content) o.item.variable_definitions)
       (view_directives content o.item.directives) (view_selections content o.item.selection_set.items) (view_span o.span)
   view_definition (definition.Fragment f) =
       tree.Fragment (view_word f.item.name) (view_word f.item.type_condition) (view_directives content f.item.directives) (view_selections content f.item.selection_set.items) (view_span f.span)

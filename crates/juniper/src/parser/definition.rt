@@ -3,14 +3,15 @@ ghost use Rattle.std.specs.Prelude.{◌≡◌, ◌<◌, ◌≤◌, length, optio
 ghost use Rattle.std.specs.Str.{chars};
 ghost use Rattle.juniper_tokens.specs.Tokens.{view_name};
 ghost use Rattle.juniper_tokens.specs.Cursor.{EndsOnce, Gives, first_of, refused_at};
-ghost use Rattle.juniper.specs.View.{view_word, view_operation_type, view_definition};
+ghost use Rattle.juniper.specs.View.{view_word, view_definition};
 ghost use Rattle.juniper.specs.Scalars.{stated};
 ghost use Rattle.juniper.specs.Definitions.{operation_at, optional_name_read, fragment_name_read, condition_read, operation_read, fragment_read, shorthand_read, definition_read};
 
 use crate::parser::next::{next_is, next_is_word, refuse};
 use crate::parser::selection::{parse_inline_parts, parse_selection_set};
 use crate::parser::variables::parse_optional_variables;
-use crate::tree::ast::{Definition, Fragment, Operation, OperationType};
+use crate::tree::ast::{Definition, Fragment, Operation};
+use graphql_grammar::OperationType;
 use juniper_tokens::{
     Kind, OptionParseResult, ParseResult, Parser, Spanning, UnlocatedParseResult,
 };
@@ -41,7 +42,7 @@ pub(crate) fn parse_definition<'a, S: ScalarValue>(
 /// The type of the operation that the next token begins, if it begins one. The token is left there.
 #[tactic(auto, using(crate::proofs::Names::query_is, crate::proofs::Names::mutation_is, crate::proofs::Names::subscription_is))]
 fn next_operation(parser: &Parser<'_>) -> Option<OperationType>
-    ensures { option_map view_operation_type result ≡ operation_at (first_of parser.now) }
+    ensures { result ≡ operation_at (first_of parser.now) }
 {
     if next_is_word(parser, "mutation") {
         Some(OperationType::Mutation)
@@ -81,7 +82,7 @@ fn parse_operation<'a, S: ScalarValue>(
     parser: &mut Parser<'a>,
     operation_type: OperationType,
 ) -> UnlocatedParseResult<Definition<'a, S>>
-    ensures gives { Gives (view_definition S.content) result parser.new (operation_read (stated S.reading S.of_bool) (view_operation_type operation_type) parser.old) }
+    ensures gives { Gives (view_definition S.content) result parser.new (operation_read (stated S.reading S.of_bool) operation_type parser.old) }
     ensures shorter { OnOk result (length parser.new < length parser.old) }
 {
     let start = parser.next_token()?.span.start;

@@ -1,5 +1,6 @@
 //! The tree of an executable document.
 
+use graphql_grammar::OperationType;
 use juniper_tokens::Spanning;
 use juniper_values::{InputValue, Type};
 
@@ -74,17 +75,6 @@ pub struct Directive<'a, S: Drop> {
     /// The name, without its `@`.
     pub name: Spanning<&'a str>,
     pub arguments: Option<Spanning<Arguments<'a, S>>>,
-}
-
-/// What an operation does (GraphQL specification, October 2021, section 2.3).
-#[derive(Clone, Copy, Debug, PartialEq, Eq)]
-pub enum OperationType {
-    /// A fetch that only reads. A selection set alone is a query too.
-    Query,
-    /// A write, and a fetch after it.
-    Mutation,
-    /// A request that stays, and fetches at each event of its source.
-    Subscription,
 }
 
 /// An operation (GraphQL specification, October 2021, section 2.3).

@@ -1,5 +1,6 @@
 //! How the parts of a tree are compared: `PartialEq` of each is derived.
 ghost use Rattle.std.specs.Prelude.{◌≡◌, ◌&&◌, ◌↔◌, false, IsTrue};
+ghost use Rattle.graphql_grammar.specs.declared.operation.OperationType.{OperationType};
 ghost use Rattle.juniper_tokens.specs.declared.span.Spanning.{Spanning};
 ghost use Rattle.juniper.specs.declared.tree.ast.Arguments.{Arguments};
 ghost use Rattle.juniper.specs.declared.tree.ast.Definition.{Definition};
@@ -9,15 +10,15 @@ ghost use Rattle.juniper.specs.declared.tree.ast.Fragment.{Fragment};
 ghost use Rattle.juniper.specs.declared.tree.ast.FragmentSpread.{FragmentSpread};
 ghost use Rattle.juniper.specs.declared.tree.ast.InlineFragment.{InlineFragment};
 ghost use Rattle.juniper.specs.declared.tree.ast.Operation.{Operation};
-ghost use Rattle.juniper.specs.declared.tree.ast.OperationType.{OperationType};
 ghost use Rattle.juniper.specs.declared.tree.ast.Selection.{Selection};
 ghost use Rattle.juniper.specs.declared.tree.ast.VariableDefinition.{VariableDefinition};
 ghost use Rattle.juniper.specs.declared.tree.ast.VariableDefinitions.{VariableDefinitions};
 
 use crate::tree::ast::{
     Arguments, Definition, Directive, Field, Fragment, FragmentSpread, InlineFragment, Operation,
-    OperationType, Selection, VariableDefinition, VariableDefinitions,
+    Selection, VariableDefinition, VariableDefinitions,
 };
+use graphql_grammar::OperationType;
 use juniper_tokens::Spanning;
 use juniper_values::{InputValue, Type};
 

@@ -1,7 +1,7 @@
 //! The nodes of definitions.
 ghost use Rattle.std.specs.Prelude.{◌≡◌, OnOk, IfOk, map};
 ghost use Rattle.graphql_nodes.specs.Nodes.{definition_nodes, document_nodes, operation_kind};
-ghost use Rattle.juniper.specs.View.{view_definition, view_operation_type};
+ghost use Rattle.juniper.specs.View.{view_definition};
 ghost use Rattle.juniper_nodes.specs.NodeViews.{view_operation, view_fragment, view_nodes, Gains};
 
 use crate::node::{Label, Node};
@@ -46,7 +46,7 @@ pub fn push_definition<'t, 'a, S: ScalarValue>(
 }
 
 fn kind_of(operation_type: OperationType) -> NodeKind
-    ensures { result ≡ operation_kind (view_operation_type operation_type) }
+    ensures { result ≡ operation_kind operation_type }
 {
     match operation_type {
         OperationType::Query => NodeKind::Query,
