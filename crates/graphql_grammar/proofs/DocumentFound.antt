@@ -6,12 +6,12 @@ use Rattle.graphql_lexical.specs.Cutting.{Lexeme}
 use Rattle.graphql_grammar.specs.Tokens.{Text, span_of}
 use Rattle.graphql_grammar.specs.Reading.{Test, passes, of, Took, Reader, seq, done, want, maybe, repeated, unless_empty, maybe_non_null, plain_type, type_at, spanned_type, argument, arguments, directive, directives, default_value, variable_definition, variables}
 use Rattle.graphql_grammar.specs.Tree.{Scalars, Value, TypeRef, NamedType, ListType, NonNullType, Argument, Arguments, Directive, VariableDefinition, Variables, Directives}
-use Rattle.graphql_grammar.specs.Grammar.{◌·◌, ◌for◌, Each, Optional, IsNullable, IsType, IsVariable, IsArgument, IsArguments, IsDirective, IsDirectives, IsDefault, IsVariableDefinition, IsVariables}
+use Rattle.graphql_grammar.specs.Grammar.{◌·◌, ◌for◌, Each, Optional, IsType, IsVariable, IsArgument, IsArguments, IsDirective, IsDirectives, IsDefault, IsVariableDefinition, IsVariables}
 use Rattle.graphql_grammar.proofs.Sequences.{row, nothing_last, kind_is, is_takes, says_takes, front_takes, back_takes}
 use Rattle.graphql_grammar.proofs.Rules.{on_passed}
 use Rattle.graphql_grammar.proofs.Finds.{Any, NotAt, token, Finds, Before, StartsWith, is_starts, front_starts, word_starts, listed_starts, Rejects, starts_before, nothing_before, optional_before, both_before, front_before, any_before, at_most, fewer, found_as, found_if, found_is, map_found, on_apart, look_apart, look_found, given_found, none_found, seq_found, then_found, seq_past, want_found, word_found, done_found, is_past, is_then, is_last, span_found, maybe_found, listed_found}
 use Rattle.graphql_grammar.proofs.Found.{variable_tokens, value_finds}
-use Rattle.graphql_grammar.proofs.DocumentRules.{argument_takes, directive_takes, variable_takes}
+use Rattle.graphql_grammar.proofs.DocumentRules.{IsNullable, name_nullable, list_nullable, argument_takes, directive_takes, variable_takes}
 use Rattle.graphql_grammar.proofs.TokenTests.{of_kind}
 
 -- ---- types
@@ -32,7 +32,7 @@ module _ {F : Type 0} (n : ℕ)
   plain_found (ListType size x) p = given_found (λ e. rw e (on_apart (of Name) _
       (front_before (starts_before (of Name) (λ w. refl) is_starts))
       (is_past (seq_found _ (ih x) (starts_before (of ExclamationMark) (λ w. refl) is_starts) is_last))))
-  plain_found (NonNullType x) p = absurd p
+  plain_found (NonNullType x) p = absurd (p x refl)
 
   nullable_found : (x : TypeRef) → IsNullable x
       → Finds {F = F} (suc (suc n)) (type_at (suc n)) (IsType for x) (NotAt (of ExclamationMark)) x
@@ -52,8 +52,8 @@ module _ {F : Type 0} (n : ℕ)
 type_finds : {F : Type 0} (n : ℕ) (x : TypeRef)
     → Finds {F = F} (suc n) (type_at n) (IsType for x) (NotAt (of ExclamationMark)) x
 type_finds zero x = none_found (λ ts h. type_starts ts x h)
-type_finds (suc n) (NamedType w) = nullable_found n (type_finds n) (NamedType w) tt
-type_finds (suc n) (ListType size x) = nullable_found n (type_finds n) (ListType size x) tt
+type_finds (suc n) (NamedType w) = nullable_found n (type_finds n) (NamedType w) (name_nullable w)
+type_finds (suc n) (ListType size x) = nullable_found n (type_finds n) (ListType size x) (list_nullable size x)
 type_finds (suc n) (NonNullType x) = mark_found n (type_finds n) x
 
 pub type_found : {F : Type 0} (n : ℕ) (ts rest : List Lexeme) (x : TypeRef) → length ts ≤ n → IsType ts x
@@ -98,8 +98,8 @@ type_covers {F} us vs x h n le = by_test vs refl
       (non_null_finds n y).at us (mark ∷ ws) (let l = room (mark ∷ ws) e in omega (arith, l)) h tt,
       refl,
     )
-    marked mark ws e k (NamedType w) h = with_mark mark ws e k (NamedType w) tt h
-    marked mark ws e k (ListType size y) h = with_mark mark ws e k (ListType size y) tt h
+    marked mark ws e k (NamedType w) h = with_mark mark ws e k (NamedType w) (name_nullable w) h
+    marked mark ws e k (ListType size y) h = with_mark mark ws e k (ListType size y) (list_nullable size y) h
 
     plain : (ws : List Lexeme) → vs ≡ ws → NotAt (of ExclamationMark) ws → Covers (type_at {F = F} n) us ws
     plain ws e g = (x, [], ws, type_found n us ws x (let l = room ws e in omega (arith, l)) h g, refl)

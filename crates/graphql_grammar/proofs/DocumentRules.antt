@@ -1,20 +1,31 @@
 -- What the readings of types, fields and definitions keep.
-use Rattle.std.proofs.Common.{ℕ, zero, suc, true, false, ◌≡◌, ◌≤◌, ◌<◌, ◌∷◌, [], List, ◌++◌, length, refl, sym, subst, arith, append-nil, zero-le, le_refl, inl, None}
+use Rattle.std.proofs.Common.{ℕ, zero, suc, true, false, ◌≡◌, ◌≤◌, ◌<◌, ◌∷◌, [], List, ◌++◌, length, refl, sym, subst, arith, append-nil, zero-le, le_refl, inl, Option, None}
 use Rattle.graphql_lexical.specs.Place.{Span}
 use Rattle.graphql_lexical.specs.declared.kind.Kind.{Kind}
 use Rattle.graphql_lexical.specs.declared.kind.Kind.TheVariants.{Name, ExclamationMark, Dollar, ParenOpen, ParenClose, BracketOpen, BracketClose, Colon, Equals, At}
 use Rattle.graphql_lexical.specs.Cutting.{Lexeme}
-use Rattle.graphql_grammar.specs.Tokens.{word_of, over, span_of}
+use Rattle.graphql_grammar.specs.Tokens.{Text, word_of, over, span_of}
 use Rattle.graphql_grammar.specs.Samples.{sample, sample_text}
 use Rattle.graphql_grammar.specs.Reading.{passes, of, Reader, maybe_non_null, plain_type, type_at, spanned_type, value_at, argument, arguments, directive, directives, default_value, variable_definition, variables, unless_empty}
 use Rattle.graphql_grammar.specs.Tree.{Scalars, TypeRef, NamedType, ListType, NonNullType, Argument, Directive, VariableDefinition}
-use Rattle.graphql_grammar.specs.Grammar.{IsValue, Optional, Listed, IsNullable, IsType, IsArgument, IsArguments, IsDirective, IsDirectives, IsDefault, IsVariableDefinition, IsVariables, Each}
+use Rattle.graphql_grammar.specs.Grammar.{IsValue, Optional, Listed, IsType, IsArgument, IsArguments, IsDirective, IsDirectives, IsDefault, IsVariableDefinition, IsVariables, Each}
 use Rattle.graphql_grammar.proofs.Rules.{less, Rule, Some_of, done_rule, weaken, on_rule, span_rule, maybe_rule, one_or_more_rule, repeated_rule, step, want_step, lower, ClosedSome}
 use Rattle.graphql_grammar.proofs.Sequences.{row, enclosed, kind_is, word_is, says_is, one_takes, is_takes, front_takes}
 use Rattle.graphql_grammar.proofs.TokenTests.{of_kind}
 use Rattle.graphql_grammar.proofs.Values.{value_rule}
 
 -- Types
+
+-- not closed by an exclamation mark
+abbrev pub IsNullable : TypeRef → Type 0
+IsNullable type = (inner : TypeRef) → type ≡ NonNullType inner → ⊥
+
+pub name_nullable : (name : Text) → IsNullable (NamedType name)
+name_nullable name inner e = absurd (cc)
+
+pub list_nullable : (size : Option ℕ) (type : TypeRef) → IsNullable (ListType size type)
+list_nullable size type inner e = absurd (cc)
+
 abbrev IsNullableType : List Lexeme → TypeRef → Type 0
 IsNullableType ts t = IsType ts t × IsNullable t
 
@@ -22,13 +33,14 @@ plain_rule : {F : Type 0} (n : ℕ) (f g : Reader F TypeRef) → Rule n f g IsTy
     → Rule (suc n) (plain_type f) (plain_type g) IsNullableType
 unfolding plain_type
 plain_rule n f g r = on_rule (suc n) (of Name) _ _ _ _ IsNullableType
-    (λ t u p. done_rule n (NamedType t.text) (NamedType u.text) _ (says_is t.text t (of_kind Name t p) refl, tt))
+    (λ t u p. done_rule n (NamedType t.text) (NamedType u.text) _
+    (says_is t.text t (of_kind Name t p) refl, name_nullable t.text))
     (want_step (suc n) (of BracketOpen) (sample BracketOpen) _ _ IsNullableType refl (inl refl)
     (λ o o' p. step n n f g _ _ IsType _ (le_refl n) r (λ us x y h.
     want_step (less n us) (of BracketClose) (sample BracketClose) _ _ _ refl (inl refl) (λ c c' q.
     done_rule _ (ListType None x) (ListType None y) _ (
       (enclosed BracketOpen BracketClose o c us (of_kind BracketOpen o p) (of_kind BracketClose c q) h, refl),
-      tt,
+      list_nullable None x,
     )))))
 
 some_type : Some_of IsType

@@ -9,8 +9,9 @@ use Rattle.graphql_lexical.specs.Tokens.{IsName}
 use Rattle.graphql_lexical.specs.laws.Written.{Bare, AreOf}
 use Rattle.graphql_grammar.specs.Tokens.{Text, nowhere, span_of}
 use Rattle.graphql_grammar.specs.Tree.{Value, Null, Scalar, Enum, Variable, ListOf, Object, Items, no_items, item, ObjectFields, no_fields, object_field, TypeRef, NamedType, ListType, NonNullType}
-use Rattle.graphql_grammar.specs.Grammar.{◌·◌, Sequence, IsToken, Is, IsValue, AreItems, AreFields, IsNullable, IsType}
+use Rattle.graphql_grammar.specs.Grammar.{◌·◌, Sequence, IsToken, Is, IsValue, AreItems, AreFields, IsType}
 use Rattle.graphql_grammar.specs.Unlocated.{unlocated_value, unlocated_items, unlocated_fields}
+use Rattle.graphql_grammar.proofs.DocumentRules.{IsNullable, name_nullable, list_nullable}
 use Rattle.graphql_grammar.proofs.Sequences.{row, row_as, row_map, row_front, row_back, token_is}
 use Rattle.juniper_values.specs.Value as input
 use Rattle.juniper_values.specs.Scalar.{Content, integer, text, boolean, custom}
@@ -98,7 +99,7 @@ means_type (NonNull ∷ ms) bs type w (inl n) m =
 means_type (NonNull ∷ ms) bs type w (inr n) m = absurd n
 means_type (ListModifier None ∷ ms) bs type w may m =
     means_type ms (opening_tokens (ListModifier None) ++ (bs ++ closing_tokens (ListModifier None)))
-    (ListType None type) w (inl tt) (listed bs type m)
+    (ListType None type) w (inl (list_nullable None type)) (listed bs type m)
 means_type (ListModifier (Some size) ∷ ms) bs type w may m = absurd w
 
 pub type_read_back : (name : Text) (ms : List TypeModifier) → IsName name → AreWritable ms
@@ -109,7 +110,8 @@ type_read_back name ms n w =
       lexemes = c.lexemes;
       end = c.end;
       cut = c.cut;
-      means = means_type ms (token Name name ∷ []) (NamedType name) w (inl tt) (named name) c.lexemes c.are;
+      means = means_type ms (token Name name ∷ []) (NamedType name) w (inl (name_nullable name)) (named name)
+          c.lexemes c.are;
     }
 
 -- ---- values
