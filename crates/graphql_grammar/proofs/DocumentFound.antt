@@ -9,7 +9,7 @@ use Rattle.graphql_grammar.specs.Tree.{Scalars, Value, TypeRef, NamedType, ListT
 use Rattle.graphql_grammar.specs.Grammar.{◌·◌, ◌for◌, Each, Optional, IsType, IsVariable, IsArgument, IsArguments, IsDirective, IsDirectives, IsDefault, IsVariableDefinition, IsVariables}
 use Rattle.graphql_grammar.proofs.Sequences.{row, nothing_last, kind_is, is_takes, says_takes, front_takes, back_takes}
 use Rattle.graphql_grammar.proofs.Rules.{on_passed}
-use Rattle.graphql_grammar.proofs.Finds.{Any, NotAt, token, Finds, Before, StartsWith, is_starts, front_starts, word_starts, listed_starts, Rejects, starts_before, nothing_before, optional_before, both_before, front_before, any_before, at_most, fewer, found_as, found_if, found_is, map_found, on_apart, look_apart, look_found, given_found, none_found, seq_found, then_found, seq_past, want_found, word_found, done_found, is_past, is_then, is_last, span_found, maybe_found, listed_found}
+use Rattle.graphql_grammar.proofs.Finds.{Any, NotAt, token, Finds, Before, StartsWith, is_starts, front_starts, word_starts, listed_starts, Rejects, starts_before, nothing_before, optional_before, both_before, before_as, front_before, any_before, at_most, fewer, found_as, found_if, found_is, map_found, on_apart, look_apart, look_found, given_found, none_found, seq_found, then_found, seq_past, want_found, word_found, done_found, is_past, is_then, is_last, span_found, maybe_found, listed_found}
 use Rattle.graphql_grammar.proofs.Found.{variable_tokens, value_finds}
 use Rattle.graphql_grammar.proofs.DocumentRules.{IsNullable, name_nullable, list_nullable, argument_takes, directive_takes, variable_takes}
 use Rattle.graphql_grammar.proofs.TokenTests.{of_kind}
@@ -172,8 +172,9 @@ module _ {C F : Type 0} (S : Scalars C F) where
   pub directives_before : {After : List Lexeme → Type 0} (test : Test) (ds : Directives C) → Rejects test At
       → ((rest : List Lexeme) → After rest → NotAt test rest) → Before (IsDirectives S for ds) After (NotAt test)
   directives_before test None d s = nothing_before s
-  directives_before test (Some []) d s = record { at = λ ts rest h g. absurd h }
-  directives_before test (Some (x ∷ ds)) d s = front_before (starts_before test d (λ ts h. directive_starts ts x h))
+  directives_before test (Some []) d s = record { at = λ ts rest h g. absurd (h.1 refl) }
+  directives_before test (Some (x ∷ ds)) d s =
+      before_as (λ ts h. h.0) (front_before (starts_before test d (λ ts h. directive_starts ts x h)))
 
   default_starts : (ts : List Lexeme) (v : Value C) → IsDefault S ts v → StartsWith Equals ts
   default_starts ts v h = front_starts is_starts ts h
@@ -228,8 +229,9 @@ module _ {C F : Type 0} (S : Scalars C F) (n : ℕ) where
   pub directives_found : (ds : Directives C) → Finds n (directives S n) (IsDirectives S for ds) AfterDirectives ds
   unfolding directives
   directives_found None = map_found unless_empty (repeated_found n (le_refl n) [])
-  directives_found (Some []) = record { at = λ ts rest le h g. absurd h }
-  directives_found (Some (d ∷ ds)) = map_found unless_empty (repeated_found n (le_refl n) (d ∷ ds))
+  directives_found (Some []) = record { at = λ ts rest le h g. absurd (h.1 refl) }
+  directives_found (Some (d ∷ ds)) =
+      found_as (λ ts h. h.0) (map_found unless_empty (repeated_found n (le_refl n) (d ∷ ds)))
 
   -- ---- variable definitions
 

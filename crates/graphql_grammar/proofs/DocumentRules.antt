@@ -101,7 +101,8 @@ module _ {C F : Type 0} (S : Scalars C F) (n m : ℕ) (le : n ≤ m) where
       → Listed opening closing R (t ∷ us) xs
   listed opening closing R t us [] p c = absurd c
   listed opening closing R t us (x ∷ xs) p c = subst (λ l. Listed opening closing R (t ∷ l) (x ∷ xs)) (sym c.whole)
-      (enclosed opening closing t c.last c.inner (of_kind opening t p) (of_kind closing c.last c.closes) c.each)
+      (enclosed opening closing t c.last c.inner (of_kind opening t p) (of_kind closing c.last c.closes)
+      (c.each, λ e. absurd (cc)))
 
   pub arguments_rule : Rule n (arguments S n) (arguments S m) (IsArguments S)
   unfolding arguments
@@ -133,7 +134,7 @@ module _ {C F : Type 0} (S : Scalars C F) (n m : ℕ) (le : n ≤ m) where
   directives_are : (ts : List Lexeme) (ds : List (Directive C)) → Each (IsDirective S) ts ds
       → IsDirectives S ts (unless_empty ds)
   directives_are ts [] h = h
-  directives_are ts (d ∷ ds) h = h
+  directives_are ts (d ∷ ds) h = (h, λ e. absurd (cc))
 
   pub directives_rule : Rule n (directives S n) (directives S m) (IsDirectives S)
   unfolding directives

@@ -9,7 +9,7 @@ use Rattle.graphql_lexical.specs.Cutting.{Lexeme}
 use Rattle.graphql_grammar.specs.Tokens.{Word, Text, span_of}
 use Rattle.graphql_grammar.specs.Reading.{Test, passes, of, Read, Took, Reader, after, seq, done, on, want, many, look, choose, maybe, with_span, give_span, one_or_more}
 use Rattle.graphql_grammar.specs.Grammar.{Is, IsWord, Says, Sequence, ◌·◌, ◌for◌, Each, Optional, Listed}
-use Rattle.graphql_grammar.proofs.Sequences.{row_as, one_takes, back_takes, row_length, row_before, row_right}
+use Rattle.graphql_grammar.proofs.Sequences.{row_as, row_front, row_back, one_takes, back_takes, row_length, row_before, row_right}
 use Rattle.graphql_grammar.proofs.Rules.{on_passed, on_failed, want_passed, front_is}
 
 -- ---- what is found, and what follows
@@ -340,8 +340,9 @@ module _ {F A : Type 0} {n : ℕ} {f : Reader F A} {R : List Lexeme → A → Ty
   pub listed_found : {B : Type 0} (opening : Kind) (k : List A → B) (xs : List A)
       → Finds n (seq (want (of opening)) (λ o. seq (one_or_more (of closing) f n) (λ ys. done (k ys))))
       (Listed opening closing R for xs) Any (k xs)
-  listed_found opening k [] = record { at = λ ts rest le h g. absurd h.second.first }
-  listed_found opening k (x ∷ xs) = is_then (map_found k (closed_found (λ w p. one_or_more_found w p x xs)))
+  listed_found opening k [] = record { at = λ ts rest le h g. absurd (h.second.first.1 refl) }
+  listed_found opening k (x ∷ xs) = found_as (row_back (row_front (λ us h. h.0)))
+      (is_then (map_found k (closed_found (λ w p. one_or_more_found w p x xs))))
 
 pub listed_starts : {A : Type 0} {opening : Kind} (closing : Kind) (R : List Lexeme → A → Type 0) (ts : List Lexeme)
     (xs : List A) → Listed opening closing R ts xs → StartsWith opening ts

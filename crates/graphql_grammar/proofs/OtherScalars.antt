@@ -52,8 +52,7 @@ module _ {C F : Type 0} (S T : Scalars C F) (truths : S.of_bool ≡ T.of_bool) w
     optional (Some x) ts a h = f x ts a h
 
     several : (xs : List A) → Carries (Several R for xs) (Several Q for xs)
-    several [] ts a h = h
-    several (x ∷ xs) ts a h = each (x ∷ xs) ts a h
+    several xs ts a h = (each xs ts a h.0, h.1)
 
     listed : (xs : List A) → Carries (Listed ParenOpen ParenClose R for xs) (Listed ParenOpen ParenClose Q for xs)
     listed xs = after (before (several xs))

@@ -276,7 +276,8 @@ module _ {C F : Type 0} (S : Scalars C F) where
     pub document_found : (ts : List Lexeme) (ds : List (Definition C)) → length ts < n → IsDocument S ts ds
         → document S n ts ≡ Took ds []
     unfolding document
-    document_found ts [] le h = absurd h.first
+    document_found ts [] le h = absurd (h.first.1 refl)
     document_found ts (d ∷ ds) le h = ap (document S n) (sym (append-nil ts))
         ∙ (closed_found (λ w p. one_or_more_found EndOfFile (definition_takes S) definition_found definition_apart
-        (λ x. any_before) (λ v q rest. tt) w p d ds)).at ts [] le h tt
+        (λ x. any_before) (λ v q rest. tt) w p d ds)).at ts [] le
+        (row_front (λ us k. k.0) ts h) tt

@@ -229,7 +229,7 @@ module _ {C F : Type 0} (S : Scalars C F) where
       front = h.inner;
       back = h.last ∷ [];
       whole = h.whole;
-      first = h.each;
+      first = (h.each, λ e. absurd (cc));
       second = kind_is EndOfFile h.last (of_kind EndOfFile h.last h.closes);
     }
 

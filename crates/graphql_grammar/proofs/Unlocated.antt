@@ -79,8 +79,8 @@ module _ {A : Type 0} {R : List Lexeme → A → Type 0} (g : A → A) (f : (x :
   optional (Some x) ts h = f x ts h
 
   several : (xs : List A) → Bares (Several R for xs) (Several R for map g xs)
-  several [] ts h = absurd h
-  several (x ∷ xs) ts h = each (x ∷ xs) ts h
+  several [] ts h = absurd (h.1 refl)
+  several (x ∷ xs) ts h = (each (x ∷ xs) ts h.0, λ e. absurd (cc))
 
   listed : (xs : List A) → Bares (Listed ParenOpen ParenClose R for xs) (Listed ParenOpen ParenClose R for map g xs)
   listed xs = enclosed ParenOpen ParenClose (several xs)

@@ -1,5 +1,5 @@
 -- In a document's tree no list of directives and no selection set that may be absent is empty.
-use Rattle.std.proofs.Common.{◌∷◌, [], List, Option, Some, None, inl, inr, subst, sym}
+use Rattle.std.proofs.Common.{◌∷◌, [], List, Option, Some, None, inl, inr, refl, subst, sym}
 use Rattle.std.specs.List.{AllByRecursion}
 use Rattle.graphql_lexical.specs.declared.kind.Kind.{Kind}
 use Rattle.graphql_lexical.specs.Cutting.{Lexeme}
@@ -55,8 +55,7 @@ each_filled R P f ts (x ∷ xs) h = (f h.front x h.first, each_filled R P f h.ba
 several_filled : {A : Type 0} (R : List Lexeme → A → Type 0) (P : A → Type 0)
     → ((ts : List Lexeme) (x : A) → R ts x → P x)
     → (ts : List Lexeme) (xs : List A) → Several R ts xs → AllByRecursion P xs
-several_filled R P f ts [] h = absurd h
-several_filled R P f ts (x ∷ xs) h = each_filled R P f ts (x ∷ xs) h
+several_filled R P f ts xs h = each_filled R P f ts xs h.0
 
 listed_filled : {A : Type 0} (opening closing : Kind) (R : List Lexeme → A → Type 0) (P : A → Type 0)
     → ((ts : List Lexeme) (x : A) → R ts x → P x)
@@ -72,7 +71,7 @@ optional_filled R P f ts (Some x) h = f ts x h
 module _ {C F : Type 0} (S : Scalars C F) where
   directives_filled : (ts : List Lexeme) (ds : Directives C) → IsDirectives S ts ds → FilledDirectives ds
   directives_filled ts None h = tt
-  directives_filled ts (Some []) h = h
+  directives_filled ts (Some []) h = absurd (h.1 refl)
   directives_filled ts (Some (d ∷ ds)) h = tt
 
   variable_filled : (ts : List Lexeme) (v : VariableDefinition C) → IsVariableDefinition S ts v → FilledVariable v

@@ -144,8 +144,7 @@ module _ {C F : Type 0} (S : Scalars C F) (measure : Node C → ℕ) (weight : L
   several_within : {A : Type 0} (R : List Lexeme → A → Type 0) (nodes : A → List (Node C))
       → ((ts : List Lexeme) (x : A) → R ts x → Within ts (nodes x))
       → (ts : List Lexeme) (xs : List A) → Several R ts xs → Within ts (each nodes xs)
-  several_within R nodes f ts [] h = absurd h
-  several_within R nodes f ts (x ∷ xs) h = each_within R nodes f ts (x ∷ xs) h
+  several_within R nodes f ts xs h = each_within R nodes f ts xs h.0
 
   optional_within : {A : Type 0} (R : List Lexeme → A → Type 0) (nodes : A → List (Node C))
       → ((ts : List Lexeme) (x : A) → R ts x → Within ts (nodes x))
