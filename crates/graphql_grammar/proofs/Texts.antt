@@ -106,10 +106,11 @@ module _ {C F : Type 0} (S : Scalars C F) where
       (subst (λ (ts : List Lexeme). AllAlike ts (g.added ++ g.end ∷ [])) (sym b.1)
       (alike_join others g.added (ends.end ∷ []) (g.end ∷ []) (alike_sym g.added others g.alike) end_alike)) in
       let d = document_alike S (front ++ more) (before ++ (g.added ++ g.end ∷ [])) tree all_alike document in
-      record { further = text.0; after = g.added ++ g.end ∷ []; tree = d.0; cut = g.cut; document = d.1 }
+      (text.0, g.added ++ g.end ∷ [], d.0, g.cut, d.1)
 
   text_begins : (source : Text) (ts : List Lexeme) → BeginsText S source ts → Begins IsSpelled (IsDocument S) ts
-  text_begins source ts b = (ts, b.after, b.tree, AllAlike_refl ts, b.document, cut_spelled _ _ b.cut)
+  text_begins source ts (further, after, tree, cut, document) =
+      (ts, after, tree, AllAlike_refl ts, document, cut_spelled _ _ cut)
 
   pub fault_in_text : (source : Text) (ts : List Lexeme) (i : ℕ) → Cut source ts
       → AtFault IsSpelled (IsDocument S) ts i → AtFaultInText S source ts i

@@ -9,12 +9,8 @@ use Rattle.graphql_grammar.specs.Grammar.{IsDocument}
 module _ {C F : Type 0} (S : Scalars C F) where
   -- The source up to the end of the last of these tokens, then a space and some further text, is a document's text. Its
   -- first tokens are these, with their spans.
-  pub record BeginsText (source : Text) (ts : List Lexeme) : Type 0 where
-    pub further : Text
-    pub after : List Lexeme
-    pub tree : List (Definition C)
-    pub cut : Cut (up_to source ts ++ after_space further) (ts ++ after)
-    pub document : IsDocument S (ts ++ after) tree
+  abbrev pub BeginsText : Text → List Lexeme → Type 0
+  BeginsText source ts = (further : Text) × (after : List Lexeme) × (tree : List (Definition C)) × Cut (up_to source ts ++ after_space further) (ts ++ after) × IsDocument S (ts ++ after) tree
 
   -- The source's first i tokens begin a document's text, the first i + 1 don't.
   pub record AtFaultInText (source : Text) (ts : List Lexeme) (i : ℕ) : Type 0 where
