@@ -8,7 +8,7 @@ use Rattle.graphql_grammar.specs.Reading.{Test, passes, of, Took, Reader, seq, d
 use Rattle.graphql_grammar.specs.Tree.{Scalars, Value, TypeRef, NamedType, ListType, NonNullType, Argument, Arguments, Directive, VariableDefinition, Variables, Directives}
 use Rattle.graphql_grammar.specs.Grammar.{◌·◌, ◌for◌, Each, Optional, IsType, IsVariable, IsArgument, IsArguments, IsDirective, IsDirectives, IsDefault, IsVariableDefinition, IsVariables}
 use Rattle.graphql_grammar.proofs.Sequences.{row, nothing_last, kind_is, is_takes, says_takes, front_takes, back_takes}
-use Rattle.graphql_grammar.proofs.Rules.{on_passed}
+use Rattle.graphql_grammar.proofs.TokenRules.{on_passed}
 use Rattle.graphql_grammar.proofs.Finds.{Any, NotAt, token, Finds, Before, StartsWith, is_starts, front_starts, word_starts, listed_starts, Rejects, starts_before, nothing_before, optional_before, both_before, before_as, front_before, any_before, at_most, fewer, found_as, found_if, found_is, map_found, on_apart, look_apart, look_found, given_found, none_found, seq_found, then_found, seq_past, want_found, word_found, done_found, is_past, is_then, is_last, span_found, maybe_found, listed_found}
 use Rattle.graphql_grammar.proofs.Found.{variable_tokens, value_finds}
 use Rattle.graphql_grammar.proofs.DocumentRules.{IsNullable, name_nullable, list_nullable, argument_takes, directive_takes, variable_takes}

@@ -9,7 +9,9 @@ use Rattle.graphql_grammar.specs.Samples.{sample, sample_text}
 use Rattle.graphql_grammar.specs.Reading.{passes, of, Reader, maybe_non_null, plain_type, type_at, spanned_type, value_at, argument, arguments, directive, directives, default_value, variable_definition, variables, unless_empty}
 use Rattle.graphql_grammar.specs.Tree.{Scalars, TypeRef, NamedType, ListType, NonNullType, Argument, Directive, VariableDefinition}
 use Rattle.graphql_grammar.specs.Grammar.{IsValue, Optional, Listed, IsType, IsArgument, IsArguments, IsDirective, IsDirectives, IsDefault, IsVariableDefinition, IsVariables, Each}
-use Rattle.graphql_grammar.proofs.Rules.{less, Rule, Some_of, done_rule, weaken, on_rule, span_rule, maybe_rule, one_or_more_rule, repeated_rule, step, want_step, lower, ClosedSome}
+use Rattle.graphql_grammar.proofs.Rules.{less, Rule, Some_of, done_rule, weaken}
+use Rattle.graphql_grammar.proofs.TokenRules.{on_rule}
+use Rattle.graphql_grammar.proofs.PartRules.{span_rule, maybe_rule, one_or_more_rule, repeated_rule, step, want_step, lower, ClosedSome}
 use Rattle.graphql_grammar.proofs.Sequences.{row, enclosed, kind_is, word_is, says_is, one_takes, is_takes, front_takes}
 use Rattle.graphql_grammar.proofs.TokenTests.{of_kind}
 use Rattle.graphql_grammar.proofs.Values.{value_rule}

@@ -10,7 +10,8 @@ use Rattle.graphql_grammar.specs.Tokens.{Word, Text, span_of}
 use Rattle.graphql_grammar.specs.Reading.{Test, passes, of, Read, Took, Reader, after, seq, done, on, want, many, look, choose, maybe, with_span, give_span, one_or_more}
 use Rattle.graphql_grammar.specs.Grammar.{Is, IsWord, Says, Sequence, ◌·◌, ◌for◌, Each, Optional, Listed}
 use Rattle.graphql_grammar.proofs.Sequences.{row_as, row_front, row_back, one_takes, back_takes, row_length, row_before, row_right}
-use Rattle.graphql_grammar.proofs.Rules.{on_passed, on_failed, want_passed, front_is}
+use Rattle.graphql_grammar.proofs.TokenRules.{on_passed, on_failed, want_passed}
+use Rattle.graphql_grammar.proofs.PartRules.{front_is}
 
 -- ---- what is found, and what follows
 

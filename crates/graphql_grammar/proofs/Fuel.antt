@@ -7,7 +7,8 @@ use Rattle.graphql_grammar.specs.Reading.{Test, passes, of, Read, Took, Refused,
 use Rattle.graphql_grammar.specs.Samples.{sample}
 use Rattle.graphql_grammar.specs.Tree.{Scalars, Value, ListOf, Object, Variable}
 use Rattle.graphql_grammar.specs.Grammar.{IsValue}
-use Rattle.graphql_grammar.proofs.Rules.{Meets, Rule, Closed, many_rule}
+use Rattle.graphql_grammar.proofs.Rules.{Meets, Rule}
+use Rattle.graphql_grammar.proofs.PartRules.{Closed, many_rule}
 use Rattle.graphql_grammar.proofs.Values.{value_rule, value_takes, IsField, field_rule, field_takes}
 
 -- r ran out, or it is s

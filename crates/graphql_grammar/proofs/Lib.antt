@@ -3,6 +3,8 @@ pub mod Sequences
 pub mod Alike
 pub mod TokenTests
 pub mod Rules
+pub mod TokenRules
+pub mod PartRules
 pub mod Values
 pub mod DocumentRules
 pub mod SelectionRules

@@ -10,7 +10,8 @@ use Rattle.graphql_grammar.specs.Reading.{Test, passes, of, word, Read, Took, Re
 use Rattle.graphql_grammar.specs.Tree.{Scalars, Value, TypeRef, Selection}
 use Rattle.graphql_grammar.specs.Grammar.{IsScalarKind}
 use Rattle.graphql_grammar.specs.Faults.{Fault, ScalarError}
-use Rattle.graphql_grammar.proofs.Rules.{on_passed, on_failed, front_is}
+use Rattle.graphql_grammar.proofs.TokenRules.{on_passed, on_failed}
+use Rattle.graphql_grammar.proofs.PartRules.{front_is, span_took, span_refused}
 use Rattle.graphql_grammar.proofs.TokenTests.{is_scalar_kind}
 use Rattle.graphql_grammar.proofs.Values.{literal_ok, literal_bad, literal_other}
 use Rattle.graphql_grammar.proofs.Finds.{seq_took}
@@ -386,21 +387,12 @@ module _ {C F : Type 0} (S : Scalars C F) where
 
   -- with_span
   module _ {A : Type 0} (b : Bool) (f : Reader F (Span → A)) where
-    span_took : (ts rest : List Lexeme) (k : Span → A) → f ts ≡ Took k rest
-        → with_span f ts ≡ Took (k (span_of (front ts rest))) rest
-    unfolding with_span
-    span_took ts rest k e = ap (λ z. after z (give_span ts)) e
-
-    span_refused : (ts rest : List Lexeme) (x : Fault F) → f ts ≡ Refused rest x → with_span f ts ≡ Refused rest x
-    unfolding with_span
-    span_refused ts rest x e = ap (λ z. after z (give_span ts)) e
-
     span_tell : (ts : List Lexeme) (r : Read F (Span → A)) → TellsFault b f ts r
         → TellsFault b (with_span f) ts (after r (give_span ts))
     span_tell ts (Took k rest) (us, e, p) = (
       us,
       e,
-      λ other x. span_took (us ++ other) other k (p other x)
+      λ other x. span_took f (us ++ other) other k (p other x)
           ∙ ap (λ (z : List Lexeme). Took (k (span_of z)) other)
           (front_is us other ∙ sym (ap (λ (z : List Lexeme). front z rest) e ∙ front_is us rest)),
     )
@@ -409,12 +401,12 @@ module _ {C F : Type 0} (S : Scalars C F) where
     span_tell ts (Refused (t ∷ rest) x) (us, e, inr (xe, off)) = (us, e, inr (xe, λ s. by_no_value (off s)))
       where
         by_no_value : NoValueBehind b f us → NoValueBehind b (with_span f) us
-        by_no_value (inl p) = inl (λ other st. ((p other st).0, span_refused (us ++ other) other _ (p other st).1))
+        by_no_value (inl p) = inl (λ other st. ((p other st).0, span_refused f (us ++ other) other _ (p other st).1))
         by_no_value (inr (n, p)) = inr (
           n,
           λ other st. (
             (p other st).0,
-            span_refused (us ++ other) other _ (p other st).1,
+            span_refused f (us ++ other) other _ (p other st).1,
           ),
         )
     span_tell ts Out p = tt

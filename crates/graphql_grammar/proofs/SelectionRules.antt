@@ -10,7 +10,9 @@ use Rattle.graphql_grammar.specs.Reading.{passes, of, word, Reader, name_word, f
 use Rattle.graphql_grammar.specs.Tree.{Scalars, Selection, Field, FragmentSpread, InlineFragment, Selections, no_selections, selection, Definition, Operation, Fragment, absent, present, operation_name, Directives}
 use Rattle.graphql_grammar.specs.declared.operation.OperationType.TheVariants.{Query}
 use Rattle.graphql_grammar.specs.Grammar.{◌·◌, ◌for◌, Each, Optional, Is, IsWord, Says, IsArguments, IsDirectives, IsVariables, IsAlias, IsSelection, IsOptionalSelectionSet, IsSelectionSet, AreSelections, IsDefinition, IsDocument}
-use Rattle.graphql_grammar.proofs.Rules.{less, Rule, Some_of, done_rule, weaken, on_rule, look_rule, span_rule, maybe_rule, one_or_more_rule, step, want_step, lower, less_short, ClosedSome}
+use Rattle.graphql_grammar.proofs.Rules.{less, Rule, Some_of, done_rule, weaken}
+use Rattle.graphql_grammar.proofs.TokenRules.{on_rule, look_rule}
+use Rattle.graphql_grammar.proofs.PartRules.{span_rule, maybe_rule, one_or_more_rule, step, want_step, lower, less_short, ClosedSome}
 use Rattle.graphql_grammar.proofs.Sequences.{row, row_back, row_right, enclosed, kind_is, word_is, says_is, one_takes, is_takes, says_takes, front_takes, back_takes}
 use Rattle.graphql_grammar.proofs.TokenTests.{of_kind, both, text_yes, says, other}
 use Rattle.graphql_grammar.proofs.DocumentRules.{low1, low2, low3, low4, arguments_rule, directives_rule, variables_rule}

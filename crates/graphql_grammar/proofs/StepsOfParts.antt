@@ -8,7 +8,7 @@ use Rattle.graphql_grammar.specs.Samples.{sample}
 use Rattle.graphql_grammar.specs.Tree.{Scalars, Value, TypeRef, Argument, Arguments, Directive, Directives, VariableDefinition, Variables}
 use Rattle.graphql_grammar.specs.Grammar.{IsType, IsArgument, IsArguments, IsDirective, IsDirectives, IsDefault, IsVariableDefinition, IsVariables, Each}
 use Rattle.graphql_grammar.specs.Reading.{of, Reader, seq, done, want, with_span, maybe, fully, value_of, value_at, plain_type, maybe_non_null, type_at, spanned_type, argument, arguments, directive, directives, default_value, variable_definition, variables, unless_empty}
-use Rattle.graphql_grammar.proofs.Rules.{Closed, ClosedSome, many_rule, one_or_more_rule, repeated_rule}
+use Rattle.graphql_grammar.proofs.PartRules.{Closed, ClosedSome, many_rule, one_or_more_rule, repeated_rule}
 use Rattle.graphql_grammar.proofs.DocumentRules.{type_rule, IsSpannedType, spanned_type_rule, argument_rule, argument_takes, arguments_rule, directive_rule, directive_takes, directives_rule, default_rule, variable_definition_rule, variable_takes, variables_rule}
 use Rattle.graphql_grammar.proofs.Fuel.{Under, under_refl, seq_under, on_under, Grows, settled, value_grows, value_under}
 use Rattle.graphql_grammar.proofs.Steps.{maybe_under, span_under, grows, law, many_of, some_of, repeats_of, many_below, some_below, repeats_below, many_law, some_law, repeats_law, many_step, some_step, repeats_step}

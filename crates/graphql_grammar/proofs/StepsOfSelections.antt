@@ -9,7 +9,7 @@ use Rattle.graphql_grammar.specs.Tree.{Scalars, Arguments, Directives, Variables
 use Rattle.graphql_grammar.specs.declared.operation.OperationType.TheVariants.{Query}
 use Rattle.graphql_grammar.specs.Grammar.{IsSelection, IsSelectionSet, IsDefinition, IsDocument}
 use Rattle.graphql_grammar.specs.Reading.{of, word, Reader, seq, done, on, look, want, with_span, maybe, fully, arguments, directives, variables, name_word, field_name, may_select, field_with, inline_tail, spread_with, selection_at, braces, selections_of, other_than_on, operation_word, operation_of, operation_with, fragment_with, definition, document}
-use Rattle.graphql_grammar.proofs.Rules.{Closed, ClosedSome, many_rule, one_or_more_rule}
+use Rattle.graphql_grammar.proofs.PartRules.{Closed, ClosedSome, many_rule, one_or_more_rule}
 use Rattle.graphql_grammar.proofs.SelectionRules.{selection_rule, selection_takes, braces_rule, definition_rule, definition_takes, document_rule}
 use Rattle.graphql_grammar.proofs.Fuel.{Under, under_refl, seq_under, on_under, Grows, settled}
 use Rattle.graphql_grammar.proofs.Steps.{look_under, maybe_under, span_under, one_or_more_under, grows, law, many_of, some_of, many_below, some_below, many_law, some_law, many_step, some_step}

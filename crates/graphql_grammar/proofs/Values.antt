@@ -10,7 +10,9 @@ use Rattle.graphql_grammar.specs.Tree.{Scalars, Value, Null, Scalar, Enum, Varia
 use Rattle.graphql_grammar.specs.Grammar.{IsScalarKind, IsToken, Is, IsWord, IsValue, AreItems, AreFields, Each, ◌·◌, ◌for◌}
 use Rattle.graphql_grammar.proofs.Sequences.{row, row_back, row_right, enclosed, over_enclosed, kind_is, token_is, word_is, says_is, one_takes, is_takes, front_takes}
 use Rattle.graphql_grammar.specs.Faults.{ScalarError}
-use Rattle.graphql_grammar.proofs.Rules.{SameHead, less, Agrees, Fails, Meets, Rule, Some_of, done_rule, seq_rule, turn, weaken, refuse_rule, want_rule, on_rule, many_rule, Closed, less_below, IsOpener, More}
+use Rattle.graphql_grammar.proofs.Rules.{SameHead, less, Agrees, Fails, Meets, Rule, Some_of, done_rule, seq_rule, turn, weaken, less_below, IsOpener, More}
+use Rattle.graphql_grammar.proofs.TokenRules.{refuse_rule, want_rule, on_rule}
+use Rattle.graphql_grammar.proofs.PartRules.{many_rule, Closed}
 use Rattle.graphql_grammar.proofs.TokenTests.{of_kind, both, is_scalar_kind, text_yes, text_no}
 
 -- a literal

@@ -11,7 +11,8 @@ use Rattle.graphql_grammar.specs.Samples.{sample, IsSample}
 use Rattle.graphql_grammar.specs.Reading.{of, passes, Reader, seq, done, want, many, one_or_more, maybe, with_span, front, fully}
 use Rattle.graphql_grammar.proofs.Fuel.{Grows}
 use Rattle.graphql_grammar.proofs.Steps.{many_step, some_step}
-use Rattle.graphql_grammar.proofs.Rules.{Rule, Closed, many_rule}
+use Rattle.graphql_grammar.proofs.Rules.{Rule}
+use Rattle.graphql_grammar.proofs.PartRules.{Closed, many_rule}
 use Rattle.graphql_grammar.proofs.Extents.{Runs, RunsOn, runs_on, took_is, took_some, closed_runs}
 use Rattle.juniper_tokens.specs.Errors.{Error}
 use Rattle.juniper_tokens.specs.Cursor.{Read, ◌>>=◌, kind_at, next_if, skip_if}

@@ -12,7 +12,7 @@ use Rattle.graphql_grammar.specs.Faults as grammar
 use Rattle.graphql_grammar.specs.Faults.{ValueRefusedAt, TypeRefusedAt}
 use Rattle.graphql_grammar.specs.Reading.{Took, Refused, Out, GivesFront, fully, value_of, value_at, type_at}
 use Rattle.graphql_grammar.specs.Reading.{front}
-use Rattle.graphql_grammar.proofs.Rules.{front_is}
+use Rattle.graphql_grammar.proofs.PartRules.{front_is}
 use Rattle.graphql_grammar.specs.Reading as reading
 use Rattle.graphql_grammar.proofs.Given.{value_given, type_given}
 use Rattle.graphql_grammar.proofs.Found.{value_found}

@@ -11,7 +11,7 @@ use Rattle.graphql_grammar.specs.Grammar.{IsArgument, IsArguments, IsDirective, 
 use Rattle.graphql_grammar.specs.Reading.{of, done, front, fully, repeated, maybe, value_of, argument, arguments, directive, directives, default_value, variable_definition, variables, spanned_type, unless_empty}
 use Rattle.graphql_grammar.proofs.Sequences.{row_before}
 use Rattle.graphql_grammar.proofs.DocumentRules.{argument_rule, argument_takes, arguments_rule, directive_rule, directive_takes, variable_definition_rule, variable_takes, variables_rule}
-use Rattle.graphql_grammar.proofs.Rules.{repeated_rule}
+use Rattle.graphql_grammar.proofs.PartRules.{repeated_rule}
 use Rattle.graphql_grammar.proofs.Extents.{Runs, RunsOn, runs_on, runs_of, took_is, took_runs, arguments_have, variables_have, directive_has}
 use Rattle.graphql_grammar.proofs.StepsOfParts.{argument_grows, argument_law, more_arguments_law, some_arguments_law, arguments_law, directive_law, each_directive_law, directives_law, default_law, variable_grows, variable_law, more_variables_law, some_variables_law, variables_law}
 use Rattle.juniper_tokens.specs.declared.token.Token.TheVariants as token
