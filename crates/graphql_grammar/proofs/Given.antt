@@ -16,7 +16,8 @@ use Rattle.graphql_grammar.proofs.Rules.{Meets}
 use Rattle.graphql_grammar.proofs.Found.{value_found}
 use Rattle.graphql_grammar.proofs.Ends.{values, types, document_ends}
 use Rattle.graphql_grammar.proofs.Faulty.{Reads, cut_front, at_fault}
-use Rattle.graphql_grammar.proofs.ScalarFaults.{TellsFault, value_tells, type_tells, document_tells}
+use Rattle.graphql_grammar.proofs.ScalarFaults.{TellsFault}
+use Rattle.graphql_grammar.proofs.DocumentFaults.{value_tells, type_tells, document_tells}
 use Rattle.graphql_grammar.proofs.Readers.{value_reads, type_reads, document_reads}
 use Rattle.graphql_grammar.proofs.Named.{refused_at, drop_next}
 use Rattle.graphql_grammar.proofs.Spelling.{sample_spelled}

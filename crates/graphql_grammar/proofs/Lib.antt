@@ -18,7 +18,9 @@ pub mod ReadScalars
 pub mod OtherScalars
 pub mod Faulty
 pub mod Readers
+pub mod NoValues
 pub mod ScalarFaults
+pub mod DocumentFaults
 pub mod Named
 pub mod Fuel
 pub mod Spelling

@@ -13,7 +13,8 @@ use Rattle.graphql_grammar.specs.Faults.{Fault, UnexpectedEndOfFile, UnexpectedT
 use Rattle.graphql_grammar.proofs.Rules.{Meets, AllAlike_refl, SameHead_refl}
 use Rattle.graphql_grammar.proofs.TokenTests.{of_kind}
 use Rattle.graphql_grammar.proofs.Faulty.{Reads, fails_all, value_stands, at_fault}
-use Rattle.graphql_grammar.proofs.ScalarFaults.{TellsFault, TellsFaults, NoValueBehind, IsScalarFault}
+use Rattle.graphql_grammar.proofs.NoValues.{NoValueBehind}
+use Rattle.graphql_grammar.proofs.ScalarFaults.{TellsFault, TellsFaults, IsScalarFault}
 use Rattle.std.specs.List.{AllByRecursion}
 use Rattle.graphql_grammar.proofs.Alike.{alike_sym, alike_join}
 

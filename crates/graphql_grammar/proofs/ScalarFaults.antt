@@ -1,98 +1,18 @@
 -- Where a scalar token is refused as such: what the reader says to an opening bracket in its place.
-use Rattle.std.proofs.Common.{ℕ, zero, suc, Bool, true, false, ◌≡◌, ◌<◌, ◌∷◌, [], List, ◌++◌, length, refl, sym, ap, ◌∙◌, arith, append_assoc, subst, length-append, ◌⊎◌, ◌||◌, inl, inr, Result, Ok, Err, codes, Option, Some, None}
+use Rattle.std.proofs.Common.{ℕ, zero, suc, Bool, true, false, ◌≡◌, ◌<◌, ◌∷◌, [], List, ◌++◌, length, refl, sym, ap, ◌∙◌, arith, append_assoc, subst, length-append, ◌⊎◌, inl, inr, Err}
 use Rattle.graphql_lexical.specs.Place.{Span}
 use Rattle.graphql_lexical.specs.declared.kind.Kind.{Kind}
-use Rattle.graphql_lexical.specs.declared.kind.Kind.TheVariants.{Name, String, BlockString, Float, Int, ExclamationMark, Dollar, ParenOpen, ParenClose, BracketOpen, BracketClose, CurlyOpen, CurlyClose, Ellipsis, Colon, Equals, At, EndOfFile}
-use Rattle.graphql_lexical.specs.Kinds.{same_kind}
+use Rattle.graphql_lexical.specs.declared.kind.Kind.TheVariants.{BracketOpen, CurlyOpen}
 use Rattle.graphql_lexical.specs.Cutting.{Lexeme}
-use Rattle.graphql_grammar.specs.Tokens.{Word, word_of, Text, span_of}
-use Rattle.graphql_grammar.specs.Reading.{Test, passes, of, word, Read, Took, Refused, Out, Reader, after, seq, done, fault_of, refuse, pick, on, want, many, look, choose, with_span, give_span, front, maybe, one_or_more, repeated, literal, scalar_token, value_at, key_and_value, variable_start, name_word, maybe_non_null, plain_type, type_at, spanned_type, other_than_on, braces, argument, arguments, directive, directives, default_value, variable_definition, variables, field_name, may_select, field_with, inline_tail, spread_with, selection_at, operation_word, operation_with, fragment_with, definition, document}
-use Rattle.graphql_grammar.specs.Tree.{Scalars, Value, TypeRef, Selection}
+use Rattle.graphql_grammar.specs.Tokens.{Text, span_of}
+use Rattle.graphql_grammar.specs.Reading.{Test, passes, of, Read, Took, Refused, Out, Reader, after, seq, done, fault_of, refuse, pick, on, want, many, look, choose, with_span, give_span, front, maybe, one_or_more, repeated}
+use Rattle.graphql_grammar.specs.Tree.{Scalars}
 use Rattle.graphql_grammar.specs.Grammar.{IsScalarKind}
 use Rattle.graphql_grammar.specs.Faults.{Fault, ScalarError}
 use Rattle.graphql_grammar.proofs.TokenRules.{on_passed, on_failed}
 use Rattle.graphql_grammar.proofs.PartRules.{front_is, span_took, span_refused}
-use Rattle.graphql_grammar.proofs.TokenTests.{is_scalar_kind}
-use Rattle.graphql_grammar.proofs.Values.{literal_ok, literal_bad, literal_other}
 use Rattle.graphql_grammar.proofs.Finds.{seq_took}
-use Rattle.graphql_grammar.proofs.Found.{at_literal_kind}
-
--- The first tokens are the same, or a scalar token and an opening bracket.
-abbrev pub Exchange : List Lexeme → List Lexeme → Type 0
-Exchange [] [] = Unit {0}
-Exchange [] (b ∷ bs) = ⊥
-Exchange (a ∷ as') [] = ⊥
-Exchange (a ∷ as') (b ∷ bs) = (b ≡ a) ⊎ (IsScalarKind a.kind × (b.kind ≡ BracketOpen))
-
--- The first token is of this kind.
-abbrev pub Starts : Kind → List Lexeme → Type 0
-Starts k [] = ⊥
-Starts k (t ∷ ts) = t.kind ≡ k
-
-abbrev pub Stops : {F A : Type 0} → Reader F A → List Lexeme → List Lexeme → Type 0
-Stops {F} f us rest = (x : Fault F) × (f (us ++ rest) ≡ Refused rest x)
-
--- After these tokens `[` is refused, or `{` is. A strict reader refuses `{` alone only after a token of its own.
-abbrev pub NoValueBehind : {F A : Type 0} → Bool → Reader F A → List Lexeme → Type 0
-NoValueBehind b f us = ((rest : List Lexeme) → Starts BracketOpen rest → Stops f us rest)
-    ⊎ ((b ≡ true → 0 < length us) × ((rest : List Lexeme) → Starts CurlyOpen rest → Stops f us rest))
-
-exchanged : (vs last other : List Lexeme) → Exchange last other → Exchange (vs ++ last) (vs ++ other)
-exchanged [] last other x = x
-exchanged (v ∷ vs) last other x = inl refl
-
-exchanged_some : (vs last other : List Lexeme) → 0 < length vs → Exchange (vs ++ last) (vs ++ other)
-exchanged_some [] last other x = absurd (omega (arith, x))
-exchanged_some (v ∷ vs) last other x = inl refl
-
-exchanged_bracket : (t : Lexeme) (ts other : List Lexeme) → IsScalarKind t.kind → Starts BracketOpen other
-    → Exchange (t ∷ ts) other
-exchanged_bracket t ts [] s x = absurd x
-exchanged_bracket t ts (u ∷ us) s x = inr (s, x)
-
--- What a rule asks of a token sees no scalar token and no opening bracket.
-pub record PassesNoValue (test : Test) : Type 0 where
-  pub scalar : (k : Kind) (w : Text) → IsScalarKind k → test k w ≡ false
-  pub bracket : (w : Text) → test BracketOpen w ≡ false
-
-pub passes_no_value : (test : Test) → ((w : Text) → test String w ≡ false) → ((w : Text) → test BlockString w ≡ false)
-    → ((w : Text) → test Float w ≡ false) → ((w : Text) → test Int w ≡ false)
-    → ((w : Text) → test BracketOpen w ≡ false) → PassesNoValue test
-passes_no_value test a b c d e = record { scalar = by_kind; bracket = e }
-  where
-    by_kind : (k : Kind) (w : Text) → IsScalarKind k → test k w ≡ false
-    by_kind k w (inl x) = ap (λ (z : Kind). test z w) x ∙ a w
-    by_kind k w (inr (inl x)) = ap (λ (z : Kind). test z w) x ∙ b w
-    by_kind k w (inr (inr (inl x))) = ap (λ (z : Kind). test z w) x ∙ c w
-    by_kind k w (inr (inr (inr x))) = ap (λ (z : Kind). test z w) x ∙ d w
-
--- some value begins with a token of this kind that is no Name
-abbrev starts_value : Kind → Bool
-starts_value k = same_kind String k || same_kind BlockString k || same_kind Float k || same_kind Int k
-    || same_kind BracketOpen k
-
-no_value_by : (k : Kind) → starts_value k ≡ false → PassesNoValue (of k)
-no_value_by k h =
-    let n = none (same_kind String k) (same_kind BlockString k) (same_kind Float k) (same_kind Int k)
-    (same_kind BracketOpen k) h in
-    passes_no_value (of k) (λ w. n.0) (λ w. n.1) (λ w. n.2) (λ w. n.3) (λ w. n.4)
-  where
-    none : (a b c d e : Bool) → (a || b || c || d || e) ≡ false
-        → (a ≡ false) × (b ≡ false) × (c ≡ false) × (d ≡ false) × (e ≡ false)
-    none true b c d e h = absurd (cc h)
-    none false true c d e h = absurd (cc h)
-    none false false true d e h = absurd (cc h)
-    none false false false true e h = absurd (cc h)
-    none false false false false e h = (refl, refl, refl, refl, h)
-
-no_value_by_word : (text : Text) → PassesNoValue (word text)
-no_value_by_word text = passes_no_value (word text) (λ w. refl) (λ w. refl) (λ w. refl) (λ w. refl) (λ w. refl)
-
-no_value_by_other : PassesNoValue other_than_on
-no_value_by_other = passes_no_value other_than_on (λ w. refl) (λ w. refl) (λ w. refl) (λ w. refl) (λ w. refl)
-
-no_value_by_operation : PassesNoValue operation_word
-no_value_by_operation = passes_no_value operation_word (λ w. refl) (λ w. refl) (λ w. refl) (λ w. refl) (λ w. refl)
+use Rattle.graphql_grammar.proofs.NoValues.{Exchange, Starts, Stops, NoValueBehind, exchanged, exchanged_some, exchanged_bracket, PassesNoValue, starts_value, no_value_by}
 
 module _ {C F : Type 0} (S : Scalars C F) where
   abbrev pub IsScalarFault : Lexeme → Fault F → Type 0
@@ -111,7 +31,7 @@ module _ {C F : Type 0} (S : Scalars C F) where
     pub at : (ts : List Lexeme) → TellsFault b f ts (f ts)
 
   -- A reader that goes as another does.
-  same_tell : {A : Type 0} (b : Bool) (g h : Reader F A) (ts : List Lexeme) (r : Read F A)
+  pub same_tell : {A : Type 0} (b : Bool) (g h : Reader F A) (ts : List Lexeme) (r : Read F A)
       → ((other : List Lexeme) → Exchange ts other → h other ≡ g other)
       → (b ≡ false → (other : List Lexeme) → Starts CurlyOpen other → h other ≡ g other) → TellsFault b g ts r
       → TellsFault b h ts r
@@ -254,7 +174,7 @@ module _ {C F : Type 0} (S : Scalars C F) where
 
   -- on
   module _ {A : Type 0} (b : Bool) (test : Test) (k : Lexeme → Reader F A) (g : Reader F A) where
-    push : (t : Lexeme) (ts : List Lexeme) (r : Read F A) → passes test t ≡ true → TellsFault false (k t) ts r
+    pub push : (t : Lexeme) (ts : List Lexeme) (r : Read F A) → passes test t ≡ true → TellsFault false (k t) ts r
         → TellsFault b (on test k g) (t ∷ ts) r
     push t ts (Took a rest) e (us, q, p) = (
       t ∷ us,
@@ -276,7 +196,7 @@ module _ {C F : Type 0} (S : Scalars C F) where
     push t ts Out e p = tt
 
     -- at one list
-    on_at : (t : Lexeme) (ts : List Lexeme) (v : Bool) → passes test t ≡ v
+    pub on_at : (t : Lexeme) (ts : List Lexeme) (v : Bool) → passes test t ≡ v
         → (IsScalarKind t.kind → (w : Text) → test BracketOpen w ≡ false)
         → (b ≡ false → (w : Text) → test CurlyOpen w ≡ false)
         → ((u : Lexeme) → passes test u ≡ true → TellsFaults false (k u)) → TellsFault b g (t ∷ ts) (g (t ∷ ts))
@@ -317,7 +237,7 @@ module _ {C F : Type 0} (S : Scalars C F) where
         → TellsFaults b (on test k g)
     on_turns_by bl cu hk hg = record { at = λ ts. on_list ts bl cu hk hg }
 
-  no_curly : {X : Type 0} → true ≡ false → X
+  pub no_curly : {X : Type 0} → true ≡ false → X
   no_curly c = absurd (cc c)
 
   pub on_tells : {A : Type 0} (test : Test) (k : Lexeme → Reader F A) (g : Reader F A) → PassesNoValue test
@@ -325,7 +245,7 @@ module _ {C F : Type 0} (S : Scalars C F) where
   on_tells test k g bl hk hg = on_turns_by true test k g bl (λ c. no_curly c) (λ u e. weak (k u) (hk u)) hg
 
   -- a token that is wanted, and then
-  want_on : {A : Type 0} (test : Test) (k : Lexeme → Reader F A) (ts : List Lexeme)
+  pub want_on : {A : Type 0} (test : Test) (k : Lexeme → Reader F A) (ts : List Lexeme)
       → seq (want test) k ts ≡ on test k refuse ts
   unfolding seq want on done refuse
   want_on test k [] = refl
@@ -416,7 +336,7 @@ module _ {C F : Type 0} (S : Scalars C F) where
     span_tells r = record { at = λ ts. span_tell ts (f ts) (r.at ts) }
 
   -- loops
-  out_tells : {A : Type 0} (f : Reader F A) → ((ts : List Lexeme) → f ts ≡ Out) → TellsFaults true f
+  pub out_tells : {A : Type 0} (f : Reader F A) → ((ts : List Lexeme) → f ts ≡ Out) → TellsFaults true f
   out_tells f e = record { at = λ ts. subst (λ z. TellsFault true f ts z) (sym (e ts)) tt }
 
   pub many_tells : {A : Type 0} (close : Test) (f : Reader F A) (n : ℕ) → PassesNoValue close → TellsFaults true f
@@ -444,227 +364,3 @@ module _ {C F : Type 0} (S : Scalars C F) where
       → TellsFaults true (maybe test f)
   unfolding maybe
   maybe_tells test f bl r = look_tells test _ _ bl (seq_tells true f _ r (λ x. done_tells true _)) (done_tells true _)
-
-  -- values
-  literal_tell : (h : Reader F (Value C)) (t : Lexeme) (ts : List Lexeme) (z : Result C F)
-      → passes scalar_token t ≡ true → S.read t.kind t.text ≡ z → ((us : List Lexeme) → h (t ∷ us) ≡ literal S (t ∷
-      us))
-      → TellsFault true h (t ∷ ts) (h (t ∷ ts))
-  literal_tell h t ts (Ok c) e q same = subst (λ r. TellsFault true h (t ∷ ts) r)
-      (sym (same ts ∙ literal_ok S t ts c e q)) (t ∷ [], refl, λ other x. same other ∙ literal_ok S t other c e q)
-  literal_tell h t ts (Err x) e q same = subst (λ r. TellsFault true h (t ∷ ts) r)
-      (sym (same ts ∙ literal_bad S t ts x e q)) ([], refl, inl (x, refl, is_scalar_kind t e, q))
-
-  value_literal : (free : Bool) (n : ℕ) (t : Lexeme) → IsScalarKind t.kind → (us : List Lexeme)
-      → value_at S free (suc n) (t ∷ us) ≡ literal S (t ∷ us)
-  value_literal free n t (inl e) us = at_literal_kind S free n t us String e refl refl refl refl
-  value_literal free n t (inr (inl e)) us = at_literal_kind S free n t us BlockString e refl refl refl refl
-  value_literal free n t (inr (inr (inl e))) us = at_literal_kind S free n t us Float e refl refl refl refl
-  value_literal free n t (inr (inr (inr e))) us = at_literal_kind S free n t us Int e refl refl refl refl
-
-  not_scalar : (t : Lexeme) → passes scalar_token t ≡ false → IsScalarKind t.kind → ⊥
-  not_scalar t e (inl s) = absurd (cc (sym e ∙ ap (λ (k : Kind). scalar_token k t.text) s))
-  not_scalar t e (inr (inl s)) = absurd (cc (sym e ∙ ap (λ (k : Kind). scalar_token k t.text) s))
-  not_scalar t e (inr (inr (inl s))) = absurd (cc (sym e ∙ ap (λ (k : Kind). scalar_token k t.text) s))
-  not_scalar t e (inr (inr (inr s))) = absurd (cc (sym e ∙ ap (λ (k : Kind). scalar_token k t.text) s))
-
-  other_literal : (t : Lexeme) (ts : List Lexeme) → passes scalar_token t ≡ false
-      → TellsFault true (literal S) (t ∷ ts) (literal S (t ∷ ts))
-  other_literal t ts e = subst (λ z. TellsFault true (literal S) (t ∷ ts) z) (sym (literal_other S t ts e))
-      (same_tell true refuse (literal S) (t ∷ ts) (refuse (t ∷ ts)) by_head (λ c. no_curly c)
-      ((refuse_tells true).at (t ∷ ts)))
-    where
-      by_head : (other : List Lexeme) → Exchange (t ∷ ts) other → literal S other ≡ refuse other
-      by_head [] x = absurd x
-      by_head (u ∷ us) (inl x) = literal_other S u us (ap (passes scalar_token) x ∙ e)
-      by_head (u ∷ us) (inr x) = absurd (not_scalar t e x.0)
-
-  pub field_tells : (f : Reader F (Value C)) → TellsFaults true f → TellsFaults true (key_and_value f)
-  unfolding key_and_value
-  field_tells f r = kind_tells Name refl _ (λ k. kind_tells Colon refl _ (λ c. map_tells f _ r))
-
-  value_one : (free : Bool) (n : ℕ) (r : TellsFaults true (value_at S free n)) (t : Lexeme) (ts : List Lexeme)
-      (v : Bool) → passes scalar_token t ≡ v → TellsFault true (value_at S free (suc n)) (t ∷ ts)
-      (value_at S free (suc n) (t ∷ ts))
-  unfolding value_at
-  value_one free n r t ts true e = literal_tell (value_at S free (suc n)) t ts (S.read t.kind t.text) e refl
-      (value_literal free n t (is_scalar_kind t e))
-  value_one free n r t ts false e =
-      on_at true (of BracketOpen) _ _ t ts (passes (of BracketOpen) t) refl (λ s. absurd (not_scalar t e s))
-      (λ c. no_curly c) (λ u q. weak _
-      (map_tells _ _ (many_tells (of BracketClose) _ n (no_value_by BracketClose refl) r)))
-      (on_at true (of CurlyOpen) _ _ t ts (passes (of CurlyOpen) t) refl (λ s. absurd (not_scalar t e s))
-      (λ c. no_curly c) (λ u q. weak _ (map_tells _ _ (many_tells (of CurlyClose) _ n (no_value_by CurlyClose refl)
-      (field_tells _ r))))
-      (on_at true (variable_start free) _ _ t ts (passes (variable_start free) t) refl
-      (λ s. absurd (not_scalar t e s))
-      (λ c. no_curly c) (λ u q. weak _ (kind_tells Name refl _ (λ x. done_tells true _)))
-      (on_at true (of Name) _ _ t ts (passes (of Name) t) refl (λ s. absurd (not_scalar t e s)) (λ c. no_curly c)
-      (λ u q. done_tells false _)
-      (other_literal t ts e))))
-
-  value_list : (free : Bool) (n : ℕ) (r : TellsFaults true (value_at S free n)) (ts : List Lexeme)
-      → TellsFault true (value_at S free (suc n)) ts (value_at S free (suc n) ts)
-  unfolding value_at on literal
-  value_list free n r [] = tt
-  value_list free n r (t ∷ ts) = value_one free n r t ts (passes scalar_token t) refl
-
-  pub value_tells : (free : Bool) (n : ℕ) → TellsFaults true (value_at S free n)
-  unfolding value_at
-  value_tells free zero = out_tells (value_at S free zero) (λ ts. refl)
-  value_tells free (suc n) = record { at = value_list free n (value_tells free n) }
-
-  -- types
-  bracket_on : {A : Type 0} (k : Lexeme → Reader F A) (ts : List Lexeme) → ((u : Lexeme) → TellsFaults false (k u))
-      → TellsFault false (on (of BracketOpen) k refuse) ts (on (of BracketOpen) k refuse ts)
-  unfolding on refuse
-  bracket_on k [] hk = tt
-  bracket_on {A} k (t ∷ ts) hk = by_test (passes (of BracketOpen) t) refl
-    where
-      by_test : (b : Bool) → passes (of BracketOpen) t ≡ b
-          → TellsFault false (on (of BracketOpen) k refuse) (t ∷ ts) (pick b k refuse t ts)
-      by_test true e = push false (of BracketOpen) k refuse t ts (k t ts) e ((hk t).at ts)
-      by_test false e = ([], refl, inr (refl, λ s. inr ((λ c. absurd (cc c)), λ rest st. by_rest rest st)))
-        where
-          by_rest : (rest : List Lexeme) → Starts CurlyOpen rest → Stops (on (of BracketOpen) k refuse) [] rest
-          by_rest [] st = absurd st
-          by_rest (u ∷ us) st = (
-            fault_of u.kind u.text,
-            on_failed (of BracketOpen) k refuse u us
-                (ap (λ (z : Kind). of BracketOpen z u.text) st),
-          )
-
-  maybe_non_null_tells : (x : TypeRef) → TellsFaults true (maybe_non_null {F = F} x)
-  unfolding maybe_non_null
-  maybe_non_null_tells x = on_tells (of ExclamationMark) _ _ (no_value_by ExclamationMark refl)
-      (λ u. done_tells true _) (done_tells true _)
-
-  plain_tells : (inner : Reader F TypeRef) → TellsFaults false inner → TellsFaults false (plain_type inner)
-  unfolding plain_type
-  plain_tells inner r = on_turns_by false (of Name) _ _ (no_value_by Name refl) (λ c w. refl)
-      (λ u e. done_tells false _)
-      (same_tells false (on (of BracketOpen) _ refuse) _ (want_on (of BracketOpen) _)
-      (record {
-        at = λ ts. bracket_on _ ts (λ o. seq_tells false inner _ r
-            (λ x. kind_tells BracketClose refl _ (λ c. done_tells true _)));
-      }))
-
-  pub type_tells : (n : ℕ) → TellsFaults false (type_at {F = F} n)
-  unfolding type_at
-  type_tells zero = record { at = λ ts. tt }
-  type_tells (suc n) = seq_tells false _ _ (plain_tells (type_at n) (type_tells n)) (λ x. maybe_non_null_tells x)
-
-  spanned_tells : (n : ℕ) → TellsFaults false (spanned_type {F = F} n)
-  unfolding spanned_type
-  spanned_tells n = span_tells false _ (seq_tells false _ _ (type_tells n) (λ x. done_tells true _))
-
-  -- documents
-  module _ (n : ℕ) where
-    argument_tells : TellsFaults true (argument S n)
-    unfolding argument
-    argument_tells = kind_tells Name refl _ (λ k. kind_tells Colon refl _ (λ c. map_tells _ _ (value_tells true n)))
-
-    arguments_tells : TellsFaults true (arguments S n)
-    unfolding arguments
-    arguments_tells = span_tells true _ (kind_tells ParenOpen refl _ (λ o.
-        map_tells _ _ (one_or_more_tells (of ParenClose) _ n (no_value_by ParenClose refl) argument_tells)))
-
-    directive_tells : TellsFaults true (directive S n)
-    unfolding directive
-    directive_tells = span_tells true _ (kind_tells At refl _ (λ a. kind_tells Name refl _ (λ t.
-        map_tells _ _ (maybe_tells (of ParenOpen) _ (no_value_by ParenOpen refl) arguments_tells))))
-
-    directives_tells : TellsFaults true (directives S n)
-    unfolding directives
-    directives_tells = map_tells _ _ (repeated_tells (of At) _ n (no_value_by At refl) directive_tells)
-
-    default_tells : TellsFaults true (default_value S n)
-    unfolding default_value
-    default_tells = kind_tells Equals refl _ (λ e. value_tells false n)
-
-    -- after the colon a type, which refuses `{`
-    variable_tells : TellsFaults true (variable_definition S n)
-    unfolding variable_definition
-    variable_tells = kind_tells Dollar refl _ (λ d. kind_tells Name refl _ (λ t.
-        want_type (of Colon) _ (no_value_by Colon refl) (λ c. seq_tells false _ _ (spanned_tells n) (λ x.
-        seq_tells true _ _ (maybe_tells (of Equals) _ (no_value_by Equals refl) default_tells)
-        (λ v. map_tells _ _ directives_tells)))))
-
-    variables_tells : TellsFaults true (variables S n)
-    unfolding variables
-    variables_tells = span_tells true _ (kind_tells ParenOpen refl _ (λ o.
-        map_tells _ _ (one_or_more_tells (of ParenClose) _ n (no_value_by ParenClose refl) variable_tells)))
-
-    field_name_tells : TellsFaults true (field_name S n)
-    unfolding field_name
-    field_name_tells = kind_tells Name refl _ (λ a. on_tells (of Colon) _ _ (no_value_by Colon refl)
-        (λ c. kind_tells Name refl _ (λ t. done_tells true _)) (done_tells true _))
-
-    module _ (f : Reader F (Selection C)) (r : TellsFaults true f) where
-      braces_tells : TellsFaults true (braces f n)
-      unfolding braces
-      braces_tells = kind_tells CurlyOpen refl _ (λ o.
-          map_tells _ _ (one_or_more_tells (of CurlyClose) _ n (no_value_by CurlyClose refl) r))
-
-      may_tells : TellsFaults true (may_select S n f)
-      unfolding may_select
-      may_tells = look_tells (of CurlyOpen) _ _ (no_value_by CurlyOpen refl)
-          (map_tells _ _ braces_tells) (done_tells true _)
-
-      field_with_tells : TellsFaults true (field_with S n f)
-      unfolding field_with
-      field_with_tells = seq_tells true _ _ field_name_tells (λ h.
-          seq_tells true _ _ (maybe_tells (of ParenOpen) _ (no_value_by ParenOpen refl) arguments_tells)
-          (λ xs. seq_tells true _ _ directives_tells (λ ds. map_tells _ _ may_tells)))
-
-      inline_tells : (w : Option Word) → TellsFaults true (inline_tail S n w f)
-      unfolding inline_tail
-      inline_tells w = seq_tells true _ _ directives_tells (λ ds.
-          map_tells _ _ braces_tells)
-
-      spread_tells : TellsFaults true (spread_with S n f)
-      unfolding spread_with
-      spread_tells = kind_tells Ellipsis refl _ (λ e. on_tells (word (codes "on")) _
-          _ (no_value_by_word (codes "on")) (λ o. kind_tells Name refl _ (λ t. inline_tells (Some (word_of t))))
-          (on_tells other_than_on _ _ no_value_by_other (λ t. map_tells _ _ directives_tells) (inline_tells None)))
-
-  selection_tells : (n : ℕ) → TellsFaults true (selection_at S n)
-  unfolding selection_at
-  selection_tells zero = out_tells (selection_at S zero) (λ ts. refl)
-  selection_tells (suc n) = span_tells true _ (look_tells (of Ellipsis) _ _
-      (no_value_by Ellipsis refl)
-      (spread_tells n _ (selection_tells n)) (field_with_tells n _ (selection_tells n)))
-
-  module _ (n : ℕ) where
-    body_tells : TellsFaults true (braces (selection_at S n) n)
-    body_tells = braces_tells n _ (selection_tells n)
-
-    name_tells : TellsFaults true (name_word {F = F})
-    unfolding name_word
-    name_tells = kind_tells Name refl _ (λ t. done_tells true _)
-
-    operation_tells : (w : Lexeme) → TellsFaults true (operation_with S n w)
-    unfolding operation_with
-    operation_tells w = seq_tells true _ _ (maybe_tells (of Name) _ (no_value_by Name refl) name_tells)
-        (λ name. seq_tells true _ _ (maybe_tells (of ParenOpen) _ (no_value_by ParenOpen refl) (variables_tells n))
-        (λ vars. seq_tells true _ _ (directives_tells n)
-        (λ ds. map_tells _ _ body_tells)))
-
-    fragment_tells : TellsFaults true (fragment_with S n)
-    unfolding fragment_with
-    fragment_tells = want_tells other_than_on _ no_value_by_other (λ a. want_tells (word (codes "on")) _
-        (no_value_by_word (codes "on"))
-        (λ o. kind_tells Name refl _ (λ t. seq_tells true _ _ (directives_tells n) (λ ds. map_tells _ _ body_tells))))
-
-    definition_tells : TellsFaults true (definition S n)
-    unfolding definition
-    definition_tells = span_tells true _
-        (on_tells operation_word _ _ no_value_by_operation operation_tells
-        (on_tells (word (codes "fragment")) _ _
-        (no_value_by_word (codes "fragment"))
-        (λ w. fragment_tells)
-        (map_tells _ _ body_tells)))
-
-    pub document_tells : TellsFaults true (document S n)
-    unfolding document
-    document_tells = one_or_more_tells (of EndOfFile) _ n (no_value_by EndOfFile refl) definition_tells
