@@ -13,7 +13,7 @@ use Rattle.graphql_grammar.specs.Tokens.{IsSpelled}
 use Rattle.graphql_grammar.specs.Tree.{Scalars, Definition}
 use Rattle.graphql_grammar.specs.Grammar.{IsScalarKind, IsDocument}
 use Rattle.graphql_grammar.specs.Faults.{Fault, NoEnd, EndsOnce, Begins, RefusedAt, DocumentRefusedAt}
-use Rattle.graphql_grammar.specs.Reading.{document}
+use Rattle.graphql_grammar.specs.Productions.{document, reads}
 use Rattle.graphql_grammar.specs.Depth.{BeginsDocument}
 use Rattle.graphql_grammar.proofs.Elements.{all_front, all_join}
 use Rattle.graphql_grammar.proofs.Nested as nested
@@ -251,11 +251,11 @@ module _ {C F : Type 0} (S : Scalars C F) where
           let refused : DocumentRefusedAt S ts j u e = subst (λ l. DocumentRefusedAt S l j u e) (sym whole_parts)
           (refused_in_front IsSpelled (IsDocument S) _ front (end_behind t ∷ []) d.after j u e
           (omega (arith, l, front_length)) h) in
-          let s = split (document S) (IsDocument S) (document_reads S) IsSpelled sample_spelled (suc j) (suc i) ts
-          (omega (arith, l)) in
+          let s = split (λ n. reads S n document) (IsDocument S) (document_reads S) IsSpelled sample_spelled (suc j)
+          (suc i) ts (omega (arith, l)) in
           inr (
             goes_on,
-            (λ b. refused.fault.ends (front_begins (document S) (IsDocument S) (document_reads S) IsSpelled
+            (λ b. refused.fault.ends (front_begins (λ n. reads S n document) (IsDocument S) (document_reads S) IsSpelled
                 sample_spelled (take (suc j) ts) s.0 (subst (BeginsDocument S) s.1 b))),
             refused,
           )

@@ -1,15 +1,16 @@
 -- What is in the grammar of documents is read.
 use Rattle.std.proofs.Common.{ℕ, zero, suc, true, false, ◌≡◌, ◌≤◌, ◌<◌, ◌+◌, ◌∷◌, [], List, ◌++◌, length, refl, sym, ap, ◌∙◌, arith, le_refl, append_assoc, length-append, Option, Some, None, Bool, subst}
 use Rattle.graphql_lexical.specs.Place.{Span}
-use Rattle.graphql_lexical.specs.declared.kind.Kind.TheVariants.{Name, ExclamationMark, Dollar, ParenOpen, ParenClose, BracketOpen, Equals, At}
+use Rattle.graphql_lexical.specs.declared.kind.Kind.TheVariants.{Name, ExclamationMark, Dollar, ParenOpen, ParenClose, BracketOpen, BracketClose, Equals, At}
 use Rattle.graphql_lexical.specs.Cutting.{Lexeme}
-use Rattle.graphql_grammar.specs.Tokens.{Text, span_of}
-use Rattle.graphql_grammar.specs.Reading.{Test, passes, of, Took, Reader, seq, done, want, maybe, repeated, unless_empty, maybe_non_null, plain_type, type_at, spanned_type, argument, arguments, directive, directives, default_value, variable_definition, variables}
+use Rattle.graphql_grammar.specs.Tokens.{Text, over, from_to, span_of}
+use Rattle.graphql_grammar.specs.Reading.{Test, passes, of, Took, Reader, seq, done, want, repeated, a_type}
+use Rattle.graphql_grammar.specs.Productions as productions
+use Rattle.graphql_grammar.specs.Productions.{named_type, list_type, nullable_type, non_null, argument, arguments_inner, arguments, directive, directives, all_directives, directives_of, default, variable_definition, variables_inner, variables, symbol_at, reads}
 use Rattle.graphql_grammar.specs.Tree.{Scalars, Value, TypeRef, NamedType, ListType, NonNullType, Argument, Arguments, Directive, VariableDefinition, Variables, Directives}
-use Rattle.graphql_grammar.specs.Grammar.{◌·◌, ◌for◌, Each, Optional, IsType, IsVariable, IsArgument, IsArguments, IsDirective, IsDirectives, IsDefault, IsVariableDefinition, IsVariables}
-use Rattle.graphql_grammar.proofs.Sequences.{row, nothing_last, kind_is, is_takes, says_takes, front_takes, back_takes}
-use Rattle.graphql_grammar.proofs.TokenRules.{on_passed}
-use Rattle.graphql_grammar.proofs.Finds.{Any, NotAt, token, Finds, Before, StartsWith, is_starts, front_starts, word_starts, listed_starts, Rejects, starts_before, nothing_before, optional_before, both_before, before_as, front_before, any_before, at_most, fewer, found_as, found_if, found_is, map_found, on_apart, look_apart, look_found, given_found, none_found, seq_found, then_found, seq_past, want_found, word_found, done_found, is_past, is_then, is_last, span_found, maybe_found, listed_found}
+use Rattle.graphql_grammar.specs.Grammar.{Is, ◌·◌, ◌for◌, Each, Optional, IsType, IsVariable, IsArgument, IsArguments, IsDirective, IsDirectives, IsDefault, IsVariableDefinition, IsVariables}
+use Rattle.graphql_grammar.proofs.Sequences.{row, row_as, row_front, one_takes, last_joined, nothing_last, kind_is, is_takes, says_takes, front_takes, back_takes}
+use Rattle.graphql_grammar.proofs.Finds.{located_front, between_found, on_found, only_before, Only, Any, NotAt, token, Finds, Before, StartsWith, is_starts, front_starts, word_starts, listed_starts, Rejects, starts_before, nothing_before, optional_before, both_before, before_as, front_before, any_before, at_most, fewer, found_as, found_if, found_is, map_found, on_apart, look_apart, look_found, none_found, seq_found, then_found, seq_past, want_found, word_found, done_found, is_then, span_found, maybe_found, listed_found}
 use Rattle.graphql_grammar.proofs.Found.{variable_tokens, value_finds}
 use Rattle.graphql_grammar.proofs.DocumentRules.{IsNullable, name_nullable, list_nullable, argument_takes, directive_takes, variable_takes}
 use Rattle.graphql_grammar.proofs.TokenTests.{of_kind}
@@ -21,102 +22,138 @@ type_starts ts (NamedType w) h = says_takes w ts h
 type_starts ts (ListType size x) h = front_takes (is_takes BracketOpen) ts h.0
 type_starts ts (NonNullType x) h = back_takes (is_takes ExclamationMark) ts h.0
 
-module _ {F : Type 0} (n : ℕ)
-    (ih : (x : TypeRef) → Finds {F = F} (suc n) (type_at n) (IsType for x) (NotAt (of ExclamationMark)) x) where
-  plain_found : {After : List Lexeme → Type 0} (x : TypeRef) → IsNullable x
-      → Finds {F = F} (suc (suc n)) (plain_type (type_at n)) (IsType for x) After x
-  unfolding plain_type done
-  plain_found (NamedType w) p = record {
-    at = λ ts rest le h g. rw h.1 (on_passed (of Name) _ _ (token Name w h.0) rest refl);
-  }
-  plain_found (ListType size x) p = given_found (λ e. rw e (on_apart (of Name) _
-      (front_before (starts_before (of Name) (λ w. refl) is_starts))
-      (is_past (seq_found _ (ih x) (starts_before (of ExclamationMark) (λ w. refl) is_starts) is_last))))
-  plain_found (NonNullType x) p = absurd (p x refl)
+-- a type, and its span
+abbrev pub IsTypeAt : TypeRef → Span → List Lexeme → Type 0
+IsTypeAt x p ts = IsType ts x × (p ≡ span_of ts)
 
-  nullable_found : (x : TypeRef) → IsNullable x
-      → Finds {F = F} (suc (suc n)) (type_at (suc n)) (IsType for x) (NotAt (of ExclamationMark)) x
-  unfolding type_at maybe_non_null
-  nullable_found x p = found_as nothing_last (then_found maybe_non_null (plain_found x p)
-      (on_apart (of ExclamationMark) _ (nothing_before (λ rest g. g)) done_found))
-
-  -- A type that ends in an exclamation mark is read, whatever follows.
-  mark_found : {After : List Lexeme → Type 0} (x : TypeRef)
-      → Finds {F = F} (suc (suc n)) (type_at (suc n)) (IsType for NonNullType x) After (NonNullType x)
-  unfolding type_at maybe_non_null done
-  mark_found x = given_found (λ p. then_found maybe_non_null (plain_found x p) (record {
-    at = λ ts rest le h g. let mark = token ExclamationMark h.0 h.1 in
-        rw h.2 (on_passed (of ExclamationMark) _ _ mark rest refl);
-  }))
-
-type_finds : {F : Type 0} (n : ℕ) (x : TypeRef)
-    → Finds {F = F} (suc n) (type_at n) (IsType for x) (NotAt (of ExclamationMark)) x
-type_finds zero x = none_found (λ ts h. type_starts ts x h)
-type_finds (suc n) (NamedType w) = nullable_found n (type_finds n) (NamedType w) (name_nullable w)
-type_finds (suc n) (ListType size x) = nullable_found n (type_finds n) (ListType size x) (list_nullable size x)
-type_finds (suc n) (NonNullType x) = mark_found n (type_finds n) x
-
-pub type_found : {F : Type 0} (n : ℕ) (ts rest : List Lexeme) (x : TypeRef) → length ts ≤ n → IsType ts x
-    → NotAt (of ExclamationMark) rest → type_at {F = F} n (ts ++ rest) ≡ Took x rest
-type_found n ts rest x le h g = (type_finds n x).at ts rest (omega arith) h g
-
-non_null_finds : {F : Type 0} (n : ℕ) (x : TypeRef)
-    → Finds {F = F} (suc n) (type_at n) (IsType for NonNullType x) Any (NonNullType x)
-non_null_finds zero x = none_found (λ ts h. type_starts ts (NonNullType x) h)
-non_null_finds (suc n) x = mark_found n (type_finds n) x
+-- the span of one or more tokens and another
+marked_span : (us : List Lexeme) (m : Lexeme) → 0 < length us → from_to (span_of us) m.span ≡ span_of (us ++ (m ∷ []))
+marked_span [] m l = absurd (omega arith)
+marked_span (t ∷ us) m l = ap (over t) (sym (last_joined t m us []))
 
 -- Where a front is a type, it is read, and an exclamation mark after it with it.
-abbrev pub Covers : {F : Type 0} → Reader F TypeRef → List Lexeme → List Lexeme → Type 0
-Covers f us vs = (a : TypeRef) × (more rest : List Lexeme) × (f (us ++ vs) ≡ Took a rest) × (vs ≡ more ++ rest)
+abbrev pub Covers : {F : Type 0} → Reader F (TypeRef × Span) → List Lexeme → List Lexeme → Type 0
+Covers f us vs = (a : TypeRef × Span) × (more rest : List Lexeme) × (f (us ++ vs) ≡ Took a rest) × (vs ≡ more ++ rest)
 
-pub type_covers : {F : Type 0} (us vs : List Lexeme) (x : TypeRef) → IsType us x → (n : ℕ) → length (us ++ vs) < n
-    → Covers (type_at {F = F} n) us vs
-type_covers {F} us vs x h n le = by_test vs refl
-  where
-    room : (ws : List Lexeme) → vs ≡ ws → length us + length ws < n
-    room ws e = let l = ap (λ (z : List Lexeme). length (us ++ z)) e ∙ length-append us ws in omega (arith, l)
+module _ {C F : Type 0} (S : Scalars C F) where
+  module _ (n : ℕ) (ih : (x : TypeRef) (p : Span)
+      → Finds (suc n) (symbol_at S n _ a_type) (IsTypeAt x p) (NotAt (of ExclamationMark)) (x, p)) where
+    one_name_found : {After : List Lexeme → Type 0} (w : Text) (q : Span)
+        → Finds (suc (suc n)) (reads S n nullable_type) (Only (token Name w q)) After (NamedType w, q)
+    unfolding nullable_type named_type
+    one_name_found w q = look_found Name _ (λ us k. (w, q, [], k))
+        (map_found _ (want_found (of Name) (token Name w q) refl))
 
-    with_mark : (mark : Lexeme) (ws : List Lexeme) → vs ≡ mark ∷ ws → mark.kind ≡ ExclamationMark → (y : TypeRef)
-        → IsNullable y → IsType us y → Covers (type_at {F = F} n) us (mark ∷ ws)
-    with_mark mark ws e k y p h = (
-      NonNullType y,
-      mark ∷ [],
-      ws,
-      ap (type_at n) (sym (append_assoc us (mark ∷ []) ws))
-          ∙ (non_null_finds n y).at (us ++ (mark ∷ [])) ws
-          (let l = room (mark ∷ ws) e in rw (length-append us (mark ∷ [])) (omega (arith, l)))
-          (row us (mark ∷ []) h (kind_is ExclamationMark mark k), p) tt,
-      refl,
-    )
+    inner_found : {After : List Lexeme → Type 0} (x : TypeRef) (p : Span)
+        → Finds (suc (suc n)) (reads S n nullable_type)
+        (λ ts. (Is BracketOpen · IsType for x · Is BracketClose) ts × (p ≡ span_of ts)) After (ListType None x, p)
+    unfolding nullable_type list_type
+    inner_found x p = look_apart (of Name) _
+        (starts_before (of Name) (λ w. refl) (λ ts h. front_starts is_starts ts h.0))
+        (between_found (λ q. (ListType None x, q)) p (λ w y q r.
+        seq_past _ (λ us h. one_takes us _ h) (want_found (of BracketOpen) (token BracketOpen w q) refl) any_before
+        (located_front (λ m. seq_found _ (ih x m) (only_before (of ExclamationMark) refl)
+        (map_found _ (want_found (of BracketClose) (token BracketClose y r) refl))))))
 
-    marked : (mark : Lexeme) (ws : List Lexeme) → vs ≡ mark ∷ ws → mark.kind ≡ ExclamationMark → (y : TypeRef)
-        → IsType us y → Covers (type_at {F = F} n) us (mark ∷ ws)
-    marked mark ws e k (NonNullType y) h = (
-      NonNullType y,
-      [],
-      mark ∷ ws,
-      (non_null_finds n y).at us (mark ∷ ws) (let l = room (mark ∷ ws) e in omega (arith, l)) h tt,
-      refl,
-    )
-    marked mark ws e k (NamedType w) h = with_mark mark ws e k (NamedType w) (name_nullable w) h
-    marked mark ws e k (ListType size y) h = with_mark mark ws e k (ListType size y) (list_nullable size y) h
+    plain_found : {After : List Lexeme → Type 0} (x : TypeRef) (p : Span) → IsNullable x
+        → Finds (suc (suc n)) (reads S n nullable_type) (IsTypeAt x p) After (x, p)
+    plain_found {After} (NamedType w) p d = record {
+      at = λ ts rest le h g. (one_name_found {After = After} w h.0.0).at ts rest le h.0.1 g
+          ∙ ap (λ z. Took (NamedType w, z) rest) (sym (h.1 ∙ ap span_of h.0.1));
+    }
+    plain_found {After} (ListType size x) p d = record {
+      at = λ ts rest le h g. rw h.0.1 ((inner_found {After = After} x p).at ts rest le (h.0.0, h.1) g);
+    }
+    plain_found (NonNullType x) p d = absurd (d x refl)
 
-    plain : (ws : List Lexeme) → vs ≡ ws → NotAt (of ExclamationMark) ws → Covers (type_at {F = F} n) us ws
-    plain ws e g = (x, [], ws, type_found n us ws x (let l = room ws e in omega (arith, l)) h g, refl)
+    nullable_found : (x : TypeRef) (p : Span) → IsNullable x
+        → Finds (suc (suc n)) (symbol_at S (suc n) _ a_type) (IsTypeAt x p) (NotAt (of ExclamationMark)) (x, p)
+    unfolding symbol_at productions.type non_null
+    nullable_found x p d = found_as nothing_last (then_found _ (plain_found x p d)
+        (on_apart (of ExclamationMark) _ (nothing_before (λ rest g. g)) done_found))
 
-    by_mark : (t : Lexeme) (ws : List Lexeme) (b : Bool) → vs ≡ t ∷ ws → passes (of ExclamationMark) t ≡ b
-        → Covers (type_at {F = F} n) us (t ∷ ws)
-    by_mark t ws true e p = marked t ws e (of_kind ExclamationMark t p) x h
-    by_mark t ws false e p = plain (t ∷ ws) e p
+    -- A type that ends in an exclamation mark is read, whatever follows.
+    mark_found : {After : List Lexeme → Type 0} (x : TypeRef) (p : Span)
+        → Finds (suc (suc n)) (symbol_at S (suc n) _ a_type) (IsTypeAt (NonNullType x) p) After (NonNullType x, p)
+    unfolding symbol_at productions.type non_null
+    mark_found {After} x p = record {
+      at = λ ts rest le h g.
+          let s = h.0.0 in let q : Span = span_of s.front in
+          let m = token ExclamationMark s.second.0 s.second.1 in
+          (then_found _ {After = After} (plain_found x q h.0.1)
+          (found_as (nothing_last {P = Only m}) (on_found (of ExclamationMark) m _ _ refl done_found))).at ts rest le
+          (row_as s (s.first, refl) s.second.2) g
+          ∙ ap (λ z. Took (NonNullType x, z) rest) (marked_span s.front m (type_starts s.front x s.first)
+          ∙ ap span_of (sym (s.whole ∙ ap (λ us. s.front ++ us) s.second.2)) ∙ sym h.1);
+    }
 
-    by_test : (ws : List Lexeme) → vs ≡ ws → Covers (type_at {F = F} n) us vs
-    by_test [] e = subst (Covers (type_at n) us) (sym e) (plain [] e tt)
-    by_test (t ∷ ws) e = subst (Covers (type_at n) us) (sym e) (by_mark t ws (passes (of ExclamationMark) t) e refl)
+  pub type_finds : (n : ℕ) (x : TypeRef) (p : Span)
+      → Finds (suc n) (symbol_at S n _ a_type) (IsTypeAt x p) (NotAt (of ExclamationMark)) (x, p)
+  type_finds zero x p = none_found (λ ts h. type_starts ts x h.0)
+  type_finds (suc n) (NamedType w) p = nullable_found n (type_finds n) (NamedType w) p (name_nullable w)
+  type_finds (suc n) (ListType size x) p = nullable_found n (type_finds n) (ListType size x) p (list_nullable size x)
+  type_finds (suc n) (NonNullType x) p = mark_found n (type_finds n) x p
 
-spanned_found : {F : Type 0} (n : ℕ) (x : TypeRef) (p : Span)
-    → Finds {F = F} n (spanned_type n) (λ ts. IsType ts x × (p ≡ span_of ts)) (NotAt (of ExclamationMark)) (x, p)
-unfolding spanned_type
-spanned_found n x p = span_found (λ q. (x, q)) p (map_found (λ y q. (y, q)) (fewer (type_finds n x)))
+  pub type_found : (n : ℕ) (ts rest : List Lexeme) (x : TypeRef) (p : Span) → length ts ≤ n → IsType ts x
+      → p ≡ span_of ts → NotAt (of ExclamationMark) rest → symbol_at S n _ a_type (ts ++ rest) ≡ Took (x, p) rest
+  type_found n ts rest x p le h e g = (type_finds n x p).at ts rest (omega arith) (h, e) g
+
+  non_null_finds : (n : ℕ) (x : TypeRef) (p : Span)
+      → Finds (suc n) (symbol_at S n _ a_type) (IsTypeAt (NonNullType x) p) Any (NonNullType x, p)
+  non_null_finds zero x p = none_found (λ ts h. type_starts ts (NonNullType x) h.0)
+  non_null_finds (suc n) x p = mark_found n (type_finds n) x p
+
+  pub type_covers : (us vs : List Lexeme) (x : TypeRef) → IsType us x → (n : ℕ) → length (us ++ vs) < n
+      → Covers (symbol_at S n _ a_type) us vs
+  type_covers us vs x h n le = by_test vs refl
+    where
+      room : (ws : List Lexeme) → vs ≡ ws → length us + length ws < n
+      room ws e = let l = ap (λ (z : List Lexeme). length (us ++ z)) e ∙ length-append us ws in omega (arith, l)
+
+      with_mark : (mark : Lexeme) (ws : List Lexeme) → vs ≡ mark ∷ ws → mark.kind ≡ ExclamationMark → (y : TypeRef)
+          → IsNullable y → IsType us y → Covers (symbol_at S n _ a_type) us (mark ∷ ws)
+      with_mark mark ws e k y p h = (
+        (NonNullType y, span_of (us ++ (mark ∷ []))),
+        mark ∷ [],
+        ws,
+        ap (symbol_at S n _ a_type) (sym (append_assoc us (mark ∷ []) ws))
+            ∙ (non_null_finds n y (span_of (us ++ (mark ∷ [])))).at (us ++ (mark ∷ [])) ws
+            (let l = room (mark ∷ ws) e in rw (length-append us (mark ∷ [])) (omega (arith, l)))
+            ((row us (mark ∷ []) h (kind_is ExclamationMark mark k), p), refl) tt,
+        refl,
+      )
+
+      marked : (mark : Lexeme) (ws : List Lexeme) → vs ≡ mark ∷ ws → mark.kind ≡ ExclamationMark → (y : TypeRef)
+          → IsType us y → Covers (symbol_at S n _ a_type) us (mark ∷ ws)
+      marked mark ws e k (NonNullType y) h = (
+        (NonNullType y, span_of us),
+        [],
+        mark ∷ ws,
+        (non_null_finds n y (span_of us)).at us (mark ∷ ws) (let l = room (mark ∷ ws) e in omega (arith, l)) (h, refl)
+            tt,
+        refl,
+      )
+      marked mark ws e k (NamedType w) h = with_mark mark ws e k (NamedType w) (name_nullable w) h
+      marked mark ws e k (ListType size y) h = with_mark mark ws e k (ListType size y) (list_nullable size y) h
+
+      plain : (ws : List Lexeme) → vs ≡ ws → NotAt (of ExclamationMark) ws → Covers (symbol_at S n _ a_type) us ws
+      plain ws e g = (
+        (x, span_of us),
+        [],
+        ws,
+        type_found n us ws x (span_of us) (let l = room ws e in omega (arith, l)) h refl g,
+        refl,
+      )
+
+      by_mark : (t : Lexeme) (ws : List Lexeme) (b : Bool) → vs ≡ t ∷ ws → passes (of ExclamationMark) t ≡ b
+          → Covers (symbol_at S n _ a_type) us (t ∷ ws)
+      by_mark t ws true e p = marked t ws e (of_kind ExclamationMark t p) x h
+      by_mark t ws false e p = plain (t ∷ ws) e p
+
+      by_test : (ws : List Lexeme) → vs ≡ ws → Covers (symbol_at S n _ a_type) us vs
+      by_test [] e = subst (Covers (symbol_at S n _ a_type) us) (sym e) (plain [] e tt)
+      by_test (t ∷ ws) e = subst (Covers (symbol_at S n _ a_type) us) (sym e)
+          (by_mark t ws (passes (of ExclamationMark) t) e refl)
 
 -- "$" and a name, and then what may name the two tokens
 dollar_then : {F A : Type 0} {n : ℕ} {Q After : List Lexeme → Type 0} {a : A} (k : Lexeme → Lexeme → Reader F A)
@@ -193,28 +230,29 @@ module _ {C F : Type 0} (S : Scalars C F) where
 module _ {C F : Type 0} (S : Scalars C F) (n : ℕ) where
   -- ---- arguments and directives
 
-  argument_found : (a : Argument C) → Finds n (argument S n) (IsArgument S for a) Any a
+  argument_found : (a : Argument C) → Finds n (reads S n argument) (IsArgument S for a) Any a
   unfolding argument
   argument_found a = then_found _ (word_found a.name)
       (is_then (map_found _ (fewer (value_finds S true n a.value))))
 
-  pub arguments_found : (a : Arguments C) → Finds n (arguments S n) (IsArguments S for a) Any a
-  unfolding arguments
+  pub arguments_found : (a : Arguments C) → Finds n (reads S n arguments) (IsArguments S for a) Any a
+  unfolding arguments arguments_inner
   arguments_found a = span_found _ a.span (listed_found ParenClose (argument_takes S n n (le_refl n)) argument_found
       (λ x. starts_before (of ParenClose) (λ w. refl) (λ ts h. argument_starts S ts x h)) (λ x. any_before)
       (λ w p rest. tt) ParenOpen (λ xs p. record { items = xs; span = p }) a.items)
 
   pub optional_arguments : (x : Option (Arguments C))
-      → Finds n (maybe (of ParenOpen) (arguments S n)) (Optional (IsArguments S) for x) (NotAt (of ParenOpen)) x
+      → Finds n (reads S n productions.optional_arguments) (Optional (IsArguments S) for x) (NotAt (of ParenOpen)) x
+  unfolding productions.optional_arguments
   optional_arguments x = maybe_found ParenOpen x (arguments_start S) arguments_found
 
-  directive_found : (d : Directive C) → Finds n (directive S n) (IsDirective S for d) (NotAt (of ParenOpen)) d
+  directive_found : (d : Directive C) → Finds n (reads S n directive) (IsDirective S for d) (NotAt (of ParenOpen)) d
   unfolding directive
   directive_found d = span_found _ d.span (is_then (then_found _ (word_found d.name)
       (map_found _ (optional_arguments d.arguments))))
 
   repeated_found : (k : ℕ) → k ≤ n → (ds : List (Directive C))
-      → Finds k (repeated (of At) (directive S n) k) (Each (IsDirective S) for ds) AfterDirectives ds
+      → Finds k (repeated (of At) (reads S n directive) k) (Each (IsDirective S) for ds) AfterDirectives ds
   unfolding repeated
   repeated_found zero l ds = record { at = λ ts rest le h g. absurd (omega arith) }
   repeated_found (suc k) l [] = look_apart (of At) _ (nothing_before (λ rest g. g.at)) done_found
@@ -226,34 +264,55 @@ module _ {C F : Type 0} (S : Scalars C F) (n : ℕ) where
       next [] = nothing_before (λ rest g. g.paren)
       next (x ∷ xs) = front_before (starts_before (of ParenOpen) (λ w. refl) (λ ts h. directive_starts S ts x h))
 
-  pub directives_found : (ds : Directives C) → Finds n (directives S n) (IsDirectives S for ds) AfterDirectives ds
+  -- directives, and then the others, which are handed some that are the same without their span
+  pub directives_then : {A : Type 0} {Q After : List Lexeme → Type 0} {a : A}
+      (k : Option (List (Directive C) × Span) → Reader F A) (ds : Directives C) → Before Q After AfterDirectives
+      → ((x : Option (List (Directive C) × Span)) → directives_of x ≡ ds → Finds n (k x) Q After a)
+      → Finds n (seq (reads S n directives) k) (IsDirectives S for ds · Q) After a
   unfolding directives
-  directives_found None = map_found unless_empty (repeated_found n (le_refl n) [])
-  directives_found (Some []) = record { at = λ ts rest le h g. absurd (h.1 refl) }
-  directives_found (Some (d ∷ ds)) =
-      found_as (λ ts h. h.0) (map_found unless_empty (repeated_found n (le_refl n) (d ∷ ds)))
+  directives_then k None m q =
+      seq_found k (map_found all_directives (repeated_found n (le_refl n) [])) m (q None refl)
+  directives_then k (Some []) m q = record { at = λ ts rest le h g. absurd (h.first.1 refl) }
+  directives_then k (Some (d ∷ ds)) m q = found_as (row_front (λ us h. h.0)) (seq_found k
+      (map_found all_directives (repeated_found n (le_refl n) (d ∷ ds))) m (q (all_directives (d ∷ ds)) refl))
+
+  -- directives, and nothing after them
+  pub directives_last : {A : Type 0} (k : Directives C → A) (ds : Directives C)
+      → Finds n (seq (reads S n directives) (λ x. done (k (directives_of x)))) (IsDirectives S for ds) AfterDirectives
+      (k ds)
+  directives_last k ds = found_as nothing_last (directives_then _ ds (nothing_before (λ rest g. g))
+      (λ x e. found_is (ap k e) done_found))
 
   -- ---- variable definitions
 
-  default_found : (v : Value C) → Finds n (default_value S n) (IsDefault S for v) Any v
-  unfolding default_value
-  default_found v = is_then (fewer (value_finds S false n v))
+  default_found : (v : Option (Value C))
+      → Finds n (reads S n default) (Optional (IsDefault S) for v) (NotAt (of Equals)) v
+  unfolding default
+  default_found None = look_apart (of Equals) _ (nothing_before (λ rest g. g)) done_found
+  default_found (Some v) = look_found Equals _ (λ ts h. default_starts S ts v h)
+      (is_then (map_found (λ x. Some x) (fewer (found_if (λ rest g. tt) (value_finds S false n v)))))
 
   variable_found : (v : VariableDefinition C)
-      → Finds n (variable_definition S n) (IsVariableDefinition S for v) AfterVariable v
+      → Finds n (reads S n variable_definition) (IsVariableDefinition S for v) AfterVariable v
   unfolding variable_definition
   variable_found v = dollar_then _ v.name.text v.name.span (λ x q s e.
       found_is (ap (λ z. record v { name = record { text = v.name.text; span = z } }) (sym e))
-      (is_then (seq_found _ (spanned_found n v.of_type v.type_span)
+      (is_then (seq_found _ (fewer (type_finds S n v.of_type v.type_span))
       (both_before (optional_before v.default
       (λ x. starts_before (of ExclamationMark) (λ w. refl) (λ ts h. default_starts S ts x h)) (λ rest g. g))
       (directives_before S (of ExclamationMark) v.directives (λ w. refl) (λ rest g. g.mark)))
-      (seq_found _ (maybe_found Equals v.default (default_starts S) default_found)
+      (seq_found _ (default_found v.default)
       (directives_before S (of Equals) v.directives (λ w. refl) (λ rest g. g.equals))
-      (map_found _ (found_if (λ rest g. record { paren = g.paren; at = g.at }) (directives_found v.directives)))))))
+      (found_if (λ rest g. record { paren = g.paren; at = g.at }) (directives_last (λ ds. record {
+        name = record { text = v.name.text; span = record { start = q.start; end = s.end } };
+        of_type = v.of_type;
+        type_span = v.type_span;
+        default = v.default;
+        directives = ds;
+      }) v.directives))))))
 
-  pub variables_found : (a : Variables C) → Finds n (variables S n) (IsVariables S for a) Any a
-  unfolding variables
+  pub variables_found : (a : Variables C) → Finds n (reads S n variables) (IsVariables S for a) Any a
+  unfolding variables variables_inner
   variables_found a = span_found _ a.span (listed_found ParenClose (variable_takes S n n (le_refl n)) variable_found
       (λ x. starts_before (of ParenClose) (λ w. refl) (λ ts h. variable_starts S ts x h))
       (λ x. record {

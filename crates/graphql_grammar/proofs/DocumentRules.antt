@@ -1,18 +1,19 @@
 -- What the readings of types, fields and definitions keep.
-use Rattle.std.proofs.Common.{ℕ, zero, suc, true, false, ◌≡◌, ◌≤◌, ◌<◌, ◌∷◌, [], List, ◌++◌, length, refl, sym, subst, arith, append-nil, zero-le, le_refl, inl, Option, None}
+use Rattle.std.proofs.Common.{ℕ, zero, suc, true, false, ◌≡◌, ◌≤◌, ◌<◌, ◌∷◌, [], List, ◌++◌, length, refl, sym, ap, ◌∙◌, subst, arith, append-nil, zero-le, le_refl, inl, Option, Some, None}
 use Rattle.graphql_lexical.specs.Place.{Span}
 use Rattle.graphql_lexical.specs.declared.kind.Kind.{Kind}
 use Rattle.graphql_lexical.specs.declared.kind.Kind.TheVariants.{Name, ExclamationMark, Dollar, ParenOpen, ParenClose, BracketOpen, BracketClose, Colon, Equals, At}
 use Rattle.graphql_lexical.specs.Cutting.{Lexeme}
-use Rattle.graphql_grammar.specs.Tokens.{Text, word_of, over, span_of}
+use Rattle.graphql_grammar.specs.Tokens.{Text, word_of, over, from_to, span_of}
 use Rattle.graphql_grammar.specs.Samples.{sample, sample_text}
-use Rattle.graphql_grammar.specs.Reading.{passes, of, Reader, maybe_non_null, plain_type, type_at, spanned_type, value_at, argument, arguments, directive, directives, default_value, variable_definition, variables, unless_empty}
+use Rattle.graphql_grammar.specs.Reading.{passes, of, a_value, a_type}
+use Rattle.graphql_grammar.specs.Productions.{named_type, list_type, nullable_type, non_null, type, argument, arguments_inner, arguments, optional_arguments, directive, all_directives, directives_of, directives, default, variable_definition, variables_inner, variables, optional_variables, symbol_at, reads}
 use Rattle.graphql_grammar.specs.Tree.{Scalars, TypeRef, NamedType, ListType, NonNullType, Argument, Directive, VariableDefinition}
 use Rattle.graphql_grammar.specs.Grammar.{IsValue, Optional, Listed, IsType, IsArgument, IsArguments, IsDirective, IsDirectives, IsDefault, IsVariableDefinition, IsVariables, Each}
-use Rattle.graphql_grammar.proofs.Rules.{less, Rule, Some_of, done_rule, weaken}
-use Rattle.graphql_grammar.proofs.TokenRules.{on_rule}
+use Rattle.graphql_grammar.proofs.Rules.{less, Rule, Some_of, done_rule}
+use Rattle.graphql_grammar.proofs.TokenRules.{on_rule, look_rule}
 use Rattle.graphql_grammar.proofs.PartRules.{span_rule, maybe_rule, one_or_more_rule, repeated_rule, step, want_step, lower, ClosedSome}
-use Rattle.graphql_grammar.proofs.Sequences.{row, enclosed, kind_is, word_is, says_is, one_takes, is_takes, front_takes}
+use Rattle.graphql_grammar.proofs.Sequences.{row, enclosed, kind_is, word_is, says_is, one_takes, is_takes, says_takes, front_takes, back_takes, last_joined, over_enclosed}
 use Rattle.graphql_grammar.proofs.TokenTests.{of_kind}
 use Rattle.graphql_grammar.proofs.Values.{value_rule}
 
@@ -28,45 +29,69 @@ name_nullable name inner e = absurd (cc)
 pub list_nullable : (size : Option ℕ) (type : TypeRef) → IsNullable (ListType size type)
 list_nullable size type inner e = absurd (cc)
 
-abbrev IsNullableType : List Lexeme → TypeRef → Type 0
-IsNullableType ts t = IsType ts t × IsNullable t
-
-plain_rule : {F : Type 0} (n : ℕ) (f g : Reader F TypeRef) → Rule n f g IsType
-    → Rule (suc n) (plain_type f) (plain_type g) IsNullableType
-unfolding plain_type
-plain_rule n f g r = on_rule (suc n) (of Name) _ _ _ _ IsNullableType
-    (λ t u p. done_rule n (NamedType t.text) (NamedType u.text) _
-    (says_is t.text t (of_kind Name t p) refl, name_nullable t.text))
-    (want_step (suc n) (of BracketOpen) (sample BracketOpen) _ _ IsNullableType refl (inl refl)
-    (λ o o' p. step n n f g _ _ IsType _ (le_refl n) r (λ us x y h.
-    want_step (less n us) (of BracketClose) (sample BracketClose) _ _ _ refl (inl refl) (λ c c' q.
-    done_rule _ (ListType None x) (ListType None y) _ (
-      (enclosed BracketOpen BracketClose o c us (of_kind BracketOpen o p) (of_kind BracketClose c q) h, refl),
-      list_nullable None x,
-    )))))
-
-some_type : Some_of IsType
-some_type = (sample Name ∷ [], NamedType (sample_text Name), says_is _ (sample Name) refl refl, (inl refl, tt))
-
-pub type_rule : {F : Type 0} (n m : ℕ) → n ≤ m → Rule {F = F} n (type_at n) (type_at m) IsType
-unfolding type_at maybe_non_null
-type_rule zero m le = record { at = λ ts. (zero-le, [], ts, refl, some_type) }
-type_rule (suc n) zero le = absurd (omega arith)
-type_rule (suc n) (suc m) le = step (suc n) (suc n) _ _ maybe_non_null maybe_non_null IsNullableType IsType
-    (le_refl (suc n)) (plain_rule n _ _ (type_rule n m (omega arith))) (λ us x y h.
-    on_rule (less (suc n) us) (of ExclamationMark) _ _ _ _ _
-    (λ b b' p. done_rule _ (NonNullType x) (NonNullType y) _
-    (row us (b ∷ []) h.0 (kind_is ExclamationMark b (of_kind ExclamationMark b p)), h.1))
-    (done_rule _ x y _ (rw append-nil h.0)))
-
 abbrev pub IsSpannedType : List Lexeme → TypeRef × Span → Type 0
 IsSpannedType ts x = IsType ts x.0 × (x.1 ≡ span_of ts)
 
-pub spanned_type_rule : {F : Type 0} (n m : ℕ) → n ≤ m → Rule {F = F} n (spanned_type n) (spanned_type m) IsSpannedType
-unfolding spanned_type
-spanned_type_rule n m le = span_rule n _ _ IsSpannedType (step n n _ _ _ _ IsType _ (le_refl n) (type_rule n m le)
-    (λ us x y h.
-    done_rule _ (λ p. (x, p)) (λ p. (y, p)) _ (rw append-nil (h, refl))))
+abbrev IsNullableType : List Lexeme → TypeRef × Span → Type 0
+IsNullableType ts x = IsSpannedType ts x × IsNullable x.0
+
+pub type_takes : (ts : List Lexeme) (type : TypeRef) → IsType ts type → 0 < length ts
+type_takes ts (NamedType name) h = says_takes name ts h
+type_takes ts (ListType size of_type) h = front_takes (is_takes BracketOpen) ts h.0
+type_takes ts (NonNullType of_type) h = back_takes (is_takes ExclamationMark) ts h.0
+
+-- the span of some tokens and one more
+pub span_before : (us : List Lexeme) (t : Lexeme) (p : Span) → 0 < length us → p ≡ span_of us
+    → from_to p t.span ≡ span_of (us ++ (t ∷ []))
+span_before [] t p h e = absurd (omega arith)
+span_before (u ∷ us) t p h e = ap (λ (s : Span). from_to s t.span) e ∙ ap (over u) (sym (last_joined u t us []))
+
+some_type : Some_of IsSpannedType
+some_type = (
+  sample Name ∷ [],
+  (NamedType (sample_text Name), span_of (sample Name ∷ [])),
+  (says_is _ (sample Name) refl refl, refl),
+  (inl refl, tt),
+)
+
+module _ {C F : Type 0} (S : Scalars C F) where
+  nullable_rule : (n m : ℕ) → Rule n (symbol_at S n _ a_type) (symbol_at S m _ a_type) IsSpannedType
+      → Rule (suc n) (reads S n nullable_type) (reads S m nullable_type) IsNullableType
+  unfolding nullable_type named_type list_type
+  nullable_rule n m r = look_rule (suc n) (of Name) _ _ _ _ IsNullableType
+      (want_step (suc n) (of Name) (sample Name) _ _ IsNullableType refl (inl refl)
+      (λ t u p. done_rule n (NamedType t.text, t.span) (NamedType u.text, u.span) _
+      ((says_is t.text t (of_kind Name t p) refl, refl), name_nullable t.text)))
+      (want_step (suc n) (of BracketOpen) (sample BracketOpen) _ _ IsNullableType refl (inl refl)
+      (λ o o' p. step n n _ _ _ _ IsSpannedType _ (le_refl n) r (λ us x y h.
+      want_step (less n us) (of BracketClose) (sample BracketClose) _ _ _ refl (inl refl) (λ c c' q.
+      done_rule _ (ListType None x.0, from_to o.span c.span) (ListType None y.0, from_to o'.span c'.span) _ (
+        (
+          (enclosed BracketOpen BracketClose o c us (of_kind BracketOpen o p) (of_kind BracketClose c q) h.0, refl),
+          over_enclosed o c us,
+        ),
+        list_nullable None x.0,
+      )))))
+
+  pub type_rule : (n m : ℕ) → n ≤ m → Rule n (symbol_at S n _ a_type) (symbol_at S m _ a_type) IsSpannedType
+  unfolding symbol_at type non_null
+  type_rule zero m le = record { at = λ ts. (zero-le, [], ts, refl, some_type) }
+  type_rule (suc n) zero le = absurd (omega arith)
+  type_rule (suc n) (suc m) le = step (suc n) (suc n) _ _ _ _ IsNullableType IsSpannedType
+      (le_refl (suc n)) (nullable_rule n m (type_rule n m (omega arith))) (λ us x y h.
+      on_rule (less (suc n) us) (of ExclamationMark) _ _ _ _ _
+      (λ b b' p. done_rule _ (NonNullType x.0, from_to x.1 b.span) (NonNullType y.0, from_to y.1 b'.span) _ (
+        (row us (b ∷ []) h.0.0 (kind_is ExclamationMark b (of_kind ExclamationMark b p)), h.1),
+        span_before us b x.1 (type_takes us x.0 h.0.0) h.0.1,
+      ))
+      (done_rule _ x y _ (rw append-nil h.0)))
+
+-- Directives
+module _ {C F : Type 0} (S : Scalars C F) where
+  -- directives, from the first one's start to the last one's end
+  abbrev pub AreDirectives : List Lexeme → Option (List (Directive C) × Span) → Type 0
+  AreDirectives ts o = IsDirectives S ts (directives_of o)
+      × ((ds : List (Directive C)) × (o ≡ all_directives ds) × Each (IsDirective S) ts ds)
 
 module _ {C F : Type 0} (S : Scalars C F) (n m : ℕ) (le : n ≤ m) where
   pub low1 : (us : List Lexeme) → less n us ≤ n
@@ -85,12 +110,12 @@ module _ {C F : Type 0} (S : Scalars C F) (n m : ℕ) (le : n ≤ m) where
   low5 us vs ws xs ys = lower n _ ys (low4 us vs ws xs)
 
   -- Arguments and directives
-  pub argument_rule : Rule n (argument S n) (argument S m) (IsArgument S)
+  pub argument_rule : Rule n (reads S n argument) (reads S m argument) (IsArgument S)
   unfolding argument
   argument_rule = want_step n (of Name) (sample Name) _ _ _ refl (inl refl)
       (λ k k' p. want_step _ (of Colon) (sample Colon) _ _ _ refl (inl refl) (λ c c' q.
-      step n _ (value_at S true n) (value_at S true m) _ _ (IsValue S true) _ (low2 (k ∷ []) (c ∷ []))
-      (value_rule S true n m le) (λ us v w h.
+      step n _ (symbol_at S n _ (a_value true)) (symbol_at S m _ (a_value true)) _ _ (IsValue S true) _
+      (low2 (k ∷ []) (c ∷ [])) (value_rule S true n m le) (λ us v w h.
       done_rule _ (record { name = word_of k; value = v }) (record { name = word_of k'; value = w }) _
       (rw append-nil (row (k ∷ []) (c ∷ us) (word_is k (of_kind Name k p))
       (row (c ∷ []) us (kind_is Colon c (of_kind Colon c q)) h))))))
@@ -106,22 +131,26 @@ module _ {C F : Type 0} (S : Scalars C F) (n m : ℕ) (le : n ≤ m) where
       (enclosed opening closing t c.last c.inner (of_kind opening t p) (of_kind closing c.last c.closes)
       (c.each, λ e. absurd (cc)))
 
-  pub arguments_rule : Rule n (arguments S n) (arguments S m) (IsArguments S)
-  unfolding arguments
+  pub arguments_rule : Rule n (reads S n arguments) (reads S m arguments) (IsArguments S)
+  unfolding arguments arguments_inner
   arguments_rule = span_rule n _ _ (IsArguments S) (want_step n (of ParenOpen) (sample ParenOpen) _ _ _ refl (inl refl)
       (λ o o' p.
-      step n _ _ _ _ _ (ClosedSome (of ParenClose) (IsArgument S)) _ (low1 (o ∷ []))
+      step n _ _ _ _ _ (λ us r. ClosedSome (of ParenClose) (IsArgument S) us r.0) _ (low1 (o ∷ []))
       (one_or_more_rule (IsArgument S) argument_takes (of ParenClose) (sample ParenClose) refl (inl refl) _ _ n m le
       argument_rule) (λ us xs ys h.
-      done_rule _ (λ p. record { items = xs; span = p }) (λ p. record { items = ys; span = p }) _
-      (rw append-nil (listed ParenOpen ParenClose (IsArgument S) o us xs p h, refl)))))
+      done_rule _ (λ p. record { items = xs.0; span = p }) (λ p. record { items = ys.0; span = p }) _
+      (rw append-nil (listed ParenOpen ParenClose (IsArgument S) o us xs.0 p h, refl)))))
 
-  pub directive_rule : Rule n (directive S n) (directive S m) (IsDirective S)
+  pub optional_arguments_rule : Rule n (reads S n optional_arguments) (reads S m optional_arguments)
+      (Optional (IsArguments S))
+  unfolding optional_arguments
+  optional_arguments_rule = maybe_rule n (of ParenOpen) _ _ (IsArguments S) arguments_rule
+
+  pub directive_rule : Rule n (reads S n directive) (reads S m directive) (IsDirective S)
   unfolding directive
   directive_rule = span_rule n _ _ (IsDirective S) (want_step n (of At) (sample At) _ _ _ refl (inl refl)
       (λ a a' p. want_step _ (of Name) (sample Name) _ _ _ refl (inl refl) (λ t t' q.
-      step n _ _ _ _ _ (Optional (IsArguments S)) _ (low2 (a ∷ []) (t ∷ []))
-      (maybe_rule n (of ParenOpen) _ _ (IsArguments S) arguments_rule) (λ us xs ys h.
+      step n _ _ _ _ _ (Optional (IsArguments S)) _ (low2 (a ∷ []) (t ∷ [])) optional_arguments_rule (λ us xs ys h.
       done_rule _ (λ p. record { name = word_of t; arguments = xs; span = p })
       (λ p. record { name = word_of t'; arguments = ys; span = p }) _
       (rw append-nil (
@@ -134,62 +163,72 @@ module _ {C F : Type 0} (S : Scalars C F) (n m : ℕ) (le : n ≤ m) where
   directive_takes ts d h = front_takes (is_takes At) ts h.0
 
   directives_are : (ts : List Lexeme) (ds : List (Directive C)) → Each (IsDirective S) ts ds
-      → IsDirectives S ts (unless_empty ds)
+      → IsDirectives S ts (directives_of (all_directives ds))
   directives_are ts [] h = h
   directives_are ts (d ∷ ds) h = (h, λ e. absurd (cc))
 
-  pub directives_rule : Rule n (directives S n) (directives S m) (IsDirectives S)
+  pub directives_rule : Rule n (reads S n directives) (reads S m directives) (AreDirectives S)
   unfolding directives
   directives_rule = step n n _ _ _ _ (Each (IsDirective S)) _ (le_refl n)
       (repeated_rule (IsDirective S) directive_takes (of At) _ _ n m n le (le_refl n) directive_rule) (λ us ds ds' h.
-      done_rule _ (unless_empty ds) (unless_empty ds') _ (rw append-nil (directives_are us ds h)))
+      done_rule _ (all_directives ds) (all_directives ds') _
+      (rw append-nil (directives_are us ds h, (ds, refl, h))))
 
   -- Variables
-  pub default_rule : Rule n (default_value S n) (default_value S m) (IsDefault S)
-  unfolding default_value
-  default_rule = want_step n (of Equals) (sample Equals) _ _ _ refl (inl refl) (λ e e' p.
-      weaken n _ _ _ (IsValue S false) _ (low1 (e ∷ []))
-      (λ us v h. row (e ∷ []) us (kind_is Equals e (of_kind Equals e p)) h)
-      (value_rule S false n m le))
+  pub default_rule : Rule n (reads S n default) (reads S m default) (Optional (IsDefault S))
+  unfolding default
+  default_rule = look_rule n (of Equals) _ _ _ _ (Optional (IsDefault S))
+      (want_step n (of Equals) (sample Equals) _ _ _ refl (inl refl) (λ e e' p.
+      step n _ (symbol_at S n _ (a_value false)) (symbol_at S m _ (a_value false)) _ _ (IsValue S false) _
+      (low1 (e ∷ [])) (value_rule S false n m le) (λ us v w h.
+      done_rule _ (Some v) (Some w) _
+      (rw append-nil (row (e ∷ []) us (kind_is Equals e (of_kind Equals e p)) h)))))
+      (done_rule n None None (Optional (IsDefault S)) refl)
 
-  pub variable_definition_rule : Rule n (variable_definition S n) (variable_definition S m) (IsVariableDefinition S)
+  pub variable_definition_rule : Rule n (reads S n variable_definition) (reads S m variable_definition)
+      (IsVariableDefinition S)
   unfolding variable_definition
   variable_definition_rule =
       want_step n (of Dollar) (sample Dollar) _ _ _ refl (inl refl)
       (λ d d' p. want_step _ (of Name) (sample Name) _ _ _ refl (inl refl)
       (λ t t' q. want_step _ (of Colon) (sample Colon) _ _ _ refl (inl refl) (λ c c' r.
-      step n _ _ _ _ _ IsSpannedType _ (low3 (d ∷ []) (t ∷ []) (c ∷ [])) (spanned_type_rule n m le) (λ us x x' h.
+      step n _ _ _ _ _ IsSpannedType _ (low3 (d ∷ []) (t ∷ []) (c ∷ [])) (type_rule S n m le) (λ us x x' h.
       step n _ _ _ _ _ (Optional (IsDefault S)) _ (low4 (d ∷ []) (t ∷ []) (c ∷ []) us)
-      (maybe_rule n (of Equals) _ _ (IsDefault S) default_rule) (λ vs v v' k.
-      step n _ _ _ _ _ (IsDirectives S) _ (low5 (d ∷ []) (t ∷ []) (c ∷ []) us vs) directives_rule (λ ws ds ds' e.
+      default_rule (λ vs v v' k.
+      step n _ _ _ _ _ (AreDirectives S) _ (low5 (d ∷ []) (t ∷ []) (c ∷ []) us vs) directives_rule (λ ws ds ds' e.
       done_rule _ (record {
         name = record { text = t.text; span = over d t };
         of_type = x.0;
         type_span = x.1;
         default = v;
-        directives = ds;
+        directives = directives_of ds;
       })
       (record {
         name = record { text = t'.text; span = over d' t' };
         of_type = x'.0;
         type_span = x'.1;
         default = v';
-        directives = ds';
+        directives = directives_of ds';
       }) _
       (rw append-nil (row (d ∷ t ∷ []) (c ∷ us ++ (vs ++ ws))
       (row (d ∷ []) (t ∷ []) (kind_is Dollar d (of_kind Dollar d p)) (says_is t.text t (of_kind Name t q) refl), refl)
       (row (c ∷ []) (us ++ (vs ++ ws)) (kind_is Colon c (of_kind Colon c r))
-      (row us (vs ++ ws) h (row vs ws k e)))))))))))
+      (row us (vs ++ ws) h (row vs ws k e.0)))))))))))
 
   pub variable_takes : (ts : List Lexeme) (d : VariableDefinition C) → IsVariableDefinition S ts d → 0 < length ts
   variable_takes ts d h = front_takes (λ us v. front_takes (is_takes Dollar) us v.0) ts h
 
-  pub variables_rule : Rule n (variables S n) (variables S m) (IsVariables S)
-  unfolding variables
+  pub variables_rule : Rule n (reads S n variables) (reads S m variables) (IsVariables S)
+  unfolding variables variables_inner
   variables_rule = span_rule n _ _ (IsVariables S) (want_step n (of ParenOpen) (sample ParenOpen) _ _ _ refl (inl refl)
       (λ o o' p.
-      step n _ _ _ _ _ (ClosedSome (of ParenClose) (IsVariableDefinition S)) _ (low1 (o ∷ []))
+      step n _ _ _ _ _ (λ us r. ClosedSome (of ParenClose) (IsVariableDefinition S) us r.0) _ (low1 (o ∷ []))
       (one_or_more_rule (IsVariableDefinition S) variable_takes (of ParenClose) (sample ParenClose) refl (inl refl)
       _ _ n m le variable_definition_rule) (λ us xs ys h.
-      done_rule _ (λ p. record { items = xs; span = p }) (λ p. record { items = ys; span = p }) _
-      (rw append-nil (listed ParenOpen ParenClose (IsVariableDefinition S) o us xs p h, refl)))))
+      done_rule _ (λ p. record { items = xs.0; span = p }) (λ p. record { items = ys.0; span = p }) _
+      (rw append-nil (listed ParenOpen ParenClose (IsVariableDefinition S) o us xs.0 p h, refl)))))
+
+  pub optional_variables_rule : Rule n (reads S n optional_variables) (reads S m optional_variables)
+      (Optional (IsVariables S))
+  unfolding optional_variables
+  optional_variables_rule = maybe_rule n (of ParenOpen) _ _ (IsVariables S) variables_rule

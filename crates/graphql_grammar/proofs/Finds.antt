@@ -6,10 +6,10 @@ use Rattle.graphql_lexical.specs.Place.{Span}
 use Rattle.graphql_lexical.specs.declared.kind.Kind.{Kind}
 use Rattle.graphql_lexical.specs.declared.kind.Kind.TheVariants.{Name}
 use Rattle.graphql_lexical.specs.Cutting.{Lexeme}
-use Rattle.graphql_grammar.specs.Tokens.{Word, Text, span_of}
+use Rattle.graphql_grammar.specs.Tokens.{Word, Text, span_of, from_to}
 use Rattle.graphql_grammar.specs.Reading.{Test, passes, of, Read, Took, Reader, after, seq, done, on, want, many, look, choose, maybe, with_span, give_span, one_or_more}
 use Rattle.graphql_grammar.specs.Grammar.{Is, IsWord, Says, Sequence, ◌·◌, ◌for◌, Each, Optional, Listed}
-use Rattle.graphql_grammar.proofs.Sequences.{row_as, row_front, row_back, one_takes, back_takes, row_length, row_before, row_right}
+use Rattle.graphql_grammar.proofs.Sequences.{token_in, enclosed_span, row_as, row_front, row_back, one_takes, back_takes, row_length, row_before, row_right}
 use Rattle.graphql_grammar.proofs.TokenRules.{on_passed, on_failed, want_passed}
 use Rattle.graphql_grammar.proofs.PartRules.{front_is}
 
@@ -189,6 +189,25 @@ module _ {F A : Type 0} {n : ℕ} {f : Reader F A} {P After : List Lexeme → Ty
       cases ts rest le (inl h) g = p.at ts rest le h g
       cases ts rest le (inr h) g = q.at ts rest le h g
 
+-- ---- a part whose span is told with it
+
+module _ {F A : Type 0} {n : ℕ} {f : Reader F A} {P After : List Lexeme → Type 0} {a : A} where
+  pub located : ((p : Span) → Finds n f (λ ts. P ts × (p ≡ span_of ts)) After a) → Finds n f P After a
+  located q = record { at = λ ts rest le h g. (q (span_of ts)).at ts rest le (h, refl) g }
+
+  module _ {Q : List Lexeme → Type 0} where
+    pub located_front : ((p : Span) → Finds n f ((λ ts. P ts × (p ≡ span_of ts)) · Q) After a)
+        → Finds n f (P · Q) After a
+    located_front q = record {
+      at = λ ts rest le h g. (q (span_of h.front)).at ts rest le (row_as h (h.first, refl) h.second) g;
+    }
+
+    pub located_back : ((p : Span) → Finds n f (P · (λ ts. Q ts × (p ≡ span_of ts))) After a)
+        → Finds n f (P · Q) After a
+    located_back q = record {
+      at = λ ts rest le h g. (q (span_of h.back)).at ts rest le (row_as h h.first (h.second, refl)) g;
+    }
+
 pub none_found : {F A : Type 0} {f : Reader F A} {P After : List Lexeme → Type 0} {a : A}
     → ((ts : List Lexeme) → P ts → 0 < length ts) → Finds 1 f P After a
 none_found takes = record { at = λ ts rest le h g. absurd (let t = takes ts h in omega arith) }
@@ -261,6 +280,20 @@ module _ {F A : Type 0} {n : ℕ} {f : Reader F A} {Q After : List Lexeme → Ty
       → Finds n f (Q · Is k) After a
   closed_found q = record { at = λ ts rest le h g. (q h.second.0 h.second.1).at ts rest le (last_one ts h) g }
 
+-- a part between two tokens, and the span from the one to the other
+pub between_found : {F A : Type 0} {n : ℕ} {f : Reader F A} {P After : List Lexeme → Type 0} {opening closing : Kind}
+    (a : Span → A) (p : Span) → ((w x : Text) (q r : Span)
+    → Finds n f (Only (token opening w q) · P · Only (token closing x r)) After (a (from_to q r)))
+    → Finds n f (λ ts. (Is opening · P · Is closing) ts × (p ≡ span_of ts)) After (a p)
+between_found {opening} {closing} a p found = record {
+  at = λ ts rest le h g.
+      let o = token_in opening h.0.front h.0.first in
+      let c = token_in closing h.0.second.back h.0.second.second in
+      (found o.text c.text o.span c.span).at ts rest le
+      (row_as h.0 h.0.first.2 (last_one h.0.back h.0.second)) g
+      ∙ ap (λ z. Took (a z) rest) (sym (h.1 ∙ enclosed_span opening closing ts h.0));
+}
+
 -- the token t, and then the others
 pub on_found : {F A : Type 0} {n : ℕ} {Q After : List Lexeme → Type 0} {a : A} (test : Test) (t : Lexeme)
     (k : Lexeme → Reader F A) (g : Reader F A) → passes test t ≡ true → Finds n (k t) Q After a
@@ -297,7 +330,6 @@ span_found k p q = record {
 pub maybe_found : {F A : Type 0} {n : ℕ} {f : Reader F A} {R : List Lexeme → A → Type 0} (k : Kind) (x : Option A)
     → ((ts : List Lexeme) (a : A) → R ts a → StartsWith k ts) → ((a : A) → Finds n f (R for a) Any a)
     → Finds n (maybe (of k) f) (Optional R for x) (NotAt (of k)) x
-unfolding maybe
 maybe_found k None s p = look_apart (of k) _ (nothing_before (λ rest g. g)) done_found
 maybe_found k (Some a) s p = look_found k _ (λ ts h. s ts a h) (found_if (λ rest g. tt) (map_found (λ x. Some x) (p a)))
 
@@ -332,18 +364,23 @@ module _ {F A : Type 0} {n : ℕ} {f : Reader F A} {R : List Lexeme → A → Ty
           ((map_found (λ r. (x ∷ r.0, r.1)) (many_found k (omega arith) xs)).at s.back rest (omega arith) s.second tt);
     }
 
+    -- an item, and then many
+    pub several_found : {B : Type 0} (k : A → List A × Lexeme → B) (x : A) (xs : List A)
+        → Finds n (seq f (λ y. seq (many (of closing) f n) (λ r. done (k y r))))
+        (Each R for (x ∷ xs) · Only (token closing w p)) Any (k x (xs, token closing w p))
+    several_found k x xs = found_as row_right (seq_found _ (item x) (items_before xs)
+        (map_found (k x) (fewer (many_found n (le_refl n) xs))))
+
     pub one_or_more_found : (x : A) (xs : List A)
-        → Finds n (one_or_more (of closing) f n) (Each R for (x ∷ xs) · Only (token closing w p)) Any (x ∷ xs)
-    unfolding one_or_more
-    one_or_more_found x xs = found_as row_right (seq_found _ (item x) (items_before xs)
-        (map_found (λ r. x ∷ r.0) (fewer (many_found n (le_refl n) xs))))
+        → Finds n (one_or_more (of closing) f n) (Each R for (x ∷ xs) · Only (token closing w p)) Any (x ∷ xs, p)
+    one_or_more_found = several_found (λ y r. (y ∷ r.0, r.1.span))
 
   pub listed_found : {B : Type 0} (opening : Kind) (k : List A → B) (xs : List A)
-      → Finds n (seq (want (of opening)) (λ o. seq (one_or_more (of closing) f n) (λ ys. done (k ys))))
+      → Finds n (seq (want (of opening)) (λ o. seq (one_or_more (of closing) f n) (λ ys. done (k ys.0))))
       (Listed opening closing R for xs) Any (k xs)
   listed_found opening k [] = record { at = λ ts rest le h g. absurd (h.second.first.1 refl) }
   listed_found opening k (x ∷ xs) = found_as (row_back (row_front (λ us h. h.0)))
-      (is_then (map_found k (closed_found (λ w p. one_or_more_found w p x xs))))
+      (is_then (closed_found (λ w p. map_found (λ ys. k ys.0) (one_or_more_found w p x xs))))
 
 pub listed_starts : {A : Type 0} {opening : Kind} (closing : Kind) (R : List Lexeme → A → Type 0) (ts : List Lexeme)
     (xs : List A) → Listed opening closing R ts xs → StartsWith opening ts

@@ -1,15 +1,11 @@
--- More fuel changes no answer, and with enough of it a reader is its own step.
-use Rattle.std.proofs.Common.{ℕ, zero, suc, Bool, true, false, ◌≡◌, ◌≤◌, ◌<◌, ◌∷◌, [], List, length, refl, sym, ap, ◌∙◌, arith, ◌⊎◌, inl, inr, le_refl}
-use Rattle.graphql_lexical.specs.declared.kind.Kind.TheVariants.{BracketOpen, BracketClose, CurlyOpen, CurlyClose, Name}
+-- More fuel changes no answer.
+use Rattle.std.proofs.Common.{ℕ, zero, suc, Bool, true, false, ◌≡◌, ◌≤◌, ◌<◌, ◌∷◌, [], List, length, refl, sym, ap, ◌∙◌, arith, ◌⊎◌, inl, inr}
+use Rattle.graphql_lexical.specs.Place.{Span}
 use Rattle.graphql_lexical.specs.Cutting.{Lexeme}
-use Rattle.graphql_grammar.specs.Tokens.{Word, over}
-use Rattle.graphql_grammar.specs.Reading.{Test, passes, of, Read, Took, Refused, Out, Reader, after, seq, done, on, pick, want, many, literal, by_name, items_of, fields_of, variable_start, key_and_value, value_at, fully, value_of, items_at, fields_at}
-use Rattle.graphql_grammar.specs.Samples.{sample}
-use Rattle.graphql_grammar.specs.Tree.{Scalars, Value, ListOf, Object, Variable}
-use Rattle.graphql_grammar.specs.Grammar.{IsValue}
+use Rattle.graphql_grammar.specs.Reading.{Test, passes, Read, Took, Refused, Out, Reader, after, seq, on, pick, many, look, choose, with_span, give_span, repeated, fully, Symbol, Steps, gives, gives_at, wants, takes, sees, part, symbol, spanned, scalar, closed, each, run}
+use Rattle.graphql_grammar.specs.Productions.{steps_of, symbol_at, reads}
+use Rattle.graphql_grammar.specs.Tree.{Scalars}
 use Rattle.graphql_grammar.proofs.Rules.{Meets, Rule}
-use Rattle.graphql_grammar.proofs.PartRules.{Closed, many_rule}
-use Rattle.graphql_grammar.proofs.Values.{value_rule, value_takes, IsField, field_rule, field_takes}
 
 -- r ran out, or it is s
 abbrev pub Below : {F A : Type 0} → Read F A → Read F A → Type 0
@@ -20,6 +16,14 @@ pub record Under {F A : Type 0} (f g : Reader F A) : Type 0 where
 
 pub under_refl : {F A : Type 0} (f : Reader F A) → Under f f
 under_refl f = record { at = λ ts. inr refl }
+
+below_trans : {F A : Type 0} (a b c : Read F A) → Below a b → Below b c → Below a c
+below_trans a b c (inl e) q = inl e
+below_trans a b c (inr e) (inl q) = inl (e ∙ q)
+below_trans a b c (inr e) (inr q) = inr (e ∙ q)
+
+pub under_trans : {F A : Type 0} (f g h : Reader F A) → Under f g → Under g h → Under f h
+under_trans f g h p q = record { at = λ ts. below_trans (f ts) (g ts) (h ts) (p.at ts) (q.at ts) }
 
 after_below : {F A B : Type 0} (r s : Read F A) (k l : A → Reader F B) → Below r s → ((a : A) → Under (k a) (l a))
     → Below (after r k) (after s l)
@@ -59,27 +63,79 @@ many_under close f g p (suc n) (suc m) le =
     on_under close _ _ _ _ (λ t. under_refl _)
     (seq_under f g _ _ p (λ x. seq_under _ _ _ _ (many_under close f g p n m (omega arith)) (λ r. under_refl _)))
 
-pub field_under : {C F : Type 0} (f g : Reader F (Value C)) → Under f g → Under (key_and_value f) (key_and_value g)
-unfolding key_and_value
-field_under f g p = seq_under _ _ _ _ (under_refl _) (λ k. seq_under _ _ _ _ (under_refl _)
-    (λ c. seq_under f g _ _ p (λ v. under_refl _)))
+pub look_under : {F A : Type 0} (test : Test) (f g k l : Reader F A) → Under f k → Under g l
+    → Under (look test f g) (look test k l)
+unfolding look
+look_under {F} {A} test f g k l p q = record { at = by_list }
+  where
+    by_test : (b : Bool) (ts : List Lexeme) → Below (choose b f g ts) (choose b k l ts)
+    by_test true ts = p.at ts
+    by_test false ts = q.at ts
 
-pub value_under : {C F : Type 0} (S : Scalars C F) (free : Bool) (n m : ℕ) → n ≤ m
-    → Under (value_at S free n) (value_at S free m)
-unfolding value_at
-value_under S free zero m le = record { at = λ ts. inl refl }
-value_under S free (suc n) zero le = absurd (omega arith)
-value_under S free (suc n) (suc m) le =
-    on_under (of BracketOpen) _ _ _ _ (λ o. seq_under _ _ _ _ (many_under (of BracketClose) _ _
-    (value_under S free n m (omega arith)) n m (omega arith)) (λ r. under_refl _))
-    (on_under (of CurlyOpen) _ _ _ _ (λ o. seq_under _ _ _ _ (many_under (of CurlyClose) _ _
-    (field_under _ _ (value_under S free n m (omega arith))) n m (omega arith)) (λ r. under_refl _))
-    (under_refl _))
+    by_list : (ts : List Lexeme) → Below (look test f g ts) (look test k l ts)
+    by_list [] = q.at []
+    by_list (t ∷ ts) = by_test (passes test t) (t ∷ ts)
+
+span_below : {F A : Type 0} (ts : List Lexeme) (r s : Read F (Span → A)) → Below r s
+    → Below (after r (give_span ts)) (after s (give_span ts))
+span_below ts r s (inl e) = inl (rw e refl)
+span_below ts r s (inr e) = inr (rw e refl)
+
+pub span_under : {F A : Type 0} (f g : Reader F (Span → A)) → Under f g → Under (with_span f) (with_span g)
+unfolding with_span
+span_under f g p = record { at = λ ts. span_below ts (f ts) (g ts) (p.at ts) }
+
+pub repeated_under : {F A : Type 0} (test : Test) (f g : Reader F A) → Under f g → (n m : ℕ) → n ≤ m
+    → Under (repeated test f n) (repeated test g m)
+unfolding repeated
+repeated_under test f g p zero m le = record { at = λ ts. inl refl }
+repeated_under test f g p (suc n) zero le = absurd (omega arith)
+repeated_under test f g p (suc n) (suc m) le =
+    look_under test _ _ _ _ (seq_under f g _ _ p (λ x. seq_under _ _ _ _ (repeated_under test f g p n m (omega arith))
+    (λ xs. under_refl _))) (under_refl _)
+
+-- ---- programs
+
+module _ {C F : Type 0} (S : Scalars C F) where
+  pub run_under : (f g : (A : Type 0) → Symbol C A → Reader F A) (n m : ℕ) → n ≤ m
+      → ((A : Type 0) (r : Symbol C A) → Under (f A r) (g A r)) → {A : Type 0} (p : Steps C A)
+      → Under (run S f n p) (run S g m p)
+  run_under f g n m le h (gives a) = under_refl _
+  run_under f g n m le h (gives_at p a) = under_refl _
+  run_under f g n m le h (wants test k) = seq_under _ _ _ _ (under_refl _) (λ t. run_under f g n m le h (k t))
+  run_under f g n m le h (takes test k p) =
+      on_under test _ _ _ _ (λ t. run_under f g n m le h (k t)) (run_under f g n m le h p)
+  run_under f g n m le h (sees test p q) =
+      look_under test _ _ _ _ (run_under f g n m le h p) (run_under f g n m le h q)
+  run_under f g n m le h (part p k) = seq_under _ _ _ _ (run_under f g n m le h p) (λ x. run_under f g n m le h (k x))
+  run_under f g n m le h {A} (symbol r) = h A r
+  run_under f g n m le h (spanned p) = span_under _ _ (run_under f g n m le h p)
+  run_under f g n m le h (scalar k) = seq_under _ _ _ _ (under_refl _) (λ v. run_under f g n m le h (k v))
+  run_under f g n m le h (closed close p k) =
+      seq_under _ _ _ _ (many_under close _ _ (run_under f g n m le h p) n m le)
+      (λ r. run_under f g n m le h (k r.0 r.1.span))
+  run_under f g n m le h (each test p k) =
+      seq_under _ _ _ _ (repeated_under test _ _ (run_under f g n m le h p) n m le)
+      (λ xs. run_under f g n m le h (k xs))
+
+  pub symbol_under : (n m : ℕ) → n ≤ m → (A : Type 0) (r : Symbol C A) → Under (symbol_at S n A r) (symbol_at S m A r)
+  unfolding symbol_at
+  symbol_under zero m le A r = record { at = λ ts. inl refl }
+  symbol_under (suc n) zero le A r = absurd (omega arith)
+  symbol_under (suc n) (suc m) le A r = record {
+    at = (run_under (symbol_at S n) (symbol_at S m) n m (omega arith) (symbol_under n m (omega arith))
+        (steps_of S r)).at;
+  }
+
+  pub reads_under : {A : Type 0} (p : Steps C A) (n m : ℕ) → n ≤ m → Under (reads S n p) (reads S m p)
+  reads_under p n m le = run_under (symbol_at S n) (symbol_at S m) n m le (symbol_under n m le) p
+
+-- ---- enough fuel
 
 -- A reader that answers wherever the fuel exceeds the list.
-pub record Grows {F A : Type 0} (f : ℕ → Reader F A) : Type 0 where
+pub record Answers {F A : Type 0} (f : ℕ → Reader F A) : Type 0 where
   pub under : (n m : ℕ) → n ≤ m → Under (f n) (f m)
-  pub answers : (n : ℕ) (ts : List Lexeme) → length ts < n → f n ts ≡ Out → ⊥
+  pub at : (n : ℕ) (ts : List Lexeme) → length ts < n → f n ts ≡ Out → ⊥
 
 -- A reader that keeps a rule answers where the fuel exceeds the list.
 pub not_out : {F A : Type 0} (n : ℕ) (f g : Reader F A) (R : List Lexeme → A → Type 0) → Rule n f g R
@@ -91,7 +147,7 @@ not_out n f g R r ts le e = by_meets (f ts) e (r.at ts)
     by_meets (Refused rest x) q m = absurd (cc q)
     by_meets Out q m = absurd (omega (arith, m.0))
 
-module _ {F A : Type 0} (f : ℕ → Reader F A) (w : Grows f) where
+module _ {F A : Type 0} (f : ℕ → Reader F A) (w : Answers f) where
   -- Any fuel gives no other answer than enough of it.
   pub settled : (n : ℕ) → Under (f n) (fully f)
   unfolding fully
@@ -107,7 +163,7 @@ module _ {F A : Type 0} (f : ℕ → Reader F A) (w : Grows f) where
           by_case (inr h) = inr (omega (arith, h))
 
       by_answer : (ts : List Lexeme) → Below (f (suc (length ts)) ts) (f n ts) → Below (f n ts) (f (suc (length ts)) ts)
-      by_answer ts (inl e) = absurd (w.answers (suc (length ts)) ts (omega arith) e)
+      by_answer ts (inl e) = absurd (w.at (suc (length ts)) ts (omega arith) e)
       by_answer ts (inr e) = inr (sym e)
 
       by_order : (ts : List Lexeme) → (n ≤ suc (length ts)) ⊎ (suc (length ts) ≤ n) → Below (f n ts) (fully f ts)
@@ -117,78 +173,11 @@ module _ {F A : Type 0} (f : ℕ → Reader F A) (w : Grows f) where
   -- What the step answers, where its parts have enough, is the answer.
   pub steps : (g : Reader F A) (ts : List Lexeme) → Below (f (suc (length ts)) ts) (g ts) → fully f ts ≡ g ts
   unfolding fully
-  steps g ts (inl e) = absurd (w.answers (suc (length ts)) ts (omega arith) e)
+  steps g ts (inl e) = absurd (w.at (suc (length ts)) ts (omega arith) e)
   steps g ts (inr e) = e
 
-module _ {C F : Type 0} (S : Scalars C F) (free : Bool) where
-  pub value_grows : Grows (value_at S free)
-  value_grows = record {
-    under = value_under S free;
-    answers = λ n ts le. not_out n _ _ (IsValue S free) (value_rule S free n n (le_refl n)) ts le;
-  }
-
-  pub items_grow : Grows (items_at S free)
-  items_grow = record {
-    under = λ n m le. many_under (of BracketClose) _ _ (value_under S free n m le) n m le;
-    answers = λ n ts le. not_out n _ _ (Closed (of BracketClose) (IsValue S free))
-        (many_rule (of BracketClose) (sample BracketClose) refl (inl refl) (IsValue S free) (value_takes S free) _ _ n n
-        n (le_refl n) (le_refl n) (value_rule S free n n (le_refl n))) ts le;
-  }
-
-  pub fields_grow : Grows (fields_at S free)
-  fields_grow = record {
-    under = λ n m le. many_under (of CurlyClose) _ _ (field_under _ _ (value_under S free n m le)) n m le;
-    answers = λ n ts le. not_out n _ _ (Closed (of CurlyClose) (IsField S free))
-        (many_rule (of CurlyClose) (sample CurlyClose) refl (inl refl) (IsField S free) (field_takes S free) _ _ n n n
-        (le_refl n) (le_refl n) (field_rule S free n _ _ (value_rule S free n n (le_refl n)))) ts le;
-  }
-
-  abbrev pub value_body : Reader F (Value C)
-  value_body =
-      on (of BracketOpen) (λ o. seq (fully (items_at S free)) (λ r. done (ListOf (items_of r.0) (over o r.1))))
-      (on (of CurlyOpen) (λ o. seq (fully (fields_at S free)) (λ r. done (Object (fields_of r.0) (over o r.1))))
-      (on (variable_start free) (λ o. seq (want (of Name)) (λ w. done (Variable w.text (over o w))))
-      (on (of Name) (λ t. done (by_name S t.text t.span))
-      (literal S))))
-
-  pub value_steps : (ts : List Lexeme) → value_of S free ts ≡ value_body ts
-  unfolding value_at
-  value_steps ts = steps (value_at S free) value_grows value_body ts
-      ((on_under (of BracketOpen) _ _ _ _ (λ o. seq_under _ _ _ _ (settled (items_at S free) items_grow (length ts))
-      (λ r. under_refl _))
-      (on_under (of CurlyOpen) _ _ _ _ (λ o. seq_under _ _ _ _ (settled (fields_at S free) fields_grow (length ts))
-      (λ r. under_refl _)) (under_refl _))).at ts)
-
-  below_trans : {A : Type 0} (a b c : Read F A) → Below a b → Below b c → Below a c
-  below_trans a b c (inl e) q = inl e
-  below_trans a b c (inr e) (inl q) = inl (e ∙ q)
-  below_trans a b c (inr e) (inr q) = inr (e ∙ q)
-
-  under_trans : {A : Type 0} (f g h : Reader F A) → Under f g → Under g h → Under f h
-  under_trans f g h p q = record { at = λ ts. below_trans (f ts) (g ts) (h ts) (p.at ts) (q.at ts) }
-
-  abbrev pub items_body : Reader F (List (Value C) × Lexeme)
-  items_body = on (of BracketClose) (λ t. done ([], t)) (seq (value_of S free)
-      (λ x. seq (fully (items_at S free)) (λ r. done (x ∷ r.0, r.1))))
-
-  pub items_step : (ts : List Lexeme) → fully (items_at S free) ts ≡ items_body ts
-  unfolding many
-  items_step ts = steps (items_at S free) items_grow items_body ts
-      ((on_under (of BracketClose) _ _ _ _ (λ t. under_refl _)
-      (seq_under _ _ _ _ (settled (value_at S free) value_grows (suc (length ts)))
-      (λ x. seq_under _ _ _ _ (under_trans _ _ _ (many_under (of BracketClose) _ _
-      (under_refl (value_at S free (suc (length ts)))) (length ts) (suc (length ts)) (omega arith))
-      (settled (items_at S free) items_grow (suc (length ts)))) (λ r. under_refl _)))).at ts)
-
-  abbrev pub fields_body : Reader F (List (Word × Value C) × Lexeme)
-  fields_body = on (of CurlyClose) (λ t. done ([], t)) (seq (key_and_value (value_of S free))
-      (λ x. seq (fully (fields_at S free)) (λ r. done (x ∷ r.0, r.1))))
-
-  pub fields_step : (ts : List Lexeme) → fully (fields_at S free) ts ≡ fields_body ts
-  unfolding many
-  fields_step ts = steps (fields_at S free) fields_grow fields_body ts
-      ((on_under (of CurlyClose) _ _ _ _ (λ t. under_refl _)
-      (seq_under _ _ _ _ (field_under _ _ (settled (value_at S free) value_grows (suc (length ts))))
-      (λ x. seq_under _ _ _ _ (under_trans _ _ _ (many_under (of CurlyClose) _ _
-      (under_refl (key_and_value (value_at S free (suc (length ts))))) (length ts) (suc (length ts)) (omega arith))
-      (settled (fields_at S free) fields_grow (suc (length ts)))) (λ r. under_refl _)))).at ts)
+-- a reader that keeps a rule, and that more fuel doesn't change
+pub answers : {F A : Type 0} (f : ℕ → Reader F A) (R : List Lexeme → A → Type 0) →
+    ((n m : ℕ) → n ≤ m → Under (f n) (f m))
+    → ((n : ℕ) → Rule n (f n) (f n) R) → Answers f
+answers f R u r = record { under = u; at = λ n ts le. not_out n (f n) (f n) R (r n) ts le }

@@ -1,24 +1,26 @@
 -- What readers give on a list that ends in its one end.
-use Rattle.std.proofs.Common.{ℕ, suc, Bool, ◌≡◌, ◌≤◌, ◌<◌, ◌∷◌, [], List, ◌++◌, length, drop, refl, sym, ap, ◌∙◌, arith, append_assoc, append-nil, subst, length-append, inl, inr, le_refl, Ok, Bool, true, false, cond, ◌+◌}
+use Rattle.std.proofs.Common.{ℕ, suc, Bool, ◌≡◌, ◌≤◌, ◌<◌, ◌∷◌, [], List, ◌++◌, length, take, drop, refl, sym, ap, ◌∙◌, arith, append_assoc, append-nil, subst, length-append, inl, inr, le_refl, Bool, true, false, cond, ◌+◌}
 use Rattle.std.proofs.lemmas.List.{append_cancel_right}
 use Rattle.std.specs.List.{AllByRecursion}
 use Rattle.graphql_lexical.specs.declared.kind.Kind.{Kind}
 use Rattle.graphql_lexical.specs.declared.kind.Kind.TheVariants.{EndOfFile}
 use Rattle.graphql_lexical.specs.Cutting.{Lexeme}
-use Rattle.graphql_grammar.specs.Tokens.{IsSpelled}
+use Rattle.graphql_grammar.specs.Tokens.{IsSpelled, span_of}
 use Rattle.graphql_grammar.specs.Tree.{Scalars}
 use Rattle.graphql_grammar.specs.Grammar.{IsValue, IsType, IsDocument}
-use Rattle.graphql_grammar.specs.Faults.{Fault, UnexpectedEndOfFile, UnexpectedToken, AnyToken, NoEnd, EndsOnce, DocumentRefusedAt, ValueRefusedAt, TypeRefusedAt, TypeError}
-use Rattle.graphql_grammar.specs.Reading.{of, Read, Took, Refused, Out, Reader, fault_of, value_at, type_at, document, fully, value_of, GivesWhole, GivesFront}
+use Rattle.graphql_grammar.specs.Faults.{Fault, UnexpectedEndOfFile, UnexpectedToken, AnyToken, NoEnd, EndsOnce, Begins, AtFault, DocumentRefusedAt, ValueRefusedAt, TypeRefusedAt, TypeError}
+use Rattle.graphql_grammar.specs.Reading.{of, Read, Took, Refused, Out, Reader, fault_of, a_value, a_type, fully, GivesWhole, GivesFront}
+use Rattle.graphql_grammar.specs.Productions.{document, symbol_at, reads}
 use Rattle.graphql_grammar.proofs.Elements.{all_front, all_each}
 use Rattle.graphql_grammar.proofs.TokenTests.{of_kind}
 use Rattle.graphql_grammar.proofs.Rules.{Meets}
 use Rattle.graphql_grammar.proofs.Found.{value_found}
+use Rattle.graphql_grammar.proofs.DocumentRules.{IsSpannedType}
 use Rattle.graphql_grammar.proofs.Ends.{values, types, document_ends}
 use Rattle.graphql_grammar.proofs.Faulty.{Reads, cut_front, at_fault}
 use Rattle.graphql_grammar.proofs.ScalarFaults.{TellsFault}
 use Rattle.graphql_grammar.proofs.DocumentFaults.{value_tells, type_tells, document_tells}
-use Rattle.graphql_grammar.proofs.Readers.{value_reads, type_reads, document_reads}
+use Rattle.graphql_grammar.proofs.Readers.{every_scalar, value_reads, type_reads, document_reads}
 use Rattle.graphql_grammar.proofs.Named.{refused_at, drop_next}
 use Rattle.graphql_grammar.proofs.Spelling.{sample_spelled}
 use Rattle.graphql_grammar.proofs.DocumentFound.{type_covers}
@@ -104,18 +106,18 @@ any_allowed ts = all_each AnyToken (λ t. tt) ts
 
 module _ {C F : Type 0} (S : Scalars C F) where
   pub document_given : (ts : List Lexeme) → AllByRecursion IsSpelled ts → EndsOnce ts
-      → GivesWhole (IsDocument S) (DocumentRefusedAt S ts) ts (fully (document S) ts)
-  document_given ts spelled ends = whole_given (document S) (IsDocument S) (document_reads S) (DocumentRefusedAt S ts)
-      ts ends
-      (λ rest t e. refused_at S (document S) (IsDocument S) (document_reads S) true (document_tells S) IsSpelled
-      sample_spelled (suc (length ts)) ts rest t e spelled) (document_ends S)
+      → GivesWhole (IsDocument S) (DocumentRefusedAt S ts) ts (fully (λ n. reads S n document) ts)
+  document_given ts spelled ends = whole_given (λ n. reads S n document) (IsDocument S) (document_reads S)
+      (DocumentRefusedAt S ts) ts ends
+      (λ rest t e. refused_at S (λ n. reads S n document) (IsDocument S) (document_reads S) true (document_tells S)
+      IsSpelled sample_spelled (suc (length ts)) ts rest t e spelled) (document_ends S)
 
   pub value_given : (free : Bool) (ts : List Lexeme) → EndsOnce ts
-      → GivesFront (IsValue S free) (ValueRefusedAt S free ts) ts (value_of S free ts)
-  value_given free ts ends = front_given (value_at S free) (IsValue S free) (value_reads S free)
+      → GivesFront (IsValue S free) (ValueRefusedAt S free ts) ts (fully (λ n. symbol_at S n _ (a_value free)) ts)
+  value_given free ts ends = front_given (λ n. symbol_at S n _ (a_value free)) (IsValue S free) (value_reads S free)
       (ValueRefusedAt S free ts) ts ends
-      (λ rest t e. refused_at S (value_at S free) (IsValue S free) (value_reads S free) true (value_tells S free)
-      AnyToken (λ u h. tt) (suc (length ts)) ts rest t e (any_allowed ts))
+      (λ rest t e. refused_at S (λ n. symbol_at S n _ (a_value free)) (IsValue S free) (value_reads S free) true
+      (value_tells S free) AnyToken (λ u h. tt) (suc (length ts)) ts rest t e (any_allowed ts))
       (values S free) (λ us vs v h m le. (
         v,
         [],
@@ -127,34 +129,45 @@ module _ {C F : Type 0} (S : Scalars C F) where
 
 -- ---- types
 
-module _ (F : Type 0) where
-  -- a scalar type that refuses nothing: the reading of a type asks none
-  every_scalar : Scalars (Unit {0}) F
-  every_scalar = record { read = λ kind text. Ok tt; of_bool = λ b. tt }
+type_error : (F : Type 0) (t : Lexeme) (b : Bool) → of EndOfFile t.kind t.text ≡ b
+    → TypeError {F = F} t (cond b UnexpectedEndOfFile (UnexpectedToken t.kind t.text))
+type_error F t true e = of_kind EndOfFile t e
+type_error F t false e = (
+  refl,
+  refl,
+  λ k. let same : of EndOfFile t.kind t.text
+      ≡ true = ap (λ (z : Kind). of EndOfFile z t.text) k in absurd (cc (sym e ∙ same)),
+)
 
-  type_error : (t : Lexeme) (b : Bool) → of EndOfFile t.kind t.text ≡ b
-      → TypeError {F = F} t (cond b UnexpectedEndOfFile (UnexpectedToken t.kind t.text))
-  type_error t true e = of_kind EndOfFile t e
-  type_error t false e = (
-    refl,
-    refl,
-    λ k. let same : of EndOfFile t.kind t.text
-        ≡ true = ap (λ (z : Kind). of EndOfFile z t.text) k in absurd (cc (sym e ∙ same)),
-  )
+-- A type begins so, with its span or without.
+bare_begins : (ts : List Lexeme) → Begins AnyToken IsSpannedType ts → Begins AnyToken IsType ts
+bare_begins ts (front, more, x, a, h, al) = (front, more, x.0, a, h.0, al)
 
+spanned_begins : (ts : List Lexeme) → Begins AnyToken IsType ts → Begins AnyToken IsSpannedType ts
+spanned_begins ts (front, more, x, a, h, al) = (front, more, (x, span_of (front ++ more)), a, (h, refl), al)
+
+bare_fault : (ts : List Lexeme) (i : ℕ) → AtFault AnyToken IsSpannedType ts i → AtFault AnyToken IsType ts i
+bare_fault ts i h = record {
+  inside = h.inside;
+  begins = bare_begins (take i ts) h.begins;
+  ends = λ b. h.ends (spanned_begins (take (suc i) ts) b);
+}
+
+module _ {C F : Type 0} (S : Scalars C F) where
   type_refused : (ts rest : List Lexeme) (t : Lexeme) (e : Fault F)
-      → type_at (suc (length ts)) ts ≡ Refused (t ∷ rest) e
+      → symbol_at S (suc (length ts)) _ a_type ts ≡ Refused (t ∷ rest) e
       → (i : ℕ) × (rest ≡ drop (suc i) ts) × TypeRefusedAt ts i t e
   unfolding every_scalar fault_of
-  type_refused ts rest t e p = by_tell (subst (λ z. TellsFault every_scalar false (type_at (suc (length ts))) ts z) p
-      ((type_tells every_scalar (suc (length ts))).at ts))
+  type_refused ts rest t e p = by_tell
+      (subst (λ z. TellsFault (every_scalar F) false (symbol_at S (suc (length ts)) _ a_type) ts z) p
+      ((type_tells (every_scalar F) S (suc (length ts))).at ts))
     where
-      by_tell : TellsFault every_scalar false (type_at (suc (length ts))) ts (Refused (t ∷ rest) e)
+      by_tell : TellsFault (every_scalar F) false (symbol_at S (suc (length ts)) _ a_type) ts (Refused (t ∷ rest) e)
           → (i : ℕ) × (rest ≡ drop (suc i) ts) × TypeRefusedAt ts i t e
       by_tell (us, q, inl (y, x, s, d)) = absurd (cc d)
       by_tell (us, q, inr o) =
-          let a = at_fault (type_at {F = F}) IsType (type_reads F) AnyToken (λ u h. tt) (suc (length ts)) ts rest t e
-          (any_allowed ts) p in (
+          let a = at_fault (λ n. symbol_at S n _ a_type) IsSpannedType (type_reads S) AnyToken (λ u h. tt)
+          (suc (length ts)) ts rest t e (any_allowed ts) p in (
             length a.0,
             sym (ap (drop (suc (length a.0))) a.1 ∙ drop_next a.0 rest t),
             record {
@@ -162,12 +175,12 @@ module _ (F : Type 0) where
               after = rest;
               whole = a.1;
               number = refl;
-              fault = a.2;
-              named = rw o.0 (type_error t (of EndOfFile t.kind t.text) refl);
+              fault = bare_fault ts (length a.0) a.2;
+              named = rw o.0 (type_error F t (of EndOfFile t.kind t.text) refl);
             },
           )
 
   pub type_given : (ts : List Lexeme) → EndsOnce ts
-      → GivesFront IsType (TypeRefusedAt ts) ts (fully (type_at {F = F}) ts)
-  type_given ts ends = front_given (type_at {F = F}) IsType (type_reads F) (TypeRefusedAt ts) ts ends (type_refused ts)
-      types (λ us vs x h n le. type_covers us vs x h n le)
+      → GivesFront IsSpannedType (TypeRefusedAt ts) ts (fully (λ n. symbol_at S n _ a_type) ts)
+  type_given ts ends = front_given (λ n. symbol_at S n _ a_type) IsSpannedType (type_reads S) (TypeRefusedAt ts) ts ends
+      (type_refused ts) (λ us x h. types us x.0 h.0) (λ us vs x h n le. type_covers S us vs x.0 h.0 n le)

@@ -29,7 +29,5 @@ pub mod Unlocated
 pub mod OneFault
 pub mod Texts
 pub mod Depths
-pub mod Steps
-pub mod StepsOfParts
-pub mod StepsOfSelections
 pub mod Extents
+pub mod Answered

@@ -1,11 +1,12 @@
 -- With which tokens no value begins, and lists in which an opening bracket stands for a scalar token.
 use Rattle.std.proofs.Common.{Bool, true, false, ◌≡◌, ◌<◌, ◌∷◌, [], List, ◌++◌, length, refl, ap, ◌∙◌, arith, ◌⊎◌, ◌||◌, inl, inr}
 use Rattle.graphql_lexical.specs.declared.kind.Kind.{Kind}
-use Rattle.graphql_lexical.specs.declared.kind.Kind.TheVariants.{Name, String, BlockString, Float, Int, BracketOpen, CurlyOpen}
+use Rattle.graphql_lexical.specs.declared.kind.Kind.TheVariants.{String, BlockString, Float, Int, BracketOpen, CurlyOpen}
 use Rattle.graphql_lexical.specs.Kinds.{same_kind}
 use Rattle.graphql_lexical.specs.Cutting.{Lexeme}
 use Rattle.graphql_grammar.specs.Tokens.{Text}
-use Rattle.graphql_grammar.specs.Reading.{Test, of, word, Refused, Reader, after, other_than_on, operation_word}
+use Rattle.graphql_grammar.specs.Reading.{Test, of, word, Refused, Reader}
+use Rattle.graphql_grammar.specs.Productions.{other_than_on, operation_word}
 use Rattle.graphql_grammar.specs.Grammar.{IsScalarKind}
 use Rattle.graphql_grammar.specs.Faults.{Fault}
 

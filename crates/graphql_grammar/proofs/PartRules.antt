@@ -1,10 +1,11 @@
--- What readers of parts keep: a part or a token and then another, items up to a token, spans, and parts that may be absent.
+-- What readers of parts keep: a part or a token and then another, items up to a token, spans, and parts that may be
+-- absent.
 use Rattle.std.proofs.Common.{ℕ, zero, suc, true, ◌≡◌, ◌≤◌, ◌<◌, ◌∷◌, [], List, ◌++◌, length, refl, sym, ap, ◌∙◌, arith, append_assoc, append-nil, subst, length-append, zero-le, le_refl, add-sub_cancel, take_at, Some, None}
 use Rattle.graphql_lexical.specs.Place.{Span}
 use Rattle.graphql_lexical.specs.Cutting.{Lexeme}
 use Rattle.graphql_grammar.specs.Tokens.{span_of}
 use Rattle.graphql_grammar.specs.Samples.{IsSample}
-use Rattle.graphql_grammar.specs.Reading.{Test, passes, of, Read, Took, Refused, Out, Reader, after, seq, want, many, with_span, give_span, front, maybe, one_or_more, repeated}
+use Rattle.graphql_grammar.specs.Reading.{Test, passes, Read, Took, Refused, Out, Reader, after, seq, done, want, many, with_span, give_span, front, maybe, one_or_more, repeated}
 use Rattle.graphql_grammar.specs.Grammar.{Each, Optional}
 use Rattle.graphql_grammar.specs.Faults.{Fault}
 use Rattle.graphql_grammar.proofs.Sequences.{row}
@@ -122,7 +123,6 @@ module _ {F A : Type 0} (n : ℕ) (f g : Reader F (Span → A)) (G : List Lexeme
 -- maybe
 pub maybe_rule : {F A : Type 0} (n : ℕ) (test : Test) (f g : Reader F A) (R : List Lexeme → A → Type 0) → Rule n f g R
     → Rule n (maybe test f) (maybe test g) (Optional R)
-unfolding maybe
 maybe_rule n test f g R r = look_rule n test _ _ _ _ (Optional R)
     (step n n f g _ _ R (Optional R) (le_refl n) r (λ us a b h. done_rule _ (Some a) (Some b) _ (rw append-nil h)))
     (done_rule n None None (Optional R) refl)
@@ -147,21 +147,30 @@ ClosedSome close R ts (x ∷ xs) = ClosedList close R ts x xs
 
 module _ {F A : Type 0} (R : List Lexeme → A → Type 0) (takes : (us : List Lexeme) (x : A) → R us x → 0 < length us)
   where
-    pub one_or_more_rule : (close : Test) (end : Lexeme) (closes : passes close end ≡ true) (ef : IsSample end)
-        (f g : Reader F A) (n m : ℕ) → n ≤ m → Rule n f g R
-        → Rule n (one_or_more close f n) (one_or_more close g m) (ClosedSome close R)
-    unfolding one_or_more
-    one_or_more_rule close end closes ef f g n m le r =
-        step n n f g _ _ R (ClosedSome close R) (le_refl n) r (λ us x y h.
+    -- one item or more up to the closing token, and what h makes of them
+    pub some_rule : {B : Type 0} (close : Test) (end : Lexeme) (closes : passes close end ≡ true) (ef : IsSample end)
+        (f g : Reader F A) (n m : ℕ) (h : A → List A × Lexeme → B) (G : List Lexeme → B → Type 0) → n ≤ m → Rule n f g R
+        → ((us : List Lexeme) (x : A) (r : List A × Lexeme) → ClosedSome close R us (x ∷ r.0) → G us (h x r))
+        → Rule n (seq f (λ x. seq (many close f n) (λ r. done (h x r))))
+        (seq g (λ x. seq (many close g m) (λ r. done (h x r)))) G
+    some_rule close end closes ef f g n m h G le r gives =
+        step n n f g _ _ R G (le_refl n) r (λ us x y a.
         step n (less n us) _ _ _ _ (Closed close R) _ (lower n n us (le_refl n))
         (many_rule close end closes ef R takes f g n m n le (le_refl n) r) (λ ws z w c.
-        done_rule _ (x ∷ z.0) (y ∷ w.0) _ (rw append-nil (record {
+        done_rule _ (h x z) (h y w) _ (rw append-nil (gives (us ++ ws) x z (record {
           inner = us ++ c.inner;
           last = z.1;
           whole = ap (λ l. us ++ l) c.whole ∙ sym (append_assoc us c.inner (z.1 ∷ []));
           closes = c.closes;
-          each = each_more R us c.inner x z.0 h c.each;
-        }))))
+          each = each_more R us c.inner x z.0 a c.each;
+        })))))
+
+    pub one_or_more_rule : (close : Test) (end : Lexeme) (closes : passes close end ≡ true) (ef : IsSample end)
+        (f g : Reader F A) (n m : ℕ) → n ≤ m → Rule n f g R
+        → Rule n (one_or_more close f n) (one_or_more close g m) (λ us r. ClosedSome close R us r.0)
+    one_or_more_rule close end closes ef f g n m le r =
+        some_rule close end closes ef f g n m (λ x r. (x ∷ r.0, r.1.span)) (λ us r. ClosedSome close R us r.0) le r
+        (λ us x r h. h)
 
     pub repeated_rule : (test : Test) (f g : Reader F A) (n m k : ℕ) → n ≤ m → n ≤ k → Rule k f g R
         → Rule n (repeated test f n) (repeated test g m) (Each R)

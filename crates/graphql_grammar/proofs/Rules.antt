@@ -7,9 +7,8 @@ use Rattle.graphql_lexical.specs.Cutting.{Lexeme}
 use Rattle.graphql_lexical.specs.laws.Alike.{Alike, AllAlike}
 use Rattle.graphql_grammar.specs.Tokens.{Text}
 use Rattle.graphql_grammar.specs.Samples.{AreSamples}
-use Rattle.graphql_grammar.specs.Reading.{of, Read, Took, Refused, Out, Reader, after, seq, done, fault_of, on}
+use Rattle.graphql_grammar.specs.Reading.{of, Read, Took, Refused, Out, Reader, after, seq, done, fault_of}
 use Rattle.graphql_grammar.specs.Faults.{Fault, UnexpectedEndOfFile, UnexpectedToken, ScalarError}
-use Rattle.graphql_grammar.proofs.Sequences.{row}
 
 -- the first tokens are alike, or there is none
 abbrev pub SameHead : List Lexeme → List Lexeme → Type 0

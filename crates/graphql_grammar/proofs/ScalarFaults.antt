@@ -145,7 +145,7 @@ module _ {C F : Type 0} (S : Scalars C F) where
         )
     second ts us mid a e h Out g = tt
 
-    seq_tell : (ts : List Lexeme) (r : Read F A) → TellsFault b f ts r → ((a : A) → TellsFaults true (k a))
+    pub seq_tell : (ts : List Lexeme) (r : Read F A) → TellsFault b f ts r → ((a : A) → TellsFaults true (k a))
         → TellsFault b (seq f k) ts (after r k)
     seq_tell ts (Took a mid) (us, e, h) g = second ts us mid a e h (k a mid) ((g a).at mid)
     seq_tell ts (Refused [] x) p g = tt
@@ -264,6 +264,17 @@ module _ {C F : Type 0} (S : Scalars C F) where
       → ((u : Lexeme) → TellsFaults true (k u)) → TellsFaults true (seq (want test) k)
   want_tells test k bl hk = want_type test k bl (λ u. weak (k u) (hk u))
 
+  -- a token that is seen before it is taken
+  pub look_on : {A : Type 0} (test : Test) (k : Lexeme → Reader F A) (g : Reader F A) (ts : List Lexeme)
+      → look test (seq (want test) k) g ts ≡ on test k g ts
+  unfolding look on
+  look_on test k g [] = refl
+  look_on test k g (t ∷ ts) = by_test (passes test t) refl
+    where
+      by_test : (b : Bool) → passes test t ≡ b → choose b (seq (want test) k) g (t ∷ ts) ≡ pick b k g t ts
+      by_test true e = want_on test k (t ∷ ts) ∙ on_passed test k refuse t ts e
+      by_test false e = refl
+
   -- a token of a kind with which no value begins, and then
   pub kind_tells : {A : Type 0} (j : Kind) → starts_value j ≡ false → (k : Lexeme → Reader F A)
       → ((u : Lexeme) → TellsFaults true (k u)) → TellsFaults true (seq (want (of j)) k)
@@ -348,7 +359,6 @@ module _ {C F : Type 0} (S : Scalars C F) where
 
   pub one_or_more_tells : {A : Type 0} (close : Test) (f : Reader F A) (n : ℕ) → PassesNoValue close
       → TellsFaults true f → TellsFaults true (one_or_more close f n)
-  unfolding one_or_more
   one_or_more_tells close f n bl r = seq_tells true f _ r (λ x.
       seq_tells true _ _ (many_tells close f n bl r) (λ q. done_tells true _))
 
@@ -362,5 +372,4 @@ module _ {C F : Type 0} (S : Scalars C F) where
 
   pub maybe_tells : {A : Type 0} (test : Test) (f : Reader F A) → PassesNoValue test → TellsFaults true f
       → TellsFaults true (maybe test f)
-  unfolding maybe
   maybe_tells test f bl r = look_tells test _ _ bl (seq_tells true f _ r (λ x. done_tells true _)) (done_tells true _)

@@ -3,17 +3,18 @@ use Rattle.std.proofs.Common.{ℕ, zero, suc, true, ◌≡◌, ◌<◌, ◌∷�
 use Rattle.graphql_lexical.specs.Place.{Span}
 use Rattle.graphql_lexical.specs.declared.kind.Kind.TheVariants.{Name, ParenOpen, CurlyOpen, CurlyClose, Ellipsis, Colon, At, EndOfFile}
 use Rattle.graphql_lexical.specs.Cutting.{Lexeme}
-use Rattle.graphql_grammar.specs.Tokens.{Word}
-use Rattle.graphql_grammar.specs.Reading.{Test, passes, of, word, Took, Reader, seq, done, on, name_word, directives, field_name, may_select, field_with, inline_tail, spread_with, selection_at, braces, selections_of, operation_word, other_than_on, operation_with, fragment_with, definition, document, operation_of}
+use Rattle.graphql_grammar.specs.Tokens.{Word, word_of, span_of}
+use Rattle.graphql_grammar.specs.Reading.{Test, passes, of, word, Took, Reader, seq, done, want, one_or_more, Steps, takes, a_selection}
+use Rattle.graphql_grammar.specs.Productions.{directives_of, optional_variables, selections_of, selections_inner, selection_set, optional_set, optional_of, names, field, named_spread, inline_parts, inline, typed, other_than_on, spread, any_selection, operation_word, operation_of, optional_name, operation, fragment, shorthand, definition, document, symbol_at, reads}
 use Rattle.graphql_grammar.specs.Tree.{Scalars, Arguments, Variables, Selection, Field, FragmentSpread, InlineFragment, Selections, no_selections, selection, Definition, Operation, Fragment, Directives, OptionalSelections, absent, present, operation_name}
 use Rattle.graphql_grammar.specs.declared.operation.OperationType.{OperationType}
 use Rattle.graphql_grammar.specs.declared.operation.OperationType.TheVariants.{Query, Mutation, Subscription}
 use Rattle.graphql_grammar.specs.Grammar.{Is, Says, Sequence, ◌·◌, ◌for◌, Each, Optional, IsWord, IsArguments, IsDirectives, IsVariables, IsAlias, IsTypeCondition, IsFragmentName, IsSelection, IsOptionalSelectionSet, IsSelectionSet, AreSelections, IsDefinition, IsDocument}
 use Rattle.graphql_grammar.proofs.Sequences.{row_front, row_back, row_right, row_left, back_takes, nothing_first, nothing_last}
 use Rattle.graphql_grammar.proofs.TokenTests.{text_other}
-use Rattle.graphql_grammar.proofs.Finds.{Any, NotAt, token, Finds, Before, StartsWith, is_starts, says_starts, front_starts, word_starts, Rejects, starts_before, only_before, nothing_before, both_before, front_before, any_before, found_as, found_if, found_is, map_found, on_apart, look_apart, look_found, given_found, either_found, seq_found, then_found, seq_past, want_found, word_found, done_found, is_found, says_found, closed_found, on_found, is_past, is_then, span_found, maybe_found, one_or_more_found}
+use Rattle.graphql_grammar.proofs.Finds.{Any, NotAt, token, Finds, Before, StartsWith, is_starts, says_starts, front_starts, word_starts, Rejects, starts_before, only_before, nothing_before, both_before, front_before, any_before, before_as, found_as, found_if, found_is, map_found, on_apart, look_apart, look_found, given_found, either_found, seq_found, then_found, seq_past, want_found, word_found, done_found, is_found, says_found, closed_found, on_found, is_past, is_then, span_found, maybe_found, located, located_back, several_found, one_or_more_found}
 use Rattle.graphql_grammar.proofs.SelectionRules.{selection_takes, definition_takes, word_takes}
-use Rattle.graphql_grammar.proofs.DocumentFound.{AfterDirectives, directives_before, directives_found, optional_arguments, arguments_before, variables_found, variables_start, variables_before}
+use Rattle.graphql_grammar.proofs.DocumentFound.{AfterDirectives, directives_before, directives_then, directives_last, optional_arguments, arguments_before, variables_found, variables_start, variables_before}
 
 -- ---- the words that operations begin with
 
@@ -116,89 +117,117 @@ module _ {C F : Type 0} (S : Scalars C F) where
 
   -- ---- the parts of selections
 
-  module _ (n : ℕ) (f : Reader F (Selection C))
-      (ih : (s : Selection C) → Finds n f (IsSelection S for s) AfterSelection s) where
-    braces_found : {After : List Lexeme → Type 0} (ss : Selections C)
-        → Finds n (braces f n) (IsSelectionSet S for ss) After ss
-    unfolding braces
-    braces_found no_selections = record { at = λ ts rest le h g. absurd h }
-    braces_found (selection s ss) = found_is (ap (selection s) (selections_again ss))
-        (found_as (row_back (λ us k. row_left us (row_back (row_front (each_selection ss)) us k)))
-        (is_then (map_found selections_of (closed_found (λ w p. found_if (λ rest g. tt)
-        (one_or_more_found CurlyClose (selection_takes S) ih selection_apart selection_before
-        (λ w p rest. record { colon = refl; paren = refl; at = refl; curly = refl }) w p s (selections_in ss)))))))
+  abbrev set_at : Selections C → Span → Selections C × Span
+  set_at ss p = (ss, p)
 
-    optional_set_found : (ss : OptionalSelections C)
-        → Finds n (may_select S n f) (IsOptionalSelectionSet S for ss) (NotAt (of CurlyOpen)) ss
-    unfolding may_select
-    optional_set_found absent = look_apart (of CurlyOpen) _ (nothing_before (λ rest g. g)) done_found
-    optional_set_found (present ss) =
-        look_found CurlyOpen _ (λ ts h. set_starts ts ss h) (map_found present (braces_found ss))
+  module _ (n : ℕ)
+      (ih : (s : Selection C) → Finds n (symbol_at S n (Selection C) a_selection)
+      (IsSelection S for s) AfterSelection s)
+    where
+      braces_found : {After : List Lexeme → Type 0} (ss : Selections C)
+          → Finds n (seq (want (of CurlyOpen)) (λ o. seq (one_or_more (of CurlyClose)
+          (symbol_at S n (Selection C) a_selection) n) (λ r. done (set_at (selections_of r.0)))))
+          (IsSelectionSet S for ss) After (set_at ss)
+      braces_found no_selections = record { at = λ ts rest le h g. absurd h }
+      braces_found (selection s ss) = found_is (ap (λ (z : Selections C). set_at (selection s z)) (selections_again ss))
+          (found_as (row_back (λ us k. row_left us (row_back (row_front (each_selection ss)) us k)))
+          (is_then (closed_found (λ w p. map_found (λ r. set_at (selections_of r.0)) (found_if (λ rest g. tt)
+          (one_or_more_found CurlyClose (selection_takes S) ih selection_apart selection_before
+          (λ w p rest. record { colon = refl; paren = refl; at = refl; curly = refl }) w p s (selections_in ss)))))))
 
-    name_found : {m : ℕ} (alias : Option Word) (name : Word)
-        → Finds m (field_name S n) (Optional (IsAlias S) for alias · IsWord for name) (NotAt (of Colon)) (alias, name)
-    unfolding field_name
-    name_found None name = found_as (λ ts h. nothing_last ts (nothing_first ts h)) (seq_found _ (word_found name)
-        (nothing_before (λ rest g. g)) (on_apart (of Colon) _ (nothing_before (λ rest g. g)) done_found))
-    name_found (Some x) name = found_as row_right (then_found _ (word_found x)
-        (is_found (λ w p. on_found (of Colon) (token Colon w p) _ _ refl (map_found _ (word_found name)))))
+      set_found : {After : List Lexeme → Type 0} (ss : Selections C) (p : Span)
+          → Finds n (reads S n selection_set) (λ ts. IsSelectionSet S ts ss × (p ≡ span_of ts)) After (ss, p)
+      unfolding selection_set selections_inner
+      set_found ss p = span_found (set_at ss) p (braces_found ss)
 
-    body_found : {A : Type 0} {After : List Lexeme → Type 0} (k : Directives C → Selections C → A) (ds : Directives C)
-        (ss : Selections C)
-        → Finds n (seq (directives S n) (λ xs. seq (braces f n) (λ ys. done (k xs ys))))
-        (IsDirectives S for ds · IsSelectionSet S for ss) After (k ds ss)
-    body_found k ds ss = seq_found _ (directives_found S n ds) (set_after_directives ss)
-        (map_found (k ds) (braces_found ss))
+      -- a selection set that may be absent, and nothing after it
+      optional_set_last : {A : Type 0} (k : OptionalSelections C → A) (ss : OptionalSelections C)
+          → Finds n (seq (reads S n optional_set) (λ x. done (k (optional_of x)))) (IsOptionalSelectionSet S for ss)
+          (NotAt (of CurlyOpen)) (k ss)
+      unfolding optional_set
+      optional_set_last k absent = map_found (λ x. k (optional_of x))
+          (look_apart (of CurlyOpen) _ (nothing_before (λ rest g. g)) done_found)
+      optional_set_last k (present ss) = located (λ p. map_found (λ x. k (optional_of x))
+          (look_found CurlyOpen _ (λ ts h. set_starts ts ss h.0) (map_found (λ a. Some a) (set_found ss p))))
 
-    spread_found : (name : Word) (ds : Directives C)
-        → Finds (suc n) (spread_with S n f) (Is Ellipsis · IsFragmentName S for name · IsDirectives S for ds)
-        AfterSelection (λ p. FragmentSpread name ds p)
-    unfolding spread_with
-    spread_found name ds = is_past (fragment_name_found name (λ d.
-        on_apart (word (codes "on")) _ (front_before (only_before _ (text_other name.text (codes "on") d)))
-        (on_found other_than_on (token Name name.text name.span) _ _ (ap not (text_other name.text (codes "on") d))
-        (map_found _ (found_if (λ rest g. record { paren = g.paren; at = g.at }) (directives_found S n ds))))))
+      name_found : {m : ℕ} (alias : Option Word) (name : Word)
+          → Finds m (reads S n names) (Optional (IsAlias S) for alias · IsWord for name) (NotAt (of Colon))
+          (alias, name)
+      name_found None name = found_as (λ ts h. nothing_last ts (nothing_first ts h)) (seq_found _ (word_found name)
+          (nothing_before (λ rest g. g)) (on_apart (of Colon) _ (nothing_before (λ rest g. g)) done_found))
+      name_found (Some x) name = found_as row_right (then_found _ (word_found x)
+          (is_found (λ w p. on_found (of Colon) (token Colon w p) _ _ refl (map_found _ (word_found name)))))
 
-    condition_found : (condition : Option Word) (ds : Directives C) (ss : Selections C)
-        → Finds (suc n) (spread_with S n f)
-        (Is Ellipsis · Optional (IsTypeCondition S) for condition · IsDirectives S for ds · IsSelectionSet S for ss)
-        AfterSelection (λ p. InlineFragment condition ds ss p)
-    unfolding spread_with inline_tail
-    condition_found None ds ss = is_past (found_as nothing_first
-        (on_apart (word (codes "on")) _ (tail_before (word (codes "on")) ds ss (λ w. refl) (λ w. refl))
-        (on_apart other_than_on _ (tail_before other_than_on ds ss (λ w. refl) (λ w. refl)) (body_found _ ds ss))))
-    condition_found (Some w) ds ss = is_past (found_as row_right (says_found (λ p.
-        on_found (word (codes "on")) (token Name (codes "on") p) _ _ refl
-        (then_found _ (word_found w) (body_found _ ds ss)))))
+      parts_found : {After : List Lexeme → Type 0} (ds : Directives C) (ss : Selections C) (p : Span)
+          → Finds n (reads S n inline_parts) (IsDirectives S for ds · (λ ts. IsSelectionSet S ts ss × (p ≡ span_of ts)))
+          After (ds, (ss, p))
+      unfolding inline_parts
+      parts_found ds ss p = directives_then S n _ ds (before_as (λ ts h. h.0) (set_after_directives ss))
+          (λ x e. found_is (ap (λ z. (z, (ss, p))) e) (map_found (λ s. (directives_of x, s)) (set_found ss p)))
 
-    field_found : (alias : Option Word) (name : Word) (args : Option (Arguments C)) (ds : Directives C)
-        (ss : OptionalSelections C)
-        → Finds (suc n) (field_with S n f)
-        (Optional (IsAlias S) for alias · IsWord for name · Optional (IsArguments S) for args · IsDirectives S for ds
-        · IsOptionalSelectionSet S for ss) AfterSelection (λ p. Field alias name args ds ss p)
-    unfolding field_with
-    field_found alias name args ds ss = found_as row_left (seq_past _
-        (back_takes (λ us w. word_takes S us name w)) (name_found alias name)
-        (both_before (arguments_before S (of Colon) args (λ w. refl) (λ rest g. g))
-        (both_before (directives_before S (of Colon) ds (λ w. refl) (λ rest g. g))
-        (optional_set_before (of Colon) ss (λ w. refl) (λ rest g. g.colon))))
-        (seq_found _ (optional_arguments S n args)
-        (both_before (directives_before S (of ParenOpen) ds (λ w. refl) (λ rest g. g))
-        (optional_set_before (of ParenOpen) ss (λ w. refl) (λ rest g. g.paren)))
-        (seq_found _ (directives_found S n ds)
-        (optional_set_after_directives ss) (map_found _ (found_if (λ rest g. g.curly) (optional_set_found ss))))))
+      body_found : {A : Type 0} {After : List Lexeme → Type 0} (k : Directives C → Selections C → A) (ds : Directives C)
+          (ss : Selections C)
+          → Finds n (seq (reads S n inline_parts) (λ b. done (k b.0 b.1.0)))
+          (IsDirectives S for ds · IsSelectionSet S for ss) After (k ds ss)
+      body_found k ds ss = located_back (λ p. map_found (λ b. k b.0 b.1.0) (parts_found ds ss p))
 
-  pub selection_found : (n : ℕ) (s : Selection C) → Finds n (selection_at S n) (IsSelection S for s) AfterSelection s
-  unfolding selection_at
+      spread_found : (name : Word) (ds : Directives C) (p : Span)
+          → Finds (suc n) (reads S n spread)
+          (λ ts. (Is Ellipsis · IsFragmentName S for name · IsDirectives S for ds) ts × (p ≡ span_of ts))
+          AfterSelection (FragmentSpread name ds p)
+      unfolding spread typed inline named_spread
+      spread_found name ds p = span_found (λ q. FragmentSpread name ds q) p (is_past (fragment_name_found name (λ d.
+          on_apart (word (codes "on")) _ (front_before (only_before _ (text_other name.text (codes "on") d)))
+          (on_found other_than_on (token Name name.text name.span) _ _
+          (ap not (text_other name.text (codes "on") d))
+          (found_if (λ rest g. record { paren = g.paren; at = g.at })
+          (directives_last S n (λ x q. FragmentSpread name x q) ds))))))
+
+      condition_found : (condition : Option Word) (ds : Directives C) (ss : Selections C) (p : Span)
+          → Finds (suc n) (reads S n spread)
+          (λ ts. (Is Ellipsis · Optional (IsTypeCondition S) for condition · IsDirectives S for ds
+          · IsSelectionSet S for ss) ts × (p ≡ span_of ts)) AfterSelection (InlineFragment condition ds ss p)
+      unfolding spread typed inline named_spread
+      condition_found None ds ss p = span_found (λ q. InlineFragment None ds ss q) p (is_past (found_as nothing_first
+          (on_apart (word (codes "on")) _ (tail_before (word (codes "on")) ds ss (λ w. refl) (λ w. refl))
+          (on_apart other_than_on _ (tail_before other_than_on ds ss (λ w. refl) (λ w. refl))
+          (body_found (λ x s q. InlineFragment None x s q) ds ss)))))
+      condition_found (Some w) ds ss p = span_found (λ q. InlineFragment (Some w) ds ss q) p
+          (is_past (found_as row_right
+          (says_found (λ o. on_found (word (codes "on")) (token Name (codes "on") o) _ _ refl
+          (then_found _ (word_found w) (body_found (λ x s q. InlineFragment (Some w) x s q) ds ss))))))
+
+      field_found : (alias : Option Word) (name : Word) (args : Option (Arguments C)) (ds : Directives C)
+          (ss : OptionalSelections C) (p : Span)
+          → Finds (suc n) (reads S n field)
+          (λ ts. (Optional (IsAlias S) for alias · IsWord for name · Optional (IsArguments S) for args
+          · IsDirectives S for ds · IsOptionalSelectionSet S for ss) ts × (p ≡ span_of ts)) AfterSelection
+          (Field alias name args ds ss p)
+      unfolding field
+      field_found alias name args ds ss p = span_found (λ q. Field alias name args ds ss q) p (found_as row_left
+          (seq_past _ (back_takes (λ us w. word_takes S us name w)) (name_found alias name)
+          (both_before (arguments_before S (of Colon) args (λ w. refl) (λ rest g. g))
+          (both_before (directives_before S (of Colon) ds (λ w. refl) (λ rest g. g))
+          (optional_set_before (of Colon) ss (λ w. refl) (λ rest g. g.colon))))
+          (seq_found _ (optional_arguments S n args)
+          (both_before (directives_before S (of ParenOpen) ds (λ w. refl) (λ rest g. g))
+          (optional_set_before (of ParenOpen) ss (λ w. refl) (λ rest g. g.paren)))
+          (directives_then S n _ ds (optional_set_after_directives ss)
+          (λ x e. found_is (ap (λ z q. Field alias name args z ss q) e) (found_if (λ rest g. g.curly)
+          (optional_set_last (λ s q. Field alias name args (directives_of x) s q) ss)))))))
+
+  pub selection_found : (n : ℕ) (s : Selection C)
+      → Finds n (symbol_at S n (Selection C) a_selection) (IsSelection S for s) AfterSelection s
+  unfolding symbol_at any_selection
   selection_found zero s = record { at = λ ts rest le h g. absurd (omega arith) }
-  selection_found (suc n) (Field alias name args ds ss p) = span_found (λ q. Field alias name args ds ss q) p
-      (look_apart (of Ellipsis) _ (starts_before (of Ellipsis) (λ w. refl) (field_starts alias name))
-      (field_found n (selection_at S n) (selection_found n) alias name args ds ss))
-  selection_found (suc n) (FragmentSpread name ds p) = span_found (λ q. FragmentSpread name ds q) p
-      (look_found Ellipsis _ (front_starts is_starts) (spread_found n (selection_at S n) (selection_found n) name ds))
-  selection_found (suc n) (InlineFragment condition ds ss p) = span_found (λ q. InlineFragment condition ds ss q) p
-      (look_found Ellipsis _ (front_starts is_starts)
-      (condition_found n (selection_at S n) (selection_found n) condition ds ss))
+  selection_found (suc n) (Field alias name args ds ss p) =
+      look_apart (of Ellipsis) _ (starts_before (of Ellipsis) (λ w. refl) (λ ts h. field_starts alias name ts h.0))
+      (field_found n (selection_found n) alias name args ds ss p)
+  selection_found (suc n) (FragmentSpread name ds p) =
+      look_found Ellipsis _ (λ ts h. front_starts is_starts ts h.0) (spread_found n (selection_found n) name ds p)
+  selection_found (suc n) (InlineFragment condition ds ss p) =
+      look_found Ellipsis _ (λ ts h. front_starts is_starts ts h.0)
+      (condition_found n (selection_found n) condition ds ss p)
 
   -- ---- definitions
 
@@ -215,69 +244,78 @@ module _ {C F : Type 0} (S : Scalars C F) where
   definition_apart (Fragment name condition ds ss p) =
       starts_before (of EndOfFile) (λ w. refl) (λ ts h. front_starts says_starts ts h.0)
 
+  -- how a definition begins
+  abbrev words : Steps C (Span → Definition C)
+  words = takes operation_word (λ w. operation (operation_of w.text) w.span)
+      (takes (word (codes "fragment")) (λ w. fragment w.span) shorthand)
+
   module _ (n : ℕ) where
-    short_found : (type : OperationType) (name : Option Word) (vars : Option (Variables C)) (ds : Directives C)
+    short_found : (ss : Selections C)
+        → Finds n (reads S n words) (IsSelectionSet S for ss) Any (λ p. Operation Query None None None ss p)
+    unfolding shorthand
+    short_found ss = on_apart operation_word _ (set_before operation_word ss (λ w. refl))
+        (on_apart (word (codes "fragment")) _ (set_before {After = Any} (word (codes "fragment")) ss (λ w. refl))
+        (located (λ p. map_found (λ s q. Operation Query None None None s.0 q) (set_found n (selection_found n) ss p))))
+
+    bare_found : (type : OperationType) (name : Option Word) (vars : Option (Variables C)) (ds : Directives C)
         (ss : Selections C)
-        → Finds n (on operation_word (operation_with S n) (on (word (codes "fragment")) (λ w. fragment_with S n)
-        (seq (braces (selection_at S n) n) (λ ys. done (Operation Query None None None ys)))))
+        → Finds n (reads S n words)
         (λ ts. IsSelectionSet S ts ss × (type ≡ Query) × (name ≡ None) × (vars ≡ None) × (ds ≡ None)) Any
         (λ p. Operation type name vars ds ss p)
-    short_found type name vars ds ss = record {
-      at = λ ts rest le h g. rw (h.1, h.2, h.3, h.4)
-          ((on_apart operation_word (operation_with S n) (set_before operation_word ss (λ w. refl))
-          (on_apart (word (codes "fragment")) (λ w. fragment_with S n)
-          (set_before {After = Any} (word (codes "fragment")) ss (λ w. refl))
-          (map_found _ (braces_found n (selection_at S n) (selection_found n) ss)))).at ts rest le h.0 tt);
+    bare_found type name vars ds ss = record {
+      at = λ ts rest le h g. rw (h.1, h.2, h.3, h.4) ((short_found ss).at ts rest le h.0 tt);
     }
 
-    name_word_found : (w : Word) → Finds {F = F} n name_word (IsWord for w) Any w
-    unfolding name_word
-    name_word_found w = map_found _ (word_found w)
+    optional_name_found : (name : Option Word)
+        → Finds n (reads S n optional_name) (Optional IsWord for name) (NotAt (of Name)) name
+    optional_name_found None = look_apart (of Name) _ (nothing_before (λ rest g. g)) done_found
+    optional_name_found (Some w) = look_found Name _ (λ ts h. word_starts ts w h)
+        (map_found (λ t. Some (word_of t)) (word_found w))
 
     operation_found : (type : OperationType) (name : Option Word) (vars : Option (Variables C)) (ds : Directives C)
-        (ss : Selections C) (g : Reader F (Span → Definition C))
-        → Finds n (on operation_word (operation_with S n) g)
+        (ss : Selections C)
+        → Finds n (reads S n words)
         (Says (operation_name type) · Optional IsWord for name · Optional (IsVariables S) for vars
         · IsDirectives S for ds · IsSelectionSet S for ss) Any (λ p. Operation type name vars ds ss p)
-    unfolding operation_with
-    operation_found type name vars ds ss g = says_found (λ p.
-        on_found operation_word (token Name (operation_name type) p) _ g (operation_test type p)
+    unfolding operation optional_variables
+    operation_found type name vars ds ss = says_found (λ p.
+        on_found operation_word (token Name (operation_name type) p) _ _ (operation_test type p)
         (found_is (ap (λ t q. Operation t name vars ds ss q) (operation_is type))
-        (seq_found _ (maybe_found Name name (λ us w h. word_starts us w h) name_word_found)
+        (seq_found _ (optional_name_found name)
         (both_before (variables_before S (of Name) vars (λ w. refl) (λ rest h. h))
         (tail_before (of Name) ds ss (λ w. refl) (λ w. refl)))
         (seq_found _ (maybe_found ParenOpen vars (variables_start S) (variables_found S n))
         (tail_before (of ParenOpen) ds ss (λ w. refl) (λ w. refl))
-        (body_found n (selection_at S n) (selection_found n) _ ds ss)))))
+        (body_found n (selection_found n)
+        (λ x s q. Operation (operation_of (operation_name type)) name vars x s q) ds ss)))))
 
     fragment_found : (name condition : Word) (ds : Directives C) (ss : Selections C)
-        (g : Reader F (Span → Definition C))
-        → Finds n (on operation_word (operation_with S n) (on (word (codes "fragment")) (λ w. fragment_with S n) g))
+        → Finds n (reads S n words)
         (Says (codes "fragment") · IsFragmentName S for name · IsTypeCondition S for condition
         · IsDirectives S for ds · IsSelectionSet S for ss) Any (λ p. Fragment name condition ds ss p)
-    unfolding fragment_with
-    fragment_found name condition ds ss g = says_found (λ p.
+    unfolding fragment
+    fragment_found name condition ds ss = says_found (λ p.
         on_apart operation_word _ (front_before (only_before operation_word refl))
-        (on_found (word (codes "fragment")) (token Name (codes "fragment") p) _ g refl
-        (fragment_name_found name (λ d. then_found _
-        (want_found other_than_on (token Name name.text name.span) (ap not (text_other name.text (codes "on") d)))
-        (found_as row_right (says_found (λ q.
-        then_found _ (want_found (word (codes "on")) (token Name (codes "on") q) refl)
-        (then_found _ (word_found condition) (body_found n (selection_at S n) (selection_found n) _ ds ss)))))))))
+        (on_found (word (codes "fragment")) (token Name (codes "fragment") p) _ _ refl
+        (fragment_name_found name (λ d. then_found _ (map_found word_of
+        (want_found other_than_on (token Name name.text name.span) (ap not (text_other name.text (codes "on") d))))
+        (then_found _ (says_found (λ q. then_found _ (want_found (word (codes "on")) (token Name (codes "on") q) refl)
+        (map_found word_of (word_found condition))))
+        (body_found n (selection_found n) (λ x s q. Fragment name condition x s q) ds ss))))))
 
-    definition_found : (d : Definition C) → Finds n (definition S n) (IsDefinition S for d) Any d
+    definition_found : (d : Definition C) → Finds n (reads S n definition) (IsDefinition S for d) Any d
     unfolding definition
     definition_found (Operation type name vars ds ss p) = found_as (λ ts h. (h.1, h.0))
         (span_found (λ q. Operation type name vars ds ss q) p
-        (either_found (short_found type name vars ds ss) (operation_found type name vars ds ss _)))
+        (either_found (bare_found type name vars ds ss) (operation_found type name vars ds ss)))
     definition_found (Fragment name condition ds ss p) =
-        span_found (λ q. Fragment name condition ds ss q) p (fragment_found name condition ds ss _)
+        span_found (λ q. Fragment name condition ds ss q) p (fragment_found name condition ds ss)
 
     pub document_found : (ts : List Lexeme) (ds : List (Definition C)) → length ts < n → IsDocument S ts ds
-        → document S n ts ≡ Took ds []
+        → reads S n document ts ≡ Took ds []
     unfolding document
     document_found ts [] le h = absurd (h.first.1 refl)
-    document_found ts (d ∷ ds) le h = ap (document S n) (sym (append-nil ts))
-        ∙ (closed_found (λ w p. one_or_more_found EndOfFile (definition_takes S) definition_found definition_apart
-        (λ x. any_before) (λ v q rest. tt) w p d ds)).at ts [] le
+    document_found ts (d ∷ ds) le h = ap (reads S n document) (sym (append-nil ts))
+        ∙ (closed_found (λ w p. several_found EndOfFile (definition_takes S) definition_found definition_apart
+        (λ x. any_before) (λ v q rest. tt) w p (λ y r. y ∷ r.0) d ds)).at ts [] le
         (row_front (λ us k. k.0) ts h) tt

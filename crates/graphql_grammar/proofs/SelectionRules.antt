@@ -2,20 +2,21 @@
 use Rattle.std.proofs.Common.{ℕ, zero, suc, true, ◌≡◌, ◌≤◌, ◌<◌, ◌∷◌, [], List, ◌++◌, length, refl, sym, ap, ◌∙◌, subst, arith, append-nil, zero-le, le_refl, codes, inl, inr, ◌⊎◌, ◌||◌, Option, Some, None}
 use Rattle.std.proofs.lemmas.Bool.{or_cases}
 use Rattle.graphql_lexical.specs.Place.{Span}
-use Rattle.graphql_lexical.specs.declared.kind.Kind.TheVariants.{Name, ParenOpen, CurlyOpen, CurlyClose, Ellipsis, Colon, EndOfFile}
+use Rattle.graphql_lexical.specs.declared.kind.Kind.TheVariants.{Name, CurlyOpen, CurlyClose, Ellipsis, Colon, EndOfFile}
 use Rattle.graphql_lexical.specs.Cutting.{Lexeme}
 use Rattle.graphql_grammar.specs.Tokens.{Text, word_of, Word, span_of}
 use Rattle.graphql_grammar.specs.Samples.{sample, token_of}
-use Rattle.graphql_grammar.specs.Reading.{passes, of, word, Reader, name_word, field_name, may_select, field_with, inline_tail, spread_with, selection_at, braces, selections_of, operation_word, other_than_on, operation_with, fragment_with, definition, document, operation_of}
-use Rattle.graphql_grammar.specs.Tree.{Scalars, Selection, Field, FragmentSpread, InlineFragment, Selections, no_selections, selection, Definition, Operation, Fragment, absent, present, operation_name, Directives}
+use Rattle.graphql_grammar.specs.Reading.{passes, of, word, a_selection}
+use Rattle.graphql_grammar.specs.Productions.{selections_of, selections_inner, selection_set, optional_set, optional_of, names, field, named_spread, inline_parts, inline, typed, spread, any_selection, optional_name, operation, type_condition, fragment_name, fragment, shorthand, definition, document, operation_word, operation_of, other_than_on, directives_of, symbol_at, reads}
+use Rattle.graphql_grammar.specs.Tree.{Scalars, Selection, Field, FragmentSpread, InlineFragment, Selections, no_selections, selection, Definition, Operation, Fragment, absent, operation_name, Directives}
 use Rattle.graphql_grammar.specs.declared.operation.OperationType.TheVariants.{Query}
-use Rattle.graphql_grammar.specs.Grammar.{◌·◌, ◌for◌, Each, Optional, Is, IsWord, Says, IsArguments, IsDirectives, IsVariables, IsAlias, IsSelection, IsOptionalSelectionSet, IsSelectionSet, AreSelections, IsDefinition, IsDocument}
+use Rattle.graphql_grammar.specs.Grammar.{◌·◌, ◌for◌, Each, Optional, Is, IsWord, Says, IsArguments, IsDirectives, IsVariables, IsAlias, IsTypeCondition, IsFragmentName, IsSelection, IsOptionalSelectionSet, IsSelectionSet, AreSelections, IsDefinition, IsDocument}
 use Rattle.graphql_grammar.proofs.Rules.{less, Rule, Some_of, done_rule, weaken}
 use Rattle.graphql_grammar.proofs.TokenRules.{on_rule, look_rule}
-use Rattle.graphql_grammar.proofs.PartRules.{span_rule, maybe_rule, one_or_more_rule, step, want_step, lower, less_short, ClosedSome}
+use Rattle.graphql_grammar.proofs.PartRules.{span_rule, maybe_rule, some_rule, one_or_more_rule, step, want_step, lower, less_short, ClosedSome}
 use Rattle.graphql_grammar.proofs.Sequences.{row, row_back, row_right, enclosed, kind_is, word_is, says_is, one_takes, is_takes, says_takes, front_takes, back_takes}
 use Rattle.graphql_grammar.proofs.TokenTests.{of_kind, both, text_yes, says, other}
-use Rattle.graphql_grammar.proofs.DocumentRules.{low1, low2, low3, low4, arguments_rule, directives_rule, variables_rule}
+use Rattle.graphql_grammar.proofs.DocumentRules.{low1, low2, low3, optional_arguments_rule, AreDirectives, directives_rule, optional_variables_rule}
 
 module _ {C F : Type 0} (S : Scalars C F) where
   pub word_takes : (ts : List Lexeme) (w : Word) → IsWord ts w → 0 < length ts
@@ -54,15 +55,15 @@ module _ {C F : Type 0} (S : Scalars C F) where
       x : Lexeme
       x = sample Name
 
-  abbrev IsFieldName : List Lexeme → Option Word × Word → Type 0
+  abbrev pub IsFieldName : List Lexeme → Option Word × Word → Type 0
   IsFieldName ts h = (Optional (IsAlias S) for h.0 · IsWord for h.1) ts
 
-  field_name_takes : (ts : List Lexeme) (h : Option Word × Word) → IsFieldName ts h → 0 < length ts
+  pub field_name_takes : (ts : List Lexeme) (h : Option Word × Word) → IsFieldName ts h → 0 < length ts
   field_name_takes ts h k = back_takes (λ us w. word_takes us h.1 w) ts k
 
-  field_name_rule : (k n m : ℕ) → Rule k (field_name S n) (field_name S m) IsFieldName
-  unfolding field_name
-  field_name_rule k n m = want_step k (of Name) (sample Name) _ _ _ refl (inl refl) (λ a a' p.
+  pub names_rule : (k n m : ℕ) → Rule k (reads S n names) (reads S m names) IsFieldName
+  unfolding names
+  names_rule k n m = want_step k (of Name) (sample Name) _ _ _ refl (inl refl) (λ a a' p.
       on_rule _ (of Colon) _ _ _ _ _
       (λ c c' q. want_step _ (of Name) (sample Name) _ _ _ refl (inl refl)
       (λ t t' r. done_rule _ (Some (word_of a), word_of t) (Some (word_of a'), word_of t') _ (row (a ∷ c ∷ []) (t ∷ [])
@@ -70,78 +71,110 @@ module _ {C F : Type 0} (S : Scalars C F) where
       (word_is t (of_kind Name t r)))))
       (done_rule _ (None, word_of a) (None, word_of a') _ (row [] (a ∷ []) refl (word_is a (of_kind Name a p)))))
 
-  module _ (n m : ℕ) (le : n ≤ m) (f g : Reader F (Selection C)) (r : Rule n f g (IsSelection S)) where
-    pub braces_rule : Rule n (braces f n) (braces g m) (IsSelectionSet S)
-    unfolding braces
-    braces_rule = want_step n (of CurlyOpen) (sample CurlyOpen) _ _ _ refl (inl refl) (λ o o' p.
-        step n _ _ _ _ _ (ClosedSome (of CurlyClose) (IsSelection S)) _ (lower n n (o ∷ []) (le_refl n))
-        (one_or_more_rule (IsSelection S) selection_takes (of CurlyClose) (sample CurlyClose) refl (inl refl) f g n
+  -- a selection set, and its span
+  abbrev pub IsSpannedSet : List Lexeme → Selections C × Span → Type 0
+  IsSpannedSet ts s = IsSelectionSet S ts s.0 × (s.1 ≡ span_of ts)
+
+  pub optional_is : (ts : List Lexeme) (o : Option (Selections C × Span)) → Optional IsSpannedSet ts o
+      → IsOptionalSelectionSet S ts (optional_of o)
+  optional_is ts None h = h
+  optional_is ts (Some s) h = h.0
+
+  -- directives and a selection set
+  abbrev pub IsBody : List Lexeme → Directives C → Selections C → Type 0
+  IsBody ts ds ss = (IsDirectives S for ds · IsSelectionSet S for ss) ts
+
+  abbrev pub AreInlineParts : List Lexeme → Directives C × (Selections C × Span) → Type 0
+  AreInlineParts ts b = (IsDirectives S for b.0 · IsSpannedSet for b.1) ts
+
+  pub body_is : (ts : List Lexeme) (b : Directives C × (Selections C × Span)) → AreInlineParts ts b
+      → IsBody ts b.0 b.1.0
+  body_is ts b h = row_back (λ us s. s.0) ts h
+
+  module _ (n m : ℕ) (le : n ≤ m)
+      (r : Rule n (symbol_at S n _ a_selection) (symbol_at S m _ a_selection) (IsSelection S)) where
+    set_by : Rule n (reads S n selection_set) (reads S m selection_set) IsSpannedSet
+    unfolding selection_set selections_inner
+    set_by = span_rule n _ _ IsSpannedSet (want_step n (of CurlyOpen) (sample CurlyOpen) _ _ _ refl (inl refl)
+        (λ o o' p.
+        step n _ _ _ _ _ (λ us x. ClosedSome (of CurlyClose) (IsSelection S) us x.0) _ (lower n n (o ∷ []) (le_refl n))
+        (one_or_more_rule (IsSelection S) selection_takes (of CurlyClose) (sample CurlyClose) refl (inl refl) _ _ n
         m le r) (λ us xs ys h.
-        done_rule _ (selections_of xs) (selections_of ys) _ (rw append-nil (select_is o us xs p h))))
+        done_rule _ (λ p. (selections_of xs.0, p)) (λ p. (selections_of ys.0, p)) _
+        (rw append-nil (select_is o us xs.0 p h, refl)))))
 
-    may_rule : Rule n (may_select S n f) (may_select S m g) (IsOptionalSelectionSet S)
-    unfolding may_select
-    may_rule = look_rule n (of CurlyOpen) _ _ _ _ _
-        (step n n _ _ _ _ (IsSelectionSet S) _ (le_refl n) braces_rule
-        (λ us ss ss' h. done_rule _ (present ss) (present ss') _ (rw append-nil h))) (done_rule n absent absent _ refl)
+    optional_set_by : Rule n (reads S n optional_set) (reads S m optional_set) (Optional IsSpannedSet)
+    unfolding optional_set
+    optional_set_by = maybe_rule n (of CurlyOpen) _ _ IsSpannedSet set_by
 
-    field_rule : Rule (suc n) (field_with S n f) (field_with S m g) (λ us k. IsSelection S us (k (span_of us)))
-    unfolding field_with
-    field_rule = step (suc n) (suc n) _ _ _ _ IsFieldName _ (le_refl (suc n)) (field_name_rule (suc n) n m)
+    field_by : Rule (suc n) (reads S n field) (reads S m field) (IsSelection S)
+    unfolding field
+    field_by = span_rule (suc n) _ _ (IsSelection S)
+        (step (suc n) (suc n) _ _ _ _ IsFieldName _ (le_refl (suc n)) (names_rule (suc n) n m)
         (λ us h h' a.
         step n (less (suc n) us) _ _ _ _ (Optional (IsArguments S)) _ (less_short n us (field_name_takes us h a))
-        (maybe_rule n (of ParenOpen) _ _ (IsArguments S) (arguments_rule S n m le)) (λ vs xs xs' b.
-        step n _ _ _ _ _ (IsDirectives S) _ (lower n _ vs (less_short n us (field_name_takes us h a)))
+        (optional_arguments_rule S n m le) (λ vs xs xs' b.
+        step n _ _ _ _ _ (AreDirectives S) _ (lower n _ vs (less_short n us (field_name_takes us h a)))
         (directives_rule S n m le) (λ ws ds ds' c.
-        step n _ _ _ _ _ (IsOptionalSelectionSet S) _
-        (lower n _ ws (lower n _ vs (less_short n us (field_name_takes us h a)))) may_rule (λ zs ss ss' d.
-        done_rule _ (Field h.0 h.1 xs ds ss) (Field h'.0 h'.1 xs' ds' ss') _
+        step n _ _ _ _ _ (Optional IsSpannedSet) _
+        (lower n _ ws (lower n _ vs (less_short n us (field_name_takes us h a)))) optional_set_by (λ zs ss ss' d.
+        done_rule _ (Field h.0 h.1 xs (directives_of ds) (optional_of ss))
+        (Field h'.0 h'.1 xs' (directives_of ds') (optional_of ss')) _
         (rw append-nil (
-          row_right _ (row us (vs ++ (ws ++ zs)) a (row vs (ws ++ zs) b (row ws zs c d))),
+          row_right _ (row us (vs ++ (ws ++ zs)) a (row vs (ws ++ zs) b (row ws zs c.0 (optional_is zs ss d)))),
           refl,
-        ))))))
+        )))))))
 
-    inline_rule : (k : ℕ) (w w' : Option Word) (G : List Lexeme → (Span → Selection C) → Type 0) → k ≤ n
-        → ((us vs : List Lexeme) (ds : Directives C) (ss : Selections C) → IsDirectives S us ds → IsSelectionSet S vs ss
-        → G (us ++ vs) (InlineFragment w ds ss))
-        → Rule k (inline_tail S n w f) (inline_tail S m w' g) G
-    unfolding inline_tail
-    inline_rule k w w' G lk h = step n k _ _ _ _ (IsDirectives S) _ lk (directives_rule S n m le) (λ us ds ds' c.
-        step n _ _ _ _ _ (IsSelectionSet S) _ (lower n k us lk) braces_rule (λ vs ss ss' d.
-        done_rule _ (InlineFragment w ds ss) (InlineFragment w' ds' ss') _ (rw append-nil (h us vs ds ss c d))))
+    inline_parts_by : Rule n (reads S n inline_parts) (reads S m inline_parts) AreInlineParts
+    unfolding inline_parts
+    inline_parts_by = step n n _ _ _ _ (AreDirectives S) _ (le_refl n) (directives_rule S n m le)
+        (λ us ds ds' c.
+        step n _ _ _ _ _ IsSpannedSet _ (lower n n us (le_refl n)) set_by (λ vs ss ss' d.
+        done_rule _ (directives_of ds, ss) (directives_of ds', ss') _ (rw append-nil (row us vs c.0 d))))
 
-    spread_rule : Rule (suc n) (spread_with S n f) (spread_with S m g) (λ us k. IsSelection S us (k (span_of us)))
-    unfolding spread_with
-    spread_rule = want_step (suc n) (of Ellipsis) (sample Ellipsis) _ _ _ refl (inl refl) (λ e e' p.
+    inline_by : (k : ℕ) (p p' : Span) (w w' : Option Word) (G : List Lexeme → (Span → Selection C) → Type 0) → k ≤ n
+        → ((us : List Lexeme) (ds : Directives C) (ss : Selections C) → IsBody us ds ss → G us (InlineFragment w ds ss))
+        → Rule k (reads S n (inline p w)) (reads S m (inline p' w')) G
+    unfolding inline
+    inline_by k p p' w w' G lk h = step n k _ _ _ _ AreInlineParts _ lk inline_parts_by (λ us b b' c.
+        done_rule _ (InlineFragment w b.0 b.1.0) (InlineFragment w' b'.0 b'.1.0) _
+        (rw append-nil (h us b.0 b.1.0 (body_is us b c))))
+
+    spread_by : Rule (suc n) (reads S n spread) (reads S m spread) (IsSelection S)
+    unfolding spread typed named_spread
+    spread_by = span_rule (suc n) _ _ (IsSelection S)
+        (want_step (suc n) (of Ellipsis) (sample Ellipsis) _ _ _ refl (inl refl) (λ e e' p.
         on_rule n (word (codes "on")) _ _ _ _ _
         (λ o o' q. want_step _ (of Name) (sample Name) _ _ _ refl (inl refl) (λ t t' x.
-        inline_rule _ (Some (word_of t)) (Some (word_of t')) _ (lower n _ (t ∷ []) (lower n n (o ∷ []) (le_refl n)))
-        (λ us vs ds ss c d. (
-          row (e ∷ []) (o ∷ t ∷ us ++ vs) (dots e p)
-              (row (o ∷ t ∷ []) (us ++ vs) (row (o ∷ []) (t ∷ []) (says _ o q) (word_is t (of_kind Name t x)))
-              (row us vs c d)),
+        inline_by _ e.span e'.span (Some (word_of t)) (Some (word_of t')) _
+        (lower n _ (t ∷ []) (lower n n (o ∷ []) (le_refl n)))
+        (λ us ds ss b. (
+          row (e ∷ []) (o ∷ t ∷ us) (dots e p)
+              (row (o ∷ t ∷ []) us (row (o ∷ []) (t ∷ []) (says _ o q) (word_is t (of_kind Name t x))) b),
           refl,
         ))))
         (on_rule n other_than_on _ _ _ _ _
-        (λ t t' q. step n _ _ _ _ _ (IsDirectives S) _ (lower n n (t ∷ []) (le_refl n)) (directives_rule S n m le)
-        (λ us ds ds' c.
-        done_rule _ (FragmentSpread (word_of t) ds) (FragmentSpread (word_of t') ds') _ (rw append-nil (
-          row (e ∷ []) (t ∷ us) (dots e p) (row (t ∷ []) us (word_is t (other t q).0, (other t q).1) c),
+        (λ t t' q. step n _ _ _ _ _ (AreDirectives S) _ (lower n n (t ∷ []) (le_refl n))
+        (directives_rule S n m le) (λ us ds ds' c.
+        done_rule _ (FragmentSpread (word_of t) (directives_of ds)) (FragmentSpread (word_of t') (directives_of ds')) _
+        (rw append-nil (
+          row (e ∷ []) (t ∷ us) (dots e p) (row (t ∷ []) us (word_is t (other t q).0, (other t q).1) c.0),
           refl,
         ))))
-        (inline_rule n None None _ (le_refl n)
-        (λ us vs ds ss c d. (row (e ∷ []) (us ++ vs) (dots e p) (row [] (us ++ vs) refl (row us vs c d)), refl)))))
+        (inline_by n e.span e'.span None None _ (le_refl n)
+        (λ us ds ss b. (row (e ∷ []) us (dots e p) (row [] us refl b), refl))))))
       where
         dots : (e : Lexeme) → passes (of Ellipsis) e ≡ true → Is Ellipsis (e ∷ [])
         dots e p = kind_is Ellipsis e (of_kind Ellipsis e p)
 
-  pub selection_rule : (n m : ℕ) → n ≤ m → Rule n (selection_at S n) (selection_at S m) (IsSelection S)
-  unfolding selection_at
+  pub selection_rule : (n m : ℕ) → n ≤ m
+      → Rule n (symbol_at S n _ a_selection) (symbol_at S m _ a_selection) (IsSelection S)
+  unfolding symbol_at any_selection
   selection_rule zero m le = record { at = λ ts. (zero-le, [], ts, refl, some_selection) }
   selection_rule (suc n) zero le = absurd (omega arith)
-  selection_rule (suc n) (suc m) le = span_rule (suc n) _ _ (IsSelection S)
-      (look_rule (suc n) (of Ellipsis) _ _ _ _ _ (spread_rule n m (omega arith) _ _ (selection_rule n m (omega arith)))
-      (field_rule n m (omega arith) _ _ (selection_rule n m (omega arith))))
+  selection_rule (suc n) (suc m) le = look_rule (suc n) (of Ellipsis) _ _ _ _ (IsSelection S)
+      (spread_by n m (omega arith) (selection_rule n m (omega arith)))
+      (field_by n m (omega arith) (selection_rule n m (omega arith)))
 
   -- Definitions
   one_word : (w : Text) (t : Lexeme) → operation_name (operation_of w) ≡ w → passes (word w) t ≡ true
@@ -167,62 +200,90 @@ module _ {C F : Type 0} (S : Scalars C F) where
   definition_takes ts (Operation kind name vars ds ss p) (q, inr h) = front_takes (says_takes _) ts h
   definition_takes ts (Fragment name condition ds ss p) h = front_takes (says_takes _) ts h.0
 
-  name_word_rule : (n : ℕ) → Rule {F = F} n name_word name_word IsWord
-  unfolding name_word
-  name_word_rule n = want_step n (of Name) (sample Name) _ _ _ refl (inl refl)
-      (λ t t' p. done_rule _ (word_of t) (word_of t') _ (word_is t (of_kind Name t p)))
+  pub optional_name_rule : (k n m : ℕ) → Rule k (reads S n optional_name) (reads S m optional_name) (Optional IsWord)
+  unfolding optional_name
+  optional_name_rule k n m = look_rule k (of Name) _ _ _ _ (Optional IsWord)
+      (want_step k (of Name) (sample Name) _ _ (Optional IsWord) refl (inl refl)
+      (λ t t' p. done_rule _ (Some (word_of t)) (Some (word_of t')) _ (word_is t (of_kind Name t p))))
+      (done_rule k None None (Optional IsWord) refl)
+
+  pub type_condition_rule : (k n m : ℕ)
+      → Rule k (reads S n type_condition) (reads S m type_condition) (IsTypeCondition S)
+  unfolding type_condition
+  type_condition_rule k n m =
+      want_step k (word (codes "on")) (token_of Name (codes "on")) _ _ _ refl (inr (inr (refl, refl)))
+      (λ o o' p. want_step _ (of Name) (sample Name) _ _ _ refl (inl refl)
+      (λ t t' q. done_rule _ (word_of t) (word_of t') _
+      (row (o ∷ []) (t ∷ []) (says _ o p) (word_is t (of_kind Name t q)))))
+
+  pub fragment_name_rule : (k n m : ℕ)
+      → Rule k (reads S n fragment_name) (reads S m fragment_name) (IsFragmentName S)
+  unfolding fragment_name
+  fragment_name_rule k n m = want_step k other_than_on (sample Name) _ _ _ refl (inl refl)
+      (λ t t' p. done_rule _ (word_of t) (word_of t') _ (word_is t (other t p).0, (other t p).1))
 
   module _ (n m : ℕ) (le : n ≤ m) where
-    body_rule : Rule n (braces (selection_at S n) n) (braces (selection_at S m) m) (IsSelectionSet S)
-    body_rule = braces_rule n m le _ _ (selection_rule n m le)
+    -- selections and their parts, with as much fuel for each
+    pub set_rule : Rule n (reads S n selection_set) (reads S m selection_set) IsSpannedSet
+    set_rule = set_by n m le (selection_rule n m le)
+
+    pub optional_set_rule : Rule n (reads S n optional_set) (reads S m optional_set) (Optional IsSpannedSet)
+    optional_set_rule = optional_set_by n m le (selection_rule n m le)
+
+    pub inline_parts_rule : Rule n (reads S n inline_parts) (reads S m inline_parts) AreInlineParts
+    inline_parts_rule = inline_parts_by n m le (selection_rule n m le)
+
+    pub field_rule : Rule n (reads S n field) (reads S m field) (IsSelection S)
+    field_rule = weaken (suc n) n _ _ _ (IsSelection S) (omega arith) (λ us x h. h)
+        (field_by n m le (selection_rule n m le))
+
+    pub spread_rule : Rule n (reads S n spread) (reads S m spread) (IsSelection S)
+    spread_rule = weaken (suc n) n _ _ _ (IsSelection S) (omega arith) (λ us x h. h)
+        (spread_by n m le (selection_rule n m le))
 
     abbrev IsOperation : List Lexeme → (Span → Definition C) → Type 0
     IsOperation us k = IsDefinition S us (k (span_of us))
 
     operation_rule : (t t' : Lexeme) → passes operation_word t ≡ true
-        → Rule (less n (t ∷ [])) (operation_with S n t) (operation_with S m t') (λ us k. IsOperation (t ∷ us) k)
-    unfolding operation_with
+        → Rule (less n (t ∷ [])) (reads S n (operation (operation_of t.text) t.span))
+        (reads S m (operation (operation_of t'.text) t'.span)) (λ us k. IsOperation (t ∷ us) k)
+    unfolding operation
     operation_rule t t' p = step n (less n (t ∷ [])) _ _ _ _ (Optional IsWord) _ (low1 S n m le (t ∷ []))
-        (maybe_rule n (of Name) _ _ IsWord (name_word_rule n)) (λ us name name' a.
+        (optional_name_rule n n m) (λ us name name' a.
         step n _ _ _ _ _ (Optional (IsVariables S)) _ (low2 S n m le (t ∷ []) us)
-        (maybe_rule n (of ParenOpen) _ _ (IsVariables S) (variables_rule S n m le)) (λ vs vars vars' b.
-        step n _ _ _ _ _ (IsDirectives S) _ (low3 S n m le (t ∷ []) us vs) (directives_rule S n m le) (λ ws ds ds' c.
-        step n _ _ _ _ _ (IsSelectionSet S) _ (low4 S n m le (t ∷ []) us vs ws) body_rule (λ zs ss ss' d.
-        done_rule _ (Operation (operation_of t.text) name vars ds ss)
-        (Operation (operation_of t'.text) name' vars' ds' ss') _
+        (optional_variables_rule S n m le) (λ vs vars vars' b.
+        step n _ _ _ _ _ AreInlineParts _ (low3 S n m le (t ∷ []) us vs) inline_parts_rule (λ ws x x' c.
+        done_rule _ (Operation (operation_of t.text) name vars x.0 x.1.0)
+        (Operation (operation_of t'.text) name' vars' x'.0 x'.1.0) _
         (rw append-nil (
           refl,
-          inr (row (t ∷ []) (us ++ (vs ++ (ws ++ zs))) (operation_says t p)
-              (row us (vs ++ (ws ++ zs)) a (row vs (ws ++ zs) b (row ws zs c d)))),
-        ))))))
+          inr (row (t ∷ []) (us ++ (vs ++ ws)) (operation_says t p)
+              (row us (vs ++ ws) a (row vs ws b (body_is ws x c)))),
+        )))))
 
-    fragment_rule : (t : Lexeme) → passes (word (codes "fragment")) t ≡ true
-        → Rule (less n (t ∷ [])) (fragment_with S n) (fragment_with S m) (λ us k. IsOperation (t ∷ us) k)
-    unfolding fragment_with
-    fragment_rule t p = want_step _ other_than_on (sample Name) _ _ _ refl (inl refl)
-        (λ a a' x. want_step _ (word (codes "on")) (token_of Name (codes "on")) _ _ _ refl (inr (inr (refl, refl)))
-        (λ o o' y. want_step _ (of Name) (sample Name) _ _ _ refl (inl refl) (λ c c' z.
-        step n _ _ _ _ _ (IsDirectives S) _ (low4 S n m le (t ∷ []) (a ∷ []) (o ∷ []) (c ∷ []))
-        (directives_rule S n m le) (λ ws ds ds' d.
-        step n _ _ _ _ _ (IsSelectionSet S) _ (lower n _ ws (low4 S n m le (t ∷ []) (a ∷ []) (o ∷ []) (c ∷ [])))
-        body_rule (λ zs ss ss' b.
-        done_rule _ (Fragment (word_of a) (word_of c) ds ss) (Fragment (word_of a') (word_of c') ds' ss') _
+    fragment_rule : (t t' : Lexeme) → passes (word (codes "fragment")) t ≡ true
+        → Rule (less n (t ∷ [])) (reads S n (fragment t.span)) (reads S m (fragment t'.span))
+        (λ us k. IsOperation (t ∷ us) k)
+    unfolding fragment
+    fragment_rule t t' p = step n (less n (t ∷ [])) _ _ _ _ (IsFragmentName S) _ (low1 S n m le (t ∷ []))
+        (fragment_name_rule n n m) (λ us name name' a.
+        step n _ _ _ _ _ (IsTypeCondition S) _ (low2 S n m le (t ∷ []) us)
+        (type_condition_rule n n m) (λ vs on on' b.
+        step n _ _ _ _ _ AreInlineParts _ (low3 S n m le (t ∷ []) us vs) inline_parts_rule (λ ws x x' c.
+        done_rule _ (Fragment name on x.0 x.1.0) (Fragment name' on' x'.0 x'.1.0) _
         (rw append-nil (
-          row (t ∷ []) (a ∷ o ∷ c ∷ ws ++ zs) (says _ t p)
-              (row (a ∷ []) (o ∷ c ∷ ws ++ zs) (word_is a (other a x).0, (other a x).1)
-              (row (o ∷ c ∷ []) (ws ++ zs) (row (o ∷ []) (c ∷ []) (says _ o y) (word_is c (of_kind Name c z)))
-              (row ws zs d b))),
+          row (t ∷ []) (us ++ (vs ++ ws)) (says _ t p) (row us (vs ++ ws) a (row vs ws b (body_is ws x c))),
           refl,
-        )))))))
+        )))))
 
-    pub definition_rule : Rule n (definition S n) (definition S m) (IsDefinition S)
-    unfolding definition
+    pub definition_rule : Rule n (reads S n definition) (reads S m definition) (IsDefinition S)
+    unfolding definition shorthand
     definition_rule = span_rule n _ _ (IsDefinition S)
         (on_rule n operation_word _ _ _ _ _ (λ t t' p. operation_rule t t' p)
-        (on_rule n (word (codes "fragment")) _ _ _ _ _ (λ t t' p. fragment_rule t p)
-        (step n n _ _ _ _ (IsSelectionSet S) _ (le_refl n) body_rule (λ us ss ss' h.
-        done_rule _ (Operation Query None None None ss) (Operation Query None None None ss') _
-        (rw append-nil (refl, inl (h, refl, refl, refl, refl)))))))
+        (on_rule n (word (codes "fragment")) _ _ _ _ _ (λ t t' p. fragment_rule t t' p)
+        (step n n _ _ _ _ IsSpannedSet _ (le_refl n) set_rule (λ us ss ss' h.
+        done_rule _ (Operation Query None None None ss.0) (Operation Query None None None ss'.0) _
+        (rw append-nil (refl, inl (h.0, refl, refl, refl, refl)))))))
 
     document_is : (ts : List Lexeme) (ds : List (Definition C)) → ClosedSome (of EndOfFile) (IsDefinition S) ts ds
         → IsDocument S ts ds
@@ -235,8 +296,7 @@ module _ {C F : Type 0} (S : Scalars C F) where
       second = kind_is EndOfFile h.last (of_kind EndOfFile h.last h.closes);
     }
 
-    pub document_rule : Rule n (document S n) (document S m) (IsDocument S)
+    pub document_rule : Rule n (reads S n document) (reads S m document) (IsDocument S)
     unfolding document
-    document_rule = weaken n n _ _ (ClosedSome (of EndOfFile) (IsDefinition S)) (IsDocument S) (le_refl n) document_is
-        (one_or_more_rule (IsDefinition S) definition_takes (of EndOfFile) (sample EndOfFile) refl (inl refl) _ _ n m le
-        definition_rule)
+    document_rule = some_rule (IsDefinition S) definition_takes (of EndOfFile) (sample EndOfFile) refl (inl refl) _ _ n
+        m (λ d r. d ∷ r.0) (IsDocument S) le definition_rule (λ us d r h. document_is us (d ∷ r.0) h)

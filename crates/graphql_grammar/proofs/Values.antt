@@ -5,14 +5,15 @@ use Rattle.graphql_lexical.specs.Cutting.{Lexeme}
 use Rattle.graphql_lexical.specs.laws.Alike.{Alike}
 use Rattle.graphql_grammar.specs.Tokens.{Word, word_of, Text, over}
 use Rattle.graphql_grammar.specs.Samples.{sample, token_of}
-use Rattle.graphql_grammar.specs.Reading.{passes, of, Took, Refused, Reader, refuse, want, literal, read_as, scalar_token, by_name, items_of, fields_of, variable_start, key_and_value, value_at}
+use Rattle.graphql_grammar.specs.Reading.{passes, of, Took, Refused, refuse, want, literal, read_as, scalar_token, a_value}
+use Rattle.graphql_grammar.specs.Productions.{by_name, items_of, fields_of, variable_start, variable, list, key_and_value, object, value, symbol_at, reads}
 use Rattle.graphql_grammar.specs.Tree.{Scalars, Value, Null, Scalar, Enum, Variable, ListOf, Object, no_items, no_fields}
 use Rattle.graphql_grammar.specs.Grammar.{IsScalarKind, IsToken, Is, IsWord, IsValue, AreItems, AreFields, Each, ◌·◌, ◌for◌}
 use Rattle.graphql_grammar.proofs.Sequences.{row, row_back, row_right, enclosed, over_enclosed, kind_is, token_is, word_is, says_is, one_takes, is_takes, front_takes}
 use Rattle.graphql_grammar.specs.Faults.{ScalarError}
 use Rattle.graphql_grammar.proofs.Rules.{SameHead, less, Agrees, Fails, Meets, Rule, Some_of, done_rule, seq_rule, turn, weaken, less_below, IsOpener, More}
 use Rattle.graphql_grammar.proofs.TokenRules.{refuse_rule, want_rule, on_rule}
-use Rattle.graphql_grammar.proofs.PartRules.{many_rule, Closed}
+use Rattle.graphql_grammar.proofs.PartRules.{many_rule, step, Closed}
 use Rattle.graphql_grammar.proofs.TokenTests.{of_kind, both, is_scalar_kind, text_yes, text_no}
 
 -- a literal
@@ -166,15 +167,16 @@ module _ {C F : Type 0} (S : Scalars C F) (free : Bool) where
       cases false false true x y z = token _ (text_yes _ _ z)
       cases false false false x y z = (token _ refl, (text_no _ _ x, text_no _ _ y, text_no _ _ z))
 
-  pub field_rule : (n : ℕ) (f g : Reader F (Value C)) → Rule n f g (IsValue S free)
-      → Rule n (key_and_value f) (key_and_value g) IsField
+  field_by : (n m : ℕ) → Rule n (symbol_at S n _ (a_value free)) (symbol_at S m _ (a_value free)) (IsValue S free)
+      → Rule n (reads S n (key_and_value free)) (reads S m (key_and_value free)) IsField
   unfolding key_and_value
-  field_rule n f g r =
+  field_by n m r =
       seq_rule n (want (of Name)) (want (of Name)) _ _ IsField
       (want_rule F n (of Name) _ (sample Name) refl (inl refl) (λ k p k'.
       seq_rule (less n (k ∷ [])) (want (of Colon)) (want (of Colon)) _ _ _
       (want_rule F (less n (k ∷ [])) (of Colon) _ (sample Colon) refl (inl refl) (λ c q c'.
-      seq_rule _ f g _ _ _ (weaken n _ f g (IsValue S free) _ (omega
+      seq_rule _ (symbol_at S n _ (a_value free)) (symbol_at S m _ (a_value free)) _ _ _
+      (weaken n _ _ _ (IsValue S free) _ (omega
       (arith, less_below n (k ∷ []), less_below (less n (k ∷ [])) (c ∷ []))) (λ us v h v'.
       done_rule _ (word_of k, v) (word_of k', v') _
       (rw append-nil (row (k ∷ []) (c ∷ us) (word_is k (of_kind Name k p))
@@ -183,8 +185,9 @@ module _ {C F : Type 0} (S : Scalars C F) (free : Bool) where
   pub field_takes : (ts : List Lexeme) (x : Word × Value C) → IsField ts x → 0 < length ts
   field_takes ts x h = front_takes (λ us w. one_takes us _ w) ts h
 
-  pub value_rule : (n m : ℕ) → n ≤ m → Rule n (value_at S free n) (value_at S free m) (IsValue S free)
-  unfolding value_at
+  pub value_rule : (n m : ℕ) → n ≤ m
+      → Rule n (symbol_at S n _ (a_value free)) (symbol_at S m _ (a_value free)) (IsValue S free)
+  unfolding symbol_at value list object variable
   value_rule zero m le = record { at = λ ts. (zero-le, [], ts, refl, some_value) }
   value_rule (suc n) zero le = absurd (omega arith)
   value_rule (suc n) (suc m) le =
@@ -199,7 +202,7 @@ module _ {C F : Type 0} (S : Scalars C F) (free : Bool) where
       (λ us r h r'. done_rule _ (Object (fields_of r.0) (over t r.1)) (Object (fields_of r'.0) (over u r'.1)) _
       (rw append-nil (object_is t us r p h)))
       (many_rule (of CurlyClose) (sample CurlyClose) refl (inl refl) IsField field_takes _ _ n m n (omega arith)
-      (le_refl n) (field_rule n _ _ (value_rule n m (omega arith))))))
+      (le_refl n) (field_by n m (value_rule n m (omega arith))))))
       (on_rule (suc n) (variable_start free) _ _ _ _ (IsValue S free)
       (λ t u p. seq_rule n _ _ _ _ _ (want_rule F n (of Name) _ (sample Name) refl (inl refl)
       (λ w q w'. done_rule _ (Variable w.text (over t w)) (Variable w'.text (over u w')) _ (
@@ -212,6 +215,7 @@ module _ {C F : Type 0} (S : Scalars C F) (free : Bool) where
       ))))
       (on_rule (suc n) (of Name) _ _ _ _ (IsValue S free)
       (λ t u p. done_rule _ (by_name S t.text t.span) (by_name S u.text u.span) _ (name_is t p))
+      (step (suc n) (suc n) _ _ _ _ (IsValue S free) _ (le_refl (suc n))
       (literal_rule S (suc n) (IsValue S free) some_value value_opens
       (λ t c k h. inl (
         t.kind,
@@ -219,4 +223,8 @@ module _ {C F : Type 0} (S : Scalars C F) (free : Bool) where
         refl,
         k,
         h,
-      ))))))
+      )))
+      (λ us v w h. done_rule _ v w _ (rw append-nil h))))))
+
+  pub field_rule : (n m : ℕ) → n ≤ m → Rule n (reads S n (key_and_value free)) (reads S m (key_and_value free)) IsField
+  field_rule n m le = field_by n m (value_rule n m le)

@@ -4,7 +4,7 @@ ghost use Rattle.std.specs.List.{AllByRecursion};
 ghost use Rattle.graphql_lexical.specs.Cutting.{Lexeme, Cut};
 ghost use Rattle.graphql_lexical.specs.laws.Alike.{Alike, AllAlike};
 ghost use Rattle.graphql_lexical.specs.Nesting.{opened, closed};
-ghost use Rattle.graphql_grammar.specs.Tokens.{IsSpelled};
+ghost use Rattle.graphql_grammar.specs.Tokens.{IsSpelled, span_of};
 ghost use Rattle.graphql_grammar.specs.Tree.{Scalars, Value, TypeRef, Definition};
 ghost use Rattle.graphql_grammar.specs.Grammar.{IsValue, IsType, IsDocument};
 ghost use Rattle.graphql_grammar.specs.Faults.{Fault, EndsOnce, AtFault, DocumentRefusedAt, ValueRefusedAt, TypeRefusedAt};
@@ -12,7 +12,8 @@ ghost use Rattle.graphql_grammar.specs.ScalarTokens.{IsRead, IsReadAlso};
 ghost use Rattle.graphql_grammar.specs.Texts.{AtFaultInText};
 ghost use Rattle.graphql_grammar.specs.Unlocated.{SameDocument, SameValue};
 ghost use Rattle.graphql_grammar.specs.Samples.{IsSample, AreSamples};
-ghost use Rattle.graphql_grammar.specs.Reading.{document, value_of, type_at, fully, GivesWhole, GivesFront};
+ghost use Rattle.graphql_grammar.specs.Reading.{a_value, a_type, fully, GivesWhole, GivesFront};
+ghost use Rattle.graphql_grammar.specs.Productions.{document, symbol_at, reads};
 
 /// No list of tokens is two documents.
 pub fn one_document<C, F>()
@@ -103,15 +104,15 @@ pub fn samples_are_spelled()
 
 /// The reading of a document gives the one tree, or refuses where the definitions do.
 pub fn document_is_read<C, F>()
-    ensures { (S : Scalars C F) (ts : List Lexeme) → AllByRecursion IsSpelled ts → EndsOnce ts → GivesWhole (IsDocument S) (DocumentRefusedAt S ts) ts (fully (document S) ts) }
+    ensures { (S : Scalars C F) (ts : List Lexeme) → AllByRecursion IsSpelled ts → EndsOnce ts → GivesWhole (IsDocument S) (DocumentRefusedAt S ts) ts (fully (λ n. reads S n document) ts) }
 {}
 
 /// The reading of a value gives the one front that is a value, or refuses where the definitions do.
 pub fn value_is_read<C, F>()
-    ensures { (S : Scalars C F) (free : Bool) (ts : List Lexeme) → EndsOnce ts → GivesFront (IsValue S free) (ValueRefusedAt S free ts) ts (value_of S free ts) }
+    ensures { (S : Scalars C F) (free : Bool) (ts : List Lexeme) → EndsOnce ts → GivesFront (IsValue S free) (ValueRefusedAt S free ts) ts (fully (λ n. symbol_at S n _ (a_value free)) ts) }
 {}
 
-/// The reading of a type gives the longest front that is a type, or refuses where the definitions do.
-pub fn type_is_read<F>()
-    ensures { (ts : List Lexeme) → EndsOnce ts → GivesFront IsType (TypeRefusedAt ts) ts (fully (type_at {F = F}) ts) }
+/// The reading of a type gives the longest front that is a type, with its span, or refuses where the definitions do.
+pub fn type_is_read<C, F>()
+    ensures { (S : Scalars C F) (ts : List Lexeme) → EndsOnce ts → GivesFront (λ us x. IsType us x.0 × (x.1 ≡ span_of us)) (TypeRefusedAt ts) ts (fully (λ n. symbol_at S n _ a_type) ts) }
 {}

@@ -7,7 +7,10 @@ use Rattle.juniper_tokens.specs.declared.error.ParseFailure.{ParseFailure}
 use Rattle.juniper_tokens.specs.declared.error.ParseFailure.TheVariants as failures
 use Rattle.juniper_tokens.specs.Errors.{view_fault}
 use Rattle.juniper_tokens.specs.Cursor.{Read, Fails, ◌>>=◌}
-use Rattle.juniper.specs.Values.{then_others}
+
+-- one item, and then others
+abbrev pub then_others : {A B : Type 0} → A → Read (List A × B) → Read (List A × B)
+then_others a r = r >>= λ x. Ok ((a ∷ x.0.0, x.0.1), x.1)
 
 -- these items, and then those that are read, with what stands behind them
 abbrev pub with_front : {A B : Type 0} → List A → Read (List A × B) → Read (List A × B)

@@ -4,14 +4,13 @@ use Rattle.std.specs.Prelude.{option_map, slice_get, IfSome}
 use Rattle.std.specs.Global.{Vec}
 use Rattle.graphql_lexical.specs.Place.{Place, Span}
 use Rattle.graphql_grammar.specs.Tokens.{to_end_of}
-use Rattle.graphql_grammar.specs.Tree.{Scalars}
 use Rattle.juniper_tokens.specs.declared.span.Span.{Span as SpanOf}
-use Rattle.juniper_tokens.specs.Errors.{Error}
 use Rattle.juniper_tokens.specs.Spans.{view_span, covering_span, span_between}
 use Rattle.juniper_tokens.specs.declared.span.Spanning.{Spanning}
 use Rattle.juniper.specs.declared.tree.ast.Directive as ast
 use Rattle.juniper.specs.View.{view_directive, view_directives}
-use Rattle.juniper.specs.Parts.{spanned, last_end, view_spanned_directives}
+use Rattle.graphql_grammar.specs.Productions.{last_end, all_directives}
+use Rattle.juniper.specs.Parts.{view_spanned_directives}
 
 -- the span of a part, seen before and after the part is
 pub end_of_part : {T B : Type 0} (view : Spanning T → B) (sp : B → Span)
@@ -36,40 +35,39 @@ module _ {S C : Type 0} (content : S → C) where
   without_span None = refl
   without_span (Some s) = refl
 
-  module _ (T : Scalars C Error) where
-    last_got : (d : Spanning (ast.Directive S)) (ds : List (Spanning (ast.Directive S)))
-        → (l : Spanning (ast.Directive S)) × (slice_get (d ∷ ds) (length ds) ≡ Some l)
-        × (◌≡◌ {A = Place} l.span.end (last_end T d.span.end (map (view_directive content) ds)))
-    last_got d [] = (d, refl, refl)
-    last_got d (e ∷ es) = last_got e es
+  last_got : (d : Spanning (ast.Directive S)) (ds : List (Spanning (ast.Directive S)))
+      → (l : Spanning (ast.Directive S)) × (slice_get (d ∷ ds) (length ds) ≡ Some l)
+      × (◌≡◌ {A = Place} l.span.end (last_end d.span.end (map (view_directive content) ds)))
+  last_got d [] = (d, refl, refl)
+  last_got d (e ∷ es) = last_got e es
 
-    covered : (d : Spanning (ast.Directive S)) (ds : List (Spanning (ast.Directive S)))
-        → (l : Spanning (ast.Directive S)) × (covering_span (d ∷ ds)
-        ≡ Some (record { start = d.span.start; end = l.span.end }))
-        × (◌≡◌ {A = Place} l.span.end (last_end T d.span.end (map (view_directive content) ds)))
-    covered d ds =
-        let g = last_got d ds in
-        let n : length (d ∷ ds) - 1 ≡ length ds = omega arith in
-        (g.0, ap (λ (k : ℕ). span_between (Some d) (slice_get (d ∷ ds) k)) n ∙ ap (span_between (Some d)) g.1, g.2)
+  covered : (d : Spanning (ast.Directive S)) (ds : List (Spanning (ast.Directive S)))
+      → (l : Spanning (ast.Directive S)) × (covering_span (d ∷ ds)
+      ≡ Some (record { start = d.span.start; end = l.span.end }))
+      × (◌≡◌ {A = Place} l.span.end (last_end d.span.end (map (view_directive content) ds)))
+  covered d ds =
+      let g = last_got d ds in
+      let n : length (d ∷ ds) - 1 ≡ length ds = omega arith in
+      (g.0, ap (λ (k : ℕ). span_between (Some d) (slice_get (d ∷ ds) k)) n ∙ ap (span_between (Some d)) g.1, g.2)
 
-    by_items : (items : List (Spanning (ast.Directive S))) (r : Option (Spanning (Vec (Spanning (ast.Directive S)))))
-        → option_map (λ s. s.span) r ≡ covering_span items → IfSome r (λ s. s.item.items ≡ items)
-        → view_spanned_directives content r ≡ spanned T (map (view_directive content) items)
-    by_items [] None e h = refl
-    by_items [] (Some s) e h = absurd (cc e)
-    by_items (d ∷ ds) None e h = let g = covered d ds in let no :
-        None ≡ Some (record { start = d.span.start; end = g.0.span.end }) = e ∙ g.1 in absurd (cc no)
-    by_items (d ∷ ds) (Some s) e h =
-        let g = covered d ds in
-        let both : Some s.span ≡ Some (record { start = d.span.start; end = g.0.span.end }) = e ∙ g.1 in
-        let span : s.span ≡ record { start = d.span.start; end = g.0.span.end } = cc both in
-        ap (λ (xs : List (Spanning (ast.Directive S))). Some (map (view_directive content) xs, view_span s.span)) h
-        ∙ ap (λ (p : SpanOf). Some (map (view_directive content) (d ∷ ds), view_span p)) span
-        ∙ ap (λ (q : Place). Some (map (view_directive content) (d ∷ ds), record { start = d.span.start; end = q })) g.2
+  by_items : (items : List (Spanning (ast.Directive S))) (r : Option (Spanning (Vec (Spanning (ast.Directive S)))))
+      → option_map (λ s. s.span) r ≡ covering_span items → IfSome r (λ s. s.item.items ≡ items)
+      → view_spanned_directives content r ≡ all_directives (map (view_directive content) items)
+  by_items [] None e h = refl
+  by_items [] (Some s) e h = absurd (cc e)
+  by_items (d ∷ ds) None e h = let g = covered d ds in let no :
+      None ≡ Some (record { start = d.span.start; end = g.0.span.end }) = e ∙ g.1 in absurd (cc no)
+  by_items (d ∷ ds) (Some s) e h =
+      let g = covered d ds in
+      let both : Some s.span ≡ Some (record { start = d.span.start; end = g.0.span.end }) = e ∙ g.1 in
+      let span : s.span ≡ record { start = d.span.start; end = g.0.span.end } = cc both in
+      ap (λ (xs : List (Spanning (ast.Directive S))). Some (map (view_directive content) xs, view_span s.span)) h
+      ∙ ap (λ (p : SpanOf). Some (map (view_directive content) (d ∷ ds), view_span p)) span
+      ∙ ap (λ (q : Place). Some (map (view_directive content) (d ∷ ds), record { start = d.span.start; end = q })) g.2
 
-    -- Directives stand from the start of the first to the end of the last.
-    pub spanned_is : (v : Vec (Spanning (ast.Directive S))) (r : Option (Spanning (Vec (Spanning (ast.Directive S)))))
-        → option_map (λ s. s.span) r ≡ covering_span v.items → IfSome r (λ s. s.item ≡ v)
-        → view_spanned_directives content r ≡ spanned T (map (view_directive content) v.items)
-    spanned_is v None e h = by_items v.items None e tt
-    spanned_is v (Some s) e h = by_items v.items (Some s) e (ap (λ (w : Vec (Spanning (ast.Directive S))). w.items) h)
+  -- Directives stand from the start of the first to the end of the last.
+  pub spanned_is : (v : Vec (Spanning (ast.Directive S))) (r : Option (Spanning (Vec (Spanning (ast.Directive S)))))
+      → option_map (λ s. s.span) r ≡ covering_span v.items → IfSome r (λ s. s.item ≡ v)
+      → view_spanned_directives content r ≡ all_directives (map (view_directive content) v.items)
+  spanned_is v None e h = by_items v.items None e tt
+  spanned_is v (Some s) e h = by_items v.items (Some s) e (ap (λ (w : Vec (Spanning (ast.Directive S))). w.items) h)

@@ -9,7 +9,8 @@ use Rattle.graphql_grammar.specs.Tree.{Scalars, Definition}
 use Rattle.graphql_grammar.specs.Grammar.{IsDocument}
 use Rattle.graphql_grammar.specs.Faults.{EndsOnce, DocumentRefusedAt}
 use Rattle.graphql_grammar.specs.Tokens.{IsSpelled}
-use Rattle.graphql_grammar.specs.Reading.{Took, Refused, Out, GivesWhole, document, fully}
+use Rattle.graphql_grammar.specs.Reading.{Took, Refused, Out, GivesWhole, fully}
+use Rattle.graphql_grammar.specs.Productions.{reads, document}
 use Rattle.graphql_grammar.specs.Reading as reading
 use Rattle.graphql_grammar.proofs.Given.{document_given}
 use Rattle.graphql_grammar.proofs.OneFault.{never_both}
@@ -32,7 +33,7 @@ use Rattle.juniper.specs.Definitions.{document_read}
 use Rattle.juniper.specs.Laws.{FailsAtBreak, IsRefusedAtBreak}
 use Rattle.juniper.specs.Promise.{lexical_fault, HasTree, IsRefusedAt, IsRefusal, IsRefusalInText, IfRefused, AnswersAs}
 use Rattle.juniper.proofs.Stepping.{seen_took}
-use Rattle.juniper.proofs.SeenDocuments.{document_seen}
+use Rattle.juniper.proofs.Readings.{document_seen}
 
 -- a text has one cut
 pub same_cut : (source : List ℕ) (xs ys : List Lexeme) → Cut source xs → Cut source ys → xs ≡ ys
@@ -61,14 +62,14 @@ same_break source d e p q b c = elim (one_end source) [
 
 module _ {C : Type 0} (S : Scalars C Error) (ts : List Lexeme) (spelled : AllByRecursion IsSpelled ts)
     (ends : EndsOnce ts) where
-  given : GivesWhole (IsDocument S) (DocumentRefusedAt S ts) ts (fully (document S) ts)
+  given : GivesWhole (IsDocument S) (DocumentRefusedAt S ts) ts (fully (λ n. reads S n document) ts)
   given = document_given S ts spelled ends
 
   -- a tree is that of a document
   pub document_is : (tree : List (Definition C)) (left : List Lexeme) → document_read S ts ≡ Ok (tree, left)
       → IsDocument S ts tree
   document_is tree left e =
-      let took = seen_took (fully (document S) ts) tree left (document_seen S ts ∙ e) in
+      let took = seen_took (fully (λ n. reads S n document) ts) tree left (document_seen S ts ∙ e) in
       (subst (λ z. GivesWhole (IsDocument S) (DocumentRefusedAt S ts) ts z) took given).0
 
   fault_is : (a b : Fault) (p q : List Lexeme) → ◌≡◌ {A = Read (List (Definition C))} (Err (a, p)) (Err (b, q)) → b ≡ a
@@ -93,7 +94,7 @@ module _ {C : Type 0} (S : Scalars C Error) (ts : List Lexeme) (spelled : AllByR
   -- a fault is that of the grammar
   pub refused_is : (fault : Fault) (left : List Lexeme) → document_read S ts ≡ Err (fault, left)
       → IsRefusedAt S ts fault
-  refused_is fault left e = by_read fault left (fully (document S) ts) given (document_seen S ts ∙ e)
+  refused_is fault left e = by_read fault left (fully (λ n. reads S n document) ts) given (document_seen S ts ∙ e)
 
 -- ---- what holds of the tokens of a text holds of the text
 

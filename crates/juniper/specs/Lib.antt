@@ -1,6 +1,7 @@
 pub mod View
 pub mod Scalars
 pub mod Seen
+pub mod Steps
 pub mod Values
 pub mod Parts
 pub mod Selections

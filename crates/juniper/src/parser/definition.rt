@@ -5,6 +5,7 @@ ghost use Rattle.juniper_tokens.specs.Tokens.{view_name};
 ghost use Rattle.juniper_tokens.specs.Cursor.{EndsOnce, Gives, first_of, refused_at};
 ghost use Rattle.juniper.specs.View.{view_word, view_definition};
 ghost use Rattle.juniper.specs.Scalars.{stated};
+ghost use Rattle.juniper_tokens.specs.Spans.{view_span};
 ghost use Rattle.juniper.specs.Definitions.{operation_at, optional_name_read, fragment_name_read, condition_read, operation_read, fragment_read, shorthand_read, definition_read};
 
 use crate::parser::next::{next_is, next_is_word, refuse};
@@ -13,14 +14,14 @@ use crate::parser::variables::parse_optional_variables;
 use crate::tree::ast::{Definition, Fragment, Operation};
 use graphql_grammar::OperationType;
 use juniper_tokens::{
-    Kind, OptionParseResult, ParseResult, Parser, Spanning, UnlocatedParseResult,
+    Kind, OptionParseResult, ParseResult, Parser, Span, Spanning, UnlocatedParseResult,
 };
 use juniper_values::ScalarValue;
 
 /// `Definition = SelectionSet
 ///            | ("query" | "mutation" | "subscription") Name? Variables? Directive* SelectionSet
 ///            | "fragment" FragmentName "on" Name Directive* SelectionSet`
-#[tactic(auto, using(crate::proofs::Names::fragment_is), unfolding(crate::specs::Definitions::definition_read))]
+#[tactic(auto, using(crate::proofs::Names::fragment_is), unfolding(graphql_grammar::specs::Productions::definition))]
 pub(crate) fn parse_definition<'a, S: ScalarValue>(
     parser: &mut Parser<'a>,
 ) -> UnlocatedParseResult<Definition<'a, S>>
@@ -28,10 +29,14 @@ pub(crate) fn parse_definition<'a, S: ScalarValue>(
     ensures shorter { OnOk result (length parser.new < length parser.old) }
 {
     match next_operation(parser) {
-        Some(operation_type) => parse_operation(parser, operation_type),
+        Some(operation_type) => {
+            let word = parser.next_token()?.span;
+            parse_operation(parser, operation_type, word)
+        }
         None => {
             if next_is_word(parser, "fragment") {
-                parse_fragment(parser)
+                let word = parser.next_token()?.span;
+                parse_fragment(parser, word)
             } else {
                 parse_shorthand(parser)
             }
@@ -56,7 +61,7 @@ fn next_operation(parser: &Parser<'_>) -> Option<OperationType>
 }
 
 /// `SelectionSet`
-#[tactic(auto, unfolding(crate::specs::Definitions::shorthand_read))]
+#[tactic(auto, unfolding(graphql_grammar::specs::Productions::shorthand))]
 fn parse_shorthand<'a, S: ScalarValue>(
     parser: &mut Parser<'a>,
 ) -> UnlocatedParseResult<Definition<'a, S>>
@@ -76,22 +81,22 @@ fn parse_shorthand<'a, S: ScalarValue>(
     )))
 }
 
-/// `("query" | "mutation" | "subscription") Name? Variables? Directive* SelectionSet`, of this type.
-#[tactic(auto, unfolding(crate::specs::Definitions::operation_read))]
+/// `Name? Variables? Directive* SelectionSet`, after the word of this type.
+#[tactic(auto, unfolding(graphql_grammar::specs::Productions::operation))]
 fn parse_operation<'a, S: ScalarValue>(
     parser: &mut Parser<'a>,
     operation_type: OperationType,
+    word: Span,
 ) -> UnlocatedParseResult<Definition<'a, S>>
-    ensures gives { Gives (view_definition S.content) result parser.new (operation_read (stated S.reading S.of_bool) operation_type parser.old) }
+    ensures gives { Gives (view_definition S.content) result parser.new (operation_read (stated S.reading S.of_bool) operation_type (view_span word) parser.old) }
     ensures shorter { OnOk result (length parser.new < length parser.old) }
 {
-    let start = parser.next_token()?.span.start;
     let name = parse_optional_name(parser)?;
     let variable_definitions = parse_optional_variables(parser)?;
     let (directives, set) = parse_inline_parts(parser)?;
     let end = set.span.end;
     Ok(Definition::Operation(Spanning::start_end(
-        &start,
+        &word.start,
         &end,
         Operation {
             operation_type,
@@ -104,7 +109,7 @@ fn parse_operation<'a, S: ScalarValue>(
 }
 
 /// `Name?`
-#[tactic(auto, unfolding(crate::specs::Definitions::optional_name_read))]
+#[tactic(auto, unfolding(juniper_tokens::specs::Cursor::expect_name_at))]
 fn parse_optional_name<'a>(parser: &mut Parser<'a>) -> OptionParseResult<&'a str>
     ensures gives { Gives (option_map view_word) result parser.new (optional_name_read parser.old) }
     ensures not_longer { OnOk result (length parser.new ≤ length parser.old) }
@@ -116,21 +121,21 @@ fn parse_optional_name<'a>(parser: &mut Parser<'a>) -> OptionParseResult<&'a str
     }
 }
 
-/// `"fragment" FragmentName "on" Name Directive* SelectionSet`
-#[tactic(auto, unfolding(crate::specs::Definitions::fragment_read))]
+/// `FragmentName "on" Name Directive* SelectionSet`, after the word.
+#[tactic(auto, unfolding(graphql_grammar::specs::Productions::fragment))]
 fn parse_fragment<'a, S: ScalarValue>(
     parser: &mut Parser<'a>,
+    word: Span,
 ) -> UnlocatedParseResult<Definition<'a, S>>
-    ensures gives { Gives (view_definition S.content) result parser.new (fragment_read (stated S.reading S.of_bool) parser.old) }
+    ensures gives { Gives (view_definition S.content) result parser.new (fragment_read (stated S.reading S.of_bool) (view_span word) parser.old) }
     ensures shorter { OnOk result (length parser.new < length parser.old) }
 {
-    let start = parser.next_token()?.span.start;
     let name = parse_fragment_name(parser)?;
     let type_condition = parse_type_condition(parser)?;
     let (directives, set) = parse_inline_parts(parser)?;
     let end = set.span.end;
     Ok(Definition::Fragment(Spanning::start_end(
-        &start,
+        &word.start,
         &end,
         Fragment {
             name,
@@ -142,9 +147,9 @@ fn parse_fragment<'a, S: ScalarValue>(
 }
 
 /// `FragmentName = a Name other than "on"`
-#[tactic(auto, using(crate::proofs::Names::on_is), unfolding(crate::specs::Definitions::fragment_name_read))]
+#[tactic(auto, using(crate::proofs::Names::on_is), unfolding(juniper_tokens::specs::Cursor::expect_name_at))]
 fn parse_fragment_name<'a>(parser: &mut Parser<'a>) -> ParseResult<&'a str>
-    ensures gives { Gives view_name result parser.new (fragment_name_read parser.old) }
+    ensures gives { Gives view_word result parser.new (fragment_name_read parser.old) }
     ensures shorter { OnOk result (length parser.new < length parser.old) }
 {
     if next_is_word(parser, "on") {
@@ -155,9 +160,9 @@ fn parse_fragment_name<'a>(parser: &mut Parser<'a>) -> ParseResult<&'a str>
 }
 
 /// `"on" Name`
-#[tactic(auto, using(crate::proofs::Names::on_is), unfolding(crate::specs::Definitions::condition_read))]
+#[tactic(auto, using(crate::proofs::Names::on_is), unfolding(juniper_tokens::specs::Cursor::expect_name_at))]
 fn parse_type_condition<'a>(parser: &mut Parser<'a>) -> ParseResult<&'a str>
-    ensures gives { Gives view_name result parser.new (condition_read parser.old) }
+    ensures gives { Gives view_word result parser.new (condition_read parser.old) }
     ensures shorter { OnOk result (length parser.new < length parser.old) }
 {
     if next_is_word(parser, "on") {

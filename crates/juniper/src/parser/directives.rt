@@ -4,7 +4,7 @@ ghost use Rattle.juniper_tokens.specs.Cursor.{Gives};
 ghost use Rattle.juniper.specs.View.{view_argument, view_arguments, view_directive};
 ghost use Rattle.juniper.specs.Scalars.{stated};
 ghost use Rattle.juniper.specs.Values.{view_list};
-ghost use Rattle.juniper.specs.Parts.{argument_read, arguments_inner_read, arguments_read, optional_arguments_read, directive_read, directives_read, spanned, view_spanned_directives};
+ghost use Rattle.juniper.specs.Parts.{argument_read, arguments_inner_read, arguments_read, optional_arguments_read, directive_read, directives_read, view_spanned_directives};
 
 use crate::parser::lists::push_item;
 use crate::parser::next::next_is;
@@ -15,7 +15,7 @@ use juniper_tokens::{Kind, OptionParseResult, ParseFailure, ParseResult, Parser,
 use juniper_values::{InputValue, ScalarValue};
 
 /// `Name ":" Value(free)`
-#[tactic(auto, unfolding(crate::specs::Parts::argument_read))]
+#[tactic(auto, unfolding(graphql_grammar::specs::Productions::argument, juniper_tokens::specs::Cursor::expect_at, juniper_tokens::specs::Cursor::expect_name_at))]
 fn parse_argument<'a, S: ScalarValue>(
     parser: &mut Parser<'a>,
 ) -> Result<(Spanning<&'a str>, Spanning<InputValue<S>>), ParseFailure>
@@ -49,7 +49,7 @@ fn parse_argument_list<'a, S: ScalarValue>(
 }
 
 /// `Arguments = "(" (Name ":" Value(free))+ ")"`
-#[tactic(auto, unfolding(crate::specs::Parts::arguments_read))]
+#[tactic(auto, unfolding(graphql_grammar::specs::Productions::arguments, juniper_tokens::specs::Cursor::expect_at))]
 fn parse_arguments<'a, S: ScalarValue>(parser: &mut Parser<'a>) -> ParseResult<Arguments<'a, S>>
     ensures gives { Gives (view_arguments S.content) result parser.new (arguments_read (stated S.reading S.of_bool) parser.old) }
     ensures shorter { OnOk result (length parser.new < length parser.old) }
@@ -61,7 +61,7 @@ fn parse_arguments<'a, S: ScalarValue>(parser: &mut Parser<'a>) -> ParseResult<A
 }
 
 /// `Arguments?`
-#[tactic(auto, unfolding(crate::specs::Parts::optional_arguments_read))]
+#[tactic(auto, unfolding(graphql_grammar::specs::Productions::optional_arguments))]
 pub(crate) fn parse_optional_arguments<'a, S: ScalarValue>(
     parser: &mut Parser<'a>,
 ) -> OptionParseResult<Arguments<'a, S>>
@@ -76,7 +76,7 @@ pub(crate) fn parse_optional_arguments<'a, S: ScalarValue>(
 }
 
 /// `Directive = "@" Name Arguments?`
-#[tactic(auto, unfolding(crate::specs::Parts::directive_read))]
+#[tactic(auto, unfolding(graphql_grammar::specs::Productions::directive, juniper_tokens::specs::Cursor::expect_at, juniper_tokens::specs::Cursor::expect_name_at))]
 fn parse_directive<'a, S: ScalarValue>(parser: &mut Parser<'a>) -> ParseResult<Directive<'a, S>>
     ensures gives { Gives (view_directive S.content) result parser.new (directive_read (stated S.reading S.of_bool) parser.old) }
     ensures shorter { OnOk result (length parser.new < length parser.old) }

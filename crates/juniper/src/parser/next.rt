@@ -3,7 +3,7 @@ ghost use Rattle.std.specs.Prelude.{◌≡◌, bytes_eq, OnOk};
 ghost use Rattle.std.specs.Str.{chars};
 ghost use Rattle.graphql_lexical.specs.Kinds.{same_kind};
 ghost use Rattle.juniper_tokens.specs.Cursor.{EndsOnce, Gives, first_of, kind_at, refused_at};
-ghost use Rattle.juniper.specs.Selections.{is_word};
+ghost use Rattle.graphql_grammar.specs.Reading.{passes, word};
 
 use juniper_tokens::{Kind, ParseError, ParseFailure, Parser, Spanning, Token};
 
@@ -17,7 +17,7 @@ pub(crate) fn next_is(parser: &Parser<'_>, kind: Kind) -> bool
 
 /// Whether the next token, which is left there, is a Name of this text.
 pub(crate) fn next_is_word(parser: &Parser<'_>, text: &str) -> bool
-    ensures is { result ≡ is_word (chars text.now) (first_of parser.now) }
+    ensures is { result ≡ passes (word (chars text.now)) (first_of parser.now) }
     ensures ended { EndsOnce parser.now }
 {
     match parser.peek().item {

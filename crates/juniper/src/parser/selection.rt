@@ -2,10 +2,11 @@
 ghost use Rattle.std.specs.Prelude.{◌≡◌, ◌<◌, ◌≤◌, length, option_map, None, OnOk};
 ghost use Rattle.juniper_tokens.specs.Spans.{view_span};
 ghost use Rattle.juniper_tokens.specs.Cursor.{Gives};
-ghost use Rattle.juniper.specs.View.{view_selection, view_field};
+ghost use Rattle.juniper.specs.View.{view_word, view_selection, view_field};
 ghost use Rattle.juniper.specs.Scalars.{stated};
+ghost use Rattle.juniper.specs.Steps.{selection_read};
 ghost use Rattle.juniper.specs.Values.{view_list};
-ghost use Rattle.juniper.specs.Selections.{view_names, view_spanned_set, view_inline_parts, names_read, selections_inner_read, set_read, optional_set_read, field_read, named_spread_read, inline_parts_read, inline_read, typed_read, spread_read, selection_read};
+ghost use Rattle.juniper.specs.Selections.{view_names, view_spanned_set, view_inline_parts, names_read, selections_inner_read, set_read, optional_set_read, field_read, named_spread_read, inline_parts_read, inline_read, typed_read, spread_read};
 
 use crate::parser::directives::{parse_directives, parse_optional_arguments};
 use crate::parser::lists::push_item;
@@ -20,7 +21,7 @@ use juniper_values::ScalarValue;
 
 /// `SelectionSet = "{" Selection+ "}"`
 #[cycle(selection)]
-#[tactic(auto, unfolding(crate::specs::Selections::set_read))]
+#[tactic(auto, unfolding(graphql_grammar::specs::Productions::selection_set, juniper_tokens::specs::Cursor::expect_at))]
 pub(crate) fn parse_selection_set<'a, S: ScalarValue>(
     parser: &mut Parser<'a>,
 ) -> ParseResult<Vec<Selection<'a, S>>>
@@ -56,7 +57,7 @@ fn parse_selection_list<'a, S: ScalarValue>(
 
 /// `SelectionSet?`
 #[cycle(selection)]
-#[tactic(auto, unfolding(crate::specs::Selections::optional_set_read))]
+#[tactic(auto, unfolding(graphql_grammar::specs::Productions::optional_set))]
 fn parse_optional_selection_set<'a, S: ScalarValue>(
     parser: &mut Parser<'a>,
 ) -> OptionParseResult<Vec<Selection<'a, S>>>
@@ -72,7 +73,7 @@ fn parse_optional_selection_set<'a, S: ScalarValue>(
 
 /// `Selection = Field | "..." FragmentName Directive* | "..." ("on" Name)? Directive* SelectionSet`
 #[cycle(selection)]
-#[tactic(auto, using(crate::proofs::SelectionViews::view_of_field), unfolding(crate::specs::Selections::selection_read))]
+#[tactic(auto, using(crate::proofs::SelectionViews::view_of_field, crate::proofs::Readings::selection_is), unfolding(graphql_grammar::specs::Productions::any_selection))]
 fn parse_selection<'a, S: ScalarValue>(
     parser: &mut Parser<'a>,
 ) -> UnlocatedParseResult<Selection<'a, S>>
@@ -88,7 +89,7 @@ fn parse_selection<'a, S: ScalarValue>(
 
 /// `Field = (Name ":")? Name Arguments? Directive* SelectionSet?`
 #[cycle(selection)]
-#[tactic(auto, unfolding(crate::specs::Selections::field_read))]
+#[tactic(auto, unfolding(graphql_grammar::specs::Productions::field))]
 fn parse_field<'a, S: ScalarValue>(parser: &mut Parser<'a>) -> ParseResult<Field<'a, S>>
     ensures gives { Gives (view_field S.content) result parser.new (field_read (stated S.reading S.of_bool) parser.old) }
     ensures shorter { OnOk result (length parser.new < length parser.old) }
@@ -115,7 +116,7 @@ fn parse_field<'a, S: ScalarValue>(parser: &mut Parser<'a>) -> ParseResult<Field
 }
 
 /// `(Name ":")? Name`
-#[tactic(auto, unfolding(crate::specs::Selections::names_read))]
+#[tactic(auto, unfolding(juniper_tokens::specs::Cursor::expect_name_at))]
 fn parse_names<'a>(
     parser: &mut Parser<'a>,
 ) -> Result<(Option<Spanning<&'a str>>, Spanning<&'a str>), ParseFailure>
@@ -134,7 +135,7 @@ fn parse_names<'a>(
 
 /// `"..." FragmentName Directive* | "..." ("on" Name)? Directive* SelectionSet`
 #[cycle(selection)]
-#[tactic(auto, using(crate::proofs::Names::on_is), unfolding(crate::specs::Selections::spread_read))]
+#[tactic(auto, using(crate::proofs::Names::on_is, crate::proofs::Fine::other_is_name), unfolding(graphql_grammar::specs::Productions::spread, juniper_tokens::specs::Cursor::expect_at, juniper_tokens::specs::Cursor::expect_name_at))]
 fn parse_spread<'a, S: ScalarValue>(
     parser: &mut Parser<'a>,
 ) -> UnlocatedParseResult<Selection<'a, S>>
@@ -143,39 +144,41 @@ fn parse_spread<'a, S: ScalarValue>(
 {
     let dots = parser.expect(&Token::Ellipsis)?.span;
     if next_is_word(parser, "on") {
+        parser.next_token()?;
         parse_typed_fragment(parser, dots)
     } else if next_is(parser, Kind::Name) {
-        parse_named_spread(parser, dots)
+        let name = parser.expect_name()?;
+        parse_named_spread(parser, dots, name)
     } else {
         parse_untyped_fragment(parser, dots)
     }
 }
 
-/// `FragmentName Directive*`, after three dots.
-#[tactic(auto, unfolding(crate::specs::Selections::named_spread_read))]
+/// `Directive*`, after three dots and a FragmentName.
+#[tactic(auto, unfolding(graphql_grammar::specs::Productions::named_spread))]
 fn parse_named_spread<'a, S: ScalarValue>(
     parser: &mut Parser<'a>,
     dots: Span,
+    name: Spanning<&'a str>,
 ) -> UnlocatedParseResult<Selection<'a, S>>
-    ensures gives { Gives (view_selection S.content) result parser.new (named_spread_read (stated S.reading S.of_bool) (view_span dots) parser.old) }
-    ensures shorter { OnOk result (length parser.new < length parser.old) }
+    ensures gives { Gives (view_selection S.content) result parser.new (named_spread_read (stated S.reading S.of_bool) (view_span dots) (view_word name.entry) parser.old) }
+    ensures not_longer { OnOk result (length parser.new ≤ length parser.old) }
 {
-    let name = parser.expect_name()?;
-    let directives = parse_directives(parser)?;
     let named = from_part(Some(dots), name.span);
+    let directives = parse_directives(parser)?;
     let span = up_to(named, span_of(&directives));
     Ok(Selection::FragmentSpread(Spanning::new(
         span,
         FragmentSpread {
-            name,
+            name: Spanning::new(name.span, name.item),
             directives: item_of(directives),
         },
     )))
 }
 
-/// `"on" Name Directive* SelectionSet`, after three dots.
+/// `Name Directive* SelectionSet`, after three dots and `on`.
 #[cycle(selection)]
-#[tactic(auto, using(crate::proofs::SelectionViews::view_of_inline), unfolding(crate::specs::Selections::typed_read, crate::specs::Selections::inline_read))]
+#[tactic(auto, using(crate::proofs::SelectionViews::view_of_inline), unfolding(graphql_grammar::specs::Productions::typed, graphql_grammar::specs::Productions::inline, juniper_tokens::specs::Cursor::expect_name_at))]
 fn parse_typed_fragment<'a, S: ScalarValue>(
     parser: &mut Parser<'a>,
     dots: Span,
@@ -183,7 +186,6 @@ fn parse_typed_fragment<'a, S: ScalarValue>(
     ensures gives { Gives (view_selection S.content) result parser.new (typed_read (stated S.reading S.of_bool) (view_span dots) parser.old) }
     ensures shorter { OnOk result (length parser.new < length parser.old) }
 {
-    parser.next_token()?;
     let name = parser.expect_name()?;
     let (directives, set) = parse_inline_parts(parser)?;
     let end = set.span.end;
@@ -200,7 +202,7 @@ fn parse_typed_fragment<'a, S: ScalarValue>(
 
 /// `Directive* SelectionSet`, after three dots.
 #[cycle(selection)]
-#[tactic(auto, using(crate::proofs::SelectionViews::view_of_inline), unfolding(crate::specs::Selections::inline_read))]
+#[tactic(auto, using(crate::proofs::SelectionViews::view_of_inline), unfolding(graphql_grammar::specs::Productions::inline))]
 fn parse_untyped_fragment<'a, S: ScalarValue>(
     parser: &mut Parser<'a>,
     dots: Span,
@@ -223,7 +225,7 @@ fn parse_untyped_fragment<'a, S: ScalarValue>(
 
 /// `Directive* SelectionSet`
 #[cycle(selection)]
-#[tactic(auto, using(crate::proofs::PartViews::without_span), unfolding(crate::specs::Selections::inline_parts_read))]
+#[tactic(auto, using(crate::proofs::PartViews::without_span), unfolding(graphql_grammar::specs::Productions::inline_parts))]
 pub(crate) fn parse_inline_parts<'a, S: ScalarValue>(
     parser: &mut Parser<'a>,
 ) -> Result<

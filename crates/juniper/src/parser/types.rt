@@ -3,7 +3,8 @@ ghost use Rattle.std.specs.Prelude.{◌≡◌, ◌<◌, ◌≤◌, length, OnOk}
 ghost use Rattle.juniper_tokens.specs.Cursor.{EndsOnce, Gives, OnMemory};
 ghost use Rattle.juniper_tokens.specs.Delimited.{IsRest};
 ghost use Rattle.juniper.specs.Promise.{AnswersType};
-ghost use Rattle.juniper.specs.Parts.{view_spanned_type, type_read, list_type_read, named_type_read, nullable_type_read, non_null_read};
+ghost use Rattle.juniper.specs.Steps.{type_read};
+ghost use Rattle.juniper.specs.Parts.{view_spanned_type, list_type_read, named_type_read, nullable_type_read, non_null_read};
 
 use crate::parser::next::next_is;
 use juniper_tokens::{Kind, ParseFailure, ParseResult, Parser, Spanning, Token};
@@ -35,7 +36,7 @@ pub(crate) fn parse_any_type<'a>(parser: &mut Parser<'a>) -> ParseResult<Type<&'
 
 /// `Name | "[" Type "]"`
 #[cycle(types)]
-#[tactic(auto, unfolding(crate::specs::Parts::nullable_type_read))]
+#[tactic(auto, unfolding(graphql_grammar::specs::Productions::nullable_type))]
 fn parse_nullable_type<'a>(parser: &mut Parser<'a>) -> ParseResult<Type<&'a str>>
     ensures gives { Gives view_spanned_type result parser.new (nullable_type_read parser.old) }
     ensures ended { EndsOnce parser.old }
@@ -50,7 +51,7 @@ fn parse_nullable_type<'a>(parser: &mut Parser<'a>) -> ParseResult<Type<&'a str>
 }
 
 /// `Name`
-#[tactic(auto, unfolding(crate::specs::Parts::named_type_read))]
+#[tactic(auto, unfolding(graphql_grammar::specs::Productions::named_type, juniper_tokens::specs::Cursor::expect_name_at))]
 fn parse_named_type<'a>(parser: &mut Parser<'a>) -> ParseResult<Type<&'a str>>
     ensures gives { Gives view_spanned_type result parser.new (named_type_read parser.old) }
     ensures shorter { OnOk result (length parser.new < length parser.old) }
@@ -62,7 +63,7 @@ fn parse_named_type<'a>(parser: &mut Parser<'a>) -> ParseResult<Type<&'a str>>
 
 /// `"[" Type "]"`
 #[cycle(types)]
-#[tactic(auto, using(crate::proofs::Wrapping::wrapped_list), unfolding(crate::specs::Parts::list_type_read))]
+#[tactic(auto, using(crate::proofs::Wrapping::wrapped_list), unfolding(graphql_grammar::specs::Productions::list_type, juniper_tokens::specs::Cursor::expect_at))]
 fn parse_list_type<'a>(parser: &mut Parser<'a>) -> ParseResult<Type<&'a str>>
     ensures gives { Gives view_spanned_type result parser.new (list_type_read parser.old) }
     ensures shorter { OnOk result (length parser.new < length parser.old) }
@@ -78,7 +79,7 @@ fn parse_list_type<'a>(parser: &mut Parser<'a>) -> ParseResult<Type<&'a str>>
 }
 
 /// `"!"?`, after this type.
-#[tactic(auto, using(crate::proofs::Wrapping::wrapped_non_null), unfolding(crate::specs::Parts::non_null_read))]
+#[tactic(auto, using(crate::proofs::Wrapping::wrapped_non_null), unfolding(graphql_grammar::specs::Productions::non_null))]
 fn parse_non_null<'a>(
     parser: &mut Parser<'a>,
     inner: Spanning<Type<&'a str>>,

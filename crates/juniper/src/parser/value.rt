@@ -2,20 +2,21 @@
 ghost use Rattle.std.specs.Prelude.{◌≡◌, ◌<◌, length, OnOk, IfOk, not};
 ghost use Rattle.std.specs.Str.{chars};
 ghost use Rattle.graphql_lexical.specs.Kinds.{same_kind};
-ghost use Rattle.graphql_grammar.specs.Reading.{by_name};
+ghost use Rattle.graphql_grammar.specs.Productions.{by_name};
 ghost use Rattle.juniper_tokens.specs.Tokens.{token_kind, token_text};
 ghost use Rattle.juniper_tokens.specs.Spans.{view_span};
 ghost use Rattle.juniper_tokens.specs.Cursor.{EndsOnce, Gives, OnMemory};
 ghost use Rattle.juniper_tokens.specs.Delimited.{IsRest};
 ghost use Rattle.juniper.specs.Promise.{AnswersValue};
 ghost use Rattle.juniper.specs.View.{view_value, view_object_field};
-ghost use Rattle.juniper.specs.Values.{view_list, values_read, fields_read, list_read, object_read, variable_read, literal_read, literal_here, name_read, value_read, field_read};
+ghost use Rattle.juniper.specs.Values.{view_list, values_read, fields_read, list_read, object_read, variable_read, field_read};
+ghost use Rattle.juniper.specs.Steps.{value_read, scalar_read, literal_here};
 ghost use Rattle.juniper.specs.Scalars.{stated};
 ghost use Rattle.juniper_values.specs.Scalar.{MeetsReading};
 
 use crate::parser::lists::push_item;
 use crate::parser::next::{next_is, same_text};
-use juniper_tokens::{Kind, ParseError, ParseFailure, ParseResult, Parser, Spanning, Token};
+use juniper_tokens::{Kind, ParseError, ParseFailure, ParseResult, Parser, Span, Spanning, Token};
 use juniper_values::{InputValue, ReadFailure, ScalarValue};
 use std::alloc::{AllocError, Global};
 
@@ -37,7 +38,7 @@ pub fn parse_value_literal<'a, S: ScalarValue>(
 /// `Value(c) = a scalar token that the scalar type reads | Name | "$" Name where c is free
 ///           | "[" Value(c)* "]" | "{" (Name ":" Value(c))* "}"`
 #[cycle(value)]
-#[tactic(auto, unfolding(crate::specs::Values::value_read))]
+#[tactic(auto, using(crate::proofs::Readings::value_is), unfolding(graphql_grammar::specs::Productions::value, juniper_tokens::specs::Cursor::expect_name_at))]
 pub(crate) fn parse_value<'a, S: ScalarValue>(
     parser: &mut Parser<'a>,
     is_const: bool,
@@ -48,10 +49,22 @@ pub(crate) fn parse_value<'a, S: ScalarValue>(
     ensures rest { IsRest parser.old parser.new }
 {
     match parser.kind() {
-        Kind::BracketOpen => parse_list(parser, is_const),
-        Kind::CurlyOpen => parse_object(parser, is_const),
-        Kind::Dollar if !is_const => parse_variable(parser),
-        Kind::Name => parse_named_value(parser),
+        Kind::BracketOpen => {
+            let opening = parser.next_token()?.span;
+            parse_list(parser, is_const, opening)
+        }
+        Kind::CurlyOpen => {
+            let opening = parser.next_token()?.span;
+            parse_object(parser, is_const, opening)
+        }
+        Kind::Dollar if !is_const => {
+            let dollar = parser.next_token()?.span;
+            parse_variable(parser, dollar)
+        }
+        Kind::Name => {
+            let name = parser.expect_name()?;
+            Ok(value_of_name(parser.allocator(), name)?)
+        }
         Kind::String
         | Kind::BlockString
         | Kind::Float
@@ -71,18 +84,18 @@ pub(crate) fn parse_value<'a, S: ScalarValue>(
     }
 }
 
-/// `"[" Value(c)* "]"`
+/// `Value(c)* "]"`, after the bracket that stands at `opening`.
 #[cycle(value)]
-#[tactic(auto, unfolding(crate::specs::Values::list_read))]
+#[tactic(auto, unfolding(graphql_grammar::specs::Productions::list))]
 fn parse_list<'a, S: ScalarValue>(
     parser: &mut Parser<'a>,
     is_const: bool,
+    opening: Span,
 ) -> ParseResult<InputValue<S>>
-    ensures gives { Gives (view_value S.content) result parser.new (list_read (stated S.reading S.of_bool) (not is_const) parser.old) }
+    ensures gives { Gives (view_value S.content) result parser.new (list_read (stated S.reading S.of_bool) (not is_const) (view_span opening) parser.old) }
     ensures shorter { OnOk result (length parser.new < length parser.old) }
     ensures rest { IsRest parser.old parser.new }
 {
-    let opening = parser.expect(&Token::BracketOpen)?.span;
     let items = parse_items(parser, is_const)?;
     let end = items.span.end;
     Ok(Spanning::start_end(&opening.start, &end, InputValue::List(items.item)))
@@ -111,18 +124,18 @@ fn parse_items<'a, S: ScalarValue>(
     }
 }
 
-/// `"{" (Name ":" Value(c))* "}"`
+/// `(Name ":" Value(c))* "}"`, after the brace that stands at `opening`.
 #[cycle(value)]
-#[tactic(auto, unfolding(crate::specs::Values::object_read))]
+#[tactic(auto, unfolding(graphql_grammar::specs::Productions::object))]
 fn parse_object<'a, S: ScalarValue>(
     parser: &mut Parser<'a>,
     is_const: bool,
+    opening: Span,
 ) -> ParseResult<InputValue<S>>
-    ensures gives { Gives (view_value S.content) result parser.new (object_read (stated S.reading S.of_bool) (not is_const) parser.old) }
+    ensures gives { Gives (view_value S.content) result parser.new (object_read (stated S.reading S.of_bool) (not is_const) (view_span opening) parser.old) }
     ensures shorter { OnOk result (length parser.new < length parser.old) }
     ensures rest { IsRest parser.old parser.new }
 {
-    let opening = parser.expect(&Token::CurlyOpen)?.span;
     let fields = parse_fields(parser, is_const)?;
     let end = fields.span.end;
     Ok(Spanning::start_end(&opening.start, &end, InputValue::Object(fields.item)))
@@ -153,7 +166,7 @@ fn parse_fields<'a, S: ScalarValue>(
 
 /// `Name ":" Value(c)`
 #[cycle(value)]
-#[tactic(auto, unfolding(crate::specs::Values::field_read))]
+#[tactic(auto, unfolding(graphql_grammar::specs::Productions::key_and_value, juniper_tokens::specs::Cursor::expect_at, juniper_tokens::specs::Cursor::expect_name_at))]
 fn parse_object_field<'a, S: ScalarValue>(
     parser: &mut Parser<'a>,
     is_const: bool,
@@ -169,23 +182,25 @@ fn parse_object_field<'a, S: ScalarValue>(
     Ok((Spanning::new(key.span, text), value))
 }
 
-/// `"$" Name`
-#[tactic(auto, using(crate::proofs::ValueViews::view_of_variable), unfolding(crate::specs::Values::variable_read))]
-fn parse_variable<'a, S: ScalarValue>(parser: &mut Parser<'a>) -> ParseResult<InputValue<S>>
-    ensures gives { Gives (view_value S.content) result parser.new (variable_read (stated S.reading S.of_bool) parser.old) }
+/// `Name`, after the dollar that stands at `dollar`.
+#[tactic(auto, using(crate::proofs::ValueViews::view_of_variable), unfolding(graphql_grammar::specs::Productions::variable, juniper_tokens::specs::Cursor::expect_name_at))]
+fn parse_variable<'a, S: ScalarValue>(
+    parser: &mut Parser<'a>,
+    dollar: Span,
+) -> ParseResult<InputValue<S>>
+    ensures gives { Gives (view_value S.content) result parser.new (variable_read (stated S.reading S.of_bool) (view_span dollar) parser.old) }
     ensures shorter { OnOk result (length parser.new < length parser.old) }
     ensures rest { IsRest parser.old parser.new }
 {
-    let dollar = parser.expect(&Token::Dollar)?.span;
     let name = parser.expect_name()?;
     let text = String::from_str(parser.allocator(), name.item)?;
     Ok(Spanning::start_end(&dollar.start, &name.span.end, InputValue::Variable(text)))
 }
 
 /// A scalar token. Another token is refused.
-#[tactic(auto, using(crate::proofs::ValueViews::view_of_scalar), unfolding(crate::specs::Values::literal_read))]
+#[tactic(auto, using(crate::proofs::ValueViews::view_of_scalar), unfolding(crate::specs::Steps::scalar_read))]
 fn parse_scalar<'a, S: ScalarValue>(parser: &mut Parser<'a>) -> ParseResult<InputValue<S>>
-    ensures gives { Gives (view_value S.content) result parser.new (literal_read (stated S.reading S.of_bool) parser.old) }
+    ensures gives { Gives (view_value S.content) result parser.new (scalar_read (stated S.reading S.of_bool) parser.old) }
     ensures shorter { OnOk result (length parser.new < length parser.old) }
     ensures rest { IsRest parser.old parser.new }
 {
@@ -207,17 +222,6 @@ fn scalar_of<S: ScalarValue>(alloc: Global, token: Token<'_>) -> Result<S, ReadF
         Token::Scalar(scalar) => S::from_str(alloc, scalar),
         other => Err(ReadFailure::Refused(ParseError::unexpected_token(alloc, other)?)),
     }
-}
-
-/// A Name as a value.
-#[tactic(auto, unfolding(crate::specs::Values::name_read))]
-fn parse_named_value<'a, S: ScalarValue>(parser: &mut Parser<'a>) -> ParseResult<InputValue<S>>
-    ensures gives { Gives (view_value S.content) result parser.new (name_read (stated S.reading S.of_bool) parser.old) }
-    ensures shorter { OnOk result (length parser.new < length parser.old) }
-    ensures rest { IsRest parser.old parser.new }
-{
-    let name = parser.expect_name()?;
-    Ok(value_of_name(parser.allocator(), name)?)
 }
 
 /// `true` and `false` are scalars, `null` is of its own, any other name is one of an enum.

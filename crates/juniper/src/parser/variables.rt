@@ -17,7 +17,7 @@ use juniper_tokens::{Kind, OptionParseResult, ParseFailure, ParseResult, Parser,
 use juniper_values::{InputValue, ScalarValue};
 
 /// `("=" Value(const))?`
-#[tactic(auto, unfolding(crate::specs::Parts::default_read))]
+#[tactic(auto, unfolding(graphql_grammar::specs::Productions::default, juniper_tokens::specs::Cursor::expect_at))]
 fn parse_default<'a, S: ScalarValue>(parser: &mut Parser<'a>) -> OptionParseResult<InputValue<S>>
     ensures gives { Gives (option_map (view_value S.content)) result parser.new (default_read (stated S.reading S.of_bool) parser.old) }
     ensures not_longer { OnOk result (length parser.new ≤ length parser.old) }
@@ -31,7 +31,7 @@ fn parse_default<'a, S: ScalarValue>(parser: &mut Parser<'a>) -> OptionParseResu
 }
 
 /// `"$" Name ":" Type ("=" Value(const))? Directive*`
-#[tactic(auto, using(crate::proofs::PartViews::without_span), unfolding(crate::specs::Parts::variable_definition_read))]
+#[tactic(auto, using(crate::proofs::PartViews::without_span), unfolding(graphql_grammar::specs::Productions::variable_definition, juniper_tokens::specs::Cursor::expect_at, juniper_tokens::specs::Cursor::expect_name_at))]
 fn parse_variable_definition<'a, S: ScalarValue>(
     parser: &mut Parser<'a>,
 ) -> Result<(Spanning<&'a str>, VariableDefinition<'a, S>), ParseFailure>
@@ -76,7 +76,7 @@ fn parse_variable_list<'a, S: ScalarValue>(
 }
 
 /// `Variables = "(" ("$" Name ":" Type ("=" Value(const))? Directive*)+ ")"`
-#[tactic(auto, unfolding(crate::specs::Parts::variables_read))]
+#[tactic(auto, unfolding(graphql_grammar::specs::Productions::variables, juniper_tokens::specs::Cursor::expect_at))]
 fn parse_variables<'a, S: ScalarValue>(
     parser: &mut Parser<'a>,
 ) -> ParseResult<VariableDefinitions<'a, S>>
@@ -94,7 +94,7 @@ fn parse_variables<'a, S: ScalarValue>(
 }
 
 /// `Variables?`
-#[tactic(auto, unfolding(crate::specs::Parts::optional_variables_read))]
+#[tactic(auto, unfolding(graphql_grammar::specs::Productions::optional_variables))]
 pub(crate) fn parse_optional_variables<'a, S: ScalarValue>(
     parser: &mut Parser<'a>,
 ) -> OptionParseResult<VariableDefinitions<'a, S>>

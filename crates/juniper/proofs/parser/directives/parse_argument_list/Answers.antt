@@ -8,7 +8,7 @@ use Rattle.juniper.specs.Scalars.{stated}
 use Rattle.juniper.specs.View.{view_argument}
 use Rattle.juniper.specs.Parts.{argument_read, arguments_inner_read}
 use Rattle.juniper.proofs.Loops.{some_go_on, some_end, some_item_fails, some_close_fails}
-use Rattle.juniper.proofs.SeenParts.{arguments_repeat}
+use Rattle.juniper.proofs.Readings.{arguments_repeat}
 use Rattle.juniper.proofs.parser.directives.parse_argument_list.Goals as goal
 
 pub returns-in_err-parse_argument-clause-gives : goal.returns-in_err-parse_argument-clause-gives

@@ -4,12 +4,13 @@ use Rattle.graphql_lexical.specs.Place.{Span}
 use Rattle.graphql_grammar.specs.Tokens.{from_to, to_end_of}
 use Rattle.juniper_tokens.specs.Spans.{view_span}
 use Rattle.juniper.specs.View.{view_word, view_arguments}
-use Rattle.juniper.specs.Parts.{directive_read}
+use Rattle.graphql_grammar.specs.Productions.{directive}
+use Rattle.juniper_tokens.specs.Cursor.{expect_at, expect_name_at}
 use Rattle.juniper.proofs.PartViews.{end_of_part}
 use Rattle.juniper.proofs.parser.directives.parse_directive.Goals as goal
 
 pub returns-clause-gives : goal.returns-clause-gives
-unfolding directive_read
+unfolding directive expect_at expect_name_at
 returns-clause-gives g c =
     rw (c.in_ok-start.ensures.gives, c.in_ok-name.ensures.gives, c.in_ok-arguments.ensures.gives, c.new.ensures)
     (ap (λ (p : Span). Ok (

@@ -7,16 +7,17 @@ use Rattle.graphql_lexical.specs.Kinds.{same_kind}
 use Rattle.graphql_grammar.specs.Tree.{Directive}
 use Rattle.juniper_tokens.specs.Cursor.{Read, ◌>>=◌, kind_at}
 use Rattle.juniper_values.specs.Scalar.{Content}
+use Rattle.graphql_grammar.specs.Productions.{all_directives, directives}
 use Rattle.juniper.specs.Scalars.{stated}
 use Rattle.juniper.specs.View.{view_directive}
-use Rattle.juniper.specs.Parts.{directive_read, each_directive_read, directives_read, spanned}
+use Rattle.juniper.specs.Parts.{directive_read, each_directive_read}
 use Rattle.juniper.proofs.Loops.{before_go_on, before_end, before_fail, after_fails}
 use Rattle.juniper.proofs.PartViews.{spanned_is}
-use Rattle.juniper.proofs.SeenParts.{each_directive_unfolds}
+use Rattle.juniper.proofs.Readings.{each_directive_unfolds}
 use Rattle.juniper.proofs.parser.directives.parse_directives.Goals as goal
 
 pub returns-in_err-parse_directive-clause-gives : goal.returns-in_err-parse_directive-clause-gives
-unfolding directives_read
+unfolding directives
 returns-in_err-parse_directive-clause-gives g c =
     let scalars = stated g.S.ParseScalarValue.reading g.S.ScalarValue.of_bool in
     let p = err_from_is_err_and c.from_residual.result c.from_residual.ensures.1 in
@@ -46,10 +47,10 @@ loop-items-preserved g c =
     }
 
 pub returns-clause-gives : goal.returns-clause-gives
-unfolding directives_read
+unfolding directives
 returns-clause-gives g c =
     let scalars = stated g.S.ParseScalarValue.reading g.S.ScalarValue.of_bool in
-    ap (λ (r : Read (List (Directive Content))). r >>= λ ds. Ok (spanned scalars ds.0, ds.1))
+    ap (λ (r : Read (List (Directive Content))). r >>= λ ds. Ok (all_directives ds.0, ds.1))
     (before_end (map (view_directive g.S.ParseScalarValue.content) c.loop-items.items.items)
     (directive_read scalars c.loop-items.parser) (each_directive_read scalars)
     ((each_directive_read scalars) c.loop-items.parser) ((each_directive_read scalars) c.args.parser.now)
@@ -57,5 +58,5 @@ returns-clause-gives g c =
     (each_directive_unfolds scalars c.loop-items.parser c.next_is.ensures.ended) c.loop-items.invariant.so_far
     (sym c.next_is.ensures.is ∙ c.loop-items-test.false))
     ∙ ap (λ (o : Option (List (Directive Content) × Span)). Ok (o, c.loop-items.parser))
-    (sym (spanned_is g.S.ParseScalarValue.content scalars c.loop-items.items c.spanning.result
+    (sym (spanned_is g.S.ParseScalarValue.content c.loop-items.items c.spanning.result
     c.spanning.ensures.span c.spanning.ensures.items))

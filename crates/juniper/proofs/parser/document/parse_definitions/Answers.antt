@@ -4,7 +4,7 @@ use Rattle.std.proofs.lemmas.List.{map-append}
 use Rattle.juniper.specs.Scalars.{stated}
 use Rattle.juniper.specs.View.{view_definition}
 use Rattle.juniper.specs.Definitions.{document_read}
-use Rattle.juniper.proofs.SeenDocuments.{go_on, end, fail}
+use Rattle.juniper.proofs.Documents.{go_on, end, fail}
 use Rattle.juniper.proofs.parser.document.parse_definitions.Goals as goal
 
 pub returns-in_err-definition : goal.returns-in_err-definition
@@ -26,7 +26,8 @@ returns-then-is_last g c =
       end scalars (map (view_definition g.S.ParseScalarValue.content) c.loop-definitions.definitions.items)
           c.loop-definitions.parser (document_read scalars c.args.parser.now) c.loop-definitions.invariant.so_far
           (view_definition g.S.ParseScalarValue.content c.in_ok-definition.definition) c.parse_definition.new.parser
-          c.in_ok-definition.ensures.gives c.next_is-is_last.ensures.ended (sym c.next_is-is_last.ensures.is ∙ c.if-is_last.true)
+          c.in_ok-definition.ensures.gives c.next_is-is_last.ensures.ended
+          (sym c.next_is-is_last.ensures.is ∙ c.if-is_last.true)
           ∙ rw (c.in_ok-push_item.ensures.items, map-append) refl,
     )
 
@@ -37,5 +38,6 @@ loop-definitions-preserved g c =
           (go_on scalars (map (view_definition g.S.ParseScalarValue.content) c.loop-definitions.definitions.items)
           c.loop-definitions.parser (document_read scalars c.args.parser.now) c.loop-definitions.invariant.so_far
           (view_definition g.S.ParseScalarValue.content c.in_ok-definition.definition) c.parse_definition.new.parser
-          c.in_ok-definition.ensures.gives c.next_is-is_last.ensures.ended (sym c.next_is-is_last.ensures.is ∙ c.if-is_last.false));
+          c.in_ok-definition.ensures.gives c.next_is-is_last.ensures.ended
+          (sym c.next_is-is_last.ensures.is ∙ c.if-is_last.false));
     }

@@ -4,15 +4,17 @@ use Rattle.std.proofs.lemmas.List.{map-append}
 use Rattle.graphql_grammar.specs.Tokens.{from_to}
 use Rattle.juniper_tokens.specs.declared.token.Token.TheVariants as token
 use Rattle.juniper_tokens.specs.Tokens.{view_token}
-use Rattle.juniper_tokens.specs.Cursor.{skip_at}
+use Rattle.juniper_tokens.specs.Cursor.{skip_at, expect_at}
 use Rattle.graphql_grammar.specs.Tree.{Selection, Selections}
 use Rattle.juniper_tokens.specs.Spans.{view_span}
 use Rattle.juniper_values.specs.Scalar.{Content}
 use Rattle.juniper.specs.Scalars.{stated}
 use Rattle.juniper.specs.View.{view_selection}
-use Rattle.juniper.specs.Selections.{set_read, field_read, selection_read, selections_inner_read}
+use Rattle.juniper.specs.Selections.{selections_inner_read}
+use Rattle.juniper.specs.Steps.{selection_read}
+use Rattle.graphql_grammar.specs.Productions.{selection_set, field}
 use Rattle.juniper.proofs.Loops.{some_go_on, some_end, some_item_fails, some_close_fails}
-use Rattle.juniper.proofs.SeenSelections.{selections_repeat}
+use Rattle.juniper.proofs.Readings.{selections_repeat}
 use Rattle.juniper.proofs.SelectionViews.{selections_are, field_view, whole_span}
 use Rattle.juniper.proofs.parser.selection.+selection.Goals as goal
 
@@ -61,7 +63,7 @@ parse_selection_list-loop-items-preserved g t c =
     }
 
 pub parse_selection_set-returns-clause-gives : goal.parse_selection_set-returns-clause-gives
-unfolding set_read
+unfolding selection_set expect_at
 parse_selection_set-returns-clause-gives g t c =
     rw (c.in_ok-opening.ensures.gives, c.in_ok-list.ensures.gives, c.start_end.ensures)
     (ap (λ (ss : Selections Content). Ok (
@@ -75,7 +77,7 @@ parse_selection_set-returns-clause-gives g t c =
     (selections_are g.S.ParseScalarValue.content c.in_ok-list.list.item.items))
 
 pub parse_field-returns-clause-gives : goal.parse_field-returns-clause-gives
-unfolding field_read
+unfolding field
 parse_field-returns-clause-gives g t c =
     rw (
       c.in_ok-alias.ensures.gives,

@@ -4,7 +4,7 @@ use Rattle.juniper.specs.Scalars.{stated}
 use Rattle.juniper.specs.View.{view_definition}
 use Rattle.juniper.specs.Definitions.{document_read}
 use Rattle.juniper.proofs.Loops.{before_none}
-use Rattle.juniper.proofs.SeenDocuments.{go_on, end, fail}
+use Rattle.juniper.proofs.Documents.{go_on, end, fail}
 use Rattle.juniper.proofs.Sinks.{grown, grown_none}
 use Rattle.juniper.proofs.parser.sink.give_definitions.Goals as goal
 

@@ -1,14 +1,17 @@
 use Rattle.std.proofs.Common.{rules}
-use Rattle.juniper.proofs.SeenTypes.{type_seen}
+use Rattle.graphql_grammar.specs.Productions.{type}
+use Rattle.juniper.proofs.Readings.{type_is}
 use Rattle.juniper_tokens.proofs.Rests.{further}
 use Rattle.juniper.proofs.parser.types.+types.Goals as goal
 
 pub parse_any_type-returns-clause-gives : goal.parse_any_type-returns-clause-gives
-parse_any_type-returns-clause-gives t c = rw (type_seen c.args.parser.now) (search rules)
+unfolding type
+parse_any_type-returns-clause-gives t c = rw (type_is c.args.parser.now) (search rules)
 
 pub parse_any_type-returns-in_err-inner-clause-gives :
     goal.parse_any_type-returns-in_err-inner-clause-gives
-parse_any_type-returns-in_err-inner-clause-gives t c = rw (type_seen c.args.parser.now) (search rules)
+unfolding type
+parse_any_type-returns-in_err-inner-clause-gives t c = rw (type_is c.args.parser.now) (search rules)
 
 pub parse_any_type-returns-clause-rest : goal.parse_any_type-returns-clause-rest
 parse_any_type-returns-clause-rest t c = further _ _ _ c.in_ok-inner.ensures.rest c.parse_non_null.ensures.rest

@@ -10,11 +10,13 @@ use Rattle.juniper_values.specs.Scalar.{Content}
 use Rattle.graphql_grammar.specs.Tree.{Value}
 use Rattle.juniper.specs.Scalars.{stated}
 use Rattle.juniper.specs.View.{view_value, view_object_field}
-use Rattle.juniper.specs.Values.{list_read, object_read, value_read, values_read, field_read, fields_read}
+use Rattle.juniper.specs.Values.{values_read, field_read, fields_read}
+use Rattle.juniper.specs.Steps.{value_read}
+use Rattle.graphql_grammar.specs.Productions.{list, object}
 use Rattle.juniper.proofs.Cursors.{skip_shorter}
 use Rattle.juniper.proofs.Loops.{goes_on, ends, close_fails, item_fails}
 use Rattle.juniper_tokens.proofs.Rests.{further}
-use Rattle.juniper.proofs.SeenValues.{values_repeat, fields_repeat}
+use Rattle.juniper.proofs.Readings.{values_repeat, fields_repeat}
 use Rattle.juniper.proofs.ValueViews.{view_of_list, view_of_object}
 use Rattle.juniper.proofs.parser.value.+value.Goals as goal
 
@@ -100,7 +102,8 @@ parse_fields-loop-fields-preserved g t c =
           (goes_on (skip_at token.CurlyClose) (field_read scalars (not c.args.is_const))
           (fields_read scalars (not c.args.is_const)) (fields_repeat scalars (not c.args.is_const))
           (map (view_object_field g.S.ParseScalarValue.content) c.loop-fields.fields.items) c.loop-fields.parser _
-          c.loop-fields.invariant.so_far (view_object_field g.S.ParseScalarValue.content c.in_ok-parse_object_field.field-0)
+          c.loop-fields.invariant.so_far
+          (view_object_field g.S.ParseScalarValue.content c.in_ok-parse_object_field.field-0)
           c.skip.new.self c.parse_object_field.new.parser (rw c.in_default.is at c.in_ok-closing.ensures.gives)
           c.in_ok-parse_object_field.ensures.gives);
       not_longer = search rules;
@@ -109,20 +112,20 @@ parse_fields-loop-fields-preserved g t c =
     }
 
 pub parse_list-returns-clause-gives : goal.parse_list-returns-clause-gives
-unfolding list_read
+unfolding list
 parse_list-returns-clause-gives g t c =
-    rw (c.in_ok-opening.ensures.gives, c.in_ok-items.ensures.gives, c.start_end.ensures)
+    rw (c.in_ok-items.ensures.gives, c.start_end.ensures)
     (ap (λ (v : Value Content). Ok (v, c.parse_items.new.parser))
     (sym (view_of_list g.S.ParseScalarValue.content c.in_ok-items.items.item
-    (from_to (view_span c.in_ok-opening.field-0.span) (view_span c.in_ok-items.items.span)))))
+    (from_to (view_span c.args.opening) (view_span c.in_ok-items.items.span)))))
 
 pub parse_object-returns-clause-gives : goal.parse_object-returns-clause-gives
-unfolding object_read
+unfolding object
 parse_object-returns-clause-gives g t c =
-    rw (c.in_ok-opening.ensures.gives, c.in_ok-fields.ensures.gives, c.start_end.ensures)
+    rw (c.in_ok-fields.ensures.gives, c.start_end.ensures)
     (ap (λ (v : Value Content). Ok (v, c.parse_fields.new.parser))
     (sym (view_of_object g.S.ParseScalarValue.content c.in_ok-fields.fields.item
-    (from_to (view_span c.in_ok-opening.field-0.span) (view_span c.in_ok-fields.fields.span)))))
+    (from_to (view_span c.args.opening) (view_span c.in_ok-fields.fields.span)))))
 
 pub parse_items-returns-in_err-closing-clause-rest : goal.parse_items-returns-in_err-closing-clause-rest
 parse_items-returns-in_err-closing-clause-rest g t c =
@@ -158,20 +161,6 @@ pub parse_fields-returns-in_err-push_item-clause-rest : goal.parse_fields-return
 parse_fields-returns-in_err-push_item-clause-rest g t c =
     further _ _ _ c.loop-fields.invariant.rest
     (further _ _ _ c.in_ok-closing.ensures.rest c.in_ok-parse_object_field.ensures.rest)
-
-pub parse_list-returns-in_err-items-clause-rest : goal.parse_list-returns-in_err-items-clause-rest
-parse_list-returns-in_err-items-clause-rest g t c =
-    further _ _ _ c.in_ok-opening.ensures.rest c.in_err-items.ensures.rest
-
-pub parse_list-returns-clause-rest : goal.parse_list-returns-clause-rest
-parse_list-returns-clause-rest g t c = further _ _ _ c.in_ok-opening.ensures.rest c.in_ok-items.ensures.rest
-
-pub parse_object-returns-in_err-fields-clause-rest : goal.parse_object-returns-in_err-fields-clause-rest
-parse_object-returns-in_err-fields-clause-rest g t c =
-    further _ _ _ c.in_ok-opening.ensures.rest c.in_err-fields.ensures.rest
-
-pub parse_object-returns-clause-rest : goal.parse_object-returns-clause-rest
-parse_object-returns-clause-rest g t c = further _ _ _ c.in_ok-opening.ensures.rest c.in_ok-fields.ensures.rest
 
 pub parse_object_field-returns-in_err-expect-clause-rest : goal.parse_object_field-returns-in_err-expect-clause-rest
 parse_object_field-returns-in_err-expect-clause-rest g t c =

@@ -7,10 +7,10 @@ use Rattle.juniper_tokens.specs.Delimited.{IsRest}
 use Rattle.juniper.proofs.parser.value.+value.Given as goal
 
 abbrev pub decreases-parse_list : goal.decreases-parse_list
-decreases-parse_list g l = 4 * length l.parser.now
+decreases-parse_list g l = 4 * length l.parser.now + 3
 
 abbrev pub decreases-parse_object : goal.decreases-parse_object
-decreases-parse_object g l = 4 * length l.parser.now
+decreases-parse_object g l = 4 * length l.parser.now + 2
 
 abbrev pub decreases-parse_object_field : goal.decreases-parse_object_field
 decreases-parse_object_field g l = 4 * length l.parser.now

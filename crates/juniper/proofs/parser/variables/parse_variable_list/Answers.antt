@@ -8,7 +8,7 @@ use Rattle.juniper.specs.Scalars.{stated}
 use Rattle.juniper.specs.View.{view_variable}
 use Rattle.juniper.specs.Parts.{variable_definition_read, variables_inner_read}
 use Rattle.juniper.proofs.Loops.{some_go_on, some_end, some_item_fails, some_close_fails}
-use Rattle.juniper.proofs.SeenParts.{variables_repeat}
+use Rattle.juniper.proofs.Readings.{variables_repeat}
 use Rattle.juniper.proofs.parser.variables.parse_variable_list.Goals as goal
 
 pub returns-in_err-parse_variable_definition-clause-gives : goal.returns-in_err-parse_variable_definition-clause-gives

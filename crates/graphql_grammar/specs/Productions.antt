@@ -1,0 +1,266 @@
+-- How each production is read: one step after another, as the code takes them. A device of the proofs, and no definition.
+use Rattle.std.specs.Prelude.{ℕ, zero, suc, Bool, true, false, ◌&&◌, ◌||◌, not, List, [], ◌∷◌, codes, bytes_eq, Option, Some, None, option_map, if◌then◌else◌}
+use Rattle.graphql_lexical.specs.declared.kind.Kind.{Kind}
+use Rattle.graphql_lexical.specs.declared.kind.Kind.TheVariants.{ParenOpen, ParenClose, At, Ellipsis, Equals, Name, Dollar, BracketOpen, BracketClose, CurlyOpen, CurlyClose, Colon, ExclamationMark, EndOfFile}
+use Rattle.graphql_lexical.specs.Place.{Place, Span}
+use Rattle.graphql_grammar.specs.Tokens.{Text, Word, word_of, over, from_to, to_end_of}
+use Rattle.graphql_grammar.specs.Tree.{Scalars, Value, Null, Scalar, Enum, Variable, ListOf, Object, Items, no_items, item, ObjectFields, no_fields, object_field, TypeRef, NamedType, ListType, NonNullType, Argument, Arguments, Directive, Directives, VariableDefinition, Variables, Selection, Field, FragmentSpread, InlineFragment, Selections, no_selections, selection, OptionalSelections, absent, present, Definition, Operation, Fragment}
+use Rattle.graphql_grammar.specs.declared.operation.OperationType.{OperationType}
+use Rattle.graphql_grammar.specs.declared.operation.OperationType.TheVariants.{Query, Mutation, Subscription}
+use Rattle.graphql_grammar.specs.Reading.{Test, of, word, Reader, Out, Symbol, a_value, a_type, a_selection, Steps, gives, gives_at, wants, takes, sees, part, symbol, spanned, scalar, closed, each, run}
+
+-- a part that begins with a token of this kind, if it stands there
+abbrev pub optional : {C A : Type 0} → Kind → Steps C A → Steps C (Option A)
+optional kind p = sees (of kind) (part p (λ a. gives (Some a))) (gives None)
+
+-- one item or more up to a closing token, and where that stands
+abbrev pub several : {C A : Type 0} → Kind → Steps C A → Steps C (List A × Span)
+several kind p = part p (λ x. closed (of kind) p (λ xs q. gives (x ∷ xs, q)))
+
+-- ---- values
+
+abbrev pub by_name : {C F : Type 0} → Scalars C F → Text → Span → Value C
+by_name S w p = if bytes_eq w (codes "true") then Scalar (S.of_bool true) p
+    else if bytes_eq w (codes "false") then Scalar (S.of_bool false) p
+    else if bytes_eq w (codes "null") then Null p
+    else Enum w p
+
+abbrev pub items_of : {C : Type 0} → List (Value C) → Items C
+items_of [] = no_items
+items_of (v ∷ vs) = item v (items_of vs)
+
+abbrev pub fields_of : {C : Type 0} → List (Word × Value C) → ObjectFields C
+fields_of [] = no_fields
+fields_of (x ∷ xs) = object_field x.0.text x.0.span x.1 (fields_of xs)
+
+abbrev pub variable_start : Bool → Test
+variable_start free kind text = free && of Dollar kind text
+
+-- from a part that may stand before
+abbrev pub from_start_of : Option Span → Span → Span
+from_start_of None p = p
+from_start_of (Some q) p = from_to q p
+
+-- an alias, if there is one, and the name
+abbrev pub names_span : Option Word × Word → Span
+names_span n = from_start_of (option_map (λ w. w.span) n.0) n.1.span
+
+-- a Name other than `on`
+abbrev pub other_than_on : Test
+other_than_on kind text = of Name kind text && not (bytes_eq text (codes "on"))
+
+abbrev pub operation_word : Test
+operation_word kind text = word (codes "query") kind text || word (codes "mutation") kind text || word (codes "subscription") kind text
+
+-- the type of the operation that begins with this word
+abbrev pub operation_of : Text → OperationType
+operation_of text = if bytes_eq text (codes "mutation") then Mutation else (if bytes_eq text (codes "subscription") then Subscription else Query)
+
+module _ {C : Type 0} where
+  -- "$" Name, from the dollar's p on
+  unfoldable pub variable : Span → Steps C (Value C)
+  variable p = wants (of Name) (λ w. gives (Variable w.text (from_to p w.span)))
+
+  -- Value(c)* "]", from the bracket's p on
+  unfoldable pub list : Bool → Span → Steps C (Value C)
+  list free p = closed (of BracketClose) (symbol (a_value free)) (λ vs q. gives (ListOf (items_of vs) (from_to p q)))
+
+  -- Name ":" Value(c)
+  unfoldable pub key_and_value : Bool → Steps C (Word × Value C)
+  key_and_value free = wants (of Name) (λ k. wants (of Colon) (λ c. part (symbol (a_value free)) (λ v. gives (word_of k, v))))
+
+  -- (Name ":" Value(c))* "}", from the brace's p on
+  unfoldable pub object : Bool → Span → Steps C (Value C)
+  object free p = closed (of CurlyClose) (key_and_value free) (λ fs q. gives (Object (fields_of fs) (from_to p q)))
+
+  unfoldable pub value : {F : Type 0} → Scalars C F → Bool → Steps C (Value C)
+  value S free =
+      takes (of BracketOpen) (λ o. list free o.span)
+      (takes (of CurlyOpen) (λ o. object free o.span)
+      (takes (variable_start free) (λ d. variable d.span)
+      (takes (of Name) (λ t. gives (by_name S t.text t.span))
+      (scalar gives))))
+
+  -- ---- types
+
+  -- Name
+  unfoldable pub named_type : Steps C (TypeRef × Span)
+  named_type = wants (of Name) (λ w. gives (NamedType w.text, w.span))
+
+  -- "[" Type "]"
+  unfoldable pub list_type : Steps C (TypeRef × Span)
+  list_type = wants (of BracketOpen) (λ o. part (symbol a_type) (λ x. wants (of BracketClose) (λ c. gives (ListType None x.0, from_to o.span c.span))))
+
+  unfoldable pub nullable_type : Steps C (TypeRef × Span)
+  nullable_type = sees (of Name) named_type list_type
+
+  -- "!"?, after a type
+  unfoldable pub non_null : TypeRef × Span → Steps C (TypeRef × Span)
+  non_null x = takes (of ExclamationMark) (λ m. gives (NonNullType x.0, from_to x.1 m.span)) (gives x)
+
+  unfoldable pub type : Steps C (TypeRef × Span)
+  type = part nullable_type (λ x. non_null x)
+
+  -- ---- arguments and directives
+
+  -- Name ":" Value(free)
+  unfoldable pub argument : Steps C (Argument C)
+  argument = wants (of Name) (λ k. wants (of Colon) (λ c. part (symbol (a_value true)) (λ v. gives (record { name = word_of k; value = v }))))
+
+  unfoldable pub arguments_inner : Steps C (List (Argument C) × Span)
+  arguments_inner = several ParenClose argument
+
+  -- "(" (Name ":" Value(free))+ ")"
+  unfoldable pub arguments : Steps C (Arguments C)
+  arguments = spanned (wants (of ParenOpen) (λ o. part arguments_inner (λ xs. gives_at (from_to o.span xs.1) (λ p. record { items = xs.0; span = p }))))
+
+  unfoldable pub optional_arguments : Steps C (Option (Arguments C))
+  optional_arguments = optional ParenOpen arguments
+
+  -- "@" Name Arguments?
+  unfoldable pub directive : Steps C (Directive C)
+  directive = spanned (wants (of At) (λ a. wants (of Name) (λ w. part optional_arguments (λ xs.
+      gives_at (to_end_of (from_to a.span w.span) (option_map (λ x. x.span) xs)) (λ p. record { name = word_of w; arguments = xs; span = p })))))
+
+  abbrev pub last_end : Place → List (Directive C) → Place
+  last_end e [] = e
+  last_end e (d ∷ ds) = last_end d.span.end ds
+
+  -- directives from the first one's start to the last one's end; None where there is none
+  abbrev pub all_directives : List (Directive C) → Option (List (Directive C) × Span)
+  all_directives [] = None
+  all_directives (d ∷ ds) = Some (d ∷ ds, record { start = d.span.start; end = last_end d.span.end ds })
+
+  -- without their span
+  abbrev pub directives_of : Option (List (Directive C) × Span) → Directives C
+  directives_of o = option_map (λ x. x.0) o
+
+  -- Directive*
+  unfoldable pub directives : Steps C (Option (List (Directive C) × Span))
+  directives = each (of At) directive (λ ds. gives (all_directives ds))
+
+  -- ---- variable definitions
+
+  -- ("=" Value(const))?
+  unfoldable pub default : Steps C (Option (Value C))
+  default = sees (of Equals) (wants (of Equals) (λ e. part (symbol (a_value false)) (λ v. gives (Some v)))) (gives None)
+
+  -- "$" Name ":" Type ("=" Value(const))? Directive*
+  unfoldable pub variable_definition : Steps C (VariableDefinition C)
+  variable_definition = wants (of Dollar) (λ d. wants (of Name) (λ w. wants (of Colon) (λ c. part (symbol a_type) (λ x. part default (λ v. part directives (λ ds.
+      gives (record { name = record { text = w.text; span = over d w }; of_type = x.0; type_span = x.1; default = v; directives = directives_of ds })))))))
+
+  unfoldable pub variables_inner : Steps C (List (VariableDefinition C) × Span)
+  variables_inner = several ParenClose variable_definition
+
+  -- "(" VariableDefinition+ ")"
+  unfoldable pub variables : Steps C (Variables C)
+  variables = spanned (wants (of ParenOpen) (λ o. part variables_inner (λ xs. gives_at (from_to o.span xs.1) (λ p. record { items = xs.0; span = p }))))
+
+  unfoldable pub optional_variables : Steps C (Option (Variables C))
+  optional_variables = optional ParenOpen variables
+
+  -- ---- selections
+
+  abbrev pub selections_of : List (Selection C) → Selections C
+  selections_of [] = no_selections
+  selections_of (s ∷ ss) = selection s (selections_of ss)
+
+  unfoldable pub selections_inner : Steps C (List (Selection C) × Span)
+  selections_inner = several CurlyClose (symbol a_selection)
+
+  -- "{" Selection+ "}", and its span
+  unfoldable pub selection_set : Steps C (Selections C × Span)
+  selection_set = spanned (wants (of CurlyOpen) (λ o. part selections_inner (λ ss. gives_at (from_to o.span ss.1) (λ p. (selections_of ss.0, p)))))
+
+  unfoldable pub optional_set : Steps C (Option (Selections C × Span))
+  optional_set = optional CurlyOpen selection_set
+
+  abbrev pub optional_of : Option (Selections C × Span) → OptionalSelections C
+  optional_of None = absent
+  optional_of (Some s) = present s.0
+
+  -- (Name ":")? Name
+  abbrev pub names : Steps C (Option Word × Word)
+  names = wants (of Name) (λ a. takes (of Colon) (λ c. wants (of Name) (λ t. gives (Some (word_of a), word_of t))) (gives (None, word_of a)))
+
+  -- (Name ":")? Name Arguments? Directive* SelectionSet?
+  unfoldable pub field : Steps C (Selection C)
+  field = spanned (part names (λ n. part optional_arguments (λ xs. part directives (λ ds. part optional_set (λ ss.
+      gives_at (to_end_of (to_end_of (to_end_of (names_span n) (option_map (λ x. x.span) xs)) (option_map (λ x. x.1) ds)) (option_map (λ x. x.1) ss))
+      (Field n.0 n.1 xs (directives_of ds) (optional_of ss)))))))
+
+  -- Directive*, after a FragmentName and three dots that stand at p
+  unfoldable pub named_spread : Span → Word → Steps C (Span → Selection C)
+  named_spread p w = part directives (λ ds. gives_at (to_end_of (from_to p w.span) (option_map (λ x. x.1) ds)) (FragmentSpread w (directives_of ds)))
+
+  -- Directive* SelectionSet
+  unfoldable pub inline_parts : Steps C (Directives C × (Selections C × Span))
+  inline_parts = part directives (λ ds. part selection_set (λ ss. gives (directives_of ds, ss)))
+
+  -- Directive* SelectionSet, after three dots that stand at p
+  unfoldable pub inline : Span → Option Word → Steps C (Span → Selection C)
+  inline p w = part inline_parts (λ b. gives_at (from_to p b.1.1) (InlineFragment w b.0 b.1.0))
+
+  -- Name Directive* SelectionSet, after `on` and three dots that stand at p
+  unfoldable pub typed : Span → Steps C (Span → Selection C)
+  typed p = wants (of Name) (λ t. inline p (Some (word_of t)))
+
+  -- "..." FragmentName Directive* | "..." ("on" Name)? Directive* SelectionSet
+  unfoldable pub spread : Steps C (Selection C)
+  spread = spanned (wants (of Ellipsis) (λ e.
+      takes (word (codes "on")) (λ o. typed e.span)
+      (takes other_than_on (λ t. named_spread e.span (word_of t))
+      (inline e.span None))))
+
+  unfoldable pub any_selection : Steps C (Selection C)
+  any_selection = sees (of Ellipsis) spread field
+
+  -- ---- definitions
+
+  -- Name?
+  abbrev pub optional_name : Steps C (Option Word)
+  optional_name = sees (of Name) (wants (of Name) (λ w. gives (Some (word_of w)))) (gives None)
+
+  -- Name? Variables? Directive* SelectionSet, after the word that stands at p
+  unfoldable pub operation : OperationType → Span → Steps C (Span → Definition C)
+  operation o p = part optional_name (λ n. part optional_variables (λ vs. part inline_parts (λ b.
+      gives_at (from_to p b.1.1) (Operation o n vs b.0 b.1.0))))
+
+  -- "on" Name
+  abbrev pub type_condition : Steps C Word
+  type_condition = wants (word (codes "on")) (λ o. wants (of Name) (λ t. gives (word_of t)))
+
+  -- a Name other than "on"
+  abbrev pub fragment_name : Steps C Word
+  fragment_name = wants other_than_on (λ t. gives (word_of t))
+
+  -- FragmentName "on" Name Directive* SelectionSet, after the word that stands at p
+  unfoldable pub fragment : Span → Steps C (Span → Definition C)
+  fragment p = part fragment_name (λ n. part type_condition (λ t. part inline_parts (λ b. gives_at (from_to p b.1.1) (Fragment n t b.0 b.1.0))))
+
+  -- SelectionSet
+  unfoldable pub shorthand : Steps C (Span → Definition C)
+  shorthand = part selection_set (λ s. gives_at s.1 (Operation Query None None None s.0))
+
+  unfoldable pub definition : Steps C (Definition C)
+  definition = spanned (takes operation_word (λ w. operation (operation_of w.text) w.span) (takes (word (codes "fragment")) (λ w. fragment w.span) shorthand))
+
+  -- Definition+, and the end
+  unfoldable pub document : Steps C (List (Definition C))
+  document = part definition (λ x. closed (of EndOfFile) definition (λ xs q. gives (x ∷ xs)))
+
+-- ---- with fuel
+
+module _ {C F : Type 0} (S : Scalars C F) where
+  abbrev pub steps_of : {A : Type 0} → Symbol C A → Steps C A
+  steps_of (a_value free) = value S free
+  steps_of a_type = type
+  steps_of a_selection = any_selection
+
+  unfoldable pub symbol_at : ℕ → (A : Type 0) → Symbol C A → Reader F A
+  symbol_at zero A r ts = Out
+  symbol_at (suc n) A r ts = run S (symbol_at n) n (steps_of r) ts
+
+  abbrev pub reads : ℕ → {A : Type 0} → Steps C A → Reader F A
+  reads n p = run S (symbol_at n) n p

@@ -1,0 +1,231 @@
+-- The steps of a production, as readers of the grammar and as a cursor: what both answer.
+use Rattle.std.proofs.Common.{◌≡◌, ℕ, suc, length, arith, Bool, true, false, cond, List, [], ◌∷◌, Ok, Err, refl, sym, ap, ◌∙◌, subst, ◌⊎◌, inl, inr}
+use Rattle.graphql_lexical.specs.Place.{Span}
+use Rattle.graphql_lexical.specs.Cutting.{Lexeme}
+use Rattle.graphql_grammar.specs.Tokens.{span_of}
+use Rattle.graphql_grammar.specs.Tree.{Scalars, Value}
+use Rattle.graphql_grammar.specs.Reading.{Test, passes, Took, Refused, Out, Reader, after, seq, done, want, literal, on, pick, look, choose, with_span, front, many, repeated, fully}
+use Rattle.graphql_grammar.specs.Reading as reading
+use Rattle.graphql_grammar.specs.Reading.{Symbol, a_value, a_type, a_selection, Steps, gives, gives_at, wants, takes, sees, part, symbol, spanned, scalar, closed, each}
+use Rattle.graphql_grammar.specs.Productions.{symbol_at, reads}
+use Rattle.graphql_grammar.proofs.Fuel.{Answers, settled}
+use Rattle.graphql_grammar.proofs.Extents.{Runs, runs_front}
+use Rattle.juniper_tokens.specs.Errors.{Error}
+use Rattle.juniper_tokens.specs.Cursor.{Read, ◌>>=◌, nowhere, no_lexeme, first_of, next_at, next_if}
+use Rattle.juniper.specs.Seen.{seen}
+use Rattle.juniper.specs.Steps.{closed_by, symbol_read, scalar_read, closed_read, each_read, cursor, located}
+use Rattle.juniper.proofs.Stepping.{PassesNoEnd, bind_assoc, bind_same, bind_given, taken, seen_test, seen_span}
+use Rattle.juniper.proofs.Cursors.{ok_is, bind_ok, next_takes, if_takes}
+use Rattle.juniper.proofs.ScalarTokens.{scalar_seen}
+
+-- the fuel ran out, or it is seen as s
+abbrev pub Shown : {A : Type 0} → reading.Read Error A → Read A → Type 0
+Shown r s = (r ≡ Out) ⊎ (seen r ≡ s)
+
+after_shown : {A B : Type 0} (k : A → Reader Error B) (s : Read A) (l : (A × List Lexeme) → Read B)
+    → ((x : A × List Lexeme) → Shown (k x.0 x.1) (l x)) → (r : reading.Read Error A) → Shown r s
+    → Shown (after r k) (s >>= l)
+after_shown k s l h r (inl e) = inl (ap (λ z. after z k) e)
+after_shown k s l h (Took a rest) (inr e) = subst (λ z. Shown (k a rest) (z >>= l)) e (h (a, rest))
+after_shown k s l h (Refused [] x) (inr e) = inr (ap (λ z. z >>= l) e)
+after_shown k s l h (Refused (t ∷ ts) x) (inr e) = inr (ap (λ z. z >>= l) e)
+after_shown k s l h Out (inr e) = inl refl
+
+pub seq_shown : {A B : Type 0} (f : Reader Error A) (k : A → Reader Error B) (ts : List Lexeme) (s : Read A)
+    (l : (A × List Lexeme) → Read B) → Shown (f ts) s → ((x : A × List Lexeme) → Shown (k x.0 x.1) (l x))
+    → Shown (seq f k ts) (s >>= l)
+unfolding seq
+seq_shown f k ts s l e h = after_shown k s l h (f ts) e
+
+pub on_shown : {A : Type 0} (test : Test) (k : Lexeme → Reader Error A) (g : Reader Error A) (ts : List Lexeme)
+    (l : (Lexeme × List Lexeme) → Read A) (s : Read A) → PassesNoEnd test → passes test no_lexeme ≡ false
+    → ((x : Lexeme × List Lexeme) → Shown (k x.0 x.1) (l x)) → Shown (g ts) s
+    → Shown (on test k g ts) (cond (passes test (first_of ts)) (next_at ts >>= l) s)
+unfolding on
+on_shown test k g [] l s e n h p = subst (λ b. Shown (g []) (cond b (next_at [] >>= l) s)) (sym n) p
+on_shown test k g (t ∷ ts) l s e n h p = by_test (passes test t) refl
+  where
+    by_test : (b : Bool) → passes test t ≡ b → Shown (pick b k g t ts) (cond b (next_at (t ∷ ts) >>= l) s)
+    by_test true q = subst (λ z. Shown (k t ts) (z >>= l)) (taken t ts (e t q)) (h (t, ts))
+    by_test false q = p
+
+pub look_shown : {A : Type 0} (test : Test) (f g : Reader Error A) (ts : List Lexeme) (r s : Read A)
+    → passes test no_lexeme ≡ false → Shown (f ts) r → Shown (g ts) s
+    → Shown (look test f g ts) (cond (passes test (first_of ts)) r s)
+unfolding look
+look_shown test f g [] r s n p q = subst (λ b. Shown (g []) (cond b r s)) (sym n) q
+look_shown test f g (t ∷ ts) r s n p q = by_test (passes test t)
+  where
+    by_test : (b : Bool) → Shown (choose b f g (t ∷ ts)) (cond b r s)
+    by_test true = p
+    by_test false = q
+
+-- a reader whose fuel suffices is shown
+pub enough : {A : Type 0} (f : ℕ → Reader Error A) → Answers f → (n : ℕ) (ts : List Lexeme)
+    → Shown (f n ts) (seen (fully f ts))
+enough f w n ts = elim ((settled f w n).at ts) [ inl e ↦ inl e | inr e ↦ inr (ap seen e) ]
+
+one_of : {A : Type 0} (b : Bool) (r s : Read A) (x : A × List Lexeme) → cond b r s ≡ Ok x → (r ≡ Ok x) ⊎ (s ≡ Ok x)
+one_of true r s x e = inl e
+one_of false r s x e = inr e
+
+cond_is : {A B : Type 0} (b : Bool) (r : Read A) (r' : Read B) (s : Read A) (s' : Read B)
+    (f : (A × List Lexeme) → Read B) → (r >>= f) ≡ r' → (s >>= f) ≡ s' → (cond b r s >>= f) ≡ cond b r' s'
+cond_is true r r' s s' f p q = p
+cond_is false r r' s s' f p q = q
+
+abbrev nowhere_told : {A : Type 0} → (A × List Lexeme) → Read (Span × A)
+nowhere_told x = Ok ((nowhere, x.0), x.1)
+
+abbrev no_span : {A : Type 0} → ((Span × A) × List Lexeme) → Read A
+no_span x = Ok (x.0.1, x.1)
+
+put_aside : {A : Type 0} (r : Read A) → ((r >>= nowhere_told) >>= no_span) ≡ r
+put_aside (Ok x) = refl
+put_aside (Err e) = refl
+
+put_aside_span : {A : Type 0} (r : Read (Span × (Span → A)))
+    → ((r >>= λ x. nowhere_told (x.0.1 x.0.0, x.1)) >>= no_span) ≡ (r >>= λ x. Ok (x.0.1 x.0.0, x.1))
+put_aside_span (Ok x) = refl
+put_aside_span (Err e) = refl
+
+module _ {C : Type 0} (S : Scalars C Error) where
+  -- From start on, up to what is left where a production ends, runs the span that its last step tells.
+  abbrev pub Located : List Lexeme → List Lexeme → {A : Type 0} → Steps C A → Type 0
+  Located start mid (gives a) = ⊥
+  Located start mid (gives_at p a) = Runs start mid p
+  Located start mid (wants test k) = (t : Lexeme) (rest : List Lexeme) → mid ≡ t ∷ rest → Located start rest (k t)
+  Located start mid (takes test k p) =
+      ((t : Lexeme) (rest : List Lexeme) → mid ≡ t ∷ rest → Located start rest (k t)) × Located start mid p
+  Located start mid (sees test p q) = Located start mid p × Located start mid q
+  Located start mid (part {B = B} p k) = (x : B) (rest : List Lexeme) → cursor S p mid ≡ Ok (x, rest)
+      → Located start rest (k x)
+  Located start mid (symbol r) = ⊥
+  Located start mid (spanned p) = ⊥
+  Located start mid (scalar k) = ⊥
+  Located start mid (closed close p k) = ⊥
+  Located start mid (each test p k) = ⊥
+
+  pub located_runs : (start mid : List Lexeme) {A : Type 0} (p : Steps C A) → Located start mid p
+      → (x : (Span × A) × List Lexeme) → located S p mid ≡ Ok x → Runs start x.1 x.0.0
+  located_runs start mid (gives a) h x e = absurd h
+  located_runs start mid {A} (gives_at p a) h x e =
+      subst (λ (z : (Span × A) × List Lexeme). Runs start z.1 z.0.0) (ok_is ((p, a), mid) x e) h
+  located_runs start mid (wants test k) h x e =
+      let t = bind_ok (next_if (passes test (first_of mid)) mid) (λ t. located S (k t.0) t.1) x e in
+      located_runs start t.0.1 (k t.0.0) (h t.0.0 t.0.1 (if_takes (passes test (first_of mid)) mid t.0 t.1)) x t.2
+  located_runs start mid (takes test k p) h x e = elim (one_of (passes test (first_of mid)) _ (located S p mid) x e) [
+    | inl q ↦ let t = bind_ok (next_at mid) (λ t. located S (k t.0) t.1) x q in
+        located_runs start t.0.1 (k t.0.0) (h.0 t.0.0 t.0.1 (next_takes mid t.0 t.1)) x t.2
+    | inr q ↦ located_runs start mid p h.1 x q
+  ]
+  located_runs start mid (sees test p q) h x e =
+      elim (one_of (passes test (first_of mid)) (located S p mid) (located S q mid) x e) [
+        | inl r ↦ located_runs start mid p h.0 x r
+        | inr r ↦ located_runs start mid q h.1 x r
+      ]
+  located_runs start mid (part p k) h x e =
+      let y = bind_ok (cursor S p mid) (λ y. located S (k y.0) y.1) x e in
+      located_runs start y.0.1 (k y.0.0) (h y.0.0 y.0.1 y.1) x y.2
+  located_runs start mid (symbol r) h x e = absurd h
+  located_runs start mid (spanned p) h x e = absurd h
+  located_runs start mid (scalar k) h x e = absurd h
+  located_runs start mid (closed close p k) h x e = absurd h
+  located_runs start mid (each test p k) h x e = absurd h
+
+  -- The span put aside, it is what the cursor gives.
+  pub located_is : {A : Type 0} (p : Steps C A) (ts : List Lexeme)
+      → (located S p ts >>= λ x. Ok (x.0.1, x.1)) ≡ cursor S p ts
+  located_is (gives a) ts = refl
+  located_is (gives_at p a) ts = refl
+  located_is (wants test k) ts = bind_assoc (next_if (passes test (first_of ts)) ts) _ _
+      ∙ bind_same (next_if (passes test (first_of ts)) ts) _ _ (λ t. located_is (k t.0) t.1)
+  located_is (takes test k p) ts = cond_is (passes test (first_of ts)) (next_at ts >>= λ t. located S (k t.0) t.1) _
+      (located S p ts) _ _ (bind_assoc (next_at ts) _ _ ∙ bind_same (next_at ts) _ _ (λ t. located_is (k t.0) t.1))
+      (located_is p ts)
+  located_is (sees test p q) ts =
+      cond_is (passes test (first_of ts)) (located S p ts) _ (located S q ts) _ _ (located_is p ts) (located_is q ts)
+  located_is (part p k) ts = bind_assoc (cursor S p ts) _ _
+      ∙ bind_same (cursor S p ts) _ _ (λ x. located_is (k x.0) x.1)
+  located_is (symbol r) ts = put_aside (symbol_read S r ts)
+  located_is (spanned p) ts = put_aside_span (located S p ts)
+  located_is (scalar k) ts = bind_assoc (scalar_read S ts) _ _
+      ∙ bind_same (scalar_read S ts) _ _ (λ v. located_is (k v.0) v.1)
+  located_is (closed close p k) ts = bind_assoc (closed_read S close p ts) _ _
+      ∙ bind_same (closed_read S close p ts) _ _ (λ r. located_is (k r.0.0 r.0.1) r.1)
+  located_is (each test p k) ts = bind_assoc (each_read S test p ts) _ _
+      ∙ bind_same (each_read S test p ts) _ _ (λ r. located_is (k r.0) r.1)
+
+  -- What the steps of a production have to be, so that the cursor goes their way: no test passes the end or what
+  -- stands at no place, spans are told rightly, and lists answer.
+  abbrev pub Fine : {A : Type 0} → Steps C A → Type 0
+  Fine (gives a) = Unit {0}
+  Fine (gives_at p a) = Unit {0}
+  Fine (wants test k) = PassesNoEnd test × ((t : Lexeme) → Fine (k t))
+  Fine (takes test k p) = PassesNoEnd test × (passes test no_lexeme ≡ false) × ((t : Lexeme) → Fine (k t)) × Fine p
+  Fine (sees test p q) = (passes test no_lexeme ≡ false) × Fine p × Fine q
+  Fine (part {B = B} p k) = Fine p × ((x : B) → Fine (k x))
+  Fine (symbol r) = Unit {0}
+  Fine (spanned p) = Fine p × ((ts : List Lexeme) → Located ts ts p)
+  Fine (scalar k) = (v : Value C) → Fine (k v)
+  Fine (closed {B = B} close p k) = Answers (λ n. many close (reads S n p) n) ×
+      ((xs : List B) (q : Span) → Fine (k xs q))
+  Fine (each {B = B} test p k) = Answers (λ n. repeated test (reads S n p) n) × ((xs : List B) → Fine (k xs))
+
+  abbrev pub SymbolsShown : Type 1
+  SymbolsShown = (A : Type 0) (r : Symbol C A) (n : ℕ) (ts : List Lexeme) → Shown (symbol_at S n A r ts)
+      (symbol_read S r ts)
+
+  spans_shown : {A : Type 0} (p : Steps C (Span → A)) (f : Reader Error (Span → A)) (ts : List Lexeme)
+      → Located ts ts p → Shown (f ts) (cursor S p ts)
+      → Shown (with_span f ts) (located S p ts >>= λ x. Ok (x.0.1 x.0.0, x.1))
+  unfolding with_span
+  spans_shown p f ts h (inl e) = inl (ap (λ z. after z (reading.give_span ts)) e)
+  spans_shown {A} p f ts h (inr e) = inr (
+      seen_span f ts
+      ∙ ap (λ (z : Read (Span → A)). z >>= λ x. Ok (x.0 (span_of (front ts x.1)), x.1)) (e ∙ sym (located_is p ts))
+      ∙ bind_assoc (located S p ts) _ _
+      ∙ bind_given (located S p ts) _ _ (λ x q. ap (λ (s : Span). Ok (x.0.1 s, x.1))
+      (runs_front ts x.1 x.0.0 (located_runs ts ts p h x q))))
+
+  closed_shown : {A : Type 0} (r : reading.Read Error (List A × Lexeme)) (s : Read (List A × Lexeme)) {B : Type 0}
+      (k : (List A × Lexeme) → Reader Error B) (l : ((List A × Span) × List Lexeme) → Read B) → Shown r s
+      → ((x : (List A × Lexeme) × List Lexeme) → Shown (k x.0 x.1) (l ((x.0.0, x.0.1.span), x.1)))
+      → Shown (after r k) (closed_by s >>= l)
+  closed_shown r s k l e h = subst (λ z. Shown (after r k) z) (sym (bind_assoc s _ _)) (after_shown k s _ h r e)
+
+  module _ (symbols : SymbolsShown) where
+    pub shown : {A : Type 0} (p : Steps C A) → Fine p → (n : ℕ) (ts : List Lexeme)
+        → Shown (reads S n p ts) (cursor S p ts)
+    unfolding done closed_read each_read seq
+    shown (gives a) h n ts = inr refl
+    shown (gives_at p a) h n ts = inr refl
+    shown (wants test k) h n ts = seq_shown (want test) (λ t. reads S n (k t)) ts
+        (next_if (passes test (first_of ts)) ts)
+        (λ t. cursor S (k t.0) t.1) (inr (seen_test test h.0 ts)) (λ x. shown (k x.0) (h.1 x.0) n x.1)
+    shown (takes test k p) h n ts =
+        on_shown test (λ t. reads S n (k t)) (reads S n p) ts (λ t. cursor S (k t.0) t.1) (cursor S p ts) h.0 h.1
+        (λ x. shown (k x.0) (h.2 x.0) n x.1) (shown p h.3 n ts)
+    shown (sees test p q) h n ts = look_shown test (reads S n p) (reads S n q) ts (cursor S p ts) (cursor S q ts) h.0
+        (shown p h.1 n ts) (shown q h.2 n ts)
+    shown (part p k) h n ts = seq_shown (reads S n p) (λ x. reads S n (k x)) ts (cursor S p ts)
+        (λ x. cursor S (k x.0) x.1) (shown p h.0 n ts) (λ x. shown (k x.0) (h.1 x.0) n x.1)
+    shown {A} (symbol r) h n ts = symbols A r n ts
+    shown (spanned p) h n ts = spans_shown p (reads S n p) ts (h.1 ts) (shown p h.0 n ts)
+    shown (scalar k) h n ts = seq_shown (literal S) (λ v. reads S n (k v)) ts (scalar_read S ts)
+        (λ v. cursor S (k v.0) v.1) (inr (scalar_seen S ts)) (λ x. shown (k x.0) (h x.0) n x.1)
+    shown (closed close p k) h n ts =
+        let f = λ (m : ℕ). many close (reads S m p) m in
+        closed_shown (f n ts) (seen (fully f ts)) (λ r. reads S n (k r.0 r.1.span)) (λ r. cursor S (k r.0.0 r.0.1) r.1)
+        (enough f h.0 n ts) (λ x. shown (k x.0.0 x.0.1.span) (h.1 x.0.0 x.0.1.span) n x.1)
+    shown (each test p k) h n ts =
+        let f = λ (m : ℕ). repeated test (reads S m p) m in
+        seq_shown (f n) (λ xs. reads S n (k xs)) ts (seen (fully f ts)) (λ r. cursor S (k r.0) r.1) (enough f h.0 n ts)
+        (λ x. shown (k x.0) (h.1 x.0) n x.1)
+
+    -- with enough fuel
+    pub shown_fully : {A : Type 0} (p : Steps C A) → Fine p → Answers (λ n. reads S n p) → (ts : List Lexeme)
+        → seen (fully (λ n. reads S n p) ts) ≡ cursor S p ts
+    unfolding fully
+    shown_fully p h w ts = elim (shown p h (suc (length ts)) ts)
+        [ inl e ↦ absurd (w.at (suc (length ts)) ts (omega arith) e) | inr e ↦ e ]

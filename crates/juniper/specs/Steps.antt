@@ -1,0 +1,85 @@
+-- What a cursor answers where the steps of a production are read.
+use Rattle.std.specs.Prelude.{List, Bool, Result, Ok, Err, if◌then◌else◌}
+use Rattle.graphql_lexical.specs.Place.{Span}
+use Rattle.graphql_lexical.specs.declared.kind.Kind.{Kind}
+use Rattle.graphql_lexical.specs.Cutting.{Lexeme}
+use Rattle.graphql_grammar.specs.Tokens.{Text}
+use Rattle.graphql_grammar.specs.Tree.{Scalars, Value, Scalar, TypeRef, Selection}
+use Rattle.graphql_grammar.specs.Reading.{Test, passes, many, repeated, scalar_token, fully}
+use Rattle.graphql_grammar.specs.Reading.{Symbol, a_value, a_type, a_selection, Steps, gives, gives_at, wants, takes, sees, part, symbol, spanned, scalar, closed, each}
+use Rattle.graphql_grammar.specs.Productions.{symbol_at, reads}
+use Rattle.juniper_tokens.specs.Errors.{Error, unexpected}
+use Rattle.juniper_tokens.specs.Cursor.{Read, ◌>>=◌, nowhere, first_of, next_at, next_if}
+use Rattle.juniper.specs.Seen.{seen}
+
+-- a scalar token by the scalar type's reading; another token is told as unexpected
+abbrev pub literal_here : {C : Type 0} → (Kind → Text → Result C Error) → Kind → Text → Result C Error
+literal_here read kind text = if scalar_token kind text then read kind text else unexpected kind text
+
+abbrev pub read_here : {C : Type 0} → Result C Error → Span → List Lexeme → Read (Value C)
+read_here (Ok c) p ts = Ok (Scalar c p, ts)
+read_here (Err e) p ts = Err (record { error = e; span = p }, ts)
+
+-- items, and the span of what closes them
+abbrev pub closed_by : {A : Type 0} → Read (List A × Lexeme) → Read (List A × Span)
+closed_by r = r >>= λ x. Ok ((x.0.0, x.0.1.span), x.1)
+
+-- no type has a scalar token
+abbrev pub no_scalars : Scalars (Unit {0}) Error
+no_scalars = record { read = unexpected; of_bool = λ b. tt }
+
+unfoldable pub type_read : List Lexeme → Read (TypeRef × Span)
+type_read ts = seen (fully (λ n. symbol_at no_scalars n (TypeRef × Span) a_type) ts)
+
+module _ {C : Type 0} (S : Scalars C Error) where
+  unfoldable pub value_read : Bool → List Lexeme → Read (Value C)
+  value_read free ts = seen (fully (λ n. symbol_at S n (Value C) (a_value free)) ts)
+
+  unfoldable pub selection_read : List Lexeme → Read (Selection C)
+  selection_read ts = seen (fully (λ n. symbol_at S n (Selection C) a_selection) ts)
+
+  abbrev pub symbol_read : {A : Type 0} → Symbol C A → List Lexeme → Read A
+  symbol_read (a_value free) ts = value_read free ts
+  symbol_read a_type ts = type_read ts
+  symbol_read a_selection ts = selection_read ts
+
+  unfoldable pub scalar_read : List Lexeme → Read (Value C)
+  scalar_read ts = next_at ts >>= λ t. read_here (literal_here S.read t.0.kind t.0.text) t.0.span t.1
+
+  unfoldable pub closed_read : {A : Type 0} → Test → Steps C A → List Lexeme → Read (List A × Span)
+  closed_read close p ts = closed_by (seen (fully (λ n. many close (reads S n p) n) ts))
+
+  unfoldable pub each_read : {A : Type 0} → Test → Steps C A → List Lexeme → Read (List A)
+  each_read test p ts = seen (fully (λ n. repeated test (reads S n p) n) ts)
+
+  abbrev mutual
+    pub cursor : {A : Type 0} → Steps C A → List Lexeme → Read A
+    cursor (gives a) ts = Ok (a, ts)
+    cursor (gives_at p a) ts = Ok (a, ts)
+    cursor (wants test k) ts = next_if (passes test (first_of ts)) ts >>= λ t. cursor (k t.0) t.1
+    cursor (takes test k p) ts = if passes test (first_of ts) then (next_at ts >>= λ t. cursor (k t.0) t.1) else cursor p ts
+    cursor (sees test p q) ts = if passes test (first_of ts) then cursor p ts else cursor q ts
+    cursor (part p k) ts = cursor p ts >>= λ x. cursor (k x.0) x.1
+    cursor (symbol r) ts = symbol_read r ts
+    cursor (spanned p) ts = located p ts >>= λ x. Ok (x.0.1 x.0.0, x.1)
+    cursor (scalar k) ts = scalar_read ts >>= λ v. cursor (k v.0) v.1
+    cursor (closed close p k) ts = closed_read close p ts >>= λ r. cursor (k r.0.0 r.0.1) r.1
+    cursor (each test p k) ts = each_read test p ts >>= λ r. cursor (k r.0) r.1
+
+    -- with the span that the last step tells
+    pub located : {A : Type 0} → Steps C A → List Lexeme → Read (Span × A)
+    located (gives a) ts = Ok ((nowhere, a), ts)
+    located (gives_at p a) ts = Ok ((p, a), ts)
+    located (wants test k) ts = next_if (passes test (first_of ts)) ts >>= λ t. located (k t.0) t.1
+    located (takes test k p) ts = if passes test (first_of ts) then (next_at ts >>= λ t. located (k t.0) t.1) else located p ts
+    located (sees test p q) ts = if passes test (first_of ts) then located p ts else located q ts
+    located (part p k) ts = cursor p ts >>= λ x. located (k x.0) x.1
+    located (symbol r) ts = symbol_read r ts >>= λ x. Ok ((nowhere, x.0), x.1)
+    located (spanned p) ts = located p ts >>= λ x. Ok ((nowhere, x.0.1 x.0.0), x.1)
+    located (scalar k) ts = scalar_read ts >>= λ v. located (k v.0) v.1
+    located (closed close p k) ts = closed_read close p ts >>= λ r. located (k r.0.0 r.0.1) r.1
+    located (each test p k) ts = each_read test p ts >>= λ r. located (k r.0) r.1
+
+  -- what is put together, with its span
+  abbrev pub whole : {A : Type 0} → Steps C (Span → A) → List Lexeme → Read A
+  whole p ts = located p ts >>= λ x. Ok (x.0.1 x.0.0, x.1)
