@@ -54,16 +54,6 @@ module _ {F A : Type 0} (f : ℕ → Reader F A) (R : List Lexeme → A → Type
     took_is ts rest a e = let h = subst (λ z. Meets (suc (length ts)) R (f (suc (length ts))) ts z) e
         ((rule (suc (length ts))).at ts) in (h.0, h.1, h.2)
 
-    pub took_some : ((us : List Lexeme) (a : A) → R us a → 0 < length us) → (ts rest : List Lexeme) (a : A)
-        → fully f ts ≡ Took a rest → (p : Span) × Runs ts rest p
-    took_some takes ts rest a e =
-        let h = took_is ts rest a e in (span_of h.0, runs_of h.0 ts rest h.1 (takes h.0 a h.2))
-
-    pub took_runs : (sp : A → Span) → ((us : List Lexeme) (a : A) → R us a → (0 < length us) × (sp a ≡ span_of us))
-        → (ts rest : List Lexeme) (a : A) → fully f ts ≡ Took a rest → Runs ts rest (sp a)
-    took_runs sp has ts rest a e = let h = took_is ts rest a e in let k = has h.0 a h.2 in
-        subst (λ p. Runs ts rest p) (sym k.1) (runs_of h.0 ts rest h.1 k.0)
-
 -- items up to the closing token
 pub closed_runs : {A : Type 0} (close : Test) (R : List Lexeme → A → Type 0) (us ts rest : List Lexeme)
     (r : List A × Lexeme) → ts ≡ us ++ rest → Closed close R us r → (p : Span) × Runs ts rest p × (p.end ≡ r.1.span.end)

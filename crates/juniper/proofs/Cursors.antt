@@ -1,12 +1,8 @@
 -- What the steps of a cursor take.
 use Rattle.std.proofs.Common.{◌≡◌, ◌<◌, Bool, true, false, cond, List, [], ◌∷◌, length, Ok, Err, Option, Some, None, refl, ap, arith}
-use Rattle.graphql_lexical.specs.Place.{Span}
 use Rattle.graphql_lexical.specs.declared.kind.Kind.TheVariants.{EndOfFile}
 use Rattle.graphql_lexical.specs.Kinds.{same_kind}
 use Rattle.graphql_lexical.specs.Cutting.{Lexeme}
-use Rattle.graphql_grammar.specs.Tokens.{span_of}
-use Rattle.graphql_grammar.specs.Reading.{front}
-use Rattle.graphql_grammar.proofs.Extents.{Runs, runs_one, runs_front}
 use Rattle.juniper_tokens.specs.declared.token.Token.{Token}
 use Rattle.juniper_tokens.specs.Errors.{UnexpectedEndOfFile}
 use Rattle.juniper_tokens.specs.Cursor.{Read, ◌>>=◌, first_of, kind_at, next_at, next_if, skip_if, skip_at}
@@ -55,12 +51,3 @@ pub skip_shorter : (wanted : Token) (ts : List Lexeme) (t : Lexeme) (us : List L
     → skip_at wanted ts ≡ Ok (Some t, us) → length us < length ts
 unfolding skip_at
 skip_shorter wanted ts t us e = shorter_if _ ts t us e
-
--- the token that was taken
-pub next_runs : (b : Bool) (ts : List Lexeme) (x : Lexeme × List Lexeme) → next_if b ts ≡ Ok x → Runs ts x.1 x.0.span
-next_runs b ts x e = runs_one x.0 ts x.1 (if_takes b ts x e)
-
--- what was read, at the span of its tokens, where that is p
-pub at_span : {A : Type 0} (k : Span → A) (ts rest : List Lexeme) (p : Span) → Runs ts rest p
-    → ◌≡◌ {A = Read A} (Ok (k (span_of (front ts rest)), rest)) (Ok (k p, rest))
-at_span k ts rest p r = ap (λ (q : Span). Ok (k q, rest)) (runs_front ts rest p r)

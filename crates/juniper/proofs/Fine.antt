@@ -442,14 +442,6 @@ module _ {C : Type 0} (S : Scalars C Error) where
   unfolding inline
   inline_fine p w = (inline_parts_fine, λ b. tt)
 
-  typed_fine : (p : Span) → Fine S (typed p)
-  unfolding typed
-  typed_fine p = (kind_no_end Name refl, λ t. inline_fine p (Some (word_of t)))
-
-  named_spread_fine : (p : Span) (w : Word) → Fine S (named_spread p w)
-  unfolding named_spread
-  named_spread_fine p w = (directives_fine, λ ds. tt)
-
   -- after three dots at p
   inline_located : (ts mid : List Lexeme) (p q : Span) (w : Option Word) → Runs ts mid (from_to p q)
       → Located S ts mid (inline p w)

@@ -119,14 +119,6 @@ some_repeats {A} skip item more u = record { unfolds = λ ts. by_item (item ts) 
     by_item (Ok x) = ap (then_others x.0) (u.unfolds x.1) ∙ by_skip x.0 (skip x.1)
     by_item (Err e) = refl
 
--- by another reading of the same items
-pub repeats_as : {A : Type 0} (skip : List Lexeme → Read (Option Lexeme)) (item other : List Lexeme → Read A)
-    (some : List Lexeme → Read (List A × Span)) → ((ts : List Lexeme) → item ts ≡ other ts) → RepeatsSome skip item some
-    → RepeatsSome skip other some
-repeats_as skip item other some h u = record {
-  unfolds = λ ts. u.unfolds ts ∙ ap (λ (r : Read _). r >>= λ x. skip x.1 >>= λ c. ended_or x.0 some c.0 c.1) (h ts);
-}
-
 -- ---- items as long as a token stands next
 
 -- these items, and then those that are read

@@ -113,24 +113,10 @@ pub seen_want : (k : Kind) → same_kind k EndOfFile ≡ false → (ts : List Le
     → seen (want (of k) ts) ≡ next_if (same_kind (kind_at ts) k) ts
 seen_want k e ts = seen_test (of k) (kind_no_end k e) ts
 
--- a token that is wanted, and then k
-pub want_as : {B : Type 0} (k : Kind) → same_kind k EndOfFile ≡ false
-    → (f : Lexeme → Reader Error B) (ts : List Lexeme) (l : (Lexeme × List Lexeme) → Read B)
-    → ((x : Lexeme × List Lexeme) → seen (f x.0 x.1) ≡ l x)
-    → seen (seq (want (of k)) f ts) ≡ (next_if (same_kind (kind_at ts) k) ts >>= l)
-want_as k e f ts l h = seq_as (want (of k)) f ts _ l (seen_want k e ts) h
-
 chosen : {A : Type 0} (b : Bool) (f g : Reader Error A) (t : Lexeme) (ts : List Lexeme)
     → seen (choose b f g (t ∷ ts)) ≡ cond b (seen (f (t ∷ ts))) (seen (g (t ∷ ts)))
 chosen true f g t ts = refl
 chosen false f g t ts = refl
-
--- one of two readers, by the next token
-pub look_as : {A : Type 0} (test : Test) (f g : Reader Error A) (ts : List Lexeme) → passes test (first_of []) ≡ false
-    → seen (look test f g ts) ≡ cond (passes test (first_of ts)) (seen (f ts)) (seen (g ts))
-unfolding look
-look_as test f g [] e = ap (λ (b : Bool). cond b (seen (f [])) (seen (g []))) (sym e)
-look_as test f g (t ∷ ts) e = chosen (passes test t) f g t ts
 
 -- the same where a token stands next
 pub look_ended : {A : Type 0} (test : Test) (f g : Reader Error A) (ts : List Lexeme) → EndsOnce ts
@@ -138,20 +124,6 @@ pub look_ended : {A : Type 0} (test : Test) (f g : Reader Error A) (ts : List Le
 unfolding look
 look_ended test f g [] e = absurd e
 look_ended test f g (t ∷ ts) e = chosen (passes test t) f g t ts
-
--- a token that is taken where it passes
-pub on_as : {A : Type 0} (test : Test) (k : Lexeme → Reader Error A) (g : Reader Error A) (ts : List Lexeme)
-    → PassesNoEnd test → passes test (first_of []) ≡ false
-    → seen (on test k g ts) ≡ cond (passes test (first_of ts)) (next_at ts >>= λ t. seen (k t.0 t.1)) (seen (g ts))
-unfolding on
-on_as {A} test k g [] e n = ap (λ (b : Bool). cond {A = Read A} b (next_at [] >>= λ t. seen (k t.0 t.1)) (seen (g [])))
-    (sym n)
-on_as {A} test k g (t ∷ ts) e n = by_test (passes test t) refl
-  where
-    by_test : (b : Bool) → passes test t ≡ b
-        → seen (pick b k g t ts) ≡ cond b (next_at (t ∷ ts) >>= λ x. seen (k x.0 x.1)) (seen (g (t ∷ ts)))
-    by_test true p = ap (λ (r : Read Lexeme). r >>= λ x. seen (k x.0 x.1)) (taken t ts (e t p))
-    by_test false p = refl
 
 -- ---- spans
 
