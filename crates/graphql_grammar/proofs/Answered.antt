@@ -4,9 +4,8 @@ use Rattle.graphql_lexical.specs.Place.{Span}
 use Rattle.graphql_lexical.specs.declared.kind.Kind.{Kind}
 use Rattle.graphql_lexical.specs.Cutting.{Lexeme}
 use Rattle.graphql_grammar.specs.Samples.{sample, IsSample}
-use Rattle.graphql_grammar.specs.Reading.{Test, of, passes, Reader, seq, done, on, look, many, repeated, fully}
-use Rattle.graphql_grammar.specs.Reading.{a_value, a_type, a_selection, Steps}
-use Rattle.graphql_grammar.specs.Productions.{symbol_at, reads}
+use Rattle.graphql_grammar.specs.device.Reading.{Test, of, passes, Reader, seq, done, on, look, many, repeated, fully, a_value, a_type, a_selection, Steps}
+use Rattle.graphql_grammar.specs.device.Productions.{symbol_at, reads}
 use Rattle.graphql_grammar.specs.Tree.{Scalars, Value, TypeRef, Selection}
 use Rattle.graphql_grammar.specs.Grammar.{IsValue, IsSelection, Each}
 use Rattle.graphql_grammar.proofs.Rules.{Rule}

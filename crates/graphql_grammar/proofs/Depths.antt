@@ -13,7 +13,7 @@ use Rattle.graphql_grammar.specs.Tokens.{IsSpelled}
 use Rattle.graphql_grammar.specs.Tree.{Scalars, Definition}
 use Rattle.graphql_grammar.specs.Grammar.{IsScalarKind, IsDocument}
 use Rattle.graphql_grammar.specs.Faults.{Fault, NoEnd, EndsOnce, Begins, RefusedAt, DocumentRefusedAt}
-use Rattle.graphql_grammar.specs.Productions.{document, reads}
+use Rattle.graphql_grammar.specs.device.Productions.{document, reads}
 use Rattle.graphql_grammar.specs.Depth.{BeginsDocument}
 use Rattle.graphql_grammar.proofs.Elements.{all_front, all_join}
 use Rattle.graphql_grammar.proofs.Nested as nested

@@ -4,9 +4,9 @@ use Rattle.graphql_lexical.specs.declared.kind.Kind.{Kind}
 use Rattle.graphql_lexical.specs.declared.kind.Kind.TheVariants.{Name, String, BlockString, Float, Int, ExclamationMark, Dollar, ParenOpen, ParenClose, BracketOpen, BracketClose, CurlyOpen, CurlyClose, Ellipsis, Colon, Equals, At, EndOfFile}
 use Rattle.graphql_lexical.specs.Cutting.{Lexeme}
 use Rattle.graphql_grammar.specs.Tokens.{Word, word_of}
-use Rattle.graphql_grammar.specs.Reading.{passes, of, word, Reader, seq, done, fault_of, refuse, pick, on, literal, scalar_token, a_value, a_type, a_selection}
-use Rattle.graphql_grammar.specs.Productions as productions
-use Rattle.graphql_grammar.specs.Productions.{key_and_value, variable_start, named_type, list_type, nullable_type, non_null, other_than_on, argument, arguments_inner, arguments, optional_arguments, directive, directives, default, variable_definition, variables_inner, variables, optional_variables, selections_inner, selection_set, optional_set, names, field, named_spread, inline_parts, inline, typed, spread, any_selection, operation_word, optional_name, operation, type_condition, fragment_name, fragment, shorthand, definition, document, symbol_at, reads}
+use Rattle.graphql_grammar.specs.device.Reading.{passes, of, word, Reader, seq, done, fault_of, refuse, pick, on, literal, scalar_token, a_value, a_type, a_selection}
+use Rattle.graphql_grammar.specs.device.Productions as productions
+use Rattle.graphql_grammar.specs.device.Productions.{key_and_value, variable_start, named_type, list_type, nullable_type, non_null, other_than_on, argument, arguments_inner, arguments, optional_arguments, directive, directives, default, variable_definition, variables_inner, variables, optional_variables, selections_inner, selection_set, optional_set, names, field, named_spread, inline_parts, inline, typed, spread, any_selection, operation_word, operation, fragment, shorthand, definition, document, symbol_at, reads}
 use Rattle.graphql_grammar.specs.Tree.{Scalars, Value, TypeRef}
 use Rattle.graphql_lexical.specs.Place.{Span}
 use Rattle.graphql_grammar.specs.declared.operation.OperationType.{OperationType}
@@ -180,7 +180,6 @@ module _ {C F : Type 0} (S : Scalars C F) where
         map_tells S _ _ (one_or_more_tells S (of ParenClose) _ n (no_value_by ParenClose refl) variable_tells))))
 
     names_tell : TellsFaults S true (reads S n names)
-    unfolding names
     names_tell = kind_tells S Name refl _ (λ a. on_tells S (of Colon) _ _ (no_value_by Colon refl)
         (λ c. kind_tells S Name refl _ (λ t. done_tells S true _)) (done_tells S true _))
 
@@ -223,13 +222,13 @@ module _ {C F : Type 0} (S : Scalars C F) where
     body_tells = parts_tell n (selection_tells n)
 
     operation_tells : (o : OperationType) (p : Span) → TellsFaults S true (reads S n (operation o p))
-    unfolding operation optional_name
+    unfolding operation
     operation_tells o p = seq_tells S true _ _ (look_tells S (of Name) _ _ (no_value_by Name refl)
         (kind_tells S Name refl _ (λ t. done_tells S true _)) (done_tells S true _))
         (λ name. seq_tells S true _ _ (variables_tells n) (λ vars. map_tells S _ _ body_tells))
 
     fragment_tells : (p : Span) → TellsFaults S true (reads S n (fragment p))
-    unfolding fragment fragment_name type_condition
+    unfolding fragment
     fragment_tells p = seq_tells S true _ _ (want_tells S other_than_on _ no_value_by_other (λ a. done_tells S true _))
         (λ name. seq_tells S true _ _ (want_tells S (word (codes "on")) _ (no_value_by_word (codes "on"))
         (λ o. kind_tells S Name refl _ (λ t. done_tells S true _)))

@@ -4,9 +4,9 @@ use Rattle.graphql_lexical.specs.Place.{Span}
 use Rattle.graphql_lexical.specs.declared.kind.Kind.TheVariants.{Name, ExclamationMark, Dollar, ParenOpen, ParenClose, BracketOpen, BracketClose, Equals, At}
 use Rattle.graphql_lexical.specs.Cutting.{Lexeme}
 use Rattle.graphql_grammar.specs.Tokens.{Text, over, from_to, span_of}
-use Rattle.graphql_grammar.specs.Reading.{Test, passes, of, Took, Reader, seq, done, want, repeated, a_type}
-use Rattle.graphql_grammar.specs.Productions as productions
-use Rattle.graphql_grammar.specs.Productions.{named_type, list_type, nullable_type, non_null, argument, arguments_inner, arguments, directive, directives, all_directives, directives_of, default, variable_definition, variables_inner, variables, symbol_at, reads}
+use Rattle.graphql_grammar.specs.device.Reading.{Test, passes, of, Took, Reader, seq, done, want, repeated, a_type}
+use Rattle.graphql_grammar.specs.device.Productions as productions
+use Rattle.graphql_grammar.specs.device.Productions.{named_type, list_type, nullable_type, non_null, argument, arguments_inner, arguments, directive, directives, all_directives, directives_of, default, variable_definition, variables_inner, variables, symbol_at, reads}
 use Rattle.graphql_grammar.specs.Tree.{Scalars, Value, TypeRef, NamedType, ListType, NonNullType, Argument, Arguments, Directive, VariableDefinition, Variables, Directives}
 use Rattle.graphql_grammar.specs.Grammar.{Is, ◌·◌, ◌for◌, Each, Optional, IsType, IsVariable, IsArgument, IsArguments, IsDirective, IsDirectives, IsDefault, IsVariableDefinition, IsVariables}
 use Rattle.graphql_grammar.proofs.Sequences.{row, row_as, row_front, one_takes, last_joined, nothing_last, kind_is, is_takes, says_takes, front_takes, back_takes}

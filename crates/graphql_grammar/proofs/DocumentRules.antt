@@ -6,8 +6,8 @@ use Rattle.graphql_lexical.specs.declared.kind.Kind.TheVariants.{Name, Exclamati
 use Rattle.graphql_lexical.specs.Cutting.{Lexeme}
 use Rattle.graphql_grammar.specs.Tokens.{Text, word_of, over, from_to, span_of}
 use Rattle.graphql_grammar.specs.Samples.{sample, sample_text}
-use Rattle.graphql_grammar.specs.Reading.{passes, of, a_value, a_type}
-use Rattle.graphql_grammar.specs.Productions.{named_type, list_type, nullable_type, non_null, type, argument, arguments_inner, arguments, optional_arguments, directive, all_directives, directives_of, directives, default, variable_definition, variables_inner, variables, optional_variables, symbol_at, reads}
+use Rattle.graphql_grammar.specs.device.Reading.{passes, of, a_value, a_type}
+use Rattle.graphql_grammar.specs.device.Productions.{named_type, list_type, nullable_type, non_null, type, argument, arguments_inner, arguments, optional_arguments, directive, all_directives, directives_of, directives, default, variable_definition, variables_inner, variables, optional_variables, symbol_at, reads}
 use Rattle.graphql_grammar.specs.Tree.{Scalars, TypeRef, NamedType, ListType, NonNullType, Argument, Directive, VariableDefinition}
 use Rattle.graphql_grammar.specs.Grammar.{IsValue, Optional, Listed, IsType, IsArgument, IsArguments, IsDirective, IsDirectives, IsDefault, IsVariableDefinition, IsVariables, Each}
 use Rattle.graphql_grammar.proofs.Rules.{less, Rule, Some_of, done_rule}

@@ -9,8 +9,8 @@ use Rattle.graphql_grammar.specs.Tokens.{IsSpelled, span_of}
 use Rattle.graphql_grammar.specs.Tree.{Scalars}
 use Rattle.graphql_grammar.specs.Grammar.{IsValue, IsType, IsDocument}
 use Rattle.graphql_grammar.specs.Faults.{Fault, UnexpectedEndOfFile, UnexpectedToken, AnyToken, NoEnd, EndsOnce, Begins, AtFault, DocumentRefusedAt, ValueRefusedAt, TypeRefusedAt, TypeError}
-use Rattle.graphql_grammar.specs.Reading.{of, Read, Took, Refused, Out, Reader, fault_of, a_value, a_type, fully, GivesWhole, GivesFront}
-use Rattle.graphql_grammar.specs.Productions.{document, symbol_at, reads}
+use Rattle.graphql_grammar.specs.device.Reading.{of, Read, Took, Refused, Out, Reader, fault_of, a_value, a_type, fully, GivesWhole, GivesFront}
+use Rattle.graphql_grammar.specs.device.Productions.{document, symbol_at, reads}
 use Rattle.graphql_grammar.proofs.Elements.{all_front, all_each}
 use Rattle.graphql_grammar.proofs.TokenTests.{of_kind}
 use Rattle.graphql_grammar.proofs.Rules.{Meets}

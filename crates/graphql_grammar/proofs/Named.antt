@@ -5,7 +5,7 @@ use Rattle.graphql_lexical.specs.declared.kind.Kind.{Kind}
 use Rattle.graphql_lexical.specs.declared.kind.Kind.TheVariants.{BracketOpen, CurlyOpen, EndOfFile}
 use Rattle.graphql_lexical.specs.Cutting.{Lexeme}
 use Rattle.graphql_lexical.specs.laws.Alike.{AllAlike}
-use Rattle.graphql_grammar.specs.Reading.{of, Took, Refused, Reader, fault_of}
+use Rattle.graphql_grammar.specs.device.Reading.{of, Took, Refused, Reader, fault_of}
 use Rattle.graphql_grammar.specs.Samples.{sample, IsSample}
 use Rattle.graphql_grammar.specs.Tree.{Scalars}
 use Rattle.graphql_grammar.specs.Grammar.{IsScalarKind}

@@ -5,8 +5,8 @@ use Rattle.graphql_lexical.specs.declared.kind.Kind.TheVariants.{String, BlockSt
 use Rattle.graphql_lexical.specs.Kinds.{same_kind}
 use Rattle.graphql_lexical.specs.Cutting.{Lexeme}
 use Rattle.graphql_grammar.specs.Tokens.{Text}
-use Rattle.graphql_grammar.specs.Reading.{Test, of, word, Refused, Reader}
-use Rattle.graphql_grammar.specs.Productions.{other_than_on, operation_word}
+use Rattle.graphql_grammar.specs.device.Reading.{Test, of, word, Refused, Reader}
+use Rattle.graphql_grammar.specs.device.Productions.{other_than_on, operation_word}
 use Rattle.graphql_grammar.specs.Grammar.{IsScalarKind}
 use Rattle.graphql_grammar.specs.Faults.{Fault}
 

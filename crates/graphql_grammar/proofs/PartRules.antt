@@ -5,7 +5,7 @@ use Rattle.graphql_lexical.specs.Place.{Span}
 use Rattle.graphql_lexical.specs.Cutting.{Lexeme}
 use Rattle.graphql_grammar.specs.Tokens.{span_of}
 use Rattle.graphql_grammar.specs.Samples.{IsSample}
-use Rattle.graphql_grammar.specs.Reading.{Test, passes, Read, Took, Refused, Out, Reader, after, seq, done, want, many, with_span, give_span, front, maybe, one_or_more, repeated}
+use Rattle.graphql_grammar.specs.device.Reading.{Test, passes, Read, Took, Refused, Out, Reader, after, seq, done, want, many, with_span, give_span, front, maybe, one_or_more, repeated}
 use Rattle.graphql_grammar.specs.Grammar.{Each, Optional}
 use Rattle.graphql_grammar.specs.Faults.{Fault}
 use Rattle.graphql_grammar.proofs.Sequences.{row}

@@ -4,8 +4,8 @@ use Rattle.graphql_lexical.specs.Cutting.{Lexeme}
 use Rattle.graphql_grammar.specs.Tokens.{span_of}
 use Rattle.graphql_grammar.specs.Tree.{Scalars, Value, TypeRef, Definition}
 use Rattle.graphql_grammar.specs.Grammar.{IsValue, IsType, IsDocument}
-use Rattle.graphql_grammar.specs.Reading.{Read, Took, Refused, Out, a_value, a_type}
-use Rattle.graphql_grammar.specs.Productions.{document, symbol_at, reads}
+use Rattle.graphql_grammar.specs.device.Reading.{Read, Took, Refused, Out, a_value, a_type}
+use Rattle.graphql_grammar.specs.device.Productions.{document, symbol_at, reads}
 use Rattle.graphql_grammar.proofs.Values.{value_rule}
 use Rattle.graphql_grammar.proofs.Found.{value_found}
 use Rattle.graphql_grammar.proofs.DocumentRules.{IsSpannedType, type_rule}

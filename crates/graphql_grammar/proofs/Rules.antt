@@ -7,7 +7,7 @@ use Rattle.graphql_lexical.specs.Cutting.{Lexeme}
 use Rattle.graphql_lexical.specs.laws.Alike.{Alike, AllAlike}
 use Rattle.graphql_grammar.specs.Tokens.{Text}
 use Rattle.graphql_grammar.specs.Samples.{AreSamples}
-use Rattle.graphql_grammar.specs.Reading.{of, Read, Took, Refused, Out, Reader, after, seq, done, fault_of}
+use Rattle.graphql_grammar.specs.device.Reading.{of, Read, Took, Refused, Out, Reader, after, seq, done, fault_of}
 use Rattle.graphql_grammar.specs.Faults.{Fault, UnexpectedEndOfFile, UnexpectedToken, ScalarError}
 
 -- the first tokens are alike, or there is none

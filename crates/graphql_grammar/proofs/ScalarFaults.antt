@@ -5,7 +5,7 @@ use Rattle.graphql_lexical.specs.declared.kind.Kind.{Kind}
 use Rattle.graphql_lexical.specs.declared.kind.Kind.TheVariants.{BracketOpen, CurlyOpen}
 use Rattle.graphql_lexical.specs.Cutting.{Lexeme}
 use Rattle.graphql_grammar.specs.Tokens.{Text, span_of}
-use Rattle.graphql_grammar.specs.Reading.{Test, passes, of, Read, Took, Refused, Out, Reader, after, seq, done, fault_of, refuse, pick, on, want, many, look, choose, with_span, give_span, front, maybe, one_or_more, repeated}
+use Rattle.graphql_grammar.specs.device.Reading.{Test, passes, of, Read, Took, Refused, Out, Reader, after, seq, done, fault_of, refuse, pick, on, want, many, look, choose, with_span, give_span, front, maybe, one_or_more, repeated}
 use Rattle.graphql_grammar.specs.Tree.{Scalars}
 use Rattle.graphql_grammar.specs.Grammar.{IsScalarKind}
 use Rattle.graphql_grammar.specs.Faults.{Fault, ScalarError}

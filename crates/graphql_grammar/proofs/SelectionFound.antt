@@ -4,9 +4,9 @@ use Rattle.graphql_lexical.specs.Place.{Span}
 use Rattle.graphql_lexical.specs.declared.kind.Kind.TheVariants.{Name, ParenOpen, CurlyOpen, CurlyClose, Ellipsis, Colon, At, EndOfFile}
 use Rattle.graphql_lexical.specs.Cutting.{Lexeme}
 use Rattle.graphql_grammar.specs.Tokens.{Word, word_of, span_of}
-use Rattle.graphql_grammar.specs.Reading.{Test, passes, of, word, Took, Reader, seq, done, want, one_or_more, Steps, takes, a_selection}
-use Rattle.graphql_grammar.specs.Productions.{directives_of, optional_variables, selections_of, selections_inner, selection_set, optional_set, optional_of, names, field, named_spread, inline_parts, inline, typed, other_than_on, spread, any_selection, operation_word, operation_of, optional_name, operation, fragment, shorthand, definition, document, symbol_at, reads}
-use Rattle.graphql_grammar.specs.Tree.{Scalars, Arguments, Variables, Selection, Field, FragmentSpread, InlineFragment, Selections, no_selections, selection, Definition, Operation, Fragment, Directives, OptionalSelections, absent, present, operation_name}
+use Rattle.graphql_grammar.specs.device.Reading.{Test, passes, of, word, Took, Reader, seq, done, want, one_or_more, Steps, takes, a_selection}
+use Rattle.graphql_grammar.specs.device.Productions.{directives_of, optional_variables, selections_inner, selection_set, optional_set, optional_of, names, field, named_spread, inline_parts, inline, typed, other_than_on, spread, any_selection, operation_word, operation_of, optional_name, operation, fragment, shorthand, definition, document, symbol_at, reads}
+use Rattle.graphql_grammar.specs.Tree.{Scalars, Arguments, Variables, Selection, Field, FragmentSpread, InlineFragment, Selections, no_selections, selection, Definition, Operation, Fragment, Directives, OptionalSelections, absent, present, operation_name, selections_of}
 use Rattle.graphql_grammar.specs.declared.operation.OperationType.{OperationType}
 use Rattle.graphql_grammar.specs.declared.operation.OperationType.TheVariants.{Query, Mutation, Subscription}
 use Rattle.graphql_grammar.specs.Grammar.{Is, Says, Sequence, ◌·◌, ◌for◌, Each, Optional, IsWord, IsArguments, IsDirectives, IsVariables, IsAlias, IsTypeCondition, IsFragmentName, IsSelection, IsOptionalSelectionSet, IsSelectionSet, AreSelections, IsDefinition, IsDocument}

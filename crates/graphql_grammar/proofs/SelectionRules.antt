@@ -6,9 +6,9 @@ use Rattle.graphql_lexical.specs.declared.kind.Kind.TheVariants.{Name, CurlyOpen
 use Rattle.graphql_lexical.specs.Cutting.{Lexeme}
 use Rattle.graphql_grammar.specs.Tokens.{Text, word_of, Word, span_of}
 use Rattle.graphql_grammar.specs.Samples.{sample, token_of}
-use Rattle.graphql_grammar.specs.Reading.{passes, of, word, a_selection}
-use Rattle.graphql_grammar.specs.Productions.{selections_of, selections_inner, selection_set, optional_set, optional_of, names, field, named_spread, inline_parts, inline, typed, spread, any_selection, optional_name, operation, type_condition, fragment_name, fragment, shorthand, definition, document, operation_word, operation_of, other_than_on, directives_of, symbol_at, reads}
-use Rattle.graphql_grammar.specs.Tree.{Scalars, Selection, Field, FragmentSpread, InlineFragment, Selections, no_selections, selection, Definition, Operation, Fragment, absent, operation_name, Directives}
+use Rattle.graphql_grammar.specs.device.Reading.{passes, of, word, a_selection}
+use Rattle.graphql_grammar.specs.device.Productions.{selections_inner, selection_set, optional_set, optional_of, names, field, named_spread, inline_parts, inline, typed, spread, any_selection, optional_name, operation, type_condition, fragment_name, fragment, shorthand, definition, document, operation_word, operation_of, other_than_on, directives_of, symbol_at, reads}
+use Rattle.graphql_grammar.specs.Tree.{Scalars, Selection, Field, FragmentSpread, InlineFragment, Selections, no_selections, selection, Definition, Operation, Fragment, absent, operation_name, Directives, selections_of}
 use Rattle.graphql_grammar.specs.declared.operation.OperationType.TheVariants.{Query}
 use Rattle.graphql_grammar.specs.Grammar.{◌·◌, ◌for◌, Each, Optional, Is, IsWord, Says, IsArguments, IsDirectives, IsVariables, IsAlias, IsTypeCondition, IsFragmentName, IsSelection, IsOptionalSelectionSet, IsSelectionSet, AreSelections, IsDefinition, IsDocument}
 use Rattle.graphql_grammar.proofs.Rules.{less, Rule, Some_of, done_rule, weaken}
@@ -62,7 +62,6 @@ module _ {C F : Type 0} (S : Scalars C F) where
   field_name_takes ts h k = back_takes (λ us w. word_takes us h.1 w) ts k
 
   pub names_rule : (k n m : ℕ) → Rule k (reads S n names) (reads S m names) IsFieldName
-  unfolding names
   names_rule k n m = want_step k (of Name) (sample Name) _ _ _ refl (inl refl) (λ a a' p.
       on_rule _ (of Colon) _ _ _ _ _
       (λ c c' q. want_step _ (of Name) (sample Name) _ _ _ refl (inl refl)
@@ -201,7 +200,6 @@ module _ {C F : Type 0} (S : Scalars C F) where
   definition_takes ts (Fragment name condition ds ss p) h = front_takes (says_takes _) ts h.0
 
   pub optional_name_rule : (k n m : ℕ) → Rule k (reads S n optional_name) (reads S m optional_name) (Optional IsWord)
-  unfolding optional_name
   optional_name_rule k n m = look_rule k (of Name) _ _ _ _ (Optional IsWord)
       (want_step k (of Name) (sample Name) _ _ (Optional IsWord) refl (inl refl)
       (λ t t' p. done_rule _ (Some (word_of t)) (Some (word_of t')) _ (word_is t (of_kind Name t p))))
@@ -209,7 +207,6 @@ module _ {C F : Type 0} (S : Scalars C F) where
 
   pub type_condition_rule : (k n m : ℕ)
       → Rule k (reads S n type_condition) (reads S m type_condition) (IsTypeCondition S)
-  unfolding type_condition
   type_condition_rule k n m =
       want_step k (word (codes "on")) (token_of Name (codes "on")) _ _ _ refl (inr (inr (refl, refl)))
       (λ o o' p. want_step _ (of Name) (sample Name) _ _ _ refl (inl refl)
@@ -218,7 +215,6 @@ module _ {C F : Type 0} (S : Scalars C F) where
 
   pub fragment_name_rule : (k n m : ℕ)
       → Rule k (reads S n fragment_name) (reads S m fragment_name) (IsFragmentName S)
-  unfolding fragment_name
   fragment_name_rule k n m = want_step k other_than_on (sample Name) _ _ _ refl (inl refl)
       (λ t t' p. done_rule _ (word_of t) (word_of t') _ (word_is t (other t p).0, (other t p).1))
 

@@ -5,9 +5,9 @@ use Rattle.graphql_lexical.specs.Cutting.{Lexeme}
 use Rattle.graphql_lexical.specs.laws.Alike.{Alike}
 use Rattle.graphql_grammar.specs.Tokens.{Word, word_of, Text, over}
 use Rattle.graphql_grammar.specs.Samples.{sample, token_of}
-use Rattle.graphql_grammar.specs.Reading.{passes, of, Took, Refused, refuse, want, literal, read_as, scalar_token, a_value}
-use Rattle.graphql_grammar.specs.Productions.{by_name, items_of, fields_of, variable_start, variable, list, key_and_value, object, value, symbol_at, reads}
-use Rattle.graphql_grammar.specs.Tree.{Scalars, Value, Null, Scalar, Enum, Variable, ListOf, Object, no_items, no_fields}
+use Rattle.graphql_grammar.specs.device.Reading.{passes, of, Took, Refused, refuse, want, literal, read_as, scalar_token, a_value}
+use Rattle.graphql_grammar.specs.device.Productions.{by_name, variable_start, variable, list, key_and_value, object, value, symbol_at, reads}
+use Rattle.graphql_grammar.specs.Tree.{Scalars, Value, Null, Scalar, Enum, Variable, ListOf, Object, no_items, no_fields, items_of, fields_of}
 use Rattle.graphql_grammar.specs.Grammar.{IsScalarKind, IsToken, Is, IsWord, IsValue, AreItems, AreFields, Each, ◌·◌, ◌for◌}
 use Rattle.graphql_grammar.proofs.Sequences.{row, row_back, row_right, enclosed, over_enclosed, kind_is, token_is, word_is, says_is, one_takes, is_takes, front_takes}
 use Rattle.graphql_grammar.specs.Faults.{ScalarError}

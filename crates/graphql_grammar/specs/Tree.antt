@@ -1,5 +1,5 @@
 -- The syntax tree. C is the type of a scalar's content.
-use Rattle.std.specs.Prelude.{ℕ, Bool, List, Option, Result, codes}
+use Rattle.std.specs.Prelude.{ℕ, Bool, List, [], ◌∷◌, Option, Result, codes}
 use Rattle.graphql_lexical.specs.declared.kind.Kind.{Kind}
 use Rattle.graphql_lexical.specs.Place.{Span}
 use Rattle.graphql_grammar.specs.Tokens.{Text, Word}
@@ -30,6 +30,14 @@ mutual
   pub data ObjectFields (C : Type 0) : Type 0 where
     no_fields : ObjectFields C
     object_field : Text → Span → Value C → ObjectFields C → ObjectFields C
+
+abbrev pub items_of : {C : Type 0} → List (Value C) → Items C
+items_of [] = no_items
+items_of (v ∷ vs) = item v (items_of vs)
+
+abbrev pub fields_of : {C : Type 0} → List (Word × Value C) → ObjectFields C
+fields_of [] = no_fields
+fields_of (x ∷ xs) = object_field x.0.text x.0.span x.1 (fields_of xs)
 
 -- A list type can have a size, which no document writes.
 pub data TypeRef : Type 0 where
@@ -83,6 +91,10 @@ mutual
   pub data OptionalSelections (C : Type 0) : Type 0 where
     absent : OptionalSelections C
     present : Selections C → OptionalSelections C
+
+abbrev pub selections_of : {C : Type 0} → List (Selection C) → Selections C
+selections_of [] = no_selections
+selections_of (s ∷ ss) = selection s (selections_of ss)
 
 abbrev pub operation_name : OperationType → Text
 operation_name Query = codes "query"

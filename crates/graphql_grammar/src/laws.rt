@@ -12,8 +12,8 @@ ghost use Rattle.graphql_grammar.specs.ScalarTokens.{IsRead, IsReadAlso};
 ghost use Rattle.graphql_grammar.specs.Texts.{AtFaultInText};
 ghost use Rattle.graphql_grammar.specs.Unlocated.{SameDocument, SameValue};
 ghost use Rattle.graphql_grammar.specs.Samples.{IsSample, AreSamples};
-ghost use Rattle.graphql_grammar.specs.Reading.{a_value, a_type, fully, GivesWhole, GivesFront};
-ghost use Rattle.graphql_grammar.specs.Productions.{document, symbol_at, reads};
+ghost use Rattle.graphql_grammar.specs.device.Reading.{a_value, a_type, fully, GivesWhole, GivesFront};
+ghost use Rattle.graphql_grammar.specs.device.Productions.{document, symbol_at, reads};
 
 /// No list of tokens is two documents.
 pub fn one_document<C, F>()

@@ -29,9 +29,10 @@ use Rattle.juniper_tokens.specs.Gathering.{IfFault}
 use Rattle.juniper_tokens.specs.Nesting.{IsShallow, EndsAtNesting}
 use Rattle.juniper.specs.declared.parser.depth.DepthFailure.{DepthFailure}
 use Rattle.juniper.specs.declared.parser.depth.DepthFailure.TheVariants as limited
-use Rattle.juniper.specs.Definitions.{document_read}
 use Rattle.juniper.specs.Promise.{HasTree, IsRefusedAt, IsRefusal, AnswersAs}
 use Rattle.juniper.specs.Within.{HasTooDeep, IsWithin, AnswersWithin, answer_within}
+use Rattle.graphql_grammar.specs.device.Productions.{document}
+use Rattle.juniper.specs.device.Steps.{cursor}
 use Rattle.juniper.proofs.Promises.{same_cut, cut_or_break, document_is, refused_is, refusal_at, accepts, refuses, refusal_in_text, lexical, break_from_start, told_lexical}
 
 same_number : (a b : ℕ) → a ≡ b → (a == b) ≡ true
@@ -109,7 +110,7 @@ module _ {C : Type 0} (S : Scalars C Error) (depth : ℕ) (source : List ℕ) wh
 
     module _ (ts : List Lexeme) (cut : Cut source ts) where
       shallow_answer : (result : Result X ParseFailure) → IsShallow depth ts
-          → AnswersAs view result (document_read S ts)
+          → AnswersAs view result (cursor S document ts)
           → Promised (answer_within None result)
       shallow_answer (Ok x) s a = tree_within x (accepts S source ts cut view (Ok x) a) (shallow_within ts cut s)
       shallow_answer (Err (failure.Refused fault)) s a =
@@ -150,7 +151,7 @@ module _ {C : Type 0} (S : Scalars C Error) (depth : ℕ) (source : List ℕ) wh
         ends = short_ends S depth ts i t d (cut_spelled source ts cut) (cut_ends source ts cut)
 
         deep_answer : (span : spans.Span) (result : Result X ParseFailure) → view_span span ≡ t.span
-            → AnswersAs view result (document_read S (ended_by d.before t))
+            → AnswersAs view result (cursor S document (ended_by d.before t))
             → Promised (answer_within (Some span) result)
         deep_answer span (Ok x) e a =
             let document = document_is S (ended_by d.before t) spelled ends (view x) a.0 a.1 in
@@ -162,13 +163,13 @@ module _ {C : Type 0} (S : Scalars C Error) (depth : ℕ) (source : List ℕ) wh
         deep_answer span (Err failure.Memory) e a = memory_within
 
       pub answers_within : (deep : Option spans.Span) (left : List Lexeme) (result : Result X ParseFailure)
-          → EndsAtNesting depth ts deep left → AnswersAs view result (document_read S left)
+          → EndsAtNesting depth ts deep left → AnswersAs view result (cursor S document left)
           → Promised (answer_within deep result)
       answers_within None left result e a =
-          shallow_answer result e.0 (subst (λ (xs : List Lexeme). AnswersAs view result (document_read S xs)) e.1 a)
+          shallow_answer result e.0 (subst (λ (xs : List Lexeme). AnswersAs view result (cursor S document xs)) e.1 a)
       answers_within (Some span) left result (i, t, d, at, is) a =
-          deep_answer i t d span result at (subst (λ (xs : List Lexeme). AnswersAs view result (document_read S xs)) is
-          a)
+          deep_answer i t d span result at
+          (subst (λ (xs : List Lexeme). AnswersAs view result (cursor S document xs)) is a)
 
     -- ---- a lexical fault
 

@@ -8,19 +8,18 @@ use Rattle.graphql_lexical.specs.Cutting.{Lexeme}
 use Rattle.graphql_grammar.specs.Tokens.{Text}
 use Rattle.graphql_grammar.specs.Samples.{sample, IsSample}
 use Rattle.graphql_grammar.specs.Tree.{Scalars}
-use Rattle.graphql_grammar.specs.Reading.{of, passes, Reader, seq, done, on, pick, many, repeated, fully}
-use Rattle.graphql_grammar.specs.Reading.{Steps}
-use Rattle.graphql_grammar.specs.Productions.{reads, several}
+use Rattle.graphql_grammar.specs.device.Reading.{of, passes, Reader, seq, done, on, pick, many, repeated, fully, Steps}
+use Rattle.graphql_grammar.specs.device.Productions.{reads, several}
 use Rattle.graphql_grammar.proofs.TokenTests.{of_kind}
 use Rattle.graphql_grammar.proofs.Rules.{Rule}
 use Rattle.graphql_grammar.proofs.Answered.{reads_answer, closed_answer, each_answer, many_law, repeats_law}
 use Rattle.juniper_tokens.specs.Errors.{Error, UnexpectedEndOfFile}
 use Rattle.juniper_tokens.specs.Cursor.{Read, ◌>>=◌, EndsOnce, kind_at, next_at, skip_if}
-use Rattle.juniper.specs.Seen.{seen}
-use Rattle.juniper.specs.Steps.{closed_by, closed_read, each_read, cursor}
+use Rattle.juniper.specs.device.Seen.{seen}
+use Rattle.juniper.specs.device.Steps.{closed_by, closed_read, each_read, cursor}
 use Rattle.juniper.proofs.Stepping.{bind_assoc, bind_same, seq_as, taken, kind_no_end, look_ended}
 use Rattle.juniper.proofs.Loops.{then_others, Repeats, RepeatsSome, closed_or, some_repeats}
-use Rattle.juniper.proofs.Shown.{Fine, shown_fully}
+use Rattle.juniper.proofs.CursorGoes.{Fits, shown_fully}
 use Rattle.juniper.proofs.Symbols.{symbols_shown}
 
 abbrev pub AtEnd : {A : Type 0} → (List Lexeme → Read A) → Type 0
@@ -78,11 +77,11 @@ module _ {A : Type 0} (k : Kind) (f : Reader Error A) (rest : Reader Error (List
     skip_seen [] = others_seen [] ∙ sym (ap (λ (b : Bool). skip_if b [] >>= λ c. closed_or item more c.0 c.1) no_at)
     skip_seen (t ∷ ts) = by_next t ts (passes (of k) t) (same_kind t.kind EndOfFile) refl refl
 
-module _ {C : Type 0} (S : Scalars C Error) {A : Type 0} (p : Steps C A) (fine : Fine S p)
+module _ {C : Type 0} (S : Scalars C Error) {A : Type 0} (p : Steps C A) (fits : Fits S p)
     (R : List Lexeme → A → Type 0) (rule : (n : ℕ) → Rule n (reads S n p) (reads S n p) R)
     (takes : (us : List Lexeme) (x : A) → R us x → 0 < length us) where
   item_seen : (ts : List Lexeme) → seen (fully (λ n. reads S n p) ts) ≡ cursor S p ts
-  item_seen = shown_fully S (symbols_shown S) p fine (reads_answer S p R rule)
+  item_seen = shown_fully S (symbols_shown S) p fits (reads_answer S p R rule)
 
   module _ (k : Kind) (closes : passes (of k) (sample k) ≡ true) (is : IsSample (sample k))
       (no_end : same_kind k EndOfFile ≡ false) (no_at : same_kind At k ≡ false) (ends : AtEnd (cursor S p)) where

@@ -10,19 +10,19 @@ use Rattle.graphql_grammar.specs.Tree.{Scalars, Value, TypeRef}
 use Rattle.graphql_grammar.specs.Grammar.{IsValue}
 use Rattle.graphql_grammar.specs.Faults as grammar
 use Rattle.graphql_grammar.specs.Faults.{ValueRefusedAt, TypeRefusedAt}
-use Rattle.graphql_grammar.specs.Reading.{Took, Refused, Out, Reader, GivesFront, fully, a_value, a_type}
-use Rattle.graphql_grammar.specs.Productions.{symbol_at}
+use Rattle.graphql_grammar.specs.device.Reading.{Took, Refused, Out, Reader, GivesFront, fully, a_value, a_type}
+use Rattle.graphql_grammar.specs.device.Productions.{symbol_at}
 use Rattle.graphql_grammar.proofs.DocumentRules.{IsSpannedType}
-use Rattle.graphql_grammar.specs.Reading as reading
+use Rattle.graphql_grammar.specs.device.Reading as reading
 use Rattle.graphql_grammar.proofs.Given.{value_given, type_given}
 use Rattle.graphql_grammar.proofs.Found.{value_found}
 use Rattle.juniper_tokens.specs.declared.error.ParseFailure.{ParseFailure}
 use Rattle.juniper_tokens.specs.declared.error.ParseFailure.TheVariants as failure
 use Rattle.juniper_tokens.specs.Errors.{Error, Fault, view_fault}
 use Rattle.juniper_tokens.specs.Cursor.{Read, EndsOnce, Gives}
-use Rattle.juniper.specs.Seen.{seen, past}
-use Rattle.juniper.specs.Steps.{no_scalars, value_read, type_read}
-use Rattle.juniper.specs.Promise.{Refuses, AnswersValue, AnswersType}
+use Rattle.juniper.specs.device.Seen.{seen}
+use Rattle.juniper.specs.device.Steps.{no_scalars, value_read, type_read}
+use Rattle.juniper.specs.Promise.{Refuses, AnswersValue, AnswersType, past}
 use Rattle.juniper.proofs.Stepping.{seen_took}
 
 -- The last token and no other is the end, as the cursor and as the grammar say it.

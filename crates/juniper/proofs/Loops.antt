@@ -6,7 +6,7 @@ use Rattle.graphql_lexical.specs.Cutting.{Lexeme}
 use Rattle.juniper_tokens.specs.declared.error.ParseFailure.{ParseFailure}
 use Rattle.juniper_tokens.specs.declared.error.ParseFailure.TheVariants as failures
 use Rattle.juniper_tokens.specs.Errors.{view_fault}
-use Rattle.juniper_tokens.specs.Cursor.{Read, Fails, ◌>>=◌}
+use Rattle.juniper_tokens.specs.Cursor.{Read, Fails, ◌>>=◌, EndsOnce}
 
 -- one item, and then others
 abbrev pub then_others : {A B : Type 0} → A → Read (List A × B) → Read (List A × B)
@@ -34,17 +34,17 @@ pub record Repeats {A : Type 0} (skip : List Lexeme → Read (Option Lexeme)) (i
   pub unfolds : (ts : List Lexeme) → more ts ≡ (skip ts >>= λ c. closed_or item more c.0 c.1)
 
 -- p is what is left where a turn of the loop begins
-module _ {A : Type 0} (skip : List Lexeme → Read (Option Lexeme)) (item : List Lexeme → Read A)
-    (more : List Lexeme → Read (List A × Span)) (u : Repeats skip item more)
-    (front : List A) (p : List Lexeme) (total : Read (List A × Span)) (so_far : with_front front (more p) ≡ total) where
-  pub goes_on : (a : A) (q r : List Lexeme) → skip p ≡ Ok (None, q) → item q ≡ Ok (a, r)
+module _ {A : Type 0} {skip : List Lexeme → Read (Option Lexeme)} {item : List Lexeme → Read A}
+    {more : List Lexeme → Read (List A × Span)} (u : Repeats skip item more)
+    (front : List A) (p : List Lexeme) {total : Read (List A × Span)} (so_far : with_front front (more p) ≡ total) where
+  pub goes_on : {a : A} {q r : List Lexeme} → skip p ≡ Ok (None, q) → item q ≡ Ok (a, r)
       → with_front (front ++ a ∷ []) (more r) ≡ total
-  goes_on a q r opened first =
+  goes_on {a} {q} {r} opened first =
       let one : more p ≡ then_others a (more r) = u.unfolds p ∙ rw (opened, first) refl in
       sym (ap (with_front front) one ∙ regroup front a (more r)) ∙ so_far
 
-  pub ends : (c : Lexeme) (q : List Lexeme) → skip p ≡ Ok (Some c, q) → total ≡ Ok ((front, c.span), q)
-  ends c q closed =
+  pub ends : {c : Lexeme} {q : List Lexeme} → skip p ≡ Ok (Some c, q) → total ≡ Ok ((front, c.span), q)
+  ends {c} {q} closed =
       let one : more p ≡ Ok (([], c.span), q) = u.unfolds p ∙ rw closed refl in
       sym so_far ∙ ap (with_front front) one ∙ ap (λ (as' : List A). Ok ((as', c.span), q)) (append-nil front)
 
@@ -54,10 +54,10 @@ module _ {A : Type 0} (skip : List Lexeme → Read (Option Lexeme)) (item : List
       let one : more p ≡ Err (view_fault e, left) = u.unfolds p ∙ rw fails refl in
       sym so_far ∙ ap (with_front front) one
 
-  pub item_fails : (e : ParseFailure) (q left : List Lexeme) → skip p ≡ Ok (None, q) → Fails e left (item q)
-      → Fails e left total
-  item_fails failures.Memory q left opened fails = tt
-  item_fails (failures.Refused e) q left opened fails =
+  pub item_fails : (e : ParseFailure) (left : List Lexeme) {q : List Lexeme} → skip p ≡ Ok (None, q)
+      → Fails e left (item q) → Fails e left total
+  item_fails failures.Memory left opened fails = tt
+  item_fails (failures.Refused e) left opened fails =
       let one : more p ≡ Err (view_fault e, left) = u.unfolds p ∙ rw (opened, fails) refl in
       sym so_far ∙ ap (with_front front) one
 
@@ -73,18 +73,18 @@ pub record RepeatsSome {A : Type 0} (skip : List Lexeme → Read (Option Lexeme)
     (some : List Lexeme → Read (List A × Span)) : Type 0 where
   pub unfolds : (ts : List Lexeme) → some ts ≡ (item ts >>= λ x. skip x.1 >>= λ c. ended_or x.0 some c.0 c.1)
 
-module _ {A : Type 0} (skip : List Lexeme → Read (Option Lexeme)) (item : List Lexeme → Read A)
-    (some : List Lexeme → Read (List A × Span)) (u : RepeatsSome skip item some)
-    (front : List A) (p : List Lexeme) (total : Read (List A × Span)) (so_far : with_front front (some p) ≡ total) where
-  pub some_go_on : (a : A) (q r : List Lexeme) → item p ≡ Ok (a, q) → skip q ≡ Ok (None, r)
+module _ {A : Type 0} {skip : List Lexeme → Read (Option Lexeme)} {item : List Lexeme → Read A}
+    {some : List Lexeme → Read (List A × Span)} (u : RepeatsSome skip item some)
+    (front : List A) (p : List Lexeme) {total : Read (List A × Span)} (so_far : with_front front (some p) ≡ total) where
+  pub some_go_on : {a : A} {q r : List Lexeme} → item p ≡ Ok (a, q) → skip q ≡ Ok (None, r)
       → with_front (front ++ a ∷ []) (some r) ≡ total
-  some_go_on a q r first opened =
+  some_go_on {a} {q} {r} first opened =
       let one : some p ≡ then_others a (some r) = u.unfolds p ∙ rw (first, opened) refl in
       sym (ap (with_front front) one ∙ regroup front a (some r)) ∙ so_far
 
-  pub some_end : (a : A) (c : Lexeme) (q r : List Lexeme) → item p ≡ Ok (a, q) → skip q ≡ Ok (Some c, r)
+  pub some_end : {a : A} {c : Lexeme} {q r : List Lexeme} → item p ≡ Ok (a, q) → skip q ≡ Ok (Some c, r)
       → total ≡ Ok ((front ++ a ∷ [], c.span), r)
-  some_end a c q r first closed =
+  some_end {a} {c} {q} {r} first closed =
       let one : some p ≡ Ok ((a ∷ [], c.span), r) = u.unfolds p ∙ rw (first, closed) refl in
       sym so_far ∙ ap (with_front front) one
 
@@ -94,10 +94,10 @@ module _ {A : Type 0} (skip : List Lexeme → Read (Option Lexeme)) (item : List
       let one : some p ≡ Err (view_fault e, left) = u.unfolds p ∙ rw fails refl in
       sym so_far ∙ ap (with_front front) one
 
-  pub some_close_fails : (e : ParseFailure) (a : A) (q left : List Lexeme) → item p ≡ Ok (a, q) → Fails e left (skip q)
-      → Fails e left total
-  some_close_fails failures.Memory a q left first fails = tt
-  some_close_fails (failures.Refused e) a q left first fails =
+  pub some_close_fails : (e : ParseFailure) (left : List Lexeme) {a : A} {q : List Lexeme} → item p ≡ Ok (a, q)
+      → Fails e left (skip q) → Fails e left total
+  some_close_fails failures.Memory left first fails = tt
+  some_close_fails (failures.Refused e) left first fails =
       let one : some p ≡ Err (view_fault e, left) = u.unfolds p ∙ rw (first, fails) refl in
       sym so_far ∙ ap (with_front front) one
 
@@ -134,26 +134,31 @@ pub before_regroup : {A : Type 0} (front : List A) (a : A) (r : Read (List A))
 before_regroup front a (Ok x) = ap (λ (as' : List _). Ok (as', x.1)) (sym (append_assoc front (a ∷ []) x.0))
 before_regroup front a (Err e) = refl
 
--- from p, where the test of a turn of the loop is b
-module _ {A : Type 0} (front : List A) (item : Read A) (each : List Lexeme → Read (List A)) (here total : Read (List A))
-    (b : Bool) (p : List Lexeme)
-    (unfolds : here ≡ cond b (item >>= λ d. each d.1 >>= λ ds. Ok (d.0 ∷ ds.0, ds.1)) (Ok ([], p)))
-    (so_far : before_others front here ≡ total) where
-  pub before_go_on : b ≡ true → (a : A) (q : List Lexeme) → item ≡ Ok (a, q)
+-- items as long as the test holds
+pub record RepeatsWhile {A : Type 0} (test : List Lexeme → Bool) (item : List Lexeme → Read A)
+    (each : List Lexeme → Read (List A)) : Type 0 where
+  pub unfolds : (ts : List Lexeme) → EndsOnce ts
+      → each ts ≡ cond (test ts) (item ts >>= λ d. each d.1 >>= λ ds. Ok (d.0 ∷ ds.0, ds.1)) (Ok ([], ts))
+
+module _ {A : Type 0} {test : List Lexeme → Bool} {item : List Lexeme → Read A} {each : List Lexeme → Read (List A)}
+    (u : RepeatsWhile test item each) (front : List A) (p : List Lexeme) {total : Read (List A)} (ended : EndsOnce p)
+    (so_far : before_others front (each p) ≡ total) where
+  pub before_go_on : test p ≡ true → {a : A} {q : List Lexeme} → item p ≡ Ok (a, q)
       → before_others (front ++ a ∷ []) (each q) ≡ total
-  before_go_on test a q first =
-      let one : here ≡ (each q >>= λ ds. Ok (a ∷ ds.0, ds.1)) = unfolds ∙ rw (test, first) refl in
+  before_go_on holds {a} {q} first =
+      let one : each p ≡ (each q >>= λ ds. Ok (a ∷ ds.0, ds.1)) = u.unfolds p ended ∙ rw (holds, first) refl in
       sym (ap (before_others front) one ∙ before_regroup front a (each q)) ∙ so_far
 
-  pub before_end : b ≡ false → total ≡ Ok (front, p)
-  before_end test =
-      let one : here ≡ Ok ([], p) = unfolds ∙ rw test refl in
+  pub before_end : test p ≡ false → total ≡ Ok (front, p)
+  before_end fails =
+      let one : each p ≡ Ok ([], p) = u.unfolds p ended ∙ rw fails refl in
       sym so_far ∙ ap (before_others front) one ∙ ap (λ (as' : List A). Ok (as', p)) (append-nil front)
 
-  pub before_fail : b ≡ true → (e : ParseFailure) (left : List Lexeme) → Fails e left item → Fails e left total
-  before_fail test failures.Memory left fails = tt
-  before_fail test (failures.Refused e) left fails =
-      let one : here ≡ Err (view_fault e, left) = unfolds ∙ rw (test, fails) refl in
+  pub before_fail : test p ≡ true → (e : ParseFailure) (left : List Lexeme) → Fails e left (item p)
+      → Fails e left total
+  before_fail holds failures.Memory left fails = tt
+  before_fail holds (failures.Refused e) left fails =
+      let one : each p ≡ Err (view_fault e, left) = u.unfolds p ended ∙ rw (holds, fails) refl in
       sym so_far ∙ ap (before_others front) one
 
 -- what fails first fails in all

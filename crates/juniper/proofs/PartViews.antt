@@ -9,8 +9,8 @@ use Rattle.juniper_tokens.specs.Spans.{view_span, covering_span, span_between}
 use Rattle.juniper_tokens.specs.declared.span.Spanning.{Spanning}
 use Rattle.juniper.specs.declared.tree.ast.Directive as ast
 use Rattle.juniper.specs.View.{view_directive, view_directives}
-use Rattle.graphql_grammar.specs.Productions.{last_end, all_directives}
-use Rattle.juniper.specs.Parts.{view_spanned_directives}
+use Rattle.juniper.specs.device.PartViews.{view_spanned_directives}
+use Rattle.graphql_grammar.specs.device.Productions.{last_end, all_directives}
 
 -- the span of a part, seen before and after the part is
 pub end_of_part : {T B : Type 0} (view : Spanning T → B) (sp : B → Span)

@@ -9,9 +9,9 @@ use Rattle.graphql_grammar.specs.Tree.{Scalars, Definition}
 use Rattle.graphql_grammar.specs.Grammar.{IsDocument}
 use Rattle.graphql_grammar.specs.Faults.{EndsOnce, DocumentRefusedAt}
 use Rattle.graphql_grammar.specs.Tokens.{IsSpelled}
-use Rattle.graphql_grammar.specs.Reading.{Took, Refused, Out, GivesWhole, fully}
-use Rattle.graphql_grammar.specs.Productions.{reads, document}
-use Rattle.graphql_grammar.specs.Reading as reading
+use Rattle.graphql_grammar.specs.device.Reading.{Took, Refused, Out, GivesWhole, fully}
+use Rattle.graphql_grammar.specs.device.Productions.{reads, document}
+use Rattle.graphql_grammar.specs.device.Reading as reading
 use Rattle.graphql_grammar.proofs.Given.{document_given}
 use Rattle.graphql_grammar.proofs.OneFault.{never_both}
 use Rattle.graphql_grammar.proofs.Readers.{one_document}
@@ -28,10 +28,10 @@ use Rattle.juniper_tokens.specs.Errors.{Error, Fault, Lexical, view_fault, view_
 use Rattle.juniper_tokens.specs.Cursor.{Read}
 use Rattle.juniper_tokens.specs.Lexing.{LexerState, started}
 use Rattle.juniper_tokens.specs.Gathering.{IfFault}
-use Rattle.juniper.specs.Seen.{seen}
-use Rattle.juniper.specs.Definitions.{document_read}
+use Rattle.juniper.specs.device.Seen.{seen}
 use Rattle.juniper.specs.Laws.{FailsAtBreak, IsRefusedAtBreak}
 use Rattle.juniper.specs.Promise.{lexical_fault, HasTree, IsRefusedAt, IsRefusal, IsRefusalInText, IfRefused, AnswersAs}
+use Rattle.juniper.specs.device.Steps.{cursor}
 use Rattle.juniper.proofs.Stepping.{seen_took}
 use Rattle.juniper.proofs.Readings.{document_seen}
 
@@ -66,7 +66,7 @@ module _ {C : Type 0} (S : Scalars C Error) (ts : List Lexeme) (spelled : AllByR
   given = document_given S ts spelled ends
 
   -- a tree is that of a document
-  pub document_is : (tree : List (Definition C)) (left : List Lexeme) → document_read S ts ≡ Ok (tree, left)
+  pub document_is : (tree : List (Definition C)) (left : List Lexeme) → cursor S document ts ≡ Ok (tree, left)
       → IsDocument S ts tree
   document_is tree left e =
       let took = seen_took (fully (λ n. reads S n document) ts) tree left (document_seen S ts ∙ e) in
@@ -92,7 +92,7 @@ module _ {C : Type 0} (S : Scalars C Error) (ts : List Lexeme) (spelled : AllByR
   by_read fault left Out g q = absurd g
 
   -- a fault is that of the grammar
-  pub refused_is : (fault : Fault) (left : List Lexeme) → document_read S ts ≡ Err (fault, left)
+  pub refused_is : (fault : Fault) (left : List Lexeme) → cursor S document ts ≡ Err (fault, left)
       → IsRefusedAt S ts fault
   refused_is fault left e = by_read fault left (fully (λ n. reads S n document) ts) given (document_seen S ts ∙ e)
 
@@ -121,13 +121,13 @@ module _ {C : Type 0} (S : Scalars C Error) (source : List ℕ) (ts : List Lexem
   }
 
   pub accepts : {X : Type 0} (view : X → List (Definition C)) (result : Result X ParseFailure)
-      → AnswersAs view result (document_read S ts) → IfOk result (λ x. HasTree S source (view x))
+      → AnswersAs view result (cursor S document ts) → IfOk result (λ x. HasTree S source (view x))
   accepts view (Ok x) a = tree_of (view x) (document_is S ts (cut_spelled source ts cut) (cut_ends source ts cut)
       (view x) a.0 a.1)
   accepts view (Err e) a = tt
 
   pub refuses : {X : Type 0} (view : X → List (Definition C)) (result : Result X ParseFailure)
-      → AnswersAs view result (document_read S ts) → IfRefused result (λ fault. IsRefusal S source (view_fault fault))
+      → AnswersAs view result (cursor S document ts) → IfRefused result (λ fault. IsRefusal S source (view_fault fault))
   refuses view (Ok x) a = tt
   refuses view (Err (failure.Refused fault)) a =
       refusal_at (view_fault fault) (refused_is S ts (cut_spelled source ts cut) (cut_ends source ts cut)

@@ -4,11 +4,12 @@ use Rattle.graphql_lexical.specs.declared.kind.Kind.TheVariants.{EndOfFile}
 use Rattle.graphql_lexical.specs.Kinds.{same_kind}
 use Rattle.graphql_lexical.specs.Cutting.{Lexeme}
 use Rattle.graphql_grammar.specs.Tree.{Scalars}
-use Rattle.graphql_grammar.specs.Reading.{passes, scalar_token, refuse, fault_of, literal, read_as}
+use Rattle.graphql_grammar.specs.device.Reading.{passes, scalar_token, refuse, fault_of, literal, read_as}
 use Rattle.graphql_grammar.proofs.TokenTests.{of_kind}
 use Rattle.juniper_tokens.specs.Errors.{Error}
-use Rattle.juniper.specs.Seen.{seen, past}
-use Rattle.juniper.specs.Steps.{read_here, scalar_read}
+use Rattle.juniper.specs.device.Seen.{seen}
+use Rattle.juniper.specs.Promise.{past}
+use Rattle.juniper.specs.device.Steps.{read_here, scalar_read}
 
 module _ {C : Type 0} (S : Scalars C Error) where
   token_seen : (t : Lexeme) (ts : List Lexeme) (z : Result C Error) → past (t ∷ ts) ≡ ts

@@ -6,7 +6,8 @@ use Rattle.std.specs.Global.{Vec}
 use Rattle.graphql_lexical.specs.Place.{Span}
 use Rattle.graphql_grammar.specs.Tokens.{to_end_of}
 use Rattle.graphql_grammar.specs.Tree as tree
-use Rattle.graphql_grammar.specs.Productions.{selections_of, from_start_of, names_span, optional_of, directives_of}
+use Rattle.graphql_grammar.specs.Tree.{selections_of}
+use Rattle.graphql_grammar.specs.device.Productions.{from_start_of, names_span, optional_of, directives_of}
 use Rattle.juniper_tokens.specs.Spans.{view_span}
 use Rattle.juniper_tokens.specs.declared.span.Span.{Span as SpanOf}
 use Rattle.juniper_tokens.specs.declared.span.Spanning.{Spanning}
@@ -18,8 +19,7 @@ use Rattle.juniper.specs.declared.tree.ast.Selection.TheVariants.{Field, InlineF
 use Rattle.juniper.specs.declared.tree.ast.Field.{Field as FieldOf}
 use Rattle.juniper.specs.declared.tree.ast.InlineFragment.{InlineFragment as InlineOf}
 use Rattle.juniper.specs.View.{view_word, view_arguments, view_directive, view_directives, view_selection, view_held, view_row, view_selections, view_set, view_field, view_inline}
-use Rattle.juniper.specs.Parts.{view_spanned_directives}
-use Rattle.juniper.specs.Selections.{view_spanned_set}
+use Rattle.juniper.specs.device.PartViews.{view_spanned_directives, view_spanned_set}
 use Rattle.juniper.proofs.PartViews.{end_of_part, up_to_part, without_span}
 
 module _ {S C : Type 0} (content : S → C) where

@@ -3,15 +3,14 @@ use Rattle.std.proofs.Common.{◌≡◌, ℕ, zero, suc, Bool, true, false, List
 use Rattle.graphql_lexical.specs.Place.{Span}
 use Rattle.graphql_lexical.specs.Cutting.{Lexeme}
 use Rattle.graphql_grammar.specs.Tree.{Scalars, TypeRef}
-use Rattle.graphql_grammar.specs.Reading.{Test, passes, Took, Refused, Out, Reader, after, seq, on, pick, look, choose, fully}
-use Rattle.graphql_grammar.specs.Reading as reading
-use Rattle.graphql_grammar.specs.Reading.{a_value, a_type, a_selection}
-use Rattle.graphql_grammar.specs.Productions.{symbol_at, named_type, list_type, nullable_type, non_null, type}
+use Rattle.graphql_grammar.specs.device.Reading.{Test, passes, Took, Refused, Out, Reader, after, seq, look, choose, a_value, a_type, a_selection}
+use Rattle.graphql_grammar.specs.device.Reading as reading
+use Rattle.graphql_grammar.specs.device.Productions.{symbol_at, named_type, list_type, nullable_type, non_null, type}
 use Rattle.graphql_grammar.proofs.Answered.{values_answer, types_answer, selections_answer}
 use Rattle.juniper_tokens.specs.Errors.{Error}
-use Rattle.juniper.specs.Seen.{seen}
-use Rattle.juniper.specs.Steps.{no_scalars, value_read, type_read, selection_read}
-use Rattle.juniper.proofs.Shown.{enough, SymbolsShown}
+use Rattle.juniper.specs.device.Seen.{seen}
+use Rattle.juniper.specs.device.Steps.{no_scalars, value_read, type_read, selection_read}
+use Rattle.juniper.proofs.CursorGoes.{enough, SymbolsShown}
 
 -- ---- a type is read alike, whatever the scalars are
 

@@ -4,8 +4,7 @@ use Rattle.std.specs.declared.alloc.Global.{Global}
 use Rattle.graphql_lexical.specs.Place.{Place, Span}
 use Rattle.graphql_lexical.specs.Kinds.{LexicalError}
 use Rattle.graphql_lexical.specs.Cutting.{Lexeme, Cut, Breaks}
-use Rattle.graphql_grammar.specs.Productions.{items_of, fields_of}
-use Rattle.graphql_grammar.specs.Tree.{Null, Scalar, Enum, Variable, ListOf, Object}
+use Rattle.graphql_grammar.specs.Tree.{Null, Scalar, Enum, Variable, ListOf, Object, items_of, fields_of}
 use Rattle.juniper_tokens.specs.declared.error.LexFailure.{LexFailure}
 use Rattle.juniper_tokens.specs.declared.error.ParseFailure.{ParseFailure}
 use Rattle.juniper_tokens.specs.declared.error.ParseFailure.TheVariants.{Refused, Memory}

@@ -1,11 +1,6 @@
 pub mod View
 pub mod Scalars
-pub mod Seen
-pub mod Steps
-pub mod Values
-pub mod Parts
-pub mod Selections
-pub mod Definitions
+pub mod device
 pub mod Promise
 pub mod Within
 pub mod Sinks

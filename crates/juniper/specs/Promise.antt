@@ -1,8 +1,10 @@
 -- What is promised of a text, in the words of the grammar.
-use Rattle.std.specs.Prelude.{◌≡◌, ◌≤◌, ℕ, suc, Bool, List, ◌∷◌, ◌++◌, drop, length, Result, Ok, Err}
+use Rattle.std.specs.Prelude.{◌≡◌, ◌≤◌, ℕ, suc, Bool, List, [], ◌∷◌, ◌++◌, drop, length, Result, Ok, Err, if◌then◌else◌}
 use Rattle.graphql_lexical.specs.Place.{Place, Span}
-use Rattle.graphql_lexical.specs.Kinds.{LexicalError}
+use Rattle.graphql_lexical.specs.declared.kind.Kind.TheVariants.{EndOfFile}
+use Rattle.graphql_lexical.specs.Kinds.{LexicalError, same_kind}
 use Rattle.graphql_lexical.specs.Cutting.{Lexeme, Cut, Breaks}
+use Rattle.graphql_lexical.specs.Display.{shown}
 use Rattle.graphql_grammar.specs.Tree.{Scalars, Value, TypeRef, Definition}
 use Rattle.graphql_grammar.specs.Grammar.{IsValue, IsType, IsDocument}
 use Rattle.graphql_grammar.specs.Faults as grammar
@@ -13,13 +15,24 @@ use Rattle.juniper_tokens.specs.declared.error.ParseError.{ParseError}
 use Rattle.juniper_tokens.specs.declared.error.ParseFailure.{ParseFailure}
 use Rattle.juniper_tokens.specs.declared.error.ParseFailure.TheVariants as failure
 use Rattle.juniper_tokens.specs.declared.span.Spanning.{Spanning}
+use Rattle.juniper_tokens.specs.Errors as errors
 use Rattle.juniper_tokens.specs.Errors.{Error, Fault, Lexical, view_fault}
 use Rattle.juniper_tokens.specs.Cursor.{Read, Fails}
-use Rattle.juniper.specs.Seen.{error_of, past}
 
 -- a lexical fault, of zero width
 abbrev pub lexical_fault : LexicalError → Place → Fault
 lexical_fault error at = record { error = Lexical error; span = record { start = at; end = at } }
+
+-- A token is told by what is shown of it.
+abbrev pub error_of : grammar.Fault Error → Error
+error_of grammar.UnexpectedEndOfFile = errors.UnexpectedEndOfFile
+error_of (grammar.UnexpectedToken kind text) = errors.UnexpectedToken (shown kind text)
+error_of (grammar.ScalarError e) = e
+
+-- the tokens past the refused one, which is taken unless it is the end
+abbrev pub past : List Lexeme → List Lexeme
+past [] = []
+past (t ∷ ts) = if same_kind t.kind EndOfFile then t ∷ ts else ts
 
 module _ {C : Type 0} (S : Scalars C Error) where
   -- The text can be cut into tokens, they are a document with this tree, and the text has no other.

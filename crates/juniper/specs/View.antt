@@ -79,6 +79,9 @@ wrapped type (modifier.List size ∷ ms) = wrapped (ListType size type) ms
 abbrev pub view_type : TypeShape (Bor (List ℕ)) → TypeRef
 view_type type = wrapped (NamedType (chars type.name.now)) type.modifiers
 
+abbrev pub view_spanned_type : Spanning (TypeShape (Bor (List ℕ))) → TypeRef × places.Span
+view_spanned_type t = (view_type t.item, view_span t.span)
+
 -- ---- arguments, directives and variable definitions
 
 module _ {S C : Type 0} (content : S → C) where

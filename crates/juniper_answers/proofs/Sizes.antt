@@ -1,12 +1,11 @@
 -- The sizes of values.
 use denote.Param.Weighed.{most}
-use Rattle.std.proofs.Common.{ℕ, ◌≤◌, ◌<◌, List, [], ◌∷◌, arith}
+use Rattle.std.proofs.Common.{ℕ, ◌≤◌, ◌<◌, List, [], ◌∷◌, arith, rules}
 use Rattle.std.specs.List.{zip}
 use Rattle.std.specs.Map.{values_of}
 use Rattle.juniper_answers.specs.View.{pairs}
 use Rattle.juniper_answers.specs.declared.value.Object.{Object, size-Object, the_lemmas}
 use Rattle.juniper_answers.specs.declared.value.Value.{size-Value, the_lemmas as value_lemmas}
-use Rattle.std.proofs.Common.{rules}
 
 -- what is shown weighs no more than what is there
 pub most_shown : {K X : Type 0} (μ : X → ℕ) (ks : List K) (vs : List X) → most μ (values_of (zip ks vs)) ≤ most μ vs

@@ -1,8 +1,7 @@
 -- The nodes of values, variant by variant.
 use Rattle.std.proofs.Common.{◌≡◌, ◌∙◌, List, [], ◌∷◌, ◌++◌, map, String, Vec, Global, refl, ap}
 use Rattle.graphql_grammar.specs.Tokens.{Word}
-use Rattle.graphql_grammar.specs.Tree.{Value}
-use Rattle.graphql_grammar.specs.Productions.{items_of, fields_of}
+use Rattle.graphql_grammar.specs.Tree.{Value, items_of, fields_of}
 use Rattle.graphql_nodes.specs.Nodes.{Node, Unnamed, named, over, scalar_node, each, value_nodes, items_nodes, fields_nodes}
 use Rattle.graphql_nodes.specs.declared.kind.NodeKind.TheVariants as kind
 use Rattle.juniper_tokens.specs.Spans.{view_span}

@@ -5,7 +5,7 @@ use Rattle.std.specs.List.{onto_first}
 use Rattle.juniper_values.specs.Text.{Text}
 use Rattle.graphql_lexical.specs.Characters.{is_line_end}
 use Rattle.juniper_values.specs.BlockStrings.{is_indent, is_blank, indent, indents, least}
-use Rattle.juniper_values.specs.BlockSteps.{is_left_out, white_before, place_after, lesser, least_after}
+use Rattle.juniper_values.specs.device.BlockSteps.{is_left_out, white_before, place_after, lesser, least_after}
 use Rattle.juniper_values.specs.declared.block_string.Place.{Place}
 use Rattle.juniper_values.specs.declared.block_string.Place.TheVariants.{First, Indent, Behind}
 use Rattle.juniper_values.proofs.BlockLines.{lines_of, left_out, line_ended, line_goes_on}

@@ -8,7 +8,7 @@ use Rattle.juniper_values.specs.Text.{Text}
 use Rattle.graphql_lexical.specs.Characters.{is_line_end}
 use Rattle.graphql_lexical.specs.Tokens.{mark}
 use Rattle.juniper_values.specs.BlockStrings.{line_feed, with_quotes, lines}
-use Rattle.juniper_values.specs.BlockSteps.{is_left_out}
+use Rattle.juniper_values.specs.device.BlockSteps.{is_left_out}
 
 -- ---- three quotes
 

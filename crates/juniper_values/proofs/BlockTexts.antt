@@ -14,7 +14,7 @@ use Rattle.std.proofs.lemmas.Str.{IsUtf8-from_ascii, IsUtf8-string_bytes, IsChar
 use Rattle.juniper_values.specs.Text.{Text}
 use Rattle.graphql_lexical.specs.Tokens.{mark}
 use Rattle.juniper_values.specs.BlockStrings.{line_feed}
-use Rattle.juniper_values.specs.BlockSteps.{is_left_out}
+use Rattle.juniper_values.specs.device.BlockSteps.{is_left_out}
 use Rattle.std.specs.declared.option.Option.TheVariants.{None}
 use lib.Utf8.{scalar, scalars, encodes}
 

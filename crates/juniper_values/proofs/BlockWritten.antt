@@ -9,7 +9,7 @@ use lib.Utf8.{encodes}
 use Rattle.juniper_values.specs.Text.{Text}
 use Rattle.graphql_lexical.specs.Characters.{is_line_end}
 use Rattle.juniper_values.specs.BlockStrings.{with_quotes, is_indent, is_blank, common_indent, unindented, drop_blank_front, drop_blank_end, joined}
-use Rattle.juniper_values.specs.BlockSteps.{is_left_out, written, line_after, is_filled}
+use Rattle.juniper_values.specs.device.BlockSteps.{is_left_out, written, line_after, is_filled}
 use Rattle.juniper_values.specs.declared.block_string.Line.{Line}
 use Rattle.juniper_values.specs.declared.block_string.Line.TheVariants.{Blank, Filled}
 use Rattle.juniper_values.proofs.BlockLines.{lines_of, has_line, left_out, line_ended, line_goes_on}

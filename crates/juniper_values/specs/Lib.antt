@@ -3,7 +3,7 @@ pub mod Scalar
 pub mod ScalarDisplay
 pub mod Escapes
 pub mod BlockStrings
-pub mod BlockSteps
+pub mod device
 pub mod Integers
 pub mod Default
 pub mod TypeLiteral

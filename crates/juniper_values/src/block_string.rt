@@ -5,7 +5,7 @@ ghost use Rattle.std.specs.Str.{chars};
 ghost use Rattle.juniper_values.specs.View.{text_of};
 ghost use Rattle.graphql_lexical.specs.Characters.{is_line_end};
 ghost use Rattle.juniper_values.specs.BlockStrings.{block_value, common_indent, lines, with_quotes, is_indent};
-ghost use Rattle.juniper_values.specs.BlockSteps.{is_left_out, white_before, place_after, least_after, written, line_after, is_filled};
+ghost use Rattle.juniper_values.specs.device.BlockSteps.{is_left_out, white_before, place_after, least_after, written, line_after, is_filled};
 
 use std::alloc::{AllocError, Global};
 

@@ -1,4 +1,4 @@
--- Machines that go over characters, one step at each.
+-- A device: machines that go over characters, one step at each.
 use Rattle.std.specs.Prelude.{ℕ, suc, List, [], ◌∷◌, Option, Some, None}
 
 -- a step at this character, and how far the steps go behind it

@@ -1,4 +1,4 @@
--- The same, computed: one token at the front of a rest, and a whole source. No definition of the grammar rests on it.
+-- A device, on which no definition rests: one token at the front of a rest, and a whole source, computed.
 -- What it computes is what the definitions say: the laws `scan_is_exact` and `cut_is_exact`. Lexers are proved by it.
 use Rattle.std.specs.Prelude.{ℕ, zero, suc, ◌+◌, ◌-◌, Bool, true, false, ◌&&◌, ◌||◌, List, [], ◌∷◌, length, take, drop, ◌==◌, nat_lt, nat_le, if◌then◌else◌, Option, Some, None, Result, Ok, Err, max, option_map}
 use Rattle.graphql_lexical.specs.Characters.{is_source, is_white, is_comment_character, is_line_end, is_digit, is_nonzero_digit, is_name_start, is_name_character, is_exponent_mark, is_sign, is_hex, is_plain, is_escape}

@@ -1,12 +1,14 @@
 //! Operations and fragments (GraphQL specification, October 2021, sections 2.2, 2.3 and 2.8).
-ghost use Rattle.std.specs.Prelude.{◌≡◌, ◌<◌, ◌≤◌, length, option_map, OnOk, codes};
+ghost use Rattle.std.specs.Prelude.{◌≡◌, ◌<◌, ◌≤◌, length, Some, None, option_map, OnOk, codes, if◌then◌else◌};
 ghost use Rattle.std.specs.Str.{chars};
+ghost use Rattle.graphql_grammar.specs.device.Reading.{passes};
+ghost use Rattle.graphql_grammar.specs.device.Productions.{optional_name, fragment_name, type_condition, operation, fragment, shorthand, operation_word, operation_of, definition};
 ghost use Rattle.juniper_tokens.specs.Tokens.{view_name};
 ghost use Rattle.juniper_tokens.specs.Cursor.{EndsOnce, Gives, first_of, refused_at};
 ghost use Rattle.juniper.specs.View.{view_word, view_definition};
 ghost use Rattle.juniper.specs.Scalars.{stated};
 ghost use Rattle.juniper_tokens.specs.Spans.{view_span};
-ghost use Rattle.juniper.specs.Definitions.{operation_at, optional_name_read, fragment_name_read, condition_read, operation_read, fragment_read, shorthand_read, definition_read};
+ghost use Rattle.juniper.specs.device.Steps.{no_scalars, cursor, whole};
 
 use crate::parser::next::{next_is, next_is_word, refuse};
 use crate::parser::selection::{parse_inline_parts, parse_selection_set};
@@ -21,11 +23,11 @@ use juniper_values::ScalarValue;
 /// `Definition = SelectionSet
 ///            | ("query" | "mutation" | "subscription") Name? Variables? Directive* SelectionSet
 ///            | "fragment" FragmentName "on" Name Directive* SelectionSet`
-#[tactic(auto, using(crate::proofs::Names::fragment_is), unfolding(graphql_grammar::specs::Productions::definition))]
+#[tactic(auto, using(crate::proofs::Names::fragment_is), unfolding(graphql_grammar::specs::device::Productions::definition))]
 pub(crate) fn parse_definition<'a, S: ScalarValue>(
     parser: &mut Parser<'a>,
 ) -> UnlocatedParseResult<Definition<'a, S>>
-    ensures gives { Gives (view_definition S.content) result parser.new (definition_read (stated S.reading S.of_bool) parser.old) }
+    ensures gives { Gives (view_definition S.content) result parser.new (cursor (stated S.reading S.of_bool) definition parser.old) }
     ensures shorter { OnOk result (length parser.new < length parser.old) }
 {
     match next_operation(parser) {
@@ -45,9 +47,9 @@ pub(crate) fn parse_definition<'a, S: ScalarValue>(
 }
 
 /// The type of the operation that the next token begins, if it begins one. The token is left there.
-#[tactic(auto, using(crate::proofs::Names::query_is, crate::proofs::Names::mutation_is, crate::proofs::Names::subscription_is))]
+#[tactic(auto, using(crate::proofs::Names::query_is, crate::proofs::Names::mutation_is, crate::proofs::Names::subscription_is, crate::proofs::Names::operation_type_is))]
 fn next_operation(parser: &Parser<'_>) -> Option<OperationType>
-    ensures { result ≡ operation_at (first_of parser.now) }
+    ensures { result ≡ (if passes operation_word (first_of parser.now) then Some (operation_of (first_of parser.now).text) else None) }
 {
     if next_is_word(parser, "mutation") {
         Some(OperationType::Mutation)
@@ -61,11 +63,11 @@ fn next_operation(parser: &Parser<'_>) -> Option<OperationType>
 }
 
 /// `SelectionSet`
-#[tactic(auto, unfolding(graphql_grammar::specs::Productions::shorthand))]
+#[tactic(auto, unfolding(graphql_grammar::specs::device::Productions::shorthand))]
 fn parse_shorthand<'a, S: ScalarValue>(
     parser: &mut Parser<'a>,
 ) -> UnlocatedParseResult<Definition<'a, S>>
-    ensures gives { Gives (view_definition S.content) result parser.new (shorthand_read (stated S.reading S.of_bool) parser.old) }
+    ensures gives { Gives (view_definition S.content) result parser.new (whole (stated S.reading S.of_bool) shorthand parser.old) }
     ensures shorter { OnOk result (length parser.new < length parser.old) }
 {
     let set = parse_selection_set(parser)?;
@@ -82,13 +84,13 @@ fn parse_shorthand<'a, S: ScalarValue>(
 }
 
 /// `Name? Variables? Directive* SelectionSet`, after the word of this type.
-#[tactic(auto, unfolding(graphql_grammar::specs::Productions::operation))]
+#[tactic(auto, unfolding(graphql_grammar::specs::device::Productions::operation))]
 fn parse_operation<'a, S: ScalarValue>(
     parser: &mut Parser<'a>,
     operation_type: OperationType,
     word: Span,
 ) -> UnlocatedParseResult<Definition<'a, S>>
-    ensures gives { Gives (view_definition S.content) result parser.new (operation_read (stated S.reading S.of_bool) operation_type (view_span word) parser.old) }
+    ensures gives { Gives (view_definition S.content) result parser.new (whole (stated S.reading S.of_bool) (operation operation_type (view_span word)) parser.old) }
     ensures shorter { OnOk result (length parser.new < length parser.old) }
 {
     let name = parse_optional_name(parser)?;
@@ -111,7 +113,7 @@ fn parse_operation<'a, S: ScalarValue>(
 /// `Name?`
 #[tactic(auto, unfolding(juniper_tokens::specs::Cursor::expect_name_at))]
 fn parse_optional_name<'a>(parser: &mut Parser<'a>) -> OptionParseResult<&'a str>
-    ensures gives { Gives (option_map view_word) result parser.new (optional_name_read parser.old) }
+    ensures gives { Gives (option_map view_word) result parser.new (cursor no_scalars optional_name parser.old) }
     ensures not_longer { OnOk result (length parser.new ≤ length parser.old) }
 {
     if next_is(parser, Kind::Name) {
@@ -122,12 +124,12 @@ fn parse_optional_name<'a>(parser: &mut Parser<'a>) -> OptionParseResult<&'a str
 }
 
 /// `FragmentName "on" Name Directive* SelectionSet`, after the word.
-#[tactic(auto, unfolding(graphql_grammar::specs::Productions::fragment))]
+#[tactic(auto, unfolding(graphql_grammar::specs::device::Productions::fragment))]
 fn parse_fragment<'a, S: ScalarValue>(
     parser: &mut Parser<'a>,
     word: Span,
 ) -> UnlocatedParseResult<Definition<'a, S>>
-    ensures gives { Gives (view_definition S.content) result parser.new (fragment_read (stated S.reading S.of_bool) (view_span word) parser.old) }
+    ensures gives { Gives (view_definition S.content) result parser.new (whole (stated S.reading S.of_bool) (fragment (view_span word)) parser.old) }
     ensures shorter { OnOk result (length parser.new < length parser.old) }
 {
     let name = parse_fragment_name(parser)?;
@@ -149,7 +151,7 @@ fn parse_fragment<'a, S: ScalarValue>(
 /// `FragmentName = a Name other than "on"`
 #[tactic(auto, using(crate::proofs::Names::on_is), unfolding(juniper_tokens::specs::Cursor::expect_name_at))]
 fn parse_fragment_name<'a>(parser: &mut Parser<'a>) -> ParseResult<&'a str>
-    ensures gives { Gives view_word result parser.new (fragment_name_read parser.old) }
+    ensures gives { Gives view_word result parser.new (cursor no_scalars fragment_name parser.old) }
     ensures shorter { OnOk result (length parser.new < length parser.old) }
 {
     if next_is_word(parser, "on") {
@@ -162,7 +164,7 @@ fn parse_fragment_name<'a>(parser: &mut Parser<'a>) -> ParseResult<&'a str>
 /// `"on" Name`
 #[tactic(auto, using(crate::proofs::Names::on_is), unfolding(juniper_tokens::specs::Cursor::expect_name_at))]
 fn parse_type_condition<'a>(parser: &mut Parser<'a>) -> ParseResult<&'a str>
-    ensures gives { Gives view_word result parser.new (condition_read parser.old) }
+    ensures gives { Gives view_word result parser.new (cursor no_scalars type_condition parser.old) }
     ensures shorter { OnOk result (length parser.new < length parser.old) }
 {
     if next_is_word(parser, "on") {

@@ -1,10 +1,11 @@
 //! Arguments and directives (GraphQL specification, October 2021, sections 2.6 and 2.12).
 ghost use Rattle.std.specs.Prelude.{◌≡◌, ◌<◌, ◌≤◌, length, map, option_map, OnOk};
+ghost use Rattle.graphql_grammar.specs.device.Productions.{argument, arguments_inner, arguments, optional_arguments, directive, directives};
 ghost use Rattle.juniper_tokens.specs.Cursor.{Gives};
 ghost use Rattle.juniper.specs.View.{view_argument, view_arguments, view_directive};
 ghost use Rattle.juniper.specs.Scalars.{stated};
-ghost use Rattle.juniper.specs.Values.{view_list};
-ghost use Rattle.juniper.specs.Parts.{argument_read, arguments_inner_read, arguments_read, optional_arguments_read, directive_read, directives_read, view_spanned_directives};
+ghost use Rattle.juniper.specs.device.PartViews.{view_list, view_spanned_directives};
+ghost use Rattle.juniper.specs.device.Steps.{cursor};
 
 use crate::parser::lists::push_item;
 use crate::parser::next::next_is;
@@ -15,11 +16,11 @@ use juniper_tokens::{Kind, OptionParseResult, ParseFailure, ParseResult, Parser,
 use juniper_values::{InputValue, ScalarValue};
 
 /// `Name ":" Value(free)`
-#[tactic(auto, unfolding(graphql_grammar::specs::Productions::argument, juniper_tokens::specs::Cursor::expect_at, juniper_tokens::specs::Cursor::expect_name_at))]
+#[tactic(auto, unfolding(graphql_grammar::specs::device::Productions::argument, juniper_tokens::specs::Cursor::expect_at, juniper_tokens::specs::Cursor::expect_name_at))]
 fn parse_argument<'a, S: ScalarValue>(
     parser: &mut Parser<'a>,
 ) -> Result<(Spanning<&'a str>, Spanning<InputValue<S>>), ParseFailure>
-    ensures gives { Gives (view_argument S.content) result parser.new (argument_read (stated S.reading S.of_bool) parser.old) }
+    ensures gives { Gives (view_argument S.content) result parser.new (cursor (stated S.reading S.of_bool) argument parser.old) }
     ensures shorter { OnOk result (length parser.new < length parser.old) }
 {
     let name = parser.expect_name()?;
@@ -32,7 +33,7 @@ fn parse_argument<'a, S: ScalarValue>(
 fn parse_argument_list<'a, S: ScalarValue>(
     parser: &mut Parser<'a>,
 ) -> ParseResult<Vec<(Spanning<&'a str>, Spanning<InputValue<S>>)>>
-    ensures gives { Gives (view_list (view_argument S.content)) result parser.new (arguments_inner_read (stated S.reading S.of_bool) parser.old) }
+    ensures gives { Gives (view_list (view_argument S.content)) result parser.new (cursor (stated S.reading S.of_bool) arguments_inner parser.old) }
     ensures shorter { OnOk result (length parser.new < length parser.old) }
 {
     let mut items = Vec::new(parser.allocator());
@@ -49,9 +50,9 @@ fn parse_argument_list<'a, S: ScalarValue>(
 }
 
 /// `Arguments = "(" (Name ":" Value(free))+ ")"`
-#[tactic(auto, unfolding(graphql_grammar::specs::Productions::arguments, juniper_tokens::specs::Cursor::expect_at))]
+#[tactic(auto, unfolding(graphql_grammar::specs::device::Productions::arguments, juniper_tokens::specs::Cursor::expect_at))]
 fn parse_arguments<'a, S: ScalarValue>(parser: &mut Parser<'a>) -> ParseResult<Arguments<'a, S>>
-    ensures gives { Gives (view_arguments S.content) result parser.new (arguments_read (stated S.reading S.of_bool) parser.old) }
+    ensures gives { Gives (view_arguments S.content) result parser.new (cursor (stated S.reading S.of_bool) arguments parser.old) }
     ensures shorter { OnOk result (length parser.new < length parser.old) }
 {
     let opening = parser.expect(&Token::ParenOpen)?.span;
@@ -61,11 +62,11 @@ fn parse_arguments<'a, S: ScalarValue>(parser: &mut Parser<'a>) -> ParseResult<A
 }
 
 /// `Arguments?`
-#[tactic(auto, unfolding(graphql_grammar::specs::Productions::optional_arguments))]
+#[tactic(auto, unfolding(graphql_grammar::specs::device::Productions::optional_arguments))]
 pub(crate) fn parse_optional_arguments<'a, S: ScalarValue>(
     parser: &mut Parser<'a>,
 ) -> OptionParseResult<Arguments<'a, S>>
-    ensures gives { Gives (option_map (view_arguments S.content)) result parser.new (optional_arguments_read (stated S.reading S.of_bool) parser.old) }
+    ensures gives { Gives (option_map (view_arguments S.content)) result parser.new (cursor (stated S.reading S.of_bool) optional_arguments parser.old) }
     ensures not_longer { OnOk result (length parser.new ≤ length parser.old) }
 {
     if next_is(parser, Kind::ParenOpen) {
@@ -76,9 +77,9 @@ pub(crate) fn parse_optional_arguments<'a, S: ScalarValue>(
 }
 
 /// `Directive = "@" Name Arguments?`
-#[tactic(auto, unfolding(graphql_grammar::specs::Productions::directive, juniper_tokens::specs::Cursor::expect_at, juniper_tokens::specs::Cursor::expect_name_at))]
+#[tactic(auto, unfolding(graphql_grammar::specs::device::Productions::directive, juniper_tokens::specs::Cursor::expect_at, juniper_tokens::specs::Cursor::expect_name_at))]
 fn parse_directive<'a, S: ScalarValue>(parser: &mut Parser<'a>) -> ParseResult<Directive<'a, S>>
-    ensures gives { Gives (view_directive S.content) result parser.new (directive_read (stated S.reading S.of_bool) parser.old) }
+    ensures gives { Gives (view_directive S.content) result parser.new (cursor (stated S.reading S.of_bool) directive parser.old) }
     ensures shorter { OnOk result (length parser.new < length parser.old) }
 {
     let start = parser.expect(&Token::At)?.span.start;
@@ -95,7 +96,7 @@ fn parse_directive<'a, S: ScalarValue>(parser: &mut Parser<'a>) -> ParseResult<D
 pub(crate) fn parse_directives<'a, S: ScalarValue>(
     parser: &mut Parser<'a>,
 ) -> OptionParseResult<Vec<Spanning<Directive<'a, S>>>>
-    ensures gives { Gives (view_spanned_directives S.content) result parser.new (directives_read (stated S.reading S.of_bool) parser.old) }
+    ensures gives { Gives (view_spanned_directives S.content) result parser.new (cursor (stated S.reading S.of_bool) directives parser.old) }
     ensures not_longer { OnOk result (length parser.new ≤ length parser.old) }
 {
     let mut items = Vec::new(parser.allocator());

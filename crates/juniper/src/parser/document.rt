@@ -4,7 +4,8 @@ ghost use Rattle.std.specs.Str.{chars};
 ghost use Rattle.juniper_tokens.specs.Errors.{view_fault};
 ghost use Rattle.juniper.specs.View.{view_document};
 ghost use Rattle.juniper.specs.Scalars.{stated};
-ghost use Rattle.juniper.specs.Definitions.{document_read};
+ghost use Rattle.graphql_grammar.specs.device.Productions.{document};
+ghost use Rattle.juniper.specs.device.Steps.{cursor};
 ghost use Rattle.juniper.specs.Promise.{HasTree, IsRefusal, IsRefusalInText, IfRefused, AnswersAs};
 
 use crate::parser::definition::parse_definition;
@@ -40,7 +41,7 @@ pub fn parse_document_source<'a, S: ScalarValue>(
 pub(crate) fn parse_definitions<'a, S: ScalarValue>(
     parser: &mut Parser<'a>,
 ) -> UnlocatedParseResult<OwnedDocument<'a, S>>
-    ensures { AnswersAs (view_document S.content) result (document_read (stated S.reading S.of_bool) parser.old) }
+    ensures { AnswersAs (view_document S.content) result (cursor (stated S.reading S.of_bool) document parser.old) }
 {
     let mut definitions = Vec::new(parser.allocator());
     loop {

@@ -3,7 +3,7 @@ ghost use Rattle.std.specs.Prelude.{◌≡◌, bytes_eq, OnOk};
 ghost use Rattle.std.specs.Str.{chars};
 ghost use Rattle.graphql_lexical.specs.Kinds.{same_kind};
 ghost use Rattle.juniper_tokens.specs.Cursor.{EndsOnce, Gives, first_of, kind_at, refused_at};
-ghost use Rattle.graphql_grammar.specs.Reading.{passes, word};
+ghost use Rattle.graphql_grammar.specs.device.Reading.{passes, word};
 
 use juniper_tokens::{Kind, ParseError, ParseFailure, Parser, Spanning, Token};
 

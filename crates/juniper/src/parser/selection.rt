@@ -1,12 +1,12 @@
 //! Selection sets, fields and fragments (GraphQL specification, October 2021, sections 2.4, 2.5 and 2.8).
 ghost use Rattle.std.specs.Prelude.{◌≡◌, ◌<◌, ◌≤◌, length, option_map, None, OnOk};
+ghost use Rattle.graphql_grammar.specs.device.Productions.{selections_inner, selection_set, optional_set, names, field, named_spread, inline_parts, inline, typed, spread};
 ghost use Rattle.juniper_tokens.specs.Spans.{view_span};
 ghost use Rattle.juniper_tokens.specs.Cursor.{Gives};
 ghost use Rattle.juniper.specs.View.{view_word, view_selection, view_field};
 ghost use Rattle.juniper.specs.Scalars.{stated};
-ghost use Rattle.juniper.specs.Steps.{selection_read};
-ghost use Rattle.juniper.specs.Values.{view_list};
-ghost use Rattle.juniper.specs.Selections.{view_names, view_spanned_set, view_inline_parts, names_read, selections_inner_read, set_read, optional_set_read, field_read, named_spread_read, inline_parts_read, inline_read, typed_read, spread_read};
+ghost use Rattle.juniper.specs.device.Steps.{no_scalars, cursor, whole, selection_read};
+ghost use Rattle.juniper.specs.device.PartViews.{view_list, view_names, view_spanned_set, view_inline_parts};
 
 use crate::parser::directives::{parse_directives, parse_optional_arguments};
 use crate::parser::lists::push_item;
@@ -21,11 +21,11 @@ use juniper_values::ScalarValue;
 
 /// `SelectionSet = "{" Selection+ "}"`
 #[cycle(selection)]
-#[tactic(auto, unfolding(graphql_grammar::specs::Productions::selection_set, juniper_tokens::specs::Cursor::expect_at))]
+#[tactic(auto, unfolding(graphql_grammar::specs::device::Productions::selection_set, juniper_tokens::specs::Cursor::expect_at))]
 pub(crate) fn parse_selection_set<'a, S: ScalarValue>(
     parser: &mut Parser<'a>,
 ) -> ParseResult<Vec<Selection<'a, S>>>
-    ensures gives { Gives (view_spanned_set S.content) result parser.new (set_read (stated S.reading S.of_bool) parser.old) }
+    ensures gives { Gives (view_spanned_set S.content) result parser.new (cursor (stated S.reading S.of_bool) selection_set parser.old) }
     ensures shorter { OnOk result (length parser.new < length parser.old) }
 {
     let opening = parser.expect(&Token::CurlyOpen)?.span;
@@ -39,7 +39,7 @@ pub(crate) fn parse_selection_set<'a, S: ScalarValue>(
 fn parse_selection_list<'a, S: ScalarValue>(
     parser: &mut Parser<'a>,
 ) -> ParseResult<Vec<Selection<'a, S>>>
-    ensures gives { Gives (view_list (view_selection S.content)) result parser.new (selections_inner_read (stated S.reading S.of_bool) parser.old) }
+    ensures gives { Gives (view_list (view_selection S.content)) result parser.new (cursor (stated S.reading S.of_bool) selections_inner parser.old) }
     ensures shorter { OnOk result (length parser.new < length parser.old) }
 {
     let mut items = Vec::new(parser.allocator());
@@ -57,11 +57,11 @@ fn parse_selection_list<'a, S: ScalarValue>(
 
 /// `SelectionSet?`
 #[cycle(selection)]
-#[tactic(auto, unfolding(graphql_grammar::specs::Productions::optional_set))]
+#[tactic(auto, unfolding(graphql_grammar::specs::device::Productions::optional_set))]
 fn parse_optional_selection_set<'a, S: ScalarValue>(
     parser: &mut Parser<'a>,
 ) -> OptionParseResult<Vec<Selection<'a, S>>>
-    ensures gives { Gives (option_map (view_spanned_set S.content)) result parser.new (optional_set_read (stated S.reading S.of_bool) parser.old) }
+    ensures gives { Gives (option_map (view_spanned_set S.content)) result parser.new (cursor (stated S.reading S.of_bool) optional_set parser.old) }
     ensures not_longer { OnOk result (length parser.new ≤ length parser.old) }
 {
     if next_is(parser, Kind::CurlyOpen) {
@@ -73,7 +73,7 @@ fn parse_optional_selection_set<'a, S: ScalarValue>(
 
 /// `Selection = Field | "..." FragmentName Directive* | "..." ("on" Name)? Directive* SelectionSet`
 #[cycle(selection)]
-#[tactic(auto, using(crate::proofs::SelectionViews::view_of_field, crate::proofs::Readings::selection_is), unfolding(graphql_grammar::specs::Productions::any_selection))]
+#[tactic(auto, using(crate::proofs::SelectionViews::view_of_field, crate::proofs::Readings::selection_is), unfolding(graphql_grammar::specs::device::Productions::any_selection))]
 fn parse_selection<'a, S: ScalarValue>(
     parser: &mut Parser<'a>,
 ) -> UnlocatedParseResult<Selection<'a, S>>
@@ -89,9 +89,9 @@ fn parse_selection<'a, S: ScalarValue>(
 
 /// `Field = (Name ":")? Name Arguments? Directive* SelectionSet?`
 #[cycle(selection)]
-#[tactic(auto, unfolding(graphql_grammar::specs::Productions::field))]
+#[tactic(auto, unfolding(graphql_grammar::specs::device::Productions::field))]
 fn parse_field<'a, S: ScalarValue>(parser: &mut Parser<'a>) -> ParseResult<Field<'a, S>>
-    ensures gives { Gives (view_field S.content) result parser.new (field_read (stated S.reading S.of_bool) parser.old) }
+    ensures gives { Gives (view_field S.content) result parser.new (cursor (stated S.reading S.of_bool) field parser.old) }
     ensures shorter { OnOk result (length parser.new < length parser.old) }
 {
     let (alias, name) = parse_names(parser)?;
@@ -120,7 +120,7 @@ fn parse_field<'a, S: ScalarValue>(parser: &mut Parser<'a>) -> ParseResult<Field
 fn parse_names<'a>(
     parser: &mut Parser<'a>,
 ) -> Result<(Option<Spanning<&'a str>>, Spanning<&'a str>), ParseFailure>
-    ensures gives { Gives view_names result parser.new (names_read parser.old) }
+    ensures gives { Gives view_names result parser.new (cursor no_scalars names parser.old) }
     ensures shorter { OnOk result (length parser.new < length parser.old) }
 {
     let first = parser.expect_name()?;
@@ -135,11 +135,11 @@ fn parse_names<'a>(
 
 /// `"..." FragmentName Directive* | "..." ("on" Name)? Directive* SelectionSet`
 #[cycle(selection)]
-#[tactic(auto, using(crate::proofs::Names::on_is, crate::proofs::Fine::other_is_name), unfolding(graphql_grammar::specs::Productions::spread, juniper_tokens::specs::Cursor::expect_at, juniper_tokens::specs::Cursor::expect_name_at))]
+#[tactic(auto, using(crate::proofs::Names::on_is, crate::proofs::CursorFits::other_is_name), unfolding(graphql_grammar::specs::device::Productions::spread, juniper_tokens::specs::Cursor::expect_at, juniper_tokens::specs::Cursor::expect_name_at))]
 fn parse_spread<'a, S: ScalarValue>(
     parser: &mut Parser<'a>,
 ) -> UnlocatedParseResult<Selection<'a, S>>
-    ensures gives { Gives (view_selection S.content) result parser.new (spread_read (stated S.reading S.of_bool) parser.old) }
+    ensures gives { Gives (view_selection S.content) result parser.new (cursor (stated S.reading S.of_bool) spread parser.old) }
     ensures shorter { OnOk result (length parser.new < length parser.old) }
 {
     let dots = parser.expect(&Token::Ellipsis)?.span;
@@ -155,13 +155,13 @@ fn parse_spread<'a, S: ScalarValue>(
 }
 
 /// `Directive*`, after three dots and a FragmentName.
-#[tactic(auto, unfolding(graphql_grammar::specs::Productions::named_spread))]
+#[tactic(auto, unfolding(graphql_grammar::specs::device::Productions::named_spread))]
 fn parse_named_spread<'a, S: ScalarValue>(
     parser: &mut Parser<'a>,
     dots: Span,
     name: Spanning<&'a str>,
 ) -> UnlocatedParseResult<Selection<'a, S>>
-    ensures gives { Gives (view_selection S.content) result parser.new (named_spread_read (stated S.reading S.of_bool) (view_span dots) (view_word name.entry) parser.old) }
+    ensures gives { Gives (view_selection S.content) result parser.new (whole (stated S.reading S.of_bool) (named_spread (view_span dots) (view_word name.entry)) parser.old) }
     ensures not_longer { OnOk result (length parser.new ≤ length parser.old) }
 {
     let named = from_part(Some(dots), name.span);
@@ -178,12 +178,12 @@ fn parse_named_spread<'a, S: ScalarValue>(
 
 /// `Name Directive* SelectionSet`, after three dots and `on`.
 #[cycle(selection)]
-#[tactic(auto, using(crate::proofs::SelectionViews::view_of_inline), unfolding(graphql_grammar::specs::Productions::typed, graphql_grammar::specs::Productions::inline, juniper_tokens::specs::Cursor::expect_name_at))]
+#[tactic(auto, using(crate::proofs::SelectionViews::view_of_inline), unfolding(graphql_grammar::specs::device::Productions::typed, graphql_grammar::specs::device::Productions::inline, juniper_tokens::specs::Cursor::expect_name_at))]
 fn parse_typed_fragment<'a, S: ScalarValue>(
     parser: &mut Parser<'a>,
     dots: Span,
 ) -> UnlocatedParseResult<Selection<'a, S>>
-    ensures gives { Gives (view_selection S.content) result parser.new (typed_read (stated S.reading S.of_bool) (view_span dots) parser.old) }
+    ensures gives { Gives (view_selection S.content) result parser.new (whole (stated S.reading S.of_bool) (typed (view_span dots)) parser.old) }
     ensures shorter { OnOk result (length parser.new < length parser.old) }
 {
     let name = parser.expect_name()?;
@@ -202,12 +202,12 @@ fn parse_typed_fragment<'a, S: ScalarValue>(
 
 /// `Directive* SelectionSet`, after three dots.
 #[cycle(selection)]
-#[tactic(auto, using(crate::proofs::SelectionViews::view_of_inline), unfolding(graphql_grammar::specs::Productions::inline))]
+#[tactic(auto, using(crate::proofs::SelectionViews::view_of_inline), unfolding(graphql_grammar::specs::device::Productions::inline))]
 fn parse_untyped_fragment<'a, S: ScalarValue>(
     parser: &mut Parser<'a>,
     dots: Span,
 ) -> UnlocatedParseResult<Selection<'a, S>>
-    ensures gives { Gives (view_selection S.content) result parser.new (inline_read (stated S.reading S.of_bool) (view_span dots) None parser.old) }
+    ensures gives { Gives (view_selection S.content) result parser.new (whole (stated S.reading S.of_bool) (inline (view_span dots) None) parser.old) }
     ensures shorter { OnOk result (length parser.new < length parser.old) }
 {
     let (directives, set) = parse_inline_parts(parser)?;
@@ -225,7 +225,7 @@ fn parse_untyped_fragment<'a, S: ScalarValue>(
 
 /// `Directive* SelectionSet`
 #[cycle(selection)]
-#[tactic(auto, using(crate::proofs::PartViews::without_span), unfolding(graphql_grammar::specs::Productions::inline_parts))]
+#[tactic(auto, using(crate::proofs::PartViews::without_span), unfolding(graphql_grammar::specs::device::Productions::inline_parts))]
 pub(crate) fn parse_inline_parts<'a, S: ScalarValue>(
     parser: &mut Parser<'a>,
 ) -> Result<
@@ -235,7 +235,7 @@ pub(crate) fn parse_inline_parts<'a, S: ScalarValue>(
     ),
     ParseFailure,
 >
-    ensures gives { Gives (view_inline_parts S.content) result parser.new (inline_parts_read (stated S.reading S.of_bool) parser.old) }
+    ensures gives { Gives (view_inline_parts S.content) result parser.new (cursor (stated S.reading S.of_bool) inline_parts parser.old) }
     ensures shorter { OnOk result (length parser.new < length parser.old) }
 {
     let directives = item_of(parse_directives(parser)?);

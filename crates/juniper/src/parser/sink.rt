@@ -8,7 +8,8 @@ ghost use Rattle.juniper_tokens.specs.Spans.{view_span};
 ghost use Rattle.juniper_values.specs.Scalar.{Content};
 ghost use Rattle.juniper.specs.View.{view_definition};
 ghost use Rattle.juniper.specs.Scalars.{stated};
-ghost use Rattle.juniper.specs.Definitions.{document_read};
+ghost use Rattle.graphql_grammar.specs.device.Productions.{document};
+ghost use Rattle.juniper.specs.device.Steps.{cursor};
 ghost use Rattle.juniper.specs.Promise.{IsRefusal, IsRefusalInText};
 ghost use Rattle.juniper.specs.Within.{IfRefusedWithin, IfTooDeep, IfDecided, HasTooDeep, IsWithin};
 ghost use Rattle.juniper.specs.Sinks.{Gains, GainsTree, GivesAs, GivesWithin};
@@ -77,7 +78,7 @@ fn give_definitions<S: ScalarValue, D: DefinitionSink<S>>(
     parser: &mut Parser<'_>,
     definitions: &mut D,
 ) -> UnlocatedParseResult<()>
-    ensures { GivesAs D.holds definitions.old definitions.new result (document_read (stated S.reading S.of_bool) parser.old) }
+    ensures { GivesAs D.holds definitions.old definitions.new result (cursor (stated S.reading S.of_bool) document parser.old) }
 {
     loop {
         definitions.take(parse_definition(parser)?)?;

@@ -2,7 +2,7 @@
 ghost use Rattle.std.specs.Prelude.{◌≡◌, option_map};
 ghost use Rattle.graphql_grammar.specs.Tokens.{to_end_of};
 ghost use Rattle.juniper_tokens.specs.Spans.{view_span};
-ghost use Rattle.graphql_grammar.specs.Productions.{from_start_of};
+ghost use Rattle.graphql_grammar.specs.device.Productions.{from_start_of};
 
 use juniper_tokens::{Span, Spanning};
 

@@ -1,10 +1,11 @@
 //! Types as they are written (GraphQL specification, October 2021, section 2.11).
 ghost use Rattle.std.specs.Prelude.{◌≡◌, ◌<◌, ◌≤◌, length, OnOk};
+ghost use Rattle.graphql_grammar.specs.device.Productions.{named_type, list_type, nullable_type, non_null};
 ghost use Rattle.juniper_tokens.specs.Cursor.{EndsOnce, Gives, OnMemory};
 ghost use Rattle.juniper_tokens.specs.Delimited.{IsRest};
 ghost use Rattle.juniper.specs.Promise.{AnswersType};
-ghost use Rattle.juniper.specs.Steps.{type_read};
-ghost use Rattle.juniper.specs.Parts.{view_spanned_type, list_type_read, named_type_read, nullable_type_read, non_null_read};
+ghost use Rattle.juniper.specs.View.{view_spanned_type};
+ghost use Rattle.juniper.specs.device.Steps.{no_scalars, cursor, type_read};
 
 use crate::parser::next::next_is;
 use juniper_tokens::{Kind, ParseFailure, ParseResult, Parser, Spanning, Token};
@@ -36,9 +37,9 @@ pub(crate) fn parse_any_type<'a>(parser: &mut Parser<'a>) -> ParseResult<Type<&'
 
 /// `Name | "[" Type "]"`
 #[cycle(types)]
-#[tactic(auto, unfolding(graphql_grammar::specs::Productions::nullable_type))]
+#[tactic(auto, unfolding(graphql_grammar::specs::device::Productions::nullable_type))]
 fn parse_nullable_type<'a>(parser: &mut Parser<'a>) -> ParseResult<Type<&'a str>>
-    ensures gives { Gives view_spanned_type result parser.new (nullable_type_read parser.old) }
+    ensures gives { Gives view_spanned_type result parser.new (cursor no_scalars nullable_type parser.old) }
     ensures ended { EndsOnce parser.old }
     ensures shorter { OnOk result (length parser.new < length parser.old) }
     ensures rest { IsRest parser.old parser.new }
@@ -51,9 +52,9 @@ fn parse_nullable_type<'a>(parser: &mut Parser<'a>) -> ParseResult<Type<&'a str>
 }
 
 /// `Name`
-#[tactic(auto, unfolding(graphql_grammar::specs::Productions::named_type, juniper_tokens::specs::Cursor::expect_name_at))]
+#[tactic(auto, unfolding(graphql_grammar::specs::device::Productions::named_type, juniper_tokens::specs::Cursor::expect_name_at))]
 fn parse_named_type<'a>(parser: &mut Parser<'a>) -> ParseResult<Type<&'a str>>
-    ensures gives { Gives view_spanned_type result parser.new (named_type_read parser.old) }
+    ensures gives { Gives view_spanned_type result parser.new (cursor no_scalars named_type parser.old) }
     ensures shorter { OnOk result (length parser.new < length parser.old) }
     ensures rest { IsRest parser.old parser.new }
 {
@@ -63,9 +64,9 @@ fn parse_named_type<'a>(parser: &mut Parser<'a>) -> ParseResult<Type<&'a str>>
 
 /// `"[" Type "]"`
 #[cycle(types)]
-#[tactic(auto, using(crate::proofs::Wrapping::wrapped_list), unfolding(graphql_grammar::specs::Productions::list_type, juniper_tokens::specs::Cursor::expect_at))]
+#[tactic(auto, using(crate::proofs::Wrapping::wrapped_list), unfolding(graphql_grammar::specs::device::Productions::list_type, juniper_tokens::specs::Cursor::expect_at))]
 fn parse_list_type<'a>(parser: &mut Parser<'a>) -> ParseResult<Type<&'a str>>
-    ensures gives { Gives view_spanned_type result parser.new (list_type_read parser.old) }
+    ensures gives { Gives view_spanned_type result parser.new (cursor no_scalars list_type parser.old) }
     ensures shorter { OnOk result (length parser.new < length parser.old) }
     ensures rest { IsRest parser.old parser.new }
 {
@@ -79,12 +80,12 @@ fn parse_list_type<'a>(parser: &mut Parser<'a>) -> ParseResult<Type<&'a str>>
 }
 
 /// `"!"?`, after this type.
-#[tactic(auto, using(crate::proofs::Wrapping::wrapped_non_null), unfolding(graphql_grammar::specs::Productions::non_null))]
+#[tactic(auto, using(crate::proofs::Wrapping::wrapped_non_null), unfolding(graphql_grammar::specs::device::Productions::non_null))]
 fn parse_non_null<'a>(
     parser: &mut Parser<'a>,
     inner: Spanning<Type<&'a str>>,
 ) -> ParseResult<Type<&'a str>>
-    ensures gives { Gives view_spanned_type result parser.new (non_null_read (view_spanned_type inner.entry) parser.old) }
+    ensures gives { Gives view_spanned_type result parser.new (cursor no_scalars (non_null (view_spanned_type inner.entry)) parser.old) }
     ensures not_longer { OnOk result (length parser.new ≤ length parser.old) }
     ensures rest { IsRest parser.old parser.new }
 {

@@ -2,15 +2,17 @@
 ghost use Rattle.std.specs.Prelude.{◌≡◌, ◌<◌, length, OnOk, IfOk, not};
 ghost use Rattle.std.specs.Str.{chars};
 ghost use Rattle.graphql_lexical.specs.Kinds.{same_kind};
-ghost use Rattle.graphql_grammar.specs.Productions.{by_name};
+ghost use Rattle.graphql_lexical.specs.declared.kind.Kind.TheVariants.{BracketClose, CurlyClose};
+ghost use Rattle.graphql_grammar.specs.device.Reading.{of, symbol, a_value};
+ghost use Rattle.graphql_grammar.specs.device.Productions.{by_name, list, key_and_value, object, variable};
 ghost use Rattle.juniper_tokens.specs.Tokens.{token_kind, token_text};
 ghost use Rattle.juniper_tokens.specs.Spans.{view_span};
 ghost use Rattle.juniper_tokens.specs.Cursor.{EndsOnce, Gives, OnMemory};
 ghost use Rattle.juniper_tokens.specs.Delimited.{IsRest};
 ghost use Rattle.juniper.specs.Promise.{AnswersValue};
 ghost use Rattle.juniper.specs.View.{view_value, view_object_field};
-ghost use Rattle.juniper.specs.Values.{view_list, values_read, fields_read, list_read, object_read, variable_read, field_read};
-ghost use Rattle.juniper.specs.Steps.{value_read, scalar_read, literal_here};
+ghost use Rattle.juniper.specs.device.PartViews.{view_list};
+ghost use Rattle.juniper.specs.device.Steps.{cursor, value_read, scalar_read, closed_read, literal_here};
 ghost use Rattle.juniper.specs.Scalars.{stated};
 ghost use Rattle.juniper_values.specs.Scalar.{MeetsReading};
 
@@ -38,7 +40,7 @@ pub fn parse_value_literal<'a, S: ScalarValue>(
 /// `Value(c) = a scalar token that the scalar type reads | Name | "$" Name where c is free
 ///           | "[" Value(c)* "]" | "{" (Name ":" Value(c))* "}"`
 #[cycle(value)]
-#[tactic(auto, using(crate::proofs::Readings::value_is), unfolding(graphql_grammar::specs::Productions::value, juniper_tokens::specs::Cursor::expect_name_at))]
+#[tactic(auto, using(crate::proofs::Readings::value_is), unfolding(graphql_grammar::specs::device::Productions::value, juniper_tokens::specs::Cursor::expect_name_at))]
 pub(crate) fn parse_value<'a, S: ScalarValue>(
     parser: &mut Parser<'a>,
     is_const: bool,
@@ -86,13 +88,13 @@ pub(crate) fn parse_value<'a, S: ScalarValue>(
 
 /// `Value(c)* "]"`, after the bracket that stands at `opening`.
 #[cycle(value)]
-#[tactic(auto, unfolding(graphql_grammar::specs::Productions::list))]
+#[tactic(auto, unfolding(graphql_grammar::specs::device::Productions::list))]
 fn parse_list<'a, S: ScalarValue>(
     parser: &mut Parser<'a>,
     is_const: bool,
     opening: Span,
 ) -> ParseResult<InputValue<S>>
-    ensures gives { Gives (view_value S.content) result parser.new (list_read (stated S.reading S.of_bool) (not is_const) (view_span opening) parser.old) }
+    ensures gives { Gives (view_value S.content) result parser.new (cursor (stated S.reading S.of_bool) (list (not is_const) (view_span opening)) parser.old) }
     ensures shorter { OnOk result (length parser.new < length parser.old) }
     ensures rest { IsRest parser.old parser.new }
 {
@@ -107,7 +109,7 @@ fn parse_items<'a, S: ScalarValue>(
     parser: &mut Parser<'a>,
     is_const: bool,
 ) -> ParseResult<Vec<Spanning<InputValue<S>>>>
-    ensures gives { Gives (view_list (view_value S.content)) result parser.new (values_read (stated S.reading S.of_bool) (not is_const) parser.old) }
+    ensures gives { Gives (view_list (view_value S.content)) result parser.new (closed_read (stated S.reading S.of_bool) (of BracketClose) (symbol (a_value (not is_const))) parser.old) }
     ensures shorter { OnOk result (length parser.new < length parser.old) }
     ensures rest { IsRest parser.old parser.new }
 {
@@ -126,13 +128,13 @@ fn parse_items<'a, S: ScalarValue>(
 
 /// `(Name ":" Value(c))* "}"`, after the brace that stands at `opening`.
 #[cycle(value)]
-#[tactic(auto, unfolding(graphql_grammar::specs::Productions::object))]
+#[tactic(auto, unfolding(graphql_grammar::specs::device::Productions::object))]
 fn parse_object<'a, S: ScalarValue>(
     parser: &mut Parser<'a>,
     is_const: bool,
     opening: Span,
 ) -> ParseResult<InputValue<S>>
-    ensures gives { Gives (view_value S.content) result parser.new (object_read (stated S.reading S.of_bool) (not is_const) (view_span opening) parser.old) }
+    ensures gives { Gives (view_value S.content) result parser.new (cursor (stated S.reading S.of_bool) (object (not is_const) (view_span opening)) parser.old) }
     ensures shorter { OnOk result (length parser.new < length parser.old) }
     ensures rest { IsRest parser.old parser.new }
 {
@@ -147,7 +149,7 @@ fn parse_fields<'a, S: ScalarValue>(
     parser: &mut Parser<'a>,
     is_const: bool,
 ) -> ParseResult<Vec<(Spanning<String>, Spanning<InputValue<S>>)>>
-    ensures gives { Gives (view_list (view_object_field S.content)) result parser.new (fields_read (stated S.reading S.of_bool) (not is_const) parser.old) }
+    ensures gives { Gives (view_list (view_object_field S.content)) result parser.new (closed_read (stated S.reading S.of_bool) (of CurlyClose) (key_and_value (not is_const)) parser.old) }
     ensures shorter { OnOk result (length parser.new < length parser.old) }
     ensures rest { IsRest parser.old parser.new }
 {
@@ -166,12 +168,12 @@ fn parse_fields<'a, S: ScalarValue>(
 
 /// `Name ":" Value(c)`
 #[cycle(value)]
-#[tactic(auto, unfolding(graphql_grammar::specs::Productions::key_and_value, juniper_tokens::specs::Cursor::expect_at, juniper_tokens::specs::Cursor::expect_name_at))]
+#[tactic(auto, unfolding(graphql_grammar::specs::device::Productions::key_and_value, juniper_tokens::specs::Cursor::expect_at, juniper_tokens::specs::Cursor::expect_name_at))]
 fn parse_object_field<'a, S: ScalarValue>(
     parser: &mut Parser<'a>,
     is_const: bool,
 ) -> Result<(Spanning<String>, Spanning<InputValue<S>>), ParseFailure>
-    ensures gives { Gives (view_object_field S.content) result parser.new (field_read (stated S.reading S.of_bool) (not is_const) parser.old) }
+    ensures gives { Gives (view_object_field S.content) result parser.new (cursor (stated S.reading S.of_bool) (key_and_value (not is_const)) parser.old) }
     ensures shorter { OnOk result (length parser.new < length parser.old) }
     ensures rest { IsRest parser.old parser.new }
 {
@@ -183,12 +185,12 @@ fn parse_object_field<'a, S: ScalarValue>(
 }
 
 /// `Name`, after the dollar that stands at `dollar`.
-#[tactic(auto, using(crate::proofs::ValueViews::view_of_variable), unfolding(graphql_grammar::specs::Productions::variable, juniper_tokens::specs::Cursor::expect_name_at))]
+#[tactic(auto, using(crate::proofs::ValueViews::view_of_variable), unfolding(graphql_grammar::specs::device::Productions::variable, juniper_tokens::specs::Cursor::expect_name_at))]
 fn parse_variable<'a, S: ScalarValue>(
     parser: &mut Parser<'a>,
     dollar: Span,
 ) -> ParseResult<InputValue<S>>
-    ensures gives { Gives (view_value S.content) result parser.new (variable_read (stated S.reading S.of_bool) (view_span dollar) parser.old) }
+    ensures gives { Gives (view_value S.content) result parser.new (cursor (stated S.reading S.of_bool) (variable (view_span dollar)) parser.old) }
     ensures shorter { OnOk result (length parser.new < length parser.old) }
     ensures rest { IsRest parser.old parser.new }
 {
@@ -198,7 +200,7 @@ fn parse_variable<'a, S: ScalarValue>(
 }
 
 /// A scalar token. Another token is refused.
-#[tactic(auto, using(crate::proofs::ValueViews::view_of_scalar), unfolding(crate::specs::Steps::scalar_read))]
+#[tactic(auto, using(crate::proofs::ValueViews::view_of_scalar), unfolding(crate::specs::device::Steps::scalar_read))]
 fn parse_scalar<'a, S: ScalarValue>(parser: &mut Parser<'a>) -> ParseResult<InputValue<S>>
     ensures gives { Gives (view_value S.content) result parser.new (scalar_read (stated S.reading S.of_bool) parser.old) }
     ensures shorter { OnOk result (length parser.new < length parser.old) }

@@ -1,10 +1,11 @@
 //! Definitions of variables (GraphQL specification, October 2021, section 2.10).
 ghost use Rattle.std.specs.Prelude.{◌≡◌, ◌<◌, ◌≤◌, length, option_map, OnOk};
+ghost use Rattle.graphql_grammar.specs.device.Productions.{default, variable_definition, variables_inner, variables, optional_variables};
 ghost use Rattle.juniper_tokens.specs.Cursor.{Gives};
 ghost use Rattle.juniper.specs.View.{view_value, view_variable, view_variables};
 ghost use Rattle.juniper.specs.Scalars.{stated};
-ghost use Rattle.juniper.specs.Values.{view_list};
-ghost use Rattle.juniper.specs.Parts.{default_read, variable_definition_read, variables_inner_read, variables_read, optional_variables_read};
+ghost use Rattle.juniper.specs.device.PartViews.{view_list};
+ghost use Rattle.juniper.specs.device.Steps.{cursor};
 
 use crate::parser::directives::parse_directives;
 use crate::parser::lists::push_item;
@@ -17,9 +18,9 @@ use juniper_tokens::{Kind, OptionParseResult, ParseFailure, ParseResult, Parser,
 use juniper_values::{InputValue, ScalarValue};
 
 /// `("=" Value(const))?`
-#[tactic(auto, unfolding(graphql_grammar::specs::Productions::default, juniper_tokens::specs::Cursor::expect_at))]
+#[tactic(auto, unfolding(graphql_grammar::specs::device::Productions::default, juniper_tokens::specs::Cursor::expect_at))]
 fn parse_default<'a, S: ScalarValue>(parser: &mut Parser<'a>) -> OptionParseResult<InputValue<S>>
-    ensures gives { Gives (option_map (view_value S.content)) result parser.new (default_read (stated S.reading S.of_bool) parser.old) }
+    ensures gives { Gives (option_map (view_value S.content)) result parser.new (cursor (stated S.reading S.of_bool) default parser.old) }
     ensures not_longer { OnOk result (length parser.new ≤ length parser.old) }
 {
     if next_is(parser, Kind::Equals) {
@@ -31,11 +32,11 @@ fn parse_default<'a, S: ScalarValue>(parser: &mut Parser<'a>) -> OptionParseResu
 }
 
 /// `"$" Name ":" Type ("=" Value(const))? Directive*`
-#[tactic(auto, using(crate::proofs::PartViews::without_span), unfolding(graphql_grammar::specs::Productions::variable_definition, juniper_tokens::specs::Cursor::expect_at, juniper_tokens::specs::Cursor::expect_name_at))]
+#[tactic(auto, using(crate::proofs::PartViews::without_span), unfolding(graphql_grammar::specs::device::Productions::variable_definition, juniper_tokens::specs::Cursor::expect_at, juniper_tokens::specs::Cursor::expect_name_at))]
 fn parse_variable_definition<'a, S: ScalarValue>(
     parser: &mut Parser<'a>,
 ) -> Result<(Spanning<&'a str>, VariableDefinition<'a, S>), ParseFailure>
-    ensures gives { Gives (view_variable S.content) result parser.new (variable_definition_read (stated S.reading S.of_bool) parser.old) }
+    ensures gives { Gives (view_variable S.content) result parser.new (cursor (stated S.reading S.of_bool) variable_definition parser.old) }
     ensures shorter { OnOk result (length parser.new < length parser.old) }
 {
     let start = parser.expect(&Token::Dollar)?.span.start;
@@ -59,7 +60,7 @@ fn parse_variable_definition<'a, S: ScalarValue>(
 fn parse_variable_list<'a, S: ScalarValue>(
     parser: &mut Parser<'a>,
 ) -> ParseResult<Vec<(Spanning<&'a str>, VariableDefinition<'a, S>)>>
-    ensures gives { Gives (view_list (view_variable S.content)) result parser.new (variables_inner_read (stated S.reading S.of_bool) parser.old) }
+    ensures gives { Gives (view_list (view_variable S.content)) result parser.new (cursor (stated S.reading S.of_bool) variables_inner parser.old) }
     ensures shorter { OnOk result (length parser.new < length parser.old) }
 {
     let mut items = Vec::new(parser.allocator());
@@ -76,11 +77,11 @@ fn parse_variable_list<'a, S: ScalarValue>(
 }
 
 /// `Variables = "(" ("$" Name ":" Type ("=" Value(const))? Directive*)+ ")"`
-#[tactic(auto, unfolding(graphql_grammar::specs::Productions::variables, juniper_tokens::specs::Cursor::expect_at))]
+#[tactic(auto, unfolding(graphql_grammar::specs::device::Productions::variables, juniper_tokens::specs::Cursor::expect_at))]
 fn parse_variables<'a, S: ScalarValue>(
     parser: &mut Parser<'a>,
 ) -> ParseResult<VariableDefinitions<'a, S>>
-    ensures gives { Gives (view_variables S.content) result parser.new (variables_read (stated S.reading S.of_bool) parser.old) }
+    ensures gives { Gives (view_variables S.content) result parser.new (cursor (stated S.reading S.of_bool) variables parser.old) }
     ensures shorter { OnOk result (length parser.new < length parser.old) }
 {
     let opening = parser.expect(&Token::ParenOpen)?.span;
@@ -94,11 +95,11 @@ fn parse_variables<'a, S: ScalarValue>(
 }
 
 /// `Variables?`
-#[tactic(auto, unfolding(graphql_grammar::specs::Productions::optional_variables))]
+#[tactic(auto, unfolding(graphql_grammar::specs::device::Productions::optional_variables))]
 pub(crate) fn parse_optional_variables<'a, S: ScalarValue>(
     parser: &mut Parser<'a>,
 ) -> OptionParseResult<VariableDefinitions<'a, S>>
-    ensures gives { Gives (option_map (view_variables S.content)) result parser.new (optional_variables_read (stated S.reading S.of_bool) parser.old) }
+    ensures gives { Gives (option_map (view_variables S.content)) result parser.new (cursor (stated S.reading S.of_bool) optional_variables parser.old) }
     ensures not_longer { OnOk result (length parser.new ≤ length parser.old) }
 {
     if next_is(parser, Kind::ParenOpen) {

@@ -1,6 +1,6 @@
 //! The nodes of values.
 ghost use Rattle.std.specs.Prelude.{◌≡◌, OnOk, IfOk, map};
-ghost use Rattle.graphql_grammar.specs.Productions.{items_of, fields_of};
+ghost use Rattle.graphql_grammar.specs.Tree.{items_of, fields_of};
 ghost use Rattle.graphql_nodes.specs.Nodes.{value_nodes, items_nodes, fields_nodes};
 ghost use Rattle.juniper.specs.View.{view_value, view_object_field};
 ghost use Rattle.juniper_nodes.specs.NodeViews.{view_nodes, Gains};

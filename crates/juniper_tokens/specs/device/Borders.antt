@@ -1,4 +1,4 @@
--- Borders between the characters of a text.
+-- A device: borders between the characters of a text.
 use Rattle.std.specs.Prelude.{◌≡◌, ℕ, zero, suc, ◌<◌, ◌≤◌, List, [], ◌∷◌, ◌++◌, length, take, drop}
 use Rattle.juniper_tokens.specs.declared.lexer.text.Border.{Border}
 use Rattle.juniper_tokens.specs.device.ByteRuns.{byte_at}

@@ -1,4 +1,4 @@
--- Machines that go over the bytes of a text as over its characters.
+-- A device: machines that go over the bytes of a text as over its characters.
 use Rattle.std.specs.Prelude.{◌≡◌, ℕ, ◌+◌, ◌≤◌, Bool, ◌&&◌, nat_le, nat_lt, if◌then◌else◌, List, length, take, drop, Option, Some, option_map}
 use Rattle.graphql_lexical.specs.device.Machines.{reach}
 use lib.Utf8.{encodes}

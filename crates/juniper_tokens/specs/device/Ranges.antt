@@ -1,4 +1,4 @@
--- Tokens as ranges of their source.
+-- A device: tokens as ranges of their source.
 use Rattle.std.specs.Prelude.{◌≡◌, ◌↔◌, ℕ, ◌+◌, ◌-◌, ◌≤◌, true, false, List, take, drop, length, map, Option, Some, None, Result, Ok, Err}
 use Rattle.std.specs.List.{All}
 use Rattle.graphql_lexical.specs.Place.{Place, place}

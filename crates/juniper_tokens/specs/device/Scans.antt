@@ -1,4 +1,4 @@
--- What a scan gives.
+-- A device: what a scan gives.
 use Rattle.std.specs.Prelude.{◌≡◌, ℕ, List, Result, Ok, Err}
 use Rattle.graphql_lexical.specs.Kinds.{LexicalError, UnknownEscapeSequence}
 use Rattle.graphql_lexical.specs.device.Scan as scans

@@ -1,4 +1,4 @@
--- Where the loops over bytes stop.
+-- A device: where the loops over bytes stop.
 use Rattle.std.specs.Prelude.{◌≡◌, ℕ, ◌==◌, Bool, false, if◌then◌else◌, Option, Some, None, is_some, List, [], ◌∷◌, take}
 use Rattle.std.specs.List.{fold}
 use Rattle.graphql_lexical.specs.Characters.{is_name_character, is_digit, is_plain, is_comment_character}

@@ -5,8 +5,7 @@ use Rattle.std.specs.Map.{keys_of}
 use Rattle.std.specs.String.{string_eq}
 use Rattle.juniper_answers.specs.Copies.{Copies, CopiesItems, CopiesFields}
 use Rattle.juniper_answers.specs.View.{pairs}
-use Rattle.juniper_answers.specs.declared.value.Value.{Value}
-use Rattle.juniper_answers.specs.declared.value.Value.{size-Value}
+use Rattle.juniper_answers.specs.declared.value.Value.{Value, size-Value}
 use Rattle.juniper_answers.specs.declared.value.Object.{size-Object}
 use Rattle.juniper_answers.proofs.Sizes.{below_object}
 use Rattle.juniper_answers.proofs.Copies.{all_zip_push, most_within, Copies-List, Copies-Object, put_last}

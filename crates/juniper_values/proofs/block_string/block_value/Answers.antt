@@ -4,7 +4,7 @@ use Rattle.std.specs.Str.{chars}
 use Rattle.std.specs.Str.Iter.{chars_rest}
 use Rattle.std.proofs.lemmas.Str.{IsUtf8-string_bytes, chars-nil}
 use Rattle.juniper_values.specs.View.{text_of}
-use Rattle.juniper_values.specs.BlockSteps.{is_filled}
+use Rattle.juniper_values.specs.device.BlockSteps.{is_filled}
 use Rattle.juniper_values.proofs.BlockWritten.{starts, skips, writes, ended, finishes_filled, finishes_blank, not_blank}
 use Rattle.juniper_values.proofs.BlockTexts.{string_length, reads, chars_none, can_cut, cut}
 use Rattle.juniper_values.proofs.block_string.block_value.Goals as goal

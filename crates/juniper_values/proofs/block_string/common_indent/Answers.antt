@@ -1,6 +1,6 @@
 use Rattle.std.proofs.Common.{true, false, ap, ◌∙◌, arith}
 use Rattle.std.specs.Str.Iter.{chars_rest}
-use Rattle.juniper_values.specs.BlockSteps.{white_before}
+use Rattle.juniper_values.specs.device.BlockSteps.{white_before}
 use Rattle.juniper_values.proofs.BlockIndents.{room, skipped, turned, finished}
 use Rattle.juniper_values.proofs.BlockTexts.{reads, chars_none}
 use Rattle.juniper_values.proofs.block_string.common_indent.Goals as goal

@@ -2,7 +2,7 @@ use Rattle.std.proofs.Common.{◌≡◌, ◌+◌, ◌≤◌, length, drop, IsUtf
 use Rattle.std.specs.Str.{chars}
 use Rattle.std.specs.Str.Iter.{chars_rest}
 use Rattle.juniper_values.specs.BlockStrings.{common_indent}
-use Rattle.juniper_values.specs.BlockSteps.{white_before}
+use Rattle.juniper_values.specs.device.BlockSteps.{white_before}
 use Rattle.juniper_values.proofs.BlockLines.{lines_of}
 use Rattle.juniper_values.proofs.BlockIndents.{least_with}
 use Rattle.juniper_values.proofs.block_string.common_indent.Given as goal

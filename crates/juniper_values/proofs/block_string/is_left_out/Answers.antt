@@ -1,6 +1,6 @@
 use Rattle.std.proofs.Common.{◌∙◌, ap, sym}
 use Rattle.std.specs.Str.{chars}
-use Rattle.juniper_values.specs.BlockSteps.{is_left_out}
+use Rattle.juniper_values.specs.device.BlockSteps.{is_left_out}
 use Rattle.graphql_lexical.specs.Tokens.{mark}
 use Rattle.juniper_values.specs.BlockStrings.{line_feed}
 use Rattle.juniper_values.proofs.BlockTexts.{starts_chars, ascii_quotes, ascii_feed, or_false}

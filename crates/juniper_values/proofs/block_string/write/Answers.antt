@@ -1,6 +1,6 @@
 use Rattle.std.proofs.Common.{◌≡◌, ◌∙◌, ap, sym, ◌++◌, arith}
 use Rattle.juniper_values.specs.View.{text_of}
-use Rattle.juniper_values.specs.BlockSteps.{written}
+use Rattle.juniper_values.specs.device.BlockSteps.{written}
 use Rattle.juniper_values.specs.declared.block_string.Line.TheVariants.{Blank}
 use Rattle.juniper_values.proofs.Unescapes.{chars-push}
 use Rattle.juniper_values.proofs.block_string.write.Goals as goal

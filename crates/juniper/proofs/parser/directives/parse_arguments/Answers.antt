@@ -1,5 +1,5 @@
 use Rattle.std.proofs.Common.{refl}
-use Rattle.graphql_grammar.specs.Productions.{arguments}
+use Rattle.graphql_grammar.specs.device.Productions.{arguments}
 use Rattle.juniper_tokens.specs.Cursor.{expect_at}
 use Rattle.juniper.proofs.parser.directives.parse_arguments.Goals as goal
 

@@ -4,7 +4,7 @@ use Rattle.graphql_lexical.specs.Place.{Span}
 use Rattle.graphql_grammar.specs.Tokens.{from_to, to_end_of}
 use Rattle.juniper_tokens.specs.Spans.{view_span}
 use Rattle.juniper.specs.View.{view_word, view_arguments}
-use Rattle.graphql_grammar.specs.Productions.{directive}
+use Rattle.graphql_grammar.specs.device.Productions.{directive}
 use Rattle.juniper_tokens.specs.Cursor.{expect_at, expect_name_at}
 use Rattle.juniper.proofs.PartViews.{end_of_part}
 use Rattle.juniper.proofs.parser.directives.parse_directive.Goals as goal

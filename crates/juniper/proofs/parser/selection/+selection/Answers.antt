@@ -1,18 +1,12 @@
-use Rattle.std.proofs.Common.{rules, map, refl, ap, Ok, ◌∙◌}
+use Rattle.std.proofs.Common.{rules, refl, ap, Ok, ◌∙◌}
 use Rattle.std.proofs.lemmas.Result.{err_from_is_err_and}
 use Rattle.std.proofs.lemmas.List.{map-append}
 use Rattle.graphql_grammar.specs.Tokens.{from_to}
-use Rattle.juniper_tokens.specs.declared.token.Token.TheVariants as token
-use Rattle.juniper_tokens.specs.Tokens.{view_token}
-use Rattle.juniper_tokens.specs.Cursor.{skip_at, expect_at}
+use Rattle.juniper_tokens.specs.Cursor.{expect_at}
 use Rattle.graphql_grammar.specs.Tree.{Selection, Selections}
 use Rattle.juniper_tokens.specs.Spans.{view_span}
 use Rattle.juniper_values.specs.Scalar.{Content}
-use Rattle.juniper.specs.Scalars.{stated}
-use Rattle.juniper.specs.View.{view_selection}
-use Rattle.juniper.specs.Selections.{selections_inner_read}
-use Rattle.juniper.specs.Steps.{selection_read}
-use Rattle.graphql_grammar.specs.Productions.{selection_set, field}
+use Rattle.graphql_grammar.specs.device.Productions.{selection_set, field}
 use Rattle.juniper.proofs.Loops.{some_go_on, some_end, some_item_fails, some_close_fails}
 use Rattle.juniper.proofs.Readings.{selections_repeat}
 use Rattle.juniper.proofs.SelectionViews.{selections_are, field_view, whole_span}
@@ -21,46 +15,30 @@ use Rattle.juniper.proofs.parser.selection.+selection.Goals as goal
 pub parse_selection_list-returns-in_err-parse_selection-clause-gives :
     goal.parse_selection_list-returns-in_err-parse_selection-clause-gives
 parse_selection_list-returns-in_err-parse_selection-clause-gives g t c =
-    let scalars = stated g.S.ParseScalarValue.reading g.S.ScalarValue.of_bool in
     let p = err_from_is_err_and c.from_residual.result c.from_residual.ensures.1 in
-    rw (p.1, p.2) (some_item_fails (skip_at token.CurlyClose) (selection_read scalars) (selections_inner_read scalars)
-    (selections_repeat scalars) (map (view_selection g.S.ParseScalarValue.content) c.loop-items.items.items)
-    c.loop-items.parser _ c.loop-items.invariant.so_far c.in_err-parse_selection.field-0.0
-    c.parse_selection.new.parser c.in_err-parse_selection.ensures.gives)
+    rw (p.1, p.2) (some_item_fails (selections_repeat _) _ _ c.loop-items.invariant.so_far
+    c.in_err-parse_selection.field-0.0 _ c.in_err-parse_selection.ensures.gives)
 
 pub parse_selection_list-returns-in_err-closing-clause-gives :
     goal.parse_selection_list-returns-in_err-closing-clause-gives
 parse_selection_list-returns-in_err-closing-clause-gives g t c =
-    let scalars = stated g.S.ParseScalarValue.reading g.S.ScalarValue.of_bool in
     let p = err_from_is_err_and c.from_residual-in_err-closing.result c.from_residual-in_err-closing.ensures.1 in
-    rw (p.1, p.2) (some_close_fails (skip_at token.CurlyClose) (selection_read scalars) (selections_inner_read scalars)
-    (selections_repeat scalars) (map (view_selection g.S.ParseScalarValue.content) c.loop-items.items.items)
-    c.loop-items.parser _ c.loop-items.invariant.so_far c.in_err-closing.field-0.0
-    (view_selection g.S.ParseScalarValue.content c.in_ok-parse_selection.field-0) c.parse_selection.new.parser
-    c.skip.new.self c.in_ok-parse_selection.ensures.gives c.in_err-closing.ensures.gives)
+    rw (p.1, p.2) (some_close_fails (selections_repeat _) _ _ c.loop-items.invariant.so_far c.in_err-closing.field-0.0 _
+    c.in_ok-parse_selection.ensures.gives c.in_err-closing.ensures.gives)
 
 pub parse_selection_list-returns-in-Some-clause-gives : goal.parse_selection_list-returns-in-Some-clause-gives
 parse_selection_list-returns-in-Some-clause-gives g t c =
-    let scalars = stated g.S.ParseScalarValue.reading g.S.ScalarValue.of_bool in
-    some_end (skip_at token.CurlyClose) (selection_read scalars) (selections_inner_read scalars)
-    (selections_repeat scalars) (map (view_selection g.S.ParseScalarValue.content) c.loop-items.items.items)
-    c.loop-items.parser _ c.loop-items.invariant.so_far
-    (view_selection g.S.ParseScalarValue.content c.in_ok-parse_selection.field-0) (view_token c.in-Some.closing)
-    c.parse_selection.new.parser c.skip.new.self c.in_ok-parse_selection.ensures.gives
+    some_end (selections_repeat _) _ _ c.loop-items.invariant.so_far c.in_ok-parse_selection.ensures.gives
     (rw c.in-Some.is at c.in_ok-closing.ensures.gives)
     ∙ rw (c.new.ensures, c.in_ok-push_item.ensures.items, map-append) refl
 
 pub parse_selection_list-loop-items-preserved : goal.parse_selection_list-loop-items-preserved
-parse_selection_list-loop-items-preserved g t c =
-    let scalars = stated g.S.ParseScalarValue.reading g.S.ScalarValue.of_bool in record {
-      so_far = rw (c.in_ok-push_item.ensures.items, map-append)
-          (some_go_on (skip_at token.CurlyClose) (selection_read scalars) (selections_inner_read scalars)
-          (selections_repeat scalars) (map (view_selection g.S.ParseScalarValue.content) c.loop-items.items.items)
-          c.loop-items.parser _ c.loop-items.invariant.so_far
-          (view_selection g.S.ParseScalarValue.content c.in_ok-parse_selection.field-0) c.parse_selection.new.parser
-          c.skip.new.self c.in_ok-parse_selection.ensures.gives (rw c.in_default.is at c.in_ok-closing.ensures.gives));
-      not_longer = search rules;
-    }
+parse_selection_list-loop-items-preserved g t c = record {
+  so_far = rw (c.in_ok-push_item.ensures.items, map-append)
+      (some_go_on (selections_repeat _) _ _ c.loop-items.invariant.so_far c.in_ok-parse_selection.ensures.gives
+      (rw c.in_default.is at c.in_ok-closing.ensures.gives));
+  not_longer = search rules;
+}
 
 pub parse_selection_set-returns-clause-gives : goal.parse_selection_set-returns-clause-gives
 unfolding selection_set expect_at

@@ -1,7 +1,8 @@
 use Rattle.std.proofs.Common.{◌≡◌, ◌≤◌, length, map, ◌+◌, ◌*◌}
+use Rattle.graphql_grammar.specs.device.Productions.{selections_inner}
 use Rattle.juniper.specs.Scalars.{stated}
 use Rattle.juniper.specs.View.{view_selection}
-use Rattle.juniper.specs.Selections.{selections_inner_read}
+use Rattle.juniper.specs.device.Steps.{cursor}
 use Rattle.juniper.proofs.Loops.{with_front}
 use Rattle.juniper.proofs.parser.selection.+selection.Given as goal
 
@@ -30,12 +31,12 @@ abbrev pub decreases-parse_selection_list : goal.decreases-parse_selection_list
 decreases-parse_selection_list g l = 5 * length l.parser.now + 4
 
 abbrev pub invariant-parse_selection_list-loop-items : goal.invariant-parse_selection_list-loop-items
-invariant-parse_selection_list-loop-items g l = record {
-  so_far : with_front (map (view_selection g.S.ParseScalarValue.content) l.items.items)
-      (selections_inner_read (stated g.S.ParseScalarValue.reading g.S.ScalarValue.of_bool) l.parser)
-      ≡ selections_inner_read (stated g.S.ParseScalarValue.reading g.S.ScalarValue.of_bool) l.fn.parser;
-  not_longer : length l.parser ≤ length l.fn.parser;
-}
+invariant-parse_selection_list-loop-items g l =
+    let read = cursor (stated g.S.ParseScalarValue.reading g.S.ScalarValue.of_bool) selections_inner in record {
+      so_far : with_front (map (view_selection g.S.ParseScalarValue.content) l.items.items)
+          (read l.parser) ≡ read l.fn.parser;
+      not_longer : length l.parser ≤ length l.fn.parser;
+    }
 
 abbrev pub decreases-parse_selection_list-loop-items : goal.decreases-parse_selection_list-loop-items
 decreases-parse_selection_list-loop-items g l = length l.parser

@@ -1,5 +1,5 @@
 use Rattle.std.proofs.Common.{rules}
-use Rattle.graphql_grammar.specs.Productions.{type}
+use Rattle.graphql_grammar.specs.device.Productions.{type}
 use Rattle.juniper.proofs.Readings.{type_is}
 use Rattle.juniper_tokens.proofs.Rests.{further}
 use Rattle.juniper.proofs.parser.types.+types.Goals as goal

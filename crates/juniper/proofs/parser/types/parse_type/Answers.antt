@@ -1,5 +1,5 @@
 use Rattle.juniper_tokens.proofs.Rests.{on_memory}
-use Rattle.juniper.specs.Parts.{view_spanned_type}
+use Rattle.juniper.specs.View.{view_spanned_type}
 use Rattle.juniper.proofs.Literals.{answers_type}
 use Rattle.juniper.proofs.parser.types.parse_type.Goals as goal
 

@@ -1,18 +1,13 @@
-use Rattle.std.proofs.Common.{rules, arith, not, map, refl, ap, sym, Ok, ◌∙◌}
+use Rattle.std.proofs.Common.{rules, arith, refl, ap, sym, Ok, ◌∙◌}
 use Rattle.std.proofs.lemmas.Result.{err_from_is_err_and}
 use Rattle.std.proofs.lemmas.List.{map-append}
 use Rattle.graphql_grammar.specs.Tokens.{from_to}
 use Rattle.juniper_tokens.specs.declared.token.Token.TheVariants as token
 use Rattle.juniper_tokens.specs.Tokens.{view_token}
-use Rattle.juniper_tokens.specs.Cursor.{skip_at}
 use Rattle.juniper_tokens.specs.Spans.{view_span}
 use Rattle.juniper_values.specs.Scalar.{Content}
 use Rattle.graphql_grammar.specs.Tree.{Value}
-use Rattle.juniper.specs.Scalars.{stated}
-use Rattle.juniper.specs.View.{view_value, view_object_field}
-use Rattle.juniper.specs.Values.{values_read, field_read, fields_read}
-use Rattle.juniper.specs.Steps.{value_read}
-use Rattle.graphql_grammar.specs.Productions.{list, object}
+use Rattle.graphql_grammar.specs.device.Productions.{list, object}
 use Rattle.juniper.proofs.Cursors.{skip_shorter}
 use Rattle.juniper.proofs.Loops.{goes_on, ends, close_fails, item_fails}
 use Rattle.juniper_tokens.proofs.Rests.{further}
@@ -22,94 +17,59 @@ use Rattle.juniper.proofs.parser.value.+value.Goals as goal
 
 pub parse_items-returns-in_err-closing-clause-gives : goal.parse_items-returns-in_err-closing-clause-gives
 parse_items-returns-in_err-closing-clause-gives g t c =
-    let scalars = stated g.S.ParseScalarValue.reading g.S.ScalarValue.of_bool in
     let p = err_from_is_err_and c.from_residual.result c.from_residual.ensures.1 in
-    rw (p.1, p.2) (close_fails (skip_at token.BracketClose) (value_read scalars (not c.args.is_const))
-    (values_read scalars (not c.args.is_const)) (values_repeat scalars (not c.args.is_const))
-    (map (view_value g.S.ParseScalarValue.content) c.loop-items.items.items) c.loop-items.parser _
-    c.loop-items.invariant.so_far c.in_err-closing.field-0.0 c.skip.new.self c.in_err-closing.ensures.gives)
+    rw (p.1, p.2) (close_fails (values_repeat _ _) _ _ c.loop-items.invariant.so_far c.in_err-closing.field-0.0 _
+    c.in_err-closing.ensures.gives)
 
 pub parse_items-returns-in-Some-clause-gives : goal.parse_items-returns-in-Some-clause-gives
 parse_items-returns-in-Some-clause-gives g t c =
-    let scalars = stated g.S.ParseScalarValue.reading g.S.ScalarValue.of_bool in
-    ends (skip_at token.BracketClose) (value_read scalars (not c.args.is_const))
-    (values_read scalars (not c.args.is_const)) (values_repeat scalars (not c.args.is_const))
-    (map (view_value g.S.ParseScalarValue.content) c.loop-items.items.items) c.loop-items.parser _
-    c.loop-items.invariant.so_far (view_token c.in-Some.closing) c.skip.new.self
-    (rw c.in-Some.is at c.in_ok-closing.ensures.gives) ∙ rw c.new.ensures refl
+    ends (values_repeat _ _) _ _ c.loop-items.invariant.so_far (rw c.in-Some.is at c.in_ok-closing.ensures.gives)
+    ∙ rw c.new.ensures refl
 
 pub parse_items-returns-in_err-parse_value-clause-gives : goal.parse_items-returns-in_err-parse_value-clause-gives
 parse_items-returns-in_err-parse_value-clause-gives g t c =
-    let scalars = stated g.S.ParseScalarValue.reading g.S.ScalarValue.of_bool in
-    let p = err_from_is_err_and c.from_residual-in_err-parse_value.result
-    c.from_residual-in_err-parse_value.ensures.1 in
-    rw (p.1, p.2) (item_fails (skip_at token.BracketClose) (value_read scalars (not c.args.is_const))
-    (values_read scalars (not c.args.is_const)) (values_repeat scalars (not c.args.is_const))
-    (map (view_value g.S.ParseScalarValue.content) c.loop-items.items.items) c.loop-items.parser _
-    c.loop-items.invariant.so_far c.in_err-parse_value.field-0.0 c.skip.new.self c.parse_value.new.parser
+    let r = c.from_residual-in_err-parse_value in let p = err_from_is_err_and r.result r.ensures.1 in
+    rw (p.1, p.2) (item_fails (values_repeat _ _) _ _ c.loop-items.invariant.so_far c.in_err-parse_value.field-0.0 _
     (rw c.in_default.is at c.in_ok-closing.ensures.gives) c.in_err-parse_value.ensures.gives)
 
 pub parse_items-loop-items-preserved : goal.parse_items-loop-items-preserved
-parse_items-loop-items-preserved g t c =
-    let scalars = stated g.S.ParseScalarValue.reading g.S.ScalarValue.of_bool in record {
-      so_far = rw (c.in_ok-push_item.ensures.items, map-append)
-          (goes_on (skip_at token.BracketClose) (value_read scalars (not c.args.is_const))
-          (values_read scalars (not c.args.is_const)) (values_repeat scalars (not c.args.is_const))
-          (map (view_value g.S.ParseScalarValue.content) c.loop-items.items.items) c.loop-items.parser _
-          c.loop-items.invariant.so_far (view_value g.S.ParseScalarValue.content c.in_ok-parse_value.field-0)
-          c.skip.new.self c.parse_value.new.parser (rw c.in_default.is at c.in_ok-closing.ensures.gives)
-          c.in_ok-parse_value.ensures.gives);
-      not_longer = search rules;
-      rest = further _ _ _ c.loop-items.invariant.rest
-          (further _ _ _ c.in_ok-closing.ensures.rest c.in_ok-parse_value.ensures.rest);
-    }
+parse_items-loop-items-preserved g t c = record {
+  so_far = rw (c.in_ok-push_item.ensures.items, map-append)
+      (goes_on (values_repeat _ _) _ _ c.loop-items.invariant.so_far
+      (rw c.in_default.is at c.in_ok-closing.ensures.gives) c.in_ok-parse_value.ensures.gives);
+  not_longer = search rules;
+  rest = further _ _ _ c.loop-items.invariant.rest
+      (further _ _ _ c.in_ok-closing.ensures.rest c.in_ok-parse_value.ensures.rest);
+}
 
 pub parse_fields-returns-in_err-closing-clause-gives : goal.parse_fields-returns-in_err-closing-clause-gives
 parse_fields-returns-in_err-closing-clause-gives g t c =
-    let scalars = stated g.S.ParseScalarValue.reading g.S.ScalarValue.of_bool in
     let p = err_from_is_err_and c.from_residual.result c.from_residual.ensures.1 in
-    rw (p.1, p.2) (close_fails (skip_at token.CurlyClose) (field_read scalars (not c.args.is_const))
-    (fields_read scalars (not c.args.is_const)) (fields_repeat scalars (not c.args.is_const))
-    (map (view_object_field g.S.ParseScalarValue.content) c.loop-fields.fields.items) c.loop-fields.parser _
-    c.loop-fields.invariant.so_far c.in_err-closing.field-0.0 c.skip.new.self c.in_err-closing.ensures.gives)
+    rw (p.1, p.2) (close_fails (fields_repeat _ _) _ _ c.loop-fields.invariant.so_far c.in_err-closing.field-0.0 _
+    c.in_err-closing.ensures.gives)
 
 pub parse_fields-returns-in-Some-clause-gives : goal.parse_fields-returns-in-Some-clause-gives
 parse_fields-returns-in-Some-clause-gives g t c =
-    let scalars = stated g.S.ParseScalarValue.reading g.S.ScalarValue.of_bool in
-    ends (skip_at token.CurlyClose) (field_read scalars (not c.args.is_const))
-    (fields_read scalars (not c.args.is_const)) (fields_repeat scalars (not c.args.is_const))
-    (map (view_object_field g.S.ParseScalarValue.content) c.loop-fields.fields.items) c.loop-fields.parser _
-    c.loop-fields.invariant.so_far (view_token c.in-Some.closing) c.skip.new.self
-    (rw c.in-Some.is at c.in_ok-closing.ensures.gives) ∙ rw c.new.ensures refl
+    ends (fields_repeat _ _) _ _ c.loop-fields.invariant.so_far (rw c.in-Some.is at c.in_ok-closing.ensures.gives)
+    ∙ rw c.new.ensures refl
 
 pub parse_fields-returns-in_err-parse_object_field-clause-gives :
     goal.parse_fields-returns-in_err-parse_object_field-clause-gives
 parse_fields-returns-in_err-parse_object_field-clause-gives g t c =
-    let scalars = stated g.S.ParseScalarValue.reading g.S.ScalarValue.of_bool in
-    let p = err_from_is_err_and c.from_residual-in_err-parse_object_field.result
-    c.from_residual-in_err-parse_object_field.ensures.1 in
-    rw (p.1, p.2) (item_fails (skip_at token.CurlyClose) (field_read scalars (not c.args.is_const))
-    (fields_read scalars (not c.args.is_const)) (fields_repeat scalars (not c.args.is_const))
-    (map (view_object_field g.S.ParseScalarValue.content) c.loop-fields.fields.items) c.loop-fields.parser _
-    c.loop-fields.invariant.so_far c.in_err-parse_object_field.field-0.0 c.skip.new.self
-    c.parse_object_field.new.parser (rw c.in_default.is at c.in_ok-closing.ensures.gives)
+    let r = c.from_residual-in_err-parse_object_field in let p = err_from_is_err_and r.result r.ensures.1 in
+    rw (p.1, p.2) (item_fails (fields_repeat _ _) _ _ c.loop-fields.invariant.so_far
+    c.in_err-parse_object_field.field-0.0 _ (rw c.in_default.is at c.in_ok-closing.ensures.gives)
     c.in_err-parse_object_field.ensures.gives)
 
 pub parse_fields-loop-fields-preserved : goal.parse_fields-loop-fields-preserved
-parse_fields-loop-fields-preserved g t c =
-    let scalars = stated g.S.ParseScalarValue.reading g.S.ScalarValue.of_bool in record {
-      so_far = rw (c.in_ok-push_item.ensures.items, map-append)
-          (goes_on (skip_at token.CurlyClose) (field_read scalars (not c.args.is_const))
-          (fields_read scalars (not c.args.is_const)) (fields_repeat scalars (not c.args.is_const))
-          (map (view_object_field g.S.ParseScalarValue.content) c.loop-fields.fields.items) c.loop-fields.parser _
-          c.loop-fields.invariant.so_far
-          (view_object_field g.S.ParseScalarValue.content c.in_ok-parse_object_field.field-0)
-          c.skip.new.self c.parse_object_field.new.parser (rw c.in_default.is at c.in_ok-closing.ensures.gives)
-          c.in_ok-parse_object_field.ensures.gives);
-      not_longer = search rules;
-      rest = further _ _ _ c.loop-fields.invariant.rest
-          (further _ _ _ c.in_ok-closing.ensures.rest c.in_ok-parse_object_field.ensures.rest);
-    }
+parse_fields-loop-fields-preserved g t c = record {
+  so_far = rw (c.in_ok-push_item.ensures.items, map-append)
+      (goes_on (fields_repeat _ _) _ _ c.loop-fields.invariant.so_far
+      (rw c.in_default.is at c.in_ok-closing.ensures.gives) c.in_ok-parse_object_field.ensures.gives);
+  not_longer = search rules;
+  rest = further _ _ _ c.loop-fields.invariant.rest
+      (further _ _ _ c.in_ok-closing.ensures.rest c.in_ok-parse_object_field.ensures.rest);
+}
 
 pub parse_list-returns-clause-gives : goal.parse_list-returns-clause-gives
 unfolding list

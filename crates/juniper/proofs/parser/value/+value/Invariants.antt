@@ -1,7 +1,10 @@
 use Rattle.std.proofs.Common.{◌≡◌, ◌≤◌, length, not, map, ◌+◌, ◌*◌}
+use Rattle.graphql_lexical.specs.declared.kind.Kind.TheVariants.{BracketClose, CurlyClose}
+use Rattle.graphql_grammar.specs.device.Productions.{key_and_value}
+use Rattle.graphql_grammar.specs.device.Reading.{of, symbol, a_value}
 use Rattle.juniper.specs.Scalars.{stated}
 use Rattle.juniper.specs.View.{view_value, view_object_field}
-use Rattle.juniper.specs.Values.{values_read, fields_read}
+use Rattle.juniper.specs.device.Steps.{closed_read}
 use Rattle.juniper.proofs.Loops.{with_front}
 use Rattle.juniper_tokens.specs.Delimited.{IsRest}
 use Rattle.juniper.proofs.parser.value.+value.Given as goal
@@ -25,25 +28,27 @@ abbrev pub decreases-parse_fields : goal.decreases-parse_fields
 decreases-parse_fields g l = 4 * length l.parser.now + 1
 
 abbrev pub invariant-parse_items-loop-items : goal.invariant-parse_items-loop-items
-invariant-parse_items-loop-items g l = record {
-  so_far : with_front (map (view_value g.S.ParseScalarValue.content) l.items.items)
-      (values_read (stated g.S.ParseScalarValue.reading g.S.ScalarValue.of_bool) (not l.is_const) l.parser)
-      ≡ values_read (stated g.S.ParseScalarValue.reading g.S.ScalarValue.of_bool) (not l.is_const) l.fn.parser;
-  not_longer : length l.parser ≤ length l.fn.parser;
-  rest : IsRest l.fn.parser l.parser;
-}
+invariant-parse_items-loop-items g l =
+    let S = stated g.S.ParseScalarValue.reading g.S.ScalarValue.of_bool in
+    let read = closed_read S (of BracketClose) (symbol (a_value (not l.is_const))) in record {
+      so_far : with_front (map (view_value g.S.ParseScalarValue.content) l.items.items)
+          (read l.parser) ≡ read l.fn.parser;
+      not_longer : length l.parser ≤ length l.fn.parser;
+      rest : IsRest l.fn.parser l.parser;
+    }
 
 abbrev pub decreases-parse_items-loop-items : goal.decreases-parse_items-loop-items
 decreases-parse_items-loop-items g l = length l.parser
 
 abbrev pub invariant-parse_fields-loop-fields : goal.invariant-parse_fields-loop-fields
-invariant-parse_fields-loop-fields g l = record {
-  so_far : with_front (map (view_object_field g.S.ParseScalarValue.content) l.fields.items)
-      (fields_read (stated g.S.ParseScalarValue.reading g.S.ScalarValue.of_bool) (not l.is_const) l.parser)
-      ≡ fields_read (stated g.S.ParseScalarValue.reading g.S.ScalarValue.of_bool) (not l.is_const) l.fn.parser;
-  not_longer : length l.parser ≤ length l.fn.parser;
-  rest : IsRest l.fn.parser l.parser;
-}
+invariant-parse_fields-loop-fields g l =
+    let S = stated g.S.ParseScalarValue.reading g.S.ScalarValue.of_bool in
+    let read = closed_read S (of CurlyClose) (key_and_value (not l.is_const)) in record {
+      so_far : with_front (map (view_object_field g.S.ParseScalarValue.content) l.fields.items)
+          (read l.parser) ≡ read l.fn.parser;
+      not_longer : length l.parser ≤ length l.fn.parser;
+      rest : IsRest l.fn.parser l.parser;
+    }
 
 abbrev pub decreases-parse_fields-loop-fields : goal.decreases-parse_fields-loop-fields
 decreases-parse_fields-loop-fields g l = length l.parser

@@ -1,5 +1,5 @@
 use Rattle.std.proofs.Common.{refl}
-use Rattle.graphql_grammar.specs.Productions.{variables}
+use Rattle.graphql_grammar.specs.device.Productions.{variables}
 use Rattle.juniper_tokens.specs.Cursor.{expect_at}
 use Rattle.juniper.proofs.parser.variables.parse_variables.Goals as goal
 

@@ -1,4 +1,4 @@
--- The steps of each production are fine for a cursor, and from where to where they read.
+-- How the steps of each production fit a cursor, and from where to where they read.
 use Rattle.std.proofs.Common.{◌≡◌, ◌<◌, ◌&&◌, ◌||◌, not, ℕ, Bool, true, false, cond, List, [], ◌∷◌, ◌++◌, length, codes, bytes_eq, Ok, Option, Some, None, refl, sym, ap, ◌∙◌, le_refl, subst, inl}
 use Rattle.std.specs.Prelude.{option_map}
 use Rattle.std.specs.Cmp.{first_so}
@@ -11,9 +11,8 @@ use Rattle.graphql_grammar.specs.Tokens.{Word, span_of, word_of, from_to, to_end
 use Rattle.graphql_grammar.specs.Samples.{sample, IsSample}
 use Rattle.graphql_grammar.specs.Tree.{Scalars, Arguments, Directive, Variables, Selections}
 use Rattle.graphql_grammar.specs.Grammar.{IsValue, IsArgument, IsArguments, IsDirective, IsVariableDefinition, IsVariables, IsSelection, IsSelectionSet, Each}
-use Rattle.graphql_grammar.specs.Reading.{of, word, passes, fully, many}
-use Rattle.graphql_grammar.specs.Reading.{a_value, a_selection, Steps, symbol}
-use Rattle.graphql_grammar.specs.Productions.{reads, optional, several, variable_start, variable, list, key_and_value, object, value, named_type, list_type, nullable_type, non_null, type, argument, arguments_inner, arguments, optional_arguments, directive, last_end, all_directives, directives, default, variable_definition, variables_inner, variables, optional_variables, selections_inner, selection_set, optional_set, names_span, names, field, named_spread, inline_parts, inline, typed, other_than_on, spread, any_selection, operation_word, optional_name, operation, type_condition, fragment_name, fragment, shorthand, definition}
+use Rattle.graphql_grammar.specs.device.Reading.{of, word, passes, fully, many, a_value, a_selection, Steps, symbol}
+use Rattle.graphql_grammar.specs.device.Productions.{reads, optional, several, variable_start, variable, list, key_and_value, object, value, named_type, list_type, nullable_type, non_null, type, argument, arguments_inner, arguments, optional_arguments, directive, last_end, all_directives, directives, default, variable_definition, variables_inner, variables, optional_variables, selections_inner, selection_set, optional_set, names_span, names, field, named_spread, inline_parts, inline, typed, other_than_on, spread, any_selection, operation_word, optional_name, operation, type_condition, fragment_name, fragment, shorthand, definition}
 use Rattle.graphql_grammar.proofs.Rules.{Rule}
 use Rattle.graphql_grammar.proofs.PartRules.{Closed}
 use Rattle.graphql_grammar.proofs.Values.{value_rule, value_takes, IsField, field_rule, field_takes}
@@ -24,11 +23,11 @@ use Rattle.graphql_grammar.proofs.Extents.{Runs, RunsOn, runs_one, runs_on, runs
 use Rattle.graphql_grammar.proofs.Answered.{reads_answer, closed_rule, closed_answer, each_answer}
 use Rattle.juniper_tokens.specs.Errors.{Error}
 use Rattle.juniper_tokens.specs.Cursor.{Read, ◌>>=◌, first_of, kind_at, next_at, next_if}
-use Rattle.juniper.specs.Seen.{seen}
-use Rattle.juniper.specs.Steps.{closed_read, cursor}
+use Rattle.juniper.specs.device.Seen.{seen}
+use Rattle.juniper.specs.device.Steps.{closed_read, cursor}
 use Rattle.juniper.proofs.Stepping.{PassesNoEnd, kind_no_end, seen_took}
 use Rattle.juniper.proofs.Cursors.{ok_is, bind_ok, if_takes, next_takes}
-use Rattle.juniper.proofs.Shown.{Fine, Located, shown_fully}
+use Rattle.juniper.proofs.CursorGoes.{Fits, Located, shown_fully}
 use Rattle.juniper.proofs.Symbols.{symbols_shown}
 
 -- ---- tests
@@ -74,12 +73,12 @@ runs_past ts mid rest p (Some q) a b = runs_on ts mid rest p q a b
 module _ {C : Type 0} (S : Scalars C Error) where
   -- ---- what was read, by the rule that is kept
 
-  module _ {A : Type 0} (p : Steps C A) (fine : Fine S p) (R : List Lexeme → A → Type 0)
+  module _ {A : Type 0} (p : Steps C A) (fits : Fits S p) (R : List Lexeme → A → Type 0)
       (rule : (n : ℕ) → Rule n (reads S n p) (reads S n p) R) where
     pub read_is : (ts rest : List Lexeme) (x : A) → cursor S p ts ≡ Ok (x, rest)
         → (us : List Lexeme) × (ts ≡ us ++ rest) × R us x
     read_is ts rest x e = took_is (λ n. reads S n p) R rule ts rest x (seen_took (fully (λ n. reads S n p) ts) x rest
-        (shown_fully S (symbols_shown S) p fine (reads_answer S p R rule) ts ∙ e))
+        (shown_fully S (symbols_shown S) p fits (reads_answer S p R rule) ts ∙ e))
 
     pub read_runs : (sp : A → Span) → ((us : List Lexeme) (x : A) → R us x → (0 < length us) × (sp x ≡ span_of us))
         → (ts rest : List Lexeme) (x : A) → cursor S p ts ≡ Ok (x, rest) → Runs ts rest (sp x)
@@ -89,8 +88,8 @@ module _ {C : Type 0} (S : Scalars C Error) where
 
     module _ (takes : (us : List Lexeme) (x : A) → R us x → 0 < length us) (k : Kind)
         (closes : passes (of k) (sample k) ≡ true) (is : IsSample (sample k)) where
-      pub several_fine : Fine S (several k p)
-      several_fine = (fine, λ x. (closed_answer S p R rule takes k closes is, λ xs q. tt))
+      pub several_fits : Fits S (several k p)
+      several_fits = (fits, λ x. (closed_answer S p R rule takes k closes is, λ xs q. tt))
 
       -- up to the closing token
       abbrev EndsAt : List Lexeme → (List A × Span) × List Lexeme → Type 0
@@ -128,8 +127,8 @@ module _ {C : Type 0} (S : Scalars C Error) where
           (runs_on ts mid rest t.span q.0 (runs_one t ts mid e) q.1)
 
     -- a part that may stand there
-    pub optional_fine : (k : Kind) → same_kind At k ≡ false → Fine S (optional k p)
-    optional_fine k n = (n, (fine, λ a. tt), tt)
+    pub optional_fits : (k : Kind) → same_kind At k ≡ false → Fits S (optional k p)
+    optional_fits k n = (n, (fits, λ a. tt), tt)
 
   pub optional_runs : {A : Type 0} (k : Kind) (p : Steps C A) (sp : A → Span)
       → ((ts rest : List Lexeme) (x : A) → cursor S p ts ≡ Ok (x, rest) → Runs ts rest (sp x))
@@ -149,13 +148,13 @@ module _ {C : Type 0} (S : Scalars C Error) where
 
   -- ---- values and types
 
-  pub key_and_value_fine : (free : Bool) → Fine S (key_and_value free)
+  pub key_and_value_fits : (free : Bool) → Fits S (key_and_value free)
   unfolding key_and_value
-  key_and_value_fine free = (kind_no_end Name refl, λ k. (kind_no_end Colon refl, λ c. (tt, λ v. tt)))
+  key_and_value_fits free = (kind_no_end Name refl, λ k. (kind_no_end Colon refl, λ c. (tt, λ v. tt)))
 
-  pub value_fine : (free : Bool) → Fine S (value S free)
+  pub value_fits : (free : Bool) → Fits S (value S free)
   unfolding value list object variable
-  value_fine free = (
+  value_fits free = (
     kind_no_end BracketOpen refl,
     refl,
     (λ o. (
@@ -180,9 +179,9 @@ module _ {C : Type 0} (S : Scalars C Error) where
     ),
   )
 
-  pub type_fine : Fine S type
+  pub type_fits : Fits S type
   unfolding type nullable_type named_type list_type non_null
-  type_fine = (
+  type_fits = (
     (
       refl,
       (kind_no_end Name refl, λ w. tt),
@@ -193,31 +192,31 @@ module _ {C : Type 0} (S : Scalars C Error) where
 
   -- ---- arguments
 
-  pub argument_fine : Fine S argument
+  pub argument_fits : Fits S argument
   unfolding argument
-  argument_fine = (kind_no_end Name refl, λ k. (kind_no_end Colon refl, λ c. (tt, λ v. tt)))
+  argument_fits = (kind_no_end Name refl, λ k. (kind_no_end Colon refl, λ c. (tt, λ v. tt)))
 
-  arguments_fine : Fine S arguments
+  arguments_fits : Fits S arguments
   unfolding arguments arguments_inner
-  arguments_fine =
+  arguments_fits =
       let rule = λ (n : ℕ). argument_rule S n n (le_refl n) in let takes = argument_takes S 0 0 (le_refl 0) in (
         (
           kind_no_end ParenOpen refl,
-          λ o. (several_fine argument argument_fine (IsArgument S) rule takes ParenClose refl (inl refl), λ xs. tt),
+          λ o. (several_fits argument argument_fits (IsArgument S) rule takes ParenClose refl (inl refl), λ xs. tt),
         ),
-        λ ts t mid e x rest r. enclosed_runs argument argument_fine (IsArgument S) rule takes ParenClose refl
+        λ ts t mid e x rest r. enclosed_runs argument argument_fits (IsArgument S) rule takes ParenClose refl
             (inl refl) t
             ts mid rest x e r,
       )
 
   arguments_run : (ts rest : List Lexeme) (x : Arguments C) → cursor S arguments ts ≡ Ok (x, rest) → Runs ts rest x.span
-  arguments_run = read_runs arguments arguments_fine (IsArguments S) (λ n. arguments_rule S n n (le_refl n))
+  arguments_run = read_runs arguments arguments_fits (IsArguments S) (λ n. arguments_rule S n n (le_refl n))
       (λ a. a.span)
       (arguments_have S)
 
-  optional_arguments_fine : Fine S optional_arguments
+  optional_arguments_fits : Fits S optional_arguments
   unfolding optional_arguments
-  optional_arguments_fine = optional_fine arguments arguments_fine (IsArguments S)
+  optional_arguments_fits = optional_fits arguments arguments_fits (IsArguments S)
       (λ n. arguments_rule S n n (le_refl n)) ParenOpen refl
 
   optional_arguments_run : (ts rest : List Lexeme) (x : Option (Arguments C)) → cursor S optional_arguments ts ≡ Ok
@@ -228,18 +227,18 @@ module _ {C : Type 0} (S : Scalars C Error) where
 
   -- ---- directives
 
-  pub directive_fine : Fine S directive
+  pub directive_fits : Fits S directive
   unfolding directive
-  directive_fine = (
-    (kind_no_end At refl, λ a. (kind_no_end Name refl, λ w. (optional_arguments_fine, λ xs. tt))),
+  directive_fits = (
+    (kind_no_end At refl, λ a. (kind_no_end Name refl, λ w. (optional_arguments_fits, λ xs. tt))),
     λ ts a mid e w us d xs rest r. runs_past ts us rest (from_to a.span w.span) (option_map (λ x. x.span) xs)
         (runs_on ts mid us a.span w.span (runs_one a ts mid e) (runs_one w mid us d))
         (optional_arguments_run us rest xs r),
   )
 
-  directives_fine : Fine S directives
+  directives_fits : Fits S directives
   unfolding directives
-  directives_fine = (
+  directives_fits = (
     each_answer S directive (IsDirective S) (λ n. directive_rule S n n (le_refl n))
         (directive_takes S 0 0 (le_refl 0)) (of At),
     λ ds. tt,
@@ -270,7 +269,7 @@ module _ {C : Type 0} (S : Scalars C Error) where
       (x, rest)
       → RunsOn ts rest (option_map (λ o. o.1) x)
   directives_run ts rest x e =
-      let r = read_is directives directives_fine (AreDirectives S)
+      let r = read_is directives directives_fits (AreDirectives S)
       (λ n. directives_rule S n n (le_refl n)) ts rest x e in
       let d = r.2.1 in
       subst (λ (o : Option (List (Directive C) × Span)). RunsOn ts rest (option_map (λ z. z.1) o)) (sym d.1)
@@ -278,46 +277,46 @@ module _ {C : Type 0} (S : Scalars C Error) where
 
   -- ---- variable definitions
 
-  default_fine : Fine S default
+  default_fits : Fits S default
   unfolding default
-  default_fine = (refl, (kind_no_end Equals refl, λ e. (tt, λ v. tt)), tt)
+  default_fits = (refl, (kind_no_end Equals refl, λ e. (tt, λ v. tt)), tt)
 
-  pub variable_definition_fine : Fine S variable_definition
+  pub variable_definition_fits : Fits S variable_definition
   unfolding variable_definition
-  variable_definition_fine = (
+  variable_definition_fits = (
     kind_no_end Dollar refl,
     λ d. (
       kind_no_end Name refl,
       λ w. (
         kind_no_end Colon refl,
         λ c.
-            (tt, λ x. (default_fine, λ v. (directives_fine, λ ds. tt))),
+            (tt, λ x. (default_fits, λ v. (directives_fits, λ ds. tt))),
       ),
     ),
   )
 
-  variables_fine : Fine S variables
+  variables_fits : Fits S variables
   unfolding variables variables_inner
-  variables_fine =
+  variables_fits =
       let rule = λ (n : ℕ). variable_definition_rule S n n (le_refl n) in let takes = variable_takes S 0 0
       (le_refl 0) in (
         (
           kind_no_end ParenOpen refl,
           λ o. (
-            several_fine variable_definition variable_definition_fine
+            several_fits variable_definition variable_definition_fits
                 (IsVariableDefinition S) rule takes ParenClose refl
                 (inl refl),
             λ xs. tt,
           ),
         ),
-        λ ts t mid e x rest r. enclosed_runs variable_definition variable_definition_fine
+        λ ts t mid e x rest r. enclosed_runs variable_definition variable_definition_fits
             (IsVariableDefinition S) rule takes
             ParenClose refl (inl refl) t ts mid rest x e r,
       )
 
-  optional_variables_fine : Fine S optional_variables
+  optional_variables_fits : Fits S optional_variables
   unfolding optional_variables
-  optional_variables_fine = optional_fine variables variables_fine (IsVariables S)
+  optional_variables_fits = optional_fits variables variables_fits (IsVariables S)
       (λ n. variables_rule S n n (le_refl n))
       ParenOpen refl
 
@@ -326,18 +325,18 @@ module _ {C : Type 0} (S : Scalars C Error) where
       → RunsOn ts rest (option_map (λ a. a.span) x)
   unfolding optional_variables
   optional_variables_run = optional_runs ParenOpen variables (λ a. a.span)
-      (read_runs variables variables_fine (IsVariables S)
+      (read_runs variables variables_fits (IsVariables S)
       (λ n. variables_rule S n n (le_refl n)) (λ a. a.span) (variables_have S))
 
   -- ---- selections
 
-  selection_set_fine : Fine S selection_set
+  selection_set_fits : Fits S selection_set
   unfolding selection_set selections_inner
-  selection_set_fine =
+  selection_set_fits =
       let one = symbol a_selection in let rule = λ (n : ℕ). selection_rule S n n (le_refl n) in (
         (
           kind_no_end CurlyOpen refl,
-          λ o. (several_fine one tt (IsSelection S) rule (selection_takes S) CurlyClose refl (inl refl), λ ss. tt),
+          λ o. (several_fits one tt (IsSelection S) rule (selection_takes S) CurlyClose refl (inl refl), λ ss. tt),
         ),
         λ ts t mid e x rest r. enclosed_runs one tt (IsSelection S) rule (selection_takes S) CurlyClose refl
             (inl refl) t ts
@@ -346,15 +345,15 @@ module _ {C : Type 0} (S : Scalars C Error) where
 
   selection_set_run : (ts rest : List Lexeme) (x : Selections C × Span) → cursor S selection_set ts ≡ Ok (x, rest)
       → Runs ts rest x.1
-  selection_set_run = read_runs selection_set selection_set_fine (IsSpannedSet S) (λ n. set_rule S n n (le_refl n))
+  selection_set_run = read_runs selection_set selection_set_fits (IsSpannedSet S) (λ n. set_rule S n n (le_refl n))
       (λ s. s.1) (λ us s h. (set_takes us s.0 h.0, h.1))
     where
       set_takes : (us : List Lexeme) (ss : Selections C) → IsSelectionSet S us ss → 0 < length us
       set_takes us ss h = select_takes S us ss h
 
-  optional_set_fine : Fine S optional_set
+  optional_set_fits : Fits S optional_set
   unfolding optional_set
-  optional_set_fine = optional_fine selection_set selection_set_fine (IsSpannedSet S) (λ n. set_rule S n n (le_refl n))
+  optional_set_fits = optional_fits selection_set selection_set_fits (IsSpannedSet S) (λ n. set_rule S n n (le_refl n))
       CurlyOpen refl
 
   optional_set_run : (ts rest : List Lexeme) (x : Option (Selections C × Span)) → cursor S optional_set ts ≡ Ok
@@ -363,8 +362,8 @@ module _ {C : Type 0} (S : Scalars C Error) where
   unfolding optional_set
   optional_set_run = optional_runs CurlyOpen selection_set (λ s. s.1) selection_set_run
 
-  names_fine : Fine S names
-  names_fine = (kind_no_end Name refl, λ a. (kind_no_end Colon refl, refl, (λ c. (kind_no_end Name refl, λ t. tt)), tt))
+  names_fits : Fits S names
+  names_fits = (kind_no_end Name refl, λ a. (kind_no_end Colon refl, refl, (λ c. (kind_no_end Name refl, λ t. tt)), tt))
 
   names_run : (ts rest : List Lexeme) (x : Option Word × Word) → cursor S names ts ≡ Ok (x, rest)
       → Runs ts rest (names_span x)
@@ -399,10 +398,10 @@ module _ {C : Type 0} (S : Scalars C Error) where
           (runs_one t.0.0 c.0.1 t.0.1 (if_takes (same_kind (kind_at c.0.1) Name) c.0.1 t.0 t.1)))
       by_colon false q = subst (λ (z : (Option Word × Word) × List Lexeme). found z.0 z.1) (ok_is _ (x, rest) q) first
 
-  field_fine : Fine S field
+  field_fits : Fits S field
   unfolding field
-  field_fine = (
-    (names_fine, λ n. (optional_arguments_fine, λ xs. (directives_fine, λ ds. (optional_set_fine, λ ss. tt)))),
+  field_fits = (
+    (names_fits, λ n. (optional_arguments_fits, λ xs. (directives_fits, λ ds. (optional_set_fits, λ ss. tt)))),
     λ ts n m0 a xs m1 b ds m2 c ss rest d.
         let p = names_span n in let q = option_map (λ (x : Arguments C). x.span) xs in
         let r = option_map (λ (x : List (Directive C) × Span). x.1) ds in
@@ -413,9 +412,9 @@ module _ {C : Type 0} (S : Scalars C Error) where
         (optional_set_run m2 rest ss d),
   )
 
-  inline_parts_fine : Fine S inline_parts
+  inline_parts_fits : Fits S inline_parts
   unfolding inline_parts
-  inline_parts_fine = (directives_fine, λ ds. (selection_set_fine, λ ss. tt))
+  inline_parts_fits = (directives_fits, λ ds. (selection_set_fits, λ ss. tt))
 
   -- the same span from its start on, whatever part was read between
   skip_part : (ts rest : List Lexeme) (p : Span) (o : Option Span) (q : Span)
@@ -438,9 +437,9 @@ module _ {C : Type 0} (S : Scalars C Error) where
       (runs_past ts mid ds.0.1 p (option_map (λ o. o.1) ds.0.0) r (directives_run mid ds.0.1 ds.0.0 ds.1))
       (selection_set_run ds.0.1 ss.0.1 ss.0.0 ss.1)))
 
-  inline_fine : (p : Span) (w : Option Word) → Fine S (inline p w)
+  inline_fits : (p : Span) (w : Option Word) → Fits S (inline p w)
   unfolding inline
-  inline_fine p w = (inline_parts_fine, λ b. tt)
+  inline_fits p w = (inline_parts_fits, λ b. tt)
 
   -- after three dots at p
   inline_located : (ts mid : List Lexeme) (p q : Span) (w : Option Word) → Runs ts mid (from_to p q)
@@ -448,16 +447,16 @@ module _ {C : Type 0} (S : Scalars C Error) where
   unfolding inline
   inline_located ts mid p q w r b rest e = inline_parts_run ts mid rest (from_to p q) b r e
 
-  spread_fine : Fine S spread
+  spread_fits : Fits S spread
   unfolding spread typed named_spread
-  spread_fine = (
+  spread_fits = (
     (
       kind_no_end Ellipsis refl,
       λ e. (
         word_no_end (codes "on"),
         refl,
-        (λ o. (kind_no_end Name refl, λ t. inline_fine e.span (Some (word_of t)))),
-        (other_no_end, refl, (λ t. (directives_fine, λ ds. tt)), inline_fine e.span None),
+        (λ o. (kind_no_end Name refl, λ t. inline_fits e.span (Some (word_of t)))),
+        (other_no_end, refl, (λ t. (directives_fits, λ ds. tt)), inline_fits e.span None),
       ),
     ),
     λ ts e m0 a. let dots = runs_one e ts m0 a in (
@@ -472,22 +471,22 @@ module _ {C : Type 0} (S : Scalars C Error) where
     ),
   )
 
-  pub any_selection_fine : Fine S any_selection
+  pub any_selection_fits : Fits S any_selection
   unfolding any_selection
-  any_selection_fine = (refl, spread_fine, field_fine)
+  any_selection_fits = (refl, spread_fits, field_fits)
 
   -- ---- definitions
 
-  optional_name_fine : Fine S optional_name
-  optional_name_fine = (refl, (kind_no_end Name refl, λ w. tt), tt)
+  optional_name_fits : Fits S optional_name
+  optional_name_fits = (refl, (kind_no_end Name refl, λ w. tt), tt)
 
-  pub definition_fine : Fine S definition
+  pub definition_fits : Fits S definition
   unfolding definition operation fragment shorthand
-  definition_fine = (
+  definition_fits = (
     (
       operation_no_end,
       refl,
-      (λ w. (optional_name_fine, λ n. (optional_variables_fine, λ vs. (inline_parts_fine, λ b. tt)))),
+      (λ w. (optional_name_fits, λ n. (optional_variables_fits, λ vs. (inline_parts_fits, λ b. tt)))),
       (
         word_no_end (codes "fragment"),
         refl,
@@ -496,10 +495,10 @@ module _ {C : Type 0} (S : Scalars C Error) where
           λ n. (
             (word_no_end (codes "on"), λ o. (kind_no_end Name refl, λ t. tt)),
             λ t.
-                (inline_parts_fine, λ b. tt),
+                (inline_parts_fits, λ b. tt),
           ),
         )),
-        (selection_set_fine, λ s. tt),
+        (selection_set_fits, λ s. tt),
       ),
     ),
     λ ts. (

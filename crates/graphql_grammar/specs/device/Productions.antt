@@ -1,13 +1,13 @@
--- How each production is read: one step after another, as the code takes them. A device of the proofs, and no definition.
+-- A device of the proofs, and no definition: how each production is read, one step after another, as the code takes them.
 use Rattle.std.specs.Prelude.{ℕ, zero, suc, Bool, true, false, ◌&&◌, ◌||◌, not, List, [], ◌∷◌, codes, bytes_eq, Option, Some, None, option_map, if◌then◌else◌}
 use Rattle.graphql_lexical.specs.declared.kind.Kind.{Kind}
 use Rattle.graphql_lexical.specs.declared.kind.Kind.TheVariants.{ParenOpen, ParenClose, At, Ellipsis, Equals, Name, Dollar, BracketOpen, BracketClose, CurlyOpen, CurlyClose, Colon, ExclamationMark, EndOfFile}
 use Rattle.graphql_lexical.specs.Place.{Place, Span}
 use Rattle.graphql_grammar.specs.Tokens.{Text, Word, word_of, over, from_to, to_end_of}
-use Rattle.graphql_grammar.specs.Tree.{Scalars, Value, Null, Scalar, Enum, Variable, ListOf, Object, Items, no_items, item, ObjectFields, no_fields, object_field, TypeRef, NamedType, ListType, NonNullType, Argument, Arguments, Directive, Directives, VariableDefinition, Variables, Selection, Field, FragmentSpread, InlineFragment, Selections, no_selections, selection, OptionalSelections, absent, present, Definition, Operation, Fragment}
+use Rattle.graphql_grammar.specs.Tree.{Scalars, Value, Null, Scalar, Enum, Variable, ListOf, Object, items_of, fields_of, TypeRef, NamedType, ListType, NonNullType, Argument, Arguments, Directive, Directives, VariableDefinition, Variables, Selection, Field, FragmentSpread, InlineFragment, Selections, selections_of, OptionalSelections, absent, present, Definition, Operation, Fragment}
 use Rattle.graphql_grammar.specs.declared.operation.OperationType.{OperationType}
 use Rattle.graphql_grammar.specs.declared.operation.OperationType.TheVariants.{Query, Mutation, Subscription}
-use Rattle.graphql_grammar.specs.Reading.{Test, of, word, Reader, Out, Symbol, a_value, a_type, a_selection, Steps, gives, gives_at, wants, takes, sees, part, symbol, spanned, scalar, closed, each, run}
+use Rattle.graphql_grammar.specs.device.Reading.{Test, of, word, Reader, Out, Symbol, a_value, a_type, a_selection, Steps, gives, gives_at, wants, takes, sees, part, symbol, spanned, scalar, closed, each, run}
 
 -- a part that begins with a token of this kind, if it stands there
 abbrev pub optional : {C A : Type 0} → Kind → Steps C A → Steps C (Option A)
@@ -24,14 +24,6 @@ by_name S w p = if bytes_eq w (codes "true") then Scalar (S.of_bool true) p
     else if bytes_eq w (codes "false") then Scalar (S.of_bool false) p
     else if bytes_eq w (codes "null") then Null p
     else Enum w p
-
-abbrev pub items_of : {C : Type 0} → List (Value C) → Items C
-items_of [] = no_items
-items_of (v ∷ vs) = item v (items_of vs)
-
-abbrev pub fields_of : {C : Type 0} → List (Word × Value C) → ObjectFields C
-fields_of [] = no_fields
-fields_of (x ∷ xs) = object_field x.0.text x.0.span x.1 (fields_of xs)
 
 abbrev pub variable_start : Bool → Test
 variable_start free kind text = free && of Dollar kind text
@@ -161,10 +153,6 @@ module _ {C : Type 0} where
   optional_variables = optional ParenOpen variables
 
   -- ---- selections
-
-  abbrev pub selections_of : List (Selection C) → Selections C
-  selections_of [] = no_selections
-  selections_of (s ∷ ss) = selection s (selections_of ss)
 
   unfoldable pub selections_inner : Steps C (List (Selection C) × Span)
   selections_inner = several CurlyClose (symbol a_selection)

@@ -1,16 +1,15 @@
--- What a cursor answers where the steps of a production are read.
+-- A device: what a cursor answers where the steps of a production are read.
 use Rattle.std.specs.Prelude.{List, Bool, Result, Ok, Err, if◌then◌else◌}
 use Rattle.graphql_lexical.specs.Place.{Span}
 use Rattle.graphql_lexical.specs.declared.kind.Kind.{Kind}
 use Rattle.graphql_lexical.specs.Cutting.{Lexeme}
 use Rattle.graphql_grammar.specs.Tokens.{Text}
 use Rattle.graphql_grammar.specs.Tree.{Scalars, Value, Scalar, TypeRef, Selection}
-use Rattle.graphql_grammar.specs.Reading.{Test, passes, many, repeated, scalar_token, fully}
-use Rattle.graphql_grammar.specs.Reading.{Symbol, a_value, a_type, a_selection, Steps, gives, gives_at, wants, takes, sees, part, symbol, spanned, scalar, closed, each}
-use Rattle.graphql_grammar.specs.Productions.{symbol_at, reads}
+use Rattle.graphql_grammar.specs.device.Reading.{Test, passes, many, repeated, scalar_token, fully, Symbol, a_value, a_type, a_selection, Steps, gives, gives_at, wants, takes, sees, part, symbol, spanned, scalar, closed, each}
+use Rattle.graphql_grammar.specs.device.Productions.{symbol_at, reads}
 use Rattle.juniper_tokens.specs.Errors.{Error, unexpected}
 use Rattle.juniper_tokens.specs.Cursor.{Read, ◌>>=◌, nowhere, first_of, next_at, next_if}
-use Rattle.juniper.specs.Seen.{seen}
+use Rattle.juniper.specs.device.Seen.{seen}
 
 -- a scalar token by the scalar type's reading; another token is told as unexpected
 abbrev pub literal_here : {C : Type 0} → (Kind → Text → Result C Error) → Kind → Text → Result C Error

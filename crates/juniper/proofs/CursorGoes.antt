@@ -4,16 +4,15 @@ use Rattle.graphql_lexical.specs.Place.{Span}
 use Rattle.graphql_lexical.specs.Cutting.{Lexeme}
 use Rattle.graphql_grammar.specs.Tokens.{span_of}
 use Rattle.graphql_grammar.specs.Tree.{Scalars, Value}
-use Rattle.graphql_grammar.specs.Reading.{Test, passes, Took, Refused, Out, Reader, after, seq, done, want, literal, on, pick, look, choose, with_span, front, many, repeated, fully}
-use Rattle.graphql_grammar.specs.Reading as reading
-use Rattle.graphql_grammar.specs.Reading.{Symbol, a_value, a_type, a_selection, Steps, gives, gives_at, wants, takes, sees, part, symbol, spanned, scalar, closed, each}
-use Rattle.graphql_grammar.specs.Productions.{symbol_at, reads}
+use Rattle.graphql_grammar.specs.device.Reading.{Test, passes, Took, Refused, Out, Reader, after, seq, done, want, literal, on, pick, look, choose, with_span, front, many, repeated, fully, Symbol, Steps, gives, gives_at, wants, takes, sees, part, symbol, spanned, scalar, closed, each}
+use Rattle.graphql_grammar.specs.device.Reading as reading
+use Rattle.graphql_grammar.specs.device.Productions.{symbol_at, reads}
 use Rattle.graphql_grammar.proofs.Fuel.{Answers, settled}
 use Rattle.graphql_grammar.proofs.Extents.{Runs, runs_front}
 use Rattle.juniper_tokens.specs.Errors.{Error}
 use Rattle.juniper_tokens.specs.Cursor.{Read, ◌>>=◌, nowhere, no_lexeme, first_of, next_at, next_if}
-use Rattle.juniper.specs.Seen.{seen}
-use Rattle.juniper.specs.Steps.{closed_by, symbol_read, scalar_read, closed_read, each_read, cursor, located}
+use Rattle.juniper.specs.device.Seen.{seen}
+use Rattle.juniper.specs.device.Steps.{closed_by, symbol_read, scalar_read, closed_read, each_read, cursor, located}
 use Rattle.juniper.proofs.Stepping.{PassesNoEnd, bind_assoc, bind_same, bind_given, taken, seen_test, seen_span}
 use Rattle.juniper.proofs.Cursors.{ok_is, bind_ok, next_takes, if_takes}
 use Rattle.juniper.proofs.ScalarTokens.{scalar_seen}
@@ -158,19 +157,19 @@ module _ {C : Type 0} (S : Scalars C Error) where
 
   -- What the steps of a production have to be, so that the cursor goes their way: no test passes the end or what
   -- stands at no place, spans are told rightly, and lists answer.
-  abbrev pub Fine : {A : Type 0} → Steps C A → Type 0
-  Fine (gives a) = Unit {0}
-  Fine (gives_at p a) = Unit {0}
-  Fine (wants test k) = PassesNoEnd test × ((t : Lexeme) → Fine (k t))
-  Fine (takes test k p) = PassesNoEnd test × (passes test no_lexeme ≡ false) × ((t : Lexeme) → Fine (k t)) × Fine p
-  Fine (sees test p q) = (passes test no_lexeme ≡ false) × Fine p × Fine q
-  Fine (part {B = B} p k) = Fine p × ((x : B) → Fine (k x))
-  Fine (symbol r) = Unit {0}
-  Fine (spanned p) = Fine p × ((ts : List Lexeme) → Located ts ts p)
-  Fine (scalar k) = (v : Value C) → Fine (k v)
-  Fine (closed {B = B} close p k) = Answers (λ n. many close (reads S n p) n) ×
-      ((xs : List B) (q : Span) → Fine (k xs q))
-  Fine (each {B = B} test p k) = Answers (λ n. repeated test (reads S n p) n) × ((xs : List B) → Fine (k xs))
+  abbrev pub Fits : {A : Type 0} → Steps C A → Type 0
+  Fits (gives a) = Unit {0}
+  Fits (gives_at p a) = Unit {0}
+  Fits (wants test k) = PassesNoEnd test × ((t : Lexeme) → Fits (k t))
+  Fits (takes test k p) = PassesNoEnd test × (passes test no_lexeme ≡ false) × ((t : Lexeme) → Fits (k t)) × Fits p
+  Fits (sees test p q) = (passes test no_lexeme ≡ false) × Fits p × Fits q
+  Fits (part {B = B} p k) = Fits p × ((x : B) → Fits (k x))
+  Fits (symbol r) = Unit {0}
+  Fits (spanned p) = Fits p × ((ts : List Lexeme) → Located ts ts p)
+  Fits (scalar k) = (v : Value C) → Fits (k v)
+  Fits (closed {B = B} close p k) = Answers (λ n. many close (reads S n p) n) ×
+      ((xs : List B) (q : Span) → Fits (k xs q))
+  Fits (each {B = B} test p k) = Answers (λ n. repeated test (reads S n p) n) × ((xs : List B) → Fits (k xs))
 
   abbrev pub SymbolsShown : Type 1
   SymbolsShown = (A : Type 0) (r : Symbol C A) (n : ℕ) (ts : List Lexeme) → Shown (symbol_at S n A r ts)
@@ -195,7 +194,7 @@ module _ {C : Type 0} (S : Scalars C Error) where
   closed_shown r s k l e h = subst (λ z. Shown (after r k) z) (sym (bind_assoc s _ _)) (after_shown k s _ h r e)
 
   module _ (symbols : SymbolsShown) where
-    pub shown : {A : Type 0} (p : Steps C A) → Fine p → (n : ℕ) (ts : List Lexeme)
+    pub shown : {A : Type 0} (p : Steps C A) → Fits p → (n : ℕ) (ts : List Lexeme)
         → Shown (reads S n p ts) (cursor S p ts)
     unfolding done closed_read each_read seq
     shown (gives a) h n ts = inr refl
@@ -224,7 +223,7 @@ module _ {C : Type 0} (S : Scalars C Error) where
         (λ x. shown (k x.0) (h.1 x.0) n x.1)
 
     -- with enough fuel
-    pub shown_fully : {A : Type 0} (p : Steps C A) → Fine p → Answers (λ n. reads S n p) → (ts : List Lexeme)
+    pub shown_fully : {A : Type 0} (p : Steps C A) → Fits p → Answers (λ n. reads S n p) → (ts : List Lexeme)
         → seen (fully (λ n. reads S n p) ts) ≡ cursor S p ts
     unfolding fully
     shown_fully p h w ts = elim (shown p h (suc (length ts)) ts)

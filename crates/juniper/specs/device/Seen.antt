@@ -1,0 +1,14 @@
+-- A device: what a cursor answers where a reader of the grammar gives r.
+use Rattle.std.specs.Prelude.{[], ◌∷◌, Ok, Err}
+use Rattle.graphql_grammar.specs.device.Reading.{Took, Refused, Out}
+use Rattle.graphql_grammar.specs.device.Reading as reading
+use Rattle.juniper_tokens.specs.Errors as errors
+use Rattle.juniper_tokens.specs.Errors.{Error}
+use Rattle.juniper_tokens.specs.Cursor.{Read, nowhere}
+use Rattle.juniper.specs.Promise.{error_of, past}
+
+abbrev pub seen : {A : Type 0} → reading.Read Error A → Read A
+seen (Took a rest) = Ok (a, rest)
+seen (Refused [] e) = Err (record { error = error_of e; span = nowhere }, [])
+seen (Refused (t ∷ ts) e) = Err (record { error = error_of e; span = t.span }, past (t ∷ ts))
+seen Out = Err (record { error = errors.UnexpectedEndOfFile; span = nowhere }, [])
