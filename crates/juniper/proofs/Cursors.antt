@@ -1,11 +1,12 @@
 -- What the steps of a cursor take.
-use Rattle.std.proofs.Common.{◌≡◌, ◌<◌, Bool, true, false, cond, List, [], ◌∷◌, length, Ok, Err, Option, Some, None, refl, ap, arith}
+use Rattle.std.proofs.Common.{◌≡◌, Bool, true, false, cond, List, [], ◌∷◌, drop, Ok, Err, refl, ap, ◌∙◌}
 use Rattle.graphql_lexical.specs.declared.kind.Kind.TheVariants.{EndOfFile}
 use Rattle.graphql_lexical.specs.Kinds.{same_kind}
+use Rattle.graphql_lexical.specs.declared.kind.Kind.{Kind}
 use Rattle.graphql_lexical.specs.Cutting.{Lexeme}
-use Rattle.juniper_tokens.specs.declared.token.Token.{Token}
+use Rattle.graphql_grammar.proofs.TokenTests.{of_kind}
 use Rattle.juniper_tokens.specs.Errors.{UnexpectedEndOfFile}
-use Rattle.juniper_tokens.specs.Cursor.{Read, ◌>>=◌, first_of, kind_at, next_at, next_if, skip_if, skip_at}
+use Rattle.juniper_tokens.specs.Cursor.{Read, ◌>>=◌, first_of, kind_at, next_at, next_if, EndsOnce}
 
 pub ok_is : {A : Type 0} (x y : A × List Lexeme) → ◌≡◌ {A = Read A} (Ok x) (Ok y) → x ≡ y
 ok_is x y e = cc
@@ -29,25 +30,13 @@ pub if_takes : (b : Bool) (ts : List Lexeme) (x : Lexeme × List Lexeme) → nex
 if_takes true ts x e = next_takes ts x e
 if_takes false ts x e = let h = bind_ok (next_at ts) _ x e in absurd (cc h.2)
 
-shorter_if : (b : Bool) (ts : List Lexeme) (t : Lexeme) (us : List Lexeme) → skip_if b ts ≡ Ok (Some t, us)
-    → length us < length ts
-shorter_if true ts t us e =
-    let x = bind_ok (next_at ts) (λ x. Ok (Some x.0, x.1)) (Some t, us) e in
-    let left : x.0.1 ≡ us = ap (λ (z : Option Lexeme × List Lexeme). z.1)
-    (ok_is (Some x.0.0, x.0.1) (Some t, us) x.2) in
-    omega (arith, ap length left, ap length (next_takes ts x.0 x.1))
-shorter_if false ts t us e = by_end (same_kind (kind_at ts) EndOfFile) e
-  where
-    by_end : (b : Bool) → cond {A = Read (Option Lexeme)} b (Err
-        (record { error = UnexpectedEndOfFile; span = (first_of ts).span }, ts)) (Ok (None, ts)) ≡ Ok (Some t, us)
-        → length us < length ts
-    by_end true p = absurd (cc p)
-    by_end false p =
-        let none : None ≡ Some t = ap (λ (z : Option Lexeme × List Lexeme). z.0) (ok_is (None, ts) (Some t, us) p) in
-        absurd (cc none)
+-- what is of a kind other than the end's is not the end
+pub closing_is_no_end : (k : Kind) (ts : List Lexeme) → same_kind k EndOfFile ≡ false → same_kind (kind_at ts) k ≡ true
+    → same_kind (kind_at ts) EndOfFile ≡ false
+closing_is_no_end k ts e p = ap (λ (z : Kind). same_kind z EndOfFile) (of_kind k (first_of ts) p) ∙ e
 
--- a token that is skipped is taken
-pub skip_shorter : (wanted : Token) (ts : List Lexeme) (t : Lexeme) (us : List Lexeme)
-    → skip_at wanted ts ≡ Ok (Some t, us) → length us < length ts
-unfolding skip_at
-skip_shorter wanted ts t us e = shorter_if _ ts t us e
+-- what is taken is the first
+pub next_is_first : (ts : List Lexeme) → EndsOnce ts → same_kind (kind_at ts) EndOfFile ≡ false
+    → next_at ts ≡ Ok (first_of ts, drop 1 ts)
+next_is_first [] ended e = absurd ended
+next_is_first (t ∷ ts) ended e = rw e refl

@@ -23,101 +23,70 @@ regroup front a (Err e) = refl
 
 -- ---- a closing token is looked for before each item
 
-abbrev pub closed_or : {A : Type 0} → (List Lexeme → Read A) → (List Lexeme → Read (List A × Span)) → Option Lexeme
+abbrev pub closed_or : {A : Type 0} → (List Lexeme → Read A) → (List Lexeme → Read (List A × Span)) → Option Span
     → List Lexeme → Read (List A × Span)
-closed_or item more (Some c) ts = Ok (([], c.span), ts)
+closed_or item more (Some q) ts = Ok (([], q), ts)
 closed_or item more None ts = item ts >>= λ x. then_others x.0 (more x.1)
 
 -- items up to the closing token
-pub record Repeats {A : Type 0} (skip : List Lexeme → Read (Option Lexeme)) (item : List Lexeme → Read A)
+pub record Repeats {A : Type 0} (close : List Lexeme → Option Span × List Lexeme) (item : List Lexeme → Read A)
     (more : List Lexeme → Read (List A × Span)) : Type 0 where
-  pub unfolds : (ts : List Lexeme) → more ts ≡ (skip ts >>= λ c. closed_or item more c.0 c.1)
+  pub unfolds : (ts : List Lexeme) → EndsOnce ts → more ts ≡ closed_or item more (close ts).0 (close ts).1
 
 -- p is what is left where a turn of the loop begins
-module _ {A : Type 0} {skip : List Lexeme → Read (Option Lexeme)} {item : List Lexeme → Read A}
-    {more : List Lexeme → Read (List A × Span)} (u : Repeats skip item more)
-    (front : List A) (p : List Lexeme) {total : Read (List A × Span)} (so_far : with_front front (more p) ≡ total) where
-  pub goes_on : {a : A} {q r : List Lexeme} → skip p ≡ Ok (None, q) → item q ≡ Ok (a, r)
+module _ {A : Type 0} {close : List Lexeme → Option Span × List Lexeme} {item : List Lexeme → Read A}
+    {more : List Lexeme → Read (List A × Span)} (u : Repeats close item more)
+    (front : List A) (p : List Lexeme) {total : Read (List A × Span)} (ended : EndsOnce p)
+    (so_far : with_front front (more p) ≡ total) where
+  pub goes_on : {a : A} {q r : List Lexeme} → (None, q) ≡ close p → item q ≡ Ok (a, r)
       → with_front (front ++ a ∷ []) (more r) ≡ total
   goes_on {a} {q} {r} opened first =
-      let one : more p ≡ then_others a (more r) = u.unfolds p ∙ rw (opened, first) refl in
+      let one : more p ≡ then_others a (more r) = u.unfolds p ended ∙ rw (sym opened, first) refl in
       sym (ap (with_front front) one ∙ regroup front a (more r)) ∙ so_far
 
-  pub ends : {c : Lexeme} {q : List Lexeme} → skip p ≡ Ok (Some c, q) → total ≡ Ok ((front, c.span), q)
+  pub ends : {c : Span} {q : List Lexeme} → (Some c, q) ≡ close p → total ≡ Ok ((front, c), q)
   ends {c} {q} closed =
-      let one : more p ≡ Ok (([], c.span), q) = u.unfolds p ∙ rw closed refl in
-      sym so_far ∙ ap (with_front front) one ∙ ap (λ (as' : List A). Ok ((as', c.span), q)) (append-nil front)
+      let one : more p ≡ Ok (([], c), q) = u.unfolds p ended ∙ rw (sym closed) refl in
+      sym so_far ∙ ap (with_front front) one ∙ ap (λ (as' : List A). Ok ((as', c), q)) (append-nil front)
 
-  pub close_fails : (e : ParseFailure) (left : List Lexeme) → Fails e left (skip p) → Fails e left total
-  close_fails failures.Memory left fails = tt
-  close_fails (failures.Refused e) left fails =
-      let one : more p ≡ Err (view_fault e, left) = u.unfolds p ∙ rw fails refl in
-      sym so_far ∙ ap (with_front front) one
-
-  pub item_fails : (e : ParseFailure) (left : List Lexeme) {q : List Lexeme} → skip p ≡ Ok (None, q)
+  pub item_fails : (e : ParseFailure) (left : List Lexeme) {q : List Lexeme} → (None, q) ≡ close p
       → Fails e left (item q) → Fails e left total
   item_fails failures.Memory left opened fails = tt
   item_fails (failures.Refused e) left opened fails =
-      let one : more p ≡ Err (view_fault e, left) = u.unfolds p ∙ rw (opened, fails) refl in
+      let one : more p ≡ Err (view_fault e, left) = u.unfolds p ended ∙ rw (sym opened, fails) refl in
       sym so_far ∙ ap (with_front front) one
 
 -- ---- a closing token is looked for behind each item
 
-abbrev pub ended_or : {A : Type 0} → A → (List Lexeme → Read (List A × Span)) → Option Lexeme → List Lexeme
-    → Read (List A × Span)
-ended_or a some (Some c) ts = Ok ((a ∷ [], c.span), ts)
-ended_or a some None ts = then_others a (some ts)
-
 -- one item or more, up to the closing token
-pub record RepeatsSome {A : Type 0} (skip : List Lexeme → Read (Option Lexeme)) (item : List Lexeme → Read A)
+pub record RepeatsSome {A : Type 0} (close : List Lexeme → Option Span × List Lexeme) (item : List Lexeme → Read A)
     (some : List Lexeme → Read (List A × Span)) : Type 0 where
-  pub unfolds : (ts : List Lexeme) → some ts ≡ (item ts >>= λ x. skip x.1 >>= λ c. ended_or x.0 some c.0 c.1)
+  pub more : List Lexeme → Read (List A × Span)
+  pub first : (ts : List Lexeme) → some ts ≡ (item ts >>= λ x. then_others x.0 (more x.1))
+  pub repeats : Repeats close item more
 
-module _ {A : Type 0} {skip : List Lexeme → Read (Option Lexeme)} {item : List Lexeme → Read A}
-    {some : List Lexeme → Read (List A × Span)} (u : RepeatsSome skip item some)
+module _ {A : Type 0} {close : List Lexeme → Option Span × List Lexeme} {item : List Lexeme → Read A}
+    {some : List Lexeme → Read (List A × Span)} (u : RepeatsSome close item some)
     (front : List A) (p : List Lexeme) {total : Read (List A × Span)} (so_far : with_front front (some p) ≡ total) where
-  pub some_go_on : {a : A} {q r : List Lexeme} → item p ≡ Ok (a, q) → skip q ≡ Ok (None, r)
+  pub some_go_on : {a : A} {q r : List Lexeme} → item p ≡ Ok (a, q) → EndsOnce q → (None, r) ≡ close q
       → with_front (front ++ a ∷ []) (some r) ≡ total
-  some_go_on {a} {q} {r} first opened =
-      let one : some p ≡ then_others a (some r) = u.unfolds p ∙ rw (first, opened) refl in
-      sym (ap (with_front front) one ∙ regroup front a (some r)) ∙ so_far
+  some_go_on {a} {q} {r} first ended opened =
+      let one : some p ≡ then_others a (u.more q) = u.first p ∙ rw first refl in
+      let others : u.more q ≡ some r = u.repeats.unfolds q ended ∙ rw (sym opened) refl ∙ sym (u.first r) in
+      sym (ap (with_front front) (one ∙ ap (then_others a) others) ∙ regroup front a (some r)) ∙ so_far
 
-  pub some_end : {a : A} {c : Lexeme} {q r : List Lexeme} → item p ≡ Ok (a, q) → skip q ≡ Ok (Some c, r)
-      → total ≡ Ok ((front ++ a ∷ [], c.span), r)
-  some_end {a} {c} {q} {r} first closed =
-      let one : some p ≡ Ok ((a ∷ [], c.span), r) = u.unfolds p ∙ rw (first, closed) refl in
-      sym so_far ∙ ap (with_front front) one
+  pub some_end : {a : A} {c : Span} {q r : List Lexeme} → item p ≡ Ok (a, q) → EndsOnce q → (Some c, r) ≡ close q
+      → total ≡ Ok ((front ++ a ∷ [], c), r)
+  some_end {a} {c} {q} {r} first ended closed =
+      let one : some p ≡ then_others a (u.more q) = u.first p ∙ rw first refl in
+      let none : u.more q ≡ Ok (([], c), r) = u.repeats.unfolds q ended ∙ rw (sym closed) refl in
+      sym so_far ∙ ap (with_front front) (one ∙ ap (then_others a) none)
 
   pub some_item_fails : (e : ParseFailure) (left : List Lexeme) → Fails e left (item p) → Fails e left total
   some_item_fails failures.Memory left fails = tt
   some_item_fails (failures.Refused e) left fails =
-      let one : some p ≡ Err (view_fault e, left) = u.unfolds p ∙ rw fails refl in
+      let one : some p ≡ Err (view_fault e, left) = u.first p ∙ rw fails refl in
       sym so_far ∙ ap (with_front front) one
-
-  pub some_close_fails : (e : ParseFailure) (left : List Lexeme) {a : A} {q : List Lexeme} → item p ≡ Ok (a, q)
-      → Fails e left (skip q) → Fails e left total
-  some_close_fails failures.Memory left first fails = tt
-  some_close_fails (failures.Refused e) left first fails =
-      let one : some p ≡ Err (view_fault e, left) = u.unfolds p ∙ rw (first, fails) refl in
-      sym so_far ∙ ap (with_front front) one
-
--- where a list of any length goes so, one of one item or more does
-pub some_repeats : {A : Type 0} (skip : List Lexeme → Read (Option Lexeme)) (item : List Lexeme → Read A)
-    (more : List Lexeme → Read (List A × Span)) → Repeats skip item more
-    → RepeatsSome skip item (λ ts. item ts >>= λ x. then_others x.0 (more x.1))
-some_repeats {A} skip item more u = record { unfolds = λ ts. by_item (item ts) }
-  where
-    by_skip : (a : A) (r : Read (Option Lexeme))
-        → then_others a (r >>= λ c. closed_or item more c.0 c.1)
-        ≡ (r >>= λ c. ended_or a (λ ts. item ts >>= λ x. then_others x.0 (more x.1)) c.0 c.1)
-    by_skip a (Ok (Some c, ts)) = refl
-    by_skip a (Ok (None, ts)) = refl
-    by_skip a (Err e) = refl
-
-    by_item : (r : Read A) → (r >>= λ x. then_others x.0 (more x.1))
-        ≡ (r >>= λ x. skip x.1 >>= λ c. ended_or x.0 (λ ts. item ts >>= λ y. then_others y.0 (more y.1)) c.0 c.1)
-    by_item (Ok x) = ap (then_others x.0) (u.unfolds x.1) ∙ by_skip x.0 (skip x.1)
-    by_item (Err e) = refl
 
 -- ---- items as long as a token stands next
 

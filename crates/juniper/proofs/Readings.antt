@@ -1,31 +1,28 @@
 -- What the code reads is what the grammar's readers read.
-use Rattle.std.proofs.Common.{◌≡◌, suc, length, arith, Bool, true, false, cond, Some, None, List, [], ◌∷◌, Ok, Err, refl, sym, ap, ◌∙◌, inl, inr, le_refl}
-use Rattle.graphql_lexical.specs.Place.{Span}
+use Rattle.std.proofs.Common.{◌≡◌, suc, length, arith, Bool, true, false, cond, Some, None, List, [], ◌∷◌, Ok, refl, sym, ap, ◌∙◌, inl, inr, le_refl}
 use Rattle.graphql_lexical.specs.declared.kind.Kind.TheVariants.{At, BracketClose, CurlyClose, ParenClose, EndOfFile}
 use Rattle.graphql_lexical.specs.Kinds.{same_kind}
 use Rattle.graphql_lexical.specs.Cutting.{Lexeme}
-use Rattle.graphql_grammar.specs.Tokens.{Text}
 use Rattle.graphql_grammar.specs.Tree.{Scalars}
 use Rattle.graphql_grammar.specs.Grammar.{IsValue, IsArgument, IsVariableDefinition, IsSelection, IsDirective, IsDefinition, IsDocument}
 use Rattle.graphql_grammar.specs.declared.operation.OperationType.{OperationType}
 use Rattle.graphql_grammar.specs.device.Reading.{of, passes, fully, a_value, a_type, a_selection, Symbol, symbol}
-use Rattle.graphql_grammar.specs.device.Productions.{steps_of, symbol_at, reads, value, type, any_selection, field, key_and_value, argument, arguments_inner, directive, variable_definition, variables_inner, selections_inner, operation_word, operation_of, definition, document, operation}
+use Rattle.graphql_grammar.specs.device.Productions.{steps_of, symbol_at, reads, value, type, any_selection, key_and_value, argument, arguments_inner, directive, variable_definition, variables_inner, selections_inner, operation_word, operation_of, definition, document, operation}
 use Rattle.graphql_grammar.proofs.Fuel.{Answers}
 use Rattle.graphql_grammar.proofs.Values.{value_rule, value_takes, IsField, field_rule, field_takes}
 use Rattle.graphql_grammar.proofs.DocumentRules.{argument_rule, argument_takes, directive_rule, directive_takes, variable_definition_rule, variable_takes}
 use Rattle.graphql_grammar.proofs.SelectionRules.{selection_rule, selection_takes, definition_rule, definition_takes, document_rule}
 use Rattle.graphql_grammar.proofs.Answered.{values_answer, types_answer, selections_answer, reads_answer, closed_answer}
-use Rattle.juniper_tokens.specs.declared.token.Token.TheVariants as token
-use Rattle.juniper_tokens.specs.Errors.{Error, UnexpectedEndOfFile}
-use Rattle.juniper_tokens.specs.Cursor.{◌>>=◌, first_of, kind_at, next_at, skip_at}
+use Rattle.juniper_tokens.specs.Errors.{Error}
+use Rattle.juniper_tokens.specs.Cursor.{◌>>=◌, first_of, kind_at, next_at}
 use Rattle.juniper.specs.device.Seen.{seen}
-use Rattle.juniper.specs.device.Steps.{no_scalars, value_read, type_read, selection_read, scalar_read, closed_read, cursor, whole, each_read}
+use Rattle.juniper.specs.device.Steps.{closing_at, no_scalars, value_read, type_read, selection_read, closed_read, cursor, whole, each_read}
 use Rattle.juniper.proofs.Cursors.{next_takes}
 use Rattle.juniper.proofs.Loops.{Repeats, RepeatsSome, RepeatsWhile}
 use Rattle.juniper.proofs.CursorGoes.{Fits, shown, shown_fully}
 use Rattle.juniper.proofs.Symbols.{symbols_shown}
 use Rattle.juniper.proofs.CursorFits.{value_fits, type_fits, key_and_value_fits, argument_fits, directive_fits, variable_definition_fits, any_selection_fits, definition_fits}
-use Rattle.juniper.proofs.Lists.{AtEnd, at_end, closed_repeats, several_repeats, closed_turn, each_unfolds}
+use Rattle.juniper.proofs.Lists.{closed_repeats, several_repeats, closed_turn, each_unfolds}
 
 module _ {C : Type 0} (S : Scalars C Error) where
   symbol_is : {A : Type 0} (r : Symbol C A) → Answers (λ n. symbol_at S n A r) → Fits S (steps_of S r) →
@@ -52,39 +49,20 @@ type_is = symbol_is no_scalars a_type (types_answer no_scalars) (type_fits no_sc
 -- ---- lists
 
 module _ {C : Type 0} (S : Scalars C Error) where
-  module _ (free : Bool) where
-    value_ends : AtEnd (value_read S free)
-    unfolding value scalar_read
-    value_ends = at_end (value_read S free) (λ w p us. value_is S free _ ∙ by_free free w p us)
-      where
-        by_free : (b : Bool) (w : Text) (p : Span) (us : List Lexeme)
-            → cursor S (value S b) (record { kind = EndOfFile; text = w; span = p } ∷ us)
-            ≡ Err (
-              record { error = UnexpectedEndOfFile; span = p },
-              record { kind = EndOfFile; text = w; span = p } ∷ us,
-            )
-        by_free true w p us = refl
-        by_free false w p us = refl
+  pub values_repeat : (free : Bool)
+      → Repeats (closing_at BracketClose) (value_read S free) (closed_read S (of BracketClose) (symbol (a_value free)))
+  values_repeat free = closed_repeats S (symbol (a_value free)) tt (IsValue S free)
+      (λ n. value_rule S free n n (le_refl n)) (value_takes S free) BracketClose refl (inl refl)
 
-    pub values_repeat : Repeats (skip_at token.BracketClose) (value_read S free)
-        (closed_read S (of BracketClose) (symbol (a_value free)))
-    unfolding skip_at
-    values_repeat = closed_repeats S (symbol (a_value free)) tt (IsValue S free)
-        (λ n. value_rule S free n n (le_refl n))
-        (value_takes S free) BracketClose refl (inl refl) refl refl value_ends
+  pub fields_repeat : (free : Bool) → Repeats (closing_at CurlyClose) (cursor S (key_and_value free))
+      (closed_read S (of CurlyClose) (key_and_value free))
+  fields_repeat free = closed_repeats S (key_and_value free) (key_and_value_fits S free) (IsField S free)
+      (λ n. field_rule S free n n (le_refl n)) (field_takes S free) CurlyClose refl (inl refl)
 
-    pub fields_repeat : Repeats (skip_at token.CurlyClose) (cursor S (key_and_value free))
-        (closed_read S (of CurlyClose) (key_and_value free))
-    unfolding skip_at key_and_value
-    fields_repeat = closed_repeats S (key_and_value free) (key_and_value_fits S free) (IsField S free)
-        (λ n. field_rule S free n n (le_refl n)) (field_takes S free) CurlyClose refl (inl refl) refl refl
-        (at_end (cursor S (key_and_value free)) (λ w p us. refl))
-
-  pub arguments_repeat : RepeatsSome (skip_at token.ParenClose) (cursor S argument) (cursor S arguments_inner)
-  unfolding skip_at argument arguments_inner
+  pub arguments_repeat : RepeatsSome (closing_at ParenClose) (cursor S argument) (cursor S arguments_inner)
+  unfolding arguments_inner
   arguments_repeat = several_repeats S argument (argument_fits S) (IsArgument S) (λ n. argument_rule S n n (le_refl n))
-      (argument_takes S 0 0 (le_refl 0)) ParenClose refl (inl refl) refl refl
-      (at_end (cursor S argument) (λ w p us. refl))
+      (argument_takes S 0 0 (le_refl 0)) ParenClose refl (inl refl)
 
   pub directives_repeat : RepeatsWhile (λ ts. same_kind (kind_at ts) At) (cursor S directive)
       (each_read S (of At) directive)
@@ -93,22 +71,15 @@ module _ {C : Type 0} (S : Scalars C Error) where
         (directive_takes S 0 0 (le_refl 0)) At;
   }
 
-  pub variables_repeat : RepeatsSome (skip_at token.ParenClose) (cursor S variable_definition)
-      (cursor S variables_inner)
-  unfolding skip_at variable_definition variables_inner
+  pub variables_repeat : RepeatsSome (closing_at ParenClose) (cursor S variable_definition) (cursor S variables_inner)
+  unfolding variables_inner
   variables_repeat = several_repeats S variable_definition (variable_definition_fits S) (IsVariableDefinition S)
-      (λ n. variable_definition_rule S n n (le_refl n)) (variable_takes S 0 0 (le_refl 0)) ParenClose refl
-      (inl refl) refl
-      refl (at_end (cursor S variable_definition) (λ w p us. refl))
+      (λ n. variable_definition_rule S n n (le_refl n)) (variable_takes S 0 0 (le_refl 0)) ParenClose refl (inl refl)
 
-  selection_ends : AtEnd (selection_read S)
-  unfolding any_selection field
-  selection_ends = at_end (selection_read S) (λ w p us. selection_is S _ ∙ refl)
-
-  pub selections_repeat : RepeatsSome (skip_at token.CurlyClose) (selection_read S) (cursor S selections_inner)
-  unfolding skip_at selections_inner
+  pub selections_repeat : RepeatsSome (closing_at CurlyClose) (selection_read S) (cursor S selections_inner)
+  unfolding selections_inner
   selections_repeat = several_repeats S (symbol a_selection) tt (IsSelection S) (λ n. selection_rule S n n (le_refl n))
-      (selection_takes S) CurlyClose refl (inl refl) refl refl selection_ends
+      (selection_takes S) CurlyClose refl (inl refl)
 
   -- ---- documents
 

@@ -1,14 +1,18 @@
 -- A device: what a cursor answers where the steps of a production are read.
-use Rattle.std.specs.Prelude.{List, Bool, Result, Ok, Err, if◌then◌else◌}
+use Rattle.std.specs.Prelude.{◌≡◌, List, drop, Bool, Option, Some, None, Result, Ok, Err, if◌then◌else◌}
 use Rattle.graphql_lexical.specs.Place.{Span}
 use Rattle.graphql_lexical.specs.declared.kind.Kind.{Kind}
+use Rattle.graphql_lexical.specs.Kinds.{same_kind}
 use Rattle.graphql_lexical.specs.Cutting.{Lexeme}
 use Rattle.graphql_grammar.specs.Tokens.{Text}
 use Rattle.graphql_grammar.specs.Tree.{Scalars, Value, Scalar, TypeRef, Selection}
 use Rattle.graphql_grammar.specs.device.Reading.{Test, passes, many, repeated, scalar_token, fully, Symbol, a_value, a_type, a_selection, Steps, gives, gives_at, wants, takes, sees, part, symbol, spanned, scalar, closed, each}
 use Rattle.graphql_grammar.specs.device.Productions.{symbol_at, reads}
 use Rattle.juniper_tokens.specs.Errors.{Error, unexpected}
-use Rattle.juniper_tokens.specs.Cursor.{Read, ◌>>=◌, nowhere, first_of, next_at, next_if}
+use Rattle.juniper_tokens.specs.declared.error.ParseFailure.{ParseFailure}
+use Rattle.juniper_tokens.specs.declared.span.Span as code
+use Rattle.juniper_tokens.specs.Spans.{view_span}
+use Rattle.juniper_tokens.specs.Cursor.{Read, Fails, ◌>>=◌, nowhere, first_of, kind_at, next_at, next_if}
 use Rattle.juniper.specs.device.Seen.{seen}
 
 -- a scalar token by the scalar type's reading; another token is told as unexpected
@@ -18,6 +22,15 @@ literal_here read kind text = if scalar_token kind text then read kind text else
 abbrev pub read_here : {C : Type 0} → Result C Error → Span → List Lexeme → Read (Value C)
 read_here (Ok c) p ts = Ok (Scalar c p, ts)
 read_here (Err e) p ts = Err (record { error = e; span = p }, ts)
+
+-- The next token was taken, and it is told where it stood.
+abbrev pub GivesPlace : Result code.Span ParseFailure → List Lexeme → List Lexeme → Read Lexeme → Type 0
+GivesPlace (Ok place) old new r = (r ≡ Ok (first_of old, new)) × (view_span place ≡ (first_of old).span)
+GivesPlace (Err e) old new r = Fails e new r
+
+-- a token of the kind k is taken, and its span answered
+abbrev pub closing_at : Kind → List Lexeme → Option Span × List Lexeme
+closing_at k ts = if same_kind (kind_at ts) k then (Some (first_of ts).span, drop 1 ts) else (None, ts)
 
 -- items, and the span of what closes them
 abbrev pub closed_by : {A : Type 0} → Read (List A × Lexeme) → Read (List A × Span)

@@ -8,15 +8,15 @@ ghost use Rattle.juniper.specs.device.PartViews.{view_list, view_spanned_directi
 ghost use Rattle.juniper.specs.device.Steps.{cursor};
 
 use crate::parser::lists::push_item;
-use crate::parser::next::next_is;
+use crate::parser::next::{expect_kind, next_is, take_closing};
 use crate::parser::spans::{span_of, up_to};
 use crate::parser::value::parse_value;
 use crate::tree::ast::{Arguments, Directive};
-use juniper_tokens::{Kind, OptionParseResult, ParseFailure, ParseResult, Parser, Spanning, Token};
+use juniper_tokens::{Kind, OptionParseResult, ParseFailure, ParseResult, Parser, Spanning};
 use juniper_values::{InputValue, ScalarValue};
 
 /// `Name ":" Value(free)`
-#[tactic(auto, unfolding(graphql_grammar::specs::device::Productions::argument, juniper_tokens::specs::Cursor::expect_at, juniper_tokens::specs::Cursor::expect_name_at))]
+#[tactic(auto, unfolding(graphql_grammar::specs::device::Productions::argument, juniper_tokens::specs::Cursor::expect_name_at))]
 fn parse_argument<'a, S: ScalarValue>(
     parser: &mut Parser<'a>,
 ) -> Result<(Spanning<&'a str>, Spanning<InputValue<S>>), ParseFailure>
@@ -24,7 +24,7 @@ fn parse_argument<'a, S: ScalarValue>(
     ensures shorter { OnOk result (length parser.new < length parser.old) }
 {
     let name = parser.expect_name()?;
-    parser.expect(&Token::Colon)?;
+    expect_kind(parser, Kind::Colon)?;
     let value = parse_value(parser, false)?;
     Ok((name, value))
 }
@@ -43,19 +43,19 @@ fn parse_argument_list<'a, S: ScalarValue>(
             parse_argument(parser)?,
             next_is(parser, Kind::ParenClose),
         )?;
-        if let Some(closing) = parser.skip(&Token::ParenClose)? {
-            return Ok(Spanning::new(closing.span, items));
+        if let Some(closing) = take_closing(parser, Kind::ParenClose) {
+            return Ok(Spanning::new(closing, items));
         }
     }
 }
 
 /// `Arguments = "(" (Name ":" Value(free))+ ")"`
-#[tactic(auto, unfolding(graphql_grammar::specs::device::Productions::arguments, juniper_tokens::specs::Cursor::expect_at))]
+#[tactic(auto, unfolding(graphql_grammar::specs::device::Productions::arguments))]
 fn parse_arguments<'a, S: ScalarValue>(parser: &mut Parser<'a>) -> ParseResult<Arguments<'a, S>>
     ensures gives { Gives (view_arguments S.content) result parser.new (cursor (stated S.reading S.of_bool) arguments parser.old) }
     ensures shorter { OnOk result (length parser.new < length parser.old) }
 {
-    let opening = parser.expect(&Token::ParenOpen)?.span;
+    let opening = expect_kind(parser, Kind::ParenOpen)?;
     let list = parse_argument_list(parser)?;
     let end = list.span.end;
     Ok(Spanning::start_end(&opening.start, &end, Arguments { items: list.item }))
@@ -77,12 +77,12 @@ pub(crate) fn parse_optional_arguments<'a, S: ScalarValue>(
 }
 
 /// `Directive = "@" Name Arguments?`
-#[tactic(auto, unfolding(graphql_grammar::specs::device::Productions::directive, juniper_tokens::specs::Cursor::expect_at, juniper_tokens::specs::Cursor::expect_name_at))]
+#[tactic(auto, unfolding(graphql_grammar::specs::device::Productions::directive, juniper_tokens::specs::Cursor::expect_name_at))]
 fn parse_directive<'a, S: ScalarValue>(parser: &mut Parser<'a>) -> ParseResult<Directive<'a, S>>
     ensures gives { Gives (view_directive S.content) result parser.new (cursor (stated S.reading S.of_bool) directive parser.old) }
     ensures shorter { OnOk result (length parser.new < length parser.old) }
 {
-    let start = parser.expect(&Token::At)?.span.start;
+    let start = expect_kind(parser, Kind::At)?.start;
     let name = parser.expect_name()?;
     let arguments = parse_optional_arguments(parser)?;
     let span = up_to(

@@ -1,11 +1,15 @@
 //! The next token.
-ghost use Rattle.std.specs.Prelude.{◌≡◌, bytes_eq, OnOk};
+ghost use Rattle.std.specs.Prelude.{◌≡◌, ◌<◌, ◌≤◌, length, drop, false, option_map, bytes_eq, Ok, OnOk, IfSome};
 ghost use Rattle.std.specs.Str.{chars};
 ghost use Rattle.graphql_lexical.specs.Kinds.{same_kind};
-ghost use Rattle.juniper_tokens.specs.Cursor.{EndsOnce, Gives, first_of, kind_at, refused_at};
+ghost use Rattle.graphql_lexical.specs.declared.kind.Kind.TheVariants.{EndOfFile};
+ghost use Rattle.juniper_tokens.specs.Cursor.{EndsOnce, Gives, first_of, kind_at, next_at, next_if, refused_at};
 ghost use Rattle.graphql_grammar.specs.device.Reading.{passes, word};
+ghost use Rattle.juniper_tokens.specs.Delimited.{IsRest};
+ghost use Rattle.juniper_tokens.specs.Spans.{view_span};
+ghost use Rattle.juniper.specs.device.Steps.{closing_at, GivesPlace};
 
-use juniper_tokens::{Kind, ParseError, ParseFailure, Parser, Spanning, Token};
+use juniper_tokens::{Kind, ParseError, ParseFailure, Parser, Span, Spanning, Token};
 
 /// Whether the next token, which is left there, is of this kind.
 pub(crate) fn next_is(parser: &Parser<'_>, kind: Kind) -> bool
@@ -26,10 +30,64 @@ pub(crate) fn next_is_word(parser: &Parser<'_>, text: &str) -> bool
     }
 }
 
+/// Takes the next token, which must not be the end, and answers where it stood.
+#[tactic(auto, using(crate::proofs::Cursors::next_is_first, juniper_tokens::proofs::Rests::one_taken))]
+#[inline(always)]
+pub(crate) fn take_next(parser: &mut Parser<'_>) -> Span
+    requires { same_kind (kind_at parser.old) EndOfFile ≡ false }
+    ensures place { view_span result ≡ (first_of parser.old).span }
+    ensures takes { next_at parser.old ≡ Ok (first_of parser.old, parser.new) }
+    ensures left { parser.new ≡ drop 1 parser.old }
+    ensures ended { EndsOnce parser.old }
+    ensures shorter { length parser.new < length parser.old }
+    ensures rest { IsRest parser.old parser.new }
+{
+    let place = parser.peek().span;
+    parser.advance();
+    place
+}
+
+/// Takes the next token where it is of this kind, and answers where it stood.
+#[tactic(auto, using(crate::proofs::Cursors::closing_is_no_end, juniper_tokens::proofs::Rests::none_taken))]
+#[inline(always)]
+pub(crate) fn take_closing(parser: &mut Parser<'_>, closing: Kind) -> Option<Span>
+    requires { same_kind closing EndOfFile ≡ false }
+    ensures takes { (option_map view_span result, parser.new) ≡ closing_at closing parser.old }
+    ensures ended { EndsOnce parser.old }
+    ensures shorter { IfSome result (λ place. length parser.new < length parser.old) }
+    ensures not_longer { length parser.new ≤ length parser.old }
+    ensures rest { IsRest parser.old parser.new }
+{
+    if next_is(parser, closing) {
+        Some(take_next(parser))
+    } else {
+        None
+    }
+}
+
+/// Takes the next token, which has to be of this kind, and answers where it stood.
+///
+/// Another one is taken too, and told as unexpected. At the end nothing is taken.
+#[tactic(auto, using(crate::proofs::Cursors::closing_is_no_end))]
+#[inline(always)]
+pub(crate) fn expect_kind(parser: &mut Parser<'_>, kind: Kind) -> Result<Span, ParseFailure>
+    requires { same_kind kind EndOfFile ≡ false }
+    ensures gives { GivesPlace result parser.old parser.new (next_if (same_kind (kind_at parser.old) kind) parser.old) }
+    ensures shorter { OnOk result (length parser.new < length parser.old) }
+    ensures rest { IsRest parser.old parser.new }
+{
+    if next_is(parser, kind) {
+        Ok(take_next(parser))
+    } else {
+        refuse(parser)
+    }
+}
+
 /// Takes the next token, and tells that it is unexpected. At the end nothing is taken.
 pub(crate) fn refuse<T: Drop>(parser: &mut Parser<'_>) -> Result<T, ParseFailure>
     ensures gives { Gives (λ x. x) result parser.new (refused_at parser.old) }
     ensures never { OnOk result ⊥ }
+    ensures rest { IsRest parser.old parser.new }
 {
     let token = parser.next_token()?;
     let error = ParseError::unexpected_token(parser.allocator(), token.item)?;

@@ -10,25 +10,25 @@ ghost use Rattle.juniper.specs.device.PartViews.{view_list, view_names, view_spa
 
 use crate::parser::directives::{parse_directives, parse_optional_arguments};
 use crate::parser::lists::push_item;
-use crate::parser::next::{next_is, next_is_word};
+use crate::parser::next::{expect_kind, next_is, next_is_word, take_closing, take_next};
 use crate::parser::spans::{from_part, item_of, span_of, up_to};
 use crate::tree::ast::{Directive, Field, FragmentSpread, InlineFragment, Selection};
 use juniper_tokens::{
-    Kind, OptionParseResult, ParseFailure, ParseResult, Parser, Span, Spanning, Token,
+    Kind, OptionParseResult, ParseFailure, ParseResult, Parser, Span, Spanning,
     UnlocatedParseResult,
 };
 use juniper_values::ScalarValue;
 
 /// `SelectionSet = "{" Selection+ "}"`
 #[cycle(selection)]
-#[tactic(auto, unfolding(graphql_grammar::specs::device::Productions::selection_set, juniper_tokens::specs::Cursor::expect_at))]
+#[tactic(auto, unfolding(graphql_grammar::specs::device::Productions::selection_set))]
 pub(crate) fn parse_selection_set<'a, S: ScalarValue>(
     parser: &mut Parser<'a>,
 ) -> ParseResult<Vec<Selection<'a, S>>>
     ensures gives { Gives (view_spanned_set S.content) result parser.new (cursor (stated S.reading S.of_bool) selection_set parser.old) }
     ensures shorter { OnOk result (length parser.new < length parser.old) }
 {
-    let opening = parser.expect(&Token::CurlyOpen)?.span;
+    let opening = expect_kind(parser, Kind::CurlyOpen)?;
     let list = parse_selection_list(parser)?;
     let end = list.span.end;
     Ok(Spanning::start_end(&opening.start, &end, list.item))
@@ -49,8 +49,8 @@ fn parse_selection_list<'a, S: ScalarValue>(
             parse_selection(parser)?,
             next_is(parser, Kind::CurlyClose),
         )?;
-        if let Some(closing) = parser.skip(&Token::CurlyClose)? {
-            return Ok(Spanning::new(closing.span, items));
+        if let Some(closing) = take_closing(parser, Kind::CurlyClose) {
+            return Ok(Spanning::new(closing, items));
         }
     }
 }
@@ -125,7 +125,7 @@ fn parse_names<'a>(
 {
     let first = parser.expect_name()?;
     if next_is(parser, Kind::Colon) {
-        parser.next_token()?;
+        take_next(parser);
         let name = parser.expect_name()?;
         Ok((Some(first), name))
     } else {
@@ -135,14 +135,14 @@ fn parse_names<'a>(
 
 /// `"..." FragmentName Directive* | "..." ("on" Name)? Directive* SelectionSet`
 #[cycle(selection)]
-#[tactic(auto, using(crate::proofs::Names::on_is, crate::proofs::CursorFits::other_is_name), unfolding(graphql_grammar::specs::device::Productions::spread, juniper_tokens::specs::Cursor::expect_at, juniper_tokens::specs::Cursor::expect_name_at))]
+#[tactic(auto, using(crate::proofs::Names::on_is, crate::proofs::CursorFits::other_is_name), unfolding(graphql_grammar::specs::device::Productions::spread, juniper_tokens::specs::Cursor::expect_name_at))]
 fn parse_spread<'a, S: ScalarValue>(
     parser: &mut Parser<'a>,
 ) -> UnlocatedParseResult<Selection<'a, S>>
     ensures gives { Gives (view_selection S.content) result parser.new (cursor (stated S.reading S.of_bool) spread parser.old) }
     ensures shorter { OnOk result (length parser.new < length parser.old) }
 {
-    let dots = parser.expect(&Token::Ellipsis)?.span;
+    let dots = expect_kind(parser, Kind::Ellipsis)?;
     if next_is_word(parser, "on") {
         parser.next_token()?;
         parse_typed_fragment(parser, dots)

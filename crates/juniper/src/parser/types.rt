@@ -7,8 +7,8 @@ ghost use Rattle.juniper.specs.Promise.{AnswersType};
 ghost use Rattle.juniper.specs.View.{view_spanned_type};
 ghost use Rattle.juniper.specs.device.Steps.{no_scalars, cursor, type_read};
 
-use crate::parser::next::next_is;
-use juniper_tokens::{Kind, ParseFailure, ParseResult, Parser, Spanning, Token};
+use crate::parser::next::{expect_kind, next_is, take_next};
+use juniper_tokens::{Kind, ParseFailure, ParseResult, Parser, Spanning};
 use juniper_values::Type;
 
 /// Takes the type that stands next (GraphQL specification, October 2021, section 2.11).
@@ -64,15 +64,15 @@ fn parse_named_type<'a>(parser: &mut Parser<'a>) -> ParseResult<Type<&'a str>>
 
 /// `"[" Type "]"`
 #[cycle(types)]
-#[tactic(auto, using(crate::proofs::Wrapping::wrapped_list), unfolding(graphql_grammar::specs::device::Productions::list_type, juniper_tokens::specs::Cursor::expect_at))]
+#[tactic(auto, using(crate::proofs::Wrapping::wrapped_list), unfolding(graphql_grammar::specs::device::Productions::list_type))]
 fn parse_list_type<'a>(parser: &mut Parser<'a>) -> ParseResult<Type<&'a str>>
     ensures gives { Gives view_spanned_type result parser.new (cursor no_scalars list_type parser.old) }
     ensures shorter { OnOk result (length parser.new < length parser.old) }
     ensures rest { IsRest parser.old parser.new }
 {
-    let opening = parser.expect(&Token::BracketOpen)?.span;
+    let opening = expect_kind(parser, Kind::BracketOpen)?;
     let inner = parse_any_type(parser)?;
-    let closing = parser.expect(&Token::BracketClose)?.span;
+    let closing = expect_kind(parser, Kind::BracketClose)?;
     match inner.item.wrap_list(parser.allocator(), None) {
         Ok(list) => Ok(Spanning::start_end(&opening.start, &closing.end, list)),
         Err(_) => Err(ParseFailure::Memory),
@@ -93,7 +93,7 @@ fn parse_non_null<'a>(
         return Ok(inner);
     }
     let start = inner.span.start;
-    let mark = parser.next_token()?.span;
+    let mark = take_next(parser);
     match inner.item.wrap_non_null(parser.allocator()) {
         Ok(of_type) => Ok(Spanning::start_end(&start, &mark.end, of_type)),
         Err(_) => Err(ParseFailure::Memory),

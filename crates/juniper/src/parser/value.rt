@@ -17,7 +17,7 @@ ghost use Rattle.juniper.specs.Scalars.{stated};
 ghost use Rattle.juniper_values.specs.Scalar.{MeetsReading};
 
 use crate::parser::lists::push_item;
-use crate::parser::next::{next_is, same_text};
+use crate::parser::next::{expect_kind, next_is, same_text, take_closing, take_next};
 use juniper_tokens::{Kind, ParseError, ParseFailure, ParseResult, Parser, Span, Spanning, Token};
 use juniper_values::{InputValue, ReadFailure, ScalarValue};
 use std::alloc::{AllocError, Global};
@@ -52,15 +52,15 @@ pub(crate) fn parse_value<'a, S: ScalarValue>(
 {
     match parser.kind() {
         Kind::BracketOpen => {
-            let opening = parser.next_token()?.span;
+            let opening = take_next(parser);
             parse_list(parser, is_const, opening)
         }
         Kind::CurlyOpen => {
-            let opening = parser.next_token()?.span;
+            let opening = take_next(parser);
             parse_object(parser, is_const, opening)
         }
         Kind::Dollar if !is_const => {
-            let dollar = parser.next_token()?.span;
+            let dollar = take_next(parser);
             parse_variable(parser, dollar)
         }
         Kind::Name => {
@@ -115,8 +115,8 @@ fn parse_items<'a, S: ScalarValue>(
 {
     let mut items = Vec::new(parser.allocator());
     loop {
-        if let Some(closing) = parser.skip(&Token::BracketClose)? {
-            return Ok(Spanning::new(closing.span, items));
+        if let Some(closing) = take_closing(parser, Kind::BracketClose) {
+            return Ok(Spanning::new(closing, items));
         }
         push_item(
             &mut items,
@@ -155,8 +155,8 @@ fn parse_fields<'a, S: ScalarValue>(
 {
     let mut fields = Vec::new(parser.allocator());
     loop {
-        if let Some(closing) = parser.skip(&Token::CurlyClose)? {
-            return Ok(Spanning::new(closing.span, fields));
+        if let Some(closing) = take_closing(parser, Kind::CurlyClose) {
+            return Ok(Spanning::new(closing, fields));
         }
         push_item(
             &mut fields,
@@ -168,7 +168,7 @@ fn parse_fields<'a, S: ScalarValue>(
 
 /// `Name ":" Value(c)`
 #[cycle(value)]
-#[tactic(auto, unfolding(graphql_grammar::specs::device::Productions::key_and_value, juniper_tokens::specs::Cursor::expect_at, juniper_tokens::specs::Cursor::expect_name_at))]
+#[tactic(auto, unfolding(graphql_grammar::specs::device::Productions::key_and_value, juniper_tokens::specs::Cursor::expect_name_at))]
 fn parse_object_field<'a, S: ScalarValue>(
     parser: &mut Parser<'a>,
     is_const: bool,
@@ -178,7 +178,7 @@ fn parse_object_field<'a, S: ScalarValue>(
     ensures rest { IsRest parser.old parser.new }
 {
     let key = parser.expect_name()?;
-    parser.expect(&Token::Colon)?;
+    expect_kind(parser, Kind::Colon)?;
     let value = parse_value(parser, is_const)?;
     let text = String::from_str(parser.allocator(), key.item)?;
     Ok((Spanning::new(key.span, text), value))

@@ -9,22 +9,22 @@ ghost use Rattle.juniper.specs.device.Steps.{cursor};
 
 use crate::parser::directives::parse_directives;
 use crate::parser::lists::push_item;
-use crate::parser::next::next_is;
+use crate::parser::next::{expect_kind, next_is, take_closing};
 use crate::parser::spans::item_of;
 use crate::parser::types::parse_any_type;
 use crate::parser::value::parse_value;
 use crate::tree::ast::{VariableDefinition, VariableDefinitions};
-use juniper_tokens::{Kind, OptionParseResult, ParseFailure, ParseResult, Parser, Spanning, Token};
+use juniper_tokens::{Kind, OptionParseResult, ParseFailure, ParseResult, Parser, Spanning};
 use juniper_values::{InputValue, ScalarValue};
 
 /// `("=" Value(const))?`
-#[tactic(auto, unfolding(graphql_grammar::specs::device::Productions::default, juniper_tokens::specs::Cursor::expect_at))]
+#[tactic(auto, unfolding(graphql_grammar::specs::device::Productions::default))]
 fn parse_default<'a, S: ScalarValue>(parser: &mut Parser<'a>) -> OptionParseResult<InputValue<S>>
     ensures gives { Gives (option_map (view_value S.content)) result parser.new (cursor (stated S.reading S.of_bool) default parser.old) }
     ensures not_longer { OnOk result (length parser.new ≤ length parser.old) }
 {
     if next_is(parser, Kind::Equals) {
-        parser.expect(&Token::Equals)?;
+        expect_kind(parser, Kind::Equals)?;
         Ok(Some(parse_value(parser, true)?))
     } else {
         Ok(None)
@@ -32,16 +32,16 @@ fn parse_default<'a, S: ScalarValue>(parser: &mut Parser<'a>) -> OptionParseResu
 }
 
 /// `"$" Name ":" Type ("=" Value(const))? Directive*`
-#[tactic(auto, using(crate::proofs::PartViews::without_span), unfolding(graphql_grammar::specs::device::Productions::variable_definition, juniper_tokens::specs::Cursor::expect_at, juniper_tokens::specs::Cursor::expect_name_at))]
+#[tactic(auto, using(crate::proofs::PartViews::without_span), unfolding(graphql_grammar::specs::device::Productions::variable_definition, juniper_tokens::specs::Cursor::expect_name_at))]
 fn parse_variable_definition<'a, S: ScalarValue>(
     parser: &mut Parser<'a>,
 ) -> Result<(Spanning<&'a str>, VariableDefinition<'a, S>), ParseFailure>
     ensures gives { Gives (view_variable S.content) result parser.new (cursor (stated S.reading S.of_bool) variable_definition parser.old) }
     ensures shorter { OnOk result (length parser.new < length parser.old) }
 {
-    let start = parser.expect(&Token::Dollar)?.span.start;
+    let start = expect_kind(parser, Kind::Dollar)?.start;
     let name = parser.expect_name()?;
-    parser.expect(&Token::Colon)?;
+    expect_kind(parser, Kind::Colon)?;
     let var_type = parse_any_type(parser)?;
     let default_value = parse_default(parser)?;
     let directives = item_of(parse_directives(parser)?);
@@ -70,21 +70,21 @@ fn parse_variable_list<'a, S: ScalarValue>(
             parse_variable_definition(parser)?,
             next_is(parser, Kind::ParenClose),
         )?;
-        if let Some(closing) = parser.skip(&Token::ParenClose)? {
-            return Ok(Spanning::new(closing.span, items));
+        if let Some(closing) = take_closing(parser, Kind::ParenClose) {
+            return Ok(Spanning::new(closing, items));
         }
     }
 }
 
 /// `Variables = "(" ("$" Name ":" Type ("=" Value(const))? Directive*)+ ")"`
-#[tactic(auto, unfolding(graphql_grammar::specs::device::Productions::variables, juniper_tokens::specs::Cursor::expect_at))]
+#[tactic(auto, unfolding(graphql_grammar::specs::device::Productions::variables))]
 fn parse_variables<'a, S: ScalarValue>(
     parser: &mut Parser<'a>,
 ) -> ParseResult<VariableDefinitions<'a, S>>
     ensures gives { Gives (view_variables S.content) result parser.new (cursor (stated S.reading S.of_bool) variables parser.old) }
     ensures shorter { OnOk result (length parser.new < length parser.old) }
 {
-    let opening = parser.expect(&Token::ParenOpen)?.span;
+    let opening = expect_kind(parser, Kind::ParenOpen)?;
     let list = parse_variable_list(parser)?;
     let end = list.span.end;
     Ok(Spanning::start_end(

@@ -1,7 +1,7 @@
 use Rattle.std.proofs.Common.{rules, refl, ◌∙◌}
 use Rattle.std.proofs.lemmas.Result.{err_from_is_err_and}
 use Rattle.std.proofs.lemmas.List.{map-append}
-use Rattle.juniper.proofs.Loops.{some_go_on, some_end, some_item_fails, some_close_fails}
+use Rattle.juniper.proofs.Loops.{some_go_on, some_end, some_item_fails}
 use Rattle.juniper.proofs.Readings.{arguments_repeat}
 use Rattle.juniper.proofs.parser.directives.parse_argument_list.Goals as goal
 
@@ -11,22 +11,16 @@ returns-in_err-parse_argument-clause-gives g c =
     rw (p.1, p.2) (some_item_fails (arguments_repeat _) _ _ c.loop-items.invariant.so_far
     c.in_err-parse_argument.field-0.0 _ c.in_err-parse_argument.ensures.gives)
 
-pub returns-in_err-closing-clause-gives : goal.returns-in_err-closing-clause-gives
-returns-in_err-closing-clause-gives g c =
-    let p = err_from_is_err_and c.from_residual-in_err-closing.result c.from_residual-in_err-closing.ensures.1 in
-    rw (p.1, p.2) (some_close_fails (arguments_repeat _) _ _ c.loop-items.invariant.so_far c.in_err-closing.field-0.0 _
-    c.in_ok-parse_argument.ensures.gives c.in_err-closing.ensures.gives)
-
 pub returns-in-Some-clause-gives : goal.returns-in-Some-clause-gives
 returns-in-Some-clause-gives g c =
     some_end (arguments_repeat _) _ _ c.loop-items.invariant.so_far c.in_ok-parse_argument.ensures.gives
-    (rw c.in-Some.is at c.in_ok-closing.ensures.gives)
+    c.take_closing.ensures.ended (rw c.in-Some.is at c.take_closing.ensures.takes)
     ∙ rw (c.new.ensures, c.in_ok-push_item.ensures.items, map-append) refl
 
 pub loop-items-preserved : goal.loop-items-preserved
 loop-items-preserved g c = record {
   so_far = rw (c.in_ok-push_item.ensures.items, map-append)
       (some_go_on (arguments_repeat _) _ _ c.loop-items.invariant.so_far c.in_ok-parse_argument.ensures.gives
-      (rw c.in_default.is at c.in_ok-closing.ensures.gives));
+      c.take_closing.ensures.ended (rw c.in_default.is at c.take_closing.ensures.takes));
   not_longer = search rules;
 }

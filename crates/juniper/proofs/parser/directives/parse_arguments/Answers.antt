@@ -1,8 +1,9 @@
 use Rattle.std.proofs.Common.{refl}
 use Rattle.graphql_grammar.specs.device.Productions.{arguments}
-use Rattle.juniper_tokens.specs.Cursor.{expect_at}
 use Rattle.juniper.proofs.parser.directives.parse_arguments.Goals as goal
 
 pub returns-clause-gives : goal.returns-clause-gives
-unfolding arguments expect_at
-returns-clause-gives g c = rw (c.in_ok-opening.ensures.gives, c.in_ok-list.ensures.gives, c.start_end.ensures) refl
+unfolding arguments
+returns-clause-gives g c =
+    let opened = c.in_ok-opening.ensures.gives in
+    rw (opened.0, ← opened.1, c.in_ok-list.ensures.gives, c.start_end.ensures) refl

@@ -1,74 +1,62 @@
-use Rattle.std.proofs.Common.{rules, arith, refl, ap, sym, Ok, ◌∙◌}
+use Rattle.std.proofs.Common.{rules, refl, ap, sym, Ok, ◌∙◌}
 use Rattle.std.proofs.lemmas.Result.{err_from_is_err_and}
 use Rattle.std.proofs.lemmas.List.{map-append}
 use Rattle.graphql_grammar.specs.Tokens.{from_to}
-use Rattle.juniper_tokens.specs.declared.token.Token.TheVariants as token
-use Rattle.juniper_tokens.specs.Tokens.{view_token}
 use Rattle.juniper_tokens.specs.Spans.{view_span}
 use Rattle.juniper_values.specs.Scalar.{Content}
 use Rattle.graphql_grammar.specs.Tree.{Value}
 use Rattle.graphql_grammar.specs.device.Productions.{list, object}
-use Rattle.juniper.proofs.Cursors.{skip_shorter}
-use Rattle.juniper.proofs.Loops.{goes_on, ends, close_fails, item_fails}
+use Rattle.juniper.proofs.Loops.{goes_on, ends, item_fails}
 use Rattle.juniper_tokens.proofs.Rests.{further}
 use Rattle.juniper.proofs.Readings.{values_repeat, fields_repeat}
 use Rattle.juniper.proofs.ValueViews.{view_of_list, view_of_object}
 use Rattle.juniper.proofs.parser.value.+value.Goals as goal
 
-pub parse_items-returns-in_err-closing-clause-gives : goal.parse_items-returns-in_err-closing-clause-gives
-parse_items-returns-in_err-closing-clause-gives g t c =
-    let p = err_from_is_err_and c.from_residual.result c.from_residual.ensures.1 in
-    rw (p.1, p.2) (close_fails (values_repeat _ _) _ _ c.loop-items.invariant.so_far c.in_err-closing.field-0.0 _
-    c.in_err-closing.ensures.gives)
-
 pub parse_items-returns-in-Some-clause-gives : goal.parse_items-returns-in-Some-clause-gives
 parse_items-returns-in-Some-clause-gives g t c =
-    ends (values_repeat _ _) _ _ c.loop-items.invariant.so_far (rw c.in-Some.is at c.in_ok-closing.ensures.gives)
+    ends (values_repeat _ _) _ _ c.take_closing.ensures.ended c.loop-closing.invariant.so_far
+    (rw c.in-Some.is at c.take_closing.ensures.takes)
     ∙ rw c.new.ensures refl
 
 pub parse_items-returns-in_err-parse_value-clause-gives : goal.parse_items-returns-in_err-parse_value-clause-gives
 parse_items-returns-in_err-parse_value-clause-gives g t c =
-    let r = c.from_residual-in_err-parse_value in let p = err_from_is_err_and r.result r.ensures.1 in
-    rw (p.1, p.2) (item_fails (values_repeat _ _) _ _ c.loop-items.invariant.so_far c.in_err-parse_value.field-0.0 _
-    (rw c.in_default.is at c.in_ok-closing.ensures.gives) c.in_err-parse_value.ensures.gives)
-
-pub parse_items-loop-items-preserved : goal.parse_items-loop-items-preserved
-parse_items-loop-items-preserved g t c = record {
-  so_far = rw (c.in_ok-push_item.ensures.items, map-append)
-      (goes_on (values_repeat _ _) _ _ c.loop-items.invariant.so_far
-      (rw c.in_default.is at c.in_ok-closing.ensures.gives) c.in_ok-parse_value.ensures.gives);
-  not_longer = search rules;
-  rest = further _ _ _ c.loop-items.invariant.rest
-      (further _ _ _ c.in_ok-closing.ensures.rest c.in_ok-parse_value.ensures.rest);
-}
-
-pub parse_fields-returns-in_err-closing-clause-gives : goal.parse_fields-returns-in_err-closing-clause-gives
-parse_fields-returns-in_err-closing-clause-gives g t c =
     let p = err_from_is_err_and c.from_residual.result c.from_residual.ensures.1 in
-    rw (p.1, p.2) (close_fails (fields_repeat _ _) _ _ c.loop-fields.invariant.so_far c.in_err-closing.field-0.0 _
-    c.in_err-closing.ensures.gives)
+    rw (p.1, p.2) (item_fails (values_repeat _ _) _ _ c.take_closing.ensures.ended
+    c.loop-closing.invariant.so_far c.in_err-parse_value.field-0.0 _
+    (rw c.in_default.is at c.take_closing.ensures.takes) c.in_err-parse_value.ensures.gives)
+
+pub parse_items-loop-closing-preserved : goal.parse_items-loop-closing-preserved
+parse_items-loop-closing-preserved g t c = record {
+  so_far = rw (c.in_ok-push_item.ensures.items, map-append)
+      (goes_on (values_repeat _ _) _ _ c.take_closing.ensures.ended c.loop-closing.invariant.so_far
+      (rw c.in_default.is at c.take_closing.ensures.takes) c.in_ok-parse_value.ensures.gives);
+  not_longer = search rules;
+  rest = further _ _ _ c.loop-closing.invariant.rest
+      (further _ _ _ c.take_closing.ensures.rest c.in_ok-parse_value.ensures.rest);
+}
 
 pub parse_fields-returns-in-Some-clause-gives : goal.parse_fields-returns-in-Some-clause-gives
 parse_fields-returns-in-Some-clause-gives g t c =
-    ends (fields_repeat _ _) _ _ c.loop-fields.invariant.so_far (rw c.in-Some.is at c.in_ok-closing.ensures.gives)
+    ends (fields_repeat _ _) _ _ c.take_closing.ensures.ended c.loop-closing.invariant.so_far
+    (rw c.in-Some.is at c.take_closing.ensures.takes)
     ∙ rw c.new.ensures refl
 
 pub parse_fields-returns-in_err-parse_object_field-clause-gives :
     goal.parse_fields-returns-in_err-parse_object_field-clause-gives
 parse_fields-returns-in_err-parse_object_field-clause-gives g t c =
-    let r = c.from_residual-in_err-parse_object_field in let p = err_from_is_err_and r.result r.ensures.1 in
-    rw (p.1, p.2) (item_fails (fields_repeat _ _) _ _ c.loop-fields.invariant.so_far
-    c.in_err-parse_object_field.field-0.0 _ (rw c.in_default.is at c.in_ok-closing.ensures.gives)
+    let p = err_from_is_err_and c.from_residual.result c.from_residual.ensures.1 in
+    rw (p.1, p.2) (item_fails (fields_repeat _ _) _ _ c.take_closing.ensures.ended c.loop-closing.invariant.so_far
+    c.in_err-parse_object_field.field-0.0 _ (rw c.in_default.is at c.take_closing.ensures.takes)
     c.in_err-parse_object_field.ensures.gives)
 
-pub parse_fields-loop-fields-preserved : goal.parse_fields-loop-fields-preserved
-parse_fields-loop-fields-preserved g t c = record {
+pub parse_fields-loop-closing-preserved : goal.parse_fields-loop-closing-preserved
+parse_fields-loop-closing-preserved g t c = record {
   so_far = rw (c.in_ok-push_item.ensures.items, map-append)
-      (goes_on (fields_repeat _ _) _ _ c.loop-fields.invariant.so_far
-      (rw c.in_default.is at c.in_ok-closing.ensures.gives) c.in_ok-parse_object_field.ensures.gives);
+      (goes_on (fields_repeat _ _) _ _ c.take_closing.ensures.ended c.loop-closing.invariant.so_far
+      (rw c.in_default.is at c.take_closing.ensures.takes) c.in_ok-parse_object_field.ensures.gives);
   not_longer = search rules;
-  rest = further _ _ _ c.loop-fields.invariant.rest
-      (further _ _ _ c.in_ok-closing.ensures.rest c.in_ok-parse_object_field.ensures.rest);
+  rest = further _ _ _ c.loop-closing.invariant.rest
+      (further _ _ _ c.take_closing.ensures.rest c.in_ok-parse_object_field.ensures.rest);
 }
 
 pub parse_list-returns-clause-gives : goal.parse_list-returns-clause-gives
@@ -87,71 +75,46 @@ parse_object-returns-clause-gives g t c =
     (sym (view_of_object g.S.ParseScalarValue.content c.in_ok-fields.fields.item
     (from_to (view_span c.args.opening) (view_span c.in_ok-fields.fields.span)))))
 
-pub parse_items-returns-in_err-closing-clause-rest : goal.parse_items-returns-in_err-closing-clause-rest
-parse_items-returns-in_err-closing-clause-rest g t c =
-    further _ _ _ c.loop-items.invariant.rest c.in_err-closing.ensures.rest
-
 pub parse_items-returns-in-Some-clause-rest : goal.parse_items-returns-in-Some-clause-rest
-parse_items-returns-in-Some-clause-rest g t c = further _ _ _ c.loop-items.invariant.rest c.in_ok-closing.ensures.rest
+parse_items-returns-in-Some-clause-rest g t c = further _ _ _ c.loop-closing.invariant.rest c.take_closing.ensures.rest
 
 pub parse_items-returns-in_err-parse_value-clause-rest : goal.parse_items-returns-in_err-parse_value-clause-rest
 parse_items-returns-in_err-parse_value-clause-rest g t c =
-    further _ _ _ c.loop-items.invariant.rest
-    (further _ _ _ c.in_ok-closing.ensures.rest c.in_err-parse_value.ensures.rest)
+    further _ _ _ c.loop-closing.invariant.rest
+    (further _ _ _ c.take_closing.ensures.rest c.in_err-parse_value.ensures.rest)
 
 pub parse_items-returns-in_err-push_item-clause-rest : goal.parse_items-returns-in_err-push_item-clause-rest
 parse_items-returns-in_err-push_item-clause-rest g t c =
-    further _ _ _ c.loop-items.invariant.rest
-    (further _ _ _ c.in_ok-closing.ensures.rest c.in_ok-parse_value.ensures.rest)
-
-pub parse_fields-returns-in_err-closing-clause-rest : goal.parse_fields-returns-in_err-closing-clause-rest
-parse_fields-returns-in_err-closing-clause-rest g t c =
-    further _ _ _ c.loop-fields.invariant.rest c.in_err-closing.ensures.rest
+    further _ _ _ c.loop-closing.invariant.rest
+    (further _ _ _ c.take_closing.ensures.rest c.in_ok-parse_value.ensures.rest)
 
 pub parse_fields-returns-in-Some-clause-rest : goal.parse_fields-returns-in-Some-clause-rest
-parse_fields-returns-in-Some-clause-rest g t c = further _ _ _ c.loop-fields.invariant.rest c.in_ok-closing.ensures.rest
+parse_fields-returns-in-Some-clause-rest g t c = further _ _ _ c.loop-closing.invariant.rest c.take_closing.ensures.rest
 
 pub parse_fields-returns-in_err-parse_object_field-clause-rest :
     goal.parse_fields-returns-in_err-parse_object_field-clause-rest
 parse_fields-returns-in_err-parse_object_field-clause-rest g t c =
-    further _ _ _ c.loop-fields.invariant.rest
-    (further _ _ _ c.in_ok-closing.ensures.rest c.in_err-parse_object_field.ensures.rest)
+    further _ _ _ c.loop-closing.invariant.rest
+    (further _ _ _ c.take_closing.ensures.rest c.in_err-parse_object_field.ensures.rest)
 
 pub parse_fields-returns-in_err-push_item-clause-rest : goal.parse_fields-returns-in_err-push_item-clause-rest
 parse_fields-returns-in_err-push_item-clause-rest g t c =
-    further _ _ _ c.loop-fields.invariant.rest
-    (further _ _ _ c.in_ok-closing.ensures.rest c.in_ok-parse_object_field.ensures.rest)
+    further _ _ _ c.loop-closing.invariant.rest
+    (further _ _ _ c.take_closing.ensures.rest c.in_ok-parse_object_field.ensures.rest)
 
-pub parse_object_field-returns-in_err-expect-clause-rest : goal.parse_object_field-returns-in_err-expect-clause-rest
-parse_object_field-returns-in_err-expect-clause-rest g t c =
-    further _ _ _ c.in_ok-key.ensures.rest c.in_err-expect.ensures.rest
+pub parse_object_field-returns-in_err-expect_kind-clause-rest :
+    goal.parse_object_field-returns-in_err-expect_kind-clause-rest
+parse_object_field-returns-in_err-expect_kind-clause-rest g t c =
+    further _ _ _ c.in_ok-key.ensures.rest c.in_err-expect_kind.ensures.rest
 
 pub parse_object_field-returns-in_err-value-clause-rest : goal.parse_object_field-returns-in_err-value-clause-rest
 parse_object_field-returns-in_err-value-clause-rest g t c =
-    further _ _ _ c.in_ok-key.ensures.rest (further _ _ _ c.in_ok-expect.ensures.rest c.in_err-value.ensures.rest)
+    further _ _ _ c.in_ok-key.ensures.rest (further _ _ _ c.in_ok-expect_kind.ensures.rest c.in_err-value.ensures.rest)
 
 pub parse_object_field-returns-in_err-text-clause-rest : goal.parse_object_field-returns-in_err-text-clause-rest
 parse_object_field-returns-in_err-text-clause-rest g t c =
-    further _ _ _ c.in_ok-key.ensures.rest (further _ _ _ c.in_ok-expect.ensures.rest c.in_ok-value.ensures.rest)
+    further _ _ _ c.in_ok-key.ensures.rest (further _ _ _ c.in_ok-expect_kind.ensures.rest c.in_ok-value.ensures.rest)
 
 pub parse_object_field-returns-clause-rest : goal.parse_object_field-returns-clause-rest
 parse_object_field-returns-clause-rest g t c =
-    further _ _ _ c.in_ok-key.ensures.rest (further _ _ _ c.in_ok-expect.ensures.rest c.in_ok-value.ensures.rest)
-
-pub parse_items-returns-in-Some-clause-shorter : goal.parse_items-returns-in-Some-clause-shorter
-parse_items-returns-in-Some-clause-shorter g t c =
-    omega (
-      arith,
-      c.loop-items.invariant.not_longer,
-      skip_shorter token.BracketClose _ (view_token c.in-Some.closing) c.skip.new.self
-          (rw c.in-Some.is at c.in_ok-closing.ensures.gives),
-    )
-
-pub parse_fields-returns-in-Some-clause-shorter : goal.parse_fields-returns-in-Some-clause-shorter
-parse_fields-returns-in-Some-clause-shorter g t c =
-    omega (
-      arith,
-      c.loop-fields.invariant.not_longer,
-      skip_shorter token.CurlyClose _ (view_token c.in-Some.closing) c.skip.new.self
-          (rw c.in-Some.is at c.in_ok-closing.ensures.gives),
-    )
+    further _ _ _ c.in_ok-key.ensures.rest (further _ _ _ c.in_ok-expect_kind.ensures.rest c.in_ok-value.ensures.rest)

@@ -27,8 +27,8 @@ decreases-parse_items g l = 4 * length l.parser.now + 2
 abbrev pub decreases-parse_fields : goal.decreases-parse_fields
 decreases-parse_fields g l = 4 * length l.parser.now + 1
 
-abbrev pub invariant-parse_items-loop-items : goal.invariant-parse_items-loop-items
-invariant-parse_items-loop-items g l =
+abbrev pub invariant-parse_items-loop-closing : goal.invariant-parse_items-loop-closing
+invariant-parse_items-loop-closing g l =
     let S = stated g.S.ParseScalarValue.reading g.S.ScalarValue.of_bool in
     let read = closed_read S (of BracketClose) (symbol (a_value (not l.is_const))) in record {
       so_far : with_front (map (view_value g.S.ParseScalarValue.content) l.items.items)
@@ -37,11 +37,11 @@ invariant-parse_items-loop-items g l =
       rest : IsRest l.fn.parser l.parser;
     }
 
-abbrev pub decreases-parse_items-loop-items : goal.decreases-parse_items-loop-items
-decreases-parse_items-loop-items g l = length l.parser
+abbrev pub decreases-parse_items-loop-closing : goal.decreases-parse_items-loop-closing
+decreases-parse_items-loop-closing g l = length l.parser
 
-abbrev pub invariant-parse_fields-loop-fields : goal.invariant-parse_fields-loop-fields
-invariant-parse_fields-loop-fields g l =
+abbrev pub invariant-parse_fields-loop-closing : goal.invariant-parse_fields-loop-closing
+invariant-parse_fields-loop-closing g l =
     let S = stated g.S.ParseScalarValue.reading g.S.ScalarValue.of_bool in
     let read = closed_read S (of CurlyClose) (key_and_value (not l.is_const)) in record {
       so_far : with_front (map (view_object_field g.S.ParseScalarValue.content) l.fields.items)
@@ -50,5 +50,5 @@ invariant-parse_fields-loop-fields g l =
       rest : IsRest l.fn.parser l.parser;
     }
 
-abbrev pub decreases-parse_fields-loop-fields : goal.decreases-parse_fields-loop-fields
-decreases-parse_fields-loop-fields g l = length l.parser
+abbrev pub decreases-parse_fields-loop-closing : goal.decreases-parse_fields-loop-closing
+decreases-parse_fields-loop-closing g l = length l.parser
