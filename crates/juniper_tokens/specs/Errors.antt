@@ -1,5 +1,5 @@
 -- Errors of the code, as the definitions see them, and how they are shown.
-use Rattle.std.specs.Prelude.{ℕ, List, ◌++◌, codes, Result, Err}
+use Rattle.std.specs.Prelude.{ℕ, List, ◌++◌, ◌==◌, Bool, true, false, codes, Result, Err}
 use Rattle.std.specs.Str.{chars}
 use Rattle.std.specs.String.{string_bytes}
 use Rattle.graphql_lexical.specs.Place.{Span}
@@ -17,6 +17,7 @@ use Rattle.juniper_tokens.specs.declared.error.LexFailure.TheVariants as lexing
 use Rattle.juniper_tokens.specs.declared.error.ParseFailure.{ParseFailure}
 use Rattle.juniper_tokens.specs.declared.error.ParseFailure.TheVariants as parsing
 use Rattle.juniper_tokens.specs.Spans.{view_span}
+use Rattle.juniper_tokens.specs.Tokens.{same_text}
 
 -- why a text is refused
 pub data Error : Type 0 where
@@ -51,6 +52,25 @@ view_error (parse.ExpectedScalarError t) = ExpectedScalar (chars t.now)
 
 abbrev pub view_fault : Spanning ParseError → Fault
 view_fault s = record { error = view_error s.item; span = view_span s.span }
+
+-- of the same kind, with the same character or text
+abbrev pub same_lexical_error : LexicalError → LexicalError → Bool
+same_lexical_error (kinds.UnknownCharacter c) (kinds.UnknownCharacter d) = c == d
+same_lexical_error (kinds.UnexpectedCharacter c) (kinds.UnexpectedCharacter d) = c == d
+same_lexical_error kinds.UnterminatedString kinds.UnterminatedString = true
+same_lexical_error (kinds.UnknownCharacterInString c) (kinds.UnknownCharacterInString d) = c == d
+same_lexical_error (kinds.UnknownEscapeSequence s) (kinds.UnknownEscapeSequence t) = same_text s t
+same_lexical_error kinds.UnexpectedEndOfFile kinds.UnexpectedEndOfFile = true
+same_lexical_error kinds.InvalidNumber kinds.InvalidNumber = true
+same_lexical_error d e = false
+
+-- of the same kind, with the same text or lexical error
+abbrev pub same_error : Error → Error → Bool
+same_error (UnexpectedToken s) (UnexpectedToken t) = same_text s t
+same_error UnexpectedEndOfFile UnexpectedEndOfFile = true
+same_error (Lexical d) (Lexical e) = same_lexical_error d e
+same_error (ExpectedScalar s) (ExpectedScalar t) = same_text s t
+same_error d e = false
 
 -- A text that is refused for a lexical fault is refused at the fault's place.
 abbrev pub failure_of : LexFailure → ParseFailure

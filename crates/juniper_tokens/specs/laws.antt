@@ -1,2 +1,3 @@
 pub mod PositionOrder
 pub mod TokenLaws
+pub mod ErrorLaws

@@ -15,7 +15,8 @@ impl<'a> Parser<'a> {
     /// The items between an opening and a closing token, each read by a call of `f`. There may be none.
     ///
     /// The span goes from the opening to the closing token. The first refusal of a token or of an item is the
-    /// answer, and the cursor then stands where it left it. Where the list can't grow the item was taken.
+    /// answer, and the cursor then stands where it left it. Where memory ran out a rest of the tokens is left; where the
+    /// list can't grow the item was taken.
     pub fn delimited_list<
         T: Drop,
         R: Drop + From<ParseFailure>,
@@ -44,7 +45,7 @@ impl<'a> Parser<'a> {
 
     /// The items between an opening and a closing token, one or more, each read by a call of `f`.
     ///
-    /// Span and refusals are those of `delimited_list`.
+    /// Span, refusals and want of memory are those of `delimited_list`.
     pub fn delimited_nonempty_list<
         T: Drop,
         R: Drop + From<ParseFailure>,
@@ -67,7 +68,7 @@ impl<'a> Parser<'a> {
     /// The items between an opening and a closing token, one or more, each read by a call of `f` and without a
     /// place of its own.
     ///
-    /// Span and refusals are those of `delimited_list`.
+    /// Span, refusals and want of memory are those of `delimited_list`.
     pub fn unlocated_delimited_nonempty_list<
         T: Drop,
         R: Drop + From<ParseFailure>,

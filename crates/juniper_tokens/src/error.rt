@@ -3,7 +3,7 @@ ghost use Rattle.std.specs.Prelude.{◌≡◌, Some, IfOk};
 ghost use Rattle.std.specs.Str.{encode_utf8_all};
 
 use crate::span::Spanning;
-use crate::token::{Token, write_text};
+use crate::token::{Token, same_text, write_text};
 use std::alloc::{AllocError, AllocFailed, Global};
 use std::fmt;
 
@@ -27,7 +27,7 @@ pub enum LexerError {
 }
 
 /// Why a text is refused.
-#[derive(Debug, Drop, PartialEq, Eq)]
+#[derive(Debug, Drop)]
 pub enum ParseError {
     /// No document goes on with this token, which is told as it is displayed.
     UnexpectedToken(String),
@@ -37,6 +37,35 @@ pub enum ParseError {
     LexerError(LexerError),
     /// The scalar type does not read this literal.
     ExpectedScalarError(&'static str),
+}
+
+impl PartialEq for ParseError {
+    ghost use Rattle.juniper_tokens.specs.Errors.{view_error, same_error};
+    ghost use Rattle.juniper_tokens.specs.laws.ErrorLaws.{same_error-laws};
+
+    ghost eq = { λ a b. same_error (view_error a) (view_error b) };
+
+    ghost laws = { same_error-laws };
+
+    fn eq(&self, other: &ParseError) -> bool {
+        match (self, other) {
+            (ParseError::UnexpectedToken(a), ParseError::UnexpectedToken(b)) => {
+                same_text(a.as_str(), b.as_str())
+            }
+            (ParseError::UnexpectedEndOfFile, ParseError::UnexpectedEndOfFile) => true,
+            (ParseError::LexerError(a), ParseError::LexerError(b)) => a == b,
+            (ParseError::ExpectedScalarError(a), ParseError::ExpectedScalarError(b)) => {
+                same_text(a, b)
+            }
+            _ => false,
+        }
+    }
+}
+
+impl Eq for ParseError {
+    ghost use Rattle.juniper_tokens.specs.laws.ErrorLaws.{same_error-equiv};
+
+    ghost laws = { same_error-equiv };
 }
 
 /// Why a lexer gave no token.
@@ -145,7 +174,9 @@ impl ParseError {
     ghost use Rattle.juniper_tokens.specs.Tokens.{shown_token};
     ghost use Rattle.juniper_tokens.specs.Errors.{view_error, UnexpectedToken};
 
-    /// The error that tells a token as unexpected, by the token's display.
+    /// The error that says that a token is unexpected, by the token's display.
+    ///
+    /// `AllocError` where memory ran out.
     pub fn unexpected_token(alloc: Global, token: Token<'_>) -> Result<Self, AllocError>
         ensures { IfOk result (λ e. view_error e ≡ UnexpectedToken (shown_token token.entry)) }
     {

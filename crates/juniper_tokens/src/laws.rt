@@ -1,5 +1,5 @@
 //! Laws of the lexer.
-ghost use Rattle.std.specs.Prelude.{◌≡◌, ◌&&◌, ℕ, List, Option, Some, IsTrue, ◌↔◌};
+ghost use Rattle.std.specs.Prelude.{◌≡◌, ◌&&◌, ◌++◌, ℕ, List, Option, Some, IsTrue, ◌↔◌};
 ghost use Rattle.juniper_tokens.specs.laws.PositionOrder.{compare_places};
 ghost use Rattle.std.specs.Ordering.{is_eq};
 ghost use Rattle.graphql_lexical.specs.Place.{Place};
@@ -8,9 +8,14 @@ ghost use Rattle.graphql_lexical.specs.laws.Spacing.{GoesOnSpaced};
 ghost use Rattle.graphql_lexical.specs.laws.Laws.{HasOneAnswer, BeginsBlockString, HasOneEnd, HasFewTokens, HasSlicesInOrder, StepsByCharacters};
 ghost use Rattle.juniper_tokens.specs.declared.span.Span.{Span};
 ghost use Rattle.juniper_tokens.specs.declared.span.Spanning.{Spanning};
+ghost use Rattle.juniper_tokens.specs.declared.error.LexerError.{LexerError};
+ghost use Rattle.juniper_tokens.specs.declared.error.ParseError.{ParseError};
+ghost use Rattle.juniper_tokens.specs.Errors.{view_lexer_error, view_error};
 ghost use Rattle.juniper_tokens.specs.ByteClasses.{CountsOfClasses};
+ghost use Rattle.std.specs.Hash.{usize};
 ghost use Rattle.juniper_tokens.specs.device.ByteRuns.{GoesOverBytes};
 
+use crate::error::{LexerError, ParseError};
 use crate::position::SourcePosition;
 use crate::span::{Span, Spanning};
 use graphql_lexical::laws as lexical;
@@ -102,6 +107,20 @@ pub fn spanned_items_are_compared_whole<T: PartialEq>()
     ensures spans { (s t : Span) → IsTrue (⟦<Span as PartialEq>⟧.eq s t) ↔ (s ≡ t) }
     ensures items { (x y : Spanning T) → ⟦<Spanning<T> as PartialEq>⟧.eq x y
         ≡ (T.eq x.item y.item && ⟦<Span as PartialEq>⟧.eq x.span y.span) }
+{}
+
+/// Errors are equal exactly where they are of the same kind, with the same character or text.
+pub fn errors_are_compared_whole()
+    ensures lexical { (a b : LexerError) → IsTrue (⟦<LexerError as PartialEq>⟧.eq a b) ↔ (view_lexer_error a ≡ view_lexer_error b) }
+    ensures refusals { (a b : ParseError) → IsTrue (⟦<ParseError as PartialEq>⟧.eq a b) ↔ (view_error a ≡ view_error b) }
+{}
+
+/// A position is hashed as its index, its line and its column, a span as its start and its end, and an item with its
+/// span as the item and the span.
+pub fn values_are_hashed_whole<T: Hash>()
+    ensures positions { (p : Place) → ⟦<SourcePosition as Hash>⟧.hash_input p ≡ usize p.index ++ (usize p.line ++ usize p.column) }
+    ensures spans { (s : Span) → ⟦<Span as Hash>⟧.hash_input s ≡ ⟦<SourcePosition as Hash>⟧.hash_input s.start ++ ⟦<SourcePosition as Hash>⟧.hash_input s.end }
+    ensures items { (x : Spanning T) → ⟦<Spanning<T> as Hash>⟧.hash_input x ≡ T.hash_input x.item ++ ⟦<Span as Hash>⟧.hash_input x.span }
 {}
 
 /// Equal positions, equal spans, and equal items with equal spans hash alike.

@@ -60,7 +60,19 @@ impl<'a> Model for Lexer<'a> {
 }
 
 impl<'a> Lexer<'a> {
-    /// A lexer at the beginning of a source. The allocator serves the texts of faults alone.
+    /// A lexer at the beginning of a source (GraphQL specification, October 2021, section 2.1). It takes no memory; the
+    /// allocator serves the texts of faults alone.
+    ///
+    /// A lexer is an iterator: each call of `next` gives a token with its span or the source's first lexical fault, and
+    /// `None` once it has given the end or a fault.
+    ///
+    /// ```
+    /// for token in Lexer::new(alloc, "{ a }") {
+    ///     let token = token?;
+    ///     let kind = token.item.kind();
+    ///     let column = token.span.start.column();
+    /// }
+    /// ```
     pub fn new(alloc: Global, source: &'a str) -> Self
         ensures { result ≡ started (chars source.now) }
     {

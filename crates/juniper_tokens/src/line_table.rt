@@ -47,6 +47,8 @@ impl Line {
 
 impl LineTable {
     /// The table of a source. A line ends at a line feed alone.
+    ///
+    /// `AllocError` where memory ran out: the table takes eight bytes a line.
     pub fn new(alloc: Global, source: &str) -> Result<Self, AllocError>
         ensures { IfOk result (λ table. table ≡ lines_of (chars source.now)) }
     {

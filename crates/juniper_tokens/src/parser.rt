@@ -55,9 +55,15 @@ impl<'a> Model for Parser<'a> {
 impl<'a> Parser<'a> {
     /// A cursor at the first of the tokens that a lexer has left, of which all are taken first.
     ///
-    /// So the lexer's first fault is the answer, whatever tokens stand before it. `Memory` says that the list of
-    /// tokens, the table of lines or the text of a fault could not grow. Unless memory ran out the lexer has ended.
-    /// The cursor keeps the lexer's allocator.
+    /// So the lexer's first fault is the answer, whatever tokens stand before it. `Memory` says that the list of tokens
+    /// could not grow, or that the text of a fault could not be made. Unless memory ran out the lexer has ended. The
+    /// cursor keeps the lexer's allocator.
+    ///
+    /// ```
+    /// let mut lexer = Lexer::new(alloc, "{ a }");
+    /// let mut parser = Parser::new(&mut lexer)?;
+    /// let name = parser.peek().item.text();
+    /// ```
     pub fn new(lexer: &mut Lexer<'a>) -> Result<Self, LexFailure>
         requires { lexer.old.ended ≡ false }
         ensures tokens { IfOk result (λ tokens. CutFrom lexer.old.source lexer.old.index tokens) }
@@ -172,7 +178,7 @@ impl<'a> Parser<'a> {
         Err(ParseFailure::Refused(Spanning::new(span, ParseError::UnexpectedEndOfFile)))
     }
 
-    /// Takes the next token. At the end it answers `UnexpectedEndOfFile`, and nothing is taken.
+    /// Takes the next token. At the end it answers `UnexpectedEndOfFile`, and nothing is taken. It takes no memory.
     #[tactic(auto, using(crate::proofs::Rests::none_taken, crate::proofs::Rests::one_taken))]
     pub fn next_token(&mut self) -> ParseResult<Token<'a>>
         ensures gives { Gives view_token result self.new (next_at self.old) }
@@ -234,7 +240,7 @@ impl<'a> Parser<'a> {
 
     /// Takes the next token if it equals the wanted one, and else answers None and takes nothing.
     ///
-    /// At the end, whatever was wanted, it answers `UnexpectedEndOfFile`, and nothing is taken.
+    /// At the end, whatever was wanted, it answers `UnexpectedEndOfFile`, and nothing is taken. It takes no memory.
     #[tactic(auto, using(crate::proofs::Rests::none_taken), unfolding(crate::specs::Cursor::skip_at))]
     pub fn skip(&mut self, wanted: &Token<'_>) -> OptionParseResult<Token<'a>>
         ensures gives { Gives (option_map view_token) result self.new (skip_at wanted.now self.old) }
@@ -251,7 +257,8 @@ impl<'a> Parser<'a> {
         Ok(None)
     }
 
-    /// Takes the next token, which has to be a Name, and gives its text. Refusals are those of `expect`.
+    /// Takes the next token, which has to be a Name, and gives its text. Refusals, and what stands after them and after
+    /// want of memory, are those of `expect`.
     #[tactic(auto, using(crate::proofs::Rests::one_taken), unfolding(crate::specs::Cursor::expect_name_at))]
     pub fn expect_name(&mut self) -> ParseResult<&'a str>
         ensures gives { Gives view_name result self.new (expect_name_at self.old) }

@@ -15,29 +15,48 @@ use std::fmt;
 /// between its three quotes on each side, with the lines as they are.
 #[derive(Clone, Copy, Debug)]
 pub enum ScalarToken<'a> {
+    /// A text between quotes (GraphQL specification, October 2021, section 2.9.4).
     String(&'a str),
+    /// A text between three quotes on each side (section 2.9.4).
     BlockString(&'a str),
+    /// A number with a fraction or an exponent (section 2.9.2).
     Float(&'a str),
+    /// A number without either (section 2.9.1).
     Int(&'a str),
 }
 
 /// A token of the language (GraphQL specification, October 2021, section 2.1).
 #[derive(Clone, Copy, Debug)]
 pub enum Token<'a> {
+    /// A name or a word of the language, with its text.
     Name(&'a str),
+    /// A String, a block string, a Float or an Int.
     Scalar(ScalarToken<'a>),
+    /// `!`
     ExclamationMark,
+    /// `$`
     Dollar,
+    /// `(`
     ParenOpen,
+    /// `)`
     ParenClose,
+    /// `[`
     BracketOpen,
+    /// `]`
     BracketClose,
+    /// `{`
     CurlyOpen,
+    /// `}`
     CurlyClose,
+    /// `...`
     Ellipsis,
+    /// `:`
     Colon,
+    /// `=`
     Equals,
+    /// `@`
     At,
+    /// `|`
     Pipe,
     /// The end of the source.
     EndOfFile,
