@@ -103,7 +103,7 @@ pub trait ScalarValue: Sized + Drop + fmt::Display + Eq + ParseScalarValue<Self>
     fn try_as_str(&self) -> Option<&str>
         ensures { option_map (λ s. chars s.now) result ≡ str_in (Self.content self.now) };
 
-    /// A copy of the text that the scalar is, if it is one.
+    /// A copy of the text that the scalar is, if it is one. `AllocError` where memory ran out.
     fn try_to_string(&self, alloc: Global) -> Result<Option<String>, AllocError>
         ensures { IfOk result
             (λ o. option_map (λ s. chars (string_bytes s)) o ≡ string_in (Self.content self.now)) };
@@ -113,7 +113,7 @@ pub trait ScalarValue: Sized + Drop + fmt::Display + Eq + ParseScalarValue<Self>
         ensures { IfOk result
             (λ o. option_map (λ s. chars (string_bytes s)) o ≡ own_string_in (Self.content self)) };
 
-    /// A copy, which equals the scalar.
+    /// A copy, which equals the scalar. `AllocError` where memory ran out.
     fn try_clone(&self, alloc: Global) -> Result<Self, AllocError>
         ensures { IfOk result (λ s. Self.content s ≡ Self.content self.now) };
 
@@ -275,7 +275,7 @@ pub trait ToScalarValue<S> {
     // What the scalar of a value is.
     ghost gives: { Self → S → Type 0 };
 
-    /// The value as a scalar.
+    /// The value as a scalar. `AllocError` where memory ran out, for the copy of a text.
     fn to_scalar_value(&self, alloc: Global) -> Result<S, AllocError>
         ensures { IfOk result (λ s. gives self.now s) };
 }
@@ -304,7 +304,7 @@ impl<S: ScalarValue> ToScalarValue<S> for String {
     }
 }
 
-/// The scalar of a text.
+/// The scalar of a text, which is copied. `AllocError` where memory ran out.
 pub fn scalar_from_str<S: ScalarValue>(alloc: Global, text: &str) -> Result<S, AllocError>
     ensures { IfOk result (λ s. S.content s ≡ S.of_text (chars text.now)) }
 {

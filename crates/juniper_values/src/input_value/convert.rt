@@ -17,11 +17,12 @@ pub trait FromInputValue<S: Drop>: Sized {
     // What it may answer where no value is given.
     ghost implicit: { Result Self Self.Error → Type 0 };
 
-    /// What the type makes of the value.
+    /// What the type makes of the value. Its own error says where memory ran out.
     fn from_input_value(alloc: Global, value: &InputValue<S>) -> Result<Self, Self::Error>
         ensures { answers (view (λ s. s) value.now) result };
 
-    /// What the type makes of a value that is not given: what it makes of `null`, unless it says otherwise.
+    /// What the type makes of a value that is not given: what it makes of `null`, unless it says otherwise. Its own error
+    /// says where memory ran out.
     fn from_implicit_null(alloc: Global) -> Result<Self, Self::Error>
         ensures { implicit result }
     {
@@ -33,7 +34,8 @@ pub trait FromInputValue<S: Drop>: Sized {
 }
 
 impl<S: Drop> InputValue<S> {
-    /// What the type `T` makes of the value.
+    /// What the type `T` makes of the value: this promises what `T` itself states, and no more. The error is that of `T`,
+    /// which says where memory ran out.
     pub fn convert<T: FromInputValue<S>>(&self, alloc: Global) -> Result<T, T::Error>
         ensures { T.answers (view (λ s. s) self.now) result }
     {

@@ -40,14 +40,14 @@ impl<S> InputValue<S> {
         InputValue::Object(fields)
     }
 
-    /// The enum value of this name.
+    /// The enum value of this name, which is copied. `AllocError` where memory ran out.
     pub fn enum_value(alloc: Global, name: &str) -> Result<Self, AllocError>
         ensures { IfOk result (λ v. view (λ s. s) v ≡ enum_value (chars name.now)) }
     {
         Ok(InputValue::Enum(String::from_str(alloc, name)?))
     }
 
-    /// The variable of this name, which is given without its `$`.
+    /// The variable of this name, which is given without its `$`, and copied. `AllocError` where memory ran out.
     pub fn variable(alloc: Global, name: &str) -> Result<Self, AllocError>
         ensures { IfOk result (λ v. view (λ s. s) v ≡ variable (chars name.now)) }
     {

@@ -12,6 +12,9 @@ use std::alloc::{AllocError, Global};
 use std::collections::HashMap;
 
 /// The values of variables, by their names.
+///
+/// The map hashes with a fixed seed: whoever picks the names can make them collide, and a look-up then takes time in
+/// proportion to their number. So limit the variables that a stranger sends.
 pub type Variables<S> = HashMap<String, InputValue<S>>;
 
 impl<S: ScalarValue> InputValue<S> {
@@ -19,7 +22,17 @@ impl<S: ScalarValue> InputValue<S> {
     /// scalars are the given ones.
     ///
     /// A variable that has none becomes nothing: a value that is it gives `None`, an item of a list becomes `null`, and
-    /// a field of an object is left out. The value is dropped where memory ran out.
+    /// a field of an object is left out (GraphQL specification, October 2021, section 2.10). `AllocError` where memory ran
+    /// out; the value is dropped then. The stack holds the nesting of the value and of what takes a variable's place.
+    ///
+    /// Each use of a variable is a copy of its whole value, so time and memory grow with the number of uses times the size
+    /// of the value. Whoever takes both from a stranger limits that product: a hundred thousand uses of a value of a
+    /// million parts are 10^11 parts.
+    ///
+    /// ```
+    /// // of [1, $n, $m], with n as 2: [1, 2, null]
+    /// let value = argument.item.try_clone(alloc)?.into_const(alloc, variables)?;
+    /// ```
     pub fn into_const(
         self,
         alloc: Global,
