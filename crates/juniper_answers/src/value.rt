@@ -40,6 +40,9 @@ pub enum Value<S> {
 /// October 2021, section 7.2.2).
 ///
 /// Objects are equal where they have the same keys, in whatever order, with equal values.
+///
+/// Keys are hashed with a fixed seed: whoever picks them can make them collide, and a look-up then takes time in proportion
+/// to their number. So limit the fields of an object whose keys a stranger picks, also in `from_iter`.
 #[derive(PartialEq, Eq, Drop)]
 #[cycle(value)]
 pub struct Object<S> {
