@@ -7,3 +7,4 @@ pub mod Told
 pub mod Forests
 pub mod Measures
 pub mod Few
+pub mod Lying

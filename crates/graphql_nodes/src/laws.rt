@@ -5,6 +5,7 @@ ghost use Rattle.graphql_grammar.specs.Tree.{Scalars, Definition};
 ghost use Rattle.graphql_grammar.specs.Grammar.{IsDocument};
 ghost use Rattle.graphql_nodes.specs.Nodes.{Node, document_nodes};
 ghost use Rattle.graphql_nodes.specs.Forests.{IsForest};
+ghost use Rattle.graphql_nodes.specs.Spans.{NodesLieIn};
 
 /// Documents of the same nodes are the same tree, of whatever scalar types and tokens.
 pub fn nodes_tell_the_tree<C, F, G>()
@@ -22,4 +23,10 @@ pub fn nodes_are_a_forest<C>()
 pub fn few_nodes<C, F>()
     ensures tokens { (S : Scalars C F) (ts : List Lexeme) (a : List (Definition C)) → IsDocument S ts a → length (document_nodes a) < length ts }
     ensures characters { (S : Scalars C F) (source : List ℕ) (ts : List Lexeme) (a : List (Definition C)) → Cut source ts → IsDocument S ts a → length (document_nodes a) ≤ length source }
+{}
+
+/// Each node of a document lies in its source: it begins and ends at places of the source, each with the line and the
+/// column that it has there.
+pub fn nodes_lie_in_the_source<C, F>()
+    ensures { (S : Scalars C F) (source : List ℕ) (ts : List Lexeme) (a : List (Definition C)) → Cut source ts → IsDocument S ts a → NodesLieIn source (document_nodes a) }
 {}
