@@ -1,18 +1,22 @@
 -- What is answered for tokens that were ended behind a deep one is answered for their text.
-use Rattle.std.proofs.Common.{◌≡◌, ℕ, suc, ◌<◌, true, false, List, ◌∷◌, length, take, inl, inr, sym, ap, subst, ◌∙◌, arith, Result, Ok, Err, Option, Some, None, length-append}
-use Rattle.std.specs.Prelude.{◌==◌}
+use Rattle.std.proofs.Common.{◌≡◌, ℕ, suc, ◌<◌, ◌≤◌, ◌⊎◌, true, false, List, [], ◌∷◌, ◌++◌, length, take, inl, inr, refl, sym, ap, subst, ◌∙◌, arith, append_assoc, append-nil, Result, Ok, Err, Option, Some, None, length-append}
+use Rattle.std.specs.Prelude.{◌==◌, pos, ◌≤ℤ◌}
+use Rattle.std.proofs.Math.Nat.{eq-or-lt_of_le}
+use Rattle.std.proofs.lemmas.Int.{by_lt_z}
 use Rattle.std.specs.List.{AllByRecursion}
-use Rattle.graphql_lexical.specs.Place.{Span}
-use Rattle.graphql_lexical.specs.Cutting.{Lexeme, Cut, BreaksFrom}
+use Rattle.graphql_lexical.specs.Place.{Place, Span}
+use Rattle.graphql_lexical.specs.Kinds.{LexicalError}
+use Rattle.graphql_lexical.specs.Cutting.{Lexeme, Cut, Breaks, BreaksFrom}
+use Rattle.graphql_lexical.proofs.Cuts.{one_end}
 use Rattle.graphql_lexical.specs.Nesting.{nesting, IsFirstDeeper, ended_by}
 use Rattle.graphql_lexical.proofs.DeepTokens.{one_deep, crossed}
 use Rattle.graphql_lexical.proofs.Widths.{IsWide, tokens_wide}
 use Rattle.graphql_grammar.specs.Tree.{Scalars, Definition}
 use Rattle.graphql_grammar.specs.Grammar.{IsDocument}
 use Rattle.graphql_grammar.specs.Tokens.{IsSpelled}
-use Rattle.graphql_grammar.specs.Faults.{EndsOnce}
+use Rattle.graphql_grammar.specs.Faults.{Fault, EndsOnce}
 use Rattle.graphql_grammar.specs.Depth.{BeginsDocument, IsTooDeep}
-use Rattle.graphql_grammar.proofs.OneFault.{same_parts}
+use Rattle.graphql_grammar.proofs.OneFault.{same_parts, document_or_fault}
 use Rattle.graphql_grammar.proofs.Spelling.{cut_spelled, cut_ends}
 use Rattle.graphql_grammar.proofs.Depths.{short_spelled, short_ends, TellsDepth, short_no_document, short_tells, middle_of}
 use Rattle.juniper_tokens.specs.declared.error.ParseError.{ParseError}
@@ -29,17 +33,47 @@ use Rattle.juniper_tokens.specs.Gathering.{IfFault}
 use Rattle.juniper_tokens.specs.Nesting.{IsShallow, EndsAtNesting}
 use Rattle.juniper.specs.declared.parser.depth.DepthFailure.{DepthFailure}
 use Rattle.juniper.specs.declared.parser.depth.DepthFailure.TheVariants as limited
-use Rattle.juniper.specs.Promise.{HasTree, IsRefusedAt, IsRefusal, AnswersAs}
-use Rattle.juniper.specs.Within.{HasTooDeep, IsWithin, AnswersWithin, answer_within}
+use Rattle.juniper.specs.Promise.{HasTree, IsRefusedAt, IsRefusal, AnswersAs, lexical_fault}
+use Rattle.juniper.specs.Within.{HasTooDeep, IsWithin, AnswersWithin, HasTreeWithin, IsRefusedWithin, IsNestedTooDeep, HasOneAnswer, answer_within}
 use Rattle.graphql_grammar.specs.device.Productions.{document}
 use Rattle.juniper.specs.device.Steps.{cursor}
 use Rattle.juniper.proofs.Promises.{same_cut, cut_or_break, document_is, refused_is, refusal_at, accepts, refuses, refusal_in_text, lexical, break_from_start, told_lexical}
+use Rattle.juniper.proofs.Sources.{either, never_both, refusal_of}
 
 same_number : (a b : ℕ) → a ≡ b → (a == b) ≡ true
 same_number a b e = grind arith
 
 other_number : (a b : ℕ) → a < b → (a == b) ≡ false
 other_number a b l = grind arith
+
+-- Tokens are nested no deeper than a number, or one of them is the first that is.
+module _ (depth : ℕ) (ts : List Lexeme) where
+  abbrev ShallowBefore : ℕ → Type 0
+  ShallowBefore n = (j : ℕ) → j < n → nesting ts j ≤ℤ pos depth
+
+  abbrev ShallowOrDeeper : Type 0
+  ShallowOrDeeper = IsShallow depth ts ⊎ ((i : ℕ) × (t : Lexeme) × IsFirstDeeper depth ts i t)
+
+  one_more : (n : ℕ) → ShallowBefore n → nesting ts n ≤ℤ pos depth → ShallowBefore (suc n)
+  one_more n before here j l = elim (eq-or-lt_of_le (let h : j ≤ n = omega (arith, l) in h)) [
+    | inl same ↦ subst (λ (k : ℕ). nesting ts k ≤ℤ pos depth) (sym same) here
+    | inr less ↦ before j less
+  ]
+
+  shallow_or_deeper_from : (us vs : List Lexeme) → ts ≡ us ++ vs → ShallowBefore (length us) → ShallowOrDeeper
+  shallow_or_deeper_from us [] e before =
+      inl (subst (λ (xs : List Lexeme). ShallowBefore (length xs)) (sym (e ∙ append-nil us)) before)
+  shallow_or_deeper_from us (t ∷ vs) e before = by_lt_z (pos depth) (nesting ts (length us))
+      (λ deeper. inr (
+        length us,
+        t,
+        record { before = us; after = vs; whole = e; number = refl; deeper = deeper; first = before },
+      ))
+      (λ here. shallow_or_deeper_from (us ++ t ∷ []) vs (e ∙ sym (append_assoc us (t ∷ []) vs))
+      (subst ShallowBefore (sym (length-append us (t ∷ []) ∙ omega arith)) (one_more (length us) before here)))
+
+  shallow_or_deeper : ShallowOrDeeper
+  shallow_or_deeper = shallow_or_deeper_from [] ts refl (λ j l. absurd (omega (arith, l)))
 
 module _ {C : Type 0} (S : Scalars C Error) (depth : ℕ) (source : List ℕ) where
   -- ---- whether a token of the text is too deep
@@ -196,3 +230,56 @@ module _ {C : Type 0} (S : Scalars C Error) (depth : ℕ) (source : List ℕ) wh
       let parts = same_parts IsSpelled S (IsDocument S) d.before e.before d.after e.after h.token k.token
       (d.number ∙ number ∙ sym e.number) (sym d.whole ∙ e.whole) in
       h.at ∙ ap (λ (t : Lexeme). t.span) parts.1 ∙ sym k.at
+
+  -- ---- a text has one answer
+
+  abbrev SomeAnswer : Type 0
+  SomeAnswer = HasTreeWithin S depth source ⊎ (IsRefusedWithin S depth source ⊎ IsNestedTooDeep S depth source)
+
+  uncut_within : (error : LexicalError) (at : Place) → Breaks source error at → IsWithin S depth source
+  uncut_within error at b = record { none = λ span h. cut_or_break source h.lexemes error at h.cut b }
+
+  module _ (ts : List Lexeme) (cut : Cut source ts) where
+    shallow_has_one : IsShallow depth ts → SomeAnswer
+    shallow_has_one shallow = elim (either S source) [
+      | inl tree ↦ inl (shallow_within ts cut shallow, tree)
+      | inr refusal ↦ inr (inl (shallow_within ts cut shallow, refusal))
+    ]
+
+    module _ (i : ℕ) (t : Lexeme) (d : IsFirstDeeper depth ts i t) where
+      -- where the tokens up to the deep one, and then an end, are refused tells which
+      told_has_one : (j : ℕ) (u : Lexeme) (e : Fault Error) → TellsDepth S ts i t j u e → SomeAnswer
+      told_has_one j u e (inl (end, begins)) =
+          inr (inr (t.span, begun_too_deep ts cut i t d begins t.span refl))
+      told_has_one j u e (inr (goes_on, none, refused)) =
+          inr (inl (unbegun_within ts cut i t d none, (_, refusal_of S source ts j u e cut refused)))
+
+      deep_has_one : SomeAnswer
+      deep_has_one =
+          let all = cut_spelled source ts cut in
+          let once = cut_ends source ts cut in
+          elim (document_or_fault S (ended_by d.before t) (short_spelled S depth ts i t d all once)
+          (short_ends S depth ts i t d all once)) [
+            | inl tree ↦ absurd (short_no_document S depth ts i t d tree.0 tree.1)
+            | inr r ↦ told_has_one r.0 r.1 r.2 (short_tells S depth ts i t d all once r.0 r.1 r.2 r.3)
+          ]
+
+  some_answer : SomeAnswer
+  some_answer = elim (one_end source) [
+    | inl cut ↦ elim (shallow_or_deeper depth cut.0) [
+      | inl shallow ↦ shallow_has_one cut.0 cut.1.cut shallow
+      | inr deep ↦ deep_has_one cut.0 cut.1.cut deep.0 deep.1 deep.2
+    ]
+    | inr break ↦ inr (inl (
+      uncut_within break.0 break.1 break.2.breaks,
+      (lexical_fault break.0 break.1, lexical S source break.0 break.1 _ break.2.breaks refl),
+    ))
+  ]
+
+  pub one_answer : HasOneAnswer S depth source
+  one_answer = record {
+    some = some_answer;
+    tree_or_refused = λ tree refused. never_both S source tree.1.0 refused.1.0 tree.1.1 refused.1.1;
+    tree_or_too_deep = λ tree deep. tree.0.none deep.0 deep.1;
+    refused_or_too_deep = λ refused deep. refused.0.none deep.0 deep.1;
+  }

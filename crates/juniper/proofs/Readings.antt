@@ -1,9 +1,9 @@
 -- What the code reads is what the grammar's readers read.
-use Rattle.std.proofs.Common.{◌≡◌, suc, length, arith, Bool, true, false, cond, Some, None, List, [], ◌∷◌, Ok, refl, sym, ap, ◌∙◌, inl, inr, le_refl}
+use Rattle.std.proofs.Common.{◌≡◌, ℕ, suc, length, arith, Bool, true, false, cond, Some, None, List, [], ◌∷◌, ◌++◌, Ok, refl, sym, ap, ◌∙◌, inl, inr, le_refl}
 use Rattle.graphql_lexical.specs.declared.kind.Kind.TheVariants.{At, BracketClose, CurlyClose, ParenClose, EndOfFile}
 use Rattle.graphql_lexical.specs.Kinds.{same_kind}
 use Rattle.graphql_lexical.specs.Cutting.{Lexeme}
-use Rattle.graphql_grammar.specs.Tree.{Scalars}
+use Rattle.graphql_grammar.specs.Tree.{Scalars, Definition}
 use Rattle.graphql_grammar.specs.Grammar.{IsValue, IsArgument, IsVariableDefinition, IsSelection, IsDirective, IsDefinition, IsDocument}
 use Rattle.graphql_grammar.specs.declared.operation.OperationType.{OperationType}
 use Rattle.graphql_grammar.specs.device.Reading.{of, passes, fully, a_value, a_type, a_selection, Symbol, symbol}
@@ -18,6 +18,7 @@ use Rattle.juniper_tokens.specs.Cursor.{◌>>=◌, first_of, kind_at, next_at}
 use Rattle.juniper.specs.device.Seen.{seen}
 use Rattle.juniper.specs.device.Steps.{closing_at, no_scalars, value_read, type_read, selection_read, closed_read, cursor, whole, each_read}
 use Rattle.juniper.proofs.Cursors.{next_takes}
+use Rattle.juniper.proofs.Stepping.{seen_took}
 use Rattle.juniper.proofs.Loops.{Repeats, RepeatsSome, RepeatsWhile}
 use Rattle.juniper.proofs.CursorGoes.{Fits, shown, shown_fully}
 use Rattle.juniper.proofs.Symbols.{symbols_shown}
@@ -97,6 +98,20 @@ module _ {C : Type 0} (S : Scalars C Error) where
   pub document_seen : (ts : List Lexeme) → seen (fully (λ n. reads S n document) ts) ≡ cursor S document ts
   document_seen = shown_fully S (symbols_shown S) document document_fits
       (reads_answer S document (IsDocument S) (λ n. document_rule S n n (le_refl n)))
+
+  definition_seen : (ts : List Lexeme) → seen (fully (λ n. reads S n definition) ts) ≡ cursor S definition ts
+  definition_seen = shown_fully S (symbols_shown S) definition (definition_fits S)
+      (reads_answer S definition (IsDefinition S) (λ n. definition_rule S n n (le_refl n)))
+
+  -- The tokens that were taken for a definition are that definition.
+  pub definition_taken : (ts rest : List Lexeme) (d : Definition C) → cursor S definition ts ≡ Ok (d, rest)
+      → (us : List Lexeme) × (ts ≡ us ++ rest) × IsDefinition S us d
+  unfolding fully
+  definition_taken ts rest d e =
+      let n : ℕ = suc (length ts) in
+      let took = seen_took (reads S n definition ts) d rest (definition_seen ts ∙ e) in
+      let meets = rw took at ((definition_rule S n n (le_refl n)).at ts) in
+      (meets.0, meets.1, meets.2)
 
   pub rest_turn : (t : Lexeme) (ts : List Lexeme)
       → closed_read S (of EndOfFile) definition (t ∷ ts) ≡ cond (same_kind t.kind EndOfFile) (Ok (([], t.span), ts))

@@ -1,13 +1,23 @@
 -- What takes the definitions of a document, and what comes to it.
-use Rattle.std.specs.Prelude.{◌≡◌, ℕ, List, ◌++◌, Result, Ok, Err, OnOk}
-use Rattle.graphql_lexical.specs.Cutting.{Lexeme}
+use Rattle.std.specs.Prelude.{◌≡◌, ℕ, List, [], ◌∷◌, ◌++◌, Result, Ok, Err, OnOk}
+use Rattle.graphql_lexical.specs.Place.{Place}
+use Rattle.graphql_lexical.specs.Kinds.{LexicalError}
+use Rattle.graphql_lexical.specs.Cutting.{Lexeme, Cut, Breaks}
 use Rattle.graphql_grammar.specs.Tree.{Scalars, Definition}
+use Rattle.graphql_grammar.specs.Grammar.{Each, IsDefinition}
 use Rattle.juniper_tokens.specs.declared.error.ParseFailure.{ParseFailure}
 use Rattle.juniper_tokens.specs.Errors.{Error}
 use Rattle.juniper_tokens.specs.Cursor.{Read, Fails}
 use Rattle.juniper.specs.declared.parser.depth.DepthFailure.{DepthFailure}
 use Rattle.juniper.specs.Promise.{HasTree}
 use Rattle.juniper.specs.Within.{AnswersWithin}
+
+-- These definitions stand at the front of the tokens, in a row.
+pub record StandInFront {C : Type 0} (S : Scalars C Error) (lexemes : List Lexeme) (ds : List (Definition C)) : Type 0 where
+  pub front : List Lexeme
+  pub rest : List Lexeme
+  pub whole : lexemes ≡ front ++ rest
+  pub each : Each (IsDefinition S) front ds
 
 -- It holds the definitions of a source that it has taken.
 module _ {D C : Type 0} (holds : List ℕ → D → List (Definition C) → Type 0) (old new : D) where
@@ -20,6 +30,20 @@ module _ {D C : Type 0} (holds : List ℕ → D → List (Definition C) → Type
     pub tree : List (Definition C)
     pub has_tree : HasTree S source tree
     pub gains : Gains tree
+
+  -- Definitions that stand at the front of the source's tokens have come behind the others, in order. Where the source
+  -- can't be cut into tokens, none have.
+  pub record GainsFront (S : Scalars C Error) (source : List ℕ) : Type 0 where
+    pub given : List (Definition C)
+    pub gains : Gains given
+    pub in_front : (lexemes : List Lexeme) → Cut source lexemes → StandInFront S lexemes given
+    pub none : (error : LexicalError) (at : Place) → Breaks source error at → given ≡ []
+
+  -- Definitions that stand at the front of the tokens before the last one have come behind the others, in order.
+  pub record GainsBeforeEnd (S : Scalars C Error) (lexemes : List Lexeme) : Type 0 where
+    pub given : List (Definition C)
+    pub gains : Gains given
+    pub in_front : (inner : List Lexeme) (end : Lexeme) → lexemes ≡ inner ++ end ∷ [] → StandInFront S inner given
 
   -- What was read has come behind the others, unless memory ran out. Nothing is said of what is left.
   abbrev pub GivesAs : {X : Type 0} → Result X ParseFailure → Read (List (Definition C)) → Type 0

@@ -1,5 +1,5 @@
 -- What is answered for a text within a limit on nesting.
-use Rattle.std.specs.Prelude.{◌≡◌, ℕ, List, Option, Some, None, Result, Ok, Err, IfOk, ◌==◌, if◌then◌else◌}
+use Rattle.std.specs.Prelude.{◌≡◌, ◌⊎◌, ℕ, List, Option, Some, None, Result, Ok, Err, IfOk, ◌==◌, if◌then◌else◌}
 use Rattle.graphql_lexical.specs.Place.{Span}
 use Rattle.graphql_lexical.specs.Cutting.{Lexeme, Cut}
 use Rattle.graphql_grammar.specs.Tree.{Scalars, Definition}
@@ -10,7 +10,7 @@ use Rattle.juniper_tokens.specs.declared.error.ParseFailure.TheVariants as failu
 use Rattle.juniper_tokens.specs.declared.span.Span as spans
 use Rattle.juniper_tokens.specs.declared.span.Spanning.{Spanning}
 use Rattle.juniper_tokens.specs.Spans.{view_span}
-use Rattle.juniper_tokens.specs.Errors.{Error, view_fault}
+use Rattle.juniper_tokens.specs.Errors.{Error, Fault, view_fault}
 use Rattle.juniper.specs.declared.parser.depth.DepthFailure.{DepthFailure}
 use Rattle.juniper.specs.declared.parser.depth.DepthFailure.TheVariants as limited
 use Rattle.juniper.specs.Promise.{HasTree, IsRefusal, IsRefusalInText}
@@ -49,6 +49,25 @@ module _ {C : Type 0} (S : Scalars C Error) (depth : ℕ) (source : List ℕ) wh
   -- The text has no such token.
   pub record IsWithin : Type 0 where
     pub none : (span : Span) → HasTooDeep span → ⊥
+
+  -- The text has a tree, and no token that is nested too deep.
+  abbrev pub HasTreeWithin : Type 0
+  HasTreeWithin = IsWithin × ((tree : List (Definition C)) × HasTree S source tree)
+
+  -- The text is refused, and has no token that is nested too deep.
+  abbrev pub IsRefusedWithin : Type 0
+  IsRefusedWithin = IsWithin × ((fault : Fault) × IsRefusal S source fault)
+
+  -- The text has a token that is nested too deep.
+  abbrev pub IsNestedTooDeep : Type 0
+  IsNestedTooDeep = (span : Span) × HasTooDeep span
+
+  -- One of these three holds of the text, and no two do.
+  pub record HasOneAnswer : Type 0 where
+    pub some : HasTreeWithin ⊎ (IsRefusedWithin ⊎ IsNestedTooDeep)
+    pub tree_or_refused : HasTreeWithin → IsRefusedWithin → ⊥
+    pub tree_or_too_deep : HasTreeWithin → IsNestedTooDeep → ⊥
+    pub refused_or_too_deep : IsRefusedWithin → IsNestedTooDeep → ⊥
 
   -- What is promised of an answer, by outcome.
   pub record AnswersWithin {X : Type 0} (view : X → List (Definition C)) (result : Result X DepthFailure) : Type 0 where

@@ -29,7 +29,7 @@ ghost use Rattle.juniper.specs.Promise.{HasTree, IsRefusal};
 ghost use Rattle.juniper.specs.Laws.{CutsOnce, FailsAtBreak, IsRefusedAtBreak, SeesValues, SeesSelections};
 ghost use Rattle.juniper.specs.Scalars.{stated};
 ghost use Rattle.juniper.specs.Sources.{AreRefusedAlike};
-ghost use Rattle.juniper.specs.Within.{HasTooDeep};
+ghost use Rattle.juniper.specs.Within.{HasTooDeep, HasOneAnswer};
 
 pub use crate::tree::equality::{kinds_are_compared_apart, parts_are_compared_whole};
 pub use graphql_grammar::laws as grammar;
@@ -59,6 +59,12 @@ pub fn document_or_fault<S: ScalarValue>()
 /// A source text has one token at most that is nested too deep.
 pub fn one_too_deep<S: ScalarValue>()
     ensures { (depth : ℕ) (source : List ℕ) (a b : Span) → HasTooDeep (stated S.reading S.of_bool) depth source a → HasTooDeep (stated S.reading S.of_bool) depth source b → a ≡ b }
+{}
+
+/// Within a limit on nesting, a source text has a tree, is refused, or has a token that is nested too deep: always one of
+/// these, and never two.
+pub fn one_answer_within<S: ScalarValue>()
+    ensures { (depth : ℕ) (source : List ℕ) → HasOneAnswer (stated S.reading S.of_bool) depth source }
 {}
 
 /// Two source texts whose tokens are alike, in kinds and texts, both are documents, whose trees differ in spans alone,

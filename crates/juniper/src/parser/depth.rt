@@ -31,7 +31,16 @@ pub enum DepthFailure {
 /// `depth`, exactly where the text can be cut into tokens and those up to that one begin a document. Otherwise the
 /// answer is that of `parse_document_source`: so a lexical fault anywhere wins, and so does a fault of the grammar at
 /// or before that token. No token behind it is parsed, so the calls that read the parts of a part go no deeper than
-/// `depth` allows. `TooDeep` itself takes no memory.
+/// `depth` allows, and the stack holds that nesting at most. `TooDeep` itself takes no memory; where memory ran out,
+/// `DepthFailure::Parse` has `ParseFailure::Memory`.
+///
+/// ```
+/// match parse_document_source_within::<DefaultScalarValue>(alloc, source, 200) {
+///     Ok(document) => execute(&document),
+///     Err(DepthFailure::TooDeep(span)) => refuse(span),
+///     Err(DepthFailure::Parse(failure)) => report(failure),
+/// }
+/// ```
 pub fn parse_document_source_within<'a, S: ScalarValue>(
     alloc: Global,
     s: &'a str,

@@ -24,6 +24,17 @@ use std::alloc::Global;
 /// Any other text is refused at the first token with which no document goes on: at the end as `UnexpectedEndOfFile`, at
 /// a scalar that the scalar type refuses with that type's error, and else as `UnexpectedToken`. What is written up to
 /// the end of the token before goes on to a document's text, after a space and with the same tokens in the same places.
+///
+/// `ParseFailure::Memory` where memory ran out. The stack holds the nesting of the text; from a stranger take a text by
+/// `parse_document_source_within`.
+///
+/// ```
+/// match parse_document_source::<DefaultScalarValue>(alloc, "{ a { b } }") {
+///     Ok(document) => println!(rt; "{} definitions", document.len()),
+///     Err(ParseFailure::Refused(fault)) => println!(rt; "{fault}"),
+///     Err(ParseFailure::Memory) => println!(rt; "memory ran out"),
+/// }
+/// ```
 pub fn parse_document_source<'a, S: ScalarValue>(
     alloc: Global,
     s: &'a str,

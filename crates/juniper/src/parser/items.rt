@@ -33,7 +33,12 @@ impl<'a, S: Drop> Arguments<'a, S> {
     }
 
     /// The value of the first argument of this name; None where there is none of it
-    /// (GraphQL specification, October 2021, section 2.6).
+    /// (GraphQL specification, October 2021, section 2.6). It takes time in proportion to the number of arguments.
+    ///
+    /// ```
+    /// // of `user(id: 1, first: 10)`
+    /// let first = arguments.get("first").map(|value| &value.item);
+    /// ```
     pub fn get(&self, name: &str) -> Option<&Spanning<InputValue<S>>>
         ensures { option_copied result ≡ first_named name.now self.now.items.items }
     {

@@ -1,5 +1,5 @@
 //! Documents whose definitions are given away one by one.
-ghost use Rattle.std.specs.Prelude.{◌∷◌, [], ℕ, List, IfOk, OnOk};
+ghost use Rattle.std.specs.Prelude.{◌∷◌, [], ℕ, List, IfOk, OnOk, OnErr};
 ghost use Rattle.std.specs.Str.{chars};
 ghost use Rattle.graphql_lexical.specs.Cutting.{Cut};
 ghost use Rattle.graphql_grammar.specs.Tree.{Definition as Seen};
@@ -12,7 +12,7 @@ ghost use Rattle.graphql_grammar.specs.device.Productions.{document};
 ghost use Rattle.juniper.specs.device.Steps.{cursor};
 ghost use Rattle.juniper.specs.Promise.{IsRefusal, IsRefusalInText};
 ghost use Rattle.juniper.specs.Within.{IfRefusedWithin, IfTooDeep, IfDecided, HasTooDeep, IsWithin};
-ghost use Rattle.juniper.specs.Sinks.{Gains, GainsTree, GivesAs, GivesWithin};
+ghost use Rattle.juniper.specs.Sinks.{Gains, GainsTree, GainsFront, GainsBeforeEnd, GivesAs, GivesWithin};
 
 use crate::parser::definition::parse_definition;
 use crate::parser::depth::{DepthFailure, told};
@@ -29,16 +29,26 @@ pub trait DefinitionSink<S: ScalarValue> {
 
     /// Takes a definition, behind the others.
     ///
-    /// `AllocError` where memory ran out.
+    /// `AllocError` where memory ran out. It then holds what it held before.
     fn take(&mut self, definition: Definition<'_, S>) -> Result<(), AllocError>
-        ensures { OnOk result (Gains holds self.old self.new (view_definition S.content definition.entry ∷ [])) };
+        ensures taken { OnOk result (Gains holds self.old self.new (view_definition S.content definition.entry ∷ [])) }
+        ensures kept { OnErr result (Gains holds self.old self.new []) };
 }
 
 /// Gives the definitions of a source text whose brackets are not nested deeper than `depth` to what takes them, each as
 /// soon as it is read: so no more than one needs to be in memory at a time.
 ///
 /// The answer is that of `parse_document_source_within`, and where that is a tree, its definitions have been given in
-/// order. Elsewhere some of those before the fault may have been given.
+/// order. Whatever the answer, what was given are definitions that stand at the front of the source's tokens, in order:
+/// before a fault, and where memory ran out, there may be some. Where the source can't be cut into tokens, none were given.
+/// The stack holds a nesting of `depth` at most; where memory ran out, in the parser or in what takes a definition,
+/// `DepthFailure::Parse` has `ParseFailure::Memory`.
+///
+/// ```
+/// // `Fields` is a type of the program's own that counts fields, and is a `DefinitionSink`
+/// let mut fields = Fields::none();
+/// parse_document_source_into::<DefaultScalarValue, Fields>(alloc, source, 200, &mut fields)?;
+/// ```
 pub fn parse_document_source_into<S: ScalarValue, D: DefinitionSink<S>>(
     alloc: Global,
     s: &str,
@@ -50,6 +60,7 @@ pub fn parse_document_source_into<S: ScalarValue, D: DefinitionSink<S>>(
     ensures in_characters { IfRefusedWithin result (λ fault. IsRefusalInText (stated S.reading S.of_bool) (chars s.now) (view_fault fault)) }
     ensures within { IfDecided result (IsWithin (stated S.reading S.of_bool) depth (chars s.now)) }
     ensures too_deep { IfTooDeep result (λ span. HasTooDeep (stated S.reading S.of_bool) depth (chars s.now) (view_span span)) }
+    ensures given { GainsFront D.holds definitions.old definitions.new (stated S.reading S.of_bool) (chars s.now) }
 {
     let mut lexer = Lexer::new(alloc, s);
     match Parser::new(&mut lexer) {
@@ -64,7 +75,8 @@ fn give_within<S: ScalarValue, D: DefinitionSink<S>>(
     depth: usize,
     definitions: &mut D,
 ) -> Result<(), DepthFailure>
-    ensures { (source : List ℕ) → Cut source parser.old → GivesWithin D.holds definitions.old definitions.new (stated S.reading S.of_bool) depth source result }
+    ensures answer { (source : List ℕ) → Cut source parser.old → GivesWithin D.holds definitions.old definitions.new (stated S.reading S.of_bool) depth source result }
+    ensures given { (source : List ℕ) → Cut source parser.old → GainsFront D.holds definitions.old definitions.new (stated S.reading S.of_bool) source }
 {
     let deep = parser.end_at_nesting(depth);
     match give_definitions(parser, definitions) {
@@ -78,7 +90,8 @@ fn give_definitions<S: ScalarValue, D: DefinitionSink<S>>(
     parser: &mut Parser<'_>,
     definitions: &mut D,
 ) -> UnlocatedParseResult<()>
-    ensures { GivesAs D.holds definitions.old definitions.new result (cursor (stated S.reading S.of_bool) document parser.old) }
+    ensures answer { GivesAs D.holds definitions.old definitions.new result (cursor (stated S.reading S.of_bool) document parser.old) }
+    ensures given { GainsBeforeEnd D.holds definitions.old definitions.new (stated S.reading S.of_bool) parser.old }
 {
     loop {
         definitions.take(parse_definition(parser)?)?;

@@ -15,7 +15,12 @@ use juniper_values::Type;
 ///
 /// A type is answered exactly where a front of the tokens is one, and the longest such front is taken. Else the tokens
 /// are refused at the first one with which no type goes on, which is taken, unless it is the end. Where memory
-/// ran out, a rest of the tokens is left.
+/// ran out, a rest of the tokens is left. The stack holds the type's nesting.
+///
+/// ```
+/// // of `[ID!] = 1`: the type is `[ID!]`, and `=` stands next
+/// let of_type = parse_type(&mut parser)?;
+/// ```
 pub fn parse_type<'a>(parser: &mut Parser<'a>) -> ParseResult<Type<&'a str>>
     ensures answers { AnswersType view_spanned_type result parser.old parser.new }
     ensures memory { OnMemory result (IsRest parser.old parser.new) }

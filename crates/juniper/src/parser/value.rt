@@ -26,7 +26,13 @@ use std::alloc::{AllocError, Global};
 ///
 /// A value is answered exactly where a front of the tokens is one. Else the tokens are refused at the first one with
 /// which no value goes on, which is taken, unless it is the end. Where memory ran out, a rest of
-/// the tokens is left.
+/// the tokens is left. The stack holds the value's nesting.
+///
+/// ```
+/// let mut lexer = Lexer::new(alloc, "{a: [1, $n]}");
+/// let mut parser = Parser::new(&mut lexer)?;
+/// let value = parse_value_literal::<DefaultScalarValue>(&mut parser, false)?;
+/// ```
 pub fn parse_value_literal<'a, S: ScalarValue>(
     parser: &mut Parser<'a>,
     is_const: bool,

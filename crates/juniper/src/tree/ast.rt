@@ -64,8 +64,11 @@ pub struct InlineFragment<'a, S: Drop> {
 #[derive(Drop, PartialEq)]
 #[cycle(ast)]
 pub enum Selection<'a, S: Drop> {
+    /// A field, as `a: b(c: 1) @d { e }` (section 2.5).
     Field(Spanning<Field<'a, S>>),
+    /// A fragment by its name, as `...F @d` (section 2.8).
     FragmentSpread(Spanning<FragmentSpread<'a, S>>),
+    /// Selections under a type condition or directives, as `... on T @d { e }` (section 2.8.2).
     InlineFragment(Spanning<InlineFragment<'a, S>>),
 }
 
@@ -102,7 +105,9 @@ pub struct Fragment<'a, S: Drop> {
 /// A definition of an executable document (GraphQL specification, October 2021, section 2.2).
 #[derive(Drop, PartialEq)]
 pub enum Definition<'a, S: Drop> {
+    /// An operation, as `query Q($v: T) { a }` or `{ a }` (section 2.3).
     Operation(Spanning<Operation<'a, S>>),
+    /// A fragment, as `fragment F on T { a }` (section 2.8).
     Fragment(Spanning<Fragment<'a, S>>),
 }
 

@@ -5,13 +5,14 @@ use Rattle.juniper.specs.Scalars.{stated}
 use Rattle.juniper.specs.Within.{AnswersWithin}
 use Rattle.juniper.specs.declared.parser.depth.DepthFailure.{DepthFailure}
 use Rattle.juniper.proofs.Limits.{answers_within}
+use Rattle.juniper.proofs.Sinks.{given_of_text}
 use Rattle.juniper.proofs.parser.sink.give_within.Goals as goal
 
-pub returns-in-Ok : goal.returns-in-Ok
-returns-in-Ok g c = λ source cut.
+pub returns-in-Ok-clause-answer : goal.returns-in-Ok-clause-answer
+returns-in-Ok-clause-answer g c = λ source cut.
     let S = stated g.S.ParseScalarValue.reading g.S.ScalarValue.of_bool in
     let deep = c.end_at_nesting-deep in
-    let given = c.in-Ok.ensures in
+    let given = c.in-Ok.ensures.answer in
     let view : Unit {0} → List (Definition Content) = λ x. given.0 in record {
       tree = given.0;
       answers = answers_within S c.args.depth source view c.args.parser.now cut deep.result deep.new.self (Ok tt)
@@ -19,16 +20,30 @@ returns-in-Ok g c = λ source cut.
       gains = given.3;
     }
 
-pub returns-in-Err : goal.returns-in-Err
-returns-in-Err g c = λ source cut.
+pub returns-in-Ok-clause-given : goal.returns-in-Ok-clause-given
+returns-in-Ok-clause-given g c = λ source cut.
+    let S = stated g.S.ParseScalarValue.reading g.S.ScalarValue.of_bool in
+    let deep = c.end_at_nesting-deep in
+    given_of_text g.D.DefinitionSink.holds S c.args.depth source c.args.parser.now deep.new.self deep.result cut
+    deep.ensures c.in-Ok.ensures.given
+
+pub returns-in-Err-clause-answer : goal.returns-in-Err-clause-answer
+returns-in-Err-clause-answer g c = λ source cut.
     let S = stated g.S.ParseScalarValue.reading g.S.ScalarValue.of_bool in
     let deep = c.end_at_nesting-deep in
     let failed = c.in-Err in
     let view : Unit {0} → List (Definition Content) = λ x. [] in
     let answers = answers_within S c.args.depth source view c.args.parser.now cut deep.result deep.new.self
-    (Err failed.failure) deep.ensures failed.ensures in record {
+    (Err failed.failure) deep.ensures failed.ensures.answer in record {
       tree = [];
       answers = subst (λ (e : DepthFailure). AnswersWithin S c.args.depth source view (Err e)) (sym c.told.ensures)
           answers;
       gains = tt;
     }
+
+pub returns-in-Err-clause-given : goal.returns-in-Err-clause-given
+returns-in-Err-clause-given g c = λ source cut.
+    let S = stated g.S.ParseScalarValue.reading g.S.ScalarValue.of_bool in
+    let deep = c.end_at_nesting-deep in
+    given_of_text g.D.DefinitionSink.holds S c.args.depth source c.args.parser.now deep.new.self deep.result cut
+    deep.ensures c.in-Err.ensures.given

@@ -8,7 +8,7 @@ use Rattle.juniper.specs.Within.{AnswersWithin}
 use Rattle.juniper.specs.declared.parser.depth.DepthFailure.TheVariants.{Parse}
 use Rattle.juniper.proofs.Promises.{cut_from_start}
 use Rattle.juniper.proofs.Limits.{lexical_within}
-use Rattle.juniper.proofs.Sinks.{gains_tree}
+use Rattle.juniper.proofs.Sinks.{gains_tree, none_given}
 use Rattle.juniper.proofs.parser.sink.parse_document_source_into.Goals as goal
 
 pub returns-in-Ok : goal.returns-in-Ok
@@ -16,7 +16,8 @@ returns-in-Ok g c =
     let S = stated g.S.ParseScalarValue.reading g.S.ScalarValue.of_bool in
     let source = chars c.args.s.now in
     let given = c.give_within in
-    let p = given.ensures source (cut_from_start _ _ _ c.new-lexer.ensures c.in-Ok.ensures.tokens) in
+    let cut = cut_from_start _ _ _ c.new-lexer.ensures c.in-Ok.ensures.tokens in
+    let p = given.ensures.answer source cut in
     let tree = gains_tree g.D.DefinitionSink.holds S c.args.depth source c.args.definitions.now given.new.definitions
     given.result p in
     let answers = p.answers in
@@ -26,6 +27,7 @@ returns-in-Ok g c =
       in_characters = answers.in_characters;
       within = answers.within;
       too_deep = answers.too_deep;
+      given = given.ensures.given source cut;
     }
 
 pub returns-in-Err : goal.returns-in-Err
@@ -44,4 +46,5 @@ returns-in-Err g c =
       in_characters = p.in_characters;
       within = p.within;
       too_deep = p.too_deep;
+      given = none_given g.D.DefinitionSink.holds S source c.args.definitions.now;
     }
