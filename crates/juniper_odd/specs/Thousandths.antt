@@ -1,8 +1,7 @@
 -- What `Thousandths` states of itself.
-use Rattle.std.specs.Prelude.{ℤ, List, [], ◌∷◌, Option, Some, None, Ok, Err, codes, if◌then◌else◌}
+use Rattle.std.specs.Prelude.{ℤ, List, [], ◌∷◌, Option, Some, None, Ok, Err, codes}
 use Rattle.graphql_lexical.specs.declared.kind.Kind.{Kind}
-use Rattle.graphql_lexical.specs.declared.kind.Kind.TheVariants.{Float}
-use Rattle.graphql_lexical.specs.Kinds.{same_kind}
+use Rattle.graphql_lexical.specs.Kinds.{Spelling, Names, Strings, BlockStrings, Floats, Ints, Fixed, NoText, spelling}
 use Rattle.juniper_tokens.specs.Errors.{ExpectedScalar}
 use Rattle.juniper_values.specs.Text.{Text}
 use Rattle.juniper_values.specs.Scalar.{Content, integer, text, boolean, custom, Reading}
@@ -27,9 +26,20 @@ milli_reading None = Err (ExpectedScalar (codes "Not thousandths"))
 abbrev pub float_reading : Text → Reading
 float_reading t = milli_reading (thousandths_in t)
 
--- a Float so, and any other token as the default type reads it
+-- The reading of a token of this kind and text, which is spelled so: a Float as a number of thousandths, and any other
+-- as the default type reads it.
+abbrev pub thousandths_by : Spelling → Kind → Text → Reading
+thousandths_by Names kind t = default_reading kind t
+thousandths_by Strings kind t = default_reading kind t
+thousandths_by BlockStrings kind t = default_reading kind t
+thousandths_by Floats kind t = float_reading t
+thousandths_by Ints kind t = default_reading kind t
+thousandths_by (Fixed fixed) kind t = default_reading kind t
+thousandths_by NoText kind t = default_reading kind t
+
+-- The reading of a token by its kind and its text.
 abbrev pub thousandths_reading : Kind → Text → Reading
-thousandths_reading kind t = if same_kind kind Float then float_reading t else default_reading kind t
+thousandths_reading kind t = thousandths_by (spelling kind) kind t
 
 -- A number of thousandths, with its places. No other list of integers is the content of a scalar.
 abbrev pub custom_text : List ℤ → Text

@@ -15,7 +15,8 @@ use std::alloc::Global;
 /// The tree of a text by `RefuseAll`: the documents without scalar tokens are exactly those that it accepts.
 ///
 /// Any other text is refused as the grammar refuses it: a scalar token where a value may stand as
-/// `ExpectedScalarError("No literals")`, and elsewhere as `UnexpectedToken`.
+/// `ExpectedScalarError("No literals")`, and elsewhere as `UnexpectedToken`. `ParseFailure::Memory` where memory ran out.
+/// The stack holds the nesting of the text.
 pub fn documents_without_scalars<'a>(
     alloc: Global,
     source: &'a str,
