@@ -1,6 +1,7 @@
 -- Lists that grow behind, and a node that counts what has come behind it.
 use Rattle.std.specs.Global.{Vec}
-use Rattle.std.proofs.Common.{◌≡◌, ◌∙◌, ℕ, ◌-◌, ◌<◌, List, [], ◌∷◌, ◌++◌, length, map, get_or, None, refl, sym, ap, ap₂, append_assoc, append-nil, arith}
+use Rattle.std.specs.Prelude.{Result, Ok, Err, IsErr}
+use Rattle.std.proofs.Common.{true≢false, ◌≡◌, ◌∙◌, ℕ, ◌-◌, ◌<◌, List, [], ◌∷◌, ◌++◌, length, map, get_or, None, refl, sym, ap, ap₂, append_assoc, append-nil, arith}
 use Rattle.std.proofs.Math.ListN.{set}
 use Rattle.std.proofs.Math.Seq.{set-append_seam}
 use Rattle.std.proofs.lemmas.List.{length-map, length-append, map-set, get_or_at, get_or-map}
@@ -8,7 +9,7 @@ use Rattle.graphql_lexical.specs.Place.{Span}
 use Rattle.graphql_nodes.specs.Nodes.{Node, Label, over}
 use Rattle.graphql_nodes.specs.declared.kind.NodeKind.{NodeKind}
 use Rattle.juniper_nodes.specs.declared.node.Node as code
-use Rattle.juniper_nodes.specs.NodeViews.{view_node, view_nodes, Gains, CountsInner}
+use Rattle.juniper_nodes.specs.NodeViews.{view_node, view_nodes, Gains, Grows, StandsInFront, CountsInner}
 
 -- where a list is seen as a middle between two others, the item at the middle's place is seen as the middle
 seen_at : {A B : Type 0} (view : A → B) (xs : List A) (x : A) (place : ℕ) (before inner : List B) (middle : B)
@@ -45,6 +46,18 @@ module _ {S C : Type 0} (content : S → C) where
   -- by nothing
   pub grown_none : (v : Vec (code.Node S)) → Gains content v v []
   grown_none v = record { nodes = sym (append-nil (view_nodes content v)) }
+
+  -- by some nodes, and then by those that had come when memory ran out
+  pub grown_in_front : {old mid new : Vec (code.Node S)} {xs : List (Node C)}
+      → Gains content old mid xs → StandsInFront content mid new → StandsInFront content old new
+  grown_in_front p q = record { added = _; gains = grown p q.gains }
+
+  -- where memory ran out
+  pub grown_on_error : {X E : Type 0} {old mid new : Vec (code.Node S)} {xs : List (Node C)} (added : List (Node C))
+      → (r : Result X E) → IsErr r → Gains content old mid xs → StandsInFront content mid new
+      → Grows content r old new added
+  grown_on_error added (Ok x) e p q = absurd (true≢false (sym e))
+  grown_on_error added (Err x) e p q = grown_in_front p q
 
   -- by a node, by those of the parts in it, and then by their number
   pub closed : {old opened filled new : Vec (code.Node S)} {place : ℕ}

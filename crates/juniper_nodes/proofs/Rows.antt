@@ -1,30 +1,48 @@
 -- The nodes of parts in a row, over a loop that adds those of one part a turn.
-use Rattle.std.proofs.Common.{◌≡◌, ◌∙◌, ℕ, ◌+◌, ◌<◌, ◌≤◌, List, ◌∷◌, ◌++◌, length, drop, map, get_or, sym, ap, append_assoc, append-nil}
+use Rattle.std.proofs.Common.{◌≡◌, ◌∙◌, ℕ, ◌+◌, ◌<◌, ◌≤◌, List, [], ◌∷◌, ◌++◌, length, take, map, get_or, sym, ap, append_assoc, append-nil, add-one}
 use Rattle.std.specs.Global.{Vec}
-use Rattle.std.proofs.lemmas.List.{drop_all, drop_more}
+use Rattle.std.proofs.lemmas.List.{take_all}
+use Rattle.std.proofs.Math.Seq.{take-suc}
 use Rattle.graphql_nodes.specs.Nodes.{Node, each}
 use Rattle.juniper_nodes.specs.declared.node.Node as code
 use Rattle.juniper_nodes.specs.NodeViews.{view_nodes, Gains}
+use Rattle.juniper_nodes.proofs.Growth.{grown_none}
 
 module _ {S C A B : Type 0} (content : S → C) (nodes : B → List (Node C)) (view : A → B) where
-  -- the nodes so far, and those of the parts that are left, are the nodes of all
+  -- the nodes so far are those of the parts so far
   abbrev pub Goes : Vec (code.Node S) → Vec (code.Node S) → List A → ℕ → Type 0
-  Goes old now xs i = view_nodes content old ++ each nodes (map view xs)
-      ≡ view_nodes content now ++ each nodes (map view (drop i xs))
+  Goes old now xs i = Gains content old now (each nodes (map view (take i xs)))
 
-  -- one part's nodes go over from what is left to what is there
+  one_more : (xs : List A) (x : A) → each nodes (map view (xs ++ x ∷ [])) ≡ each nodes (map view xs) ++ nodes (view x)
+  unfolding each
+  one_more [] x = append-nil (nodes (view x))
+  one_more (y ∷ ys) x =
+      ap (λ ns. nodes (view y) ++ ns) (one_more ys x)
+      ∙ sym (append_assoc (nodes (view y)) (each nodes (map view ys)) (nodes (view x)))
+
+  -- before the first part
+  pub no_part_yet : (v : Vec (code.Node S)) (xs : List A) → Goes v v xs 0
+  unfolding each
+  no_part_yet v xs = grown_none content v
+
+  -- one part's nodes more
   pub next_part : (old now new : Vec (code.Node S)) (xs : List A) (i : ℕ) (x : A)
       → i < length xs → x ≡ get_or xs i x → Goes old now xs i → Gains content now new (nodes (view x))
       → Goes old new xs (i + 1)
-  unfolding each
   next_part old now new xs i x lt r goes gains =
-      let rest = drop (i + 1) xs in
-      let left : drop i xs ≡ x ∷ rest = drop_more xs i x lt ∙ ap (λ (y : A). y ∷ rest) (sym r) in
-      goes ∙ rw (left, gains.nodes) (sym (append_assoc (view_nodes content now) _ _))
+      let done = each nodes (map view (take i xs)) in
+      let longer : take (i + 1) xs ≡ take i xs ++ x ∷ [] =
+      ap (λ k. take k xs) (add-one i) ∙ (take-suc xs i x lt ∙ ap (λ (y : A). take i xs ++ y ∷ []) (sym r)) in
+      record {
+        nodes =
+            gains.nodes ∙ (ap (λ ns. ns ++ nodes (view x)) goes.nodes
+            ∙ (append_assoc (view_nodes content old) done (nodes (view x))
+            ∙ ap (λ ns. view_nodes content old ++ ns) (sym (ap (λ ys. each nodes (map view ys)) longer
+            ∙ one_more (take i xs) x))));
+      }
 
   pub no_part : (old now : Vec (code.Node S)) (xs : List A) (i : ℕ)
       → length xs ≤ i → Goes old now xs i → Gains content old now (each nodes (map view xs))
-  unfolding each
   no_part old now xs i le goes = record {
-    nodes = sym (goes ∙ rw (drop_all i xs le) (append-nil (view_nodes content now)));
+    nodes = goes.nodes ∙ ap (λ ys. view_nodes content old ++ each nodes (map view ys)) (take_all i xs le);
   }

@@ -2,8 +2,7 @@
 use Rattle.std.specs.Prelude.{ℤ, pos, unsigned_abs, ◌||◌, if◌then◌else◌, List, [], ◌∷◌, ◌++◌, length, drop, map, Bool, Option, Some, None, Ok, Err}
 use Rattle.std.specs.Ordering.{int_eq}
 use Rattle.graphql_lexical.specs.declared.kind.Kind.{Kind}
-use Rattle.graphql_lexical.specs.declared.kind.Kind.TheVariants as kind
-use Rattle.graphql_lexical.specs.Kinds.{same_kind}
+use Rattle.graphql_lexical.specs.Kinds.{Spelling, Names, Strings, BlockStrings, Floats, Ints, Fixed, NoText, spelling}
 use Rattle.juniper_values.specs.Text.{Text}
 use Rattle.juniper_values.specs.Scalar.{Content, integer, text, boolean, custom, Reading}
 use Rattle.juniper_values.specs.Default.{default_content, default_reading, default_shown}
@@ -116,11 +115,16 @@ string_reading of (Ok (custom ns)) = Ok (custom ns)
 string_reading of (Err e) = Err e
 
 -- A Float is kept as it is written. Of an Int, a String and a block string the default type reads what it means; an Int
--- that it refuses is one beyond 32 bits, a String that it refuses is refused.
+-- that it refuses is one beyond 32 bits, a String that it refuses is refused. No other token is read.
+abbrev pub literal_by : Spelling → Kind → Text → Reading
+literal_by Names k t = default_reading k t
+literal_by Strings k t = string_reading (of_string t) (default_reading k t)
+literal_by BlockStrings k t = string_reading (of_block t) (default_reading k t)
+literal_by Floats k t = Ok (of_float t)
+literal_by Ints k t = int_reading t (default_reading k t)
+literal_by (Fixed fixed) k t = default_reading k t
+literal_by NoText k t = default_reading k t
+
+-- The reading of a token by its kind and its text.
 abbrev pub literal_reading : Kind → Text → Reading
-literal_reading k t =
-    if same_kind k kind.Float then Ok (of_float t)
-    else if same_kind k kind.Int then int_reading t (default_reading k t)
-    else if same_kind k kind.String then string_reading (of_string t) (default_reading k t)
-    else if same_kind k kind.BlockString then string_reading (of_block t) (default_reading k t)
-    else default_reading k t
+literal_reading k t = literal_by (spelling k) k t

@@ -1,5 +1,5 @@
 -- The nodes of the code, as the definitions see them, and how a list of them grows.
-use Rattle.std.specs.Prelude.{◌≡◌, ℕ, List, ◌∷◌, ◌++◌, map, length, Option, option_map}
+use Rattle.std.specs.Prelude.{◌≡◌, ℕ, List, ◌∷◌, ◌++◌, map, length, Option, option_map, Result, Ok, Err}
 use Rattle.std.specs.Global.{Vec}
 use Rattle.std.specs.Str.{chars}
 use Rattle.graphql_lexical.specs.Place.{Span}
@@ -46,6 +46,16 @@ module _ {S C : Type 0} (content : S → C) where
   -- the new list has these nodes behind the old ones
   pub record Gains (old new : Vec (Node S)) (added : List (nodes.Node C)) : Type 0 where
     pub nodes : view_nodes new ≡ view_nodes old ++ added
+
+  -- what stood before still stands in front
+  pub record StandsInFront (old new : Vec (Node S)) : Type 0 where
+    pub added : List (nodes.Node C)
+    pub gains : Gains old new added
+
+  -- The list has gained these nodes; where memory ran out, what stood before still stands in front.
+  abbrev pub Grows : {X E : Type 0} → Result X E → Vec (Node S) → Vec (Node S) → List (nodes.Node C) → Type 0
+  Grows (Ok x) old new added = Gains old new added
+  Grows (Err e) old new added = StandsInFront old new
 
   -- The node at this place has its number of descendants: all nodes behind it.
   pub record CountsInner (old new : Vec (Node S)) (place : ℕ) : Type 0 where

@@ -1,5 +1,5 @@
 //! The nodes of a document, part by part.
-#![tactic(auto, using(crate::proofs::Growth::grown, crate::proofs::Growth::grown_none))]
+#![tactic(auto, using(crate::proofs::Growth::grown, crate::proofs::Growth::grown_none, crate::proofs::Growth::grown_in_front))]
 
 mod definition;
 mod directives;

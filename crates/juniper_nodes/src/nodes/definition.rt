@@ -1,8 +1,8 @@
 //! The nodes of definitions.
-ghost use Rattle.std.specs.Prelude.{◌≡◌, OnOk, IfOk, map};
+ghost use Rattle.std.specs.Prelude.{◌≡◌, OnOk, OnErr, IfOk, map};
 ghost use Rattle.graphql_nodes.specs.Nodes.{definition_nodes, document_nodes, operation_kind};
 ghost use Rattle.juniper.specs.View.{view_definition};
-ghost use Rattle.juniper_nodes.specs.NodeViews.{view_operation, view_fragment, view_nodes, Gains};
+ghost use Rattle.juniper_nodes.specs.NodeViews.{view_operation, view_fragment, view_nodes, Gains, Grows, StandsInFront};
 
 use crate::node::{Label, Node};
 use crate::nodes::directives::push_directives;
@@ -16,7 +16,14 @@ use std::alloc::{AllocError, Global};
 /// The nodes of a document: each part of its tree before the parts in it, in the order in which the source writes them
 /// (GraphQL specification, October 2021, section 2.2).
 ///
-/// `AllocError` where memory ran out.
+/// `AllocError` where memory ran out. The stack holds the tree's nesting.
+///
+/// ```
+/// for node in &document_nodes(alloc, &document)? {
+///     let kind = node.kind.name();
+///     let line = node.span.start.line();
+/// }
+/// ```
 pub fn document_nodes<'t, 'a, S: ScalarValue>(
     alloc: Global,
     document: &'t [Definition<'a, S>],
@@ -32,12 +39,14 @@ pub fn document_nodes<'t, 'a, S: ScalarValue>(
 
 /// Puts the nodes of a definition behind the others (GraphQL specification, October 2021, section 2.2).
 ///
-/// `AllocError` where memory ran out: some of its nodes may stand behind the others then.
+/// `AllocError` where memory ran out: what stood before still stands in front then, and some of the definition's nodes
+/// may stand behind it.
 pub fn push_definition<'t, 'a, S: ScalarValue>(
     nodes: &mut Vec<Node<'t, 'a, S>>,
     definition: &'t Definition<'a, S>,
 ) -> Result<(), AllocError>
-    ensures { OnOk result (Gains S.content nodes.old nodes.new (definition_nodes (view_definition S.content definition.now))) }
+    ensures gained { OnOk result (Gains S.content nodes.old nodes.new (definition_nodes (view_definition S.content definition.now))) }
+    ensures kept { OnErr result (StandsInFront S.content nodes.old nodes.new) }
 {
     match definition {
         Definition::Operation(operation) => push_operation(nodes, operation),
@@ -59,7 +68,7 @@ fn push_operation<'t, 'a, S: ScalarValue>(
     nodes: &mut Vec<Node<'t, 'a, S>>,
     operation: &'t Spanning<Operation<'a, S>>,
 ) -> Result<(), AllocError>
-    ensures { OnOk result (Gains S.content nodes.old nodes.new (definition_nodes (view_operation S.content operation.now))) }
+    ensures { Grows S.content result nodes.old nodes.new (definition_nodes (view_operation S.content operation.now)) }
 {
     let kind = kind_of(operation.item.operation_type);
     let name = label_of(&operation.item.name);
@@ -75,7 +84,7 @@ fn push_fragment<'t, 'a, S: ScalarValue>(
     nodes: &mut Vec<Node<'t, 'a, S>>,
     fragment: &'t Spanning<Fragment<'a, S>>,
 ) -> Result<(), AllocError>
-    ensures { OnOk result (Gains S.content nodes.old nodes.new (definition_nodes (view_fragment S.content fragment.now))) }
+    ensures { Grows S.content result nodes.old nodes.new (definition_nodes (view_fragment S.content fragment.now)) }
 {
     let name = Label::Fragment(&fragment.item.name, &fragment.item.type_condition);
     let place = push_open(nodes, NodeKind::Fragment, &fragment.span, name)?;

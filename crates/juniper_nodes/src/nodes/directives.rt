@@ -1,8 +1,8 @@
 //! The nodes of arguments and directives.
-ghost use Rattle.std.specs.Prelude.{OnOk, map, option_map};
+ghost use Rattle.std.specs.Prelude.{map, option_map};
 ghost use Rattle.graphql_nodes.specs.Nodes.{each, if_present, argument_nodes, arguments_nodes, directive_nodes, directives_nodes};
 ghost use Rattle.juniper.specs.View.{view_argument, view_arguments, view_directive, view_directives};
-ghost use Rattle.juniper_nodes.specs.NodeViews.{Gains};
+ghost use Rattle.juniper_nodes.specs.NodeViews.{Grows};
 
 use crate::node::{Label, Node};
 use crate::nodes::push::{close, push_open};
@@ -15,7 +15,7 @@ fn push_argument<'t, 'a, S: ScalarValue>(
     nodes: &mut Vec<Node<'t, 'a, S>>,
     argument: &'t (Spanning<&'a str>, Spanning<InputValue<S>>),
 ) -> Result<(), AllocError>
-    ensures { OnOk result (Gains S.content nodes.old nodes.new (argument_nodes (view_argument S.content argument.now))) }
+    ensures { Grows S.content result nodes.old nodes.new (argument_nodes (view_argument S.content argument.now)) }
 {
     let name = &argument.0;
     let place = push_open(nodes, NodeKind::Argument, &name.span, Label::Name(name))?;
@@ -28,7 +28,7 @@ fn push_each_argument<'t, 'a, S: ScalarValue>(
     nodes: &mut Vec<Node<'t, 'a, S>>,
     arguments: &'t [(Spanning<&'a str>, Spanning<InputValue<S>>)],
 ) -> Result<(), AllocError>
-    ensures { OnOk result (Gains S.content nodes.old nodes.new (each argument_nodes (map (view_argument S.content) arguments.now))) }
+    ensures { Grows S.content result nodes.old nodes.new (each argument_nodes (map (view_argument S.content) arguments.now)) }
 {
     for argument in arguments {
         push_argument(nodes, argument)?;
@@ -40,7 +40,7 @@ fn push_arguments<'t, 'a, S: ScalarValue>(
     nodes: &mut Vec<Node<'t, 'a, S>>,
     arguments: &'t Spanning<Arguments<'a, S>>,
 ) -> Result<(), AllocError>
-    ensures { OnOk result (Gains S.content nodes.old nodes.new (arguments_nodes (view_arguments S.content arguments.now))) }
+    ensures { Grows S.content result nodes.old nodes.new (arguments_nodes (view_arguments S.content arguments.now)) }
 {
     let place = push_open(nodes, NodeKind::Arguments, &arguments.span, Label::Unnamed)?;
     push_each_argument(nodes, &arguments.item.items)?;
@@ -53,7 +53,7 @@ pub(crate) fn push_optional_arguments<'t, 'a, S: ScalarValue>(
     nodes: &mut Vec<Node<'t, 'a, S>>,
     arguments: &'t Option<Spanning<Arguments<'a, S>>>,
 ) -> Result<(), AllocError>
-    ensures { OnOk result (Gains S.content nodes.old nodes.new (if_present arguments_nodes (option_map (view_arguments S.content) arguments.now))) }
+    ensures { Grows S.content result nodes.old nodes.new (if_present arguments_nodes (option_map (view_arguments S.content) arguments.now)) }
 {
     match arguments {
         None => Ok(()),
@@ -65,7 +65,7 @@ fn push_directive<'t, 'a, S: ScalarValue>(
     nodes: &mut Vec<Node<'t, 'a, S>>,
     directive: &'t Spanning<Directive<'a, S>>,
 ) -> Result<(), AllocError>
-    ensures { OnOk result (Gains S.content nodes.old nodes.new (directive_nodes (view_directive S.content directive.now))) }
+    ensures { Grows S.content result nodes.old nodes.new (directive_nodes (view_directive S.content directive.now)) }
 {
     let name = Label::Name(&directive.item.name);
     let place = push_open(nodes, NodeKind::Directive, &directive.span, name)?;
@@ -78,7 +78,7 @@ fn push_each_directive<'t, 'a, S: ScalarValue>(
     nodes: &mut Vec<Node<'t, 'a, S>>,
     directives: &'t [Spanning<Directive<'a, S>>],
 ) -> Result<(), AllocError>
-    ensures { OnOk result (Gains S.content nodes.old nodes.new (each directive_nodes (map (view_directive S.content) directives.now))) }
+    ensures { Grows S.content result nodes.old nodes.new (each directive_nodes (map (view_directive S.content) directives.now)) }
 {
     for directive in directives {
         push_directive(nodes, directive)?;
@@ -91,7 +91,7 @@ pub(crate) fn push_directives<'t, 'a, S: ScalarValue>(
     nodes: &mut Vec<Node<'t, 'a, S>>,
     directives: &'t Option<Vec<Spanning<Directive<'a, S>>>>,
 ) -> Result<(), AllocError>
-    ensures { OnOk result (Gains S.content nodes.old nodes.new (directives_nodes (view_directives S.content directives.now))) }
+    ensures { Grows S.content result nodes.old nodes.new (directives_nodes (view_directives S.content directives.now)) }
 {
     match directives {
         None => Ok(()),

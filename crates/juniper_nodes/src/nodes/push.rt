@@ -1,9 +1,9 @@
 //! How one node comes to the list.
-ghost use Rattle.std.specs.Prelude.{◌≡◌, ◌∷◌, [], ◌<◌, List, length, option_map, OnOk, IfOk};
+ghost use Rattle.std.specs.Prelude.{◌≡◌, ◌∷◌, [], ◌<◌, List, length, option_map, OnErr, IfOk};
 ghost use Rattle.graphql_nodes.specs.Nodes.{Node, over, scalar_node};
 ghost use Rattle.juniper_tokens.specs.Spans.{view_span};
 ghost use Rattle.juniper.specs.View.{view_word};
-ghost use Rattle.juniper_nodes.specs.NodeViews.{view_label, view_nodes, TellsName, Gains, CountsInner};
+ghost use Rattle.juniper_nodes.specs.NodeViews.{view_label, view_nodes, TellsName, Gains, Grows, StandsInFront, CountsInner};
 
 use crate::node::{Label, Node};
 use graphql_nodes::NodeKind;
@@ -17,7 +17,8 @@ pub(crate) fn push_open<'t, 'a, S: ScalarValue>(
     span: &'t Span,
     label: Label<'t, 'a>,
 ) -> Result<usize, AllocError>
-    ensures { IfOk result (λ place. (place ≡ length (view_nodes S.content nodes.old)) × Gains S.content nodes.old nodes.new (over kind (view_span span.now) (view_label (view_span span.now) label.entry) [])) }
+    ensures opened { IfOk result (λ place. (place ≡ length (view_nodes S.content nodes.old)) × Gains S.content nodes.old nodes.new (over kind (view_span span.now) (view_label (view_span span.now) label.entry) [])) }
+    ensures kept { OnErr result (StandsInFront S.content nodes.old nodes.new) }
 {
     let place = nodes.len();
     nodes.push(Node {
@@ -37,7 +38,7 @@ pub(crate) fn push_leaf<'t, 'a, S: ScalarValue>(
     span: &'t Span,
     label: Label<'t, 'a>,
 ) -> Result<(), AllocError>
-    ensures { OnOk result (Gains S.content nodes.old nodes.new (over kind (view_span span.now) (view_label (view_span span.now) label.entry) [])) }
+    ensures { Grows S.content result nodes.old nodes.new (over kind (view_span span.now) (view_label (view_span span.now) label.entry) []) }
 {
     push_open(nodes, kind, span, label)?;
     Ok(())
@@ -49,7 +50,7 @@ pub(crate) fn push_scalar<'t, 'a, S: ScalarValue>(
     scalar: &'t S,
     span: &'t Span,
 ) -> Result<(), AllocError>
-    ensures { OnOk result (Gains S.content nodes.old nodes.new (scalar_node (S.content scalar.now) (view_span span.now) ∷ [])) }
+    ensures { Grows S.content result nodes.old nodes.new (scalar_node (S.content scalar.now) (view_span span.now) ∷ []) }
 {
     nodes.push(Node {
         kind: NodeKind::Scalar,

@@ -1,8 +1,8 @@
 //! The nodes of selections.
-ghost use Rattle.std.specs.Prelude.{OnOk, option_map};
+ghost use Rattle.std.specs.Prelude.{option_map};
 ghost use Rattle.graphql_nodes.specs.Nodes.{if_present, alias_nodes, selection_nodes, selections_nodes};
 ghost use Rattle.juniper.specs.View.{view_word, view_selection, view_selections, view_field, view_inline};
-ghost use Rattle.juniper_nodes.specs.NodeViews.{view_spread, Gains};
+ghost use Rattle.juniper_nodes.specs.NodeViews.{view_spread, Grows};
 
 use crate::node::{Label, Node};
 use crate::nodes::directives::{push_directives, push_optional_arguments};
@@ -17,7 +17,7 @@ fn push_selection<'t, 'a, S: ScalarValue>(
     nodes: &mut Vec<Node<'t, 'a, S>>,
     selection: &'t Selection<'a, S>,
 ) -> Result<(), AllocError>
-    ensures { OnOk result (Gains S.content nodes.old nodes.new (selection_nodes (view_selection S.content selection.now))) }
+    ensures { Grows S.content result nodes.old nodes.new (selection_nodes (view_selection S.content selection.now)) }
 {
     // The law that the proof cites.
     selections_are_seen::<S>();
@@ -32,7 +32,7 @@ fn push_alias<'t, 'a, S: ScalarValue>(
     nodes: &mut Vec<Node<'t, 'a, S>>,
     alias: &'t Option<Spanning<&'a str>>,
 ) -> Result<(), AllocError>
-    ensures { OnOk result (Gains S.content nodes.old nodes.new (if_present alias_nodes (option_map view_word alias.now))) }
+    ensures { Grows S.content result nodes.old nodes.new (if_present alias_nodes (option_map view_word alias.now)) }
 {
     match alias {
         None => Ok(()),
@@ -45,7 +45,7 @@ fn push_field<'t, 'a, S: ScalarValue>(
     nodes: &mut Vec<Node<'t, 'a, S>>,
     field: &'t Spanning<Field<'a, S>>,
 ) -> Result<(), AllocError>
-    ensures { OnOk result (Gains S.content nodes.old nodes.new (selection_nodes (view_field S.content field.now))) }
+    ensures { Grows S.content result nodes.old nodes.new (selection_nodes (view_field S.content field.now)) }
 {
     let name = Label::Name(&field.item.name);
     let place = push_open(nodes, NodeKind::Field, &field.span, name)?;
@@ -69,7 +69,7 @@ fn push_spread<'t, 'a, S: ScalarValue>(
     nodes: &mut Vec<Node<'t, 'a, S>>,
     spread: &'t Spanning<FragmentSpread<'a, S>>,
 ) -> Result<(), AllocError>
-    ensures { OnOk result (Gains S.content nodes.old nodes.new (selection_nodes (view_spread S.content spread.now))) }
+    ensures { Grows S.content result nodes.old nodes.new (selection_nodes (view_spread S.content spread.now)) }
 {
     let name = Label::Name(&spread.item.name);
     let place = push_open(nodes, NodeKind::Spread, &spread.span, name)?;
@@ -83,7 +83,7 @@ fn push_inline<'t, 'a, S: ScalarValue>(
     nodes: &mut Vec<Node<'t, 'a, S>>,
     fragment: &'t Spanning<InlineFragment<'a, S>>,
 ) -> Result<(), AllocError>
-    ensures { OnOk result (Gains S.content nodes.old nodes.new (selection_nodes (view_inline S.content fragment.now))) }
+    ensures { Grows S.content result nodes.old nodes.new (selection_nodes (view_inline S.content fragment.now)) }
 {
     let condition = label_of(&fragment.item.type_condition);
     let place = push_open(nodes, NodeKind::Inline, &fragment.span, condition)?;
@@ -99,7 +99,7 @@ pub(crate) fn push_selections<'t, 'a, S: ScalarValue>(
     nodes: &mut Vec<Node<'t, 'a, S>>,
     selections: &'t [Selection<'a, S>],
 ) -> Result<(), AllocError>
-    ensures { OnOk result (Gains S.content nodes.old nodes.new (selections_nodes (view_selections S.content selections.now))) }
+    ensures { Grows S.content result nodes.old nodes.new (selections_nodes (view_selections S.content selections.now)) }
 {
     for selection in selections {
         push_selection(nodes, selection)?;

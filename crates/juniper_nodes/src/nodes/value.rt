@@ -1,9 +1,9 @@
 //! The nodes of values.
-ghost use Rattle.std.specs.Prelude.{◌≡◌, OnOk, IfOk, map};
+ghost use Rattle.std.specs.Prelude.{◌≡◌, IfOk, map};
 ghost use Rattle.graphql_grammar.specs.Tree.{items_of, fields_of};
 ghost use Rattle.graphql_nodes.specs.Nodes.{value_nodes, items_nodes, fields_nodes};
 ghost use Rattle.juniper.specs.View.{view_value, view_object_field};
-ghost use Rattle.juniper_nodes.specs.NodeViews.{view_nodes, Gains};
+ghost use Rattle.juniper_nodes.specs.NodeViews.{view_nodes, Grows};
 
 use crate::node::{Label, Node};
 use crate::nodes::push::{close, push_leaf, push_open, push_scalar};
@@ -32,7 +32,7 @@ pub(crate) fn push_value<'t, 'a, S: ScalarValue>(
     nodes: &mut Vec<Node<'t, 'a, S>>,
     value: &'t Spanning<InputValue<S>>,
 ) -> Result<(), AllocError>
-    ensures { OnOk result (Gains S.content nodes.old nodes.new (value_nodes (view_value S.content value.now))) }
+    ensures { Grows S.content result nodes.old nodes.new (value_nodes (view_value S.content value.now)) }
 {
     // The law that the proof cites.
     values_are_seen::<S>();
@@ -72,7 +72,7 @@ fn push_items<'t, 'a, S: ScalarValue>(
     nodes: &mut Vec<Node<'t, 'a, S>>,
     items: &'t [Spanning<InputValue<S>>],
 ) -> Result<(), AllocError>
-    ensures { OnOk result (Gains S.content nodes.old nodes.new (items_nodes (items_of (map (view_value S.content) items.now)))) }
+    ensures { Grows S.content result nodes.old nodes.new (items_nodes (items_of (map (view_value S.content) items.now))) }
 {
     for item in items {
         push_value(nodes, item)?;
@@ -85,7 +85,7 @@ fn push_fields<'t, 'a, S: ScalarValue>(
     nodes: &mut Vec<Node<'t, 'a, S>>,
     fields: &'t [(Spanning<String>, Spanning<InputValue<S>>)],
 ) -> Result<(), AllocError>
-    ensures { OnOk result (Gains S.content nodes.old nodes.new (fields_nodes (fields_of (map (view_object_field S.content) fields.now)))) }
+    ensures { Grows S.content result nodes.old nodes.new (fields_nodes (fields_of (map (view_object_field S.content) fields.now))) }
 {
     for (key, value) in fields {
         let name = Label::Text(key.item.as_str());

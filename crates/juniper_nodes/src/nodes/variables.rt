@@ -1,8 +1,8 @@
 //! The nodes of variable definitions.
-ghost use Rattle.std.specs.Prelude.{OnOk, map, option_map};
+ghost use Rattle.std.specs.Prelude.{map, option_map};
 ghost use Rattle.graphql_nodes.specs.Nodes.{each, if_present, value_nodes, variable_nodes, variables_nodes};
 ghost use Rattle.juniper.specs.View.{view_value, view_variable, view_variables};
-ghost use Rattle.juniper_nodes.specs.NodeViews.{Gains};
+ghost use Rattle.juniper_nodes.specs.NodeViews.{Grows};
 
 use crate::node::{Label, Node};
 use crate::nodes::directives::push_directives;
@@ -16,7 +16,7 @@ fn push_default<'t, 'a, S: ScalarValue>(
     nodes: &mut Vec<Node<'t, 'a, S>>,
     value: &'t Option<Spanning<InputValue<S>>>,
 ) -> Result<(), AllocError>
-    ensures { OnOk result (Gains S.content nodes.old nodes.new (if_present value_nodes (option_map (view_value S.content) value.now))) }
+    ensures { Grows S.content result nodes.old nodes.new (if_present value_nodes (option_map (view_value S.content) value.now)) }
 {
     match value {
         None => Ok(()),
@@ -28,7 +28,7 @@ fn push_variable<'t, 'a, S: ScalarValue>(
     nodes: &mut Vec<Node<'t, 'a, S>>,
     variable: &'t (Spanning<&'a str>, VariableDefinition<'a, S>),
 ) -> Result<(), AllocError>
-    ensures { OnOk result (Gains S.content nodes.old nodes.new (variable_nodes (view_variable S.content variable.now))) }
+    ensures { Grows S.content result nodes.old nodes.new (variable_nodes (view_variable S.content variable.now)) }
 {
     let name = &variable.0;
     let literal = &variable.1.var_type;
@@ -49,7 +49,7 @@ fn push_each_variable<'t, 'a, S: ScalarValue>(
     nodes: &mut Vec<Node<'t, 'a, S>>,
     variables: &'t [(Spanning<&'a str>, VariableDefinition<'a, S>)],
 ) -> Result<(), AllocError>
-    ensures { OnOk result (Gains S.content nodes.old nodes.new (each variable_nodes (map (view_variable S.content) variables.now))) }
+    ensures { Grows S.content result nodes.old nodes.new (each variable_nodes (map (view_variable S.content) variables.now)) }
 {
     for variable in variables {
         push_variable(nodes, variable)?;
@@ -61,7 +61,7 @@ fn push_variables<'t, 'a, S: ScalarValue>(
     nodes: &mut Vec<Node<'t, 'a, S>>,
     variables: &'t Spanning<VariableDefinitions<'a, S>>,
 ) -> Result<(), AllocError>
-    ensures { OnOk result (Gains S.content nodes.old nodes.new (variables_nodes (view_variables S.content variables.now))) }
+    ensures { Grows S.content result nodes.old nodes.new (variables_nodes (view_variables S.content variables.now)) }
 {
     let place = push_open(nodes, NodeKind::Variables, &variables.span, Label::Unnamed)?;
     push_each_variable(nodes, &variables.item.items)?;
@@ -75,7 +75,7 @@ pub(crate) fn push_optional_variables<'t, 'a, S: ScalarValue>(
     nodes: &mut Vec<Node<'t, 'a, S>>,
     variables: &'t Option<Spanning<VariableDefinitions<'a, S>>>,
 ) -> Result<(), AllocError>
-    ensures { OnOk result (Gains S.content nodes.old nodes.new (if_present variables_nodes (option_map (view_variables S.content) variables.now))) }
+    ensures { Grows S.content result nodes.old nodes.new (if_present variables_nodes (option_map (view_variables S.content) variables.now)) }
 {
     match variables {
         None => Ok(()),

@@ -2,8 +2,11 @@ use Rattle.std.proofs.Common.{◌∙◌, ◌++◌, map, ap, arith}
 use Rattle.graphql_nodes.specs.Nodes.{each, definition_nodes, document_nodes}
 use Rattle.juniper.specs.View.{view_definition}
 use Rattle.juniper_nodes.specs.NodeViews.{view_node}
-use Rattle.juniper_nodes.proofs.Rows.{next_part, no_part}
+use Rattle.juniper_nodes.proofs.Rows.{no_part_yet, next_part, no_part}
 use Rattle.juniper_nodes.proofs.nodes.definition.document_nodes.Goals as goal
+
+pub loop-definition-init : goal.loop-definition-init
+loop-definition-init g c = no_part_yet g.S.ParseScalarValue.content definition_nodes (view_definition g.S.ParseScalarValue.content) c.new-nodes.result c.args.document.now
 
 pub loop-definition-preserved : goal.loop-definition-preserved
 loop-definition-preserved g c =
@@ -14,7 +17,7 @@ loop-definition-preserved g c =
     let view = view_definition content in
     let i = l.definition-index in
     next_part content definition_nodes view c.new-nodes.result l.nodes _ xs i x.result (omega arith) x.is
-    l.invariant c.in_ok-push_definition.ensures
+    l.invariant c.in_ok-push_definition.ensures.gained
 
 pub returns : goal.returns
 unfolding document_nodes

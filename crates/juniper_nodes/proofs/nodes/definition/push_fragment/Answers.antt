@@ -7,4 +7,4 @@ unfolding definition_nodes
 returns g c =
     let content = g.S.ParseScalarValue.content in
     let parts = grown content c.in_ok-push_directives.ensures c.in_ok-push_selections.ensures in
-    rw (← c.deref.ensures.value) (closed content c.in_ok-place.ensures parts c.close.ensures)
+    rw (← c.deref.ensures.value) (closed content c.in_ok-place.ensures.opened parts c.close.ensures)

@@ -10,4 +10,4 @@ returns g c =
     let span = view_span c.args.operation.now.span in
     let parts = grown content c.in_ok-push_directives.ensures c.in_ok-push_selections.ensures in
     rw (← c.kind_of-kind.ensures, ← c.label_of-name.ensures span, ← c.deref.ensures.value)
-    (closed content c.in_ok-place.ensures (grown content c.in_ok-push_optional_variables.ensures parts) c.close.ensures)
+    (closed content c.in_ok-place.ensures.opened (grown content c.in_ok-push_optional_variables.ensures parts) c.close.ensures)

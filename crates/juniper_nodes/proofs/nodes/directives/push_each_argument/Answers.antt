@@ -1,8 +1,11 @@
 use Rattle.std.proofs.Common.{arith}
 use Rattle.graphql_nodes.specs.Nodes.{argument_nodes}
 use Rattle.juniper.specs.View.{view_argument}
-use Rattle.juniper_nodes.proofs.Rows.{next_part, no_part}
+use Rattle.juniper_nodes.proofs.Rows.{no_part_yet, next_part, no_part}
 use Rattle.juniper_nodes.proofs.nodes.directives.push_each_argument.Goals as goal
+
+pub loop-argument-init : goal.loop-argument-init
+loop-argument-init g c = no_part_yet g.S.ParseScalarValue.content argument_nodes (view_argument g.S.ParseScalarValue.content) c.args.nodes.now c.args.arguments.now
 
 pub loop-argument-preserved : goal.loop-argument-preserved
 loop-argument-preserved g c =

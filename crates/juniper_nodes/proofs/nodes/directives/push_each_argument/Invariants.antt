@@ -1,4 +1,4 @@
--- The nodes so far, and those of what is left, are the nodes of all.
+-- The nodes so far are those of the parts so far.
 use Rattle.graphql_nodes.specs.Nodes.{argument_nodes}
 use Rattle.juniper.specs.View.{view_argument}
 use Rattle.juniper_nodes.proofs.Rows.{Goes}

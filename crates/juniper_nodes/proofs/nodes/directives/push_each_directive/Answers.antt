@@ -1,8 +1,11 @@
 use Rattle.std.proofs.Common.{arith}
 use Rattle.graphql_nodes.specs.Nodes.{directive_nodes}
 use Rattle.juniper.specs.View.{view_directive}
-use Rattle.juniper_nodes.proofs.Rows.{next_part, no_part}
+use Rattle.juniper_nodes.proofs.Rows.{no_part_yet, next_part, no_part}
 use Rattle.juniper_nodes.proofs.nodes.directives.push_each_directive.Goals as goal
+
+pub loop-directive-init : goal.loop-directive-init
+loop-directive-init g c = no_part_yet g.S.ParseScalarValue.content directive_nodes (view_directive g.S.ParseScalarValue.content) c.args.nodes.now c.args.directives.now
 
 pub loop-directive-preserved : goal.loop-directive-preserved
 loop-directive-preserved g c =

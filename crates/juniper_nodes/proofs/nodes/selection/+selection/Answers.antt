@@ -3,7 +3,7 @@ use Rattle.graphql_nodes.specs.Nodes.{selection_nodes, selections_nodes, optiona
 use Rattle.juniper.specs.View.{view_selection}
 use Rattle.juniper_tokens.specs.Spans.{view_span}
 use Rattle.juniper_nodes.proofs.Growth.{grown, grown_none, closed}
-use Rattle.juniper_nodes.proofs.Rows.{next_part, no_part}
+use Rattle.juniper_nodes.proofs.Rows.{no_part_yet, next_part, no_part}
 use Rattle.juniper_nodes.proofs.SelectionNodes.{field_alone, field_above, selections_in_row}
 use Rattle.juniper_nodes.proofs.nodes.selection.+selection.Goals as goal
 
@@ -24,7 +24,7 @@ push_field-returns-in-None g t c =
     let content = g.S.ParseScalarValue.content in
     let parts = grown content c.in_ok-push_directives.ensures (grown_none content _) in
     let all = grown content c.in_ok-push_alias.ensures (grown content c.in_ok-push_optional_arguments.ensures parts) in
-    rw (field_alone content c.args.field.now c.in-None.is) (closed content c.in_ok-place.ensures all c.close.ensures)
+    rw (field_alone content c.args.field.now c.in-None.is) (closed content c.in_ok-place.ensures.opened all c.close.ensures)
 
 pub push_field-returns-in_ok-push_selections-in-Some : goal.push_field-returns-in_ok-push_selections-in-Some
 push_field-returns-in_ok-push_selections-in-Some g t c =
@@ -32,7 +32,7 @@ push_field-returns-in_ok-push_selections-in-Some g t c =
     let parts = grown content c.in_ok-push_directives.ensures c.in_ok-push_selections-in-Some.ensures in
     let all = grown content c.in_ok-push_alias.ensures (grown content c.in_ok-push_optional_arguments.ensures parts) in
     rw (field_above content c.args.field.now c.in-Some.selections c.in-Some.is, ← c.deref.ensures.value)
-    (closed content c.in_ok-place.ensures all c.close-in-Some.ensures)
+    (closed content c.in_ok-place.ensures.opened all c.close-in-Some.ensures)
 
 pub push_inline-returns : goal.push_inline-returns
 unfolding selection_nodes selections_nodes optional_nodes
@@ -40,7 +40,10 @@ push_inline-returns g t c =
     let content = g.S.ParseScalarValue.content in
     let parts = grown content c.in_ok-push_directives.ensures c.in_ok-push_selections.ensures in
     rw (← c.deref.ensures.value, ← c.label_of-condition.ensures (view_span c.args.fragment.now.span))
-    (closed content c.in_ok-place.ensures parts c.close.ensures)
+    (closed content c.in_ok-place.ensures.opened parts c.close.ensures)
+
+pub push_selections-loop-selection-init : goal.push_selections-loop-selection-init
+push_selections-loop-selection-init g t c = no_part_yet g.S.ParseScalarValue.content selection_nodes (view_selection g.S.ParseScalarValue.content) c.args.nodes.now c.args.selections.now
 
 pub push_selections-loop-selection-preserved : goal.push_selections-loop-selection-preserved
 push_selections-loop-selection-preserved g t c =

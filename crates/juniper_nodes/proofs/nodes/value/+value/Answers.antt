@@ -2,7 +2,7 @@ use Rattle.std.proofs.Common.{map, arith}
 use Rattle.graphql_nodes.specs.Nodes.{value_nodes}
 use Rattle.juniper.specs.View.{view_value, view_object_field}
 use Rattle.juniper_nodes.proofs.Growth.{closed}
-use Rattle.juniper_nodes.proofs.Rows.{next_part, no_part}
+use Rattle.juniper_nodes.proofs.Rows.{no_part_yet, next_part, no_part}
 use Rattle.juniper_nodes.proofs.ValueNodes.{field_nodes, items_in_row, fields_in_row, null-nodes, scalar-nodes, enum-nodes, variable-nodes, list-nodes, object-nodes}
 use Rattle.juniper_nodes.proofs.nodes.value.+value.Goals as goal
 
@@ -36,7 +36,7 @@ push_value-returns-in_ok-push_items-in-List g t c =
     let content = g.S.ParseScalarValue.content in
     let at = c.in-List in
     rw (list-nodes content c.values_are_seen.ensures c.args.value.now at.items at.is, ← c.deref.ensures.value)
-    (closed content c.in_ok-place-in-List.ensures c.in_ok-push_items-in-List.ensures c.close.ensures)
+    (closed content c.in_ok-place-in-List.ensures.opened c.in_ok-push_items-in-List.ensures c.close.ensures)
 
 pub push_value-returns-in_ok-push_fields-in-Object : goal.push_value-returns-in_ok-push_fields-in-Object
 push_value-returns-in_ok-push_fields-in-Object g t c =
@@ -44,7 +44,10 @@ push_value-returns-in_ok-push_fields-in-Object g t c =
     let at = c.in-Object in
     let fields = c.deref-in-Object in
     rw (object-nodes content c.values_are_seen.ensures c.args.value.now at.fields at.is, ← fields.ensures.value)
-    (closed content c.in_ok-place-in-Object.ensures c.in_ok-push_fields-in-Object.ensures c.close-in-Object.ensures)
+    (closed content c.in_ok-place-in-Object.ensures.opened c.in_ok-push_fields-in-Object.ensures c.close-in-Object.ensures)
+
+pub push_items-loop-item-init : goal.push_items-loop-item-init
+push_items-loop-item-init g t c = no_part_yet g.S.ParseScalarValue.content value_nodes (view_value g.S.ParseScalarValue.content) c.args.nodes.now c.args.items.now
 
 pub push_items-loop-item-preserved : goal.push_items-loop-item-preserved
 push_items-loop-item-preserved g t c =
@@ -65,6 +68,9 @@ push_items-returns g t c =
     rw (items_in_row (map view xs))
     (no_part content value_nodes view c.args.nodes.now l.nodes xs l.item-index (omega arith) l.invariant)
 
+pub push_fields-loop-key-init : goal.push_fields-loop-key-init
+push_fields-loop-key-init g t c = no_part_yet g.S.ParseScalarValue.content field_nodes (view_object_field g.S.ParseScalarValue.content) c.args.nodes.now c.args.fields.now
+
 pub push_fields-loop-key-preserved : goal.push_fields-loop-key-preserved
 push_fields-loop-key-preserved g t c =
     let content = g.S.ParseScalarValue.content in
@@ -75,7 +81,7 @@ push_fields-loop-key-preserved g t c =
     let new = c.close.new.nodes in
     next_part content field_nodes view c.args.nodes.now l.nodes new xs l.key-index x.result (omega arith) x.is
     l.invariant
-    (rw (← c.as_str.ensures.value) (closed content c.in_ok-place.ensures c.in_ok-push_value.ensures c.close.ensures))
+    (rw (← c.as_str.ensures.value) (closed content c.in_ok-place.ensures.opened c.in_ok-push_value.ensures c.close.ensures))
 
 pub push_fields-returns : goal.push_fields-returns
 push_fields-returns g t c =

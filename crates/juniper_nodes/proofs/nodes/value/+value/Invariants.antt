@@ -1,4 +1,4 @@
--- The nodes so far, and those of what is left, are the nodes of all.
+-- The nodes so far are those of the parts so far.
 use Rattle.std.proofs.Common.{◌+◌, ◌*◌}
 use Rattle.graphql_nodes.specs.Nodes.{value_nodes}
 use Rattle.juniper.specs.View.{view_value, view_object_field}

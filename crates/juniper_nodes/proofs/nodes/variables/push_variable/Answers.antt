@@ -7,4 +7,4 @@ unfolding variable_nodes
 returns g c =
     let content = g.S.ParseScalarValue.content in
     let parts = grown content c.in_ok-push_default.ensures c.in_ok-push_directives.ensures in
-    closed content c.in_ok-place.ensures (grown content c.in_ok-push_leaf.ensures parts) c.close.ensures
+    closed content c.in_ok-place.ensures.opened (grown content c.in_ok-push_leaf.ensures parts) c.close.ensures

@@ -6,4 +6,4 @@ pub returns : goal.returns
 unfolding variables_nodes
 returns g c =
     rw (← c.deref.ensures.value)
-    (closed g.S.ParseScalarValue.content c.in_ok-place.ensures c.in_ok-push_each_variable.ensures c.close.ensures)
+    (closed g.S.ParseScalarValue.content c.in_ok-place.ensures.opened c.in_ok-push_each_variable.ensures c.close.ensures)
