@@ -11,20 +11,14 @@ use Rattle.std.proofs.lemmas.Option.{unwrap_or-slice_get}
 use Rattle.std.proofs.lemmas.Str.{chars-IsAscii, encodes-IsAscii, encodes-chars, encode_ascii, IsAscii-take}
 use Rattle.juniper_tokens.specs.device.ByteRuns.{is_inner}
 use Rattle.juniper_tokens.proofs.ByteRuns.{wide, inner_low, inner_high, low_or_high}
-use Rattle.juniper_c.specs.Places.{byte_behind, in_word}
-
-within_word : (b : Bool) (k n : ℕ) → nat_le k (2 ^ 32 - 1) ≡ b → n < 2 ^ 32
-    → min (if b then k else 2 ^ 32 - 1) n ≡ min k n
-within_word true k n e l = refl
-within_word false k n e l = grind (arith, nat_tests)
+use Rattle.juniper_c.specs.Places.{byte_behind}
 
 -- of a text that is ASCII
-pub ascii_bytes : (bs : List ℕ) → IsAscii bs → length bs < 2 ^ 32
-    → (k : ℕ) → min (in_word k) (length bs) ≡ byte_behind (chars bs) k
-ascii_bytes bs a l k =
-    within_word _ k (length bs) refl l ∙ (sym (length-take k bs)
+pub ascii_bytes : (bs : List ℕ) → IsAscii bs → (k : ℕ) → min k (length bs) ≡ byte_behind (chars bs) k
+ascii_bytes bs a k =
+    sym (length-take k bs)
     ∙ (ap length (sym (encodes-IsAscii (take k bs) (IsAscii-take bs k a)))
-    ∙ ap (λ cs. length (encode_utf8_all (take k cs))) (sym (chars-IsAscii bs a))))
+    ∙ ap (λ cs. length (encode_utf8_all (take k cs))) (sym (chars-IsAscii bs a)))
 
 -- ---- a text of other characters
 

@@ -4,3 +4,4 @@ pub mod Scalars
 pub mod ShortScalars
 pub mod Bounds
 pub mod FlatWriters
+pub mod Fitting

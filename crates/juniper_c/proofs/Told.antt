@@ -1,5 +1,5 @@
 -- One node more is told.
-use Rattle.std.proofs.Common.{◌≡◌, ◌∙◌, ℕ, ◌+◌, ◌-◌, ◌^◌, ◌<◌, Bool, true, false, List, [], ◌∷◌, ◌++◌, length, refl, sym, ap, ap₂, arith, append_assoc, append-nil, length-append}
+use Rattle.std.proofs.Common.{◌≡◌, ◌∙◌, ℕ, ◌+◌, ◌-◌, ◌^◌, ◌<◌, Bool, true, false, List, [], ◌∷◌, ◌++◌, length, refl, sym, ap, ap₂, arith, append_assoc, append-nil, length-append, subst}
 use Rattle.std.specs.Prelude.{nat_le, if◌then◌else◌, encode_utf8_all}
 use Rattle.std.specs.Str.{chars, IsUtf8}
 use Rattle.std.proofs.lemmas.Bool.Decides.{nat_tests}
@@ -10,19 +10,13 @@ use Rattle.graphql_nodes.specs.Nodes as nodes
 use Rattle.graphql_nodes.specs.Nodes.{each, definition_nodes, document_nodes}
 use Rattle.juniper_values.specs.Scalar.{Content}
 use Rattle.juniper_nodes.specs.NodeTexts.{text_of_node, node_texts}
-use Rattle.juniper_c.specs.Places.{in_word}
+use Rattle.juniper_c.specs.FlatWriters.{NodeFits, NodesFit}
 use Rattle.juniper_c.specs.Nodes.{byte_count, told_node, told_nodes}
 use Rattle.juniper_c.specs.declared.node.Node.{Node}
 
-less_word : (b : Bool) (end n : ℕ) → nat_le n (2 ^ 32 - 1) ≡ b → end < 2 ^ 32
-    → end - (if b then n else 2 ^ 32 - 1) ≡ end - n
-less_word true end n e l = refl
-less_word false end n e l = grind (arith, nat_tests)
-
 -- a text before the end of the source, as long as its bytes are
-pub before_end : (end : ℕ) (text : List ℕ) → end < 2 ^ 32 → IsUtf8 text
-    → end - in_word (length text) ≡ end - byte_count (chars text)
-before_end end text l u = less_word _ end (length text) refl l ∙ ap (λ bs. end - length bs) (sym (encodes-chars text u))
+pub before_end : (end : ℕ) (text : List ℕ) → IsUtf8 text → end - length text ≡ end - byte_count (chars text)
+before_end end text u = ap (λ bs. end - length bs) (sym (encodes-chars text u))
 
 pub next_told : (source : List ℕ) (at next : ℕ) (ns rest : List (nodes.Node Content)) (n : nodes.Node Content)
     → (all told new : List Node) (t : Node)
@@ -44,7 +38,7 @@ next_texts ns rest n all bytes new h here grown =
     ∙ (sym (append_assoc bytes (encode_utf8_all (text_of_node n)) (encode_utf8_all (node_texts rest)))
     ∙ ap (λ bs. bs ++ encode_utf8_all (node_texts rest)) (sym grown))))
 
-bytes-append : (t u : List ℕ) → byte_count (t ++ u) ≡ byte_count t + byte_count u
+pub bytes-append : (t u : List ℕ) → byte_count (t ++ u) ≡ byte_count t + byte_count u
 bytes-append t u = ap length (encodes-append t u) ∙ length-append (encode_utf8_all t) (encode_utf8_all u)
 
 -- some nodes, and then others
@@ -63,6 +57,17 @@ pub texts-append : (ns ms : List (nodes.Node Content))
     → encode_utf8_all (node_texts ns) ++ encode_utf8_all (node_texts ms) ≡ encode_utf8_all (node_texts (ns ++ ms))
 texts-append ns ms =
     sym (encodes-append (node_texts ns) (node_texts ms)) ∙ ap encode_utf8_all (sym (flat_map-append text_of_node ns ms))
+
+-- nodes whose numbers fit, and then others
+pub fits-append : (at : ℕ) (ns ms : List (nodes.Node Content)) → NodesFit at (ns ++ ms)
+    → NodesFit at ns × NodesFit (at + byte_count (node_texts ns)) ms
+fits-append at [] ms h = (tt, subst (λ (k : ℕ). NodesFit k ms) (omega arith) h)
+fits-append at (n ∷ ns) ms h =
+    let next = at + byte_count (text_of_node n) in
+    let same : next + byte_count (node_texts ns) ≡ at + byte_count (node_texts (n ∷ ns)) =
+    omega (arith, bytes-append (text_of_node n) (node_texts ns)) in
+    let others = fits-append next ns ms h.1 in
+    ((h.0, others.0), subst (λ (k : ℕ). NodesFit k ms) same others.1)
 
 -- behind the nodes of some definitions, those of one more
 pub told-next : (source : List ℕ) (done ns : List (nodes.Node Content)) (told new : List Node) (bytes : List ℕ)

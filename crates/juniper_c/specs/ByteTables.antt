@@ -3,10 +3,10 @@ use Rattle.std.specs.Prelude.{◌≡◌, ℕ, min, List, length, Option, Some, N
 use Rattle.std.specs.Option.{unwrap_or}
 use Rattle.std.specs.Global.{Vec}
 use Rattle.juniper_c.specs.declared.byte_table.ByteTable.{ByteTable}
-use Rattle.juniper_c.specs.Places.{byte_behind, in_word}
+use Rattle.juniper_c.specs.Places.{byte_behind}
 
 abbrev pub byte_from : Option (Vec ℕ) → ℕ → ℕ → ℕ
-byte_from None length index = min (in_word index) length
+byte_from None length index = min index length
 byte_from (Some starts) length index = unwrap_or (slice_get starts.items index) length
 
 abbrev pub byte_in : ByteTable → ℕ → ℕ

@@ -11,7 +11,7 @@ use Rattle.juniper_values.specs.Default.{bool_in}
 use Rattle.juniper_values.specs.Scalar.{Content, integer, text, boolean, custom}
 use Rattle.juniper_nodes.specs.Literal.{int_in, str_in}
 use Rattle.juniper_nodes.specs.NodeTexts.{text_of_node}
-use Rattle.juniper_c.specs.Places.{byte_behind, in_word, told_place}
+use Rattle.juniper_c.specs.Places.{byte_behind, told_place}
 use Rattle.juniper_c.specs.declared.node.Node.{Node}
 use Rattle.juniper_c.specs.declared.node.Extent.{Extent}
 use Rattle.juniper_c.specs.declared.node.Value.{Value}
@@ -110,7 +110,7 @@ no_value = record { number = pos 0; length = 0 }
 
 -- a text that begins at this byte of the texts
 abbrev pub text_value : ℕ → Text → Value
-text_value at t = record { number = pos (in_word at); length = in_word (byte_count t) }
+text_value at t = record { number = pos at; length = byte_count t }
 
 -- an Int's number, a Boolean's 0 or 1, what a string means
 abbrev pub content_value : ℕ → Option ℤ → Option Bool → Option Text → Value
@@ -140,7 +140,7 @@ node_value source at content (Named word) = scalar_value at content
 abbrev pub told_node : List ℕ → ℕ → nodes.Node Content → Node
 told_node source at node = record {
   kind = node_number node.kind node.content;
-  descendants = in_word node.descendants;
+  descendants = node.descendants;
   start = told_place source node.span.start;
   end = told_place source node.span.end;
   name_start = (node_extent source node.kind node.span node.label).start;

@@ -1,5 +1,5 @@
 -- Places of a source, as C is told them.
-use Rattle.std.specs.Prelude.{ℕ, ◌-◌, ◌^◌, nat_le, if◌then◌else◌, List, take, length, encode_utf8_all}
+use Rattle.std.specs.Prelude.{ℕ, List, take, length, encode_utf8_all}
 use Rattle.graphql_lexical.specs.Place as places
 use Rattle.juniper_c.specs.declared.place.Place.{Place}
 
@@ -7,10 +7,6 @@ use Rattle.juniper_c.specs.declared.place.Place.{Place}
 abbrev pub byte_behind : List ℕ → ℕ → ℕ
 byte_behind source index = length (encode_utf8_all (take index source))
 
--- a number in 32 bits: the largest of them where it is larger
-abbrev pub in_word : ℕ → ℕ
-in_word n = if nat_le n (2 ^ 32 - 1) then n else 2 ^ 32 - 1
-
 -- a place, in characters, and the byte of the source
 abbrev pub told_place : List ℕ → places.Place → Place
-told_place source p = record { index = in_word p.index; line = in_word p.line; column = in_word p.column; byte = byte_behind source p.index }
+told_place source p = record { index = p.index; line = p.line; column = p.column; byte = byte_behind source p.index }

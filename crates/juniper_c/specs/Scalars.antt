@@ -1,8 +1,7 @@
 -- What C's scalar type states of itself: each token's kind and what it means, without its text.
-use Rattle.std.specs.Prelude.{[], if◌then◌else◌, Ok, Err}
+use Rattle.std.specs.Prelude.{[], Ok, Err}
 use Rattle.graphql_lexical.specs.declared.kind.Kind.{Kind}
-use Rattle.graphql_lexical.specs.declared.kind.Kind.TheVariants as kind
-use Rattle.graphql_lexical.specs.Kinds.{same_kind}
+use Rattle.graphql_lexical.specs.Kinds.{Spelling, Names, Strings, BlockStrings, Floats, Ints, Fixed, NoText, spelling}
 use Rattle.juniper_values.specs.Text.{Text}
 use Rattle.juniper_values.specs.Scalar.{Content, Reading}
 use Rattle.juniper_values.specs.Default.{default_content, default_reading}
@@ -24,10 +23,16 @@ int_reading (Ok content) = Ok content
 int_reading (Err e) = Ok (of_large_int [])
 
 -- Of a Float its kind is kept. Of an Int, a String and a block string the default type reads what it means; an Int
--- that it refuses is one beyond 32 bits, a String that it refuses is refused.
+-- that it refuses is one beyond 32 bits, a String that it refuses is refused. No other token is read.
+abbrev pub scalar_by : Spelling → Kind → Text → Reading
+scalar_by Names k t = default_reading k t
+scalar_by Strings k t = default_reading k t
+scalar_by BlockStrings k t = string_reading (of_block []) (default_reading k t)
+scalar_by Floats k t = Ok (of_float [])
+scalar_by Ints k t = int_reading (default_reading k t)
+scalar_by (Fixed fixed) k t = default_reading k t
+scalar_by NoText k t = default_reading k t
+
+-- The reading of a token by its kind and its text.
 abbrev pub scalar_reading : Kind → Text → Reading
-scalar_reading k t =
-    if same_kind k kind.Float then Ok (of_float [])
-    else if same_kind k kind.Int then int_reading (default_reading k t)
-    else if same_kind k kind.BlockString then string_reading (of_block []) (default_reading k t)
-    else default_reading k t
+scalar_reading k t = scalar_by (spelling k) k t

@@ -4,7 +4,6 @@ ghost use Rattle.std.specs.Str.{chars};
 ghost use Rattle.juniper_tokens.specs.device.ByteRuns.{is_inner};
 ghost use Rattle.juniper_c.specs.ByteTables.{byte_in, IsTableOf};
 
-use crate::place::in_word;
 use std::alloc::{AllocError, Global};
 
 /// Where the characters of a text begin in its bytes.
@@ -47,7 +46,7 @@ impl ByteTable {
         ensures { result ≡ byte_in self.now index }
     {
         match &self.starts {
-            None => in_word(index).min(self.length),
+            None => index.min(self.length as usize) as u32,
             Some(starts) => match starts.get(index) {
                 Some(start) => *start,
                 None => self.length,

@@ -3,6 +3,7 @@ ghost use Rattle.std.specs.Prelude.{◌≡◌, ℕ, List};
 ghost use Rattle.juniper_tokens.specs.Errors.{view_error, view_fault, view_lexer_error};
 ghost use Rattle.juniper_tokens.specs.Spans.{view_span};
 ghost use Rattle.juniper_c.specs.ByteTables.{IsTableOf};
+ghost use Rattle.juniper_c.specs.FlatWriters.{SpanFits};
 ghost use Rattle.juniper_c.specs.Faults.{lexical_reason, error_reason, fault_at, told_fault, deep_fault};
 
 use crate::byte_table::ByteTable;
@@ -33,20 +34,20 @@ struct Reason {
 
 /// The fault of a source that is refused.
 pub(crate) fn told_fault(table: &ByteTable, fault: &Spanning<ParseError>) -> Fault
-    ensures { (source : List ℕ) → IsTableOf source table.now → result ≡ told_fault source (view_fault fault.now) }
+    ensures { (source : List ℕ) → IsTableOf source table.now → SpanFits (view_fault fault.now).span → result ≡ told_fault source (view_fault fault.now) }
 {
     fault_at(table, error_reason(&fault.item), &fault.span)
 }
 
 /// The fault of a source with a token that is nested too deep.
 pub(crate) fn deep_fault(table: &ByteTable, span: Span) -> Fault
-    ensures { (source : List ℕ) → IsTableOf source table.now → result ≡ deep_fault source (view_span span) }
+    ensures { (source : List ℕ) → IsTableOf source table.now → SpanFits (view_span span) → result ≡ deep_fault source (view_span span) }
 {
     fault_at(table, because(4, 0, 0), &span)
 }
 
 fn fault_at(table: &ByteTable, reason: Reason, span: &Span) -> Fault
-    ensures { (source : List ℕ) → IsTableOf source table.now → result ≡ fault_at source reason (view_span span.now) }
+    ensures { (source : List ℕ) → IsTableOf source table.now → SpanFits (view_span span.now) → result ≡ fault_at source reason (view_span span.now) }
 {
     Fault {
         kind: reason.kind,

@@ -1,5 +1,5 @@
 //! What there is to tell of a source, before the caller's rooms are looked at.
-ghost use Rattle.std.specs.Prelude.{◌≡◌, ◌<◌, ◌≤◌, ◌^◌, ◌++◌, ℕ, List, length, map, IfOk, OnOk, string_bytes, encode_utf8_all};
+ghost use Rattle.std.specs.Prelude.{◌≡◌, ◌<◌, ◌≤◌, ◌^◌, ◌++◌, ℕ, List, [], length, map, IfOk, OnOk, OnErr, string_bytes, encode_utf8_all};
 ghost use Rattle.std.specs.Str.{chars};
 ghost use Rattle.graphql_nodes.specs.Nodes.{definition_nodes};
 ghost use Rattle.juniper.specs.View.{view_definition};
@@ -8,6 +8,8 @@ ghost use Rattle.juniper_nodes.specs.NodeViews.{view_node};
 ghost use Rattle.juniper_c.specs.ByteTables.{IsTableOf};
 ghost use Rattle.juniper_c.specs.Scalars.{scalar_content};
 ghost use Rattle.juniper_c.specs.Nodes.{told_nodes};
+ghost use Rattle.juniper_c.specs.FlatWriters.{NodesFit};
+ghost use Rattle.juniper_c.specs.declared.node.Node.{Node as Told};
 ghost use Rattle.juniper_c.specs.Answers.{AnswersFlat};
 
 use crate::byte_table::ByteTable;
@@ -42,7 +44,8 @@ impl DefinitionSink<Scalar> for FlatWriter<'_> {
     ghost holds = { Holds };
 
     fn take(&mut self, definition: Definition<'_, Scalar>) -> Result<(), AllocError>
-        ensures { OnOk result (Gains Holds self.old self.new (view_definition scalar_content definition.entry ∷ [])) }
+        ensures taken { OnOk result (Gains Holds self.old self.new (view_definition scalar_content definition.entry ∷ [])) }
+        ensures kept { OnErr result (Gains Holds self.old self.new []) }
     {
         tell_definition(self.alloc, &mut self.flat, self.table, &definition)
     }
@@ -101,7 +104,7 @@ fn flat_of_text(alloc: Global, text: &str, depth: u32) -> Result<Flat, Stop>
         alloc,
         table: &table,
         flat: Flat {
-            nodes: Vec::with_capacity(alloc, text.len() / BYTES_OF_A_NODE)?,
+            nodes: room_for_nodes(alloc, text.len()),
             texts: String::new(alloc),
         },
     };
@@ -120,38 +123,62 @@ fn flat_of_text(alloc: Global, text: &str, depth: u32) -> Result<Flat, Stop>
     }
 }
 
-// Tells the nodes of a definition behind the others.
+// Room for about as many nodes as a source of this length has, if there is as much: else the list grows as it must.
+fn room_for_nodes(alloc: Global, length: usize) -> Vec<Node>
+    ensures { result.items ≡ [] }
+{
+    match Vec::with_capacity(alloc, length / BYTES_OF_A_NODE) {
+        Ok(room) => room,
+        Err(_) => Vec::new(alloc),
+    }
+}
+
+// Tells the nodes of a definition behind the others, or none of them.
 fn tell_definition<'t, 'a>(
     alloc: Global,
     flat: &mut Flat,
     table: &ByteTable,
     definition: &'t Definition<'a, Scalar>,
 ) -> Result<(), AllocError>
-    ensures nodes { (source : List ℕ) → IsTableOf source table.now → OnOk result (flat.new.nodes.items ≡ flat.old.nodes.items ++ told_nodes source (length (string_bytes flat.old.texts)) (definition_nodes (view_definition scalar_content definition.now))) }
+    ensures nodes { (source : List ℕ) → IsTableOf source table.now → NodesFit (length (string_bytes flat.old.texts)) (definition_nodes (view_definition scalar_content definition.now)) → OnOk result (flat.new.nodes.items ≡ flat.old.nodes.items ++ told_nodes source (length (string_bytes flat.old.texts)) (definition_nodes (view_definition scalar_content definition.now))) }
     ensures texts { OnOk result (string_bytes flat.new.texts ≡ string_bytes flat.old.texts ++ encode_utf8_all (node_texts (definition_nodes (view_definition scalar_content definition.now)))) }
+    ensures same_nodes { OnErr result (flat.new.nodes.items ≡ flat.old.nodes.items) }
+    ensures same_texts { OnErr result (string_bytes flat.new.texts ≡ string_bytes flat.old.texts) }
 {
     let mut nodes: Vec<juniper_nodes::Node<'t, 'a, Scalar>> = Vec::with_capacity(
         alloc,
         NODES_OF_A_DEFINITION,
     )?;
     push_definition(&mut nodes, definition)?;
-    tell(flat, table, &nodes)
+    let told = flat.nodes.len();
+    match tell(alloc, flat, table, &nodes) {
+        Ok(()) => Ok(()),
+        Err(error) => {
+            flat.nodes.truncate(told);
+            Err(error)
+        }
+    }
 }
 
-// Tells these nodes behind the others.
+// Tells these nodes behind the others. Where memory runs out, some may stand there, and none of their texts.
 fn tell(
+    alloc: Global,
     flat: &mut Flat,
     table: &ByteTable,
     nodes: &[juniper_nodes::Node<'_, '_, Scalar>],
 ) -> Result<(), AllocError>
-    ensures nodes { (source : List ℕ) → IsTableOf source table.now → OnOk result (flat.new.nodes.items ≡ flat.old.nodes.items ++ told_nodes source (length (string_bytes flat.old.texts)) (map (view_node scalar_content) nodes.now)) }
+    ensures nodes { (source : List ℕ) → IsTableOf source table.now → NodesFit (length (string_bytes flat.old.texts)) (map (view_node scalar_content) nodes.now) → OnOk result (flat.new.nodes.items ≡ flat.old.nodes.items ++ told_nodes source (length (string_bytes flat.old.texts)) (map (view_node scalar_content) nodes.now)) }
     ensures texts { OnOk result (string_bytes flat.new.texts ≡ string_bytes flat.old.texts ++ encode_utf8_all (node_texts (map (view_node scalar_content) nodes.now))) }
+    ensures more_nodes { OnErr result ((more : List Told) × (flat.new.nodes.items ≡ flat.old.nodes.items ++ more)) }
+    ensures same_texts { OnErr result (string_bytes flat.new.texts ≡ string_bytes flat.old.texts) }
 {
+    let from = flat.texts.len();
+    let mut texts = String::new(alloc);
     for node in nodes {
-        let at = flat.texts.len();
-        write_node(&mut flat.texts, node)?;
-        let length = flat.texts.len() - at;
-        flat.nodes.push(told_node(table, node, at, length))?;
+        let at = texts.len();
+        write_node(&mut texts, node)?;
+        let length = texts.len() - at;
+        flat.nodes.push(told_node(table, node, from + at, length))?;
     }
-    Ok(())
+    flat.texts.push_str(texts.as_str())
 }

@@ -1,5 +1,5 @@
 //! Nodes, as C is told them.
-ghost use Rattle.std.specs.Prelude.{◌≡◌, ◌-◌, ◌++◌, ℕ, List, [], length, pos, option_map, option_and_then, OnOk, string_bytes, encode_utf8_all};
+ghost use Rattle.std.specs.Prelude.{◌≡◌, ◌-◌, ◌+◌, ◌^◌, ◌<◌, ◌++◌, ℕ, List, [], length, pos, option_map, option_and_then, OnOk, string_bytes, encode_utf8_all};
 ghost use Rattle.std.specs.Option.{unwrap_or};
 ghost use Rattle.std.specs.Str.{chars};
 ghost use Rattle.graphql_nodes.specs.Types.{type_text};
@@ -8,7 +8,7 @@ ghost use Rattle.juniper.specs.View.{view_type, view_word};
 ghost use Rattle.juniper_nodes.specs.Literal.{str_in};
 ghost use Rattle.juniper_nodes.specs.NodeTexts.{text_of_node};
 ghost use Rattle.juniper_nodes.specs.NodeViews.{view_label, view_node};
-ghost use Rattle.juniper_c.specs.Places.{in_word};
+ghost use Rattle.juniper_c.specs.FlatWriters.{NodeFits};
 ghost use Rattle.juniper_c.specs.ByteTables.{IsTableOf};
 ghost use Rattle.juniper_c.specs.Nodes.{kind_number, node_number, content_number, byte_count, word_extent, span_extent, no_extent, unnamed_extent, node_extent, scalar_value, condition_value, node_value, told_node};
 ghost use Rattle.juniper_c.specs.Scalars.{scalar_content};
@@ -65,7 +65,7 @@ pub(crate) fn told_node(
     at: usize,
     length: usize,
 ) -> Node
-    ensures { (source : List ℕ) → IsTableOf source table.now → length ≡ byte_count (text_of_node (view_node scalar_content node.now)) → result ≡ told_node source at (view_node scalar_content node.now) }
+    ensures { (source : List ℕ) → IsTableOf source table.now → NodeFits at (view_node scalar_content node.now) → length ≡ byte_count (text_of_node (view_node scalar_content node.now)) → result ≡ told_node source at (view_node scalar_content node.now) }
 {
     let name = extent_of(table, node);
     let value = value_of(table, node, at, length);
@@ -216,7 +216,7 @@ fn text_extent(end: u32, text: &str) -> Extent
     ensures { result ≡ record { start = end - byte_count (chars text.now); end = end } }
 {
     Extent {
-        start: end.saturating_sub(in_word(text.len())),
+        start: (end as usize).saturating_sub(text.len()) as u32,
         end,
     }
 }
@@ -229,7 +229,7 @@ fn value_of(
     at: usize,
     length: usize,
 ) -> Value
-    ensures { (source : List ℕ) → IsTableOf source table.now → let seen = view_node scalar_content node.now in length ≡ byte_count (text_of_node seen) → result ≡ node_value source at seen.content seen.label }
+    ensures { (source : List ℕ) → IsTableOf source table.now → let seen = view_node scalar_content node.now in at + length < 2 ^ 32 → length ≡ byte_count (text_of_node seen) → result ≡ node_value source at seen.content seen.label }
 {
     match node.label {
         Label::Fragment(_, condition) => condition_value(word_extent(table, condition)),
@@ -239,7 +239,7 @@ fn value_of(
 }
 
 fn scalar_value(scalar: Option<&Scalar>, at: usize, length: usize) -> Value
-    ensures { let content = option_map (λ scalar. scalar_content scalar.now) scalar.entry in length ≡ byte_count (unwrap_or (option_and_then str_in content) []) → result ≡ scalar_value at content }
+    ensures { let content = option_map (λ scalar. scalar_content scalar.now) scalar.entry in at + length < 2 ^ 32 → length ≡ byte_count (unwrap_or (option_and_then str_in content) []) → result ≡ scalar_value at content }
 {
     match scalar {
         Some(Scalar::Default(DefaultScalarValue::Int(number))) => Value {
@@ -267,7 +267,7 @@ fn condition_value(extent: Extent) -> Value
 }
 
 fn text_value(at: usize, length: usize) -> Value
-    ensures { result ≡ record { number = pos (in_word at); length = in_word length } }
+    ensures { at + length < 2 ^ 32 → result ≡ record { number = pos at; length = length } }
 {
     Value {
         number: i64::from(in_word(at)),

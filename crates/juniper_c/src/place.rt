@@ -1,6 +1,7 @@
 //! Places of a source, as C is told them.
-ghost use Rattle.std.specs.Prelude.{◌≡◌, ℕ, List};
-ghost use Rattle.juniper_c.specs.Places.{in_word, told_place};
+ghost use Rattle.std.specs.Prelude.{◌≡◌, ℕ, ◌<◌, ◌^◌, List};
+ghost use Rattle.juniper_c.specs.Places.{told_place};
+ghost use Rattle.juniper_c.specs.FlatWriters.{PlaceFits};
 ghost use Rattle.juniper_c.specs.ByteTables.{IsTableOf};
 
 use crate::byte_table::ByteTable;
@@ -17,7 +18,7 @@ pub struct Place {
 }
 
 pub(crate) fn place_at(table: &ByteTable, position: SourcePosition) -> Place
-    ensures { (source : List ℕ) → IsTableOf source table.now → result ≡ told_place source position }
+    ensures { (source : List ℕ) → IsTableOf source table.now → PlaceFits position → result ≡ told_place source position }
 {
     Place {
         index: in_word(position.index()),
@@ -27,9 +28,9 @@ pub(crate) fn place_at(table: &ByteTable, position: SourcePosition) -> Place
     }
 }
 
-/// A number in 32 bits, the largest of them where it is larger.
+/// A number in 32 bits. No number of a source of less than 4 GiB is larger; the largest of 32 bits stands for one that is.
 pub(crate) fn in_word(number: usize) -> u32
-    ensures { result ≡ in_word number }
+    ensures { number < 2 ^ 32 → result ≡ number }
 {
     if number <= u32::MAX as usize {
         number as u32

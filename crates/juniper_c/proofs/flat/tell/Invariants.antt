@@ -1,5 +1,5 @@
--- What is told so far, and of the nodes that are left, is what was told and is told of all.
-use Rattle.std.proofs.Common.{◌≡◌, ◌++◌, ℕ, List, drop, length, map, string_bytes, encode_utf8_all}
+-- What is told so far, and of the nodes that are left, is what was told and is told of all. The texts wait apart.
+use Rattle.std.proofs.Common.{◌≡◌, ◌+◌, ◌++◌, ℕ, List, drop, length, map, string_bytes, encode_utf8_all}
 use Rattle.graphql_nodes.specs.Nodes as nodes
 use Rattle.juniper_values.specs.Scalar.{Content}
 use Rattle.juniper_c.specs.Scalars.{scalar_content}
@@ -7,16 +7,22 @@ use Rattle.juniper_nodes.specs.NodeTexts.{node_texts}
 use Rattle.juniper_nodes.specs.NodeViews.{view_node}
 use Rattle.juniper_c.specs.ByteTables.{IsTableOf}
 use Rattle.juniper_c.specs.Nodes.{told_nodes}
+use Rattle.juniper_c.specs.FlatWriters.{NodesFit}
+use Rattle.juniper_c.specs.declared.node.Node.{Node}
 use Rattle.juniper_c.proofs.flat.tell.Given as goal
 
 abbrev pub invariant-loop-node : goal.invariant-loop-node
 invariant-loop-node l =
     let seen : List (nodes.Node Content) = map (view_node scalar_content) l.nodes in
     let left : List (nodes.Node Content) = map (view_node scalar_content) (drop l.node-index l.nodes) in
+    let before = l.initial.flat.nodes.items in
     let first = string_bytes l.initial.flat.texts in record {
-      told : (source : List ℕ) → IsTableOf source l.table
-          → l.initial.flat.nodes.items ++ told_nodes source (length first) seen
-          ≡ l.flat.nodes.items ++ told_nodes source (length (string_bytes l.flat.texts)) left;
-      texts : first ++ encode_utf8_all (node_texts seen)
-          ≡ string_bytes l.flat.texts ++ encode_utf8_all (node_texts left);
+      from : l.from ≡ length first;
+      told : (source : List ℕ) → IsTableOf source l.table → NodesFit (length first) seen
+          → NodesFit (length first + length (string_bytes l.texts)) left
+          × (before ++ told_nodes source (length first) seen
+          ≡ l.flat.nodes.items ++ told_nodes source (length first + length (string_bytes l.texts)) left);
+      texts : encode_utf8_all (node_texts seen) ≡ string_bytes l.texts ++ encode_utf8_all (node_texts left);
+      more : (told : List Node) × (l.flat.nodes.items ≡ before ++ told);
+      same_texts : string_bytes l.flat.texts ≡ first;
     }

@@ -1,6 +1,6 @@
-use Rattle.std.proofs.Common.{arith, rules}
+use Rattle.std.proofs.Common.{rules}
 use Rattle.juniper_c.proofs.Told.{before_end}
 use Rattle.juniper_c.proofs.node.text_extent.Goals as goal
 
 pub returns : goal.returns
-returns c = rw (← before_end c.args.end c.args.text.now (omega (arith, c.ranges.end.fits)) c.utf8.text) (search rules)
+returns c = rw (← before_end c.args.end c.args.text.now c.utf8.text) (search rules)

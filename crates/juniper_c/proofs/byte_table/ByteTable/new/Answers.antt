@@ -5,7 +5,7 @@ use Rattle.juniper_c.proofs.byte_table.ByteTable.new.Goals as goal
 use Rattle.juniper_c.proofs.byte_table.ByteTable.new.Goals.{then-begins_character, else-begins_character}
 
 pub returns-then-is_ascii : goal.returns-then-is_ascii
-returns-then-is_ascii c = ascii_bytes c.args.source.now (rw c.if-is_ascii.true at c.is_ascii.ensures.cases) c.requires
+returns-then-is_ascii c = ascii_bytes c.args.source.now (rw c.if-is_ascii.true at c.is_ascii.ensures.cases)
 
 pub loop-at-preserved : goal.loop-at-preserved
 loop-at-preserved c =
