@@ -42,6 +42,7 @@ Report bytes NotUtf8 text = ¬ IsUtf8 bytes × (text ≡ codes "Not UTF-8\n")
 Report bytes Device text = ⊥
 Report bytes Memory text = ⊥
 
--- Bytes have one report: one end and one text.
-abbrev pub OneReport : Type 0
-OneReport = (bytes : List ℕ) (end other : RunEnd) (text another : List ℕ) → Report bytes end text → Report bytes other another → (end ≡ other) × (text ≡ another)
+-- Bytes have exactly one report: one end and one text.
+pub record OneReport : Type 0 where
+  pub some : (bytes : List ℕ) → (end : RunEnd) × (text : List ℕ) × Report bytes end text
+  pub one : (bytes : List ℕ) (end other : RunEnd) (text another : List ℕ) → Report bytes end text → Report bytes other another → (end ≡ other) × (text ≡ another)

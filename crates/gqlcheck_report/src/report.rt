@@ -8,7 +8,7 @@ ghost use Rattle.gqlcheck_report.specs.Report.{Report, OneReport, IsReportEnd, f
 
 use crate::lines::document_text;
 use crate::watched::Watched;
-use juniper::laws::{document_or_fault, one_too_deep};
+use juniper::laws::{document_or_fault, one_answer_within, one_too_deep};
 use juniper::{
     DefaultScalarValue, DepthFailure, ParseError, ParseFailure, Span, Spanning,
     parse_document_source_within,
@@ -97,12 +97,13 @@ pub fn run<R: Read, W: Write>(
     }
 }
 
-// Bytes have one report, since a text has one tree or one fault, and one token at most that is nested too deep.
+// Bytes have one report, since a text within the limit has one tree or one fault, or one token that is nested too deep.
 fn one_report()
     ensures { OneReport }
 {
     document_or_fault::<DefaultScalarValue>();
     one_too_deep::<DefaultScalarValue>();
+    one_answer_within::<DefaultScalarValue>();
 }
 
 // The bytes of the reader, to its end.
