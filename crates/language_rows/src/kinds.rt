@@ -3,11 +3,13 @@
 mod answers;
 mod built;
 pub mod completed;
+mod conversions;
 mod cursor;
 mod devices;
 mod documents;
 mod guide_calls;
 mod input_values;
+mod large;
 mod lexing;
 mod literals;
 mod odd;
@@ -54,6 +56,7 @@ fn write_answer_of(
         "within" => documents::write_tree_within(alloc, out, text),
         "equal" => documents::write_equal(alloc, out, text),
         "built" => built::write_built(alloc, out, text),
+        "large" => large::write_large(alloc, out, text),
         "odd_document" => odd::write_arguments_of(alloc, out, text),
         _ => write_calls(alloc, out, kind, text, wanted),
     }
@@ -71,6 +74,7 @@ fn write_calls(alloc: Global, out: &mut String, kind: &str, text: &str, wanted: 
         "type_literal" => types::write_calls(alloc, out, text, wanted),
         "answer" => answers::write_calls(alloc, out, text, wanted),
         "name" => answers::write_name_calls(alloc, out, text, wanted),
+        "into" => conversions::write_calls(alloc, out, text, wanted),
         "guide" => guide_calls::write_calls(alloc, out, text, wanted),
         _ => out.push_str("no such kind\n"),
     }

@@ -10,7 +10,7 @@ use juniper::{
 use std::alloc::{AllocError, Global};
 use std::borrow::CowStr;
 
-type Answer = Value<DefaultScalarValue>;
+pub(crate) type Answer = Value<DefaultScalarValue>;
 
 /// `answer`: calls, one after the other, on the answer value that is made of the text, a value literal: of an enum its
 /// text, of a variable null.
@@ -34,9 +34,9 @@ fn answer_in(alloc: Global, text: &str) -> Result<Option<Answer>, AllocError> {
     }
 }
 
-// An answer made by constructors and conversions.
+/// An answer made by constructors and conversions.
 #[cycle(answers)]
-fn answer_of(alloc: Global, value: &Input) -> Result<Answer, AllocError> {
+pub(crate) fn answer_of(alloc: Global, value: &Input) -> Result<Answer, AllocError> {
     match value {
         InputValue::Null => Ok(Value::null()),
         InputValue::Scalar(scalar) => scalar_of(alloc, scalar),

@@ -176,9 +176,9 @@ fn write_made_anew(alloc: Global, out: &mut String, value: &Input) -> Written {
     Ok(())
 }
 
-// The same value without places, made by constructors and conversions.
+/// The same value without places, made by constructors and conversions.
 #[cycle(made)]
-fn made_anew(alloc: Global, value: &Input) -> Result<Input, AllocError> {
+pub(crate) fn made_anew(alloc: Global, value: &Input) -> Result<Input, AllocError> {
     match value {
         InputValue::Null => None::<i32>.into_input_value(alloc),
         InputValue::Scalar(scalar) => made_scalar(alloc, scalar),

@@ -4,8 +4,8 @@ use crate::kinds::input_values::converted;
 use crate::kinds::{call_of, word_of};
 use crate::write::{Written, write_error, write_optional_text, write_truth};
 use juniper::{
-    DefaultScalarValue, InputValue, ParseScalarResult, ParseScalarValue, ReadFailure, Scalar,
-    ScalarToken, ScalarValue, ToScalarValue, WrongInputScalarTypeError, scalar_from_str,
+    DefaultScalarValue, InputValue, ParseError, ParseScalarResult, ParseScalarValue, ReadFailure,
+    Scalar, ScalarToken, ScalarValue, ToScalarValue, WrongInputScalarTypeError, scalar_from_str,
 };
 use std::alloc::{AllocError, Global};
 
@@ -35,12 +35,18 @@ fn answer_read<S: ScalarValue>(
 ) -> Written {
     match scalar {
         Ok(scalar) => answer_call(alloc, out, scalar, call),
-        Err(ReadFailure::Refused(error)) => {
-            out.push_str("Refused")?;
-            write_error(out, error)
-        }
+        Err(ReadFailure::Refused(error)) => write_refused(out, error, call),
         Err(ReadFailure::Memory) => Err(AllocError),
     }
+}
+
+// Why a token is refused: what the error displays, or its variant.
+fn write_refused(out: &mut String, error: &ParseError, call: &str) -> Written {
+    if call == "error" {
+        return write!(out, "{error}");
+    }
+    out.push_str("Refused")?;
+    write_error(out, error)
 }
 
 fn read<S: ScalarValue>(alloc: Global, text: &str) -> ParseScalarResult<S> {
@@ -156,8 +162,8 @@ fn owned(alloc: Global, text: &str) -> Result<DefaultScalarValue, AllocError> {
     String::from_str(alloc, text)?.to_scalar_value(alloc)
 }
 
-// Whether the input values of a text are the one of its scalar.
-fn is_converted(alloc: Global, text: &str) -> Result<bool, AllocError> {
+/// Whether the input values of a text are the one of its scalar.
+pub(crate) fn is_converted(alloc: Global, text: &str) -> Result<bool, AllocError> {
     let (one, other) = converted(alloc, text)?;
     Ok(one == other && one == InputValue::scalar(scalar_from_str(alloc, text)?))
 }
