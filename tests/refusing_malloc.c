@@ -1,13 +1,15 @@
-/* An allocator that refuses: a library for LD_PRELOAD, over the allocator of glibc.
+/* An allocator that refuses, and measures: a library for LD_PRELOAD, over the allocator of glibc.
  *
  * It counts the requests for memory that a program makes between the first and the second line that it writes to
  * standard output or, where REFUSALS_FROM_START is set, all of them. It refuses the request of number REFUSED_REQUEST,
- * from 1, and where REFUSED_ONWARDS is set each counted one after it. At the end it writes three numbers to the file that
- * REFUSALS_TOLD names: the requests that were counted, those that were refused, and the blocks that were not given back.
+ * from 1, and where REFUSED_ONWARDS is set each counted one after it. At the end it writes four numbers to the file that
+ * REFUSALS_TOLD names: the requests that were counted, those that were refused, the blocks that were not given back, and
+ * how many more bytes the program held at most while requests were counted than it held before.
  */
 #define _GNU_SOURCE
 #include <errno.h>
 #include <fcntl.h>
+#include <malloc.h>
 #include <stddef.h>
 #include <stdio.h>
 #include <stdlib.h>
@@ -22,7 +24,7 @@ extern void __libc_free(void *);
 
 static int is_from_start, is_onwards;
 static unsigned long refused_request, requests, refusals, lines;
-static long blocks;
+static long blocks, held, most_held;
 
 __attribute__((constructor)) static void begin(void) {
     const char *number = getenv("REFUSED_REQUEST");
@@ -32,9 +34,13 @@ __attribute__((constructor)) static void begin(void) {
     blocks = 0;
 }
 
+static int is_counting(void) {
+    return is_from_start || lines == 1;
+}
+
 /* Counts a request, and says whether it is refused. */
 static int is_refused(void) {
-    if (!is_from_start && lines != 1) return 0;
+    if (!is_counting()) return 0;
     requests++;
     if (refused_request == 0 || requests < refused_request) return 0;
     if (requests > refused_request && !is_onwards) return 0;
@@ -43,9 +49,17 @@ static int is_refused(void) {
     return 1;
 }
 
+/* Counts the bytes of a block that is there, or is there no longer. */
+static void hold(void *block, long sign) {
+    if (block == NULL || !is_counting()) return;
+    held += sign * (long)malloc_usable_size(block);
+    if (held > most_held) most_held = held;
+}
+
 /* Counts a block that was given. */
 static void *given(void *block) {
     if (block != NULL) blocks++;
+    hold(block, 1);
     return block;
 }
 
@@ -59,9 +73,14 @@ void *calloc(size_t count, size_t size) {
 
 void *realloc(void *block, size_t size) {
     if (is_refused()) return NULL;
+    if (block == NULL) return given(__libc_realloc(block, size));
+    hold(block, -1);
     void *other = __libc_realloc(block, size);
-    if (block == NULL) return given(other);
-    if (other == NULL && size == 0) blocks--;
+    if (other == NULL && size == 0) {
+        blocks--;
+    } else {
+        hold(other == NULL ? block : other, 1);
+    }
     return other;
 }
 
@@ -82,6 +101,7 @@ int posix_memalign(void **place, size_t border, size_t size) {
 
 void free(void *block) {
     if (block != NULL) blocks--;
+    hold(block, -1);
     __libc_free(block);
 }
 
@@ -100,8 +120,8 @@ ssize_t __write(int file, const void *bytes, size_t count) {
 
 __attribute__((destructor)) static void end(void) {
     const char *name = getenv("REFUSALS_TOLD");
-    char line[64];
-    int length = snprintf(line, sizeof line, "%lu %lu %ld\n", requests, refusals, blocks);
+    char line[96];
+    int length = snprintf(line, sizeof line, "%lu %lu %ld %ld\n", requests, refusals, blocks, most_held);
     int file = name == NULL ? -1 : open(name, O_WRONLY | O_CREAT | O_TRUNC, 0600);
     if (file < 0) return;
     syscall(SYS_write, file, line, length);

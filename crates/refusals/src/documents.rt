@@ -14,16 +14,18 @@ type Document<'a> = OwnedDocument<'a, DefaultScalarValue>;
 struct Given(usize);
 
 impl DefinitionSink<DefaultScalarValue> for Given {
-    ghost use Rattle.std.specs.Prelude.{OnOk, ◌∷◌, []};
+    ghost use Rattle.std.specs.Prelude.{OnOk, OnErr, ◌∷◌, []};
     ghost use Rattle.juniper.specs.Sinks.{Gains};
     ghost use Rattle.juniper.specs.View.{view_definition};
     ghost use Rattle.juniper_values.specs.Default.{default_content};
+    ghost use Rattle.juniper_values.specs.Scalar.{Content};
 
     // Nothing is said of what it was given.
     ghost holds = { λ _ _ _. Unit {0} };
 
     fn take(&mut self, definition: Definition<'_, DefaultScalarValue>) -> Result<(), AllocError>
-        ensures { OnOk result (Gains (λ _ _ _. Unit {0}) self.old self.new (view_definition default_content definition.entry ∷ [])) }
+        ensures taken { OnOk result (Gains (λ _ _ _. Unit {0}) self.old self.new (view_definition default_content definition.entry ∷ [])) }
+        ensures kept { OnErr result (Gains {C = Content} (λ _ _ _. Unit {0}) self.old self.new []) }
     {
         self.0 = self.0.saturating_add(1);
         Ok(())
@@ -50,7 +52,8 @@ fn is_same<'a>(alloc: Global, word: &str, text: &'a str, document: Document<'a>)
 }
 
 /// Tells whether the text has a tree, and then whether another parse gives the same one. The second line that is
-/// written tells that the first parse is over. With the word `into` it tells how many definitions were given.
+/// written tells that the first parse is over. With the word `into` it tells how many definitions were given, after the
+/// fault where there is one.
 pub fn tell<R: Print + AllocGlobal>(rt: &R, word: &str, text: &str) -> io::Result<()> {
     println!(rt; "calling")?;
     if word == "into" {
@@ -69,18 +72,17 @@ pub fn tell<R: Print + AllocGlobal>(rt: &R, word: &str, text: &str) -> io::Resul
 
 fn tell_given<R: Print + AllocGlobal>(rt: &R, text: &str) -> io::Result<()> {
     let mut given = Given(0);
-    match parse_document_source_into::<DefaultScalarValue, Given>(
+    let answer = parse_document_source_into::<DefaultScalarValue, Given>(
         rt.alloc(),
         text,
         200,
         &mut given,
-    ) {
-        Ok(()) => {
-            let count = given.0;
-            println!(rt; "{count} definitions")
-        }
-        Err(failure) => tell_failure(rt, &failure),
+    );
+    if let Err(failure) = &answer {
+        tell_failure(rt, failure)?;
     }
+    let count = given.0;
+    println!(rt; "{count} definitions")
 }
 
 fn tell_failure<R: Print + AllocGlobal>(rt: &R, failure: &DepthFailure) -> io::Result<()> {

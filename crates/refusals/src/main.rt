@@ -7,10 +7,12 @@
 #![tactic(auto)]
 
 mod answers;
+mod converted;
 mod cursor;
 mod documents;
 mod lexing;
 mod lists;
+mod nodes;
 mod scalars;
 mod types;
 mod values;
@@ -58,10 +60,11 @@ fn answer(
     match kind {
         "lexing" => lexing::answer(alloc, out, call, text),
         "cursor" => cursor::answer(alloc, out, call, text),
-        "scalar" => scalars::answer(alloc, out, call, text),
+        "scalar" => scalars::answer(alloc, out, call, word, text),
         "type" => types::answer(alloc, out, call, word, text),
         "made" => values::answer_made(alloc, out, call, text),
         "value" => values::answer(alloc, out, call, word, text),
+        "nodes" => nodes::answer(alloc, out, call, text),
         "object" => answers::answer_object(alloc, out, call, word, text),
         _ => answers::answer(alloc, out, call, text),
     }

@@ -1,5 +1,6 @@
 //! Calls that make input values, and calls on them.
 
+use crate::converted;
 use crate::cursor::value_in;
 use crate::write::{write_items, write_made, write_optional, write_pair};
 use indexmap::IndexMap;
@@ -59,9 +60,16 @@ pub fn answer(
         "to_list_value" => write_parts(alloc, out, &value),
         "to_object_value" => write_fields(alloc, out, &value),
         "referenced_variables" => write_variables(alloc, out, &value),
+        "convert" | "from_implicit_null" => converted::answer(alloc, out, call, &value),
+        "unlocated_eq" => write_same(out, &value, &literal(alloc, text)?),
         "list" => write_list(out, &InputValue::list(alloc, items_of(alloc, value)?)),
         _ => write_object(out, &InputValue::object(alloc, fields_of(alloc, value)?)),
     }
+}
+
+fn write_same(out: &mut String, value: &Input, other: &Input) -> Result<(), AllocError> {
+    let is_same = value.unlocated_eq(other);
+    writeln!(out, "{is_same}")
 }
 
 // The variable `a`, with the value that is written.

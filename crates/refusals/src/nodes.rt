@@ -1,0 +1,77 @@
+//! The nodes of values and of documents.
+
+use crate::cursor::value_in;
+use juniper::{
+    DefaultScalarValue, Definition, Lexer, OwnedDocument, Parser, parse_document_source,
+};
+use juniper_nodes::{Node, document_nodes, push_definition, value_nodes};
+use std::alloc::{AllocError, Global};
+
+type Nodes<'t, 'a> = Vec<Node<'t, 'a, DefaultScalarValue>>;
+
+/// `value_nodes`: how many nodes the value literal has that is the text. `document_nodes`: how many the document has. Any
+/// other word: how many there are after each definition of the document was put behind the others by `push_definition`.
+pub fn answer(alloc: Global, out: &mut String, call: &str, text: &str) -> Result<(), AllocError> {
+    match call {
+        "value_nodes" => write_of_value(alloc, out, text),
+        "document_nodes" => {
+            write_count(
+                out,
+                &document_nodes(alloc, document_of(alloc, text)?.as_slice()),
+            )
+        }
+        _ => write_pushed(alloc, out, document_of(alloc, text)?.as_slice()),
+    }
+}
+
+fn write_of_value(alloc: Global, out: &mut String, text: &str) -> Result<(), AllocError> {
+    let mut lexer = Lexer::new(alloc, text);
+    let Ok(mut parser) = Parser::new(&mut lexer) else {
+        return Err(AllocError);
+    };
+    match value_in(&mut parser, false) {
+        Ok(value) => write_count(out, &value_nodes(alloc, &value)),
+        Err(_) => Err(AllocError),
+    }
+}
+
+fn write_count(
+    out: &mut String,
+    nodes: &Result<Nodes<'_, '_>, AllocError>,
+) -> Result<(), AllocError> {
+    match nodes {
+        Ok(nodes) => {
+            let count = nodes.len();
+            writeln!(out, "{count} nodes")
+        }
+        Err(_) => out.push_str("Memory\n"),
+    }
+}
+
+fn document_of<'a>(
+    alloc: Global,
+    text: &'a str,
+) -> Result<OwnedDocument<'a, DefaultScalarValue>, AllocError> {
+    match parse_document_source(alloc, text) {
+        Ok(document) => Ok(document),
+        Err(_) => Err(AllocError),
+    }
+}
+
+// Up to the first definition for which memory ran out.
+fn write_pushed<'t, 'a>(
+    alloc: Global,
+    out: &mut String,
+    document: &'t [Definition<'a, DefaultScalarValue>],
+) -> Result<(), AllocError> {
+    let mut nodes: Nodes<'t, 'a> = Vec::new(alloc);
+    for definition in document {
+        let is_pushed = push_definition(&mut nodes, definition).is_ok();
+        let count = nodes.len();
+        writeln!(out, "{count} nodes")?;
+        if !is_pushed {
+            return out.push_str("Memory\n");
+        }
+    }
+    Ok(())
+}
