@@ -1,27 +1,42 @@
-//! Lexes and parses standard input over and over, and tells on standard error the speed of the best round.
+//! Lexes and parses standard input over and over, and tells on standard error the speed of each stage's best round.
 //!
-//! The argument is how often, 1 where there is none.
+//! The arguments are the number of rounds, how often a round reads the text, and the one stage that is measured, by its
+//! name. Where they aren't there, each is 1, and every stage is measured.
 #![tactic(auto)]
 
 mod measured;
 
 use measured::{Speed, Stage, speed_of};
-use std::rt::Clock;
+use std::alloc::Global;
+use std::rt::{Clock, Env};
 use std::time::Instant;
 use std::{env, io};
 
 fn main(rt: HostRuntime) -> io::Result<()> {
     let source = io::read_to_string(rt.alloc(), rt.stdin())?;
-    let rounds = match env::args(&rt)?.nth(1) {
-        Some(text) => text.as_str().parse::<u32>().unwrap_or(1),
-        None => 1,
-    };
+    let rounds = number_at(&rt, 1)?;
+    let inner = number_at(&rt, 2)?;
+    let only = env::args(&rt)?.nth(3);
     for stage in Stage::ALL {
-        let word = stage.word();
-        let best = best_of(&rt, stage, source.as_str(), rounds)?;
-        eprintln!(rt; "{word} {best} MB/s")?;
+        let is_wanted = match &only {
+            Some(name) => name.as_str() == stage.name(),
+            None => true,
+        };
+        if is_wanted {
+            let word = stage.word();
+            let best = best_of(&rt, stage, source.as_str(), rounds, inner)?;
+            eprintln!(rt; "{word} {best} MB/s")?;
+        }
     }
     Ok(())
+}
+
+// The number that an argument is, 1 where there is none.
+fn number_at<R: Env + AllocGlobal>(rt: &R, place: usize) -> io::Result<u32> {
+    match env::args(rt)?.nth(place) {
+        Some(text) => Ok(text.as_str().parse::<u32>().unwrap_or(1)),
+        None => Ok(1),
+    }
 }
 
 // The best speed of so many rounds. A round in which nothing is read counts as none.
@@ -30,15 +45,25 @@ fn best_of<R: Clock + AllocGlobal>(
     stage: Stage,
     source: &str,
     rounds: u32,
+    inner: u32,
 ) -> io::Result<Speed> {
     let mut best = Speed(0);
     for _ in 0..rounds {
         let start = Instant::now(rt)?;
-        let is_read = stage.reads(rt.alloc(), source);
+        let is_read = is_read_often(rt.alloc(), stage, source, inner);
         let time = start.elapsed(rt)?;
         if is_read {
-            best = best.max(speed_of(source.len(), time));
+            best = best.max(speed_of(source.len(), inner, time));
         }
     }
     Ok(best)
+}
+
+// Reads a text so often, and answers whether it could be read each time.
+fn is_read_often(alloc: Global, stage: Stage, source: &str, count: u32) -> bool {
+    let mut is_read = count > 0;
+    for _ in 0..count {
+        is_read = is_read && stage.reads(alloc, source);
+    }
+    is_read
 }
