@@ -1,0 +1,37 @@
+/* One call on the text of standard input: growth parse, or growth message. Without a word it makes none. The first line that
+ * is written tells that the call comes now, the second what it answers. */
+#include "../../include/juniper.h"
+#include <stdio.h>
+#include <stdlib.h>
+#include <string.h>
+#include <unistd.h>
+
+/* All of standard input. */
+static uint8_t *input(size_t *length) {
+    size_t room = 1 << 16;
+    uint8_t *source = malloc(room);
+    *length = 0;
+    while (source != NULL) {
+        size_t count = fread(source + *length, 1, room - *length, stdin);
+        if (count == 0) return source;
+        *length += count;
+        if (*length == room) source = realloc(source, room *= 2);
+    }
+    abort();
+}
+
+int main(int argc, char **argv) {
+    size_t length, nodes_needed, texts_needed;
+    uint8_t *source = input(&length);
+    juniper_fault fault;
+    /* Memory that nothing is written to costs nothing. */
+    uint8_t *texts = malloc(length + 1);
+    juniper_node *nodes = malloc((length + 1) * sizeof *nodes);
+    if (texts == NULL || nodes == NULL || argc < 2) return 0;
+    if (write(STDOUT_FILENO, "calling\n", 8) != 8) return 1;
+    uint32_t status = strcmp(argv[1], "parse") == 0
+        ? juniper_parse(source, length, 200, nodes, length, &nodes_needed, texts, length, &texts_needed, &fault)
+        : juniper_message(source, length, 200, texts, length, &texts_needed);
+    printf("%u\n", (unsigned)status);
+    return 0;
+}
