@@ -1,7 +1,7 @@
 #!/usr/bin/env python3
-"""Compares include/juniper.h, as a C compiler lays it out, with the sources of the crate juniper_c: the fields of each
-type, their offsets and sizes, the calls' parameters, and the numbers of statuses, kinds, refusals and details. The last
-line is 'N passed, M failed'.
+"""Compares include/juniper.h, as it is written and as a C compiler lays it out, with the sources of the crate juniper_c:
+the fields of each type, their types, offsets and sizes, the calls' parameters, and the numbers of statuses, kinds,
+refusals and details; and with both what the Python binding repeats. The last line is 'N passed, M failed'.
 
     tests/header_check.py LAYOUT    what the program of tests/c/layout.c writes
 """
@@ -34,20 +34,39 @@ def source(name):
 
 # ---- types
 
+header = read("include/juniper.h")
+
+# Of each type of a field: its size and alignment, its name in C, and how Python's struct writes it.
 SIZES = {"u32": (4, 4), "i64": (8, 8)}
+C_NAMES = {"u32": "uint32_t", "i64": "int64_t", "Place": "juniper_place"}
+FORMATS = {"u32": "I", "i64": "q"}
+
+
+def fields_of(name, text):
+    """The fields of a struct with C's layout, each with its type."""
+    body = re.search(rf"#\[repr\(C\)\][^{{]*pub struct {name} \{{(.*?)\n\}}", text, re.S)[1]
+    return re.findall(r"^    pub (\w+): (\w+),$", body, re.M)
+
+
+def declared(word):
+    """The fields of a type of the header, each with its type."""
+    body = re.search(rf"typedef struct \{{([^}}]*)\}} {word};", header)[1]
+    lines = re.findall(r"^\s*(\w+) ([\w, ]+);", re.sub(r"/\*.*?\*/", "", body, flags=re.S), re.M)
+    return [(field, kind) for kind, names in lines for field in names.split(", ")]
 
 
 def laid_out(name, text):
     """The lines of layout.c for a struct with C's layout: each field at the next multiple of its alignment."""
-    body = re.search(rf"#\[repr\(C\)\][^{{]*pub struct {name} \{{(.*?)\n\}}", text, re.S)[1]
-    lines, offset, most = [], 0, 1
+    lines, offset, most, format = [], 0, 1, ""
     word = f"juniper_{name.lower()}"
-    for field, kind in re.findall(r"^    pub (\w+): (\w+),$", body, re.M):
+    for field, kind in fields_of(name, text):
         size, alignment = SIZES[kind]
+        format += "x" * (-offset % alignment) + FORMATS[kind]
         offset += -offset % alignment
         lines.append(f"{word} {field} {offset} {size}")
         offset += size
         most = max(most, alignment)
+    FORMATS[name] = format + "x" * (-offset % most)
     offset += -offset % most
     SIZES[name] = (offset, most)
     return lines + [f"{word} {offset}"]
@@ -62,11 +81,11 @@ for name, file in (("Place", "place"), ("Node", "node"), ("Fault", "fault")):
     check(f"the number of fields of {word}", len(found), len(wanted))
     for line, other in zip(found, wanted):
         check(word, line, other)
+    typed = [(field, C_NAMES[kind]) for field, kind in fields_of(name, source(file))]
+    check(f"the types of the fields of {word}", declared(word), typed)
 check("the size of a node", SIZES["Node"][0], 64)
 
 # ---- numbers
-
-header = read("include/juniper.h")
 
 
 def enum(name):
@@ -140,9 +159,35 @@ check("the calls of the header", len(re.findall(r"^uint32_t juniper_\w+\(", head
 
 binding = read("bindings/python/juniper.py")
 tuple_of = lambda word: re.findall(r'"([^"]*)"', re.search(rf"^{word} = \((.*?)\)$", binding, re.S | re.M)[1])
-python_kinds = {w.upper(): i for i, w in enumerate(tuple_of("KINDS")) if w}
-check("the kinds of the Python binding", enum("juniper_kind"), python_kinds)
-check("the refusals of the Python binding", len(enum("juniper_refusal")), len(tuple_of("REFUSALS")))
+python_kinds = {word: number for number, word in enumerate(tuple_of("KINDS")) if word}
+check("the kinds of the Python binding", {word.lower(): number for word, number in enum("juniper_kind").items()}, python_kinds)
+named = {"UNEXPECTED_TOKEN": "unexpected token", "UNEXPECTED_END": "unexpected end", "LEXICAL": "no token", "SCALAR": "scalar",
+         "NESTED": "too deep"}  # fmt: skip
+by_number = [named[word] for word, _ in sorted(enum("juniper_refusal").items(), key=lambda it: it[1])]
+check("the refusals of the Python binding, in their order", by_number, tuple_of("REFUSALS"))
+names, numbers = re.search(r"^(_TREE, [\w, ]*) = ([\d, ]+)$", binding, re.M).groups()
+statuses = dict(zip(names.replace("_", "", 1).split(", _"), map(int, numbers.split(", "))))
+# A text of Python's is encoded, so it always is a text.
+wanted = {word: number for word, number in enum("juniper_status").items() if word != "NOT_UTF8"}
+check("the statuses of the Python binding", wanted, statuses)
+for name in ("Node", "Fault"):
+    written = re.search(rf'^_{name.upper()} = struct\.Struct\("=(\w+)"\)$', binding, re.M)[1]
+    plain = re.sub(r"(\d+)([A-Za-z])", lambda it: it[2] * int(it[1]), written)
+    check(f"the parts of the Python binding's {name.lower()}", FORMATS[name], plain)
+PYTHON_TYPES = {
+    "const uint8_t *": "ctypes.c_char_p",
+    "size_t": "size",
+    "uint32_t": "ctypes.c_uint32",
+    "juniper_node *": "ctypes.c_void_p",
+    "uint8_t *": "ctypes.c_void_p",
+    "juniper_fault *": "ctypes.c_void_p",
+    "size_t *": "count",
+}
+for call, parameters in re.findall(r"^uint32_t (juniper_\w+)\((.*?)\);", header, re.S | re.M):
+    wanted = [PYTHON_TYPES[re.match(r"(.*[ *])\w+$", " ".join(it.split()))[1].strip()] for it in parameters.split(",") if it != "void"]
+    written = re.search(rf"library\.{call}\.argtypes = \[(.*?)\]", binding, re.S)[1]
+    check(f"the parameters of {call} in the Python binding", wanted, [it.strip() for it in written.split(",") if it.strip()])
+    check(f"the result of {call} in the Python binding", "ctypes.c_uint32", re.search(rf"library\.{call}\.restype = (\S+)", binding)[1])
 check("the version of the Python binding", version, re.search(r"^VERSION = (\d+)$", binding, re.M)[1])
 
 print(f"{passed} passed, {failed} failed")

@@ -149,6 +149,23 @@ class Nodes(unittest.TestCase):
         ]:
             self.assertIn(wanted, values)
 
+    def test_numbers(self) -> None:
+        """Ints of either sign, at the bounds of 32 bits and beyond, and both Booleans."""
+        for text, kind, value in [
+            ("-7", "int", -7),
+            ("-0", "int", 0),
+            ("-2147483648", "int", -2147483648),
+            ("2147483647", "int", 2147483647),
+            ("-2147483649", "large_int", -2147483649),
+            ("-1.5", "float", -1.5),
+            ("true", "boolean", True),
+            ("false", "boolean", False),
+        ]:
+            with self.subTest(text=text):
+                node = juniper.parse("{ a(b: " + text + ") }")[-1]
+                self.assertEqual((node.kind, node.value, type(node.value)), (kind, value, type(value)))
+                self.assertEqual((node.text, node.name), (text, None))
+
     def test_spans(self) -> None:
         text = '# Größe 𝄞\n{ größe: say(text: "𝄞 мир") }'.replace("größe", "groesse")
         document = juniper.parse(text)

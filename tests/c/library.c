@@ -221,6 +221,36 @@ static void fields(void) {
     give_back(r);
 }
 
+/* The values of Ints of either sign, at their bounds and beyond, and of both Booleans. */
+static void numbers(void) {
+    static const struct {
+        const char *text;
+        uint32_t kind;
+        int64_t value;
+    } wanted[] = {
+        {"-7", JUNIPER_INT, -7},
+        {"-0", JUNIPER_INT, 0},
+        {"-2147483648", JUNIPER_INT, -2147483647 - 1},
+        {"2147483647", JUNIPER_INT, 2147483647},
+        {"-2147483649", JUNIPER_LARGE_INT, 0},
+        {"2147483648", JUNIPER_LARGE_INT, 0},
+        {"-1.5", JUNIPER_FLOAT, 0},
+        {"true", JUNIPER_BOOLEAN, 1},
+        {"false", JUNIPER_BOOLEAN, 0},
+    };
+    for (size_t i = 0; i < sizeof wanted / sizeof *wanted; i++) {
+        char source[64];
+        size_t length = (size_t)snprintf(source, sizeof source, "{a(b:%s)}", wanted[i].text);
+        run r = parsed(source, length, DEPTH, 9, 9);
+        juniper_node n = r.nodes[4];
+        check(r.status == JUNIPER_TREE && r.nodes_needed == 5 && n.kind == wanted[i].kind && n.value == wanted[i].value
+                  && (wanted[i].value < 0) == (n.value < 0) && n.value_length == 0 && n.name_start == n.start.byte
+                  && n.name_end == n.end.byte && n.name_end - n.name_start == strlen(wanted[i].text),
+              "the value of %s", wanted[i].text);
+        give_back(r);
+    }
+}
+
 static void *many(void *failures) {
     for (int round = 0; round < 200; round++) {
         for (size_t i = 0; i < sizeof SOURCES / sizeof *SOURCES; i++) {
@@ -272,6 +302,7 @@ int main(void) {
     no_memory();
     too_long();
     fields();
+    numbers();
     threads();
     large("user(id: 4, b: {c: [1, \"x\"]}) { id name } ", 12, 1);
     large("say(text: \"\xd0\xbc\xd0\xb8\xd1\x80\") # \xd0\xbc\xd0\xb8\xd1\x80\n", 4, 6);

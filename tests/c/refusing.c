@@ -11,21 +11,28 @@ extern void __real_free(void *);
 
 static long asked, refused_request, live;
 static int is_onwards;
+/* Requests of so many bytes are refused, too, and counted. */
+static size_t refused_size;
+static long refused_sizes;
 
-static int is_refused(void) {
+static int is_refused(size_t size) {
     asked++;
+    if (refused_size != 0 && size == refused_size) {
+        refused_sizes++;
+        return 1;
+    }
     return refused_request != 0 && (asked == refused_request || (is_onwards && asked > refused_request));
 }
 
 void *__wrap_malloc(size_t size) {
-    if (is_refused()) return NULL;
+    if (is_refused(size)) return NULL;
     void *block = __real_malloc(size);
     if (block != NULL) live++;
     return block;
 }
 
 void *__wrap_realloc(void *block, size_t size) {
-    if (is_refused()) return NULL;
+    if (is_refused(size)) return NULL;
     void *grown = __real_realloc(block, size);
     if (block == NULL && grown != NULL) live++;
     return grown;
@@ -89,6 +96,18 @@ static void each(answer (*call)(const char *), const char *source) {
     check(requests == 0 || memory > 0, "want of memory is answered, for %s", source);
 }
 
+/* The room for nodes that is asked for before the first token is a hint: where it is refused, the answer stays. */
+static void room_is_a_hint(const char *source) {
+    answer ample = with_refused(parse, source, 0, 0);
+    refused_size = strlen(source) / 8 * sizeof(juniper_node);
+    refused_sizes = 0;
+    answer a = with_refused(parse, source, 0, 0);
+    refused_size = 0;
+    check(refused_sizes == 1, "%ld requests for the first room are refused, of %s", refused_sizes, source);
+    check(a.status == ample.status && a.nodes_needed == ample.nodes_needed && a.texts_needed == ample.texts_needed,
+          "the answer for %s where the first room for nodes is refused: %u", source, a.status);
+}
+
 int main(void) {
     static const char *const sources[] = {
         "{a}",
@@ -102,5 +121,7 @@ int main(void) {
         each(parse, sources[i]);
         each(message, sources[i]);
     }
+    room_is_a_hint(sources[1]);
+    room_is_a_hint(sources[2]);
     return counted();
 }

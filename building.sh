@@ -1,0 +1,86 @@
+# What ./gqlcheck, ./prove and ./c-library share: which crates a crate stands on, whether what was built is older than a
+# source, and how crates are proved side by side. It is sourced, with the repository's folder in $root.
+
+# crates_below NAME: the crates of this repository that a crate stands on, the lowest first, each once, and the crate itself.
+crates_below() {
+    crates_in_turn "$1" | awk '!seen[$0]++'
+}
+
+crates_in_turn() {
+    local below
+    for below in $(needed_by "$1"); do crates_in_turn "$below"; done
+    echo "$1"
+}
+
+# needed_by NAME: the crates of this repository that its line in crates.txt names.
+needed_by() {
+    local below
+    for below in $(sed -n "s/^$1\( staticlib\)\{0,1\}://p" "$root/crates.txt"); do
+        if [ -d "$root/crates/$below" ]; then echo "$below"; fi
+    done
+}
+
+# is_older FILE NAME ..: whether a file that these crates are made of is newer than this one, or this one is missing.
+is_older() {
+    local file=$1
+    shift
+    [ ! -e "$file" ] || [ -n "$(cd "$root/crates" && find "$@" ../crates.txt -path '*/out' -prune -o \
+        -path '*/must-fail' -prune -o \( -name '*.rt' -o -name '*.antt' -o -name crates.txt \) \
+        -newer "$file" -print -quit)" ]
+}
+
+# has_kit WHO: ends with a line on standard error, and status 127, where the kit's command is not there.
+has_kit() {
+    if ! command -v rt > /dev/null; then
+        echo "$1: the command rt of the Rattle kit is not on this machine's PATH" >&2
+        exit 127
+    fi
+}
+
+# prove_crates WHO LOG NAME ..: proves these crates, each as soon as those that it stands on are proved, and tells each as
+# it begins. What was proved before and is not older than its sources is passed over by the kit. False where one fails.
+prove_crates() {
+    local who=$1 log=$2 begin=$SECONDS number=0 name marks
+    shift 2
+    marks=$(mktemp -d)
+    for name in "$@"; do
+        number=$((number + 1))
+        prove_after_others "$who" "$log" "$name" "$number of $#" "$begin" "$marks" "$@" &
+    done
+    wait
+    local proved
+    proved=$(find "$marks" -name '*.proved' | wc -l)
+    rm -rf "$marks"
+    [ "$proved" = $# ]
+}
+
+# One of them: it waits for those that it stands on, and does nothing where one of these has failed.
+prove_after_others() {
+    local who=$1 log=$2 name=$3 number=$4 begin=$5 marks=$6 below
+    shift 6
+    for below in $(needed_by "$name"); do
+        case " $* " in *" $below "*) ;; *) continue ;; esac
+        until [ -e "$marks/$below.proved" ]; do
+            [ ! -e "$marks/failed" ] || return
+            sleep 0.2
+        done
+    done
+    [ ! -e "$marks/failed" ] || return
+    echo "$who: proving $name, $number, after $(((SECONDS - begin) / 60)) minutes" >&2
+    if prove_crate "$name" >> "$log.$name" 2>&1; then
+        touch "$marks/$name.proved"
+    else
+        touch "$marks/failed"
+        echo "$who: $name was not proved; $log.$name says why" >&2
+    fi
+}
+
+# A program is proved by a run of it, a library by its build.
+prove_crate() {
+    cd "$root/crates/$1" || return 1
+    if [ -e src/main.rt ]; then
+        echo '{ a }' | rt run && touch "out/$1"
+    else
+        rt lib
+    fi
+}
