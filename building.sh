@@ -1,15 +1,18 @@
-# What ./gqlcheck, ./prove and ./c-library share: which crates a crate stands on, whether what was built is older than a
-# source, and how crates are proved side by side. It is sourced, with the repository's folder in $root.
+# What ./gqlcheck, ./gqlcanon, ./prove and ./c-library share: which crates a crate stands on, whether what was built is
+# older than a source, how crates are proved side by side, and how a program is run. It is sourced, with the repository's
+# folder in $root.
 
-# crates_below NAME: the crates of this repository that a crate stands on, the lowest first, each once, and the crate itself.
+# crates_below NAME ..: the crates of this repository that these stand on, the lowest first, each once, and they themselves.
 crates_below() {
-    crates_in_turn "$1" | awk '!seen[$0]++'
+    crates_in_turn "$@" | awk '!seen[$0]++'
 }
 
 crates_in_turn() {
-    local below
-    for below in $(needed_by "$1"); do crates_in_turn "$below"; done
-    echo "$1"
+    local name below
+    for name in "$@"; do
+        for below in $(needed_by "$name"); do crates_in_turn "$below"; done
+        echo "$name"
+    done
 }
 
 # needed_by NAME: the crates of this repository that its line in crates.txt names.
@@ -83,4 +86,58 @@ prove_crate() {
     else
         rt lib
     fi
+}
+
+# The longest text of a checked run, in bytes: of much less it gives no answer in time.
+longest=$((1 << 24))
+
+# run_program NAME WORD ..: runs the program of this crate on standard input, where it is no older than its sources. Else
+# the kit's checked run answers, which proves nothing and checks every access as it runs; a line on standard error says so.
+# The statuses are the program's; 125 says that the checked run gave no answer, and 127 that the kit is missing.
+run_program() {
+    local name=$1 program=$root/crates/$1/out/$1
+    shift
+    if ! is_older "$program" $(crates_below "$name"); then exec "$program" "$@"; fi
+    has_kit "$name"
+    echo "$name: this run is checked, not proved; ./prove proves and builds the program" >&2
+    folder=$(mktemp -d)
+    trap 'rm -rf "$folder"' EXIT
+    head -c $((longest + 1)) > "$folder/text" 2> /dev/null || ends_with "$name: input or output failed" 3
+    if [ "$(stat -c %s "$folder/text")" -gt $longest ]; then
+        ends_with "$name: a checked run takes no text of more than $longest bytes" 125
+    fi
+    run_checked "$name"
+}
+
+# run_checked NAME: the checked run over the file `text` of $folder. Its last line tells whether a status is the
+# program's: only then is what was written a report.
+run_checked() {
+    local name=$1 status last
+    (cd "$root/crates/$name" && rt try) < "$folder/text" > "$folder/report" 2> "$folder/told"
+    status=$?
+    last=$(tail -n 1 "$folder/told")
+    case $last in
+        "run=ended status=$status "*)
+            write_report "$name" $status 2> /dev/null || ends_with "$name: input or output failed" 3
+            grep "^$name: " "$folder/told" >&2
+            exit $status
+            ;;
+    esac
+    ends_with "$name: the checked run gave no answer: ${last:-it told nothing}" 125
+}
+
+# write_report NAME STATUS: writes what a checked run wrote. The kit puts a line end behind a text that ends without one,
+# and a canonical text never ends with one.
+write_report() {
+    if [ "$1 $2" = 'gqlcanon 0' ] && [ -z "$(tail -c 1 "$folder/report")" ]; then
+        head -c -1 "$folder/report"
+    else
+        cat "$folder/report"
+    fi
+}
+
+# ends_with LINE STATUS: ends with a line on standard error.
+ends_with() {
+    echo "$1" >&2
+    exit "$2"
 }

@@ -3,7 +3,6 @@
 
 mod lines;
 mod report;
-mod watched;
 
 pub use report::{RunEnd, run};
-pub use watched::Watched;
+pub use streams::Watched;

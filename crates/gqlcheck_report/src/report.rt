@@ -1,13 +1,12 @@
 //! The whole work of the program, over any reader and writer.
 ghost use Rattle.std.specs.Prelude.{◌≡◌, ℕ, ◌↔◌, ◌⊎◌, true, false, not, List, take, IfOk, IsTrue, length, string_bytes};
 ghost use Rattle.std.specs.Io.KnownBytes.{Appends, Consumes, IsAtEnd, Keeps};
-ghost use Rattle.gqlcheck_report.specs.Watched.{inner_of, has_failed};
+ghost use Rattle.streams.specs.Watched.{inner_of, has_failed};
 ghost use Rattle.juniper_tokens.specs.Errors.{view_fault};
 ghost use Rattle.juniper_tokens.specs.Spans.{view_span};
 ghost use Rattle.gqlcheck_report.specs.Report.{Report, OneReport, IsReportEnd, fault_line, deep_line};
 
 use crate::lines::document_text;
-use crate::watched::Watched;
 use juniper::laws::{document_or_fault, one_answer_within, one_too_deep};
 use juniper::{
     DefaultScalarValue, DepthFailure, ParseError, ParseFailure, Span, Spanning,
@@ -15,6 +14,7 @@ use juniper::{
 };
 use std::alloc::{AllocError, Global};
 use std::io::{Read, Write};
+use streams::{Stop, Watched, read_all, write_all};
 
 /// How a run ended, and what it has then written.
 #[derive(Clone, Copy, Debug, PartialEq, Eq)]
@@ -32,14 +32,6 @@ pub enum RunEnd {
     /// Memory ran out: nothing.
     Memory,
 }
-
-#[derive(Clone, Copy)]
-enum Stop {
-    Device,
-    Memory,
-}
-
-const CHUNK: usize = 4096;
 
 // How deep brackets may be nested.
 const LIMIT: usize = 200;
@@ -82,7 +74,7 @@ pub fn run<R: Read, W: Write>(
         → Keeps (W.contents (inner_of writer.old)) (W.contents (inner_of writer.new)) }
 {
     one_report();
-    let source = match read_source(alloc, reader) {
+    let source = match read_all(alloc, reader) {
         Ok(source) => source,
         Err(Stop::Device) => return RunEnd::Device,
         Err(Stop::Memory) => return RunEnd::Memory,
@@ -90,7 +82,7 @@ pub fn run<R: Read, W: Write>(
     let Ok((end, text)) = report(alloc, source.as_slice()) else {
         return RunEnd::Memory;
     };
-    if write_text(writer, text.as_bytes()) {
+    if write_all(writer, text.as_bytes()) {
         end
     } else {
         RunEnd::Device
@@ -104,48 +96,6 @@ fn one_report()
     document_or_fault::<DefaultScalarValue>();
     one_too_deep::<DefaultScalarValue>();
     one_answer_within::<DefaultScalarValue>();
-}
-
-// The bytes of the reader, to its end.
-fn read_source<R: Read>(alloc: Global, reader: &mut Watched<R>) -> Result<Vec<u8>, Stop>
-    requires { has_failed reader.old ≡ false }
-    ensures all { IfOk result (λ source.
-        Consumes (R.remaining (inner_of reader.old)) (R.remaining (inner_of reader.new)) source.items
-        × IsAtEnd (R.remaining (inner_of reader.new))) }
-    ensures device { (result ≡ Err Stop.Device) ↔ (has_failed reader.new ≡ true) }
-{
-    let mut source = Vec::new(alloc);
-    let mut chunk = [0u8; CHUNK];
-    'reads: loop {
-        match reader.read(&mut chunk) {
-            Ok(0) => return Ok(source),
-            Ok(count) => {
-                if source.extend_from_slice(&chunk[..count]).is_err() {
-                    return Err(Stop::Memory);
-                }
-            }
-            Err(_) => return Err(Stop::Device),
-        }
-    }
-}
-
-// Writes the text, and says whether all of it went out. Else a beginning of it has.
-fn write_text<W: Write>(writer: &mut Watched<W>, text: &[u8]) -> bool
-    requires { has_failed writer.old ≡ false }
-    ensures all { IsTrue result
-        → Appends (W.contents (inner_of writer.old)) (W.contents (inner_of writer.new)) text.now }
-    ensures beginning { (n : ℕ)
-        × Appends (W.contents (inner_of writer.old)) (W.contents (inner_of writer.new)) (take n text.now) }
-    ensures failed { has_failed writer.new ≡ not result }
-{
-    let mut written = 0;
-    'writes: while written < text.len() {
-        match writer.write(&text[written..]) {
-            Ok(0) | Err(_) => return false,
-            Ok(count) => written += count,
-        }
-    }
-    true
 }
 
 // How a run over these bytes ends, and what it writes.

@@ -140,6 +140,16 @@ between (q ∷ qs) whole = take (length whole - 2 * length (q ∷ qs)) (drop (le
 abbrev pub text_of : Kind → List ℕ → List ℕ
 text_of kind whole = between (quotes (spelling kind)) whole
 
+-- a text between the same marks
+abbrev pub around : List ℕ → List ℕ → List ℕ
+around [] text = text
+around (q ∷ qs) text = q ∷ qs ++ (text ++ q ∷ qs)
+
+-- how a token of this kind and text is written: a String's text between quotes, a block string's between three on each
+-- side, the end as nothing
+abbrev pub written : Kind → List ℕ → List ℕ
+written kind text = around (quotes (spelling kind)) text
+
 -- some token begins with the text
 abbrev pub Starts : List ℕ → Type 0
 Starts text = (more : List ℕ) × (kind : Kind) × Spells (text ++ more) kind

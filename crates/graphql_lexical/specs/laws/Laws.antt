@@ -1,9 +1,9 @@
 -- What is claimed of the definitions.
 use Rattle.std.specs.Prelude.{◌≡◌, ◌≢◌, ℕ, ◌-◌, ◌≤◌, ◌+◌, List, [], ◌∷◌, ◌++◌, length, slice_get, take, drop, ◌⊎◌, ◌↔◌, Some, Ok, Err}
 use Rattle.std.specs.List.{AllByRecursion}
-use Rattle.graphql_lexical.specs.Kinds.{Kind, BlockString, EndOfFile, LexicalError, spelling}
+use Rattle.graphql_lexical.specs.Kinds.{Kind, BlockString, EndOfFile, LexicalError}
 use Rattle.graphql_lexical.specs.Place.{Place, Span, place, origin, past_character}
-use Rattle.graphql_lexical.specs.Tokens.{mark, quotes}
+use Rattle.graphql_lexical.specs.Tokens.{mark, written}
 use Rattle.graphql_lexical.specs.Reading.{Reads, Fails}
 use Rattle.graphql_lexical.specs.Cutting.{Lexeme, Cut, Breaks}
 use Rattle.graphql_lexical.specs.device.Scan.{Found, Missed, Broken, scan, cut_of}
@@ -68,15 +68,6 @@ HasFewTokens source = (front : List Lexeme) (last : Lexeme) → Cut source (fron
 -- the characters from one place to another
 abbrev pub slice_of : List ℕ → Span → List ℕ
 slice_of source span = take (span.end.index - span.start.index) (drop span.start.index source)
-
-abbrev pub around : List ℕ → List ℕ → List ℕ
-around [] text = text
-around (q ∷ qs) text = q ∷ qs ++ (text ++ q ∷ qs)
-
--- what a source has where a token of this kind and text stands: of a String its text between quotes, of a block string
--- between three on each side
-abbrev pub written : Kind → List ℕ → List ℕ
-written kind text = around (quotes (spelling kind)) text
 
 -- The token stands at or behind character k: its places are places of the source, and what stands between them is its
 -- text, of a String and of a block string its text between the quotes.

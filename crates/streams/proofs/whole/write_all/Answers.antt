@@ -2,7 +2,7 @@ use Rattle.std.proofs.Common.{rules}
 use Rattle.std.proofs.KnownBytes.{Appends-trans}
 use Rattle.std.proofs.Math.Seq.{take-add}
 use Rattle.std.proofs.lemmas.List.{take_rest}
-use Rattle.gqlcheck_report.proofs.report.write_text.Goals as goal
+use Rattle.streams.proofs.whole.write_all.Goals as goal
 
 pub writes-preserved : goal.writes-preserved
 writes-preserved g c = record {

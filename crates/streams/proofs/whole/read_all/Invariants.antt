@@ -1,8 +1,8 @@
 -- What is kept is what was read. Each turn keeps more, and a `Vec` holds below 2^63 bytes.
 use Rattle.std.proofs.Common.{◌≡◌, ◌-◌, ◌^◌, false, vec_len}
 use Rattle.std.specs.Io.KnownBytes.{Consumes}
-use Rattle.gqlcheck_report.specs.Watched.{inner_of, has_failed}
-use Rattle.gqlcheck_report.proofs.report.read_source.Given as goal
+use Rattle.streams.specs.Watched.{inner_of, has_failed}
+use Rattle.streams.proofs.whole.read_all.Given as goal
 
 abbrev pub invariant-reads : goal.invariant-reads
 invariant-reads g l = record {

@@ -14,7 +14,7 @@ pub struct Watched<T> {
 }
 
 impl<T> Watched<T> {
-    ghost use Rattle.gqlcheck_report.specs.Watched.{inner_of, has_failed};
+    ghost use Rattle.streams.specs.Watched.{inner_of, has_failed};
 
     /// Wraps a reader or a writer that has not failed.
     pub fn new(inner: T) -> Self
@@ -43,7 +43,7 @@ impl<T> Watched<T> {
 }
 
 impl<R: Read> Watched<R> {
-    ghost use Rattle.gqlcheck_report.specs.Watched.{inner_of, has_failed, last_failure};
+    ghost use Rattle.streams.specs.Watched.{inner_of, has_failed, last_failure};
 
     /// Reads once from the reader inside, and answers what that answers. An error of any kind is a failure.
     pub fn read(&mut self, buf: &mut [u8]) -> io::Result<usize>
@@ -61,7 +61,7 @@ impl<R: Read> Watched<R> {
 }
 
 impl<W: Write> Watched<W> {
-    ghost use Rattle.gqlcheck_report.specs.Watched.{inner_of, has_failed, last_failure, is_refused};
+    ghost use Rattle.streams.specs.Watched.{inner_of, has_failed, last_failure, is_refused};
 
     /// Writes once to the writer inside, and answers what that answers. An error of any kind is a failure, and so is
     /// to take no byte of some.

@@ -1,7 +1,7 @@
 -- What a clause reads of a watched reader or writer.
 use Rattle.std.specs.Prelude.{ℕ, Bool, true, ◌&&◌, nat_lt, nat_eq, Option, is_some, Result, Ok, Err}
 use Rattle.std.specs.declared.io.Error.{Error}
-use Rattle.gqlcheck_report.specs.declared.watched.Watched.{Watched}
+use Rattle.streams.specs.declared.watched.Watched.{Watched}
 
 -- the reader or writer inside
 abbrev pub inner_of : {T : Type 0} → Watched T → T

@@ -1,8 +1,8 @@
 -- The first `written` bytes have gone out.
 use Rattle.std.proofs.Common.{◌≡◌, ◌-◌, ◌≤◌, false, length, take}
 use Rattle.std.specs.Io.KnownBytes.{Appends}
-use Rattle.gqlcheck_report.specs.Watched.{inner_of, has_failed}
-use Rattle.gqlcheck_report.proofs.report.write_text.Given as goal
+use Rattle.streams.specs.Watched.{inner_of, has_failed}
+use Rattle.streams.proofs.whole.write_all.Given as goal
 
 abbrev pub invariant-writes : goal.invariant-writes
 invariant-writes g l = record {

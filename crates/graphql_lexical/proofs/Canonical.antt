@@ -1,0 +1,218 @@
+-- The canonical text of a source is cut into tokens alike with the source's.
+use Rattle.std.proofs.Common.{◌≡◌, ℕ, ◌+◌, ◌⊎◌, inl, inr, Bool, true, false, not, ◌&&◌, ◌||◌, List, [], ◌∷◌, ◌++◌, take, drop, Result, Ok, IsTrue, refl, sym, ap, ap₂, ◌∙◌, subst}
+use Rattle.graphql_lexical.specs.Kinds.{Kind, ExclamationMark, Dollar, ParenOpen, ParenClose, BracketOpen, BracketClose, CurlyOpen, CurlyClose, Ellipsis, Colon, Equals, At, Pipe, EndOfFile, Fixed, spelling, is_fixed, same_kind}
+use Rattle.graphql_lexical.specs.Tokens.{Admits, Spells, text_of, written}
+use Rattle.graphql_lexical.specs.Reading.{Reads}
+use Rattle.graphql_lexical.specs.Cutting.{Lexeme, CutFrom, Cut}
+use Rattle.graphql_lexical.specs.Canonical.{is_parted, space_if, parting, canonical}
+use Rattle.graphql_lexical.specs.device.Scan.{Broken}
+use Rattle.graphql_lexical.specs.laws.Alike.{AllAlike}
+use Rattle.graphql_lexical.specs.laws.Joining.{BeginsApart}
+use Rattle.graphql_lexical.specs.laws.Canonical.{KeepsTokens, TellsTokens, IsItsOwn}
+use Rattle.graphql_lexical.proofs.EachKind.{each_kind}
+use Rattle.graphql_lexical.proofs.Slices.{front_read}
+use Rattle.graphql_lexical.proofs.Cuts.{cut_computes}
+use Rattle.graphql_lexical.proofs.Writing.{nothing_cut, no_lexeme, lone_lexeme, token_cut, white_cut}
+
+-- ---- tokens as they are written
+
+-- What is written of a token spells it.
+record IsSpelled (kind : Kind) (text : List ℕ) : Type 0 where
+  spells : Spells (written kind text) kind
+  text_is : text ≡ text_of kind (written kind text)
+
+read_spelled : (rest : List ℕ) (n : ℕ) (kind : Kind) (text : List ℕ) → Reads rest n kind text → (kind ≡ EndOfFile → ⊥)
+    → IsSpelled kind text
+read_spelled [] n kind text r none = absurd (none r.1)
+read_spelled (c ∷ cs) n kind text r none =
+    let front = (front_read (c ∷ cs) n kind text r).front in
+    record {
+      spells = subst (λ (t : List ℕ). Spells t kind) front r.spells;
+      text_is = r.text_is ∙ ap (text_of kind) front;
+    }
+
+pub no_text : (rest : List ℕ) (n : ℕ) (kind : Kind) (text : List ℕ) → Reads rest n kind text → kind ≡ EndOfFile
+    → text ≡ []
+no_text [] n kind text r e = r.2
+no_text (c ∷ cs) n kind text r e = absurd (subst (Spells (take n (c ∷ cs))) e r.spells)
+
+-- ---- what may stand behind a token
+
+fixed_begins : (kind : Kind) (c : ℕ) → spelling kind ≡ Fixed (c ∷ []) → IsTrue (is_fixed kind) → (whole rest : List ℕ)
+    → Spells whole kind → BeginsApart (whole ++ rest)
+fixed_begins kind c e f whole rest s =
+    let is : whole ≡ c ∷ [] = subst (λ w. Admits w whole) e s in
+    subst (λ (t : List ℕ). BeginsApart (t ++ rest)) (sym is) (inr (kind, f, subst (λ (t : List ℕ). Spells t kind) is s))
+
+-- each punctuator but `...` stands apart
+abbrev BeginsOrDots : Kind → Type 0
+BeginsOrDots kind =
+    (whole rest : List ℕ) → IsTrue (is_fixed kind) → Spells whole kind → BeginsApart (whole ++ rest) ⊎ (kind ≡ Ellipsis)
+
+begins_or_dots : (kind : Kind) → BeginsOrDots kind
+begins_or_dots = each_kind BeginsOrDots (
+  λ w r f s. absurd cc,
+  λ w r f s. absurd cc,
+  λ w r f s. absurd cc,
+  λ w r f s. absurd cc,
+  λ w r f s. absurd cc,
+  λ w r f s. inl (fixed_begins ExclamationMark 33 refl f w r s),
+  λ w r f s. inl (fixed_begins Dollar 36 refl f w r s),
+  λ w r f s. inl (fixed_begins ParenOpen 40 refl f w r s),
+  λ w r f s. inl (fixed_begins ParenClose 41 refl f w r s),
+  λ w r f s. inl (fixed_begins BracketOpen 91 refl f w r s),
+  λ w r f s. inl (fixed_begins BracketClose 93 refl f w r s),
+  λ w r f s. inl (fixed_begins CurlyOpen 123 refl f w r s),
+  λ w r f s. inl (fixed_begins CurlyClose 125 refl f w r s),
+  λ w r f s. inr refl,
+  λ w r f s. inl (fixed_begins Colon 58 refl f w r s),
+  λ w r f s. inl (fixed_begins Equals 61 refl f w r s),
+  λ w r f s. inl (fixed_begins At 64 refl f w r s),
+  λ w r f s. inl (fixed_begins Pipe 124 refl f w r s),
+  λ w r f s. absurd s,
+)
+
+-- behind a token that is no punctuator stands a space, a punctuator of one character, or nothing
+open_parting : (source : List ℕ) (kind : Kind) (xs : List Lexeme) (k : ℕ) → is_fixed kind ≡ false → CutFrom source k xs
+    → BeginsApart (parting kind xs ++ canonical xs)
+open_parting source kind [] k o c = absurd c
+open_parting source kind (x ∷ xs) k o (n, s, rest) =
+    by_parted (is_parted kind x.kind) refl
+  where
+    rest_is : List ℕ
+    rest_is = canonical (x ∷ xs)
+
+    -- not parted: the next token is a punctuator of one character, or the end
+    unparted : (b d : Bool) → is_fixed x.kind ≡ b → same_kind x.kind Ellipsis ≡ d → (not b || d) ≡ false
+        → (((x.kind ≡ EndOfFile) × (xs ≡ [])) ⊎ ((x.kind ≡ EndOfFile → ⊥) × CutFrom source n xs))
+        → BeginsApart (canonical (x ∷ xs))
+    unparted false d e f g h = absurd cc
+    unparted true true e f g h = absurd cc
+    unparted true false e f g (inl (end, none)) =
+        let text = no_text (drop (k + s.gap) source) s.size x.kind x.text s.reads end in
+        let empty : canonical (x ∷ xs) ≡ [] =
+        ap (λ (ys : List Lexeme). written x.kind x.text ++ (parting x.kind ys ++ canonical ys)) none
+        ∙ ap₂ (λ (i : Kind) (t : List ℕ). written i t ++ []) end text in
+        subst BeginsApart (sym empty) tt
+    unparted true false e f g (inr (no_end, c)) =
+        let spelled = read_spelled (drop (k + s.gap) source) s.size x.kind x.text s.reads no_end in
+        elim (begins_or_dots x.kind (written x.kind x.text) (parting x.kind xs ++ canonical xs) e spelled.spells) [
+          | inl a ↦ a
+          | inr dots ↦ absurd (let z = ap (λ (i : Kind). same_kind i Ellipsis) dots in cc)
+        ]
+
+    by_parted : (b : Bool) → is_parted kind x.kind ≡ b → BeginsApart (space_if b ++ canonical (x ∷ xs))
+    by_parted true e = inl refl
+    by_parted false e =
+        unparted (is_fixed x.kind) (same_kind x.kind Ellipsis) refl refl
+        (sym (ap (λ (b : Bool). not b && (not (is_fixed x.kind) || same_kind x.kind Ellipsis)) o) ∙ e) rest
+
+may_follow : (source : List ℕ) (kind : Kind) (xs : List Lexeme) (k : ℕ) → CutFrom source k xs
+    → IsTrue (is_fixed kind) ⊎ BeginsApart (parting kind xs ++ canonical xs)
+may_follow source kind xs k c = by_kind (is_fixed kind) refl
+  where
+    by_kind : (b : Bool) → is_fixed kind ≡ b → IsTrue (is_fixed kind) ⊎ BeginsApart (parting kind xs ++ canonical xs)
+    by_kind true e = inl e
+    by_kind false e = inr (open_parting source kind xs k e c)
+
+-- ---- lists that are alike
+
+pub alike_trans : (xs ys zs : List Lexeme) → AllAlike xs ys → AllAlike ys zs → AllAlike xs zs
+alike_trans [] [] [] a b = tt
+alike_trans (x ∷ xs) (y ∷ ys) (z ∷ zs) a b =
+    (record { kind = a.0.kind ∙ b.0.kind; text = a.0.text ∙ b.0.text }, alike_trans xs ys zs a.1 b.1)
+alike_trans [] [] (z ∷ zs) a b = absurd b
+alike_trans [] (y ∷ ys) zs a b = absurd a
+alike_trans (x ∷ xs) [] zs a b = absurd a
+alike_trans (x ∷ xs) (y ∷ ys) [] a b = absurd b
+
+pub alike_sym : (xs ys : List Lexeme) → AllAlike xs ys → AllAlike ys xs
+alike_sym [] [] a = tt
+alike_sym (x ∷ xs) (y ∷ ys) a = (record { kind = sym a.0.kind; text = sym a.0.text }, alike_sym xs ys a.1)
+alike_sym [] (y ∷ ys) a = absurd a
+alike_sym (x ∷ xs) [] a = absurd a
+
+-- ---- the tokens are kept
+
+space_cut : (b : Bool) (rest : List ℕ) (us : List Lexeme) → Cut rest us
+    → (vs : List Lexeme) × Cut (space_if b ++ rest) vs × AllAlike vs us
+space_cut true rest us c = white_cut 32 rest us refl c
+space_cut false rest us c = (us, c, alike_self us)
+  where
+    alike_self : (xs : List Lexeme) → AllAlike xs xs
+    alike_self [] = tt
+    alike_self (x ∷ xs) = (record { kind = refl; text = refl }, alike_self xs)
+
+parted_cut : (kind : Kind) (xs us : List Lexeme) → Cut (canonical xs) us
+    → (vs : List Lexeme) × Cut (parting kind xs ++ canonical xs) vs × AllAlike vs us
+parted_cut kind [] us c = space_cut false [] us c
+parted_cut kind (x ∷ xs) us c = space_cut (is_parted kind x.kind) (canonical (x ∷ xs)) us c
+
+keeps_from : (source : List ℕ) (xs : List Lexeme) (k : ℕ) → CutFrom source k xs
+    → (ys : List Lexeme) × Cut (canonical xs) ys × AllAlike ys xs
+keeps_from source [] k c = absurd c
+keeps_from source (x ∷ xs) k (n, s, inl (end, none)) =
+    let text = no_text (drop (k + s.gap) source) s.size x.kind x.text s.reads end in
+    let empty : canonical (x ∷ xs) ≡ [] =
+    ap (λ (ys : List Lexeme). written x.kind x.text ++ (parting x.kind ys ++ canonical ys)) none
+    ∙ ap₂ (λ (i : Kind) (t : List ℕ). written i t ++ []) end text in (
+      no_lexeme ∷ [],
+      subst (λ (t : List ℕ). Cut t (no_lexeme ∷ [])) (sym empty) nothing_cut,
+      subst (λ (ys : List Lexeme). AllAlike (no_lexeme ∷ []) (x ∷ ys)) (sym none)
+          (record { kind = sym end; text = sym text }, tt),
+    )
+keeps_from source (x ∷ xs) k (n, s, inr (no_end, c)) =
+    let more = keeps_from source xs n c in
+    let spelled = read_spelled (drop (k + s.gap) source) s.size x.kind x.text s.reads no_end in
+    let parted = parted_cut x.kind xs more.0 more.1 in
+    let whole = token_cut (written x.kind x.text) x.kind (parting x.kind xs ++ canonical xs) parted.0 spelled.spells
+    (may_follow source x.kind xs n c) parted.1 in (
+      lone_lexeme (written x.kind x.text) x.kind ∷ whole.0,
+      whole.1,
+      (
+        record { kind = refl; text = sym spelled.text_is },
+        alike_trans whole.0 parted.0 xs whole.2 (alike_trans parted.0 more.0 xs parted.2 more.2),
+      ),
+    )
+
+pub keeps_tokens : (source : List ℕ) → KeepsTokens source
+keeps_tokens source xs c = keeps_from source xs 0 c
+
+-- ---- alike tokens have one canonical text
+
+same_parting : (i j : Kind) (xs ys : List Lexeme) → i ≡ j → AllAlike xs ys → parting i xs ≡ parting j ys
+same_parting i j [] [] e a = refl
+same_parting i j (x ∷ xs) (y ∷ ys) e a = ap₂ (λ (p q : Kind). space_if (is_parted p q)) e a.0.kind
+same_parting i j [] (y ∷ ys) e a = absurd a
+same_parting i j (x ∷ xs) [] e a = absurd a
+
+pub same_canonical : (xs ys : List Lexeme) → AllAlike xs ys → canonical xs ≡ canonical ys
+same_canonical [] [] a = refl
+same_canonical (x ∷ xs) (y ∷ ys) a =
+    let parts : parting x.kind xs ≡ parting y.kind ys = same_parting x.kind y.kind xs ys a.0.kind a.1 in
+    ap₂ (λ (s t : List ℕ). s ++ t) (ap₂ written a.0.kind a.0.text)
+    (ap₂ (λ (s t : List ℕ). s ++ t) parts (same_canonical xs ys a.1))
+same_canonical [] (y ∷ ys) a = absurd a
+same_canonical (x ∷ xs) [] a = absurd a
+
+only_cut : (source : List ℕ) (xs ys : List Lexeme) → Cut source xs → Cut source ys → xs ≡ ys
+only_cut source xs ys a b = same_list xs ys (sym (cut_computes source xs a) ∙ cut_computes source ys b)
+  where
+    same_list : (x y : List Lexeme) → ◌≡◌ {A = Result (List Lexeme) Broken} (Ok x) (Ok y) → x ≡ y
+    same_list x y e = cc
+
+same_tokens : (a b : List ℕ) (xs ys : List Lexeme) → Cut a xs → Cut b ys → canonical xs ≡ canonical ys → AllAlike xs ys
+same_tokens a b xs ys c d e =
+    let k = keeps_tokens a xs c in
+    let l = keeps_tokens b ys d in
+    let same : k.0 ≡ l.0 = only_cut (canonical ys) k.0 l.0 (subst (λ (t : List ℕ). Cut t k.0) e k.1) l.1 in
+    alike_trans xs k.0 ys (alike_sym k.0 xs k.2) (subst (λ (z : List Lexeme). AllAlike z ys) (sym same) l.2)
+
+pub tells_tokens : (a b : List ℕ) → TellsTokens a b
+tells_tokens a b xs ys c d = (same_tokens a b xs ys c d, same_canonical xs ys)
+
+pub is_its_own : (source : List ℕ) → IsItsOwn source
+is_its_own source xs ys c d =
+    let k = keeps_tokens source xs c in
+    let same : ys ≡ k.0 = only_cut (canonical xs) ys k.0 d k.1 in
+    same_canonical ys xs (subst (λ (z : List Lexeme). AllAlike z xs) (sym same) k.2)

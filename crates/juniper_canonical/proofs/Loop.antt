@@ -1,0 +1,92 @@
+-- What the loop keeps: the canonical text of the tokens so far.
+use Rattle.std.proofs.Common.{◌≡◌, ℕ, List, [], ◌∷◌, ◌++◌, refl, sym, ap, ap₂, ◌∙◌, subst, append_assoc, append-nil}
+use Rattle.graphql_lexical.specs.declared.kind.Kind.{Kind}
+use Rattle.graphql_lexical.specs.declared.kind.Kind.TheVariants.{EndOfFile}
+use Rattle.std.proofs.Common.{inl}
+use Rattle.std.specs.Prelude.{Some, Result, Ok, Err, encode_utf8_all}
+use Rattle.std.proofs.lemmas.Str.{encodes-append}
+use Rattle.graphql_lexical.specs.Cutting.{Lexeme, Stands, BreaksFrom, here, Breaks}
+use Rattle.juniper_tokens.specs.declared.span.Spanning.{Spanning}
+use Rattle.juniper_tokens.specs.declared.token.Token.{Token}
+use Rattle.juniper_tokens.specs.Tokens.{view_token, token_kind}
+use Rattle.juniper_tokens.specs.Lexing.{LexerState, started, lexer_steps, BreaksAt, GivesFault, GivesItem}
+use Rattle.std.specs.Result.{IsErrAnd}
+use Rattle.graphql_lexical.proofs.Cuts.{front_breaks}
+use Rattle.juniper_tokens.specs.declared.error.LexFailure.{LexFailure}
+use Rattle.juniper_tokens.specs.declared.error.LexFailure.TheVariants as failures
+use Rattle.juniper_tokens.specs.Errors.{view_lexer_error}
+use Rattle.juniper_tokens.specs.Gathering.{IfFault}
+use Rattle.juniper_tokens.proofs.Gathering.{Gathered, gathered_open, gathered_token}
+use Rattle.graphql_lexical.specs.Canonical.{is_parted, space_if, canonical}
+use Rattle.graphql_lexical.specs.Tokens.{written}
+
+-- the kind of the last token, or of the end where there is none
+abbrev pub last_kind : List Lexeme → Kind
+last_kind [] = EndOfFile
+last_kind (x ∷ []) = x.kind
+last_kind (x ∷ y ∷ ys) = last_kind (y ∷ ys)
+
+-- what one more token adds
+abbrev pub added : Kind → Lexeme → List ℕ
+added last x = space_if (is_parted last x.kind) ++ written x.kind x.text
+
+pub canonical_more : (xs : List Lexeme) (x : Lexeme)
+    → canonical (xs ++ x ∷ []) ≡ canonical xs ++ added (last_kind xs) x
+canonical_more [] x = append-nil (written x.kind x.text)
+canonical_more (y ∷ []) x =
+    ap (λ (t : List ℕ). written y.kind y.text ++ (space_if (is_parted y.kind x.kind) ++ t)) (append-nil (written x.kind x.text))
+    ∙ ap (λ (t : List ℕ). t ++ added y.kind x) (sym (append-nil (written y.kind y.text)))
+canonical_more (y ∷ z ∷ zs) x =
+    let more = canonical_more (z ∷ zs) x in
+    let space : List ℕ = space_if (is_parted y.kind z.kind) in
+    let behind : List ℕ = added (last_kind (z ∷ zs)) x in
+    ap (λ (t : List ℕ). written y.kind y.text ++ (space ++ t)) more
+    ∙ (ap (λ (t : List ℕ). written y.kind y.text ++ t) (sym (append_assoc space (canonical (z ∷ zs)) behind))
+    ∙ sym (append_assoc (written y.kind y.text) (space ++ canonical (z ∷ zs)) behind))
+
+pub last_more : (xs : List Lexeme) (x : Lexeme) → last_kind (xs ++ x ∷ []) ≡ x.kind
+last_more [] x = refl
+last_more (y ∷ []) x = refl
+last_more (y ∷ z ∷ zs) x = last_more (z ∷ zs) x
+
+-- the lexer stands behind these tokens, and their canonical text is written
+pub record Kept (source : List ℕ) (t : LexerState) (text : List ℕ) (last : Kind) : Type 0 where
+  pub tokens : List Lexeme
+  pub gathered : Gathered (started source) tokens t
+  pub text_is : text ≡ encode_utf8_all (canonical tokens)
+  pub last_is : last ≡ last_kind tokens
+
+pub kept_first : (source : List ℕ) → Kept source (started source) [] EndOfFile
+kept_first source = record { tokens = []; gathered = record { source = refl; tokens = inl (refl, refl) }; text_is = refl; last_is = refl }
+
+pub kept_more : (source : List ℕ) (t u : LexerState) (text new : List ℕ) (last : Kind) (token : Spanning Token)
+    → Kept source t text last → lexer_steps t (Some (Ok token)) u
+    → new ≡ text ++ encode_utf8_all (added last (view_token token)) → Kept source u new (token_kind token.item)
+kept_more source t u text new last token k h e =
+    let x : Lexeme = view_token token in
+    let open_yet = gathered_open (started source) k.tokens t k.gathered h.0 in
+    let same : t.source ≡ source = k.gathered.source in
+    record {
+      tokens = k.tokens ++ x ∷ [];
+      gathered = gathered_token (started source) k.tokens t u x open_yet (h.1 ∙ same)
+          (subst (λ (s : List ℕ). Stands s t.index x u.index) same h.2.stands) h.2.ends;
+      text_is = e ∙ (ap₂ (λ (s : List ℕ) (i : Kind). s ++ encode_utf8_all (added i x)) k.text_is k.last_is
+          ∙ (sym (encodes-append (canonical k.tokens) (added (last_kind k.tokens) x))
+          ∙ ap encode_utf8_all (sym (canonical_more k.tokens x))));
+      last_is = sym (last_more k.tokens x);
+    }
+
+-- a fault behind them is passed on
+pub kept_fault : (source : List ℕ) (t u : LexerState) (text : List ℕ) (last : Kind) {X : Type 0}
+    (result : Result X LexFailure) (failure : LexFailure) → Kept source t text last
+    → lexer_steps t (Some (Err failure)) u → IsErrAnd result (λ x. x ≡ failure)
+    → IfFault result (λ fault. Breaks source (view_lexer_error fault.item) fault.span.start)
+kept_fault source t u text last (Ok x) failure k h e = absurd e
+kept_fault source t u text last (Err failures.Memory) failure k h e = tt
+kept_fault source t u text last (Err (failures.Fault fault)) failure k h e =
+    let gives : GivesFault t fault u = subst (λ (f : LexFailure). GivesItem t (Err f) u) (sym e) h.2 in
+    let breaks : BreaksAt source t.index (view_lexer_error fault.item) fault.span.start =
+    subst (λ (s : List ℕ). BreaksAt s t.index (view_lexer_error fault.item) fault.span.start) k.gathered.source
+    gives.breaks in
+    front_breaks source k.tokens 0 t.index _ _ (gathered_open (started source) k.tokens t k.gathered h.0)
+    (subst (BreaksFrom source t.index (view_lexer_error fault.item)) (sym breaks.at_is) (here breaks.gap_is breaks.fails))

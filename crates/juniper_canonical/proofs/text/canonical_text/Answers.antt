@@ -1,0 +1,23 @@
+use Rattle.std.proofs.Common.{◌≡◌, ◌++◌, Some, Ok, Err, sym, subst, rules}
+use Rattle.std.specs.Prelude.{string_bytes, chars, encode_utf8_all}
+use Rattle.juniper_tokens.specs.Tokens.{view_token}
+use Rattle.juniper_tokens.specs.Lexing.{lexer_steps}
+use Rattle.juniper_canonical.proofs.Loop.{Kept, added, kept_more, kept_fault}
+use Rattle.juniper_canonical.proofs.text.canonical_text.Goals as goal
+
+pub returns-in_err-token-clause-fault : goal.returns-in_err-token-clause-fault
+returns-in_err-token-clause-fault c =
+    let step : lexer_steps c.loop-item.lexer (Some (Err c.in_err-token.field-0.0)) c.next.new.self = search rules in
+    kept_fault (chars c.args.source.now) c.loop-item.lexer c.next.new.self _ _ _ _ c.loop-item.invariant.1 step
+    c.from_residual.ensures.1
+
+pub loop-item-preserved : goal.loop-item-preserved
+loop-item-preserved c =
+    let step : lexer_steps c.loop-item.lexer (Some (Ok c.in_ok-token.field-0)) c.next.new.self = search rules in
+    let grows : string_bytes c.write_token.new.out ≡ string_bytes c.loop-item.text
+    ++ encode_utf8_all (added c.loop-item.last (view_token c.in_ok-token.field-0)) = search rules in (
+      (tt, tt),
+      subst (Kept (chars c.args.source.now) c.next.new.self (string_bytes c.write_token.new.out))
+          (sym c.kind-last.ensures) (kept_more (chars c.args.source.now) c.loop-item.lexer c.next.new.self _ _ _ _
+          c.loop-item.invariant.1 step grows),
+    )

@@ -1,0 +1,8 @@
+//! Readers and writers for programs that read all of their input, and then write what they say of it.
+#![tactic(auto)]
+
+mod watched;
+mod whole;
+
+pub use watched::Watched;
+pub use whole::{Stop, read_all, write_all};
