@@ -1,5 +1,6 @@
 -- The table of classes.
 use Rattle.std.proofs.Common.{◌≡◌, ℕ, Bool, zero, suc, ◌+◌, ◌<◌, true, false, None, ◌==◌, refl, sym, ap, ◌∙◌, arith}
+use Rattle.std.proofs.lemmas.Bool.{eqb-true}
 use Rattle.std.specs.Prelude.{slice_index_or, nat_lt, nat_le}
 use denote.Enum.Bare.{sameb}
 use Rattle.graphql_lexical.specs.Characters.{is_name_character, is_digit}
@@ -87,3 +88,28 @@ gap_none Punctuator w l h = refl
 gap_none Control w l h = refl
 gap_none Other w l h = refl
 gap_none Lead w l h = refl
+
+-- ---- at one byte, by its class
+
+pub outer : (b : ℕ) (class : ByteClass) (inner : Bool) → b < 256 → class ≡ class_of b → inner ≡ inner_class class
+    → is_inner b ≡ inner
+outer b class inner l e f = sym (f ∙ (ap inner_class e ∙ inner_class_tests b l))
+
+pub feed_byte : (b : ℕ) (class : ByteClass) → b < 256 → class ≡ class_of b → class ≡ LineFeed → b ≡ 10
+feed_byte b class l e f = eqb-true b 10 (sym (feed_class_tests b l)
+    ∙ ap (λ k. sameb the_type k LineFeed) (sym e ∙ f))
+
+pub not_inner : (b : ℕ) (class : ByteClass) → b < 256 → class ≡ class_of b → (class ≡ Inner → ⊥) → is_inner b ≡ false
+not_inner b class l e n = outer b class false l e (sym (by_class class n))
+  where
+    by_class : (k : ByteClass) → (k ≡ Inner → ⊥) → inner_class k ≡ false
+    by_class Inner h = absurd (h refl)
+    by_class _ h = refl
+
+pub no_feed_byte : (b : ℕ) (class : ByteClass) → b < 256 → class ≡ class_of b → (class ≡ LineFeed → ⊥)
+    → (b == 10) ≡ false
+no_feed_byte b class l e n = sym (feed_class_tests b l) ∙ (ap (λ k. sameb the_type k LineFeed) (sym e) ∙ by_class class n)
+  where
+    by_class : (k : ByteClass) → (k ≡ LineFeed → ⊥) → sameb the_type k LineFeed ≡ false
+    by_class LineFeed h = absurd (h refl)
+    by_class _ h = refl

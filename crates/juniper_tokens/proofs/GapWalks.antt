@@ -14,14 +14,14 @@ use Rattle.graphql_lexical.specs.Place.{Place, past_character, next_column, next
 use Rattle.graphql_lexical.specs.device.Scan.{gap_step, gap_size}
 use Rattle.juniper_tokens.specs.contracts.byte_classes.ByteClass.{the_type}
 use Rattle.juniper_tokens.specs.declared.byte_classes.ByteClass.{ByteClass}
-use Rattle.juniper_tokens.specs.declared.byte_classes.ByteClass.TheVariants.{White, LineFeed, Hash, Lead}
+use Rattle.juniper_tokens.specs.declared.byte_classes.ByteClass.TheVariants.{White, LineFeed, Hash, Lead, Control}
 use Rattle.juniper_tokens.specs.declared.lexer.run.Run.TheVariants as run
 use Rattle.juniper_tokens.specs.declared.lexer.text.Border.{Border}
 use Rattle.juniper_tokens.specs.ByteClasses.{class_of, gap_class}
 use Rattle.juniper_tokens.specs.device.ByteRuns.{byte_at}
 use Rattle.juniper_tokens.specs.device.LexingByScan.{begins_with_mark}
 use Rattle.juniper_tokens.specs.Positions.{columns_on}
-use Rattle.juniper_tokens.specs.device.Walks.{run_size, RunsTo, EndsGap}
+use Rattle.juniper_tokens.specs.device.Walks.{run_size, RunsTo, first_class, EndsGap}
 use Rattle.juniper_tokens.proofs.Borders.{byte_at_on, byte_at_within, chars_within}
 use Rattle.juniper_tokens.proofs.ByteClasses.{gap_class_tests, low_class, low_class_tests, lead_class_tests, feed_class_tests, gap_none}
 use Rattle.juniper_tokens.proofs.Places.{OnLine, line_fold, one_column_more}
@@ -112,6 +112,10 @@ none_left : (ds : List ℕ) → length ds ≤ 0 → gap_size ds ≡ 0
 none_left [] l = refl
 none_left (d ∷ ds) l = absurd (omega (arith, l))
 
+none_there : (ds : List ℕ) → length ds ≤ 0 → Control ≡ first_class ds
+none_there [] l = refl
+none_there (d ∷ ds) l = absurd (omega (arith, l))
+
 three_bytes : (cs : List ℕ) → byte_at 1 (65279 ∷ cs) ≡ 3
 unfolding encode
 three_bytes cs = refl
@@ -151,13 +155,14 @@ gap_on cs start p q i j n g l e f h = record {
     plus_plus a b c = omega arith
 
 -- The gap ends there.
-gap_ended : (cs : List ℕ) (start p : Place) (i : ℕ) → (g : InGap cs start i p) → gap_size (drop g.size cs) ≡ 0
-    → EndsGap cs start i p
-gap_ended cs start p i g e =
+gap_ended : (cs : List ℕ) (start p : Place) (i : ℕ) (class : ByteClass) → (g : InGap cs start i p)
+    → gap_size (drop g.size cs) ≡ 0 → class ≡ first_class (drop g.size cs) → EndsGap cs start i p class
+gap_ended cs start p i class g e h =
     let size : g.size ≡ gap_size cs = omega (arith, g.gap, e) in
     record {
       bytes_is = g.bytes ∙ ap (λ k. byte_at k cs) size;
       position_is = g.place ∙ ap (λ k. fold past_character start (take k cs)) size;
+      class_is = h ∙ ap (λ k. first_class (drop k cs)) size;
     }
 
 module _ (text bytes : List ℕ) (start p : Place) (i : ℕ) (u : IsUtf8 text) (same : bytes ≡ text)
@@ -176,11 +181,17 @@ module _ (text bytes : List ℕ) (start p : Place) (i : ℕ) (u : IsUtf8 text) (
   rest : drop i bytes ≡ encodes (drop g.size cs)
   rest = ap (drop i) same ∙ rest_bytes text i g.size u g.bytes
 
-  pub all_read : length bytes ≤ i → EndsGap cs start i p
+  pub all_read : length bytes ≤ i → EndsGap cs start i p Control
   all_read l =
       let none : length (encodes (drop g.size cs)) ≡ length (drop i bytes) = ap length (sym rest) in
-      gap_ended cs start p i g (none_left (drop g.size cs) (omega
-      (arith, l, none, length-drop i bytes, length-le-encodes (drop g.size cs))))
+      let few : length (drop g.size cs) ≤ 0 = omega (
+        arith,
+        l,
+        none,
+        length-drop i bytes,
+        length-le-encodes (drop g.size cs),
+      ) in
+      gap_ended cs start p i Control g (none_left (drop g.size cs) few) (none_there (drop g.size cs) few)
 
   -- the number of characters before it, by its index
   pub size_is : start.index + length text < 2 ^ 64 → p.index - start.index ≡ g.size
@@ -193,22 +204,31 @@ module _ (text bytes : List ℕ) (start p : Place) (i : ℕ) (u : IsUtf8 text) (
     abbrev ds : List ℕ
     ds = drop 1 (drop g.size cs)
 
-    first : FirstByte (drop g.size cs) b
-    first =
-        subst (FirstByte (drop g.size cs)) (get_or-drop i bytes 0 0 ∙ ap (λ k. get_or bytes k 0) (plus_none i))
-        (first_byte (drop g.size cs) (drop i bytes) rest (omega (arith, l, length-drop i bytes)))
+    first_there : get_or (drop i bytes) 0 0 ≡ b
+    first_there = get_or-drop i bytes 0 0 ∙ ap (λ k. get_or bytes k 0) (plus_none i)
       where
         plus_none : (k : ℕ) → k + 0 ≡ k
         plus_none k = omega arith
 
-    pub other_ends : (class : ByteClass) → class ≡ class_of b
-        → (class ≡ White → ⊥) → (class ≡ LineFeed → ⊥) → (class ≡ Hash → ⊥) → (class ≡ Lead → ⊥) → EndsGap cs start i p
-    other_ends class e w f h n = gap_ended cs start p i g (other_stops (drop g.size cs) b first small class e w f h n)
+    first : FirstByte (drop g.size cs) b
+    first =
+        subst (FirstByte (drop g.size cs)) first_there
+        (first_byte (drop g.size cs) (drop i bytes) rest (omega (arith, l, length-drop i bytes)))
 
-    pub lead_ends : Lead ≡ class_of b → (k : ℕ) → k ≡ g.size → begins_with_mark (drop k cs) ≡ false
-        → EndsGap cs start i p
-    lead_ends e k k_is n = gap_ended cs start p i g (lead_stops (drop g.size cs) b first small e
-        (ap (λ j. begins_with_mark (drop j cs)) (sym k_is) ∙ n))
+    class_there : class_of b ≡ first_class (drop g.size cs)
+    class_there = ap class_of (sym first_there ∙ ap (λ t. get_or t 0 0) rest)
+
+    pub other_ends : (class : ByteClass) → class ≡ class_of b
+        → (class ≡ White → ⊥) → (class ≡ LineFeed → ⊥) → (class ≡ Hash → ⊥) → (class ≡ Lead → ⊥)
+        → EndsGap cs start i p class
+    other_ends class e w f h n =
+        gap_ended cs start p i class g (other_stops (drop g.size cs) b first small class e w f h n) (e ∙ class_there)
+
+    pub lead_ends : (class : ByteClass) → class ≡ class_of b → class ≡ Lead → (k : ℕ) → k ≡ g.size
+        → begins_with_mark (drop k cs) ≡ false → EndsGap cs start i p class
+    lead_ends class e lead k k_is n =
+        gap_ended cs start p i class g (lead_stops (drop g.size cs) b first small (sym lead ∙ e)
+        (ap (λ j. begins_with_mark (drop j cs)) (sym k_is) ∙ n)) (e ∙ class_there)
 
     pub mark_on : (q : Place) (k : ℕ) → k ≡ g.size → begins_with_mark (drop k cs) ≡ true → q ≡ next_column p
         → InGap cs start (i + 3) q

@@ -1,5 +1,5 @@
 -- From the computed scan to the definitions, and from place to place of a source.
-use Rattle.std.proofs.Common.{◌≡◌, ℕ, ◌+◌, ◌≤◌, ◌<◌, ◌^◌, true, false, List, length, take, drop, refl, sym, ap, ap₂, subst, ◌∙◌, arith, rules, length-drop}
+use Rattle.std.proofs.Common.{◌≡◌, ℕ, ◌+◌, ◌≤◌, ◌<◌, ◌^◌, true, false, List, length, take, drop, refl, sym, ap, ap₂, subst, ◌∙◌, arith, rules, drop-drop, length-drop}
 use Rattle.std.specs.Prelude.{Result, Ok, Err, ◌↔◌}
 use Rattle.std.specs.List.{fold}
 use Rattle.std.specs.Str.{chars, IsUtf8}
@@ -21,7 +21,8 @@ use Rattle.juniper_tokens.specs.declared.span.Spanning.{Spanning}
 use Rattle.juniper_tokens.specs.declared.error.LexerError.{LexerError}
 use Rattle.juniper_tokens.specs.Errors.{view_lexer_error}
 use Rattle.juniper_tokens.specs.device.ByteRuns.{byte_at}
-use Rattle.juniper_tokens.specs.device.Walks.{EndsGap}
+use Rattle.juniper_tokens.specs.declared.byte_classes.ByteClass.{ByteClass}
+use Rattle.juniper_tokens.specs.device.Walks.{first_class, EndsGap}
 use Rattle.juniper_tokens.specs.device.Scans.{IsEscape}
 use Rattle.juniper_tokens.specs.device.Scans as scans
 use Rattle.juniper_tokens.specs.Lexing.{LexerState, BreaksAt, GivesFault, WantsMemory}
@@ -60,16 +61,26 @@ chars_room at n p source rest h e u c =
       length-take-le p.index (chars source) h.within,
     )
 
-pub gap_placed : (source rest : List ℕ) (at n : ℕ) (p q : Place) → IsPlaced source at p
+pub gap_placed : (source rest : List ℕ) (at n : ℕ) (p q : Place) (class : ByteClass) → IsPlaced source at p
     → chars rest ≡ drop p.index (chars source)
-    → EndsGap (chars rest) p n q → (q.index ≡ p.index + gap_size (drop p.index (chars source)))
+    → EndsGap (chars rest) p n q class → (q.index ≡ p.index + gap_size (drop p.index (chars source)))
     × IsPlaced source (at + n) q
-gap_placed source rest at n p q h c e =
+gap_placed source rest at n p q class h c e =
     let d = drop p.index (chars source) in
     placed_on source at (gap_size d) n p q h (reach_is gap_step false d).within
     (e.bytes_is ∙ ap (λ t. byte_at (gap_size t) t) c)
     (e.position_is ∙ (ap₂ (λ s t. fold past_character s (take (gap_size t) t)) h.place_is c
     ∙ place_on (chars source) p.index (gap_size d)))
+
+-- the class of what stands behind the gap
+pub gap_class_there : (source rest : List ℕ) (at n : ℕ) (p q : Place) (class : ByteClass) → IsPlaced source at p
+    → chars rest ≡ drop p.index (chars source)
+    → EndsGap (chars rest) p n q class → class ≡ first_class (drop q.index (chars source))
+gap_class_there source rest at n p q class h c e =
+    let d = drop p.index (chars source) in
+    e.class_is ∙ (ap (λ t. first_class (drop (gap_size t) t)) c
+    ∙ (ap first_class (drop-drop (gap_size d) p.index (chars source))
+    ∙ ap (λ k. first_class (drop k (chars source))) (sym (gap_placed source rest at n p q class h c e).0)))
 
 pub sum_room : (source rest : List ℕ) (at n k : ℕ) → at + length rest ≡ length source → length source < 2 ^ 64
     → IsUtf8 rest → n ≡ byte_at k (chars rest) → at + n < 2 ^ 64

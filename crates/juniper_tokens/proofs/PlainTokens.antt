@@ -27,7 +27,7 @@ use Rattle.juniper_tokens.specs.ByteClasses.{class_of, name_class, digit_class, 
 use Rattle.juniper_tokens.specs.device.Borders.{IsBorder}
 use Rattle.juniper_tokens.specs.device.ByteRuns.{byte_at}
 use Rattle.juniper_tokens.specs.device.Scans.{Finds}
-use Rattle.juniper_tokens.specs.device.Walks.{run_test, run_step, run_size, RunsTo, is_in_float}
+use Rattle.juniper_tokens.specs.device.Walks.{run_test, run_step, run_size, RunsTo, is_in_float, first_class}
 use Rattle.juniper_tokens.proofs.Borders.{byte_at_on}
 use Rattle.juniper_tokens.proofs.ByteClasses.{name_class_tests, digit_class_tests, first_state_tests, low_class, low_class_tests, quote_class_tests}
 use Rattle.juniper_tokens.proofs.Runs.{run_of, run_more, run_none, rest_bytes, FirstByte, first_byte, first_low}
@@ -130,9 +130,14 @@ string_read (c ∷ cs) t l d = by_plain (is_plain c) refl
 
 -- ---- by the class of the first byte
 
-pub digit_first : (text : List ℕ) → class_of (get_or text 0 0) ≡ classes.Digit → 0 < length text
-digit_first [] e = absurd (cc e)
-digit_first (b ∷ text) e = omega arith
+pub class_there : (text : List ℕ) → IsUtf8 text → first_class (chars text) ≡ class_of (get_or text 0 0)
+class_there text u = ap (λ t. class_of (get_or t 0 0)) (encodes-chars text u)
+
+-- what is of another class than a zero byte is there
+pub some_there : (text : List ℕ) (class : ByteClass) → class ≡ class_of (get_or text 0 0)
+    → (class ≡ classes.Control → ⊥) → 0 < length text
+some_there [] class e n = absurd (n e)
+some_there (b ∷ text) class e n = omega arith
 
 module _ (text bytes : List ℕ) (u : IsUtf8 text) (same : bytes ≡ text) (some : 0 < length text)
     (small : get_or text 0 0 < 256) where

@@ -76,6 +76,12 @@ range_end source rest r h e =
     ap₂ (λ s t. fold past_character s (take (r.end.characters - r.start.index) t)) h.start_is e
     ∙ (place_on source r.start.index (r.end.characters - r.start.index) ∙ ap (place source) sum)
 
+-- a token that is no block string ends on its line
+pub ends_on_line : (source : List ℕ) (r : TokenRange) → IsRange source r → same_kind r.kind kinds.BlockString ≡ false
+    → columns_on (r.end.characters - r.start.index) r.start ≡ place source r.end.characters
+ends_on_line source r h e =
+    h.lined (λ b. absurd (cc (e, ap (λ (k : Kind). same_kind k kinds.BlockString) b)))
+
 -- where a lexer stands behind it
 pub placed_behind : (source : List ℕ) (at : ℕ) (p q : Place) (r : TokenRange) → IsPlaced source at p
     → IsRange (chars source) r

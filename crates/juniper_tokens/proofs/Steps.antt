@@ -6,7 +6,11 @@ use Rattle.graphql_lexical.specs.Kinds.{same_kind}
 use Rattle.graphql_lexical.specs.Cutting.{Lexeme}
 use Rattle.juniper_tokens.specs.declared.token_range.TokenRange.{TokenRange}
 use Rattle.juniper_tokens.specs.Cursor.{first_of, kind_at, EndsOnce}
-use Rattle.juniper_tokens.specs.device.Ranges.{range_lexeme, range_lexemes}
+use Rattle.std.proofs.lemmas.List.Elements.{All-get_or}
+use Rattle.juniper_tokens.specs.declared.span.Spanning.{Spanning}
+use Rattle.juniper_tokens.specs.declared.token.Token.{Token}
+use Rattle.juniper_tokens.specs.Tokens.{view_token}
+use Rattle.juniper_tokens.specs.device.Ranges.{range_lexeme, range_lexemes, IsRange, IsCursor}
 
 -- past a token that is not the end, the list still ends once
 pub still_ended : (ts : List Lexeme) → EndsOnce ts → same_kind (kind_at ts) EndOfFile ≡ false → EndsOnce (drop 1 ts)
@@ -53,5 +57,25 @@ first_left source ranges i r l e = ap (λ rs. first_of (range_lexemes source rs)
 pub left_within : (source : List ℕ) (ranges : List TokenRange) (i : ℕ) → EndsOnce (range_lexemes source (drop i ranges))
     → i < length ranges
 left_within source ranges i h = omega (arith, some_left source (drop i ranges) h, length-drop i ranges)
+
+-- A cursor goes past a token that is not the end; r is the range behind it.
+module _ (source : List ℕ) (ranges : List TokenRange) (taken : ℕ) (current : Spanning Token)
+    (here : IsCursor source ranges taken current) (left : List Lexeme)
+    (seen : range_lexemes source (drop taken ranges) ≡ left) (more : same_kind (kind_at left) EndOfFile ≡ false) where
+  pub next_left : StillEnds source ranges (taken + 1)
+  next_left = left_ended source ranges taken here.ended (ap (λ ts. same_kind (kind_at ts) EndOfFile) seen ∙ more)
+
+  module _ (r : TokenRange) (next : r ≡ get_or ranges (taken + 1) r) where
+    pub next_is_range : IsRange source r
+    next_is_range = subst (IsRange source) (sym next)
+        (All-get_or (IsRange source) ranges (taken + 1) r next_left.within here.are_ranges)
+
+    pub next_cursor : (token : Spanning Token) → view_token token ≡ range_lexeme source r
+        → IsCursor source ranges (taken + 1) token
+    next_cursor token e = record {
+      are_ranges = here.are_ranges;
+      ended = next_left.ended;
+      first = e ∙ sym (first_left source ranges (taken + 1) r next_left.within (sym next));
+    }
 
 -- ---- the wanted token

@@ -4,9 +4,12 @@ ghost use Rattle.std.specs.Global.{Global as Allocator};
 ghost use Rattle.std.specs.Str.{chars};
 ghost use Rattle.juniper_tokens.specs.Lexing.{LexerState, started, GivesItem};
 ghost use Rattle.juniper_tokens.specs.device.LexingByScan.{past_gap};
-ghost use Rattle.juniper_tokens.specs.device.Ranges.{TakesRange, TakesItem, MayTake};
-ghost use Rattle.juniper_tokens.specs.device.Scans.{Finds};
+ghost use Rattle.juniper_tokens.specs.device.Ranges.{TakesRange, TakesItem, MayTake, IsRange, range_lexeme};
+ghost use Rattle.juniper_tokens.specs.device.Scans.{Finds, IsPlain};
+ghost use Rattle.juniper_tokens.specs.device.Walks.{first_class};
+ghost use Rattle.juniper_tokens.specs.Tokens.{view_token};
 
+mod lanes;
 mod machine;
 mod plain;
 mod run;
@@ -14,6 +17,7 @@ mod scan;
 pub(crate) mod text;
 mod walk;
 
+use crate::byte_classes::ByteClass;
 use crate::error::LexFailure;
 use crate::lexer::plain::plain_token;
 use crate::lexer::scan::{Missed, scan_token};
@@ -27,7 +31,8 @@ use graphql_lexical::Kind;
 pub(crate) use scan::Found;
 use std::alloc::Global;
 use std::marker::Model;
-pub(crate) use walk::walk_characters;
+use walk::walk_characters;
+pub(crate) use walk::walk_text;
 
 /// A token with its place, or why there is none.
 pub type LexerResult<'a> = Result<Spanning<Token<'a>>, LexFailure>;
@@ -104,10 +109,11 @@ impl<'a> Lexer<'a> {
         self.ended
     }
 
-    // Goes past white space and comments.
+    // Goes past white space and comments, and tells the class of the byte behind them.
     #[inline(always)]
-    fn skip_gap(&mut self)
-        ensures { self.new ≡ past_gap self.old }
+    fn skip_gap(&mut self) -> ByteClass
+        ensures passes { self.new ≡ past_gap self.old }
+        ensures class { result ≡ first_class (drop self.new.index self.new.source) }
     {
         let here = Border {
             bytes: self.at,
@@ -116,10 +122,10 @@ impl<'a> Lexer<'a> {
         let gap = walk_gap(text_from(self.source, here), self.position);
         self.at += gap.bytes;
         self.position = gap.position;
+        gap.class
     }
 
     // Goes past a token that stands here.
-    #[inline(always)]
     fn take(&mut self, found: Found) -> TokenRange
         requires { Finds (drop self.old.index self.old.source) found }
         ensures source { self.new.source ≡ self.old.source }
@@ -132,6 +138,39 @@ impl<'a> Lexer<'a> {
         range
     }
 
+    // The same, of a plain token.
+    #[inline(always)]
+    fn take_plain(&mut self, found: Found) -> TokenRange
+        requires finds { Finds (drop self.old.index self.old.source) found }
+        requires plain { IsPlain found.kind }
+        ensures source { self.new.source ≡ self.old.source }
+        ensures takes { TakesRange self.old result self.new }
+        ensures goes_on { self.new.ended ≡ false }
+    {
+        let range = TokenRange::from_found(found, self.source, self.at, self.position);
+        self.at = range.end.bytes;
+        self.position = range.end_on_line();
+        self.ended = false;
+        range
+    }
+
+    /// A lexer that stands where this one does.
+    ///
+    /// A call that is not inlined is made on such a one, which then takes the place of the lexer: so the lexer itself, whose
+    /// address no call gets, stays in registers from token to token.
+    #[inline(always)]
+    pub(crate) fn duplicate(&self) -> Self
+        ensures { result ≡ self.now }
+    {
+        Lexer {
+            alloc: self.alloc,
+            source: self.source,
+            at: self.at,
+            position: self.position,
+            ended: self.ended,
+        }
+    }
+
     /// Goes past white space and comments, and takes the token behind them if it is a plain one.
     ///
     /// Else the lexer stands where a token may begin, which `next_other` takes.
@@ -141,18 +180,50 @@ impl<'a> Lexer<'a> {
         ensures takes { MayTake self.old result self.new }
         ensures ended { self.old.ended ≡ false → self.new.ended ≡ false }
     {
-        self.skip_gap();
+        let class = self.skip_gap();
         let here = Border {
             bytes: self.at,
             characters: self.position.index(),
         };
-        let found = plain_token(text_from(self.source, here))?;
-        Some(self.take(found))
+        let found = plain_token(class, text_from(self.source, here))?;
+        Some(self.take_plain(found))
     }
 
     /// Takes what stands here, which may be the last item: a token, or why there is none.
-    #[inline(never)]
+    #[inline(always)]
     pub(crate) fn next_other(&mut self) -> Result<TokenRange, LexFailure>
+        ensures source { self.new.source ≡ self.old.source }
+        ensures takes { TakesItem self.old result self.new }
+    {
+        let mut lexer = self.duplicate();
+        let item = lexer.scan_next();
+        *self = lexer;
+        item
+    }
+
+    // The same, of a token its text and places.
+    #[inline(always)]
+    fn next_other_token(&mut self) -> LexerResult<'a>
+        ensures source { self.new.source ≡ self.old.source }
+        ensures gives { (before : LexerState) → self.old ≡ past_gap before → GivesItem before result self.new }
+    {
+        let mut lexer = self.duplicate();
+        let item = lexer.scan_next_token();
+        *self = lexer;
+        item
+    }
+
+    #[inline(never)]
+    fn scan_next_token(&mut self) -> LexerResult<'a>
+        ensures source { self.new.source ≡ self.old.source }
+        ensures gives { (before : LexerState) → self.old ≡ past_gap before → GivesItem before result self.new }
+    {
+        let range = self.scan_next()?;
+        Ok(self.token(range))
+    }
+
+    #[inline(never)]
+    fn scan_next(&mut self) -> Result<TokenRange, LexFailure>
         ensures source { self.new.source ≡ self.old.source }
         ensures takes { TakesItem self.old result self.new }
     {
@@ -175,14 +246,14 @@ impl<'a> Lexer<'a> {
         }
     }
 
-    // The same, of a token its text and places.
-    #[inline(never)]
-    fn next_other_token(&mut self) -> LexerResult<'a>
-        ensures source { self.new.source ≡ self.old.source }
-        ensures gives { (before : LexerState) → self.old ≡ past_gap before → GivesItem before result self.new }
+    // The token of the range behind which the lexer stands.
+    #[inline(always)]
+    fn token(&self, range: TokenRange) -> Spanning<Token<'a>>
+        requires range { IsRange self.now.source range }
+        requires end { self.now.index ≡ range.end.characters }
+        ensures { view_token result ≡ range_lexeme self.now.source range }
     {
-        let range = self.next_other()?;
-        Ok(range.located(self.source))
+        range.located_to(self.source, self.position)
     }
 }
 
@@ -199,11 +270,11 @@ impl<'a> Iterator for Lexer<'a> {
     /// The next token, with its place. A fault is of zero width, at the character where the text goes wrong, or
     /// at the end. Memory is wanted only for the text of an unknown escape.
     fn next(&mut self) -> Option<LexerResult<'a>> {
-        if self.ended {
+        if self.has_ended() {
             return None;
         }
         match self.next_plain() {
-            Some(range) => Some(Ok(range.located_to(self.source, self.position))),
+            Some(range) => Some(Ok(self.token(range))),
             None => Some(self.next_other_token()),
         }
     }

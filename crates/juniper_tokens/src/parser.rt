@@ -74,17 +74,10 @@ impl<'a> Parser<'a> {
     {
         let alloc = lexer.allocator();
         let source = lexer.source();
-        let mut ranges = room_for_ranges(alloc, source);
-        while !lexer.has_ended() {
-            let range = match lexer.next_plain() {
-                Some(range) => range,
-                None => lexer.next_other()?,
-            };
-            if ranges.push(range).is_err() {
-                return Err(LexFailure::Memory);
-            }
-        }
-        Ok(Parser::from_ranges(alloc, source, ranges))
+        let mut rest = lexer.duplicate();
+        let gathered = gather(&mut rest);
+        *lexer = rest;
+        Ok(Parser::from_ranges(alloc, source, gathered?))
     }
 
     // A cursor at the first of these tokens.
@@ -153,7 +146,12 @@ impl<'a> Parser<'a> {
         ensures { self.new ≡ drop 1 self.old }
     {
         self.taken += 1;
-        self.current = self.ranges[self.taken].located(self.source);
+        let range = &self.ranges[self.taken];
+        if range.kind == Kind::BlockString {
+            self.current = range.located(self.source);
+        } else {
+            self.current = range.located_to(self.source, range.end_on_line());
+        }
     }
 
     // Takes the next token, which is not the end.
@@ -275,6 +273,30 @@ impl<'a> Parser<'a> {
             _ => self.refuse(),
         }
     }
+}
+
+// The ranges of all tokens that a lexer has left.
+#[inline(always)]
+fn gather(lexer: &mut Lexer<'_>) -> Result<Vec<TokenRange>, LexFailure>
+    requires { lexer.old.ended ≡ false }
+    ensures ranges { IfOk result (λ ranges. All (IsRange lexer.old.source) ranges.items) }
+    ensures tokens { IfOk result (λ ranges. CutFrom lexer.old.source lexer.old.index (range_lexemes lexer.old.source ranges.items)) }
+    ensures fault { IfFault result (λ fault. BreaksFrom lexer.old.source lexer.old.index (view_lexer_error fault.item) fault.span.start) }
+    ensures zero_width { IfFault result (λ fault. fault.span.end ≡ fault.span.start) }
+    ensures source { lexer.new.source ≡ lexer.old.source }
+    ensures lexer { IfMemory result (StandsLaterOrEnded lexer.old lexer.new) (lexer.new.ended ≡ true) }
+{
+    let mut ranges = room_for_ranges(lexer.allocator(), lexer.source());
+    while !lexer.has_ended() {
+        let pushed = match lexer.next_plain() {
+            Some(range) => ranges.push(range),
+            None => ranges.push(lexer.next_other()?),
+        };
+        if pushed.is_err() {
+            return Err(LexFailure::Memory);
+        }
+    }
+    Ok(ranges)
 }
 
 // Room for a token every four bytes of a source, as few sources have more, if there is as much.

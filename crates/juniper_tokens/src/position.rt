@@ -1,6 +1,6 @@
 //! Places in a source text.
 ghost use Rattle.std.specs.Prelude.{◌≡◌, ℕ, ◌+◌, ◌<◌, ◌≤◌, ◌^◌, Some};
-ghost use Rattle.graphql_lexical.specs.Place.{Place, origin, next_column, next_line, past_character};
+ghost use Rattle.graphql_lexical.specs.Place.{Place, origin, next_column, next_line};
 ghost use Rattle.juniper_tokens.specs.Positions.{columns_on, position_text};
 
 use std::fmt;
@@ -64,20 +64,6 @@ impl SourcePosition {
         self.index += 1;
         self.line += 1;
         self.col = 0;
-    }
-
-    /// The place behind one more character.
-    pub(crate) fn past(self, c: char) -> Self
-        requires { self.index < usize.MAX }
-        ensures { result ≡ past_character self c }
-    {
-        let mut position = self;
-        if c == '\n' {
-            position.advance_line();
-        } else {
-            position.advance_col();
-        }
-        position
     }
 
     /// The place `count` characters on in the same line.

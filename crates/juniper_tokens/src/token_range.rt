@@ -3,13 +3,14 @@ ghost use Rattle.std.specs.Prelude.{◌≡◌, ◌-◌, ◌≤◌, drop};
 ghost use Rattle.std.specs.Str.{chars};
 ghost use Rattle.graphql_lexical.specs.Place.{place};
 ghost use Rattle.graphql_lexical.specs.Tokens.{text_of};
+ghost use Rattle.juniper_tokens.specs.Positions.{columns_on};
 ghost use Rattle.juniper_tokens.specs.Tokens.{kind_text, token_kind, token_text, view_token};
 ghost use Rattle.juniper_tokens.specs.device.LexingByScan.{IsPlaced};
 ghost use Rattle.juniper_tokens.specs.device.Scans.{Finds};
 ghost use Rattle.juniper_tokens.specs.device.Ranges.{IsRange, range_of, range_slice, range_lexeme};
 
 use crate::lexer::text::{Border, text_before, text_from, unquoted};
-use crate::lexer::{Found, walk_characters};
+use crate::lexer::{Found, walk_text};
 use crate::position::SourcePosition;
 use crate::span::Spanning;
 use crate::token::{ScalarToken, Token};
@@ -68,17 +69,27 @@ impl TokenRange {
         }
     }
 
+    /// The place behind the last character, on the line of the first.
+    #[inline(always)]
+    pub(crate) fn end_on_line(&self) -> SourcePosition
+        requires { self.now.start.index ≤ self.now.end.characters }
+        ensures { result ≡ columns_on (self.now.end.characters - self.now.start.index) self.now.start }
+    {
+        self.start
+            .columns_on(self.end.characters - self.start.index())
+    }
+
     /// The place behind the last character. A block string alone may end on a later line.
     pub(crate) fn end_position(&self, source: &str) -> SourcePosition
         requires { IsRange (chars source.now) self.now }
         ensures { result ≡ place (chars source.now) self.now.end.characters }
     {
-        let start = self.start;
-        let characters = self.end.characters - start.index();
         if self.kind == Kind::BlockString {
-            walk_characters(text_from(source, self.border()), start, characters)
+            let rest = text_from(source, self.border());
+            let size = self.size();
+            walk_text(text_before(rest, size), self.start)
         } else {
-            start.columns_on(characters)
+            self.end_on_line()
         }
     }
 
@@ -138,7 +149,7 @@ impl TokenRange {
     }
 
     /// The token with its places.
-    #[inline(always)]
+    #[inline(never)]
     pub(crate) fn located<'a>(&self, source: &'a str) -> Spanning<Token<'a>>
         requires { IsRange (chars source.now) self.now }
         ensures { view_token result ≡ range_lexeme (chars source.now) self.now }

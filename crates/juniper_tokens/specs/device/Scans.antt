@@ -1,6 +1,8 @@
 -- A device: what a scan gives.
-use Rattle.std.specs.Prelude.{◌≡◌, ℕ, List, Result, Ok, Err}
-use Rattle.graphql_lexical.specs.Kinds.{LexicalError, UnknownEscapeSequence}
+use Rattle.std.specs.Prelude.{◌≡◌, ℕ, false, List, Result, Ok, Err}
+use Rattle.graphql_lexical.specs.declared.kind.Kind.{Kind}
+use Rattle.graphql_lexical.specs.declared.kind.Kind.TheVariants as kinds
+use Rattle.graphql_lexical.specs.Kinds.{LexicalError, UnknownEscapeSequence, same_kind}
 use Rattle.graphql_lexical.specs.device.Scan as scans
 use Rattle.juniper_tokens.specs.Errors.{view_lexer_error}
 use Rattle.juniper_tokens.specs.declared.lexer.scan.Found.{Found}
@@ -29,3 +31,8 @@ MeetsScan (Err m) cs s = Misses m s
 -- This token stands at the front of the text.
 abbrev pub Finds : List ℕ → Found → Type 0
 Finds cs f = MeetsScan (Ok f) cs (scans.scan cs)
+
+-- A token of this kind is not the end, and ends on the line on which it begins.
+pub record IsPlain (kind : Kind) : Type 0 where
+  pub more : same_kind kind kinds.EndOfFile ≡ false
+  pub on_line : same_kind kind kinds.BlockString ≡ false

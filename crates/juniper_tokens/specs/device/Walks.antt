@@ -1,22 +1,28 @@
 -- A device: where the loops over bytes stop.
-use Rattle.std.specs.Prelude.{◌≡◌, ℕ, ◌==◌, Bool, false, if◌then◌else◌, Option, Some, None, is_some, List, [], ◌∷◌, take}
+use Rattle.std.specs.Prelude.{◌≡◌, ℕ, ◌==◌, ◌+◌, Bool, false, not, ◌&&◌, if◌then◌else◌, Option, Some, None, is_some, List, [], ◌∷◌, get_or, take, drop}
 use Rattle.std.specs.List.{fold}
-use Rattle.graphql_lexical.specs.Characters.{is_name_character, is_digit, is_plain, is_comment_character}
+use lib.Utf8.{encodes}
+use Rattle.graphql_lexical.specs.Characters.{is_source, is_name_character, is_digit, is_plain, is_comment_character}
 use Rattle.graphql_lexical.specs.device.Machines.{reach}
 use Rattle.graphql_lexical.specs.Place.{Place, past_character}
-use Rattle.graphql_lexical.specs.declared.state.State.TheVariants.{Zero}
+use Rattle.graphql_lexical.specs.declared.state.State.{State}
+use Rattle.graphql_lexical.specs.declared.state.State.TheVariants.{Start, Zero}
 use Rattle.graphql_lexical.specs.device.Scan.{gap_size, step}
 use Rattle.juniper_tokens.specs.declared.lexer.run.Run.{Run}
 use Rattle.juniper_tokens.specs.declared.lexer.run.Run.TheVariants as run
 use Rattle.juniper_tokens.specs.declared.lexer.text.Border.{Border}
-use Rattle.juniper_tokens.specs.device.ByteRuns.{byte_at, byte_step, with_value, count_one}
+use Rattle.juniper_tokens.specs.declared.byte_classes.ByteClass.{ByteClass}
+use Rattle.juniper_tokens.specs.ByteClasses.{class_of}
+use Rattle.juniper_tokens.specs.device.ByteRuns.{byte_at, byte_step, with_value, count_one, on, Walked}
 
 -- what a run is of
 abbrev pub run_test : Run → ℕ → Bool
 run_test run.Name c = is_name_character c
 run_test run.Digits c = is_digit c
 run_test run.Plain c = is_plain c
+run_test run.Block c = is_source c && (not (c == 34) && not (c == 92))
 run_test run.Comment c = is_comment_character c
+run_test run.Line c = not (c == 10)
 run_test run.Spaces c = c == 32
 
 abbrev pub run_step : Run → Unit {0} → ℕ → Option (Unit {0})
@@ -34,12 +40,40 @@ run_machine run = byte_step (with_value (run_step run) count_one)
 abbrev pub RunsTo : Run → List ℕ → Border → Type 0
 RunsTo run bytes b = reach (run_machine run) (tt, 0) bytes ≡ (b.bytes, (tt, b.characters))
 
+-- the steps of a token over bytes, with the number of characters
+abbrev pub token_machine : State × ℕ → ℕ → Option (State × ℕ)
+token_machine = byte_step (with_value step count_one)
+
+-- A loop over the bytes of a token stands behind so many of them and of its characters, in this state.
+abbrev pub WalkedToken : List ℕ → ℕ → State → ℕ → Type 0
+WalkedToken bytes i q n = Walked token_machine (Start, 0) bytes i (q, n)
+
+-- From this state the steps of a token go over so many bytes and characters, and stay.
+abbrev pub StaysOver : State → List ℕ → Border → Type 0
+StaysOver q bytes b = (n : ℕ) → reach token_machine (q, n) bytes ≡ on b.bytes (reach token_machine (q, n + b.characters) (drop b.bytes bytes))
+
+-- so many characters, counted
+abbrev pub count_to : ℕ → ℕ → ℕ → Option ℕ
+count_to count n c = if n == count then None else Some (n + 1)
+
+abbrev pub count_machine : ℕ → ℕ → ℕ → Option ℕ
+count_machine count = byte_step (count_to count)
+
+-- the place behind each character, over bytes
+abbrev pub place_machine : Unit {0} × Place → ℕ → Option (Unit {0} × Place)
+place_machine = byte_step (with_value (λ q c. Some q) past_character)
+
 -- digits go on here with a fraction or an exponent
 abbrev pub is_in_float : List ℕ → Bool
 is_in_float [] = false
 is_in_float (c ∷ cs) = is_some (step Zero c)
 
--- the byte at which a gap ends, and its place
-pub record EndsGap (cs : List ℕ) (start : Place) (bytes : ℕ) (position : Place) : Type 0 where
+-- the class of the first byte of these characters, or of a zero byte where there are none
+abbrev pub first_class : List ℕ → ByteClass
+first_class cs = class_of (get_or (encodes cs) 0 0)
+
+-- the byte at which a gap ends, its place, and its class
+pub record EndsGap (cs : List ℕ) (start : Place) (bytes : ℕ) (position : Place) (class : ByteClass) : Type 0 where
   pub bytes_is : bytes ≡ byte_at (gap_size cs) cs
   pub position_is : position ≡ fold past_character start (take (gap_size cs) cs)
+  pub class_is : class ≡ first_class (drop (gap_size cs) cs)

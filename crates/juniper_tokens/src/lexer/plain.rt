@@ -1,38 +1,34 @@
 //! Tokens that a run finds: Names, Ints, Strings without escapes; and punctuators of one character.
 ghost use Rattle.std.specs.Prelude.{◌≡◌, ◌==◌, false, get_or, IfSome};
 ghost use Rattle.std.specs.Str.{chars};
-ghost use Rattle.graphql_lexical.specs.declared.kind.Kind.TheVariants.{EndOfFile};
-ghost use Rattle.graphql_lexical.specs.Kinds.{same_kind};
 ghost use Rattle.juniper_tokens.specs.declared.byte_classes.ByteClass.TheVariants.{Digit, Quote};
 ghost use Rattle.juniper_tokens.specs.ByteClasses.{class_of};
-ghost use Rattle.juniper_tokens.specs.device.Scans.{Finds};
-ghost use Rattle.juniper_tokens.specs.device.Walks.{is_in_float};
+ghost use Rattle.juniper_tokens.specs.device.Scans.{Finds, IsPlain};
+ghost use Rattle.juniper_tokens.specs.device.Walks.{is_in_float, first_class};
 
-use crate::byte_classes::{ByteClass, byte_class};
+use crate::byte_classes::ByteClass;
 use crate::lexer::machine::{punctuator_of, step_after_integer};
 use crate::lexer::run::{Run, run_over};
 use crate::lexer::scan::Found;
-use crate::lexer::text::{Border, first_character, text_from};
+use crate::lexer::text::{Border, text_from};
 use graphql_lexical::Kind;
 
 /// The token at the front of a text, if it is a Name, an Int that begins with none of `-` and `0`, a punctuator of one
-/// character, or a String that is not empty and has no escape.
+/// character, or a String that is not empty and has no escape. The class is that of the text's first byte.
 #[inline(always)]
-pub(crate) fn plain_token(text: &str) -> Option<Found>
+pub(crate) fn plain_token(class: ByteClass, text: &str) -> Option<Found>
+    requires { class ≡ first_class (chars text.now) }
     ensures finds { IfSome result (Finds (chars text.now)) }
-    ensures more { IfSome result (λ found. same_kind found.kind EndOfFile ≡ false) }
+    ensures plain { IfSome result (λ found. IsPlain found.kind) }
 {
     let bytes = text.as_bytes();
-    if bytes.is_empty() {
-        return None;
-    }
-    match byte_class(bytes[0]) {
+    match class {
         ByteClass::NameStart => Some(Found {
             kind: Kind::Name,
             end: run_over(Run::Name, bytes),
         }),
         ByteClass::Punctuator => Some(Found {
-            kind: punctuator_of(bytes[0] as char)?,
+            kind: punctuator_of(bytes[0])?,
             end: Border {
                 bytes: 1,
                 characters: 1,
@@ -54,7 +50,7 @@ fn plain_int(text: &str) -> Option<Found>
     requires digit { class_of (get_or text.now 0 0) ≡ Digit }
     requires nonzero { (get_or text.now 0 0 == 48) ≡ false }
     ensures finds { IfSome result (Finds (chars text.now)) }
-    ensures more { IfSome result (λ found. same_kind found.kind EndOfFile ≡ false) }
+    ensures plain { IfSome result (λ found. IsPlain found.kind) }
 {
     let end = run_over(Run::Digits, text.as_bytes());
     if is_in_float(text_from(text, end)) {
@@ -70,17 +66,15 @@ fn plain_int(text: &str) -> Option<Found>
 fn is_in_float(rest: &str) -> bool
     ensures { result ≡ is_in_float (chars rest.now) }
 {
-    match first_character(rest) {
-        Some(c) => step_after_integer(c).is_some(),
-        None => false,
-    }
+    let bytes = rest.as_bytes();
+    !bytes.is_empty() && step_after_integer(bytes[0]).is_some()
 }
 
 // The String without escapes whose first quote stands first.
 fn plain_string(text: &str) -> Option<Found>
     requires { class_of (get_or text.now 0 0) ≡ Quote }
     ensures finds { IfSome result (Finds (chars text.now)) }
-    ensures more { IfSome result (λ found. same_kind found.kind EndOfFile ≡ false) }
+    ensures plain { IfSome result (λ found. IsPlain found.kind) }
 {
     let bytes = text.as_bytes();
     let units = run_over(Run::Plain, &bytes[1..]);

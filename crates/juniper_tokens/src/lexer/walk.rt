@@ -9,20 +9,22 @@ ghost use Rattle.graphql_lexical.specs.device.Scan.{step as next_state};
 ghost use Rattle.juniper_tokens.specs.device.Borders.{IsBorder};
 ghost use Rattle.juniper_tokens.specs.device.ByteRuns.{byte_at};
 ghost use Rattle.juniper_tokens.specs.device.LexingByScan.{begins_with_mark};
-ghost use Rattle.juniper_tokens.specs.device.Walks.{EndsGap};
+ghost use Rattle.juniper_tokens.specs.device.Walks.{EndsGap, StaysOver};
 
 use crate::byte_classes::{ByteClass, byte_class};
 use crate::lexer::machine::step;
 use crate::lexer::run::{Run, run_over};
-use crate::lexer::text::{Border, begins_with_mark, text_from};
+use crate::lexer::text::{Border, begins_with_mark, first_characters, text_from};
 use crate::position::SourcePosition;
-use graphql_lexical::State;
+use graphql_lexical::{Block, State};
 
 /// The end of white space and comments.
 #[derive(Clone, Copy)]
 pub(crate) struct GapEnd {
     pub(crate) bytes: usize,
     pub(crate) position: SourcePosition,
+    /// The class of the byte there, or of a zero byte at the end.
+    pub(crate) class: ByteClass,
 }
 
 /// Where the steps of a token stop, and in which state.
@@ -36,13 +38,14 @@ pub(crate) struct Reached {
 #[inline(always)]
 pub(crate) fn walk_gap(text: &str, start: SourcePosition) -> GapEnd
     requires { start.index + length text.now < 2 ^ 64 }
-    ensures { EndsGap (chars text.now) start result.bytes result.position }
+    ensures { EndsGap (chars text.now) start result.bytes result.position result.class }
 {
     let bytes = text.as_bytes();
     let mut position = start;
     let mut i = 0;
     while i < bytes.len() {
-        match byte_class(bytes[i]) {
+        let class = byte_class(bytes[i]);
+        match class {
             ByteClass::White => {
                 position.advance_col();
                 i += 1;
@@ -60,15 +63,29 @@ pub(crate) fn walk_gap(text: &str, start: SourcePosition) -> GapEnd
             }
             ByteClass::Lead => {
                 if !is_mark_at(text, i, position.index() - start.index()) {
-                    return GapEnd { bytes: i, position };
+                    return GapEnd {
+                        bytes: i,
+                        position,
+                        class,
+                    };
                 }
                 position.advance_col();
                 i += 3;
             }
-            _ => return GapEnd { bytes: i, position },
+            _ => {
+                return GapEnd {
+                    bytes: i,
+                    position,
+                    class,
+                };
+            }
         }
     }
-    GapEnd { bytes: i, position }
+    GapEnd {
+        bytes: i,
+        position,
+        class: ByteClass::Control,
+    }
 }
 
 // Whether a byte order mark stands behind so many bytes and characters.
@@ -80,22 +97,90 @@ fn is_mark_at(text: &str, bytes: usize, characters: usize) -> bool
     begins_with_mark(text_from(text, Border { bytes, characters }))
 }
 
+// Goes over what stands for itself in a string or in a block string.
+#[inline(always)]
+fn walk_run(state: State, bytes: &[u8]) -> Border
+    ensures stays { StaysOver state bytes.now result }
+    ensures within { result.bytes ≤ length bytes.now }
+    ensures fewer { result.characters ≤ result.bytes }
+{
+    match state {
+        State::InString => run_over(Run::Plain, bytes),
+        State::InBlock(part) => match part {
+            Block::Inside => run_over(Run::Block, bytes),
+            _ => Border::start(),
+        },
+        _ => Border::start(),
+    }
+}
+
 /// Goes as far as the steps of a token go.
 pub(crate) fn walk_token(text: &str) -> Reached
     ensures reached { reach next_state Start (chars text.now) ≡ (result.end.characters, result.state) }
     ensures border { IsBorder result.end (chars text.now) }
     ensures within { result.end.characters ≤ length text.now }
 {
+    let bytes = text.as_bytes();
     let mut state = State::Start;
-    let mut end = Border::start();
-    for c in text.chars() {
-        match step(state, c) {
-            Some(next) => state = next,
-            None => return Reached { state, end },
+    let mut characters = 0;
+    let mut i = 0;
+    while i < bytes.len() {
+        if byte_class(bytes[i]).is_inner() {
+            i += 1;
+            continue;
         }
-        end = end.past(c);
+        match step(state, bytes[i]) {
+            Some(next) => {
+                let run = walk_run(next, &bytes[i + 1..]);
+                state = next;
+                characters += 1 + run.characters;
+                i += 1 + run.bytes;
+            }
+            None => {
+                return Reached {
+                    state,
+                    end: Border {
+                        bytes: i,
+                        characters,
+                    },
+                };
+            }
+        }
     }
-    Reached { state, end }
+    Reached {
+        state,
+        end: Border {
+            bytes: i,
+            characters,
+        },
+    }
+}
+
+/// The place at the end of a text that begins at a place.
+pub(crate) fn walk_text(text: &str, start: SourcePosition) -> SourcePosition
+    requires { start.index + length text.now < 2 ^ 64 }
+    ensures { result ≡ fold past_character start (chars text.now) }
+{
+    let bytes = text.as_bytes();
+    let first = run_over(Run::Line, bytes);
+    let mut position = start.columns_on(first.characters);
+    let mut i = first.bytes;
+    while i < bytes.len() {
+        match byte_class(bytes[i]) {
+            ByteClass::LineFeed => {
+                position.advance_line();
+                let line = run_over(Run::Line, &bytes[i + 1..]);
+                position = position.columns_on(line.characters);
+                i += 1 + line.bytes;
+            }
+            ByteClass::Inner => i += 1,
+            _ => {
+                position.advance_col();
+                i += 1;
+            }
+        }
+    }
+    position
 }
 
 /// The place so many characters on, or at the end of the text.
@@ -103,9 +188,5 @@ pub(crate) fn walk_characters(text: &str, start: SourcePosition, count: usize) -
     requires { start.index + length text.now < 2 ^ 64 }
     ensures { result ≡ fold past_character start (take count (chars text.now)) }
 {
-    let mut position = start;
-    for c in text.chars().take(count) {
-        position = position.past(c);
-    }
-    position
+    walk_text(first_characters(text, count), start)
 }

@@ -2,7 +2,7 @@ use Rattle.std.proofs.Common.{ℕ, drop, ap, ◌∙◌, arith}
 use Rattle.std.specs.Str.{chars}
 use Rattle.juniper_tokens.specs.Lexing.{LexerState}
 use Rattle.juniper_tokens.specs.device.LexingByScan.{past_gap}
-use Rattle.juniper_tokens.proofs.LexingByScan.{chars_room, sum_room, gap_placed}
+use Rattle.juniper_tokens.proofs.LexingByScan.{chars_room, sum_room, gap_placed, gap_class_there}
 use Rattle.juniper_tokens.proofs.lexer.Lexer.skip_gap.Goals as goal
 
 pub walk_gap-gap-requires : goal.walk_gap-gap-requires
@@ -17,17 +17,23 @@ overflow_add-self c = omega (
 )
 
 pub invariant_of-self : goal.invariant_of-self
-invariant_of-self c = (gap_placed _ _ _ _ _ _ c.self.invariant
+invariant_of-self c = (gap_placed _ _ _ _ _ _ _ c.self.invariant
     (c.text_from.ensures.characters ∙ ap (λ k. drop k (chars c.self.inside.source.now)) c.index.ensures)
     c.walk_gap-gap.ensures).1
 
-pub returns : goal.returns
-returns c =
+pub returns-clause-passes : goal.returns-clause-passes
+returns-clause-passes c =
     let made : ℕ → LexerState = λ i. record {
       source = chars c.self.inside.source.now;
       index = i;
       ended = c.self.inside.ended;
     } in
-    ap made (gap_placed _ _ _ _ _ _ c.self.invariant
+    ap made (gap_placed _ _ _ _ _ _ _ c.self.invariant
     (c.text_from.ensures.characters ∙ ap (λ k. drop k (chars c.self.inside.source.now)) c.index.ensures)
     c.walk_gap-gap.ensures).0 ∙ ap past_gap c.self.view_is
+
+pub returns-clause-class : goal.returns-clause-class
+returns-clause-class c =
+    gap_class_there _ _ _ _ _ _ _ c.self.invariant
+    (c.text_from.ensures.characters ∙ ap (λ k. drop k (chars c.self.inside.source.now)) c.index.ensures)
+    c.walk_gap-gap.ensures

@@ -1,50 +1,39 @@
-use Rattle.std.proofs.Common.{sym, ap, ◌∙◌, ◌+◌, length, arith, refl}
-use Rattle.std.specs.Str.{chars}
-use Rattle.std.proofs.lemmas.Iterator.{YieldsList-from_chars}
-use Rattle.std.proofs.lemmas.Iterator.Consumers.{YieldsList-turn, YieldsList-end}
-use Rattle.std.proofs.lemmas.List.{length_push, take_all, drop_all}
-use Rattle.juniper_tokens.specs.device.ByteRuns.{byte_at}
-use Rattle.juniper_tokens.proofs.Borders.{border_on}
+use Rattle.std.proofs.Common.{◌≡◌, ◌≤◌, ◌+◌, false, length, get_or, sym, ap, ◌∙◌, arith}
+use Rattle.juniper_tokens.specs.device.ByteRuns.{is_inner}
+use Rattle.juniper_tokens.specs.device.Walks.{count_machine}
+use Rattle.juniper_tokens.proofs.ByteRuns.{walked_on, walked_stop, walked_end}
+use Rattle.juniper_tokens.proofs.ByteClasses.{outer}
+use Rattle.juniper_tokens.proofs.PlaceWalks.{count_on, count_stops, border_reached}
 use Rattle.juniper_tokens.proofs.lexer.text.border_behind.Goals as goal
 
-pub past-border-requires-clause-bytes : goal.past-border-requires-clause-bytes
-past-border-requires-clause-bytes c =
-    let t = YieldsList-turn (YieldsList-from_chars c.args.text.now c.utf8.text cc) c.loop-c.yielded _
-    c.loop-c.yielded_by _ _ c.in-Some.c c.in-Some.is c.next.ensures.steps in
-    let b = border_on c.args.text.now (length c.loop-c.yielded) c.loop-c.border.bytes c.in-Some.c _ c.utf8.text t.0 t.1
-    c.loop-c.invariant.bytes refl in
-    omega (arith, b.1)
+pub returns-then-characters-count : goal.returns-then-characters-count
+returns-then-characters-count c =
+    let bytes = c.as_bytes-bytes.result.now in
+    let b = get_or bytes c.loop-i.i 0 in
+    let begins : is_inner b ≡ false = outer b c.byte_class.result false
+    (omega (arith, c.type_inv.text c.loop-i.i, ap (λ t. get_or t c.loop-i.i 0) c.as_bytes-bytes.ensures.value))
+    c.byte_class.ensures (sym c.if-is_inner.false ∙ c.is_inner.ensures) in
+    border_reached c.args.text.now bytes c.args.count c.loop-i.i c.loop-i.characters c.utf8.text
+    c.as_bytes-bytes.ensures.value
+    (walked_stop (count_machine c.args.count) 0 c.loop-i.characters bytes c.loop-i.i c.loop-i-test.true
+    (count_stops c.args.count c.loop-i.characters b begins c.if-characters-count.true) c.loop-i.invariant.0)
 
-pub loop-c-preserved : goal.loop-c-preserved
-loop-c-preserved c =
-    let cs = chars c.args.text.now in
-    let i = length c.loop-c.yielded in
-    let t = YieldsList-turn (YieldsList-from_chars c.args.text.now c.utf8.text cc) c.loop-c.yielded _
-    c.loop-c.yielded_by _ _ c.in-Some.c c.in-Some.is c.next.ensures.steps in
-    let b = border_on c.args.text.now i c.loop-c.border.bytes c.in-Some.c _ c.utf8.text t.0 t.1 c.loop-c.invariant.bytes
-    refl in
-    let n = sym (length_push c.loop-c.yielded c.in-Some.c) in
-    record {
-      characters = ap (λ e. e.characters) c.past-border.ensures ∙ (ap (λ k. k + 1) c.loop-c.invariant.characters ∙ n);
-      bytes = ap (λ e. e.bytes) c.past-border.ensures ∙ (b.0 ∙ ap (λ k. byte_at k cs) n);
-      most = omega (
-        arith,
-        ap (λ e. e.characters) c.past-border.ensures,
-        c.loop-c.invariant.most,
-        c.if-border-count.false,
-      );
-    }
+pub loop-i-preserved : goal.loop-i-preserved
+loop-i-preserved c =
+    let bytes = c.as_bytes-bytes.result.now in
+    let b = get_or bytes c.loop-i.i 0 in
+    let begins : is_inner b ≡ false = outer b c.byte_class.result false (omega (arith, c.type_inv.bytes c.loop-i.i))
+    c.byte_class.ensures (sym c.if-is_inner.false ∙ c.is_inner.ensures) in (
+      walked_on (count_machine c.args.count) 0 c.loop-i.characters (c.loop-i.characters + 1) bytes c.loop-i.i
+          c.loop-i-test.true (count_on c.args.count c.loop-i.characters b begins c.if-characters-count.false)
+          c.loop-i.invariant.0,
+      omega (arith, c.loop-i.invariant.1),
+    )
 
 pub returns : goal.returns
 returns c =
-    let cs = chars c.args.text.now in
-    let t = YieldsList-end (YieldsList-from_chars c.args.text.now c.utf8.text cc) c.loop-c.yielded _ c.loop-c.yielded_by
-    _ _ c.in-None.is c.next.ensures.steps in
-    let n = c.loop-c.border.characters in
-    record {
-      border = c.loop-c.invariant.bytes ∙ ap (λ k. byte_at k cs) (sym c.loop-c.invariant.characters);
-      front = take_all n cs (omega (arith, t.1, c.loop-c.invariant.characters))
-          ∙ sym (take_all c.args.count cs (omega (arith, t.1, c.loop-c.invariant.characters, c.loop-c.invariant.most)));
-      rest = drop_all n cs (omega (arith, t.1, c.loop-c.invariant.characters))
-          ∙ sym (drop_all c.args.count cs (omega (arith, t.1, c.loop-c.invariant.characters, c.loop-c.invariant.most)));
-    }
+    let bytes = c.as_bytes-bytes.result.now in
+    let end : length bytes ≤ c.loop-i.i = omega (arith, c.loop-i-test.false) in
+    border_reached c.args.text.now bytes c.args.count c.loop-i.i c.loop-i.characters c.utf8.text
+    c.as_bytes-bytes.ensures.value
+    (walked_end (count_machine c.args.count) 0 c.loop-i.characters bytes c.loop-i.i end c.loop-i.invariant.0)

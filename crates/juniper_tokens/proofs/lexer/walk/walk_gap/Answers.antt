@@ -9,7 +9,7 @@ loop-i-preserved-in-White c =
     let small : get_or c.as_bytes-bytes.result.now c.loop-i.i 0 < 256 = omega (arith, c.type_inv.bytes c.loop-i.i) in (
       white_on c.args.text.now c.as_bytes-bytes.result.now c.args.start c.loop-i.position c.loop-i.i c.utf8.text
           c.as_bytes-bytes.ensures.value c.loop-i.invariant.0 c.loop-i-test.true small _
-          (sym c.in-White.is ∙ c.byte_class.ensures) c.advance_col.ensures,
+          (sym c.in-White.is ∙ c.byte_class-class.ensures) c.advance_col.ensures,
       omega (arith, ap (λ (x : Place). x.index) c.advance_col.ensures, c.loop-i.invariant.1),
     )
 
@@ -20,7 +20,7 @@ loop-i-preserved-in-LineFeed c =
     ∙ ap (columns_on c.run_over-spaces.result.characters) c.advance_line.ensures in (
       feed_on c.args.text.now c.as_bytes-bytes.result.now c.args.start c.loop-i.position c.loop-i.i c.utf8.text
           c.as_bytes-bytes.ensures.value c.loop-i.invariant.0 c.loop-i-test.true small _ _ _
-          (sym c.in-LineFeed.is ∙ c.byte_class.ensures) refl c.run_over-spaces.ensures.runs place,
+          (sym c.in-LineFeed.is ∙ c.byte_class-class.ensures) refl c.run_over-spaces.ensures.runs place,
       omega (arith, ap (λ (x : Place). x.index) place, c.run_over-spaces.ensures.fewer, c.loop-i.invariant.1),
     )
 
@@ -29,7 +29,7 @@ loop-i-preserved-in-Hash c =
     let small : get_or c.as_bytes-bytes.result.now c.loop-i.i 0 < 256 = omega (arith, c.type_inv.bytes c.loop-i.i) in (
       comment_on c.args.text.now c.as_bytes-bytes.result.now c.args.start c.loop-i.position c.loop-i.i c.utf8.text
           c.as_bytes-bytes.ensures.value c.loop-i.invariant.0 c.loop-i-test.true small _ _ _
-          (sym c.in-Hash.is ∙ c.byte_class.ensures) refl c.run_over-comment.ensures.runs
+          (sym c.in-Hash.is ∙ c.byte_class-class.ensures) refl c.run_over-comment.ensures.runs
           c.columns_on-position-in-Hash.ensures,
       omega (
         arith,
@@ -63,7 +63,7 @@ returns-then-not-is_mark_at c =
     c.as_bytes-bytes.ensures.value c.loop-i.invariant.0 c.requires in
     lead_ends c.args.text.now c.as_bytes-bytes.result.now c.args.start c.loop-i.position c.loop-i.i c.utf8.text
     c.as_bytes-bytes.ensures.value c.loop-i.invariant.0 c.loop-i-test.true small
-    (sym c.in-Lead.is ∙ c.byte_class.ensures) _ (omega (arith, size, c.index.ensures, c.index-in-Lead.ensures))
+    c.byte_class-class.result c.byte_class-class.ensures c.in-Lead.is _ (omega (arith, size, c.index.ensures, c.index-in-Lead.ensures))
     (sym c.is_mark_at.ensures ∙ c.if-not-is_mark_at.true)
 
 pub loop-i-preserved : goal.loop-i-preserved
@@ -85,7 +85,7 @@ returns-in_default c =
     (omega (arith, c.type_inv.text c.loop-i.i)) in
     other_ends c.args.text.now c.as_bytes-bytes.result.now c.args.start c.loop-i.position c.loop-i.i c.utf8.text
     c.as_bytes-bytes.ensures.value c.loop-i.invariant.0 c.loop-i-test.true small
-    c.byte_class.result c.byte_class.ensures c.in_default.not-White c.in_default.not-LineFeed c.in_default.not-Hash
+    c.byte_class-class.result c.byte_class-class.ensures c.in_default.not-White c.in_default.not-LineFeed c.in_default.not-Hash
     c.in_default.not-Lead
 
 pub returns : goal.returns

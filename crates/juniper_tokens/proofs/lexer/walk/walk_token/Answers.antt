@@ -1,56 +1,60 @@
-use Rattle.std.proofs.Common.{sym, ap, ◌∙◌, ◌+◌, length, arith, subst, refl}
-use Rattle.std.specs.Str.{chars}
-use Rattle.std.proofs.lemmas.Iterator.{YieldsList-from_chars}
-use Rattle.std.proofs.lemmas.Iterator.Consumers.{YieldsList-turn, YieldsList-end}
-use Rattle.std.proofs.lemmas.List.{length_push, get_or_default}
+use Rattle.std.proofs.Common.{◌≡◌, ◌≤◌, false, length, get_or, sym, ap, ◌∙◌, arith, refl}
 use Rattle.graphql_lexical.specs.declared.state.State.TheVariants.{Start}
-use Rattle.graphql_lexical.specs.device.Scan.{step}
-use Rattle.juniper_tokens.specs.device.ByteRuns.{byte_at, Walked}
-use Rattle.juniper_tokens.proofs.Borders.{border_on}
-use Rattle.juniper_tokens.proofs.ByteRuns.{walked_on, walked_stop, walked_end}
+use Rattle.juniper_tokens.specs.device.ByteRuns.{is_inner}
+use Rattle.juniper_tokens.specs.device.Walks.{token_machine}
+use Rattle.juniper_tokens.proofs.ByteRuns.{walked_stop, walked_end}
+use Rattle.juniper_tokens.proofs.ByteClasses.{outer}
+use Rattle.juniper_tokens.proofs.TokenWalks.{walked_next, token_none, token_reached}
 use Rattle.juniper_tokens.proofs.lexer.walk.walk_token.Goals as goal
 
-pub past-end-requires-clause-bytes : goal.past-end-requires-clause-bytes
-past-end-requires-clause-bytes c =
-    let t = YieldsList-turn (YieldsList-from_chars c.args.text.now c.utf8.text cc) c.loop-c.yielded _
-    c.loop-c.yielded_by _ _ c.in-Some.c c.in-Some.is c.next.ensures.steps in
-    let b = border_on c.args.text.now (length c.loop-c.yielded) c.loop-c.end.bytes c.in-Some.c _ c.utf8.text t.0 t.1
-    c.loop-c.invariant.bytes refl in
-    omega (arith, b.1)
+pub loop-i-preserved : goal.loop-i-preserved
+loop-i-preserved c =
+    let bytes = c.as_bytes-bytes.result.now in
+    let b = get_or bytes c.loop-i.i 0 in
+    let begins : is_inner b ≡ false = outer b c.byte_class.result false (omega (arith, c.type_inv.bytes c.loop-i.i))
+    c.byte_class.ensures (sym c.if-is_inner.false ∙ c.is_inner.ensures) in (
+      walked_next bytes _ c.loop-i.i c.loop-i.characters c.loop-i.state c.in-Some.next c.walk_run-run.result
+          c.loop-i-test.true begins (sym c.step.ensures ∙ c.in-Some.is) refl c.walk_run-run.ensures.stays
+          c.walk_run-run.ensures.within c.loop-i.invariant.0,
+      omega (arith, c.loop-i.invariant.1, c.walk_run-run.ensures.fewer),
+    )
 
-pub loop-c-preserved : goal.loop-c-preserved
-loop-c-preserved c =
-    let cs = chars c.args.text.now in
-    let i = length c.loop-c.yielded in
-    let t = YieldsList-turn (YieldsList-from_chars c.args.text.now c.utf8.text cc) c.loop-c.yielded _
-    c.loop-c.yielded_by _ _ c.in-Some.c c.in-Some.is c.next.ensures.steps in
-    let b = border_on c.args.text.now i c.loop-c.end.bytes c.in-Some.c _ c.utf8.text t.0 t.1 c.loop-c.invariant.bytes
-    refl in
-    let goes = ap (step c.loop-c.state) (sym (t.1 ∙ get_or_default cs i c.in-Some.c 0 t.0))
-    ∙ (sym c.step.ensures ∙ c.in-Some-step.is) in
-    let n = sym (length_push c.loop-c.yielded c.in-Some.c) in
-    record {
-      walked = subst (λ k. Walked step Start cs k c.in-Some-step.next) n
-          (walked_on step Start c.loop-c.state c.in-Some-step.next cs i t.0 goes c.loop-c.invariant.walked);
-      characters = ap (λ e. e.characters) c.past-end.ensures ∙ (ap (λ k. k + 1) c.loop-c.invariant.characters ∙ n);
-      bytes = ap (λ e. e.bytes) c.past-end.ensures ∙ (b.0 ∙ ap (λ k. byte_at k cs) n);
-    }
+pub returns-in-None-clause-reached : goal.returns-in-None-clause-reached
+returns-in-None-clause-reached c =
+    let bytes = c.as_bytes-bytes.result.now in
+    let b = get_or bytes c.loop-i.i 0 in
+    let begins : is_inner b ≡ false = outer b c.byte_class.result false (omega (arith, c.type_inv.text c.loop-i.i, ap (λ t. get_or t c.loop-i.i 0) c.as_bytes-bytes.ensures.value))
+    c.byte_class.ensures (sym c.if-is_inner.false ∙ c.is_inner.ensures) in
+    (token_reached c.args.text.now bytes c.loop-i.i c.loop-i.characters c.loop-i.state c.utf8.text
+    c.as_bytes-bytes.ensures.value
+    (walked_stop token_machine (Start, 0) (c.loop-i.state, c.loop-i.characters) bytes c.loop-i.i c.loop-i-test.true
+    (token_none c.loop-i.state c.loop-i.characters b begins (sym c.step.ensures ∙ c.in-None.is)) c.loop-i.invariant.0)).0
 
-pub returns-in-None-step-clause-reached : goal.returns-in-None-step-clause-reached
-returns-in-None-step-clause-reached c =
-    let cs = chars c.args.text.now in
-    let i = length c.loop-c.yielded in
-    let t = YieldsList-turn (YieldsList-from_chars c.args.text.now c.utf8.text cc) c.loop-c.yielded _
-    c.loop-c.yielded_by _ _ c.in-Some.c c.in-Some.is c.next.ensures.steps in
-    let stops = ap (step c.loop-c.state) (sym (t.1 ∙ get_or_default cs i c.in-Some.c 0 t.0))
-    ∙ (sym c.step.ensures ∙ c.in-None-step.is) in
-    walked_stop step Start c.loop-c.state cs i t.0 stops c.loop-c.invariant.walked
-    ∙ ap (λ k. (k, c.loop-c.state)) (sym c.loop-c.invariant.characters)
+pub returns-in-None-clause-border : goal.returns-in-None-clause-border
+returns-in-None-clause-border c =
+    let bytes = c.as_bytes-bytes.result.now in
+    let b = get_or bytes c.loop-i.i 0 in
+    let begins : is_inner b ≡ false = outer b c.byte_class.result false (omega (arith, c.type_inv.text c.loop-i.i, ap (λ t. get_or t c.loop-i.i 0) c.as_bytes-bytes.ensures.value))
+    c.byte_class.ensures (sym c.if-is_inner.false ∙ c.is_inner.ensures) in
+    (token_reached c.args.text.now bytes c.loop-i.i c.loop-i.characters c.loop-i.state c.utf8.text
+    c.as_bytes-bytes.ensures.value
+    (walked_stop token_machine (Start, 0) (c.loop-i.state, c.loop-i.characters) bytes c.loop-i.i c.loop-i-test.true
+    (token_none c.loop-i.state c.loop-i.characters b begins (sym c.step.ensures ∙ c.in-None.is)) c.loop-i.invariant.0)).1
 
 pub returns-clause-reached : goal.returns-clause-reached
 returns-clause-reached c =
-    let t = YieldsList-end (YieldsList-from_chars c.args.text.now c.utf8.text cc) c.loop-c.yielded _ c.loop-c.yielded_by
-    _ _ c.in-None.is c.next.ensures.steps in
-    walked_end step Start c.loop-c.state (chars c.args.text.now) (length c.loop-c.yielded) (omega (arith, t.1))
-    c.loop-c.invariant.walked
-    ∙ ap (λ k. (k, c.loop-c.state)) (sym c.loop-c.invariant.characters)
+    let bytes = c.as_bytes-bytes.result.now in
+    let end : length bytes ≤ c.loop-i.i = omega (arith, c.loop-i-test.false) in
+    (token_reached c.args.text.now bytes c.loop-i.i c.loop-i.characters c.loop-i.state c.utf8.text
+    c.as_bytes-bytes.ensures.value
+    (walked_end token_machine (Start, 0) (c.loop-i.state, c.loop-i.characters) bytes c.loop-i.i end
+    c.loop-i.invariant.0)).0
+
+pub returns-clause-border : goal.returns-clause-border
+returns-clause-border c =
+    let bytes = c.as_bytes-bytes.result.now in
+    let end : length bytes ≤ c.loop-i.i = omega (arith, c.loop-i-test.false) in
+    (token_reached c.args.text.now bytes c.loop-i.i c.loop-i.characters c.loop-i.state c.utf8.text
+    c.as_bytes-bytes.ensures.value
+    (walked_end token_machine (Start, 0) (c.loop-i.state, c.loop-i.characters) bytes c.loop-i.i end
+    c.loop-i.invariant.0)).1

@@ -1,6 +1,6 @@
 use Rattle.juniper_tokens.specs.Lexing.{items_left}
 use Rattle.juniper_tokens.proofs.Gathering.{GatheredRanges}
-use Rattle.juniper_tokens.proofs.parser.Parser.new.Given as goal
+use Rattle.juniper_tokens.proofs.parser.gather.Given as goal
 
 abbrev pub invariant-loop-lexer : goal.invariant-loop-lexer
 invariant-loop-lexer l = GatheredRanges l.fn.lexer l.ranges.items l.lexer

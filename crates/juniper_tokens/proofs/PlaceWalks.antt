@@ -1,0 +1,152 @@
+-- Places over bytes, a run at a time, and so many characters.
+use Rattle.std.proofs.Common.{◌≡◌, ℕ, suc, ◌+◌, ◌-◌, ◌≤◌, ◌<◌, ◌⊎◌, inl, inr, Bool, true, false, cond, not, ◌==◌, List, [], ◌∷◌, length, take, drop, get_or, Option, Some, None, refl, sym, ap, ap₂, subst, ◌∙◌, arith}
+use Rattle.std.specs.List.{fold}
+use Rattle.std.specs.Str.{chars, IsUtf8}
+use Rattle.std.proofs.lemmas.List.{take_all, drop_all}
+use Rattle.std.proofs.lemmas.Str.{encodes-chars}
+use Rattle.graphql_lexical.specs.device.Machines.{reach}
+use Rattle.graphql_lexical.specs.Place.{Place, past_character, next_line, next_column}
+use Rattle.juniper_tokens.specs.declared.lexer.run.Run.TheVariants as run
+use Rattle.juniper_tokens.specs.declared.lexer.text.Border.{Border}
+use Rattle.juniper_tokens.specs.Positions.{columns_on}
+use Rattle.juniper_tokens.specs.device.Borders.{IsBorderBehind}
+use Rattle.juniper_tokens.specs.device.ByteRuns.{is_inner, byte_at, with_value, on, Walked}
+use Rattle.juniper_tokens.specs.device.Walks.{run_test, RunsTo, place_machine, count_to, count_machine}
+use Rattle.juniper_tokens.proofs.ByteRuns.{reach_bytes, reach_with_value, same_with_value, in_bytes, step_once, walked_on}
+use Rattle.std.proofs.lemmas.Bool.{eq-eqb, ne_eqb, cases_eq}
+use Rattle.juniper_tokens.proofs.RunWalks.{goes_over, walked_further, walked_none, same_place, plus_none, plus_plus}
+
+abbrev always : Unit {0} → ℕ → Option (Unit {0})
+always q c = Some q
+
+place_same : (p : Place) (c d : ℕ) → 128 ≤ c → 128 ≤ d → past_character p c ≡ past_character p d
+place_same p c d l m = ap (λ b. cond b (next_line p) (next_column p)) (no_feed c l ∙ sym (no_feed d m))
+  where
+    no_feed : (c : ℕ) → 128 ≤ c → (c == 10) ≡ false
+    no_feed c l = grind arith
+
+column_on : (p : Place) (k c : ℕ) → run_test run.Line c ≡ true → past_character (columns_on k p) c ≡ columns_on (k + 1) p
+column_on p k c e =
+    ap (λ b. cond b (next_line (columns_on k p)) (next_column (columns_on k p))) (feed (c == 10) e)
+    ∙ ap₂ (λ (i j : ℕ). record { index = i; line = p.line; column = j }) (plus_plus p.index k 1) (plus_plus p.column k 1)
+  where
+    feed : (b : Bool) → not b ≡ true → b ≡ false
+    feed true e = absurd (cc e)
+    feed false e = refl
+
+no_columns : (p : Place) → columns_on 0 p ≡ p
+no_columns p = ap₂ (λ (i j : ℕ). record { index = i; line = p.line; column = j }) (plus_none p.index) (plus_none p.column)
+
+-- a run that ends no line
+pub walked_line : (start p : Place) (bytes tail : List ℕ) (i : ℕ) (b : Border)
+    → tail ≡ take (length bytes - i) (drop i bytes) → RunsTo run.Line tail b → b.bytes ≤ length tail
+    → Walked place_machine (tt, start) bytes i (tt, p)
+    → Walked place_machine (tt, start) bytes (i + b.bytes) (tt, columns_on b.characters p)
+walked_line start p bytes tail i b e h s w =
+    walked_further place_machine (tt, start) (tt, p) (tt, columns_on b.characters p) bytes tail i b.bytes e s
+    (subst (λ x. reach place_machine (tt, x) tail
+    ≡ on b.bytes (reach place_machine (tt, columns_on b.characters p) (drop b.bytes tail)))
+    (no_columns p)
+    (goes_over always past_character run.Line tt (λ k. columns_on k p) (λ c e. refl) (λ k c e. column_on p k c e) tail b h)) w
+
+-- the first line
+pub walked_first : (start : Place) (bytes : List ℕ) (b : Border) → RunsTo run.Line bytes b → b.bytes ≤ length bytes
+    → Walked place_machine (tt, start) bytes b.bytes (tt, columns_on b.characters start)
+walked_first start bytes b h s =
+    same_place place_machine (tt, start) (tt, columns_on b.characters start) bytes (0 + b.bytes) b.bytes (none_plus b.bytes)
+    (walked_line start start bytes bytes 0 b (sym (take_all (length bytes - 0) bytes (omega arith))) h s
+    (walked_none place_machine (tt, start) bytes))
+  where
+    none_plus : (k : ℕ) → 0 + k ≡ k
+    none_plus k = omega arith
+
+-- a line feed, and a run behind it
+pub walked_feed : (start p : Place) (bytes tail : List ℕ) (i : ℕ) (b : Border) → i < length bytes → get_or bytes i 0 ≡ 10
+    → tail ≡ take (length bytes - (i + 1)) (drop (i + 1) bytes) → RunsTo run.Line tail b → b.bytes ≤ length tail
+    → Walked place_machine (tt, start) bytes i (tt, p)
+    → Walked place_machine (tt, start) bytes (i + (1 + b.bytes)) (tt, columns_on b.characters (next_line p))
+walked_feed start p bytes tail i b l f e h s w =
+    same_place place_machine (tt, start) (tt, columns_on b.characters (next_line p)) bytes _ _ (plus_plus i 1 b.bytes)
+    (walked_line start (next_line p) bytes tail (i + 1) b e h s
+    (walked_on place_machine (tt, start) (tt, p) (tt, next_line p) bytes i l (ap (place_machine (tt, p)) f) w))
+
+pub place_inner : (p : Place) (b : ℕ) → is_inner b ≡ true → place_machine (tt, p) b ≡ Some (tt, p)
+place_inner p b e = rw e refl
+
+pub place_column : (p : Place) (b : ℕ) → is_inner b ≡ false → (b == 10) ≡ false → place_machine (tt, p) b ≡ Some (tt, next_column p)
+place_column p b e f = rw (e, f) refl
+
+all_gone : (cs : List ℕ) → (reach always tt cs).0 ≡ length cs
+all_gone [] = refl
+all_gone (c ∷ cs) = ap suc (all_gone cs)
+
+pub place_reached : (text bytes : List ℕ) (i : ℕ) (start p : Place) → IsUtf8 text → bytes ≡ text
+    → reach place_machine (tt, start) bytes ≡ (i, (tt, p)) → p ≡ fold past_character start (chars text)
+place_reached text bytes i start p u same h =
+    let cs = chars text in
+    let r = reach always tt cs in
+    let both : (i, (tt {0}, p)) ≡ in_bytes cs (r.0, (r.1, fold past_character start (take r.0 cs))) =
+    sym h ∙ (ap (reach place_machine (tt, start)) (same ∙ sym (encodes-chars text u))
+    ∙ (reach_bytes (with_value always past_character)
+    (same_with_value always past_character (λ q c d l m. refl) place_same) (tt, start) cs
+    ∙ ap (in_bytes cs) (reach_with_value always past_character tt start cs))) in
+    ap (λ (x : ℕ × (Unit {0} × Place)). x.1.1) both
+    ∙ ap (fold past_character start) (take_all r.0 cs (omega (arith, all_gone cs)))
+
+-- ---- so many characters
+
+pub count_inner : (count n b : ℕ) → is_inner b ≡ true → count_machine count n b ≡ Some n
+count_inner count n b e = rw e refl
+
+pub count_on : (count n b : ℕ) → is_inner b ≡ false → (n ≡ count → ⊥) → count_machine count n b ≡ Some (n + 1)
+count_on count n b e f = rw (e, ne_eqb n count f) refl
+
+pub count_stops : (count n b : ℕ) → is_inner b ≡ false → n ≡ count → count_machine count n b ≡ None
+count_stops count n b e f = rw (e, eq-eqb n count f) refl
+
+-- From n on, so many of m characters have been counted: up to the count, or all.
+abbrev IsCounted : ℕ → ℕ → ℕ → ℕ × ℕ → Type 0
+IsCounted count n m r = (r.1 ≡ n + r.0) × (r.0 ≤ m) × ((r.0 ≡ count - n) ⊎ (r.0 ≡ m) × (m ≤ count - n))
+
+counted_to : (count n : ℕ) → n ≤ count → (cs : List ℕ) → IsCounted count n (length cs) (reach (count_to count) n cs)
+counted_to count n l [] = (omega arith, omega arith, inr (refl, omega arith))
+counted_to count n l (c ∷ cs) = elim (cases_eq n count) [
+  | inl e ↦ subst (IsCounted count n (length (c ∷ cs))) (sym (step_once (count_to count) n cs c None (rw (eq-eqb n count e) refl)))
+      (omega arith, omega arith, inl (omega (arith, e)))
+  | inr e ↦ subst (IsCounted count n (length (c ∷ cs))) (sym (step_once (count_to count) n cs c (Some (n + 1)) (rw (ne_eqb n count e) refl)))
+      (one_on (reach (count_to count) (n + 1) cs) (omega (arith, l, e)) (counted_to count (n + 1) (omega (arith, l, e)) cs))
+]
+  where
+    one_on : (r : ℕ × ℕ) → n < count
+        → IsCounted count (n + 1) (length cs) r → IsCounted count n (length (c ∷ cs)) (suc r.0, r.1)
+    one_on r l h = (
+      omega (arith, h.0),
+      omega (arith, h.1),
+      elim h.2 [
+        | inl e ↦ inl (omega (arith, e, l))
+        | inr e ↦ inr (omega (arith, e.0), omega (arith, e.1, l))
+      ],
+    )
+
+pub border_reached : (text bytes : List ℕ) (count i n : ℕ) → IsUtf8 text → bytes ≡ text
+    → reach (count_machine count) 0 bytes ≡ (i, n)
+    → IsBorderBehind count (chars text) (record { bytes = i; characters = n })
+border_reached text bytes count i n u same h =
+    let cs = chars text in
+    let r = reach (count_to count) 0 cs in
+    let both : (i, n) ≡ in_bytes cs r =
+    sym h ∙ (ap (reach (count_machine count) 0) (same ∙ sym (encodes-chars text u))
+    ∙ reach_bytes (count_to count) (λ q c d l m. refl) 0 cs) in
+    let facts = counted_to count 0 (omega arith) cs in
+    let size : n ≡ r.0 = omega (arith, ap (λ (x : ℕ × ℕ). x.1) both, facts.0) in
+    record {
+      border = ap (λ (x : ℕ × ℕ). x.0) both ∙ ap (λ k. byte_at k cs) (sym size);
+      front = elim facts.2 [
+        | inl e ↦ ap (λ k. take k cs) (omega (arith, size, e))
+        | inr e ↦ take_all n cs (omega (arith, size, e.0)) ∙ sym (take_all count cs (omega (arith, e.1)))
+      ];
+      rest = elim facts.2 [
+        | inl e ↦ ap (λ k. drop k cs) (omega (arith, size, e))
+        | inr e ↦ drop_all n cs (omega (arith, size, e.0)) ∙ sym (drop_all count cs (omega (arith, e.1)))
+      ];
+    }
