@@ -269,6 +269,7 @@ impl<'a> Iterator for Lexer<'a> {
 
     /// The next token, with its place. A fault is of zero width, at the character where the text goes wrong, or
     /// at the end. Memory is wanted only for the text of an unknown escape.
+    #[inline(always)]
     fn next(&mut self) -> Option<LexerResult<'a>> {
         if self.has_ended() {
             return None;
