@@ -3,7 +3,7 @@ use Rattle.std.proofs.Common.{◌≡◌, ℕ, zero, suc, ◌+◌, ◌≤◌, ◌
 use Rattle.std.specs.Char.{len_utf8}
 use Rattle.std.specs.Str.{chars, IsUtf8, IsCharBoundary}
 use Rattle.std.specs.Cmp.{second_so}
-use Rattle.std.proofs.lemmas.Str.{encodes-chars, encodes-append, chars-encodes, scalars-chars, chars-append, length-le-encodes, length-encode, IsCharBoundary-at_seam}
+use Rattle.std.proofs.lemmas.Str.{encode_ascii, encodes-chars, encodes-append, chars-encodes, scalars-chars, chars-append, length-le-encodes, length-encode, IsCharBoundary-at_seam}
 use Rattle.std.proofs.Math.Seq.{take-append_seam, drop-append_seam}
 use lib.Utf8.{scalar, scalars, encode, encodes}
 use Rattle.std.proofs.lemmas.List.{length-take-le}
@@ -94,3 +94,7 @@ border_on text i b c n u l here e size =
       within,
       omega (arith, wide, next, within),
     )
+
+-- an ASCII character is one byte
+pub ascii_first : (b n : ℕ) (cs : List ℕ) → b < 128 → byte_at (suc n) (b ∷ cs) ≡ suc (byte_at n cs)
+ascii_first b n cs l = ap (λ t. length (t ++ encodes (take n cs))) (encode_ascii b l)

@@ -108,7 +108,8 @@ not_inner b class l e n = outer b class false l e (sym (by_class class n))
 
 pub no_feed_byte : (b : ℕ) (class : ByteClass) → b < 256 → class ≡ class_of b → (class ≡ LineFeed → ⊥)
     → (b == 10) ≡ false
-no_feed_byte b class l e n = sym (feed_class_tests b l) ∙ (ap (λ k. sameb the_type k LineFeed) (sym e) ∙ by_class class n)
+no_feed_byte b class l e n = sym (feed_class_tests b l)
+    ∙ (ap (λ k. sameb the_type k LineFeed) (sym e) ∙ by_class class n)
   where
     by_class : (k : ByteClass) → (k ≡ LineFeed → ⊥) → sameb the_type k LineFeed ≡ false
     by_class LineFeed h = absurd (h refl)

@@ -22,7 +22,7 @@ use Rattle.juniper_tokens.specs.device.ByteRuns.{byte_at}
 use Rattle.juniper_tokens.specs.device.LexingByScan.{begins_with_mark}
 use Rattle.juniper_tokens.specs.Positions.{columns_on}
 use Rattle.juniper_tokens.specs.device.Walks.{run_size, RunsTo, first_class, EndsGap}
-use Rattle.juniper_tokens.proofs.Borders.{byte_at_on, byte_at_within, chars_within}
+use Rattle.juniper_tokens.proofs.Borders.{ascii_first, byte_at_on, byte_at_within, chars_within}
 use Rattle.juniper_tokens.proofs.ByteClasses.{gap_class_tests, low_class, low_class_tests, lead_class_tests, feed_class_tests, gap_none}
 use Rattle.juniper_tokens.proofs.Places.{OnLine, line_fold, one_column_more}
 use Rattle.juniper_tokens.proofs.Runs.{run_of, run_within, run_more, run_none, spaces_on_line, comment_on_line, rest_bytes, FirstByte, low, high, first_byte, first_low, index_on}
@@ -119,9 +119,6 @@ none_there (d ∷ ds) l = absurd (omega (arith, l))
 three_bytes : (cs : List ℕ) → byte_at 1 (65279 ∷ cs) ≡ 3
 unfolding encode
 three_bytes cs = refl
-
-ascii_first : (b n : ℕ) (cs : List ℕ) → b < 128 → byte_at (suc n) (b ∷ cs) ≡ suc (byte_at n cs)
-ascii_first b n cs l = ap (λ t. length (t ++ encodes (take n cs))) (encode_ascii b l)
 
 -- ---- the loop
 

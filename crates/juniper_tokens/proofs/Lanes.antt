@@ -34,7 +34,8 @@ module _ (run : Run) (xs : List ℕ) (i r : ℕ) (z : List ℕ) (room : i + 16 �
       ∙ mask_l-mod (map stops v) 64 (omega (arith, length-map v stops, long)) in
       found ∙ (ap (λ m. first_set m 16) mask ∙ first_set_mask_l stops v 16 long (omega arith))
 
-  -- where each byte at which no lane stops is one with which the run goes on, and each ASCII byte at which one does is not
+  -- where each byte at which no lane stops is one with which the run goes on, and each ASCII byte at which one does
+  -- is not
   pub over : agree_below (λ x. stops x || goes run x) (λ _. true) 256 ≡ true
       → agree_below (λ x. not (stops x) || (leb 128 x || not (goes run x))) (λ _. true) 256 ≡ true
       → GoesOverLanes run xs i r
@@ -47,7 +48,8 @@ module _ (run : Run) (xs : List ℕ) (i r : ℕ) (z : List ℕ) (room : i + 16 �
         by_tests (stops (get_or xs (i + r) 0)) (leb 128 (get_or xs (i + r) 0)) (goes run (get_or xs (i + r) 0))
         (run_in_chunk_stops stops xs i 16 r 0 room counted short)
         (low_byte (get_or xs (i + r) 0) low)
-        (agree_below_at (λ x. not (stops x) || (leb 128 x || not (goes run x))) (λ _. true) 256 (get_or xs (i + r) 0) ends
+        (agree_below_at (λ x. not (stops x) || (leb 128 x || not (goes run x))) (λ _. true) 256
+        (get_or xs (i + r) 0) ends
         (fits (i + r)).fits),
   )
     where

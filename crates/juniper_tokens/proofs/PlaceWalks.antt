@@ -25,17 +25,20 @@ place_same p c d l m = ap (λ b. cond b (next_line p) (next_column p)) (no_feed 
     no_feed : (c : ℕ) → 128 ≤ c → (c == 10) ≡ false
     no_feed c l = grind arith
 
-column_on : (p : Place) (k c : ℕ) → run_test run.Line c ≡ true → past_character (columns_on k p) c ≡ columns_on (k + 1) p
+column_on : (p : Place) (k c : ℕ) → run_test run.Line c ≡ true
+    → past_character (columns_on k p) c ≡ columns_on (k + 1) p
 column_on p k c e =
     ap (λ b. cond b (next_line (columns_on k p)) (next_column (columns_on k p))) (feed (c == 10) e)
-    ∙ ap₂ (λ (i j : ℕ). record { index = i; line = p.line; column = j }) (plus_plus p.index k 1) (plus_plus p.column k 1)
+    ∙ ap₂ (λ (i j : ℕ). record { index = i; line = p.line; column = j }) (plus_plus p.index k 1)
+    (plus_plus p.column k 1)
   where
     feed : (b : Bool) → not b ≡ true → b ≡ false
     feed true e = absurd (cc e)
     feed false e = refl
 
 no_columns : (p : Place) → columns_on 0 p ≡ p
-no_columns p = ap₂ (λ (i j : ℕ). record { index = i; line = p.line; column = j }) (plus_none p.index) (plus_none p.column)
+no_columns p = ap₂ (λ (i j : ℕ). record { index = i; line = p.line; column = j }) (plus_none p.index)
+    (plus_none p.column)
 
 -- a run that ends no line
 pub walked_line : (start p : Place) (bytes tail : List ℕ) (i : ℕ) (b : Border)
@@ -47,13 +50,15 @@ walked_line start p bytes tail i b e h s w =
     (subst (λ x. reach place_machine (tt, x) tail
     ≡ on b.bytes (reach place_machine (tt, columns_on b.characters p) (drop b.bytes tail)))
     (no_columns p)
-    (goes_over always past_character run.Line tt (λ k. columns_on k p) (λ c e. refl) (λ k c e. column_on p k c e) tail b h)) w
+    (goes_over always past_character run.Line tt (λ k. columns_on k p) (λ c e. refl)
+    (λ k c e. column_on p k c e) tail b h)) w
 
 -- the first line
 pub walked_first : (start : Place) (bytes : List ℕ) (b : Border) → RunsTo run.Line bytes b → b.bytes ≤ length bytes
     → Walked place_machine (tt, start) bytes b.bytes (tt, columns_on b.characters start)
 walked_first start bytes b h s =
-    same_place place_machine (tt, start) (tt, columns_on b.characters start) bytes (0 + b.bytes) b.bytes (none_plus b.bytes)
+    same_place place_machine (tt, start) (tt, columns_on b.characters start) bytes (0 + b.bytes) b.bytes
+    (none_plus b.bytes)
     (walked_line start start bytes bytes 0 b (sym (take_all (length bytes - 0) bytes (omega arith))) h s
     (walked_none place_machine (tt, start) bytes))
   where
@@ -61,7 +66,8 @@ walked_first start bytes b h s =
     none_plus k = omega arith
 
 -- a line feed, and a run behind it
-pub walked_feed : (start p : Place) (bytes tail : List ℕ) (i : ℕ) (b : Border) → i < length bytes → get_or bytes i 0 ≡ 10
+pub walked_feed : (start p : Place) (bytes tail : List ℕ) (i : ℕ) (b : Border) → i < length bytes
+    → get_or bytes i 0 ≡ 10
     → tail ≡ take (length bytes - (i + 1)) (drop (i + 1) bytes) → RunsTo run.Line tail b → b.bytes ≤ length tail
     → Walked place_machine (tt, start) bytes i (tt, p)
     → Walked place_machine (tt, start) bytes (i + (1 + b.bytes)) (tt, columns_on b.characters (next_line p))
@@ -73,7 +79,8 @@ walked_feed start p bytes tail i b l f e h s w =
 pub place_inner : (p : Place) (b : ℕ) → is_inner b ≡ true → place_machine (tt, p) b ≡ Some (tt, p)
 place_inner p b e = rw e refl
 
-pub place_column : (p : Place) (b : ℕ) → is_inner b ≡ false → (b == 10) ≡ false → place_machine (tt, p) b ≡ Some (tt, next_column p)
+pub place_column : (p : Place) (b : ℕ) → is_inner b ≡ false → (b == 10) ≡ false
+    → place_machine (tt, p) b ≡ Some (tt, next_column p)
 place_column p b e f = rw (e, f) refl
 
 all_gone : (cs : List ℕ) → (reach always tt cs).0 ≡ length cs
@@ -111,10 +118,13 @@ IsCounted count n m r = (r.1 ≡ n + r.0) × (r.0 ≤ m) × ((r.0 ≡ count - n)
 counted_to : (count n : ℕ) → n ≤ count → (cs : List ℕ) → IsCounted count n (length cs) (reach (count_to count) n cs)
 counted_to count n l [] = (omega arith, omega arith, inr (refl, omega arith))
 counted_to count n l (c ∷ cs) = elim (cases_eq n count) [
-  | inl e ↦ subst (IsCounted count n (length (c ∷ cs))) (sym (step_once (count_to count) n cs c None (rw (eq-eqb n count e) refl)))
+  | inl e ↦ subst (IsCounted count n (length (c ∷ cs)))
+      (sym (step_once (count_to count) n cs c None (rw (eq-eqb n count e) refl)))
       (omega arith, omega arith, inl (omega (arith, e)))
-  | inr e ↦ subst (IsCounted count n (length (c ∷ cs))) (sym (step_once (count_to count) n cs c (Some (n + 1)) (rw (ne_eqb n count e) refl)))
-      (one_on (reach (count_to count) (n + 1) cs) (omega (arith, l, e)) (counted_to count (n + 1) (omega (arith, l, e)) cs))
+  | inr e ↦ subst (IsCounted count n (length (c ∷ cs)))
+      (sym (step_once (count_to count) n cs c (Some (n + 1)) (rw (ne_eqb n count e) refl)))
+      (one_on (reach (count_to count) (n + 1) cs) (omega (arith, l, e))
+      (counted_to count (n + 1) (omega (arith, l, e)) cs))
 ]
   where
     one_on : (r : ℕ × ℕ) → n < count

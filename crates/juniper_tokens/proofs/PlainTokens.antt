@@ -28,7 +28,7 @@ use Rattle.juniper_tokens.specs.device.Borders.{IsBorder}
 use Rattle.juniper_tokens.specs.device.ByteRuns.{byte_at}
 use Rattle.juniper_tokens.specs.device.Scans.{Finds}
 use Rattle.juniper_tokens.specs.device.Walks.{run_test, run_step, run_size, RunsTo, is_in_float, first_class}
-use Rattle.juniper_tokens.proofs.Borders.{byte_at_on}
+use Rattle.juniper_tokens.proofs.Borders.{ascii_first, byte_at_on}
 use Rattle.juniper_tokens.proofs.ByteClasses.{name_class_tests, digit_class_tests, first_state_tests, low_class, low_class_tests, quote_class_tests}
 use Rattle.juniper_tokens.proofs.Runs.{run_of, run_more, run_none, rest_bytes, FirstByte, first_byte, first_low}
 
@@ -50,9 +50,6 @@ step_more q p r c n cs e h = rw (e, h) refl
 begins_in : (q : State) (b : ℕ) (cs : List ℕ) → step Start b ≡ Some q → step q b ≡ Some q
     → reach step Start (b ∷ cs) ≡ reach step q (b ∷ cs)
 begins_in q b cs e s = rw (e, s) refl
-
-ascii_first : (b n : ℕ) (cs : List ℕ) → b < 128 → byte_at (suc n) (b ∷ cs) ≡ suc (byte_at n cs)
-ascii_first b n cs l = ap (λ t. length (t ++ encodes (take n cs))) (encode_ascii b l)
 
 -- Where a state is stayed in over a run, the steps go on from its end.
 in_run : (r : Run) (q : State) → ((c : ℕ) → run_test r c ≡ true → step q c ≡ Some q) → (cs : List ℕ) (n : ℕ) (p : State)

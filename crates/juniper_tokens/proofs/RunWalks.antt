@@ -67,7 +67,8 @@ pub walked_further : {S : Type 0} (step : S → ℕ → Option S) (q0 q p : S) (
     → reach step q tail ≡ on n (reach step p (drop n tail))
     → Walked step q0 bytes i q → Walked step q0 bytes (i + n) p
 walked_further step q0 q p bytes tail i n e l h w =
-    let whole : tail ≡ drop i bytes = e ∙ take_all (length bytes - i) (drop i bytes) (omega (arith, length-drop i bytes)) in
+    let whole : tail ≡ drop i bytes = e ∙ take_all (length bytes - i) (drop i bytes)
+    (omega (arith, length-drop i bytes)) in
     record {
       within = omega (arith, l, ap length whole, length-drop i bytes, w.within);
       same =

@@ -34,7 +34,8 @@ one_counted n k c = omega arith
 stays_over : (r : Run) (q : State) → ((c : ℕ) → run_test r c ≡ true → step q c ≡ Some q) → (bytes : List ℕ) (b : Border)
     → RunsTo r bytes b → StaysOver q bytes b
 stays_over r q stays bytes b h n =
-    subst (λ k. reach token_machine (q, k) bytes ≡ on b.bytes (reach token_machine (q, n + b.characters) (drop b.bytes bytes)))
+    subst (λ k. reach token_machine (q, k) bytes ≡ on b.bytes
+    (reach token_machine (q, n + b.characters) (drop b.bytes bytes)))
     (plus_none n) (goes_over step count_one r q (λ k. n + k) stays (λ k c e. one_counted n k c) bytes b h)
 
 pub string_over : (bytes : List ℕ) (b : Border) → RunsTo run.Plain bytes b → StaysOver InString bytes b
@@ -63,8 +64,10 @@ pub walked_next : (bytes tail : List ℕ) (i n : ℕ) (q p : State) (b : Border)
     → tail ≡ take (length bytes - (i + 1)) (drop (i + 1) bytes) → StaysOver p tail b → b.bytes ≤ length tail
     → WalkedToken bytes i q n → WalkedToken bytes (i + (1 + b.bytes)) p (n + (1 + b.characters))
 walked_next bytes tail i n q p b l e g t h s w =
-    let one = walked_on token_machine (Start, 0) (q, n) (p, n + 1) bytes i l (token_step q p n (get_or bytes i 0) e g) w in
-    let more = walked_further token_machine (Start, 0) (p, n + 1) (p, (n + 1) + b.characters) bytes tail (i + 1) b.bytes t s
+    let one = walked_on token_machine (Start, 0) (q, n) (p, n + 1) bytes i l
+    (token_step q p n (get_or bytes i 0) e g) w in
+    let more = walked_further token_machine (Start, 0) (p, n + 1) (p, (n + 1) + b.characters) bytes tail
+    (i + 1) b.bytes t s
     (h (n + 1)) one in
     subst (λ k. WalkedToken bytes (i + (1 + b.bytes)) p k) (plus_plus n 1 b.characters)
     (same_place token_machine (Start, 0) (p, (n + 1) + b.characters) bytes _ _ (plus_plus i 1 b.bytes) more)
@@ -78,7 +81,8 @@ token_reached text bytes i n q u same h =
     let r = reach step Start cs in
     let both : (i, (q, n)) ≡ in_bytes cs (r.0, (r.1, fold count_one 0 (take r.0 cs))) =
     sym h ∙ (ap (reach token_machine (Start, 0)) (same ∙ sym (encodes-chars text u))
-    ∙ (reach_bytes (with_value step count_one) (same_with_value step count_one step_same (λ x c d l m. refl)) (Start, 0) cs
+    ∙ (reach_bytes (with_value step count_one) (same_with_value step count_one step_same (λ x c d l m. refl))
+    (Start, 0) cs
     ∙ ap (in_bytes cs) (reach_with_value step count_one Start 0 cs))) in
     let counted : n ≡ r.0 = ap (λ (x : ℕ × (State × ℕ)). x.1.1) both
     ∙ (counted_by_ones 0 (take r.0 cs) ∙ (none_plus (length (take r.0 cs))
@@ -101,7 +105,8 @@ in_float text bytes u same l =
     by_first _ b (low m) = refl
     by_first (c ∷ cs) b (high m h) = ap is_some (step_same Zero b c (omega (arith, h)) m)
 
-pub not_in_float : (text bytes : List ℕ) → IsUtf8 text → bytes ≡ text → length bytes ≡ 0 → false ≡ is_in_float (chars text)
+pub not_in_float : (text bytes : List ℕ) → IsUtf8 text → bytes ≡ text → length bytes ≡ 0
+    → false ≡ is_in_float (chars text)
 not_in_float text bytes u same l = by_none (chars text) (omega (arith, chars_within text u, ap length same, l))
   where
     by_none : (cs : List ℕ) → length cs ≡ 0 → false ≡ is_in_float cs

@@ -156,8 +156,8 @@ impl<'a> Lexer<'a> {
 
     /// A lexer that stands where this one does.
     ///
-    /// A call that is not inlined is made on such a one, which then takes the place of the lexer: so the lexer itself, whose
-    /// address no call gets, stays in registers from token to token.
+    /// A call that is not inlined is made on such a one, which then takes the place of the lexer: so the lexer itself,
+    /// whose address no call gets, stays in registers from token to token.
     #[inline(always)]
     pub(crate) fn duplicate(&self) -> Self
         ensures { result ≡ self.now }
@@ -213,6 +213,7 @@ impl<'a> Lexer<'a> {
         item
     }
 
+    // `next_other_token`, out of line.
     #[inline(never)]
     fn scan_next_token(&mut self) -> LexerResult<'a>
         ensures source { self.new.source ≡ self.old.source }
@@ -222,6 +223,7 @@ impl<'a> Lexer<'a> {
         Ok(self.token(range))
     }
 
+    // `next_other`, out of line.
     #[inline(never)]
     fn scan_next(&mut self) -> Result<TokenRange, LexFailure>
         ensures source { self.new.source ≡ self.old.source }

@@ -46,9 +46,10 @@ fn number_fault(rest: &str, at: usize) -> Missed
 fn dots_fault(rest: &str, at: usize) -> Missed
     ensures { Misses result (after_dots at (chars rest.now)) }
 {
-    match first_character(rest) {
-        Some(_) => Missed::Fault(LexerError::UnexpectedCharacter('.'), 0),
-        None => Missed::Fault(LexerError::UnexpectedEndOfFile, at),
+    if rest.is_empty() {
+        Missed::Fault(LexerError::UnexpectedEndOfFile, at)
+    } else {
+        Missed::Fault(LexerError::UnexpectedCharacter('.'), 0)
     }
 }
 
@@ -92,9 +93,10 @@ fn escape_fault(alloc: Global, marks: &str, rest: &str, at: usize) -> Missed
 fn backslash_fault(alloc: Global, rest: &str, at: usize) -> Missed
     ensures { Misses result (after_backslash at (chars rest.now)) }
 {
-    match first_character(rest) {
-        Some(c) => escape_fault(alloc, "\\", first_characters(rest, 1), at),
-        None => Missed::Fault(LexerError::UnterminatedString, at),
+    if rest.is_empty() {
+        Missed::Fault(LexerError::UnterminatedString, at)
+    } else {
+        escape_fault(alloc, "\\", first_characters(rest, 1), at)
     }
 }
 
@@ -133,16 +135,12 @@ fn scan_zero(text: &str, end: Border) -> Result<Found, Missed>
     requires { IsBorder end (chars text.now) }
     ensures { MeetsScan result (chars text.now) (after_zero end.characters (chars text.now) (drop end.characters (chars text.now))) }
 {
-    match first_character(text_from(text, end)) {
-        Some(c) => {
-            if c.is_ascii_digit() {
-                Err(Missed::Fault(LexerError::UnexpectedCharacter(c), end.characters))
-            } else {
-                token_of(Kind::Int, end)
-            }
-        }
-        None => token_of(Kind::Int, end),
+    let bytes = text_from(text, end).as_bytes();
+    if !bytes.is_empty() && bytes[0].is_ascii_digit() {
+        let error = LexerError::UnexpectedCharacter(bytes[0] as char);
+        return Err(Missed::Fault(error, end.characters));
     }
+    token_of(Kind::Int, end)
 }
 
 // Where no token begins: at the end, or at a character.

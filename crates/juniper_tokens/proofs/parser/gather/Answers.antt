@@ -56,7 +56,8 @@ loop-lexer-preserved c =
           search rules in
           let step = plain_steps s c.next_plain.new.self going w.in-Some.ensures.source w.in-Some.range
           w.in-Some.ensures.takes in
-          rw (w.lexer-is, w.ranges-is) (subst (λ rs. GatheredRanges c.args.lexer.now rs c.next_plain.new.self) (sym pushed)
+          rw (w.lexer-is, w.ranges-is)
+          (subst (λ rs. GatheredRanges c.args.lexer.now rs c.next_plain.new.self) (sym pushed)
           (ranges_more c.args.lexer.now c.loop-lexer.ranges.items s c.next_plain.new.self w.in-Some.range
           c.loop-lexer.invariant step))
       | in-None+in_ok-next_other-in-None w ↦
@@ -65,7 +66,8 @@ loop-lexer-preserved c =
           let same = w.in_ok-next_other-in-None.ensures.source ∙ w.in-None.ensures.source in
           let step = other_steps s w.next_other.new.self going same c.next_plain.new.self
           (Ok w.in_ok-next_other-in-None.field-0) w.in-None.ensures.takes w.in_ok-next_other-in-None.ensures.takes in
-          rw (w.lexer-is, w.ranges-is) (subst (λ rs. GatheredRanges c.args.lexer.now rs w.next_other.new.self) (sym pushed)
+          rw (w.lexer-is, w.ranges-is)
+          (subst (λ rs. GatheredRanges c.args.lexer.now rs w.next_other.new.self) (sym pushed)
           (ranges_more c.args.lexer.now c.loop-lexer.ranges.items s w.next_other.new.self
           w.in_ok-next_other-in-None.field-0 c.loop-lexer.invariant step))
     ]

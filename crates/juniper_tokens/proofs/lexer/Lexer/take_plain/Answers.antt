@@ -29,7 +29,8 @@ invariant_of-self c =
     c.requires.finds in
     let range = found_range _ _ _ _ c.self.invariant finds in
     let made = subst (IsRange source) (sym c.from_found-range.ensures) range in
-    let on_line = ap (λ (r : TokenRange). same_kind r.kind BlockString) c.from_found-range.ensures ∙ c.requires.plain.on_line in
+    let on_line = ap (λ (r : TokenRange). same_kind r.kind BlockString) c.from_found-range.ensures
+    ∙ c.requires.plain.on_line in
     let place = c.end_on_line-self-inside.ensures ∙ (ends_on_line source c.from_found-range.result made on_line
     ∙ ap (λ (r : TokenRange). place source r.end.characters) c.from_found-range.ensures) in
     subst (λ b. IsPlaced c.self.inside.source.now b c.end_on_line-self-inside.result)
@@ -43,7 +44,8 @@ returns-clause-takes c =
     c.requires.finds in
     let range = found_range _ _ _ _ c.self.invariant finds in
     let made = subst (IsRange source) (sym c.from_found-range.ensures) range in
-    let on_line = ap (λ (r : TokenRange). same_kind r.kind BlockString) c.from_found-range.ensures ∙ c.requires.plain.on_line in
+    let on_line = ap (λ (r : TokenRange). same_kind r.kind BlockString) c.from_found-range.ensures
+    ∙ c.requires.plain.on_line in
     let place = c.end_on_line-self-inside.ensures ∙ (ends_on_line source c.from_found-range.result made on_line
     ∙ ap (λ (r : TokenRange). place source r.end.characters) c.from_found-range.ensures) in
     let new : LexerState = record { source = source; index = c.end_on_line-self-inside.result.index; ended = false } in

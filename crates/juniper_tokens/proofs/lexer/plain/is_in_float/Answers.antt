@@ -7,7 +7,10 @@ use Rattle.juniper_tokens.proofs.lexer.plain.is_in_float.Goals as goal
 pub returns-then-not-is_empty : goal.returns-then-not-is_empty
 returns-then-not-is_empty c =
     let bytes = c.as_bytes-bytes.result.now in
-    let some : 0 < length bytes = omega (arith, eqb-false (length bytes) 0 (sym c.is_empty.ensures ∙ c.if-not-is_empty.true)) in
+    let some : 0 < length bytes = omega (
+      arith,
+      eqb-false (length bytes) 0 (sym c.is_empty.ensures ∙ c.if-not-is_empty.true),
+    ) in
     c.is_some.ensures ∙ (ap is_some c.step_after_integer.ensures
     ∙ in_float c.args.rest.now bytes c.utf8.rest c.as_bytes-bytes.ensures.value some)
 

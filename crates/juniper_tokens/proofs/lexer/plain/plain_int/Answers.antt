@@ -7,12 +7,14 @@ use Rattle.juniper_tokens.proofs.lexer.plain.plain_int.Goals as goal
 pub text_from-requires : goal.text_from-requires
 text_from-requires c =
     let text = c.args.text.now in
-    digits_border text _ c.utf8.text c.as_bytes.ensures.value (some_there text Digit (sym c.requires.digit) (λ e. absurd (cc e)))
+    digits_border text _ c.utf8.text c.as_bytes.ensures.value
+    (some_there text Digit (sym c.requires.digit) (λ e. absurd (cc e)))
     (omega (arith, c.type_inv.text 0)) _ c.run_over-end.ensures.runs
 
 pub returns-clause-finds : goal.returns-clause-finds
 returns-clause-finds c =
     let text = c.args.text.now in
-    int_found text _ c.utf8.text c.as_bytes.ensures.value (some_there text Digit (sym c.requires.digit) (λ e. absurd (cc e)))
+    int_found text _ c.utf8.text c.as_bytes.ensures.value
+    (some_there text Digit (sym c.requires.digit) (λ e. absurd (cc e)))
     (omega (arith, c.type_inv.text 0)) _ (sym c.requires.digit) c.requires.nonzero c.run_over-end.ensures.runs
     (ap is_in_float (sym c.text_from.ensures.characters) ∙ sym c.if-is_in_float.ensures)

@@ -63,7 +63,8 @@ returns-then-not-is_mark_at c =
     c.as_bytes-bytes.ensures.value c.loop-i.invariant.0 c.requires in
     lead_ends c.args.text.now c.as_bytes-bytes.result.now c.args.start c.loop-i.position c.loop-i.i c.utf8.text
     c.as_bytes-bytes.ensures.value c.loop-i.invariant.0 c.loop-i-test.true small
-    c.byte_class-class.result c.byte_class-class.ensures c.in-Lead.is _ (omega (arith, size, c.index.ensures, c.index-in-Lead.ensures))
+    c.byte_class-class.result c.byte_class-class.ensures c.in-Lead.is _
+    (omega (arith, size, c.index.ensures, c.index-in-Lead.ensures))
     (sym c.is_mark_at.ensures ∙ c.if-not-is_mark_at.true)
 
 pub loop-i-preserved : goal.loop-i-preserved

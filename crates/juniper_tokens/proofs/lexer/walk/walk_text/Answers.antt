@@ -11,7 +11,8 @@ use Rattle.juniper_tokens.proofs.lexer.walk.walk_text.Goals as goal
 
 pub loop-i-init : goal.loop-i-init
 loop-i-init c = (
-  subst (λ (p : Place). Walked place_machine (tt, c.args.start) c.as_bytes-bytes.result.now c.run_over-first.result.bytes (tt, p))
+  subst (λ (p : Place). Walked place_machine (tt, c.args.start) c.as_bytes-bytes.result.now
+      c.run_over-first.result.bytes (tt, p))
       (sym c.columns_on-position.ensures)
       (walked_first c.args.start c.as_bytes-bytes.result.now c.run_over-first.result c.run_over-first.ensures.runs
       c.run_over-first.ensures.within),
@@ -23,9 +24,12 @@ loop-i-preserved-in-LineFeed c =
     let bytes = c.as_bytes-bytes.result.now in
     let b = get_or bytes c.loop-i.i 0 in
     let small : b < 256 = omega (arith, c.type_inv.bytes c.loop-i.i) in
-    let place : c.columns_on-position-in-LineFeed.result ≡ columns_on c.run_over-line.result.characters (next_line c.loop-i.position)
-    = c.columns_on-position-in-LineFeed.ensures ∙ ap (columns_on c.run_over-line.result.characters) c.advance_line.ensures in (
-      subst (λ (p : Place). Walked place_machine (tt, c.args.start) bytes (c.loop-i.i + (1 + c.run_over-line.result.bytes)) (tt, p))
+    let place : c.columns_on-position-in-LineFeed.result ≡ columns_on c.run_over-line.result.characters
+    (next_line c.loop-i.position)
+    = c.columns_on-position-in-LineFeed.ensures
+    ∙ ap (columns_on c.run_over-line.result.characters) c.advance_line.ensures in (
+      subst (λ (p : Place). Walked place_machine (tt, c.args.start) bytes
+          (c.loop-i.i + (1 + c.run_over-line.result.bytes)) (tt, p))
           (sym place)
           (walked_feed c.args.start c.loop-i.position bytes _ c.loop-i.i c.run_over-line.result c.loop-i-test.true
           (feed_byte b c.byte_class.result small c.byte_class.ensures c.in-LineFeed.is) refl

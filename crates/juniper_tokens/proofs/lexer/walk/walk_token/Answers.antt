@@ -23,23 +23,27 @@ pub returns-in-None-clause-reached : goal.returns-in-None-clause-reached
 returns-in-None-clause-reached c =
     let bytes = c.as_bytes-bytes.result.now in
     let b = get_or bytes c.loop-i.i 0 in
-    let begins : is_inner b ≡ false = outer b c.byte_class.result false (omega (arith, c.type_inv.text c.loop-i.i, ap (λ t. get_or t c.loop-i.i 0) c.as_bytes-bytes.ensures.value))
+    let begins : is_inner b ≡ false = outer b c.byte_class.result false
+    (omega (arith, c.type_inv.text c.loop-i.i, ap (λ t. get_or t c.loop-i.i 0) c.as_bytes-bytes.ensures.value))
     c.byte_class.ensures (sym c.if-is_inner.false ∙ c.is_inner.ensures) in
     (token_reached c.args.text.now bytes c.loop-i.i c.loop-i.characters c.loop-i.state c.utf8.text
     c.as_bytes-bytes.ensures.value
     (walked_stop token_machine (Start, 0) (c.loop-i.state, c.loop-i.characters) bytes c.loop-i.i c.loop-i-test.true
-    (token_none c.loop-i.state c.loop-i.characters b begins (sym c.step.ensures ∙ c.in-None.is)) c.loop-i.invariant.0)).0
+    (token_none c.loop-i.state c.loop-i.characters b begins
+    (sym c.step.ensures ∙ c.in-None.is)) c.loop-i.invariant.0)).0
 
 pub returns-in-None-clause-border : goal.returns-in-None-clause-border
 returns-in-None-clause-border c =
     let bytes = c.as_bytes-bytes.result.now in
     let b = get_or bytes c.loop-i.i 0 in
-    let begins : is_inner b ≡ false = outer b c.byte_class.result false (omega (arith, c.type_inv.text c.loop-i.i, ap (λ t. get_or t c.loop-i.i 0) c.as_bytes-bytes.ensures.value))
+    let begins : is_inner b ≡ false = outer b c.byte_class.result false
+    (omega (arith, c.type_inv.text c.loop-i.i, ap (λ t. get_or t c.loop-i.i 0) c.as_bytes-bytes.ensures.value))
     c.byte_class.ensures (sym c.if-is_inner.false ∙ c.is_inner.ensures) in
     (token_reached c.args.text.now bytes c.loop-i.i c.loop-i.characters c.loop-i.state c.utf8.text
     c.as_bytes-bytes.ensures.value
     (walked_stop token_machine (Start, 0) (c.loop-i.state, c.loop-i.characters) bytes c.loop-i.i c.loop-i-test.true
-    (token_none c.loop-i.state c.loop-i.characters b begins (sym c.step.ensures ∙ c.in-None.is)) c.loop-i.invariant.0)).1
+    (token_none c.loop-i.state c.loop-i.characters b begins
+    (sym c.step.ensures ∙ c.in-None.is)) c.loop-i.invariant.0)).1
 
 pub returns-clause-reached : goal.returns-clause-reached
 returns-clause-reached c =
