@@ -6,12 +6,13 @@ import re
 import sys
 import threading
 import unittest
-from typing import Iterator, List, Tuple
+from typing import List
 
-sys.path.insert(0, os.path.dirname(os.path.abspath(__file__)))
+HERE = os.path.dirname(os.path.abspath(__file__))
+sys.path[:0] = [HERE, os.path.join(HERE, "..", "..", "tests")]
 import juniper
+from rows import plain, rows
 
-ROWS = os.path.join(os.path.dirname(os.path.abspath(__file__)), "..", "..", "crates", "language_rows", "data")
 SCALARS = ("int", "large_int", "float", "string", "block_string", "boolean")
 
 
@@ -28,41 +29,6 @@ def lines(document: juniper.Document) -> List[str]:
             line += f" {node.name}"
         written.append(line)
     return written
-
-
-ESCAPE = re.compile(rb"\\(n|r|t|\\|u\{[0-9A-Fa-f]+\}|x\{[0-9A-Fa-f]+\})")
-
-
-def plain(written: str) -> bytes:
-    """A row's text, its escapes replaced."""
-
-    def replaced(match: "re.Match[bytes]") -> bytes:
-        word = match[1].decode()
-        if word[0] == "u":
-            return chr(int(word[2:-1], 16)).encode()
-        if word[0] == "x":
-            return bytes([int(word[2:-1], 16)])
-        return {"n": b"\n", "r": b"\r", "t": b"\t", "\\": b"\\"}[word]
-
-    return ESCAPE.sub(replaced, written.encode())
-
-
-def rows(name: str) -> Iterator[Tuple[int, str, bytes, List[str]]]:
-    """The rows of a file: a number, a kind, a text, the lines that are wanted."""
-    row = None
-    with open(os.path.join(ROWS, name), encoding="utf-8", newline="\n") as file:
-        for number, line in enumerate(file, 1):
-            line = line.rstrip("\n")
-            if line.startswith("  "):
-                if row is not None:
-                    row[3].append(line[2:])
-            elif line and not line.startswith("#"):
-                if row is not None:
-                    yield row
-                kind, _, text = line.partition(" ")
-                row = (number, kind, plain(text), [])
-    if row is not None:
-        yield row
 
 
 def is_other_scalar(wanted: List[str]) -> bool:

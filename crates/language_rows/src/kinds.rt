@@ -1,8 +1,6 @@
 //! What each kind of row answers.
 
 mod answers;
-mod built;
-pub mod completed;
 mod conversions;
 mod cursor;
 mod devices;
@@ -13,7 +11,6 @@ mod large;
 mod lexing;
 mod literals;
 mod odd;
-mod reports;
 mod scalars;
 mod tree;
 mod types;
@@ -24,22 +21,6 @@ use std::alloc::Global;
 
 /// Writes what stands below a row of this kind and text, if it holds. The wanted lines say which calls are made.
 pub fn write_answer(
-    alloc: Global,
-    out: &mut String,
-    kind: &str,
-    text: &[u8],
-    wanted: &str,
-) -> Written {
-    if kind == "gqlcheck" {
-        return reports::write_report(alloc, out, text);
-    }
-    match std::str::from_utf8(text) {
-        Ok(text) => write_answer_of(alloc, out, kind, text, wanted),
-        Err(_) => out.push_str("the text is not UTF-8\n"),
-    }
-}
-
-fn write_answer_of(
     alloc: Global,
     out: &mut String,
     kind: &str,
@@ -55,28 +36,37 @@ fn write_answer_of(
         "document" => documents::write_tree(alloc, out, text),
         "within" => documents::write_tree_within(alloc, out, text),
         "equal" => documents::write_equal(alloc, out, text),
-        "built" => built::write_built(alloc, out, text),
         "large" => large::write_large(alloc, out, text),
         "odd_document" => odd::write_arguments_of(alloc, out, text),
+        "cursor" => cursor::write_calls(alloc, out, text, wanted),
+        "arguments" => documents::write_calls(alloc, out, text, wanted),
+        "answer" => answers::write_calls(alloc, out, text, wanted),
         _ => write_calls(alloc, out, kind, text, wanted),
     }
 }
 
+// The answers of calls each of which begins with the text anew.
 fn write_calls(alloc: Global, out: &mut String, kind: &str, text: &str, wanted: &str) -> Written {
+    for line in wanted.lines() {
+        let call = call_of(line);
+        write!(out, "{call} -> ")?;
+        answer_call(alloc, out, kind, text, call)?;
+        out.push('\n')?;
+    }
+    Ok(())
+}
+
+fn answer_call(alloc: Global, out: &mut String, kind: &str, text: &str, call: &str) -> Written {
     match kind {
-        "cursor" => cursor::write_calls(alloc, out, text, wanted),
-        "completed" => completed::write_calls(alloc, out, text, wanted),
-        "arguments" => documents::write_calls(alloc, out, text, wanted),
-        "devices" => devices::write_runs(alloc, out, text, wanted),
-        "input_value" => input_values::write_calls(alloc, out, text, wanted),
-        "scalar" => scalars::write_calls::<DefaultScalarValue>(alloc, out, text, wanted),
-        "odd_scalar" => odd::write_calls(alloc, out, text, wanted),
-        "type_literal" => types::write_calls(alloc, out, text, wanted),
-        "answer" => answers::write_calls(alloc, out, text, wanted),
-        "name" => answers::write_name_calls(alloc, out, text, wanted),
-        "into" => conversions::write_calls(alloc, out, text, wanted),
-        "guide" => guide_calls::write_calls(alloc, out, text, wanted),
-        _ => out.push_str("no such kind\n"),
+        "devices" => devices::answer(alloc, out, text, call),
+        "input_value" => input_values::answer(alloc, out, text, call),
+        "scalar" => scalars::answer::<DefaultScalarValue>(alloc, out, text, call),
+        "odd_scalar" => odd::answer(alloc, out, text, call),
+        "type_literal" => types::answer(alloc, out, text, call),
+        "name" => answers::answer_name(alloc, out, text, call),
+        "into" => conversions::answer(alloc, out, text, call),
+        "guide" => guide_calls::answer(alloc, out, text, call),
+        _ => out.push_str("no such kind"),
     }
 }
 

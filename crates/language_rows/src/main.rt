@@ -7,7 +7,6 @@ mod rows;
 mod tally;
 mod write;
 
-use kinds::completed::is_completed;
 use rows::{Row, rows_of};
 use std::alloc::{AllocError, Global};
 use std::process::ExitCode;
@@ -70,7 +69,6 @@ fn tell_rows<R: Print + AllocGlobal>(
 ) -> io::Result<()> {
     for row in rows_of(rt.alloc(), text)? {
         tell_row(rt, name, &row, tally)?;
-        tell_completion(rt, name, &row, tally)?;
     }
     Ok(())
 }
@@ -96,31 +94,6 @@ fn tell_row<R: Print + AllocGlobal>(
 fn answer_of(alloc: Global, row: &Row<'_>, wanted: &str) -> Result<String, AllocError> {
     let text = row.text(alloc)?;
     let mut out = String::new(alloc);
-    kinds::write_answer(alloc, &mut out, row.kind, text.as_slice(), wanted)?;
+    kinds::write_answer(alloc, &mut out, row.kind, text.as_str(), wanted)?;
     Ok(out)
-}
-
-// Tries to complete what stands before the fault of a refused text.
-fn tell_completion<R: Print + AllocGlobal>(
-    rt: &R,
-    name: &str,
-    row: &Row<'_>,
-    tally: &mut Tally,
-) -> io::Result<()> {
-    if row.kind != "gqlcheck" {
-        return Ok(());
-    }
-    let text = row.text(rt.alloc())?;
-    let Ok(text) = std::str::from_utf8(text.as_slice()) else {
-        return Ok(());
-    };
-    let Some(is_completed) = is_completed(rt.alloc(), text)? else {
-        return Ok(());
-    };
-    tally.count(rt.alloc(), "completion of a refused text", is_completed)?;
-    if !is_completed {
-        let number = row.number;
-        println!(rt; "{name}:{number}: no completion is found")?;
-    }
-    Ok(())
 }

@@ -2,9 +2,9 @@
 //!
 //! A row is a line of a kind's word, a space and a text, and below it the lines of its answer, each behind two spaces.
 //! Lines that are empty or begin with `#` say nothing. In texts and answers `\n`, `\r`, `\t` and `\\` stand for a line
-//! feed, a carriage return, a tab and a backslash, `\u{F}` for the character of that number in hexadecimal digits,
-//! and `\x{F}` for the byte. A backslash before anything else stands for itself. A kind whose answers are calls has
-//! a line for each call: the call, ` -> ` and what it answers.
+//! feed, a carriage return, a tab and a backslash, and `\u{F}` for the character of that number in hexadecimal digits. A
+//! backslash before anything else stands for itself. A kind whose answers are calls has a line for each call: the call,
+//! ` -> ` and what it answers.
 
 use std::alloc::{AllocError, Global};
 
@@ -20,23 +20,20 @@ pub struct Row<'a> {
 
 impl<'a> Row<'a> {
     /// The row's text, its escapes replaced.
-    pub fn text(&self, alloc: Global) -> Result<Vec<u8>, AllocError> {
-        let mut text = Vec::new(alloc);
+    pub fn text(&self, alloc: Global) -> Result<String, AllocError> {
+        let mut text = String::new(alloc);
         push_plain(&mut text, self.text)?;
         Ok(text)
     }
 
     /// The lines of the wanted answer, each with a line feed behind it, their escapes replaced.
     pub fn wanted(&self, alloc: Global) -> Result<String, AllocError> {
-        let mut lines = Vec::new(alloc);
+        let mut lines = String::new(alloc);
         for line in self.answer.iter() {
             push_plain(&mut lines, line)?;
-            lines.push(b'\n')?;
+            lines.push('\n')?;
         }
-        match std::str::from_utf8(lines.as_slice()) {
-            Ok(text) => String::from_str(alloc, text),
-            Err(_) => String::from_str(alloc, "(not UTF-8)"),
-        }
+        Ok(lines)
     }
 }
 
@@ -80,53 +77,41 @@ fn note_line<'a>(
 }
 
 // Adds a written text, its escapes replaced.
-fn push_plain(plain: &mut Vec<u8>, written: &str) -> Result<(), AllocError> {
+fn push_plain(plain: &mut String, written: &str) -> Result<(), AllocError> {
     let mut is_plain = true;
     for part in written.split('\\') {
         if is_plain {
-            plain.extend_from_slice(part.as_bytes())?;
+            plain.push_str(part)?;
             is_plain = false;
         } else if part.is_empty() {
-            plain.push(b'\\')?;
+            plain.push('\\')?;
             is_plain = true;
         } else {
-            push_escape(plain, part)?;
+            push_behind_backslash(plain, part)?;
         }
     }
     Ok(())
 }
 
-// Adds what stands behind a backslash, and the text up to the next one.
-fn push_escape(plain: &mut Vec<u8>, part: &str) -> Result<(), AllocError> {
-    if let Some(rest) = part.strip_prefix('n') {
-        plain.push(b'\n')?;
-        return plain.extend_from_slice(rest.as_bytes());
-    }
-    if let Some(rest) = part.strip_prefix('r') {
-        plain.push(b'\r')?;
-        return plain.extend_from_slice(rest.as_bytes());
-    }
-    if let Some(rest) = part.strip_prefix('t') {
-        plain.push(b'\t')?;
-        return plain.extend_from_slice(rest.as_bytes());
-    }
-    if let Some((number, rest)) = numbered(part, "u{") {
-        let mut bytes = [0_u8; 4];
-        let c = char::from_u32(number).unwrap_or('\u{FFFD}');
-        plain.extend_from_slice(c.encode_utf8(&mut bytes).as_bytes())?;
-        return plain.extend_from_slice(rest.as_bytes());
-    }
-    if let Some((number, rest)) = numbered(part, "x{") {
-        plain.push(u8::try_from(number).unwrap_or(b'?'))?;
-        return plain.extend_from_slice(rest.as_bytes());
-    }
-    plain.push(b'\\')?;
-    plain.extend_from_slice(part.as_bytes())
+// Adds what stands behind a backslash, up to the next one.
+fn push_behind_backslash(plain: &mut String, part: &str) -> Result<(), AllocError> {
+    let (c, rest) = escape_of(part).unwrap_or(('\\', part));
+    plain.push(c)?;
+    plain.push_str(rest)
 }
 
-// The number between an opening and a brace, and what stands behind it.
-fn numbered<'a>(part: &'a str, opening: &str) -> Option<(u32, &'a str)> {
-    let (digits, rest) = part.strip_prefix(opening)?.split_once('}')?;
+// The character of the escape that a text behind a backslash begins with, and the rest of the text.
+fn escape_of(part: &str) -> Option<(char, &str)> {
+    if let Some(rest) = part.strip_prefix('n') {
+        return Some(('\n', rest));
+    }
+    if let Some(rest) = part.strip_prefix('r') {
+        return Some(('\r', rest));
+    }
+    if let Some(rest) = part.strip_prefix('t') {
+        return Some(('\t', rest));
+    }
+    let (digits, rest) = part.strip_prefix("u{")?.split_once('}')?;
     let number = u32::from_str_radix(digits, 16).ok()?;
-    Some((number, rest))
+    Some((char::from_u32(number)?, rest))
 }

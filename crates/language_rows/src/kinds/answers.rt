@@ -287,18 +287,8 @@ fn write_pair(out: &mut String, before: usize, key: &str, value: &Answer) -> Wri
     write!(out, "{key}: {value}")
 }
 
-/// `name`: calls on the text as a name.
-pub fn write_name_calls(alloc: Global, out: &mut String, text: &str, wanted: &str) -> Written {
-    for line in wanted.lines() {
-        let call = call_of(line);
-        write!(out, "{call} -> ")?;
-        name_call(alloc, out, text, call)?;
-        out.push('\n')?;
-    }
-    Ok(())
-}
-
-fn name_call(alloc: Global, out: &mut String, text: &str, call: &str) -> Written {
+/// `name`: a call on the text as a name.
+pub fn answer_name(alloc: Global, out: &mut String, text: &str, call: &str) -> Written {
     match call {
         "is_valid" => write_truth(out, Name::is_valid(text)),
         "new" => match Name::new(alloc, text) {

@@ -1,6 +1,5 @@
 //! Rows of what texts, truth values and values themselves become.
 
-use crate::kinds::call_of;
 use crate::write::Written;
 use juniper::{
     DefaultScalarValue, IntoInputValue, IntoValue, input_value_from_str, value_from_str,
@@ -9,17 +8,7 @@ use std::alloc::{AllocError, Global};
 use std::borrow::CowStr;
 
 /// `into`: the answer value and the input value that something becomes which is made of the text.
-pub fn write_calls(alloc: Global, out: &mut String, text: &str, wanted: &str) -> Written {
-    for line in wanted.lines() {
-        let call = call_of(line);
-        write!(out, "{call} -> ")?;
-        answer_call(alloc, out, text, call)?;
-        out.push('\n')?;
-    }
-    Ok(())
-}
-
-fn answer_call(alloc: Global, out: &mut String, text: &str, call: &str) -> Written {
+pub fn answer(alloc: Global, out: &mut String, text: &str, call: &str) -> Written {
     match call {
         "bool" => write_truths(alloc, out, text == "true"),
         "String" => write_strings(alloc, out, text),

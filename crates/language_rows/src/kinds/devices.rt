@@ -1,9 +1,7 @@
 //! Rows of runs over readers and writers that give or take few bytes a call, or fail.
 
-use crate::kinds::call_of;
-use crate::kinds::reports::end_word;
 use crate::write::Written;
-use gqlcheck_report::{Watched, run};
+use gqlcheck_report::{RunEnd, Watched, run};
 use std::alloc::Global;
 use std::io;
 use std::io::{ErrorKind, Read, Write};
@@ -61,20 +59,12 @@ impl Write for Target {
     }
 }
 
-/// `devices`: a line for each run over the text. Its call says how many bytes a read gives, `read=N`, and a write
-/// takes, `write=N`, and which of them fails, `failed_read=N`, `interrupted_read=N`, `failed_write=N`,
-/// `interrupted_write=N`, `empty_write=N` by taking no byte; 1000 bytes and none where nothing is said. Its answer
-/// says how the run ended, whether the reader or the writer has failed, and how many bytes of the report were written.
-pub fn write_runs(alloc: Global, out: &mut String, text: &str, wanted: &str) -> Written {
-    for line in wanted.lines() {
-        let call = call_of(line);
-        write!(out, "{call} -> ")?;
-        write_run(alloc, out, text.as_bytes(), call)?;
-    }
-    Ok(())
-}
-
-fn write_run(alloc: Global, out: &mut String, bytes: &[u8], call: &str) -> Written {
+/// `devices`: a run over the text. The call says how many bytes a read gives, `read=N`, and a write takes, `write=N`,
+/// and which of them fails, `failed_read=N`, `interrupted_read=N`, `failed_write=N`, `interrupted_write=N`,
+/// `empty_write=N` by taking no byte; 1000 bytes and none where nothing is said. The answer says how the run ended,
+/// whether the reader or the writer has failed, and how many bytes of the report were written.
+pub fn answer(alloc: Global, out: &mut String, text: &str, call: &str) -> Written {
+    let bytes = text.as_bytes();
     let is_interrupted = told(call, "interrupted_read=", 0) > 0;
     let mut reader = Watched::new(Source {
         rest: bytes,
@@ -105,6 +95,17 @@ fn write_run(alloc: Global, out: &mut String, bytes: &[u8], call: &str) -> Writt
     write_beginning(alloc, out, bytes, writer.into_inner().taken.as_slice())
 }
 
+fn end_word(end: RunEnd) -> &'static str {
+    match end {
+        RunEnd::Tree => "Tree",
+        RunEnd::Refused => "Refused",
+        RunEnd::NotUtf8 => "NotUtf8",
+        RunEnd::TooDeep => "TooDeep",
+        RunEnd::Device => "Device",
+        RunEnd::Memory => "Memory",
+    }
+}
+
 // The number of the write that fails.
 fn failing_write(call: &str) -> usize {
     told(call, "failed_write=", 0)
@@ -132,9 +133,9 @@ fn write_beginning(alloc: Global, out: &mut String, bytes: &[u8], written: &[u8]
     let all = report.len();
     let count = written.len();
     if report.starts_with(written) {
-        writeln!(out, ", {count} of {all} bytes")
+        write!(out, ", {count} of {all} bytes")
     } else {
-        writeln!(out, ", no beginning of the report")
+        out.push_str(", no beginning of the report")
     }
 }
 

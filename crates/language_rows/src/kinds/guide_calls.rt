@@ -1,7 +1,7 @@
 //! Rows of the functions of the guide.
 
 use crate::kinds::input_values::{Input, literal, variables_of};
-use crate::kinds::{call_of, word_of};
+use crate::kinds::word_of;
 use crate::write::{
     Written, write_failure, write_optional_text, write_separator, write_span, write_truth,
 };
@@ -19,17 +19,7 @@ type Document<'a> = OwnedDocument<'a, DefaultScalarValue>;
 
 /// `guide`: calls on the text. `is_document_within` takes a limit, `same_literal` another text, `argument_value` the name
 /// of an argument of the first field of the first operation, and the variables as the fields of an object.
-pub fn write_calls(alloc: Global, out: &mut String, text: &str, wanted: &str) -> Written {
-    for line in wanted.lines() {
-        let call = call_of(line);
-        write!(out, "{call} -> ")?;
-        answer_call(alloc, out, text, call)?;
-        out.push('\n')?;
-    }
-    Ok(())
-}
-
-fn answer_call(alloc: Global, out: &mut String, text: &str, call: &str) -> Written {
+pub fn answer(alloc: Global, out: &mut String, text: &str, call: &str) -> Written {
     let (word, rest) = word_of(call);
     match word {
         "is_document" => write_truth(out, is_document(alloc, text)?),

@@ -1,6 +1,6 @@
 //! Rows of input values.
 
-use crate::kinds::{call_of, word_of};
+use crate::kinds::word_of;
 use crate::write::{Written, write_optional_text, write_separator, write_truth};
 use indexmap::IndexMap;
 use juniper::{
@@ -25,18 +25,12 @@ pub(crate) fn literal(alloc: Global, text: &str) -> Result<Option<Input>, AllocE
     }
 }
 
-/// `input_value`: calls on the value literal that the text begins with, `into_const` on a copy.
-pub fn write_calls(alloc: Global, out: &mut String, text: &str, wanted: &str) -> Written {
-    let Some(value) = literal(alloc, text)? else {
-        return out.push_str("no value\n");
-    };
-    for line in wanted.lines() {
-        let call = call_of(line);
-        write!(out, "{call} -> ")?;
-        answer_call(alloc, out, &value, call)?;
-        out.push('\n')?;
+/// `input_value`: a call on the value literal that the text begins with, `into_const` on a copy.
+pub fn answer(alloc: Global, out: &mut String, text: &str, call: &str) -> Written {
+    match literal(alloc, text)? {
+        Some(value) => answer_call(alloc, out, &value, call),
+        None => out.push_str("no value"),
     }
-    Ok(())
 }
 
 fn answer_call(alloc: Global, out: &mut String, value: &Input, call: &str) -> Written {

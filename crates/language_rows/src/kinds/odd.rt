@@ -11,15 +11,15 @@ use juniper_odd::laws::documents_without_scalars;
 use juniper_odd::{OddError, RefuseAll, Thousandths};
 use std::alloc::Global;
 
-/// `odd_scalar`: calls on the scalar that a token is read as, as rows of `scalar` have them.
-pub fn write_calls(alloc: Global, out: &mut String, text: &str, wanted: &str) -> Written {
+/// `odd_scalar`: a call on the scalar that a token is read as, as rows of `scalar` have them.
+pub fn answer(alloc: Global, out: &mut String, text: &str, call: &str) -> Written {
     let (name, token) = word_of(text);
     match name {
-        "RefuseAll" => scalars::write_calls::<RefuseAll>(alloc, out, token, wanted),
-        "Thousandths" => scalars::write_calls::<Thousandths>(alloc, out, token, wanted),
-        "OddError" => scalars::write_calls::<OddError>(alloc, out, token, wanted),
-        "Literal" => scalars::write_calls::<Literal>(alloc, out, token, wanted),
-        _ => out.push_str("no such type\n"),
+        "RefuseAll" => scalars::answer::<RefuseAll>(alloc, out, token, call),
+        "Thousandths" => scalars::answer::<Thousandths>(alloc, out, token, call),
+        "OddError" => scalars::answer::<OddError>(alloc, out, token, call),
+        "Literal" => scalars::answer::<Literal>(alloc, out, token, call),
+        _ => out.push_str("no such type"),
     }
 }
 

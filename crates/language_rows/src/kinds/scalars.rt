@@ -1,7 +1,7 @@
 //! Rows of scalars.
 
 use crate::kinds::input_values::converted;
-use crate::kinds::{call_of, word_of};
+use crate::kinds::word_of;
 use crate::write::{Written, write_error, write_optional_text, write_truth};
 use juniper::{
     DefaultScalarValue, InputValue, ParseError, ParseScalarResult, ParseScalarValue, ReadFailure,
@@ -9,31 +9,10 @@ use juniper::{
 };
 use std::alloc::{AllocError, Global};
 
-/// `scalar`: calls on the scalar that a token is read as. The row's text is the token's kind, a space and its text.
-pub fn write_calls<S: ScalarValue>(
-    alloc: Global,
-    out: &mut String,
-    text: &str,
-    wanted: &str,
-) -> Written {
+/// `scalar`: a call on the scalar that a token is read as. The row's text is the token's kind, a space and its text.
+pub fn answer<S: ScalarValue>(alloc: Global, out: &mut String, text: &str, call: &str) -> Written {
     let scalar: ParseScalarResult<S> = read(alloc, text);
-    for line in wanted.lines() {
-        let call = call_of(line);
-        write!(out, "{call} -> ")?;
-        answer_read(alloc, out, &scalar, call)?;
-        out.push('\n')?;
-    }
-    Ok(())
-}
-
-// A call on what a token is read as.
-fn answer_read<S: ScalarValue>(
-    alloc: Global,
-    out: &mut String,
-    scalar: &ParseScalarResult<S>,
-    call: &str,
-) -> Written {
-    match scalar {
+    match &scalar {
         Ok(scalar) => answer_call(alloc, out, scalar, call),
         Err(ReadFailure::Refused(error)) => write_refused(out, error, call),
         Err(ReadFailure::Memory) => Err(AllocError),

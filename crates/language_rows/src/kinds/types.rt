@@ -1,21 +1,9 @@
 //! Rows of type literals that are made by their calls.
 
-use crate::kinds::{call_of, word_of};
+use crate::kinds::word_of;
 use crate::write::{Written, write_optional_text};
 use juniper::{Type, TypeModifier};
 use std::alloc::{AllocError, Global};
-
-/// `type_literal`: calls on the type that the row's words make: a name, then from the innermost on `non_null`, `list`
-/// or `list=N` of a size.
-pub fn write_calls(alloc: Global, out: &mut String, text: &str, wanted: &str) -> Written {
-    for line in wanted.lines() {
-        let call = call_of(line);
-        write!(out, "{call} -> ")?;
-        answer_call(alloc, out, &made(alloc, text)?, call)?;
-        out.push('\n')?;
-    }
-    Ok(())
-}
 
 fn made(alloc: Global, text: &str) -> Result<Type<String>, AllocError> {
     let (name, modifiers) = word_of(text);
@@ -31,7 +19,10 @@ fn made(alloc: Global, text: &str) -> Result<Type<String>, AllocError> {
     Ok(literal)
 }
 
-fn answer_call(alloc: Global, out: &mut String, literal: &Type<String>, call: &str) -> Written {
+/// `type_literal`: a call on the type that the row's words make: a name, then from the innermost on `non_null`, `list`
+/// or `list=N` of a size.
+pub fn answer(alloc: Global, out: &mut String, text: &str, call: &str) -> Written {
+    let literal = made(alloc, text)?;
     let (word, rest) = word_of(call);
     match word {
         "display" => write!(out, "{literal}"),
@@ -51,7 +42,7 @@ fn answer_call(alloc: Global, out: &mut String, literal: &Type<String>, call: &s
             write!(out, "{is_non_null}")
         }
         "==" => {
-            let is_equal = *literal == made(alloc, rest)?;
+            let is_equal = literal == made(alloc, rest)?;
             write!(out, "{is_equal}")
         }
         _ => out.push_str("no such call"),

@@ -1,0 +1,242 @@
+"""Tries the rows of tests/rows on the program gqlcheck.
+
+    gqlcheck TEXT     what a run over the text writes, and the word of its end
+    built WORD N      the same of a large text: how long it is, how the run ends and how many lines there are with that
+                      word, the first and the last. `deep` is a field in a field, N deep; `wide` a query of N fields; `mixed` N
+                      operations with all parts
+    completed TEXT    the text is refused; behind what stands before its fault and a space each line of the answer puts a
+                      further text, and says how many tokens stand before the fault, whether a run over the whole ends in a
+                      tree, and whether these tokens are the same in it, places included
+
+A completion is looked for, too, of each text of kind `gqlcheck` that is refused and can be cut into tokens. Whether it can
+be cut, and which tokens go on, the library for C says; that what is found is a document, a run of gqlcheck. Tokens are
+cut here by the specification's grammar, written as one pattern.
+
+    row_tests.py PROGRAM     the last line is 'N passed, M failed'
+"""
+
+import ctypes
+import os
+import re
+import subprocess
+import sys
+from concurrent.futures import ThreadPoolExecutor
+from pathlib import Path
+from typing import List, NamedTuple, Optional, Tuple
+
+from rows import Row, plain, rows
+
+ROOT = Path(__file__).resolve().parent.parent
+LIBRARY = ROOT / "out/libjuniper.so"
+
+# How many rows of each kind there are, and how many refused texts that can be cut: a row more is counted up.
+COMPLETION = "completion of a refused text"
+COUNTS = {"gqlcheck": 2127, "built": 4, "completed": 8, COMPLETION: 462}
+
+# The word of a run's end, by the program's exit status.
+ENDS = ("Tree", "Refused", "NotUtf8", "Device", "Memory", "TooDeep")
+SECONDS = 20
+
+# Ignored tokens, and the one group of all others. It is asked of texts that can be cut alone.
+PIECE = re.compile(
+    r'[\ufeff\t\n\r ,]+|#[^\n\r]*|("""(?:\\"""|(?!\\?""").)*"""|"(?:\\.|[^"\\\n\r])*"|\.\.\.|[A-Za-z_][A-Za-z0-9_]*'
+    r"|-?(?:0|[1-9][0-9]*)(?:\.[0-9]+)?(?:[eE][+-]?[0-9]+)?|[!$()\[\]{}:=@|])",
+    re.DOTALL,
+)
+
+# What may go on, in the order in which it is tried: first what closes.
+NEXT = ("}", ")", "]", ":", "null", "on", "T", "a", "$", "{")
+
+MIXED = """query Q($v: [T!] = [1, {k: "é"}] @d) @e(x: $v) {
+  b: a(x: [null, E, -1], y: {k: true}) @f { ...F }
+  ... on T { c }
+}
+"""
+BUILT = {
+    "deep": lambda n: "{a" * n + "}" * n,
+    "wide": lambda n: "{\n" + "someField\n" * n + "}",
+    "mixed": lambda n: MIXED * n,
+}
+
+
+class Run(NamedTuple):
+    """What a run writes, and the word of its end, with what stands on standard error."""
+
+    written: str
+    end: str
+
+    def told(self) -> str:
+        return f"{self.written}{self.end}\n"
+
+
+class Refusal(NamedTuple):
+    """Where a text that can be cut is refused: of each token before where it begins and its text, and the text up to their end."""
+
+    tokens: List[Tuple[int, str]]
+    front: str
+
+
+def run(program: str, source: bytes) -> Run:
+    try:
+        ran = subprocess.run([program], input=source, stdout=subprocess.PIPE, stderr=subprocess.PIPE, timeout=SECONDS)
+    except subprocess.TimeoutExpired:
+        return Run("", f"no end within {SECONDS} seconds")
+    end = ENDS[ran.returncode] if 0 <= ran.returncode < len(ENDS) else f"status {ran.returncode}"
+    written, errors = (it.decode("utf-8", "backslashreplace") for it in (ran.stdout, ran.stderr))
+    return Run(written, end + errors)
+
+
+def cut(text: str) -> List[Tuple[int, str]]:
+    """Where each token of a text begins, and its text, up to what is none."""
+    tokens, at = [], 0
+    while at < len(text):
+        piece = PIECE.match(text, at)
+        if piece is None:
+            break
+        if piece[1] is not None:
+            tokens.append((at, piece[1]))
+        at = piece.end()
+    return tokens
+
+
+def refusal_of(text: str, told: str) -> Optional[Refusal]:
+    """Where a run tells that a text is refused; None where that is neither at a token nor at the end."""
+    place = re.search(r"\. At (\d+):(\d+)\nRefused\n$", told)
+    if place is None:
+        return None
+    line, column = int(place[1]), int(place[2])
+    fault = sum(len(before) + 1 for before in text.split("\n")[:line]) + column
+    tokens = cut(text)
+    if fault not in [len(text), *(begin for begin, _ in tokens)]:
+        return None
+    tokens = [token for token in tokens if token[0] < fault]
+    end = tokens[-1][0] + len(tokens[-1][1]) if tokens else 0
+    return Refusal(tokens, text[:end])
+
+
+def answer_of_built(program: str, text: str) -> str:
+    word, _, number = text.partition(" ")
+    source = BUILT[word](int(number)).encode()
+    told = run(program, source).told().split("\n")[:-1]
+    return "\n".join([f"{len(source)} bytes", f"{told[-1]}, {len(told)} lines", *told[:1], *told[-2:-1], ""])
+
+
+def answer_of_completed(program: str, text: str, wanted: List[str]) -> str:
+    refusal = refusal_of(text, run(program, text.encode()).told())
+    if refusal is None:
+        return "not refused, or it cannot be cut\n"
+    return "".join(completed(program, refusal, line.partition(" -> ")[0]) + "\n" for line in wanted)
+
+
+def completed(program: str, refusal: Refusal, further: str) -> str:
+    """What an answer says of a further text. The parts of the tree begin and end where tokens do."""
+    number = len(refusal.tokens)
+    whole = f"{refusal.front} {further}"
+    ran = run(program, whole.encode())
+    tokens = cut(whole)
+    spans = re.findall(r"^\w+ (\d+) (\d+)", ran.written, re.M)
+    begins, ends = {begin for begin, _ in tokens}, {begin + len(text) for begin, text in tokens}
+    is_on_tokens = all(int(begin) in begins and int(end) in ends for begin, end in spans)
+    is_same = tokens[:number] == refusal.tokens and is_on_tokens
+    return f"{further} -> {number} tokens, tree {str(ran.end == 'Tree').lower()}, same tokens {str(is_same).lower()}"
+
+
+class Library:
+    """The library for C, asked what becomes of a text."""
+
+    TREE, REFUSED, ROOM = 0, 1, 6
+    # Why a text is refused: at its end, or since it can't be cut.
+    END, LEXICAL = 1, 2
+    DEPTH = 1000
+
+    def __init__(self) -> None:
+        self.parse = ctypes.CDLL(str(LIBRARY)).juniper_parse
+        room = [ctypes.c_void_p, ctypes.c_size_t, ctypes.POINTER(ctypes.c_size_t)]
+        self.parse.argtypes = [ctypes.c_char_p, ctypes.c_size_t, ctypes.c_uint32, *room, *room, ctypes.c_void_p]
+        self.parse.restype = ctypes.c_uint32
+
+    def outcome(self, text: str) -> str:
+        """Whether a text is a document, begins one, can't be cut, or none of these: it is refused before its end."""
+        source, needed, fault = text.encode(), ctypes.c_size_t(), (ctypes.c_uint32 * 11)()
+        room = [None, 0, ctypes.byref(needed)]
+        status = self.parse(source, len(source), self.DEPTH, *room, *room, fault)
+        if status in (self.TREE, self.ROOM):
+            return "document"
+        if status != self.REFUSED:
+            return f"status {status}"
+        return {self.END: "begun", self.LEXICAL: "no cut"}.get(fault[0], "refused")
+
+
+def completion_of(library: Library, front: str) -> Optional[str]:
+    """A further text, by which a front and a space are a document: token by token the first with which some document goes on."""
+    further = ""
+    for _ in range(len(front) + 100):
+        outcome = library.outcome(f"{front} {further}")
+        if outcome == "document":
+            return further
+        longer = (f"{further}{word} " for word in NEXT if outcome == "begun")
+        further = next((it for it in longer if library.outcome(f"{front} {it}") in ("document", "begun")), None)
+        if further is None:
+            return None
+    return None
+
+
+def fault_of_completion(program: str, library: Library, text: str, told: str) -> Optional[str]:
+    """What is wrong with the completion of a refused text; None where nothing is."""
+    refusal = refusal_of(text, told)
+    if refusal is None:
+        return "the fault is neither at a token nor at the end"
+    further = completion_of(library, refusal.front)
+    if further is None:
+        return "no completion is found"
+    said = completed(program, refusal, further)
+    return None if said.endswith("tree true, same tokens true") else said
+
+
+def try_row(program: str, library: Optional[Library], name: str, row: Row) -> List[Tuple[str, Optional[str]]]:
+    """Of each thing that a row shows its kind, and what is wrong with it."""
+    wanted = [plain(line).decode() for line in row.wanted]
+    if row.kind == "gqlcheck":
+        found = run(program, row.text).told()
+    elif row.kind == "built":
+        found = answer_of_built(program, row.text.decode())
+    elif row.kind == "completed":
+        found = answer_of_completed(program, row.text.decode(), wanted)
+    else:
+        found = "no such kind\n"
+    where = f"{name}:{row.number}"
+    holds = found == "".join(line + "\n" for line in wanted)
+    shown = [(row.kind, None if holds else f"{where}: {row.kind} is answered by\n{found}")]
+    if library and row.kind == "gqlcheck" and found.endswith("\nRefused\n"):
+        text = row.text.decode()
+        if library.outcome(text) != "no cut":
+            fault = fault_of_completion(program, library, text, found)
+            shown.append((COMPLETION, fault and f"{where}: {fault}"))
+    return shown
+
+
+def main() -> int:
+    program = sys.argv[1]
+    library = Library() if LIBRARY.exists() else None
+    if library is None:
+        print(f"row_tests: skipped: completions of refused texts, since {LIBRARY.relative_to(ROOT)} is not built")
+    work = [(path.name, row) for path in sorted((ROOT / "tests/rows").glob("*.rows")) for row in rows(path.name)]
+    held, tried = dict.fromkeys(COUNTS, 0), dict.fromkeys(COUNTS, 0)
+    with ThreadPoolExecutor(os.cpu_count()) as pool:
+        for shown in pool.map(lambda it: try_row(program, library, *it), work):
+            for kind, wrong in shown:
+                tried[kind] = tried.get(kind, 0) + 1
+                held[kind] = held.get(kind, 0) + (wrong is None)
+                if wrong:
+                    print(f"FAILED {wrong}")
+    failed = sum(tried.values()) - sum(held.values())
+    for kind, number in tried.items():
+        print(f"{kind}: {held[kind]} of {number} hold")
+        if number != COUNTS.get(kind) and (library or kind != COMPLETION):
+            failed += 1
+            print(f"FAILED {kind}: there are {number}, not {COUNTS.get(kind, 0)}")
+    print(f"{sum(held.values())} passed, {failed} failed")
+    return 1 if failed else 0
+
+
+sys.exit(main())

@@ -1,0 +1,57 @@
+"""The rows of the language, as they are written in files.
+
+A row is a line of a kind's word, a space and a text, and below it the lines of its answer, each behind two spaces. Lines that
+are empty or begin with `#` say nothing. In texts and answers `\\n`, `\\r`, `\\t` and `\\\\` stand for a line feed, a carriage
+return, a tab and a backslash, `\\u{F}` for the character of that number in hexadecimal digits, and `\\x{F}` for the byte. A
+backslash before anything else stands for itself. The program language_rows reads the same, but for `\\x{F}`.
+"""
+
+import os
+import re
+from typing import Iterator, List, NamedTuple
+
+ROOT = os.path.join(os.path.dirname(os.path.abspath(__file__)), "..")
+FOLDERS = (os.path.join(ROOT, "tests", "rows"), os.path.join(ROOT, "crates", "language_rows", "data"))
+ESCAPE = re.compile(rb"\\(n|r|t|\\|u\{[0-9A-Fa-f]+\}|x\{[0-9A-Fa-f]+\})")
+
+
+class Row(NamedTuple):
+    """A number of a line, a kind's word, a text, and the lines that are wanted, as they are written."""
+
+    number: int
+    kind: str
+    text: bytes
+    wanted: List[str]
+
+
+def plain(written: str) -> bytes:
+    """A written text, its escapes replaced."""
+
+    def replaced(match: "re.Match[bytes]") -> bytes:
+        word = match[1].decode()
+        if word[0] == "u":
+            return chr(int(word[2:-1], 16)).encode()
+        if word[0] == "x":
+            return bytes([int(word[2:-1], 16)])
+        return {"n": b"\n", "r": b"\r", "t": b"\t", "\\": b"\\"}[word]
+
+    return ESCAPE.sub(replaced, written.encode())
+
+
+def rows(name: str) -> Iterator[Row]:
+    """The rows of the file of this name, in their order."""
+    path = next(path for path in (os.path.join(folder, name) for folder in FOLDERS) if os.path.exists(path))
+    row = None
+    with open(path, encoding="utf-8", newline="\n") as file:
+        for number, line in enumerate(file, 1):
+            line = line.rstrip("\n")
+            if line.startswith("  "):
+                if row is not None:
+                    row.wanted.append(line[2:])
+            elif line and not line.startswith("#"):
+                if row is not None:
+                    yield row
+                kind, _, text = line.partition(" ")
+                row = Row(number, kind, plain(text), [])
+    if row is not None:
+        yield row
