@@ -27,7 +27,7 @@ from typing import List, NamedTuple, Optional, Tuple
 from rows import Row, plain, rows
 
 ROOT = Path(__file__).resolve().parent.parent
-LIBRARY = ROOT / "out/libjuniper.so"
+LIBRARY = ROOT / "out/libfirthnapkin.so.0"
 
 # How many rows of each kind there are, and how many refused texts that can be cut: a row more is counted up.
 COMPLETION = "completion of a refused text"
@@ -150,7 +150,7 @@ class Library:
     DEPTH = 1000
 
     def __init__(self) -> None:
-        self.parse = ctypes.CDLL(str(LIBRARY)).juniper_parse
+        self.parse = ctypes.CDLL(str(LIBRARY)).firthnapkin_parse
         room = [ctypes.c_void_p, ctypes.c_size_t, ctypes.POINTER(ctypes.c_size_t)]
         self.parse.argtypes = [ctypes.c_char_p, ctypes.c_size_t, ctypes.c_uint32, *room, *room, ctypes.c_void_p]
         self.parse.restype = ctypes.c_uint32

@@ -1,9 +1,14 @@
+#!/usr/bin/env python3
 """The rows of the language, as they are written in files.
 
 A row is a line of a kind's word, a space and a text, and below it the lines of its answer, each behind two spaces. Lines that
 are empty or begin with `#` say nothing. In texts and answers `\\n`, `\\r`, `\\t` and `\\\\` stand for a line feed, a carriage
 return, a tab and a backslash, `\\u{F}` for the character of that number in hexadecimal digits, and `\\x{F}` for the byte. A
 backslash before anything else stands for itself. The program language_rows reads the same, but for `\\x{F}`.
+
+    tests/rows.py    writes a line for each row of gqlcheck that every scalar type answers alike: its text, and the lines that
+                     are wanted, each as hexadecimal digits of its bytes. `-` stands for no bytes. Of a text that is no
+                     UTF-8 the wanted line is 'Not UTF-8'
 """
 
 import os
@@ -55,3 +60,26 @@ def rows(name: str) -> Iterator[Row]:
                 row = Row(number, kind, plain(text), [])
     if row is not None:
         yield row
+
+
+def is_other_scalar(wanted: List[str]) -> bool:
+    """Whether a refusal is one of gqlcheck's scalar type, which reads no Float and no Int beyond 32 bits."""
+    told = wanted[0] if wanted else ""
+    return told.startswith("There needs to be") or re.match(r'Unexpected "-?[0-9]{10,}"\. At ', told) is not None
+
+
+def gqlcheck(name: str) -> Iterator[Row]:
+    """The rows of a file that say what gqlcheck writes, of a tree or of a fault."""
+    for row in rows(name):
+        if row.kind == "gqlcheck" and not is_other_scalar(row.wanted):
+            yield row._replace(wanted=[plain(line).decode() for line in row.wanted[:-1]])
+
+
+def main() -> None:
+    for name in ("gqlcheck.rows", "peer.rows"):
+        for row in gqlcheck(name):
+            print(row.text.hex() or "-", "\n".join(row.wanted).encode().hex() or "-")
+
+
+if __name__ == "__main__":
+    main()

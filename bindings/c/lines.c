@@ -1,10 +1,12 @@
 /* Writes the nodes of standard input: how deep each stands, its number of kind, its name.
  *
- *     cc -Iinclude -o lines bindings/c/lines.c out/libjuniper.a
+ *     cc lines.c $(pkg-config --cflags --libs firthnapkin) -o lines
  */
-#include "juniper.h"
+#include <firthnapkin.h>
 #include <stdio.h>
 #include <stdlib.h>
+
+enum { DEPTH = 200 };
 
 static uint8_t *all(FILE *file, size_t *length) {
     size_t room = 1 << 16;
@@ -13,37 +15,52 @@ static uint8_t *all(FILE *file, size_t *length) {
     while (bytes != NULL) {
         *length += fread(bytes + *length, 1, room - *length, file);
         if (*length < room) return bytes;
-        bytes = realloc(bytes, room *= 2);
+        uint8_t *more = realloc(bytes, room *= 2);
+        if (more == NULL) free(bytes);
+        bytes = more;
     }
     return NULL;
 }
 
 /* Writes a node, and those of the parts in it. */
-static size_t write_node(const uint8_t *source, const juniper_node *nodes, size_t i, int depth) {
-    juniper_node n = nodes[i];
+static size_t write_node(const uint8_t *source, const firthnapkin_node *nodes, size_t i, int depth) {
+    firthnapkin_node n = nodes[i];
     size_t end = i + 1 + n.descendants;
-    printf("%*s%u %.*s\n", 2 * depth, "", n.kind, (int)(n.name_end - n.name_start), (const char *)source + n.name_start);
+    const char *name = (const char *)source + n.name_start;
+    printf("%*s%u %.*s\n", 2 * depth, "", (unsigned)n.kind, (int)(n.name_end - n.name_start), name);
     for (i++; i < end;) i = write_node(source, nodes, i, depth + 1);
     return end;
+}
+
+/* Writes why a source is no document: the first call asks how many bytes that is. */
+static uint32_t write_fault(const uint8_t *source, size_t length) {
+    size_t needed;
+    uint32_t status = firthnapkin_message(source, length, DEPTH, NULL, 0, &needed);
+    if (status != FIRTHNAPKIN_ROOM) return status;
+    uint8_t *words = malloc(needed);
+    if (words == NULL) return FIRTHNAPKIN_MEMORY;
+    status = firthnapkin_message(source, length, DEPTH, words, needed, &needed);
+    fwrite(words, 1, needed, stdout);
+    putchar('\n');
+    free(words);
+    return status;
 }
 
 int main(void) {
     size_t length, nodes_needed, texts_needed;
     uint8_t *source = all(stdin, &length);
+    if (source == NULL) return FIRTHNAPKIN_MEMORY;
     /* Rooms as long as the source are never too short. */
-    juniper_node *nodes = malloc((length + 1) * sizeof *nodes);
+    firthnapkin_node *nodes = malloc((length + 1) * sizeof *nodes);
     uint8_t *texts = malloc(length + 1);
-    juniper_fault fault;
-    if (source == NULL || nodes == NULL || texts == NULL) return JUNIPER_MEMORY;
-    uint32_t status = juniper_parse(source, length, 200, nodes, length, &nodes_needed, texts, length, &texts_needed, &fault);
-    if (status == JUNIPER_TREE) {
+    uint32_t status = FIRTHNAPKIN_MEMORY;
+    firthnapkin_fault fault;
+    if (nodes != NULL && texts != NULL)
+        status = firthnapkin_parse(source, length, DEPTH, nodes, length, &nodes_needed, texts, length, &texts_needed,
+                                   &fault);
+    if (status == FIRTHNAPKIN_TREE)
         for (size_t i = 0; i < nodes_needed;) i = write_node(source, nodes, i, 0);
-    } else {
-        uint8_t words[256];
-        size_t needed;
-        juniper_message(source, length, 200, words, sizeof words, &needed);
-        if (needed <= sizeof words) printf("%.*s\n", (int)needed, (const char *)words);
-    }
+    if (status == FIRTHNAPKIN_REFUSED || status == FIRTHNAPKIN_TOO_DEEP) status = write_fault(source, length);
     free(source);
     free(nodes);
     free(texts);

@@ -1,3 +1,3 @@
-module juniper
+module firthnapkin
 
 go 1.19

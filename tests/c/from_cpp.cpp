@@ -1,5 +1,5 @@
 // The three calls, from C++: linked by the names that the header declares.
-#include "../../include/juniper.h"
+#include "../../include/firthnapkin.h"
 #include <cstdio>
 #include <string>
 #include <vector>
@@ -21,26 +21,26 @@ static const std::uint8_t *bytes(const std::string &text) {
 
 int main() {
     const std::string source = "query Q { a(b: -7) }";
-    std::vector<juniper_node> nodes(source.size());
+    std::vector<firthnapkin_node> nodes(source.size());
     std::vector<std::uint8_t> texts(source.size());
     std::size_t nodes_needed = 0, texts_needed = 0;
-    juniper_fault fault;
-    std::uint32_t status = juniper_parse(bytes(source), source.size(), 200, nodes.data(), nodes.size(), &nodes_needed,
+    firthnapkin_fault fault;
+    std::uint32_t status = firthnapkin_parse(bytes(source), source.size(), 200, nodes.data(), nodes.size(), &nodes_needed,
                                          texts.data(), texts.size(), &texts_needed, &fault);
-    check(status == JUNIPER_TREE && nodes_needed == 5 && texts_needed == 0, "a document's nodes");
-    check(nodes[0].kind == JUNIPER_QUERY && nodes[0].descendants == 4, "the first node");
-    check(nodes[4].kind == JUNIPER_INT && nodes[4].value == -7 && nodes[4].start.byte == 15, "the last node");
+    check(status == FIRTHNAPKIN_TREE && nodes_needed == 5 && texts_needed == 0, "a document's nodes");
+    check(nodes[0].kind == FIRTHNAPKIN_QUERY && nodes[0].descendants == 4, "the first node");
+    check(nodes[4].kind == FIRTHNAPKIN_INT && nodes[4].value == -7 && nodes[4].start.byte == 15, "the last node");
 
     const std::string other = "{ a ) }";
-    status = juniper_parse(bytes(other), other.size(), 200, nodes.data(), nodes.size(), &nodes_needed, texts.data(),
+    status = firthnapkin_parse(bytes(other), other.size(), 200, nodes.data(), nodes.size(), &nodes_needed, texts.data(),
                            texts.size(), &texts_needed, &fault);
-    check(status == JUNIPER_REFUSED && fault.kind == JUNIPER_UNEXPECTED_TOKEN && fault.start.column == 4, "a fault");
+    check(status == FIRTHNAPKIN_REFUSED && fault.kind == FIRTHNAPKIN_UNEXPECTED_TOKEN && fault.start.column == 4, "a fault");
     std::size_t needed = 0;
     std::vector<std::uint8_t> room(64);
-    status = juniper_message(bytes(other), other.size(), 200, room.data(), room.size(), &needed);
-    check(status == JUNIPER_REFUSED && std::string(room.begin(), room.begin() + needed) == "Unexpected \")\". At 0:4",
+    status = firthnapkin_message(bytes(other), other.size(), 200, room.data(), room.size(), &needed);
+    check(status == FIRTHNAPKIN_REFUSED && std::string(room.begin(), room.begin() + needed) == "Unexpected \")\". At 0:4",
           "a fault's words");
-    check(juniper_version() == JUNIPER_VERSION, "the number of the interface");
+    check(firthnapkin_version() == FIRTHNAPKIN_VERSION, "the number of the interface");
     std::printf("%ld passed, %ld failed\n", passed, failed);
     return failed != 0;
 }

@@ -1,6 +1,6 @@
 /* One call on the text of standard input: growth parse, or growth message. Without a word it makes none. The first line that
  * is written tells that the call comes now, the second what it answers. */
-#include "../../include/juniper.h"
+#include "../../include/firthnapkin.h"
 #include <stdio.h>
 #include <stdlib.h>
 #include <string.h>
@@ -23,15 +23,15 @@ static uint8_t *input(size_t *length) {
 int main(int argc, char **argv) {
     size_t length, nodes_needed, texts_needed;
     uint8_t *source = input(&length);
-    juniper_fault fault;
+    firthnapkin_fault fault;
     /* Memory that nothing is written to costs nothing. */
     uint8_t *texts = malloc(length + 1);
-    juniper_node *nodes = malloc((length + 1) * sizeof *nodes);
+    firthnapkin_node *nodes = malloc((length + 1) * sizeof *nodes);
     if (texts == NULL || nodes == NULL || argc < 2) return 0;
     if (write(STDOUT_FILENO, "calling\n", 8) != 8) return 1;
     uint32_t status = strcmp(argv[1], "parse") == 0
-        ? juniper_parse(source, length, 200, nodes, length, &nodes_needed, texts, length, &texts_needed, &fault)
-        : juniper_message(source, length, 200, texts, length, &texts_needed);
+        ? firthnapkin_parse(source, length, 200, nodes, length, &nodes_needed, texts, length, &texts_needed, &fault)
+        : firthnapkin_message(source, length, 200, texts, length, &texts_needed);
     printf("%u\n", (unsigned)status);
     return 0;
 }

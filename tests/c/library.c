@@ -1,6 +1,6 @@
 /* What the library writes, and where: rooms of every size, no source, threads, a large text, every status. */
 #define _GNU_SOURCE
-#include "../../include/juniper.h"
+#include "../../include/firthnapkin.h"
 #include "checks.h"
 #include <pthread.h>
 #include <stdlib.h>
@@ -31,9 +31,9 @@ static int are_canaries(const uint8_t *room, size_t length) {
 }
 
 /* What stands behind a node's last field says nothing. */
-static int same_nodes(const juniper_node *a, const juniper_node *b, size_t count) {
+static int same_nodes(const firthnapkin_node *a, const firthnapkin_node *b, size_t count) {
     for (size_t i = 0; i < count; i++)
-        if (memcmp(&a[i], &b[i], offsetof(juniper_node, value_length) + sizeof a[i].value_length)) return 0;
+        if (memcmp(&a[i], &b[i], offsetof(firthnapkin_node, value_length) + sizeof a[i].value_length)) return 0;
     return 1;
 }
 
@@ -41,17 +41,17 @@ static int same_nodes(const juniper_node *a, const juniper_node *b, size_t count
 typedef struct {
     uint32_t status;
     size_t nodes_room, texts_room, nodes_needed, texts_needed;
-    juniper_node *nodes;
+    firthnapkin_node *nodes;
     uint8_t *texts;
-    juniper_fault fault;
+    firthnapkin_fault fault;
 } run;
 
 static run parsed(const char *source, size_t length, uint32_t depth, size_t nodes_room, size_t texts_room) {
     run r = {.nodes_room = nodes_room, .texts_room = texts_room, .nodes_needed = 1, .texts_needed = 1};
-    r.nodes = (juniper_node *)canaries(nodes_room * sizeof *r.nodes + BEYOND);
+    r.nodes = (firthnapkin_node *)canaries(nodes_room * sizeof *r.nodes + BEYOND);
     r.texts = canaries(texts_room + BEYOND);
     memset(&r.fault, CANARY, sizeof r.fault);
-    r.status = juniper_parse((const uint8_t *)source, length, depth, r.nodes, nodes_room, &r.nodes_needed, r.texts,
+    r.status = firthnapkin_parse((const uint8_t *)source, length, depth, r.nodes, nodes_room, &r.nodes_needed, r.texts,
                              texts_room, &r.texts_needed, &r.fault);
     return r;
 }
@@ -63,7 +63,7 @@ static void give_back(run r) {
 
 /* Nothing is written behind the room, nor behind what is needed, and nothing at all where there is no tree. */
 static int is_kept(run r) {
-    size_t nodes = r.status == JUNIPER_TREE ? r.nodes_needed : 0, texts = r.status == JUNIPER_TREE ? r.texts_needed : 0;
+    size_t nodes = r.status == FIRTHNAPKIN_TREE ? r.nodes_needed : 0, texts = r.status == FIRTHNAPKIN_TREE ? r.texts_needed : 0;
     return are_canaries((uint8_t *)(r.nodes + nodes), (r.nodes_room - nodes) * sizeof *r.nodes + BEYOND)
         && are_canaries(r.texts + texts, r.texts_room - texts + BEYOND);
 }
@@ -75,16 +75,16 @@ static int is_fault_kept(run r) {
 static void every_room(const char *source) {
     size_t length = strlen(source);
     run whole = parsed(source, length, DEPTH, length, length);
-    check(whole.status == JUNIPER_TREE && is_kept(whole) && is_fault_kept(whole), "ample rooms for %s", source);
+    check(whole.status == FIRTHNAPKIN_TREE && is_kept(whole) && is_fault_kept(whole), "ample rooms for %s", source);
     check(whole.nodes_needed <= length && whole.texts_needed <= length, "one call suffices for %s", source);
     for (size_t nodes = 0; nodes <= whole.nodes_needed; nodes++) {
         for (size_t texts = 0; texts <= whole.texts_needed; texts++) {
             int fits = nodes == whole.nodes_needed && texts == whole.texts_needed;
             run r = parsed(source, length, DEPTH, nodes, texts);
-            check(r.status == (fits ? JUNIPER_TREE : JUNIPER_ROOM) && r.nodes_needed == whole.nodes_needed
+            check(r.status == (fits ? FIRTHNAPKIN_TREE : FIRTHNAPKIN_ROOM) && r.nodes_needed == whole.nodes_needed
                       && r.texts_needed == whole.texts_needed && is_kept(r) && is_fault_kept(r),
                   "room for %zu nodes and %zu bytes, for %s", nodes, texts, source);
-            if (r.status == JUNIPER_TREE)
+            if (r.status == FIRTHNAPKIN_TREE)
                 check(same_nodes(r.nodes, whole.nodes, nodes) && !memcmp(r.texts, whole.texts, texts),
                       "the same in exact rooms, for %s", source);
             give_back(r);
@@ -97,9 +97,9 @@ static void every_message_room(const char *source, uint32_t depth, uint32_t stat
     size_t length = strlen(source), needed = 0;
     for (size_t room = 0; room <= strlen(wanted) + 1; room++) {
         uint8_t *words = canaries(room + BEYOND);
-        uint32_t found = juniper_message((const uint8_t *)source, length, depth, words, room, &needed);
+        uint32_t found = firthnapkin_message((const uint8_t *)source, length, depth, words, room, &needed);
         int fits = room >= strlen(wanted);
-        check(found == (fits ? status : JUNIPER_ROOM) && needed == strlen(wanted)
+        check(found == (fits ? status : FIRTHNAPKIN_ROOM) && needed == strlen(wanted)
                   && (!fits || !memcmp(words, wanted, needed))
                   && are_canaries(words + (fits ? needed : 0), room - (fits ? needed : 0) + BEYOND),
               "a message room of %zu bytes for %s", room, source);
@@ -121,53 +121,53 @@ static void refused(const char *source, uint32_t depth, uint32_t status, uint32_
 }
 
 static void statuses(void) {
-    refused("{ a ) }", DEPTH, JUNIPER_REFUSED, JUNIPER_UNEXPECTED_TOKEN, 0, 0, 0, 4, 4, "Unexpected \")\". At 0:4");
-    refused("#\xc3\xa9\n{ a", DEPTH, JUNIPER_REFUSED, JUNIPER_UNEXPECTED_END, 0, 0, 1, 3, 7,
+    refused("{ a ) }", DEPTH, FIRTHNAPKIN_REFUSED, FIRTHNAPKIN_UNEXPECTED_TOKEN, 0, 0, 0, 4, 4, "Unexpected \")\". At 0:4");
+    refused("#\xc3\xa9\n{ a", DEPTH, FIRTHNAPKIN_REFUSED, FIRTHNAPKIN_UNEXPECTED_END, 0, 0, 1, 3, 7,
             "Unexpected end of input. At 1:3");
-    refused("{ \xc3\xa9 }", DEPTH, JUNIPER_REFUSED, JUNIPER_LEXICAL, JUNIPER_UNKNOWN_CHARACTER, 0xE9, 0, 2, 2,
+    refused("{ \xc3\xa9 }", DEPTH, FIRTHNAPKIN_REFUSED, FIRTHNAPKIN_LEXICAL, FIRTHNAPKIN_UNKNOWN_CHARACTER, 0xE9, 0, 2, 2,
             "Unknown character \"\xc3\xa9\". At 0:2");
-    refused("{ .a }", DEPTH, JUNIPER_REFUSED, JUNIPER_LEXICAL, JUNIPER_UNEXPECTED_CHARACTER, '.', 0, 2, 2,
+    refused("{ .a }", DEPTH, FIRTHNAPKIN_REFUSED, FIRTHNAPKIN_LEXICAL, FIRTHNAPKIN_UNEXPECTED_CHARACTER, '.', 0, 2, 2,
             "Unexpected character \".\". At 0:2");
-    refused("{a(b:\"c", DEPTH, JUNIPER_REFUSED, JUNIPER_LEXICAL, JUNIPER_UNTERMINATED_STRING, 0, 0, 7, 7,
+    refused("{a(b:\"c", DEPTH, FIRTHNAPKIN_REFUSED, FIRTHNAPKIN_LEXICAL, FIRTHNAPKIN_UNTERMINATED_STRING, 0, 0, 7, 7,
             "Unterminated string literal. At 0:7");
-    refused("{a(b:\"\x01\")}", DEPTH, JUNIPER_REFUSED, JUNIPER_LEXICAL, JUNIPER_UNKNOWN_CHARACTER_IN_STRING, 1, 0, 6, 6,
+    refused("{a(b:\"\x01\")}", DEPTH, FIRTHNAPKIN_REFUSED, FIRTHNAPKIN_LEXICAL, FIRTHNAPKIN_UNKNOWN_CHARACTER_IN_STRING, 1, 0, 6, 6,
             "Unknown character \"\x01\" in string literal. At 0:6");
-    refused("{a(b:\"\\q\")}", DEPTH, JUNIPER_REFUSED, JUNIPER_LEXICAL, JUNIPER_UNKNOWN_ESCAPE, 0, 0, 7, 7,
+    refused("{a(b:\"\\q\")}", DEPTH, FIRTHNAPKIN_REFUSED, FIRTHNAPKIN_LEXICAL, FIRTHNAPKIN_UNKNOWN_ESCAPE, 0, 0, 7, 7,
             "Unknown escape sequence \"\\q\" in string. At 0:7");
-    refused("{a{b}}", 1, JUNIPER_TOO_DEEP, JUNIPER_NESTED, 0, 0, 0, 2, 2, "Too deeply nested. At 0:2");
-    refused("{a}", 0, JUNIPER_TOO_DEEP, JUNIPER_NESTED, 0, 0, 0, 0, 0, "Too deeply nested. At 0:0");
+    refused("{a{b}}", 1, FIRTHNAPKIN_TOO_DEEP, FIRTHNAPKIN_NESTED, 0, 0, 0, 2, 2, "Too deeply nested. At 0:2");
+    refused("{a}", 0, FIRTHNAPKIN_TOO_DEEP, FIRTHNAPKIN_NESTED, 0, 0, 0, 0, 0, "Too deeply nested. At 0:0");
 
     size_t needed = 1;
     run r = parsed("\xff{", 2, DEPTH, 3, 3);
-    check(r.status == JUNIPER_NOT_UTF8 && is_kept(r) && is_fault_kept(r) && !r.nodes_needed, "bytes that are no text");
+    check(r.status == FIRTHNAPKIN_NOT_UTF8 && is_kept(r) && is_fault_kept(r) && !r.nodes_needed, "bytes that are no text");
     give_back(r);
-    check(juniper_message((const uint8_t *)"\xff{", 2, DEPTH, NULL, 0, &needed) == JUNIPER_NOT_UTF8 && needed == 0,
+    check(firthnapkin_message((const uint8_t *)"\xff{", 2, DEPTH, NULL, 0, &needed) == FIRTHNAPKIN_NOT_UTF8 && needed == 0,
           "no words for bytes that are no text");
     needed = 1;
-    check(juniper_message((const uint8_t *)"{a}", 3, DEPTH, NULL, 0, &needed) == JUNIPER_TREE && needed == 0,
+    check(firthnapkin_message((const uint8_t *)"{a}", 3, DEPTH, NULL, 0, &needed) == FIRTHNAPKIN_TREE && needed == 0,
           "no words for a document");
-    check(juniper_version() == JUNIPER_VERSION, "the number of the interface");
+    check(firthnapkin_version() == FIRTHNAPKIN_VERSION, "the number of the interface");
 }
 
 /* Where a count is 0 there need be no memory. */
 static void no_memory(void) {
     size_t nodes_needed = 1, texts_needed = 1;
-    juniper_fault fault;
+    firthnapkin_fault fault;
     memset(&fault, CANARY, sizeof fault);
-    check(juniper_parse(NULL, 0, DEPTH, NULL, 0, &nodes_needed, NULL, 0, &texts_needed, &fault) == JUNIPER_REFUSED
-              && fault.kind == JUNIPER_UNEXPECTED_END && fault.start.index == 0 && fault.end.byte == 0 && !nodes_needed
+    check(firthnapkin_parse(NULL, 0, DEPTH, NULL, 0, &nodes_needed, NULL, 0, &texts_needed, &fault) == FIRTHNAPKIN_REFUSED
+              && fault.kind == FIRTHNAPKIN_UNEXPECTED_END && fault.start.index == 0 && fault.end.byte == 0 && !nodes_needed
               && !texts_needed,
           "no source");
-    check(juniper_parse((const uint8_t *)"{a}", 3, DEPTH, NULL, 0, &nodes_needed, NULL, 0, &texts_needed, &fault)
-                  == JUNIPER_ROOM
+    check(firthnapkin_parse((const uint8_t *)"{a}", 3, DEPTH, NULL, 0, &nodes_needed, NULL, 0, &texts_needed, &fault)
+                  == FIRTHNAPKIN_ROOM
               && nodes_needed == 2 && texts_needed == 0,
           "no rooms");
-    juniper_node nodes[2];
-    check(juniper_parse((const uint8_t *)"{a}", 3, DEPTH, nodes, 2, &nodes_needed, NULL, 0, &texts_needed, &fault)
-                  == JUNIPER_TREE
-              && nodes[0].kind == JUNIPER_QUERY && nodes[1].kind == JUNIPER_FIELD,
+    firthnapkin_node nodes[2];
+    check(firthnapkin_parse((const uint8_t *)"{a}", 3, DEPTH, nodes, 2, &nodes_needed, NULL, 0, &texts_needed, &fault)
+                  == FIRTHNAPKIN_TREE
+              && nodes[0].kind == FIRTHNAPKIN_QUERY && nodes[1].kind == FIRTHNAPKIN_FIELD,
           "no room for texts where there are none");
-    check(juniper_message(NULL, 0, DEPTH, NULL, 0, &nodes_needed) == JUNIPER_ROOM && nodes_needed == 31,
+    check(firthnapkin_message(NULL, 0, DEPTH, NULL, 0, &nodes_needed) == FIRTHNAPKIN_ROOM && nodes_needed == 31,
           "no source and no room for words");
 }
 
@@ -176,14 +176,104 @@ static void too_long(void) {
     size_t length = (size_t)1 << 32, needed = 1;
     void *source = mmap(NULL, length, PROT_NONE, MAP_PRIVATE | MAP_ANONYMOUS | MAP_NORESERVE, -1, 0);
     if (source == MAP_FAILED) {
-        printf("library: no address space for 4 GiB, so status %d was not tried\n", JUNIPER_TOO_LONG);
+        printf("library: no address space for 4 GiB, so status %d was not tried\n", FIRTHNAPKIN_TOO_LONG);
         return;
     }
     run r = parsed(source, length, DEPTH, 1, 1);
-    check(r.status == JUNIPER_TOO_LONG && is_kept(r) && is_fault_kept(r) && !r.nodes_needed && !r.texts_needed, "4 GiB");
+    check(r.status == FIRTHNAPKIN_TOO_LONG && is_kept(r) && is_fault_kept(r) && !r.nodes_needed && !r.texts_needed, "4 GiB");
     give_back(r);
-    check(juniper_message(source, length, DEPTH, NULL, 0, &needed) == JUNIPER_TOO_LONG && needed == 0, "4 GiB, in words");
+    check(firthnapkin_message(source, length, DEPTH, NULL, 0, &needed) == FIRTHNAPKIN_TOO_LONG && needed == 0, "4 GiB, in words");
     munmap(source, length);
+}
+
+/* A depth above the largest is refused, and the source not looked at. */
+static void depths(void) {
+    static const uint32_t depth[] = {FIRTHNAPKIN_MOST_DEPTH + 1, (uint32_t)1 << 31, UINT32_MAX};
+    static const char *const sources[] = {"{a}", "{ a ) }", "\xff{", ""};
+    for (size_t i = 0; i < sizeof depth / sizeof *depth; i++) {
+        for (size_t k = 0; k < sizeof sources / sizeof *sources; k++) {
+            size_t needed = 1;
+            run r = parsed(sources[k], strlen(sources[k]), depth[i], 9, 9);
+            check(r.status == FIRTHNAPKIN_DEPTH && is_kept(r) && is_fault_kept(r) && !r.nodes_needed && !r.texts_needed,
+                  "the depth %u for %s: %u", depth[i], sources[k], r.status);
+            give_back(r);
+            uint32_t status = firthnapkin_message((const uint8_t *)sources[k], strlen(sources[k]), depth[i], NULL, 0, &needed);
+            check(status == FIRTHNAPKIN_DEPTH && needed == 0, "no words at the depth %u for %s", depth[i], sources[k]);
+        }
+    }
+    run r = parsed("{a}", 3, FIRTHNAPKIN_MOST_DEPTH, 9, 9);
+    check(r.status == FIRTHNAPKIN_TREE && r.nodes_needed == 2, "the largest depth");
+    give_back(r);
+}
+
+/* A text of nested parts: a head, so many openings, a middle, as many closings, a tail; the head opens some, too. */
+typedef struct {
+    const char *head, *opening, *middle, *closing, *tail;
+    uint32_t opened;
+} nested;
+
+static const nested NESTED[] = {
+    {"", "{...", "{a}", "}", "", 1},           {"", "{a", "{a}", "}", "", 1},
+    {"{a(x:", "[", "1", "]", ")}", 2},         {"{a(x:", "{k:", "1", "}", ")}", 2},
+    {"query($a:", "[", "T", "]", "){a}", 1},   {"query($a:T=", "[", "1", "]", "){a}", 1},
+};
+
+static char *repeated(char *at, const char *part, uint32_t count) {
+    size_t length = strlen(part);
+    for (uint32_t i = 0; i < count; i++, at += length) memcpy(at, part, length);
+    return at;
+}
+
+/* Calls on a stack of no more than the header tells. */
+typedef struct {
+    const char *source;
+    size_t length;
+    uint32_t depth, parsed, told;
+} deep_calls;
+
+static void *call_deep(void *argument) {
+    deep_calls *d = argument;
+    size_t needed;
+    run r = parsed(d->source, d->length, d->depth, d->length, d->length);
+    d->parsed = r.status;
+    give_back(r);
+    d->told = firthnapkin_message((const uint8_t *)d->source, d->length, d->depth, NULL, 0, &needed);
+    return NULL;
+}
+
+/* Runs them in a thread of that stack, behind memory that nothing may touch. */
+static void on_stack(deep_calls *d) {
+    enum { PAGE = 4096, GUARD = 16 * PAGE };
+    size_t size = (FIRTHNAPKIN_STACK(d->depth) + PAGE - 1) / PAGE * PAGE;
+    char *memory = mmap(NULL, GUARD + size, PROT_READ | PROT_WRITE, MAP_PRIVATE | MAP_ANONYMOUS, -1, 0);
+    pthread_attr_t attributes;
+    pthread_t thread;
+    if (memory == MAP_FAILED || mprotect(memory, GUARD, PROT_NONE) || pthread_attr_init(&attributes)
+        || pthread_attr_setstack(&attributes, memory + GUARD, size)
+        || pthread_create(&thread, &attributes, call_deep, d) || pthread_join(thread, NULL))
+        abort();
+    pthread_attr_destroy(&attributes);
+    munmap(memory, GUARD + size);
+}
+
+static void stacks(void) {
+    static const uint32_t depths[] = {2, 10, 200, FIRTHNAPKIN_MOST_DEPTH};
+    static char text[8 * (FIRTHNAPKIN_MOST_DEPTH + 9)];
+    for (size_t i = 0; i < sizeof NESTED / sizeof *NESTED; i++) {
+        for (size_t k = 0; k < sizeof depths / sizeof *depths; k++) {
+            nested n = NESTED[i];
+            for (uint32_t beyond = 0; beyond < 2; beyond++) {
+                uint32_t count = depths[k] - n.opened + beyond;
+                char *end = repeated(repeated(repeated(text, n.head, 1), n.opening, count), n.middle, 1);
+                end = repeated(repeated(end, n.closing, count), n.tail, 1);
+                deep_calls d = {text, (size_t)(end - text), depths[k], 99, 99};
+                on_stack(&d);
+                uint32_t wanted = beyond ? FIRTHNAPKIN_TOO_DEEP : FIRTHNAPKIN_TREE;
+                check(d.parsed == wanted && d.told == (beyond ? FIRTHNAPKIN_ROOM : wanted),
+                      "%u of %s, with the depth %u: %u, %u", count, n.opening, depths[k], d.parsed, d.told);
+            }
+        }
+    }
 }
 
 /* Strings' meanings and a type's text, values and names, in one place each. */
@@ -192,28 +282,28 @@ static void fields(void) {
     run r = parsed(s, strlen(s), DEPTH, 99, 99);
     check(r.nodes_needed == 25 && r.texts_needed == 8 && !memcmp(r.texts, "[T!]!\xc3\xa9" "b", 8), "the texts of %s", s);
     for (size_t i = 0; i < r.nodes_needed; i++) {
-        juniper_node n = r.nodes[i];
+        firthnapkin_node n = r.nodes[i];
         size_t name = n.name_end - n.name_start;
         const char *at = s + n.name_start;
         check(n.descendants < r.nodes_needed - i, "descendants of node %zu", i);
-        if (n.kind == JUNIPER_VARIABLE) check(name == 1 && *at == 'v' && n.start.byte + 1 == n.name_start, "a variable");
-        if (n.kind == JUNIPER_TYPE) check(n.value == 0 && n.value_length == 5 && name == 6, "a type");
-        if (n.kind == JUNIPER_STRING) check(n.value == 5 && n.value_length == 3 && name == 9, "a string");
-        if (n.kind == JUNIPER_INT) check(n.value == 1 && n.value_length == 0 && name == 1, "an Int");
-        if (n.kind == JUNIPER_LARGE_INT) check(!n.value && !n.value_length && !strncmp(at, "99999999999", name), "a large Int");
-        if (n.kind == JUNIPER_FLOAT) check(!n.value && !n.value_length && !strncmp(at, "1.5", name), "a Float");
-        if (n.kind == JUNIPER_BOOLEAN) check(n.value == 1 && !n.value_length && name == 4, "a Boolean");
-        if (n.kind == JUNIPER_NULL) check(!n.value && !n.value_length && name == 4, "null");
-        if (n.kind == JUNIPER_ENUM) check(name == 1 && *at == 'E', "an enum");
-        if (n.kind == JUNIPER_REFERENCE) check(name == 1 && *at == 'v' && n.start.byte + 1 == n.name_start, "a reference");
-        if (n.kind == JUNIPER_LIST || n.kind == JUNIPER_OBJECT) check(name == 0 && n.name_start == n.start.byte, "no name");
+        if (n.kind == FIRTHNAPKIN_VARIABLE) check(name == 1 && *at == 'v' && n.start.byte + 1 == n.name_start, "a variable");
+        if (n.kind == FIRTHNAPKIN_TYPE) check(n.value == 0 && n.value_length == 5 && name == 6, "a type");
+        if (n.kind == FIRTHNAPKIN_STRING) check(n.value == 5 && n.value_length == 3 && name == 9, "a string");
+        if (n.kind == FIRTHNAPKIN_INT) check(n.value == 1 && n.value_length == 0 && name == 1, "an Int");
+        if (n.kind == FIRTHNAPKIN_LARGE_INT) check(!n.value && !n.value_length && !strncmp(at, "99999999999", name), "a large Int");
+        if (n.kind == FIRTHNAPKIN_FLOAT) check(!n.value && !n.value_length && !strncmp(at, "1.5", name), "a Float");
+        if (n.kind == FIRTHNAPKIN_BOOLEAN) check(n.value == 1 && !n.value_length && name == 4, "a Boolean");
+        if (n.kind == FIRTHNAPKIN_NULL) check(!n.value && !n.value_length && name == 4, "null");
+        if (n.kind == FIRTHNAPKIN_ENUM) check(name == 1 && *at == 'E', "an enum");
+        if (n.kind == FIRTHNAPKIN_REFERENCE) check(name == 1 && *at == 'v' && n.start.byte + 1 == n.name_start, "a reference");
+        if (n.kind == FIRTHNAPKIN_LIST || n.kind == FIRTHNAPKIN_OBJECT) check(name == 0 && n.name_start == n.start.byte, "no name");
     }
     give_back(r);
     s = SOURCES[2];
     r = parsed(s, strlen(s), DEPTH, 99, 99);
     int fragments = 0;
     for (size_t i = 0; i < r.nodes_needed; i++) {
-        if (r.nodes[i].kind != JUNIPER_FRAGMENT) continue;
+        if (r.nodes[i].kind != FIRTHNAPKIN_FRAGMENT) continue;
         fragments++;
         check(s[r.nodes[i].name_start] == 'F' && s[r.nodes[i].value] == 'T' && r.nodes[i].value_length == 1, "a fragment");
     }
@@ -228,22 +318,22 @@ static void numbers(void) {
         uint32_t kind;
         int64_t value;
     } wanted[] = {
-        {"-7", JUNIPER_INT, -7},
-        {"-0", JUNIPER_INT, 0},
-        {"-2147483648", JUNIPER_INT, -2147483647 - 1},
-        {"2147483647", JUNIPER_INT, 2147483647},
-        {"-2147483649", JUNIPER_LARGE_INT, 0},
-        {"2147483648", JUNIPER_LARGE_INT, 0},
-        {"-1.5", JUNIPER_FLOAT, 0},
-        {"true", JUNIPER_BOOLEAN, 1},
-        {"false", JUNIPER_BOOLEAN, 0},
+        {"-7", FIRTHNAPKIN_INT, -7},
+        {"-0", FIRTHNAPKIN_INT, 0},
+        {"-2147483648", FIRTHNAPKIN_INT, -2147483647 - 1},
+        {"2147483647", FIRTHNAPKIN_INT, 2147483647},
+        {"-2147483649", FIRTHNAPKIN_LARGE_INT, 0},
+        {"2147483648", FIRTHNAPKIN_LARGE_INT, 0},
+        {"-1.5", FIRTHNAPKIN_FLOAT, 0},
+        {"true", FIRTHNAPKIN_BOOLEAN, 1},
+        {"false", FIRTHNAPKIN_BOOLEAN, 0},
     };
     for (size_t i = 0; i < sizeof wanted / sizeof *wanted; i++) {
         char source[64];
         size_t length = (size_t)snprintf(source, sizeof source, "{a(b:%s)}", wanted[i].text);
         run r = parsed(source, length, DEPTH, 9, 9);
-        juniper_node n = r.nodes[4];
-        check(r.status == JUNIPER_TREE && r.nodes_needed == 5 && n.kind == wanted[i].kind && n.value == wanted[i].value
+        firthnapkin_node n = r.nodes[4];
+        check(r.status == FIRTHNAPKIN_TREE && r.nodes_needed == 5 && n.kind == wanted[i].kind && n.value == wanted[i].value
                   && (wanted[i].value < 0) == (n.value < 0) && n.value_length == 0 && n.name_start == n.start.byte
                   && n.name_end == n.end.byte && n.name_end - n.name_start == strlen(wanted[i].text),
               "the value of %s", wanted[i].text);
@@ -256,7 +346,7 @@ static void *many(void *failures) {
         for (size_t i = 0; i < sizeof SOURCES / sizeof *SOURCES; i++) {
             size_t length = strlen(SOURCES[i]);
             run a = parsed(SOURCES[i], length, DEPTH, length, length), b = parsed(SOURCES[i], length, DEPTH, length, length);
-            if (a.status != JUNIPER_TREE || !is_kept(a) || !same_nodes(a.nodes, b.nodes, a.nodes_needed)
+            if (a.status != FIRTHNAPKIN_TREE || !is_kept(a) || !same_nodes(a.nodes, b.nodes, a.nodes_needed)
                 || memcmp(a.texts, b.texts, a.texts_needed))
                 ++*(long *)failures;
             give_back(a);
@@ -286,9 +376,9 @@ static void large(const char *part, size_t nodes, size_t texts) {
     for (size_t i = 0; i < count; i++) memcpy(source + 1 + i * step, part, step);
     source[length - 1] = '}';
     run r = parsed(source, length, DEPTH, count * nodes + 1, length);
-    check(r.status == JUNIPER_TREE && r.nodes_needed == count * nodes + 1 && r.texts_needed == count * texts && is_kept(r),
+    check(r.status == FIRTHNAPKIN_TREE && r.nodes_needed == count * nodes + 1 && r.texts_needed == count * texts && is_kept(r),
           "ten million bytes of %s", part);
-    if (r.status == JUNIPER_TREE)
+    if (r.status == FIRTHNAPKIN_TREE)
         check(r.nodes[0].descendants == count * nodes && r.nodes[0].end.byte == length
                   && r.nodes[r.nodes_needed - 1].end.byte < length,
               "the places in ten million bytes of %s", part);
@@ -301,6 +391,8 @@ int main(void) {
     statuses();
     no_memory();
     too_long();
+    depths();
+    stacks();
     fields();
     numbers();
     threads();

@@ -1,6 +1,6 @@
 /* Refuses each request for memory of each call in turn: that one alone, or it and all after it. The call answers want of
  * memory, or what it answers where memory is ample, and gives back what it was given. Linked with --wrap. */
-#include "../../include/juniper.h"
+#include "../../include/firthnapkin.h"
 #include "checks.h"
 #include <stdlib.h>
 #include <string.h>
@@ -44,7 +44,7 @@ void __wrap_free(void *block) {
 }
 
 static uint8_t words[4096];
-static juniper_node nodes[4096];
+static firthnapkin_node nodes[4096];
 
 typedef struct {
     uint32_t status;
@@ -53,15 +53,15 @@ typedef struct {
 
 static answer parse(const char *source) {
     answer a = {.nodes_needed = 1, .texts_needed = 1};
-    juniper_fault fault;
-    a.status = juniper_parse((const uint8_t *)source, strlen(source), 200, nodes, 4096, &a.nodes_needed, words, 4096,
+    firthnapkin_fault fault;
+    a.status = firthnapkin_parse((const uint8_t *)source, strlen(source), 200, nodes, 4096, &a.nodes_needed, words, 4096,
                              &a.texts_needed, &fault);
     return a;
 }
 
 static answer message(const char *source) {
     answer a = {.nodes_needed = 1, .texts_needed = 0};
-    a.status = juniper_message((const uint8_t *)source, strlen(source), 200, words, 4096, &a.nodes_needed);
+    a.status = firthnapkin_message((const uint8_t *)source, strlen(source), 200, words, 4096, &a.nodes_needed);
     return a;
 }
 
@@ -79,11 +79,11 @@ static answer with_refused(answer (*call)(const char *), const char *source, lon
 static void each(answer (*call)(const char *), const char *source) {
     answer ample = with_refused(call, source, 0, 0);
     long requests = asked, memory = 0;
-    check(ample.status != JUNIPER_MEMORY, "memory is ample for %s", source);
+    check(ample.status != FIRTHNAPKIN_MEMORY, "memory is ample for %s", source);
     for (int onwards = 0; onwards < 2; onwards++) {
         for (long number = 1; number <= requests; number++) {
             answer a = with_refused(call, source, number, onwards);
-            if (a.status == JUNIPER_MEMORY) {
+            if (a.status == FIRTHNAPKIN_MEMORY) {
                 memory++;
                 check(a.nodes_needed == 0 && a.texts_needed == 0, "the counts where memory ran out, for %s", source);
             } else {
@@ -99,7 +99,7 @@ static void each(answer (*call)(const char *), const char *source) {
 /* The room for nodes that is asked for before the first token is a hint: where it is refused, the answer stays. */
 static void room_is_a_hint(const char *source) {
     answer ample = with_refused(parse, source, 0, 0);
-    refused_size = strlen(source) / 8 * sizeof(juniper_node);
+    refused_size = strlen(source) / 8 * sizeof(firthnapkin_node);
     refused_sizes = 0;
     answer a = with_refused(parse, source, 0, 0);
     refused_size = 0;

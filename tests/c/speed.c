@@ -1,6 +1,6 @@
 /* Parses a file over and over from C, and tells the speed of the best round: speed FILE ROUNDS. */
 #define _POSIX_C_SOURCE 200809L
-#include "../../include/juniper.h"
+#include "../../include/firthnapkin.h"
 #include <stdio.h>
 #include <stdlib.h>
 #include <time.h>
@@ -17,15 +17,15 @@ int main(int argc, char **argv) {
     size_t length = (size_t)ftell(file), nodes_needed, texts_needed;
     rewind(file);
     uint8_t *source = malloc(length + 1), *texts = malloc(length + 1);
-    juniper_node *nodes = malloc((length + 1) * sizeof *nodes);
-    juniper_fault fault;
+    firthnapkin_node *nodes = malloc((length + 1) * sizeof *nodes);
+    firthnapkin_fault fault;
     if (source == NULL || texts == NULL || nodes == NULL || fread(source, 1, length, file) != length) return 2;
     double best = 0;
     for (long round = atol(argv[2]); round > 0; round--) {
         double start = now();
-        uint32_t status = juniper_parse(source, length, 200, nodes, length, &nodes_needed, texts, length, &texts_needed, &fault);
+        uint32_t status = firthnapkin_parse(source, length, 200, nodes, length, &nodes_needed, texts, length, &texts_needed, &fault);
         double speed = (double)length / (now() - start) / 1e6;
-        if (status != JUNIPER_TREE) return 1;
+        if (status != FIRTHNAPKIN_TREE) return 1;
         if (speed > best) best = speed;
     }
     fprintf(stderr, "from C %.2f MB/s, %zu nodes\n", best, nodes_needed);

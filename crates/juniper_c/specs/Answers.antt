@@ -25,9 +25,9 @@ use Rattle.juniper_c.specs.declared.node.Node.{Node}
 abbrev pub scalars : Scalars Content errors.Error
 scalars = stated scalar_reading boolean
 
--- the statuses of include/juniper.h
+-- the statuses of include/firthnapkin.h
 abbrev pub IsStatus : ℕ → Type 0
-IsStatus n = (n ≤ 2) ⊎ ((4 ≤ n) × (n ≤ 7))
+IsStatus n = (n ≤ 2) ⊎ ((4 ≤ n) × (n ≤ 8))
 
 -- ---- sources
 

@@ -8,8 +8,11 @@ ghost use Rattle.juniper_tokens.specs.Spans.{view_span};
 ghost use Rattle.juniper_values.specs.Scalar.{Content};
 ghost use Rattle.juniper_c.specs.Answers.{AnswersSaid, Begins, HasDocument, HasRefusal, HasDeepToken, HasMessage, IsStatus, refusal_message, deep_message};
 
+use crate::depth::{MOST_DEPTH, is_refused};
 use crate::scalar::Scalar;
-use crate::status::{MEMORY, NOT_UTF8, REFUSED, ROOM, TOO_DEEP, TOO_LONG, TOO_LONG_FROM, TREE};
+use crate::status::{
+    DEPTH, MEMORY, NOT_UTF8, REFUSED, ROOM, TOO_DEEP, TOO_LONG, TOO_LONG_FROM, TREE,
+};
 use juniper::{
     DepthFailure, ParseError, ParseFailure, Span, Spanning, parse_document_source_within,
 };
@@ -17,7 +20,7 @@ use std::alloc::{AllocError, Global};
 
 /// Writes into the caller's room why a source has no tree.
 #[unsafe(no_mangle)]
-pub extern "C" fn juniper_message(
+pub extern "C" fn firthnapkin_message(
     alloc: Global,
     source: &[u8],
     depth: u32,
@@ -34,12 +37,16 @@ pub extern "C" fn juniper_message(
         × (length room.old < length message) × (needed.new ≡ length message) }
     ensures no_text { result ≡ NOT_UTF8 → ¬ IsUtf8 source.now }
     ensures too_long { result ≡ TOO_LONG ↔ 2 ^ 32 ≤ length source.now }
+    ensures depth_refused { result ≡ DEPTH ↔ ((MOST_DEPTH < depth) × (length source.now < 2 ^ 32)) }
 
     // What is kept.
     ensures room_kept { result ≢ REFUSED → result ≢ TOO_DEEP → room.new ≡ room.old }
     ensures no_message { result ≢ REFUSED → result ≢ TOO_DEEP → result ≢ ROOM → needed.new ≡ 0 }
 {
     *needed = 0;
+    if is_refused(source, depth) {
+        return DEPTH;
+    }
     match message_of(alloc, source, depth) {
         Said::Tree => TREE,
         Said::Refused(message) => fill(room, needed, message.as_bytes(), REFUSED),

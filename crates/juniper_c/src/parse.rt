@@ -8,15 +8,16 @@ ghost use Rattle.juniper_values.specs.Scalar.{Content};
 ghost use Rattle.juniper_c.specs.Faults.{told_fault, deep_fault};
 ghost use Rattle.juniper_c.specs.Answers.{HasDocument, HasRefusal, HasDeepToken, nodes_of, texts_of, Begins, IsStatus};
 
+use crate::depth::{MOST_DEPTH, is_refused};
 use crate::fault::Fault;
 use crate::flat::{Stop, flat_of};
 use crate::node::Node;
-use crate::status::{MEMORY, NOT_UTF8, REFUSED, ROOM, TOO_DEEP, TOO_LONG, TREE};
+use crate::status::{DEPTH, MEMORY, NOT_UTF8, REFUSED, ROOM, TOO_DEEP, TOO_LONG, TREE};
 use std::alloc::Global;
 
 /// Writes the nodes of a source's tree and their texts into the caller's rooms, or its fault.
 #[unsafe(no_mangle)]
-pub extern "C" fn juniper_parse(
+pub extern "C" fn firthnapkin_parse(
     alloc: Global,
     source: &[u8],
     depth: u32,
@@ -44,6 +45,7 @@ pub extern "C" fn juniper_parse(
     ensures too_deep { result ≡ TOO_DEEP → (span : places.Span) × HasDeepToken source.now depth span × (fault.new ≡ deep_fault (chars source.now) span) }
     ensures no_text { result ≡ NOT_UTF8 → ¬ IsUtf8 source.now }
     ensures too_long { result ≡ TOO_LONG ↔ 2 ^ 32 ≤ length source.now }
+    ensures depth_refused { result ≡ DEPTH ↔ ((MOST_DEPTH < depth) × (length source.now < 2 ^ 32)) }
 
     // What is kept.
     ensures rooms_kept { result ≢ TREE → (nodes.new ≡ nodes.old) × (texts.new ≡ texts.old) }
@@ -52,6 +54,9 @@ pub extern "C" fn juniper_parse(
 {
     *nodes_needed = 0;
     *texts_needed = 0;
+    if is_refused(source, depth) {
+        return DEPTH;
+    }
     match flat_of(alloc, source, depth) {
         Ok(flat) => {
             *nodes_needed = flat.nodes.len();

@@ -14,5 +14,7 @@ pub(crate) const ROOM: u32 = 6;
 
 pub(crate) const TOO_LONG: u32 = 7;
 
+pub(crate) const DEPTH: u32 = 8;
+
 /// How many bytes of a source are too many: a byte's place in it is told in 32 bits.
 pub(crate) const TOO_LONG_FROM: usize = 1 << 32;

@@ -1,11 +1,12 @@
-//! The number of the interface.
+//! The version of the library.
 ghost use Rattle.std.specs.Prelude.{◌≡◌};
 
-const VERSION: u32 = 1;
+// 0.1.0: its first number ten thousand times, its second a hundred times, and its third.
+const VERSION: u32 = 100;
 
-/// The number of the interface.
+/// The version of the library, as a number.
 #[unsafe(no_mangle)]
-pub extern "C" fn juniper_version() -> u32
+pub extern "C" fn firthnapkin_version() -> u32
     ensures { result ≡ VERSION }
 {
     VERSION

@@ -1,0 +1,116 @@
+/* The calls of the library for bindings: on as much stack as they may take, whatever the caller's thread has left. */
+#ifndef FIRTHNAPKIN_CALLS_H
+#define FIRTHNAPKIN_CALLS_H
+
+#ifndef _GNU_SOURCE
+#error "_GNU_SOURCE is to be defined before the first header: a thread is asked for its stack"
+#endif
+
+#include "firthnapkin.h"
+#include <pthread.h>
+#include <signal.h>
+
+/* How many bytes of this thread's stack are left: 0 where that isn't known, as on a stack that somebody else made. */
+static inline size_t stack_left(void) {
+    static __thread char *lowest, *highest;
+    char here;
+    if (highest == NULL) {
+        pthread_attr_t attributes;
+        void *start;
+        size_t size;
+        if (pthread_getattr_np(pthread_self(), &attributes) != 0) return 0;
+        if (pthread_attr_getstack(&attributes, &start, &size) == 0) {
+            lowest = start;
+            highest = lowest + size;
+        }
+        pthread_attr_destroy(&attributes);
+    }
+    return lowest < &here && &here < highest ? (size_t)(&here - lowest) : 0;
+}
+
+typedef struct {
+    void (*run)(void *);
+    void *argument;
+} stack_call;
+
+static inline void *stack_begin(void *call) {
+    ((stack_call *)call)->run(((stack_call *)call)->argument);
+    return NULL;
+}
+
+/* Runs what takes at most so many bytes of stack in a thread of its own, which no signal reaches. False where there is no
+ * thread to be had. */
+static inline int run_in_thread(size_t size, stack_call call) {
+    enum { MARGIN = 1 << 16, PAGE = 1 << 12 };
+    pthread_attr_t attributes;
+    pthread_t thread;
+    sigset_t all, before;
+    if (pthread_attr_init(&attributes) != 0) return 0;
+    int is_made = pthread_attr_setstacksize(&attributes, (size + MARGIN) / PAGE * PAGE) == 0;
+    if (is_made) {
+        sigfillset(&all);
+        pthread_sigmask(SIG_SETMASK, &all, &before);
+        is_made = pthread_create(&thread, &attributes, stack_begin, &call) == 0;
+        pthread_sigmask(SIG_SETMASK, &before, NULL);
+    }
+    pthread_attr_destroy(&attributes);
+    return is_made && pthread_join(thread, NULL) == 0;
+}
+
+/* Runs it on this thread's stack where enough is left. */
+static inline int run_on_stack(size_t size, void (*run)(void *), void *argument) {
+    if (stack_left() < size) return run_in_thread(size, (stack_call){run, argument});
+    run(argument);
+    return 1;
+}
+
+/* As much as a call takes; one that refuses its depth takes next to nothing. */
+static inline size_t stack_for(uint32_t depth) {
+    return FIRTHNAPKIN_STACK(depth <= FIRTHNAPKIN_MOST_DEPTH ? depth : 0);
+}
+
+/* A call of firthnapkin_parse or firthnapkin_message, whose room and count stand among the texts. */
+typedef struct {
+    const uint8_t *source;
+    size_t length;
+    uint32_t depth, status;
+    firthnapkin_node *nodes;
+    size_t nodes_room, *nodes_needed;
+    uint8_t *texts;
+    size_t texts_room, *texts_needed;
+    firthnapkin_fault *fault;
+} whole_call;
+
+static inline void run_parse(void *call) {
+    whole_call *c = call;
+    c->status = firthnapkin_parse(c->source, c->length, c->depth, c->nodes, c->nodes_room, c->nodes_needed, c->texts,
+                                  c->texts_room, c->texts_needed, c->fault);
+}
+
+static inline void run_message(void *call) {
+    whole_call *c = call;
+    c->status = firthnapkin_message(c->source, c->length, c->depth, c->texts, c->texts_room, c->texts_needed);
+}
+
+/* firthnapkin_parse; want of memory where there is no stack to be had. */
+static inline uint32_t parse_on_stack(const uint8_t *source, size_t length, uint32_t depth, firthnapkin_node *nodes,
+                                      size_t nodes_room, size_t *nodes_needed, uint8_t *texts, size_t texts_room,
+                                      size_t *texts_needed, firthnapkin_fault *fault) {
+    whole_call call = {source,       length, depth,      FIRTHNAPKIN_MEMORY, nodes, nodes_room,
+                       nodes_needed, texts,  texts_room, texts_needed,       fault};
+    *nodes_needed = *texts_needed = 0;
+    run_on_stack(stack_for(depth), run_parse, &call);
+    return call.status;
+}
+
+/* firthnapkin_message, in the same way. */
+static inline uint32_t message_on_stack(const uint8_t *source, size_t length, uint32_t depth, uint8_t *room,
+                                        size_t room_length, size_t *needed) {
+    whole_call call = {.source = source, .length = length, .depth = depth, .status = FIRTHNAPKIN_MEMORY,
+                       .texts = room, .texts_room = room_length, .texts_needed = needed};
+    *needed = 0;
+    run_on_stack(stack_for(depth), run_message, &call);
+    return call.status;
+}
+
+#endif

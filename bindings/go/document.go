@@ -1,0 +1,166 @@
+package firthnapkin
+
+import (
+	"fmt"
+	"strconv"
+)
+
+// Kind is what a node stands for. There is no 15.
+type Kind uint32
+
+// The kinds of nodes.
+const (
+	Query        Kind = 0
+	Mutation     Kind = 1
+	Subscription Kind = 2
+	Fragment     Kind = 3 // the definition of a fragment
+	Variables    Kind = 4 // the variable definitions of an operation
+	Variable     Kind = 5 // a variable definition, by its name
+	Type         Kind = 6 // the type of a variable
+	Field        Kind = 7
+	Alias        Kind = 8  // the alias of a field
+	Spread       Kind = 9  // the use of a fragment by its name
+	Inline       Kind = 10 // a fragment without a name; its name is its type condition
+	Directive    Kind = 11
+	Arguments    Kind = 12 // the arguments of a field or a directive
+	Argument     Kind = 13 // an argument, by its name
+	Null         Kind = 14
+	Enum         Kind = 16
+	Reference    Kind = 17 // a variable that stands as a value
+	List         Kind = 18
+	Object       Kind = 19
+	Key          Kind = 20 // a field of an object, by its name
+	Int          Kind = 21 // an Int that 32 bits hold
+	LargeInt     Kind = 22 // an Int that they don't hold
+	Float        Kind = 23
+	String       Kind = 24
+	BlockString  Kind = 25
+	Boolean      Kind = 26
+)
+
+var kindNames = [...]string{
+	"query", "mutation", "subscription", "fragment", "variables", "variable", "type", "field", "alias", "spread", "inline",
+	"directive", "arguments", "argument", "null", "", "enum", "reference", "list", "object", "key", "int", "large_int",
+	"float", "string", "block_string", "boolean",
+}
+
+// String returns the kind's word, as "field".
+func (k Kind) String() string {
+	if int(k) < len(kindNames) && kindNames[k] != "" {
+		return kindNames[k]
+	}
+	return "Kind(" + strconv.Itoa(int(k)) + ")"
+}
+
+// Place is how many characters of the source, line feeds, characters of the line, and bytes stand before it.
+type Place struct {
+	Index, Line, Column, Byte uint32
+}
+
+// Node is a part of a document. Behind it stand the nodes of the parts in it. Document's methods tell its texts.
+type Node struct {
+	Kind        Kind
+	Descendants uint32 // how many of the nodes behind it are of parts in it
+	Start, End  Place
+	// The bytes of the source that name it: Document.Name.
+	NameStart, NameEnd uint32
+	// Value is an Int's number, a Boolean's 0 or 1. Of strings, types and fragments see Document.Meaning; else it is 0.
+	Value       int64
+	ValueLength uint32
+	_           uint32
+}
+
+// Document is a source's nodes, each part before the parts in it.
+type Document struct {
+	Source string
+	Nodes  []Node
+	texts  string
+}
+
+// Text returns what node i is written as.
+func (d *Document) Text(i int) string {
+	return d.Source[d.Nodes[i].Start.Byte:d.Nodes[i].End.Byte]
+}
+
+// Name returns what names node i, without $ and @: of a scalar, null and a type all of it, of an inline fragment its type
+// condition, and nothing where there is no name.
+func (d *Document) Name(i int) string {
+	return d.Source[d.Nodes[i].NameStart:d.Nodes[i].NameEnd]
+}
+
+// Meaning returns what the string or block string i means, the type i without spaces, and the type condition of the
+// fragment i; of all other nodes nothing.
+func (d *Document) Meaning(i int) string {
+	n := &d.Nodes[i]
+	from, length := n.Value, int64(n.ValueLength)
+	switch n.Kind {
+	case String, BlockString, Type:
+		return d.texts[from : from+length]
+	case Fragment:
+		return d.Source[from : from+length]
+	}
+	return ""
+}
+
+// Next returns the index behind node i and the parts in it: of its next sibling, where it has one.
+func (d *Document) Next(i int) int {
+	return i + 1 + int(d.Nodes[i].Descendants)
+}
+
+// Children returns the nodes of the parts in node i that are in no other part in it.
+func (d *Document) Children(i int) []int {
+	return d.between(i+1, d.Next(i))
+}
+
+// Definitions returns the operations and fragments.
+func (d *Document) Definitions() []int {
+	return d.between(0, len(d.Nodes))
+}
+
+func (d *Document) between(i, end int) []int {
+	var found []int
+	for ; i < end; i = d.Next(i) {
+		found = append(found, i)
+	}
+	return found
+}
+
+// Reason is why a source has no document.
+type Reason uint32
+
+// The reasons.
+const (
+	UnexpectedToken Reason = 0 // no document goes on with the token
+	UnexpectedEnd   Reason = 1 // the source ends within a document
+	Lexical         Reason = 2 // there is no token here; the Detail says why
+	Nested          Reason = 4 // the token is nested too deep
+)
+
+// Detail is why there is no token.
+type Detail uint32
+
+// The details.
+const (
+	NoDetail                 Detail = 0
+	UnknownCharacter         Detail = 1
+	UnexpectedCharacter      Detail = 2
+	UnterminatedString       Detail = 3
+	UnknownCharacterInString Detail = 4
+	UnknownEscape            Detail = 5
+	UnexpectedEndInToken     Detail = 6
+)
+
+// SyntaxError says why a source has no document within the depth, and where.
+type SyntaxError struct {
+	Message   string
+	Reason    Reason
+	Detail    Detail
+	Character rune // the character that the Detail speaks of, else 0
+	// Of a token its places, else of zero width. Lines and columns are counted from 0, columns in characters.
+	Start, End Place
+}
+
+// Error returns the message and the line and column, both counted from 0, as `Unexpected ")". At 1:4`.
+func (e *SyntaxError) Error() string {
+	return fmt.Sprintf("%s. At %d:%d", e.Message, e.Start.Line, e.Start.Column)
+}

@@ -1,0 +1,295 @@
+package firthnapkin
+
+import (
+	"bufio"
+	"encoding/hex"
+	"errors"
+	"fmt"
+	"os"
+	"os/exec"
+	"reflect"
+	"strings"
+	"sync"
+	"testing"
+)
+
+// parsed returns a source's document, and fails where it has none.
+func parsed(t *testing.T, source string) *Document {
+	t.Helper()
+	document, err := Parse(source)
+	if err != nil {
+		t.Fatalf("%.40q: %v", source, err)
+	}
+	return document
+}
+
+// refused returns why a source has no document, and fails where it has one.
+func refused(t *testing.T, source string, depth int) *SyntaxError {
+	t.Helper()
+	_, err := ParseWithin(source, depth)
+	var fault *SyntaxError
+	if !errors.As(err, &fault) {
+		t.Fatalf("%.40q: %v", source, err)
+	}
+	return fault
+}
+
+func same(t *testing.T, told string, found, wanted any) {
+	t.Helper()
+	if !reflect.DeepEqual(found, wanted) {
+		t.Errorf("%s: %v, not %v", told, found, wanted)
+	}
+}
+
+// lines returns what gqlcheck writes for a source.
+func lines(source string) string {
+	document, err := Parse(source)
+	if errors.Is(err, ErrNotUTF8) {
+		return "Not UTF-8"
+	}
+	if err != nil {
+		return err.Error()
+	}
+	var written []string
+	for i, node := range document.Nodes {
+		line := fmt.Sprintf("%v %d %d", node.Kind, node.Start.Index, node.End.Index)
+		switch node.Kind {
+		case Int, LargeInt, Float, String, BlockString, Boolean:
+			line = fmt.Sprintf("scalar %d %d", node.Start.Index, node.End.Index)
+		case Null:
+		case Type:
+			line += " " + document.Meaning(i)
+		case Fragment:
+			line += " " + document.Name(i) + " " + document.Meaning(i)
+		default:
+			if name := document.Name(i); name != "" {
+				line += " " + name
+			}
+		}
+		written = append(written, line)
+	}
+	return strings.Join(written, "\n")
+}
+
+// The rows of the language: tests/rows.py writes them to the file that FIRTHNAPKIN_ROWS names.
+func TestRows(t *testing.T) {
+	path := os.Getenv("FIRTHNAPKIN_ROWS")
+	if path == "" {
+		t.Skip("FIRTHNAPKIN_ROWS names no file of rows")
+	}
+	file, err := os.Open(path)
+	if err != nil {
+		t.Fatal(err)
+	}
+	defer file.Close()
+	count, scanner := 0, bufio.NewScanner(file)
+	scanner.Buffer(nil, 1<<26)
+	for scanner.Scan() {
+		var text [2]string
+		for i, word := range strings.Fields(scanner.Text()) {
+			bytes, err := hex.DecodeString(strings.Trim(word, "-"))
+			if err != nil {
+				t.Fatal(err)
+			}
+			text[i] = string(bytes)
+		}
+		same(t, fmt.Sprintf("%q", text[0]), lines(text[0]), text[1])
+		count++
+	}
+	if count < 1500 {
+		t.Errorf("%d rows", count)
+	}
+}
+
+func TestValues(t *testing.T) {
+	for _, row := range []struct {
+		text, meaning string
+		kind          Kind
+		value         int64
+	}{
+		{"-7", "", Int, -7},
+		{"-0", "", Int, 0},
+		{"-2147483648", "", Int, -2147483648},
+		{"2147483647", "", Int, 2147483647},
+		{"-2147483649", "", LargeInt, 0},
+		{"2147483648", "", LargeInt, 0},
+		{strings.Repeat("9", 5000), "", LargeInt, 0},
+		{"-1.5", "", Float, 0},
+		{"1e400", "", Float, 0},
+		{"true", "", Boolean, 1},
+		{"false", "", Boolean, 0},
+		{"null", "", Null, 0},
+		{`"\u00e9\n"`, "é\n", String, -1},
+		{`""`, "", String, -1},
+		{"\"\"\"\n  x\n \"\"\"", "x", BlockString, -1},
+	} {
+		d := parsed(t, "{ a(b: "+row.text+") }")
+		node := d.Nodes[4]
+		same(t, row.text, []any{node.Kind, d.Meaning(4), d.Text(4), d.Name(4)}, []any{row.kind, row.meaning, row.text, row.text})
+		if row.value >= 0 || row.kind == Int {
+			same(t, row.text, node.Value, row.value)
+		}
+	}
+}
+
+func TestDocument(t *testing.T) {
+	d := parsed(t, "query Q($v: [T ! ]) { x: a(b: $v) { c } ...F }\n# é𝄞\nfragment F on T { d(e: \"é𝄞\") }")
+	same(t, "definitions", d.Definitions(), []int{0, 11})
+	same(t, "children of the query", d.Children(0), []int{1, 4, 10})
+	same(t, "children of the field", d.Children(4), []int{5, 6, 9})
+	same(t, "the variable", []any{d.Nodes[2].Kind, d.Name(2), d.Text(2)}, []any{Variable, "v", "$v"})
+	same(t, "the type", []any{d.Nodes[3].Kind, d.Meaning(3), d.Text(3)}, []any{Type, "[T!]", "[T ! ]"})
+	same(t, "the fragment", []any{d.Nodes[11].Kind, d.Name(11), d.Meaning(11)}, []any{Fragment, "F", "T"})
+	last := len(d.Nodes) - 1
+	same(t, "the string", []any{d.Text(last), d.Meaning(last)}, []any{`"é𝄞"`, "é𝄞"})
+	same(t, "its start", d.Nodes[last].Start, Place{75, 2, 23, 79})
+	same(t, "its end", d.Nodes[last].End, Place{79, 2, 27, 87})
+	same(t, "a kind's word", []string{Query.String(), Boolean.String(), Kind(15).String(), Kind(27).String()},
+		[]string{"query", "boolean", "Kind(15)", "Kind(27)"})
+	same(t, "the version", Version != "", true)
+}
+
+func TestSyntaxErrors(t *testing.T) {
+	for _, row := range []struct {
+		source     string
+		reason     Reason
+		detail     Detail
+		character  rune
+		start, end Place
+		told       string
+	}{
+		{"{\n  a )\n}", UnexpectedToken, NoDetail, 0, Place{6, 1, 4, 6}, Place{7, 1, 5, 7}, `Unexpected ")". At 1:4`},
+		{"", UnexpectedEnd, NoDetail, 0, Place{}, Place{}, "Unexpected end of input. At 0:0"},
+		{"#é\n{ a", UnexpectedEnd, NoDetail, 0, Place{6, 1, 3, 7}, Place{6, 1, 3, 7}, "Unexpected end of input. At 1:3"},
+		{"{ é }", Lexical, UnknownCharacter, 'é', Place{2, 0, 2, 2}, Place{2, 0, 2, 2}, `Unknown character "é". At 0:2`},
+		{"{ .a }", Lexical, UnexpectedCharacter, '.', Place{2, 0, 2, 2}, Place{2, 0, 2, 2}, `Unexpected character ".". At 0:2`},
+		{`{a(b:"c`, Lexical, UnterminatedString, 0, Place{7, 0, 7, 7}, Place{7, 0, 7, 7}, "Unterminated string literal. At 0:7"},
+		{"{a(b:\"\x00\")}", Lexical, UnknownCharacterInString, 0, Place{6, 0, 6, 6}, Place{6, 0, 6, 6},
+			"Unknown character \"\x00\" in string literal. At 0:6"},
+		{`{a(b:"\q")}`, Lexical, UnknownEscape, 0, Place{7, 0, 7, 7}, Place{7, 0, 7, 7},
+			`Unknown escape sequence "\q" in string. At 0:7`},
+		{"{a(b:-", Lexical, UnexpectedEndInToken, 0, Place{6, 0, 6, 6}, Place{6, 0, 6, 6}, "Unexpected end of input. At 0:6"},
+		{strings.Repeat("{a", 201), Nested, NoDetail, 0, Place{400, 0, 400, 400}, Place{401, 0, 401, 401},
+			"Too deeply nested. At 0:400"},
+	} {
+		fault := refused(t, row.source, DefaultDepth)
+		same(t, row.source, *fault, SyntaxError{fault.Message, row.reason, row.detail, row.character, row.start, row.end})
+		same(t, row.source, fault.Error(), row.told)
+		same(t, row.source, fault.Message+row.told[strings.LastIndex(row.told, ". At "):], row.told)
+	}
+	for _, length := range []int{1, 200, 242, 243, 244, 255, 256, 257, 5000} {
+		name := strings.Repeat("n", length)
+		same(t, "a long name", refused(t, "query a "+name, 9).Error(), `Unexpected "`+name+`". At 0:8`)
+	}
+}
+
+func TestDepths(t *testing.T) {
+	deep := strings.Repeat("{a", 200000)
+	for _, depth := range []int{-1, -1 << 63, MostDepth + 1, 1<<31 - 1, 1<<32 - 1, 1 << 32, 1<<32 + 5, 1<<63 - 1} {
+		for _, source := range []string{deep, "{a}", "", "\xff"} {
+			if _, err := ParseWithin(source, depth); !errors.Is(err, ErrDepth) {
+				t.Errorf("the depth %d: %v", depth, err)
+			}
+		}
+	}
+	for _, depth := range []int{0, 1, 2, 199, 200, MostDepth} {
+		if d, err := ParseWithin(strings.Repeat("{a", depth)+strings.Repeat("}", depth), depth); depth > 0 &&
+			(err != nil || len(d.Nodes) != depth+1) {
+			t.Errorf("a text %d deep: %v", depth, err)
+		}
+		fault := refused(t, strings.Repeat("{a", depth+1), depth)
+		same(t, "too deep", []any{fault.Reason, int(fault.Start.Byte)}, []any{Nested, 2 * depth})
+	}
+	same(t, "the default depth", len(parsed(t, strings.Repeat("{a", 200)+strings.Repeat("}", 200)).Nodes), 201)
+}
+
+func TestSources(t *testing.T) {
+	for _, source := range []string{"\xff{", "{a}\xc3", "\xed\xa0\x80", "{a(b:\"\xed\xb0\x80\")}"} {
+		if _, err := Parse(source); !errors.Is(err, ErrNotUTF8) {
+			t.Errorf("%q: %v", source, err)
+		}
+	}
+	for _, source := range []string{"", "\x00", "{a\x00}", "\ufeff", "{}", "#", `"`, `"""`, "\U0010ffff"} {
+		refused(t, source, DefaultDepth)
+	}
+	large := parsed(t, "{"+strings.Repeat(strings.Repeat("a", 63)+" ", 1<<20)+"}")
+	same(t, "nodes of 64 MB", len(large.Nodes), 1<<20+1)
+	same(t, "the end of 64 MB", int(large.Nodes[0].End.Byte), 1<<26+2)
+	same(t, "the fault of 64 MB", int(refused(t, "{"+strings.Repeat("a", 1<<26), 9).Start.Byte), 1<<26+1)
+	strs := parsed(t, "{a(b:["+strings.Repeat(`"\n0123456789" `, 5000)+"])}")
+	same(t, "the last of many strings", strs.Meaning(len(strs.Nodes)-1), "\n0123456789")
+}
+
+func TestGoroutines(t *testing.T) {
+	source := "query Q { " + strings.Repeat(`user(id: 4, b: {c: [1.5, "x"]}) { id name } `, 500) + "}"
+	wanted := lines(source)
+	var wait sync.WaitGroup
+	for i := 0; i < 8; i++ {
+		wait.Add(1)
+		go func() {
+			defer wait.Done()
+			for round := 0; round < 20; round++ {
+				if lines(source) != wanted {
+					t.Error("another answer")
+				}
+			}
+		}()
+	}
+	wait.Wait()
+}
+
+// A process whose threads have stacks of 256 KiB.
+func TestSmallStacks(t *testing.T) {
+	if os.Getenv("FIRTHNAPKIN_SMALL_STACK") != "" {
+		for _, part := range []string{"{...", "{a", "{a(x:{k:", "query($a:["} {
+			refused(t, strings.Repeat(part, 5000), DefaultDepth)
+			refused(t, strings.Repeat(part, 5000), MostDepth)
+		}
+		same(t, "nodes", len(parsed(t, strings.Repeat("{...", 199)+"{a}"+strings.Repeat("}", 199)).Nodes), 201)
+		return
+	}
+	shell, err := exec.LookPath("bash")
+	if err != nil {
+		t.Skip("no shell that sets the size of a stack")
+	}
+	command := exec.Command(shell, "-c", `ulimit -s 256 && exec "$0" -test.run '^TestSmallStacks$'`, os.Args[0])
+	command.Env = append(os.Environ(), "FIRTHNAPKIN_SMALL_STACK=yes")
+	if told, err := command.CombinedOutput(); err != nil {
+		t.Errorf("%v: %s", err, told)
+	}
+}
+
+func ExampleParse() {
+	document, err := Parse("{ user(id: 4) { name } }")
+	if err != nil {
+		fmt.Println(err)
+		return
+	}
+	for i, node := range document.Nodes {
+		fmt.Printf("%v %q\n", node.Kind, document.Name(i))
+	}
+	_, err = Parse("{ user( }")
+	fmt.Println(err)
+	// Output:
+	// query ""
+	// field "user"
+	// arguments ""
+	// argument "id"
+	// int "4"
+	// field "name"
+	// Unexpected "}". At 0:8
+}
+
+func BenchmarkParse(b *testing.B) {
+	for _, count := range []int{1, 20, 200, 2000} {
+		source := "query Q($id: ID!) {\n" + strings.Repeat("  user(id: $id, first: 10) {\n    id\n    name\n  }\n", count) + "}\n"
+		b.Run(fmt.Sprint(len(source)), func(b *testing.B) {
+			b.SetBytes(int64(len(source)))
+			for i := 0; i < b.N; i++ {
+				if _, err := Parse(source); err != nil {
+					b.Fatal(err)
+				}
+			}
+		})
+	}
+}

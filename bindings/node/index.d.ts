@@ -1,0 +1,119 @@
+/** What a node stands for. */
+export type Kind =
+  | "query" | "mutation" | "subscription"
+  /** The definition of a fragment. */
+  | "fragment"
+  /** The variable definitions of an operation. */
+  | "variables"
+  /** A variable definition, by its name. */
+  | "variable"
+  /** The type of a variable. */
+  | "type"
+  | "field"
+  /** The alias of a field. */
+  | "alias"
+  /** The use of a fragment by its name. */
+  | "spread"
+  /** A fragment without a name; its name is its type condition. */
+  | "inline"
+  | "directive"
+  /** The arguments of a field or a directive. */
+  | "arguments"
+  /** An argument, by its name. */
+  | "argument"
+  | "null" | "enum"
+  /** A variable that stands as a value. */
+  | "reference"
+  | "list" | "object"
+  /** A field of an object, by its name. */
+  | "key"
+  /** An Int that 32 bits hold. */
+  | "int"
+  /** An Int that they don't hold. */
+  | "largeInt"
+  | "float" | "string" | "blockString" | "boolean";
+
+/** What stands before a place: UTF-16 units of the source, line feeds, units of the line, bytes of UTF-8. */
+export interface Place {
+  readonly index: number;
+  readonly line: number;
+  readonly column: number;
+  readonly byte: number;
+}
+
+/** A part of a document. */
+export interface Node {
+  readonly document: Document;
+  /** The place among the document's nodes. */
+  readonly index: number;
+  readonly kind: Kind;
+  /** How many of the nodes behind this one are of parts in it. */
+  readonly descendants: number;
+  readonly start: Place;
+  /** The place behind the last character. */
+  readonly end: Place;
+  /** What stands in the source from the start to the end: of a number how it is written. */
+  readonly text: string;
+  /** The name, without `$` and `@`; of an inline fragment its type condition. */
+  readonly name: string | null;
+  /**
+   * What a scalar means, of a `largeInt` a bigint; a type without spaces; the name of an enum or a variable; a fragment's
+   * type condition. Throws a RangeError where a Float is beyond the largest number.
+   */
+  readonly value: null | boolean | number | bigint | string;
+  /** The nodes of the parts in this one that are in no other part in it. */
+  readonly children: Node[];
+  /** The node of the part that this one is in; null of a definition. */
+  readonly parent: Node | null;
+}
+
+/** A document's nodes, each part before the parts in it. A node is made each time that one is asked for. */
+export interface Document extends Iterable<Node> {
+  readonly source: string;
+  readonly length: number;
+  /** The operations and fragments. */
+  readonly definitions: Node[];
+  /** The node of this index; throws a RangeError where there is none. */
+  node(index: number): Node;
+}
+
+/** Why there is no token. */
+export type Detail =
+  | "unknownCharacter" | "unexpectedCharacter" | "unterminatedString" | "unknownCharacterInString" | "unknownEscape"
+  | "unexpectedEndInToken";
+
+/**
+ * Why a source is no document within the depth, and where. The message ends with the line and the column, both counted from 0,
+ * and there in characters.
+ */
+export class Fault extends Error {
+  private constructor();
+  readonly name: "Fault";
+  /** `surrogate`: a half of a surrogate pair stands alone, so the string is no text. */
+  readonly reason: "unexpectedToken" | "unexpectedEnd" | "lexical" | "nested" | "surrogate";
+  /** Where the reason is `lexical`. */
+  readonly detail: Detail | null;
+  /** The character that the detail speaks of. */
+  readonly character: string | null;
+  readonly start: Place;
+  readonly end: Place;
+  /** The line and the column, both counted from 1, as in the errors of an answer. */
+  readonly locations: ReadonlyArray<{ readonly line: number; readonly column: number }>;
+}
+
+export interface Options {
+  /** How deep brackets may be nested: an integer from 0 to MOST_DEPTH; 200 where it isn't given. */
+  depth?: number;
+}
+
+/**
+ * The document that a source is. Throws a Fault where it is none, or a bracket is nested deeper; a TypeError where the source
+ * is no string or the depth no number; a RangeError where the depth is out of its range, or the source has 4 GiB or more.
+ */
+export function parse(source: string, options?: Options): Document;
+
+/** The largest depth. */
+export const MOST_DEPTH: number;
+
+/** The library's version. */
+export const version: string;

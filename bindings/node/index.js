@@ -1,0 +1,286 @@
+// A proved parser of GraphQL's executable documents (October 2021).
+//
+//     const { parse } = require("firthnapkin");
+//     for (const node of parse("{ user(id: 4) { name } }")) console.log(node.kind, node.name, node.value, node.text);
+"use strict";
+
+const addon = require("./firthnapkin.node");
+
+const TREE = 0;
+const REFUSED = 1;
+const TOO_DEEP = 5;
+const TOO_LONG = 7;
+
+// By their numbers; there is no 15.
+const KINDS = [
+  "query", "mutation", "subscription", "fragment", "variables", "variable", "type", "field", "alias", "spread", "inline",
+  "directive", "arguments", "argument", "null", undefined, "enum", "reference", "list", "object", "key", "int", "largeInt",
+  "float", "string", "blockString", "boolean",
+];
+const REASONS = ["unexpectedToken", "unexpectedEnd", "lexical", "scalar", "nested"];
+const DETAILS = [
+  null, "unknownCharacter", "unexpectedCharacter", "unterminatedString", "unknownCharacterInString", "unknownEscape",
+  "unexpectedEndInToken", "invalidNumber",
+];
+
+// The details that speak of a character.
+const WITH_CHARACTER = ["unknownCharacter", "unexpectedCharacter", "unknownCharacterInString"];
+
+// What all of such a node is written as is no name.
+const WITHOUT_NAME = new Set(["type", "null", "int", "largeInt", "float", "string", "blockString", "boolean"]);
+
+// The numbers of 32 bits of a node, in their order: its kind, its descendants, the start's and the end's index, line, column
+// and byte, the name's bytes, the value's low and high half, the value's length, and one that says nothing.
+const WORDS = 16;
+const START = 2;
+const END = 6;
+const NAME = 10;
+const VALUE = 12;
+const LENGTH = 14;
+
+// Counts a source's characters in UTF-16 units.
+class Units {
+  constructor(source) {
+    // The indexes in characters of those that take two units.
+    this.pairs = [];
+    let index = 0;
+    // A source without them is passed over at once.
+    if (!/[\ud800-\udbff]/.test(source)) return;
+    for (const character of source) {
+      if (character.length === 2) this.pairs.push(index);
+      index += 1;
+    }
+  }
+
+  // How many units stand before the character of this index.
+  before(index) {
+    let low = 0;
+    let high = this.pairs.length;
+    while (low < high) {
+      const middle = (low + high) >> 1;
+      if (this.pairs[middle] < index) low = middle + 1;
+      else high = middle;
+    }
+    return index + low;
+  }
+
+  // A place whose numbers stand there.
+  place(words, at) {
+    const index = this.before(words[at]);
+    return { index, line: words[at + 1], column: index - this.before(words[at] - words[at + 2]), byte: words[at + 3] };
+  }
+}
+
+/** Why a source is no document within the depth, and where. */
+class Fault extends Error {
+  constructor(message, told) {
+    super(`${message}. At ${told.at}`);
+    this.name = "Fault";
+    this.reason = told.reason;
+    this.detail = told.detail;
+    this.character = told.character;
+    this.start = told.start;
+    this.end = told.end;
+    this.locations = [{ line: told.start.line + 1, column: told.start.column + 1 }];
+  }
+}
+
+/** A part of a document. */
+class Node {
+  #document;
+  #at;
+
+  constructor(document, index) {
+    this.#document = document;
+    this.#at = WORDS * index;
+    this.index = index;
+  }
+
+  #word(number) {
+    return this.#document.words[this.#at + number];
+  }
+
+  get document() {
+    return this.#document;
+  }
+
+  get kind() {
+    return KINDS[this.#word(0)];
+  }
+
+  get descendants() {
+    return this.#word(1);
+  }
+
+  get start() {
+    return this.#document.units.place(this.#document.words, this.#at + START);
+  }
+
+  get end() {
+    return this.#document.units.place(this.#document.words, this.#at + END);
+  }
+
+  get text() {
+    return this.#document.source.slice(this.start.index, this.end.index);
+  }
+
+  get name() {
+    const from = this.#word(NAME);
+    const to = this.#word(NAME + 1);
+    // A name is ASCII.
+    return from === to || WITHOUT_NAME.has(this.kind) ? null : this.#document.bytes.latin1Slice(from, to);
+  }
+
+  get value() {
+    const from = this.#word(VALUE);
+    const to = from + this.#word(LENGTH);
+    switch (this.kind) {
+      case "int":
+        return from | 0;
+      case "boolean":
+        return from === 1;
+      case "largeInt":
+        return BigInt(this.text);
+      case "float":
+        return finite(this.text);
+      case "string":
+      case "blockString":
+      case "type":
+        return this.#document.texts.utf8Slice(from, to);
+      case "fragment":
+        return this.#document.bytes.latin1Slice(from, to);
+      case "enum":
+      case "reference":
+        return this.name;
+      default:
+        return null;
+    }
+  }
+
+  get children() {
+    return this.#document.between(this.index + 1, this.index + 1 + this.descendants);
+  }
+
+  get parent() {
+    const parent = this.#document.parents[this.index];
+    return parent < 0 ? null : this.#document.node(parent);
+  }
+}
+
+function finite(text) {
+  const number = Number(text);
+  if (!Number.isFinite(number)) throw new RangeError("a Float beyond the largest number: the node's text has it");
+  return number;
+}
+
+/** A document's nodes, each part before the parts in it. */
+class Document {
+  #units;
+  #parents;
+
+  constructor(source, bytes, nodes, texts) {
+    this.source = source;
+    Object.defineProperties(this, {
+      bytes: { value: bytes },
+      words: { value: new Uint32Array(nodes) },
+      texts: { value: texts },
+    });
+    this.length = this.words.length / WORDS;
+  }
+
+  get units() {
+    this.#units ??= new Units(this.source);
+    return this.#units;
+  }
+
+  // The index of each node's parent, and -1 of a definition.
+  get parents() {
+    if (this.#parents === undefined) {
+      const parents = new Float64Array(this.length);
+      const around = [[-1, this.length]];
+      for (let index = 0; index < this.length; index++) {
+        while (around[around.length - 1][1] === index) around.pop();
+        parents[index] = around[around.length - 1][0];
+        around.push([index, index + 1 + this.words[WORDS * index + 1]]);
+      }
+      this.#parents = parents;
+    }
+    return this.#parents;
+  }
+
+  node(index) {
+    if (!Number.isInteger(index) || index < 0 || index >= this.length) throw new RangeError(`there is no node ${index}`);
+    return new Node(this, index);
+  }
+
+  get definitions() {
+    return this.between(0, this.length);
+  }
+
+  between(index, end) {
+    const found = [];
+    while (index < end) {
+      const node = this.node(index);
+      found.push(node);
+      index += 1 + node.descendants;
+    }
+    return found;
+  }
+
+  *[Symbol.iterator]() {
+    for (let index = 0; index < this.length; index++) yield this.node(index);
+  }
+}
+
+function limitOf(depth) {
+  if (typeof depth !== "number") throw new TypeError(`depth must be a number, not ${depth === null ? "null" : typeof depth}`);
+  if (!Number.isInteger(depth) || depth < 0 || depth > addon.MOST_DEPTH)
+    throw new RangeError(`depth must be an integer from 0 to ${addon.MOST_DEPTH}`);
+  return depth;
+}
+
+function surrogate(source, index) {
+  const line = source.slice(0, index).split("\n").length - 1;
+  const column = index - (source.lastIndexOf("\n", index) + 1);
+  const byte = Buffer.byteLength(source.slice(0, index));
+  const number = source.charCodeAt(index).toString(16).toUpperCase();
+  return new Fault(`Lone surrogate U+${number}`, {
+    at: `${line}:${column}`,
+    reason: "surrogate",
+    detail: null,
+    character: null,
+    start: { index, line, column, byte },
+    end: { index: index + 1, line, column: column + 1, byte: byte + 3 },
+  });
+}
+
+function fault(source, nodes, texts) {
+  const words = new Uint32Array(nodes);
+  const units = new Units(source);
+  const [, message, at] = /^([^]*)\. At (\d+:\d+)$/.exec(texts.utf8Slice());
+  const detail = DETAILS[words[1]];
+  return new Fault(message, {
+    at,
+    reason: REASONS[words[0]],
+    detail,
+    character: WITH_CHARACTER.includes(detail) ? String.fromCodePoint(words[2]) : null,
+    start: units.place(words, 3),
+    end: units.place(words, 7),
+  });
+}
+
+/** The document that a source is; index.d.ts says what is thrown. */
+function parse(source, { depth = 200 } = {}) {
+  if (typeof source !== "string") throw new TypeError(`source must be a string, not ${source === null ? "null" : typeof source}`);
+  const limit = limitOf(depth);
+  const alone = source.isWellFormed?.() ? -1 : source.search(/\p{Surrogate}/u);
+  if (alone >= 0) throw surrogate(source, alone);
+  const bytes = Buffer.from(source);
+  const { status, nodes, texts } = addon.parse(bytes, limit);
+  if (status === TREE) return new Document(source, bytes, nodes, texts);
+  if (status === REFUSED || status === TOO_DEEP) throw fault(source, nodes, texts);
+  if (status === TOO_LONG) throw new RangeError("source must have less than 4 GiB");
+  throw new Error(`the parser answered ${status}`);
+}
+
+module.exports = { parse, Document, Node, Fault, MOST_DEPTH: addon.MOST_DEPTH, version: addon.VERSION };

@@ -1,0 +1,189 @@
+"use strict";
+
+const assert = require("assert");
+const { execFileSync } = require("child_process");
+const fs = require("fs");
+const { test } = require("node:test");
+const path = require("path");
+const { Worker } = require("worker_threads");
+
+const { parse, Fault, MOST_DEPTH, version } = require("..");
+
+function faultOf(source, options) {
+  try {
+    parse(source, options);
+  } catch (error) {
+    assert.ok(error instanceof Fault, String(error));
+    return error;
+  }
+  throw new Error(`${JSON.stringify(source).slice(0, 40)} has a document`);
+}
+
+const SCALARS = ["int", "largeInt", "float", "string", "blockString", "boolean"];
+
+/** What gqlcheck writes for a source: places count characters there. */
+function lines(source) {
+  let document;
+  try {
+    document = parse(source);
+  } catch (error) {
+    if (error instanceof Fault) return error.message;
+    throw error;
+  }
+  const characters = (index) => Array.from(source.slice(0, index)).length;
+  return Array.from(document, (node) => {
+    let line = `${SCALARS.includes(node.kind) ? "scalar" : node.kind} ${characters(node.start.index)} ${characters(node.end.index)}`;
+    if (node.kind === "type") line += ` ${node.value}`;
+    else if (node.kind === "fragment") line += ` ${node.name} ${node.value}`;
+    else if (node.name !== null) line += ` ${node.name}`;
+    return line;
+  }).join("\n");
+}
+
+const ROWS = process.env.FIRTHNAPKIN_ROWS;
+
+test("the rows of the language, which tests/rows.py writes", { skip: ROWS ? false : "FIRTHNAPKIN_ROWS names no file" }, () => {
+  let count = 0;
+  for (const row of fs.readFileSync(ROWS, "latin1").trim().split("\n")) {
+    const [source, wanted] = row.split(" ").map((word) => Buffer.from(word, "hex"));
+    // What is no text cannot be had as a string.
+    if (wanted.toString() === "Not UTF-8") continue;
+    assert.strictEqual(lines(source.toString()), wanted.toString());
+    count++;
+  }
+  assert.ok(count >= 1500, `${count} rows`);
+});
+
+test("values", () => {
+  for (const [text, kind, value] of [
+    ["-7", "int", -7],
+    ["-0", "int", 0],
+    ["-2147483648", "int", -2147483648],
+    ["2147483647", "int", 2147483647],
+    ["-2147483649", "largeInt", -2147483649n],
+    ["2147483648", "largeInt", 2147483648n],
+    ["9".repeat(5000), "largeInt", 10n ** 5000n - 1n],
+    ["-1.5", "float", -1.5],
+    ["true", "boolean", true],
+    ["false", "boolean", false],
+    ["null", "null", null],
+    ['"\\u00e9\\n𝄞"', "string", "é\n𝄞"],
+    ['"""\n  x\n """', "blockString", "x"],
+    ["E", "enum", "E"],
+    ["$v", "reference", "v"],
+  ]) {
+    const node = parse(`{ a(b: ${text}) }`).node(4);
+    assert.deepStrictEqual([node.kind, node.value, node.text], [kind, value, text]);
+    assert.strictEqual(node.name, ["enum", "reference"].includes(kind) ? value : null);
+  }
+  for (const text of ["1e400", "-1e400"]) {
+    const node = parse(`{ a(b: ${text}) }`).node(4);
+    assert.deepStrictEqual([node.kind, node.text], ["float", text]);
+    assert.throws(() => node.value, RangeError);
+  }
+});
+
+test("places in UTF-16 units", () => {
+  const source = '# Größe 𝄞\n{ b(x: "𝄞", y: "é") }';
+  const nodes = Array.from(parse(source)).filter((node) => node.kind === "string");
+  assert.deepStrictEqual(nodes.map((node) => node.text), ['"𝄞"', '"é"']);
+  assert.deepStrictEqual(nodes.map((node) => node.value), ["𝄞", "é"]);
+  assert.deepStrictEqual(nodes[1].start, { index: source.indexOf('"é"'), line: 1, column: 16, byte: 33 });
+  assert.deepStrictEqual(nodes[1].end, { index: source.indexOf('"é"') + 3, line: 1, column: 19, byte: 37 });
+});
+
+test("children, parents and definitions", () => {
+  const document = parse("{ a { b(c: 1) { d } e } f } fragment F on T { g }");
+  assert.deepStrictEqual(document.definitions.map((node) => node.kind), ["query", "fragment"]);
+  assert.deepStrictEqual(document.node(0).children.map((node) => node.name), ["a", "f"]);
+  assert.deepStrictEqual(document.node(2).children.map((node) => node.kind), ["arguments", "field"]);
+  assert.deepStrictEqual(
+    Array.from(document, (node) => node.parent && node.parent.index),
+    [null, 0, 1, 2, 3, 4, 2, 1, 0, null, 9],
+  );
+  assert.strictEqual(document.length, 11);
+  for (const index of [-1, 11, 1.5, NaN, "0", null]) assert.throws(() => document.node(index), RangeError);
+});
+
+test("faults, with their places", () => {
+  for (const [source, reason, detail, character, start, end, told] of [
+    ["{\n  a )\n}", "unexpectedToken", null, null, [6, 1, 4, 6], [7, 1, 5, 7], 'Unexpected ")". At 1:4'],
+    ["", "unexpectedEnd", null, null, [0, 0, 0, 0], [0, 0, 0, 0], "Unexpected end of input. At 0:0"],
+    ["{ é }", "lexical", "unknownCharacter", "é", [2, 0, 2, 2], [2, 0, 2, 2], 'Unknown character "é". At 0:2'],
+    ["{ .a }", "lexical", "unexpectedCharacter", ".", [2, 0, 2, 2], [2, 0, 2, 2], 'Unexpected character ".". At 0:2'],
+    ['{a(b:"c', "lexical", "unterminatedString", null, [7, 0, 7, 7], [7, 0, 7, 7], "Unterminated string literal. At 0:7"],
+    ['{a(b:"\0")}', "lexical", "unknownCharacterInString", "\0", [6, 0, 6, 6], [6, 0, 6, 6],
+      'Unknown character "\0" in string literal. At 0:6'],
+    ['{a(b:"\\q")}', "lexical", "unknownEscape", null, [7, 0, 7, 7], [7, 0, 7, 7],
+      'Unknown escape sequence "\\q" in string. At 0:7'],
+    ["{a(b:-", "lexical", "unexpectedEndInToken", null, [6, 0, 6, 6], [6, 0, 6, 6], "Unexpected end of input. At 0:6"],
+    ["{a".repeat(201), "nested", null, null, [400, 0, 400, 400], [401, 0, 401, 401], "Too deeply nested. At 0:400"],
+    // Columns of the message count characters, those of places UTF-16 units.
+    ["#𝄞\n{a(b:\"𝄞\") ) }", "unexpectedToken", null, null, [15, 1, 11, 19], [16, 1, 12, 20], 'Unexpected ")". At 1:10'],
+    ['{\n"é\ud800"}', "surrogate", null, null, [4, 1, 2, 5], [5, 1, 3, 8], "Lone surrogate U+D800. At 1:2"],
+    ["\udc00", "surrogate", null, null, [0, 0, 0, 0], [1, 0, 1, 3], "Lone surrogate U+DC00. At 0:0"],
+  ]) {
+    const fault = faultOf(source);
+    const place = ([index, line, column, byte]) => ({ index, line, column, byte });
+    assert.deepStrictEqual([fault.reason, fault.detail, fault.character], [reason, detail, character]);
+    assert.deepStrictEqual([fault.start, fault.end], [place(start), place(end)]);
+    assert.deepStrictEqual([fault.name, fault.message], ["Fault", told]);
+    assert.deepStrictEqual(fault.locations, [{ line: start[1] + 1, column: start[2] + 1 }]);
+  }
+  for (const length of [1, 200, 243, 244, 255, 256, 257, 1024, 5000]) {
+    const name = "n".repeat(length);
+    assert.strictEqual(faultOf(`query a ${name}`).message, `Unexpected "${name}". At 0:8`);
+  }
+});
+
+test("depths", () => {
+  assert.strictEqual(MOST_DEPTH, 1000);
+  for (const source of ["{a".repeat(200000), "{a}", "", "\ud800"]) {
+    for (const depth of [-1, 1001, 2 ** 31, 2 ** 32 - 1, 2 ** 32, 2 ** 32 + 5, 1e300, 0.5, 1.5, NaN, Infinity, -Infinity])
+      assert.throws(() => parse(source, { depth }), RangeError, String(depth));
+    for (const depth of [null, "5", [], {}, true, 5n]) assert.throws(() => parse(source, { depth }), TypeError);
+    assert.throws(() => parse(source, null), TypeError);
+  }
+  for (const depth of [0, 1, 2, 199, 200, 1000]) {
+    if (depth > 0) assert.strictEqual(parse("{a".repeat(depth) + "}".repeat(depth), { depth }).length, depth + 1);
+    const fault = faultOf("{a".repeat(depth + 1), { depth });
+    assert.deepStrictEqual([fault.reason, fault.start.index], ["nested", 2 * depth]);
+  }
+  assert.strictEqual(parse("{a".repeat(200) + "}".repeat(200)).length, 201);
+  assert.strictEqual(parse("{a".repeat(200) + "}".repeat(200), { depth: undefined }).length, 201);
+});
+
+test("sources", () => {
+  for (const source of [undefined, null, 5, Buffer.from("{a}"), ["{a}"], { toString: () => "{a}" }, Symbol("{a}")])
+    assert.throws(() => parse(source), TypeError);
+  for (const source of ["", "\0", "{a\0}", "\ufeff", "{}", "#", '"', '"""', "\u{10ffff}"]) faultOf(source);
+  assert.strictEqual(parse("\ufeff{a}").node(1).start.byte, 4);
+  const large = parse(`{${" ".repeat(2 ** 26 - 3)}a}`);
+  assert.strictEqual(large.node(1).start.index, 2 ** 26 - 2);
+  assert.strictEqual(parse(`{${"field ".repeat(2 ** 22)}}`).length, 2 ** 22 + 1);
+  assert.strictEqual(faultOf(`{${"a".repeat(2 ** 26)}`).start.byte, 2 ** 26 + 1);
+  const strings = parse(`{a(b:[${'"\\n0123456789" '.repeat(5000)}])}`);
+  assert.strictEqual(strings.node(strings.length - 1).value, "\n0123456789");
+});
+
+const DEEP = `
+  const { parse, Fault } = require(${JSON.stringify(path.join(__dirname, ".."))});
+  for (const part of ["{...", "{a", "{a(x:{k:", "query($a:["])
+    for (const depth of [200, 1000])
+      try { parse(part.repeat(5000), { depth }); } catch (error) { if (!(error instanceof Fault)) throw error; }
+  const length = parse("{...".repeat(199) + "{a}" + "}".repeat(199)).length;
+  if (length !== 201) throw new Error("a tree of " + length);
+`;
+
+test("a worker", async () => {
+  const worker = new Worker(DEEP, { eval: true });
+  assert.strictEqual(await new Promise((resolve, reject) => worker.on("exit", resolve).on("error", reject)), 0);
+});
+
+test("a process of small stack", { skip: process.platform === "win32" }, () => {
+  execFileSync("sh", ["-c", 'ulimit -s 256 && exec "$0" --stack-size=150 -e "$1"', process.execPath, DEEP]);
+});
+
+test("the version", () => {
+  assert.strictEqual(version, require("../package.json").version);
+});

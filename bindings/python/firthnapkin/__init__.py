@@ -1,0 +1,16 @@
+"""A proved parser of GraphQL's executable documents (October 2021).
+
+    document = firthnapkin.parse("{ user(id: 4) { name } }")
+    for node in document:
+        print(node.kind, node.name, node.value, node.text)
+"""
+
+from ._parser import MOST_DEPTH, VERSION as __version__
+from .document import Document, Kind, Node, Place
+from .fault import Detail, Fault, Reason
+from .parser import parse
+from .visitor import Step, Visitor
+
+__all__ = [
+    "MOST_DEPTH", "Detail", "Document", "Fault", "Kind", "Node", "Place", "Reason", "Step", "Visitor", "__version__", "parse",
+]  # fmt: skip

@@ -1,0 +1,240 @@
+"""A document's nodes."""
+
+from __future__ import annotations
+
+import enum
+import struct
+from array import array
+from typing import Iterator, List, NamedTuple, Optional, Sequence, Union, overload
+
+__all__ = ["Document", "Kind", "Node", "Place"]
+
+# kind, descendants, the start's and the end's index, line, column and byte, the name's bytes, value, value's length
+_NODE = struct.Struct("=2I8I2IqI4x")
+
+
+class Kind(enum.Enum):
+    """What a node stands for."""
+
+    QUERY = 0
+    MUTATION = 1
+    SUBSCRIPTION = 2
+    #: The definition of a fragment.
+    FRAGMENT = 3
+    #: The variable definitions of an operation.
+    VARIABLES = 4
+    #: A variable definition, by its name.
+    VARIABLE = 5
+    #: The type of a variable.
+    TYPE = 6
+    FIELD = 7
+    #: The alias of a field.
+    ALIAS = 8
+    #: The use of a fragment by its name.
+    SPREAD = 9
+    #: A fragment without a name.
+    INLINE = 10
+    DIRECTIVE = 11
+    #: The arguments of a field or a directive.
+    ARGUMENTS = 12
+    #: An argument, by its name.
+    ARGUMENT = 13
+    NULL = 14
+    ENUM = 16
+    #: A variable that stands as a value.
+    REFERENCE = 17
+    LIST = 18
+    OBJECT = 19
+    #: A field of an object, by its name.
+    KEY = 20
+    #: An Int that 32 bits hold.
+    INT = 21
+    #: An Int that they don't hold.
+    LARGE_INT = 22
+    FLOAT = 23
+    STRING = 24
+    BLOCK_STRING = 25
+    BOOLEAN = 26
+
+
+_KINDS = {kind.value: kind for kind in Kind}
+
+# What these are named by is all that they are written as.
+_WITHOUT_NAME = frozenset(
+    (Kind.TYPE, Kind.NULL, Kind.INT, Kind.LARGE_INT, Kind.FLOAT, Kind.STRING, Kind.BLOCK_STRING, Kind.BOOLEAN)
+)
+
+
+class Place(NamedTuple):
+    """How many characters, line feeds, characters of the line, and bytes of UTF-8 stand before a place."""
+
+    index: int
+    line: int
+    column: int
+    byte: int
+
+
+class Node:
+    """A part of a document."""
+
+    __slots__ = ("_document", "index", "_told")
+
+    def __init__(self, document: Document, index: int) -> None:
+        self._document = document
+        #: The place among the document's nodes.
+        self.index = index
+        self._told = _NODE.unpack_from(document._nodes, _NODE.size * index)
+
+    @property
+    def document(self) -> Document:
+        return self._document
+
+    @property
+    def kind(self) -> Kind:
+        return _KINDS[self._told[0]]
+
+    @property
+    def descendants(self) -> int:
+        """How many of the nodes behind this one are of parts in it."""
+        return self._told[1]
+
+    @property
+    def start(self) -> Place:
+        return Place(*self._told[2:6])
+
+    @property
+    def end(self) -> Place:
+        """The place behind the last character."""
+        return Place(*self._told[6:10])
+
+    @property
+    def text(self) -> str:
+        """What stands in the document from the start to the end: of a number how it is written."""
+        return self._document.text[self._told[2] : self._told[6]]
+
+    @property
+    def name(self) -> Optional[str]:
+        """The name, without `$` and `@`; of an inline fragment its type condition."""
+        told = self._told
+        if self.kind in _WITHOUT_NAME or told[10] == told[11]:
+            return None
+        return self._document._source[told[10] : told[11]].decode()
+
+    @property
+    def value(self) -> Union[None, bool, int, float, str]:
+        """What a scalar means; a type without spaces; the name of an enum or a variable; a fragment's type condition.
+
+        Raises OverflowError where Python takes no Int of so many digits, or a Float is beyond a float; `text` has it.
+        """
+        told, kind = self._told, self.kind
+        if kind is Kind.INT:
+            return told[12]
+        if kind is Kind.BOOLEAN:
+            return told[12] == 1
+        if kind is Kind.LARGE_INT:
+            return _int(self.text)
+        if kind is Kind.FLOAT:
+            return _float(self.text)
+        if kind in (Kind.STRING, Kind.BLOCK_STRING, Kind.TYPE):
+            return self._document._texts[told[12] : told[12] + told[13]].decode()
+        if kind is Kind.FRAGMENT:
+            return self._document._source[told[12] : told[12] + told[13]].decode()
+        if kind in (Kind.ENUM, Kind.REFERENCE):
+            return self.name
+        return None
+
+    @property
+    def children(self) -> Iterator[Node]:
+        """The nodes of the parts in this one that are in no other part in it."""
+        return self._document._siblings(self.index + 1, self.index + 1 + self.descendants)
+
+    @property
+    def parent(self) -> Optional[Node]:
+        """The node of the part that this one is in; None of a definition."""
+        parent = self._document._parents()[self.index]
+        return None if parent < 0 else Node(self._document, parent)
+
+    def __eq__(self, other: object) -> bool:
+        """Whether both are the same node of one document."""
+        if not isinstance(other, Node):
+            return NotImplemented
+        return self._document is other._document and self.index == other.index
+
+    def __hash__(self) -> int:
+        return hash((id(self._document), self.index))
+
+    def __repr__(self) -> str:
+        return f"<{self.kind.name} {self.text!r}>"
+
+
+def _int(text: str) -> int:
+    try:
+        return int(text)
+    except ValueError:
+        raise OverflowError(f"an Int of {len(text.lstrip('-'))} digits: the node's text has it") from None
+
+
+def _float(text: str) -> float:
+    number = float(text)
+    if number in (float("inf"), float("-inf")):
+        raise OverflowError("a Float beyond the largest float: the node's text has it")
+    return number
+
+
+class Document(Sequence[Node]):
+    """A document's nodes, each part before the parts in it. A node object is made each time that one is asked for."""
+
+    __slots__ = ("text", "_source", "_nodes", "_count", "_texts", "_parent")
+
+    def __init__(self, text: str, source: bytes, nodes: bytes, texts: bytes) -> None:
+        #: The source.
+        self.text = text
+        self._source = source
+        self._nodes = nodes
+        self._count = len(nodes) // _NODE.size
+        self._texts = texts
+        self._parent: Optional[array[int]] = None
+
+    def __len__(self) -> int:
+        return self._count
+
+    @overload
+    def __getitem__(self, index: int) -> Node: ...
+
+    @overload
+    def __getitem__(self, index: slice) -> Sequence[Node]: ...
+
+    def __getitem__(self, index: Union[int, slice]) -> Union[Node, Sequence[Node]]:
+        if isinstance(index, slice):
+            return [Node(self, i) for i in range(*index.indices(self._count))]
+        if index < 0:
+            index += self._count
+        if not 0 <= index < self._count:
+            raise IndexError("node index out of range")
+        return Node(self, index)
+
+    @property
+    def definitions(self) -> Iterator[Node]:
+        """The operations and fragments."""
+        return self._siblings(0, self._count)
+
+    def _siblings(self, index: int, end: int) -> Iterator[Node]:
+        while index < end:
+            node = Node(self, index)
+            yield node
+            index += 1 + node.descendants
+
+    def _parents(self) -> array[int]:
+        """The index of each node's parent, and -1 of a definition: found when one is asked for first."""
+        if self._parent is None:
+            parents, around = array("q"), [(-1, self._count)]
+            for index, (_, descendants, *_rest) in enumerate(_NODE.iter_unpack(self._nodes)):
+                while around[-1][1] == index:
+                    around.pop()
+                parents.append(around[-1][0])
+                around.append((index, index + 1 + descendants))
+            self._parent = parents
+        return self._parent
+
+    def __repr__(self) -> str:
+        return f"<document of {self._count} nodes>"

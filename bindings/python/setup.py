@@ -1,0 +1,32 @@
+"""Builds the package with the library inside, on the stable ABI: the wheel serves Python 3.9 and later.
+
+There is no pyproject.toml: with one, pip fetches setuptools from a registry even where it is installed.
+"""
+
+import sys
+from pathlib import Path
+
+from setuptools import Extension, setup
+
+ROOT = Path(__file__).resolve().parent.parent.parent
+LIBRARY = ROOT / "out/libfirthnapkin.a"
+
+if not LIBRARY.exists():
+    sys.exit(f"{LIBRARY} is not there: ./c-library builds it, in the repository's folder")
+
+setup(
+    version=(ROOT / "VERSION").read_text(encoding="utf-8").strip(),
+    ext_modules=[
+        Extension(
+            "firthnapkin._parser",
+            ["firthnapkin/_parser.c"],
+            define_macros=[("Py_LIMITED_API", "0x03090000")],
+            include_dirs=[str(ROOT / "include"), str(ROOT / "bindings")],
+            extra_objects=[str(LIBRARY)],
+            extra_compile_args=["-pthread"],
+            extra_link_args=["-pthread"],
+            depends=[str(LIBRARY), str(ROOT / "bindings/calls.h"), str(ROOT / "bindings/whole.h")],
+            py_limited_api=True,
+        )
+    ],
+)

@@ -1,0 +1,137 @@
+"""Arguments of the wrong kind and of every extreme: none ends the process."""
+
+import os
+import subprocess
+import sys
+import threading
+import unittest
+from typing import Any, List
+
+from firthnapkin import MOST_DEPTH, Fault, Kind, Reason, __version__, parse
+
+
+class Index:
+    """What stands for a number, as those of other libraries do."""
+
+    def __index__(self) -> int:
+        return 2
+
+
+class Depths(unittest.TestCase):
+    def test_out_of_range(self) -> None:
+        self.assertEqual(MOST_DEPTH, 1000)
+        for text in ("{a" * 200000, "{a}", "", "\ud800"):
+            for depth in (-1, -(2**63), 1001, 2**31, 2**32 - 1, 2**32, 2**32 + 5, 2**64 + 5, 10**30):
+                with self.subTest(depth=depth), self.assertRaises(ValueError) as raised:
+                    parse(text, depth=depth)
+                self.assertNotIsInstance(raised.exception, Fault)
+                self.assertIn("depth", str(raised.exception))
+
+    def test_wrong_kinds(self) -> None:
+        for depth in (None, 1.0, float("nan"), float("inf"), "5", b"5", [], object()):
+            with self.subTest(depth=depth), self.assertRaises(TypeError) as raised:
+                parse("{a}", depth=depth)  # type: ignore[arg-type]
+            self.assertIn("depth", str(raised.exception))
+        self.assertRaises(TypeError, parse, "{a}", 5)
+        self.assertRaises(TypeError, parse)
+
+    def test_taken(self) -> None:
+        for depth in (0, 1, 2, 199, 200, 1000):
+            text = "{a" * depth + "}" * depth
+            if depth:
+                self.assertEqual(len(parse(text, depth=depth)), depth + 1)
+            with self.assertRaises(Fault) as raised:
+                parse("{a" * (depth + 1), depth=depth)
+            self.assertEqual((raised.exception.reason, raised.exception.start.index), (Reason.NESTED, 2 * depth))
+        self.assertEqual(len(parse("{a{b}}", depth=Index())), 3)  # type: ignore[arg-type]
+        self.assertEqual(len(parse("{a}", depth=True)), 2)
+
+    def test_default(self) -> None:
+        self.assertEqual(len(parse("{a" * 200 + "}" * 200)), 201)
+        with self.assertRaises(Fault) as raised:
+            parse("{a" * 201 + "}" * 201)
+        self.assertIs(raised.exception.reason, Reason.NESTED)
+
+
+class Sources(unittest.TestCase):
+    def test_wrong_kinds(self) -> None:
+        for source in (None, b"{a}", bytearray(b"{a}"), b"\xff{", 5, 1.5, ["{a}"], object()):
+            with self.subTest(source=source), self.assertRaises(TypeError) as raised:
+                parse(source)  # type: ignore[arg-type]
+            self.assertIn("source", str(raised.exception))
+
+    def test_kinds_of_str(self) -> None:
+        class Text(str):
+            def encode(self, *_: Any) -> bytes:
+                return b"\xff"
+
+        self.assertEqual(parse(Text("{a}"))[1].name, "a")
+
+    def test_extremes(self) -> None:
+        for text in ("", "\0", "{a\0}", "\ufeff", " " * 1000, "{}", "#", '"', '"""', "\x7f", "\U0010ffff"):
+            self.assertRaises(Fault, parse, text)
+        self.assertEqual(parse("\ufeff{a}")[1].start.byte, 4)
+
+    def test_64_megabytes(self) -> None:
+        text = "{" + " " * (2**26 - 3) + "a}"
+        self.assertEqual(parse(text)[1].start.index, 2**26 - 2)
+        self.assertEqual(len(parse("{" + ("a" * 63 + " ") * 2**20 + "}")), 2**20 + 1)
+        with self.assertRaises(Fault) as raised:
+            parse("{" + "a" * 2**26)
+        self.assertEqual(raised.exception.start.index, 2**26 + 1)
+        self.assertRaises(Fault, parse, "{a" * 2**25)
+
+
+class Stacks(unittest.TestCase):
+    # The nesting that takes the most of the stack, and others.
+    DEEP = ("{...", "{a", "{a(x:{k:", "query($a:[")
+
+    def in_thread(self, size: int, depth: int) -> List[str]:
+        found: List[str] = []
+
+        def work() -> None:
+            for part in self.DEEP:
+                try:
+                    parse(part * 5000, depth=depth)
+                except Fault as fault:
+                    found.append(fault.reason.name)
+            document = parse("{..." * depth + "{a}" + "}" * depth, depth=depth + 1)
+            found.append(document[-1].kind.name)
+
+        before = threading.stack_size(size)
+        try:
+            thread = threading.Thread(target=work)
+            thread.start()
+            thread.join()
+        finally:
+            threading.stack_size(before)
+        return found
+
+    def test_small_stacks(self) -> None:
+        wanted = [Reason.NESTED.name] * 2 + [Reason.UNEXPECTED_TOKEN.name] * 2 + [Kind.FIELD.name]
+        for size in (256 * 1024, 512 * 1024, 2**20):
+            self.assertEqual(self.in_thread(size, 200), wanted)
+            self.assertEqual(self.in_thread(size, 999), wanted)
+
+    def test_small_stack_of_the_process(self) -> None:
+        """The first thread of a process with a stack of 256 KiB."""
+        program = (
+            "import resource; resource.setrlimit(resource.RLIMIT_STACK, (262144, resource.RLIM_INFINITY))\n"
+            "import os, sys\n"
+            "if not sys.argv[1:]: os.execv(sys.executable, [sys.executable, *sys.orig_argv[1:], 'again'])\n"
+            "from firthnapkin import parse\n"
+            "print(len(parse('{...' * 199 + '{a}' + '}' * 199)))\n"
+        )
+        if not hasattr(sys, "orig_argv"):
+            self.skipTest("this Python does not tell how it was begun")
+        here = os.path.dirname(os.path.abspath(__file__))
+        found = subprocess.run([sys.executable, "-c", program], cwd=here, capture_output=True, check=False)
+        self.assertEqual((found.returncode, found.stdout.strip()), (0, b"201"), found.stderr)
+
+
+class Version(unittest.TestCase):
+    def test_version(self) -> None:
+        """The package has one version: its own, and that of the library inside."""
+        from importlib.metadata import version
+
+        self.assertEqual(version("firthnapkin"), __version__)

@@ -1,0 +1,257 @@
+"""What a document's nodes say."""
+
+import random
+import sys
+import threading
+import time
+import unittest
+from typing import List, Optional
+
+import firthnapkin
+from firthnapkin import Fault, Kind, Node, Step, Visitor, parse
+
+
+def only(text: str) -> Node:
+    """The node of a value."""
+    return parse("{ a(b: " + text + ") }")[4]
+
+
+class Nodes(unittest.TestCase):
+    def test_values(self) -> None:
+        text = 'query Q($v: [T! ]! = 1.5) { a(b: ["\\u00e9\\n", 7, -99999999999, true, null, E, $v], c: """\n  x\n """) ...F }'
+        text += " fragment F on T { x }"
+        values = [(node.kind, node.name, node.value) for node in parse(text)]
+        for wanted in [
+            (Kind.QUERY, "Q", None),
+            (Kind.VARIABLE, "v", None),
+            (Kind.TYPE, None, "[T!]!"),
+            (Kind.FLOAT, None, 1.5),
+            (Kind.STRING, None, "é\n"),
+            (Kind.INT, None, 7),
+            (Kind.LARGE_INT, None, -99999999999),
+            (Kind.BOOLEAN, None, True),
+            (Kind.NULL, None, None),
+            (Kind.ENUM, "E", "E"),
+            (Kind.REFERENCE, "v", "v"),
+            (Kind.BLOCK_STRING, None, "x"),
+            (Kind.SPREAD, "F", None),
+            (Kind.FRAGMENT, "F", "T"),
+        ]:
+            self.assertIn(wanted, values)
+
+    def test_numbers(self) -> None:
+        """Ints of either sign, at the bounds of 32 bits and beyond, and both Booleans."""
+        for text, kind, value in [
+            ("-7", Kind.INT, -7),
+            ("-0", Kind.INT, 0),
+            ("-2147483648", Kind.INT, -2147483648),
+            ("2147483647", Kind.INT, 2147483647),
+            ("-2147483649", Kind.LARGE_INT, -2147483649),
+            ("2147483648", Kind.LARGE_INT, 2147483648),
+            ("-1.5", Kind.FLOAT, -1.5),
+            ("1e308", Kind.FLOAT, 1e308),
+            ("true", Kind.BOOLEAN, True),
+            ("false", Kind.BOOLEAN, False),
+        ]:
+            with self.subTest(text=text):
+                node = only(text)
+                self.assertEqual((node.kind, node.value, type(node.value)), (kind, value, type(value)))
+                self.assertEqual((node.text, node.name), (text, None))
+
+    def test_numbers_that_python_does_not_take(self) -> None:
+        for text in ("1e400", "-1e400", "1.5E+999"):
+            node = only(text)
+            self.assertEqual((node.kind, node.text), (Kind.FLOAT, text))
+            with self.assertRaises(OverflowError):
+                node.value
+        digits = getattr(sys, "get_int_max_str_digits", lambda: 0)()
+        for text in ("9" * 4300, "-" + "9" * 4300):
+            self.assertEqual(only(text).value, int(text))
+        text = "-" + "9" * 5000
+        node = only(text)
+        self.assertEqual((node.kind, node.text), (Kind.LARGE_INT, text))
+        if digits == 4300:
+            self.assertRaises(OverflowError, lambda: node.value)
+        else:
+            self.assertEqual(node.value, 1 - 10**5000)
+
+    def test_spans(self) -> None:
+        text = '# Größe 𝄞\n{ groesse: say(text: "𝄞 мир") }'
+        document = parse(text)
+        string = next(node for node in document if node.kind is Kind.STRING)
+        self.assertEqual(text[string.start.index : string.end.index], '"𝄞 мир"')
+        self.assertEqual(string.text, '"𝄞 мир"')
+        self.assertEqual(text.encode()[string.start.byte : string.end.byte].decode(), string.text)
+        self.assertEqual((string.start.line, string.start.column, string.value), (1, 21, "𝄞 мир"))
+        self.assertEqual((string.end.line, string.end.column), (1, 28))
+
+    def test_children_and_parents(self) -> None:
+        document = parse("{ a { b(c: 1) { d } e } f } { g }")
+        self.assertEqual([node.text for node in document.definitions], ["{ a { b(c: 1) { d } e } f }", "{ g }"])
+        self.assertEqual([node.name for node in document[0].children], ["a", "f"])
+        self.assertEqual([node.name for node in document[1].children], ["b", "e"])
+        self.assertEqual([node.kind for node in document[2].children], [Kind.ARGUMENTS, Kind.FIELD])
+        self.assertEqual(len(document), len(list(document)))
+        self.assertEqual(document[-1].name, "g")
+        self.assertEqual([node.name for node in document[-2:]], [None, "g"])
+        self.assertRaises(IndexError, lambda: document[len(document)])
+        self.assertRaises(IndexError, lambda: document[-len(document) - 1])
+        for node in document.definitions:
+            self.assertIsNone(node.parent)
+        for node in document:
+            for child in node.children:
+                self.assertEqual(child.parent, node)
+        self.assertEqual([node.parent and node.parent.index for node in document], [None, 0, 1, 2, 3, 4, 2, 1, 0, None, 9])
+        self.assertNotEqual(document[1], parse(document.text)[1])
+
+    def test_rooms(self) -> None:
+        """Texts of many nodes and of large rooms."""
+        for text in ("{a(b:[" + "1 " * 9 + "])}", "{a(b:[" + "[]" * 90000 + "])}", "{" + "a " * 200000 + "}"):
+            document = parse(text)
+            self.assertEqual(document[0].descendants, len(document) - 1)
+            self.assertEqual(document[0].end.byte, len(text))
+        strings = parse("{a(b:[" + '"\\n0123456789" ' * 5000 + "])}")
+        self.assertEqual({node.value for node in strings if node.kind is Kind.STRING}, {"\n0123456789"})
+
+    def test_threads(self) -> None:
+        text = "query Q { " + 'user(id: 4, b: {c: [1.5, "x"]}) { id name } ' * 500 + "}"
+        wanted = [(node.kind, node.text, node.value) for node in parse(text)]
+        found: List[bool] = []
+
+        def work() -> None:
+            for _ in range(20):
+                found.append([(node.kind, node.text, node.value) for node in parse(text)] == wanted)
+
+        threads = [threading.Thread(target=work) for _ in range(4)]
+        for thread in threads:
+            thread.start()
+        for thread in threads:
+            thread.join()
+        self.assertEqual(found, [True] * 80)
+
+    def test_other_threads_go_on(self) -> None:
+        """While a long text is parsed, another thread never waits for as long as half of that."""
+        text = ("{" + "a " * 4000000 + "}").encode()
+        times: List[float] = []
+        is_done = threading.Event()
+
+        def count() -> None:
+            while not is_done.is_set():
+                times.append(time.monotonic())
+                time.sleep(0.001)
+
+        thread = threading.Thread(target=count)
+        thread.start()
+        begin = time.monotonic()
+        firthnapkin._parser.parse(text, 200)
+        end = time.monotonic()
+        is_done.set()
+        thread.join()
+        within = [begin, *(moment for moment in times if begin < moment < end), end]
+        self.assertLess(max(b - a for a, b in zip(within, within[1:])), (end - begin) / 2)
+
+
+class Visits(unittest.TestCase):
+    TEXT = 'query Q($v: Int) { a(b: $v) { c } ...F } fragment F on T { d(e: "x") }'
+
+    def test_order(self) -> None:
+        """Each part is entered before and left after the parts in it."""
+        seen: List[str] = []
+
+        class All(Visitor):
+            def enter(self, node: Node) -> Optional[Step]:
+                seen.append(f"+{node.index}")
+                return None
+
+            def leave(self, node: Node) -> Optional[Step]:
+                seen.append(f"-{node.index}")
+                return None
+
+        All().visit(parse("{ a { b } c }"))
+        self.assertEqual(seen, "+0 +1 +2 -2 -1 +3 -3 -0".split())
+        seen.clear()
+        All().visit(parse("{ a { b } c }")[1])
+        self.assertEqual(seen, "+1 +2 -2 -1".split())
+
+    def test_kinds(self) -> None:
+        names: List[Optional[str]] = []
+        others: List[Kind] = []
+
+        class Fields(Visitor):
+            def enter_field(self, node: Node) -> Optional[Step]:
+                names.append(node.name)
+                return None
+
+            def leave_fragment(self, node: Node) -> Optional[Step]:
+                names.append(node.name)
+                return None
+
+            def leave(self, node: Node) -> Optional[Step]:
+                others.append(node.kind)
+                return None
+
+        document = parse(self.TEXT)
+        Fields().visit(document)
+        self.assertEqual(names, ["a", "c", "d", "F"])
+        self.assertEqual(sorted(kind.value for kind in others),
+                         sorted(node.kind.value for node in document if node.kind is not Kind.FRAGMENT))  # fmt: skip
+
+    def test_steps(self) -> None:
+        seen: List[str] = []
+
+        class Some(Visitor):
+            def enter(self, node: Node) -> Optional[Step]:
+                seen.append(node.kind.name)
+                return Step.STOP if node.kind is Kind.FRAGMENT else None
+
+            def enter_field(self, node: Node) -> Optional[Step]:
+                seen.append(str(node.name))
+                return Step.SKIP
+
+            def leave_field(self, node: Node) -> Optional[Step]:
+                seen.append("a field that was passed over is left")
+                return None
+
+        Some().visit(parse(self.TEXT))
+        self.assertEqual(seen, ["QUERY", "VARIABLES", "VARIABLE", "TYPE", "a", "SPREAD", "FRAGMENT"])
+
+    def test_depth(self) -> None:
+        """A walk takes no more of the interpreter's stack for a deep text."""
+        document = parse("{a" * 1000 + "}" * 1000, depth=1000)
+        count = [0]
+
+        class Count(Visitor):
+            def leave(self, node: Node) -> Optional[Step]:
+                count[0] += 1
+                return None
+
+        Count().visit(document)
+        self.assertEqual(count[0], 1001)
+        self.assertEqual(document[-1].parent, document[999])
+
+
+class EditedTexts(unittest.TestCase):
+    def test_places(self) -> None:
+        """Each text has a document or a fault, whose place lies in the text."""
+        random.seed(7)
+        base = 'query Q($x: [Int!]! = [1, "a"]) @d { b: c(d: {e: $x, s: "q\\n"}) @f(a: T) { ... on T { g } ...F } }'
+        base += " fragment F on T { a }"
+        words = ["{", "}", "(", ")", "$x", "...", "on", '"', "\\u0041", "é", "#", "\n", "1.", "-", "@", "!", "[", "]", "a", '"""']
+        trees = 0
+        for _ in range(2000):
+            text = base
+            for _ in range(random.randrange(0, 4)):
+                i = random.randrange(len(text))
+                text = text[:i] + random.choice(words) + text[i + random.randrange(0, 3) :]
+            try:
+                document = parse(text)
+            except Fault as fault:
+                self.assertLessEqual(fault.start.index, fault.end.index)
+                self.assertLessEqual(fault.end.byte, len(text.encode()))
+                self.assertEqual(len(text[: fault.start.index].encode()), fault.start.byte)
+            else:
+                trees += 1
+                for node in document:
+                    self.assertEqual(len(text[: node.start.index].encode()), node.start.byte)
+                    self.assertEqual(len(text[: node.end.index].encode()), node.end.byte)
+        self.assertGreater(trees, 100)

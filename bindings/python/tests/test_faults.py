@@ -1,0 +1,135 @@
+"""What a fault says."""
+
+import concurrent.futures
+import copy
+import multiprocessing
+import pickle
+import unittest
+from typing import Any, Dict
+
+from firthnapkin import Detail, Fault, Place, Reason, parse
+
+
+def fault_of(text: str, **options: Any) -> Fault:
+    try:
+        parse(text, **options)
+    except Fault as fault:
+        return fault
+    raise AssertionError(f"{text!r} has a document")
+
+
+def parts(fault: Fault) -> Dict[str, Any]:
+    names = "message reason start end source detail character line column lineno colno utf16_column excerpt".split()
+    return {"told": str(fault), **{name: getattr(fault, name) for name in names}}
+
+
+class Faults(unittest.TestCase):
+    def test_reasons(self) -> None:
+        """Each reason and each detail, with its words, its characters and both its places."""
+        for text, reason, detail, character, start, end, told in [
+            ("{\n  a )\n}", Reason.UNEXPECTED_TOKEN, Detail.NO_DETAIL, None, (6, 1, 4, 6), (7, 1, 5, 7), 'Unexpected ")". At 1:4'),
+            ("{ a: }", Reason.UNEXPECTED_TOKEN, Detail.NO_DETAIL, None, (5, 0, 5, 5), (6, 0, 6, 6), 'Unexpected "}". At 0:5'),
+            ("{ ... on on }", Reason.UNEXPECTED_TOKEN, Detail.NO_DETAIL, None, (12, 0, 12, 12), (13, 0, 13, 13),
+             'Unexpected "}". At 0:12'),
+            ("query name name", Reason.UNEXPECTED_TOKEN, Detail.NO_DETAIL, None, (11, 0, 11, 11), (15, 0, 15, 15),
+             'Unexpected "name". At 0:11'),
+            ("", Reason.UNEXPECTED_END, Detail.NO_DETAIL, None, (0, 0, 0, 0), (0, 0, 0, 0), "Unexpected end of input. At 0:0"),
+            ("#é\n{ a", Reason.UNEXPECTED_END, Detail.NO_DETAIL, None, (6, 1, 3, 7), (6, 1, 3, 7),
+             "Unexpected end of input. At 1:3"),
+            ("{ é }", Reason.LEXICAL, Detail.UNKNOWN_CHARACTER, "é", (2, 0, 2, 2), (2, 0, 2, 2), 'Unknown character "é". At 0:2'),
+            ("{ .a }", Reason.LEXICAL, Detail.UNEXPECTED_CHARACTER, ".", (2, 0, 2, 2), (2, 0, 2, 2),
+             'Unexpected character ".". At 0:2'),
+            ('{a(b:"c', Reason.LEXICAL, Detail.UNTERMINATED_STRING, None, (7, 0, 7, 7), (7, 0, 7, 7),
+             "Unterminated string literal. At 0:7"),
+            ('{a(b:"\x01")}', Reason.LEXICAL, Detail.UNKNOWN_CHARACTER_IN_STRING, "\x01", (6, 0, 6, 6), (6, 0, 6, 6),
+             'Unknown character "\x01" in string literal. At 0:6'),
+            ('{a(b:"\x00")}', Reason.LEXICAL, Detail.UNKNOWN_CHARACTER_IN_STRING, "\x00", (6, 0, 6, 6), (6, 0, 6, 6),
+             'Unknown character "\x00" in string literal. At 0:6'),
+            ('{a(b:"\\q")}', Reason.LEXICAL, Detail.UNKNOWN_ESCAPE, None, (7, 0, 7, 7), (7, 0, 7, 7),
+             'Unknown escape sequence "\\q" in string. At 0:7'),
+            ("{a(b:-", Reason.LEXICAL, Detail.UNEXPECTED_END_IN_TOKEN, None, (6, 0, 6, 6), (6, 0, 6, 6),
+             "Unexpected end of input. At 0:6"),
+        ]:  # fmt: skip
+            with self.subTest(text=text):
+                fault = fault_of(text)
+                self.assertEqual((fault.reason, fault.detail, fault.character), (reason, detail, character))
+                self.assertEqual((fault.start, fault.end, str(fault)), (Place(*start), Place(*end), told))
+                self.assertEqual((fault.message, fault.source), (told.rpartition(". At ")[0], text))
+                self.assertEqual((fault.line, fault.column, fault.lineno, fault.colno),
+                                 (start[1], start[2], start[1] + 1, start[2] + 1))  # fmt: skip
+
+    def test_depth(self) -> None:
+        fault = fault_of("{a{b}}", depth=1)
+        self.assertEqual((fault.reason, str(fault)), (Reason.NESTED, "Too deeply nested. At 0:2"))
+        self.assertEqual((fault.start, fault.end), (Place(2, 0, 2, 2), Place(3, 0, 3, 3)))
+        self.assertEqual(fault_of("{a" * 201).start, Place(400, 0, 400, 400))
+        parse("{a" * 200 + "}" * 200)
+
+    def test_long_words(self) -> None:
+        """Words of every length about the rooms that are tried."""
+        for length in (1, 200, 243, 244, 245, 255, 256, 257, 5000):
+            name = "n" * length
+            self.assertEqual(str(fault_of("query a " + name)), f'Unexpected "{name}". At 0:8')
+
+    def test_lone_surrogates(self) -> None:
+        for text, start, told in [
+            ("\ud800", (0, 0, 0, 0), "Lone surrogate U+D800. At 0:0"),
+            ("{é\n a(b: \"\udfff\") }", (10, 1, 7, 11), "Lone surrogate U+DFFF. At 1:7"),
+            ("} \udc00 \ud800", (2, 0, 2, 2), "Lone surrogate U+DC00. At 0:2"),
+        ]:  # fmt: skip
+            fault = fault_of(text)
+            index, line, column, byte = start
+            self.assertEqual((fault.reason, fault.start, str(fault)), (Reason.SURROGATE, Place(*start), told))
+            self.assertEqual(fault.end, Place(index + 1, line, column + 1, byte + 3))
+            fault.excerpt.encode()
+            self.assertEqual(parts(pickle.loads(pickle.dumps(fault))), parts(fault))
+
+    def test_utf16_column(self) -> None:
+        self.assertEqual(fault_of("{\n a(b: \"𝄞é\") ) }").utf16_column, 13)
+        self.assertEqual(fault_of("{\n a(b: \"𝄞é\") ) }").column, 12)
+        self.assertEqual(fault_of("# 𝄞\n )").utf16_column, 1)
+
+
+class Copies(unittest.TestCase):
+    def test_copies(self) -> None:
+        for fault in (fault_of("{\n a ) é 𝄞 }"), fault_of("{ é"), fault_of("{a{b}}", depth=1)):
+            for other in [copy.copy(fault), copy.deepcopy(fault)] + [
+                pickle.loads(pickle.dumps(fault, protocol)) for protocol in range(pickle.HIGHEST_PROTOCOL + 1)
+            ]:
+                self.assertIs(type(other), Fault)
+                self.assertEqual(parts(other), parts(fault))
+
+    def test_pool(self) -> None:
+        """A refused text in another process."""
+        context = multiprocessing.get_context("spawn")
+        with concurrent.futures.ProcessPoolExecutor(1, mp_context=context) as pool:
+            answer = pool.submit(parse, "{ a ) }")
+            with self.assertRaises(Fault) as raised:
+                answer.result(timeout=60)
+        self.assertEqual(parts(raised.exception), parts(fault_of("{ a ) }")))
+
+
+class Excerpts(unittest.TestCase):
+    def test_short(self) -> None:
+        self.assertEqual(fault_of("{ }").excerpt, "GraphQL request:1:3\n1 | { }\n  |   ^")
+        self.assertEqual(
+            fault_of("{\n  a )\n}").excerpt, "GraphQL request:2:5\n1 | {\n2 |   a )\n  |     ^\n3 | }"
+        )
+        self.assertEqual(fault_of("").excerpt, "GraphQL request:1:1\n1 |\n  | ^")
+
+    def test_numbers_of_two_digits(self) -> None:
+        text = "\n" * 8 + "{\n)\n\n}"
+        self.assertEqual(fault_of(text).excerpt, "GraphQL request:10:1\n 9 | {\n10 | )\n   | ^\n11 |")
+
+    def test_ends_of_lines(self) -> None:
+        self.assertEqual(fault_of("{\r\n\ra )").excerpt, "GraphQL request:3:3\n2 |\n3 | a )\n  |   ^")
+
+    def test_long_lines(self) -> None:
+        """A line of more than 120 characters is cut into pieces of 80, and ends a piece behind the caret."""
+        text = "{ " + "abcdefg " * 20 + ")" + " x" * 60
+        pieces = [text[i : i + 80] for i in range(0, len(text), 80)]
+        self.assertEqual(text.index(")"), 162)
+        self.assertEqual(
+            fault_of(text).excerpt,
+            f"GraphQL request:1:163\n1 | {pieces[0]}\n  | {pieces[1]}\n  | {pieces[2]}\n  |   ^\n  | {pieces[3]}",
+        )

@@ -1,0 +1,148 @@
+//! The calls of the library. All that is unsafe but the look at the thread's stack stands here.
+
+use crate::document::{Document, Place, RawNode};
+use crate::error::{Detail, Error, Fault, Reason};
+use crate::{stack, DEFAULT_DEPTH, MOST_DEPTH};
+
+const TREE: u32 = 0;
+const REFUSED: u32 = 1;
+const TOO_DEEP: u32 = 5;
+const ROOM: u32 = 6;
+const TOO_LONG: u32 = 7;
+
+#[repr(C)]
+#[derive(Clone, Copy, Default)]
+struct RawFault {
+    kind: u32,
+    detail: u32,
+    character: u32,
+    start: Place,
+    end: Place,
+}
+
+extern "C" {
+    fn firthnapkin_parse(
+        source: *const u8,
+        length: usize,
+        depth: u32,
+        nodes: *mut RawNode,
+        nodes_room: usize,
+        nodes_needed: *mut usize,
+        texts: *mut u8,
+        texts_room: usize,
+        texts_needed: *mut usize,
+        fault: *mut RawFault,
+    ) -> u32;
+
+    fn firthnapkin_message(
+        source: *const u8,
+        length: usize,
+        depth: u32,
+        room: *mut u8,
+        room_length: usize,
+        needed: *mut usize,
+    ) -> u32;
+}
+
+/// The document that a source is, with brackets nested at most [`DEFAULT_DEPTH`] deep.
+pub fn parse(source: &str) -> Result<Document<'_>, Error> {
+    parse_within(source, DEFAULT_DEPTH)
+}
+
+/// The document that a source is, with brackets nested at most as deep as that: from 0 to [`MOST_DEPTH`].
+pub fn parse_within(source: &str, depth: u32) -> Result<Document<'_>, Error> {
+    if depth > MOST_DEPTH {
+        return Err(Error::Depth);
+    }
+    stack::with(depth, || parse_here(source, depth)).unwrap_or(Err(Error::Memory))
+}
+
+/// The same on this thread's stack. Most sources have a node for eight bytes or fewer; for others the second call has the
+/// room that the first asks for.
+fn parse_here(source: &str, depth: u32) -> Result<Document<'_>, Error> {
+    let (mut nodes_needed, mut texts_needed) = (source.len() / 8 + 16, source.len() / 8 + 64);
+    loop {
+        let mut nodes: Vec<RawNode> = room(nodes_needed)?;
+        let mut texts: Vec<u8> = room(texts_needed)?;
+        let mut fault = RawFault::default();
+        // SAFETY: each pointer has the room that is told behind it, none overlaps another, and the stack is enough.
+        let status = unsafe {
+            firthnapkin_parse(
+                source.as_ptr(),
+                source.len(),
+                depth,
+                nodes.as_mut_ptr(),
+                nodes.capacity(),
+                &mut nodes_needed,
+                texts.as_mut_ptr(),
+                texts.capacity(),
+                &mut texts_needed,
+                &mut fault,
+            )
+        };
+        match status {
+            TREE => {
+                // SAFETY: the call wrote that many.
+                unsafe {
+                    nodes.set_len(nodes_needed);
+                    texts.set_len(texts_needed);
+                }
+                let texts = String::from_utf8(texts).expect("the texts of a document are UTF-8");
+                return Ok(Document::new(source, nodes, texts));
+            }
+            ROOM => {}
+            REFUSED | TOO_DEEP => return Err(fault_of(source, depth, fault)?.into()),
+            _ => return Err(failure(status)),
+        }
+    }
+}
+
+/// Room for as many, if there is memory.
+fn room<T>(count: usize) -> Result<Vec<T>, Error> {
+    let mut room = Vec::new();
+    room.try_reserve_exact(count).map_err(|_| Error::Memory)?;
+    Ok(room)
+}
+
+/// A `str` is UTF-8, and the depth is no larger than what is taken.
+fn failure(status: u32) -> Error {
+    match status {
+        TOO_LONG => Error::TooLong,
+        _ => Error::Memory,
+    }
+}
+
+fn fault_of(source: &str, depth: u32, fault: RawFault) -> Result<Fault, Error> {
+    let mut needed = 256;
+    loop {
+        let mut words: Vec<u8> = room(needed)?;
+        // SAFETY: as above.
+        let status = unsafe {
+            firthnapkin_message(
+                source.as_ptr(),
+                source.len(),
+                depth,
+                words.as_mut_ptr(),
+                words.capacity(),
+                &mut needed,
+            )
+        };
+        match status {
+            REFUSED | TOO_DEEP => {
+                // SAFETY: the call wrote that many.
+                unsafe { words.set_len(needed) };
+                let mut message = String::from_utf8(words).expect("the words of a fault are UTF-8");
+                message.truncate(message.rfind(". At ").unwrap_or(message.len()));
+                return Ok(Fault {
+                    message,
+                    reason: Reason::of(fault.kind),
+                    detail: Detail::of(fault.detail, fault.character),
+                    start: fault.start,
+                    end: fault.end,
+                });
+            }
+            ROOM => {}
+            _ => return Err(failure(status)),
+        }
+    }
+}

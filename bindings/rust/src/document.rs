@@ -1,0 +1,255 @@
+//! A document's nodes.
+
+use std::fmt;
+
+/// What a node stands for.
+#[derive(Clone, Copy, Debug, PartialEq, Eq, Hash)]
+#[non_exhaustive]
+#[repr(u32)]
+pub enum Kind {
+    Query = 0,
+    Mutation = 1,
+    Subscription = 2,
+    /// The definition of a fragment.
+    Fragment = 3,
+    /// The variable definitions of an operation.
+    Variables = 4,
+    /// A variable definition, by its name.
+    Variable = 5,
+    /// The type of a variable.
+    Type = 6,
+    Field = 7,
+    /// The alias of a field.
+    Alias = 8,
+    /// The use of a fragment by its name.
+    Spread = 9,
+    /// A fragment without a name; its name is its type condition.
+    Inline = 10,
+    Directive = 11,
+    /// The arguments of a field or a directive.
+    Arguments = 12,
+    /// An argument, by its name.
+    Argument = 13,
+    Null = 14,
+    Enum = 16,
+    /// A variable that stands as a value.
+    Reference = 17,
+    List = 18,
+    Object = 19,
+    /// A field of an object, by its name.
+    Key = 20,
+    /// An Int that 32 bits hold.
+    Int = 21,
+    /// An Int that they don't hold.
+    LargeInt = 22,
+    Float = 23,
+    String = 24,
+    BlockString = 25,
+    Boolean = 26,
+}
+
+/// The kinds by their numbers; there is no 15.
+const KINDS: [Option<Kind>; 27] = {
+    use Kind::*;
+    [
+        Some(Query), Some(Mutation), Some(Subscription), Some(Fragment), Some(Variables), Some(Variable), Some(Type),
+        Some(Field), Some(Alias), Some(Spread), Some(Inline), Some(Directive), Some(Arguments), Some(Argument), Some(Null),
+        None, Some(Enum), Some(Reference), Some(List), Some(Object), Some(Key), Some(Int), Some(LargeInt), Some(Float),
+        Some(String), Some(BlockString), Some(Boolean),
+    ]
+};
+
+/// How many characters of the source, line feeds, characters of the line, and bytes stand before a place.
+#[repr(C)]
+#[derive(Clone, Copy, Debug, Default, PartialEq, Eq, PartialOrd, Ord, Hash)]
+pub struct Place {
+    pub index: u32,
+    pub line: u32,
+    pub column: u32,
+    pub byte: u32,
+}
+
+/// As the library writes it.
+#[repr(C)]
+#[derive(Clone, Copy)]
+pub(crate) struct RawNode {
+    kind: u32,
+    descendants: u32,
+    start: Place,
+    end: Place,
+    name_start: u32,
+    name_end: u32,
+    value: i64,
+    value_length: u32,
+}
+
+/// What a scalar means; a type without spaces; the name of an enum or a variable; a fragment's type condition.
+#[derive(Clone, Copy, Debug, PartialEq, Eq)]
+#[non_exhaustive]
+pub enum Value<'d> {
+    /// No such node.
+    Nothing,
+    Int(i32),
+    Boolean(bool),
+    Text(&'d str),
+    /// An Int beyond 32 bits or a Float, as it is written.
+    Number(&'d str),
+}
+
+/// A document's nodes, each part before the parts in it.
+#[derive(Clone)]
+pub struct Document<'a> {
+    source: &'a str,
+    nodes: Vec<RawNode>,
+    texts: String,
+}
+
+impl<'a> Document<'a> {
+    pub(crate) fn new(source: &'a str, nodes: Vec<RawNode>, texts: String) -> Self {
+        Document { source, nodes, texts }
+    }
+
+    /// The source that was parsed.
+    pub fn source(&self) -> &'a str {
+        self.source
+    }
+
+    /// How many nodes there are.
+    pub fn len(&self) -> usize {
+        self.nodes.len()
+    }
+
+    /// Never: a document has a definition.
+    pub fn is_empty(&self) -> bool {
+        self.nodes.is_empty()
+    }
+
+    /// The node of this index, if there is one.
+    pub fn node(&self, index: usize) -> Option<Node<'_, 'a>> {
+        (index < self.nodes.len()).then_some(Node { document: self, index })
+    }
+
+    /// The nodes, each part before the parts in it.
+    pub fn nodes(&self) -> impl ExactSizeIterator<Item = Node<'_, 'a>> + DoubleEndedIterator {
+        (0..self.nodes.len()).map(move |index| Node { document: self, index })
+    }
+
+    /// The operations and fragments.
+    pub fn definitions(&self) -> Children<'_, 'a> {
+        Children { document: self, index: 0, end: self.nodes.len() }
+    }
+}
+
+impl fmt::Debug for Document<'_> {
+    fn fmt(&self, f: &mut fmt::Formatter<'_>) -> fmt::Result {
+        f.debug_list().entries(self.nodes()).finish()
+    }
+}
+
+/// A part of a document.
+#[derive(Clone, Copy)]
+pub struct Node<'d, 'a> {
+    document: &'d Document<'a>,
+    index: usize,
+}
+
+impl<'d, 'a> Node<'d, 'a> {
+    fn raw(&self) -> &'d RawNode {
+        &self.document.nodes[self.index]
+    }
+
+    /// The place among the document's nodes.
+    pub fn index(&self) -> usize {
+        self.index
+    }
+
+    pub fn kind(&self) -> Kind {
+        KINDS[self.raw().kind as usize].expect("the library tells no other kind")
+    }
+
+    /// How many of the nodes behind this one are of parts in it.
+    pub fn descendants(&self) -> usize {
+        self.raw().descendants as usize
+    }
+
+    pub fn start(&self) -> Place {
+        self.raw().start
+    }
+
+    /// The place behind the last character.
+    pub fn end(&self) -> Place {
+        self.raw().end
+    }
+
+    /// What the node is written as.
+    pub fn text(&self) -> &'a str {
+        &self.document.source[self.raw().start.byte as usize..self.raw().end.byte as usize]
+    }
+
+    /// The name, without `$` and `@`; of an inline fragment its type condition.
+    pub fn name(&self) -> Option<&'a str> {
+        use Kind::*;
+        let (start, end) = (self.raw().name_start as usize, self.raw().name_end as usize);
+        match self.kind() {
+            Type | Null | Int | LargeInt | Float | String | BlockString | Boolean => None,
+            _ => (start < end).then(|| &self.document.source[start..end]),
+        }
+    }
+
+    pub fn value(&self) -> Value<'d> {
+        let raw = self.raw();
+        let within = |text: &'d str| &text[raw.value as usize..raw.value as usize + raw.value_length as usize];
+        match self.kind() {
+            Kind::Int => Value::Int(raw.value as i32),
+            Kind::Boolean => Value::Boolean(raw.value == 1),
+            Kind::LargeInt | Kind::Float => Value::Number(self.text()),
+            Kind::String | Kind::BlockString | Kind::Type => Value::Text(within(&self.document.texts)),
+            Kind::Fragment => Value::Text(within(self.document.source)),
+            Kind::Enum | Kind::Reference => self.name().map_or(Value::Nothing, Value::Text),
+            _ => Value::Nothing,
+        }
+    }
+
+    /// The nodes of the parts in this one that are in no other part in it.
+    pub fn children(&self) -> Children<'d, 'a> {
+        Children { document: self.document, index: self.index + 1, end: self.index + 1 + self.descendants() }
+    }
+}
+
+impl PartialEq for Node<'_, '_> {
+    /// Whether both are the same node of one document.
+    fn eq(&self, other: &Self) -> bool {
+        std::ptr::eq(self.document, other.document) && self.index == other.index
+    }
+}
+
+impl Eq for Node<'_, '_> {}
+
+impl fmt::Debug for Node<'_, '_> {
+    fn fmt(&self, f: &mut fmt::Formatter<'_>) -> fmt::Result {
+        write!(f, "{:?}({:?})", self.kind(), self.text())
+    }
+}
+
+/// Nodes of which none is in another.
+#[derive(Clone, Debug)]
+pub struct Children<'d, 'a> {
+    document: &'d Document<'a>,
+    index: usize,
+    end: usize,
+}
+
+impl<'d, 'a> Iterator for Children<'d, 'a> {
+    type Item = Node<'d, 'a>;
+
+    fn next(&mut self) -> Option<Self::Item> {
+        if self.index == self.end {
+            return None;
+        }
+        let node = Node { document: self.document, index: self.index };
+        self.index += 1 + node.descendants();
+        Some(node)
+    }
+}
+
+impl std::iter::FusedIterator for Children<'_, '_> {}

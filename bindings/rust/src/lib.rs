@@ -1,0 +1,23 @@
+//! A proved parser of GraphQL's executable documents (October 2021).
+//!
+//! ```
+//! let document = firthnapkin::parse("{ user(id: 4) { name } }")?;
+//! let names: Vec<_> = document.nodes().filter_map(|node| node.name()).collect();
+//! assert_eq!(names, ["user", "id", "name"]);
+//! # Ok::<(), firthnapkin::Error>(())
+//! ```
+
+mod call;
+mod document;
+mod error;
+mod stack;
+
+pub use call::{parse, parse_within};
+pub use document::{Children, Document, Kind, Node, Place, Value};
+pub use error::{Detail, Error, Fault, Reason};
+
+/// How deep [`parse`] lets brackets be nested.
+pub const DEFAULT_DEPTH: u32 = 200;
+
+/// The largest depth that [`parse_within`] takes.
+pub const MOST_DEPTH: u32 = 1000;

@@ -1,0 +1,213 @@
+//! What the crate gives for sources and depths of every kind.
+
+use firthnapkin::{parse, parse_within, Detail, Document, Error, Fault, Kind, Place, Reason, Value, MOST_DEPTH};
+
+fn place(index: u32, line: u32, column: u32, byte: u32) -> Place {
+    Place { index, line, column, byte }
+}
+
+fn fault(source: &str, depth: u32) -> Fault {
+    match parse_within(source, depth) {
+        Err(Error::Fault(fault)) => fault,
+        other => panic!("{source:.40}: {other:?}"),
+    }
+}
+
+/// What gqlcheck writes for a source.
+fn lines(source: &str) -> String {
+    match parse(source) {
+        Ok(document) => document.nodes().map(line).collect::<Vec<_>>().join("\n"),
+        Err(error) => error.to_string(),
+    }
+}
+
+fn line(node: firthnapkin::Node) -> String {
+    let (kind, start, end) = (node.kind(), node.start().index, node.end().index);
+    let word = format!("{kind:?}").to_lowercase();
+    let named = |name: &str| format!("{word} {start} {end} {name}");
+    match (kind, node.value(), node.name()) {
+        (Kind::Type, Value::Text(text), _) => named(text),
+        (Kind::Fragment, Value::Text(condition), Some(name)) => named(&format!("{name} {condition}")),
+        (_, Value::Int(_) | Value::Boolean(_) | Value::Number(_), _) => format!("scalar {start} {end}"),
+        (Kind::String | Kind::BlockString, _, _) => format!("scalar {start} {end}"),
+        (_, _, Some(name)) => named(name),
+        _ => format!("{word} {start} {end}"),
+    }
+}
+
+fn bytes_of(digits: &str) -> Vec<u8> {
+    let digits = digits.trim_matches('-');
+    (0..digits.len()).step_by(2).map(|i| u8::from_str_radix(&digits[i..i + 2], 16).unwrap()).collect()
+}
+
+/// The rows of the language: `tests/rows.py` writes them to the file that `FIRTHNAPKIN_ROWS` names.
+#[test]
+fn rows() {
+    let Ok(path) = std::env::var("FIRTHNAPKIN_ROWS") else {
+        println!("FIRTHNAPKIN_ROWS names no file of rows");
+        return;
+    };
+    let mut count = 0;
+    for row in std::fs::read_to_string(path).unwrap().lines() {
+        let (source, wanted) = row.split_once(' ').unwrap();
+        // What is no UTF-8 cannot be had as a `str`.
+        let Ok(source) = String::from_utf8(bytes_of(source)) else { continue };
+        assert_eq!(lines(&source).as_bytes(), bytes_of(wanted), "{source}");
+        count += 1;
+    }
+    assert!(count >= 1500, "{count} rows");
+}
+
+#[test]
+fn values() {
+    let nines = "9".repeat(5000);
+    for (text, kind, value) in [
+        ("-7", Kind::Int, Value::Int(-7)),
+        ("-0", Kind::Int, Value::Int(0)),
+        ("-2147483648", Kind::Int, Value::Int(i32::MIN)),
+        ("2147483647", Kind::Int, Value::Int(i32::MAX)),
+        ("-2147483649", Kind::LargeInt, Value::Number("-2147483649")),
+        ("2147483648", Kind::LargeInt, Value::Number("2147483648")),
+        (&nines, Kind::LargeInt, Value::Number(&nines)),
+        ("-1.5", Kind::Float, Value::Number("-1.5")),
+        ("1e400", Kind::Float, Value::Number("1e400")),
+        ("true", Kind::Boolean, Value::Boolean(true)),
+        ("false", Kind::Boolean, Value::Boolean(false)),
+        ("null", Kind::Null, Value::Nothing),
+        (r#""\u00e9\n𝄞""#, Kind::String, Value::Text("é\n𝄞")),
+        ("\"\"\"\n  x\n \"\"\"", Kind::BlockString, Value::Text("x")),
+        ("E", Kind::Enum, Value::Text("E")),
+        ("$v", Kind::Reference, Value::Text("v")),
+    ] {
+        let source = format!("{{ a(b: {text}) }}");
+        let document = parse(&source).unwrap();
+        let node = document.node(4).unwrap();
+        assert_eq!((node.kind(), node.value()), (kind, value));
+        assert_eq!(node.text(), text);
+        assert_eq!(node.name(), matches!(kind, Kind::Enum | Kind::Reference).then(|| text.trim_start_matches('$')));
+    }
+}
+
+#[test]
+fn documents() {
+    let source = "query Q($v: [T ! ]) { x: a(b: $v) { c } ...F }\n# é𝄞\nfragment F on T { d(e: \"é𝄞\") }".to_string();
+    let document = parse(&source).unwrap();
+    let indexes = |children: firthnapkin::Children| children.map(|node| node.index()).collect::<Vec<_>>();
+    assert_eq!(indexes(document.definitions()), [0, 11]);
+    assert_eq!(indexes(document.node(0).unwrap().children()), [1, 4, 10]);
+    assert_eq!(indexes(document.node(4).unwrap().children()), [5, 6, 9]);
+    assert_eq!(document.node(3).unwrap().value(), Value::Text("[T!]"));
+    assert_eq!(document.node(11).unwrap().value(), Value::Text("T"));
+    let last = document.nodes().next_back().unwrap();
+    assert_eq!((last.text(), last.value()), ("\"é𝄞\"", Value::Text("é𝄞")));
+    assert_eq!((last.start(), last.end()), (place(75, 2, 23, 79), place(79, 2, 27, 87)));
+    assert_eq!((document.len(), document.nodes().len(), document.is_empty()), (16, 16, false));
+    assert_eq!(document.node(16), None);
+    // Names borrow from the source, not from the document.
+    let name = document.node(4).unwrap().name();
+    drop(document);
+    assert_eq!(name, Some("a"));
+}
+
+#[test]
+fn faults() {
+    use Reason::*;
+    let deep = "{a".repeat(201);
+    for (source, reason, detail, start, end, told) in [
+        ("{\n  a )\n}", UnexpectedToken, None, (6, 1, 4, 6), (7, 1, 5, 7), "Unexpected \")\". At 1:4"),
+        ("", UnexpectedEnd, None, (0, 0, 0, 0), (0, 0, 0, 0), "Unexpected end of input. At 0:0"),
+        ("#é\n{ a", UnexpectedEnd, None, (6, 1, 3, 7), (6, 1, 3, 7), "Unexpected end of input. At 1:3"),
+        ("{ é }", Lexical, Some(Detail::UnknownCharacter('é')), (2, 0, 2, 2), (2, 0, 2, 2), "Unknown character \"é\". At 0:2"),
+        ("{ .a }", Lexical, Some(Detail::UnexpectedCharacter('.')), (2, 0, 2, 2), (2, 0, 2, 2),
+            "Unexpected character \".\". At 0:2"),
+        ("{a(b:\"c", Lexical, Some(Detail::UnterminatedString), (7, 0, 7, 7), (7, 0, 7, 7),
+            "Unterminated string literal. At 0:7"),
+        ("{a(b:\"\0\")}", Lexical, Some(Detail::UnknownCharacterInString('\0')), (6, 0, 6, 6), (6, 0, 6, 6),
+            "Unknown character \"\0\" in string literal. At 0:6"),
+        ("{a(b:\"\\q\")}", Lexical, Some(Detail::UnknownEscape), (7, 0, 7, 7), (7, 0, 7, 7),
+            "Unknown escape sequence \"\\q\" in string. At 0:7"),
+        ("{a(b:-", Lexical, Some(Detail::UnexpectedEndInToken), (6, 0, 6, 6), (6, 0, 6, 6), "Unexpected end of input. At 0:6"),
+        (&deep, Nested, None, (400, 0, 400, 400), (401, 0, 401, 401), "Too deeply nested. At 0:400"),
+    ] {
+        let fault = fault(source, 200);
+        assert_eq!((fault.reason, fault.detail), (reason, detail), "{source}");
+        let (a, b) = (place(start.0, start.1, start.2, start.3), place(end.0, end.1, end.2, end.3));
+        assert_eq!((fault.start, fault.end, fault.to_string()), (a, b, told.to_string()));
+        assert_eq!(Some(fault.message.as_str()), told.rsplit_once(". At ").map(|it| it.0));
+        let error: Box<dyn std::error::Error> = Box::new(Error::Fault(fault));
+        assert_eq!(error.to_string(), told);
+    }
+    for length in [1, 200, 242, 243, 244, 255, 256, 257, 5000] {
+        let name = "n".repeat(length);
+        assert_eq!(fault(&format!("query a {name}"), 9).to_string(), format!("Unexpected \"{name}\". At 0:8"));
+    }
+}
+
+fn deep(depth: usize) -> String {
+    "{a".repeat(depth) + &"}".repeat(depth)
+}
+
+#[test]
+fn depths() {
+    for source in [deep(200_000).as_str(), "{a}", ""] {
+        for depth in [MOST_DEPTH + 1, 1 << 31, u32::MAX, -1i32 as u32] {
+            assert!(matches!(parse_within(source, depth), Err(Error::Depth)));
+        }
+    }
+    for depth in [0, 1, 2, 199, 200, MOST_DEPTH] {
+        let source = deep(depth as usize);
+        if depth > 0 {
+            assert_eq!(parse_within(&source, depth).unwrap().len(), depth as usize + 1);
+        }
+        let fault = fault(&deep(depth as usize + 1), depth);
+        assert_eq!((fault.reason, fault.start.byte), (Reason::Nested, 2 * depth));
+    }
+    assert_eq!(parse(&deep(200)).unwrap().len(), 201);
+    assert_eq!(fault(&deep(201), 200), fault(&deep(201), firthnapkin::DEFAULT_DEPTH));
+}
+
+#[test]
+fn sources() {
+    for source in ["", "\0", "{a\0}", "\u{feff}", "{}", "#", "\"", "\"\"\"", "\u{10ffff}"] {
+        fault(source, 200);
+    }
+    let large = format!("{{{}}}", ("a".repeat(63) + " ").repeat(1 << 20));
+    let document = parse(&large).unwrap();
+    assert_eq!((document.len(), document.node(0).unwrap().end().byte), ((1 << 20) + 1, (1 << 26) + 2));
+    assert_eq!(fault(&format!("{{{}", "a".repeat(1 << 26)), 9).start.byte, (1 << 26) + 1);
+    let strings = format!("{{a(b:[{}])}}", "\"\\n0123456789\" ".repeat(5000));
+    assert_eq!(parse(&strings).unwrap().nodes().next_back().unwrap().value(), Value::Text("\n0123456789"));
+}
+
+#[test]
+fn threads_and_stacks() {
+    let source = format!("query Q {{ {} }}", "user(id: 4, b: {c: [1.5, \"x\"]}) { id name } ".repeat(500));
+    let wanted = lines(&source);
+    std::thread::scope(|scope| {
+        for size in [1 << 18, 1 << 18, 1 << 19, 1 << 21] {
+            let (source, wanted) = (&source, &wanted);
+            std::thread::Builder::new()
+                .stack_size(size)
+                .spawn_scoped(scope, move || {
+                    for part in ["{...", "{a", "{a(x:{k:", "query($a:["] {
+                        fault(&part.repeat(5000), 200);
+                        fault(&part.repeat(5000), MOST_DEPTH);
+                    }
+                    let tree = "{...".repeat(199) + "{a}" + &"}".repeat(199);
+                    assert_eq!(parse(&tree).unwrap().len(), 201);
+                    for _ in 0..20 {
+                        assert_eq!(&lines(source), wanted);
+                    }
+                })
+                .unwrap();
+        }
+    });
+}
+
+#[test]
+fn a_document_goes_to_other_threads() {
+    fn goes<T: Send + Sync>(_: &T) {}
+    let document: Document = parse("{a}").unwrap();
+    goes(&document);
+    goes(&fault("{", 9));
+}

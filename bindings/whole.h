@@ -1,0 +1,66 @@
+/* A parse whose rooms are found: for bindings that copy what it gives into their own language's memory. */
+#ifndef FIRTHNAPKIN_WHOLE_H
+#define FIRTHNAPKIN_WHOLE_H
+
+#include "calls.h"
+#include <stdlib.h>
+
+/* What a source gives. The texts are those of the nodes; where there is a fault, its words. */
+typedef struct {
+    uint32_t status;
+    firthnapkin_node *nodes;
+    size_t nodes_count;
+    uint8_t *texts;
+    size_t texts_count;
+    firthnapkin_fault fault;
+} whole;
+
+static inline void give_back(whole *w) {
+    free(w->nodes);
+    free(w->texts);
+    w->nodes = NULL;
+    w->texts = NULL;
+}
+
+/* Rooms of so many nodes and bytes, in place of those that are there; never NULL. False where memory ran out. */
+static inline int make_rooms(whole *w, size_t nodes, size_t texts) {
+    give_back(w);
+    w->nodes = malloc((nodes + 1) * sizeof *w->nodes);
+    w->texts = malloc(texts + 1);
+    return w->nodes != NULL && w->texts != NULL;
+}
+
+/* The words of a source's fault. */
+static inline uint32_t find_words(whole *w, const uint8_t *source, size_t length, uint32_t depth) {
+    size_t room = 256;
+    uint32_t status;
+    do {
+        if (!make_rooms(w, 0, room)) return FIRTHNAPKIN_MEMORY;
+        status = message_on_stack(source, length, depth, w->texts, room, &w->texts_count);
+        room = w->texts_count;
+    } while (status == FIRTHNAPKIN_ROOM);
+    return status;
+}
+
+/* Parses a source. What it gives is to be given back, whatever the status. Most texts have a node for eight bytes or
+ * fewer; for others the second try has the room that the first asked for. */
+static inline whole parse_whole(const uint8_t *source, size_t length, uint32_t depth) {
+    whole w = {.status = FIRTHNAPKIN_MEMORY};
+    /* A source that is too long needs no room to be told so. */
+    size_t eighth = (uint64_t)length >> 32 != 0 ? 0 : length / 8;
+    size_t nodes = eighth + 16, texts = eighth + 64;
+    do {
+        if (!make_rooms(&w, nodes, texts)) {
+            w.status = FIRTHNAPKIN_MEMORY;
+            return w;
+        }
+        w.status = parse_on_stack(source, length, depth, w.nodes, nodes, &w.nodes_count, w.texts, texts, &w.texts_count,
+                                  &w.fault);
+        nodes = w.nodes_count;
+        texts = w.texts_count;
+    } while (w.status == FIRTHNAPKIN_ROOM);
+    if (w.status == FIRTHNAPKIN_REFUSED || w.status == FIRTHNAPKIN_TOO_DEEP) w.status = find_words(&w, source, length, depth);
+    return w;
+}
+
+#endif

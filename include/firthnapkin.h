@@ -1,0 +1,155 @@
+/* A proved parser of GraphQL's executable documents (October 2021), for C and for what calls C.
+ *
+ * Nothing here keeps anything between two calls, and nothing is to be freed: all that a call gives stands in the
+ * caller's own memory. Calls may run in any number of threads at once.
+ *
+ * What the caller has to see to, since no proof does:
+ * - A pointer has the room that its count says: of bytes, or of nodes. Where the count is 0 the pointer may be NULL.
+ *   The pointers to single counts and to the fault are never NULL.
+ * - The source and the rooms, counts and fault of one call don't overlap, and nothing else writes to them meanwhile.
+ * - The stack has room for the call: FIRTHNAPKIN_STACK(depth) bytes are enough, whatever the source.
+ * - malloc, realloc and free come from one allocator, and a block is aligned to each power of two up to 16 that divides
+ *   its size. A call is not made from a signal handler, nor in the forked child of a process with threads.
+ */
+#ifndef FIRTHNAPKIN_H
+#define FIRTHNAPKIN_H
+
+#include <stddef.h>
+#include <stdint.h>
+
+#ifdef __cplusplus
+extern "C" {
+#endif
+
+/* The version: 0.1.0 is 100, its first number ten thousand times, its second a hundred times, and its third. */
+#define FIRTHNAPKIN_VERSION 100
+#define FIRTHNAPKIN_VERSION_TEXT "0.1.0"
+
+/* The largest depth that a call takes. */
+#define FIRTHNAPKIN_MOST_DEPTH 1000
+
+/* As many bytes of stack are enough for a call with this depth; measured on x86-64, where a level takes at most 2,100. */
+#define FIRTHNAPKIN_STACK(depth) ((size_t)32768 + (size_t)2304 * (depth))
+
+/* What a call answers. There is no 3. */
+enum firthnapkin_status {
+    FIRTHNAPKIN_TREE = 0,     /* the source is a document */
+    FIRTHNAPKIN_REFUSED = 1,  /* the source is a text, and no document */
+    FIRTHNAPKIN_NOT_UTF8 = 2, /* the source is no text */
+    FIRTHNAPKIN_MEMORY = 4,   /* memory ran out */
+    FIRTHNAPKIN_TOO_DEEP = 5, /* a token is nested deeper than the caller's depth, and those before it begin a document */
+    FIRTHNAPKIN_ROOM = 6,     /* a room is too small */
+    FIRTHNAPKIN_TOO_LONG = 7, /* the source has 4 GiB or more */
+    FIRTHNAPKIN_DEPTH = 8     /* the depth is above FIRTHNAPKIN_MOST_DEPTH, and the source was not looked at */
+};
+
+/* What a node stands for. The numbers of scalars stand last, and there is no 15. */
+enum firthnapkin_kind {
+    FIRTHNAPKIN_QUERY = 0,
+    FIRTHNAPKIN_MUTATION = 1,
+    FIRTHNAPKIN_SUBSCRIPTION = 2,
+    FIRTHNAPKIN_FRAGMENT = 3,  /* the definition of a fragment */
+    FIRTHNAPKIN_VARIABLES = 4, /* the variable definitions of an operation */
+    FIRTHNAPKIN_VARIABLE = 5,  /* a variable definition, by its name */
+    FIRTHNAPKIN_TYPE = 6,      /* the type of a variable */
+    FIRTHNAPKIN_FIELD = 7,
+    FIRTHNAPKIN_ALIAS = 8,     /* the alias of a field */
+    FIRTHNAPKIN_SPREAD = 9,    /* the use of a fragment by its name */
+    FIRTHNAPKIN_INLINE = 10,   /* a fragment without a name; its name is its type condition */
+    FIRTHNAPKIN_DIRECTIVE = 11,
+    FIRTHNAPKIN_ARGUMENTS = 12, /* the arguments of a field or a directive */
+    FIRTHNAPKIN_ARGUMENT = 13,  /* an argument, by its name */
+    FIRTHNAPKIN_NULL = 14,
+    FIRTHNAPKIN_ENUM = 16,
+    FIRTHNAPKIN_REFERENCE = 17, /* a variable that stands as a value */
+    FIRTHNAPKIN_LIST = 18,
+    FIRTHNAPKIN_OBJECT = 19,
+    FIRTHNAPKIN_KEY = 20,       /* a field of an object, by its name */
+    FIRTHNAPKIN_INT = 21,       /* an Int that 32 bits hold */
+    FIRTHNAPKIN_LARGE_INT = 22, /* an Int that they don't hold */
+    FIRTHNAPKIN_FLOAT = 23,
+    FIRTHNAPKIN_STRING = 24,
+    FIRTHNAPKIN_BLOCK_STRING = 25,
+    FIRTHNAPKIN_BOOLEAN = 26
+};
+
+/* A place: how many characters of the source, line feeds, characters of the line and bytes stand before it. */
+typedef struct {
+    uint32_t index, line, column, byte;
+} firthnapkin_place;
+
+/* A part of a document. Behind it stand the nodes of the parts in it, in the order in which they are written: the node
+ * after node i that is in no part of it is node i + 1 + descendants. Of a part that goes by its name alone, as a
+ * variable's definition, an argument or a key, the places are its name's. A node takes 64 bytes; the four behind its last
+ * field say nothing. */
+typedef struct {
+    uint32_t kind; /* a firthnapkin_kind */
+    uint32_t descendants;
+    firthnapkin_place start, end;
+    /* The bytes of the source that name it, without `$` and `@`: all of a scalar, of null and of a type. None where
+     * there is no name: both are the byte where it starts. */
+    uint32_t name_start, name_end;
+    /* Of an Int its number, of a Boolean 0 or 1. Of a string, of a block string and of a type the byte of the texts where
+     * what it means begins, a type without spaces, and value_length how many bytes that is. Of a fragment the byte of
+     * the source where its type condition begins, and value_length that one's bytes. Else 0. */
+    int64_t value;
+    uint32_t value_length;
+} firthnapkin_node;
+
+/* Why a source has no tree. */
+enum firthnapkin_refusal {
+    FIRTHNAPKIN_UNEXPECTED_TOKEN = 0, /* no document goes on with the token */
+    FIRTHNAPKIN_UNEXPECTED_END = 1,   /* the source ends within a document */
+    FIRTHNAPKIN_LEXICAL = 2,          /* there is no token here; `detail` says why */
+    FIRTHNAPKIN_SCALAR = 3,           /* the scalar is refused; never told, since every literal that is a token is read */
+    FIRTHNAPKIN_NESTED = 4            /* the token is nested too deep */
+};
+
+/* Why there is no token. */
+enum firthnapkin_detail {
+    FIRTHNAPKIN_NO_DETAIL = 0,
+    FIRTHNAPKIN_UNKNOWN_CHARACTER = 1,           /* `character` begins no token */
+    FIRTHNAPKIN_UNEXPECTED_CHARACTER = 2,        /* a token has begun, and does not go on with `character` */
+    FIRTHNAPKIN_UNTERMINATED_STRING = 3,         /* the source or the line ends within a string */
+    FIRTHNAPKIN_UNKNOWN_CHARACTER_IN_STRING = 4, /* `character` may not stand in a string */
+    FIRTHNAPKIN_UNKNOWN_ESCAPE = 5,              /* what follows a backslash in a string is no escape */
+    FIRTHNAPKIN_UNEXPECTED_END_IN_TOKEN = 6,     /* the source ends within a token */
+    FIRTHNAPKIN_INVALID_NUMBER = 7               /* never told */
+};
+
+/* The same with its place: of a token its places, else of zero width. */
+typedef struct {
+    uint32_t kind;      /* a firthnapkin_refusal */
+    uint32_t detail;    /* a firthnapkin_detail */
+    uint32_t character; /* the character that the detail speaks of, else 0 */
+    firthnapkin_place start, end;
+} firthnapkin_fault;
+
+/* Parses a source. Brackets may be nested `depth` deep: 0 to FIRTHNAPKIN_MOST_DEPTH.
+ *
+ * FIRTHNAPKIN_TREE: the document's nodes stand at the beginning of `nodes`, and their texts, one behind the other, at the
+ * beginning of `texts`; the rest of each room is as it was. FIRTHNAPKIN_ROOM: one of the two has less room than is needed.
+ * Both answers tell how many nodes and how many bytes of texts there are; else both counts are 0. All answers but
+ * FIRTHNAPKIN_TREE leave both rooms as they were. FIRTHNAPKIN_REFUSED and FIRTHNAPKIN_TOO_DEEP write the fault, the others
+ * leave it. */
+uint32_t firthnapkin_parse(const uint8_t *source, size_t length, uint32_t depth, firthnapkin_node *nodes,
+                           size_t nodes_room, size_t *nodes_needed, uint8_t *texts, size_t texts_room,
+                           size_t *texts_needed, firthnapkin_fault *fault);
+
+/* Says in words why a source has no tree: an error, and its line and column, both counted from 0, as
+ * `Unexpected "}". At 0:2`, in UTF-8, with no line feed and no byte 0 at its end.
+ *
+ * FIRTHNAPKIN_REFUSED and FIRTHNAPKIN_TOO_DEEP: the words stand at the beginning of the room, whose rest is as it was, and
+ * `needed` is how many bytes they are. FIRTHNAPKIN_ROOM: they are `needed` bytes, more than the room has. With any other
+ * answer there are none, and `needed` is 0. All answers but the first two leave the room as it was. */
+uint32_t firthnapkin_message(const uint8_t *source, size_t length, uint32_t depth, uint8_t *room, size_t room_length,
+                             size_t *needed);
+
+/* FIRTHNAPKIN_VERSION of the header that the library was built with. */
+uint32_t firthnapkin_version(void);
+
+#ifdef __cplusplus
+}
+#endif
+
+#endif

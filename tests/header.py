@@ -1,0 +1,50 @@
+"""The header and other files of the repository, as the checks of tests/ read them."""
+
+import re
+import sys
+from pathlib import Path
+
+ROOT = Path(__file__).resolve().parent.parent
+
+
+def read(path):
+    return (ROOT / path).read_text(encoding="utf-8")
+
+
+header = read("include/firthnapkin.h")
+
+
+def enum(name):
+    """The constants of an enum of the header, without the name before them, and their numbers."""
+    body = re.search(rf"enum {name} \{{(.*?)\n\}};", header, re.S)[1]
+    return {word: int(number) for word, number in re.findall(r"^    FIRTHNAPKIN_(\w+) = (\d+),?", body, re.M)}
+
+
+def declared(word):
+    """The fields of a type of the header, each with its type."""
+    body = re.search(rf"typedef struct \{{([^}}]*)\}} {word};", header)[1]
+    lines = re.findall(r"^\s*(\w+) ([\w, ]+);", re.sub(r"/\*.*?\*/", "", body, flags=re.S), re.M)
+    return [(field, kind) for kind, names in lines for field in names.split(", ")]
+
+
+def defined(word):
+    """What stands behind a name that the header defines."""
+    return re.search(rf"^#define {re.escape(word)} (.*)$", header, re.M)[1]
+
+
+class Checks:
+    """Counts what holds, and tells what doesn't."""
+
+    def __init__(self):
+        self.passed = self.failed = 0
+
+    def check(self, name, found, wanted):
+        if found == wanted:
+            self.passed += 1
+        else:
+            self.failed += 1
+            print(f"FAILED {name}: {found} was found, {wanted} is wanted")
+
+    def end(self):
+        print(f"{self.passed} passed, {self.failed} failed")
+        sys.exit(1 if self.failed else 0)
