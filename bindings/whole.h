@@ -42,13 +42,13 @@ static inline uint32_t find_words(whole *w, const uint8_t *source, size_t length
     return status;
 }
 
-/* Parses a source. What it gives is to be given back, whatever the status. Most texts have a node for eight bytes or
- * fewer; for others the second try has the room that the first asked for. */
+/* Parses a source. What it gives is to be given back, whatever the status. Few texts have more nodes than one for four bytes;
+ * for those the second try has the room that the first asked for. Memory that is not written to costs nothing. */
 static inline whole parse_whole(const uint8_t *source, size_t length, uint32_t depth) {
     whole w = {.status = FIRTHNAPKIN_MEMORY};
     /* A source that is too long needs no room to be told so. */
-    size_t eighth = (uint64_t)length >> 32 != 0 ? 0 : length / 8;
-    size_t nodes = eighth + 16, texts = eighth + 64;
+    size_t quarter = (uint64_t)length >> 32 != 0 ? 0 : length / 4;
+    size_t nodes = quarter + 16, texts = quarter + 64;
     do {
         if (!make_rooms(&w, nodes, texts)) {
             w.status = FIRTHNAPKIN_MEMORY;

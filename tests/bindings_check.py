@@ -38,7 +38,7 @@ def part(text, begin, end):
 
 # ---- Python
 
-document, fault, parser = (read(f"bindings/python/firthnapkin/{name}.py") for name in ("document", "fault", "parser"))
+document, fault, parser = (read(f"bindings/python/src/firthnapkin/{name}.py") for name in ("document", "fault", "parser"))
 member = r"^    ([A-Z_]+) = (\d+)$"
 check("Python's kinds", numbers(part(document, r"class Kind\(", r"\nclass "), member), kinds)
 reasons = numbers(part(fault, r"class Reason\(", r"\nclass "), member)
@@ -109,7 +109,7 @@ def listed(name):
 check("Node's kinds", listed("KINDS"), kinds)
 check("Node's reasons", listed("REASONS"), refusals)
 check("Node's details", {"NO_DETAIL": 0, **listed("DETAILS")}, details)
-for word in ("TREE", "REFUSED", "TOO_DEEP", "TOO_LONG"):
+for word in ("TREE", "REFUSED", "TOO_DEEP"):
     check(f"Node's status {word}", int(re.search(rf"^const {word} = (\d+);", node, re.M)[1]), statuses[word])
 types = read("bindings/node/index.d.ts")
 typed = set(re.findall(r'"(\w+)"', part(types, "export type Kind =", r";\n")))
@@ -122,7 +122,7 @@ check("the words of Node's details in its types", {"NO_DETAIL", *map(upper, type
 check("the version of Node's package", json.loads(read("bindings/node/package.json"))["version"], version)
 check("the version of Rust's crate", re.search(r'^version = "(.*)"$', read("bindings/rust/Cargo.toml"), re.M)[1], version)
 for path, pattern in (
-    ("python/firthnapkin/parser.py", r"depth: int = (\d+)\)"),
+    ("python/src/firthnapkin/parser.py", r"depth: int = (\d+)\)"),
     ("go/parse.go", r"const DefaultDepth = (\d+)"),
     ("rust/src/lib.rs", r"DEFAULT_DEPTH: u32 = (\d+);"),
     ("node/index.js", r"\{ depth = (\d+) \} = \{\}"),

@@ -220,6 +220,12 @@ func TestSources(t *testing.T) {
 	same(t, "the last of many strings", strs.Meaning(len(strs.Nodes)-1), "\n0123456789")
 }
 
+func TestStatuses(t *testing.T) {
+	same(t, "the errors of statuses", []error{errorOf(2), errorOf(4), errorOf(7), errorOf(8)},
+		[]error{ErrNotUTF8, ErrMemory, ErrTooLong, ErrDepth})
+	same(t, "the error of another", errorOf(3).Error(), "firthnapkin: the parser answered 3")
+}
+
 func TestGoroutines(t *testing.T) {
 	source := "query Q { " + strings.Repeat(`user(id: 4, b: {c: [1.5, "x"]}) { id name } `, 500) + "}"
 	wanted := lines(source)

@@ -108,7 +108,7 @@ export interface Options {
 
 /**
  * The document that a source is. Throws a Fault where it is none, or a bracket is nested deeper; a TypeError where the source
- * is no string or the depth no number; a RangeError where the depth is out of its range, or the source has 4 GiB or more.
+ * is no string or the depth no number; a RangeError where the depth is out of its range.
  */
 export function parse(source: string, options?: Options): Document;
 

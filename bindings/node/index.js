@@ -9,7 +9,6 @@ const addon = require("./firthnapkin.node");
 const TREE = 0;
 const REFUSED = 1;
 const TOO_DEEP = 5;
-const TOO_LONG = 7;
 
 // By their numbers; there is no 15.
 const KINDS = [
@@ -279,7 +278,7 @@ function parse(source, { depth = 200 } = {}) {
   const { status, nodes, texts } = addon.parse(bytes, limit);
   if (status === TREE) return new Document(source, bytes, nodes, texts);
   if (status === REFUSED || status === TOO_DEEP) throw fault(source, nodes, texts);
-  if (status === TOO_LONG) throw new RangeError("source must have less than 4 GiB");
+  // No string has 4 GiB.
   throw new Error(`the parser answered ${status}`);
 }
 

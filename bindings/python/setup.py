@@ -14,19 +14,22 @@ LIBRARY = ROOT / "out/libfirthnapkin.a"
 if not LIBRARY.exists():
     sys.exit(f"{LIBRARY} is not there: ./c-library builds it, in the repository's folder")
 
+
+def extension(name):
+    return Extension(
+        f"firthnapkin.{name}",
+        [f"src/firthnapkin/{name}.c"],
+        define_macros=[("Py_LIMITED_API", "0x03090000")],
+        include_dirs=[str(ROOT / "include"), str(ROOT / "bindings")],
+        extra_objects=[str(LIBRARY)],
+        extra_compile_args=["-pthread"],
+        extra_link_args=["-pthread"],
+        depends=[str(LIBRARY), str(ROOT / "bindings/calls.h"), str(ROOT / "bindings/whole.h")],
+        py_limited_api=True,
+    )
+
+
 setup(
     version=(ROOT / "VERSION").read_text(encoding="utf-8").strip(),
-    ext_modules=[
-        Extension(
-            "firthnapkin._parser",
-            ["firthnapkin/_parser.c"],
-            define_macros=[("Py_LIMITED_API", "0x03090000")],
-            include_dirs=[str(ROOT / "include"), str(ROOT / "bindings")],
-            extra_objects=[str(LIBRARY)],
-            extra_compile_args=["-pthread"],
-            extra_link_args=["-pthread"],
-            depends=[str(LIBRARY), str(ROOT / "bindings/calls.h"), str(ROOT / "bindings/whole.h")],
-            py_limited_api=True,
-        )
-    ],
+    ext_modules=[extension("_parser"), extension("_graphql_core")],
 )

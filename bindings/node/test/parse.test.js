@@ -155,12 +155,12 @@ test("depths", () => {
 
 test("sources", () => {
   for (const source of [undefined, null, 5, Buffer.from("{a}"), ["{a}"], { toString: () => "{a}" }, Symbol("{a}")])
-    assert.throws(() => parse(source), TypeError);
+    assert.throws(() => parse(source), { name: "TypeError", message: /^source must be a string, not / });
   for (const source of ["", "\0", "{a\0}", "\ufeff", "{}", "#", '"', '"""', "\u{10ffff}"]) faultOf(source);
   assert.strictEqual(parse("\ufeff{a}").node(1).start.byte, 4);
   const large = parse(`{${" ".repeat(2 ** 26 - 3)}a}`);
   assert.strictEqual(large.node(1).start.index, 2 ** 26 - 2);
-  assert.strictEqual(parse(`{${"field ".repeat(2 ** 22)}}`).length, 2 ** 22 + 1);
+  assert.strictEqual(parse(`{${"a ".repeat(2 ** 18)}}`).length, 2 ** 18 + 1);
   assert.strictEqual(faultOf(`{${"a".repeat(2 ** 26)}`).start.byte, 2 ** 26 + 1);
   const strings = parse(`{a(b:[${'"\\n0123456789" '.repeat(5000)}])}`);
   assert.strictEqual(strings.node(strings.length - 1).value, "\n0123456789");

@@ -4,9 +4,16 @@ import os
 import sys
 import unittest
 
-here = os.path.dirname(os.path.abspath(__file__))
-tests = unittest.defaultTestLoader.discover(here, top_level_dir=here)
-result = unittest.TextTestRunner(stream=sys.stdout, verbosity=1).run(tests)
-failed = len(result.failures) + len(result.errors)
-print(f"{result.testsRun - min(failed, result.testsRun)} passed, {failed} failed")
-sys.exit(1 if failed else 0)
+
+
+def main() -> None:
+    here = os.path.dirname(os.path.abspath(__file__))
+    tests = unittest.defaultTestLoader.discover(here, top_level_dir=here)
+    result = unittest.TextTestRunner(stream=sys.stdout, verbosity=1).run(tests)
+    failed = len(result.failures) + len(result.errors)
+    print(f"{result.testsRun - min(failed, result.testsRun)} passed, {failed} failed")
+    sys.exit(1 if failed else 0)
+
+
+if __name__ == "__main__":
+    main()

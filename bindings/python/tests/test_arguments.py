@@ -6,7 +6,9 @@ import sys
 import threading
 import unittest
 from typing import Any, List
+from unittest import mock
 
+import firthnapkin
 from firthnapkin import MOST_DEPTH, Fault, Kind, Reason, __version__, parse
 
 
@@ -73,13 +75,11 @@ class Sources(unittest.TestCase):
         self.assertEqual(parse("\ufeff{a}")[1].start.byte, 4)
 
     def test_64_megabytes(self) -> None:
-        text = "{" + " " * (2**26 - 3) + "a}"
-        self.assertEqual(parse(text)[1].start.index, 2**26 - 2)
-        self.assertEqual(len(parse("{" + ("a" * 63 + " ") * 2**20 + "}")), 2**20 + 1)
+        document = parse("{" + ("a" * 63 + " ") * 2**20 + "}")
+        self.assertEqual((len(document), document[0].end.byte), (2**20 + 1, 2**26 + 2))
         with self.assertRaises(Fault) as raised:
             parse("{" + "a" * 2**26)
         self.assertEqual(raised.exception.start.index, 2**26 + 1)
-        self.assertRaises(Fault, parse, "{a" * 2**25)
 
 
 class Stacks(unittest.TestCase):
@@ -127,6 +127,40 @@ class Stacks(unittest.TestCase):
         here = os.path.dirname(os.path.abspath(__file__))
         found = subprocess.run([sys.executable, "-c", program], cwd=here, capture_output=True, check=False)
         self.assertEqual((found.returncode, found.stdout.strip()), (0, b"201"), found.stderr)
+
+
+class Statuses(unittest.TestCase):
+    def test_statuses(self) -> None:
+        """What each answer of the library is told as."""
+        for status, error in ((7, ValueError), (2, SystemError), (3, SystemError), (6, SystemError), (8, SystemError)):
+            with mock.patch.object(firthnapkin._parser, "parse", return_value=(status, b"", b"")):
+                with self.subTest(status=status), self.assertRaises(error) as raised:
+                    parse("{a}")
+                self.assertNotIsInstance(raised.exception, Fault)
+                self.assertIn("4 GiB" if status == 7 else str(status), str(raised.exception))
+
+    def test_refused_depth(self) -> None:
+        """The extension alone takes no depth as it comes, either."""
+        for depth in (1001, 2**32 - 1, 2**32 + 5, -1, 2**64 - 1):
+            self.assertEqual(firthnapkin._parser.parse(b"{a" * 200000, depth)[0], 8)
+        self.assertEqual(firthnapkin._parser.parse(b"\xff", 200)[0], 2)
+        for arguments in ((), ("{a}", 5), (None, 5), (b"{a}", None), (b"{a}", 1.5), (b"{a}", 5, 5), (bytearray(b"{a}"), 5)):
+            with self.assertRaises(TypeError):
+                firthnapkin._parser.parse(*arguments)  # type: ignore[arg-type]
+
+    def test_memory(self) -> None:
+        """Where memory runs out the process goes on."""
+        program = (
+            "import resource, firthnapkin\n"
+            "source = b'{' + b'a ' * 2**24 + b'}'\n"
+            "taken = int(open('/proc/self/statm').read().split()[0]) * resource.getpagesize()\n"
+            "resource.setrlimit(resource.RLIMIT_AS, (taken + 2**25, resource.RLIM_INFINITY))\n"
+            "try: firthnapkin._parser.parse(source, 200)\n"
+            "except MemoryError: print('memory', len(firthnapkin.parse('{a}')))\n"
+        )
+        here = os.path.dirname(os.path.abspath(__file__))
+        found = subprocess.run([sys.executable, "-c", program], cwd=here, capture_output=True, check=False)
+        self.assertEqual((found.returncode, found.stdout), (0, b"memory 2\n"), found.stderr)
 
 
 class Version(unittest.TestCase):

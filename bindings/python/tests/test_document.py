@@ -131,7 +131,7 @@ class Nodes(unittest.TestCase):
 
     def test_other_threads_go_on(self) -> None:
         """While a long text is parsed, another thread never waits for as long as half of that."""
-        text = ("{" + "a " * 4000000 + "}").encode()
+        text = ("{" + "a " * 1000000 + "}").encode()
         times: List[float] = []
         is_done = threading.Event()
 

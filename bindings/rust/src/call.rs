@@ -146,3 +146,14 @@ fn fault_of(source: &str, depth: u32, fault: RawFault) -> Result<Fault, Error> {
         }
     }
 }
+
+#[cfg(test)]
+mod tests {
+    use super::*;
+
+    #[test]
+    fn statuses() {
+        assert_eq!([failure(4), failure(TOO_LONG)], [Error::Memory, Error::TooLong]);
+        assert!(matches!(room::<u64>(usize::MAX / 16), Err(Error::Memory)));
+    }
+}

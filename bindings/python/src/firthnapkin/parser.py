@@ -26,7 +26,7 @@ def parse(source: str, *, depth: int = 200) -> Document:
     """
     if not isinstance(source, str):
         raise TypeError(f"source must be a str, not {type(source).__name__}")
-    limit = _depth(depth)
+    limit = limit_of(depth)
     try:
         written = str.encode(source)
     except UnicodeEncodeError as error:
@@ -41,7 +41,8 @@ def parse(source: str, *, depth: int = 200) -> Document:
     raise SystemError(f"the parser answered {status}")
 
 
-def _depth(depth: int) -> int:
+def limit_of(depth: int) -> int:
+    """The number that a depth is, if it is one that is taken."""
     try:
         limit = operator.index(depth)
     except TypeError:

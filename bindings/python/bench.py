@@ -1,0 +1,91 @@
+#!/usr/bin/env python3
+"""Tells how fast texts are parsed by this package, and by graphql-core 3.2 with and without it: the best of a second's rounds,
+each in microseconds, and how often graphql-core's own takes what `firthnapkin.graphql_core` takes.
+
+    python bench.py    with this package installed, and graphql-core 3.2
+"""
+
+import random
+import time
+from typing import Any, Callable, Dict
+
+import firthnapkin
+import graphql
+from firthnapkin import graphql_core
+
+REQUEST = """query Orders($shop: ID!, $first: Int = 20, $states: [State!] = [OPEN, LATE]) {
+  shop(id: $shop) {
+    name
+    orders(first: $first, filter: {states: $states, from: "2021-10-01"}, sort: {by: PRICE, up: false}) {
+      count
+      edges {
+        cursor
+        node { ...Order customer { id, displayName @include(if: true) } total(currency: EUR) { amount, currency } }
+      }
+    }
+  }
+}
+
+fragment Order on Order {
+  id
+  number
+  placedAt
+  lines(first: 100) { product { id, title, price(currency: EUR) { amount } }, quantity, discount }
+  ... on ShippedOrder { parcels { carrier, code } }
+}
+"""
+
+BEYOND_ASCII = """# größe, мир и труд, 𝄞
+query Q { find(text: "größe 𝄞 мир", other: \"\"\"
+  мир
+    и труд
+\"\"\") { id, name # имя
+  } }
+"""
+
+
+def repeated(text: str, size: int) -> str:
+    """Definitions of other names, until they have so many bytes."""
+    parts, length = [], 0
+    while length < size:
+        part = text.replace("Order on", f"Order{len(parts)} on").replace("...Order ", f"...Order{len(parts)} ")
+        parts.append(part.replace("query Orders", f"query Orders{len(parts)}").replace("query Q", f"query Q{len(parts)}"))
+        length += len(parts[-1].encode())
+    return "\n".join(parts)
+
+
+def texts() -> Dict[str, str]:
+    return {
+        "1 KB": REQUEST,
+        "introspection": graphql.get_introspection_query(),
+        "10 KB": repeated(REQUEST, 10_000),
+        "100 KB": repeated(REQUEST, 100_000),
+        "1 KB beyond ASCII": repeated(BEYOND_ASCII, 1_000),
+        "10 KB beyond ASCII": repeated(BEYOND_ASCII, 10_000),
+        "100 KB beyond ASCII": repeated(BEYOND_ASCII, 100_000),
+    }
+
+
+def best(calls: Dict[str, Callable[[str], Any]], text: str) -> Dict[str, float]:
+    """The best time of each call; they take turns, so that what else the machine does strikes all."""
+    times = {name: float("inf") for name in calls}
+    end = time.perf_counter() + 1.0 * len(calls)
+    while time.perf_counter() < end:
+        for name, call in random.sample(list(calls.items()), len(calls)):
+            begin = time.perf_counter()
+            call(text)
+            times[name] = min(times[name], time.perf_counter() - begin)
+    return times
+
+
+def main() -> None:
+    print(f"{'':20} {'bytes':>7} {'nodes alone':>12} {'graphql_core':>12} {'own':>10} {'times':>6}")
+    for name, text in texts().items():
+        found = best({"alone": firthnapkin.parse, "ours": graphql_core.parse, "own": graphql_core.own_parse}, text)
+        assert graphql_core.parse(text) == graphql_core.own_parse(text)
+        alone, ours, own = (1e6 * found[it] for it in ("alone", "ours", "own"))
+        print(f"{name:20} {len(text.encode()):7} {alone:12.1f} {ours:12.1f} {own:10.1f} {own / ours:6.1f}")
+
+
+if __name__ == "__main__":
+    main()

@@ -1,0 +1,173 @@
+"""graphql-core's `parse`, by the parser of this package: for graphql-core 3.2.
+
+    from firthnapkin import graphql_core
+    graphql_core.install()
+
+`parse` gives what graphql-core's own gives: its nodes, with their locations, and its errors. Where a text is no document of
+this package's parser, or one that graphql-core may read otherwise, graphql-core's own parser is asked.
+"""
+
+from __future__ import annotations
+
+import sys
+from typing import Any, Callable, Dict, Optional, Tuple, Union
+
+import graphql
+from graphql.error import GraphQLSyntaxError
+from graphql.language import Lexer, OperationType, Source, Token, TokenKind, ast
+from graphql.language.parser import parse as own_parse
+
+from . import _graphql_core
+from .parser import limit_of
+
+__all__ = ["install", "parse", "uninstall"]
+
+if graphql.version_info[:2] != (3, 2):
+    raise ImportError(f"firthnapkin.graphql_core is for graphql-core 3.2, not {graphql.version}")
+
+
+class _Tokens:
+    """The tokens of a source, by where they start and where they end."""
+
+    def __init__(self, source: Source) -> None:
+        self.body = source.body
+        self.starting: Dict[int, Token] = {}
+        self.ending: Dict[int, Token] = {}
+        lexer = Lexer(source)
+        self.first = lexer.token
+        while lexer.token.kind is not TokenKind.EOF:
+            token = lexer.advance()
+            if token.kind is not TokenKind.EOF:
+                self.starting[token.start] = self.ending[token.end] = token
+        self.last = lexer.token
+
+
+def _tokens_of(source: Source) -> _Tokens:
+    """They are found when one is asked for first, and kept with the source."""
+    tokens = source.__dict__.get("_tokens")
+    if tokens is None or tokens.body is not source.body:
+        tokens = source.__dict__["_tokens"] = _Tokens(source)
+    return tokens
+
+
+class Location(ast.Location):
+    """A location whose tokens are made when they are asked for."""
+
+    __slots__ = ()
+
+    @property
+    def start_token(self) -> Token:  # type: ignore[override]
+        return _tokens_of(self.source).starting[self.start]
+
+    @property
+    def end_token(self) -> Token:  # type: ignore[override]
+        return _tokens_of(self.source).ending[self.end]
+
+    def __reduce__(self) -> Tuple[Any, ...]:
+        return ast.Location, (self.start_token, self.end_token, self.source)
+
+
+class _DocumentLocation(Location):
+    """The location of a document, which begins and ends with tokens of its own."""
+
+    __slots__ = ()
+
+    @property
+    def start_token(self) -> Token:  # type: ignore[override]
+        return _tokens_of(self.source).first
+
+    @property
+    def end_token(self) -> Token:  # type: ignore[override]
+        return _tokens_of(self.source).last
+
+
+_PLACE = ("start", "end", "source")
+
+# In the order of the extension's classes, each with the attributes that it sets, the location first.
+_graphql_core.setup(
+    (
+        (ast.NameNode, ("loc", "value")),
+        (ast.DocumentNode, ("loc", "definitions")),
+        (ast.OperationDefinitionNode,
+         ("loc", "operation", "name", "variable_definitions", "directives", "selection_set")),
+        (ast.VariableDefinitionNode, ("loc", "variable", "type", "default_value", "directives")),
+        (ast.SelectionSetNode, ("loc", "selections")),
+        (ast.FieldNode, ("loc", "alias", "name", "arguments", "directives", "selection_set")),
+        (ast.ArgumentNode, ("loc", "name", "value")),
+        (ast.FragmentSpreadNode, ("loc", "name", "directives")),
+        (ast.InlineFragmentNode, ("loc", "type_condition", "directives", "selection_set")),
+        (ast.FragmentDefinitionNode,
+         ("loc", "name", "variable_definitions", "type_condition", "directives", "selection_set")),
+        (ast.VariableNode, ("loc", "name")),
+        (ast.IntValueNode, ("loc", "value")),
+        (ast.FloatValueNode, ("loc", "value")),
+        (ast.StringValueNode, ("loc", "value", "block")),
+        (ast.BooleanValueNode, ("loc", "value")),
+        (ast.NullValueNode, ("loc",)),
+        (ast.EnumValueNode, ("loc", "value")),
+        (ast.ListValueNode, ("loc", "values")),
+        (ast.ObjectValueNode, ("loc", "fields")),
+        (ast.ObjectFieldNode, ("loc", "name", "value")),
+        (ast.DirectiveNode, ("loc", "name", "arguments")),
+        (ast.NamedTypeNode, ("loc", "name")),
+        (ast.ListTypeNode, ("loc", "type")),
+        (ast.NonNullTypeNode, ("loc", "type")),
+        (Location, _PLACE),
+        (_DocumentLocation, _PLACE),
+    ),
+    (OperationType.QUERY, OperationType.MUTATION, OperationType.SUBSCRIPTION),
+)  # fmt: skip
+
+
+def parse(
+    source: Union[Source, str],
+    no_location: bool = False,
+    max_tokens: Optional[int] = None,
+    allow_legacy_fragment_variables: bool = False,
+    *,
+    depth: int = 200,
+) -> ast.DocumentNode:
+    """graphql-core's DocumentNode of a source.
+
+    The arguments are those of graphql-core's parse, and `depth`, which is how deep brackets may be nested. Raises
+    GraphQLSyntaxError as graphql-core does, and where a bracket is nested deeper; TypeError or ValueError where the depth is
+    none.
+    """
+    limit = limit_of(depth)
+    body = source.body if isinstance(source, Source) else source
+    is_limit = max_tokens is None or (type(max_tokens) is int and max_tokens >= 0)
+    found: Union[ast.DocumentNode, int, None] = None
+    if type(body) is str and is_limit and not allow_legacy_fragment_variables:
+        origin = source if isinstance(source, Source) else Source(body)
+        try:
+            written = body.encode()
+        except UnicodeEncodeError:
+            # graphql-core says what it thinks of a lone surrogate.
+            pass
+        else:
+            most = -1 if max_tokens is None else min(max_tokens, sys.maxsize)
+            found = _graphql_core.document(written, len(body), limit, None if no_location else origin, most)
+        if isinstance(found, int):
+            raise GraphQLSyntaxError(origin, found, f"Brackets are nested deeper than {limit}.")
+    if found is None:
+        return own_parse(source, no_location, max_tokens, allow_legacy_fragment_variables)
+    return found
+
+
+def install() -> None:
+    """Puts `parse` in the place of graphql-core's own, in each module that has it by now."""
+    _replace(own_parse, parse)
+
+
+def uninstall() -> None:
+    """Puts graphql-core's own `parse` back."""
+    _replace(parse, own_parse)
+
+
+def _replace(old: Callable[..., Any], new: Callable[..., Any]) -> None:
+    for module in list(sys.modules.values()):
+        if module is sys.modules[__name__]:
+            continue
+        for name, value in list(getattr(module, "__dict__", {}).items()):
+            if value is old:
+                setattr(module, name, new)

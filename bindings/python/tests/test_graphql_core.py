@@ -1,0 +1,319 @@
+"""In graphql-core's place: what it gives, and what it tells, for every text. Skipped where graphql-core 3.2 is not there."""
+
+import copy
+import gc
+import os
+import pickle
+import random
+import sys
+import threading
+import unittest
+from typing import Any, Iterator, List, Tuple
+from unittest import mock
+
+try:
+    import graphql
+
+    if graphql.version_info[:2] != (3, 2):
+        raise ImportError(f"graphql-core is {graphql.version}")
+except ImportError as error:
+    raise unittest.SkipTest(f"no graphql-core 3.2: {error}")
+
+from firthnapkin import graphql_core
+from graphql import GraphQLSyntaxError, Source
+from graphql.language import TokenKind, ast
+from graphql.language.parser import parse as own_parse
+
+sys.path.insert(0, os.path.join(os.path.dirname(os.path.abspath(__file__)), "..", "..", "..", "tests"))
+from rows import rows
+
+# Every kind of node, and characters beyond ASCII in front of names, types and braces.
+WHOLE = """
+query Q(# é𝄞
+  $x: [ # é
+    [Int!] ! , ]! = [1, "a"] @d(x: -1 y:1.5E3), $ y : T = {k: {l: null}}
+) @d # {
+{
+  b #é
+  : # é
+  c(d: {e: $x, s: "q\\n\\u00e9 мир", l: [[], {}, T, true, false, $ # é
+   y]}, ,f: 99999999999) @f(a: T) # é {
+  {
+    ... # é
+      on # é
+      T @i { g(h: "") }
+    ... # é
+    F @k
+    ... @x(y: \"\"\" é
+      ü
+        x
+    \"\"\") { y }
+    ... { z: z { w } }
+  }
+}
+fragment # é
+  F # é
+  on # é
+  T @z { a }
+mutation { m } subscription S { s } { a } query { b } mutation M @d { n }
+"""
+
+WORDS = [
+    "{", "}", "(", ")", "$x", "...", "on", '"', "\\u0041", "é", "#", "\n", "1.", "-", "@", "!", "[", "]", "a", '"""', "1a",
+    "\r", "\ufeff", "𝄞", "\x01", "query", "{a}", "\\ud83d\\ude00", "\\u{1F600}", " ", "$", "0", "fragment", "\x85", "\u2028",
+    "\ud800", "type T { a: B }", '"d"', "&", "|", "01", "1.5", "=", ":", ",",
+]  # fmt: skip
+
+
+def made_texts() -> Iterator[str]:
+    """5,000 texts, most of them damaged."""
+    random.seed(2021)
+    for _ in range(5000):
+        text = WHOLE
+        for _ in range(random.randrange(0, 4)):
+            i = random.randrange(len(text))
+            text = text[:i] + random.choice(WORDS) + text[i + random.randrange(0, 3) :]
+        yield text
+
+
+def row_texts() -> Iterator[str]:
+    for name in ("gqlcheck.rows", "peer.rows", "documents.rows", "nesting.rows"):
+        for row in rows(name):
+            try:
+                yield row.text.decode()
+            except UnicodeDecodeError:
+                pass
+
+
+def answer(parse: Any, *arguments: Any, **options: Any) -> Any:
+    """A document, or what is raised. The words of graphql-core's error fail where it cannot find the place itself."""
+    try:
+        return parse(*arguments, **options)
+    except GraphQLSyntaxError as error:
+        return type(error), error.message, error.positions
+    except Exception as error:
+        return type(error), str(error)
+
+
+class Texts(unittest.TestCase):
+    def same(self, text: str) -> bool:
+        """Whether both give a document, which is the same."""
+        own, ours = answer(own_parse, text), answer(graphql_core.parse, text, depth=1000)
+        self.assertEqual(ours, own)
+        if isinstance(own, tuple):
+            return False
+        self.assertEqual(ours.to_dict(locations=True), own.to_dict(locations=True))
+        return True
+
+    def test_rows(self) -> None:
+        trees = 0
+        for text in row_texts():
+            with self.subTest(text=text):
+                trees += self.same(text)
+        self.assertGreater(trees, 150)
+
+    def test_made_texts(self) -> None:
+        trees = 0
+        for text in made_texts():
+            with self.subTest(text=text):
+                trees += self.same(text)
+        self.assertGreater(trees, 500)
+
+    def test_no_other_parser_is_asked(self) -> None:
+        """What both read alike is read by this package alone."""
+        with mock.patch.object(graphql_core, "own_parse", side_effect=AssertionError):
+            for text in (WHOLE, "{a}", "{a(b:1 c:-0.5e3)}", "query($a:Int=1@d(x:2)){a(b:$a)}"):
+                self.assertIsInstance(graphql_core.parse(text), ast.DocumentNode)
+
+    def test_the_other_parser_is_asked(self) -> None:
+        """Each difference between the two, and each fault."""
+        for text in [
+            "{a(b:1c:2)}", "{a(b:[1.5.c])}", "{a(b:1_:2)}", "query($a:Int @d(x:$b)){a}", "query($a:Int @d(x:[{y:$b}])){a}",
+            '{a(b:"\\ud83d\\ude00")}', '{a(b:"\\u{1F600}")}', "type T { a: B }", '"d" type T { a: B }', "{a b: }", "\ud800", "",
+            "extend schema @d", "fragment F($a: Int) on T { a }", '{a(b:"\x01")}',
+        ]:  # fmt: skip
+            with self.subTest(text=text):
+                with mock.patch.object(graphql_core, "own_parse", return_value="asked") as asked:
+                    self.assertEqual(graphql_core.parse(text), "asked")
+                asked.assert_called_once_with(text, False, None, False)
+                self.same(text)
+
+
+def locations(node: ast.Node) -> Iterator[Tuple[ast.Node, Any]]:
+    for key in node.keys:
+        value = getattr(node, key)
+        if key == "loc":
+            yield node, value
+        for part in value if isinstance(value, tuple) else [value]:
+            if isinstance(part, ast.Node):
+                yield from locations(part)
+
+
+class Nodes(unittest.TestCase):
+    def test_tokens_of_locations(self) -> None:
+        own, ours = own_parse(WHOLE), graphql_core.parse(WHOLE)
+        count = 0
+        for (own_node, own_loc), (node, loc) in zip(locations(own), locations(ours)):
+            self.assertIs(type(node), type(own_node))
+            self.assertEqual((loc.start, loc.end, loc), (own_loc.start, own_loc.end, own_loc))
+            self.assertEqual((loc.start_token, loc.end_token), (own_loc.start_token, own_loc.end_token))
+            self.assertIs(loc.start_token, loc.start_token)
+            self.assertIs(loc.source, ours.loc.source)
+            self.assertIsInstance(loc, ast.Location)
+            count += 1
+        self.assertGreater(count, 100)
+        self.assertEqual(count, len(list(locations(own))))
+        tokens, token = 0, ours.loc.start_token
+        self.assertIs(token.kind, TokenKind.SOF)
+        while token.next:
+            self.assertIs(token.next.prev, token)
+            token, tokens = token.next, tokens + 1
+        self.assertIs(token, ours.loc.end_token)
+        self.assertIs(token.kind, TokenKind.EOF)
+        self.assertGreater(tokens, 100)
+
+    def test_what_is_done_with_nodes(self) -> None:
+        own, ours = own_parse(WHOLE), graphql_core.parse(WHOLE)
+        self.assertEqual(hash(ours), hash(own))
+        self.assertEqual(graphql.print_ast(ours), graphql.print_ast(own))
+        for other in (copy.copy(ours), copy.deepcopy(ours), pickle.loads(pickle.dumps(ours))):
+            self.assertEqual(other, own)
+            self.assertEqual(repr(other), repr(own))
+        node = ours.definitions[0]
+        node.name = None
+        self.assertIsNone(node.name)
+        node.more = "an attribute of the caller's"
+        self.assertNotEqual(ours, own)
+
+    def test_execution(self) -> None:
+        schema = graphql.build_schema("type Query { a(b: Int!): Int }")
+        for parse in (own_parse, graphql_core.parse):
+            document = parse("query Q($x: Int!) { a(b: $x) c: a(b: 2) }")
+            self.assertEqual(graphql.validate(schema, document), [])
+            result = graphql.execute_sync(schema, document, {"a": lambda info, b: b + 1}, variable_values={"x": 7})
+            self.assertEqual((result.data, result.errors), ({"a": 8, "c": 3}, None))
+        errors = [graphql.validate(schema, parse("{\n  d }")) for parse in (own_parse, graphql_core.parse)]
+        self.assertEqual(str(errors[1][0]), str(errors[0][0]))
+
+    def test_nothing_is_kept(self) -> None:
+        """What is made is given back, and counts of references stay."""
+        texts = [WHOLE, "{a(b:1c:2)}", "{a{b}}", "{ a ) }"]
+        kept = [None, (), True, False, graphql.OperationType.QUERY, ast.FieldNode, graphql_core.Location]
+
+        def round_of() -> List[int]:
+            for text in texts * 5:
+                answer(graphql_core.parse, text)
+                answer(graphql_core.parse, text, no_location=True, max_tokens=3)
+            gc.collect()
+            return [sys.getrefcount(it) for it in kept] + [len(gc.get_objects())]
+
+        round_of()
+        before = round_of()
+        for _ in range(20):
+            after = round_of()
+        for a, b in zip(before, after):
+            self.assertLess(abs(a - b), 50)
+
+
+class Arguments(unittest.TestCase):
+    def test_no_location(self) -> None:
+        own, ours = own_parse(WHOLE, no_location=True), graphql_core.parse(WHOLE, no_location=True)
+        self.assertEqual(ours, own)
+        self.assertEqual({loc for _, loc in locations(ours)}, {None})
+        self.assertEqual(ours, own_parse(WHOLE, True))
+
+    def test_source(self) -> None:
+        for source in (Source(WHOLE, "a name", (7, 3)), Source("{ a ) }", "a name", (7, 3))):
+            own, ours = answer(own_parse, source), answer(graphql_core.parse, source)
+            self.assertEqual(ours, own)
+        self.assertEqual(graphql_core.parse("{a}").loc.source.name, "GraphQL request")
+        source = Source(WHOLE)
+        self.assertIs(graphql_core.parse(source).loc.source, source)
+
+    def test_max_tokens(self) -> None:
+        """Every limit about the number of tokens."""
+        texts = [WHOLE, "{a}", "query{a}", "query Q{a}", "{a(b:[1,$c,{d:E}])@e(f:\"\")...F...on T{g}...{h}x:y}",
+                 "query($a:[T!]!=1@b,$c:D){e}fragment F on T@g{h}", "{a ) }", "{"]  # fmt: skip
+        for text in texts:
+            for most in [*range(0, 40), *range(150, 230), 10**6, 2**63 - 1, 2**63, 10**30, -1]:
+                own, ours = answer(own_parse, text, max_tokens=most), answer(graphql_core.parse, text, max_tokens=most)
+                self.assertEqual(ours, own, (text, most))
+        for most in (1.5, "5", True):
+            self.assertEqual(answer(graphql_core.parse, "{a}", max_tokens=most), answer(own_parse, "{a}", max_tokens=most))
+
+    def test_tokens_are_counted(self) -> None:
+        """No other parser is asked where a limit is kept, and it is asked where it isn't."""
+        tokens, token = 0, own_parse(WHOLE).loc.start_token
+        while token.next:
+            token = token.next
+            tokens += token.kind not in (TokenKind.EOF, TokenKind.COMMENT)
+        with mock.patch.object(graphql_core, "own_parse", return_value="asked"):
+            self.assertIsInstance(graphql_core.parse(WHOLE, max_tokens=tokens), ast.DocumentNode)
+            self.assertEqual(graphql_core.parse(WHOLE, max_tokens=tokens - 1), "asked")
+
+    def test_fragment_variables(self) -> None:
+        for text in (WHOLE, "fragment F($a: Int = 1) on T { a }"):
+            own = answer(own_parse, text, allow_legacy_fragment_variables=True)
+            self.assertEqual(answer(graphql_core.parse, text, allow_legacy_fragment_variables=True), own)
+
+    def test_wrong_kinds(self) -> None:
+        for source in (None, b"{a}", 5, 1.5, ["{a}"], Source(None), Source(b"{a}")):  # type: ignore[arg-type]
+            self.assertEqual(answer(graphql_core.parse, source)[0], answer(own_parse, source)[0], source)
+        for depth in (None, 1.5, "5"):
+            self.assertRaises(TypeError, graphql_core.parse, "{a}", depth=depth)
+        for depth in (-1, 1001, 2**32 - 1, 2**32 + 5):
+            self.assertRaises(ValueError, graphql_core.parse, "{a" * 200000, depth=depth)
+
+    def test_depth(self) -> None:
+        for text, options, index in [
+            ("{a{b}}", {"depth": 1}, 2),
+            ("# é𝄞\n{a{b}}", {"depth": 1}, 7),
+            ("{a" * 201, {}, 400),
+            ("{a" * 200000, {}, 400),
+            ("{a(b:" + "[" * 300, {}, 203),
+        ]:
+            with self.assertRaises(GraphQLSyntaxError) as raised:
+                graphql_core.parse(text, **options)
+            limit = options.get("depth", 200)
+            self.assertEqual(raised.exception.message, f"Syntax Error: Brackets are nested deeper than {limit}.")
+            self.assertEqual((raised.exception.positions, raised.exception.source.body), ([index], text))
+        self.assertEqual(graphql_core.parse("{a" * 100 + "}" * 100), own_parse("{a" * 100 + "}" * 100))
+
+    def test_small_stacks(self) -> None:
+        found: List[Any] = []
+
+        def work() -> None:
+            for part, closing in (("{...", "}"), ("{a", "}")):
+                found.append(len(graphql_core.parse("{" + part[1:] + part * 998 + "{a}" + closing * 999, depth=1000).definitions))
+            document = graphql_core.parse("query($a:" + "[" * 999 + "T" + "]" * 999 + "){a}", depth=1000)
+            found.append(type(document.definitions[0].variable_definitions[0].type).__name__)
+
+        before = threading.stack_size(256 * 1024)
+        try:
+            thread = threading.Thread(target=work)
+            thread.start()
+            thread.join()
+        finally:
+            threading.stack_size(before)
+        self.assertEqual(found, [1, 1, "ListTypeNode"])
+
+
+class Installed(unittest.TestCase):
+    def test_install(self) -> None:
+        from graphql.language import parser
+
+        places = [(graphql, "parse"), (graphql.language, "parse"), (parser, "parse"), (sys.modules["graphql.graphql"], "parse")]
+        graphql_core.install()
+        try:
+            for module, name in places:
+                self.assertIs(getattr(module, name), graphql_core.parse)
+            schema = graphql.build_schema("type Query { a: Int }")
+            self.assertEqual(graphql.graphql_sync(schema, "{ a }", {"a": 7}).data, {"a": 7})
+            self.assertIn("Syntax Error", str(graphql.graphql_sync(schema, "{ a").errors[0]))
+            self.assertIn("nested deeper", str(graphql.graphql_sync(schema, "{a" * 1000).errors[0]))
+            graphql_core.install()
+        finally:
+            graphql_core.uninstall()
+        for module, name in places:
+            self.assertIs(getattr(module, name), own_parse)
+        self.assertEqual(graphql_core.parse("type T { a: B }"), own_parse("type T { a: B }"))
