@@ -1,4 +1,4 @@
-"""Tries the rows of tests/rows on the program gqlcheck.
+"""Tries the rows of tests/rows on the programs gqlcheck and gqlcanon.
 
     gqlcheck TEXT     what a run over the text writes, and the word of its end
     built WORD N      the same of a large text: how long it is, how the run ends and how many lines there are with that
@@ -7,12 +7,16 @@
     completed TEXT    the text is refused; behind what stands before its fault and a space each line of the answer puts a
                       further text, and says how many tokens stand before the fault, whether a run over the whole ends in a
                       tree, and whether these tokens are the same in it, places included
+    canonical TEXT    what a run of gqlcanon over the text writes, and the word of its end
+
+Of each text of kind `gqlcheck` that can be cut into tokens the canonical text is these, joined here; it is its own canonical
+text, and has the same tree, places left out, or is refused alike.
 
 A completion is looked for, too, of each text of kind `gqlcheck` that is refused and can be cut into tokens. Whether it can
 be cut, and which tokens go on, the library for C says; that what is found is a document, a run of gqlcheck. Tokens are
 cut here by the specification's grammar, written as one pattern.
 
-    row_tests.py PROGRAM     the last line is 'N passed, M failed'
+    row_tests.py GQLCHECK GQLCANON     the last line is 'N passed, M failed'
 """
 
 import ctypes
@@ -31,9 +35,10 @@ LIBRARY = ROOT / "out/libfirthnapkin.so.0"
 
 # How many rows of each kind there are, and how many refused texts that can be cut: a row more is counted up.
 COMPLETION = "completion of a refused text"
-COUNTS = {"gqlcheck": 2127, "built": 4, "completed": 8, COMPLETION: 462}
+SAME = "canonical text of a row"
+COUNTS = {"gqlcheck": 2127, "built": 4, "completed": 8, "canonical": 29, COMPLETION: 462, SAME: 636}
 
-# The word of a run's end, by the program's exit status.
+# The word of a run's end, by the program's exit status; where gqlcheck ends in a tree gqlcanon ends in a text.
 ENDS = ("Tree", "Refused", "NotUtf8", "Device", "Memory", "TooDeep")
 SECONDS = 20
 
@@ -43,6 +48,8 @@ PIECE = re.compile(
     r"|-?(?:0|[1-9][0-9]*)(?:\.[0-9]+)?(?:[eE][+-]?[0-9]+)?|[!$()\[\]{}:=@|])",
     re.DOTALL,
 )
+
+PUNCTUATOR = re.compile(r"\.\.\.|[!$()\[\]{}:=@|]")
 
 # What may go on, in the order in which it is tried: first what closes.
 NEXT = ("}", ")", "]", ":", "null", "on", "T", "a", "$", "{")
@@ -193,11 +200,44 @@ def fault_of_completion(program: str, library: Library, text: str, told: str) ->
     return None if said.endswith("tree true, same tokens true") else said
 
 
-def try_row(program: str, library: Optional[Library], name: str, row: Row) -> List[Tuple[str, Optional[str]]]:
+def joined(tokens: List[str]) -> str:
+    """Tokens one behind the other, with a space between two that are no punctuators, and before `...` behind one that is none."""
+    parted = (
+        not PUNCTUATOR.fullmatch(before) and (after == "..." or not PUNCTUATOR.fullmatch(after))
+        for before, after in zip(tokens, tokens[1:])
+    )
+    return "".join(token + " " * is_parted for token, is_parted in zip(tokens, [*parted, False]))
+
+
+def canonical(canon: str, source: bytes) -> Run:
+    """A run of gqlcanon. A canonical text ends without a line end, so it gets one."""
+    ran = run(canon, source)
+    return Run(ran.written + "\n", "Text" + ran.end[4:]) if ran.end.startswith("Tree") else ran
+
+
+def fault_of_canonical(program: str, canon: str, text: str, told: Run) -> Optional[str]:
+    """What is wrong with the canonical text of a text that can be cut; None where nothing is."""
+    ran = canonical(canon, text.encode())
+    made = ran.written[:-1]
+    if ran.end != "Text":
+        return f"no canonical text: {ran.told()}"
+    if made != joined([token for _, token in cut(text)]):
+        return f"another canonical text: {made}"
+    if canonical(canon, made.encode()) != ran:
+        return f"the canonical text is not its own: {made}"
+    again = run(program, made.encode())
+    placeless = [re.sub(r"^(\w+) \d+ \d+|At \d+:\d+$", r"\1", it.written, flags=re.M) for it in (told, again)]
+    return None if placeless[0] == placeless[1] and told.end == again.end else f"the canonical text is told otherwise: {again.told()}"
+
+
+def try_row(program: str, canon: str, library: Optional[Library], name: str, row: Row) -> List[Tuple[str, Optional[str]]]:
     """Of each thing that a row shows its kind, and what is wrong with it."""
     wanted = [plain(line).decode() for line in row.wanted]
     if row.kind == "gqlcheck":
-        found = run(program, row.text).told()
+        ran = run(program, row.text)
+        found = ran.told()
+    elif row.kind == "canonical":
+        found = canonical(canon, row.text).told()
     elif row.kind == "built":
         found = answer_of_built(program, row.text.decode())
     elif row.kind == "completed":
@@ -207,23 +247,31 @@ def try_row(program: str, library: Optional[Library], name: str, row: Row) -> Li
     where = f"{name}:{row.number}"
     holds = found == "".join(line + "\n" for line in wanted)
     shown = [(row.kind, None if holds else f"{where}: {row.kind} is answered by\n{found}")]
-    if library and row.kind == "gqlcheck" and found.endswith("\nRefused\n"):
+    if row.kind == "gqlcheck" and is_cut(library, row.text, ran):
         text = row.text.decode()
-        if library.outcome(text) != "no cut":
-            fault = fault_of_completion(program, library, text, found)
-            shown.append((COMPLETION, fault and f"{where}: {fault}"))
+        faults = {SAME: fault_of_canonical(program, canon, text, ran)}
+        if library and ran.end == "Refused":
+            faults[COMPLETION] = fault_of_completion(program, library, text, found)
+        shown += [(kind, fault and f"{where}: {fault}") for kind, fault in faults.items()]
     return shown
 
 
+def is_cut(library: Optional[Library], source: bytes, ran: Run) -> bool:
+    """Whether a text can be cut into tokens; of one that gqlcheck refuses the library knows."""
+    if ran.end == "Refused":
+        return library is not None and library.outcome(source.decode()) != "no cut"
+    return ran.end in ("Tree", "TooDeep")
+
+
 def main() -> int:
-    program = sys.argv[1]
+    program, canon = sys.argv[1:]
     library = Library() if LIBRARY.exists() else None
     if library is None:
         print(f"row_tests: skipped: completions of refused texts, since {LIBRARY.relative_to(ROOT)} is not built")
     work = [(path.name, row) for path in sorted((ROOT / "tests/rows").glob("*.rows")) for row in rows(path.name)]
     held, tried = dict.fromkeys(COUNTS, 0), dict.fromkeys(COUNTS, 0)
     with ThreadPoolExecutor(os.cpu_count()) as pool:
-        for shown in pool.map(lambda it: try_row(program, library, *it), work):
+        for shown in pool.map(lambda it: try_row(program, canon, library, *it), work):
             for kind, wrong in shown:
                 tried[kind] = tried.get(kind, 0) + 1
                 held[kind] = held.get(kind, 0) + (wrong is None)
