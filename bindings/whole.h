@@ -5,7 +5,8 @@
 #include "calls.h"
 #include <stdlib.h>
 
-/* What a source gives. The texts are those of the nodes; where there is a fault, its words. */
+/* What a source gives. The texts are those of the nodes; where there is a fault, its words, but where there are too many
+ * tokens. */
 typedef struct {
     uint32_t status;
     firthnapkin_node *nodes;
@@ -42,10 +43,14 @@ static inline uint32_t find_words(whole *w, const uint8_t *source, size_t length
     return status;
 }
 
-/* Parses a source. What it gives is to be given back, whatever the status. Few texts have more nodes than one for four bytes;
+/* Parses a source with no more tokens than that; none has the largest number of them. What it gives is to be given back, whatever the status. Few texts have more nodes than one for four bytes;
  * for those the second try has the room that the first asked for. Memory that is not written to costs nothing. */
-static inline whole parse_whole(const uint8_t *source, size_t length, uint32_t depth) {
+static inline whole parse_whole(const uint8_t *source, size_t length, uint32_t depth, uint32_t tokens) {
     whole w = {.status = FIRTHNAPKIN_MEMORY};
+    if (tokens != UINT32_MAX) {
+        w.status = firthnapkin_count(source, length, tokens, &w.fault);
+        if (w.status != FIRTHNAPKIN_FEW) return w;
+    }
     /* A source that is too long needs no room to be told so. */
     size_t quarter = (uint64_t)length >> 32 != 0 ? 0 : length / 4;
     size_t nodes = quarter + 16, texts = quarter + 64;

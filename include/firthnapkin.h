@@ -40,7 +40,9 @@ enum firthnapkin_status {
     FIRTHNAPKIN_TOO_DEEP = 5, /* a token is nested deeper than the caller's depth, and those before it begin a document */
     FIRTHNAPKIN_ROOM = 6,     /* a room is too small */
     FIRTHNAPKIN_TOO_LONG = 7, /* the source has 4 GiB or more */
-    FIRTHNAPKIN_DEPTH = 8     /* the depth is above FIRTHNAPKIN_MOST_DEPTH, and the source was not looked at */
+    FIRTHNAPKIN_DEPTH = 8,    /* the depth is above FIRTHNAPKIN_MOST_DEPTH, and the source was not looked at */
+    FIRTHNAPKIN_FEW = 0,      /* of firthnapkin_count: the source has no more tokens than that */
+    FIRTHNAPKIN_MANY = 9      /* of firthnapkin_count: it has more */
 };
 
 /* What a node stands for. The numbers of scalars stand last, and there is no 15. */
@@ -102,7 +104,8 @@ enum firthnapkin_refusal {
     FIRTHNAPKIN_UNEXPECTED_END = 1,   /* the source ends within a document */
     FIRTHNAPKIN_LEXICAL = 2,          /* there is no token here; `detail` says why */
     FIRTHNAPKIN_SCALAR = 3,           /* the scalar is refused; never told, since every literal that is a token is read */
-    FIRTHNAPKIN_NESTED = 4            /* the token is nested too deep */
+    FIRTHNAPKIN_NESTED = 4,           /* the token is nested too deep */
+    FIRTHNAPKIN_TOO_MANY = 5          /* the token is one too many; told by firthnapkin_count alone */
 };
 
 /* Why there is no token. */
@@ -144,6 +147,14 @@ uint32_t firthnapkin_parse(const uint8_t *source, size_t length, uint32_t depth,
  * answer there are none, and `needed` is 0. All answers but the first two leave the room as it was. */
 uint32_t firthnapkin_message(const uint8_t *source, size_t length, uint32_t depth, uint8_t *room, size_t room_length,
                              size_t *needed);
+
+/* Says whether a source has more tokens than `most`, its end not counted. It stops at the first one too many, and takes no
+ * memory but for a fault's place or words; so a server calls it before firthnapkin_parse.
+ *
+ * FIRTHNAPKIN_FEW: there are no more before the end, or before the first place where no token is. FIRTHNAPKIN_MANY: there are
+ * more, and the fault is the first one too many. Besides it answers FIRTHNAPKIN_NOT_UTF8, FIRTHNAPKIN_MEMORY and
+ * FIRTHNAPKIN_TOO_LONG. All answers but FIRTHNAPKIN_MANY leave the fault as it was. */
+uint32_t firthnapkin_count(const uint8_t *source, size_t length, uint32_t most, firthnapkin_fault *fault);
 
 /* FIRTHNAPKIN_VERSION of the header that the library was built with. */
 uint32_t firthnapkin_version(void);

@@ -42,7 +42,7 @@ document, fault, parser = (read(f"bindings/python/src/firthnapkin/{name}.py") fo
 member = r"^    ([A-Z_]+) = (\d+)$"
 check("Python's kinds", numbers(part(document, r"class Kind\(", r"\nclass "), member), kinds)
 reasons = numbers(part(fault, r"class Reason\(", r"\nclass "), member)
-check("the reason that Python adds", reasons.pop("SURROGATE"), 5)
+check("the reason that Python adds", reasons.pop("SURROGATE"), len(refusals))
 check("Python's reasons", reasons, refusals)
 check("Python's details", numbers(part(fault, r"class Detail\(", r"\nclass "), member), details)
 names, values = re.search(r"^(_TREE, [\w, ]*) = ([\d, ]+)$", parser, re.M).groups()
@@ -109,7 +109,7 @@ def listed(name):
 check("Node's kinds", listed("KINDS"), kinds)
 check("Node's reasons", listed("REASONS"), refusals)
 check("Node's details", {"NO_DETAIL": 0, **listed("DETAILS")}, details)
-for word in ("TREE", "REFUSED", "TOO_DEEP"):
+for word in ("TREE", "REFUSED", "TOO_DEEP", "MANY"):
     check(f"Node's status {word}", int(re.search(rf"^const {word} = (\d+);", node, re.M)[1]), statuses[word])
 types = read("bindings/node/index.d.ts")
 typed = set(re.findall(r'"(\w+)"', part(types, "export type Kind =", r";\n")))
@@ -122,10 +122,10 @@ check("the words of Node's details in its types", {"NO_DETAIL", *map(upper, type
 check("the version of Node's package", json.loads(read("bindings/node/package.json"))["version"], version)
 check("the version of Rust's crate", re.search(r'^version = "(.*)"$', read("bindings/rust/Cargo.toml"), re.M)[1], version)
 for path, pattern in (
-    ("python/src/firthnapkin/parser.py", r"depth: int = (\d+)\)"),
+    ("python/src/firthnapkin/parser.py", r"depth: int = (\d+),"),
     ("go/parse.go", r"const DefaultDepth = (\d+)"),
     ("rust/src/lib.rs", r"DEFAULT_DEPTH: u32 = (\d+);"),
-    ("node/index.js", r"\{ depth = (\d+) \} = \{\}"),
+    ("node/index.js", r"\{ depth = (\d+), "),
 ):
     check(f"the default depth of {path}", re.search(pattern, read(f"bindings/{path}"))[1], "200")
 

@@ -83,7 +83,7 @@ refusals = {word: int(re.search(rf"ParseError::{name}\S* => because\((\d), 0, 0\
 lexical = re.findall(r"LexerError::(\w+)\S* => because\((\d+), (\d+), (0|\*c as u32)\)", fault)
 check("one number of lexical refusals", {kind for _, kind, _, _ in lexical}, {str(enum("firthnapkin_refusal")["LEXICAL"])})
 refusals["LEXICAL"] = int(lexical[0][1])
-refusals["NESTED"] = int(re.search(r"fault_at\(table, because\((\d), 0, 0\), &span\)", fault)[1])
+refusals["NESTED"], refusals["TOO_MANY"] = map(int, re.findall(r"fault_at\(table, because\((\d), 0, 0\), &span\)", fault))
 check("refusals", enum("firthnapkin_refusal"), refusals)
 words = {
     "UnknownCharacter": "UNKNOWN_CHARACTER",
@@ -112,6 +112,7 @@ check("the version of CHANGELOG.md", re.search(r"^## (\S+)", read("CHANGELOG.md"
 C_TYPES = {
     "source: &[u8]": ["const uint8_t *source", "size_t length"],
     "depth: u32": ["uint32_t depth"],
+    "most: u32": ["uint32_t most"],
     "nodes: &mut [Node]": ["firthnapkin_node *nodes", "size_t nodes_room"],
     "nodes_needed: &mut usize": ["size_t *nodes_needed"],
     "texts: &mut [u8]": ["uint8_t *texts", "size_t texts_room"],
@@ -123,7 +124,7 @@ C_TYPES = {
     "alloc: Global": [],
 }
 exported = 0
-for name in ("parse", "message", "version"):
+for name in ("parse", "message", "count", "version"):
     text = source(name)
     for call, parameters, result in re.findall(r'pub extern "C" fn (\w+)\((.*?)\) -> (\w+)', text, re.S):
         exported += 1

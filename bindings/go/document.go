@@ -134,6 +134,7 @@ const (
 	UnexpectedEnd   Reason = 1 // the source ends within a document
 	Lexical         Reason = 2 // there is no token here; the Detail says why
 	Nested          Reason = 4 // the token is nested too deep
+	TooMany         Reason = 5 // the token is one too many
 )
 
 // Detail is why there is no token.
@@ -150,7 +151,7 @@ const (
 	UnexpectedEndInToken     Detail = 6
 )
 
-// SyntaxError says why a source has no document within the depth, and where.
+// SyntaxError says why a source has no document within the limits, and where.
 type SyntaxError struct {
 	Message   string
 	Reason    Reason

@@ -30,6 +30,10 @@ static uint32_t parse(const char *source, size_t length, uint32_t depth, void *n
 	                      texts_room, &t->texts_needed, &t->fault);
 }
 
+static uint32_t count(const char *source, size_t length, uint32_t most, told *t) {
+	return firthnapkin_count((const uint8_t *)source, length, most, &t->fault);
+}
+
 static uint32_t message(const char *source, size_t length, uint32_t depth, char *room, size_t room_length, told *t) {
 	return message_on_stack((const uint8_t *)source, length, depth, (uint8_t *)room, room_length, &t->texts_needed);
 }
@@ -50,6 +54,9 @@ const DefaultDepth = 200
 // MostDepth is the largest depth that ParseWithin takes.
 const MostDepth = C.FIRTHNAPKIN_MOST_DEPTH
 
+// AnyTokens is a number of tokens that no source exceeds.
+const AnyTokens = 1<<32 - 1
+
 // Version is the library's.
 const Version = C.FIRTHNAPKIN_VERSION_TEXT
 
@@ -63,21 +70,49 @@ var (
 	ErrTooLong = errors.New("firthnapkin: the source has 4 GiB or more")
 	// ErrDepth says that the depth is below 0 or above MostDepth.
 	ErrDepth = fmt.Errorf("firthnapkin: the depth is not from 0 to %d", MostDepth)
+	// ErrTokens says that the number of tokens is below 0.
+	ErrTokens = errors.New("firthnapkin: the number of tokens is below 0")
 )
 
 // Parse returns the document that a source is, with brackets nested at most DefaultDepth deep, or an error: a *SyntaxError
 // where the source is no such document, else one of the Err values.
 func Parse(source string) (*Document, error) {
-	return ParseWithin(source, DefaultDepth)
+	return ParseWithin(source, DefaultDepth, AnyTokens)
 }
 
-// ParseWithin is Parse with brackets nested at most as deep as that: from 0 to MostDepth.
-func ParseWithin(source string, depth int) (*Document, error) {
+// ParseWithin is Parse with brackets nested at most as deep as that, from 0 to MostDepth, and no more tokens than that. A
+// source with more is refused at the first one too many, before anything is made of it.
+func ParseWithin(source string, depth, tokens int) (*Document, error) {
 	if depth < 0 || depth > MostDepth {
 		return nil, ErrDepth
 	}
-	// Most sources have a node for eight bytes or fewer; for others the second call has the room that the first asks for.
-	nodesRoom, textsRoom := len(source)/8+16, len(source)/8+64
+	if tokens < 0 {
+		return nil, ErrTokens
+	}
+	if tokens < AnyTokens {
+		if err := count(source, tokens); err != nil {
+			return nil, err
+		}
+	}
+	return parse(source, depth)
+}
+
+func count(source string, tokens int) error {
+	told := new(C.told)
+	status := C.count(bytesOf(source), C.size_t(len(source)), C.uint32_t(tokens), told)
+	runtime.KeepAlive(source)
+	switch status {
+	case C.FIRTHNAPKIN_FEW:
+		return nil
+	case C.FIRTHNAPKIN_MANY:
+		return syntaxErrorOf("Too many tokens", &told.fault)
+	}
+	return errorOf(status)
+}
+
+func parse(source string, depth int) (*Document, error) {
+	// Few sources have more nodes than one for six bytes; for others the second call has the room that the first asks for.
+	nodesRoom, textsRoom := len(source)/6+16, len(source)/6+64
 	for {
 		nodes, texts, told := make([]Node, nodesRoom), make([]byte, textsRoom), new(C.told)
 		status := C.parse(bytesOf(source), C.size_t(len(source)), C.uint32_t(depth), unsafe.Pointer(&nodes[0]),
@@ -126,18 +161,22 @@ func syntaxError(source string, depth int, fault *C.firthnapkin_fault) error {
 			room = int(told.texts_needed)
 		case C.FIRTHNAPKIN_REFUSED, C.FIRTHNAPKIN_TOO_DEEP:
 			message := string(words[:told.texts_needed])
-			return &SyntaxError{
-				Message: message[:strings.LastIndex(message, ". At ")],
-				Reason:  Reason(fault.kind),
-				Detail:  Detail(fault.detail),
-				// The characters of a source are below 0x110000.
-				Character: rune(fault.character),
-				Start:     placeOf(fault.start),
-				End:       placeOf(fault.end),
-			}
+			return syntaxErrorOf(message[:strings.LastIndex(message, ". At ")], fault)
 		default:
 			return errorOf(status)
 		}
+	}
+}
+
+func syntaxErrorOf(message string, fault *C.firthnapkin_fault) error {
+	return &SyntaxError{
+		Message: message,
+		Reason:  Reason(fault.kind),
+		Detail:  Detail(fault.detail),
+		// The characters of a source are below 0x110000.
+		Character: rune(fault.character),
+		Start:     placeOf(fault.start),
+		End:       placeOf(fault.end),
 	}
 }
 

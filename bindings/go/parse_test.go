@@ -26,7 +26,7 @@ func parsed(t *testing.T, source string) *Document {
 // refused returns why a source has no document, and fails where it has one.
 func refused(t *testing.T, source string, depth int) *SyntaxError {
 	t.Helper()
-	_, err := ParseWithin(source, depth)
+	_, err := ParseWithin(source, depth, AnyTokens)
 	var fault *SyntaxError
 	if !errors.As(err, &fault) {
 		t.Fatalf("%.40q: %v", source, err)
@@ -187,13 +187,13 @@ func TestDepths(t *testing.T) {
 	deep := strings.Repeat("{a", 200000)
 	for _, depth := range []int{-1, -1 << 63, MostDepth + 1, 1<<31 - 1, 1<<32 - 1, 1 << 32, 1<<32 + 5, 1<<63 - 1} {
 		for _, source := range []string{deep, "{a}", "", "\xff"} {
-			if _, err := ParseWithin(source, depth); !errors.Is(err, ErrDepth) {
+			if _, err := ParseWithin(source, depth, AnyTokens); !errors.Is(err, ErrDepth) {
 				t.Errorf("the depth %d: %v", depth, err)
 			}
 		}
 	}
 	for _, depth := range []int{0, 1, 2, 199, 200, MostDepth} {
-		if d, err := ParseWithin(strings.Repeat("{a", depth)+strings.Repeat("}", depth), depth); depth > 0 &&
+		if d, err := ParseWithin(strings.Repeat("{a", depth)+strings.Repeat("}", depth), depth, AnyTokens); depth > 0 &&
 			(err != nil || len(d.Nodes) != depth+1) {
 			t.Errorf("a text %d deep: %v", depth, err)
 		}
@@ -201,6 +201,39 @@ func TestDepths(t *testing.T) {
 		same(t, "too deep", []any{fault.Reason, int(fault.Start.Byte)}, []any{Nested, 2 * depth})
 	}
 	same(t, "the default depth", len(parsed(t, strings.Repeat("{a", 200)+strings.Repeat("}", 200)).Nodes), 201)
+}
+
+func TestTokens(t *testing.T) {
+	source := "{ a(b: \"é\") ...F }"
+	starts := []uint32{0, 2, 3, 4, 5, 7, 10, 12, 15, 17}
+	for _, tokens := range []int{len(starts), len(starts) + 1, AnyTokens - 1, AnyTokens, 1 << 40, 1<<63 - 1} {
+		if _, err := ParseWithin(source, 5, tokens); err != nil {
+			t.Errorf("%d tokens: %v", tokens, err)
+		}
+	}
+	for tokens, start := range starts {
+		_, err := ParseWithin(source, 5, tokens)
+		var fault *SyntaxError
+		if !errors.As(err, &fault) {
+			t.Fatalf("%d tokens: %v", tokens, err)
+		}
+		same(t, "too many tokens", []any{fault.Reason, fault.Message, fault.Start.Index}, []any{TooMany, "Too many tokens", start})
+		same(t, "their error", fault.Error(), fmt.Sprintf("Too many tokens. At 0:%d", start))
+	}
+	// What stands behind the first token too many is not looked at, and no deep text is parsed.
+	for _, source := range []string{strings.Repeat("{a", 1<<20), "{ a ) } \"", "{ a \"\x00"} {
+		_, err := ParseWithin(source, 5, 2)
+		var fault *SyntaxError
+		same(t, source[:5], errors.As(err, &fault) && fault.Reason == TooMany, source != "{ a \"\x00")
+	}
+	for _, tokens := range []int{-1, -1 << 63} {
+		if _, err := ParseWithin(source, 5, tokens); !errors.Is(err, ErrTokens) {
+			t.Errorf("%d tokens: %v", tokens, err)
+		}
+	}
+	if _, err := ParseWithin("{\xff", 5, 0); !errors.Is(err, ErrNotUTF8) {
+		t.Errorf("what is no text: %v", err)
+	}
 }
 
 func TestSources(t *testing.T) {

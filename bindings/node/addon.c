@@ -1,5 +1,5 @@
-/* The library's calls for index.js, which sees to the kinds of arguments: parse(buffer, depth) gives { status, nodes, texts },
- * an ArrayBuffer of the nodes or of the fault, and a Buffer of the texts or of the fault's words. */
+/* The library's calls for index.js, which sees to the kinds of arguments: parse(buffer, depth, tokens) gives { status,
+ * nodes, texts }, an ArrayBuffer of the nodes or of the fault, and a Buffer of the texts or of the fault's words. */
 #define _GNU_SOURCE
 #include "whole.h"
 
@@ -18,7 +18,7 @@ static int has(napi_env env, napi_value object, const char *name, napi_status ma
 }
 
 static napi_value told(napi_env env, const whole *w) {
-    int is_fault = w->status == FIRTHNAPKIN_REFUSED || w->status == FIRTHNAPKIN_TOO_DEEP;
+    int is_fault = w->status == FIRTHNAPKIN_REFUSED || w->status == FIRTHNAPKIN_TOO_DEEP || w->status == FIRTHNAPKIN_MANY;
     size_t size = is_fault ? sizeof w->fault : w->nodes_count * sizeof *w->nodes;
     const void *from = is_fault ? (const void *)&w->fault : (const void *)w->nodes;
     napi_value result, value;
@@ -33,17 +33,19 @@ static napi_value told(napi_env env, const whole *w) {
 }
 
 static napi_value parse(napi_env env, napi_callback_info info) {
-    size_t count = 2, length;
-    napi_value arguments[2];
+    size_t count = 3, length;
+    napi_value arguments[3];
     void *source;
-    double depth;
-    if (napi_get_cb_info(env, info, &count, arguments, NULL, NULL) != napi_ok || count < 2
+    double depth, tokens;
+    if (napi_get_cb_info(env, info, &count, arguments, NULL, NULL) != napi_ok || count < 3
         || napi_get_buffer_info(env, arguments[0], &source, &length) != napi_ok
-        || napi_get_value_double(env, arguments[1], &depth) != napi_ok)
-        return failed(env, "parse takes a buffer and a depth");
+        || napi_get_value_double(env, arguments[1], &depth) != napi_ok
+        || napi_get_value_double(env, arguments[2], &tokens) != napi_ok)
+        return failed(env, "parse takes a buffer, a depth and a number of tokens");
     /* What is no number is no less than 0, nor more. */
     uint32_t limit = depth >= 0 && depth <= FIRTHNAPKIN_MOST_DEPTH ? (uint32_t)depth : UINT32_MAX;
-    whole w = parse_whole(source, length, limit);
+    uint32_t most = tokens >= 0 && tokens < UINT32_MAX ? (uint32_t)tokens : UINT32_MAX;
+    whole w = parse_whole(source, length, limit, most);
     napi_value result = w.status == FIRTHNAPKIN_MEMORY ? failed(env, "memory ran out") : told(env, &w);
     give_back(&w);
     return result;

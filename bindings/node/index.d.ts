@@ -83,14 +83,14 @@ export type Detail =
   | "unexpectedEndInToken";
 
 /**
- * Why a source is no document within the depth, and where. The message ends with the line and the column, both counted from 0,
+ * Why a source is no document within the limits, and where. The message ends with the line and the column, both counted from 0,
  * and there in characters.
  */
 export class Fault extends Error {
   private constructor();
   readonly name: "Fault";
   /** `surrogate`: a half of a surrogate pair stands alone, so the string is no text. */
-  readonly reason: "unexpectedToken" | "unexpectedEnd" | "lexical" | "nested" | "surrogate";
+  readonly reason: "unexpectedToken" | "unexpectedEnd" | "lexical" | "nested" | "tooMany" | "surrogate";
   /** Where the reason is `lexical`. */
   readonly detail: Detail | null;
   /** The character that the detail speaks of. */
@@ -104,11 +104,14 @@ export class Fault extends Error {
 export interface Options {
   /** How deep brackets may be nested: an integer from 0 to MOST_DEPTH; 200 where it isn't given. */
   depth?: number;
+  /** How many tokens the source may have; any number where it isn't given. */
+  maxTokens?: number;
 }
 
 /**
- * The document that a source is. Throws a Fault where it is none, or a bracket is nested deeper; a TypeError where the source
- * is no string or the depth no number; a RangeError where the depth is out of its range.
+ * The document that a source is. Throws a Fault where it is none, a bracket is nested deeper, or a token is one too many,
+ * before anything is made of it; a TypeError where the source is no string or a limit no number; a RangeError where a limit
+ * is no integer of its range.
  */
 export function parse(source: string, options?: Options): Document;
 

@@ -9,6 +9,7 @@ const addon = require("./firthnapkin.node");
 const TREE = 0;
 const REFUSED = 1;
 const TOO_DEEP = 5;
+const MANY = 9;
 
 // By their numbers; there is no 15.
 const KINDS = [
@@ -16,7 +17,7 @@ const KINDS = [
   "directive", "arguments", "argument", "null", undefined, "enum", "reference", "list", "object", "key", "int", "largeInt",
   "float", "string", "blockString", "boolean",
 ];
-const REASONS = ["unexpectedToken", "unexpectedEnd", "lexical", "scalar", "nested"];
+const REASONS = ["unexpectedToken", "unexpectedEnd", "lexical", "scalar", "nested", "tooMany"];
 const DETAILS = [
   null, "unknownCharacter", "unexpectedCharacter", "unterminatedString", "unknownCharacterInString", "unknownEscape",
   "unexpectedEndInToken", "invalidNumber",
@@ -231,11 +232,12 @@ class Document {
   }
 }
 
-function limitOf(depth) {
-  if (typeof depth !== "number") throw new TypeError(`depth must be a number, not ${depth === null ? "null" : typeof depth}`);
-  if (!Number.isInteger(depth) || depth < 0 || depth > addon.MOST_DEPTH)
-    throw new RangeError(`depth must be an integer from 0 to ${addon.MOST_DEPTH}`);
-  return depth;
+// A number that is an integer from 0 to this.
+function integer(name, value, most) {
+  if (typeof value !== "number") throw new TypeError(`${name} must be a number, not ${value === null ? "null" : typeof value}`);
+  if (!Number.isInteger(value) || value < 0 || value > most)
+    throw new RangeError(`${name} must be an integer from 0 to ${most}`);
+  return value;
 }
 
 function surrogate(source, index) {
@@ -256,7 +258,8 @@ function surrogate(source, index) {
 function fault(source, nodes, texts) {
   const words = new Uint32Array(nodes);
   const units = new Units(source);
-  const [, message, at] = /^([^]*)\. At (\d+:\d+)$/.exec(texts.utf8Slice());
+  const told = texts.length > 0 ? texts.utf8Slice() : `Too many tokens. At ${words[4]}:${words[5]}`;
+  const [, message, at] = /^([^]*)\. At (\d+:\d+)$/.exec(told);
   const detail = DETAILS[words[1]];
   return new Fault(message, {
     at,
@@ -269,15 +272,16 @@ function fault(source, nodes, texts) {
 }
 
 /** The document that a source is; index.d.ts says what is thrown. */
-function parse(source, { depth = 200 } = {}) {
+function parse(source, { depth = 200, maxTokens = Number.MAX_SAFE_INTEGER } = {}) {
   if (typeof source !== "string") throw new TypeError(`source must be a string, not ${source === null ? "null" : typeof source}`);
-  const limit = limitOf(depth);
+  const limit = integer("depth", depth, addon.MOST_DEPTH);
+  const most = integer("maxTokens", maxTokens, Number.MAX_SAFE_INTEGER);
   const alone = source.isWellFormed?.() ? -1 : source.search(/\p{Surrogate}/u);
   if (alone >= 0) throw surrogate(source, alone);
   const bytes = Buffer.from(source);
-  const { status, nodes, texts } = addon.parse(bytes, limit);
+  const { status, nodes, texts } = addon.parse(bytes, limit, most);
   if (status === TREE) return new Document(source, bytes, nodes, texts);
-  if (status === REFUSED || status === TOO_DEEP) throw fault(source, nodes, texts);
+  if (status === REFUSED || status === TOO_DEEP || status === MANY) throw fault(source, nodes, texts);
   // No string has 4 GiB.
   throw new Error(`the parser answered ${status}`);
 }

@@ -1,4 +1,4 @@
-// The three calls, from C++: linked by the names that the header declares.
+// The calls, from C++: linked by the names that the header declares.
 #include "../../include/firthnapkin.h"
 #include <cstdio>
 #include <string>
@@ -40,6 +40,7 @@ int main() {
     status = firthnapkin_message(bytes(other), other.size(), 200, room.data(), room.size(), &needed);
     check(status == FIRTHNAPKIN_REFUSED && std::string(room.begin(), room.begin() + needed) == "Unexpected \")\". At 0:4",
           "a fault's words");
+    check(firthnapkin_count(bytes(other), other.size(), 2, &fault) == FIRTHNAPKIN_MANY && fault.start.column == 4, "a count");
     check(firthnapkin_version() == FIRTHNAPKIN_VERSION, "the number of the interface");
     std::printf("%ld passed, %ld failed\n", passed, failed);
     return failed != 0;

@@ -183,6 +183,7 @@ static void too_long(void) {
     check(r.status == FIRTHNAPKIN_TOO_LONG && is_kept(r) && is_fault_kept(r) && !r.nodes_needed && !r.texts_needed, "4 GiB");
     give_back(r);
     check(firthnapkin_message(source, length, DEPTH, NULL, 0, &needed) == FIRTHNAPKIN_TOO_LONG && needed == 0, "4 GiB, in words");
+    check(firthnapkin_count(source, length, 1, &r.fault) == FIRTHNAPKIN_TOO_LONG && is_fault_kept(r), "4 GiB, counted");
     munmap(source, length);
 }
 
@@ -204,6 +205,41 @@ static void depths(void) {
     run r = parsed("{a}", 3, FIRTHNAPKIN_MOST_DEPTH, 9, 9);
     check(r.status == FIRTHNAPKIN_TREE && r.nodes_needed == 2, "the largest depth");
     give_back(r);
+}
+
+/* Every limit from 0 to behind the number of tokens: where the limit is below it, the fault is the first token too many. */
+static void every_count(const char *source, uint32_t tokens, const uint32_t *starts, const uint32_t *ends) {
+    for (uint32_t most = 0; most < tokens + 3; most++) {
+        firthnapkin_fault fault;
+        memset(&fault, CANARY, sizeof fault);
+        uint32_t status = firthnapkin_count((const uint8_t *)source, strlen(source), most, &fault);
+        if (most >= tokens) {
+            check(status == FIRTHNAPKIN_FEW && are_canaries((uint8_t *)&fault, sizeof fault), "%u tokens in %s", most, source);
+            continue;
+        }
+        check(status == FIRTHNAPKIN_MANY && fault.kind == FIRTHNAPKIN_TOO_MANY && !fault.detail && !fault.character
+                  && fault.start.byte == starts[most] && fault.end.byte == ends[most],
+              "more than %u tokens in %s: %u, at %u to %u", most, source, status, fault.start.byte, fault.end.byte);
+    }
+}
+
+static void counts(void) {
+    every_count("", 0, NULL, NULL);
+    every_count("  , # {a}\n", 0, NULL, NULL);
+    every_count("#\xc3\xa9\n{a(b:\"\xc3\xa9\",...)}", 9, (const uint32_t[]){4, 5, 6, 7, 8, 9, 14, 17, 18},
+                (const uint32_t[]){5, 6, 7, 8, 9, 13, 17, 18, 19});
+    /* No token behind the first one too many is looked at, and none stands behind a lexical error. */
+    every_count("{a ? b c d", 2, (const uint32_t[]){0, 1}, (const uint32_t[]){1, 2});
+    every_count("a b \"", 2, (const uint32_t[]){0, 2}, (const uint32_t[]){1, 3});
+    firthnapkin_fault fault;
+    memset(&fault, CANARY, sizeof fault);
+    check(firthnapkin_count((const uint8_t *)"{\xff", 2, 0, &fault) == FIRTHNAPKIN_NOT_UTF8, "a count of what is no text");
+    check(firthnapkin_count(NULL, 0, 0, &fault) == FIRTHNAPKIN_FEW, "a count of nothing");
+    check(firthnapkin_count((const uint8_t *)"{a}", 3, UINT32_MAX, &fault) == FIRTHNAPKIN_FEW, "the largest limit");
+    check(are_canaries((uint8_t *)&fault, sizeof fault), "a fault is left");
+    check(firthnapkin_count((const uint8_t *)"# \xf0\x9d\x84\x9e\n a", 9, 0, &fault) == FIRTHNAPKIN_MANY && fault.start.index == 5
+              && fault.start.line == 1 && fault.start.column == 1 && fault.start.byte == 8 && fault.end.index == 6,
+          "a place beyond ASCII");
 }
 
 /* A text of nested parts: a head, so many openings, a middle, as many closings, a tail; the head opens some, too. */
@@ -392,6 +428,7 @@ int main(void) {
     no_memory();
     too_long();
     depths();
+    counts();
     stacks();
     fields();
     numbers();

@@ -65,6 +65,14 @@ static answer message(const char *source) {
     return a;
 }
 
+/* With room for two tokens, so that a place is told. */
+static answer count(const char *source) {
+    answer a = {.nodes_needed = 0, .texts_needed = 0};
+    firthnapkin_fault fault;
+    a.status = firthnapkin_count((const uint8_t *)source, strlen(source), 2, &fault);
+    return a;
+}
+
 /* The call with this request refused, and whether it gave back all. */
 static answer with_refused(answer (*call)(const char *), const char *source, long number, int onwards) {
     asked = live = 0;
@@ -120,6 +128,7 @@ int main(void) {
     for (size_t i = 0; i < sizeof sources / sizeof *sources; i++) {
         each(parse, sources[i]);
         each(message, sources[i]);
+        each(count, sources[i]);
     }
     room_is_a_hint(sources[1]);
     room_is_a_hint(sources[2]);

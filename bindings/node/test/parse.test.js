@@ -153,6 +153,26 @@ test("depths", () => {
   assert.strictEqual(parse("{a".repeat(200) + "}".repeat(200), { depth: undefined }).length, 201);
 });
 
+test("tokens", () => {
+  const source = '{ a(b: "é𝄞") ...F }';
+  const starts = [0, 2, 3, 4, 5, 7, 12, 14, 17, 19];
+  for (const maxTokens of [10, 11, 2 ** 32 - 1, 2 ** 32, 2 ** 53 - 1, undefined]) assert.ok(parse(source, { maxTokens }));
+  starts.forEach((start, maxTokens) => {
+    const fault = faultOf(source, { maxTokens });
+    assert.deepStrictEqual([fault.reason, fault.detail, fault.start.index], ["tooMany", null, start]);
+    // The message counts characters.
+    assert.strictEqual(fault.message, `Too many tokens. At 0:${start > 10 ? start - 1 : start}`);
+  });
+  // What stands behind the first token too many is not looked at, and none stands behind a lexical error.
+  assert.strictEqual(faultOf('{ a ) } "', { maxTokens: 2 }).reason, "tooMany");
+  assert.strictEqual(faultOf('{ a ) } "', { maxTokens: 4 }).reason, "lexical");
+  assert.strictEqual(faultOf("{a".repeat(1000), { maxTokens: 1999 }).reason, "tooMany");
+  assert.strictEqual(faultOf("{a".repeat(1000), { maxTokens: 2000 }).reason, "nested");
+  for (const maxTokens of [-1, 0.5, NaN, Infinity, -Infinity, 2 ** 53, 1e300])
+    assert.throws(() => parse(source, { maxTokens }), RangeError);
+  for (const maxTokens of [null, "5", [], {}, true, 5n]) assert.throws(() => parse(source, { maxTokens }), TypeError);
+});
+
 test("sources", () => {
   for (const source of [undefined, null, 5, Buffer.from("{a}"), ["{a}"], { toString: () => "{a}" }, Symbol("{a}")])
     assert.throws(() => parse(source), { name: "TypeError", message: /^source must be a string, not / });

@@ -1,6 +1,7 @@
 """Arguments of the wrong kind and of every extreme: none ends the process."""
 
 import os
+import pickle
 import subprocess
 import sys
 import threading
@@ -53,6 +54,46 @@ class Depths(unittest.TestCase):
         with self.assertRaises(Fault) as raised:
             parse("{a" * 201 + "}" * 201)
         self.assertIs(raised.exception.reason, Reason.NESTED)
+
+
+class Tokens(unittest.TestCase):
+    SOURCE = '{ a(b: "é𝄞") ...F }'
+    STARTS = (0, 2, 3, 4, 5, 7, 11, 13, 16, 18)
+
+    def test_every_limit(self) -> None:
+        for most in (None, 10, 11, 2**32 - 2, 2**32 - 1, 2**32, 2**32 + 5, 2**64 + 5, 10**30):
+            self.assertEqual(len(parse(self.SOURCE, max_tokens=most)), 6)
+        for most, start in enumerate(self.STARTS):
+            with self.assertRaises(Fault) as raised:
+                parse(self.SOURCE, max_tokens=most)
+            fault = raised.exception
+            self.assertEqual((fault.reason, fault.message, fault.start.index), (Reason.TOO_MANY, "Too many tokens", start))
+            self.assertEqual((str(fault), fault.source), (f"Too many tokens. At 0:{start}", self.SOURCE))
+            self.assertEqual(str(pickle.loads(pickle.dumps(fault))), str(fault))
+
+    def test_order(self) -> None:
+        """What stands behind the first token too many is not looked at, and none stands behind a lexical error."""
+        for text, most, reason in [
+            ('{ a ) } "', 2, Reason.TOO_MANY),
+            ('{ a ) } "', 4, Reason.LEXICAL),
+            ("{ a ) }", 4, Reason.UNEXPECTED_TOKEN),
+            ("{a" * 201, 401, Reason.TOO_MANY),
+            ("{a" * 201, 402, Reason.NESTED),
+            ("\ud800 a b", 0, Reason.SURROGATE),
+        ]:
+            with self.assertRaises(Fault) as raised:
+                parse(text, max_tokens=most)
+            self.assertIs(raised.exception.reason, reason)
+
+    def test_wrong_kinds(self) -> None:
+        for most in (1.0, float("nan"), "5", b"5", [], object()):
+            with self.assertRaises(TypeError) as raised:
+                parse("{a}", max_tokens=most)  # type: ignore[arg-type]
+            self.assertIn("max_tokens", str(raised.exception))
+        for most in (-1, -(2**63), -(10**30)):
+            with self.assertRaises(ValueError) as raised_value:
+                parse("{a}", max_tokens=most)
+            self.assertIn("max_tokens", str(raised_value.exception))
 
 
 class Sources(unittest.TestCase):
@@ -142,9 +183,10 @@ class Statuses(unittest.TestCase):
     def test_refused_depth(self) -> None:
         """The extension alone takes no depth as it comes, either."""
         for depth in (1001, 2**32 - 1, 2**32 + 5, -1, 2**64 - 1):
-            self.assertEqual(firthnapkin._parser.parse(b"{a" * 200000, depth)[0], 8)
-        self.assertEqual(firthnapkin._parser.parse(b"\xff", 200)[0], 2)
-        for arguments in ((), ("{a}", 5), (None, 5), (b"{a}", None), (b"{a}", 1.5), (b"{a}", 5, 5), (bytearray(b"{a}"), 5)):
+            self.assertEqual(firthnapkin._parser.parse(b"{a" * 200000, depth, 2**32 - 1)[0], 8)
+        self.assertEqual(firthnapkin._parser.parse(b"\xff", 200, 2**32 - 1)[0], 2)
+        for arguments in ((), ("{a}", 5, 5), (None, 5, 5), (b"{a}", None, 5), (b"{a}", 1.5, 5), (b"{a}", 5, None), (b"{a}", 5),
+                          (b"{a}", 5, 5, 5), (bytearray(b"{a}"), 5, 5)):  # fmt: skip
             with self.assertRaises(TypeError):
                 firthnapkin._parser.parse(*arguments)  # type: ignore[arg-type]
 
@@ -155,7 +197,7 @@ class Statuses(unittest.TestCase):
             "source = b'{' + b'a ' * 2**24 + b'}'\n"
             "taken = int(open('/proc/self/statm').read().split()[0]) * resource.getpagesize()\n"
             "resource.setrlimit(resource.RLIMIT_AS, (taken + 2**25, resource.RLIM_INFINITY))\n"
-            "try: firthnapkin._parser.parse(source, 200)\n"
+            "try: firthnapkin._parser.parse(source, 200, 2**32 - 1)\n"
             "except MemoryError: print('memory', len(firthnapkin.parse('{a}')))\n"
         )
         here = os.path.dirname(os.path.abspath(__file__))

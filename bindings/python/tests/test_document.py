@@ -143,7 +143,7 @@ class Nodes(unittest.TestCase):
         thread = threading.Thread(target=count)
         thread.start()
         begin = time.monotonic()
-        firthnapkin._parser.parse(text, 200)
+        firthnapkin._parser.parse(text, 200, 2**32 - 1)
         end = time.monotonic()
         is_done.set()
         thread.join()

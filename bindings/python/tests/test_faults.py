@@ -85,8 +85,8 @@ class Faults(unittest.TestCase):
             self.assertEqual(parts(pickle.loads(pickle.dumps(fault))), parts(fault))
 
     def test_utf16_column(self) -> None:
-        self.assertEqual(fault_of("{\n a(b: \"𝄞é\") ) }").utf16_column, 13)
-        self.assertEqual(fault_of("{\n a(b: \"𝄞é\") ) }").column, 12)
+        fault = fault_of("{\n a(b: \"𝄞éм\uffee\") ) }")
+        self.assertEqual((fault.column, fault.utf16_column), (14, 15))
         self.assertEqual(fault_of("# 𝄞\n )").utf16_column, 1)
 
 
@@ -123,6 +123,9 @@ class Excerpts(unittest.TestCase):
 
     def test_ends_of_lines(self) -> None:
         self.assertEqual(fault_of("{\r\n\ra )").excerpt, "GraphQL request:3:3\n2 |\n3 | a )\n  |   ^")
+
+    def test_at_the_end_of_a_line(self) -> None:
+        self.assertEqual(fault_of('{a(b:"c\n)}').excerpt, 'GraphQL request:1:8\n1 | {a(b:"c\n  |        ^\n2 | )}')
 
     def test_long_lines(self) -> None:
         """A line of more than 120 characters is cut into pieces of 80, and ends a piece behind the caret."""

@@ -2,13 +2,15 @@
 
 use crate::document::{Document, Place, RawNode};
 use crate::error::{Detail, Error, Fault, Reason};
-use crate::{stack, DEFAULT_DEPTH, MOST_DEPTH};
+use crate::{stack, Limits, MOST_DEPTH};
 
 const TREE: u32 = 0;
 const REFUSED: u32 = 1;
 const TOO_DEEP: u32 = 5;
 const ROOM: u32 = 6;
 const TOO_LONG: u32 = 7;
+const FEW: u32 = 0;
+const MANY: u32 = 9;
 
 #[repr(C)]
 #[derive(Clone, Copy, Default)]
@@ -34,6 +36,8 @@ extern "C" {
         fault: *mut RawFault,
     ) -> u32;
 
+    fn firthnapkin_count(source: *const u8, length: usize, most: u32, fault: *mut RawFault) -> u32;
+
     fn firthnapkin_message(
         source: *const u8,
         length: usize,
@@ -44,23 +48,40 @@ extern "C" {
     ) -> u32;
 }
 
-/// The document that a source is, with brackets nested at most [`DEFAULT_DEPTH`] deep.
+/// The document that a source is, within [`Limits::default`].
 pub fn parse(source: &str) -> Result<Document<'_>, Error> {
-    parse_within(source, DEFAULT_DEPTH)
+    parse_within(source, Limits::default())
 }
 
-/// The document that a source is, with brackets nested at most as deep as that: from 0 to [`MOST_DEPTH`].
-pub fn parse_within(source: &str, depth: u32) -> Result<Document<'_>, Error> {
-    if depth > MOST_DEPTH {
+/// The document that a source is, within these limits. A source with too many tokens is refused at the first one too many,
+/// before anything is made of it.
+pub fn parse_within(source: &str, limits: Limits) -> Result<Document<'_>, Error> {
+    if limits.depth > MOST_DEPTH {
         return Err(Error::Depth);
     }
-    stack::with(depth, || parse_here(source, depth)).unwrap_or(Err(Error::Memory))
+    count(source, limits.tokens)?;
+    stack::with(limits.depth, || parse_here(source, limits.depth)).unwrap_or(Err(Error::Memory))
 }
 
-/// The same on this thread's stack. Most sources have a node for eight bytes or fewer; for others the second call has the
-/// room that the first asks for.
+/// An error where there are more tokens than that. No source has more than the largest number.
+fn count(source: &str, tokens: u32) -> Result<(), Error> {
+    if tokens == u32::MAX {
+        return Ok(());
+    }
+    let mut fault = RawFault::default();
+    // SAFETY: the source has as many bytes as are told.
+    let status = unsafe { firthnapkin_count(source.as_ptr(), source.len(), tokens, &mut fault) };
+    match status {
+        FEW => Ok(()),
+        MANY => Err(told("Too many tokens".to_string(), fault).into()),
+        _ => Err(failure(status)),
+    }
+}
+
+/// The same on this thread's stack. Few sources have more nodes than one for four bytes; for others the second call has the
+/// room that the first asks for. Memory that is not written to costs nothing.
 fn parse_here(source: &str, depth: u32) -> Result<Document<'_>, Error> {
-    let (mut nodes_needed, mut texts_needed) = (source.len() / 8 + 16, source.len() / 8 + 64);
+    let (mut nodes_needed, mut texts_needed) = (source.len() / 4 + 16, source.len() / 4 + 64);
     loop {
         let mut nodes: Vec<RawNode> = room(nodes_needed)?;
         let mut texts: Vec<u8> = room(texts_needed)?;
@@ -133,17 +154,21 @@ fn fault_of(source: &str, depth: u32, fault: RawFault) -> Result<Fault, Error> {
                 unsafe { words.set_len(needed) };
                 let mut message = String::from_utf8(words).expect("the words of a fault are UTF-8");
                 message.truncate(message.rfind(". At ").unwrap_or(message.len()));
-                return Ok(Fault {
-                    message,
-                    reason: Reason::of(fault.kind),
-                    detail: Detail::of(fault.detail, fault.character),
-                    start: fault.start,
-                    end: fault.end,
-                });
+                return Ok(told(message, fault));
             }
             ROOM => {}
             _ => return Err(failure(status)),
         }
+    }
+}
+
+fn told(message: String, fault: RawFault) -> Fault {
+    Fault {
+        message,
+        reason: Reason::of(fault.kind),
+        detail: Detail::of(fault.detail, fault.character),
+        start: fault.start,
+        end: fault.end,
     }
 }
 

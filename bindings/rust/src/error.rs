@@ -8,7 +8,7 @@ use std::fmt;
 #[derive(Clone, Debug, PartialEq, Eq)]
 #[non_exhaustive]
 pub enum Error {
-    /// The source is none, or a bracket is nested too deep.
+    /// The source is none, or exceeds a limit.
     Fault(Fault),
     /// Memory ran out.
     Memory,
@@ -18,7 +18,7 @@ pub enum Error {
     Depth,
 }
 
-/// Why a source is no document within the depth, and where.
+/// Why a source is no document within the limits, and where.
 #[derive(Clone, Debug, PartialEq, Eq)]
 pub struct Fault {
     /// The error, without its place.
@@ -42,6 +42,8 @@ pub enum Reason {
     Lexical,
     /// The token is nested too deep.
     Nested,
+    /// The token is one too many.
+    TooMany,
 }
 
 /// Why there is no token, and the character that it speaks of.
@@ -63,6 +65,7 @@ impl Reason {
             1 => Reason::UnexpectedEnd,
             2 => Reason::Lexical,
             4 => Reason::Nested,
+            5 => Reason::TooMany,
             _ => unreachable!("the library tells no other reason"),
         }
     }

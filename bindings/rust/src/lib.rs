@@ -21,3 +21,24 @@ pub const DEFAULT_DEPTH: u32 = 200;
 
 /// The largest depth that [`parse_within`] takes.
 pub const MOST_DEPTH: u32 = 1000;
+
+/// What a source may have.
+///
+/// ```
+/// use firthnapkin::{parse_within, Limits};
+/// assert!(parse_within("{ a { b } }", Limits { tokens: 5, ..Limits::default() }).is_err());
+/// ```
+#[derive(Clone, Copy, Debug, PartialEq, Eq)]
+pub struct Limits {
+    /// How deep brackets may be nested: from 0 to [`MOST_DEPTH`].
+    pub depth: u32,
+    /// How many tokens there may be.
+    pub tokens: u32,
+}
+
+/// [`DEFAULT_DEPTH`], and any number of tokens.
+impl Default for Limits {
+    fn default() -> Self {
+        Limits { depth: DEFAULT_DEPTH, tokens: u32::MAX }
+    }
+}

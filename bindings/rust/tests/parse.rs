@@ -1,9 +1,13 @@
 //! What the crate gives for sources and depths of every kind.
 
-use firthnapkin::{parse, parse_within, Detail, Document, Error, Fault, Kind, Place, Reason, Value, MOST_DEPTH};
+use firthnapkin::{parse, Detail, Document, Error, Fault, Kind, Limits, Place, Reason, Value, MOST_DEPTH};
 
 fn place(index: u32, line: u32, column: u32, byte: u32) -> Place {
     Place { index, line, column, byte }
+}
+
+fn parse_within(source: &str, depth: u32) -> Result<Document<'_>, Error> {
+    firthnapkin::parse_within(source, Limits { depth, ..Limits::default() })
 }
 
 fn fault(source: &str, depth: u32) -> Fault {
@@ -164,6 +168,35 @@ fn depths() {
     }
     assert_eq!(parse(&deep(200)).unwrap().len(), 201);
     assert_eq!(fault(&deep(201), 200), fault(&deep(201), firthnapkin::DEFAULT_DEPTH));
+}
+
+#[test]
+fn tokens() {
+    let within = |source: &'static str, tokens| firthnapkin::parse_within(source, Limits { depth: 5, tokens });
+    let source = "{ a(b: \"é\") ...F }";
+    let starts = [0, 2, 3, 4, 5, 7, 10, 12, 15, 17];
+    for tokens in [10, 11, u32::MAX - 1, u32::MAX] {
+        assert!(within(source, tokens).is_ok());
+    }
+    for (tokens, start) in starts.into_iter().enumerate() {
+        match within(source, tokens as u32) {
+            Err(Error::Fault(fault)) => {
+                assert_eq!((fault.reason, fault.detail, fault.start.index), (Reason::TooMany, None, start));
+                assert_eq!(fault.to_string(), format!("Too many tokens. At 0:{start}"));
+            }
+            other => panic!("{tokens} tokens: {other:?}"),
+        }
+    }
+    // What stands behind the first token too many is not looked at, and none stands behind a lexical error.
+    let reason = |source, tokens| match within(source, tokens) {
+        Err(Error::Fault(fault)) => fault.reason,
+        other => panic!("{other:?}"),
+    };
+    assert_eq!(reason("{ a ) } \"", 2), Reason::TooMany);
+    assert_eq!(reason("{ a ) } \"", 4), Reason::Lexical);
+    assert_eq!(reason("{ a ) }", 4), Reason::UnexpectedToken);
+    assert_eq!(reason("{a{b{c{d{e{f}}}}}}", 17), Reason::TooMany);
+    assert_eq!(reason("{a{b{c{d{e{f}}}}}}", 18), Reason::Nested);
 }
 
 #[test]

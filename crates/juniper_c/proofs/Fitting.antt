@@ -1,15 +1,13 @@
 -- The numbers that C is told of a source of less than 4 GiB fit in 32 bits.
-use Rattle.std.proofs.Common.{◌≡◌, ◌∙◌, ℕ, ◌+◌, ◌^◌, ◌<◌, ◌≤◌, List, [], ◌∷◌, ◌++◌, length, take, reverse, sym, ap, subst, inl, inr, ◌⊎◌, arith, append_assoc, length-append, refl}
-use Rattle.std.specs.List.{AllByRecursion, prefix_len, take_while, count_by}
-use Rattle.std.specs.Prelude.{encode_utf8_all, not, ◌==◌}
+use Rattle.std.proofs.Common.{◌≡◌, ◌∙◌, ℕ, ◌+◌, ◌^◌, ◌<◌, ◌≤◌, List, [], ◌∷◌, ◌++◌, length, take, reverse, sym, ap, subst, inl, inr, arith, append_assoc, length-append, refl}
+use Rattle.std.specs.List.{AllByRecursion, prefix_len, take_while}
+use Rattle.std.specs.Prelude.{not, ◌==◌}
 use Rattle.std.specs.Str.{chars, IsUtf8}
 use Rattle.std.proofs.lemmas.List.{length-take, length-reverse}
 use Rattle.std.proofs.lemmas.List.Sums.{count_by-le-length}
 use Rattle.std.proofs.lemmas.Str.{encodes-chars}
 use Rattle.graphql_lexical.specs.Place as places
 use Rattle.graphql_lexical.specs.Place.{place}
-use Rattle.graphql_lexical.specs.Kinds.{LexicalError}
-use Rattle.graphql_lexical.specs.Cutting.{Lexeme, Cut, Breaks}
 use Rattle.graphql_lexical.specs.laws.Laws.{HasOneEnd}
 use Rattle.graphql_lexical.proofs.Cuts.{one_end}
 use Rattle.graphql_grammar.specs.Tree.{Definition}
@@ -26,25 +24,25 @@ use Rattle.juniper.specs.Promise.{HasTree, IsRefusal}
 use Rattle.juniper.specs.Within.{HasTooDeep}
 use Rattle.juniper_nodes.specs.NodeTexts.{text_of_node, node_texts}
 use Rattle.juniper_c.specs.Nodes.{byte_count}
-use Rattle.juniper_c.specs.FlatWriters.{PlaceFits, SpanFits, NodeFits, NodesFit}
+use Rattle.juniper_c.specs.FlatWriters.{PlaceFits, SpanFits, NodesFit}
 use Rattle.juniper_c.specs.Answers.{scalars}
 use Rattle.juniper_c.proofs.ShortScalars.{short_texts}
 use Rattle.juniper_c.proofs.Told.{bytes-append}
 
 -- ---- places
 
-place_fits : (source : List ℕ) (p : places.Place) → length source < 2 ^ 32 → IsPlaceOf source p → PlaceFits p
-place_fits source p l h =
-    let front = take p.index source in
+pub any_place_fits : (source : List ℕ) (m : ℕ) → length source < 2 ^ 32 → PlaceFits (place source m)
+any_place_fits source m l =
+    let front = take m source in
     let pass = λ (c : ℕ). not (c == 10) in
-    let few : length front ≤ length source = omega (arith, length-take p.index source) in
+    let few : length front ≤ length source = omega (arith, length-take m source) in
     let lines = count_by-le-length (λ (c : ℕ). c == 10) front in
     let columns : length (take_while pass (reverse front)) ≤ length front =
-    omega (arith, length-take (prefix_len pass (reverse front)) (reverse front), length-reverse front) in (
-      omega (arith, h.within, l),
-      omega (arith, ap (λ (q : places.Place). q.line) h.is, lines, few, l),
-      omega (arith, ap (λ (q : places.Place). q.column) h.is, columns, few, l),
-    )
+    omega (arith, length-take (prefix_len pass (reverse front)) (reverse front), length-reverse front) in
+    (omega (arith, few, l), omega (arith, lines, few, l), omega (arith, columns, few, l))
+
+place_fits : (source : List ℕ) (p : places.Place) → length source < 2 ^ 32 → IsPlaceOf source p → PlaceFits p
+place_fits source p l h = subst PlaceFits (sym h.is) (any_place_fits source p.index l)
 
 pub span_fits : (source : List ℕ) (span : places.Span) → length source < 2 ^ 32 → LiesIn source span → SpanFits span
 span_fits source span l h = (place_fits source span.start l h.start, place_fits source span.end l h.end)
@@ -72,7 +70,7 @@ deep_lies source depth span h =
     (token_among source h.lexemes deeper.before deeper.after h.token deeper.whole (tokens_lie source h.lexemes h.cut))
 
 module _ (text : List ℕ) (u : IsUtf8 text) (l : length text < 2 ^ 32) where
-  few_characters : length (chars text) < 2 ^ 32
+  pub few_characters : length (chars text) < 2 ^ 32
   few_characters = omega (arith, chars_within text u, l)
 
   pub refusal_fits : (fault : errors.Fault) → IsRefusal scalars (chars text) fault → SpanFits fault.span

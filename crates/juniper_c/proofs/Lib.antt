@@ -5,3 +5,4 @@ pub mod ShortScalars
 pub mod Bounds
 pub mod FlatWriters
 pub mod Fitting
+pub mod TokenCounts

@@ -1,8 +1,7 @@
 -- One node more is told.
-use Rattle.std.proofs.Common.{◌≡◌, ◌∙◌, ℕ, ◌+◌, ◌-◌, ◌^◌, ◌<◌, Bool, true, false, List, [], ◌∷◌, ◌++◌, length, refl, sym, ap, ap₂, arith, append_assoc, append-nil, length-append, subst}
-use Rattle.std.specs.Prelude.{nat_le, if◌then◌else◌, encode_utf8_all}
+use Rattle.std.proofs.Common.{◌≡◌, ◌∙◌, ℕ, ◌+◌, ◌-◌, List, [], ◌∷◌, ◌++◌, length, sym, ap, ap₂, arith, append_assoc, append-nil, length-append, subst}
+use Rattle.std.specs.Prelude.{encode_utf8_all}
 use Rattle.std.specs.Str.{chars, IsUtf8}
-use Rattle.std.proofs.lemmas.Bool.Decides.{nat_tests}
 use Rattle.std.proofs.lemmas.Grind.{flat_map-append}
 use Rattle.std.proofs.lemmas.Str.{encodes-append, encodes-chars}
 use Rattle.graphql_grammar.specs.Tree.{Definition}
@@ -10,7 +9,7 @@ use Rattle.graphql_nodes.specs.Nodes as nodes
 use Rattle.graphql_nodes.specs.Nodes.{each, definition_nodes, document_nodes}
 use Rattle.juniper_values.specs.Scalar.{Content}
 use Rattle.juniper_nodes.specs.NodeTexts.{text_of_node, node_texts}
-use Rattle.juniper_c.specs.FlatWriters.{NodeFits, NodesFit}
+use Rattle.juniper_c.specs.FlatWriters.{NodesFit}
 use Rattle.juniper_c.specs.Nodes.{byte_count, told_node, told_nodes}
 use Rattle.juniper_c.specs.declared.node.Node.{Node}
 

@@ -30,6 +30,9 @@ error_reason (errors.ExpectedScalar t) = because 3 0 0
 abbrev pub deep_reason : Reason
 deep_reason = because 4 0 0
 
+abbrev pub many_reason : Reason
+many_reason = because 5 0 0
+
 abbrev pub fault_at : List ℕ → Reason → Span → Fault
 fault_at source reason span = record {
   kind = reason.kind;
@@ -46,3 +49,7 @@ told_fault source fault = fault_at source (error_reason fault.error) fault.span
 -- a token that is nested too deep
 abbrev pub deep_fault : List ℕ → Span → Fault
 deep_fault source span = fault_at source deep_reason span
+
+-- a token that is one too many
+abbrev pub many_fault : List ℕ → Span → Fault
+many_fault source span = fault_at source many_reason span

@@ -6,3 +6,4 @@ pub mod ScalarLaws
 pub mod Faults
 pub mod Answers
 pub mod FlatWriters
+pub mod TokenCounts

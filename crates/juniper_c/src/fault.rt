@@ -4,7 +4,7 @@ ghost use Rattle.juniper_tokens.specs.Errors.{view_error, view_fault, view_lexer
 ghost use Rattle.juniper_tokens.specs.Spans.{view_span};
 ghost use Rattle.juniper_c.specs.ByteTables.{IsTableOf};
 ghost use Rattle.juniper_c.specs.FlatWriters.{SpanFits};
-ghost use Rattle.juniper_c.specs.Faults.{lexical_reason, error_reason, fault_at, told_fault, deep_fault};
+ghost use Rattle.juniper_c.specs.Faults.{lexical_reason, error_reason, fault_at, told_fault, deep_fault, many_fault};
 
 use crate::byte_table::ByteTable;
 use crate::place::{Place, place_at};
@@ -14,7 +14,8 @@ use juniper::{LexerError, ParseError, Span, Spanning};
 #[repr(C)]
 #[derive(Clone, Copy)]
 pub struct Fault {
-    /// 0 for an unexpected token, 1 for an unexpected end, 2 where there is no token, 3 for a scalar, 4 for nesting.
+    /// 0 for an unexpected token, 1 for an unexpected end, 2 where there is no token, 3 for a scalar, 4 for nesting, 5 for a
+    /// token too many.
     pub kind: u32,
     /// A number for each `LexerError`, from 1 on in their order; 0 where the source is refused for no such error.
     pub detail: u32,
@@ -44,6 +45,13 @@ pub(crate) fn deep_fault(table: &ByteTable, span: Span) -> Fault
     ensures { (source : List ℕ) → IsTableOf source table.now → SpanFits (view_span span) → result ≡ deep_fault source (view_span span) }
 {
     fault_at(table, because(4, 0, 0), &span)
+}
+
+/// The fault of a source with too many tokens, at the first that is one.
+pub(crate) fn many_fault(table: &ByteTable, span: Span) -> Fault
+    ensures { (source : List ℕ) → IsTableOf source table.now → SpanFits (view_span span) → result ≡ many_fault source (view_span span) }
+{
+    fault_at(table, because(5, 0, 0), &span)
 }
 
 fn fault_at(table: &ByteTable, reason: Reason, span: &Span) -> Fault

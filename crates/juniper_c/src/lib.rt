@@ -2,6 +2,7 @@
 #![tactic(auto)]
 
 mod byte_table;
+mod count;
 mod depth;
 mod fault;
 mod flat;

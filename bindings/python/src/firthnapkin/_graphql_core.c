@@ -476,7 +476,7 @@ static PyObject *document_in(PyObject *module, PyObject *arguments) {
     if (!state->is_set) return PyErr_Format(PyExc_SystemError, "setup is to be called first");
     uint32_t limit = depth <= FIRTHNAPKIN_MOST_DEPTH ? (uint32_t)depth : UINT32_MAX;
     PyThreadState *thread = PyEval_SaveThread();
-    whole w = parse_whole((const uint8_t *)bytes, (size_t)length, limit);
+    whole w = parse_whole((const uint8_t *)bytes, (size_t)length, limit, UINT32_MAX);
     PyEval_RestoreThread(thread);
     builder b = {state, w.nodes, w.nodes_count, bytes, (const char *)w.texts, (size_t)length, characters == length, origin, NULL};
     if (w.status == FIRTHNAPKIN_MEMORY)

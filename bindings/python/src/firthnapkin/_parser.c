@@ -6,28 +6,30 @@
 
 /* What there is to tell of a parse: its status, and two bytes objects. */
 static PyObject *told(const whole *w, const void *first, size_t first_length) {
-    return Py_BuildValue("Iy#y#", (unsigned)w->status, (const char *)first, (Py_ssize_t)first_length,
-                         (const char *)w->texts, (Py_ssize_t)w->texts_count);
+    const char *texts = w->texts_count != 0 ? (const char *)w->texts : "";
+    return Py_BuildValue("Iy#y#", (unsigned)w->status, first_length != 0 ? (const char *)first : "",
+                         (Py_ssize_t)first_length, texts, (Py_ssize_t)w->texts_count);
 }
 
-PyDoc_STRVAR(parse_doc, "parse(source, depth, /)\n--\n\n"
+PyDoc_STRVAR(parse_doc, "parse(source, depth, tokens, /)\n--\n\n"
                         "The status, the bytes of the nodes or of the fault, and those of the texts or of its words.");
 
 static PyObject *parse(PyObject *module, PyObject *arguments) {
     PyObject *source, *result;
-    unsigned long depth;
+    unsigned long depth, tokens;
     char *bytes;
     Py_ssize_t length;
     (void)module;
-    if (!PyArg_ParseTuple(arguments, "Sk:parse", &source, &depth)) return NULL;
+    if (!PyArg_ParseTuple(arguments, "Skk:parse", &source, &depth, &tokens)) return NULL;
     if (PyBytes_AsStringAndSize(source, &bytes, &length) != 0) return NULL;
     uint32_t limit = depth <= FIRTHNAPKIN_MOST_DEPTH ? (uint32_t)depth : UINT32_MAX;
+    uint32_t most = tokens < UINT32_MAX ? (uint32_t)tokens : UINT32_MAX;
     PyThreadState *state = PyEval_SaveThread();
-    whole w = parse_whole((const uint8_t *)bytes, (size_t)length, limit);
+    whole w = parse_whole((const uint8_t *)bytes, (size_t)length, limit, most);
     PyEval_RestoreThread(state);
     if (w.status == FIRTHNAPKIN_MEMORY)
         result = PyErr_NoMemory();
-    else if (w.status == FIRTHNAPKIN_REFUSED || w.status == FIRTHNAPKIN_TOO_DEEP)
+    else if (w.status == FIRTHNAPKIN_REFUSED || w.status == FIRTHNAPKIN_TOO_DEEP || w.status == FIRTHNAPKIN_MANY)
         result = told(&w, &w.fault, sizeof w.fault);
     else
         result = told(&w, w.nodes, w.nodes_count * sizeof *w.nodes);
@@ -39,6 +41,7 @@ static PyMethodDef methods[] = {{"parse", parse, METH_VARARGS, parse_doc}, {NULL
 
 static int begin(PyObject *module) {
     return PyModule_AddIntConstant(module, "MOST_DEPTH", FIRTHNAPKIN_MOST_DEPTH) != 0
+            || PyModule_AddObject(module, "MOST_TOKENS", PyLong_FromUnsignedLong(UINT32_MAX)) != 0
             || PyModule_AddStringConstant(module, "VERSION", FIRTHNAPKIN_VERSION_TEXT) != 0
         ? -1
         : 0;

@@ -12,7 +12,7 @@ __all__ = ["Detail", "Fault", "Reason"]
 
 
 class Reason(enum.Enum):
-    """Why a text is no document within the depth."""
+    """Why a text is no document within the limits."""
 
     #: No document goes on with the token.
     UNEXPECTED_TOKEN = 0
@@ -24,8 +24,10 @@ class Reason(enum.Enum):
     SCALAR = 3
     #: The token is nested too deep.
     NESTED = 4
+    #: The token is one too many.
+    TOO_MANY = 5
     #: A half of a surrogate pair stands alone: such a str is no text.
-    SURROGATE = 5
+    SURROGATE = 6
 
 
 class Detail(enum.Enum):
@@ -43,7 +45,7 @@ class Detail(enum.Enum):
 
 
 class Fault(ValueError):
-    """Why a text is no document within the depth, and where. It can be pickled and copied, with its source."""
+    """Why a text is no document within the limits, and where. It can be pickled and copied, with its source."""
 
     def __init__(
         self,

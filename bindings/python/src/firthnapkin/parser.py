@@ -4,6 +4,7 @@ from __future__ import annotations
 
 import operator
 import struct
+from typing import Optional
 
 from . import _parser
 from .document import Document, Place
@@ -11,30 +12,36 @@ from .fault import Detail, Fault, Reason
 
 __all__ = ["parse"]
 
-_TREE, _REFUSED, _TOO_DEEP, _TOO_LONG = 0, 1, 5, 7
+_TREE, _REFUSED, _TOO_DEEP, _TOO_LONG, _MANY = 0, 1, 5, 7, 9
 
 # kind, detail, character, and the places
 _FAULT = struct.Struct("=3I8I")
 
 
-def parse(source: str, *, depth: int = 200) -> Document:
+def parse(source: str, *, depth: int = 200, max_tokens: Optional[int] = None) -> Document:
     """The document that a text is, with brackets nested at most `depth` deep. Other threads go on meanwhile.
 
-    Raises Fault, a ValueError, where the text is no document, or a bracket is nested deeper; TypeError where the source is
-    no str or the depth no int; ValueError where the depth is below 0 or above MOST_DEPTH, or the text has 4 GiB or more;
-    MemoryError where memory ran out.
+    With `max_tokens` the text may have no more tokens than that; one with more is refused at the first token too many,
+    before anything is made of it, whatever stands behind.
+
+    Raises Fault, a ValueError, where the text is no document, a bracket is nested deeper, or a token is one too many;
+    TypeError where the source is no str, the depth no int, or max_tokens neither an int nor None; ValueError where the depth
+    is below 0 or above MOST_DEPTH, max_tokens is below 0, or the text has 4 GiB or more; MemoryError where memory ran out.
     """
     if not isinstance(source, str):
         raise TypeError(f"source must be a str, not {type(source).__name__}")
     limit = limit_of(depth)
+    most = _parser.MOST_TOKENS if max_tokens is None else _number("max_tokens", max_tokens)
+    if most < 0:
+        raise ValueError("max_tokens must not be below 0")
     try:
         written = str.encode(source)
     except UnicodeEncodeError as error:
         raise _surrogate(source, error.start) from None
-    status, first, texts = _parser.parse(written, limit)
+    status, first, texts = _parser.parse(written, limit, min(most, _parser.MOST_TOKENS))
     if status == _TREE:
         return Document(source, written, first, texts)
-    if status in (_REFUSED, _TOO_DEEP):
+    if status in (_REFUSED, _TOO_DEEP, _MANY):
         raise _fault(source, first, texts)
     if status == _TOO_LONG:
         raise ValueError("source must have less than 4 GiB")
@@ -43,19 +50,23 @@ def parse(source: str, *, depth: int = 200) -> Document:
 
 def limit_of(depth: int) -> int:
     """The number that a depth is, if it is one that is taken."""
-    try:
-        limit = operator.index(depth)
-    except TypeError:
-        raise TypeError(f"depth must be an int, not {type(depth).__name__}") from None
+    limit = _number("depth", depth)
     if not 0 <= limit <= _parser.MOST_DEPTH:
         raise ValueError(f"depth must be from 0 to {_parser.MOST_DEPTH}")
     return limit
 
 
+def _number(name: str, value: int) -> int:
+    try:
+        return operator.index(value)
+    except TypeError:
+        raise TypeError(f"{name} must be an int, not {type(value).__name__}") from None
+
+
 def _fault(source: str, told: bytes, words: bytes) -> Fault:
     reason, detail, character, *places = _FAULT.unpack(told)
     return Fault(
-        words.decode().rpartition(". At ")[0],
+        words.decode().rpartition(". At ")[0] or "Too many tokens",
         Reason(reason),
         Place(*places[:4]),
         Place(*places[4:]),

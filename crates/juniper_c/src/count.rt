@@ -1,0 +1,119 @@
+//! A limit on the number of tokens.
+ghost use Rattle.std.specs.Prelude.{◌≡◌, ◌≢◌, ◌<◌, ◌≤◌, ◌^◌, ◌⊎◌, ◌↔◌, ℕ, List, length, true, false, IsUtf8};
+ghost use Rattle.std.specs.Str.{chars};
+ghost use Rattle.graphql_lexical.specs.Place as places;
+ghost use Rattle.juniper_tokens.specs.Spans.{view_span};
+ghost use Rattle.juniper_c.specs.Faults.{many_fault};
+ghost use Rattle.juniper_c.specs.TokenCounts.{HasFew, HasMore, IsCountStatus, Steps, AnswersCounted, IsTooMany};
+
+use crate::byte_table::ByteTable;
+use crate::fault::{Fault, many_fault};
+use crate::status::{FEW, MANY, MEMORY, NOT_UTF8, TOO_LONG, TOO_LONG_FROM};
+use juniper::Span;
+use juniper_tokens::{Kind, LexFailure, Lexer};
+use std::alloc::Global;
+
+/// Says whether a source has more tokens than that, besides its end, and where the first one too many is.
+#[unsafe(no_mangle)]
+pub extern "C" fn firthnapkin_count(
+    alloc: Global,
+    source: &[u8],
+    most: u32,
+    fault: &mut Fault,
+) -> u32
+    ensures statuses { IsCountStatus result }
+    ensures few { result ≡ FEW → IsUtf8 source.now × HasFew (chars source.now) 0 most }
+    ensures many { result ≡ MANY → IsUtf8 source.now × ((span : places.Span) × HasMore (chars source.now) 0 most span × (fault.new ≡ many_fault (chars source.now) span)) }
+    ensures no_text { result ≡ NOT_UTF8 → ¬ IsUtf8 source.now }
+    ensures too_long { result ≡ TOO_LONG ↔ 2 ^ 32 ≤ length source.now }
+    ensures fault_kept { result ≢ MANY → fault.new ≡ fault.old }
+{
+    match count_of(alloc, source, most) {
+        Counted::Few => FEW,
+        Counted::Many(found) => {
+            *fault = found;
+            MANY
+        }
+        Counted::NotUtf8 => NOT_UTF8,
+        Counted::Memory => MEMORY,
+        Counted::TooLong => TOO_LONG,
+    }
+}
+
+#[derive(Clone, Copy)]
+enum Counted {
+    Few,
+    Many(Fault),
+    NotUtf8,
+    Memory,
+    TooLong,
+}
+
+fn count_of(alloc: Global, source: &[u8], most: u32) -> Counted
+    ensures { AnswersCounted source.now most result }
+{
+    if source.len() >= TOO_LONG_FROM {
+        return Counted::TooLong;
+    }
+    match std::str::from_utf8(source) {
+        Ok(text) => count_of_text(alloc, text, most),
+        Err(_) => Counted::NotUtf8,
+    }
+}
+
+fn count_of_text(alloc: Global, text: &str, most: u32) -> Counted
+    requires { length text.now < 2 ^ 32 }
+    ensures { AnswersCounted text.now most result }
+{
+    let mut lexer = Lexer::new(alloc, text);
+    let mut left = most;
+    loop {
+        match next_step(&mut lexer) {
+            Step::Token(span) => {
+                if left == 0 {
+                    return too_many(alloc, text, span);
+                }
+                left -= 1;
+            }
+            Step::End => return Counted::Few,
+            Step::Memory => return Counted::Memory,
+        }
+    }
+}
+
+// A source that has too many tokens, the first of which has this span.
+fn too_many(alloc: Global, text: &str, span: Span) -> Counted
+    requires { length text.now < 2 ^ 32 }
+    ensures { IsTooMany (chars text.now) (view_span span) result }
+{
+    match ByteTable::new(alloc, text) {
+        Ok(table) => Counted::Many(many_fault(&table, span)),
+        Err(_) => Counted::Memory,
+    }
+}
+
+// What stands behind the next gap: a token that isn't the end, or the end or a lexical error.
+#[derive(Clone, Copy)]
+enum Step {
+    Token(Span),
+    End,
+    Memory,
+}
+
+fn next_step(lexer: &mut Lexer<'_>) -> Step
+    requires { lexer.old.ended ≡ false }
+    ensures { Steps lexer.old result lexer.new }
+{
+    let item = lexer.next();
+    match &item {
+        Some(Ok(token)) => {
+            if token.item.kind() == Kind::EndOfFile {
+                Step::End
+            } else {
+                Step::Token(token.span)
+            }
+        }
+        Some(Err(LexFailure::Memory)) => Step::Memory,
+        Some(Err(LexFailure::Fault(_))) | None => Step::End,
+    }
+}
