@@ -1,5 +1,6 @@
 //! Calls that make answer values, objects and names, and calls on them.
 
+use crate::Call;
 use crate::write::{write_made, write_pair};
 use juniper::{
     DefaultScalarValue, IntoValue, Name, NameFailure, Object, ToInputValue, Value, value_from_str,
@@ -86,26 +87,19 @@ fn object_of(alloc: Global, text: &str) -> Result<Object<DefaultScalarValue>, Al
 
 /// `with_capacity` of a number of fields; `from_iter` of the text's pairs; `add_field` of the pair of a word to the
 /// object of the text, and the object after it.
-pub fn answer_object(
-    alloc: Global,
-    out: &mut String,
-    call: &str,
-    word: &str,
-    text: &str,
-) -> Result<(), AllocError> {
-    match call {
-        "with_capacity" => {
-            write_whole(
-                out,
-                Object::with_capacity(alloc, word.parse::<usize>().unwrap_or(0)),
-            )
-        }
+pub fn answer_object(alloc: Global, out: &mut String, call: &Call<'_>) -> Result<(), AllocError> {
+    match call.name {
+        "with_capacity" => write_whole(out, Object::with_capacity(alloc, number_of(call.word))),
         "from_iter" => write_whole(
             out,
-            Object::from_iter(alloc, pairs_of(alloc, text)?.into_iter()),
+            Object::from_iter(alloc, pairs_of(alloc, call.text)?.into_iter()),
         ),
-        _ => write_added(alloc, out, object_of(alloc, text)?, word),
+        _ => write_added(alloc, out, object_of(alloc, call.text)?, call.word),
     }
+}
+
+fn number_of(word: &str) -> usize {
+    word.parse::<usize>().unwrap_or(0)
 }
 
 fn write_whole(

@@ -21,20 +21,33 @@ mod write;
 use std::alloc::{AllocError, Global};
 use std::{env, io};
 
+/// A call: its name, the word that says more of it, and the text.
+#[derive(Drop)]
+struct Call<'a> {
+    name: &'a str,
+    word: &'a str,
+    text: &'a str,
+}
+
 // How many bytes may be told.
 const ROOM: usize = 65536;
 
 fn main(rt: HostRuntime) -> io::Result<()> {
     let text = io::read_to_string(rt.alloc(), rt.stdin())?;
     let mut words = env::args(&rt)?.skip(1);
-    let (kind, call, word) = (words.next(), words.next(), words.next());
-    let (kind, call, word) = (text_of(&kind), text_of(&call), text_of(&word));
+    let (kind, name, word) = (words.next(), words.next(), words.next());
+    let kind = text_of(&kind);
+    let call = Call {
+        name: text_of(&name),
+        word: text_of(&word),
+        text: text.as_str(),
+    };
     if kind == "document" {
-        return documents::tell(&rt, call, text.as_str());
+        return documents::tell(&rt, call.name, call.text);
     }
     let mut out = String::with_capacity(rt.alloc(), ROOM)?;
     println!(rt; "calling")?;
-    match answer(rt.alloc(), &mut out, kind, call, word, text.as_str()) {
+    match answer(rt.alloc(), &mut out, kind, &call) {
         Ok(()) => print!(rt; "{out}"),
         Err(_) => println!(rt; "not called"),
     }
@@ -49,23 +62,16 @@ fn text_of(word: &Option<String>) -> &str {
 }
 
 // Writes what a call answers, and what stands after it.
-fn answer(
-    alloc: Global,
-    out: &mut String,
-    kind: &str,
-    call: &str,
-    word: &str,
-    text: &str,
-) -> Result<(), AllocError> {
+fn answer(alloc: Global, out: &mut String, kind: &str, call: &Call<'_>) -> Result<(), AllocError> {
     match kind {
-        "lexing" => lexing::answer(alloc, out, call, text),
-        "cursor" => cursor::answer(alloc, out, call, text),
-        "scalar" => scalars::answer(alloc, out, call, word, text),
-        "type" => types::answer(alloc, out, call, word, text),
-        "made" => values::answer_made(alloc, out, call, text),
-        "value" => values::answer(alloc, out, call, word, text),
-        "nodes" => nodes::answer(alloc, out, call, text),
-        "object" => answers::answer_object(alloc, out, call, word, text),
-        _ => answers::answer(alloc, out, call, text),
+        "lexing" => lexing::answer(alloc, out, call.name, call.text),
+        "cursor" => cursor::answer(alloc, out, call.name, call.text),
+        "scalar" => scalars::answer(alloc, out, call),
+        "type" => types::answer(alloc, out, call),
+        "made" => values::answer_made(alloc, out, call.name, call.text),
+        "value" => values::answer(alloc, out, call),
+        "nodes" => nodes::answer(alloc, out, call.name, call.text),
+        "object" => answers::answer_object(alloc, out, call),
+        _ => answers::answer(alloc, out, call.name, call.text),
     }
 }

@@ -4,22 +4,16 @@ use crate::cursor::value_in;
 use juniper::{
     DefaultScalarValue, Definition, Lexer, OwnedDocument, Parser, parse_document_source,
 };
-use juniper_nodes::{Node, document_nodes, push_definition, value_nodes};
+use juniper_nodes::{Node, push_definition, value_nodes};
 use std::alloc::{AllocError, Global};
 
 type Nodes<'t, 'a> = Vec<Node<'t, 'a, DefaultScalarValue>>;
 
-/// `value_nodes`: how many nodes the value literal has that is the text. `document_nodes`: how many the document has. Any
-/// other word: how many there are after each definition of the document was put behind the others by `push_definition`.
+/// `value_nodes`: how many nodes the value literal has that is the text. Any other word: how many there are after each
+/// definition of the document was put behind the others by `push_definition`.
 pub fn answer(alloc: Global, out: &mut String, call: &str, text: &str) -> Result<(), AllocError> {
     match call {
         "value_nodes" => write_of_value(alloc, out, text),
-        "document_nodes" => {
-            write_count(
-                out,
-                &document_nodes(alloc, document_of(alloc, text)?.as_slice()),
-            )
-        }
         _ => write_pushed(alloc, out, document_of(alloc, text)?.as_slice()),
     }
 }

@@ -1,5 +1,6 @@
 //! Calls on scalars, of the type that a word names.
 
+use crate::Call;
 use crate::write::{write_made, write_optional};
 use juniper::{
     DefaultScalarValue, ParseScalarResult, ReadFailure, ScalarToken, ScalarValue, ToScalarValue,
@@ -11,19 +12,13 @@ use std::alloc::{AllocError, Global};
 
 /// `from_str`, `from_int`, `from_float` and `from_block`: what a String, an Int, a Float or a block string of the text is
 /// read as. Any other word: a call on the scalar of the text. The type is the default one where the word names none.
-pub fn answer(
-    alloc: Global,
-    out: &mut String,
-    call: &str,
-    word: &str,
-    text: &str,
-) -> Result<(), AllocError> {
-    match word {
-        "Literal" => answer_at::<Literal>(alloc, out, call, text),
-        "Thousandths" => answer_at::<Thousandths>(alloc, out, call, text),
-        "RefuseAll" => answer_at::<RefuseAll>(alloc, out, call, text),
-        "OddError" => answer_at::<OddError>(alloc, out, call, text),
-        _ => answer_at::<DefaultScalarValue>(alloc, out, call, text),
+pub fn answer(alloc: Global, out: &mut String, call: &Call<'_>) -> Result<(), AllocError> {
+    match call.word {
+        "Literal" => answer_at::<Literal>(alloc, out, call.name, call.text),
+        "Thousandths" => answer_at::<Thousandths>(alloc, out, call.name, call.text),
+        "RefuseAll" => answer_at::<RefuseAll>(alloc, out, call.name, call.text),
+        "OddError" => answer_at::<OddError>(alloc, out, call.name, call.text),
+        _ => answer_at::<DefaultScalarValue>(alloc, out, call.name, call.text),
     }
 }
 

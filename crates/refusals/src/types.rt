@@ -1,18 +1,13 @@
 //! Calls on type literals.
 
+use crate::Call;
 use juniper::Type;
 use std::alloc::{AllocError, Global};
 
 /// `wrap_list` and `wrap_non_null`, on the type of this name that was wrapped as often as the word says.
-pub fn answer(
-    alloc: Global,
-    out: &mut String,
-    call: &str,
-    word: &str,
-    text: &str,
-) -> Result<(), AllocError> {
-    let literal = wrapped(alloc, text, word.parse::<usize>().unwrap_or(0))?;
-    let answer = match call {
+pub fn answer(alloc: Global, out: &mut String, call: &Call<'_>) -> Result<(), AllocError> {
+    let literal = wrapped(alloc, call.text, call.word.parse::<usize>().unwrap_or(0))?;
+    let answer = match call.name {
         "wrap_list" => literal.wrap_list(alloc, Some(3)),
         _ => literal.wrap_non_null(alloc),
     };

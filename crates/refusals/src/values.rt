@@ -1,8 +1,8 @@
 //! Calls that make input values, and calls on them.
 
-use crate::converted;
 use crate::cursor::value_in;
 use crate::write::{write_items, write_made, write_optional, write_pair};
+use crate::{Call, converted};
 use indexmap::IndexMap;
 use juniper::{
     DefaultScalarValue, InputValue, IntoInputValue, Lexer, Parser, Variables, input_value_from_str,
@@ -44,24 +44,21 @@ fn literal(alloc: Global, text: &str) -> Result<Input, AllocError> {
 }
 
 /// A call on the value literal that is the text.
-pub fn answer(
-    alloc: Global,
-    out: &mut String,
-    call: &str,
-    word: &str,
-    text: &str,
-) -> Result<(), AllocError> {
-    let value = literal(alloc, text)?;
-    match call {
+pub fn answer(alloc: Global, out: &mut String, call: &Call<'_>) -> Result<(), AllocError> {
+    let value = literal(alloc, call.text)?;
+    match call.name {
         "try_clone" => write_made(out, &value.try_clone(alloc)),
         "into_const" => {
-            write_optional(out, &value.into_const(alloc, &variables_of(alloc, word)?))
+            write_optional(
+                out,
+                &value.into_const(alloc, &variables_of(alloc, call.word)?),
+            )
         }
         "to_list_value" => write_parts(alloc, out, &value),
         "to_object_value" => write_fields(alloc, out, &value),
         "referenced_variables" => write_variables(alloc, out, &value),
-        "convert" | "from_implicit_null" => converted::answer(alloc, out, call, &value),
-        "unlocated_eq" => write_same(out, &value, &literal(alloc, text)?),
+        "convert" | "from_implicit_null" => converted::answer(alloc, out, call.name, &value),
+        "unlocated_eq" => write_same(out, &value, &literal(alloc, call.text)?),
         "list" => write_list(out, &InputValue::list(alloc, items_of(alloc, value)?)),
         _ => write_object(out, &InputValue::object(alloc, fields_of(alloc, value)?)),
     }
