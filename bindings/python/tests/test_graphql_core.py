@@ -195,6 +195,19 @@ class Nodes(unittest.TestCase):
         errors = [graphql.validate(schema, parse("{\n  d }")) for parse in (own_parse, graphql_core.parse)]
         self.assertEqual(str(errors[1][0]), str(errors[0][0]))
 
+    def test_search_for_circles(self) -> None:
+        """Whether the interpreter looks for circles is as it was."""
+        self.assertTrue(gc.isenabled())
+        for text in (WHOLE, "{ a ) }", "{a{b}}"):
+            answer(graphql_core.parse, text, depth=1 if text == "{a{b}}" else 200)
+            self.assertTrue(gc.isenabled())
+            gc.disable()
+            try:
+                answer(graphql_core.parse, text)
+                self.assertFalse(gc.isenabled())
+            finally:
+                gc.enable()
+
     def test_nothing_is_kept(self) -> None:
         """What is made is given back, and counts of references stay."""
         texts = [WHOLE, "{a(b:1c:2)}", "{a{b}}", "{ a ) }"]

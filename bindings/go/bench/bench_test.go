@@ -1,0 +1,67 @@
+// Package bench tells how fast sources are parsed by this package and by gqlparser.
+package bench
+
+import (
+	"firthnapkin"
+	"fmt"
+	"strings"
+	"testing"
+
+	"github.com/vektah/gqlparser/v2/ast"
+	"github.com/vektah/gqlparser/v2/parser"
+)
+
+const request = `query Orders($shop: ID!, $first: Int = 20, $states: [State!] = [OPEN, LATE]) {
+  shop(id: $shop) {
+    name
+    orders(first: $first, filter: {states: $states, from: "2021-10-01"}, sort: {by: PRICE, up: false}) {
+      count
+      edges {
+        cursor
+        node { ...Order customer { id, displayName @include(if: true) } total(currency: EUR) { amount, currency } }
+      }
+    }
+  }
+}
+
+fragment Order on Order {
+  id
+  number
+  placedAt
+  lines(first: 100) { product { id, title, price(currency: EUR) { amount } }, quantity, discount }
+  ... on ShippedOrder { parcels { carrier, code } }
+}
+`
+
+const small = `query Film($id: ID!) {
+  film(id: $id) {
+    id
+    title
+    cast(first: 9) { name, role }
+  }
+}
+`
+
+// Requests from 98 bytes to 1 MB, parsed by either package.
+func BenchmarkBoth(b *testing.B) {
+	sources := []string{small}
+	for _, count := range []int{1, 3, 17, 170, 1700} {
+		sources = append(sources, strings.Repeat(request, count))
+	}
+	for _, source := range sources {
+		b.Run(fmt.Sprintf("%d/firthnapkin", len(source)), func(b *testing.B) {
+			for i := 0; i < b.N; i++ {
+				if _, err := firthnapkin.Parse(source); err != nil {
+					b.Fatal(err)
+				}
+			}
+		})
+		b.Run(fmt.Sprintf("%d/gqlparser", len(source)), func(b *testing.B) {
+			for i := 0; i < b.N; i++ {
+				if _, err := parser.ParseQuery(&ast.Source{Input: source}); err != nil {
+					b.Fatal(err)
+				}
+			}
+		})
+	}
+}
