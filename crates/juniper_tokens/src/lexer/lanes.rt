@@ -8,7 +8,7 @@ use std::simd::prelude::*;
 
 pub(crate) const LANES: usize = 16;
 
-// The place of the lowest bit that is set, or how many lanes there are.
+// The first lane at which a run stops, or how many lanes there are: the lowest bit that is set.
 #[inline(always)]
 fn first_set(mask: u64) -> usize
     ensures { result ≡ first_set mask 16 }
@@ -20,6 +20,8 @@ fn first_set(mask: u64) -> usize
     }
 }
 
+// A byte is among n that follow on one another where it is below n once their first is taken off, since what is below the
+// first wraps. With the bit 0x20 a capital letter is its small one, and no other byte becomes a letter.
 #[inline(always)]
 fn over_name(bytes: &[u8], at: usize) -> usize
     requires { at + LANES ≤ length bytes.now }
