@@ -8,7 +8,8 @@ from pathlib import Path
 
 from setuptools import Extension, setup
 
-ROOT = Path(__file__).resolve().parent.parent.parent
+HERE = Path(__file__).resolve().parent
+ROOT = HERE.parent.parent
 LIBRARY = ROOT / "out/libfirthnapkin.a"
 
 if not LIBRARY.exists():
@@ -24,7 +25,7 @@ def extension(name):
         extra_objects=[str(LIBRARY)],
         extra_compile_args=["-pthread"],
         extra_link_args=["-pthread"],
-        depends=[str(LIBRARY), str(ROOT / "bindings/calls.h"), str(ROOT / "bindings/whole.h")],
+        depends=[str(LIBRARY), *map(str, [*ROOT.glob("bindings/*.h"), *HERE.glob("src/firthnapkin/*.h")])],
         py_limited_api=True,
     )
 

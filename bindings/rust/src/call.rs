@@ -139,14 +139,7 @@ fn fault_of(source: &str, depth: u32, fault: RawFault) -> Result<Fault, Error> {
         let mut words: Vec<u8> = room(needed)?;
         // SAFETY: as above.
         let status = unsafe {
-            firthnapkin_message(
-                source.as_ptr(),
-                source.len(),
-                depth,
-                words.as_mut_ptr(),
-                words.capacity(),
-                &mut needed,
-            )
+            firthnapkin_message(source.as_ptr(), source.len(), depth, words.as_mut_ptr(), words.capacity(), &mut needed)
         };
         match status {
             REFUSED | TOO_DEEP => {

@@ -49,6 +49,7 @@ pub enum Kind {
 }
 
 /// The kinds by their numbers; there is no 15.
+#[rustfmt::skip]
 const KINDS: [Option<Kind>; 27] = {
     use Kind::*;
     [

@@ -5,7 +5,7 @@ from __future__ import annotations
 import enum
 import struct
 from array import array
-from typing import Iterator, List, NamedTuple, Optional, Sequence, Union, overload
+from typing import Iterator, NamedTuple, Optional, Sequence, Tuple, Union, overload
 
 __all__ = ["Document", "Kind", "Node", "Place"]
 
@@ -68,7 +68,7 @@ _WITHOUT_NAME = frozenset(
 class Place(NamedTuple):
     """How many characters, line feeds, characters of the line, and bytes of UTF-8 stand before a place."""
 
-    index: int
+    index: int  # type: ignore[assignment]
     line: int
     column: int
     byte: int
@@ -83,7 +83,7 @@ class Node:
         self._document = document
         #: The place among the document's nodes.
         self.index = index
-        self._told = _NODE.unpack_from(document._nodes, _NODE.size * index)
+        self._told: Tuple[int, ...] = _NODE.unpack_from(document._nodes, _NODE.size * index)
 
     @property
     def document(self) -> Document:

@@ -44,7 +44,7 @@ class _Tokens:
 
 def _tokens_of(source: Source) -> _Tokens:
     """They are found when one is asked for first, and kept with the source."""
-    tokens = source.__dict__.get("_tokens")
+    tokens: Optional[_Tokens] = source.__dict__.get("_tokens")
     if tokens is None or tokens.body is not source.body:
         tokens = source.__dict__["_tokens"] = _Tokens(source)
     return tokens
@@ -149,9 +149,9 @@ def parse(
             found = _graphql_core.document(written, len(body), limit, None if no_location else origin, most)
         if isinstance(found, int):
             raise GraphQLSyntaxError(origin, found, f"Brackets are nested deeper than {limit}.")
-    if found is None:
-        return own_parse(source, no_location, max_tokens, allow_legacy_fragment_variables)
-    return found
+    if isinstance(found, ast.DocumentNode):
+        return found
+    return own_parse(source, no_location, max_tokens, allow_legacy_fragment_variables)
 
 
 def install() -> None:
