@@ -1,5 +1,5 @@
-/* One call on the text of standard input: growth parse, or growth message. Without a word it makes none. The first line that
- * is written tells that the call comes now, the second what it answers. */
+/* One call on the text of standard input: growth parse, growth message, or growth count. Without a word it makes none. The
+ * first line that is written tells that the call comes now, the second what it answers. */
 #include "../../include/firthnapkin.h"
 #include <stdio.h>
 #include <stdlib.h>
@@ -29,9 +29,13 @@ int main(int argc, char **argv) {
     firthnapkin_node *nodes = malloc((length + 1) * sizeof *nodes);
     if (texts == NULL || nodes == NULL || argc < 2) return 0;
     if (write(STDOUT_FILENO, "calling\n", 8) != 8) return 1;
-    uint32_t status = strcmp(argv[1], "parse") == 0
-        ? firthnapkin_parse(source, length, 200, nodes, length, &nodes_needed, texts, length, &texts_needed, &fault)
-        : firthnapkin_message(source, length, 200, texts, length, &texts_needed);
+    uint32_t status;
+    if (strcmp(argv[1], "parse") == 0)
+        status = firthnapkin_parse(source, length, 200, nodes, length, &nodes_needed, texts, length, &texts_needed, &fault);
+    else if (strcmp(argv[1], "message") == 0)
+        status = firthnapkin_message(source, length, 200, texts, length, &texts_needed);
+    else
+        status = firthnapkin_count(source, length, UINT32_MAX, &fault);
     printf("%u\n", (unsigned)status);
     return 0;
 }

@@ -44,9 +44,9 @@ class _Tokens:
 
 def _tokens_of(source: Source) -> _Tokens:
     """They are found when one is asked for first, and kept with the source."""
-    tokens: Optional[_Tokens] = source.__dict__.get("_tokens")
+    tokens: Optional[_Tokens] = source.__dict__.get("_firthnapkin_tokens")
     if tokens is None or tokens.body is not source.body:
-        tokens = source.__dict__["_tokens"] = _Tokens(source)
+        tokens = source.__dict__["_firthnapkin_tokens"] = _Tokens(source)
     return tokens
 
 
