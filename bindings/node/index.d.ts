@@ -111,7 +111,7 @@ export interface Options {
 /**
  * The document that a source is. Throws a Fault where it is none, a bracket is nested deeper, or a token is one too many,
  * before anything is made of it; a TypeError where the source is no string or a limit no number; a RangeError where a limit
- * is no integer of its range.
+ * is no integer of its range; an Error where memory ran out.
  */
 export function parse(source: string, options?: Options): Document;
 

@@ -37,8 +37,8 @@ static PyObject *document_at_once(builder *b, Py_ssize_t characters) {
 
 /* ---- where graphql-core is to be asked */
 
-/* Whether graphql-core may read the source otherwise: where a number is followed by a dot or what begins a name, and where a
- * variable stands in what is constant. */
+/* Whether graphql-core may read the source otherwise: where a number is followed by what begins a name, and where a variable
+ * stands in what is constant. No document has a number that is followed by a dot. */
 static bool is_read_otherwise(const builder *b) {
     size_t constant = 0;
     for (size_t i = 0; i < b->count; i++) {
@@ -46,7 +46,7 @@ static bool is_read_otherwise(const builder *b) {
         bool is_number = n->kind == FIRTHNAPKIN_INT || n->kind == FIRTHNAPKIN_LARGE_INT || n->kind == FIRTHNAPKIN_FLOAT;
         char next = is_number && n->end.byte < b->length ? b->source[n->end.byte] : ' ';
         if (n->kind == FIRTHNAPKIN_VARIABLES) constant = behind(b, i);
-        if (begins_name(next) || next == '.' || (n->kind == FIRTHNAPKIN_REFERENCE && i < constant)) return true;
+        if (begins_name(next) || (n->kind == FIRTHNAPKIN_REFERENCE && i < constant)) return true;
     }
     return false;
 }
