@@ -7,33 +7,14 @@ each in microseconds, and how often graphql-core's own takes what `firthnapkin.g
 
 import random
 import time
+from pathlib import Path
 from typing import Any, Callable, Dict
 
 import firthnapkin
 import graphql
 from firthnapkin import graphql_core
 
-REQUEST = """query Orders($shop: ID!, $first: Int = 20, $states: [State!] = [OPEN, LATE]) {
-  shop(id: $shop) {
-    name
-    orders(first: $first, filter: {states: $states, from: "2021-10-01"}, sort: {by: PRICE, up: false}) {
-      count
-      edges {
-        cursor
-        node { ...Order customer { id, displayName @include(if: true) } total(currency: EUR) { amount, currency } }
-      }
-    }
-  }
-}
-
-fragment Order on Order {
-  id
-  number
-  placedAt
-  lines(first: 100) { product { id, title, price(currency: EUR) { amount } }, quantity, discount }
-  ... on ShippedOrder { parcels { carrier, code } }
-}
-"""
+REQUEST = (Path(__file__).resolve().parent.parent / "request.graphql").read_text(encoding="utf-8")
 
 BEYOND_ASCII = """# größe, мир и труд, 𝄞
 query Q { find(text: "größe 𝄞 мир", other: \"\"\"

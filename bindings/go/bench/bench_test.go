@@ -4,34 +4,13 @@ package bench
 import (
 	"firthnapkin"
 	"fmt"
+	"os"
 	"strings"
 	"testing"
 
 	"github.com/vektah/gqlparser/v2/ast"
 	"github.com/vektah/gqlparser/v2/parser"
 )
-
-const request = `query Orders($shop: ID!, $first: Int = 20, $states: [State!] = [OPEN, LATE]) {
-  shop(id: $shop) {
-    name
-    orders(first: $first, filter: {states: $states, from: "2021-10-01"}, sort: {by: PRICE, up: false}) {
-      count
-      edges {
-        cursor
-        node { ...Order customer { id, displayName @include(if: true) } total(currency: EUR) { amount, currency } }
-      }
-    }
-  }
-}
-
-fragment Order on Order {
-  id
-  number
-  placedAt
-  lines(first: 100) { product { id, title, price(currency: EUR) { amount } }, quantity, discount }
-  ... on ShippedOrder { parcels { carrier, code } }
-}
-`
 
 const small = `query Film($id: ID!) {
   film(id: $id) {
@@ -44,9 +23,13 @@ const small = `query Film($id: ID!) {
 
 // Requests from 98 bytes to 1 MB, parsed by either package.
 func BenchmarkBoth(b *testing.B) {
+	request, err := os.ReadFile("../../request.graphql")
+	if err != nil {
+		b.Fatal(err)
+	}
 	sources := []string{small}
 	for _, count := range []int{1, 3, 17, 170, 1700} {
-		sources = append(sources, strings.Repeat(request, count))
+		sources = append(sources, strings.Repeat(string(request), count))
 	}
 	for _, source := range sources {
 		b.Run(fmt.Sprintf("%d/firthnapkin", len(source)), func(b *testing.B) {
