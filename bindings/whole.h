@@ -43,16 +43,17 @@ static inline uint32_t find_words(whole *w, const uint8_t *source, size_t length
     return status;
 }
 
-/* Parses a source with no more tokens than that; none has the largest number of them. What it gives is to be given back, whatever the status. Few texts have more nodes than one for four bytes;
- * for those the second try has the room that the first asked for. Memory that is not written to costs nothing. */
+/* Parses a source with no more than so many tokens; UINT32_MAX is no limit. What it gives is to be given back, whatever the
+ * status. Few texts have more nodes than one for four bytes; for those, and for the largest, the second try has the room that
+ * the first asked for. Memory that is not written to costs nothing. */
 static inline whole parse_whole(const uint8_t *source, size_t length, uint32_t depth, uint32_t tokens) {
+    enum { MOST_AT_FIRST = 1 << 22 };
     whole w = {.status = FIRTHNAPKIN_MEMORY};
     if (tokens != UINT32_MAX) {
         w.status = firthnapkin_count(source, length, tokens, &w.fault);
         if (w.status != FIRTHNAPKIN_FEW) return w;
     }
-    /* A source that is too long needs no room to be told so. */
-    size_t quarter = (uint64_t)length >> 32 != 0 ? 0 : length / 4;
+    size_t quarter = length / 4 < MOST_AT_FIRST ? length / 4 : MOST_AT_FIRST;
     size_t nodes = quarter + 16, texts = quarter + 64;
     do {
         if (!make_rooms(&w, nodes, texts)) {

@@ -110,9 +110,17 @@ func count(source string, tokens int) error {
 	return errorOf(status)
 }
 
+// How many nodes there is room for at the first call, at most.
+const mostAtFirst = 1 << 20
+
 func parse(source string, depth int) (*Document, error) {
-	// Few sources have more nodes than one for six bytes; for others the second call has the room that the first asks for.
-	nodesRoom, textsRoom := len(source)/6+16, len(source)/6+64
+	// Few sources have more nodes than one for six bytes; for others, and for the largest, the second call has the room that
+	// the first asks for.
+	first := len(source) / 6
+	if first > mostAtFirst {
+		first = mostAtFirst
+	}
+	nodesRoom, textsRoom := first+16, first+64
 	for {
 		nodes, texts, told := make([]Node, nodesRoom), make([]byte, textsRoom), new(C.told)
 		status := C.parse(bytesOf(source), C.size_t(len(source)), C.uint32_t(depth), unsafe.Pointer(&nodes[0]),
@@ -120,7 +128,7 @@ func parse(source string, depth int) (*Document, error) {
 		runtime.KeepAlive(source)
 		switch status {
 		case C.FIRTHNAPKIN_TREE:
-			return &Document{source, nodes[:told.nodes_needed], string(texts[:told.texts_needed])}, nil
+			return &Document{source, nodes[:told.nodes_needed:told.nodes_needed], string(texts[:told.texts_needed])}, nil
 		case C.FIRTHNAPKIN_ROOM:
 			nodesRoom, textsRoom = int(told.nodes_needed)+1, int(told.texts_needed)+1
 		case C.FIRTHNAPKIN_REFUSED, C.FIRTHNAPKIN_TOO_DEEP:

@@ -10,7 +10,9 @@ import (
 	"reflect"
 	"strings"
 	"sync"
+	"syscall"
 	"testing"
+	"unsafe"
 )
 
 // parsed returns a source's document, and fails where it has none.
@@ -257,6 +259,21 @@ func TestStatuses(t *testing.T) {
 	same(t, "the errors of statuses", []error{errorOf(2), errorOf(4), errorOf(7), errorOf(8)},
 		[]error{ErrNotUTF8, ErrMemory, ErrTooLong, ErrDepth})
 	same(t, "the error of another", errorOf(3).Error(), "firthnapkin: the parser answered 3")
+}
+
+// A source that is too long is not looked at: no memory stands behind this one.
+func TestTooLong(t *testing.T) {
+	bytes, err := syscall.Mmap(-1, 0, 1<<32, syscall.PROT_READ, syscall.MAP_PRIVATE|syscall.MAP_ANON|syscall.MAP_NORESERVE)
+	if err != nil {
+		t.Skip("no address space for 4 GiB")
+	}
+	defer syscall.Munmap(bytes)
+	source := *(*string)(unsafe.Pointer(&bytes))
+	for _, tokens := range []int{5, AnyTokens} {
+		if _, err := ParseWithin(source, 5, tokens); !errors.Is(err, ErrTooLong) {
+			t.Errorf("4 GiB: %v", err)
+		}
+	}
 }
 
 func TestGoroutines(t *testing.T) {

@@ -78,10 +78,14 @@ fn count(source: &str, tokens: u32) -> Result<(), Error> {
     }
 }
 
-/// The same on this thread's stack. Few sources have more nodes than one for four bytes; for others the second call has the
-/// room that the first asks for. Memory that is not written to costs nothing.
+/// How many nodes there is room for at the first call, at most.
+const MOST_AT_FIRST: usize = 1 << 22;
+
+/// The same on this thread's stack. Few sources have more nodes than one for four bytes; for others, and for the largest, the
+/// second call has the room that the first asks for. Memory that is not written to costs nothing.
 fn parse_here(source: &str, depth: u32) -> Result<Document<'_>, Error> {
-    let (mut nodes_needed, mut texts_needed) = (source.len() / 4 + 16, source.len() / 4 + 64);
+    let first = (source.len() / 4).min(MOST_AT_FIRST);
+    let (mut nodes_needed, mut texts_needed) = (first + 16, first + 64);
     loop {
         let mut nodes: Vec<RawNode> = room(nodes_needed)?;
         let mut texts: Vec<u8> = room(texts_needed)?;
