@@ -1,5 +1,7 @@
 """What a document's nodes say."""
 
+import copy
+import pickle
 import random
 import sys
 import threading
@@ -103,6 +105,16 @@ class Nodes(unittest.TestCase):
                 self.assertEqual(child.parent, node)
         self.assertEqual([node.parent and node.parent.index for node in document], [None, 0, 1, 2, 3, 4, 2, 1, 0, None, 9])
         self.assertNotEqual(document[1], parse(document.text)[1])
+
+    def test_copies(self) -> None:
+        """Documents and nodes go to other processes, and are copied."""
+        document = parse('query Q($v: [T! ]!) { a(b: "é", c: $v) } fragment F on T { x }')
+        for other in (copy.copy(document), copy.deepcopy(document), pickle.loads(pickle.dumps(document))):
+            self.assertEqual(other.text, document.text)
+            self.assertEqual([(node.kind, node.start, node.text, node.name, node.value) for node in other],
+                             [(node.kind, node.start, node.text, node.name, node.value) for node in document])  # fmt: skip
+        node = pickle.loads(pickle.dumps(document[5]))
+        self.assertEqual((node.index, node.kind, node.text, node.parent), (5, Kind.ARGUMENTS, document[5].text, node.document[4]))
 
     def test_rooms(self) -> None:
         """Texts of many nodes and of large rooms."""
