@@ -6,6 +6,7 @@ use Rattle.graphql_lexical.specs.Display.{error_text}
 use Rattle.graphql_lexical.specs.Cutting.{Lexeme, Cut, Breaks}
 use Rattle.graphql_lexical.specs.Canonical.{canonical}
 use Rattle.juniper_tokens.specs.Positions.{position_text}
+use Rattle.streams.specs.Reports.{HasOneReport}
 use Rattle.gqlcanon.specs.declared.run.RunEnd.{RunEnd}
 use Rattle.gqlcanon.specs.declared.run.RunEnd.TheVariants.{Text, Refused, NotUtf8, Device, Memory}
 
@@ -28,3 +29,7 @@ Report bytes Refused text = IsUtf8 bytes × ((error : LexicalError) × (at : Pla
 Report bytes NotUtf8 text = ¬ IsUtf8 bytes × (text ≡ codes "Not UTF-8\n")
 Report bytes Device text = ⊥
 Report bytes Memory text = ⊥
+
+-- bytes have exactly one report
+abbrev pub OneReport : Type 0
+OneReport = HasOneReport Report

@@ -3,8 +3,9 @@ ghost use Rattle.std.specs.Prelude.{◌≡◌, ℕ, ◌↔◌, ◌⊎◌, true, 
 ghost use Rattle.std.specs.Io.KnownBytes.{Appends, Consumes, IsAtEnd, Keeps};
 ghost use Rattle.streams.specs.Watched.{inner_of, has_failed};
 ghost use Rattle.juniper_tokens.specs.Errors.{view_lexer_error};
-ghost use Rattle.gqlcanon.specs.Report.{Report, IsReportEnd, fault_line};
+ghost use Rattle.gqlcanon.specs.Report.{Report, OneReport, IsReportEnd, fault_line};
 
+use graphql_lexical::laws::one_end;
 use juniper_canonical::canonical_text;
 use juniper_tokens::{LexFailure, LexerError, Spanning};
 use std::alloc::{AllocError, Global};
@@ -30,7 +31,7 @@ const NOT_UTF8: &str = "Not UTF-8\n";
 
 /// Reads all of the reader, and writes the report of its bytes.
 ///
-/// The report is built whole before any of it is written. A reader that neither ends nor fails leads to `Memory`.
+/// The report is a function of the bytes. It is built whole before any of it is written. A reader that neither ends nor fails leads to `Memory`.
 /// Condition: neither the reader nor the writer has failed yet.
 pub fn run<R: Read, W: Write>(
     alloc: Global,
@@ -44,6 +45,9 @@ pub fn run<R: Read, W: Write>(
         × IsAtEnd (R.remaining (inner_of reader.new))
         × ((text : List ℕ) × Report bytes result text
         × Appends (W.contents (inner_of writer.old)) (W.contents (inner_of writer.new)) text) }
+
+    // Bytes have one report, so this one is theirs.
+    ensures one_report { OneReport }
     ensures device { (result ≡ RunEnd.Device)
         ↔ ((has_failed reader.new ≡ true) ⊎ (has_failed writer.new ≡ true)) }
 
@@ -60,6 +64,7 @@ pub fn run<R: Read, W: Write>(
     ensures memory { result ≡ RunEnd.Memory
         → Keeps (W.contents (inner_of writer.old)) (W.contents (inner_of writer.new)) }
 {
+    one_report();
     let source = match read_all(alloc, reader) {
         Ok(source) => source,
         Err(Stop::Device) => return RunEnd::Device,
@@ -73,6 +78,13 @@ pub fn run<R: Read, W: Write>(
     } else {
         RunEnd::Device
     }
+}
+
+// Bytes have one report, since a text has one cut into tokens, or one fault.
+fn one_report()
+    ensures { OneReport }
+{
+    one_end();
 }
 
 // How a run over these bytes ends, and what it writes.

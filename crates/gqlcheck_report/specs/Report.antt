@@ -8,6 +8,7 @@ use Rattle.juniper_values.specs.Scalar.{Content}
 use Rattle.juniper.specs.Scalars.{default_scalars}
 use Rattle.juniper.specs.Promise.{HasTree, IsRefusal}
 use Rattle.juniper.specs.Within.{HasTooDeep, IsWithin}
+use Rattle.streams.specs.Reports.{HasOneReport}
 use Rattle.gqlcheck_report.specs.Lines.{document_lines}
 use Rattle.gqlcheck_report.specs.declared.report.RunEnd.{RunEnd}
 use Rattle.gqlcheck_report.specs.declared.report.RunEnd.TheVariants.{Tree, Refused, NotUtf8, TooDeep, Device, Memory}
@@ -42,7 +43,6 @@ Report bytes NotUtf8 text = ¬ IsUtf8 bytes × (text ≡ codes "Not UTF-8\n")
 Report bytes Device text = ⊥
 Report bytes Memory text = ⊥
 
--- Bytes have exactly one report: one end and one text.
-pub record OneReport : Type 0 where
-  pub some : (bytes : List ℕ) → (end : RunEnd) × (text : List ℕ) × Report bytes end text
-  pub one : (bytes : List ℕ) (end other : RunEnd) (text another : List ℕ) → Report bytes end text → Report bytes other another → (end ≡ other) × (text ≡ another)
+-- bytes have exactly one report
+abbrev pub OneReport : Type 0
+OneReport = HasOneReport Report

@@ -1,7 +1,9 @@
 -- What the loop keeps: the canonical text of the tokens so far.
-use Rattle.std.proofs.Common.{◌≡◌, ℕ, List, [], ◌∷◌, ◌++◌, refl, sym, ap, ap₂, ◌∙◌, subst, append_assoc, append-nil}
+use Rattle.std.proofs.Common.{◌≡◌, ℕ, Bool, true, false, not, ◌&&◌, ◌||◌, List, [], ◌∷◌, ◌++◌, refl, sym, ap, ap₂, ◌∙◌, subst, append_assoc, append-nil}
 use Rattle.graphql_lexical.specs.declared.kind.Kind.{Kind}
-use Rattle.graphql_lexical.specs.declared.kind.Kind.TheVariants.{EndOfFile}
+use Rattle.graphql_lexical.specs.declared.kind.Kind.TheVariants.{EndOfFile, Ellipsis}
+use Rattle.graphql_lexical.specs.Kinds.{is_fixed, same_kind}
+use Rattle.juniper_canonical.specs.device.Parting.{is_behind_space}
 use Rattle.std.proofs.Common.{inl}
 use Rattle.std.specs.Prelude.{Some, Result, Ok, Err, encode_utf8_all}
 use Rattle.std.proofs.lemmas.Str.{encodes-append}
@@ -49,20 +51,36 @@ last_more [] x = refl
 last_more (y ∷ []) x = refl
 last_more (y ∷ z ∷ zs) x = last_more (z ∷ zs) x
 
+-- the same, by what is remembered of the last
+abbrev pub added_behind : Bool → Lexeme → List ℕ
+added_behind is_bare x = space_if (is_behind_space is_bare x.kind) ++ written x.kind x.text
+
+either_way : (a b : Bool) → (b && a) ≡ (a && b)
+either_way true true = refl
+either_way true false = refl
+either_way false true = refl
+either_way false false = refl
+
+added_same : (last : Kind) (x : Lexeme) → added_behind (not (is_fixed last)) x ≡ added last x
+added_same last x =
+    ap (λ (parted : Bool). space_if parted ++ written x.kind x.text)
+    (either_way (not (is_fixed last)) (not (is_fixed x.kind) || same_kind x.kind Ellipsis))
+
 -- the lexer stands behind these tokens, and their canonical text is written
-pub record Kept (source : List ℕ) (t : LexerState) (text : List ℕ) (last : Kind) : Type 0 where
+pub record Kept (source : List ℕ) (t : LexerState) (text : List ℕ) (is_bare : Bool) : Type 0 where
   pub tokens : List Lexeme
   pub gathered : Gathered (started source) tokens t
   pub text_is : text ≡ encode_utf8_all (canonical tokens)
-  pub last_is : last ≡ last_kind tokens
+  pub bare_is : is_bare ≡ not (is_fixed (last_kind tokens))
 
-pub kept_first : (source : List ℕ) → Kept source (started source) [] EndOfFile
-kept_first source = record { tokens = []; gathered = record { source = refl; tokens = inl (refl, refl) }; text_is = refl; last_is = refl }
+pub kept_first : (source : List ℕ) → Kept source (started source) [] false
+kept_first source = record { tokens = []; gathered = record { source = refl; tokens = inl (refl, refl) }; text_is = refl; bare_is = refl }
 
-pub kept_more : (source : List ℕ) (t u : LexerState) (text new : List ℕ) (last : Kind) (token : Spanning Token)
-    → Kept source t text last → lexer_steps t (Some (Ok token)) u
-    → new ≡ text ++ encode_utf8_all (added last (view_token token)) → Kept source u new (token_kind token.item)
-kept_more source t u text new last token k h e =
+pub kept_more : (source : List ℕ) (t u : LexerState) (text new : List ℕ) (is_bare : Bool) (token : Spanning Token)
+    → Kept source t text is_bare → lexer_steps t (Some (Ok token)) u
+    → new ≡ text ++ encode_utf8_all (added_behind is_bare (view_token token))
+    → Kept source u new (not (is_fixed (token_kind token.item)))
+kept_more source t u text new is_bare token k h e =
     let x : Lexeme = view_token token in
     let open_yet = gathered_open (started source) k.tokens t k.gathered h.0 in
     let same : t.source ≡ source = k.gathered.source in
@@ -70,20 +88,21 @@ kept_more source t u text new last token k h e =
       tokens = k.tokens ++ x ∷ [];
       gathered = gathered_token (started source) k.tokens t u x open_yet (h.1 ∙ same)
           (subst (λ (s : List ℕ). Stands s t.index x u.index) same h.2.stands) h.2.ends;
-      text_is = e ∙ (ap₂ (λ (s : List ℕ) (i : Kind). s ++ encode_utf8_all (added i x)) k.text_is k.last_is
+      text_is = e ∙ (ap₂ (λ (s : List ℕ) (b : Bool). s ++ encode_utf8_all (added_behind b x)) k.text_is k.bare_is
+          ∙ (ap (λ (t : List ℕ). encode_utf8_all (canonical k.tokens) ++ encode_utf8_all t) (added_same (last_kind k.tokens) x)
           ∙ (sym (encodes-append (canonical k.tokens) (added (last_kind k.tokens) x))
-          ∙ ap encode_utf8_all (sym (canonical_more k.tokens x))));
-      last_is = sym (last_more k.tokens x);
+          ∙ ap encode_utf8_all (sym (canonical_more k.tokens x)))));
+      bare_is = ap (λ (i : Kind). not (is_fixed i)) (sym (last_more k.tokens x));
     }
 
 -- a fault behind them is passed on
-pub kept_fault : (source : List ℕ) (t u : LexerState) (text : List ℕ) (last : Kind) {X : Type 0}
-    (result : Result X LexFailure) (failure : LexFailure) → Kept source t text last
+pub kept_fault : (source : List ℕ) (t u : LexerState) (text : List ℕ) (is_bare : Bool) {X : Type 0}
+    (result : Result X LexFailure) (failure : LexFailure) → Kept source t text is_bare
     → lexer_steps t (Some (Err failure)) u → IsErrAnd result (λ x. x ≡ failure)
     → IfFault result (λ fault. Breaks source (view_lexer_error fault.item) fault.span.start)
-kept_fault source t u text last (Ok x) failure k h e = absurd e
-kept_fault source t u text last (Err failures.Memory) failure k h e = tt
-kept_fault source t u text last (Err (failures.Fault fault)) failure k h e =
+kept_fault source t u text is_bare (Ok x) failure k h e = absurd e
+kept_fault source t u text is_bare (Err failures.Memory) failure k h e = tt
+kept_fault source t u text is_bare (Err (failures.Fault fault)) failure k h e =
     let gives : GivesFault t fault u = subst (λ (f : LexFailure). GivesItem t (Err f) u) (sym e) h.2 in
     let breaks : BreaksAt source t.index (view_lexer_error fault.item) fault.span.start =
     subst (λ (s : List ℕ). BreaksAt s t.index (view_lexer_error fault.item) fault.span.start) k.gathered.source

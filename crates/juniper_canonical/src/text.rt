@@ -1,17 +1,19 @@
 //! The canonical text of a source.
 #![tactic(auto, using(crate::proofs::Growth::grown, crate::proofs::Growth::grown_none, crate::proofs::Growth::grown_text))]
 
-ghost use Rattle.std.specs.Prelude.{◌≡◌, ◌++◌, List, OnOk, IfOk, string_bytes, encode_utf8_all};
+ghost use Rattle.std.specs.Prelude.{◌≡◌, ◌++◌, ◌∷◌, List, [], OnOk, IfOk, true, false, not, string_bytes, encode_utf8_all};
+ghost use Rattle.std.specs.Char.{IsScalar};
 ghost use Rattle.std.specs.Str.{chars};
-ghost use Rattle.graphql_lexical.specs.Kinds.{spelling as spelling_of};
-ghost use Rattle.graphql_lexical.specs.Tokens.{quotes as quotes_of, written};
+ghost use Rattle.graphql_lexical.specs.Kinds.{is_fixed};
+ghost use Rattle.graphql_lexical.specs.Tokens.{written};
 ghost use Rattle.graphql_lexical.specs.Cutting.{Lexeme, Cut, Breaks};
-ghost use Rattle.graphql_lexical.specs.Canonical.{is_parted as parted_kinds, space_if, canonical};
+ghost use Rattle.graphql_lexical.specs.Canonical.{space_if, canonical};
 ghost use Rattle.juniper_tokens.specs.Errors.{view_lexer_error};
 ghost use Rattle.juniper_tokens.specs.Gathering.{IfFault};
-ghost use Rattle.juniper_tokens.specs.Tokens.{token_kind, token_text};
+ghost use Rattle.juniper_tokens.specs.Tokens.{token_kind, token_text, scalar_kind, scalar_text};
+ghost use Rattle.juniper_canonical.specs.device.Parting.{is_behind_space};
 
-use juniper_tokens::{Kind, LexFailure, Lexer, Token};
+use juniper_tokens::{LexFailure, Lexer, ScalarToken, Token};
 use std::alloc::{AllocError, Global};
 
 /// The tokens of a source as they are written, one behind the other, with one space between two neighbours of which
@@ -39,103 +41,124 @@ pub fn canonical_text(alloc: Global, source: &str) -> Result<String, LexFailure>
     let Ok(mut text) = String::with_capacity(alloc, source.len()) else {
         return Err(LexFailure::Memory);
     };
-    let mut last = Kind::EndOfFile;
+    let mut is_bare = false;
     let mut lexer = Lexer::new(alloc, source);
     while let Some(item) = lexer.next() {
         let token = item?.item;
-        if write_token(&mut text, last, token).is_err() {
-            return Err(LexFailure::Memory);
+        match write_token(&mut text, is_bare, token) {
+            Ok(is_next_bare) => is_bare = is_next_bare,
+            Err(_) => return Err(LexFailure::Memory),
         }
-        last = token.kind();
     }
     Ok(text)
 }
 
-// Writes a token behind one of this kind.
-fn write_token(out: &mut String, last: Kind, token: Token<'_>) -> Result<(), AllocError>
-    ensures { OnOk result (string_bytes out.new ≡ string_bytes out.old
-        ++ encode_utf8_all (space_if (parted_kinds last (token_kind token.entry)) ++ written (token_kind token.entry) (token_text token.entry))) }
+// Writes a token behind one that is bare or isn't, and answers whether it is bare: neither a punctuator nor the end.
+fn write_token(out: &mut String, is_bare: bool, token: Token<'_>) -> Result<bool, AllocError>
+    ensures bare { IfOk result (λ next. next ≡ not (is_fixed (token_kind token.entry))) }
+    ensures text { IfOk result (λ next. string_bytes out.new ≡ string_bytes out.old
+        ++ encode_utf8_all (space_if (is_behind_space is_bare (token_kind token.entry)) ++ written (token_kind token.entry) (token_text token.entry))) }
 {
-    let kind = token.kind();
-    write_space(out, is_parted(last, kind))?;
-    write_spelled(out, kind, token.text())
+    match token {
+        Token::Name(text) => write_word(out, is_bare, text),
+        Token::Scalar(scalar) => write_scalar(out, is_bare, scalar),
+        Token::ExclamationMark => write_punctuator(out, '!'),
+        Token::Dollar => write_punctuator(out, '$'),
+        Token::ParenOpen => write_punctuator(out, '('),
+        Token::ParenClose => write_punctuator(out, ')'),
+        Token::BracketOpen => write_punctuator(out, '['),
+        Token::BracketClose => write_punctuator(out, ']'),
+        Token::CurlyOpen => write_punctuator(out, '{'),
+        Token::CurlyClose => write_punctuator(out, '}'),
+        Token::Ellipsis => write_ellipsis(out, is_bare),
+        Token::Colon => write_punctuator(out, ':'),
+        Token::Equals => write_punctuator(out, '='),
+        Token::At => write_punctuator(out, '@'),
+        Token::Pipe => write_punctuator(out, '|'),
+        Token::EndOfFile => Ok(false),
+    }
+}
+
+fn write_punctuator(out: &mut String, mark: char) -> Result<bool, AllocError>
+    requires { IsScalar mark }
+    ensures bare { IfOk result (λ next. next ≡ false) }
+    ensures text { IfOk result (λ next. string_bytes out.new ≡ string_bytes out.old ++ encode_utf8_all (mark ∷ [])) }
+{
+    out.push(mark)?;
+    Ok(false)
+}
+
+// Writes `...` behind a token that is bare or isn't.
+#[tactic(auto, using(crate::proofs::Growth::grown, crate::proofs::Growth::grown_none, crate::proofs::Growth::grown_text, crate::proofs::Marks::chars_dots))]
+fn write_ellipsis(out: &mut String, is_bare: bool) -> Result<bool, AllocError>
+    ensures bare { IfOk result (λ next. next ≡ false) }
+    ensures text { IfOk result (λ next. string_bytes out.new ≡ string_bytes out.old
+        ++ encode_utf8_all (space_if is_bare ++ (46 ∷ 46 ∷ 46 ∷ []))) }
+{
+    write_space(out, is_bare)?;
+    write_text(out, "...")?;
+    Ok(false)
+}
+
+// Writes a String, a block string or a number behind a token that is bare or isn't.
+#[tactic(auto, using(crate::proofs::Marks::chars_quote, crate::proofs::Marks::chars_mark))]
+fn write_scalar(
+    out: &mut String,
+    is_bare: bool,
+    scalar: ScalarToken<'_>,
+) -> Result<bool, AllocError>
+    ensures bare { IfOk result (λ next. next ≡ true) }
+    ensures text { IfOk result (λ next. string_bytes out.new ≡ string_bytes out.old
+        ++ encode_utf8_all (space_if is_bare ++ written (scalar_kind scalar.entry) (scalar_text scalar.entry))) }
+{
+    match scalar {
+        ScalarToken::String(text) => write_quoted(out, is_bare, "\"", text),
+        ScalarToken::BlockString(text) => write_quoted(out, is_bare, "\"\"\"", text),
+        ScalarToken::Float(text) | ScalarToken::Int(text) => write_word(out, is_bare, text),
+    }
+}
+
+// Writes a text behind a token that is bare or isn't.
+fn write_word(out: &mut String, is_bare: bool, text: &str) -> Result<bool, AllocError>
+    ensures bare { IfOk result (λ next. next ≡ true) }
+    ensures text { IfOk result (λ next. string_bytes out.new ≡ string_bytes out.old
+        ++ encode_utf8_all (space_if is_bare ++ chars text.now)) }
+{
+    write_space(out, is_bare)?;
+    write_text(out, text)?;
+    Ok(true)
+}
+
+// Writes a text between the same marks, behind a token that is bare or isn't.
+fn write_quoted(
+    out: &mut String,
+    is_bare: bool,
+    marks: &str,
+    text: &str,
+) -> Result<bool, AllocError>
+    ensures bare { IfOk result (λ next. next ≡ true) }
+    ensures text { IfOk result (λ next. string_bytes out.new ≡ string_bytes out.old
+        ++ encode_utf8_all (space_if is_bare ++ (chars marks.now ++ (chars text.now ++ chars marks.now)))) }
+{
+    write_space(out, is_bare)?;
+    write_text(out, marks)?;
+    write_text(out, text)?;
+    write_text(out, marks)?;
+    Ok(true)
 }
 
 // Writes a space, or nothing.
-fn write_space(out: &mut String, parted: bool) -> Result<(), AllocError>
-    ensures { OnOk result (string_bytes out.new ≡ string_bytes out.old ++ encode_utf8_all (space_if parted)) }
+fn write_space(out: &mut String, is_bare: bool) -> Result<(), AllocError>
+    ensures { OnOk result (string_bytes out.new ≡ string_bytes out.old ++ encode_utf8_all (space_if is_bare)) }
 {
-    if parted {
+    if is_bare {
         return out.push(' ');
     }
     Ok(())
-}
-
-// Writes the token of this kind and text.
-#[tactic(auto, using(crate::proofs::Growth::grown_text, crate::proofs::Marks::around_is, crate::proofs::Marks::bare_is))]
-fn write_spelled(out: &mut String, kind: Kind, text: &str) -> Result<(), AllocError>
-    ensures { OnOk result (string_bytes out.new ≡ string_bytes out.old ++ encode_utf8_all (written kind (chars text.now))) }
-{
-    let marks = quotes(kind);
-    if marks.is_empty() {
-        return out.push_str(text);
-    }
-    write_around(out, marks, text)
-}
-
-// Writes a text between the same marks.
-fn write_around(out: &mut String, marks: &str, text: &str) -> Result<(), AllocError>
-    ensures { OnOk result (string_bytes out.new ≡ string_bytes out.old ++ encode_utf8_all (chars marks.now ++ (chars text.now ++ chars marks.now))) }
-{
-    write_text(out, marks)?;
-    write_behind(out, text, marks)
-}
-
-// Writes two texts.
-fn write_behind(out: &mut String, text: &str, marks: &str) -> Result<(), AllocError>
-    ensures { OnOk result (string_bytes out.new ≡ string_bytes out.old ++ encode_utf8_all (chars text.now ++ chars marks.now)) }
-{
-    write_text(out, text)?;
-    write_text(out, marks)
 }
 
 fn write_text(out: &mut String, text: &str) -> Result<(), AllocError>
     ensures { OnOk result (string_bytes out.new ≡ string_bytes out.old ++ encode_utf8_all (chars text.now)) }
 {
     out.push_str(text)
-}
-
-// Whether a space stands between neighbours of these kinds.
-fn is_parted(kind: Kind, next: Kind) -> bool
-    ensures { result ≡ parted_kinds kind next }
-{
-    kind.spelling().is_none() && (next.spelling().is_none() || next == Kind::Ellipsis)
-}
-
-// What stands on each side of the text of a token of this kind.
-#[tactic(auto, using(crate::proofs::Marks::chars_quote, crate::proofs::Marks::chars_mark, crate::proofs::Marks::chars_nothing))]
-fn quotes(kind: Kind) -> &'static str
-    ensures { chars result.now ≡ quotes_of (spelling_of kind) }
-{
-    match kind {
-        Kind::String => "\"",
-        Kind::BlockString => "\"\"\"",
-        Kind::Name
-        | Kind::Float
-        | Kind::Int
-        | Kind::ExclamationMark
-        | Kind::Dollar
-        | Kind::ParenOpen
-        | Kind::ParenClose
-        | Kind::BracketOpen
-        | Kind::BracketClose
-        | Kind::CurlyOpen
-        | Kind::CurlyClose
-        | Kind::Ellipsis
-        | Kind::Colon
-        | Kind::Equals
-        | Kind::At
-        | Kind::Pipe
-        | Kind::EndOfFile => "",
-    }
 }
