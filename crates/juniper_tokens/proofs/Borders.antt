@@ -1,13 +1,16 @@
 -- Where a character begins in a text.
-use Rattle.std.proofs.Common.{◌≡◌, ℕ, zero, suc, ◌+◌, ◌≤◌, ◌<◌, Bool, true, false, ◌&&◌, append-nil, get_or, drop-cons, List, [], ◌∷◌, ◌++◌, length, take, drop, refl, sym, ap, ap₂, subst, ◌∙◌, arith, length-append, take-append-drop, take-add}
+use Rattle.std.proofs.Common.{◌≡◌, ℕ, zero, suc, ◌+◌, ◌≤◌, ◌<◌, Bool, true, false, ◌&&◌, append-nil, get_or, drop-cons, List, [], ◌∷◌, ◌++◌, length, take, drop, refl, sym, ap, ap₂, subst, ◌∙◌, MatchBool, None, ◌==◌, arith, length-append, take-append-drop, take-add}
 use Rattle.std.specs.Char.{len_utf8}
 use Rattle.std.specs.Str.{chars, IsUtf8, IsCharBoundary}
+use Rattle.std.specs.Str.Pattern.{HasPrefixMatch, FindsTextPrefix}
 use Rattle.std.specs.Cmp.{second_so}
+use Rattle.std.proofs.lemmas.Bool.{eqb-true}
 use Rattle.std.proofs.lemmas.Str.{encode_ascii, encodes-chars, encodes-append, chars-encodes, scalars-chars, chars-append, length-le-encodes, length-encode, IsCharBoundary-at_seam}
 use Rattle.std.proofs.Math.Seq.{take-append_seam, drop-append_seam}
 use lib.Utf8.{scalar, scalars, encode, encodes}
 use Rattle.std.proofs.lemmas.List.{length-take-le}
 use Rattle.juniper_tokens.specs.device.ByteRuns.{byte_at}
+use Rattle.juniper_tokens.specs.device.LexingByScan.{begins_with_mark}
 
 and_both : (a b x : Bool) → (a && b) ≡ true → x ≡ true → (a && x) ≡ true
 and_both true b x e h = h
@@ -98,3 +101,37 @@ border_on text i b c n u l here e size =
 -- an ASCII character is one byte
 pub ascii_first : (b n : ℕ) (cs : List ℕ) → b < 128 → byte_at (suc n) (b ∷ cs) ≡ suc (byte_at n cs)
 ascii_first b n cs l = ap (λ t. length (t ++ encodes (take n cs))) (encode_ascii b l)
+
+-- ---- a byte order mark
+
+abbrev mark_bytes : List ℕ
+mark_bytes = 239 ∷ 187 ∷ 191 ∷ []
+
+mark_is : encodes (65279 ∷ []) ≡ mark_bytes
+unfolding encode
+mark_is = refl
+
+mark_utf8 : IsUtf8 mark_bytes
+mark_utf8 = (65279 ∷ [], (refl, mark_is))
+
+-- A byte order mark stands first where its bytes do.
+pub mark_first : (r : Bool) (t : List ℕ) → IsUtf8 t
+    → MatchBool r (HasPrefixMatch (FindsTextPrefix mark_bytes) t) (FindsTextPrefix mark_bytes t None)
+    → r ≡ begins_with_mark (chars t)
+mark_first true t u found =
+    let rest = drop found.0 t in
+    let is : chars mark_bytes ≡ 65279 ∷ [] = ap chars (sym mark_is) ∙ chars-encodes (65279 ∷ []) refl in
+    sym (ap begins_with_mark (chars_joined t mark_bytes rest mark_utf8 found.1.1 ∙ ap (λ m. m ++ chars rest) is))
+mark_first false t u lacks = by_first (chars t) refl
+  where
+    by_test : (c : ℕ) (cs : List ℕ) (b : Bool) → (c == 65279) ≡ b → chars t ≡ c ∷ cs → false ≡ (c == 65279)
+    by_test c cs false e is = sym e
+    by_test c cs true e is =
+        let whole : chars t ≡ (65279 ∷ []) ++ cs = is ∙ ap (λ k. k ∷ cs) (eqb-true c 65279 e) in
+        absurd (lacks (encodes cs)
+        (sym (encodes-chars t u) ∙ ap encodes whole ∙ encodes-append (65279 ∷ []) cs
+        ∙ ap (λ m. m ++ encodes cs) mark_is))
+
+    by_first : (cs : List ℕ) → chars t ≡ cs → false ≡ begins_with_mark cs
+    by_first [] e = refl
+    by_first (c ∷ cs) e = by_test c cs (c == 65279) refl e

@@ -19,20 +19,27 @@ itself (x ∷ xs) = ap (λ r. x ∷ r) (itself xs)
 low_byte : (x : ℕ) → x < 128 → leb 128 x ≡ false
 low_byte x l = grind arith
 
--- The lanes z were computed one by one, by f, and r is the first whose highest bit is set.
+-- The lanes z were computed one by one, by f, and r is the first whose highest bit is set: so many bytes come before
+-- the first for which it is.
+pub counted : (xs : List ℕ) (i r : ℕ) (z : List ℕ) → i + 16 ≤ length xs
+    → r ≡ first_set (mask_l (map (top 7) z) % 2 ^ 64) 16 → (f : ℕ → ℕ) → z ≡ map f (chunk i 16 xs)
+    → r ≡ prefix_len (λ x. not (top 7 (f x))) (chunk i 16 xs)
+counted xs i r z room found f lanes =
+    let v = chunk i 16 xs in
+    let stops : ℕ → Bool = λ x. top 7 (f x) in
+    let long = length-chunk i 16 xs room in
+    let mask = ap (λ l. mask_l l % 2 ^ 64) (ap (map (top 7)) lanes ∙ map-map (top 7) f v)
+    ∙ mask_l-mod (map stops v) 64 (omega (arith, length-map v stops, long)) in
+    found ∙ (ap (λ m. first_set m 16) mask ∙ first_set_mask_l stops v 16 long (omega arith))
+
 module _ (run : Run) (xs : List ℕ) (i r : ℕ) (z : List ℕ) (room : i + 16 ≤ length xs)
     (fits : (k : ℕ) → Fits w8 (get_or xs k 0)) (found : r ≡ first_set (mask_l (map (top 7) z) % 2 ^ 64) 16)
     (f : ℕ → ℕ) (lanes : z ≡ map f (chunk i 16 xs)) where
   abbrev stops : ℕ → Bool
   stops x = top 7 (f x)
 
-  counted : r ≡ prefix_len (λ x. not (stops x)) (chunk i 16 xs)
-  counted =
-      let v = chunk i 16 xs in
-      let long = length-chunk i 16 xs room in
-      let mask = ap (λ l. mask_l l % 2 ^ 64) (ap (map (top 7)) lanes ∙ map-map (top 7) f v)
-      ∙ mask_l-mod (map stops v) 64 (omega (arith, length-map v stops, long)) in
-      found ∙ (ap (λ m. first_set m 16) mask ∙ first_set_mask_l stops v 16 long (omega arith))
+  before : r ≡ prefix_len (λ x. not (stops x)) (chunk i 16 xs)
+  before = counted xs i r z room found f lanes
 
   -- where each byte at which no lane stops is one with which the run goes on, and each ASCII byte at which one does
   -- is not
@@ -40,13 +47,13 @@ module _ (run : Run) (xs : List ℕ) (i r : ℕ) (z : List ℕ) (room : i + 16 �
       → agree_below (λ x. not (stops x) || (leb 128 x || not (goes run x))) (λ _. true) 256 ≡ true
       → GoesOverLanes run xs i r
   over all ends = (
-    run_in_chunk_le stops xs i 16 r 0 room counted,
+    run_in_chunk_le stops xs i 16 r 0 room before,
     λ k from to.
-        sym (ap (λ b. b || goes run (get_or xs k 0)) (run_in_chunk_fails stops xs i 16 r 0 room counted k from to))
+        sym (ap (λ b. b || goes run (get_or xs k 0)) (run_in_chunk_fails stops xs i 16 r 0 room before k from to))
         ∙ agree_below_at (λ x. stops x || goes run x) (λ _. true) 256 (get_or xs k 0) all (fits k).fits,
     λ short low.
         by_tests (stops (get_or xs (i + r) 0)) (leb 128 (get_or xs (i + r) 0)) (goes run (get_or xs (i + r) 0))
-        (run_in_chunk_stops stops xs i 16 r 0 room counted short)
+        (run_in_chunk_stops stops xs i 16 r 0 room before short)
         (low_byte (get_or xs (i + r) 0) low)
         (agree_below_at (λ x. not (stops x) || (leb 128 x || not (goes run x))) (λ _. true) 256
         (get_or xs (i + r) 0) ends

@@ -1,20 +1,18 @@
 -- What a text begins with, and where the value of a block string is cut.
-use Rattle.std.proofs.Common.{◌≡◌, refl, sym, ap, ◌∙◌, ℕ, zero, suc, ◌+◌, ◌≤◌, Bool, true, false, ◌||◌, List, [], ◌∷◌, ◌++◌, length, take, drop, IsUtf8, String, Global, string_bytes, string_len, Decides, MatchBool, arith}
+use Rattle.std.proofs.Common.{◌≡◌, refl, sym, ap, ◌∙◌, ℕ, zero, suc, Bool, true, false, ◌||◌, List, [], ◌∷◌, ◌++◌, length, take, drop, IsUtf8, String, Global, string_bytes, string_len, Decides, MatchBool, arith}
 use Rattle.std.specs.Prelude.{nat_eq}
-use Rattle.std.specs.Char.{encode_utf8}
 use Rattle.std.specs.List.{starts_with}
 use Rattle.std.specs.Str.{chars, IsAscii}
 use Rattle.std.specs.Str.Pattern.{HasPrefixMatch, FindsTextPrefix}
 use Rattle.std.specs.String.Boundary.{IsSplitPoint}
 use Rattle.std.proofs.lemmas.Bool.{and_parts, and_from}
 use Rattle.std.proofs.lemmas.Bool.Decides.{same_from_decides}
-use Rattle.std.proofs.lemmas.List.{take_at, take-append-drop, nil_from_length, length-append}
+use Rattle.std.proofs.lemmas.List.{take_at, take-append-drop}
 use Rattle.std.proofs.lemmas.Slice.Eq.{bytes_eq-Decides}
-use Rattle.std.proofs.lemmas.Str.{IsUtf8-from_ascii, IsUtf8-string_bytes, IsCharBoundary-at_seam, chars-nil, chars-append, chars-IsAscii, chars-encodes, chars_past_char, IsUtf8-past_char, scalars-chars, encodes-chars, encodes-append, encodes-IsAscii, length-encode, len_utf8_bounds}
+use Rattle.std.proofs.lemmas.Str.{IsUtf8-from_ascii, IsUtf8-string_bytes, IsCharBoundary-at_seam, chars-append, chars-IsAscii, chars-encodes, scalars-chars, encodes-chars, encodes-append, encodes-IsAscii}
 use Rattle.juniper_values.specs.Text.{Text}
 use Rattle.graphql_lexical.specs.Tokens.{mark}
 use Rattle.juniper_values.specs.BlockStrings.{line_feed}
-use Rattle.juniper_values.specs.device.BlockSteps.{is_left_out}
 use Rattle.std.specs.declared.option.Option.TheVariants.{None}
 use lib.Utf8.{scalar, scalars, encodes}
 
@@ -67,30 +65,6 @@ ascii_feed (suc i) = omega arith
 pub or_false : (b : Bool) → b ≡ (b || false)
 or_false true = refl
 or_false false = refl
-
--- ---- a character is read
-
-pub chars_none : (bs : List ℕ) → length bs ≡ 0 → chars bs ≡ []
-chars_none bs e = ap chars (nil_from_length bs e) ∙ chars-nil
-
--- What one turn reads: the character c of the bytes bs, behind which `rest` is left.
-pub record Reads (bs rest : List ℕ) (c : ℕ) (left_out : Bool) : Type 0 where
-  pub utf8 : IsUtf8 rest
-  pub is : chars bs ≡ c ∷ chars rest
-  pub here : is_left_out c (chars rest) ≡ left_out
-  pub shorter : length rest + 1 ≤ length bs
-
-pub reads : (bs rest given : List ℕ) (c : ℕ) (test left_out : Bool) → IsUtf8 bs → bs ≡ encode_utf8 c ++ rest
-    → given ≡ rest → test ≡ is_left_out c (chars given) → test ≡ left_out → Reads bs rest c left_out
-reads bs rest given c test left_out utf8 e same tests is =
-    let long : length bs ≡ length (encode_utf8 c) + length rest =
-    ap length e ∙ length-append (encode_utf8 c) rest in
-    record {
-      utf8 = IsUtf8-past_char bs rest c utf8 e;
-      is = chars_past_char bs rest c utf8 e;
-      here = ap (λ u. is_left_out c (chars u)) (sym same) ∙ sym tests ∙ is;
-      shorter = omega (arith, long, length-encode c, (len_utf8_bounds c).0);
-    }
 
 -- ---- a text is cut
 

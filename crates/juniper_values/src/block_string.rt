@@ -5,8 +5,12 @@ ghost use Rattle.std.specs.Str.{chars};
 ghost use Rattle.juniper_values.specs.View.{text_of};
 ghost use Rattle.graphql_lexical.specs.Characters.{is_line_end};
 ghost use Rattle.juniper_values.specs.BlockStrings.{block_value, common_indent, lines, with_quotes, is_indent};
-ghost use Rattle.juniper_values.specs.device.BlockSteps.{is_left_out, white_before, place_after, least_after, written, line_after, is_filled};
+ghost use Rattle.juniper_values.specs.device.BlockSteps.{is_in_indent, is_left_out, white_before, place_after, least_after, written, line_after, is_filled};
 
+mod run;
+
+use crate::block_string::run::split_run;
+use crate::text::split_char;
 use std::alloc::{AllocError, Global};
 
 // How far a line of the value is written.
@@ -30,7 +34,7 @@ pub(crate) enum Place {
 }
 
 // The value of the block string that has this text between its marks. It is never longer than the text, so memory is
-// asked for once.
+// asked for once. What stands for itself within a line is copied at once.
 pub(crate) fn block_value(alloc: Global, text: &str) -> Result<String, AllocError>
     ensures { IfOk result (λ s. text_of s ≡ block_value (chars text.now)) }
 {
@@ -38,16 +42,22 @@ pub(crate) fn block_value(alloc: Global, text: &str) -> Result<String, AllocErro
     let mut value = String::with_capacity(alloc, text.len())?;
     let mut kept = 0;
     let mut line = Line::Blank(0);
-    let mut rest = text.chars();
-    while let Some(c) = rest.next() {
-        if is_left_out(c, rest.as_str()) {
+    let mut rest = text;
+    while let Some((c, behind)) = split_char(rest) {
+        rest = behind;
+        if is_left_out(c, rest) {
             continue;
         }
         if is_line_end(c) {
             kept = end_line(&mut value, line, kept)?;
             line = Line::Blank(indent);
-        } else {
-            line = write(&mut value, line, c)?;
+            continue;
+        }
+        line = write(&mut value, line, c)?;
+        if let Line::Filled = line {
+            let (run, behind_run) = split_run(rest);
+            value.push_str(run)?;
+            rest = behind_run;
         }
     }
     if let Line::Blank(_) = line {
@@ -106,11 +116,17 @@ fn common_indent(text: &str) -> usize
 {
     let mut least = None;
     let mut place = Place::First;
-    let mut rest = text.chars();
-    while let Some(c) = rest.next() {
-        if !is_left_out(c, rest.as_str()) {
-            least = least_after(least, place, c);
-            place = place_after(place, c);
+    let mut rest = text;
+    while let Some((c, behind)) = split_char(rest) {
+        rest = behind;
+        if is_left_out(c, rest) {
+            continue;
+        }
+        least = least_after(least, place, c);
+        place = place_after(place, c);
+        if !is_in_indent(place) {
+            let (_, behind_run) = split_run(rest);
+            rest = behind_run;
         }
     }
     least.unwrap_or(0)
@@ -141,6 +157,16 @@ fn place_after(place: Place, c: char) -> Place
         Place::Indent(n) if is_indent(c) => Place::Indent(n + 1),
         Place::First => Place::First,
         _ => Place::Behind,
+    }
+}
+
+// Whether nothing but tabs and spaces came in the line so far, and its indent counts.
+fn is_in_indent(place: Place) -> bool
+    ensures { result ≡ is_in_indent place }
+{
+    match place {
+        Place::Indent(_) => true,
+        Place::First | Place::Behind => false,
     }
 }
 

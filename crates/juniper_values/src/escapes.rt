@@ -7,6 +7,7 @@ ghost use Rattle.graphql_lexical.specs.Tokens.{hex_value};
 ghost use Rattle.juniper_values.specs.View.{text_of};
 ghost use Rattle.juniper_values.specs.Escapes.{unescape, behind_backslash, behind_u, in_front, short_escape, unicode_escape};
 
+use crate::text::split_char;
 use std::alloc::{AllocError, Global};
 
 // The text with each escape replaced, or nothing where some backslash begins none. Most texts have no backslash.
@@ -70,17 +71,6 @@ fn numbered(text: &str) -> Option<(char, &str)>
     let (j, rest) = split_char(rest)?;
     let (k, rest) = split_char(rest)?;
     Some((unicode(h, i, j, k)?, rest))
-}
-
-// The text's first character, and what follows it.
-fn split_char(text: &str) -> Option<(char, &str)>
-    ensures parts { MatchOption result (chars text.now ≡ []) (λ p. chars text.now ≡ p.0 ∷ chars p.1.now) }
-    ensures shorter { IfSome result (λ p. length p.1.now < length text.now) }
-    ensures utf8 { IfSome result (λ p. IsUtf8 p.1.now) }
-{
-    let mut rest = text.chars();
-    let c = rest.next()?;
-    Some((c, rest.as_str()))
 }
 
 // The character that `\u` and these stand for.

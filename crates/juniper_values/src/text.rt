@@ -1,7 +1,8 @@
-//! Comparing, copying and writing texts.
-ghost use Rattle.std.specs.Prelude.{◌≡◌, Some, IfOk};
+//! Comparing, cutting, copying and writing texts.
+ghost use Rattle.std.specs.Prelude.{◌≡◌, ◌<◌, [], ◌∷◌, length, Some, IfOk, IfSome, MatchOption};
+ghost use Rattle.std.specs.Char.{IsScalar};
 ghost use Rattle.std.specs.Fmt.{DisplaysOnOk, signed_decimal};
-ghost use Rattle.std.specs.Str.{chars, encode_utf8_all};
+ghost use Rattle.std.specs.Str.{chars, encode_utf8_all, IsUtf8};
 ghost use Rattle.graphql_lexical.specs.Display.{quoted};
 ghost use Rattle.juniper_values.specs.View.{text_of};
 ghost use Rattle.juniper_values.specs.Text.{same_text};
@@ -21,6 +22,18 @@ pub(crate) fn same_string(a: &String, b: &String) -> bool
     ensures { result ≡ same_text (text_of a.now) (text_of b.now) }
 {
     same_str(a.as_str(), b.as_str())
+}
+
+// The text's first character, and what follows it.
+pub(crate) fn split_char(text: &str) -> Option<(char, &str)>
+    ensures parts { MatchOption result (chars text.now ≡ []) (λ p. chars text.now ≡ p.0 ∷ chars p.1.now) }
+    ensures scalar { IfSome result (λ p. IsScalar p.0) }
+    ensures shorter { IfSome result (λ p. length p.1.now < length text.now) }
+    ensures utf8 { IfSome result (λ p. IsUtf8 p.1.now) }
+{
+    let mut rest = text.chars();
+    let c = rest.next()?;
+    Some((c, rest.as_str()))
 }
 
 // A copy of a text.

@@ -1,6 +1,6 @@
 -- A device: what one character changes while the value of a block string is written.
-use Rattle.std.specs.Prelude.{ℕ, zero, suc, ◌+◌, ◌==◌, ◌&&◌, ◌||◌, Bool, true, false, [], ◌∷◌, Option, Some, None, min, nat_eq, if◌then◌else◌}
-use Rattle.std.specs.List.{starts_with}
+use Rattle.std.specs.Prelude.{◌≡◌, ℕ, zero, suc, ◌+◌, ◌==◌, ◌≤◌, ◌<◌, ◌&&◌, ◌||◌, Bool, true, false, List, [], ◌∷◌, get_or, Option, Some, None, min, nat_eq, if◌then◌else◌}
+use Rattle.std.specs.List.{starts_with, position_or_len}
 use Rattle.juniper_values.specs.Text.{Text}
 use Rattle.graphql_lexical.specs.Characters.{is_line_end}
 use Rattle.graphql_lexical.specs.Tokens.{mark}
@@ -50,3 +50,25 @@ line_after Filled c = Filled
 abbrev pub is_filled : Line → Bool
 is_filled (Blank n) = false
 is_filled Filled = true
+
+-- the place is within the tabs and spaces in front of a line but the first
+abbrev pub is_in_indent : Place → Bool
+is_in_indent First = false
+is_in_indent (Indent n) = true
+is_in_indent Behind = false
+
+-- ---- runs
+
+-- What ends a line, or may be left out, ends a run of characters that stand for themselves.
+abbrev pub ends_run : ℕ → Bool
+ends_run c = c == 92 || is_line_end c
+
+-- how many characters, or bytes, come before the first that ends a run
+abbrev pub run_length : List ℕ → ℕ
+run_length = position_or_len ends_run
+
+-- so many bytes from a place on, of no more than sixteen, come before the first that ends a run
+abbrev pub RunsOver : List ℕ → ℕ → ℕ → Type 0
+RunsOver bytes at n =
+    (n ≤ 16) × ((k : ℕ) → at ≤ k → k < at + n → ends_run (get_or bytes k 0) ≡ false)
+    × (n < 16 → ends_run (get_or bytes (at + n) 0) ≡ true)

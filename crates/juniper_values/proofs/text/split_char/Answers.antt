@@ -1,7 +1,7 @@
 use Rattle.std.proofs.Common.{◌∷◌, ap, sym, ◌∙◌}
 use Rattle.std.specs.Str.{chars}
 use Rattle.std.proofs.lemmas.Str.{chars_past_char}
-use Rattle.juniper_values.proofs.escapes.split_char.Goals as goal
+use Rattle.juniper_values.proofs.text.split_char.Goals as goal
 
 pub returns-clause-parts : goal.returns-clause-parts
 returns-clause-parts c =

@@ -1,0 +1,68 @@
+//! Runs of characters that end no line of a block string and begin no `\"""`.
+ghost use Rattle.std.specs.Prelude.{◌≡◌, ◌+◌, ◌≤◌, length, take, drop};
+ghost use Rattle.std.specs.Str.{chars, IsUtf8};
+ghost use Rattle.juniper_tokens.specs.device.Lanes.{first_set};
+ghost use Rattle.juniper_values.specs.device.BlockSteps.{ends_run, run_length, RunsOver};
+
+use std::simd::prelude::*;
+
+const LANES: usize = 16;
+
+// The longest front of a text without a backslash and without a line end, and what stands behind it.
+pub(crate) fn split_run(text: &str) -> (&str, &str)
+    ensures run { chars result.0.now ≡ take (run_length (chars text.now)) (chars text.now) }
+    ensures behind { chars result.1.now ≡ drop (run_length (chars text.now)) (chars text.now) }
+    ensures no_longer { length result.1.now ≤ length text.now }
+    ensures utf8 { IsUtf8 result.1.now }
+{
+    text.split_at(run_length(text.as_bytes()))
+}
+
+// How many bytes come before the first that ends a run. What ends one is ASCII, so it is a character of its own.
+fn run_length(bytes: &[u8]) -> usize
+    ensures { result ≡ run_length bytes.now }
+{
+    let mut i = 0;
+    'by_lanes: while bytes.len() - i >= LANES {
+        let more = over_lanes(bytes, i);
+        i += more;
+        if more < LANES {
+            return i;
+        }
+    }
+    while i < bytes.len() && !ends_run(bytes[i]) {
+        i += 1;
+    }
+    i
+}
+
+// How many of sixteen bytes, compared at once, come before the first that ends a run.
+#[inline(always)]
+fn over_lanes(bytes: &[u8], at: usize) -> usize
+    requires { at + LANES ≤ length bytes.now }
+    ensures { RunsOver bytes.now at result }
+{
+    let v = u8x16::from_slice(&bytes[at..]);
+    let ends = v.simd_eq(u8x16::splat(b'\\'))
+        | v.simd_eq(u8x16::splat(b'\n'))
+        | v.simd_eq(u8x16::splat(b'\r'));
+    first_set(ends.to_bitmask())
+}
+
+// The first lane that is set, or how many lanes there are.
+#[inline(always)]
+fn first_set(mask: u64) -> usize
+    ensures { result ≡ first_set mask 16 }
+{
+    if mask == 0 {
+        LANES
+    } else {
+        mask.trailing_zeros() as usize
+    }
+}
+
+fn ends_run(byte: u8) -> bool
+    ensures { result ≡ ends_run byte }
+{
+    byte == b'\\' || byte == b'\n' || byte == b'\r'
+}
