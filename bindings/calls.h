@@ -69,13 +69,16 @@ static inline size_t stack_for(uint32_t depth) {
     return FIRTHNAPKIN_STACK(depth <= FIRTHNAPKIN_MOST_DEPTH ? depth : 0);
 }
 
-/* A call of firthnapkin_parse or firthnapkin_message, whose room and count stand among the texts. */
+/* A call of one of those that are run on a stack: what it is given, and what it answers. The room and the count of
+ * firthnapkin_message and firthnapkin_canonical stand among the texts. */
 typedef struct {
     const uint8_t *source;
     size_t length;
-    uint32_t depth, status;
+    uint32_t depth, most, status;
     firthnapkin_node *nodes;
     size_t nodes_room, *nodes_needed;
+    firthnapkin_token *tokens;
+    size_t tokens_room, *tokens_needed;
     uint8_t *texts;
     size_t texts_room, *texts_needed;
     firthnapkin_fault *fault;
@@ -92,12 +95,23 @@ static inline void run_message(void *call) {
     c->status = firthnapkin_message(c->source, c->length, c->depth, c->texts, c->texts_room, c->texts_needed);
 }
 
+static inline void run_tokens(void *call) {
+    whole_call *c = call;
+    c->status = firthnapkin_tokens(c->source, c->length, c->most, c->tokens, c->tokens_room, c->tokens_needed, c->fault);
+}
+
+static inline void run_canonical(void *call) {
+    whole_call *c = call;
+    c->status = firthnapkin_canonical(c->source, c->length, c->texts, c->texts_room, c->texts_needed, c->fault);
+}
+
 /* firthnapkin_parse; want of memory where there is no stack to be had. */
 static inline uint32_t parse_on_stack(const uint8_t *source, size_t length, uint32_t depth, firthnapkin_node *nodes,
                                       size_t nodes_room, size_t *nodes_needed, uint8_t *texts, size_t texts_room,
                                       size_t *texts_needed, firthnapkin_fault *fault) {
-    whole_call call = {source,       length, depth,      FIRTHNAPKIN_MEMORY, nodes, nodes_room,
-                       nodes_needed, texts,  texts_room, texts_needed,       fault};
+    whole_call call = {.source = source, .length = length, .depth = depth, .status = FIRTHNAPKIN_MEMORY, .nodes = nodes,
+                       .nodes_room = nodes_room, .nodes_needed = nodes_needed, .texts = texts, .texts_room = texts_room,
+                       .texts_needed = texts_needed, .fault = fault};
     *nodes_needed = *texts_needed = 0;
     run_on_stack(stack_for(depth), run_parse, &call);
     return call.status;
@@ -110,6 +124,26 @@ static inline uint32_t message_on_stack(const uint8_t *source, size_t length, ui
                        .texts = room, .texts_room = room_length, .texts_needed = needed};
     *needed = 0;
     run_on_stack(stack_for(depth), run_message, &call);
+    return call.status;
+}
+
+/* firthnapkin_tokens, in the same way. */
+static inline uint32_t tokens_on_stack(const uint8_t *source, size_t length, uint32_t most, firthnapkin_token *tokens,
+                                       size_t tokens_room, size_t *tokens_needed, firthnapkin_fault *fault) {
+    whole_call call = {.source = source, .length = length, .most = most, .status = FIRTHNAPKIN_MEMORY, .tokens = tokens,
+                       .tokens_room = tokens_room, .tokens_needed = tokens_needed, .fault = fault};
+    *tokens_needed = 0;
+    run_on_stack(stack_for(0), run_tokens, &call);
+    return call.status;
+}
+
+/* firthnapkin_canonical, in the same way. */
+static inline uint32_t canonical_on_stack(const uint8_t *source, size_t length, uint8_t *room, size_t room_length,
+                                          size_t *needed, firthnapkin_fault *fault) {
+    whole_call call = {.source = source, .length = length, .status = FIRTHNAPKIN_MEMORY, .texts = room,
+                       .texts_room = room_length, .texts_needed = needed, .fault = fault};
+    *needed = 0;
+    run_on_stack(stack_for(0), run_canonical, &call);
     return call.status;
 }
 

@@ -4,10 +4,11 @@
  * caller's own memory. Calls may run in any number of threads at once.
  *
  * What the caller has to see to, since no proof does:
- * - A pointer has the room that its count says: of bytes, or of nodes. Where the count is 0 the pointer may be NULL.
+ * - A pointer has the room that its count says: of bytes, of nodes, or of tokens. Where the count is 0 the pointer may be NULL.
  *   The pointers to single counts and to the fault are never NULL.
  * - The source and the rooms, counts and fault of one call don't overlap, and nothing else writes to them meanwhile.
- * - The stack has room for the call: FIRTHNAPKIN_STACK(depth) bytes are enough, whatever the source.
+ * - The stack has room for the call: FIRTHNAPKIN_STACK(depth) bytes are enough, whatever the source, and FIRTHNAPKIN_STACK(0)
+ *   for a call that takes no depth.
  * - malloc, realloc and free come from one allocator, and a block is aligned to each power of two up to 16 that divides
  *   its size. A call is not made from a signal handler, nor in the forked child of a process with threads.
  */
@@ -42,7 +43,9 @@ enum firthnapkin_status {
     FIRTHNAPKIN_TOO_LONG = 7, /* the source has 4 GiB or more */
     FIRTHNAPKIN_DEPTH = 8,    /* the depth is above FIRTHNAPKIN_MOST_DEPTH, and the source was not looked at */
     FIRTHNAPKIN_FEW = 0,      /* of firthnapkin_count: the source has no more tokens than that */
-    FIRTHNAPKIN_MANY = 9      /* of firthnapkin_count: it has more */
+    FIRTHNAPKIN_MANY = 9,     /* of firthnapkin_count and firthnapkin_tokens: it has more */
+    FIRTHNAPKIN_TOKENS = 0,   /* of firthnapkin_tokens: the source can be cut into tokens */
+    FIRTHNAPKIN_CANONICAL = 0 /* of firthnapkin_canonical: the source can be cut into tokens */
 };
 
 /* What a node stands for. The numbers of scalars stand last, and there is no 15. */
@@ -98,6 +101,37 @@ typedef struct {
     uint32_t value_length;
 } firthnapkin_node;
 
+/* What a token is. */
+enum firthnapkin_token_kind {
+    FIRTHNAPKIN_TOKEN_NAME = 0,         /* a name or a word of the language */
+    FIRTHNAPKIN_TOKEN_STRING = 1,       /* a text between quotes */
+    FIRTHNAPKIN_TOKEN_BLOCK_STRING = 2, /* a text between three quotes on each side */
+    FIRTHNAPKIN_TOKEN_FLOAT = 3,        /* a number with a fraction or an exponent */
+    FIRTHNAPKIN_TOKEN_INT = 4,          /* a number without either */
+    FIRTHNAPKIN_TOKEN_EXCLAMATION_MARK = 5,
+    FIRTHNAPKIN_TOKEN_DOLLAR = 6,
+    FIRTHNAPKIN_TOKEN_PAREN_OPEN = 7,
+    FIRTHNAPKIN_TOKEN_PAREN_CLOSE = 8,
+    FIRTHNAPKIN_TOKEN_BRACKET_OPEN = 9,
+    FIRTHNAPKIN_TOKEN_BRACKET_CLOSE = 10,
+    FIRTHNAPKIN_TOKEN_CURLY_OPEN = 11,
+    FIRTHNAPKIN_TOKEN_CURLY_CLOSE = 12,
+    FIRTHNAPKIN_TOKEN_ELLIPSIS = 13,
+    FIRTHNAPKIN_TOKEN_COLON = 14,
+    FIRTHNAPKIN_TOKEN_EQUALS = 15,
+    FIRTHNAPKIN_TOKEN_AT = 16,
+    FIRTHNAPKIN_TOKEN_PIPE = 17,
+    FIRTHNAPKIN_TOKEN_END_OF_FILE = 18 /* the end of the source, which has no bytes */
+};
+
+/* A token. Its text is the bytes of the source from start.byte + quotes to end.byte - quotes, as they are written: escapes
+ * are not replaced, and lines of a block string stay as they are. A token takes 40 bytes. */
+typedef struct {
+    uint32_t kind;   /* a firthnapkin_token_kind */
+    uint32_t quotes; /* how many quotes stand on each side of its text: of a string 1, of a block string 3, else 0 */
+    firthnapkin_place start, end;
+} firthnapkin_token;
+
 /* Why a source has no tree. */
 enum firthnapkin_refusal {
     FIRTHNAPKIN_UNEXPECTED_TOKEN = 0, /* no document goes on with the token */
@@ -105,7 +139,7 @@ enum firthnapkin_refusal {
     FIRTHNAPKIN_LEXICAL = 2,          /* there is no token here; `detail` says why */
     FIRTHNAPKIN_SCALAR = 3,           /* the scalar is refused; never told, since every literal that is a token is read */
     FIRTHNAPKIN_NESTED = 4,           /* the token is nested too deep */
-    FIRTHNAPKIN_TOO_MANY = 5          /* the token is one too many; told by firthnapkin_count alone */
+    FIRTHNAPKIN_TOO_MANY = 5          /* the token is one too many; told by firthnapkin_count and firthnapkin_tokens alone */
 };
 
 /* Why there is no token. */
@@ -155,6 +189,34 @@ uint32_t firthnapkin_message(const uint8_t *source, size_t length, uint32_t dept
  * more, and the fault is the first one too many. Besides it answers FIRTHNAPKIN_NOT_UTF8, FIRTHNAPKIN_MEMORY and
  * FIRTHNAPKIN_TOO_LONG. All answers but FIRTHNAPKIN_MANY leave the fault as it was. */
 uint32_t firthnapkin_count(const uint8_t *source, size_t length, uint32_t most, firthnapkin_fault *fault);
+
+/* Cuts a source into tokens, the last of which is its end. It may have no more than `most` tokens, its end not counted;
+ * UINT32_MAX is no limit.
+ *
+ * `tokens_needed` tells how many tokens are found, and the room begins with these, as many as it has room for; the rest of it is
+ * as it was. FIRTHNAPKIN_TOKENS: they are all tokens of the source, its end among them. FIRTHNAPKIN_ROOM: the same, and the
+ * room has not the room for all. FIRTHNAPKIN_REFUSED: they are those before the first place where no token is, which is the
+ * fault, a FIRTHNAPKIN_LEXICAL one. FIRTHNAPKIN_MANY: they are the first `most`, and the fault is the one behind these; nothing
+ * behind it is looked at.
+ *
+ * Besides it answers FIRTHNAPKIN_NOT_UTF8 and FIRTHNAPKIN_TOO_LONG, which leave the room as it was, and FIRTHNAPKIN_MEMORY, where
+ * it may begin with some of the source's first tokens; then `tokens_needed` is 0. All answers but FIRTHNAPKIN_REFUSED and
+ * FIRTHNAPKIN_MANY leave the fault as it was. A room of one token more than the source has bytes is never too short. */
+uint32_t firthnapkin_tokens(const uint8_t *source, size_t length, uint32_t most, firthnapkin_token *tokens,
+                            size_t tokens_room, size_t *tokens_needed, firthnapkin_fault *fault);
+
+/* Writes the canonical text of a source, one for each query whatever its white space and comments: its tokens as they are
+ * written, with one space between two neighbours of which neither is a punctuator, and before `...` behind one that is none.
+ * It is UTF-8, with no line feed and no byte 0 at its end. Whether it is a document is not looked at.
+ *
+ * FIRTHNAPKIN_CANONICAL: the text stands at the beginning of the room, whose rest is as it was, and `needed` is how many bytes
+ * it is. FIRTHNAPKIN_ROOM: it is `needed` bytes, more than the room has. With any other answer there is none, and `needed` is
+ * 0. FIRTHNAPKIN_REFUSED: the source can't be cut into tokens, and the fault is its first place where no token is, a
+ * FIRTHNAPKIN_LEXICAL one. Besides it answers FIRTHNAPKIN_NOT_UTF8, FIRTHNAPKIN_MEMORY and FIRTHNAPKIN_TOO_LONG. All answers but
+ * FIRTHNAPKIN_CANONICAL leave the room as it was, and all but FIRTHNAPKIN_REFUSED the fault. A room twice as long as the source
+ * is never too short. */
+uint32_t firthnapkin_canonical(const uint8_t *source, size_t length, uint8_t *room, size_t room_length, size_t *needed,
+                               firthnapkin_fault *fault);
 
 /* FIRTHNAPKIN_VERSION of the header that the library was built with. */
 uint32_t firthnapkin_version(void);

@@ -1,6 +1,6 @@
 #!/usr/bin/env python3
 """Compares what the bindings repeat with include/firthnapkin.h: the numbers of kinds, reasons, details and statuses, the
-fields of nodes and faults, the depths, the stack that a call takes, and the version, which the file VERSION says. The last
+fields of nodes, tokens and faults, the depths, the stack that a call takes, and the version, which the file VERSION says. The last
 line is 'N passed, M failed'.
 
     tests/bindings_check.py
@@ -38,16 +38,19 @@ def part(text, begin, end):
 
 # ---- Python
 
-document, fault, parser = (read(f"bindings/python/src/firthnapkin/{name}.py") for name in ("document", "fault", "parser"))
+document, fault, parser, lexer = (read(f"bindings/python/src/firthnapkin/{it}.py") for it in ("document", "fault", "parser", "lexer"))
 member = r"^    ([A-Z_]+) = (\d+)$"
 check("Python's kinds", numbers(part(document, r"class Kind\(", r"\nclass "), member), kinds)
+kinds_of_tokens = {word.replace("TOKEN_", ""): number for word, number in enum("firthnapkin_token_kind").items()}
+check("Python's kinds of tokens", numbers(part(lexer, r"class TokenKind\(", r"\nclass "), member), kinds_of_tokens)
 reasons = numbers(part(fault, r"class Reason\(", r"\nclass "), member)
 check("the reason that Python adds", reasons.pop("SURROGATE"), len(refusals))
 check("Python's reasons", reasons, refusals)
 check("Python's details", numbers(part(fault, r"class Detail\(", r"\nclass "), member), details)
-names, values = re.search(r"^(_TREE, [\w, ]*) = ([\d, ]+)$", parser, re.M).groups()
+names, values = re.search(r"^(_GIVEN, [\w, ]*) = ([\d, ]+)$", parser, re.M).groups()
 for word, number in zip(names.split(", "), values.split(", ")):
-    check(f"Python's status {word}", int(number), statuses[word[1:]])
+    given = ("TREE", "TOKENS", "CANONICAL") if word == "_GIVEN" else (word[1:],)
+    check(f"Python's status {word}", {int(number)}, {statuses[it] for it in given})
 
 
 def format_of(word):
@@ -60,8 +63,8 @@ def format_of(word):
     return letters + "x" * (-size % largest)
 
 
-for name, text in (("Node", document), ("Fault", parser)):
-    written = re.search(rf'^_{name.upper()} = struct\.Struct\("=(\w+)"\)$', text, re.M)[1]
+for name, text in (("Node", document), ("Fault", parser), ("Token", lexer)):
+    written = re.search(r'^ *(?:_FAULT|_LAYOUT) = struct\.Struct\("=(\w+)"\)$', text, re.M)[1]
     plain = re.sub(r"(\d+)([A-Za-z])", lambda it: it[2] * int(it[1]), written)
     check(f"the parts of Python's {name.lower()}", plain, format_of(f"firthnapkin_{name.lower()}"))
 

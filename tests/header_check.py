@@ -1,7 +1,7 @@
 #!/usr/bin/env python3
 """Compares include/firthnapkin.h, as it is written and as a C compiler lays it out, with the sources of the crate juniper_c:
-the fields of each type, their types, offsets and sizes, the calls' parameters, the numbers of statuses, kinds, refusals and
-details, and the version. The last line is 'N passed, M failed'.
+the fields of each type, their types, offsets and sizes, the calls' parameters, the numbers of statuses, of kinds of nodes and
+of tokens, of refusals and details, and the version. The last line is 'N passed, M failed'.
 
     tests/header_check.py LAYOUT    what the program of tests/c/layout.c writes
 """
@@ -17,6 +17,10 @@ check = checks.check
 
 def source(name):
     return read(f"crates/juniper_c/src/{name}.rt")
+
+
+def part_of(name, begin, end):
+    return re.search(f"{begin}(.*?){end}", source(name), re.S)[1]
 
 
 # ---- types
@@ -49,7 +53,7 @@ def laid_out(name, text):
 
 with open(sys.argv[1], encoding="utf-8") as file:
     layout = file.read().splitlines()
-for name, file in (("Place", "place"), ("Node", "node"), ("Fault", "fault")):
+for name, file in (("Place", "place"), ("Node", "node"), ("Token", "token"), ("Fault", "fault")):
     wanted = laid_out(name, source(file))
     word = f"firthnapkin_{name.lower()}"
     found = [line for line in layout if line.split()[0] == word]
@@ -59,6 +63,7 @@ for name, file in (("Place", "place"), ("Node", "node"), ("Fault", "fault")):
     typed = [(field, C_NAMES[kind]) for field, kind in fields_of(name, source(file))]
     check(f"the types of the fields of {word}", declared(word), typed)
 check("the size of a node", SIZES["Node"][0], 64)
+check("the size of a token", SIZES["Token"][0], 40)
 
 # ---- numbers
 
@@ -76,6 +81,12 @@ check("the numbers of kinds", list(kinds.values()), list(range(len(named))))
 check("the number of a scalar, which no node has", kinds.pop("SCALAR"), 15)
 scalars = {upper(w): int(n) for w, n in re.findall(r"Scalar(?:Value)?::(\w+)(?:\(_\)+)? => (\d+),", source("node"))}
 check("kinds", enum("firthnapkin_kind"), {**kinds, **scalars})
+
+tokens = {upper(w): int(n) for w, n in re.findall(r"Kind::(\w+) => (\d+),", part_of("token", "fn kind_number", r"\n}"))}
+named = re.findall(r"^    (\w+),$", re.search(r"pub enum Kind \{(.*?)\n\}", read("crates/graphql_lexical/src/kind.rt"), re.S)[1], re.M)
+check("the order of kinds of tokens", list(tokens), [upper(name) for name in named])
+check("kinds of tokens", enum("firthnapkin_token_kind"), {f"TOKEN_{word}": number for number, word in enumerate(tokens)})
+check("the numbers of kinds of tokens", list(tokens.values()), list(range(len(named))))
 
 fault = source("fault")
 names = {"UNEXPECTED_TOKEN": "UnexpectedToken", "UNEXPECTED_END": "UnexpectedEndOfFile", "SCALAR": "ExpectedScalarError"}
@@ -120,11 +131,13 @@ C_TYPES = {
     "fault: &mut Fault": ["firthnapkin_fault *fault"],
     "room: &mut [u8]": ["uint8_t *room", "size_t room_length"],
     "needed: &mut usize": ["size_t *needed"],
+    "tokens: &mut [Token]": ["firthnapkin_token *tokens", "size_t tokens_room"],
+    "tokens_needed: &mut usize": ["size_t *tokens_needed"],
     # It takes no place among the parameters.
     "alloc: Global": [],
 }
 exported = 0
-for name in ("parse", "message", "count", "version"):
+for name in ("parse", "message", "count", "tokens", "canonical", "version"):
     text = source(name)
     for call, parameters, result in re.findall(r'pub extern "C" fn (\w+)\((.*?)\) -> (\w+)', text, re.S):
         exported += 1

@@ -14,7 +14,7 @@ text, and has the same tree, places left out, or is refused alike.
 
 A completion is looked for, too, of each text of kind `gqlcheck` that is refused and can be cut into tokens. Whether it can
 be cut, and which tokens go on, the library for C says; that what is found is a document, a run of gqlcheck. Tokens are
-cut here by the specification's grammar, written as one pattern.
+cut by `cutting`.
 
     row_tests.py GQLCHECK GQLCANON     the last line is 'N passed, M failed'
 """
@@ -28,6 +28,7 @@ from concurrent.futures import ThreadPoolExecutor
 from pathlib import Path
 from typing import List, NamedTuple, Optional, Tuple
 
+from cutting import cut, joined
 from rows import Row, plain, rows
 
 ROOT = Path(__file__).resolve().parent.parent
@@ -41,15 +42,6 @@ COUNTS = {"gqlcheck": 2127, "built": 4, "completed": 8, "canonical": 29, COMPLET
 # The word of a run's end, by the program's exit status; where gqlcheck ends in a tree gqlcanon ends in a text.
 ENDS = ("Tree", "Refused", "NotUtf8", "Device", "Memory", "TooDeep")
 SECONDS = 20
-
-# Ignored tokens, and the one group of all others. It is asked of texts that can be cut alone.
-PIECE = re.compile(
-    r'[\ufeff\t\n\r ,]+|#[^\n\r]*|("""(?:\\"""|(?!\\?""").)*"""|"(?:\\.|[^"\\\n\r])*"|\.\.\.|[A-Za-z_][A-Za-z0-9_]*'
-    r"|-?(?:0|[1-9][0-9]*)(?:\.[0-9]+)?(?:[eE][+-]?[0-9]+)?|[!$()\[\]{}:=@|])",
-    re.DOTALL,
-)
-
-PUNCTUATOR = re.compile(r"\.\.\.|[!$()\[\]{}:=@|]")
 
 # What may go on, in the order in which it is tried: first what closes.
 NEXT = ("}", ")", "]", ":", "null", "on", "T", "a", "$", "{")
@@ -91,19 +83,6 @@ def run(program: str, source: bytes) -> Run:
     end = ENDS[ran.returncode] if 0 <= ran.returncode < len(ENDS) else f"status {ran.returncode}"
     written, errors = (it.decode("utf-8", "backslashreplace") for it in (ran.stdout, ran.stderr))
     return Run(written, end + errors)
-
-
-def cut(text: str) -> List[Tuple[int, str]]:
-    """Where each token of a text begins, and its text, up to what is none."""
-    tokens, at = [], 0
-    while at < len(text):
-        piece = PIECE.match(text, at)
-        if piece is None:
-            break
-        if piece[1] is not None:
-            tokens.append((at, piece[1]))
-        at = piece.end()
-    return tokens
 
 
 def refusal_of(text: str, told: str) -> Optional[Refusal]:
@@ -198,15 +177,6 @@ def fault_of_completion(program: str, library: Library, text: str, told: str) ->
         return "no completion is found"
     said = completed(program, refusal, further)
     return None if said.endswith("tree true, same tokens true") else said
-
-
-def joined(tokens: List[str]) -> str:
-    """Tokens one behind the other, with a space between two that are no punctuators, and before `...` behind one that is none."""
-    parted = (
-        not PUNCTUATOR.fullmatch(before) and (after == "..." or not PUNCTUATOR.fullmatch(after))
-        for before, after in zip(tokens, tokens[1:])
-    )
-    return "".join(token + " " * is_parted for token, is_parted in zip(tokens, [*parted, False]))
 
 
 def canonical(canon: str, source: bytes) -> Run:

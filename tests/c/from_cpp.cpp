@@ -41,6 +41,14 @@ int main() {
     check(status == FIRTHNAPKIN_REFUSED && std::string(room.begin(), room.begin() + needed) == "Unexpected \")\". At 0:4",
           "a fault's words");
     check(firthnapkin_count(bytes(other), other.size(), 2, &fault) == FIRTHNAPKIN_MANY && fault.start.column == 4, "a count");
+    std::vector<firthnapkin_token> tokens(source.size() + 1);
+    status = firthnapkin_tokens(bytes(source), source.size(), UINT32_MAX, tokens.data(), tokens.size(), &needed, &fault);
+    check(status == FIRTHNAPKIN_TOKENS && needed == 11 && tokens[7].kind == FIRTHNAPKIN_TOKEN_INT && tokens[7].start.byte == 15
+              && tokens[10].kind == FIRTHNAPKIN_TOKEN_END_OF_FILE,
+          "tokens");
+    status = firthnapkin_canonical(bytes(source), source.size(), room.data(), room.size(), &needed, &fault);
+    check(status == FIRTHNAPKIN_CANONICAL && std::string(room.begin(), room.begin() + needed) == "query Q{a(b:-7)}",
+          "a canonical text");
     check(firthnapkin_version() == FIRTHNAPKIN_VERSION, "the number of the interface");
     std::printf("%ld passed, %ld failed\n", passed, failed);
     return failed != 0;

@@ -1,4 +1,4 @@
-/* One call on the text of standard input: growth parse, growth message, or growth count. Without a word it makes none. The
+/* One call on the text of standard input: growth parse, message, count, tokens, or canonical. Without a word it makes none. The
  * first line that is written tells that the call comes now, the second what it answers. */
 #include "../../include/firthnapkin.h"
 #include <stdio.h>
@@ -25,15 +25,20 @@ int main(int argc, char **argv) {
     uint8_t *source = input(&length);
     firthnapkin_fault fault;
     /* Memory that nothing is written to costs nothing. */
-    uint8_t *texts = malloc(length + 1);
+    uint8_t *texts = malloc(2 * length + 1);
     firthnapkin_node *nodes = malloc((length + 1) * sizeof *nodes);
-    if (texts == NULL || nodes == NULL || argc < 2) return 0;
+    firthnapkin_token *tokens = malloc((length + 1) * sizeof *tokens);
+    if (texts == NULL || nodes == NULL || tokens == NULL || argc < 2) return 0;
     if (write(STDOUT_FILENO, "calling\n", 8) != 8) return 1;
     uint32_t status;
     if (strcmp(argv[1], "parse") == 0)
         status = firthnapkin_parse(source, length, 200, nodes, length, &nodes_needed, texts, length, &texts_needed, &fault);
     else if (strcmp(argv[1], "message") == 0)
         status = firthnapkin_message(source, length, 200, texts, length, &texts_needed);
+    else if (strcmp(argv[1], "tokens") == 0)
+        status = firthnapkin_tokens(source, length, UINT32_MAX, tokens, length + 1, &nodes_needed, &fault);
+    else if (strcmp(argv[1], "canonical") == 0)
+        status = firthnapkin_canonical(source, length, texts, 2 * length, &texts_needed, &fault);
     else
         status = firthnapkin_count(source, length, UINT32_MAX, &fault);
     printf("%u\n", (unsigned)status);

@@ -21,6 +21,11 @@ int main(void) {
     FIELD(firthnapkin_node, value);
     FIELD(firthnapkin_node, value_length);
     SIZE(firthnapkin_node);
+    FIELD(firthnapkin_token, kind);
+    FIELD(firthnapkin_token, quotes);
+    FIELD(firthnapkin_token, start);
+    FIELD(firthnapkin_token, end);
+    SIZE(firthnapkin_token);
     FIELD(firthnapkin_fault, kind);
     FIELD(firthnapkin_fault, detail);
     FIELD(firthnapkin_fault, character);

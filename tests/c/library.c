@@ -2,12 +2,9 @@
 #define _GNU_SOURCE
 #include "../../include/firthnapkin.h"
 #include "checks.h"
-#include <pthread.h>
-#include <stdlib.h>
-#include <string.h>
-#include <sys/mman.h>
+#include "memory.h"
 
-enum { CANARY = 0xA5, BEYOND = 64, DEPTH = 200 };
+enum { DEPTH = 200 };
 
 static const char *const SOURCES[] = {
     "{a}",
@@ -15,20 +12,6 @@ static const char *const SOURCES[] = {
     "{ a(b: \"\"\"\n  \xc3\xa9\n    c\n\"\"\") { ...F @d ... on T { b } ... { c } } }\nfragment F on T { d }",
     "mutation { m }\nsubscription S { s }",
 };
-
-/* A block of memory, written all over with one byte; no pointer at all where nobody may look. */
-static uint8_t *canaries(size_t length) {
-    uint8_t *room = malloc(length);
-    if (room == NULL) abort();
-    memset(room, CANARY, length);
-    return room;
-}
-
-static int are_canaries(const uint8_t *room, size_t length) {
-    for (size_t i = 0; i < length; i++)
-        if (room[i] != CANARY) return 0;
-    return 1;
-}
 
 /* What stands behind a node's last field says nothing. */
 static int same_nodes(const firthnapkin_node *a, const firthnapkin_node *b, size_t count) {
@@ -64,12 +47,12 @@ static void give_back(run r) {
 /* Nothing is written behind the room, nor behind what is needed, and nothing at all where there is no tree. */
 static int is_kept(run r) {
     size_t nodes = r.status == FIRTHNAPKIN_TREE ? r.nodes_needed : 0, texts = r.status == FIRTHNAPKIN_TREE ? r.texts_needed : 0;
-    return are_canaries((uint8_t *)(r.nodes + nodes), (r.nodes_room - nodes) * sizeof *r.nodes + BEYOND)
+    return are_canaries(r.nodes + nodes, (r.nodes_room - nodes) * sizeof *r.nodes + BEYOND)
         && are_canaries(r.texts + texts, r.texts_room - texts + BEYOND);
 }
 
 static int is_fault_kept(run r) {
-    return are_canaries((uint8_t *)&r.fault, sizeof r.fault);
+    return are_canaries(&r.fault, sizeof r.fault);
 }
 
 static void every_room(const char *source) {
@@ -214,7 +197,7 @@ static void every_count(const char *source, uint32_t tokens, const uint32_t *sta
         memset(&fault, CANARY, sizeof fault);
         uint32_t status = firthnapkin_count((const uint8_t *)source, strlen(source), most, &fault);
         if (most >= tokens) {
-            check(status == FIRTHNAPKIN_FEW && are_canaries((uint8_t *)&fault, sizeof fault), "%u tokens in %s", most, source);
+            check(status == FIRTHNAPKIN_FEW && are_canaries(&fault, sizeof fault), "%u tokens in %s", most, source);
             continue;
         }
         check(status == FIRTHNAPKIN_MANY && fault.kind == FIRTHNAPKIN_TOO_MANY && !fault.detail && !fault.character
@@ -236,7 +219,7 @@ static void counts(void) {
     check(firthnapkin_count((const uint8_t *)"{\xff", 2, 0, &fault) == FIRTHNAPKIN_NOT_UTF8, "a count of what is no text");
     check(firthnapkin_count(NULL, 0, 0, &fault) == FIRTHNAPKIN_FEW, "a count of nothing");
     check(firthnapkin_count((const uint8_t *)"{a}", 3, UINT32_MAX, &fault) == FIRTHNAPKIN_FEW, "the largest limit");
-    check(are_canaries((uint8_t *)&fault, sizeof fault), "a fault is left");
+    check(are_canaries(&fault, sizeof fault), "a fault is left");
     check(firthnapkin_count((const uint8_t *)"# \xf0\x9d\x84\x9e\n a", 9, 0, &fault) == FIRTHNAPKIN_MANY && fault.start.index == 5
               && fault.start.line == 1 && fault.start.column == 1 && fault.start.byte == 8 && fault.end.index == 6,
           "a place beyond ASCII");
@@ -277,21 +260,6 @@ static void *call_deep(void *argument) {
     return NULL;
 }
 
-/* Runs them in a thread of that stack, behind memory that nothing may touch. */
-static void on_stack(deep_calls *d) {
-    enum { PAGE = 4096, GUARD = 16 * PAGE };
-    size_t size = (FIRTHNAPKIN_STACK(d->depth) + PAGE - 1) / PAGE * PAGE;
-    char *memory = mmap(NULL, GUARD + size, PROT_READ | PROT_WRITE, MAP_PRIVATE | MAP_ANONYMOUS, -1, 0);
-    pthread_attr_t attributes;
-    pthread_t thread;
-    if (memory == MAP_FAILED || mprotect(memory, GUARD, PROT_NONE) || pthread_attr_init(&attributes)
-        || pthread_attr_setstack(&attributes, memory + GUARD, size)
-        || pthread_create(&thread, &attributes, call_deep, d) || pthread_join(thread, NULL))
-        abort();
-    pthread_attr_destroy(&attributes);
-    munmap(memory, GUARD + size);
-}
-
 static void stacks(void) {
     static const uint32_t depths[] = {2, 10, 200, FIRTHNAPKIN_MOST_DEPTH};
     static char text[8 * (FIRTHNAPKIN_MOST_DEPTH + 9)];
@@ -303,7 +271,7 @@ static void stacks(void) {
                 char *end = repeated(repeated(repeated(text, n.head, 1), n.opening, count), n.middle, 1);
                 end = repeated(repeated(end, n.closing, count), n.tail, 1);
                 deep_calls d = {text, (size_t)(end - text), depths[k], 99, 99};
-                on_stack(&d);
+                on_stack(d.depth, call_deep, &d);
                 uint32_t wanted = beyond ? FIRTHNAPKIN_TOO_DEEP : FIRTHNAPKIN_TREE;
                 check(d.parsed == wanted && d.told == (beyond ? FIRTHNAPKIN_ROOM : wanted),
                       "%u of %s, with the depth %u: %u, %u", count, n.opening, depths[k], d.parsed, d.told);

@@ -45,6 +45,7 @@ void __wrap_free(void *block) {
 
 static uint8_t words[4096];
 static firthnapkin_node nodes[4096];
+static firthnapkin_token cut[4096];
 
 typedef struct {
     uint32_t status;
@@ -70,6 +71,21 @@ static answer count(const char *source) {
     answer a = {.nodes_needed = 0, .texts_needed = 0};
     firthnapkin_fault fault;
     a.status = firthnapkin_count((const uint8_t *)source, strlen(source), 2, &fault);
+    return a;
+}
+
+/* What is put into the room before memory runs out is not told. */
+static answer tokens(const char *source) {
+    answer a = {.nodes_needed = 1, .texts_needed = 0};
+    firthnapkin_fault fault;
+    a.status = firthnapkin_tokens((const uint8_t *)source, strlen(source), UINT32_MAX, cut, 4096, &a.nodes_needed, &fault);
+    return a;
+}
+
+static answer canonical(const char *source) {
+    answer a = {.nodes_needed = 1, .texts_needed = 0};
+    firthnapkin_fault fault;
+    a.status = firthnapkin_canonical((const uint8_t *)source, strlen(source), words, 4096, &a.nodes_needed, &fault);
     return a;
 }
 
@@ -124,11 +140,15 @@ int main(void) {
         "# \xc3\xa9\n{ a ) }",
         "{ a(b: \"\\q\") }",
         "# \xc3\xa9\n{",
+        "# \xc3\xa9\n{ a(b: \"\\q\") }",
+        "a \xc3\xa9",
     };
     for (size_t i = 0; i < sizeof sources / sizeof *sources; i++) {
         each(parse, sources[i]);
         each(message, sources[i]);
         each(count, sources[i]);
+        each(tokens, sources[i]);
+        each(canonical, sources[i]);
     }
     room_is_a_hint(sources[1]);
     room_is_a_hint(sources[2]);

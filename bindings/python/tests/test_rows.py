@@ -1,4 +1,5 @@
-"""The rows of the language: a text's nodes give the lines that gqlcheck writes, and its fault is gqlcheck's own."""
+"""The rows of the language: a text's nodes give the lines that gqlcheck writes, and its fault is gqlcheck's own; its tokens are
+those that a pattern cuts, and its canonical text is what gqlcanon writes."""
 
 import os
 import sys
@@ -9,7 +10,8 @@ import firthnapkin
 from firthnapkin import Kind
 
 sys.path.insert(0, os.path.join(os.path.dirname(os.path.abspath(__file__)), "..", "..", "..", "tests"))
-from rows import gqlcheck, rows
+from cutting import cut, joined, kind_of, unquoted
+from rows import gqlcheck, plain, rows
 
 SCALARS = (Kind.INT, Kind.LARGE_INT, Kind.FLOAT, Kind.STRING, Kind.BLOCK_STRING, Kind.BOOLEAN)
 KINDS = {kind.name.lower() for kind in Kind}
@@ -52,6 +54,37 @@ class Rows(unittest.TestCase):
 
     def test_peer(self) -> None:
         self.of_file("peer.rows", 1500)
+
+    def test_tokens(self) -> None:
+        """Kinds and texts of each text that can be cut; of each other text of gqlcheck the fault that parse has."""
+        counts = {"cut": 0, "refused": 0}
+        for name in ("gqlcheck.rows", "peer.rows", "canonical.rows"):
+            for row in rows(name):
+                if row.kind not in ("gqlcheck", "canonical") or row.wanted[-1] == "NotUtf8":
+                    continue
+                text = row.text.decode()
+                with self.subTest(file=name, row=row.number):
+                    try:
+                        found = firthnapkin.tokens(text)
+                    except firthnapkin.Fault as fault:
+                        counts["refused"] += 1
+                        for call in (firthnapkin.parse, firthnapkin.canonical):
+                            with self.assertRaises(firthnapkin.Fault) as raised:
+                                call(text)
+                            self.assertEqual((str(raised.exception), raised.exception.start), (str(fault), fault.start))
+                        self.assertIs(fault.reason, firthnapkin.Reason.LEXICAL)
+                        self.assertEqual(str(fault), plain(row.wanted[0]).decode())
+                        continue
+                    counts["cut"] += 1
+                    wanted = [(kind_of(it), begin, it, unquoted(it)) for begin, it in cut(text)]
+                    wanted.append(("END_OF_FILE", len(text), "", ""))
+                    self.assertEqual([(it.kind.name, it.start.index, it.text, it.unquoted) for it in found], wanted)
+                    made = firthnapkin.canonical(text)
+                    self.assertEqual(made, joined([it for _, it in cut(text)]))
+                    if row.kind == "canonical":
+                        self.assertEqual((row.wanted[-1], made), ("Text", "\n".join(plain(it).decode() for it in row.wanted[:-1])))
+        self.assertGreater(counts["cut"], 600)
+        self.assertGreater(counts["refused"], 1000)
 
     def test_documents(self) -> None:
         """A row of documents tells the first and the last place of each part, too."""

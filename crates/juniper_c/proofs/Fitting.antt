@@ -8,6 +8,8 @@ use Rattle.std.proofs.lemmas.List.Sums.{count_by-le-length}
 use Rattle.std.proofs.lemmas.Str.{encodes-chars}
 use Rattle.graphql_lexical.specs.Place as places
 use Rattle.graphql_lexical.specs.Place.{place}
+use Rattle.graphql_lexical.specs.Kinds.{LexicalError}
+use Rattle.graphql_lexical.specs.Cutting.{Breaks}
 use Rattle.graphql_lexical.specs.laws.Laws.{HasOneEnd}
 use Rattle.graphql_lexical.proofs.Cuts.{one_end}
 use Rattle.graphql_grammar.specs.Tree.{Definition}
@@ -43,6 +45,10 @@ any_place_fits source m l =
 
 place_fits : (source : List ℕ) (p : places.Place) → length source < 2 ^ 32 → IsPlaceOf source p → PlaceFits p
 place_fits source p l h = subst PlaceFits (sym h.is) (any_place_fits source p.index l)
+
+pub broken_fits : (source : List ℕ) (error : LexicalError) (at : places.Place) → length source < 2 ^ 32
+    → Breaks source error at → PlaceFits at
+broken_fits source error at l b = place_fits source at l (broken_lies source b)
 
 pub span_fits : (source : List ℕ) (span : places.Span) → length source < 2 ^ 32 → LiesIn source span → SpanFits span
 span_fits source span l h = (place_fits source span.start l h.start, place_fits source span.end l h.end)

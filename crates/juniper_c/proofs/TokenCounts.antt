@@ -10,6 +10,14 @@ use Rattle.juniper_c.specs.declared.count.Counted.{Counted}
 use Rattle.juniper_c.specs.declared.count.Counted.TheVariants as counted
 use Rattle.juniper_c.proofs.Fitting.{any_place_fits}
 
+-- the numbers of a token
+pub token_fits : (source : List ℕ) (k m : ℕ) (x : Lexeme) → Stands source k x m → (span : Span) → span ≡ x.span
+    → length source < 2 ^ 32 → SpanFits span
+token_fits source k m x s span at l =
+    let start = subst PlaceFits (sym s.start) (any_place_fits source (k + s.gap) l) in
+    let end = subst PlaceFits (sym s.end) (any_place_fits source m l) in
+    subst SpanFits (sym at) (start, end)
+
 module _ (source : List ℕ) (k m : ℕ) (x : Lexeme) (s : Stands source k x m) (other : x.kind ≡ EndOfFile → ⊥) where
   pub few_behind : (most : ℕ) → HasFew source m most → HasFew source k (suc most)
   few_behind most h = record {
@@ -46,12 +54,6 @@ module _ (source : List ℕ) (k m : ℕ) (x : Lexeme) (s : Stands source k x m) 
     other = other;
     at = at;
   }
-
-  pub token_fits : (span : Span) → span ≡ x.span → length source < 2 ^ 32 → SpanFits span
-  token_fits span at l =
-      let start = subst PlaceFits (sym s.start) (any_place_fits source (k + s.gap) l) in
-      let end = subst PlaceFits (sym s.end) (any_place_fits source m l) in
-      subst SpanFits (sym at) (start, end)
 
 -- a source that ends here
 pub few_here : (source : List ℕ) (k most : ℕ) → EndsAt source k → HasFew source k most

@@ -1,5 +1,5 @@
 -- What a call answers of a source, and what it leaves in the caller's memory.
-use Rattle.std.specs.Prelude.{◌≡◌, ◌<◌, ◌≤◌, ◌^◌, ◌⊎◌, ℕ, List, ◌++◌, drop, length, codes, encode_utf8_all, IsUtf8, chars, Result, Ok, Err, string_bytes}
+use Rattle.std.specs.Prelude.{◌≡◌, ◌<◌, ◌≤◌, ◌^◌, ◌⊎◌, ℕ, List, ◌++◌, take, drop, length, codes, encode_utf8_all, IsUtf8, chars, Result, Ok, Err, string_bytes}
 use Rattle.graphql_lexical.specs.Place.{Span}
 use Rattle.graphql_grammar.specs.Tree.{Scalars, Definition}
 use Rattle.graphql_nodes.specs.Nodes.{document_nodes}
@@ -61,6 +61,10 @@ texts_of tree = encode_utf8_all (node_texts (document_nodes tree))
 -- these stand where the room begins, and the rest of it is as it was
 abbrev pub Begins : {A : Type 0} → List A → List A → List A → Type 0
 Begins xs old new = new ≡ xs ++ drop (length xs) old
+
+-- as many of these as the room is long stand where it begins, and the rest of it is as it was
+abbrev pub Fills : {A : Type 0} → List A → List A → List A → Type 0
+Fills xs old new = new ≡ take (length old) xs ++ drop (length xs) old
 
 -- an error, and the line and column where it stands
 abbrev pub refusal_message : errors.Fault → List ℕ

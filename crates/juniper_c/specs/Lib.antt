@@ -6,4 +6,9 @@ pub mod ScalarLaws
 pub mod Faults
 pub mod Answers
 pub mod FlatWriters
+pub mod Sources
+pub mod Steps
 pub mod TokenCounts
+pub mod Tokens
+pub mod CutTokens
+pub mod CanonicalTexts

@@ -1,16 +1,13 @@
 -- How many tokens a source has.
-use Rattle.std.specs.Prelude.{◌≡◌, ◌<◌, ◌≤◌, ◌^◌, ◌⊎◌, ℕ, List, length, IsUtf8, chars, false}
+use Rattle.std.specs.Prelude.{◌≡◌, ◌<◌, ◌≤◌, ◌^◌, ◌⊎◌, ℕ, List, length, IsUtf8, chars}
 use Rattle.graphql_lexical.specs.Place.{Span}
 use Rattle.graphql_lexical.specs.Place as places
 use Rattle.graphql_lexical.specs.declared.kind.Kind.TheVariants.{EndOfFile}
 use Rattle.graphql_lexical.specs.Kinds.{LexicalError}
 use Rattle.graphql_lexical.specs.Cutting.{Lexeme, Stands, Leads}
-use Rattle.juniper_tokens.specs.Lexing.{LexerState, BreaksAt}
-use Rattle.juniper_tokens.specs.Spans.{view_span}
+use Rattle.juniper_tokens.specs.Lexing.{BreaksAt}
 use Rattle.juniper_c.specs.Faults.{many_fault}
 use Rattle.juniper_c.specs.FlatWriters.{SpanFits}
-use Rattle.juniper_c.specs.declared.count.Step.{Step}
-use Rattle.juniper_c.specs.declared.count.Step.TheVariants as step
 use Rattle.juniper_c.specs.declared.count.Counted.{Counted}
 use Rattle.juniper_c.specs.declared.count.Counted.TheVariants as counted
 
@@ -45,13 +42,6 @@ abbrev pub IsCountStatus : ℕ → Type 0
 IsCountStatus n = (n ≡ 0) ⊎ ((n ≡ 2) ⊎ ((n ≡ 4) ⊎ ((n ≡ 7) ⊎ (n ≡ 9))))
 
 -- ---- what private contracts say
-
--- A step of a lexer goes past a token that isn't the end, or stands before the end or a lexical error.
-abbrev pub Steps : LexerState → Step → LexerState → Type 0
-Steps s (step.Token span) t = (token : Lexeme) × Stands s.source s.index token t.index × (token.kind ≡ EndOfFile → ⊥)
-    × (view_span span ≡ token.span) × (t.source ≡ s.source) × (t.ended ≡ false)
-Steps s step.End t = EndsAt s.source s.index
-Steps s step.Memory t = Unit {0}
 
 -- The fault is told of a token whose numbers fit.
 abbrev pub IsTooMany : List ℕ → Span → Counted → Type 0

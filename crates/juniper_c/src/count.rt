@@ -1,16 +1,18 @@
 //! A limit on the number of tokens.
-ghost use Rattle.std.specs.Prelude.{◌≡◌, ◌≢◌, ◌<◌, ◌≤◌, ◌^◌, ◌⊎◌, ◌↔◌, ℕ, List, length, true, false, IsUtf8};
+ghost use Rattle.std.specs.Prelude.{◌≡◌, ◌≢◌, ◌<◌, ◌≤◌, ◌^◌, ◌⊎◌, ◌↔◌, ℕ, List, length, IsUtf8};
 ghost use Rattle.std.specs.Str.{chars};
 ghost use Rattle.graphql_lexical.specs.Place as places;
 ghost use Rattle.juniper_tokens.specs.Spans.{view_span};
 ghost use Rattle.juniper_c.specs.Faults.{many_fault};
-ghost use Rattle.juniper_c.specs.TokenCounts.{HasFew, HasMore, IsCountStatus, Steps, AnswersCounted, IsTooMany};
+ghost use Rattle.juniper_c.specs.TokenCounts.{HasFew, HasMore, IsCountStatus, AnswersCounted, IsTooMany};
 
 use crate::byte_table::ByteTable;
 use crate::fault::{Fault, many_fault};
-use crate::status::{FEW, MANY, MEMORY, NOT_UTF8, TOO_LONG, TOO_LONG_FROM};
+use crate::source::{Unread, text_of};
+use crate::status::{FEW, MANY, MEMORY, NOT_UTF8, TOO_LONG};
+use crate::step::{Step, next_step};
 use juniper::Span;
-use juniper_tokens::{Kind, LexFailure, Lexer};
+use juniper_tokens::Lexer;
 use std::alloc::Global;
 
 /// Says whether a source has more tokens than that, besides its end, and where the first one too many is.
@@ -52,12 +54,10 @@ enum Counted {
 fn count_of(alloc: Global, source: &[u8], most: u32) -> Counted
     ensures { AnswersCounted source.now most result }
 {
-    if source.len() >= TOO_LONG_FROM {
-        return Counted::TooLong;
-    }
-    match std::str::from_utf8(source) {
+    match text_of(source) {
         Ok(text) => count_of_text(alloc, text, most),
-        Err(_) => Counted::NotUtf8,
+        Err(Unread::NotUtf8) => Counted::NotUtf8,
+        Err(Unread::TooLong) => Counted::TooLong,
     }
 }
 
@@ -69,13 +69,15 @@ fn count_of_text(alloc: Global, text: &str, most: u32) -> Counted
     let mut left = most;
     loop {
         match next_step(&mut lexer) {
-            Step::Token(span) => {
+            Step::Token(_, span) => {
                 if left == 0 {
                     return too_many(alloc, text, span);
                 }
                 left -= 1;
             }
-            Step::End => return Counted::Few,
+            Step::End(_) => return Counted::Few,
+            // None of what stands behind an error is a token.
+            Step::Fault(_) => return Counted::Few,
             Step::Memory => return Counted::Memory,
         }
     }
@@ -89,31 +91,5 @@ fn too_many(alloc: Global, text: &str, span: Span) -> Counted
     match ByteTable::new(alloc, text) {
         Ok(table) => Counted::Many(many_fault(&table, span)),
         Err(_) => Counted::Memory,
-    }
-}
-
-// What stands behind the next gap: a token that isn't the end, or the end or a lexical error.
-#[derive(Clone, Copy)]
-enum Step {
-    Token(Span),
-    End,
-    Memory,
-}
-
-fn next_step(lexer: &mut Lexer<'_>) -> Step
-    requires { lexer.old.ended ≡ false }
-    ensures { Steps lexer.old result lexer.new }
-{
-    let item = lexer.next();
-    match &item {
-        Some(Ok(token)) => {
-            if token.item.kind() == Kind::EndOfFile {
-                Step::End
-            } else {
-                Step::Token(token.span)
-            }
-        }
-        Some(Err(LexFailure::Memory)) => Step::Memory,
-        Some(Err(LexFailure::Fault(_))) | None => Step::End,
     }
 }

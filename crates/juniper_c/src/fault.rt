@@ -3,12 +3,13 @@ ghost use Rattle.std.specs.Prelude.{◌≡◌, ℕ, List};
 ghost use Rattle.juniper_tokens.specs.Errors.{view_error, view_fault, view_lexer_error};
 ghost use Rattle.juniper_tokens.specs.Spans.{view_span};
 ghost use Rattle.juniper_c.specs.ByteTables.{IsTableOf};
-ghost use Rattle.juniper_c.specs.FlatWriters.{SpanFits};
+ghost use Rattle.juniper.specs.Promise.{lexical_fault};
+ghost use Rattle.juniper_c.specs.FlatWriters.{PlaceFits, SpanFits};
 ghost use Rattle.juniper_c.specs.Faults.{lexical_reason, error_reason, fault_at, told_fault, deep_fault, many_fault};
 
 use crate::byte_table::ByteTable;
 use crate::place::{Place, place_at};
-use juniper::{LexerError, ParseError, Span, Spanning};
+use juniper::{LexerError, ParseError, SourcePosition, Span, Spanning};
 
 /// Why a source has no tree, and where.
 #[repr(C)]
@@ -52,6 +53,13 @@ pub(crate) fn many_fault(table: &ByteTable, span: Span) -> Fault
     ensures { (source : List ℕ) → IsTableOf source table.now → SpanFits (view_span span) → result ≡ many_fault source (view_span span) }
 {
     fault_at(table, because(5, 0, 0), &span)
+}
+
+/// The fault of a source with this lexical error there.
+pub(crate) fn lexical_fault(table: &ByteTable, error: &LexerError, at: SourcePosition) -> Fault
+    ensures { (source : List ℕ) → IsTableOf source table.now → PlaceFits at → result ≡ told_fault source (lexical_fault (view_lexer_error error.now) at) }
+{
+    fault_at(table, lexical_reason(error), &Span::zero_width(at))
 }
 
 fn fault_at(table: &ByteTable, reason: Reason, span: &Span) -> Fault

@@ -16,7 +16,7 @@ use crate::byte_table::ByteTable;
 use crate::fault::{Fault, deep_fault, told_fault};
 use crate::node::{Node, told_node, write_node};
 use crate::scalar::Scalar;
-use crate::status::TOO_LONG_FROM;
+use crate::source::{Unread, text_of};
 use juniper::{Definition, DefinitionSink, DepthFailure, ParseFailure, parse_document_source_into};
 use juniper_nodes::push_definition;
 use std::alloc::{AllocError, Global};
@@ -86,12 +86,10 @@ pub(crate) fn flat_of(alloc: Global, source: &[u8], depth: u32) -> Result<Flat, 
     ensures answer { AnswersFlat source.now depth result }
     ensures bounds { IfOk result (λ flat. (length flat.nodes.items ≤ length source.now) × (length (string_bytes flat.texts) ≤ length source.now)) }
 {
-    if source.len() >= TOO_LONG_FROM {
-        return Err(Stop::TooLong);
-    }
-    match std::str::from_utf8(source) {
+    match text_of(source) {
         Ok(text) => flat_of_text(alloc, text, depth),
-        Err(_) => Err(Stop::NotUtf8),
+        Err(Unread::NotUtf8) => Err(Stop::NotUtf8),
+        Err(Unread::TooLong) => Err(Stop::TooLong),
     }
 }
 

@@ -2,6 +2,7 @@
 #![tactic(auto)]
 
 mod byte_table;
+mod canonical;
 mod count;
 mod depth;
 mod fault;
@@ -10,6 +11,11 @@ mod message;
 mod node;
 mod parse;
 mod place;
+mod room;
 mod scalar;
+mod source;
 mod status;
+mod step;
+mod token;
+mod tokens;
 mod version;

@@ -9,10 +9,10 @@ ghost use Rattle.juniper_values.specs.Scalar.{Content};
 ghost use Rattle.juniper_c.specs.Answers.{AnswersSaid, Begins, HasDocument, HasRefusal, HasDeepToken, HasMessage, IsStatus, refusal_message, deep_message};
 
 use crate::depth::{MOST_DEPTH, is_refused};
+use crate::room::fill;
 use crate::scalar::Scalar;
-use crate::status::{
-    DEPTH, MEMORY, NOT_UTF8, REFUSED, ROOM, TOO_DEEP, TOO_LONG, TOO_LONG_FROM, TREE,
-};
+use crate::source::{Unread, text_of};
+use crate::status::{DEPTH, MEMORY, NOT_UTF8, REFUSED, ROOM, TOO_DEEP, TOO_LONG, TREE};
 use juniper::{
     DepthFailure, ParseError, ParseFailure, Span, Spanning, parse_document_source_within,
 };
@@ -57,20 +57,6 @@ pub extern "C" fn firthnapkin_message(
     }
 }
 
-// Copies a message to the room's beginning, if that is long enough, and answers the status, else that the room is short.
-fn fill(room: &mut [u8], needed: &mut usize, message: &[u8], status: u32) -> u32
-    ensures count { needed.new ≡ length message.now }
-    ensures filled { length message.now ≤ length room.old → (result ≡ status) × Begins message.now room.old room.new }
-    ensures short { length room.old < length message.now → (result ≡ ROOM) × (room.new ≡ room.old) }
-{
-    *needed = message.len();
-    if room.len() < message.len() {
-        return ROOM;
-    }
-    room[..message.len()].copy_from_slice(message);
-    status
-}
-
 #[derive(Drop)]
 enum Said {
     Tree,
@@ -84,12 +70,10 @@ enum Said {
 fn message_of(alloc: Global, source: &[u8], depth: u32) -> Said
     ensures { AnswersSaid source.now depth result }
 {
-    if source.len() >= TOO_LONG_FROM {
-        return Said::TooLong;
-    }
-    match std::str::from_utf8(source) {
+    match text_of(source) {
         Ok(text) => message_of_text(alloc, text, depth),
-        Err(_) => Said::NotUtf8,
+        Err(Unread::NotUtf8) => Said::NotUtf8,
+        Err(Unread::TooLong) => Said::TooLong,
     }
 }
 

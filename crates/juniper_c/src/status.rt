@@ -20,5 +20,9 @@ pub(crate) const FEW: u32 = 0;
 
 pub(crate) const MANY: u32 = 9;
 
+pub(crate) const TOKENS: u32 = 0;
+
+pub(crate) const CANONICAL: u32 = 0;
+
 /// How many bytes of a source are too many: a byte's place in it is told in 32 bits.
 pub(crate) const TOO_LONG_FROM: usize = 1 << 32;

@@ -6,11 +6,14 @@
 """
 
 from ._parser import MOST_DEPTH, VERSION as __version__
-from .document import Document, Kind, Node, Place
+from .document import Document, Kind, Node
 from .fault import Detail, Fault, Reason
+from .lexer import Token, TokenKind, Tokens, canonical, tokens
 from .parser import parse
+from .parts import Place
 from .visitor import Step, Visitor
 
 __all__ = [
-    "MOST_DEPTH", "Detail", "Document", "Fault", "Kind", "Node", "Place", "Reason", "Step", "Visitor", "__version__", "parse",
+    "MOST_DEPTH", "Detail", "Document", "Fault", "Kind", "Node", "Place", "Reason", "Step", "Token", "TokenKind", "Tokens",
+    "Visitor", "__version__", "canonical", "parse", "tokens",
 ]  # fmt: skip

@@ -1,21 +1,38 @@
-/* The library's calls for the package, which sees to the kinds of arguments: what is given here is bytes and a number. */
+/* The library's calls for the package, which sees to the kinds of arguments: what is given here is bytes and numbers. */
 #define PY_SSIZE_T_CLEAN
 #include <Python.h>
 
 #include "whole.h"
 
-/* What there is to tell of a parse: its status, and two bytes objects. */
-static PyObject *told(const whole *w, const void *first, size_t first_length) {
+static PyObject *pair_of(uint32_t status, const void *first, size_t first_length, const whole *w) {
     const char *texts = w->texts_count != 0 ? (const char *)w->texts : "";
-    return Py_BuildValue("Iy#y#", (unsigned)w->status, first_length != 0 ? (const char *)first : "",
-                         (Py_ssize_t)first_length, texts, (Py_ssize_t)w->texts_count);
+    return Py_BuildValue("Iy#y#", (unsigned)status, first_length != 0 ? (const char *)first : "", (Py_ssize_t)first_length,
+                         texts, (Py_ssize_t)w->texts_count);
+}
+
+/* What a call told: its status, and two bytes objects. The first is this, or the fault. What the call gave is given back. */
+static PyObject *told(whole *w, const void *first, size_t first_length) {
+    PyObject *result;
+    if (w->status == FIRTHNAPKIN_MEMORY)
+        result = PyErr_NoMemory();
+    else if (w->status == FIRTHNAPKIN_REFUSED || w->status == FIRTHNAPKIN_TOO_DEEP || w->status == FIRTHNAPKIN_MANY)
+        result = pair_of(w->status, &w->fault, sizeof w->fault, w);
+    else
+        result = pair_of(w->status, first, first_length, w);
+    give_back(w);
+    return result;
+}
+
+/* A number of tokens; the largest of 32 bits, which is no limit, stands for a larger one. */
+static uint32_t limit_of(unsigned long tokens) {
+    return tokens < UINT32_MAX ? (uint32_t)tokens : UINT32_MAX;
 }
 
 PyDoc_STRVAR(parse_doc, "parse(source, depth, tokens, /)\n--\n\n"
                         "The status, the bytes of the nodes or of the fault, and those of the texts or of its words.");
 
 static PyObject *parse(PyObject *module, PyObject *arguments) {
-    PyObject *source, *result;
+    PyObject *source;
     unsigned long depth, tokens;
     char *bytes;
     Py_ssize_t length;
@@ -23,21 +40,47 @@ static PyObject *parse(PyObject *module, PyObject *arguments) {
     if (!PyArg_ParseTuple(arguments, "Skk:parse", &source, &depth, &tokens)) return NULL;
     if (PyBytes_AsStringAndSize(source, &bytes, &length) != 0) return NULL;
     uint32_t limit = depth <= FIRTHNAPKIN_MOST_DEPTH ? (uint32_t)depth : UINT32_MAX;
-    uint32_t most = tokens < UINT32_MAX ? (uint32_t)tokens : UINT32_MAX;
     PyThreadState *state = PyEval_SaveThread();
-    whole w = parse_whole((const uint8_t *)bytes, (size_t)length, limit, most);
+    whole w = parse_whole((const uint8_t *)bytes, (size_t)length, limit, limit_of(tokens));
     PyEval_RestoreThread(state);
-    if (w.status == FIRTHNAPKIN_MEMORY)
-        result = PyErr_NoMemory();
-    else if (w.status == FIRTHNAPKIN_REFUSED || w.status == FIRTHNAPKIN_TOO_DEEP || w.status == FIRTHNAPKIN_MANY)
-        result = told(&w, &w.fault, sizeof w.fault);
-    else
-        result = told(&w, w.nodes, w.nodes_count * sizeof *w.nodes);
-    give_back(&w);
-    return result;
+    return told(&w, w.nodes, w.nodes_count * sizeof *w.nodes);
 }
 
-static PyMethodDef methods[] = {{"parse", parse, METH_VARARGS, parse_doc}, {NULL, NULL, 0, NULL}};
+PyDoc_STRVAR(tokens_doc, "tokens(source, tokens, /)\n--\n\n"
+                         "The status, the bytes of the tokens or of the fault, and those of its words.");
+
+static PyObject *tokens(PyObject *module, PyObject *arguments) {
+    PyObject *source;
+    unsigned long most;
+    char *bytes;
+    Py_ssize_t length;
+    (void)module;
+    if (!PyArg_ParseTuple(arguments, "Sk:tokens", &source, &most)) return NULL;
+    if (PyBytes_AsStringAndSize(source, &bytes, &length) != 0) return NULL;
+    PyThreadState *state = PyEval_SaveThread();
+    whole w = cut_whole((const uint8_t *)bytes, (size_t)length, limit_of(most));
+    PyEval_RestoreThread(state);
+    return told(&w, w.tokens, w.tokens_count * sizeof *w.tokens);
+}
+
+PyDoc_STRVAR(canonical_doc, "canonical(source, /)\n--\n\n"
+                            "The status, the bytes of the fault, and those of the canonical text or of the fault's words.");
+
+static PyObject *canonical(PyObject *module, PyObject *source) {
+    char *bytes;
+    Py_ssize_t length;
+    (void)module;
+    if (PyBytes_AsStringAndSize(source, &bytes, &length) != 0) return NULL;
+    PyThreadState *state = PyEval_SaveThread();
+    whole w = canonical_whole((const uint8_t *)bytes, (size_t)length);
+    PyEval_RestoreThread(state);
+    return told(&w, NULL, 0);
+}
+
+static PyMethodDef methods[] = {{"parse", parse, METH_VARARGS, parse_doc},
+                                {"tokens", tokens, METH_VARARGS, tokens_doc},
+                                {"canonical", canonical, METH_O, canonical_doc},
+                                {NULL, NULL, 0, NULL}};
 
 static int begin(PyObject *module) {
     return PyModule_AddIntConstant(module, "MOST_DEPTH", FIRTHNAPKIN_MOST_DEPTH) != 0

@@ -5,12 +5,11 @@ from __future__ import annotations
 import enum
 import struct
 from array import array
-from typing import Iterator, NamedTuple, Optional, Sequence, Tuple, Union, overload
+from typing import Iterator, Optional, Union
 
-__all__ = ["Document", "Kind", "Node", "Place"]
+from .parts import Part, Parts
 
-# kind, descendants, the start's and the end's index, line, column and byte, the name's bytes, value, value's length
-_NODE = struct.Struct("=2I8I2IqI4x")
+__all__ = ["Document", "Kind", "Node"]
 
 
 class Kind(enum.Enum):
@@ -65,29 +64,16 @@ _WITHOUT_NAME = frozenset(
 )
 
 
-class Place(NamedTuple):
-    """How many characters, line feeds, characters of the line, and bytes of UTF-8 stand before a place."""
-
-    index: int  # type: ignore[assignment]
-    line: int
-    column: int
-    byte: int
-
-
-class Node:
+class Node(Part):
     """A part of a document."""
 
-    __slots__ = ("_document", "index", "_told")
+    __slots__ = ()
 
-    def __init__(self, document: Document, index: int) -> None:
-        self._document = document
-        #: The place among the document's nodes.
-        self.index = index
-        self._told: Tuple[int, ...] = _NODE.unpack_from(document._nodes, _NODE.size * index)
+    _whole: Document
 
     @property
     def document(self) -> Document:
-        return self._document
+        return self._whole
 
     @property
     def kind(self) -> Kind:
@@ -99,26 +85,12 @@ class Node:
         return self._told[1]
 
     @property
-    def start(self) -> Place:
-        return Place(*self._told[2:6])
-
-    @property
-    def end(self) -> Place:
-        """The place behind the last character."""
-        return Place(*self._told[6:10])
-
-    @property
-    def text(self) -> str:
-        """What stands in the document from the start to the end: of a number how it is written."""
-        return self._document.text[self._told[2] : self._told[6]]
-
-    @property
     def name(self) -> Optional[str]:
         """The name, without `$` and `@`; of an inline fragment its type condition."""
         told = self._told
         if self.kind in _WITHOUT_NAME or told[10] == told[11]:
             return None
-        return self._document._source[told[10] : told[11]].decode()
+        return self._whole._source[told[10] : told[11]].decode()
 
     @property
     def value(self) -> Union[None, bool, int, float, str]:
@@ -136,9 +108,9 @@ class Node:
         if kind is Kind.FLOAT:
             return _float(self.text)
         if kind in (Kind.STRING, Kind.BLOCK_STRING, Kind.TYPE):
-            return self._document._texts[told[12] : told[12] + told[13]].decode()
+            return self._whole._texts[told[12] : told[12] + told[13]].decode()
         if kind is Kind.FRAGMENT:
-            return self._document._source[told[12] : told[12] + told[13]].decode()
+            return self._whole._source[told[12] : told[12] + told[13]].decode()
         if kind in (Kind.ENUM, Kind.REFERENCE):
             return self.name
         return None
@@ -146,22 +118,13 @@ class Node:
     @property
     def children(self) -> Iterator[Node]:
         """The nodes of the parts in this one that are in no other part in it."""
-        return self._document._siblings(self.index + 1, self.index + 1 + self.descendants)
+        return self._whole._siblings(self.index + 1, self.index + 1 + self.descendants)
 
     @property
     def parent(self) -> Optional[Node]:
         """The node of the part that this one is in; None of a definition."""
-        parent = self._document._parents()[self.index]
-        return None if parent < 0 else Node(self._document, parent)
-
-    def __eq__(self, other: object) -> bool:
-        """Whether both are the same node of one document."""
-        if not isinstance(other, Node):
-            return NotImplemented
-        return self._document is other._document and self.index == other.index
-
-    def __hash__(self) -> int:
-        return hash((id(self._document), self.index))
+        parent = self._whole._parents()[self.index]
+        return None if parent < 0 else Node(self._whole, parent)
 
     def __repr__(self) -> str:
         return f"<{self.kind.name} {self.text!r}>"
@@ -181,36 +144,21 @@ def _float(text: str) -> float:
     return number
 
 
-class Document(Sequence[Node]):
+class Document(Parts[Node]):
     """A document's nodes, each part before the parts in it. A node object is made each time that one is asked for."""
 
-    __slots__ = ("text", "_source", "_nodes", "_count", "_texts", "_parent")
+    __slots__ = ("_source", "_texts", "_parent")
+
+    # kind, descendants, the start's and the end's index, line, column and byte, the name's bytes, value, value's length
+    _LAYOUT = struct.Struct("=2I8I2IqI4x")
 
     def __init__(self, text: str, source: bytes, nodes: bytes, texts: bytes) -> None:
-        #: The source.
-        self.text = text
+        super().__init__(text, nodes)
         self._source = source
-        self._nodes = nodes
-        self._count = len(nodes) // _NODE.size
         self._texts = texts
         self._parent: Optional[array[int]] = None
 
-    def __len__(self) -> int:
-        return self._count
-
-    @overload
-    def __getitem__(self, index: int) -> Node: ...
-
-    @overload
-    def __getitem__(self, index: slice) -> Sequence[Node]: ...
-
-    def __getitem__(self, index: Union[int, slice]) -> Union[Node, Sequence[Node]]:
-        if isinstance(index, slice):
-            return [Node(self, i) for i in range(*index.indices(self._count))]
-        if index < 0:
-            index += self._count
-        if not 0 <= index < self._count:
-            raise IndexError("node index out of range")
+    def _part(self, index: int) -> Node:
         return Node(self, index)
 
     @property
@@ -228,7 +176,7 @@ class Document(Sequence[Node]):
         """The index of each node's parent, and -1 of a definition: found when one is asked for first."""
         if self._parent is None:
             parents, around = array("q"), [(-1, self._count)]
-            for index, (_, descendants, *_rest) in enumerate(_NODE.iter_unpack(self._nodes)):
+            for index, (_, descendants, *_rest) in enumerate(self._LAYOUT.iter_unpack(self._parts)):
                 while around[-1][1] == index:
                     around.pop()
                 parents.append(around[-1][0])

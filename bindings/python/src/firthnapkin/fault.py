@@ -6,7 +6,7 @@ import enum
 import re
 from typing import Any, List, Optional, Tuple
 
-from .document import Place
+from .parts import Place
 
 __all__ = ["Detail", "Fault", "Reason"]
 

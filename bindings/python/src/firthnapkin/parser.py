@@ -1,18 +1,20 @@
-"""The call of the parser."""
+"""The call of the parser, and what the package's calls share."""
 
 from __future__ import annotations
 
 import operator
 import struct
-from typing import Optional
+from typing import Optional, Tuple
 
 from . import _parser
-from .document import Document, Place
+from .document import Document
 from .fault import Detail, Fault, Reason
+from .parts import Place
 
 __all__ = ["parse"]
 
-_TREE, _REFUSED, _TOO_DEEP, _TOO_LONG, _MANY = 0, 1, 5, 7, 9
+# Of each call 0 says that it gives what it is asked for.
+_GIVEN, _REFUSED, _TOO_DEEP, _TOO_LONG, _MANY = 0, 1, 5, 7, 9
 
 # kind, detail, character, and the places
 _FAULT = struct.Struct("=3I8I")
@@ -28,24 +30,16 @@ def parse(source: str, *, depth: int = 200, max_tokens: Optional[int] = None) ->
     TypeError where the source is no str, the depth no int, or max_tokens neither an int nor None; ValueError where the depth
     is below 0 or above MOST_DEPTH, max_tokens is below 0, or the text has 4 GiB or more; MemoryError where memory ran out.
     """
+    require_text(source)
+    limit, most = limit_of(depth), most_of(max_tokens)
+    written = encoded(source)
+    nodes, texts = given(source, *_parser.parse(written, limit, most))
+    return Document(source, written, nodes, texts)
+
+
+def require_text(source: str) -> None:
     if not isinstance(source, str):
         raise TypeError(f"source must be a str, not {type(source).__name__}")
-    limit = limit_of(depth)
-    most = _parser.MOST_TOKENS if max_tokens is None else _number("max_tokens", max_tokens)
-    if most < 0:
-        raise ValueError("max_tokens must not be below 0")
-    try:
-        written = str.encode(source)
-    except UnicodeEncodeError as error:
-        raise _surrogate(source, error.start) from None
-    status, first, texts = _parser.parse(written, limit, min(most, _parser.MOST_TOKENS))
-    if status == _TREE:
-        return Document(source, written, first, texts)
-    if status in (_REFUSED, _TOO_DEEP, _MANY):
-        raise _fault(source, first, texts)
-    if status == _TOO_LONG:
-        raise ValueError("source must have less than 4 GiB")
-    raise SystemError(f"the parser answered {status}")
 
 
 def limit_of(depth: int) -> int:
@@ -56,11 +50,38 @@ def limit_of(depth: int) -> int:
     return limit
 
 
+def most_of(max_tokens: Optional[int]) -> int:
+    """The number that a limit on tokens is, if it is one that is taken; none of them is above MOST_TOKENS."""
+    most = _parser.MOST_TOKENS if max_tokens is None else _number("max_tokens", max_tokens)
+    if most < 0:
+        raise ValueError("max_tokens must not be below 0")
+    return min(most, _parser.MOST_TOKENS)
+
+
 def _number(name: str, value: int) -> int:
     try:
         return operator.index(value)
     except TypeError:
         raise TypeError(f"{name} must be an int, not {type(value).__name__}") from None
+
+
+def encoded(source: str) -> bytes:
+    """The bytes of a text, if it is one."""
+    try:
+        return str.encode(source)
+    except UnicodeEncodeError as error:
+        raise _surrogate(source, error.start) from None
+
+
+def given(source: str, status: int, first: bytes, texts: bytes) -> Tuple[bytes, bytes]:
+    """What a call gives, if it gives what it is asked for."""
+    if status == _GIVEN:
+        return first, texts
+    if status in (_REFUSED, _TOO_DEEP, _MANY):
+        raise _fault(source, first, texts)
+    if status == _TOO_LONG:
+        raise ValueError("source must have less than 4 GiB")
+    raise SystemError(f"the parser answered {status}")
 
 
 def _fault(source: str, told: bytes, words: bytes) -> Fault:

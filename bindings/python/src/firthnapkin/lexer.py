@@ -1,0 +1,110 @@
+"""The tokens of a text, and its canonical text."""
+
+from __future__ import annotations
+
+import enum
+import struct
+from typing import Optional
+
+from . import _parser
+from .parser import encoded, given, most_of, require_text
+from .parts import Part, Parts
+
+__all__ = ["Token", "TokenKind", "Tokens", "canonical", "tokens"]
+
+
+class TokenKind(enum.Enum):
+    """What a token is."""
+
+    #: A name or a word of the language.
+    NAME = 0
+    #: A text between quotes.
+    STRING = 1
+    #: A text between three quotes on each side.
+    BLOCK_STRING = 2
+    #: A number with a fraction or an exponent.
+    FLOAT = 3
+    #: A number without either.
+    INT = 4
+    EXCLAMATION_MARK = 5
+    DOLLAR = 6
+    PAREN_OPEN = 7
+    PAREN_CLOSE = 8
+    BRACKET_OPEN = 9
+    BRACKET_CLOSE = 10
+    CURLY_OPEN = 11
+    CURLY_CLOSE = 12
+    ELLIPSIS = 13
+    COLON = 14
+    EQUALS = 15
+    AT = 16
+    PIPE = 17
+    #: The end of the text.
+    END_OF_FILE = 18
+
+
+_KINDS = {kind.value: kind for kind in TokenKind}
+
+
+class Token(Part):
+    """A token of a text. The end has no characters."""
+
+    __slots__ = ()
+
+    @property
+    def kind(self) -> TokenKind:
+        return _KINDS[self._told[0]]
+
+    @property
+    def unquoted(self) -> str:
+        """The text without the quotes of a string: escapes and lines are as they are written."""
+        quotes = self._told[1]
+        return self._whole.text[self._told[2] + quotes : self._told[6] - quotes]
+
+    def __repr__(self) -> str:
+        return f"<{self.kind.name} {self.text!r}>"
+
+
+class Tokens(Parts[Token]):
+    """A text's tokens, the last of which is its end. A token object is made each time that one is asked for."""
+
+    __slots__ = ()
+
+    # kind, quotes, and the start's and the end's index, line, column and byte
+    _LAYOUT = struct.Struct("=2I8I")
+
+    def _part(self, index: int) -> Token:
+        return Token(self, index)
+
+    def __repr__(self) -> str:
+        return f"<{self._count} tokens>"
+
+
+def tokens(source: str, *, max_tokens: Optional[int] = None) -> Tokens:
+    """The tokens of a text, the last of which is its end. Other threads go on meanwhile.
+
+    White space, line ends, commas, comments and byte order marks are none. With `max_tokens` the text may have no more tokens
+    than that, its end not counted; one with more is refused at the first token too many, whatever stands behind.
+
+    Raises Fault, a ValueError, at the first place where no token is, or at the first token too many; TypeError where the source
+    is no str, or max_tokens neither an int nor None; ValueError where max_tokens is below 0, or the text has 4 GiB or more;
+    MemoryError where memory ran out.
+    """
+    require_text(source)
+    most = most_of(max_tokens)
+    told, _ = given(source, *_parser.tokens(encoded(source), most))
+    return Tokens(source, told)
+
+
+def canonical(source: str) -> str:
+    """The canonical text of a text: one for each query, whatever its white space and comments. Other threads go on meanwhile.
+
+    It is the tokens of the text as they are written, with a space between two neighbours of which neither is a punctuator, and
+    before `...` behind one that is none; it is never more than twice as long. Whether it is a document is not looked at.
+
+    Raises Fault, a ValueError, at the first place where no token is; TypeError where the source is no str; ValueError where the
+    text has 4 GiB or more; MemoryError where memory ran out.
+    """
+    require_text(source)
+    _, text = given(source, *_parser.canonical(encoded(source)))
+    return text.decode()

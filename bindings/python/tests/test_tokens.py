@@ -1,0 +1,323 @@
+"""What a text is cut into, and its canonical text."""
+
+import copy
+import os
+import pickle
+import subprocess
+import sys
+import threading
+import time
+import unittest
+from typing import Any, Callable, List
+from unittest import mock
+
+import firthnapkin
+from firthnapkin import Detail, Fault, Place, Reason, Token, TokenKind, canonical, tokens
+
+K = TokenKind
+WHOLE = '#é\n{a(b:"é𝄞\\"" c:""" \n𝄞"""),...F} -1 0.5 [!$@=:|]'
+
+
+def place(text: str, index: int) -> Place:
+    before = text[:index]
+    return Place(index, before.count("\n"), index - (before.rfind("\n") + 1), len(before.encode()))
+
+
+def fault_of(call: Callable[..., Any], text: str, **options: Any) -> Fault:
+    try:
+        call(text, **options)
+    except Fault as fault:
+        return fault
+    raise AssertionError(f"{text!r} is not refused")
+
+
+class Cut(unittest.TestCase):
+    def test_tokens(self) -> None:
+        """Each kind, with its text, with and without quotes, and both places."""
+        wanted = [
+            (K.CURLY_OPEN, "{", "{"), (K.NAME, "a", "a"), (K.PAREN_OPEN, "(", "("), (K.NAME, "b", "b"), (K.COLON, ":", ":"),
+            (K.STRING, '"é𝄞\\""', 'é𝄞\\"'), (K.NAME, "c", "c"), (K.COLON, ":", ":"), (K.BLOCK_STRING, '""" \n𝄞"""', " \n𝄞"),
+            (K.PAREN_CLOSE, ")", ")"), (K.ELLIPSIS, "...", "..."), (K.NAME, "F", "F"), (K.CURLY_CLOSE, "}", "}"),
+            (K.INT, "-1", "-1"), (K.FLOAT, "0.5", "0.5"), (K.BRACKET_OPEN, "[", "["), (K.EXCLAMATION_MARK, "!", "!"),
+            (K.DOLLAR, "$", "$"), (K.AT, "@", "@"), (K.EQUALS, "=", "="), (K.COLON, ":", ":"), (K.PIPE, "|", "|"),
+            (K.BRACKET_CLOSE, "]", "]"), (K.END_OF_FILE, "", ""),
+        ]  # fmt: skip
+        found = tokens(WHOLE)
+        self.assertEqual([(it.kind, it.text, it.unquoted) for it in found], wanted)
+        at = 0
+        for token, (_, text, _) in zip(found, wanted):
+            at = WHOLE.index(text, at) if text else len(WHOLE)
+            self.assertEqual((token.start, token.end), (place(WHOLE, at), place(WHOLE, at + len(text))))
+            at += len(text)
+        self.assertEqual({it.kind for it in found}, set(TokenKind))
+
+    def test_sequence(self) -> None:
+        found = tokens("{ a b }")
+        self.assertEqual((len(found), found.text), (5, "{ a b }"))
+        self.assertEqual([it.text for it in found[1:3]], ["a", "b"])
+        self.assertEqual((found[-1].kind, found[-5].text, found[2].index), (K.END_OF_FILE, "{", 2))
+        for index in (5, -6, 2**70, -(2**70)):
+            self.assertRaises(IndexError, lambda: found[index])
+        self.assertRaises(TypeError, lambda: found["a"])  # type: ignore[call-overload]
+        self.assertEqual(found[1], found[1])
+        self.assertEqual(hash(found[1]), hash(found[1]))
+        self.assertNotEqual(found[1], found[2])
+        self.assertNotEqual(found[1], tokens("{ a b }")[1])
+        self.assertNotEqual(found[1], "a")
+        self.assertEqual((repr(found), repr(found[1])), ("<5 tokens>", "<NAME 'a'>"))
+        self.assertIsInstance(found[0], Token)
+
+    def test_copies(self) -> None:
+        found = tokens(WHOLE)
+        for other in (copy.copy(found), copy.deepcopy(found), pickle.loads(pickle.dumps(found))):
+            self.assertEqual([(it.kind, it.text, it.end) for it in other], [(it.kind, it.text, it.end) for it in found])
+        token = pickle.loads(pickle.dumps(found[5]))
+        self.assertEqual((token.index, token.kind, token.unquoted), (5, K.STRING, 'é𝄞\\"'))
+
+    def test_rooms(self) -> None:
+        """Numbers of tokens about the rooms that are tried, and many."""
+        for count in (*range(0, 70), 5000, 300000):
+            for part in ("a ", "!"):
+                text = part * count
+                found = tokens(text)
+                self.assertEqual((len(found), found[-1].start.byte), (count + 1, len(text)))
+                if count:
+                    self.assertEqual(found[-2].start.index, len(text) - len(part))
+
+    def test_not_a_document(self) -> None:
+        """Whether the tokens are a document is not looked at, nor how deep brackets are nested."""
+        self.assertEqual([it.text for it in tokens(") type {")], [")", "type", "{", ""])
+        self.assertEqual(len(tokens("{" * 100000)), 100001)
+
+
+class Canonical(unittest.TestCase):
+    def test_texts(self) -> None:
+        for text, wanted in [
+            ("", ""),
+            (" # all\n,", ""),
+            ('{ a, b(c: "d") } # all', '{a b(c:"d")}'),
+            ("\ufeffquery Q ($v : [ T ! ] = 1) { a ... on T { b } ...F }", "query Q($v:[T!]=1){a ...on T{b}...F}"),
+            ('{a(b: "é  ,#" , c: """\n # 𝄞\n""")}', '{a(b:"é  ,#" c:"""\n # 𝄞\n""")}'),
+            (") } type", ")}type"),
+            ("a\r\nb\tc", "a b c"),
+        ]:
+            with self.subTest(text=text):
+                self.assertEqual(canonical(text), wanted)
+                self.assertEqual(canonical(wanted), wanted)
+
+    def test_longer_than_the_text(self) -> None:
+        """As many spaces as there are seams: the first room is too short."""
+        for count in (*range(1, 40), 5000, 100000):
+            text = '1a""' * count
+            self.assertEqual(canonical(text), " ".join(["1", "a", '""'] * count))
+
+
+class Faults(unittest.TestCase):
+    def test_faults(self) -> None:
+        """Of both calls the first place where no token is, with its words: parse has the same fault."""
+        for text, detail, character, index, message in [
+            ("?", Detail.UNKNOWN_CHARACTER, "?", 0, 'Unknown character "?"'),
+            ("} é ?", Detail.UNKNOWN_CHARACTER, "é", 2, 'Unknown character "é"'),
+            ("{a\0}", Detail.UNKNOWN_CHARACTER, "\0", 2, 'Unknown character "\0"'),
+            ("a\n01", Detail.UNEXPECTED_CHARACTER, "1", 3, 'Unexpected character "1"'),
+            ('{{{ "é', Detail.UNTERMINATED_STRING, None, 6, "Unterminated string literal"),
+            ('"\x01"', Detail.UNKNOWN_CHARACTER_IN_STRING, "\x01", 1, 'Unknown character "\x01" in string literal'),
+            ('"\\u00g"', Detail.UNKNOWN_ESCAPE, None, 2, 'Unknown escape sequence "\\u00g" in string'),
+            ("# é\n-", Detail.UNEXPECTED_END_IN_TOKEN, None, 5, "Unexpected end of input"),
+            ("{" * 5000 + "?", Detail.UNKNOWN_CHARACTER, "?", 5000, 'Unknown character "?"'),
+        ]:
+            for call in (tokens, canonical, firthnapkin.parse):
+                with self.subTest(text=text[:20], call=call.__name__):
+                    fault = fault_of(call, text)
+                    self.assertEqual((fault.reason, fault.detail, fault.character), (Reason.LEXICAL, detail, character))
+                    self.assertEqual((fault.start, fault.end), (place(text, index), place(text, index)))
+                    self.assertEqual((fault.message, fault.source), (message, text))
+                    self.assertEqual(str(fault), f"{message}. At {fault.start.line}:{fault.start.column}")
+
+    def test_long_words(self) -> None:
+        for length in (1, 200, 255, 256, 257, 5000):
+            text = "a" * length + '"\\' + "é"
+            for call in (tokens, canonical):
+                self.assertEqual(fault_of(call, text).message, 'Unknown escape sequence "\\é" in string')
+
+    def test_every_limit(self) -> None:
+        count = len(tokens(WHOLE)) - 1
+        for most in (None, count, count + 1, 2**32 - 2, 2**32 - 1, 2**32, 2**32 + 5, 2**64 + 5, 10**30):
+            self.assertEqual(len(tokens(WHOLE, max_tokens=most)), count + 1)
+        for most, token in enumerate(tokens(WHOLE)[:-1]):
+            fault = fault_of(tokens, WHOLE, max_tokens=most)
+            self.assertEqual((fault.reason, fault.detail, fault.message), (Reason.TOO_MANY, Detail.NO_DETAIL, "Too many tokens"))
+            self.assertEqual((fault.start, fault.end, fault.source), (token.start, token.end, WHOLE))
+            parsed = fault_of(firthnapkin.parse, WHOLE, max_tokens=most)
+            self.assertEqual((parsed.start, parsed.end, str(parsed)), (fault.start, fault.end, str(fault)))
+
+    def test_order(self) -> None:
+        """What stands behind the first token too many is not looked at, and none stands behind a lexical error."""
+        for text, most, reason in [
+            ('{ a "', 1, Reason.TOO_MANY),
+            ('{ a "', 2, Reason.LEXICAL),
+            ("? a b", 0, Reason.LEXICAL),
+            ("a b \ud800", 0, Reason.SURROGATE),
+        ]:
+            self.assertIs(fault_of(tokens, text, max_tokens=most).reason, reason)
+        self.assertEqual(len(tokens(" # no token", max_tokens=0)), 1)
+
+    def test_lone_surrogates(self) -> None:
+        for call in (tokens, canonical):
+            fault = fault_of(call, "{é\n \udfff }")
+            self.assertEqual((fault.reason, fault.message), (Reason.SURROGATE, "Lone surrogate U+DFFF"))
+            self.assertEqual((fault.start, fault.end), (Place(4, 1, 1, 5), Place(5, 1, 2, 8)))
+
+
+class Arguments(unittest.TestCase):
+    def test_wrong_kinds(self) -> None:
+        for source in (None, b"{a}", bytearray(b"{a}"), b"\xff{", 5, 1.5, ["{a}"], object()):
+            for call in (tokens, canonical):
+                with self.subTest(source=source, call=call.__name__), self.assertRaises(TypeError) as raised:
+                    call(source)  # type: ignore[operator]
+                self.assertIn("source", str(raised.exception))
+        for most in (1.0, float("nan"), "5", b"5", [], object()):
+            with self.assertRaises(TypeError) as raised:
+                tokens("{a}", max_tokens=most)  # type: ignore[arg-type]
+            self.assertIn("max_tokens", str(raised.exception))
+        for most in (-1, -(2**63), -(10**30)):
+            with self.assertRaises(ValueError) as raised_value:
+                tokens("\ud800", max_tokens=most)
+            self.assertNotIsInstance(raised_value.exception, Fault)
+            self.assertIn("max_tokens", str(raised_value.exception))
+        self.assertRaises(TypeError, tokens, "{a}", 5)
+        self.assertRaises(TypeError, tokens)
+        self.assertRaises(TypeError, canonical, "{a}", 5)
+        self.assertRaises(TypeError, canonical)
+
+    def test_kinds_of_str(self) -> None:
+        class Text(str):
+            def encode(self, *_: Any) -> bytes:
+                return b"\xff"
+
+        self.assertEqual([it.text for it in tokens(Text("{a}"))], ["{", "a", "}", ""])
+        self.assertEqual(canonical(Text("{ a }")), "{a}")
+
+    def test_64_megabytes(self) -> None:
+        text = ("a" * 63 + " ") * 2**20
+        found = tokens(text)
+        self.assertEqual((len(found), found[-1].end.byte), (2**20 + 1, 2**26))
+        self.assertEqual(canonical(text), text[:-1])
+        for call in (tokens, canonical):
+            self.assertEqual(fault_of(call, '"' + "é" * 2**25).start, Place(2**25 + 1, 0, 2**25 + 1, 2**26 + 1))
+        self.assertEqual(fault_of(tokens, "!" * 2**26, max_tokens=2**22).start.index, 2**22)
+
+    def test_statuses(self) -> None:
+        """What each answer of the library is told as."""
+        for status, error in ((7, ValueError), (2, SystemError), (3, SystemError), (6, SystemError), (8, SystemError)):
+            for name, call in (("tokens", tokens), ("canonical", canonical)):
+                with mock.patch.object(firthnapkin._parser, name, return_value=(status, b"", b"")):
+                    with self.subTest(status=status, name=name), self.assertRaises(error) as raised:
+                        call("{a}")
+                    self.assertNotIsInstance(raised.exception, Fault)
+                    self.assertIn("4 GiB" if status == 7 else str(status), str(raised.exception))
+
+    def test_the_extension_alone(self) -> None:
+        """It takes no argument as it comes, either."""
+        extension = firthnapkin._parser
+        for most in (2, 2**32 - 1, 2**32 + 5, 2**64 - 1):
+            self.assertEqual(extension.tokens(b"\xff", most)[0], 2)
+            self.assertEqual(len(extension.tokens(b"a b", most)[1]), 3 * 40)
+        self.assertEqual(extension.canonical(b"\xff"), (2, b"", b""))
+        self.assertEqual(extension.canonical(b" a "), (0, b"", b"a"))
+        for arguments in ((), ("a", 5), (None, 5), (b"a", None), (b"a", 1.5), (b"a", 5, 5), (bytearray(b"a"), 5), (b"a",)):
+            self.assertRaises(TypeError, extension.tokens, *arguments)
+        for arguments in ((), ("a",), (None,), (b"a", 5), (bytearray(b"a"),)):
+            self.assertRaises(TypeError, extension.canonical, *arguments)
+
+
+class Processes(unittest.TestCase):
+    def written(self, program: str) -> bytes:
+        here = os.path.dirname(os.path.abspath(__file__))
+        found = subprocess.run([sys.executable, "-c", program], cwd=here, capture_output=True, check=False)
+        self.assertEqual(found.returncode, 0, found.stderr)
+        return found.stdout
+
+    def test_memory(self) -> None:
+        """Where memory runs out the process goes on."""
+        for call in ("tokens(source, 2**32 - 1)", "canonical(source)"):
+            program = (
+                "import resource, firthnapkin\n"
+                "source = b'a ' * 2**24\n"
+                "taken = int(open('/proc/self/statm').read().split()[0]) * resource.getpagesize()\n"
+                "resource.setrlimit(resource.RLIMIT_AS, (taken + 2**24, resource.RLIM_INFINITY))\n"
+                f"try: firthnapkin._parser.{call}\n"
+                "except MemoryError: print('memory', len(firthnapkin.tokens('{a}')), firthnapkin.canonical('a  b'))\n"
+            )
+            self.assertEqual(self.written(program), b"memory 4 a b\n")
+
+    def test_small_stacks(self) -> None:
+        """Threads with the least stack that there is."""
+        found: List[Any] = []
+
+        def work() -> None:
+            found.extend((len(tokens("{a" * 100000)), canonical("{ a " * 5), fault_of(canonical, "{" * 9 + "?").column))
+
+        before = threading.stack_size(64 * 1024)
+        try:
+            thread = threading.Thread(target=work)
+            thread.start()
+            thread.join()
+        finally:
+            threading.stack_size(before)
+        self.assertEqual(found, [200001, "{a{a{a{a{a", 9])
+
+    def test_threads(self) -> None:
+        wanted = [(it.kind, it.text, it.end) for it in tokens(WHOLE * 50)], canonical(WHOLE * 50)
+        found: List[bool] = []
+
+        def work() -> None:
+            for _ in range(10):
+                found.append(([(it.kind, it.text, it.end) for it in tokens(WHOLE * 50)], canonical(WHOLE * 50)) == wanted)
+
+        threads = [threading.Thread(target=work) for _ in range(4)]
+        for thread in threads:
+            thread.start()
+        for thread in threads:
+            thread.join()
+        self.assertEqual(found, [True] * 40)
+
+    def test_other_threads_go_on(self) -> None:
+        """While a long text is cut, another thread never waits for as long as half of that."""
+        text = ("a" * 60 + " #" + "é" * 60 + "\n").encode() * 200000
+        for call in (lambda: firthnapkin._parser.tokens(text, 2**32 - 1), lambda: firthnapkin._parser.canonical(text)):
+            times: List[float] = []
+            is_done = threading.Event()
+
+            def count() -> None:
+                while not is_done.is_set():
+                    times.append(time.monotonic())
+                    time.sleep(0.001)
+
+            thread = threading.Thread(target=count)
+            thread.start()
+            begin = time.monotonic()
+            call()
+            end = time.monotonic()
+            is_done.set()
+            thread.join()
+            within = [begin, *(moment for moment in times if begin < moment < end), end]
+            self.assertLess(max(b - a for a, b in zip(within, within[1:])), (end - begin) / 2)
+
+    def test_nothing_is_kept(self) -> None:
+        """What a call takes from the system is given back."""
+        program = (
+            "import firthnapkin\n"
+            "texts = ['a ' * 50000, '1a\"\"' * 20000, 'a ' * 50000 + '?']\n"
+            "def taken(): return int(open('/proc/self/statm').read().split()[1])\n"
+            "def work():\n"
+            "    for text in texts:\n"
+            "        for call, options in ((firthnapkin.tokens, {}), (firthnapkin.tokens, {'max_tokens': 3}), (firthnapkin.canonical, {})):\n"
+            "            try: call(text, **options)\n"
+            "            except firthnapkin.Fault: pass\n"
+            "for _ in range(20): work()\n"
+            "before = taken()\n"
+            "for _ in range(100): work()\n"
+            "print(taken() - before < 2000)\n"
+        )
+        self.assertEqual(self.written(program), b"True\n")

@@ -1,0 +1,14 @@
+use Rattle.std.proofs.Common.{ap, arith, length}
+use Rattle.juniper_c.proofs.CanonicalTexts.{canonical_within}
+use Rattle.juniper_c.proofs.canonical.firthnapkin_canonical.Goals as goal
+
+pub returns-in-Text-clause-bounds : goal.returns-in-Text-clause-bounds
+returns-in-Text-clause-bounds c =
+    let found = c.in-Text.ensures.1 in
+    omega (
+      arith,
+      canonical_within c.args.source.now found.0 found.1,
+      ap length found.2,
+      ap length c.as_bytes.ensures.value,
+      c.fill.ensures.count,
+    )

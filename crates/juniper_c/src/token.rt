@@ -1,0 +1,87 @@
+//! Tokens, as C is told them.
+ghost use Rattle.std.specs.Prelude.{◌≡◌, ℕ, List};
+ghost use Rattle.juniper_tokens.specs.Spans.{view_span};
+ghost use Rattle.juniper_c.specs.ByteTables.{IsTableOf};
+ghost use Rattle.juniper_c.specs.FlatWriters.{SpanFits};
+ghost use Rattle.juniper_c.specs.Tokens.{kind_number, quote_count, token_at};
+
+use crate::byte_table::ByteTable;
+use crate::place::{Place, place_at};
+use juniper::Span;
+use juniper_tokens::Kind;
+
+/// A token of a source.
+#[repr(C)]
+#[derive(Clone, Copy)]
+pub struct Token {
+    /// A number for each `Kind`, in their order.
+    pub kind: u32,
+    /// How many quotes stand on each side of its text.
+    pub quotes: u32,
+    pub start: Place,
+    pub end: Place,
+}
+
+/// The token of this kind that stands there.
+pub(crate) fn token_at(table: &ByteTable, kind: Kind, span: &Span) -> Token
+    ensures { (source : List ℕ) → IsTableOf source table.now → SpanFits (view_span span.now) → result ≡ token_at source kind (view_span span.now) }
+{
+    Token {
+        kind: kind_number(kind),
+        quotes: quote_count(kind),
+        start: place_at(table, span.start),
+        end: place_at(table, span.end),
+    }
+}
+
+fn kind_number(kind: Kind) -> u32
+    ensures { result ≡ kind_number kind }
+{
+    match kind {
+        Kind::Name => 0,
+        Kind::String => 1,
+        Kind::BlockString => 2,
+        Kind::Float => 3,
+        Kind::Int => 4,
+        Kind::ExclamationMark => 5,
+        Kind::Dollar => 6,
+        Kind::ParenOpen => 7,
+        Kind::ParenClose => 8,
+        Kind::BracketOpen => 9,
+        Kind::BracketClose => 10,
+        Kind::CurlyOpen => 11,
+        Kind::CurlyClose => 12,
+        Kind::Ellipsis => 13,
+        Kind::Colon => 14,
+        Kind::Equals => 15,
+        Kind::At => 16,
+        Kind::Pipe => 17,
+        Kind::EndOfFile => 18,
+    }
+}
+
+fn quote_count(kind: Kind) -> u32
+    ensures { result ≡ quote_count kind }
+{
+    match kind {
+        Kind::String => 1,
+        Kind::BlockString => 3,
+        Kind::Name
+        | Kind::Float
+        | Kind::Int
+        | Kind::ExclamationMark
+        | Kind::Dollar
+        | Kind::ParenOpen
+        | Kind::ParenClose
+        | Kind::BracketOpen
+        | Kind::BracketClose
+        | Kind::CurlyOpen
+        | Kind::CurlyClose
+        | Kind::Ellipsis
+        | Kind::Colon
+        | Kind::Equals
+        | Kind::At
+        | Kind::Pipe
+        | Kind::EndOfFile => 0,
+    }
+}

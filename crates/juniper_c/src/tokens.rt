@@ -1,0 +1,147 @@
+//! A source's tokens, in the caller's memory.
+ghost use Rattle.std.specs.Prelude.{◌≡◌, ◌≢◌, ◌<◌, ◌≤◌, ◌+◌, ◌^◌, ◌⊎◌, ◌↔◌, ℕ, List, length, IsUtf8};
+ghost use Rattle.std.specs.Str.{chars};
+ghost use Rattle.graphql_lexical.specs.Place as places;
+ghost use Rattle.graphql_lexical.specs.Kinds.{LexicalError};
+ghost use Rattle.graphql_lexical.specs.Cutting.{Lexeme, Leads, Stands, Breaks};
+ghost use Rattle.juniper.specs.Promise.{lexical_fault};
+ghost use Rattle.juniper_c.specs.Faults.{told_fault, many_fault};
+ghost use Rattle.juniper_c.specs.Answers.{Begins, Fills};
+ghost use Rattle.juniper_c.specs.TokenCounts.{HasMore};
+ghost use Rattle.juniper_c.specs.Tokens.{told_tokens, TellsText, HasTokens, HasFaultBehind, IsTokensStatus};
+ghost use Rattle.juniper_c.specs.CutTokens.{AnswersTokens};
+
+use crate::byte_table::ByteTable;
+use crate::fault::{Fault, lexical_fault, many_fault};
+use crate::room::put;
+use crate::source::{Unread, text_of};
+use crate::status::{MANY, MEMORY, NOT_UTF8, REFUSED, ROOM, TOKENS, TOO_LONG};
+use crate::step::{Step, next_step};
+use crate::token::{Token, token_at};
+use juniper_tokens::{Kind, Lexer};
+use std::alloc::Global;
+
+/// Writes the tokens of a source into the caller's room, its end among them, or where it has a lexical error or more tokens
+/// than that.
+#[unsafe(no_mangle)]
+pub extern "C" fn firthnapkin_tokens(
+    alloc: Global,
+    source: &[u8],
+    most: u32,
+    tokens: &mut [Token],
+    tokens_needed: &mut usize,
+    fault: &mut Fault,
+) -> u32
+    ensures statuses { IsTokensStatus result }
+
+    // The room begins with the source's tokens, the last of them the end.
+    ensures tokens { result ≡ TOKENS → (lexemes : List Lexeme) × HasTokens source.now lexemes × (length lexemes ≤ most + 1)
+        × Begins (told_tokens (chars source.now) lexemes) tokens.old tokens.new × (tokens_needed.new ≡ length lexemes) }
+
+    // It is full of them, and has not the room for all.
+    ensures room { result ≡ ROOM → (lexemes : List Lexeme) × HasTokens source.now lexemes × (length lexemes ≤ most + 1)
+        × (length tokens.old < length lexemes)
+        × Fills (told_tokens (chars source.now) lexemes) tokens.old tokens.new × (tokens_needed.new ≡ length lexemes) }
+
+    // It begins with the tokens before the source's first lexical error, as many as it has room for.
+    ensures refused { result ≡ REFUSED → (before : List Lexeme) × (error : LexicalError) × (at : places.Place)
+        × HasFaultBehind source.now before error at × (length before ≤ most)
+        × Fills (told_tokens (chars source.now) before) tokens.old tokens.new × (tokens_needed.new ≡ length before)
+        × Breaks (chars source.now) error at × (fault.new ≡ told_fault (chars source.now) (lexical_fault error at)) }
+
+    // It begins with the tokens before the first that is one too many, as many as it has room for.
+    ensures many { result ≡ MANY → IsUtf8 source.now × ((span : places.Span) × (more : HasMore (chars source.now) 0 most span)
+        × Fills (told_tokens (chars source.now) more.front) tokens.old tokens.new × (tokens_needed.new ≡ most)
+        × (fault.new ≡ many_fault (chars source.now) span)) }
+
+    // It may begin with some of the source's first tokens.
+    ensures memory { result ≡ MEMORY → IsUtf8 source.now × ((some : List Lexeme) × (next : ℕ)
+        × Leads (chars source.now) 0 some next × Fills (told_tokens (chars source.now) some) tokens.old tokens.new) }
+    ensures no_text { result ≡ NOT_UTF8 → ¬ IsUtf8 source.now }
+    ensures too_long { result ≡ TOO_LONG ↔ 2 ^ 32 ≤ length source.now }
+
+    // So a room of one token more than the source has bytes is never too short.
+    ensures bounds { tokens_needed.new ≤ length source.now + 1 }
+
+    // A token that stands in the source is told with the bytes of its text.
+    ensures texts { IsUtf8 source.now → (k : ℕ) (x : Lexeme) (next : ℕ) → k ≤ length (chars source.now)
+        → Stands (chars source.now) k x next → TellsText source.now x }
+
+    // What is kept.
+    ensures room_kept { (result ≡ NOT_UTF8) ⊎ (result ≡ TOO_LONG) → tokens.new ≡ tokens.old }
+    ensures no_count { (result ≡ NOT_UTF8) ⊎ ((result ≡ TOO_LONG) ⊎ (result ≡ MEMORY)) → tokens_needed.new ≡ 0 }
+    ensures fault_kept { result ≢ REFUSED → result ≢ MANY → fault.new ≡ fault.old }
+{
+    *tokens_needed = 0;
+    match tokens_of(alloc, source, most, tokens) {
+        Told::Tokens(count) => {
+            *tokens_needed = count;
+            if count <= tokens.len() { TOKENS } else { ROOM }
+        }
+        Told::Refused(count, found) => {
+            *tokens_needed = count;
+            *fault = found;
+            REFUSED
+        }
+        Told::Many(found) => {
+            *tokens_needed = most as usize;
+            *fault = found;
+            MANY
+        }
+        Told::NotUtf8 => NOT_UTF8,
+        Told::Memory => MEMORY,
+        Told::TooLong => TOO_LONG,
+    }
+}
+
+// What has been put into the room: so many tokens, the end among them, or those before a fault.
+#[derive(Clone, Copy)]
+enum Told {
+    Tokens(usize),
+    Refused(usize, Fault),
+    Many(Fault),
+    NotUtf8,
+    Memory,
+    TooLong,
+}
+
+fn tokens_of(alloc: Global, source: &[u8], most: u32, room: &mut [Token]) -> Told
+    ensures { AnswersTokens source.now most room.old room.new result }
+{
+    match text_of(source) {
+        Ok(text) => tokens_of_text(alloc, text, most, room),
+        Err(Unread::NotUtf8) => Told::NotUtf8,
+        Err(Unread::TooLong) => Told::TooLong,
+    }
+}
+
+fn tokens_of_text(alloc: Global, text: &str, most: u32, room: &mut [Token]) -> Told
+    requires { length text.now < 2 ^ 32 }
+    ensures { AnswersTokens text.now most room.old room.new result }
+{
+    let Ok(table) = ByteTable::new(alloc, text) else {
+        return Told::Memory;
+    };
+    let mut lexer = Lexer::new(alloc, text);
+    let mut count = 0;
+    loop {
+        match next_step(&mut lexer) {
+            Step::Token(kind, span) => {
+                if count == most as usize {
+                    return Told::Many(many_fault(&table, span));
+                }
+                put(room, count, token_at(&table, kind, &span));
+                count += 1;
+            }
+            Step::End(span) => {
+                put(room, count, token_at(&table, Kind::EndOfFile, &span));
+                return Told::Tokens(count + 1);
+            }
+            Step::Fault(fault) => {
+                let found = lexical_fault(&table, &fault.item, fault.span.start);
+                return Told::Refused(count, found);
+            }
+            Step::Memory => return Told::Memory,
+        }
+    }
+}

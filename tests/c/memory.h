@@ -1,0 +1,42 @@
+/* Memory of which every byte is known, and stacks of a known size. */
+#ifndef MEMORY_H
+#define MEMORY_H
+
+#include "../../include/firthnapkin.h"
+#include <pthread.h>
+#include <stdlib.h>
+#include <string.h>
+#include <sys/mman.h>
+
+enum { CANARY = 0xA5, BEYOND = 64 };
+
+/* A block of memory, written all over with one byte. */
+static uint8_t *canaries(size_t length) {
+    uint8_t *room = malloc(length);
+    if (room == NULL) abort();
+    memset(room, CANARY, length);
+    return room;
+}
+
+static int are_canaries(const void *room, size_t length) {
+    for (size_t i = 0; i < length; i++)
+        if (((const uint8_t *)room)[i] != CANARY) return 0;
+    return 1;
+}
+
+/* Runs it in a thread of as much stack as the header tells for this depth, behind memory that nothing may touch. */
+static void on_stack(uint32_t depth, void *(*run)(void *), void *argument) {
+    enum { PAGE = 4096, GUARD = 16 * PAGE };
+    size_t size = (FIRTHNAPKIN_STACK(depth) + PAGE - 1) / PAGE * PAGE;
+    char *memory = mmap(NULL, GUARD + size, PROT_READ | PROT_WRITE, MAP_PRIVATE | MAP_ANONYMOUS, -1, 0);
+    pthread_attr_t attributes;
+    pthread_t thread;
+    if (memory == MAP_FAILED || mprotect(memory, GUARD, PROT_NONE) || pthread_attr_init(&attributes)
+        || pthread_attr_setstack(&attributes, memory + GUARD, size)
+        || pthread_create(&thread, &attributes, run, argument) || pthread_join(thread, NULL))
+        abort();
+    pthread_attr_destroy(&attributes);
+    munmap(memory, GUARD + size);
+}
+
+#endif

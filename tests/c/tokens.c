@@ -1,0 +1,349 @@
+/* What a source is cut into, and its canonical text: rooms of every size, every limit, faults, no source, threads, large texts,
+ * a small stack. */
+#define _GNU_SOURCE
+#include "../../include/firthnapkin.h"
+#include "checks.h"
+#include "memory.h"
+
+/* A token, as it is written; of a fault that stands behind the tokens what it is and the byte where it stands. */
+typedef struct {
+    uint32_t kind, quotes;
+    const char *written;
+} spelled;
+
+typedef struct {
+    const char *source;
+    uint32_t detail, character, at;
+    spelled tokens[40];
+} cut_source;
+
+enum { ANY_TOKENS = 40 };
+
+#define END {FIRTHNAPKIN_TOKEN_END_OF_FILE, 0, NULL}
+
+static const cut_source CUT[] = {
+    {"", 0, 0, 0, {END}},
+    {"  , # {a}\n", 0, 0, 0, {END}},
+    {"\xef\xbb\xbf{a}", 0, 0, 0,
+     {{FIRTHNAPKIN_TOKEN_CURLY_OPEN, 0, "{"}, {FIRTHNAPKIN_TOKEN_NAME, 0, "a"}, {FIRTHNAPKIN_TOKEN_CURLY_CLOSE, 0, "}"}, END}},
+    {"#\xc3\xa9\n{a(b:\"\xc3\xa9\",...)} ", 0, 0, 0,
+     {{FIRTHNAPKIN_TOKEN_CURLY_OPEN, 0, "{"}, {FIRTHNAPKIN_TOKEN_NAME, 0, "a"}, {FIRTHNAPKIN_TOKEN_PAREN_OPEN, 0, "("},
+      {FIRTHNAPKIN_TOKEN_NAME, 0, "b"}, {FIRTHNAPKIN_TOKEN_COLON, 0, ":"}, {FIRTHNAPKIN_TOKEN_STRING, 1, "\"\xc3\xa9\""},
+      {FIRTHNAPKIN_TOKEN_ELLIPSIS, 0, "..."}, {FIRTHNAPKIN_TOKEN_PAREN_CLOSE, 0, ")"},
+      {FIRTHNAPKIN_TOKEN_CURLY_CLOSE, 0, "}"}, END}},
+    {"!$()[]{}...:=@|_a9 0 -12 1.5 -0e+7 \"\" \"\\\"\\u00e9\" \"\"\"\"\"\" \"\"\"\n \xf0\x9d\x84\x9e\\\"\"\"\n\"\"\"1a", 0, 0, 0,
+     {{FIRTHNAPKIN_TOKEN_EXCLAMATION_MARK, 0, "!"}, {FIRTHNAPKIN_TOKEN_DOLLAR, 0, "$"}, {FIRTHNAPKIN_TOKEN_PAREN_OPEN, 0, "("},
+      {FIRTHNAPKIN_TOKEN_PAREN_CLOSE, 0, ")"}, {FIRTHNAPKIN_TOKEN_BRACKET_OPEN, 0, "["}, {FIRTHNAPKIN_TOKEN_BRACKET_CLOSE, 0, "]"},
+      {FIRTHNAPKIN_TOKEN_CURLY_OPEN, 0, "{"}, {FIRTHNAPKIN_TOKEN_CURLY_CLOSE, 0, "}"}, {FIRTHNAPKIN_TOKEN_ELLIPSIS, 0, "..."},
+      {FIRTHNAPKIN_TOKEN_COLON, 0, ":"}, {FIRTHNAPKIN_TOKEN_EQUALS, 0, "="}, {FIRTHNAPKIN_TOKEN_AT, 0, "@"},
+      {FIRTHNAPKIN_TOKEN_PIPE, 0, "|"}, {FIRTHNAPKIN_TOKEN_NAME, 0, "_a9"}, {FIRTHNAPKIN_TOKEN_INT, 0, "0"},
+      {FIRTHNAPKIN_TOKEN_INT, 0, "-12"}, {FIRTHNAPKIN_TOKEN_FLOAT, 0, "1.5"}, {FIRTHNAPKIN_TOKEN_FLOAT, 0, "-0e+7"},
+      {FIRTHNAPKIN_TOKEN_STRING, 1, "\"\""}, {FIRTHNAPKIN_TOKEN_STRING, 1, "\"\\\"\\u00e9\""},
+      {FIRTHNAPKIN_TOKEN_BLOCK_STRING, 3, "\"\"\"\"\"\""},
+      {FIRTHNAPKIN_TOKEN_BLOCK_STRING, 3, "\"\"\"\n \xf0\x9d\x84\x9e\\\"\"\"\n\"\"\""}, {FIRTHNAPKIN_TOKEN_INT, 0, "1"},
+      {FIRTHNAPKIN_TOKEN_NAME, 0, "a"}, END}},
+    /* What no document is can be cut, too. */
+    {") } { query", 0, 0, 0,
+     {{FIRTHNAPKIN_TOKEN_PAREN_CLOSE, 0, ")"}, {FIRTHNAPKIN_TOKEN_CURLY_CLOSE, 0, "}"}, {FIRTHNAPKIN_TOKEN_CURLY_OPEN, 0, "{"},
+      {FIRTHNAPKIN_TOKEN_NAME, 0, "query"}, END}},
+    {"?", FIRTHNAPKIN_UNKNOWN_CHARACTER, '?', 0, {{0}}},
+    {"{a \xc3\xa9? b", FIRTHNAPKIN_UNKNOWN_CHARACTER, 0xE9, 3,
+     {{FIRTHNAPKIN_TOKEN_CURLY_OPEN, 0, "{"}, {FIRTHNAPKIN_TOKEN_NAME, 0, "a"}}},
+    {"a 01", FIRTHNAPKIN_UNEXPECTED_CHARACTER, '1', 3, {{FIRTHNAPKIN_TOKEN_NAME, 0, "a"}}},
+    {"# \xc3\xa9\n\"b\" \"", FIRTHNAPKIN_UNTERMINATED_STRING, 0, 10, {{FIRTHNAPKIN_TOKEN_STRING, 1, "\"b\""}}},
+    {"a \"\x01", FIRTHNAPKIN_UNKNOWN_CHARACTER_IN_STRING, 1, 3, {{FIRTHNAPKIN_TOKEN_NAME, 0, "a"}}},
+    {"[\"\\q\" 7 ]", FIRTHNAPKIN_UNKNOWN_ESCAPE, 0, 3, {{FIRTHNAPKIN_TOKEN_BRACKET_OPEN, 0, "["}}},
+    {"1 -", FIRTHNAPKIN_UNEXPECTED_END_IN_TOKEN, 0, 3, {{FIRTHNAPKIN_TOKEN_INT, 0, "1"}}},
+};
+
+/* The place behind so many bytes of a source. */
+static firthnapkin_place place_of(const char *source, size_t byte) {
+    firthnapkin_place place = {0, 0, 0, (uint32_t)byte};
+    for (size_t i = 0; i < byte; i++) {
+        if (((unsigned char)source[i] & 0xC0) == 0x80) continue;
+        place.index++;
+        place.column++;
+        if (source[i] == '\n') {
+            place.line++;
+            place.column = 0;
+        }
+    }
+    return place;
+}
+
+/* The tokens of a source, in places found by what is written; how many there are. */
+static size_t wanted_of(const cut_source *cut, firthnapkin_token *wanted) {
+    size_t count = 0;
+    const char *at = cut->source;
+    for (const spelled *s = cut->tokens; s->written != NULL; s++) {
+        at = strstr(at, s->written);
+        if (at == NULL) abort();
+        size_t start = (size_t)(at - cut->source), end = start + strlen(s->written);
+        wanted[count++] = (firthnapkin_token){s->kind, s->quotes, place_of(cut->source, start), place_of(cut->source, end)};
+        at = cut->source + end;
+    }
+    if (cut->detail == 0) {
+        firthnapkin_place end = place_of(cut->source, strlen(cut->source));
+        wanted[count++] = (firthnapkin_token){FIRTHNAPKIN_TOKEN_END_OF_FILE, 0, end, end};
+    }
+    return count;
+}
+
+static int same_place(firthnapkin_place a, firthnapkin_place b) {
+    return memcmp(&a, &b, sizeof a) == 0;
+}
+
+/* A call with a room of this size. */
+typedef struct {
+    uint32_t status;
+    size_t room, needed;
+    firthnapkin_token *tokens;
+    firthnapkin_fault fault;
+} run;
+
+static run cut(const char *source, size_t length, uint32_t most, size_t room) {
+    run r = {.room = room, .needed = 99};
+    r.tokens = (firthnapkin_token *)canaries(room * sizeof *r.tokens + BEYOND);
+    memset(&r.fault, CANARY, sizeof r.fault);
+    r.status = firthnapkin_tokens((const uint8_t *)source, length, most, r.tokens, room, &r.needed, &r.fault);
+    return r;
+}
+
+/* The room begins with the first of these, as many as it has room for, and nothing else is written. */
+static int holds(run r, const firthnapkin_token *wanted, size_t count) {
+    size_t some = count < r.room ? count : r.room;
+    return (some == 0 || !memcmp(r.tokens, wanted, some * sizeof *wanted))
+        && are_canaries(r.tokens + some, (r.room - some) * sizeof *r.tokens + BEYOND);
+}
+
+static int is_fault_kept(run r) {
+    return are_canaries(&r.fault, sizeof r.fault);
+}
+
+static void every_room(const cut_source *c) {
+    firthnapkin_token wanted[ANY_TOKENS];
+    size_t length = strlen(c->source), count = wanted_of(c, wanted);
+    check(count <= length + 1, "one call suffices for %s", c->source);
+    for (size_t room = 0; room <= count + 1 || room <= length + 1; room++) {
+        run r = cut(c->source, length, UINT32_MAX, room);
+        uint32_t status = c->detail != 0 ? FIRTHNAPKIN_REFUSED : room < count ? FIRTHNAPKIN_ROOM : FIRTHNAPKIN_TOKENS;
+        check(r.status == status && r.needed == count && holds(r, wanted, count), "room for %zu tokens of %s: %u, %zu", room,
+              c->source, r.status, r.needed);
+        firthnapkin_place at = place_of(c->source, c->at);
+        if (c->detail == 0)
+            check(is_fault_kept(r), "no fault of %s", c->source);
+        else
+            check(r.fault.kind == FIRTHNAPKIN_LEXICAL && r.fault.detail == c->detail && r.fault.character == c->character
+                      && same_place(r.fault.start, at) && same_place(r.fault.end, at),
+                  "the fault of %s: %u %u %u at byte %u", c->source, r.fault.kind, r.fault.detail, r.fault.character,
+                  r.fault.start.byte);
+        free(r.tokens);
+    }
+}
+
+/* Every limit from 0 to behind the number of tokens: a limit below it tells the first token too many, whatever the room. */
+static void every_limit(const cut_source *c) {
+    firthnapkin_token wanted[ANY_TOKENS];
+    size_t length = strlen(c->source), count = wanted_of(c, wanted), others = count - (c->detail == 0);
+    for (size_t most = 0; most <= others + 2; most++) {
+        for (size_t room = 0; room <= count + 1; room++) {
+            run r = cut(c->source, length, (uint32_t)most, room);
+            if (most >= others) {
+                uint32_t status = c->detail != 0 ? FIRTHNAPKIN_REFUSED : room < count ? FIRTHNAPKIN_ROOM : FIRTHNAPKIN_TOKENS;
+                check(r.status == status && r.needed == count && holds(r, wanted, count), "no more than %zu tokens in %s: %u", most,
+                      c->source, r.status);
+            } else {
+                check(r.status == FIRTHNAPKIN_MANY && r.needed == most && holds(r, wanted, most)
+                          && r.fault.kind == FIRTHNAPKIN_TOO_MANY && !r.fault.detail && !r.fault.character
+                          && same_place(r.fault.start, wanted[most].start) && same_place(r.fault.end, wanted[most].end),
+                      "more than %zu tokens in %s: %u, byte %u", most, c->source, r.status, r.fault.start.byte);
+            }
+            free(r.tokens);
+        }
+    }
+}
+
+/* What the token's text is, by its quotes. */
+static void texts(void) {
+    static const char *const wanted[] = {"", "\\\"\\u00e9", "", "\n \xf0\x9d\x84\x9e\\\"\"\"\n"};
+    const cut_source *c = &CUT[4];
+    run r = cut(c->source, strlen(c->source), UINT32_MAX, 99);
+    for (size_t i = 0; i < 4; i++) {
+        firthnapkin_token t = r.tokens[18 + i];
+        size_t from = t.start.byte + t.quotes, to = t.end.byte - t.quotes;
+        check(to - from == strlen(wanted[i]) && !strncmp(c->source + from, wanted[i], to - from), "the text of token %zu", 18 + i);
+    }
+    free(r.tokens);
+}
+
+/* ---- canonical texts */
+
+static void every_text_room(const char *source, const char *wanted) {
+    size_t length = strlen(source), count = strlen(wanted);
+    check(count <= 2 * length, "twice as many bytes suffice for %s", source);
+    for (size_t room = 0; room <= count + 1 || room <= 2 * length; room++) {
+        size_t needed = 99;
+        firthnapkin_fault fault;
+        memset(&fault, CANARY, sizeof fault);
+        uint8_t *text = canaries(room + BEYOND);
+        uint32_t status = firthnapkin_canonical((const uint8_t *)source, length, text, room, &needed, &fault);
+        int fits = room >= count;
+        check(status == (fits ? FIRTHNAPKIN_CANONICAL : FIRTHNAPKIN_ROOM) && needed == count
+                  && (!fits || !memcmp(text, wanted, count))
+                  && are_canaries(text + (fits ? count : 0), room - (fits ? count : 0) + BEYOND)
+                  && are_canaries(&fault, sizeof fault),
+              "a room of %zu bytes for the canonical text of %s: %u, %zu", room, source, status, needed);
+        free(text);
+    }
+}
+
+static void no_canonical_text(const char *source, size_t length, uint32_t status, uint32_t detail, uint32_t character, uint32_t at) {
+    size_t needed = 99;
+    firthnapkin_fault fault;
+    memset(&fault, CANARY, sizeof fault);
+    uint8_t *text = canaries(99 + BEYOND);
+    uint32_t found = firthnapkin_canonical((const uint8_t *)source, length, text, 99, &needed, &fault);
+    check(found == status && needed == 0 && are_canaries(text, 99 + BEYOND), "no canonical text of %s: %u", source, found);
+    firthnapkin_place place = place_of(source, at);
+    if (status != FIRTHNAPKIN_REFUSED)
+        check(are_canaries(&fault, sizeof fault), "the fault is left, of %s", source);
+    else
+        check(fault.kind == FIRTHNAPKIN_LEXICAL && fault.detail == detail && fault.character == character
+                  && same_place(fault.start, place) && same_place(fault.end, place),
+              "the fault of %s: %u %u %u at byte %u", source, fault.kind, fault.detail, fault.character, fault.start.byte);
+    free(text);
+}
+
+static void canonical_texts(void) {
+    every_text_room("", "");
+    every_text_room(" , # all\n", "");
+    every_text_room("{ a, b(c: \"d\") } # all", "{a b(c:\"d\")}");
+    every_text_room("\xef\xbb\xbfquery Q ($v : [ T ! ] = 1) { a ... on T { b } ...F }", "query Q($v:[T!]=1){a ...on T{b}...F}");
+    every_text_room("{a(b:\"\xc3\xa9 ,\"\"\"\"\n # \xf0\x9d\x84\x9e\n\"\"\")}", "{a(b:\"\xc3\xa9 ,\" \"\"\"\n # \xf0\x9d\x84\x9e\n\"\"\")}");
+    /* As many spaces as there are seams. */
+    every_text_room("1a\"\"2b\"\"...", "1 a \"\" 2 b \"\" ...");
+    for (size_t i = 0; i < sizeof CUT / sizeof *CUT; i++)
+        if (CUT[i].detail != 0)
+            no_canonical_text(CUT[i].source, strlen(CUT[i].source), FIRTHNAPKIN_REFUSED, CUT[i].detail, CUT[i].character, CUT[i].at);
+    no_canonical_text("{\xff", 2, FIRTHNAPKIN_NOT_UTF8, 0, 0, 0);
+    no_canonical_text("{a\0}", 4, FIRTHNAPKIN_REFUSED, FIRTHNAPKIN_UNKNOWN_CHARACTER, 0, 2);
+}
+
+/* ---- both */
+
+/* Where a count is 0 there need be no memory. */
+static void no_memory(void) {
+    size_t needed = 99;
+    firthnapkin_fault fault;
+    memset(&fault, CANARY, sizeof fault);
+    check(firthnapkin_tokens(NULL, 0, 0, NULL, 0, &needed, &fault) == FIRTHNAPKIN_ROOM && needed == 1, "no source and no room for its end");
+    check(firthnapkin_tokens((const uint8_t *)"{a}", 3, 9, NULL, 0, &needed, &fault) == FIRTHNAPKIN_ROOM && needed == 4, "no room for tokens");
+    check(firthnapkin_canonical(NULL, 0, NULL, 0, &needed, &fault) == FIRTHNAPKIN_CANONICAL && needed == 0, "the canonical text of nothing");
+    check(firthnapkin_canonical((const uint8_t *)"{a}", 3, NULL, 0, &needed, &fault) == FIRTHNAPKIN_ROOM && needed == 3, "no room for a text");
+    check(are_canaries(&fault, sizeof fault), "a fault is left");
+    firthnapkin_token end;
+    check(firthnapkin_tokens(NULL, 0, 0, &end, 1, &needed, &fault) == FIRTHNAPKIN_TOKENS && needed == 1
+              && end.kind == FIRTHNAPKIN_TOKEN_END_OF_FILE && end.end.byte == 0,
+          "the end of nothing");
+}
+
+static void not_looked_at(void) {
+    run r = cut("{\xff", 2, UINT32_MAX, 9);
+    check(r.status == FIRTHNAPKIN_NOT_UTF8 && r.needed == 0 && holds(r, NULL, 0) && is_fault_kept(r), "bytes that are no text");
+    free(r.tokens);
+    r = cut("{a\0}", 4, UINT32_MAX, 9);
+    check(r.status == FIRTHNAPKIN_REFUSED && r.needed == 2 && r.fault.detail == FIRTHNAPKIN_UNKNOWN_CHARACTER && r.fault.start.byte == 2,
+          "a byte 0");
+    free(r.tokens);
+    size_t length = (size_t)1 << 32, needed = 99;
+    void *source = mmap(NULL, length, PROT_NONE, MAP_PRIVATE | MAP_ANONYMOUS | MAP_NORESERVE, -1, 0);
+    if (source == MAP_FAILED) {
+        printf("tokens: no address space for 4 GiB, so status %d was not tried\n", FIRTHNAPKIN_TOO_LONG);
+        return;
+    }
+    r = cut(source, length, 1, 9);
+    check(r.status == FIRTHNAPKIN_TOO_LONG && r.needed == 0 && holds(r, NULL, 0) && is_fault_kept(r), "4 GiB");
+    uint8_t text = CANARY;
+    check(firthnapkin_canonical(source, length, &text, 1, &needed, &r.fault) == FIRTHNAPKIN_TOO_LONG && needed == 0 && text == CANARY
+              && is_fault_kept(r),
+          "4 GiB, as a canonical text");
+    free(r.tokens);
+    munmap(source, length);
+}
+
+/* A source of ten million bytes, and calls on no more stack than the header tells. */
+typedef struct {
+    const char *source;
+    size_t length, tokens, text, tokens_needed, text_needed;
+    uint32_t cut, canonical, counted;
+} calls;
+
+static void *call_all(void *argument) {
+    calls *c = argument;
+    firthnapkin_fault fault;
+    /* Memory that nothing is written to costs nothing. */
+    firthnapkin_token *tokens = malloc((c->length + 1) * sizeof *tokens);
+    uint8_t *text = malloc(2 * c->length);
+    if (tokens == NULL || text == NULL) abort();
+    c->cut = firthnapkin_tokens((const uint8_t *)c->source, c->length, UINT32_MAX, tokens, c->length + 1, &c->tokens_needed, &fault);
+    c->canonical = firthnapkin_canonical((const uint8_t *)c->source, c->length, text, 2 * c->length, &c->text_needed, &fault);
+    c->counted = firthnapkin_count((const uint8_t *)c->source, c->length, UINT32_MAX, &fault);
+    check(tokens[c->tokens_needed - 1].end.byte == c->length && tokens[c->tokens_needed - 2].start.byte >= c->length - 70,
+          "the last places of ten million bytes");
+    free(tokens);
+    free(text);
+    return NULL;
+}
+
+static void large(const char *part, size_t tokens, size_t text) {
+    size_t step = strlen(part), count = 10000000 / step + 1;
+    char *source = malloc(count * step + 1);
+    if (source == NULL) abort();
+    for (size_t i = 0; i < count; i++) memcpy(source + i * step, part, step + 1);
+    calls c = {.source = source, .length = count * step};
+    on_stack(0, call_all, &c);
+    check(c.cut == FIRTHNAPKIN_TOKENS && c.canonical == FIRTHNAPKIN_CANONICAL && c.counted == FIRTHNAPKIN_FEW
+              && c.tokens_needed == count * tokens + 1 && c.text_needed == count * text,
+          "ten million bytes of %s: %zu tokens, %zu bytes", part, c.tokens_needed, c.text_needed);
+    free(source);
+}
+
+static void *many(void *failures) {
+    for (int round = 0; round < 300; round++) {
+        for (size_t i = 0; i < sizeof CUT / sizeof *CUT; i++) {
+            firthnapkin_token wanted[ANY_TOKENS];
+            size_t count = wanted_of(&CUT[i], wanted);
+            run r = cut(CUT[i].source, strlen(CUT[i].source), UINT32_MAX, count + 1);
+            if (r.needed != count || !holds(r, wanted, count)) ++*(long *)failures;
+            free(r.tokens);
+        }
+    }
+    return NULL;
+}
+
+static void threads(void) {
+    pthread_t thread[4];
+    long failures[4] = {0};
+    for (int i = 0; i < 4; i++)
+        if (pthread_create(&thread[i], NULL, many, &failures[i])) abort();
+    for (int i = 0; i < 4; i++) {
+        pthread_join(thread[i], NULL);
+        check(failures[i] == 0, "thread %d", i);
+    }
+}
+
+int main(void) {
+    for (size_t i = 0; i < sizeof CUT / sizeof *CUT; i++) {
+        every_room(&CUT[i]);
+        every_limit(&CUT[i]);
+    }
+    texts();
+    canonical_texts();
+    no_memory();
+    not_looked_at();
+    threads();
+    large("{a(b:[1,\"x\\n\"])...F}", 13, 20);
+    large("{...a,b #c\n} ", 5, 8);
+    large("\"\xd0\xbc\xd0\xb8\xd1\x80\"\"\"\"\n\"\"\" # \xd0\xbc\xd0\xb8\xd1\x80\n}", 3, 17);
+    return counted();
+}

@@ -1,0 +1,154 @@
+#!/usr/bin/env python3
+"""Cuts the texts of the rows of tests/rows by the library for C, and compares kinds, texts and places with what `cutting` cuts
+them into, and canonical texts with these tokens joined; those of the rows of gqlcanon with the rows. Where a row says that a text
+can't be cut, the fault is compared with the row, and the tokens before it with those that `cutting` finds. The last line is
+'N passed, M failed'.
+
+    tests/token_rows.py [LIBRARY]     out/libfirthnapkin.so.0 where none is named
+"""
+
+import ctypes
+import re
+import sys
+from pathlib import Path
+from typing import List, Optional, Tuple
+
+from cutting import cut, joined, kind_of, unquoted
+from header import Checks, enum
+from rows import Row, plain, rows
+
+ROOT = Path(__file__).resolve().parent.parent
+KINDS = {number: word.removeprefix("TOKEN_") for word, number in enum("firthnapkin_token_kind").items()}
+STATUS = enum("firthnapkin_status")
+
+# The words of the errors that only a text that can't be cut has.
+LEXICAL = re.compile(r"Unknown |Unexpected character |Unterminated string literal")
+# How many rows there are at least, and of how many the text can't be cut.
+ROWS, WITHOUT_CUT = 2168, 1490
+
+
+class Place(ctypes.Structure):
+    _fields_ = [(name, ctypes.c_uint32) for name in ("index", "line", "column", "byte")]
+
+    def numbers(self) -> Tuple[int, ...]:
+        return self.index, self.line, self.column, self.byte
+
+
+class Token(ctypes.Structure):
+    _fields_ = [("kind", ctypes.c_uint32), ("quotes", ctypes.c_uint32), ("start", Place), ("end", Place)]
+
+
+class Fault(ctypes.Structure):
+    _fields_ = [(name, ctypes.c_uint32) for name in ("kind", "detail", "character")] + [("start", Place), ("end", Place)]
+
+
+class Answer:
+    """What the library tells of a text: statuses of both calls, tokens, the canonical text and the faults."""
+
+    def __init__(self, library: ctypes.CDLL, source: bytes) -> None:
+        needed, self.fault, self.other_fault = ctypes.c_size_t(), Fault(), Fault()
+        # Rooms that are never too short.
+        room = (Token * (len(source) + 1))()
+        self.status = library.firthnapkin_tokens(
+            source, ctypes.c_size_t(len(source)), ctypes.c_uint32(2**32 - 1), room, ctypes.c_size_t(len(room)),
+            ctypes.byref(needed), ctypes.byref(self.fault),
+        )  # fmt: skip
+        self.tokens = room[: needed.value]
+        text = ctypes.create_string_buffer(2 * len(source) + 1)
+        self.canonical_status = library.firthnapkin_canonical(
+            source, ctypes.c_size_t(len(source)), text, ctypes.c_size_t(2 * len(source)), ctypes.byref(needed),
+            ctypes.byref(self.other_fault),
+        )  # fmt: skip
+        self.canonical = text.raw[: needed.value].decode()
+
+
+def place(text: str, index: int) -> Tuple[int, ...]:
+    """The numbers of the place behind so many characters."""
+    before = text[:index]
+    return index, before.count("\n"), index - (before.rfind("\n") + 1), len(before.encode())
+
+
+def told(source: bytes, token: Token) -> Tuple[str, str, str, Tuple[int, ...], Tuple[int, ...]]:
+    """A token as the library tells it: its kind, what is written, its text, and both places."""
+    start, end = token.start.byte, token.end.byte
+    text = source[start + token.quotes : end - token.quotes]
+    return KINDS[token.kind], source[start:end].decode(), text.decode(), token.start.numbers(), token.end.numbers()
+
+
+def wanted(text: str, begin: int, token: str) -> Tuple[str, str, str, Tuple[int, ...], Tuple[int, ...]]:
+    """The same as it is cut here."""
+    return kind_of(token), token, unquoted(token), place(text, begin), place(text, begin + len(token))
+
+
+def is_cut_by_row(row: Row) -> Optional[bool]:
+    """Whether a row says that its text can be cut; None where it doesn't say."""
+    words, end = (row.wanted[0], row.wanted[-1]) if row.wanted else ("", "")
+    if row.kind == "canonical":
+        return end == "Text"
+    if row.kind != "gqlcheck" or words.startswith("Unexpected end of input"):
+        return None
+    return end != "NotUtf8" and not (end == "Refused" and LEXICAL.match(words))
+
+
+def tokens_fault(answer: Answer, source: bytes, text: str) -> Optional[str]:
+    """What is wrong with the tokens that are told; None where nothing is."""
+    found = [told(source, token) for token in answer.tokens]
+    here = [wanted(text, *token) for token in cut(text)]
+    if answer.status == STATUS["TOKENS"]:
+        here.append(("END_OF_FILE", "", "", place(text, len(text)), place(text, len(text))))
+    elif here[len(found) :] and here[len(found)][3][0] > answer.fault.start.index:
+        return "a token stands before the fault, and is not told"
+    else:
+        here = here[: len(found)]
+    return None if found == here else f"{found} is told, {here} is wanted"
+
+
+def row_fault(answer: Answer, row: Row) -> Optional[str]:
+    """What is wrong with an answer by the row itself."""
+    says = is_cut_by_row(row)
+    is_cut = answer.status == STATUS["TOKENS"]
+    if answer.status not in (STATUS["TOKENS"], STATUS["REFUSED"]) or answer.canonical_status != answer.status:
+        return f"the statuses {answer.status} and {answer.canonical_status}"
+    if says is not None and says != is_cut:
+        return f"the status {answer.status}"
+    if is_cut:
+        lines = [plain(line).decode() for line in row.wanted[:-1]]
+        return None if row.kind != "canonical" or answer.canonical == "\n".join(lines) else f"the text {answer.canonical!r}"
+    at = re.search(r"\. At (\d+):(\d+)$", row.wanted[0])
+    start = answer.fault.start
+    if at is None or (start.line, start.column) != (int(at[1]), int(at[2])):
+        return f"a fault at {start.line}:{start.column}"
+    return None if bytes(answer.fault) == bytes(answer.other_fault) else "another fault for the canonical text"
+
+
+def try_row(library: ctypes.CDLL, row: Row) -> Tuple[Optional[str], bool]:
+    """What is wrong with what is told of a row's text, and whether the text can't be cut."""
+    answer = Answer(library, row.text)
+    try:
+        text = row.text.decode()
+    except UnicodeDecodeError:
+        statuses = [answer.status, answer.canonical_status]
+        return None if statuses == [STATUS["NOT_UTF8"]] * 2 else f"the statuses {statuses}", False
+    wrong = row_fault(answer, row) or tokens_fault(answer, row.text, text)
+    if wrong is None and answer.status == STATUS["TOKENS"]:
+        made = joined([token for _, token in cut(text)])
+        wrong = None if answer.canonical == made else f"the text {answer.canonical!r}, not {made!r}"
+    return wrong, answer.status == STATUS["REFUSED"]
+
+
+def main() -> None:
+    library = ctypes.CDLL(sys.argv[1] if len(sys.argv) > 1 else str(ROOT / "out/libfirthnapkin.so.0"))
+    library.firthnapkin_tokens.restype = library.firthnapkin_canonical.restype = ctypes.c_uint32
+    checks = Checks()
+    without_cut: List[bool] = []
+    for path in sorted((ROOT / "tests/rows").glob("*.rows")):
+        for row in rows(path.name):
+            wrong, is_refused = try_row(library, row)
+            without_cut.append(is_refused)
+            checks.check(f"{path.name}:{row.number}", wrong, None)
+    checks.check("the number of rows", len(without_cut) >= ROWS, True)
+    checks.check("the number of texts that can't be cut", sum(without_cut) >= WITHOUT_CUT, True)
+    checks.end()
+
+
+main()
