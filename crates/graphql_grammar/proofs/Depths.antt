@@ -8,7 +8,7 @@ use Rattle.graphql_lexical.specs.declared.kind.Kind.{Kind}
 use Rattle.graphql_lexical.specs.declared.kind.Kind.TheVariants.{EndOfFile}
 use Rattle.graphql_lexical.specs.Cutting.{Lexeme}
 use Rattle.graphql_lexical.specs.Nesting.{is_opening, is_closing, opened, closed, IsFirstDeeper, end_behind, ended_by}
-use Rattle.graphql_lexical.proofs.DeepTokens.{opened_push, closed_push, deep_count, opens, opening_no_end}
+use Rattle.graphql_lexical.proofs.Public.{opened_push, closed_push, deep_count, opens, opening_no_end}
 use Rattle.graphql_grammar.specs.Tokens.{IsSpelled}
 use Rattle.graphql_grammar.specs.Tree.{Scalars, Definition}
 use Rattle.graphql_grammar.specs.Grammar.{IsScalarKind, IsDocument}

@@ -31,3 +31,4 @@ pub mod Texts
 pub mod Depths
 pub mod Extents
 pub mod Answered
+pub mod Public

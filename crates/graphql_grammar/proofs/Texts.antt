@@ -7,7 +7,7 @@ use Rattle.graphql_lexical.specs.Tokens.{Spells}
 use Rattle.graphql_lexical.specs.Cutting.{Lexeme, Cut}
 use Rattle.graphql_lexical.specs.laws.Alike.{AllAlike}
 use Rattle.graphql_lexical.specs.laws.Spacing.{after_space, IsSpaced}
-use Rattle.graphql_lexical.proofs.Spacing.{goes_on_spaced}
+use Rattle.graphql_lexical.proofs.Public.{goes_on_spaced}
 use Rattle.graphql_grammar.specs.Tokens.{Text, IsSpelled}
 use Rattle.graphql_grammar.specs.Tree.{Scalars}
 use Rattle.graphql_grammar.specs.Grammar.{IsDocument}

@@ -4,10 +4,10 @@ use Rattle.std.specs.List.{sum_by}
 use Rattle.std.proofs.lemmas.List.Sums.{sum_by-cons}
 use Rattle.graphql_lexical.specs.declared.kind.Kind.TheVariants.{BracketOpen, ExclamationMark}
 use Rattle.graphql_lexical.specs.Cutting.{Lexeme, Cut}
-use Rattle.graphql_lexical.proofs.Joints.{few_tokens}
+use Rattle.graphql_lexical.proofs.Public.{few_tokens}
 use Rattle.graphql_grammar.specs.Tree.{Scalars, TypeRef, NamedType, ListType, NonNullType, Definition}
 use Rattle.graphql_grammar.specs.Grammar.{IsType, IsDocument}
-use Rattle.graphql_grammar.proofs.Sequences.{says_takes, is_takes, front_takes, back_takes}
+use Rattle.graphql_grammar.proofs.Public.{says_takes, is_takes, front_takes, back_takes}
 use Rattle.graphql_nodes.specs.Nodes.{document_nodes}
 use Rattle.graphql_nodes.proofs.Measures.{Weighs, document_front}
 

@@ -8,3 +8,4 @@ pub mod Forests
 pub mod Measures
 pub mod Few
 pub mod Lying
+pub mod Public

@@ -7,8 +7,7 @@ use Rattle.graphql_lexical.specs.Kinds.{LexicalError}
 use Rattle.graphql_lexical.specs.Place.{Place, Span, place_after, place, origin}
 use Rattle.graphql_lexical.specs.Cutting.{Lexeme, Cut, BreaksFrom, here, behind as past}
 use Rattle.graphql_lexical.specs.laws.Laws.{AreSlicesFrom}
-use Rattle.graphql_lexical.proofs.Places.{steps_by_characters}
-use Rattle.graphql_lexical.proofs.Slices.{slices_in_order}
+use Rattle.graphql_lexical.proofs.Public.{steps_by_characters, slices_in_order}
 use Rattle.graphql_grammar.specs.Tokens.{Text, Word, last_of, span_of}
 use Rattle.graphql_grammar.specs.Tree as tree
 use Rattle.graphql_grammar.specs.Tree.{Scalars, TypeRef, Value, Items, no_items, item, ObjectFields, no_fields, object_field, Argument, Arguments, Directive, Directives, VariableDefinition, Variables, Selection, Selections, no_selections, selection, OptionalSelections, absent, present, Definition}
@@ -16,7 +15,7 @@ use Rattle.graphql_grammar.specs.Grammar.{IsToken, Is, Sequence, IsValue, AreIte
 use Rattle.graphql_nodes.specs.declared.kind.NodeKind.{NodeKind}
 use Rattle.graphql_nodes.specs.declared.kind.NodeKind.TheVariants as kind
 use Rattle.graphql_nodes.specs.Nodes.{Node, Label, Unnamed, Typed, over, scalar_node, if_present, each, value_nodes, items_nodes, fields_nodes, argument_nodes, arguments_nodes, directive_nodes, directives_nodes, variable_nodes, variables_nodes, alias_nodes, selection_nodes, optional_nodes, selections_nodes, definition_nodes, document_nodes}
-use Rattle.graphql_nodes.specs.Spans.{IsPlaceOf, LiesIn, NodesLieIn}
+use Rattle.graphql_nodes.specs.laws.SpanLaws.{IsPlaceOf, LiesIn, NodesLieIn}
 
 module _ {A : Type 0} (P : A → Type 0) where
   all_of_both : (xs ys : List A) → AllByRecursion P xs → AllByRecursion P ys → AllByRecursion P (xs ++ ys)

@@ -9,7 +9,7 @@ use Rattle.graphql_grammar.specs.Tree.{Scalars, TypeRef, Value, Argument, Argume
 use Rattle.graphql_grammar.specs.declared.operation.OperationType.{OperationType}
 use Rattle.graphql_grammar.specs.declared.operation.OperationType.TheVariants as operation
 use Rattle.graphql_grammar.specs.Grammar.{IsDocument}
-use Rattle.graphql_grammar.proofs.Elements.{all_each}
+use Rattle.graphql_grammar.proofs.Public.{all_each}
 use Rattle.graphql_nodes.specs.declared.kind.NodeKind.TheVariants as kind
 use Rattle.graphql_nodes.specs.Nodes.{Node, Named, OnType, Typed, name_of, over, if_present, each, value_nodes, argument_nodes, arguments_nodes, directive_nodes, directives_nodes, variable_nodes, variables_nodes, alias_nodes, selection_nodes, optional_nodes, selections_nodes, definition_nodes, document_nodes, operation_kind}
 use Rattle.graphql_nodes.proofs.Splits.{shares}

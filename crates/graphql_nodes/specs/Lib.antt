@@ -2,4 +2,4 @@ pub mod Kinds
 pub mod Nodes
 pub mod Forests
 pub mod Types
-pub mod Spans
+pub mod laws

@@ -5,7 +5,7 @@ ghost use Rattle.graphql_grammar.specs.Tree.{Scalars, Definition};
 ghost use Rattle.graphql_grammar.specs.Grammar.{IsDocument};
 ghost use Rattle.graphql_nodes.specs.Nodes.{Node, document_nodes};
 ghost use Rattle.graphql_nodes.specs.Forests.{IsForest};
-ghost use Rattle.graphql_nodes.specs.Spans.{NodesLieIn};
+ghost use Rattle.graphql_nodes.specs.laws.SpanLaws.{NodesLieIn};
 
 /// Documents of the same nodes are the same tree, of whatever scalar types and tokens.
 pub fn nodes_tell_the_tree<C, F, G>()

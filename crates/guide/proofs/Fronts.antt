@@ -10,7 +10,7 @@ use Rattle.juniper_tokens.specs.declared.error.ParseFailure.{ParseFailure}
 use Rattle.juniper_tokens.specs.declared.error.ParseFailure.TheVariants as failure
 use Rattle.juniper_tokens.specs.declared.error.LexFailure.{LexFailure}
 use Rattle.juniper_tokens.specs.Errors.{Error, Fault, view_fault, failure_of}
-use Rattle.juniper.specs.Laws.{CutsOnce, IsRefusedAtBreak}
+use Rattle.juniper.specs.laws.TreeLaws.{CutsOnce, IsRefusedAtBreak}
 use Rattle.juniper.specs.Promise.{lexical_fault, Refuses, IfRefused, AnswersValue}
 use Rattle.guide.specs.Literals.{HasNoValue}
 

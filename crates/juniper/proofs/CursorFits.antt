@@ -13,14 +13,7 @@ use Rattle.graphql_grammar.specs.Tree.{Scalars, Arguments, Directive, Variables,
 use Rattle.graphql_grammar.specs.Grammar.{IsValue, IsArgument, IsArguments, IsDirective, IsVariableDefinition, IsVariables, IsSelection, IsSelectionSet, Each}
 use Rattle.graphql_grammar.specs.device.Reading.{of, word, passes, fully, many, a_value, a_selection, Steps, symbol}
 use Rattle.graphql_grammar.specs.device.Productions.{reads, optional, several, variable_start, variable, list, key_and_value, object, value, named_type, list_type, nullable_type, non_null, type, argument, arguments_inner, arguments, optional_arguments, directive, last_end, all_directives, directives, default, variable_definition, variables_inner, variables, optional_variables, selections_inner, selection_set, optional_set, names_span, names, field, named_spread, inline_parts, inline, typed, other_than_on, spread, any_selection, operation_word, optional_name, operation, type_condition, fragment_name, fragment, shorthand, definition}
-use Rattle.graphql_grammar.proofs.Rules.{Rule}
-use Rattle.graphql_grammar.proofs.PartRules.{Closed}
-use Rattle.graphql_grammar.proofs.Values.{value_rule, value_takes, IsField, field_rule, field_takes}
-use Rattle.graphql_grammar.proofs.DocumentRules.{argument_rule, argument_takes, arguments_rule, directive_rule, directive_takes, AreDirectives, directives_rule, variable_definition_rule, variable_takes, variables_rule}
-use Rattle.graphql_grammar.proofs.SelectionRules.{IsSpannedSet, selection_rule, selection_takes, set_rule, select_takes}
-use Rattle.graphql_grammar.proofs.Sequences.{row_before}
-use Rattle.graphql_grammar.proofs.Extents.{Runs, RunsOn, runs_one, runs_on, runs_of, took_is, closed_runs, arguments_have, variables_have, directive_has}
-use Rattle.graphql_grammar.proofs.Answered.{reads_answer, closed_rule, closed_answer, each_answer}
+use Rattle.graphql_grammar.proofs.Public.{Rule, Closed, value_rule, value_takes, IsField, field_rule, field_takes, argument_rule, argument_takes, arguments_rule, directive_rule, directive_takes, AreDirectives, directives_rule, variable_definition_rule, variable_takes, variables_rule, IsSpannedSet, selection_rule, selection_takes, set_rule, select_takes, row_before, Runs, RunsOn, runs_one, runs_on, runs_of, took_is, closed_runs, arguments_have, variables_have, directive_has, reads_answer, closed_rule, closed_answer, each_answer}
 use Rattle.juniper_tokens.specs.Errors.{Error}
 use Rattle.juniper_tokens.specs.Cursor.{Read, ◌>>=◌, first_of, kind_at, next_at, next_if}
 use Rattle.juniper.specs.device.Seen.{seen}

@@ -7,8 +7,7 @@ use Rattle.graphql_grammar.specs.Tree.{Scalars, Value}
 use Rattle.graphql_grammar.specs.device.Reading.{Test, passes, Took, Refused, Out, Reader, after, seq, done, want, literal, on, pick, look, choose, with_span, front, many, repeated, fully, Symbol, Steps, gives, gives_at, wants, takes, sees, part, symbol, spanned, scalar, closed, each}
 use Rattle.graphql_grammar.specs.device.Reading as reading
 use Rattle.graphql_grammar.specs.device.Productions.{symbol_at, reads}
-use Rattle.graphql_grammar.proofs.Fuel.{Answers, settled}
-use Rattle.graphql_grammar.proofs.Extents.{Runs, runs_front}
+use Rattle.graphql_grammar.proofs.Public.{Answers, settled, Runs, runs_front}
 use Rattle.juniper_tokens.specs.Errors.{Error}
 use Rattle.juniper_tokens.specs.Cursor.{Read, ◌>>=◌, nowhere, no_lexeme, first_of, next_at, next_if}
 use Rattle.juniper.specs.device.Seen.{seen}

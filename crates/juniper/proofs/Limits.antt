@@ -7,18 +7,14 @@ use Rattle.std.specs.List.{AllByRecursion}
 use Rattle.graphql_lexical.specs.Place.{Place, Span}
 use Rattle.graphql_lexical.specs.Kinds.{LexicalError}
 use Rattle.graphql_lexical.specs.Cutting.{Lexeme, Cut, Breaks, BreaksFrom}
-use Rattle.graphql_lexical.proofs.Cuts.{one_end}
+use Rattle.graphql_lexical.proofs.Public.{one_end, one_deep, crossed, IsWide, tokens_wide}
 use Rattle.graphql_lexical.specs.Nesting.{nesting, IsFirstDeeper, ended_by}
-use Rattle.graphql_lexical.proofs.DeepTokens.{one_deep, crossed}
-use Rattle.graphql_lexical.proofs.Widths.{IsWide, tokens_wide}
 use Rattle.graphql_grammar.specs.Tree.{Scalars, Definition}
 use Rattle.graphql_grammar.specs.Grammar.{IsDocument}
 use Rattle.graphql_grammar.specs.Tokens.{IsSpelled}
 use Rattle.graphql_grammar.specs.Faults.{Fault, EndsOnce}
 use Rattle.graphql_grammar.specs.Depth.{BeginsDocument, IsTooDeep}
-use Rattle.graphql_grammar.proofs.OneFault.{same_parts, document_or_fault}
-use Rattle.graphql_grammar.proofs.Spelling.{cut_spelled, cut_ends}
-use Rattle.graphql_grammar.proofs.Depths.{short_spelled, short_ends, TellsDepth, short_no_document, short_tells, middle_of}
+use Rattle.graphql_grammar.proofs.Public.{same_parts, document_or_fault, cut_spelled, cut_ends, short_spelled, short_ends, TellsDepth, short_no_document, short_tells, middle_of}
 use Rattle.juniper_tokens.specs.declared.error.ParseError.{ParseError}
 use Rattle.juniper_tokens.specs.declared.error.ParseFailure.{ParseFailure}
 use Rattle.juniper_tokens.specs.declared.error.ParseFailure.TheVariants as failure

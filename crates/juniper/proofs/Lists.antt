@@ -8,8 +8,7 @@ use Rattle.graphql_grammar.specs.Samples.{sample, IsSample}
 use Rattle.graphql_grammar.specs.Tree.{Scalars}
 use Rattle.graphql_grammar.specs.device.Reading.{of, passes, Reader, seq, done, on, pick, many, repeated, fully, Steps}
 use Rattle.graphql_grammar.specs.device.Productions.{reads, several}
-use Rattle.graphql_grammar.proofs.Rules.{Rule}
-use Rattle.graphql_grammar.proofs.Answered.{reads_answer, closed_answer, each_answer, many_law, repeats_law}
+use Rattle.graphql_grammar.proofs.Public.{Rule, reads_answer, closed_answer, each_answer, many_law, repeats_law}
 use Rattle.juniper_tokens.specs.Errors.{Error}
 use Rattle.juniper_tokens.specs.Cursor.{Read, ◌>>=◌, EndsOnce, kind_at}
 use Rattle.juniper.specs.device.Seen.{seen}

@@ -12,10 +12,8 @@ use Rattle.graphql_grammar.specs.Faults as grammar
 use Rattle.graphql_grammar.specs.Faults.{ValueRefusedAt, TypeRefusedAt}
 use Rattle.graphql_grammar.specs.device.Reading.{Took, Refused, Out, Reader, GivesFront, fully, a_value, a_type}
 use Rattle.graphql_grammar.specs.device.Productions.{symbol_at}
-use Rattle.graphql_grammar.proofs.DocumentRules.{IsSpannedType}
+use Rattle.graphql_grammar.proofs.Public.{IsSpannedType, value_given, type_given, value_found}
 use Rattle.graphql_grammar.specs.device.Reading as reading
-use Rattle.graphql_grammar.proofs.Given.{value_given, type_given}
-use Rattle.graphql_grammar.proofs.Found.{value_found}
 use Rattle.juniper_tokens.specs.declared.error.ParseFailure.{ParseFailure}
 use Rattle.juniper_tokens.specs.declared.error.ParseFailure.TheVariants as failure
 use Rattle.juniper_tokens.specs.Errors.{Error, Fault, view_fault}

@@ -10,7 +10,7 @@ use Rattle.juniper_values.specs.View as inputs
 use Rattle.juniper_values.specs.declared.input_value.InputValue.{InputValue, ind-InputValue, roll-InputValue, fold-roll-InputValue}
 use Rattle.juniper_values.specs.declared.input_value.InputValue.TheOpen.{InputValue-F}
 use Rattle.juniper_values.specs.declared.input_value.InputValue.TheFolds.{map-InputValue}
-use Rattle.juniper_values.proofs.Copies.{at_item, at_value}
+use Rattle.juniper_values.proofs.Public.{at_item, at_value}
 use Rattle.juniper.specs.View.{items_by, fields_by, view_at, view_step}
 
 abbrev mutual

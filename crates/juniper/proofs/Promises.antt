@@ -4,7 +4,7 @@ use Rattle.std.specs.List.{AllByRecursion}
 use Rattle.graphql_lexical.specs.Place.{Place}
 use Rattle.graphql_lexical.specs.Kinds.{LexicalError}
 use Rattle.graphql_lexical.specs.Cutting.{Lexeme, CutFrom, BreaksFrom, Cut, Breaks}
-use Rattle.graphql_lexical.proofs.Cuts.{one_end}
+use Rattle.graphql_lexical.proofs.Public.{one_end}
 use Rattle.graphql_grammar.specs.Tree.{Scalars, Definition}
 use Rattle.graphql_grammar.specs.Grammar.{IsDocument}
 use Rattle.graphql_grammar.specs.Faults.{EndsOnce, DocumentRefusedAt}
@@ -12,11 +12,7 @@ use Rattle.graphql_grammar.specs.Tokens.{IsSpelled}
 use Rattle.graphql_grammar.specs.device.Reading.{Took, Refused, Out, GivesWhole, fully}
 use Rattle.graphql_grammar.specs.device.Productions.{reads, document}
 use Rattle.graphql_grammar.specs.device.Reading as reading
-use Rattle.graphql_grammar.proofs.Given.{document_given}
-use Rattle.graphql_grammar.proofs.OneFault.{never_both}
-use Rattle.graphql_grammar.proofs.Readers.{one_document}
-use Rattle.graphql_grammar.proofs.Spelling.{cut_spelled, cut_ends}
-use Rattle.graphql_grammar.proofs.Texts.{fault_in_text}
+use Rattle.graphql_grammar.proofs.Public.{document_given, never_both, one_document, cut_spelled, cut_ends, fault_in_text}
 use Rattle.juniper_tokens.specs.declared.error.ParseFailure.{ParseFailure}
 use Rattle.juniper_tokens.specs.declared.error.ParseFailure.TheVariants as failure
 use Rattle.juniper_tokens.specs.declared.error.LexFailure.{LexFailure}
@@ -29,7 +25,7 @@ use Rattle.juniper_tokens.specs.Cursor.{Read}
 use Rattle.juniper_tokens.specs.Lexing.{LexerState, started}
 use Rattle.juniper_tokens.specs.Gathering.{IfFault}
 use Rattle.juniper.specs.device.Seen.{seen}
-use Rattle.juniper.specs.Laws.{FailsAtBreak, IsRefusedAtBreak}
+use Rattle.juniper.specs.laws.TreeLaws.{FailsAtBreak, IsRefusedAtBreak}
 use Rattle.juniper.specs.Promise.{lexical_fault, HasTree, IsRefusedAt, IsRefusal, IsRefusalInText, IfRefused, AnswersAs}
 use Rattle.juniper.specs.device.Steps.{cursor}
 use Rattle.juniper.proofs.Stepping.{seen_took}

@@ -11,8 +11,7 @@ use Rattle.graphql_grammar.specs.Tokens.{Text, nowhere, span_of}
 use Rattle.graphql_grammar.specs.Tree.{Value, Null, Scalar, Enum, Variable, ListOf, Object, Items, no_items, item, ObjectFields, no_fields, object_field, TypeRef, NamedType, ListType, NonNullType}
 use Rattle.graphql_grammar.specs.Grammar.{◌·◌, Sequence, IsToken, Is, IsValue, AreItems, AreFields, IsType}
 use Rattle.graphql_grammar.specs.Unlocated.{unlocated_value, unlocated_items, unlocated_fields}
-use Rattle.graphql_grammar.proofs.DocumentRules.{IsNullable, name_nullable, list_nullable}
-use Rattle.graphql_grammar.proofs.Sequences.{row, row_as, row_map, row_front, row_back, token_is}
+use Rattle.graphql_grammar.proofs.Public.{IsNullable, name_nullable, list_nullable, row, row_as, row_map, row_front, row_back, token_is}
 use Rattle.juniper_values.specs.Value as input
 use Rattle.juniper_values.specs.Scalar.{Content, integer, text, boolean, custom}
 use Rattle.juniper_values.specs.Default.{default_content, default_shown, plain_shown, text_in}
@@ -20,14 +19,12 @@ use Rattle.juniper_values.specs.ScalarDisplay.{scalar_display}
 use Rattle.juniper_values.specs.View.{view}
 use Rattle.juniper_values.specs.declared.default_scalar.DefaultScalarValue.{DefaultScalarValue}
 use Rattle.juniper_values.specs.declared.input_value.InputValue.{InputValue}
-use Rattle.juniper_values.proofs.Copies.{view-replaced, text_replaced}
+use Rattle.juniper_values.proofs.Public.{view-replaced, text_replaced, integer_read_back, type_is_cut, value_is_cut, plain_unescaped}
 use Rattle.juniper_values.specs.Display.{value_text}
 use Rattle.juniper_values.specs.TypeLiteral.{type_text}
 use Rattle.juniper_values.specs.ReadBack.{token, punctuation, opening_tokens, closing_tokens, wrapped_tokens, scalar_token, value_tokens, items_tokens, fields_tokens, IsPlainScalar, IsPlain, ArePlainItems, ArePlainFields}
 use Rattle.juniper_values.specs.declared.type_literal.TypeModifier.{TypeModifier}
 use Rattle.juniper_values.specs.declared.type_literal.TypeModifier.TheVariants.{NonNull, List as ListModifier}
-use Rattle.juniper_values.proofs.WrittenIntegers.{integer_read_back}
-use Rattle.juniper_values.proofs.ReadBack.{type_is_cut, value_is_cut, plain_unescaped}
 use Rattle.juniper.specs.View.{wrapped}
 use Rattle.juniper.specs.Scalars.{default_scalars}
 use Rattle.juniper.specs.ReadBack.{BeginsUnmarked, AreWritable, IsReadAsType, type_of, IsReadBack}

@@ -8,11 +8,7 @@ use Rattle.graphql_grammar.specs.Grammar.{IsValue, IsArgument, IsVariableDefinit
 use Rattle.graphql_grammar.specs.declared.operation.OperationType.{OperationType}
 use Rattle.graphql_grammar.specs.device.Reading.{of, passes, fully, a_value, a_type, a_selection, Symbol, symbol}
 use Rattle.graphql_grammar.specs.device.Productions.{steps_of, symbol_at, reads, value, type, any_selection, key_and_value, argument, arguments_inner, directive, variable_definition, variables_inner, selections_inner, operation_word, operation_of, definition, document, operation}
-use Rattle.graphql_grammar.proofs.Fuel.{Answers}
-use Rattle.graphql_grammar.proofs.Values.{value_rule, value_takes, IsField, field_rule, field_takes}
-use Rattle.graphql_grammar.proofs.DocumentRules.{argument_rule, argument_takes, directive_rule, directive_takes, variable_definition_rule, variable_takes}
-use Rattle.graphql_grammar.proofs.SelectionRules.{selection_rule, selection_takes, definition_rule, definition_takes, document_rule}
-use Rattle.graphql_grammar.proofs.Answered.{values_answer, types_answer, selections_answer, reads_answer, closed_answer}
+use Rattle.graphql_grammar.proofs.Public.{Answers, value_rule, value_takes, IsField, field_rule, field_takes, argument_rule, argument_takes, directive_rule, directive_takes, variable_definition_rule, variable_takes, selection_rule, selection_takes, definition_rule, definition_takes, document_rule, values_answer, types_answer, selections_answer, reads_answer, closed_answer}
 use Rattle.juniper_tokens.specs.Errors.{Error}
 use Rattle.juniper_tokens.specs.Cursor.{◌>>=◌, first_of, kind_at, next_at}
 use Rattle.juniper.specs.device.Seen.{seen}

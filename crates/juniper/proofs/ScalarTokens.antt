@@ -5,7 +5,7 @@ use Rattle.graphql_lexical.specs.Kinds.{same_kind}
 use Rattle.graphql_lexical.specs.Cutting.{Lexeme}
 use Rattle.graphql_grammar.specs.Tree.{Scalars}
 use Rattle.graphql_grammar.specs.device.Reading.{passes, scalar_token, refuse, fault_of, literal, read_as}
-use Rattle.graphql_grammar.proofs.TokenTests.{of_kind}
+use Rattle.graphql_grammar.proofs.Public.{of_kind}
 use Rattle.juniper_tokens.specs.Errors.{Error}
 use Rattle.juniper.specs.device.Seen.{seen}
 use Rattle.juniper.specs.Promise.{past}

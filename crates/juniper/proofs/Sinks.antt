@@ -6,7 +6,7 @@ use Rattle.graphql_lexical.specs.Nesting.{end_behind}
 use Rattle.graphql_grammar.specs.Tree.{Scalars, Definition}
 use Rattle.graphql_grammar.specs.Grammar.{Each, IsDefinition}
 use Rattle.graphql_grammar.specs.device.Productions.{definition}
-use Rattle.graphql_grammar.proofs.Spelling.{cut_ends}
+use Rattle.graphql_grammar.proofs.Public.{cut_ends}
 use Rattle.juniper_tokens.specs.Cursor.{EndsOnce}
 use Rattle.juniper_tokens.specs.Errors.{Error}
 use Rattle.juniper_tokens.specs.Nesting.{EndsAtNesting}

@@ -6,7 +6,7 @@ use Rattle.graphql_grammar.specs.Tree.{Scalars, TypeRef}
 use Rattle.graphql_grammar.specs.device.Reading.{Test, passes, Took, Refused, Out, Reader, after, seq, look, choose, a_value, a_type, a_selection}
 use Rattle.graphql_grammar.specs.device.Reading as reading
 use Rattle.graphql_grammar.specs.device.Productions.{symbol_at, named_type, list_type, nullable_type, non_null, type}
-use Rattle.graphql_grammar.proofs.Answered.{values_answer, types_answer, selections_answer}
+use Rattle.graphql_grammar.proofs.Public.{values_answer, types_answer, selections_answer}
 use Rattle.juniper_tokens.specs.Errors.{Error}
 use Rattle.juniper.specs.device.Seen.{seen}
 use Rattle.juniper.specs.device.Steps.{no_scalars, value_read, type_read, selection_read}

@@ -7,4 +7,4 @@ pub mod Sinks
 pub mod Named
 pub mod ReadBack
 pub mod Sources
-pub mod Laws
+pub mod laws

@@ -26,7 +26,7 @@ ghost use Rattle.juniper_values.specs.declared.input_value.InputValue.{InputValu
 ghost use Rattle.juniper_values.specs.declared.type_literal.TypeModifier.{TypeModifier};
 ghost use Rattle.juniper.specs.ReadBack.{AreWritable, IsReadAsType, IsReadBack, type_of};
 ghost use Rattle.juniper.specs.Promise.{HasTree, IsRefusal};
-ghost use Rattle.juniper.specs.Laws.{CutsOnce, FailsAtBreak, IsRefusedAtBreak, SeesValues, SeesSelections};
+ghost use Rattle.juniper.specs.laws.TreeLaws.{CutsOnce, FailsAtBreak, IsRefusedAtBreak, SeesValues, SeesSelections};
 ghost use Rattle.juniper.specs.Scalars.{stated};
 ghost use Rattle.juniper.specs.Sources.{AreRefusedAlike};
 ghost use Rattle.juniper.specs.Within.{HasTooDeep, HasOneAnswer};

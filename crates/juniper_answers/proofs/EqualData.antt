@@ -10,7 +10,7 @@ use Rattle.std.proofs.lemmas.Bool.{and_from}
 use Rattle.std.proofs.lemmas.Str.{encodes-chars, IsUtf8-string_bytes}
 use lib.Utf8.{encodes}
 use Rattle.juniper_answers.specs.Data.{Data, null, scalar, list, object, Items, no_items, item, Fields, no_fields, field}
-use Rattle.juniper_answers.specs.Laws.{ComparesParts}
+use Rattle.juniper_answers.specs.laws.AnswerLaws.{ComparesParts}
 use Rattle.juniper_answers.specs.Lift.{Lifts, ItemsLift, FieldsLift}
 use Rattle.juniper_answers.specs.Same.{as_map}
 use Rattle.juniper_answers.specs.View.{view, shape, items_view, fields_view, pairs}

@@ -3,10 +3,10 @@ use Rattle.std.proofs.Common.{◌≡◌, Bool, None, List, [], ◌∷◌, length
 use Rattle.std.specs.Cmp.{IsEquivalence}
 use Rattle.std.specs.Iterator.{Yields, at_most}
 use Rattle.std.specs.Map.Iter.{TakesFirst}
-use Rattle.juniper_values.specs.Laws.{IsEqualityLike}
+use Rattle.juniper_values.specs.laws.ValueLaws.{IsEqualityLike}
 use Rattle.juniper_answers.specs.Data.{Data, null, scalar, list, object, Items, no_items, item, Fields, no_fields, field}
 use Rattle.juniper_answers.specs.Input.{as_input, items_as_input, fields_as_input}
-use Rattle.juniper_answers.specs.Laws.{IsPlainInput, ArePlainItems, ArePlainFields, ShowsAll}
+use Rattle.juniper_answers.specs.laws.AnswerLaws.{IsPlainInput, ArePlainItems, ArePlainFields, ShowsAll}
 
 pub equality_like : {A : Type 0} (eq : A → A → Bool) → IsEquivalence eq → IsEqualityLike eq
 equality_like eq l = record { reflexive = l.refl; symmetric = l.symm; transitive = λ a b c p q. l.congr a b c p ∙ q }

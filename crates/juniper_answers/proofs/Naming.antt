@@ -10,9 +10,8 @@ use Rattle.graphql_lexical.specs.Tokens.{IsName, Spells, text_of}
 use Rattle.graphql_lexical.specs.Reading.{Reads}
 use Rattle.graphql_lexical.specs.Cutting.{Lexeme, Cut}
 use Rattle.graphql_lexical.specs.laws.Written.{AreOf}
-use Rattle.graphql_lexical.proofs.Joints.{few_tokens}
-use Rattle.graphql_lexical.proofs.Writing.{writes_nothing, writes_token}
-use Rattle.juniper_answers.specs.Laws.{IsOneName}
+use Rattle.graphql_lexical.proofs.Public.{few_tokens, writes_nothing, writes_token}
+use Rattle.juniper_answers.specs.laws.AnswerLaws.{IsOneName}
 use Rattle.juniper_answers.specs.Names.{is_name}
 
 all_held : (cs : List ℕ) → list_all is_name_character cs ≡ true → AllByRecursion (λ d. IsTrue (is_name_character d)) cs

@@ -238,7 +238,7 @@ impl<V: Drop> Iterator for IntoIter<V> {
 
 // Equal where each key of either is in both, with equal values, in whatever order.
 impl<V: PartialEq> PartialEq for Entries<V> {
-    ghost use Rattle.juniper_answers.specs.EqualityLaws.{same_held_per};
+    ghost use Rattle.juniper_answers.specs.laws.EqualityLaws.{same_held_per};
     ghost use Rattle.juniper_answers.specs.Same.{same_held};
 
     ghost eq = { same_held V.eq };
@@ -266,7 +266,7 @@ impl<V: PartialEq> PartialEq for Entries<V> {
 }
 
 impl<V: Eq> Eq for Entries<V> {
-    ghost use Rattle.juniper_answers.specs.EqualityLaws.{same_held_equiv};
+    ghost use Rattle.juniper_answers.specs.laws.EqualityLaws.{same_held_equiv};
 
     ghost laws = { same_held_equiv V.eq V.Eq.laws };
 }

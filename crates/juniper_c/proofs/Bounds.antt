@@ -6,8 +6,8 @@ use Rattle.std.proofs.lemmas.Str.{encodes-chars}
 use Rattle.graphql_grammar.specs.Tree.{Definition}
 use Rattle.graphql_nodes.specs.Nodes as nodes
 use Rattle.graphql_nodes.specs.Nodes.{document_nodes}
-use Rattle.graphql_nodes.proofs.Few.{few_nodes_of_source}
-use Rattle.juniper_tokens.proofs.Borders.{chars_within}
+use Rattle.graphql_nodes.proofs.Public.{few_nodes_of_source}
+use Rattle.juniper_tokens.proofs.Public.{chars_within}
 use Rattle.juniper_values.specs.Scalar.{Content}
 use Rattle.juniper_c.specs.Nodes.{byte_count, told_nodes}
 use Rattle.juniper_nodes.specs.NodeTexts.{text_of_node}

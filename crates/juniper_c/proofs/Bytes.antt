@@ -9,7 +9,7 @@ use Rattle.std.proofs.lemmas.List.{length-take}
 use Rattle.std.proofs.lemmas.Option.{unwrap_or-slice_get}
 use Rattle.std.proofs.lemmas.Str.{chars-IsAscii, encodes-IsAscii, encodes-chars, encode_ascii, IsAscii-take}
 use Rattle.juniper_tokens.specs.device.ByteRuns.{is_inner}
-use Rattle.juniper_tokens.proofs.ByteRuns.{wide, inner_low, inner_high, low_or_high}
+use Rattle.juniper_tokens.proofs.Public.{wide, inner_low, inner_high, low_or_high}
 use Rattle.juniper_c.specs.Places.{byte_behind}
 
 -- of a text that is ASCII

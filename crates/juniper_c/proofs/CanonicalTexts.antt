@@ -6,8 +6,8 @@ use Rattle.graphql_lexical.specs.Place.{Place}
 use Rattle.graphql_lexical.specs.Kinds.{LexicalError}
 use Rattle.graphql_lexical.specs.Canonical.{canonical}
 use Rattle.graphql_lexical.specs.Cutting.{Lexeme, Breaks}
-use Rattle.graphql_lexical.proofs.CanonicalSizes.{has_canonical_sizes}
-use Rattle.juniper_tokens.proofs.Borders.{chars_within}
+use Rattle.graphql_lexical.proofs.Public.{has_canonical_sizes}
+use Rattle.juniper_tokens.proofs.Public.{chars_within}
 use Rattle.juniper_c.specs.Tokens.{HasTokens}
 use Rattle.juniper_c.specs.CanonicalTexts.{AnswersCanonical, IsToldRefusal}
 use Rattle.juniper_c.specs.declared.canonical.Canonical.{Canonical}

@@ -11,16 +11,14 @@ use Rattle.graphql_lexical.specs.Place.{place}
 use Rattle.graphql_lexical.specs.Kinds.{LexicalError}
 use Rattle.graphql_lexical.specs.Cutting.{Breaks}
 use Rattle.graphql_lexical.specs.laws.Laws.{HasOneEnd}
-use Rattle.graphql_lexical.proofs.Cuts.{one_end}
+use Rattle.graphql_lexical.proofs.Public.{one_end}
 use Rattle.graphql_grammar.specs.Tree.{Definition}
 use Rattle.graphql_nodes.specs.Nodes as nodes
 use Rattle.graphql_nodes.specs.Nodes.{document_nodes}
-use Rattle.graphql_nodes.specs.Spans.{IsPlaceOf, LiesIn, NodesLieIn}
-use Rattle.graphql_nodes.proofs.Few.{few_nodes_of_source}
-use Rattle.graphql_nodes.proofs.Forests.{document_forest, descendants_behind}
-use Rattle.graphql_nodes.proofs.Lying.{nodes_lie, tokens_lie, token_among, broken_lies}
+use Rattle.graphql_nodes.specs.laws.SpanLaws.{IsPlaceOf, LiesIn, NodesLieIn}
+use Rattle.graphql_nodes.proofs.Public.{few_nodes_of_source, document_forest, descendants_behind, nodes_lie, tokens_lie, token_among, broken_lies}
 use Rattle.juniper_tokens.specs.Errors as errors
-use Rattle.juniper_tokens.proofs.Borders.{chars_within}
+use Rattle.juniper_tokens.proofs.Public.{chars_within}
 use Rattle.juniper_values.specs.Scalar.{Content}
 use Rattle.juniper.specs.Promise.{HasTree, IsRefusal}
 use Rattle.juniper.specs.Within.{HasTooDeep}

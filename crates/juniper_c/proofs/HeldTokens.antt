@@ -6,10 +6,9 @@ use Rattle.graphql_lexical.specs.declared.kind.Kind.TheVariants.{EndOfFile}
 use Rattle.graphql_lexical.specs.Place.{Place, Span}
 use Rattle.graphql_lexical.specs.Kinds.{LexicalError}
 use Rattle.graphql_lexical.specs.Cutting.{Lexeme, Stands, Leads, CutFrom, Cut, BreaksFrom, Breaks, here}
-use Rattle.graphql_lexical.proofs.Cuts.{stands_size, leads_size, front_cut, front_breaks}
+use Rattle.graphql_lexical.proofs.Public.{stands_size, leads_size, front_cut, front_breaks}
 use Rattle.juniper_tokens.specs.Lexing.{LexerState, started, BreaksAt}
-use Rattle.juniper_tokens.proofs.Borders.{chars_within}
-use Rattle.juniper_tokens.proofs.Gathering.{Gathered, gathered_open, gathered_token}
+use Rattle.juniper_tokens.proofs.Public.{chars_within, Gathered, gathered_open, gathered_token}
 use Rattle.juniper_c.specs.Answers.{Fills}
 use Rattle.juniper_c.specs.TokenCounts.{HasMore}
 use Rattle.juniper_c.specs.Tokens.{told_token, told_tokens, HasTokens, HasFaultBehind}

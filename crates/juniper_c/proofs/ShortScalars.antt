@@ -12,8 +12,7 @@ use Rattle.juniper_values.specs.Default.{default_reading}
 use Rattle.juniper.specs.Scalars.{stated}
 use Rattle.juniper_nodes.specs.Literal.{of_large_int, of_float, of_block}
 use Rattle.juniper_nodes.specs.NodeTexts.{node_texts}
-use Rattle.juniper_nodes.proofs.ShortContents.{MakesShort, ReadsShort, without_text, string_kept, of_block_means, default_is_short}
-use Rattle.juniper_nodes.proofs.NodeTexts.{texts_are_short}
+use Rattle.juniper_nodes.proofs.Public.{MakesShort, ReadsShort, without_text, string_kept, of_block_means, default_is_short, texts_are_short}
 use Rattle.juniper_c.specs.Scalars.{int_reading, scalar_reading}
 
 int_kept : (t : Text) (r : Reading) → MakesShort t r → MakesShort t (int_reading r)

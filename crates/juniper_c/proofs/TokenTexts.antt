@@ -9,7 +9,7 @@ use Rattle.graphql_lexical.specs.Place.{Place}
 use Rattle.graphql_lexical.specs.Kinds.{Spelling, Names, Strings, BlockStrings, Floats, Ints, Fixed, NoText, spelling}
 use Rattle.graphql_lexical.specs.Tokens.{mark, quotes, around, written}
 use Rattle.graphql_lexical.specs.Cutting.{Lexeme, Stands}
-use Rattle.graphql_lexical.proofs.Slices.{front_read, place_index}
+use Rattle.graphql_lexical.proofs.Public.{front_read, place_index}
 use Rattle.juniper_c.specs.Places.{byte_behind}
 use Rattle.juniper_c.specs.Tokens.{quote_count, TellsText}
 

@@ -28,13 +28,13 @@ pub(crate) enum Scalar {
 }
 
 impl PartialEq for Scalar {
-    ghost use Rattle.juniper_values.specs.ScalarLaws.{partial_by_content};
+    ghost use Rattle.juniper_values.specs.laws.ScalarLaws.{partial_by_content};
 
     ghost eq = { λ a b. same_content (scalar_content a) (scalar_content b) };
 
     ghost laws = { partial_by_content scalar_content };
 
-    #[tactic(auto, using(juniper_nodes::proofs::Literals::no_custom, juniper_nodes::proofs::Literals::custom_no))]
+    #[tactic(auto, using(juniper_nodes::proofs::Public::no_custom, juniper_nodes::proofs::Public::custom_no))]
     fn eq(&self, other: &Scalar) -> bool {
         match (self, other) {
             (Scalar::Default(a), Scalar::Default(b)) => a == b,
@@ -53,7 +53,7 @@ fn same_block(a: &str, b: &str) -> bool
 }
 
 impl Eq for Scalar {
-    ghost use Rattle.juniper_values.specs.ScalarLaws.{by_content};
+    ghost use Rattle.juniper_values.specs.laws.ScalarLaws.{by_content};
 
     ghost laws = { by_content scalar_content };
 }
@@ -62,7 +62,7 @@ impl Eq for Scalar {
 impl fmt::Display for Scalar {
     ghost output = { λ s. Some (encode_utf8_all (literal_shown (scalar_content s))) };
 
-    #[tactic(auto, using(juniper_nodes::proofs::Literals::shown_back))]
+    #[tactic(auto, using(juniper_nodes::proofs::Public::shown_back))]
     fn fmt<W: fmt::Write>(&self, f: &mut fmt::Formatter<W>) -> fmt::Result {
         match self {
             Scalar::Default(scalar) => scalar.fmt(f),
@@ -129,10 +129,10 @@ impl ScalarValue for Scalar {
     ghost use Rattle.std.specs.Prelude.{refl};
     ghost use Rattle.juniper_values.specs.Scalar.{boolean, integer, text};
     ghost use Rattle.juniper_values.specs.Default.{bool_in};
-    ghost use Rattle.juniper_values.specs.ScalarLaws.{same_content-Decides};
+    ghost use Rattle.juniper_values.specs.laws.ScalarLaws.{same_content-Decides};
     ghost use Rattle.juniper_nodes.specs.Literal.{int_in, str_in, string_in};
-    ghost use Rattle.juniper_nodes.specs.LiteralLaws.{lent-is_string};
-    ghost use Rattle.juniper_c.specs.ScalarLaws.{scalar-has_form};
+    ghost use Rattle.juniper_nodes.specs.laws.LiteralLaws.{lent-is_string};
+    ghost use Rattle.juniper_c.specs.laws.ScalarLaws.{scalar-has_form};
 
     ghost of_bool = { boolean };
 
@@ -188,7 +188,7 @@ impl ScalarValue for Scalar {
         }
     }
 
-    #[tactic(auto, using(juniper_nodes::proofs::Literals::shown_back))]
+    #[tactic(auto, using(juniper_nodes::proofs::Public::shown_back))]
     fn try_as_str(&self) -> Option<&str> {
         match self {
             Scalar::Default(scalar) => scalar.try_as_str(),

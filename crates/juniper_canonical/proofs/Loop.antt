@@ -13,12 +13,12 @@ use Rattle.juniper_tokens.specs.declared.token.Token.{Token}
 use Rattle.juniper_tokens.specs.Tokens.{view_token, token_kind}
 use Rattle.juniper_tokens.specs.Lexing.{LexerState, started, lexer_steps, BreaksAt, GivesFault, GivesItem}
 use Rattle.std.specs.Result.{IsErrAnd}
-use Rattle.graphql_lexical.proofs.Cuts.{front_breaks}
+use Rattle.graphql_lexical.proofs.Public.{front_breaks}
 use Rattle.juniper_tokens.specs.declared.error.LexFailure.{LexFailure}
 use Rattle.juniper_tokens.specs.declared.error.LexFailure.TheVariants as failures
 use Rattle.juniper_tokens.specs.Errors.{view_lexer_error}
 use Rattle.juniper_tokens.specs.Gathering.{IfFault}
-use Rattle.juniper_tokens.proofs.Gathering.{Gathered, gathered_open, gathered_token}
+use Rattle.juniper_tokens.proofs.Public.{Gathered, gathered_open, gathered_token}
 use Rattle.graphql_lexical.specs.Canonical.{is_parted, space_if, canonical}
 use Rattle.graphql_lexical.specs.Tokens.{written}
 

@@ -9,3 +9,4 @@ pub mod Rows
 pub mod SelectionNodes
 pub mod ValueNodes
 pub mod TypeTexts
+pub mod Public

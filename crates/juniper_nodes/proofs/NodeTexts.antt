@@ -6,12 +6,12 @@ use Rattle.std.specs.List.{sum_by}
 use Rattle.std.proofs.lemmas.List.Sums.{sum_by-cons, sum_by-append}
 use Rattle.graphql_lexical.specs.declared.kind.Kind.{Kind}
 use Rattle.graphql_lexical.specs.Cutting.{Lexeme, Cut}
-use Rattle.graphql_lexical.proofs.Cuts.{cut_front}
+use Rattle.graphql_lexical.proofs.Public.{cut_front}
 use Rattle.graphql_grammar.specs.Tree.{TypeRef, NamedType, ListType, NonNullType, Definition}
 use Rattle.graphql_grammar.specs.Grammar.{Sequence, IsType, IsDocument}
 use Rattle.graphql_nodes.specs.Nodes.{Node, Label, Unnamed, Named, OnType, Typed, document_nodes}
 use Rattle.graphql_nodes.specs.Types.{type_text}
-use Rattle.graphql_nodes.proofs.Measures.{IsUntyped, Weighs, document_front}
+use Rattle.graphql_nodes.proofs.Public.{IsUntyped, Weighs, document_front}
 use Rattle.juniper_values.specs.Text.{Text}
 use Rattle.juniper_values.specs.Scalar.{Content, boolean, Reading}
 use Rattle.juniper.specs.Scalars.{stated}

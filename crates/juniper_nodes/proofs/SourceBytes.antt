@@ -10,7 +10,7 @@ use Rattle.graphql_lexical.specs.Kinds.{spelling}
 use Rattle.graphql_lexical.specs.Tokens.{quotes, between}
 use Rattle.graphql_lexical.specs.Reading.{Reads}
 use Rattle.graphql_lexical.specs.Cutting.{Lexeme, Leads}
-use Rattle.graphql_lexical.proofs.Cuts.{reads_size}
+use Rattle.graphql_lexical.proofs.Public.{reads_size}
 use Rattle.juniper_values.specs.Text.{Text}
 use Rattle.juniper_nodes.proofs.TextLengths.{size, size_joins, drop_is_short}
 

@@ -9,7 +9,7 @@ use Rattle.juniper_tokens.specs.declared.span.Spanning.{Spanning}
 use Rattle.juniper_values.specs.declared.input_value.InputValue.{InputValue}
 use Rattle.juniper_values.specs.declared.input_value.InputValue.TheVariants as V
 use Rattle.juniper.specs.View.{text_of, view_at, view_value, view_object_field}
-use Rattle.juniper.specs.Laws.{SeesValues}
+use Rattle.juniper.specs.laws.TreeLaws.{SeesValues}
 
 -- the nodes of an object's field
 abbrev pub field_nodes : {C : Type 0} → Word × Value C → List (Node C)

@@ -1,4 +1,4 @@
 pub mod Literal
-pub mod LiteralLaws
+pub mod laws
 pub mod NodeTexts
 pub mod NodeViews

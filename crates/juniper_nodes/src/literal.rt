@@ -49,7 +49,7 @@ pub enum Literal {
 
 impl PartialEq for Literal {
     ghost use Rattle.juniper_values.specs.Scalar.{same_content};
-    ghost use Rattle.juniper_values.specs.ScalarLaws.{partial_by_content};
+    ghost use Rattle.juniper_values.specs.laws.ScalarLaws.{partial_by_content};
 
     ghost eq = { λ a b. same_content (literal_content a) (literal_content b) };
 
@@ -101,7 +101,7 @@ fn same_string(a: &StringLiteral, b: &StringLiteral) -> bool
 }
 
 impl Eq for Literal {
-    ghost use Rattle.juniper_values.specs.ScalarLaws.{by_content};
+    ghost use Rattle.juniper_values.specs.laws.ScalarLaws.{by_content};
 
     ghost laws = { by_content literal_content };
 }
@@ -209,9 +209,9 @@ impl ScalarValue for Literal {
     ghost use Rattle.std.specs.Prelude.{refl};
     ghost use Rattle.juniper_values.specs.Scalar.{boolean, integer, text};
     ghost use Rattle.juniper_values.specs.Default.{bool_in};
-    ghost use Rattle.juniper_values.specs.ScalarLaws.{same_content-Decides};
+    ghost use Rattle.juniper_values.specs.laws.ScalarLaws.{same_content-Decides};
     ghost use Rattle.juniper_nodes.specs.Literal.{int_in, str_in, string_in};
-    ghost use Rattle.juniper_nodes.specs.LiteralLaws.{literal-has_form, lent-is_string};
+    ghost use Rattle.juniper_nodes.specs.laws.LiteralLaws.{literal-has_form, lent-is_string};
 
     ghost of_bool = { boolean };
 

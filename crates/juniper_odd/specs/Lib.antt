@@ -3,5 +3,5 @@ pub mod RefuseAll
 pub mod OddError
 pub mod Decimals
 pub mod Thousandths
-pub mod ThousandthsLaws
+pub mod laws
 pub mod WithoutScalars

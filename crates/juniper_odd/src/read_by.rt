@@ -48,7 +48,7 @@ impl<R> From<DefaultScalarValue> for ReadBy<R> {
 
 impl<R> PartialEq for ReadBy<R> {
     ghost use Rattle.juniper_values.specs.Scalar.{same_content};
-    ghost use Rattle.juniper_values.specs.ScalarLaws.{partial_by_content};
+    ghost use Rattle.juniper_values.specs.laws.ScalarLaws.{partial_by_content};
 
     ghost eq = { λ a b. same_content (held_content a) (held_content b) };
 
@@ -60,7 +60,7 @@ impl<R> PartialEq for ReadBy<R> {
 }
 
 impl<R> Eq for ReadBy<R> {
-    ghost use Rattle.juniper_values.specs.ScalarLaws.{by_content};
+    ghost use Rattle.juniper_values.specs.laws.ScalarLaws.{by_content};
 
     ghost laws = { by_content held_content };
 }
@@ -91,7 +91,7 @@ impl<R: TokenReader> ScalarValue for ReadBy<R> {
     ghost use Rattle.std.specs.Prelude.{refl};
     ghost use Rattle.juniper_values.specs.Scalar.{boolean, integer, text};
     ghost use Rattle.juniper_values.specs.Default.{int_in, bool_in, text_in};
-    ghost use Rattle.juniper_values.specs.ScalarLaws.{default-has_form, same_content-Decides};
+    ghost use Rattle.juniper_values.specs.laws.ScalarLaws.{default-has_form, same_content-Decides};
 
     ghost of_bool = { boolean };
 

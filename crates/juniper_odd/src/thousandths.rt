@@ -24,7 +24,7 @@ pub enum Thousandths {
 
 impl PartialEq for Thousandths {
     ghost use Rattle.juniper_values.specs.Scalar.{same_content};
-    ghost use Rattle.juniper_values.specs.ScalarLaws.{partial_by_content};
+    ghost use Rattle.juniper_values.specs.laws.ScalarLaws.{partial_by_content};
 
     ghost eq = { λ a b. same_content (thousandths_content a) (thousandths_content b) };
 
@@ -40,7 +40,7 @@ impl PartialEq for Thousandths {
 }
 
 impl Eq for Thousandths {
-    ghost use Rattle.juniper_values.specs.ScalarLaws.{by_content};
+    ghost use Rattle.juniper_values.specs.laws.ScalarLaws.{by_content};
 
     ghost laws = { by_content thousandths_content };
 }
@@ -100,9 +100,9 @@ impl ScalarValue for Thousandths {
     ghost use Rattle.std.specs.Prelude.{refl};
     ghost use Rattle.juniper_values.specs.Scalar.{boolean, integer, text};
     ghost use Rattle.juniper_values.specs.Default.{int_in, bool_in, text_in};
-    ghost use Rattle.juniper_values.specs.ScalarLaws.{same_content-Decides};
+    ghost use Rattle.juniper_values.specs.laws.ScalarLaws.{same_content-Decides};
     ghost use Rattle.juniper_odd.specs.Thousandths.{string_in};
-    ghost use Rattle.juniper_odd.specs.ThousandthsLaws.{thousandths-has_form, lent-is_string};
+    ghost use Rattle.juniper_odd.specs.laws.ThousandthsLaws.{thousandths-has_form, lent-is_string};
 
     ghost of_bool = { boolean };
 

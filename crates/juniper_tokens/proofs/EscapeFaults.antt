@@ -8,7 +8,7 @@ use lib.Utf8.{encodes}
 use Rattle.graphql_lexical.specs.Kinds.{UnterminatedString, UnknownEscapeSequence}
 use Rattle.graphql_lexical.specs.Reading.{counted}
 use Rattle.graphql_lexical.specs.device.Scan.{missed, after_backslash, after_u}
-use Rattle.graphql_lexical.proofs.Escapes.{counted_within, u_short}
+use Rattle.graphql_lexical.proofs.Public.{counted_within, u_short}
 use Rattle.juniper_tokens.proofs.Borders.{chars_within}
 
 pub backslash_mark : chars (92 ∷ []) ≡ 92 ∷ []

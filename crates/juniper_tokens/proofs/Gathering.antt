@@ -8,8 +8,7 @@ use Rattle.std.proofs.lemmas.Bool.{cases_Bool}
 use Rattle.std.proofs.lemmas.List.{map-append}
 use Rattle.graphql_lexical.specs.declared.kind.Kind.TheVariants.{EndOfFile}
 use Rattle.graphql_lexical.specs.Cutting.{Lexeme, Stands, Leads, CutFrom, BreaksFrom, here}
-use Rattle.graphql_lexical.proofs.EachKind.{other_kind}
-use Rattle.graphql_lexical.proofs.Cuts.{front_cut, front_breaks}
+use Rattle.graphql_lexical.proofs.Public.{other_kind, front_cut, front_breaks}
 use Rattle.juniper_tokens.specs.declared.token_range.TokenRange.{TokenRange}
 use Rattle.juniper_tokens.specs.declared.error.LexFailure.{LexFailure}
 use Rattle.juniper_tokens.specs.declared.error.LexFailure.TheVariants as failures

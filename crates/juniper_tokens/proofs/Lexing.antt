@@ -4,7 +4,7 @@ use Rattle.std.specs.Prelude.{Some, Result, Ok, Err, ◌↔◌}
 use Rattle.std.proofs.lemmas.Bool.{cases_Bool}
 use Rattle.graphql_lexical.specs.Cutting.{Lexeme, Stands}
 use Rattle.graphql_lexical.specs.declared.kind.Kind.TheVariants.{EndOfFile}
-use Rattle.graphql_lexical.proofs.Cuts.{reads_size}
+use Rattle.graphql_lexical.proofs.Public.{reads_size}
 use Rattle.juniper_tokens.specs.declared.span.Spanning.{Spanning}
 use Rattle.juniper_tokens.specs.declared.token.Token.{Token}
 use Rattle.juniper_tokens.specs.declared.token_range.TokenRange.{TokenRange}

@@ -13,10 +13,7 @@ use Rattle.graphql_lexical.specs.Kinds.{same_kind, LexicalError, UnknownEscapeSe
 use Rattle.graphql_lexical.specs.Kinds as errors
 use Rattle.graphql_lexical.specs.Place.{Place, place, past_character}
 use Rattle.graphql_lexical.specs.device.Scan.{Found, Missed, scan, gap_size, gap_step}
-use Rattle.graphql_lexical.proofs.Answers.{misses_what_fails}
-use Rattle.graphql_lexical.proofs.Gaps.{gap_longest}
-use Rattle.graphql_lexical.proofs.Runs.{reach_is}
-use Rattle.graphql_lexical.proofs.Slices.{place_index}
+use Rattle.graphql_lexical.proofs.Public.{misses_what_fails, gap_longest, reach_is, place_index}
 use Rattle.juniper_tokens.specs.declared.span.Spanning.{Spanning}
 use Rattle.juniper_tokens.specs.declared.error.LexerError.{LexerError}
 use Rattle.juniper_tokens.specs.Errors.{view_lexer_error}

@@ -16,7 +16,7 @@ use Rattle.graphql_lexical.specs.device.Machines.{onward, reach}
 use Rattle.graphql_lexical.specs.device.Scan.{step, answer}
 use Rattle.graphql_lexical.specs.device.Scan as scans
 use Rattle.graphql_lexical.specs.Tokens.{punctuator}
-use Rattle.graphql_lexical.proofs.Runs.{Stops, reach_is}
+use Rattle.graphql_lexical.proofs.Public.{Stops, reach_is}
 use Rattle.juniper_tokens.specs.contracts.byte_classes.ByteClass.{the_type}
 use Rattle.juniper_tokens.specs.declared.byte_classes.ByteClass.{ByteClass}
 use Rattle.juniper_tokens.specs.declared.byte_classes.ByteClass.TheVariants as classes

@@ -16,9 +16,7 @@ use Rattle.graphql_lexical.specs.Tokens as grammar
 use Rattle.graphql_lexical.specs.Reading.{Reads}
 use Rattle.graphql_lexical.specs.Cutting.{Lexeme, Stands}
 use Rattle.graphql_lexical.specs.device.Scan.{found, gap_size}
-use Rattle.graphql_lexical.proofs.Answers.{finds_what_reads}
-use Rattle.graphql_lexical.proofs.Gaps.{gap_longest}
-use Rattle.graphql_lexical.proofs.Slices.{place_index}
+use Rattle.graphql_lexical.proofs.Public.{finds_what_reads, gap_longest, place_index}
 use Rattle.juniper_tokens.specs.declared.span.Spanning.{Spanning}
 use Rattle.juniper_tokens.specs.declared.token.Token.{Token}
 use Rattle.juniper_tokens.specs.declared.token_range.TokenRange.{TokenRange}

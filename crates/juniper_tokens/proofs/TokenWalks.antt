@@ -10,7 +10,7 @@ use Rattle.graphql_lexical.specs.declared.state.State.TheVariants.{Start, Zero, 
 use Rattle.graphql_lexical.specs.declared.state.Block.TheVariants.{Inside}
 use Rattle.graphql_lexical.specs.device.Machines.{reach}
 use Rattle.graphql_lexical.specs.device.Scan.{step}
-use Rattle.graphql_lexical.proofs.Runs.{reach_is}
+use Rattle.graphql_lexical.proofs.Public.{reach_is}
 use Rattle.juniper_tokens.specs.declared.lexer.run.Run.{Run}
 use Rattle.juniper_tokens.specs.declared.lexer.run.Run.TheVariants as run
 use Rattle.juniper_tokens.specs.declared.lexer.text.Border.{Border}

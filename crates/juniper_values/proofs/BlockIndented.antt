@@ -5,7 +5,7 @@ use Rattle.std.proofs.lemmas.Bool.{and_parts, and_from}
 use Rattle.std.proofs.lemmas.List.{drop-drop, drop_all, drop_at}
 use Rattle.juniper_values.specs.Text.{Text}
 use Rattle.juniper_values.specs.BlockStrings.{is_indent, is_blank, indent, indents, least, common_indent, unindented, drop_blank_front, drop_blank_end, joined, block_value}
-use Rattle.juniper_values.specs.BlockLaws.{AreIndented, none, empty, behind, IsIndented}
+use Rattle.juniper_values.specs.laws.BlockLaws.{AreIndented, none, empty, behind, IsIndented}
 use Rattle.juniper_values.proofs.BlockEnds.{inner}
 
 -- ---- indented lines

@@ -8,7 +8,7 @@ use Rattle.std.proofs.lemmas.List.Elements.{All-from_recursion}
 use Rattle.juniper_values.specs.Text.{Text}
 use Rattle.graphql_lexical.specs.Characters.{is_line_end}
 use Rattle.juniper_values.specs.BlockStrings.{with_quotes, line_feed, lines, is_blank, common_indent, unindented, drop_blank_front, drop_blank_end, joined, block_value}
-use Rattle.juniper_values.specs.BlockLaws.{HasNoBlankEnds}
+use Rattle.juniper_values.specs.laws.BlockLaws.{HasNoBlankEnds}
 use Rattle.juniper_values.proofs.BlockEnds.{and_true, inner, first_filled}
 
 -- ---- lines without line ends

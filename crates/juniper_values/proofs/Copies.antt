@@ -8,7 +8,7 @@ use Rattle.graphql_lexical.specs.Place.{Place, Span}
 use Rattle.juniper_values.specs.Text.{Text, same_text}
 use Rattle.juniper_values.specs.Display.{joined, value_text, item_texts, field_texts}
 use Rattle.juniper_values.specs.Equality.{same_place, same_span, same_value, same_items, same_fields}
-use Rattle.juniper_values.specs.EqualityLaws.{same_span-equiv}
+use Rattle.juniper_values.specs.laws.EqualityLaws.{same_span-equiv}
 use Rattle.juniper_values.proofs.Alike.{same_key, text_equal}
 use Rattle.juniper_tokens.specs.declared.span.Spanning.{Spanning}
 use Rattle.juniper_tokens.specs.Spans.{view_span}

@@ -5,7 +5,7 @@ use Rattle.juniper_values.specs.Text.{Text}
 use Rattle.juniper_values.specs.Value.{Value, null, scalar, enum_value, variable, list, object, Items, no_items, item, Fields, no_fields, field}
 use Rattle.juniper_values.specs.Variables.{variables, item_variables, field_variables, here, in_list, in_object, ItemRefers, first_item, later_item, FieldRefers, first_field, later_field, HasNoVariable}
 use Rattle.juniper_values.specs.Resolve.{Values, resolve, resolve_items, resolve_fields, or_null, field_if}
-use Rattle.juniper_values.specs.Laws.{HaveNoVariables, LeavesNoVariable, RemovesVariables, IsEmptyWithoutVariables}
+use Rattle.juniper_values.specs.laws.ValueLaws.{HaveNoVariables, LeavesNoVariable, RemovesVariables, IsEmptyWithoutVariables}
 
 left_empty : {A : Type 0} (xs ys : List A) → xs ++ ys ≡ [] → xs ≡ []
 left_empty [] ys e = refl

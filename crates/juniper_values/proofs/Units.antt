@@ -8,7 +8,7 @@ use Rattle.graphql_lexical.specs.Characters.{is_escape, is_plain}
 use Rattle.graphql_lexical.specs.Tokens.{IsScalar, hex_number, IsUnit, plain, escape as escape_unit, unicode as unicode_unit, AreUnits}
 use Rattle.juniper_values.specs.Text.{Text}
 use Rattle.juniper_values.specs.Escapes.{short_escape, is_surrogate, is_scalar, unicode_escape, in_front, unescape, behind_backslash, behind_u}
-use Rattle.juniper_values.specs.Laws.{IsExactlyUnescaped}
+use Rattle.juniper_values.specs.laws.ValueLaws.{IsExactlyUnescaped}
 use Rattle.juniper_values.specs.Units.{StandsFor, nothing, itself, escape, unicode}
 
 -- ---- one character

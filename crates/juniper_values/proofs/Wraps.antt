@@ -10,7 +10,7 @@ use Rattle.std.proofs.lemmas.List.Folds.{list_any-append}
 use Rattle.std.proofs.lemmas.Option.{slice_get-get_or}
 use Rattle.std.proofs.lemmas.Slice.Eq.{bytes_eq-Decides, slice_eq-Decides}
 use Rattle.juniper_values.specs.Text.{Text}
-use Rattle.juniper_values.specs.Laws.{WrapsOnce}
+use Rattle.juniper_values.specs.laws.ValueLaws.{WrapsOnce}
 use Rattle.juniper_values.specs.TypeLiteral.{TypeShape, outermost, is_list, is_list_modifier, opening, closing, type_text, same_modifier, same_type}
 use Rattle.juniper_values.specs.declared.type_literal.TypeModifier.{TypeModifier}
 use Rattle.juniper_values.specs.declared.type_literal.TypeModifier.TheVariants.{NonNull, List as ListOf}

@@ -14,13 +14,9 @@ pub mod Kinds
 pub mod Variables
 pub mod Resolve
 pub mod Equality
-pub mod EqualityLaws
+pub mod laws
 pub mod Maps
 pub mod Make
 pub mod Same
-pub mod ScalarLaws
-pub mod TypeLaws
 pub mod Units
-pub mod Laws
-pub mod BlockLaws
 pub mod ReadBack

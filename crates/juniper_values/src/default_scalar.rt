@@ -28,7 +28,7 @@ pub enum DefaultScalarValue {
 
 impl PartialEq for DefaultScalarValue {
     ghost use Rattle.juniper_values.specs.Scalar.{same_content};
-    ghost use Rattle.juniper_values.specs.ScalarLaws.{partial_by_content};
+    ghost use Rattle.juniper_values.specs.laws.ScalarLaws.{partial_by_content};
 
     ghost eq = { λ a b. same_content (default_content a) (default_content b) };
 
@@ -45,7 +45,7 @@ impl PartialEq for DefaultScalarValue {
 }
 
 impl Eq for DefaultScalarValue {
-    ghost use Rattle.juniper_values.specs.ScalarLaws.{by_content};
+    ghost use Rattle.juniper_values.specs.laws.ScalarLaws.{by_content};
 
     ghost laws = { by_content default_content };
 }
@@ -117,7 +117,7 @@ impl ScalarValue for DefaultScalarValue {
     ghost use Rattle.std.specs.Prelude.{refl};
     ghost use Rattle.juniper_values.specs.Scalar.{boolean, integer, text};
     ghost use Rattle.juniper_values.specs.Default.{int_in, bool_in, text_in, default_shown};
-    ghost use Rattle.juniper_values.specs.ScalarLaws.{default-has_form, same_content-Decides};
+    ghost use Rattle.juniper_values.specs.laws.ScalarLaws.{default-has_form, same_content-Decides};
 
     ghost of_bool = { boolean };
 

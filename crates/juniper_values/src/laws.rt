@@ -3,10 +3,10 @@ ghost use Rattle.std.specs.Prelude.{◌≡◌, ◌≢◌, ◌↔◌, ℕ, true, 
 ghost use Rattle.graphql_lexical.specs.Tokens.{AreUnits, IsName};
 ghost use Rattle.graphql_lexical.specs.laws.Written.{IsCutInto};
 ghost use Rattle.juniper_values.specs.Text.{Text};
-ghost use Rattle.juniper_values.specs.BlockLaws.{HasNoBlankEnds, IsIndented};
+ghost use Rattle.juniper_values.specs.laws.BlockLaws.{HasNoBlankEnds, IsIndented};
 ghost use Rattle.juniper_values.specs.BlockStrings.{block_value};
 ghost use Rattle.juniper_values.specs.Equality.{same_value};
-ghost use Rattle.juniper_values.specs.Laws.{IsExactlyUnescaped, HaveNoVariables, RemovesVariables, IsEmptyWithoutVariables, IsEqualityLike, AreSameFields, WrapsOnce};
+ghost use Rattle.juniper_values.specs.laws.ValueLaws.{IsExactlyUnescaped, HaveNoVariables, RemovesVariables, IsEmptyWithoutVariables, IsEqualityLike, AreSameFields, WrapsOnce};
 ghost use Rattle.juniper_values.specs.ReadBack.{type_tokens, value_tokens, IsPlain};
 ghost use Rattle.juniper_values.specs.Resolve.{Values, resolve};
 ghost use Rattle.juniper_values.specs.Same.{same_but_place};

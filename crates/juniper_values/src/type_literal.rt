@@ -21,7 +21,7 @@ pub enum TypeModifier {
 
 impl PartialEq for TypeModifier {
     ghost use Rattle.juniper_values.specs.TypeLiteral.{same_modifier};
-    ghost use Rattle.juniper_values.specs.TypeLaws.{same_modifier-laws};
+    ghost use Rattle.juniper_values.specs.laws.TypeLaws.{same_modifier-laws};
 
     ghost eq = { same_modifier };
 
@@ -37,7 +37,7 @@ impl PartialEq for TypeModifier {
 }
 
 impl Eq for TypeModifier {
-    ghost use Rattle.juniper_values.specs.TypeLaws.{same_modifier-equiv};
+    ghost use Rattle.juniper_values.specs.laws.TypeLaws.{same_modifier-equiv};
 
     ghost laws = { same_modifier-equiv };
 }
@@ -284,7 +284,7 @@ impl<N: NameText + Drop> TypeLiteral<N> {
 /// Types are equal in the texts of their names and in their modifiers.
 impl<N: NameText> PartialEq for TypeLiteral<N> {
     ghost use Rattle.juniper_values.specs.TypeLiteral.{same_type};
-    ghost use Rattle.juniper_values.specs.TypeLaws.{same_type-laws};
+    ghost use Rattle.juniper_values.specs.laws.TypeLaws.{same_type-laws};
 
     ghost eq = { same_type N.name_text };
 
@@ -297,7 +297,7 @@ impl<N: NameText> PartialEq for TypeLiteral<N> {
 }
 
 impl<N: NameText> Eq for TypeLiteral<N> {
-    ghost use Rattle.juniper_values.specs.TypeLaws.{same_type-equiv};
+    ghost use Rattle.juniper_values.specs.laws.TypeLaws.{same_type-equiv};
 
     ghost laws = { same_type-equiv N.name_text };
 }

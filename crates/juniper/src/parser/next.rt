@@ -31,7 +31,7 @@ pub(crate) fn next_is_word(parser: &Parser<'_>, text: &str) -> bool
 }
 
 /// Takes the next token, which must not be the end, and answers where it stood.
-#[tactic(auto, using(crate::proofs::Cursors::next_is_first, juniper_tokens::proofs::Rests::one_taken))]
+#[tactic(auto, using(crate::proofs::Cursors::next_is_first, juniper_tokens::proofs::Public::one_taken))]
 #[inline(always)]
 pub(crate) fn take_next(parser: &mut Parser<'_>) -> Span
     requires { same_kind (kind_at parser.old) EndOfFile ≡ false }
@@ -48,7 +48,7 @@ pub(crate) fn take_next(parser: &mut Parser<'_>) -> Span
 }
 
 /// Takes the next token where it is of this kind, and answers where it stood.
-#[tactic(auto, using(crate::proofs::Cursors::closing_is_no_end, juniper_tokens::proofs::Rests::none_taken))]
+#[tactic(auto, using(crate::proofs::Cursors::closing_is_no_end, juniper_tokens::proofs::Public::none_taken))]
 #[inline(always)]
 pub(crate) fn take_closing(parser: &mut Parser<'_>, closing: Kind) -> Option<Span>
     requires { same_kind closing EndOfFile ≡ false }

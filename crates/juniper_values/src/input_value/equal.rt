@@ -11,7 +11,7 @@ use juniper_tokens::{Span, Spanning};
 
 /// Values are equal in their scalars, names and places, fields in their order.
 impl<S: PartialEq> PartialEq for InputValue<S> {
-    ghost use Rattle.juniper_values.specs.EqualityLaws.{same_value-laws};
+    ghost use Rattle.juniper_values.specs.laws.EqualityLaws.{same_value-laws};
 
     ghost eq = { λ a b. same_value S.eq (view (λ s. s) a) (view (λ s. s) b) };
 
@@ -23,7 +23,7 @@ impl<S: PartialEq> PartialEq for InputValue<S> {
 }
 
 impl<S: Eq> Eq for InputValue<S> {
-    ghost use Rattle.juniper_values.specs.EqualityLaws.{same_value-equiv};
+    ghost use Rattle.juniper_values.specs.laws.EqualityLaws.{same_value-equiv};
 
     ghost laws = { same_value-equiv S.Eq.laws };
 }

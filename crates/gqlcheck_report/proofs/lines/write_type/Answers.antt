@@ -1,7 +1,7 @@
 use Rattle.std.proofs.Common.{ap, rules}
 use Rattle.std.specs.Str.{encode_utf8_all}
 use Rattle.gqlcheck_report.proofs.LineBytes.{behind_space}
-use Rattle.juniper_nodes.proofs.TypeTexts.{type-text}
+use Rattle.juniper_nodes.proofs.Public.{type-text}
 use Rattle.gqlcheck_report.proofs.lines.write_type.Goals as goal
 
 pub returns : goal.returns

@@ -1,5 +1,4 @@
-use Rattle.graphql_grammar.proofs.OtherScalars.{document}
-use Rattle.graphql_grammar.proofs.ReadScalars.{document_is_read}
+use Rattle.graphql_grammar.proofs.Public.{document, document_is_read}
 use Rattle.juniper.specs.Scalars.{stated}
 use Rattle.juniper.proofs.laws.scalar_tokens.Goals as goal
 

@@ -7,8 +7,7 @@ use lib.Utf8.{encodes}
 use Rattle.graphql_lexical.specs.Display.{quoted}
 use Rattle.juniper_values.specs.Display.{joined}
 use Rattle.juniper_values.specs.ScalarDisplay.{scalar_display}
-use Rattle.juniper_values.proofs.Displays.{IsWritten, left, two, one_more, between}
-use Rattle.juniper_values.proofs.Reading.{drop_read}
+use Rattle.juniper_values.proofs.Public.{IsWritten, left, two, one_more, between, drop_read}
 use Rattle.juniper_answers.specs.Display.{data_text, item_texts, field_texts}
 use Rattle.juniper_answers.specs.View.{shape, items_view, fields_view, pairs}
 use Rattle.juniper_answers.specs.declared.value.Object.{size-Object}

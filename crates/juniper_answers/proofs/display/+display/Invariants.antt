@@ -2,7 +2,7 @@ use Rattle.std.proofs.Common.{◌≡◌, ◌+◌, ◌*◌, ◌++◌, List, Strin
 use Rattle.std.specs.Fmt.{IsPlainFormatter}
 use Rattle.juniper_values.specs.Display.{joined}
 use Rattle.juniper_values.specs.ScalarDisplay.{scalar_display}
-use Rattle.juniper_values.proofs.Displays.{IsWritten, left}
+use Rattle.juniper_values.proofs.Public.{IsWritten, left}
 use Rattle.juniper_answers.specs.Display.{item_texts, field_texts}
 use Rattle.juniper_answers.specs.View.{items_view, fields_view, pairs}
 use Rattle.juniper_answers.specs.declared.value.Value.{Value}

@@ -1,8 +1,7 @@
 use Rattle.std.proofs.Common.{◌≡◌, ◌+◌, ◌*◌, [], ◌∷◌, ◌++◌, arith, refl, ◌∙◌, ap, sym, append_assoc, String, Global}
 use Rattle.std.proofs.lemmas.List.{at_drop_all}
 use Rattle.juniper_values.specs.Value as input
-use Rattle.juniper_values.proofs.Reading.{drop_read, prepend, turn}
-use Rattle.juniper_values.proofs.Trees.{put_item, put_field, view_items-prepend, view_fields-prepend, view-Object as input-Object}
+use Rattle.juniper_values.proofs.Public.{drop_read, prepend, turn, put_item, put_field, view_items-prepend, view_fields-prepend, view-Object as input-Object}
 use Rattle.juniper_answers.specs.Input.{as_input, items_as_input, fields_as_input}
 use Rattle.juniper_answers.specs.View.{view, items_view, fields_view, pairs}
 use Rattle.juniper_answers.specs.declared.value.Object.{size-Object}

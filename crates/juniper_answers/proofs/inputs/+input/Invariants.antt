@@ -1,6 +1,5 @@
 use Rattle.std.proofs.Common.{◌≡◌, ◌+◌, ◌*◌, ◌++◌, List, String, Global, drop}
-use Rattle.juniper_values.proofs.Reading.{prepend}
-use Rattle.juniper_values.proofs.Trees.{put_item, put_field}
+use Rattle.juniper_values.proofs.Public.{prepend, put_item, put_field}
 use Rattle.juniper_answers.specs.Input.{items_as_input, fields_as_input}
 use Rattle.juniper_answers.specs.View.{items_view, fields_view, pairs}
 use Rattle.juniper_answers.specs.declared.value.Value.{Value}

@@ -2,7 +2,7 @@ use Rattle.std.proofs.Common.{◌≡◌, ◌+◌, ◌*◌, [], ◌∷◌, ◌++�
 use Rattle.std.specs.List.{IsDistinct}
 use Rattle.std.specs.Map.{keys_of}
 use Rattle.std.specs.String.{string_eq}
-use Rattle.juniper_values.proofs.Reading.{taken, nothing_left}
+use Rattle.juniper_values.proofs.Public.{taken, nothing_left}
 use Rattle.juniper_answers.specs.Another.{IsAnother}
 use Rattle.juniper_answers.specs.Copies.{Copies, CopiesItems, CopiesFields}
 use Rattle.juniper_answers.specs.View.{pairs}

@@ -1,5 +1,5 @@
 use Rattle.std.proofs.Common.{rules}
-use Rattle.juniper_nodes.proofs.TypeTexts.{type-text}
+use Rattle.juniper_nodes.proofs.Public.{type-text}
 use Rattle.juniper_c.proofs.node.write_type.Goals as goal
 
 pub returns : goal.returns

@@ -1,5 +1,5 @@
 use Rattle.std.proofs.Common.{ap}
-use Rattle.juniper_values.proofs.Integers.{read, refused}
+use Rattle.juniper_values.proofs.Public.{read, refused}
 use Rattle.juniper_c.specs.Scalars.{int_reading}
 use Rattle.juniper_c.proofs.scalar.read_int.Goals as goal
 

@@ -1,7 +1,7 @@
 use Rattle.std.proofs.Common.{◌∙◌, sym}
 use Rattle.std.specs.Str.{chars}
-use Rattle.juniper_values.proofs.Texts.{same_text-chars}
-use Rattle.juniper_nodes.proofs.Literals.{same_texts}
+use Rattle.juniper_values.proofs.Public.{same_text-chars}
+use Rattle.juniper_nodes.proofs.Public.{same_texts}
 use Rattle.juniper_c.proofs.scalar.same_block.Goals as goal
 
 pub returns : goal.returns

@@ -1,5 +1,5 @@
 use Rattle.std.proofs.Common.{◌∙◌, sym}
-use Rattle.juniper_values.proofs.Texts.{same_text-chars}
+use Rattle.juniper_values.proofs.Public.{same_text-chars}
 use Rattle.juniper_nodes.proofs.literal.same_str.Goals as goal
 
 pub returns : goal.returns

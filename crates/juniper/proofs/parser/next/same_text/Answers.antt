@@ -1,5 +1,5 @@
 use Rattle.std.proofs.Common.{◌∙◌, sym}
-use Rattle.juniper_values.proofs.Texts.{same_text-chars}
+use Rattle.juniper_values.proofs.Public.{same_text-chars}
 use Rattle.juniper.proofs.parser.next.same_text.Goals as goal
 
 pub returns : goal.returns

@@ -1,7 +1,7 @@
 use Rattle.std.proofs.Common.{rules}
 use Rattle.graphql_grammar.specs.device.Productions.{type}
 use Rattle.juniper.proofs.Readings.{type_is}
-use Rattle.juniper_tokens.proofs.Rests.{further}
+use Rattle.juniper_tokens.proofs.Public.{further}
 use Rattle.juniper.proofs.parser.types.+types.Goals as goal
 
 pub parse_any_type-returns-clause-gives : goal.parse_any_type-returns-clause-gives

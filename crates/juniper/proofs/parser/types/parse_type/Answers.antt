@@ -1,4 +1,4 @@
-use Rattle.juniper_tokens.proofs.Rests.{on_memory}
+use Rattle.juniper_tokens.proofs.Public.{on_memory}
 use Rattle.juniper.specs.View.{view_spanned_type}
 use Rattle.juniper.proofs.Literals.{answers_type}
 use Rattle.juniper.proofs.parser.types.parse_type.Goals as goal

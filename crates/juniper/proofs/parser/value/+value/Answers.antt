@@ -7,7 +7,7 @@ use Rattle.juniper_values.specs.Scalar.{Content}
 use Rattle.graphql_grammar.specs.Tree.{Value}
 use Rattle.graphql_grammar.specs.device.Productions.{list, object}
 use Rattle.juniper.proofs.Loops.{goes_on, ends, item_fails}
-use Rattle.juniper_tokens.proofs.Rests.{further}
+use Rattle.juniper_tokens.proofs.Public.{further}
 use Rattle.juniper.proofs.Readings.{values_repeat, fields_repeat}
 use Rattle.juniper.proofs.ValueViews.{view_of_list, view_of_object}
 use Rattle.juniper.proofs.parser.value.+value.Goals as goal

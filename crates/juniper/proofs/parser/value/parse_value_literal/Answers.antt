@@ -1,7 +1,7 @@
 use Rattle.std.specs.Prelude.{not}
 use Rattle.juniper.specs.Scalars.{stated}
 use Rattle.juniper.specs.View.{view_value}
-use Rattle.juniper_tokens.proofs.Rests.{on_memory}
+use Rattle.juniper_tokens.proofs.Public.{on_memory}
 use Rattle.juniper.proofs.Literals.{answers_value}
 use Rattle.juniper.proofs.parser.value.parse_value_literal.Goals as goal
 

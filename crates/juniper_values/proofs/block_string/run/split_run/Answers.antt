@@ -1,6 +1,6 @@
 use Rattle.std.proofs.Common.{ap, ◌∙◌}
 use Rattle.std.specs.Str.{chars}
-use Rattle.juniper_tokens.proofs.Borders.{byte_at_boundary, chars_take, chars_drop}
+use Rattle.juniper_tokens.proofs.Public.{byte_at_boundary, chars_take, chars_drop}
 use Rattle.juniper_values.specs.device.BlockSteps.{run_length}
 use Rattle.juniper_values.proofs.BlockRuns.{run_border}
 use Rattle.juniper_values.proofs.block_string.run.split_run.Goals as goal

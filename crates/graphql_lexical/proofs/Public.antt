@@ -1,0 +1,17 @@
+-- What proofs of other crates may import of this crate's proofs, and all of it.
+pub use Rattle.graphql_lexical.proofs.Answers.{finds_what_reads, misses_what_fails}
+pub use Rattle.graphql_lexical.proofs.CanonicalSizes.{has_canonical_sizes}
+pub use Rattle.graphql_lexical.proofs.Cuts.{cut_front, each_stands, front_breaks, front_cut, leads_size, one_end, reads_size, stands_size}
+pub use Rattle.graphql_lexical.proofs.DeepTokens.{closed_push, crossed, deep_count, one_deep, opened_push, opening_goes_on, opening_no_end, opens, take_next}
+pub use Rattle.graphql_lexical.proofs.EachKind.{other_kind}
+pub use Rattle.graphql_lexical.proofs.Escapes.{counted_within, u_short}
+pub use Rattle.graphql_lexical.proofs.Gaps.{gap_longest}
+pub use Rattle.graphql_lexical.proofs.Joints.{few_tokens}
+pub use Rattle.graphql_lexical.proofs.Places.{place_push, steps_by_characters}
+pub use Rattle.graphql_lexical.proofs.Readings.{answer_finds, same_Ok}
+pub use Rattle.graphql_lexical.proofs.Runs.{Stops, reach_is}
+pub use Rattle.graphql_lexical.proofs.Slices.{front_read, place_index, slices_in_order, unquoted}
+pub use Rattle.graphql_lexical.proofs.Spacing.{goes_on_spaced}
+pub use Rattle.graphql_lexical.proofs.Spelled.{RunsAs, accepts, runs_as}
+pub use Rattle.graphql_lexical.proofs.Widths.{IsWide, tokens_wide}
+pub use Rattle.graphql_lexical.proofs.Writing.{writes_nothing, writes_token, writes_white}

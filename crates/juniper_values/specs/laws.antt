@@ -1,0 +1,5 @@
+pub mod BlockLaws
+pub mod EqualityLaws
+pub mod ValueLaws
+pub mod ScalarLaws
+pub mod TypeLaws
