@@ -28,14 +28,14 @@ module _ {C F : Type 0} (S : Scalars C F) where
   selections_answer = answers _ (IsSelection S) (λ n m le. symbol_under S n m le (Selection C) a_selection)
       (λ n. selection_rule S n n (le_refl n))
 
-  module _ {A : Type 0} (p : Steps C A) (R : List Lexeme → A → Type 0)
+  module _ {A : Type 0} (p : Steps C A) (R : A → List Lexeme → Type 0)
       (rule : (n : ℕ) → Rule n (reads S n p) (reads S n p) R) where
     pub reads_answer : Answers (λ n. reads S n p)
     reads_answer = answers _ R (reads_under S p) rule
 
     -- items of p
 
-    module _ (takes : (us : List Lexeme) (x : A) → R us x → 0 < length us) where
+    module _ (takes : (us : List Lexeme) (x : A) → R x us → 0 < length us) where
       pub closed_rule : (k : Kind) → passes (of k) (sample k) ≡ true → IsSample (sample k) → (n : ℕ)
           → Rule n (many (of k) (reads S n p) n) (many (of k) (reads S n p) n) (Closed (of k) R)
       closed_rule k closes is n = many_rule (of k) (sample k) closes is R takes _ _ n n n (le_refl n) (le_refl n)

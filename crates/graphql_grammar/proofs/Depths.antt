@@ -130,7 +130,7 @@ within (u ∷ us) vs (b ∷ bs) after t e l =
 pub same_front : (i : ℕ) (us vs ws : List Lexeme) → i ≤ length us → take i (us ++ vs) ≡ take i (us ++ ws)
 same_front i us vs ws l = take-append-le i us vs l ∙ sym (take-append-le i us ws l)
 
-pub refused_in_front : (Allowed : Lexeme → Type 0) {F A : Type 0} (R : List Lexeme → A → Type 0)
+pub refused_in_front : (Allowed : Lexeme → Type 0) {F A : Type 0} (R : A → List Lexeme → Type 0)
     (Error : List Lexeme → Lexeme → Fault F → Type 0) (us vs ws : List Lexeme) (i : ℕ) (t : Lexeme) (e : Fault F)
     → i < length us
     → RefusedAt Allowed R Error (us ++ vs) i t e → RefusedAt Allowed R Error (us ++ ws) i t e
@@ -178,7 +178,7 @@ module _ {C F : Type 0} (S : Scalars C F) where
       ((u ≡ end_behind t) × BeginsDocument S (take (suc i) ts))
       ⊎ ((u.kind ≡ EndOfFile → ⊥) × (BeginsDocument S (take (suc i) ts) → ⊥) × DocumentRefusedAt S ts j u e)
 
-  pub document_balanced : (ts : List Lexeme) (ds : List (Definition C)) → IsDocument S ts ds → opened ts ≡ closed ts
+  pub document_balanced : (ts : List Lexeme) (ds : List (Definition C)) → IsDocument S ds ts → opened ts ≡ closed ts
   document_balanced = nested.document IsBalanced refl join plain around S (λ t c k e. scalar t k)
       (λ t e. uncounted t (ap is_opening e) (ap is_closing e))
 
@@ -199,7 +199,7 @@ module _ {C F : Type 0} (S : Scalars C F) where
     t_goes_on = opening_no_end t.kind (opens depth ts i t d)
 
     -- They are no document: a bracket is still open.
-    pub short_no_document : (ds : List (Definition C)) → IsDocument S (ended_by d.before t) ds → ⊥
+    pub short_no_document : (ds : List (Definition C)) → IsDocument S ds (ended_by d.before t) → ⊥
     short_no_document ds h =
         let b : opened (front ++ end_behind t ∷ [])
         ≡ closed (front ++ end_behind t ∷ []) =

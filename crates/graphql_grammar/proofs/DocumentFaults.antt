@@ -54,7 +54,7 @@ module _ {C F : Type 0} (S : Scalars C F) where
       by_head (u ∷ us) (inr x) = absurd (not_scalar t e x.0)
 
   last_other : (t : Lexeme) (ts : List Lexeme) → passes scalar_token t ≡ false
-      → TellsFault S true (seq (literal S) (λ v. done v)) (t ∷ ts) (seq (literal S) (λ v. done v) (t ∷ ts))
+      → TellsFault S true (seq (literal S) done) (t ∷ ts) (seq (literal S) (λ v. done v) (t ∷ ts))
   unfolding seq
   last_other t ts e = seq_tell S true (literal S) _ (t ∷ ts) (literal S (t ∷ ts)) (other_literal t ts e)
       (λ v. done_tells S true v)

@@ -8,7 +8,8 @@ use Rattle.graphql_grammar.specs.device.Reading.{Test, passes, of, Took, Reader,
 use Rattle.graphql_grammar.specs.device.Productions as productions
 use Rattle.graphql_grammar.specs.device.Productions.{named_type, list_type, nullable_type, non_null, argument, arguments_inner, arguments, directive, directives, all_directives, directives_of, default, variable_definition, variables_inner, variables, symbol_at, reads}
 use Rattle.graphql_grammar.specs.Tree.{Scalars, Value, TypeRef, NamedType, ListType, NonNullType, Argument, Arguments, Directive, VariableDefinition, Variables, Directives}
-use Rattle.graphql_grammar.specs.Grammar.{Is, ◌·◌, ◌for◌, Each, Optional, IsType, IsVariable, IsArgument, IsArguments, IsDirective, IsDirectives, IsDefault, IsVariableDefinition, IsVariables}
+use Rattle.graphql_lexical.specs.Parts.{◌·◌}
+use Rattle.graphql_grammar.specs.Grammar.{Is, Each, Optional, IsType, IsVariable, IsArgument, IsArguments, IsDirective, IsDirectives, IsDefault, IsVariableDefinition, IsVariables}
 use Rattle.graphql_grammar.proofs.Sequences.{row, row_as, row_front, one_takes, last_joined, nothing_last, kind_is, is_takes, says_takes, front_takes, back_takes}
 use Rattle.graphql_grammar.proofs.Finds.{located_front, between_found, on_found, only_before, Only, Any, NotAt, token, Finds, Before, StartsWith, is_starts, front_starts, word_starts, listed_starts, Rejects, starts_before, nothing_before, optional_before, both_before, before_as, front_before, any_before, at_most, fewer, found_as, found_if, found_is, map_found, on_apart, look_apart, look_found, none_found, seq_found, then_found, seq_past, want_found, word_found, done_found, is_then, span_found, maybe_found, listed_found}
 use Rattle.graphql_grammar.proofs.Found.{variable_tokens, value_finds}
@@ -17,14 +18,14 @@ use Rattle.graphql_grammar.proofs.TokenTests.{of_kind}
 
 -- ---- types
 
-pub type_starts : (ts : List Lexeme) (x : TypeRef) → IsType ts x → 0 < length ts
+pub type_starts : (ts : List Lexeme) (x : TypeRef) → IsType x ts → 0 < length ts
 type_starts ts (NamedType w) h = says_takes w ts h
 type_starts ts (ListType size x) h = front_takes (is_takes BracketOpen) ts h.0
 type_starts ts (NonNullType x) h = back_takes (is_takes ExclamationMark) ts h.0
 
 -- a type, and its span
 abbrev pub IsTypeAt : TypeRef → Span → List Lexeme → Type 0
-IsTypeAt x p ts = IsType ts x × (p ≡ span_of ts)
+IsTypeAt x p ts = IsType x ts × (p ≡ span_of ts)
 
 -- the span of one or more tokens and another
 marked_span : (us : List Lexeme) (m : Lexeme) → 0 < length us → from_to (span_of us) m.span ≡ span_of (us ++ (m ∷ []))
@@ -46,7 +47,7 @@ module _ {C F : Type 0} (S : Scalars C F) where
 
     inner_found : {After : List Lexeme → Type 0} (x : TypeRef) (p : Span)
         → Finds (suc (suc n)) (reads S n nullable_type)
-        (λ ts. (Is BracketOpen · IsType for x · Is BracketClose) ts × (p ≡ span_of ts)) After (ListType None x, p)
+        (λ ts. (Is BracketOpen · IsType x · Is BracketClose) ts × (p ≡ span_of ts)) After (ListType None x, p)
     unfolding nullable_type list_type
     inner_found x p = look_apart (of Name) _
         (starts_before (of Name) (λ w. refl) (λ ts h. front_starts is_starts ts h.0))
@@ -94,7 +95,7 @@ module _ {C F : Type 0} (S : Scalars C F) where
   type_finds (suc n) (ListType size x) p = nullable_found n (type_finds n) (ListType size x) p (list_nullable size x)
   type_finds (suc n) (NonNullType x) p = mark_found n (type_finds n) x p
 
-  pub type_found : (n : ℕ) (ts rest : List Lexeme) (x : TypeRef) (p : Span) → length ts ≤ n → IsType ts x
+  pub type_found : (n : ℕ) (ts rest : List Lexeme) (x : TypeRef) (p : Span) → length ts ≤ n → IsType x ts
       → p ≡ span_of ts → NotAt (of ExclamationMark) rest → symbol_at S n _ a_type (ts ++ rest) ≡ Took (x, p) rest
   type_found n ts rest x p le h e g = (type_finds n x p).at ts rest (omega arith) (h, e) g
 
@@ -103,7 +104,7 @@ module _ {C F : Type 0} (S : Scalars C F) where
   non_null_finds zero x p = none_found (λ ts h. type_starts ts (NonNullType x) h.0)
   non_null_finds (suc n) x p = mark_found n (type_finds n) x p
 
-  pub type_covers : (us vs : List Lexeme) (x : TypeRef) → IsType us x → (n : ℕ) → length (us ++ vs) < n
+  pub type_covers : (us vs : List Lexeme) (x : TypeRef) → IsType x us → (n : ℕ) → length (us ++ vs) < n
       → Covers (symbol_at S n _ a_type) us vs
   type_covers us vs x h n le = by_test vs refl
     where
@@ -111,7 +112,7 @@ module _ {C F : Type 0} (S : Scalars C F) where
       room ws e = let l = ap (λ (z : List Lexeme). length (us ++ z)) e ∙ length-append us ws in omega (arith, l)
 
       with_mark : (mark : Lexeme) (ws : List Lexeme) → vs ≡ mark ∷ ws → mark.kind ≡ ExclamationMark → (y : TypeRef)
-          → IsNullable y → IsType us y → Covers (symbol_at S n _ a_type) us (mark ∷ ws)
+          → IsNullable y → IsType y us → Covers (symbol_at S n _ a_type) us (mark ∷ ws)
       with_mark mark ws e k y p h = (
         (NonNullType y, span_of (us ++ (mark ∷ []))),
         mark ∷ [],
@@ -124,7 +125,7 @@ module _ {C F : Type 0} (S : Scalars C F) where
       )
 
       marked : (mark : Lexeme) (ws : List Lexeme) → vs ≡ mark ∷ ws → mark.kind ≡ ExclamationMark → (y : TypeRef)
-          → IsType us y → Covers (symbol_at S n _ a_type) us (mark ∷ ws)
+          → IsType y us → Covers (symbol_at S n _ a_type) us (mark ∷ ws)
       marked mark ws e k (NonNullType y) h = (
         (NonNullType y, span_of us),
         [],
@@ -160,7 +161,7 @@ dollar_then : {F A : Type 0} {n : ℕ} {Q After : List Lexeme → Type 0} {a : A
     (w : Text) (p : Span)
     → ((x : Text) (q s : Span) → p ≡ record { start = q.start; end = s.end }
     → Finds n (k (token Dollar x q) (token Name w s)) Q After a)
-    → Finds n (seq (want (of Dollar)) (λ d. seq (want (of Name)) (k d))) ((λ ts. IsVariable ts w p) · Q) After a
+    → Finds n (seq (want (of Dollar)) (λ d. seq (want (of Name)) (k d))) (IsVariable w p · Q) After a
 dollar_then k w p found = record {
   at = λ ts rest le h g.
       let (x, q, s, pair, span) = variable_tokens h.front w p h.first in
@@ -192,67 +193,67 @@ AfterVariable rest = record {
 }
 
 module _ {C F : Type 0} (S : Scalars C F) where
-  argument_starts : (ts : List Lexeme) (a : Argument C) → IsArgument S ts a → StartsWith Name ts
+  argument_starts : (ts : List Lexeme) (a : Argument C) → IsArgument S a ts → StartsWith Name ts
   argument_starts ts a h = front_starts (λ us w. word_starts us a.name w) ts h
 
-  pub arguments_start : (ts : List Lexeme) (a : Arguments C) → IsArguments S ts a → StartsWith ParenOpen ts
+  pub arguments_start : (ts : List Lexeme) (a : Arguments C) → IsArguments S a ts → StartsWith ParenOpen ts
   arguments_start ts a h = listed_starts ParenClose (IsArgument S) ts a.items h.0
 
   pub arguments_before : {After : List Lexeme → Type 0} (test : Test) (x : Option (Arguments C))
       → Rejects test ParenOpen → ((rest : List Lexeme) → After rest → NotAt test rest)
-      → Before (Optional (IsArguments S) for x) After (NotAt test)
+      → Before (Optional (IsArguments S) x) After (NotAt test)
   arguments_before test x d s = optional_before x (λ a. starts_before test d (λ ts h. arguments_start ts a h)) s
 
-  directive_starts : (ts : List Lexeme) (d : Directive C) → IsDirective S ts d → StartsWith At ts
+  directive_starts : (ts : List Lexeme) (d : Directive C) → IsDirective S d ts → StartsWith At ts
   directive_starts ts d h = front_starts is_starts ts h.0
 
   pub directives_before : {After : List Lexeme → Type 0} (test : Test) (ds : Directives C) → Rejects test At
-      → ((rest : List Lexeme) → After rest → NotAt test rest) → Before (IsDirectives S for ds) After (NotAt test)
+      → ((rest : List Lexeme) → After rest → NotAt test rest) → Before (IsDirectives S ds) After (NotAt test)
   directives_before test None d s = nothing_before s
   directives_before test (Some []) d s = record { at = λ ts rest h g. absurd (h.1 refl) }
   directives_before test (Some (x ∷ ds)) d s =
       before_as (λ ts h. h.0) (front_before (starts_before test d (λ ts h. directive_starts ts x h)))
 
-  default_starts : (ts : List Lexeme) (v : Value C) → IsDefault S ts v → StartsWith Equals ts
+  default_starts : (ts : List Lexeme) (v : Value C) → IsDefault S v ts → StartsWith Equals ts
   default_starts ts v h = front_starts is_starts ts h
 
-  variable_starts : (ts : List Lexeme) (v : VariableDefinition C) → IsVariableDefinition S ts v → StartsWith Dollar ts
+  variable_starts : (ts : List Lexeme) (v : VariableDefinition C) → IsVariableDefinition S v ts → StartsWith Dollar ts
   variable_starts ts v h = front_starts (λ us k. front_starts is_starts us k.0) ts h
 
-  pub variables_start : (ts : List Lexeme) (a : Variables C) → IsVariables S ts a → StartsWith ParenOpen ts
+  pub variables_start : (ts : List Lexeme) (a : Variables C) → IsVariables S a ts → StartsWith ParenOpen ts
   variables_start ts a h = listed_starts ParenClose (IsVariableDefinition S) ts a.items h.0
 
   pub variables_before : {After : List Lexeme → Type 0} (test : Test) (x : Option (Variables C))
       → Rejects test ParenOpen → ((rest : List Lexeme) → After rest → NotAt test rest)
-      → Before (Optional (IsVariables S) for x) After (NotAt test)
+      → Before (Optional (IsVariables S) x) After (NotAt test)
   variables_before test x d s = optional_before x (λ a. starts_before test d (λ ts h. variables_start ts a h)) s
 
 module _ {C F : Type 0} (S : Scalars C F) (n : ℕ) where
   -- ---- arguments and directives
 
-  argument_found : (a : Argument C) → Finds n (reads S n argument) (IsArgument S for a) Any a
+  argument_found : (a : Argument C) → Finds n (reads S n argument) (IsArgument S a) Any a
   unfolding argument
   argument_found a = then_found _ (word_found a.name)
       (is_then (map_found _ (fewer (value_finds S true n a.value))))
 
-  pub arguments_found : (a : Arguments C) → Finds n (reads S n arguments) (IsArguments S for a) Any a
+  pub arguments_found : (a : Arguments C) → Finds n (reads S n arguments) (IsArguments S a) Any a
   unfolding arguments arguments_inner
   arguments_found a = span_found _ a.span (listed_found ParenClose (argument_takes S n n (le_refl n)) argument_found
       (λ x. starts_before (of ParenClose) (λ w. refl) (λ ts h. argument_starts S ts x h)) (λ x. any_before)
       (λ w p rest. tt) ParenOpen (λ xs p. record { items = xs; span = p }) a.items)
 
   pub optional_arguments : (x : Option (Arguments C))
-      → Finds n (reads S n productions.optional_arguments) (Optional (IsArguments S) for x) (NotAt (of ParenOpen)) x
+      → Finds n (reads S n productions.optional_arguments) (Optional (IsArguments S) x) (NotAt (of ParenOpen)) x
   unfolding productions.optional_arguments
   optional_arguments x = maybe_found ParenOpen x (arguments_start S) arguments_found
 
-  directive_found : (d : Directive C) → Finds n (reads S n directive) (IsDirective S for d) (NotAt (of ParenOpen)) d
+  directive_found : (d : Directive C) → Finds n (reads S n directive) (IsDirective S d) (NotAt (of ParenOpen)) d
   unfolding directive
   directive_found d = span_found _ d.span (is_then (then_found _ (word_found d.name)
       (map_found _ (optional_arguments d.arguments))))
 
   repeated_found : (k : ℕ) → k ≤ n → (ds : List (Directive C))
-      → Finds k (repeated (of At) (reads S n directive) k) (Each (IsDirective S) for ds) AfterDirectives ds
+      → Finds k (repeated (of At) (reads S n directive) k) (Each (IsDirective S) ds) AfterDirectives ds
   unfolding repeated
   repeated_found zero l ds = record { at = λ ts rest le h g. absurd (omega arith) }
   repeated_found (suc k) l [] = look_apart (of At) _ (nothing_before (λ rest g. g.at)) done_found
@@ -260,7 +261,7 @@ module _ {C F : Type 0} (S : Scalars C F) (n : ℕ) where
       (seq_past _ (λ us h. directive_takes S n n (le_refl n) us d h) (at_most l (directive_found d)) (next ds)
       (map_found (λ xs. d ∷ xs) (repeated_found k (omega arith) ds)))
     where
-      next : (ds : List (Directive C)) → Before (Each (IsDirective S) for ds) AfterDirectives (NotAt (of ParenOpen))
+      next : (ds : List (Directive C)) → Before (Each (IsDirective S) ds) AfterDirectives (NotAt (of ParenOpen))
       next [] = nothing_before (λ rest g. g.paren)
       next (x ∷ xs) = front_before (starts_before (of ParenOpen) (λ w. refl) (λ ts h. directive_starts S ts x h))
 
@@ -268,7 +269,7 @@ module _ {C F : Type 0} (S : Scalars C F) (n : ℕ) where
   pub directives_then : {A : Type 0} {Q After : List Lexeme → Type 0} {a : A}
       (k : Option (List (Directive C) × Span) → Reader F A) (ds : Directives C) → Before Q After AfterDirectives
       → ((x : Option (List (Directive C) × Span)) → directives_of x ≡ ds → Finds n (k x) Q After a)
-      → Finds n (seq (reads S n directives) k) (IsDirectives S for ds · Q) After a
+      → Finds n (seq (reads S n directives) k) (IsDirectives S ds · Q) After a
   unfolding directives
   directives_then k None m q =
       seq_found k (map_found all_directives (repeated_found n (le_refl n) [])) m (q None refl)
@@ -278,7 +279,7 @@ module _ {C F : Type 0} (S : Scalars C F) (n : ℕ) where
 
   -- directives, and nothing after them
   pub directives_last : {A : Type 0} (k : Directives C → A) (ds : Directives C)
-      → Finds n (seq (reads S n directives) (λ x. done (k (directives_of x)))) (IsDirectives S for ds) AfterDirectives
+      → Finds n (seq (reads S n directives) (λ x. done (k (directives_of x)))) (IsDirectives S ds) AfterDirectives
       (k ds)
   directives_last k ds = found_as nothing_last (directives_then _ ds (nothing_before (λ rest g. g))
       (λ x e. found_is (ap k e) done_found))
@@ -286,14 +287,14 @@ module _ {C F : Type 0} (S : Scalars C F) (n : ℕ) where
   -- ---- variable definitions
 
   default_found : (v : Option (Value C))
-      → Finds n (reads S n default) (Optional (IsDefault S) for v) (NotAt (of Equals)) v
+      → Finds n (reads S n default) (Optional (IsDefault S) v) (NotAt (of Equals)) v
   unfolding default
   default_found None = look_apart (of Equals) _ (nothing_before (λ rest g. g)) done_found
   default_found (Some v) = look_found Equals _ (λ ts h. default_starts S ts v h)
       (is_then (map_found (λ x. Some x) (fewer (found_if (λ rest g. tt) (value_finds S false n v)))))
 
   variable_found : (v : VariableDefinition C)
-      → Finds n (reads S n variable_definition) (IsVariableDefinition S for v) AfterVariable v
+      → Finds n (reads S n variable_definition) (IsVariableDefinition S v) AfterVariable v
   unfolding variable_definition
   variable_found v = dollar_then _ v.name.text v.name.span (λ x q s e.
       found_is (ap (λ z. record v { name = record { text = v.name.text; span = z } }) (sym e))
@@ -311,7 +312,7 @@ module _ {C F : Type 0} (S : Scalars C F) (n : ℕ) where
         directives = ds;
       }) v.directives))))))
 
-  pub variables_found : (a : Variables C) → Finds n (reads S n variables) (IsVariables S for a) Any a
+  pub variables_found : (a : Variables C) → Finds n (reads S n variables) (IsVariables S a) Any a
   unfolding variables variables_inner
   variables_found a = span_found _ a.span (listed_found ParenClose (variable_takes S n n (le_refl n)) variable_found
       (λ x. starts_before (of ParenClose) (λ w. refl) (λ ts h. variable_starts S ts x h))

@@ -29,13 +29,13 @@ name_nullable name inner e = absurd (cc)
 pub list_nullable : (size : Option ℕ) (type : TypeRef) → IsNullable (ListType size type)
 list_nullable size type inner e = absurd (cc)
 
-abbrev pub IsSpannedType : List Lexeme → TypeRef × Span → Type 0
-IsSpannedType ts x = IsType ts x.0 × (x.1 ≡ span_of ts)
+abbrev pub IsSpannedType : TypeRef × Span → List Lexeme → Type 0
+IsSpannedType x ts = IsType x.0 ts × (x.1 ≡ span_of ts)
 
-abbrev IsNullableType : List Lexeme → TypeRef × Span → Type 0
-IsNullableType ts x = IsSpannedType ts x × IsNullable x.0
+abbrev IsNullableType : TypeRef × Span → List Lexeme → Type 0
+IsNullableType x ts = IsSpannedType x ts × IsNullable x.0
 
-pub type_takes : (ts : List Lexeme) (type : TypeRef) → IsType ts type → 0 < length ts
+pub type_takes : (ts : List Lexeme) (type : TypeRef) → IsType type ts → 0 < length ts
 type_takes ts (NamedType name) h = says_takes name ts h
 type_takes ts (ListType size of_type) h = front_takes (is_takes BracketOpen) ts h.0
 type_takes ts (NonNullType of_type) h = back_takes (is_takes ExclamationMark) ts h.0
@@ -89,9 +89,9 @@ module _ {C F : Type 0} (S : Scalars C F) where
 -- Directives
 module _ {C F : Type 0} (S : Scalars C F) where
   -- directives, from the first one's start to the last one's end
-  abbrev pub AreDirectives : List Lexeme → Option (List (Directive C) × Span) → Type 0
-  AreDirectives ts o = IsDirectives S ts (directives_of o)
-      × ((ds : List (Directive C)) × (o ≡ all_directives ds) × Each (IsDirective S) ts ds)
+  abbrev pub AreDirectives : Option (List (Directive C) × Span) → List Lexeme → Type 0
+  AreDirectives o ts = IsDirectives S (directives_of o) ts
+      × ((ds : List (Directive C)) × (o ≡ all_directives ds) × Each (IsDirective S) ds ts)
 
 module _ {C F : Type 0} (S : Scalars C F) (n m : ℕ) (le : n ≤ m) where
   pub low1 : (us : List Lexeme) → less n us ≤ n
@@ -120,14 +120,14 @@ module _ {C F : Type 0} (S : Scalars C F) (n m : ℕ) (le : n ≤ m) where
       (rw append-nil (row (k ∷ []) (c ∷ us) (word_is k (of_kind Name k p))
       (row (c ∷ []) us (kind_is Colon c (of_kind Colon c q)) h))))))
 
-  pub argument_takes : (ts : List Lexeme) (a : Argument C) → IsArgument S ts a → 0 < length ts
+  pub argument_takes : (ts : List Lexeme) (a : Argument C) → IsArgument S a ts → 0 < length ts
   argument_takes ts a h = front_takes (λ us w. one_takes us _ w) ts h
 
-  pub listed : {A : Type 0} (opening closing : Kind) (R : List Lexeme → A → Type 0) (t : Lexeme) (us : List Lexeme)
-      (xs : List A) → passes (of opening) t ≡ true → ClosedSome (of closing) R us xs
-      → Listed opening closing R (t ∷ us) xs
+  pub listed : {A : Type 0} (opening closing : Kind) (R : A → List Lexeme → Type 0) (t : Lexeme) (us : List Lexeme)
+      (xs : List A) → passes (of opening) t ≡ true → ClosedSome (of closing) R xs us
+      → Listed opening closing R xs (t ∷ us)
   listed opening closing R t us [] p c = absurd c
-  listed opening closing R t us (x ∷ xs) p c = subst (λ l. Listed opening closing R (t ∷ l) (x ∷ xs)) (sym c.whole)
+  listed opening closing R t us (x ∷ xs) p c = subst (λ l. Listed opening closing R (x ∷ xs) (t ∷ l)) (sym c.whole)
       (enclosed opening closing t c.last c.inner (of_kind opening t p) (of_kind closing c.last c.closes)
       (c.each, λ e. absurd (cc)))
 
@@ -135,7 +135,7 @@ module _ {C F : Type 0} (S : Scalars C F) (n m : ℕ) (le : n ≤ m) where
   unfolding arguments arguments_inner
   arguments_rule = span_rule n _ _ (IsArguments S) (want_step n (of ParenOpen) (sample ParenOpen) _ _ _ refl (inl refl)
       (λ o o' p.
-      step n _ _ _ _ _ (λ us r. ClosedSome (of ParenClose) (IsArgument S) us r.0) _ (low1 (o ∷ []))
+      step n _ _ _ _ _ (λ r us. ClosedSome (of ParenClose) (IsArgument S) r.0 us) _ (low1 (o ∷ []))
       (one_or_more_rule (IsArgument S) argument_takes (of ParenClose) (sample ParenClose) refl (inl refl) _ _ n m le
       argument_rule) (λ us xs ys h.
       done_rule _ (λ p. record { items = xs.0; span = p }) (λ p. record { items = ys.0; span = p }) _
@@ -159,11 +159,11 @@ module _ {C F : Type 0} (S : Scalars C F) (n m : ℕ) (le : n ≤ m) where
         refl,
       ))))))
 
-  pub directive_takes : (ts : List Lexeme) (d : Directive C) → IsDirective S ts d → 0 < length ts
+  pub directive_takes : (ts : List Lexeme) (d : Directive C) → IsDirective S d ts → 0 < length ts
   directive_takes ts d h = front_takes (is_takes At) ts h.0
 
-  directives_are : (ts : List Lexeme) (ds : List (Directive C)) → Each (IsDirective S) ts ds
-      → IsDirectives S ts (directives_of (all_directives ds))
+  directives_are : (ts : List Lexeme) (ds : List (Directive C)) → Each (IsDirective S) ds ts
+      → IsDirectives S (directives_of (all_directives ds)) ts
   directives_are ts [] h = h
   directives_are ts (d ∷ ds) h = (h, λ e. absurd (cc))
 
@@ -215,14 +215,14 @@ module _ {C F : Type 0} (S : Scalars C F) (n m : ℕ) (le : n ≤ m) where
       (row (c ∷ []) (us ++ (vs ++ ws)) (kind_is Colon c (of_kind Colon c r))
       (row us (vs ++ ws) h (row vs ws k e.0)))))))))))
 
-  pub variable_takes : (ts : List Lexeme) (d : VariableDefinition C) → IsVariableDefinition S ts d → 0 < length ts
+  pub variable_takes : (ts : List Lexeme) (d : VariableDefinition C) → IsVariableDefinition S d ts → 0 < length ts
   variable_takes ts d h = front_takes (λ us v. front_takes (is_takes Dollar) us v.0) ts h
 
   pub variables_rule : Rule n (reads S n variables) (reads S m variables) (IsVariables S)
   unfolding variables variables_inner
   variables_rule = span_rule n _ _ (IsVariables S) (want_step n (of ParenOpen) (sample ParenOpen) _ _ _ refl (inl refl)
       (λ o o' p.
-      step n _ _ _ _ _ (λ us r. ClosedSome (of ParenClose) (IsVariableDefinition S) us r.0) _ (low1 (o ∷ []))
+      step n _ _ _ _ _ (λ r us. ClosedSome (of ParenClose) (IsVariableDefinition S) r.0 us) _ (low1 (o ∷ []))
       (one_or_more_rule (IsVariableDefinition S) variable_takes (of ParenClose) (sample ParenClose) refl (inl refl)
       _ _ n m le variable_definition_rule) (λ us xs ys h.
       done_rule _ (λ p. record { items = xs.0; span = p }) (λ p. record { items = ys.0; span = p }) _

@@ -46,17 +46,17 @@ abbrev pub RunsOn : List Lexeme → List Lexeme → Option Span → Type 0
 RunsOn ts rest None = ts ≡ rest
 RunsOn ts rest (Some p) = Runs ts rest p
 
-module _ {F A : Type 0} (f : ℕ → Reader F A) (R : List Lexeme → A → Type 0) (rule : (n : ℕ) → Rule n (f n) (f n) R)
+module _ {F A : Type 0} (f : ℕ → Reader F A) (R : A → List Lexeme → Type 0) (rule : (n : ℕ) → Rule n (f n) (f n) R)
   where
     pub took_is : (ts rest : List Lexeme) (a : A) → fully f ts ≡ Took a rest
-        → (us : List Lexeme) × (ts ≡ us ++ rest) × R us a
+        → (us : List Lexeme) × (ts ≡ us ++ rest) × R a us
     unfolding fully
     took_is ts rest a e = let h = subst (λ z. Meets (suc (length ts)) R (f (suc (length ts))) ts z) e
         ((rule (suc (length ts))).at ts) in (h.0, h.1, h.2)
 
 -- items up to the closing token
-pub closed_runs : {A : Type 0} (close : Test) (R : List Lexeme → A → Type 0) (us ts rest : List Lexeme)
-    (r : List A × Lexeme) → ts ≡ us ++ rest → Closed close R us r → (p : Span) × Runs ts rest p × (p.end ≡ r.1.span.end)
+pub closed_runs : {A : Type 0} (close : Test) (R : A → List Lexeme → Type 0) (us ts rest : List Lexeme)
+    (r : List A × Lexeme) → ts ≡ us ++ rest → Closed close R r us → (p : Span) × Runs ts rest p × (p.end ≡ r.1.span.end)
 closed_runs close R us ts rest r e c = (
   span_of us,
   runs_of us ts rest e (rw (c.whole, length-append c.inner (r.1 ∷ [])) (omega arith)),
@@ -70,18 +70,18 @@ closed_runs close R us ts rest r e c = (
 -- ---- the spans that parts of a tree have
 
 module _ {C F : Type 0} (S : Scalars C F) where
-  listed_takes : {A : Type 0} (opening closing : Kind) (R : List Lexeme → A → Type 0) (us : List Lexeme) (xs : List A)
-      → Listed opening closing R us xs → 0 < length us
+  listed_takes : {A : Type 0} (opening closing : Kind) (R : A → List Lexeme → Type 0) (us : List Lexeme) (xs : List A)
+      → Listed opening closing R xs us → 0 < length us
   listed_takes opening closing R us xs h = front_takes (is_takes opening) us h
 
-  pub arguments_have : (us : List Lexeme) (a : Arguments C) → IsArguments S us a
+  pub arguments_have : (us : List Lexeme) (a : Arguments C) → IsArguments S a us
       → (0 < length us) × (a.span ≡ span_of us)
   arguments_have us a h = (listed_takes _ _ _ us a.items h.0, h.1)
 
-  pub variables_have : (us : List Lexeme) (a : Variables C) → IsVariables S us a
+  pub variables_have : (us : List Lexeme) (a : Variables C) → IsVariables S a us
       → (0 < length us) × (a.span ≡ span_of us)
   variables_have us a h = (listed_takes _ _ _ us a.items h.0, h.1)
 
-  pub directive_has : (us : List Lexeme) (d : Directive C) → IsDirective S us d
+  pub directive_has : (us : List Lexeme) (d : Directive C) → IsDirective S d us
       → (0 < length us) × (d.span ≡ span_of us)
   directive_has us d h = (front_takes (is_takes At) us h.0, h.1)

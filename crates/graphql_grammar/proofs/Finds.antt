@@ -8,7 +8,8 @@ use Rattle.graphql_lexical.specs.declared.kind.Kind.TheVariants.{Name}
 use Rattle.graphql_lexical.specs.Cutting.{Lexeme}
 use Rattle.graphql_grammar.specs.Tokens.{Word, Text, span_of, from_to}
 use Rattle.graphql_grammar.specs.device.Reading.{Test, passes, of, Read, Took, Reader, after, seq, done, on, want, many, look, choose, maybe, with_span, give_span, one_or_more}
-use Rattle.graphql_grammar.specs.Grammar.{Is, IsWord, Says, Sequence, ◌·◌, ◌for◌, Each, Optional, Listed}
+use Rattle.graphql_lexical.specs.Parts.{Sequence, ◌·◌}
+use Rattle.graphql_grammar.specs.Grammar.{Is, IsName, Says, Each, Optional, Listed}
 use Rattle.graphql_grammar.proofs.Sequences.{token_in, enclosed_span, row_as, row_front, row_back, one_takes, back_takes, row_length, row_before, row_right}
 use Rattle.graphql_grammar.proofs.TokenRules.{on_passed, on_failed, want_passed}
 use Rattle.graphql_grammar.proofs.PartRules.{front_is}
@@ -58,7 +59,7 @@ front_starts s ts h =
 pub starts_takes : {k : Kind} (ts : List Lexeme) → StartsWith k ts → 0 < length ts
 starts_takes ts s = rw s.3 (omega arith)
 
-pub word_starts : (ts : List Lexeme) (w : Word) → IsWord ts w → StartsWith Name ts
+pub word_starts : (ts : List Lexeme) (w : Word) → IsName w ts → StartsWith Name ts
 word_starts ts w h = (w.text, w.span, [], h)
 
 pub says_starts : {w : Text} (ts : List Lexeme) → Says w ts → StartsWith Name ts
@@ -76,9 +77,9 @@ pub nothing_before : {After First : List Lexeme → Type 0} → ((rest : List Le
     → Before Nothing After First
 nothing_before d = record { at = λ ts rest h g. rw h (d rest g) }
 
-pub optional_before : {A : Type 0} {R : List Lexeme → A → Type 0} {After First : List Lexeme → Type 0} (x : Option A)
-    → ((a : A) → Before (R for a) After First) → ((rest : List Lexeme) → After rest → First rest)
-    → Before (Optional R for x) After First
+pub optional_before : {A : Type 0} {R : A → List Lexeme → Type 0} {After First : List Lexeme → Type 0} (x : Option A)
+    → ((a : A) → Before (R a) After First) → ((rest : List Lexeme) → After rest → First rest)
+    → Before (Optional R x) After First
 optional_before None s d = nothing_before d
 optional_before (Some a) s d = s a
 
@@ -246,7 +247,7 @@ pub want_found : {F : Type 0} {n : ℕ} {After : List Lexeme → Type 0} (test :
 want_found test t e = record { at = λ ts rest le h g. rw h (want_passed test t rest e) }
 
 pub word_found : {F : Type 0} {n : ℕ} {After : List Lexeme → Type 0} (w : Word)
-    → Finds {F = F} n (want (of Name)) (IsWord for w) After (token Name w.text w.span)
+    → Finds {F = F} n (want (of Name)) (IsName w) After (token Name w.text w.span)
 word_found w = want_found (of Name) (token Name w.text w.span) refl
 
 pub done_found : {F A : Type 0} {n : ℕ} {After : List Lexeme → Type 0} {a : A}
@@ -327,27 +328,27 @@ span_found k p q = record {
       ∙ ap (λ z. Took (k (span_of z)) rest) (front_is ts rest) ∙ ap (λ z. Took (k z) rest) (sym h.1);
 }
 
-pub maybe_found : {F A : Type 0} {n : ℕ} {f : Reader F A} {R : List Lexeme → A → Type 0} (k : Kind) (x : Option A)
-    → ((ts : List Lexeme) (a : A) → R ts a → StartsWith k ts) → ((a : A) → Finds n f (R for a) Any a)
-    → Finds n (maybe (of k) f) (Optional R for x) (NotAt (of k)) x
+pub maybe_found : {F A : Type 0} {n : ℕ} {f : Reader F A} {R : A → List Lexeme → Type 0} (k : Kind) (x : Option A)
+    → ((ts : List Lexeme) (a : A) → R a ts → StartsWith k ts) → ((a : A) → Finds n f (R a) Any a)
+    → Finds n (maybe (of k) f) (Optional R x) (NotAt (of k)) x
 maybe_found k None s p = look_apart (of k) _ (nothing_before (λ rest g. g)) done_found
 maybe_found k (Some a) s p = look_found k _ (λ ts h. s ts a h) (found_if (λ rest g. tt) (map_found (λ x. Some x) (p a)))
 
 -- ---- many items, and the token that closes them
 
-module _ {F A : Type 0} {n : ℕ} {f : Reader F A} {R : List Lexeme → A → Type 0} {Next : List Lexeme → Type 0}
-    (closing : Kind) (takes : (ts : List Lexeme) (x : A) → R ts x → 0 < length ts)
-    (item : (x : A) → Finds n f (R for x) Next x)
-    (apart : (x : A) → Before (R for x) Any (NotAt (of closing)))
-    (next : (x : A) → Before (R for x) Any Next)
+module _ {F A : Type 0} {n : ℕ} {f : Reader F A} {R : A → List Lexeme → Type 0} {Next : List Lexeme → Type 0}
+    (closing : Kind) (takes : (ts : List Lexeme) (x : A) → R x ts → 0 < length ts)
+    (item : (x : A) → Finds n f (R x) Next x)
+    (apart : (x : A) → Before (R x) Any (NotAt (of closing)))
+    (next : (x : A) → Before (R x) Any Next)
     (end : (w : Text) (p : Span) (rest : List Lexeme) → Next (token closing w p ∷ rest)) where
   module _ (w : Text) (p : Span) where
-    items_before : (xs : List A) → Before (Each R for xs · Only (token closing w p)) Any Next
+    items_before : (xs : List A) → Before (Each R xs · Only (token closing w p)) Any Next
     items_before [] = record { at = λ ts rest h g. rw (h.whole, h.first, h.second) (end w p rest) }
     items_before (x ∷ xs) = before_as row_right (front_before (next x))
 
     pub many_found : (k : ℕ) → k ≤ n → (xs : List A)
-        → Finds (suc k) (many (of closing) f k) (Each R for xs · Only (token closing w p)) Any (xs, token closing w p)
+        → Finds (suc k) (many (of closing) f k) (Each R xs · Only (token closing w p)) Any (xs, token closing w p)
     unfolding many done
     many_found zero l xs = none_found (back_takes (λ us h. one_takes us _ h))
     many_found (suc k) l [] = record {
@@ -357,7 +358,7 @@ module _ {F A : Type 0} {n : ℕ} {f : Reader F A} {R : List Lexeme → A → Ty
     many_found (suc k) l (x ∷ xs) = record {
       at = λ ts rest le h g.
           let s = row_right ts h in let i = row_length ts s in let t = takes s.front x s.first in
-          let c = back_takes {P = Each R for xs} (λ us z. one_takes us (token closing w p) z) s.back s.second in
+          let c = back_takes {P = Each R xs} (λ us z. one_takes us (token closing w p) z) s.back s.second in
           on_no (of closing) _ _ (ts ++ rest) ((front_before {After = Any} (apart x)).at ts rest s tt)
           ∙ row_took _ f ts rest s x _
           ((item x).at s.front _ (omega arith) s.first ((items_before xs).at s.back rest s.second tt))
@@ -367,21 +368,21 @@ module _ {F A : Type 0} {n : ℕ} {f : Reader F A} {R : List Lexeme → A → Ty
     -- an item, and then many
     pub several_found : {B : Type 0} (k : A → List A × Lexeme → B) (x : A) (xs : List A)
         → Finds n (seq f (λ y. seq (many (of closing) f n) (λ r. done (k y r))))
-        (Each R for (x ∷ xs) · Only (token closing w p)) Any (k x (xs, token closing w p))
+        (Each R (x ∷ xs) · Only (token closing w p)) Any (k x (xs, token closing w p))
     several_found k x xs = found_as row_right (seq_found _ (item x) (items_before xs)
         (map_found (k x) (fewer (many_found n (le_refl n) xs))))
 
     pub one_or_more_found : (x : A) (xs : List A)
-        → Finds n (one_or_more (of closing) f n) (Each R for (x ∷ xs) · Only (token closing w p)) Any (x ∷ xs, p)
+        → Finds n (one_or_more (of closing) f n) (Each R (x ∷ xs) · Only (token closing w p)) Any (x ∷ xs, p)
     one_or_more_found = several_found (λ y r. (y ∷ r.0, r.1.span))
 
   pub listed_found : {B : Type 0} (opening : Kind) (k : List A → B) (xs : List A)
       → Finds n (seq (want (of opening)) (λ o. seq (one_or_more (of closing) f n) (λ ys. done (k ys.0))))
-      (Listed opening closing R for xs) Any (k xs)
+      (Listed opening closing R xs) Any (k xs)
   listed_found opening k [] = record { at = λ ts rest le h g. absurd (h.second.first.1 refl) }
   listed_found opening k (x ∷ xs) = found_as (row_back (row_front (λ us h. h.0)))
       (is_then (closed_found (λ w p. map_found (λ ys. k ys.0) (one_or_more_found w p x xs))))
 
-pub listed_starts : {A : Type 0} {opening : Kind} (closing : Kind) (R : List Lexeme → A → Type 0) (ts : List Lexeme)
-    (xs : List A) → Listed opening closing R ts xs → StartsWith opening ts
+pub listed_starts : {A : Type 0} {opening : Kind} (closing : Kind) (R : A → List Lexeme → Type 0) (ts : List Lexeme)
+    (xs : List A) → Listed opening closing R xs ts → StartsWith opening ts
 listed_starts closing R ts xs h = front_starts is_starts ts h

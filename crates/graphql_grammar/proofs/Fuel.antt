@@ -138,7 +138,7 @@ pub record Answers {F A : Type 0} (f : ℕ → Reader F A) : Type 0 where
   pub at : (n : ℕ) (ts : List Lexeme) → length ts < n → f n ts ≡ Out → ⊥
 
 -- A reader that keeps a rule answers where the fuel exceeds the list.
-pub not_out : {F A : Type 0} (n : ℕ) (f g : Reader F A) (R : List Lexeme → A → Type 0) → Rule n f g R
+pub not_out : {F A : Type 0} (n : ℕ) (f g : Reader F A) (R : A → List Lexeme → Type 0) → Rule n f g R
     → (ts : List Lexeme) → length ts < n → f ts ≡ Out → ⊥
 not_out n f g R r ts le e = by_meets (f ts) e (r.at ts)
   where
@@ -177,7 +177,7 @@ module _ {F A : Type 0} (f : ℕ → Reader F A) (w : Answers f) where
   steps g ts (inr e) = e
 
 -- a reader that keeps a rule, and that more fuel doesn't change
-pub answers : {F A : Type 0} (f : ℕ → Reader F A) (R : List Lexeme → A → Type 0) →
+pub answers : {F A : Type 0} (f : ℕ → Reader F A) (R : A → List Lexeme → Type 0) →
     ((n m : ℕ) → n ≤ m → Under (f n) (f m))
     → ((n : ℕ) → Rule n (f n) (f n) R) → Answers f
 answers f R u r = record { under = u; at = λ n ts le. not_out n (f n) (f n) R (r n) ts le }

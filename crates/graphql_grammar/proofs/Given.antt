@@ -25,7 +25,7 @@ use Rattle.graphql_grammar.proofs.Named.{refused_at, drop_next}
 use Rattle.graphql_grammar.proofs.Spelling.{sample_spelled}
 use Rattle.graphql_grammar.proofs.DocumentFound.{type_covers}
 
-module _ {F A : Type 0} (f : ℕ → Reader F A) (R : List Lexeme → A → Type 0) (r : Reads f R)
+module _ {F A : Type 0} (f : ℕ → Reader F A) (R : A → List Lexeme → Type 0) (r : Reads f R)
     (Refuses : ℕ → Lexeme → Fault F → Type 0) (ts : List Lexeme) (ends : EndsOnce ts)
     (refused : (rest : List Lexeme) (t : Lexeme) (e : Fault F) → f (suc (length ts)) ts ≡ Refused (t ∷ rest) e
     → (i : ℕ) × (rest ≡ drop (suc i) ts) × Refuses i t e) where
@@ -39,16 +39,16 @@ module _ {F A : Type 0} (f : ℕ → Reader F A) (R : List Lexeme → A → Type
   unfolding n
   never_out e = absurd (omega (arith, (meets Out e).0))
 
-  module _ (ended : (us : List Lexeme) (a : A) → R us a → EndsOnce us) where
+  module _ (ended : (us : List Lexeme) (a : A) → R a us → EndsOnce us) where
     by_whole : (z : Read F A) → f n ts ≡ z → Meets n R (f n) ts z → GivesWhole R Refuses ts z
     unfolding n
     by_whole (Took a rest) e (us, p, h, s) =
         let none : rest ≡ [] = cut_front us rest (ended us a h) (subst EndsOnce p ends) in
-        (subst (λ l. R l a) (sym (p ∙ ap (λ l. us ++ l) none ∙ append-nil us)) h, none)
+        (subst (λ l. R a l) (sym (p ∙ ap (λ l. us ++ l) none ∙ append-nil us)) h, none)
     by_whole (Refused [] x) e (us, p, (more, a, h, w), s, y) =
         let q : ts ≡ us = p ∙ append-nil us in
         let m : more ≡ [] = cut_front us more (subst EndsOnce q ends) (ended _ a h) in
-        let whole : R ts a = subst (λ l. R l a) (ap (λ l. us ++ l) m ∙ append-nil us ∙ sym q) h in
+        let whole : R a ts = subst (λ l. R a l) (ap (λ l. us ++ l) m ∙ append-nil us ∙ sym q) h in
         let took = sym (r.finds n ts a (omega arith) whole) ∙ e in
         absurd (cc took)
     by_whole (Refused (t ∷ rest) x) e m = refused rest t x e
@@ -62,17 +62,17 @@ module _ {F A : Type 0} (f : ℕ → Reader F A) (R : List Lexeme → A → Type
   ended_has [] end e h = absurd (h.0 e)
   ended_has (t ∷ us) end e h = ended_has us end e h.1
 
-  module _ (inner : (us : List Lexeme) (a : A) → R us a → NoEnd us)
-      (covers : (us vs : List Lexeme) (b : A) → R us b → (m : ℕ) → length (us ++ vs) < m
+  module _ (inner : (us : List Lexeme) (a : A) → R a us → NoEnd us)
+      (covers : (us vs : List Lexeme) (b : A) → R b us → (m : ℕ) → length (us ++ vs) < m
       → (a : A) × (more rest : List Lexeme) × (f m (us ++ vs) ≡ Took a rest) × (vs ≡ more ++ rest)) where
-    covered : (us vs : List Lexeme) (b : A) → ts ≡ us ++ vs → R us b
+    covered : (us vs : List Lexeme) (b : A) → ts ≡ us ++ vs → R b us
         → (a : A) × (more rest : List Lexeme) × (f n ts ≡ Took a rest) × (vs ≡ more ++ rest)
     unfolding n
     covered us vs b e h = let c = covers us vs b h (suc (length ts)) (rw e (omega arith)) in
         (c.0, c.1, c.2, ap (f (suc (length ts))) e ∙ c.3, c.4)
 
     longest : (front rest us vs : List Lexeme) (a b : A) → f n ts ≡ Took a rest → ts ≡ front ++ rest → ts ≡ us ++ vs
-        → R us b → length us ≤ length front
+        → R b us → length us ≤ length front
     longest front rest us vs a b e p q h =
         let c = covered us vs b q h in
         let both : Took a rest ≡ Took c.0 c.2 = sym e ∙ c.3 in
@@ -84,7 +84,7 @@ module _ {F A : Type 0} (f : ℕ → Reader F A) (R : List Lexeme → A → Type
         omega arith
 
     none : (t : Lexeme) (rest us vs : List Lexeme) (x : Fault F) (b : A) → f n ts ≡ Refused (t ∷ rest) x → ts ≡ us ++ vs
-        → R us b → ⊥
+        → R b us → ⊥
     none t rest us vs x b e q h = let c = covered us vs b q h in let both = sym e ∙ c.3 in absurd (cc both)
 
     by_front : (z : Read F A) → f n ts ≡ z → Meets n R (f n) ts z → GivesFront R Refuses ts z

@@ -27,7 +27,7 @@ pub drop_next : (us rest : List Lexeme) (t : Lexeme) → drop (suc (length us)) 
 drop_next [] rest t = refl
 drop_next (u ∷ us) rest t = drop_next us rest t
 
-module _ {C F A : Type 0} (S : Scalars C F) (f : ℕ → Reader F A) (R : List Lexeme → A → Type 0) (r : Reads f R)
+module _ {C F A : Type 0} (S : Scalars C F) (f : ℕ → Reader F A) (R : A → List Lexeme → Type 0) (r : Reads f R)
     (strict : Bool) (tells : (n : ℕ) → TellsFaults S strict (f n)) (Allowed : Lexeme → Type 0)
     (fills : (t : Lexeme) → IsSample t → Allowed t) where
   -- What begins so is read to its end, with enough fuel.

@@ -6,7 +6,8 @@ use Rattle.graphql_lexical.specs.Cutting.{Lexeme}
 use Rattle.graphql_lexical.specs.Place.{Span}
 use Rattle.graphql_grammar.specs.Tokens.{span_of}
 use Rattle.graphql_grammar.specs.Tree.{Scalars, Value, Null, Scalar, Enum, Variable, ListOf, Object, Items, no_items, item, ObjectFields, no_fields, object_field, Argument, Arguments, Directive, VariableDefinition, Variables, Selection, Field, FragmentSpread, InlineFragment, Selections, no_selections, selection, Definition, Operation, Fragment, Directives, OptionalSelections, absent, present}
-use Rattle.graphql_grammar.specs.Grammar.{◌·◌, ◌for◌, AreItems, AreFields, IsValue, Each, Optional, Several, Listed, IsArgument, IsArguments, IsDirective, IsDirectives, IsDefault, IsVariableDefinition, IsVariables, IsSelection, IsOptionalSelectionSet, IsSelectionSet, AreSelections, IsDefinition, IsDocument}
+use Rattle.graphql_lexical.specs.Parts.{◌·◌}
+use Rattle.graphql_grammar.specs.Grammar.{AreItems, AreFields, IsValue, Each, Optional, Several, Listed, IsArgument, IsArguments, IsDirective, IsDirectives, IsDefault, IsVariableDefinition, IsVariables, IsSelection, IsOptionalSelectionSet, IsSelectionSet, AreSelections, IsDefinition, IsDocument}
 use Rattle.graphql_grammar.specs.ScalarTokens.{IsReadAlso}
 use Rattle.graphql_grammar.proofs.Elements.{all_front, all_back}
 
@@ -42,25 +43,25 @@ module _ {C F : Type 0} (S T : Scalars C F) (truths : S.of_bool ≡ T.of_bool) w
   before : {A B P : List Lexeme → Type 0} → Carries A B → Carries (A · P) (B · P)
   before f = both f (λ ts a h. h)
 
-  module _ {A : Type 0} {R Q : List Lexeme → A → Type 0} (f : (x : A) → Carries (R for x) (Q for x)) where
-    each : (xs : List A) → Carries (Each R for xs) (Each Q for xs)
+  module _ {A : Type 0} {R Q : A → List Lexeme → Type 0} (f : (x : A) → Carries (R x) (Q x)) where
+    each : (xs : List A) → Carries (Each R xs) (Each Q xs)
     each [] ts a h = h
     each (x ∷ xs) ts a h = both (f x) (each xs) ts a h
 
-    optional : (x : Option A) → Carries (Optional R for x) (Optional Q for x)
+    optional : (x : Option A) → Carries (Optional R x) (Optional Q x)
     optional None ts a h = h
     optional (Some x) ts a h = f x ts a h
 
-    several : (xs : List A) → Carries (Several R for xs) (Several Q for xs)
+    several : (xs : List A) → Carries (Several R xs) (Several Q xs)
     several xs ts a h = (each xs ts a h.0, h.1)
 
-    listed : (xs : List A) → Carries (Listed ParenOpen ParenClose R for xs) (Listed ParenOpen ParenClose Q for xs)
+    listed : (xs : List A) → Carries (Listed ParenOpen ParenClose R xs) (Listed ParenOpen ParenClose Q xs)
     listed xs = after (before (several xs))
 
   -- ---- values
 
   mutual
-    value : (free : Bool) (v : Value C) → Carries (IsValue S free for v) (IsValue T free for v)
+    value : (free : Bool) (v : Value C) → Carries (IsValue S free v) (IsValue T free v)
     value free (Null p) ts a h = h
     value free (Scalar c p) ts a (inl (k, w, h, s, e)) = inl (k, w, h, s, (subst Also h a).0 c s e)
     value free (Scalar c p) ts a (inr (inl h)) = inr (inl (h.0, h.1 ∙ ap (λ (f : Bool → C). f true) truths))
@@ -70,41 +71,41 @@ module _ {C F : Type 0} (S T : Scalars C F) (truths : S.of_bool ≡ T.of_bool) w
     value free (ListOf vs p) ts a h = spanned (after (before (items free vs))) ts a h
     value free (Object fs p) ts a h = spanned (after (before (fields free fs))) ts a h
 
-    items : (free : Bool) (vs : Items C) → Carries (AreItems S free for vs) (AreItems T free for vs)
+    items : (free : Bool) (vs : Items C) → Carries (AreItems S free vs) (AreItems T free vs)
     items free no_items ts a h = h
     items free (item v vs) ts a h = both (value free v) (items free vs) ts a h
 
-    fields : (free : Bool) (fs : ObjectFields C) → Carries (AreFields S free for fs) (AreFields T free for fs)
+    fields : (free : Bool) (fs : ObjectFields C) → Carries (AreFields S free fs) (AreFields T free fs)
     fields free no_fields ts a h = h
     fields free (object_field w p v fs) ts a h = after (after (both (value free v) (fields free fs))) ts a h
 
   -- ---- arguments, directives and variable definitions
 
-  argument : (x : Argument C) → Carries (IsArgument S for x) (IsArgument T for x)
+  argument : (x : Argument C) → Carries (IsArgument S x) (IsArgument T x)
   argument x = after (after (value true x.value))
 
-  arguments : (x : Arguments C) → Carries (IsArguments S for x) (IsArguments T for x)
+  arguments : (x : Arguments C) → Carries (IsArguments S x) (IsArguments T x)
   arguments x = spanned (listed argument x.items)
 
-  directive : (d : Directive C) → Carries (IsDirective S for d) (IsDirective T for d)
+  directive : (d : Directive C) → Carries (IsDirective S d) (IsDirective T d)
   directive d = spanned (after (after (optional arguments d.arguments)))
 
-  directives : (ds : Directives C) → Carries (IsDirectives S for ds) (IsDirectives T for ds)
+  directives : (ds : Directives C) → Carries (IsDirectives S ds) (IsDirectives T ds)
   directives = optional (several directive)
 
-  default : (v : Value C) → Carries (IsDefault S for v) (IsDefault T for v)
+  default : (v : Value C) → Carries (IsDefault S v) (IsDefault T v)
   default v = after (value false v)
 
-  variable : (v : VariableDefinition C) → Carries (IsVariableDefinition S for v) (IsVariableDefinition T for v)
+  variable : (v : VariableDefinition C) → Carries (IsVariableDefinition S v) (IsVariableDefinition T v)
   variable v = after (after (after (both (optional default v.default) (directives v.directives))))
 
-  variables : (x : Variables C) → Carries (IsVariables S for x) (IsVariables T for x)
+  variables : (x : Variables C) → Carries (IsVariables S x) (IsVariables T x)
   variables x = spanned (listed variable x.items)
 
   -- ---- selections
 
   mutual
-    selection_of : (s : Selection C) → Carries (IsSelection S for s) (IsSelection T for s)
+    selection_of : (s : Selection C) → Carries (IsSelection S s) (IsSelection T s)
     selection_of (Field alias name args ds ss p) ts a h =
         spanned (after (after (both (optional arguments args) (both (directives ds) (may_select ss))))) ts a h
     selection_of (FragmentSpread name ds p) ts a h = spanned (after (after (directives ds))) ts a h
@@ -112,21 +113,21 @@ module _ {C F : Type 0} (S T : Scalars C F) (truths : S.of_bool ≡ T.of_bool) w
         spanned (after (after (both (directives ds) (selection_set ss)))) ts a h
 
     may_select : (ss : OptionalSelections C)
-        → Carries (IsOptionalSelectionSet S for ss) (IsOptionalSelectionSet T for ss)
+        → Carries (IsOptionalSelectionSet S ss) (IsOptionalSelectionSet T ss)
     may_select absent ts a h = h
     may_select (present ss) ts a h = selection_set ss ts a h
 
-    selection_set : (ss : Selections C) → Carries (IsSelectionSet S for ss) (IsSelectionSet T for ss)
+    selection_set : (ss : Selections C) → Carries (IsSelectionSet S ss) (IsSelectionSet T ss)
     selection_set no_selections ts a h = h
     selection_set (selection s ss) ts a h = after (both (selection_of s) (before (selections ss))) ts a h
 
-    selections : (ss : Selections C) → Carries (AreSelections S for ss) (AreSelections T for ss)
+    selections : (ss : Selections C) → Carries (AreSelections S ss) (AreSelections T ss)
     selections no_selections ts a h = h
     selections (selection s ss) ts a h = both (selection_of s) (selections ss) ts a h
 
   -- ---- documents
 
-  definition : (d : Definition C) → Carries (IsDefinition S for d) (IsDefinition T for d)
+  definition : (d : Definition C) → Carries (IsDefinition S d) (IsDefinition T d)
   definition (Operation kind name vars ds ss p) ts a (q, inl (h, i, j, k, l)) =
       (q, inl (selection_set ss ts a h, i, j, k, l))
   definition (Operation kind name vars ds ss p) ts a (q, inr h) = (
@@ -136,6 +137,6 @@ module _ {C F : Type 0} (S T : Scalars C F) (truths : S.of_bool ≡ T.of_bool) w
   definition (Fragment name on_type ds ss p) ts a h =
       spanned (after (after (after (both (directives ds) (selection_set ss))))) ts a h
 
-  pub document : (ts : List Lexeme) (ds : List (Definition C)) → AllByRecursion (IsReadAlso S T) ts → IsDocument S ts ds
-      → IsDocument T ts ds
+  pub document : (ts : List Lexeme) (ds : List (Definition C)) → AllByRecursion (IsReadAlso S T) ts → IsDocument S ds ts
+      → IsDocument T ds ts
   document ts ds a h = before (several definition ds) ts a h

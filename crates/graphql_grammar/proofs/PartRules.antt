@@ -14,15 +14,15 @@ use Rattle.graphql_grammar.proofs.TokenRules.{want_rule, on_rule, look_rule}
 
 -- many
 -- items, and then the closing token
-pub record Closed {A : Type 0} (close : Test) (R : List Lexeme → A → Type 0) (ts : List Lexeme) (r : List A × Lexeme) :
+pub record Closed {A : Type 0} (close : Test) (R : A → List Lexeme → Type 0) (r : List A × Lexeme) (ts : List Lexeme) :
     Type 0 where
   pub inner : List Lexeme
   pub whole : ts ≡ inner ++ (r.1 ∷ [])
   pub closes : passes close r.1 ≡ true
-  pub each : Each R inner r.0
+  pub each : Each R r.0 inner
 
-pub closed_more : {A : Type 0} (close : Test) (R : List Lexeme → A → Type 0) (us ts : List Lexeme) (x : A)
-    (r : List A × Lexeme) → R us x → Closed close R ts r → Closed close R (us ++ ts) (x ∷ r.0, r.1)
+pub closed_more : {A : Type 0} (close : Test) (R : A → List Lexeme → Type 0) (us ts : List Lexeme) (x : A)
+    (r : List A × Lexeme) → R x us → Closed close R r ts → Closed close R (x ∷ r.0, r.1) (us ++ ts)
 closed_more close R us ts x r h c = record {
   inner = us ++ c.inner;
   whole = ap (λ z. us ++ z) c.whole ∙ sym (append_assoc us c.inner (r.1 ∷ []));
@@ -35,7 +35,7 @@ less_short n [] h = absurd (omega arith)
 less_short n (t ∷ us) h = less_below n us
 
 module _ {F A : Type 0} (close : Test) (end : Lexeme) (closes : passes close end ≡ true) (ef : IsSample end)
-    (R : List Lexeme → A → Type 0) (takes : (us : List Lexeme) (x : A) → R us x → 0 < length us) where
+    (R : A → List Lexeme → Type 0) (takes : (us : List Lexeme) (x : A) → R x us → 0 < length us) where
   pub many_rule : (f g : Reader F A) (n m k : ℕ) → n ≤ m → n ≤ k → Rule k f g R
       → Rule n (many close f n) (many close g m) (Closed close R)
   unfolding many
@@ -65,16 +65,16 @@ pub lower : (n m : ℕ) (us : List Lexeme) → m ≤ n → less m us ≤ n
 lower n m us le = omega (arith, less_below m us)
 
 -- f, and then k
-pub step : {F A B : Type 0} (n m : ℕ) (f g : Reader F A) (k l : A → Reader F B) (R : List Lexeme → A → Type 0)
-    (G : List Lexeme → B → Type 0)
-    → m ≤ n → Rule n f g R → ((us : List Lexeme) (a b : A) → R us a
-    → Rule (less m us) (k a) (l b) (λ vs y. G (us ++ vs) y)) → Rule m (seq f k) (seq g l) G
+pub step : {F A B : Type 0} (n m : ℕ) (f g : Reader F A) (k l : A → Reader F B) (R : A → List Lexeme → Type 0)
+    (G : B → List Lexeme → Type 0)
+    → m ≤ n → Rule n f g R → ((us : List Lexeme) (a b : A) → R a us
+    → Rule (less m us) (k a) (l b) (λ y vs. G y (us ++ vs))) → Rule m (seq f k) (seq g l) G
 step n m f g k l R G le r h = seq_rule m f g k l G (weaken n m f g R (Next m f g k l G) le (λ us a x b. h us a b x) r)
 
 pub want_step : {F B : Type 0} (n : ℕ) (test : Test) (w : Lexeme) (k l : Lexeme → Reader F B)
-    (G : List Lexeme → B → Type 0)
+    (G : B → List Lexeme → Type 0)
     → passes test w ≡ true → IsSample w → ((t u : Lexeme) → passes test t ≡ true
-    → Rule (less n (t ∷ [])) (k t) (l u) (λ us a. G (t ∷ us) a)) → Rule n (seq (want test) k) (seq (want test) l) G
+    → Rule (less n (t ∷ [])) (k t) (l u) (λ a us. G a (t ∷ us))) → Rule n (seq (want test) k) (seq (want test) l) G
 want_step {F} n test w k l G e ef h = seq_rule n (want test) (want test) k l G
     (want_rule F n test (Next n (want test) (want test) k l G) w e ef (λ t p u. h t u p))
 
@@ -91,9 +91,9 @@ module _ {F A : Type 0} (f : Reader F (Span → A)) (ts rest : List Lexeme) wher
   unfolding with_span
   span_refused x e = ap (λ z. after z (give_span ts)) e
 
-module _ {F A : Type 0} (n : ℕ) (f g : Reader F (Span → A)) (G : List Lexeme → A → Type 0) where
-  abbrev pub Spanned : List Lexeme → (Span → A) → Type 0
-  Spanned us k = G us (k (span_of us))
+module _ {F A : Type 0} (n : ℕ) (f g : Reader F (Span → A)) (G : A → List Lexeme → Type 0) where
+  abbrev pub Spanned : (Span → A) → List Lexeme → Type 0
+  Spanned k us = G (k (span_of us)) us
 
   span_agrees : (us rest : List Lexeme) → Agrees us rest g → Agrees us rest (with_span g)
   span_agrees us rest p us' rest' q t = let w = p us' rest' q t in
@@ -104,7 +104,7 @@ module _ {F A : Type 0} (n : ℕ) (f g : Reader F (Span → A)) (G : List Lexeme
   span_meets ts (Took k rest) (us, e, h, p) = (
     us,
     e,
-    subst (λ z. G us (k (span_of z))) (sym (ap (λ z. front z rest) e ∙ front_is us rest)) h,
+    subst (λ z. G (k (span_of z)) us) (sym (ap (λ z. front z rest) e ∙ front_is us rest)) h,
     span_agrees us rest p,
   )
   span_meets ts (Refused rest x) (us, e, (more, k, h, y), p, z) = (
@@ -121,36 +121,36 @@ module _ {F A : Type 0} (n : ℕ) (f g : Reader F (Span → A)) (G : List Lexeme
   span_rule r = record { at = λ ts. span_meets ts (f ts) (r.at ts) }
 
 -- maybe
-pub maybe_rule : {F A : Type 0} (n : ℕ) (test : Test) (f g : Reader F A) (R : List Lexeme → A → Type 0) → Rule n f g R
+pub maybe_rule : {F A : Type 0} (n : ℕ) (test : Test) (f g : Reader F A) (R : A → List Lexeme → Type 0) → Rule n f g R
     → Rule n (maybe test f) (maybe test g) (Optional R)
 maybe_rule n test f g R r = look_rule n test _ _ _ _ (Optional R)
     (step n n f g _ _ R (Optional R) (le_refl n) r (λ us a b h. done_rule _ (Some a) (Some b) _ (rw append-nil h)))
     (done_rule n None None (Optional R) refl)
 
 -- one_or_more and repeated
-each_more : {A : Type 0} (R : List Lexeme → A → Type 0) (us vs : List Lexeme) (x : A) (xs : List A) → R us x
-    → Each R vs xs → Each R (us ++ vs) (x ∷ xs)
+each_more : {A : Type 0} (R : A → List Lexeme → Type 0) (us vs : List Lexeme) (x : A) (xs : List A) → R x us
+    → Each R xs vs → Each R (x ∷ xs) (us ++ vs)
 each_more R us vs x xs h k = row us vs h k
 
 -- one item or more, and then the closing token
-pub record ClosedList {A : Type 0} (close : Test) (R : List Lexeme → A → Type 0) (ts : List Lexeme) (x : A)
+pub record ClosedList {A : Type 0} (close : Test) (R : A → List Lexeme → Type 0) (ts : List Lexeme) (x : A)
     (xs : List A) : Type 0 where
   pub inner : List Lexeme
   pub last : Lexeme
   pub whole : ts ≡ inner ++ (last ∷ [])
   pub closes : passes close last ≡ true
-  pub each : Each R inner (x ∷ xs)
+  pub each : Each R (x ∷ xs) inner
 
-abbrev pub ClosedSome : {A : Type 0} → Test → (List Lexeme → A → Type 0) → List Lexeme → List A → Type 0
-ClosedSome close R ts [] = ⊥
-ClosedSome close R ts (x ∷ xs) = ClosedList close R ts x xs
+abbrev pub ClosedSome : {A : Type 0} → Test → (A → List Lexeme → Type 0) → List A → List Lexeme → Type 0
+ClosedSome close R [] ts = ⊥
+ClosedSome close R (x ∷ xs) ts = ClosedList close R ts x xs
 
-module _ {F A : Type 0} (R : List Lexeme → A → Type 0) (takes : (us : List Lexeme) (x : A) → R us x → 0 < length us)
+module _ {F A : Type 0} (R : A → List Lexeme → Type 0) (takes : (us : List Lexeme) (x : A) → R x us → 0 < length us)
   where
     -- one item or more up to the closing token, and what h makes of them
     pub some_rule : {B : Type 0} (close : Test) (end : Lexeme) (closes : passes close end ≡ true) (ef : IsSample end)
-        (f g : Reader F A) (n m : ℕ) (h : A → List A × Lexeme → B) (G : List Lexeme → B → Type 0) → n ≤ m → Rule n f g R
-        → ((us : List Lexeme) (x : A) (r : List A × Lexeme) → ClosedSome close R us (x ∷ r.0) → G us (h x r))
+        (f g : Reader F A) (n m : ℕ) (h : A → List A × Lexeme → B) (G : B → List Lexeme → Type 0) → n ≤ m → Rule n f g R
+        → ((us : List Lexeme) (x : A) (r : List A × Lexeme) → ClosedSome close R (x ∷ r.0) us → G (h x r) us)
         → Rule n (seq f (λ x. seq (many close f n) (λ r. done (h x r))))
         (seq g (λ x. seq (many close g m) (λ r. done (h x r)))) G
     some_rule close end closes ef f g n m h G le r gives =
@@ -167,9 +167,9 @@ module _ {F A : Type 0} (R : List Lexeme → A → Type 0) (takes : (us : List L
 
     pub one_or_more_rule : (close : Test) (end : Lexeme) (closes : passes close end ≡ true) (ef : IsSample end)
         (f g : Reader F A) (n m : ℕ) → n ≤ m → Rule n f g R
-        → Rule n (one_or_more close f n) (one_or_more close g m) (λ us r. ClosedSome close R us r.0)
+        → Rule n (one_or_more close f n) (one_or_more close g m) (λ r us. ClosedSome close R r.0 us)
     one_or_more_rule close end closes ef f g n m le r =
-        some_rule close end closes ef f g n m (λ x r. (x ∷ r.0, r.1.span)) (λ us r. ClosedSome close R us r.0) le r
+        some_rule close end closes ef f g n m (λ x r. (x ∷ r.0, r.1.span)) (λ r us. ClosedSome close R r.0 us) le r
         (λ us x r h. h)
 
     pub repeated_rule : (test : Test) (f g : Reader F A) (n m k : ℕ) → n ≤ m → n ≤ k → Rule k f g R

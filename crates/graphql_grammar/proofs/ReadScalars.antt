@@ -55,7 +55,7 @@ module _ {C F : Type 0} (S : Scalars C F) where
   unfolding AreRead
   scalar t c s e = ((λ k. ap is_ok e), tt)
 
-  pub document_is_read : (ts : List Lexeme) (ds : List (Definition C)) → IsDocument S ts ds
+  pub document_is_read : (ts : List Lexeme) (ds : List (Definition C)) → IsDocument S ds ts
       → AllByRecursion (IsRead S) ts
   unfolding AreRead
   document_is_read = nested.document AreRead tt join plain around S scalar (λ t e. none t (ap is_scalar e))

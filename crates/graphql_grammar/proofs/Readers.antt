@@ -26,7 +26,7 @@ type_reads S = record {
 }
 
 -- No list has two types.
-pub one_type : (ts : List Lexeme) (a b : TypeRef) → IsType ts a → IsType ts b → a ≡ b
+pub one_type : (ts : List Lexeme) (a b : TypeRef) → IsType a ts → IsType b ts → a ≡ b
 one_type ts a b h k = ap (λ x. x.0) (one_tree (λ n. symbol_at (every_scalar (Unit {0})) n _ a_type) IsSpannedType
     (type_reads (every_scalar (Unit {0}))) ts (a, span_of ts) (b, span_of ts) (h, refl) (k, refl))
 
@@ -42,10 +42,10 @@ module _ {C F : Type 0} (S : Scalars C F) where
   document_reads = record { keeps = document_rule S; finds = document_found S }
 
   -- No list has two trees.
-  pub one_document : (ts : List Lexeme) (a b : List (Definition C)) → IsDocument S ts a → IsDocument S ts b → a ≡ b
+  pub one_document : (ts : List Lexeme) (a b : List (Definition C)) → IsDocument S a ts → IsDocument S b ts → a ≡ b
   one_document = one_tree (λ n. reads S n document) (IsDocument S) document_reads
 
-  pub one_value : (free : Bool) (ts : List Lexeme) (a b : Value C) → IsValue S free ts a → IsValue S free ts b → a ≡ b
+  pub one_value : (free : Bool) (ts : List Lexeme) (a b : Value C) → IsValue S free a ts → IsValue S free b ts → a ≡ b
   one_value free = one_tree (λ n. symbol_at S n _ (a_value free)) (IsValue S free) (value_reads free)
 
   took_rest : {A : Type 0} → List Lexeme → Read F A → List Lexeme
@@ -54,8 +54,8 @@ module _ {C F : Type 0} (S : Scalars C F) where
   took_rest d Out = d
 
   -- No value's tokens are a proper front of another's.
-  pub value_front : (free : Bool) (us vs : List Lexeme) (v w : Value C) → IsValue S free us v
-      → IsValue S free (us ++ vs) w → vs ≡ []
+  pub value_front : (free : Bool) (us vs : List Lexeme) (v w : Value C) → IsValue S free v us
+      → IsValue S free w (us ++ vs) → vs ≡ []
   unfolding took_rest
   value_front free us vs v w h k =
       let n : ℕ = length us + length vs in

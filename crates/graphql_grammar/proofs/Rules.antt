@@ -37,22 +37,22 @@ abbrev pub IsOpener : Lexeme → Type 0
 IsOpener w = (w.kind ≡ BracketOpen) ⊎ (w.kind ≡ CurlyOpen) ⊎ ((w.kind ≡ Name) × (w.text ≡ codes "null"))
 
 -- Something that G says begins with these tokens and then w.
-abbrev pub More : {A : Type 0} → (List Lexeme → A → Type 0) → List Lexeme → Lexeme → Type 0
-More {A} G us w = (more : List Lexeme) × (a : A) × G (us ++ (w ∷ more)) a × AreSamples more
+abbrev pub More : {A : Type 0} → (A → List Lexeme → Type 0) → List Lexeme → Lexeme → Type 0
+More {A} G us w = (more : List Lexeme) × (a : A) × G a (us ++ (w ∷ more)) × AreSamples more
 
 -- Where the reading's own fault is the answer, a value may stand.
-abbrev pub Place : {F A : Type 0} → (List Lexeme → A → Type 0) → List Lexeme → Fault F → Type 0
+abbrev pub Place : {F A : Type 0} → (A → List Lexeme → Type 0) → List Lexeme → Fault F → Type 0
 Place G us UnexpectedEndOfFile = Unit {0}
 Place G us (UnexpectedToken kind text) = Unit {0}
 Place G us (ScalarError x) = (w : Lexeme) → IsOpener w → More G us w
 
-pub place_map : {F A B : Type 0} (G : List Lexeme → A → Type 0) (H : List Lexeme → B → Type 0) (us vs : List Lexeme)
+pub place_map : {F A B : Type 0} (G : A → List Lexeme → Type 0) (H : B → List Lexeme → Type 0) (us vs : List Lexeme)
     (e : Fault F) → ((w : Lexeme) → More G us w → More H vs w) → Place G us e → Place H vs e
 place_map G H us vs UnexpectedEndOfFile f p = tt
 place_map G H us vs (UnexpectedToken kind text) f p = tt
 place_map G H us vs (ScalarError x) f p = λ w o. f w (p w o)
 
-pub place_fault : (F : Type 0) {A : Type 0} (G : List Lexeme → A → Type 0) (us : List Lexeme) (kind : Kind)
+pub place_fault : (F : Type 0) {A : Type 0} (G : A → List Lexeme → Type 0) (us : List Lexeme) (kind : Kind)
     (text : Text) → Place {F = F} G us (fault_of kind text)
 unfolding fault_of
 place_fault F G us kind text = by_test (of EndOfFile kind text)
@@ -61,22 +61,22 @@ place_fault F G us kind text = by_test (of EndOfFile kind text)
     by_test true = tt
     by_test false = tt
 
-abbrev pub Meets : {F A : Type 0} → ℕ → (List Lexeme → A → Type 0) → Reader F A → List Lexeme → Read F A → Type 0
-Meets n G g ts (Took a rest) = (us : List Lexeme) × (ts ≡ us ++ rest) × G us a × Agrees us rest g
+abbrev pub Meets : {F A : Type 0} → ℕ → (A → List Lexeme → Type 0) → Reader F A → List Lexeme → Read F A → Type 0
+Meets n G g ts (Took a rest) = (us : List Lexeme) × (ts ≡ us ++ rest) × G a us × Agrees us rest g
 Meets {A = A} n G g ts (Refused rest e) =
-    (us : List Lexeme) × (ts ≡ us ++ rest) × ((more : List Lexeme) × (a : A) × G (us ++ more) a × AreSamples more)
+    (us : List Lexeme) × (ts ≡ us ++ rest) × ((more : List Lexeme) × (a : A) × G a (us ++ more) × AreSamples more)
     × Fails us rest e g × Place G us e
 Meets {A = A} n G g ts Out = (n ≤ length ts) × (us : List Lexeme) × (rest : List Lexeme) × (ts ≡ us ++ rest)
-    × ((more : List Lexeme) × (a : A) × G (us ++ more) a × AreSamples more)
+    × ((more : List Lexeme) × (a : A) × G a (us ++ more) × AreSamples more)
 
 -- f reads what G says; where it refuses, the tokens before begin something that G says; and g, which may be f with more
 -- fuel, goes the same way.
-pub record Rule {F A : Type 0} (n : ℕ) (f g : Reader F A) (G : List Lexeme → A → Type 0) : Type 0 where
+pub record Rule {F A : Type 0} (n : ℕ) (f g : Reader F A) (G : A → List Lexeme → Type 0) : Type 0 where
   pub at : (ts : List Lexeme) → Meets n G g ts (f ts)
 
 -- something that G says
-abbrev pub Some_of : {A : Type 0} → (List Lexeme → A → Type 0) → Type 0
-Some_of {A} G = (more : List Lexeme) × (a : A) × G more a × AreSamples more
+abbrev pub Some_of : {A : Type 0} → (A → List Lexeme → Type 0) → Type 0
+Some_of {A} G = (more : List Lexeme) × (a : A) × G a more × AreSamples more
 
 pub samples_join : (us vs : List Lexeme) → AreSamples us → AreSamples vs → AreSamples (us ++ vs)
 samples_join [] vs a b = b
@@ -86,7 +86,7 @@ samples_none : (us rest : List Lexeme) → [] ≡ us ++ rest → AreSamples us
 samples_none [] rest e = tt
 samples_none (u ∷ us) rest e = absurd (cc)
 
-some_meets : {F A : Type 0} (n : ℕ) (G : List Lexeme → A → Type 0) (g : Reader F A) (r : Read F A) → Meets n G g [] r
+some_meets : {F A : Type 0} (n : ℕ) (G : A → List Lexeme → Type 0) (g : Reader F A) (r : Read F A) → Meets n G g [] r
     → Some_of G
 some_meets n G g (Took a rest) (us, e, h, s) = (us, a, h, samples_none us rest e)
 some_meets n G g (Refused rest e) (us, q, (more, a, h, y), s, z) =
@@ -94,7 +94,7 @@ some_meets n G g (Refused rest e) (us, q, (more, a, h, y), s, z) =
 some_meets n G g Out (q, us, rest, e, (more, a, h, y)) =
     (us ++ more, a, h, samples_join us more (samples_none us rest e) y)
 
-pub some_of : {F A : Type 0} (n : ℕ) (f g : Reader F A) (G : List Lexeme → A → Type 0) → Rule n f g G → Some_of G
+pub some_of : {F A : Type 0} (n : ℕ) (f g : Reader F A) (G : A → List Lexeme → Type 0) → Rule n f g G → Some_of G
 some_of n f g G r = some_meets n G g (f []) (r.at [])
 
 done_agrees : {F A : Type 0} (b : A) (ts : List Lexeme) → Agrees {F = F} [] ts (done b)
@@ -102,7 +102,7 @@ unfolding done
 done_agrees b ts [] rest' p q = (b, refl)
 done_agrees b ts (u ∷ us) rest' p q = absurd p
 
-pub done_rule : {F A : Type 0} (n : ℕ) (a b : A) (G : List Lexeme → A → Type 0) → G [] a
+pub done_rule : {F A : Type 0} (n : ℕ) (a b : A) (G : A → List Lexeme → Type 0) → G a []
     → Rule {F = F} n (done a) (done b) G
 unfolding done
 done_rule n a b G h = record { at = λ ts. ([], refl, h, done_agrees b ts) }
@@ -142,9 +142,9 @@ pub SameHead_refl : (ts : List Lexeme) → SameHead ts ts
 SameHead_refl [] = tt
 SameHead_refl (t ∷ ts) = record { kind = refl; text = refl }
 
-module _ {F A B : Type 0} (n : ℕ) (f g : Reader F A) (k l : A → Reader F B) (G : List Lexeme → B → Type 0) where
-  abbrev pub Next : List Lexeme → A → Type 0
-  Next us a = (b : A) → Rule (less n us) (k a) (l b) (λ vs y. G (us ++ vs) y)
+module _ {F A B : Type 0} (n : ℕ) (f g : Reader F A) (k l : A → Reader F B) (G : B → List Lexeme → Type 0) where
+  abbrev pub Next : A → List Lexeme → Type 0
+  Next a us = (b : A) → Rule (less n us) (k a) (l b) (λ y vs. G y (us ++ vs))
 
   seq_took : (ts mid : List Lexeme) (b : A) → g ts ≡ Took b mid → seq g l ts ≡ l b mid
   unfolding seq
@@ -187,7 +187,7 @@ module _ {F A B : Type 0} (n : ℕ) (f g : Reader F A) (k l : A → Reader F B) 
 
   -- what the second reader answers for one of the first one's results
   abbrev Second : List Lexeme → A → List Lexeme → Read F B → Type 0
-  Second us b rest r = Meets (less n us) (λ vs y. G (us ++ vs) y) (l b) rest r
+  Second us b rest r = Meets (less n us) (λ y vs. G y (us ++ vs)) (l b) rest r
 
   all_agree : (us vs rest last : List Lexeme) (y : B) (b : A) → rest ≡ vs ++ last → Second us b rest (Took y last)
       → Agrees vs last (l b)
@@ -210,38 +210,38 @@ module _ {F A B : Type 0} (n : ℕ) (f g : Reader F A) (k l : A → Reader F B) 
   second_meets ts us rest b e p (Refused last x) all (vs, q, (more, a, h, y), s, z) = (
     us ++ vs,
     e ∙ ap (λ z. us ++ z) q ∙ sym (append_assoc us vs last),
-    (more, a, subst (λ z. G z a) (sym (append_assoc us vs more)) h, y),
+    (more, a, subst (λ z. G a z) (sym (append_assoc us vs more)) h, y),
     then_fails us vs rest last x q p (λ c. all_fail us vs rest last x c q (all c)),
-    place_map (λ ws y. G (us ++ ws) y) G vs (us ++ vs) x
-        (λ w m. (m.0, m.1, subst (λ l. G l m.1) (sym (append_assoc us vs (w ∷ m.0))) m.2, m.3)) z,
+    place_map (λ y ws. G y (us ++ ws)) G vs (us ++ vs) x
+        (λ w m. (m.0, m.1, subst (λ l. G m.1 l) (sym (append_assoc us vs (w ∷ m.0))) m.2, m.3)) z,
   )
   second_meets ts us rest b e p Out all (q, vs, last, o, (more, a, h, y)) = (
     rw (e, length-append us rest) (omega (arith, less_le n us)),
     us ++ vs,
     last,
     e ∙ ap (λ z. us ++ z) o ∙ sym (append_assoc us vs last),
-    (more, a, subst (λ z. G z a) (sym (append_assoc us vs more)) h, y),
+    (more, a, subst (λ z. G a z) (sym (append_assoc us vs more)) h, y),
   )
 
   next_more : (us : List Lexeme) (w : Lexeme) → More Next us w → More G us w
   next_more us w (more, a, h, y) =
-      let s = some_of (less n (us ++ (w ∷ more))) (k a) (l a) (λ vs y. G ((us ++ (w ∷ more)) ++ vs) y) (h a) in
-      (more ++ s.0, s.1, subst (λ z. G z s.1) (append_assoc us (w ∷ more) s.0) s.2, samples_join more s.0 y s.3)
+      let s = some_of (less n (us ++ (w ∷ more))) (k a) (l a) (λ y vs. G y ((us ++ (w ∷ more)) ++ vs)) (h a) in
+      (more ++ s.0, s.1, subst (λ z. G s.1 z) (append_assoc us (w ∷ more) s.0) s.2, samples_join more s.0 y s.3)
 
   pub seq_meets : (ts : List Lexeme) (r : Read F A) → Meets n Next g ts r → Meets n G (seq g l) ts (after r k)
   seq_meets ts (Took a rest) (us, e, h, p) =
       let b = (p us rest (AllAlike_refl us) (SameHead_refl rest)).0 in
       second_meets ts us rest b e p (k a rest) (λ c. (h c).at rest) ((h b).at rest)
   seq_meets ts (Refused rest x) (us, e, (more, a, h, y), p, z) =
-      let s = some_of (less n (us ++ more)) (k a) (l a) (λ vs y. G ((us ++ more) ++ vs) y) (h a) in (
+      let s = some_of (less n (us ++ more)) (k a) (l a) (λ y vs. G y ((us ++ more) ++ vs)) (h a) in (
         us,
         e,
-        (more ++ s.0, s.1, subst (λ z. G z s.1) (append_assoc us more s.0) s.2, samples_join more s.0 y s.3),
+        (more ++ s.0, s.1, subst (λ z. G s.1 z) (append_assoc us more s.0) s.2, samples_join more s.0 y s.3),
         first_fails us rest x p,
         place_map Next G us us x (λ w m. next_more us w m) z,
       )
   seq_meets ts Out (q, us, last, e, (more, a, h, y)) =
-      let s = some_of (less n (us ++ more)) (k a) (l a) (λ vs y. G ((us ++ more) ++ vs) y) (h a) in (
+      let s = some_of (less n (us ++ more)) (k a) (l a) (λ y vs. G y ((us ++ more) ++ vs)) (h a) in (
         q,
         us,
         last,
@@ -249,7 +249,7 @@ module _ {F A B : Type 0} (n : ℕ) (f g : Reader F A) (k l : A → Reader F B) 
         (
           more ++ s.0,
           s.1,
-          subst (λ z. G z s.1) (append_assoc us more s.0) s.2,
+          subst (λ z. G s.1 z) (append_assoc us more s.0) s.2,
           samples_join more s.0 y s.3,
         ),
       )
@@ -270,16 +270,16 @@ turn_fails : {F A : Type 0} (g h : Reader F A) (ts us rest : List Lexeme) (x : F
 turn_fails g h ts us rest x e same p us' rest' r t =
     same (us' ++ rest') (rw e (same_head us us' rest rest' r t)) ∙ p us' rest' r t
 
-pub turn : {F A : Type 0} (n : ℕ) (G : List Lexeme → A → Type 0) (g h : Reader F A) (ts : List Lexeme) (r : Read F A)
+pub turn : {F A : Type 0} (n : ℕ) (G : A → List Lexeme → Type 0) (g h : Reader F A) (ts : List Lexeme) (r : Read F A)
     → ((other : List Lexeme) → SameHead ts other → h other ≡ g other) → Meets n G g ts r → Meets n G h ts r
 turn n G g h ts (Took a rest) same (us, e, w, p) = (us, e, w, turn_agrees g h ts us rest e same p)
 turn n G g h ts (Refused rest x) same (us, e, w, p, z) = (us, e, w, turn_fails g h ts us rest x e same p, z)
 turn n G g h ts Out same p = p
 
 -- A rule for less is a rule.
-weaken_meets : {F A : Type 0} (n m : ℕ) (G H : List Lexeme → A → Type 0) (g : Reader F A) (ts : List Lexeme)
+weaken_meets : {F A : Type 0} (n m : ℕ) (G H : A → List Lexeme → Type 0) (g : Reader F A) (ts : List Lexeme)
     (r : Read F A)
-    → m ≤ n → ((us : List Lexeme) (a : A) → G us a → H us a) → Meets n G g ts r → Meets m H g ts r
+    → m ≤ n → ((us : List Lexeme) (a : A) → G a us → H a us) → Meets n G g ts r → Meets m H g ts r
 weaken_meets n m G H g ts (Took a rest) le w (us, e, h, p) = (us, e, w us a h, p)
 weaken_meets n m G H g ts (Refused rest x) le w (us, e, (more, a, h, y), p, z) = (
   us,
@@ -291,6 +291,6 @@ weaken_meets n m G H g ts (Refused rest x) le w (us, e, (more, a, h, y), p, z) =
 weaken_meets n m G H g ts Out le w (q, us, last, e, (more, a, h, y)) =
     (omega arith, us, last, e, (more, a, w (us ++ more) a h, y))
 
-pub weaken : {F A : Type 0} (n m : ℕ) (f g : Reader F A) (G H : List Lexeme → A → Type 0) → m ≤ n
-    → ((us : List Lexeme) (a : A) → G us a → H us a) → Rule n f g G → Rule m f g H
+pub weaken : {F A : Type 0} (n m : ℕ) (f g : Reader F A) (G H : A → List Lexeme → Type 0) → m ≤ n
+    → ((us : List Lexeme) (a : A) → G a us → H a us) → Rule n f g G → Rule m f g H
 weaken n m f g G H le w r = record { at = λ ts. weaken_meets n m G H g ts (f ts) le w (r.at ts) }

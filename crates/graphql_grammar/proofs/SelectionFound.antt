@@ -9,7 +9,8 @@ use Rattle.graphql_grammar.specs.device.Productions.{directives_of, optional_var
 use Rattle.graphql_grammar.specs.Tree.{Scalars, Arguments, Variables, Selection, Field, FragmentSpread, InlineFragment, Selections, no_selections, selection, Definition, Operation, Fragment, Directives, OptionalSelections, absent, present, operation_name, selections_of}
 use Rattle.graphql_grammar.specs.declared.operation.OperationType.{OperationType}
 use Rattle.graphql_grammar.specs.declared.operation.OperationType.TheVariants.{Query, Mutation, Subscription}
-use Rattle.graphql_grammar.specs.Grammar.{Is, Says, Sequence, ◌·◌, ◌for◌, Each, Optional, IsWord, IsArguments, IsDirectives, IsVariables, IsAlias, IsTypeCondition, IsFragmentName, IsSelection, IsOptionalSelectionSet, IsSelectionSet, AreSelections, IsDefinition, IsDocument}
+use Rattle.graphql_lexical.specs.Parts.{Sequence, ◌·◌}
+use Rattle.graphql_grammar.specs.Grammar.{Is, Says, Each, Optional, IsName, IsArguments, IsDirectives, IsVariables, IsAlias, IsTypeCondition, IsFragmentName, IsSelection, IsOptionalSelectionSet, IsSelectionSet, AreSelections, IsDefinition, IsDocument}
 use Rattle.graphql_grammar.proofs.Sequences.{row_front, row_back, row_right, row_left, back_takes, nothing_first, nothing_last}
 use Rattle.graphql_grammar.proofs.TokenTests.{text_other}
 use Rattle.graphql_grammar.proofs.Finds.{Any, NotAt, token, Finds, Before, StartsWith, is_starts, says_starts, front_starts, word_starts, Rejects, starts_before, only_before, nothing_before, both_before, front_before, any_before, before_as, found_as, found_if, found_is, map_found, on_apart, look_apart, look_found, given_found, either_found, seq_found, then_found, seq_past, want_found, word_found, done_found, is_found, says_found, closed_found, on_found, is_past, is_then, span_found, maybe_found, located, located_back, several_found, one_or_more_found}
@@ -31,8 +32,8 @@ operation_is Subscription = refl
 module _ {C F : Type 0} (S : Scalars C F) where
   -- a fragment's name, and then the others
   fragment_name_found : {A : Type 0} {n : ℕ} {f : Reader F A} {Q After : List Lexeme → Type 0} {a : A} (w : Word)
-      → ((w.text ≡ codes "on" → ⊥) → Finds n f (IsWord for w · Q) After a)
-      → Finds n f (IsFragmentName S for w · Q) After a
+      → ((w.text ≡ codes "on" → ⊥) → Finds n f (IsName w · Q) After a)
+      → Finds n f (IsFragmentName S w · Q) After a
   fragment_name_found w q = found_as (λ ts h. (row_front (λ us k. k.0) ts h, h.first.1)) (given_found q)
 
   -- ---- how selections begin, and what may follow them
@@ -47,44 +48,44 @@ module _ {C F : Type 0} (S : Scalars C F) where
   }
 
   field_starts : (alias : Option Word) (name : Word) {Q : List Lexeme → Type 0} (ts : List Lexeme)
-      → Sequence (Optional (IsAlias S) for alias) (Sequence (IsWord for name) Q) ts → StartsWith Name ts
+      → Sequence (Optional (IsAlias S) alias) (Sequence (IsName name) Q) ts → StartsWith Name ts
   field_starts None name ts h = front_starts (λ us w. word_starts us name w) ts (nothing_first ts h)
   field_starts (Some x) name ts h = front_starts (front_starts (λ us w. word_starts us x w)) ts h
 
-  set_starts : (ts : List Lexeme) (ss : Selections C) → IsSelectionSet S ts ss → StartsWith CurlyOpen ts
+  set_starts : (ts : List Lexeme) (ss : Selections C) → IsSelectionSet S ss ts → StartsWith CurlyOpen ts
   set_starts ts no_selections h = absurd h
   set_starts ts (selection s ss) h = front_starts is_starts ts h
 
   set_before : {After : List Lexeme → Type 0} (test : Test) (ss : Selections C) → Rejects test CurlyOpen
-      → Before (IsSelectionSet S for ss) After (NotAt test)
+      → Before (IsSelectionSet S ss) After (NotAt test)
   set_before test ss d = starts_before test d (λ ts h. set_starts ts ss h)
 
   set_after_directives : {After : List Lexeme → Type 0} (ss : Selections C)
-      → Before (IsSelectionSet S for ss) After AfterDirectives
+      → Before (IsSelectionSet S ss) After AfterDirectives
   set_after_directives ss = record {
     at = λ ts rest h g. rw (set_starts ts ss h).3 (record { paren = refl; at = refl });
   }
 
   -- directives and a selection set
   tail_before : {After : List Lexeme → Type 0} (test : Test) (ds : Directives C) (ss : Selections C) → Rejects test At
-      → Rejects test CurlyOpen → Before (IsDirectives S for ds · IsSelectionSet S for ss) After (NotAt test)
+      → Rejects test CurlyOpen → Before (IsDirectives S ds · IsSelectionSet S ss) After (NotAt test)
   tail_before test ds ss d e = both_before (directives_before S test ds d (λ rest g. g)) (set_before test ss e)
 
   optional_set_before : {After : List Lexeme → Type 0} (test : Test) (ss : OptionalSelections C)
       → Rejects test CurlyOpen → ((rest : List Lexeme) → After rest → NotAt test rest)
-      → Before (IsOptionalSelectionSet S for ss) After (NotAt test)
+      → Before (IsOptionalSelectionSet S ss) After (NotAt test)
   optional_set_before test absent d s = nothing_before s
   optional_set_before test (present ss) d s = set_before test ss d
 
   optional_set_after_directives : (ss : OptionalSelections C)
-      → Before (IsOptionalSelectionSet S for ss) AfterSelection AfterDirectives
+      → Before (IsOptionalSelectionSet S ss) AfterSelection AfterDirectives
   optional_set_after_directives absent = nothing_before (λ rest g. record { paren = g.paren; at = g.at })
   optional_set_after_directives (present ss) = set_after_directives ss
 
-  selection_before : (s : Selection C) → Before (IsSelection S for s) Any AfterSelection
+  selection_before : (s : Selection C) → Before (IsSelection S s) Any AfterSelection
   selection_before s = record { at = λ ts rest h g. cases s ts rest h }
     where
-      cases : (s : Selection C) (ts rest : List Lexeme) → IsSelection S ts s → AfterSelection (ts ++ rest)
+      cases : (s : Selection C) (ts rest : List Lexeme) → IsSelection S s ts → AfterSelection (ts ++ rest)
       cases (Field alias name args ds ss p) ts rest h =
           rw (field_starts alias name ts h.0).3 (record { colon = refl; paren = refl; at = refl; curly = refl })
       cases (FragmentSpread name ds p) ts rest h =
@@ -92,7 +93,7 @@ module _ {C F : Type 0} (S : Scalars C F) where
       cases (InlineFragment condition ds ss p) ts rest h =
           rw (front_starts is_starts ts h.0).3 (record { colon = refl; paren = refl; at = refl; curly = refl })
 
-  selection_apart : (s : Selection C) → Before (IsSelection S for s) Any (NotAt (of CurlyClose))
+  selection_apart : (s : Selection C) → Before (IsSelection S s) Any (NotAt (of CurlyClose))
   selection_apart (Field alias name args ds ss p) =
       starts_before (of CurlyClose) (λ w. refl) (λ ts h. field_starts alias name ts h.0)
   selection_apart (FragmentSpread name ds p) =
@@ -110,8 +111,8 @@ module _ {C F : Type 0} (S : Scalars C F) where
   selections_again no_selections = refl
   selections_again (selection s ss) = ap (selection s) (selections_again ss)
 
-  each_selection : (ss : Selections C) (ts : List Lexeme) → AreSelections S ts ss
-      → Each (IsSelection S) ts (selections_in ss)
+  each_selection : (ss : Selections C) (ts : List Lexeme) → AreSelections S ss ts
+      → Each (IsSelection S) (selections_in ss) ts
   each_selection no_selections ts h = h
   each_selection (selection s ss) ts h = row_back (each_selection ss) ts h
 
@@ -122,12 +123,12 @@ module _ {C F : Type 0} (S : Scalars C F) where
 
   module _ (n : ℕ)
       (ih : (s : Selection C) → Finds n (symbol_at S n (Selection C) a_selection)
-      (IsSelection S for s) AfterSelection s)
+      (IsSelection S s) AfterSelection s)
     where
       braces_found : {After : List Lexeme → Type 0} (ss : Selections C)
           → Finds n (seq (want (of CurlyOpen)) (λ o. seq (one_or_more (of CurlyClose)
           (symbol_at S n (Selection C) a_selection) n) (λ r. done (set_at (selections_of r.0)))))
-          (IsSelectionSet S for ss) After (set_at ss)
+          (IsSelectionSet S ss) After (set_at ss)
       braces_found no_selections = record { at = λ ts rest le h g. absurd h }
       braces_found (selection s ss) = found_is (ap (λ (z : Selections C). set_at (selection s z)) (selections_again ss))
           (found_as (row_back (λ us k. row_left us (row_back (row_front (each_selection ss)) us k)))
@@ -136,13 +137,13 @@ module _ {C F : Type 0} (S : Scalars C F) where
           (λ w p rest. record { colon = refl; paren = refl; at = refl; curly = refl }) w p s (selections_in ss)))))))
 
       set_found : {After : List Lexeme → Type 0} (ss : Selections C) (p : Span)
-          → Finds n (reads S n selection_set) (λ ts. IsSelectionSet S ts ss × (p ≡ span_of ts)) After (ss, p)
+          → Finds n (reads S n selection_set) (λ ts. IsSelectionSet S ss ts × (p ≡ span_of ts)) After (ss, p)
       unfolding selection_set selections_inner
       set_found ss p = span_found (set_at ss) p (braces_found ss)
 
       -- a selection set that may be absent, and nothing after it
       optional_set_last : {A : Type 0} (k : OptionalSelections C → A) (ss : OptionalSelections C)
-          → Finds n (seq (reads S n optional_set) (λ x. done (k (optional_of x)))) (IsOptionalSelectionSet S for ss)
+          → Finds n (seq (reads S n optional_set) (λ x. done (k (optional_of x)))) (IsOptionalSelectionSet S ss)
           (NotAt (of CurlyOpen)) (k ss)
       unfolding optional_set
       optional_set_last k absent = map_found (λ x. k (optional_of x))
@@ -151,7 +152,7 @@ module _ {C F : Type 0} (S : Scalars C F) where
           (look_found CurlyOpen _ (λ ts h. set_starts ts ss h.0) (map_found (λ a. Some a) (set_found ss p))))
 
       name_found : {m : ℕ} (alias : Option Word) (name : Word)
-          → Finds m (reads S n names) (Optional (IsAlias S) for alias · IsWord for name) (NotAt (of Colon))
+          → Finds m (reads S n names) (Optional (IsAlias S) alias · IsName name) (NotAt (of Colon))
           (alias, name)
       name_found None name = found_as (λ ts h. nothing_last ts (nothing_first ts h)) (seq_found _ (word_found name)
           (nothing_before (λ rest g. g)) (on_apart (of Colon) _ (nothing_before (λ rest g. g)) done_found))
@@ -159,7 +160,7 @@ module _ {C F : Type 0} (S : Scalars C F) where
           (is_found (λ w p. on_found (of Colon) (token Colon w p) _ _ refl (map_found _ (word_found name)))))
 
       parts_found : {After : List Lexeme → Type 0} (ds : Directives C) (ss : Selections C) (p : Span)
-          → Finds n (reads S n inline_parts) (IsDirectives S for ds · (λ ts. IsSelectionSet S ts ss × (p ≡ span_of ts)))
+          → Finds n (reads S n inline_parts) (IsDirectives S ds · (λ ts. IsSelectionSet S ss ts × (p ≡ span_of ts)))
           After (ds, (ss, p))
       unfolding inline_parts
       parts_found ds ss p = directives_then S n _ ds (before_as (λ ts h. h.0) (set_after_directives ss))
@@ -168,12 +169,12 @@ module _ {C F : Type 0} (S : Scalars C F) where
       body_found : {A : Type 0} {After : List Lexeme → Type 0} (k : Directives C → Selections C → A) (ds : Directives C)
           (ss : Selections C)
           → Finds n (seq (reads S n inline_parts) (λ b. done (k b.0 b.1.0)))
-          (IsDirectives S for ds · IsSelectionSet S for ss) After (k ds ss)
+          (IsDirectives S ds · IsSelectionSet S ss) After (k ds ss)
       body_found k ds ss = located_back (λ p. map_found (λ b. k b.0 b.1.0) (parts_found ds ss p))
 
       spread_found : (name : Word) (ds : Directives C) (p : Span)
           → Finds (suc n) (reads S n spread)
-          (λ ts. (Is Ellipsis · IsFragmentName S for name · IsDirectives S for ds) ts × (p ≡ span_of ts))
+          (λ ts. (Is Ellipsis · IsFragmentName S name · IsDirectives S ds) ts × (p ≡ span_of ts))
           AfterSelection (FragmentSpread name ds p)
       unfolding spread typed inline named_spread
       spread_found name ds p = span_found (λ q. FragmentSpread name ds q) p (is_past (fragment_name_found name (λ d.
@@ -185,8 +186,8 @@ module _ {C F : Type 0} (S : Scalars C F) where
 
       condition_found : (condition : Option Word) (ds : Directives C) (ss : Selections C) (p : Span)
           → Finds (suc n) (reads S n spread)
-          (λ ts. (Is Ellipsis · Optional (IsTypeCondition S) for condition · IsDirectives S for ds
-          · IsSelectionSet S for ss) ts × (p ≡ span_of ts)) AfterSelection (InlineFragment condition ds ss p)
+          (λ ts. (Is Ellipsis · Optional (IsTypeCondition S) condition · IsDirectives S ds
+          · IsSelectionSet S ss) ts × (p ≡ span_of ts)) AfterSelection (InlineFragment condition ds ss p)
       unfolding spread typed inline named_spread
       condition_found None ds ss p = span_found (λ q. InlineFragment None ds ss q) p (is_past (found_as nothing_first
           (on_apart (word (codes "on")) _ (tail_before (word (codes "on")) ds ss (λ w. refl) (λ w. refl))
@@ -200,8 +201,8 @@ module _ {C F : Type 0} (S : Scalars C F) where
       field_found : (alias : Option Word) (name : Word) (args : Option (Arguments C)) (ds : Directives C)
           (ss : OptionalSelections C) (p : Span)
           → Finds (suc n) (reads S n field)
-          (λ ts. (Optional (IsAlias S) for alias · IsWord for name · Optional (IsArguments S) for args
-          · IsDirectives S for ds · IsOptionalSelectionSet S for ss) ts × (p ≡ span_of ts)) AfterSelection
+          (λ ts. (Optional (IsAlias S) alias · IsName name · Optional (IsArguments S) args
+          · IsDirectives S ds · IsOptionalSelectionSet S ss) ts × (p ≡ span_of ts)) AfterSelection
           (Field alias name args ds ss p)
       unfolding field
       field_found alias name args ds ss p = span_found (λ q. Field alias name args ds ss q) p (found_as row_left
@@ -217,7 +218,7 @@ module _ {C F : Type 0} (S : Scalars C F) where
           (optional_set_last (λ s q. Field alias name args (directives_of x) s q) ss)))))))
 
   pub selection_found : (n : ℕ) (s : Selection C)
-      → Finds n (symbol_at S n (Selection C) a_selection) (IsSelection S for s) AfterSelection s
+      → Finds n (symbol_at S n (Selection C) a_selection) (IsSelection S s) AfterSelection s
   unfolding symbol_at any_selection
   selection_found zero s = record { at = λ ts rest le h g. absurd (omega arith) }
   selection_found (suc n) (Field alias name args ds ss p) =
@@ -231,13 +232,13 @@ module _ {C F : Type 0} (S : Scalars C F) where
 
   -- ---- definitions
 
-  definition_apart : (d : Definition C) → Before (IsDefinition S for d) Any (NotAt (of EndOfFile))
+  definition_apart : (d : Definition C) → Before (IsDefinition S d) Any (NotAt (of EndOfFile))
   definition_apart (Operation type name vars ds ss p) = record { at = λ ts rest h g. cases ts rest h.1 }
     where
       cases : (ts rest : List Lexeme)
-          → (IsSelectionSet S ts ss × (type ≡ Query) × (name ≡ None) × (vars ≡ None) × (ds ≡ None))
-          ⊎ (Says (operation_name type) · Optional IsWord for name · Optional (IsVariables S) for vars
-          · IsDirectives S for ds · IsSelectionSet S for ss) ts
+          → (IsSelectionSet S ss ts × (type ≡ Query) × (name ≡ None) × (vars ≡ None) × (ds ≡ None))
+          ⊎ (Says (operation_name type) · Optional IsName name · Optional (IsVariables S) vars
+          · IsDirectives S ds · IsSelectionSet S ss) ts
           → NotAt (of EndOfFile) (ts ++ rest)
       cases ts rest (inl h) = rw (set_starts ts ss h.0).3
       cases ts rest (inr h) = rw (front_starts says_starts ts h).3
@@ -251,7 +252,7 @@ module _ {C F : Type 0} (S : Scalars C F) where
 
   module _ (n : ℕ) where
     short_found : (ss : Selections C)
-        → Finds n (reads S n words) (IsSelectionSet S for ss) Any (λ p. Operation Query None None None ss p)
+        → Finds n (reads S n words) (IsSelectionSet S ss) Any (λ p. Operation Query None None None ss p)
     unfolding shorthand
     short_found ss = on_apart operation_word _ (set_before operation_word ss (λ w. refl))
         (on_apart (word (codes "fragment")) _ (set_before {After = Any} (word (codes "fragment")) ss (λ w. refl))
@@ -260,14 +261,14 @@ module _ {C F : Type 0} (S : Scalars C F) where
     bare_found : (type : OperationType) (name : Option Word) (vars : Option (Variables C)) (ds : Directives C)
         (ss : Selections C)
         → Finds n (reads S n words)
-        (λ ts. IsSelectionSet S ts ss × (type ≡ Query) × (name ≡ None) × (vars ≡ None) × (ds ≡ None)) Any
+        (λ ts. IsSelectionSet S ss ts × (type ≡ Query) × (name ≡ None) × (vars ≡ None) × (ds ≡ None)) Any
         (λ p. Operation type name vars ds ss p)
     bare_found type name vars ds ss = record {
       at = λ ts rest le h g. rw (h.1, h.2, h.3, h.4) ((short_found ss).at ts rest le h.0 tt);
     }
 
     optional_name_found : (name : Option Word)
-        → Finds n (reads S n optional_name) (Optional IsWord for name) (NotAt (of Name)) name
+        → Finds n (reads S n optional_name) (Optional IsName name) (NotAt (of Name)) name
     optional_name_found None = look_apart (of Name) _ (nothing_before (λ rest g. g)) done_found
     optional_name_found (Some w) = look_found Name _ (λ ts h. word_starts ts w h)
         (map_found (λ t. Some (word_of t)) (word_found w))
@@ -275,8 +276,8 @@ module _ {C F : Type 0} (S : Scalars C F) where
     operation_found : (type : OperationType) (name : Option Word) (vars : Option (Variables C)) (ds : Directives C)
         (ss : Selections C)
         → Finds n (reads S n words)
-        (Says (operation_name type) · Optional IsWord for name · Optional (IsVariables S) for vars
-        · IsDirectives S for ds · IsSelectionSet S for ss) Any (λ p. Operation type name vars ds ss p)
+        (Says (operation_name type) · Optional IsName name · Optional (IsVariables S) vars
+        · IsDirectives S ds · IsSelectionSet S ss) Any (λ p. Operation type name vars ds ss p)
     unfolding operation optional_variables
     operation_found type name vars ds ss = says_found (λ p.
         on_found operation_word (token Name (operation_name type) p) _ _ (operation_test type p)
@@ -291,8 +292,8 @@ module _ {C F : Type 0} (S : Scalars C F) where
 
     fragment_found : (name condition : Word) (ds : Directives C) (ss : Selections C)
         → Finds n (reads S n words)
-        (Says (codes "fragment") · IsFragmentName S for name · IsTypeCondition S for condition
-        · IsDirectives S for ds · IsSelectionSet S for ss) Any (λ p. Fragment name condition ds ss p)
+        (Says (codes "fragment") · IsFragmentName S name · IsTypeCondition S condition
+        · IsDirectives S ds · IsSelectionSet S ss) Any (λ p. Fragment name condition ds ss p)
     unfolding fragment
     fragment_found name condition ds ss = says_found (λ p.
         on_apart operation_word _ (front_before (only_before operation_word refl))
@@ -303,7 +304,7 @@ module _ {C F : Type 0} (S : Scalars C F) where
         (map_found word_of (word_found condition))))
         (body_found n (selection_found n) (λ x s q. Fragment name condition x s q) ds ss))))))
 
-    definition_found : (d : Definition C) → Finds n (reads S n definition) (IsDefinition S for d) Any d
+    definition_found : (d : Definition C) → Finds n (reads S n definition) (IsDefinition S d) Any d
     unfolding definition
     definition_found (Operation type name vars ds ss p) = found_as (λ ts h. (h.1, h.0))
         (span_found (λ q. Operation type name vars ds ss q) p
@@ -311,7 +312,7 @@ module _ {C F : Type 0} (S : Scalars C F) where
     definition_found (Fragment name condition ds ss p) =
         span_found (λ q. Fragment name condition ds ss q) p (fragment_found name condition ds ss)
 
-    pub document_found : (ts : List Lexeme) (ds : List (Definition C)) → length ts < n → IsDocument S ts ds
+    pub document_found : (ts : List Lexeme) (ds : List (Definition C)) → length ts < n → IsDocument S ds ts
         → reads S n document ts ≡ Took ds []
     unfolding document
     document_found ts [] le h = absurd (h.first.1 refl)

@@ -10,7 +10,8 @@ use Rattle.graphql_grammar.specs.device.Reading.{passes, of, word, a_selection}
 use Rattle.graphql_grammar.specs.device.Productions.{selections_inner, selection_set, optional_set, optional_of, names, field, named_spread, inline_parts, inline, typed, spread, any_selection, optional_name, operation, type_condition, fragment_name, fragment, shorthand, definition, document, operation_word, operation_of, other_than_on, directives_of, symbol_at, reads}
 use Rattle.graphql_grammar.specs.Tree.{Scalars, Selection, Field, FragmentSpread, InlineFragment, Selections, no_selections, selection, Definition, Operation, Fragment, absent, operation_name, Directives, selections_of}
 use Rattle.graphql_grammar.specs.declared.operation.OperationType.TheVariants.{Query}
-use Rattle.graphql_grammar.specs.Grammar.{◌·◌, ◌for◌, Each, Optional, Is, IsWord, Says, IsArguments, IsDirectives, IsVariables, IsAlias, IsTypeCondition, IsFragmentName, IsSelection, IsOptionalSelectionSet, IsSelectionSet, AreSelections, IsDefinition, IsDocument}
+use Rattle.graphql_lexical.specs.Parts.{◌·◌}
+use Rattle.graphql_grammar.specs.Grammar.{Each, Optional, Is, IsName, Says, IsArguments, IsDirectives, IsVariables, IsAlias, IsTypeCondition, IsFragmentName, IsSelection, IsOptionalSelectionSet, IsSelectionSet, AreSelections, IsDefinition, IsDocument}
 use Rattle.graphql_grammar.proofs.Rules.{less, Rule, Some_of, done_rule, weaken}
 use Rattle.graphql_grammar.proofs.TokenRules.{on_rule, look_rule}
 use Rattle.graphql_grammar.proofs.PartRules.{span_rule, maybe_rule, some_rule, one_or_more_rule, step, want_step, lower, less_short, ClosedSome}
@@ -19,26 +20,26 @@ use Rattle.graphql_grammar.proofs.TokenTests.{of_kind, both, text_yes, says, oth
 use Rattle.graphql_grammar.proofs.DocumentRules.{low1, low2, low3, optional_arguments_rule, AreDirectives, directives_rule, optional_variables_rule}
 
 module _ {C F : Type 0} (S : Scalars C F) where
-  pub word_takes : (ts : List Lexeme) (w : Word) → IsWord ts w → 0 < length ts
+  pub word_takes : (ts : List Lexeme) (w : Word) → IsName w ts → 0 < length ts
   word_takes ts w h = one_takes ts _ h
 
-  selections_are : (ts : List Lexeme) (xs : List (Selection C)) → Each (IsSelection S) ts xs
-      → AreSelections S ts (selections_of xs)
+  selections_are : (ts : List Lexeme) (xs : List (Selection C)) → Each (IsSelection S) xs ts
+      → AreSelections S (selections_of xs) ts
   selections_are ts [] h = h
   selections_are ts (x ∷ xs) h = row_back (λ us k. selections_are us xs k) ts h
 
   select_is : (t : Lexeme) (us : List Lexeme) (xs : List (Selection C)) → passes (of CurlyOpen) t ≡ true
-      → ClosedSome (of CurlyClose) (IsSelection S) us xs → IsSelectionSet S (t ∷ us) (selections_of xs)
+      → ClosedSome (of CurlyClose) (IsSelection S) xs us → IsSelectionSet S (selections_of xs) (t ∷ us)
   select_is t us [] p c = absurd c
-  select_is t us (x ∷ xs) p c = subst (λ l. IsSelectionSet S (t ∷ l) (selections_of (x ∷ xs))) (sym c.whole)
+  select_is t us (x ∷ xs) p c = subst (λ l. IsSelectionSet S (selections_of (x ∷ xs)) (t ∷ l)) (sym c.whole)
       (row_back row_right _ (enclosed CurlyOpen CurlyClose t c.last c.inner (of_kind CurlyOpen t p)
       (of_kind CurlyClose c.last c.closes) (selections_are c.inner (x ∷ xs) c.each)))
 
-  pub select_takes : (ts : List Lexeme) (ss : Selections C) → IsSelectionSet S ts ss → 0 < length ts
+  pub select_takes : (ts : List Lexeme) (ss : Selections C) → IsSelectionSet S ss ts → 0 < length ts
   select_takes ts no_selections h = absurd h
   select_takes ts (selection s ss) h = front_takes (is_takes CurlyOpen) ts h
 
-  pub selection_takes : (ts : List Lexeme) (s : Selection C) → IsSelection S ts s → 0 < length ts
+  pub selection_takes : (ts : List Lexeme) (s : Selection C) → IsSelection S s ts → 0 < length ts
   selection_takes ts (Field alias name args ds ss p) h =
       back_takes (front_takes (λ us w. word_takes us name w)) ts h.0
   selection_takes ts (FragmentSpread name ds p) h = front_takes (is_takes Ellipsis) ts h.0
@@ -55,10 +56,10 @@ module _ {C F : Type 0} (S : Scalars C F) where
       x : Lexeme
       x = sample Name
 
-  abbrev pub IsFieldName : List Lexeme → Option Word × Word → Type 0
-  IsFieldName ts h = (Optional (IsAlias S) for h.0 · IsWord for h.1) ts
+  abbrev pub IsFieldName : Option Word × Word → List Lexeme → Type 0
+  IsFieldName h ts = (Optional (IsAlias S) h.0 · IsName h.1) ts
 
-  pub field_name_takes : (ts : List Lexeme) (h : Option Word × Word) → IsFieldName ts h → 0 < length ts
+  pub field_name_takes : (ts : List Lexeme) (h : Option Word × Word) → IsFieldName h ts → 0 < length ts
   field_name_takes ts h k = back_takes (λ us w. word_takes us h.1 w) ts k
 
   pub names_rule : (k n m : ℕ) → Rule k (reads S n names) (reads S m names) IsFieldName
@@ -71,22 +72,22 @@ module _ {C F : Type 0} (S : Scalars C F) where
       (done_rule _ (None, word_of a) (None, word_of a') _ (row [] (a ∷ []) refl (word_is a (of_kind Name a p)))))
 
   -- a selection set, and its span
-  abbrev pub IsSpannedSet : List Lexeme → Selections C × Span → Type 0
-  IsSpannedSet ts s = IsSelectionSet S ts s.0 × (s.1 ≡ span_of ts)
+  abbrev pub IsSpannedSet : Selections C × Span → List Lexeme → Type 0
+  IsSpannedSet s ts = IsSelectionSet S s.0 ts × (s.1 ≡ span_of ts)
 
-  pub optional_is : (ts : List Lexeme) (o : Option (Selections C × Span)) → Optional IsSpannedSet ts o
-      → IsOptionalSelectionSet S ts (optional_of o)
+  pub optional_is : (ts : List Lexeme) (o : Option (Selections C × Span)) → Optional IsSpannedSet o ts
+      → IsOptionalSelectionSet S (optional_of o) ts
   optional_is ts None h = h
   optional_is ts (Some s) h = h.0
 
   -- directives and a selection set
   abbrev pub IsBody : List Lexeme → Directives C → Selections C → Type 0
-  IsBody ts ds ss = (IsDirectives S for ds · IsSelectionSet S for ss) ts
+  IsBody ts ds ss = (IsDirectives S ds · IsSelectionSet S ss) ts
 
-  abbrev pub AreInlineParts : List Lexeme → Directives C × (Selections C × Span) → Type 0
-  AreInlineParts ts b = (IsDirectives S for b.0 · IsSpannedSet for b.1) ts
+  abbrev pub AreInlineParts : Directives C × (Selections C × Span) → List Lexeme → Type 0
+  AreInlineParts b ts = (IsDirectives S b.0 · IsSpannedSet b.1) ts
 
-  pub body_is : (ts : List Lexeme) (b : Directives C × (Selections C × Span)) → AreInlineParts ts b
+  pub body_is : (ts : List Lexeme) (b : Directives C × (Selections C × Span)) → AreInlineParts b ts
       → IsBody ts b.0 b.1.0
   body_is ts b h = row_back (λ us s. s.0) ts h
 
@@ -96,7 +97,7 @@ module _ {C F : Type 0} (S : Scalars C F) where
     unfolding selection_set selections_inner
     set_by = span_rule n _ _ IsSpannedSet (want_step n (of CurlyOpen) (sample CurlyOpen) _ _ _ refl (inl refl)
         (λ o o' p.
-        step n _ _ _ _ _ (λ us x. ClosedSome (of CurlyClose) (IsSelection S) us x.0) _ (lower n n (o ∷ []) (le_refl n))
+        step n _ _ _ _ _ (λ x us. ClosedSome (of CurlyClose) (IsSelection S) x.0 us) _ (lower n n (o ∷ []) (le_refl n))
         (one_or_more_rule (IsSelection S) selection_takes (of CurlyClose) (sample CurlyClose) refl (inl refl) _ _ n
         m le r) (λ us xs ys h.
         done_rule _ (λ p. (selections_of xs.0, p)) (λ p. (selections_of ys.0, p)) _
@@ -131,8 +132,8 @@ module _ {C F : Type 0} (S : Scalars C F) where
         step n _ _ _ _ _ IsSpannedSet _ (lower n n us (le_refl n)) set_by (λ vs ss ss' d.
         done_rule _ (directives_of ds, ss) (directives_of ds', ss') _ (rw append-nil (row us vs c.0 d))))
 
-    inline_by : (k : ℕ) (p p' : Span) (w w' : Option Word) (G : List Lexeme → (Span → Selection C) → Type 0) → k ≤ n
-        → ((us : List Lexeme) (ds : Directives C) (ss : Selections C) → IsBody us ds ss → G us (InlineFragment w ds ss))
+    inline_by : (k : ℕ) (p p' : Span) (w w' : Option Word) (G : (Span → Selection C) → List Lexeme → Type 0) → k ≤ n
+        → ((us : List Lexeme) (ds : Directives C) (ss : Selections C) → IsBody us ds ss → G (InlineFragment w ds ss) us)
         → Rule k (reads S n (inline p w)) (reads S m (inline p' w')) G
     unfolding inline
     inline_by k p p' w w' G lk h = step n k _ _ _ _ AreInlineParts _ lk inline_parts_by (λ us b b' c.
@@ -194,16 +195,16 @@ module _ {C F : Type 0} (S : Scalars C F) where
   operation_says : (t : Lexeme) → passes operation_word t ≡ true → Says (operation_name (operation_of t.text)) (t ∷ [])
   operation_says t e = three_words t (or_cases _ _ e)
 
-  pub definition_takes : (ts : List Lexeme) (d : Definition C) → IsDefinition S ts d → 0 < length ts
+  pub definition_takes : (ts : List Lexeme) (d : Definition C) → IsDefinition S d ts → 0 < length ts
   definition_takes ts (Operation kind name vars ds ss p) (q, inl h) = select_takes ts ss h.0
   definition_takes ts (Operation kind name vars ds ss p) (q, inr h) = front_takes (says_takes _) ts h
   definition_takes ts (Fragment name condition ds ss p) h = front_takes (says_takes _) ts h.0
 
-  pub optional_name_rule : (k n m : ℕ) → Rule k (reads S n optional_name) (reads S m optional_name) (Optional IsWord)
-  optional_name_rule k n m = look_rule k (of Name) _ _ _ _ (Optional IsWord)
-      (want_step k (of Name) (sample Name) _ _ (Optional IsWord) refl (inl refl)
+  pub optional_name_rule : (k n m : ℕ) → Rule k (reads S n optional_name) (reads S m optional_name) (Optional IsName)
+  optional_name_rule k n m = look_rule k (of Name) _ _ _ _ (Optional IsName)
+      (want_step k (of Name) (sample Name) _ _ (Optional IsName) refl (inl refl)
       (λ t t' p. done_rule _ (Some (word_of t)) (Some (word_of t')) _ (word_is t (of_kind Name t p))))
-      (done_rule k None None (Optional IsWord) refl)
+      (done_rule k None None (Optional IsName) refl)
 
   pub type_condition_rule : (k n m : ℕ)
       → Rule k (reads S n type_condition) (reads S m type_condition) (IsTypeCondition S)
@@ -237,14 +238,14 @@ module _ {C F : Type 0} (S : Scalars C F) where
     spread_rule = weaken (suc n) n _ _ _ (IsSelection S) (omega arith) (λ us x h. h)
         (spread_by n m le (selection_rule n m le))
 
-    abbrev IsOperation : List Lexeme → (Span → Definition C) → Type 0
-    IsOperation us k = IsDefinition S us (k (span_of us))
+    abbrev IsOperation : (Span → Definition C) → List Lexeme → Type 0
+    IsOperation k us = IsDefinition S (k (span_of us)) us
 
     operation_rule : (t t' : Lexeme) → passes operation_word t ≡ true
         → Rule (less n (t ∷ [])) (reads S n (operation (operation_of t.text) t.span))
-        (reads S m (operation (operation_of t'.text) t'.span)) (λ us k. IsOperation (t ∷ us) k)
+        (reads S m (operation (operation_of t'.text) t'.span)) (λ k us. IsOperation k (t ∷ us))
     unfolding operation
-    operation_rule t t' p = step n (less n (t ∷ [])) _ _ _ _ (Optional IsWord) _ (low1 S n m le (t ∷ []))
+    operation_rule t t' p = step n (less n (t ∷ [])) _ _ _ _ (Optional IsName) _ (low1 S n m le (t ∷ []))
         (optional_name_rule n n m) (λ us name name' a.
         step n _ _ _ _ _ (Optional (IsVariables S)) _ (low2 S n m le (t ∷ []) us)
         (optional_variables_rule S n m le) (λ vs vars vars' b.
@@ -259,7 +260,7 @@ module _ {C F : Type 0} (S : Scalars C F) where
 
     fragment_rule : (t t' : Lexeme) → passes (word (codes "fragment")) t ≡ true
         → Rule (less n (t ∷ [])) (reads S n (fragment t.span)) (reads S m (fragment t'.span))
-        (λ us k. IsOperation (t ∷ us) k)
+        (λ k us. IsOperation k (t ∷ us))
     unfolding fragment
     fragment_rule t t' p = step n (less n (t ∷ [])) _ _ _ _ (IsFragmentName S) _ (low1 S n m le (t ∷ []))
         (fragment_name_rule n n m) (λ us name name' a.
@@ -281,8 +282,8 @@ module _ {C F : Type 0} (S : Scalars C F) where
         done_rule _ (Operation Query None None None ss.0) (Operation Query None None None ss'.0) _
         (rw append-nil (refl, inl (h.0, refl, refl, refl, refl)))))))
 
-    document_is : (ts : List Lexeme) (ds : List (Definition C)) → ClosedSome (of EndOfFile) (IsDefinition S) ts ds
-        → IsDocument S ts ds
+    document_is : (ts : List Lexeme) (ds : List (Definition C)) → ClosedSome (of EndOfFile) (IsDefinition S) ds ts
+        → IsDocument S ds ts
     document_is ts [] h = absurd h
     document_is ts (d ∷ ds) h = record {
       front = h.inner;

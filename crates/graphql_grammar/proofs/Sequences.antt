@@ -4,7 +4,8 @@ use Rattle.graphql_lexical.specs.declared.kind.Kind.{Kind}
 use Rattle.graphql_lexical.specs.declared.kind.Kind.TheVariants.{Name}
 use Rattle.graphql_lexical.specs.Cutting.{Lexeme}
 use Rattle.graphql_grammar.specs.Tokens.{Text, word_of, over, last_of, span_of}
-use Rattle.graphql_grammar.specs.Grammar.{IsToken, Is, IsWord, Says, Sequence}
+use Rattle.graphql_lexical.specs.Parts.{Sequence}
+use Rattle.graphql_grammar.specs.Grammar.{Token, Is, IsName, Says}
 
 -- ---- one token
 
@@ -20,10 +21,10 @@ pub kind_is : (kind : Kind) (t : Lexeme) → t.kind ≡ kind → Is kind (t ∷ 
 kind_is kind t e = (t.text, t.span, ap (λ (k : Kind). record { kind = k; text = t.text; span = t.span } ∷ []) e)
 
 pub token_is : (kind : Kind) (text : Text) (t : Lexeme) → t.kind ≡ kind → t.text ≡ text
-    → IsToken (t ∷ []) kind text t.span
+    → Token kind text t.span (t ∷ [])
 token_is kind text t e h = ap₂ (λ (k : Kind) (w : Text). record { kind = k; text = w; span = t.span } ∷ []) e h
 
-pub word_is : (t : Lexeme) → t.kind ≡ Name → IsWord (t ∷ []) (word_of t)
+pub word_is : (t : Lexeme) → t.kind ≡ Name → IsName (word_of t) (t ∷ [])
 word_is t e = token_is Name t.text t e refl
 
 pub says_is : (text : Text) (t : Lexeme) → t.kind ≡ Name → t.text ≡ text → Says text (t ∷ [])

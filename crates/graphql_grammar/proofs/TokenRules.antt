@@ -21,13 +21,13 @@ refuse_empty [] [] p q = refl
 refuse_empty [] (u ∷ rest') p q = absurd q
 refuse_empty (u ∷ us') rest' p q = absurd p
 
-refuse_meets : (F : Type 0) {A : Type 0} (n : ℕ) (G : List Lexeme → A → Type 0) → Some_of G → (ts : List Lexeme)
+refuse_meets : (F : Type 0) {A : Type 0} (n : ℕ) (G : A → List Lexeme → Type 0) → Some_of G → (ts : List Lexeme)
     → Meets {F = F} n G refuse ts (refuse ts)
 unfolding refuse
 refuse_meets F n G s [] = ([], refl, s, refuse_empty, tt)
 refuse_meets F n G s (t ∷ ts) = ([], refl, s, refuse_fails ts [] t, place_fault F G [] t.kind t.text)
 
-pub refuse_rule : {F A : Type 0} (n : ℕ) (G : List Lexeme → A → Type 0) → Some_of G → Rule {F = F} n refuse refuse G
+pub refuse_rule : {F A : Type 0} (n : ℕ) (G : A → List Lexeme → Type 0) → Some_of G → Rule {F = F} n refuse refuse G
 refuse_rule {F} n G s = record { at = λ ts. refuse_meets F n G s ts }
 
 -- want
@@ -75,8 +75,8 @@ want_other : {F : Type 0} (test : Test) (t : Lexeme) (ts other : List Lexeme) �
 want_other test t ts [] e p = absurd p
 want_other test t ts (u ∷ us) e p = want_failed test u us (passes_alike test t u p ∙ e)
 
-module _ (F : Type 0) (n : ℕ) (test : Test) (Q : List Lexeme → Lexeme → Type 0) (w : Lexeme) (we : passes test w ≡ true)
-    (wf : IsSample w) (h : (t : Lexeme) → passes test t ≡ true → Q (t ∷ []) t) where
+module _ (F : Type 0) (n : ℕ) (test : Test) (Q : Lexeme → List Lexeme → Type 0) (w : Lexeme) (we : passes test w ≡ true)
+    (wf : IsSample w) (h : (t : Lexeme) → passes test t ≡ true → Q t (t ∷ [])) where
   want_case : (t : Lexeme) (ts : List Lexeme) (b : Bool) → passes test t ≡ b
       → Meets {F = F} n Q (want test) (t ∷ ts) (want test (t ∷ ts))
   want_case t ts true e = subst (λ r. Meets n Q (want test) (t ∷ ts) r) (sym (want_passed test t ts e))
@@ -116,8 +116,8 @@ on_this test k g t ts [] e p = absurd p
 on_this test k g t ts (u ∷ us) e p = seq_want test k g u us (passes_alike test t u p ∙ e)
 
 module _ {F A : Type 0} (n : ℕ) (test : Test) (k l : Lexeme → Reader F A) (f g : Reader F A)
-    (G : List Lexeme → A → Type 0)
-    (h : (t u : Lexeme) → passes test t ≡ true → Rule (less n (t ∷ [])) (k t) (l u) (λ us a. G (t ∷ us) a))
+    (G : A → List Lexeme → Type 0)
+    (h : (t u : Lexeme) → passes test t ≡ true → Rule (less n (t ∷ [])) (k t) (l u) (λ a us. G a (t ∷ us)))
     (r : Rule n f g G) where
   on_case : (t : Lexeme) (ts : List Lexeme) (b : Bool) → passes test t ≡ b
       → Meets n G (on test l g) (t ∷ ts) (on test k f (t ∷ ts))
@@ -142,7 +142,7 @@ look_agrees : {F A : Type 0} (test : Test) (f g : Reader F A) (t u : Lexeme) (ts
 unfolding look
 look_agrees test f g t u ts us b e a = ap (λ z. choose z f g (u ∷ us)) (passes_alike test t u a ∙ e)
 
-module _ {F A : Type 0} (n : ℕ) (test : Test) (f g k l : Reader F A) (G : List Lexeme → A → Type 0) (r : Rule n f k G)
+module _ {F A : Type 0} (n : ℕ) (test : Test) (f g k l : Reader F A) (G : A → List Lexeme → Type 0) (r : Rule n f k G)
     (s : Rule n g l G) where
   look_other : (t : Lexeme) (ts : List Lexeme) (b : Bool) → passes test t ≡ b → (other : List Lexeme)
       → SameHead (t ∷ ts) other → look test k l other ≡ choose b k l other

@@ -8,7 +8,8 @@ use Rattle.graphql_lexical.specs.Cutting.{Lexeme}
 use Rattle.graphql_lexical.specs.laws.Alike.{AllAlike}
 use Rattle.graphql_grammar.specs.Tokens.{Text, Word, last_of, nowhere, span_of}
 use Rattle.graphql_grammar.specs.Tree.{Scalars, Value, Null, Scalar, Enum, Variable, ListOf, Object, Items, no_items, item, ObjectFields, no_fields, object_field, TypeRef, NamedType, ListType, NonNullType, Argument, Arguments, Directive, Directives, VariableDefinition, Variables, Selection, Field, FragmentSpread, InlineFragment, Selections, no_selections, selection, OptionalSelections, absent, present, Definition, Operation, Fragment}
-use Rattle.graphql_grammar.specs.Grammar.{IsToken, Is, ◌·◌, ◌for◌, IsVariable, IsValue, AreItems, AreFields, Each, Optional, Several, IsWord, Says, Listed, IsType, IsArgument, IsArguments, IsDirective, IsDirectives, IsDefault, IsVariableDefinition, IsVariables, IsAlias, IsTypeCondition, IsFragmentName, IsSelection, IsOptionalSelectionSet, IsSelectionSet, AreSelections, IsDefinition, IsDocument}
+use Rattle.graphql_lexical.specs.Parts.{◌·◌}
+use Rattle.graphql_grammar.specs.Grammar.{Token, Is, IsVariable, IsValue, AreItems, AreFields, Each, Optional, Several, IsName, Says, Listed, IsType, IsArgument, IsArguments, IsDirective, IsDirectives, IsDefault, IsVariableDefinition, IsVariables, IsAlias, IsTypeCondition, IsFragmentName, IsSelection, IsOptionalSelectionSet, IsSelectionSet, AreSelections, IsDefinition, IsDocument}
 use Rattle.graphql_grammar.specs.Unlocated.{if_some, unlocated_word, unlocated_value, unlocated_items, unlocated_fields, unlocated_argument, unlocated_arguments, unlocated_directive, unlocated_directives, unlocated_variable, unlocated_variables, unlocated_selection, unlocated_selections, unlocated_optional, unlocated_definition}
 
 -- a token without its span
@@ -40,7 +41,7 @@ Bares A B = (ts : List Lexeme) → A ts → B (all_bare ts)
 -- ---- tokens and parts in a row
 
 token : (kind : Kind) (text : Text) (span : Span)
-    → Bares (λ ts. IsToken ts kind text span) (λ ts. IsToken ts kind text nowhere)
+    → Bares (λ ts. Token kind text span ts) (λ ts. Token kind text nowhere ts)
 token kind text span ts h = ap all_bare h
 
 is : (kind : Kind) → Bares (Is kind) (Is kind)
@@ -49,7 +50,7 @@ is kind ts h = (h.0, nowhere, ap all_bare h.2)
 says : (text : Text) → Bares (Says text) (Says text)
 says text ts h = (nowhere, ap all_bare h.1)
 
-word : (w : Word) → Bares (IsWord for w) (IsWord for unlocated_word w)
+word : (w : Word) → Bares (IsName w) (IsName (unlocated_word w))
 word w = token Name w.text w.span
 
 both : {A B A' B' : List Lexeme → Type 0} → Bares A A' → Bares B B' → Bares (A · B) (A' · B')
@@ -69,25 +70,25 @@ enclosed : {A B : List Lexeme → Type 0} (opening closing : Kind) → Bares A B
     → Bares (Is opening · A · Is closing) (Is opening · B · Is closing)
 enclosed opening closing f = both (is opening) (both f (is closing))
 
-module _ {A : Type 0} {R : List Lexeme → A → Type 0} (g : A → A) (f : (x : A) → Bares (R for x) (R for g x)) where
-  each : (xs : List A) → Bares (Each R for xs) (Each R for map g xs)
+module _ {A : Type 0} {R : A → List Lexeme → Type 0} (g : A → A) (f : (x : A) → Bares (R x) (R (g x))) where
+  each : (xs : List A) → Bares (Each R xs) (Each R (map g xs))
   each [] ts h = ap all_bare h
   each (x ∷ xs) ts h = both (f x) (each xs) ts h
 
-  optional : (x : Option A) → Bares (Optional R for x) (Optional R for if_some g x)
+  optional : (x : Option A) → Bares (Optional R x) (Optional R (if_some g x))
   optional None ts h = ap all_bare h
   optional (Some x) ts h = f x ts h
 
-  several : (xs : List A) → Bares (Several R for xs) (Several R for map g xs)
+  several : (xs : List A) → Bares (Several R xs) (Several R (map g xs))
   several [] ts h = absurd (h.1 refl)
   several (x ∷ xs) ts h = (each (x ∷ xs) ts h.0, λ e. absurd (cc))
 
-  listed : (xs : List A) → Bares (Listed ParenOpen ParenClose R for xs) (Listed ParenOpen ParenClose R for map g xs)
+  listed : (xs : List A) → Bares (Listed ParenOpen ParenClose R xs) (Listed ParenOpen ParenClose R (map g xs))
   listed xs = enclosed ParenOpen ParenClose (several xs)
 
 -- ---- types
 
-type : (x : TypeRef) → Bares (IsType for x) (IsType for x)
+type : (x : TypeRef) → Bares (IsType x) (IsType x)
 type (NamedType w) ts h = says w ts h
 type (ListType size x) ts h = (enclosed BracketOpen BracketClose (type x) ts h.0, h.1)
 type (NonNullType x) ts h = (both (type x) (is ExclamationMark) ts h.0, h.1)
@@ -95,11 +96,11 @@ type (NonNullType x) ts h = (both (type x) (is ExclamationMark) ts h.0, h.1)
 module _ {C F : Type 0} (S : Scalars C F) where
   -- ---- values
 
-  variable_name : (w : Text) (p : Span) → Bares (λ ts. IsVariable ts w p) (λ ts. IsVariable ts w nowhere)
+  variable_name : (w : Text) (p : Span) → Bares (λ ts. IsVariable w p ts) (λ ts. IsVariable w nowhere ts)
   variable_name w p = spanned (both (is Dollar) (says w))
 
   mutual
-    value : (free : Bool) (v : Value C) → Bares (IsValue S free for v) (IsValue S free for unlocated_value v)
+    value : (free : Bool) (v : Value C) → Bares (IsValue S free v) (IsValue S free (unlocated_value v))
     value free (Null p) ts h = token Name _ p ts h
     value free (Scalar c p) ts (inl (k, w, h, s, e)) = inl (k, w, token k w p ts h, s, e)
     value free (Scalar c p) ts (inr (inl h)) = inr (inl (token Name _ p ts h.0, h.1))
@@ -109,59 +110,59 @@ module _ {C F : Type 0} (S : Scalars C F) where
     value free (ListOf vs p) ts h = spanned (enclosed BracketOpen BracketClose (items free vs)) ts h
     value free (Object fs p) ts h = spanned (enclosed CurlyOpen CurlyClose (fields free fs)) ts h
 
-    items : (free : Bool) (vs : Items C) → Bares (AreItems S free for vs) (AreItems S free for unlocated_items vs)
+    items : (free : Bool) (vs : Items C) → Bares (AreItems S free vs) (AreItems S free (unlocated_items vs))
     items free no_items ts h = ap all_bare h
     items free (item v vs) ts h = both (value free v) (items free vs) ts h
 
     fields : (free : Bool) (fs : ObjectFields C)
-        → Bares (AreFields S free for fs) (AreFields S free for unlocated_fields fs)
+        → Bares (AreFields S free fs) (AreFields S free (unlocated_fields fs))
     fields free no_fields ts h = ap all_bare h
     fields free (object_field w p v fs) ts h =
         both (token Name w p) (both (is Colon) (both (value free v) (fields free fs))) ts h
 
-  pub value_bare : (free : Bool) (ts : List Lexeme) (v : Value C) → IsValue S free ts v
-      → IsValue S free (all_bare ts) (unlocated_value v)
+  pub value_bare : (free : Bool) (ts : List Lexeme) (v : Value C) → IsValue S free v ts
+      → IsValue S free (unlocated_value v) (all_bare ts)
   value_bare free ts v = value free v ts
 
   -- ---- arguments, directives and variable definitions
 
-  argument : (a : Argument C) → Bares (IsArgument S for a) (IsArgument S for unlocated_argument a)
+  argument : (a : Argument C) → Bares (IsArgument S a) (IsArgument S (unlocated_argument a))
   argument a = both (word a.name) (both (is Colon) (value true a.value))
 
-  arguments : (a : Arguments C) → Bares (IsArguments S for a) (IsArguments S for unlocated_arguments a)
+  arguments : (a : Arguments C) → Bares (IsArguments S a) (IsArguments S (unlocated_arguments a))
   arguments a ts h = (listed unlocated_argument argument a.items ts h.0, sym (span_bare ts))
 
-  directive : (d : Directive C) → Bares (IsDirective S for d) (IsDirective S for unlocated_directive d)
+  directive : (d : Directive C) → Bares (IsDirective S d) (IsDirective S (unlocated_directive d))
   directive d = spanned (both (is At) (both (word d.name) (optional unlocated_arguments arguments d.arguments)))
 
-  directives : (ds : Directives C) → Bares (IsDirectives S for ds) (IsDirectives S for unlocated_directives ds)
+  directives : (ds : Directives C) → Bares (IsDirectives S ds) (IsDirectives S (unlocated_directives ds))
   directives = optional (map unlocated_directive) (several unlocated_directive directive)
 
-  default : (v : Value C) → Bares (IsDefault S for v) (IsDefault S for unlocated_value v)
+  default : (v : Value C) → Bares (IsDefault S v) (IsDefault S (unlocated_value v))
   default v = both (is Equals) (value false v)
 
   variable : (v : VariableDefinition C)
-      → Bares (IsVariableDefinition S for v) (IsVariableDefinition S for unlocated_variable v)
+      → Bares (IsVariableDefinition S v) (IsVariableDefinition S (unlocated_variable v))
   variable v = both (variable_name v.name.text v.name.span) (both (is Colon)
       (both (λ ts h. (type v.of_type ts h.0, sym (span_bare ts)))
       (both (optional unlocated_value default v.default) (directives v.directives))))
 
-  variables : (a : Variables C) → Bares (IsVariables S for a) (IsVariables S for unlocated_variables a)
+  variables : (a : Variables C) → Bares (IsVariables S a) (IsVariables S (unlocated_variables a))
   variables a ts h = (listed unlocated_variable variable a.items ts h.0, sym (span_bare ts))
 
   -- ---- selections
 
-  alias_of : (w : Word) → Bares (IsAlias S for w) (IsAlias S for unlocated_word w)
+  alias_of : (w : Word) → Bares (IsAlias S w) (IsAlias S (unlocated_word w))
   alias_of w = both (word w) (is Colon)
 
-  condition : (w : Word) → Bares (IsTypeCondition S for w) (IsTypeCondition S for unlocated_word w)
+  condition : (w : Word) → Bares (IsTypeCondition S w) (IsTypeCondition S (unlocated_word w))
   condition w = both (says _) (word w)
 
-  fragment_name : (w : Word) → Bares (IsFragmentName S for w) (IsFragmentName S for unlocated_word w)
+  fragment_name : (w : Word) → Bares (IsFragmentName S w) (IsFragmentName S (unlocated_word w))
   fragment_name w ts h = (word w ts h.0, h.1)
 
   mutual
-    selection_of : (s : Selection C) → Bares (IsSelection S for s) (IsSelection S for unlocated_selection s)
+    selection_of : (s : Selection C) → Bares (IsSelection S s) (IsSelection S (unlocated_selection s))
     selection_of (Field alias name args ds ss p) ts h =
         spanned (both (optional unlocated_word alias_of alias) (both (word name)
         (both (optional unlocated_arguments arguments args) (both (directives ds) (may_select ss))))) ts h
@@ -171,22 +172,22 @@ module _ {C F : Type 0} (S : Scalars C F) where
         (both (optional unlocated_word condition on_type) (both (directives ds) (selection_set ss)))) ts h
 
     may_select : (ss : OptionalSelections C)
-        → Bares (IsOptionalSelectionSet S for ss) (IsOptionalSelectionSet S for unlocated_optional ss)
+        → Bares (IsOptionalSelectionSet S ss) (IsOptionalSelectionSet S (unlocated_optional ss))
     may_select absent ts h = ap all_bare h
     may_select (present ss) ts h = selection_set ss ts h
 
-    selection_set : (ss : Selections C) → Bares (IsSelectionSet S for ss) (IsSelectionSet S for unlocated_selections ss)
+    selection_set : (ss : Selections C) → Bares (IsSelectionSet S ss) (IsSelectionSet S (unlocated_selections ss))
     selection_set no_selections ts h = absurd h
     selection_set (selection s ss) ts h =
         both (is CurlyOpen) (both (selection_of s) (both (selections ss) (is CurlyClose))) ts h
 
-    selections : (ss : Selections C) → Bares (AreSelections S for ss) (AreSelections S for unlocated_selections ss)
+    selections : (ss : Selections C) → Bares (AreSelections S ss) (AreSelections S (unlocated_selections ss))
     selections no_selections ts h = ap all_bare h
     selections (selection s ss) ts h = both (selection_of s) (selections ss) ts h
 
   -- ---- documents
 
-  definition : (d : Definition C) → Bares (IsDefinition S for d) (IsDefinition S for unlocated_definition d)
+  definition : (d : Definition C) → Bares (IsDefinition S d) (IsDefinition S (unlocated_definition d))
   definition (Operation kind name vars ds ss p) ts (q, inl (h, a, b, c, e)) = (
     sym (span_bare ts),
     inl (
@@ -205,6 +206,6 @@ module _ {C F : Type 0} (S : Scalars C F) where
   definition (Fragment name on_type ds ss p) ts h = spanned (both (says _) (both (fragment_name name)
       (both (condition on_type) (both (directives ds) (selection_set ss))))) ts h
 
-  pub document_bare : (ts : List Lexeme) (ds : List (Definition C)) → IsDocument S ts ds
-      → IsDocument S (all_bare ts) (map unlocated_definition ds)
+  pub document_bare : (ts : List Lexeme) (ds : List (Definition C)) → IsDocument S ds ts
+      → IsDocument S (map unlocated_definition ds) (all_bare ts)
   document_bare ts ds h = both (several unlocated_definition definition ds) (is EndOfFile) ts h

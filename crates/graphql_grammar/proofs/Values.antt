@@ -8,7 +8,8 @@ use Rattle.graphql_grammar.specs.Samples.{sample, token_of}
 use Rattle.graphql_grammar.specs.device.Reading.{passes, of, Took, Refused, refuse, want, literal, read_as, scalar_token, a_value}
 use Rattle.graphql_grammar.specs.device.Productions.{by_name, variable_start, variable, list, key_and_value, object, value, symbol_at, reads}
 use Rattle.graphql_grammar.specs.Tree.{Scalars, Value, Null, Scalar, Enum, Variable, ListOf, Object, no_items, no_fields, items_of, fields_of}
-use Rattle.graphql_grammar.specs.Grammar.{IsScalarKind, IsToken, Is, IsWord, IsValue, AreItems, AreFields, Each, ◌·◌, ◌for◌}
+use Rattle.graphql_lexical.specs.Parts.{◌·◌}
+use Rattle.graphql_grammar.specs.Grammar.{IsScalarKind, Token, Is, IsName, IsValue, AreItems, AreFields, Each}
 use Rattle.graphql_grammar.proofs.Sequences.{row, row_back, row_right, enclosed, over_enclosed, kind_is, token_is, word_is, says_is, one_takes, is_takes, front_takes}
 use Rattle.graphql_grammar.specs.Faults.{ScalarError}
 use Rattle.graphql_grammar.proofs.Rules.{SameHead, less, Agrees, Fails, Meets, Rule, Some_of, done_rule, seq_rule, turn, weaken, less_below, IsOpener, More}
@@ -62,9 +63,9 @@ module _ {C F : Type 0} (S : Scalars C F) where
   bad_fails t ts x e h [] (u ∷ rest') p q = literal_bad u rest' x (pass_alike t u q ∙ e) (read_alike t u q ∙ h)
   bad_fails t ts x e h (u ∷ us) rest' p q = absurd p
 
-  module _ (n : ℕ) (Q : List Lexeme → Value C → Type 0) (some : Some_of Q)
+  module _ (n : ℕ) (Q : Value C → List Lexeme → Type 0) (some : Some_of Q)
       (openers : (w : Lexeme) → IsOpener w → More Q [] w)
-      (h : (t : Lexeme) (c : C) → IsScalarKind t.kind → S.read t.kind t.text ≡ Ok c → Q (t ∷ []) (Scalar c t.span))
+      (h : (t : Lexeme) (c : C) → IsScalarKind t.kind → S.read t.kind t.text ≡ Ok c → Q (Scalar c t.span) (t ∷ []))
     where
       literal_read : (t : Lexeme) (ts : List Lexeme) → passes scalar_token t ≡ true → (z : Result C F)
           → S.read t.kind t.text ≡ z → Meets n Q (literal S) (t ∷ ts) (literal S (t ∷ ts))
@@ -90,7 +91,7 @@ module _ {C F : Type 0} (S : Scalars C F) where
 
 -- Values
 module _ {C F : Type 0} (S : Scalars C F) (free : Bool) where
-  pub value_takes : (ts : List Lexeme) (v : Value C) → IsValue S free ts v → 0 < length ts
+  pub value_takes : (ts : List Lexeme) (v : Value C) → IsValue S free v ts → 0 < length ts
   value_takes ts (Null p) h = one_takes ts _ h
   value_takes ts (Scalar c p) (inl h) = one_takes ts _ h.2
   value_takes ts (Scalar c p) (inr (inl h)) = one_takes ts _ h.0
@@ -101,29 +102,29 @@ module _ {C F : Type 0} (S : Scalars C F) (free : Bool) where
   value_takes ts (Object fs p) h = front_takes (is_takes CurlyOpen) ts h.0
 
   -- one field of an object, as it is read
-  abbrev pub IsField : List Lexeme → Word × Value C → Type 0
-  IsField ts x = (IsWord for x.0 · Is Colon · IsValue S free for x.1) ts
+  abbrev pub IsField : Word × Value C → List Lexeme → Type 0
+  IsField x ts = (IsName x.0 · Is Colon · IsValue S free x.1) ts
 
-  items_are : (ts : List Lexeme) (vs : List (Value C)) → Each (IsValue S free) ts vs → AreItems S free ts (items_of vs)
+  items_are : (ts : List Lexeme) (vs : List (Value C)) → Each (IsValue S free) vs ts → AreItems S free (items_of vs) ts
   items_are ts [] h = h
   items_are ts (v ∷ vs) h = row_back (λ us k. items_are us vs k) ts h
 
-  fields_are : (ts : List Lexeme) (xs : List (Word × Value C)) → Each IsField ts xs → AreFields S free ts (fields_of xs)
+  fields_are : (ts : List Lexeme) (xs : List (Word × Value C)) → Each IsField xs ts → AreFields S free (fields_of xs) ts
   fields_are ts [] h = h
   fields_are ts (x ∷ xs) h =
       row_back row_right ts (row_right ts (row_back (λ us k. fields_are us xs k) ts h))
 
   list_is : (t : Lexeme) (us : List Lexeme) (r : List (Value C) × Lexeme) → passes (of BracketOpen) t ≡ true
-      → Closed (of BracketClose) (IsValue S free) us r → IsValue S free (t ∷ us) (ListOf (items_of r.0) (over t r.1))
-  list_is t us r p c = subst (λ l. IsValue S free (t ∷ l) (ListOf (items_of r.0) (over t r.1))) (sym c.whole) (
+      → Closed (of BracketClose) (IsValue S free) r us → IsValue S free (ListOf (items_of r.0) (over t r.1)) (t ∷ us)
+  list_is t us r p c = subst (λ l. IsValue S free (ListOf (items_of r.0) (over t r.1)) (t ∷ l)) (sym c.whole) (
     enclosed BracketOpen BracketClose t r.1 c.inner (of_kind BracketOpen t p) (of_kind BracketClose r.1 c.closes)
         (items_are c.inner r.0 c.each),
     over_enclosed t r.1 c.inner,
   )
 
   object_is : (t : Lexeme) (us : List Lexeme) (r : List (Word × Value C) × Lexeme) → passes (of CurlyOpen) t ≡ true
-      → Closed (of CurlyClose) IsField us r → IsValue S free (t ∷ us) (Object (fields_of r.0) (over t r.1))
-  object_is t us r p c = subst (λ l. IsValue S free (t ∷ l) (Object (fields_of r.0) (over t r.1))) (sym c.whole) (
+      → Closed (of CurlyClose) IsField r us → IsValue S free (Object (fields_of r.0) (over t r.1)) (t ∷ us)
+  object_is t us r p c = subst (λ l. IsValue S free (Object (fields_of r.0) (over t r.1)) (t ∷ l)) (sym c.whole) (
     enclosed CurlyOpen CurlyClose t r.1 c.inner (of_kind CurlyOpen t p) (of_kind CurlyClose r.1 c.closes)
         (fields_are c.inner r.0 c.each),
     over_enclosed t r.1 c.inner,
@@ -151,17 +152,17 @@ module _ {C F : Type 0} (S : Scalars C F) (free : Bool) where
   )
   value_opens w (inr (inr e)) = ([], Null w.span, token_is Name (codes "null") w e.0 e.1, tt)
 
-  name_is : (t : Lexeme) → passes (of Name) t ≡ true → IsValue S free (t ∷ []) (by_name S t.text t.span)
+  name_is : (t : Lexeme) → passes (of Name) t ≡ true → IsValue S free (by_name S t.text t.span) (t ∷ [])
   name_is t p = cases (bytes_eq t.text (codes "true")) (bytes_eq t.text (codes "false"))
       (bytes_eq t.text (codes "null")) refl refl refl
     where
-      token : (w : Text) → t.text ≡ w → IsToken (t ∷ []) Name w t.span
+      token : (w : Text) → t.text ≡ w → Token Name w t.span (t ∷ [])
       token w e = token_is Name w t (of_kind Name t p) e
 
       cases : (a b c : Bool) → bytes_eq t.text (codes "true") ≡ a → bytes_eq t.text (codes "false") ≡ b
           → bytes_eq t.text (codes "null") ≡ c
-          → IsValue S free (t ∷ []) (if a then Scalar (S.of_bool true) t.span else if b
-          then Scalar (S.of_bool false) t.span else if c then Null t.span else Enum t.text t.span)
+          → IsValue S free (if a then Scalar (S.of_bool true) t.span else if b
+          then Scalar (S.of_bool false) t.span else if c then Null t.span else Enum t.text t.span) (t ∷ [])
       cases true b c x y z = inr (inl (token _ (text_yes _ _ x), refl))
       cases false true c x y z = inr (inr (token _ (text_yes _ _ y), refl))
       cases false false true x y z = token _ (text_yes _ _ z)
@@ -182,7 +183,7 @@ module _ {C F : Type 0} (S : Scalars C F) (free : Bool) where
       (rw append-nil (row (k ∷ []) (c ∷ us) (word_is k (of_kind Name k p))
       (row (c ∷ []) us (kind_is Colon c (of_kind Colon c q)) h)))) r)))))
 
-  pub field_takes : (ts : List Lexeme) (x : Word × Value C) → IsField ts x → 0 < length ts
+  pub field_takes : (ts : List Lexeme) (x : Word × Value C) → IsField x ts → 0 < length ts
   field_takes ts x h = front_takes (λ us w. one_takes us _ w) ts h
 
   pub value_rule : (n m : ℕ) → n ≤ m

@@ -2,7 +2,7 @@
 --
 -- R says which whole lists of tokens are something, and what: documents, values or types. `Allowed` says of which
 -- tokens the lists are that are asked about: of all tokens, or of those that a text spells.
-use Rattle.std.specs.Prelude.{ℕ, suc, Bool, ◌≡◌, ◌<◌, codes, Err, IsErr, List, [], ◌∷◌, ◌++◌, take, length}
+use Rattle.std.specs.Prelude.{ℕ, suc, Bool, ◌≡◌, ◌≢◌, ◌<◌, codes, Err, IsErr, List, [], ◌∷◌, ◌++◌, take, length}
 use Rattle.std.specs.List.{AllByRecursion}
 use Rattle.graphql_lexical.specs.declared.kind.Kind.{Kind}
 use Rattle.graphql_lexical.specs.declared.kind.Kind.TheVariants.{EndOfFile, BracketOpen, CurlyOpen, Name}
@@ -21,7 +21,7 @@ pub data Fault (F : Type 0) : Type 0 where
 
 -- none of these tokens is the end
 abbrev pub NoEnd : List Lexeme → Type 0
-NoEnd = AllByRecursion (λ t. t.kind ≡ EndOfFile → ⊥)
+NoEnd = AllByRecursion (λ t. t.kind ≢ EndOfFile)
 
 -- The last token and no other is the end.
 pub record EndsOnce (ts : List Lexeme) : Type 0 where
@@ -36,32 +36,32 @@ AnyToken t = Unit {0}
 
 module _ (Allowed : Lexeme → Type 0) where
   -- Some list of allowed tokens that R admits has a front that is alike with ts.
-  abbrev pub Begins : {A : Type 0} → (List Lexeme → A → Type 0) → List Lexeme → Type 0
-  Begins {A} R ts = (front more : List Lexeme) × (a : A) × AllAlike ts front × R (front ++ more) a × AllByRecursion Allowed (front ++ more)
+  abbrev pub Begins : {A : Type 0} → (A → List Lexeme → Type 0) → List Lexeme → Type 0
+  Begins {A} R ts = (front more : List Lexeme) × (a : A) × AllAlike ts front × R a (front ++ more) × AllByRecursion Allowed (front ++ more)
 
   -- The first i tokens begin something, the first i + 1 don't.
-  pub record AtFault {A : Type 0} (R : List Lexeme → A → Type 0) (ts : List Lexeme) (i : ℕ) : Type 0 where
+  pub record AtFault {A : Type 0} (R : A → List Lexeme → Type 0) (ts : List Lexeme) (i : ℕ) : Type 0 where
     pub inside : i < length ts
     pub begins : Begins R (take i ts)
     pub ends : Begins R (take (suc i) ts) → ⊥
 
   -- A value may stand after these tokens: each of the Name null, `[` and `{` may.
-  pub record ValueMayStand {A : Type 0} (R : List Lexeme → A → Type 0) (before : List Lexeme) : Type 0 where
+  pub record ValueMayStand {A : Type 0} (R : A → List Lexeme → Type 0) (before : List Lexeme) : Type 0 where
     pub null : Begins R (before ++ token_of Name (codes "null") ∷ [])
     pub bracket : Begins R (before ++ token_of BracketOpen (codes "[") ∷ [])
     pub curly : Begins R (before ++ token_of CurlyOpen (codes "{") ∷ [])
 
   -- The error of t, which is refused after the tokens before it. It is the reading's own where t is a scalar token
   -- that the reading refuses and a value may stand there.
-  abbrev pub NamedError : {C F A : Type 0} → Scalars C F → (List Lexeme → A → Type 0) → List Lexeme → Lexeme → Fault F → Type 0
+  abbrev pub NamedError : {C F A : Type 0} → Scalars C F → (A → List Lexeme → Type 0) → List Lexeme → Lexeme → Fault F → Type 0
   NamedError S R before t UnexpectedEndOfFile = t.kind ≡ EndOfFile
   NamedError S R before t (ScalarError e) = IsScalarKind t.kind × (S.read t.kind t.text ≡ Err e) × ValueMayStand R before
-  NamedError S R before t (UnexpectedToken kind text) = (kind ≡ t.kind) × (text ≡ t.text) × (t.kind ≡ EndOfFile → ⊥)
+  NamedError S R before t (UnexpectedToken kind text) = (kind ≡ t.kind) × (text ≡ t.text) × (t.kind ≢ EndOfFile)
       × (IsScalarKind t.kind → IsErr (S.read t.kind t.text) → ValueMayStand R before → ⊥)
 
   -- The list is refused at its token i, which is t, with this error. `Error` says which error t has after the tokens
   -- before it.
-  pub record RefusedAt {F A : Type 0} (R : List Lexeme → A → Type 0) (Error : List Lexeme → Lexeme → Fault F → Type 0) (ts : List Lexeme) (i : ℕ) (t : Lexeme) (e : Fault F) : Type 0 where
+  pub record RefusedAt {F A : Type 0} (R : A → List Lexeme → Type 0) (Error : List Lexeme → Lexeme → Fault F → Type 0) (ts : List Lexeme) (i : ℕ) (t : Lexeme) (e : Fault F) : Type 0 where
     pub before : List Lexeme
     pub after : List Lexeme
     pub whole : ts ≡ before ++ t ∷ after
@@ -81,7 +81,7 @@ ValueRefusedAt S free = RefusedAt AnyToken (IsValue S free) (NamedError AnyToken
 -- The error of a token that no type has there.
 abbrev pub TypeError : {F : Type 0} → Lexeme → Fault F → Type 0
 TypeError t UnexpectedEndOfFile = t.kind ≡ EndOfFile
-TypeError t (UnexpectedToken kind text) = (kind ≡ t.kind) × (text ≡ t.text) × (t.kind ≡ EndOfFile → ⊥)
+TypeError t (UnexpectedToken kind text) = (kind ≡ t.kind) × (text ≡ t.text) × (t.kind ≢ EndOfFile)
 TypeError t (ScalarError e) = ⊥
 
 abbrev pub TypeRefusedAt : {F : Type 0} → List Lexeme → ℕ → Lexeme → Fault F → Type 0

@@ -17,29 +17,29 @@ ghost use Rattle.graphql_grammar.specs.device.Productions.{document, symbol_at, 
 
 /// No list of tokens is two documents.
 pub fn one_document<C, F>()
-    ensures { (S : Scalars C F) (ts : List Lexeme) (a b : List (Definition C)) → IsDocument S ts a → IsDocument S ts b → a ≡ b }
+    ensures { (S : Scalars C F) (ts : List Lexeme) (a b : List (Definition C)) → IsDocument S a ts → IsDocument S b ts → a ≡ b }
 {}
 
 /// No list of tokens is two values.
 pub fn one_value<C, F>()
-    ensures { (S : Scalars C F) (free : Bool) (ts : List Lexeme) (a b : Value C) → IsValue S free ts a → IsValue S free ts b → a ≡ b }
+    ensures { (S : Scalars C F) (free : Bool) (ts : List Lexeme) (a b : Value C) → IsValue S free a ts → IsValue S free b ts → a ≡ b }
 {}
 
 /// No list of tokens is two types.
 pub fn one_type()
-    ensures { (ts : List Lexeme) (a b : TypeRef) → IsType ts a → IsType ts b → a ≡ b }
+    ensures { (ts : List Lexeme) (a b : TypeRef) → IsType a ts → IsType b ts → a ≡ b }
 {}
 
 /// No value's list of tokens is a proper front of another's.
 pub fn value_front<C, F>()
-    ensures { (S : Scalars C F) (free : Bool) (us vs : List Lexeme) (v w : Value C) → IsValue S free us v → IsValue S free (us ++ vs) w → vs ≡ [] }
+    ensures { (S : Scalars C F) (free : Bool) (us vs : List Lexeme) (v w : Value C) → IsValue S free v us → IsValue S free w (us ++ vs) → vs ≡ [] }
 {}
 
 /// Tokens that a text spells, with one end, the last, are a document or are refused at one place, and never both.
 pub fn document_or_fault<C, F>()
-    ensures either { (S : Scalars C F) (ts : List Lexeme) → AllByRecursion IsSpelled ts → EndsOnce ts → ((ds : List (Definition C)) × IsDocument S ts ds) ⊎ ((i : ℕ) × (t : Lexeme) × (e : Fault F) × DocumentRefusedAt S ts i t e) }
+    ensures either { (S : Scalars C F) (ts : List Lexeme) → AllByRecursion IsSpelled ts → EndsOnce ts → ((ds : List (Definition C)) × IsDocument S ds ts) ⊎ ((i : ℕ) × (t : Lexeme) × (e : Fault F) × DocumentRefusedAt S ts i t e) }
     ensures one { (S : Scalars C F) (ts : List Lexeme) (i j : ℕ) → AtFault IsSpelled (IsDocument S) ts i → AtFault IsSpelled (IsDocument S) ts j → i ≡ j }
-    ensures never_both { (S : Scalars C F) (ts : List Lexeme) (ds : List (Definition C)) (i : ℕ) → AllByRecursion IsSpelled ts → IsDocument S ts ds → AtFault IsSpelled (IsDocument S) ts i → ⊥ }
+    ensures never_both { (S : Scalars C F) (ts : List Lexeme) (ds : List (Definition C)) (i : ℕ) → AllByRecursion IsSpelled ts → IsDocument S ds ts → AtFault IsSpelled (IsDocument S) ts i → ⊥ }
 {}
 
 /// A refused list of tokens has one number, one token and one error.
@@ -49,7 +49,7 @@ pub fn one_refusal<C, F>()
 
 /// The tokens before the refused one are completed to a document by sample tokens alone.
 pub fn fault_completed<C, F>()
-    ensures { (S : Scalars C F) (ts : List Lexeme) (i : ℕ) → AllByRecursion IsSpelled ts → EndsOnce ts → AtFault IsSpelled (IsDocument S) ts i → (more : List Lexeme) × (ds : List (Definition C)) × AreSamples more × IsDocument S (take i ts ++ more) ds }
+    ensures { (S : Scalars C F) (ts : List Lexeme) (i : ℕ) → AllByRecursion IsSpelled ts → EndsOnce ts → AtFault IsSpelled (IsDocument S) ts i → (more : List Lexeme) × (ds : List (Definition C)) × AreSamples more × IsDocument S ds (take i ts ++ more) }
 {}
 
 /// Up to the end of the last token before the refused one, a text goes on, after a space, to a document's text, whose
@@ -60,7 +60,7 @@ pub fn fault_in_characters<C, F>()
 
 /// A document closes as many brackets as it opens.
 pub fn document_is_balanced<C, F>()
-    ensures { (S : Scalars C F) (ts : List Lexeme) (ds : List (Definition C)) → IsDocument S ts ds → opened ts ≡ closed ts }
+    ensures { (S : Scalars C F) (ts : List Lexeme) (ds : List (Definition C)) → IsDocument S ds ts → opened ts ≡ closed ts }
 {}
 
 /// A list that is refused at a token of its front is refused there whatever stands behind that front.
@@ -71,24 +71,24 @@ pub fn refused_in_front<C, F>()
 /// Lists that are alike both are documents, whose trees differ in spans alone, or are both refused at the same number
 /// with the same error.
 pub fn alike_documents<C, F>()
-    ensures accepted { (S : Scalars C F) (ts us : List Lexeme) (a : List (Definition C)) → AllAlike ts us → IsDocument S ts a → (b : List (Definition C)) × IsDocument S us b × SameDocument a b }
+    ensures accepted { (S : Scalars C F) (ts us : List Lexeme) (a : List (Definition C)) → AllAlike ts us → IsDocument S a ts → (b : List (Definition C)) × IsDocument S b us × SameDocument a b }
     ensures refused { (S : Scalars C F) (ts us : List Lexeme) (i : ℕ) (t : Lexeme) (e : Fault F) → AllAlike ts us → DocumentRefusedAt S ts i t e → (u : Lexeme) × Alike t u × DocumentRefusedAt S us i u e }
 {}
 
 /// Lists that are alike both are values, which differ in spans alone, or are both none.
 pub fn alike_values<C, F>()
-    ensures { (S : Scalars C F) (free : Bool) (ts us : List Lexeme) (a : Value C) → AllAlike ts us → IsValue S free ts a → (b : Value C) × IsValue S free us b × SameValue a b }
+    ensures { (S : Scalars C F) (free : Bool) (ts us : List Lexeme) (a : Value C) → AllAlike ts us → IsValue S free a ts → (b : Value C) × IsValue S free b us × SameValue a b }
 {}
 
 /// Each scalar token of a document is one that the scalar type reads.
 pub fn scalar_tokens_are_read<C, F>()
-    ensures { (S : Scalars C F) (ts : List Lexeme) (ds : List (Definition C)) → IsDocument S ts ds → AllByRecursion (IsRead S) ts }
+    ensures { (S : Scalars C F) (ts : List Lexeme) (ds : List (Definition C)) → IsDocument S ds ts → AllByRecursion (IsRead S) ts }
 {}
 
 /// A document of one scalar type is the same document of another one that reads its scalar tokens, `true` and `false`
 /// as the first does.
 pub fn other_scalars<C, F>()
-    ensures { (S T : Scalars C F) (ts : List Lexeme) (ds : List (Definition C)) → S.of_bool ≡ T.of_bool → AllByRecursion (IsReadAlso S T) ts → IsDocument S ts ds → IsDocument T ts ds }
+    ensures { (S T : Scalars C F) (ts : List Lexeme) (ds : List (Definition C)) → S.of_bool ≡ T.of_bool → AllByRecursion (IsReadAlso S T) ts → IsDocument S ds ts → IsDocument T ds ts }
 {}
 
 /// The tokens that a source is cut into are spelled, and the last one and no other is the end.
@@ -114,5 +114,5 @@ pub fn value_is_read<C, F>()
 
 /// The reading of a type gives the longest front that is a type, with its span, or refuses where the definitions do.
 pub fn type_is_read<C, F>()
-    ensures { (S : Scalars C F) (ts : List Lexeme) → EndsOnce ts → GivesFront (λ us x. IsType us x.0 × (x.1 ≡ span_of us)) (TypeRefusedAt ts) ts (fully (λ n. symbol_at S n _ a_type) ts) }
+    ensures { (S : Scalars C F) (ts : List Lexeme) → EndsOnce ts → GivesFront (λ x us. IsType x.0 us × (x.1 ≡ span_of us)) (TypeRefusedAt ts) ts (fully (λ n. symbol_at S n _ a_type) ts) }
 {}

@@ -7,7 +7,8 @@ use Rattle.std.proofs.lemmas.Bool.{eqb-true}
 use Rattle.std.proofs.lemmas.Option.{none-some, same_Some}
 use Rattle.graphql_lexical.specs.Characters.{is_digit, is_name_character, is_exponent_mark, is_sign, is_hex}
 use Rattle.graphql_lexical.specs.Kinds.{Kind, String, Ellipsis, all_kinds, Fixed, spelling, character_of}
-use Rattle.graphql_lexical.specs.Tokens.{IsName, AreSomeDigits, IsZero, IsLongInteger, IsInteger, IsFraction, IsExponent, IsUnit, plain, escape, unicode, AreUnits, Admits, Spells, is_character, punctuator, mark}
+use Rattle.graphql_lexical.specs.Tokens.{IsZero, IsUnit, plain, escape, unicode, AreUnits, Admits, Spells, is_character, punctuator, mark}
+use Rattle.graphql_lexical.specs.device.Numbers.{ReadName, ReadDigits, ReadLongInteger, ReadInteger, ReadFraction, ReadExponent}
 use Rattle.graphql_lexical.specs.device.Scan.{State, Start, Done, OneDot, TwoDots, InName, Minus, Zero, Digits, Point, Fraction, ExponentMark, ExponentSign, Exponent, InString, Backslash, NoHexDigit, OneHexDigit, HexDigitD, TwoHexDigits, ThreeHexDigits, is_hex_d, step, Quote, EmptyString, InBlock, Block, Inside, block_step}
 use Rattle.graphql_lexical.proofs.EachKind.{lone_spelling}
 use Rattle.graphql_lexical.proofs.Runs.{run, kept_run, run_on}
@@ -15,8 +16,8 @@ use Rattle.graphql_lexical.proofs.Numbers.{IsPair, pair_d, pair_other, scalar_fr
 
 -- an integer part, and a fraction or nothing
 abbrev pub IsBase : List ℕ → Type 0
-IsBase base = (whole : List ℕ) × (fraction : List ℕ) × (base ≡ whole ++ fraction) × IsInteger whole
-    × ((fraction ≡ []) ⊎ IsFraction fraction)
+IsBase base = (whole : List ℕ) × (fraction : List ℕ) × (base ≡ whole ++ fraction) × ReadInteger whole
+    × ((fraction ≡ []) ⊎ ReadFraction fraction)
 
 -- a quote, units, and this tail
 pub record IsOpen (tail text : List ℕ) : Type 0 where
@@ -29,16 +30,16 @@ IsRead Start t = t ≡ []
 IsRead (Done kind) t = Spells t kind
 IsRead OneDot t = t ≡ 46 ∷ []
 IsRead TwoDots t = t ≡ 46 ∷ 46 ∷ []
-IsRead InName t = IsName t
+IsRead InName t = ReadName t
 IsRead Minus t = t ≡ 45 ∷ []
 IsRead Zero t = IsZero t
-IsRead Digits t = IsLongInteger t
-IsRead Point t = (w : List ℕ) × (t ≡ w ++ 46 ∷ []) × IsInteger w
-IsRead Fraction t = (w : List ℕ) × (f : List ℕ) × (t ≡ w ++ f) × IsInteger w × IsFraction f
+IsRead Digits t = ReadLongInteger t
+IsRead Point t = (w : List ℕ) × (t ≡ w ++ 46 ∷ []) × ReadInteger w
+IsRead Fraction t = (w : List ℕ) × (f : List ℕ) × (t ≡ w ++ f) × ReadInteger w × ReadFraction f
 IsRead ExponentMark t = (b : List ℕ) × (e : ℕ) × (t ≡ b ++ e ∷ []) × IsBase b × IsTrue (is_exponent_mark e)
 IsRead ExponentSign t = (b : List ℕ) × (e : ℕ) × (s : ℕ) × (t ≡ b ++ e ∷ s ∷ []) × IsBase b
     × IsTrue (is_exponent_mark e) × IsTrue (is_sign s)
-IsRead Exponent t = (b : List ℕ) × (x : List ℕ) × (t ≡ b ++ x) × IsBase b × IsExponent x
+IsRead Exponent t = (b : List ℕ) × (x : List ℕ) × (t ≡ b ++ x) × IsBase b × ReadExponent x
 IsRead Quote t = t ≡ 34 ∷ []
 IsRead EmptyString t = t ≡ 34 ∷ 34 ∷ []
 IsRead InString t = IsOpen [] t
@@ -106,13 +107,13 @@ open_unit u t h x = record {
   made = units_then h.units u h.made x;
 }
 
-pub digits_push : (ds : List ℕ) (c : ℕ) → AreSomeDigits ds → IsTrue (is_digit c) → AreSomeDigits (ds ++ c ∷ [])
+pub digits_push : (ds : List ℕ) (c : ℕ) → ReadDigits ds → IsTrue (is_digit c) → ReadDigits (ds ++ c ∷ [])
 digits_push ds c h p = (omega (arith, length-append ds (c ∷ [])), All_push (λ d. IsTrue (is_digit d)) ds c h.1 p)
 
-pub fraction_push : (f : List ℕ) (c : ℕ) → IsFraction f → IsTrue (is_digit c) → IsFraction (f ++ c ∷ [])
+pub fraction_push : (f : List ℕ) (c : ℕ) → ReadFraction f → IsTrue (is_digit c) → ReadFraction (f ++ c ∷ [])
 fraction_push f c h p = (h.0 ++ c ∷ [], ap (λ (x : List ℕ). x ++ c ∷ []) h.1, digits_push h.0 c h.2 p)
 
-pub exponent_push : (x : List ℕ) (c : ℕ) → IsExponent x → IsTrue (is_digit c) → IsExponent (x ++ c ∷ [])
+pub exponent_push : (x : List ℕ) (c : ℕ) → ReadExponent x → IsTrue (is_digit c) → ReadExponent (x ++ c ∷ [])
 exponent_push x c h p = (
   h.0,
   h.1,
@@ -164,7 +165,7 @@ in_block_read part t c (Some next) h r p e =
     subst (λ (s : State). IsRead s (t ++ c ∷ [])) (same_Some (InBlock next) p e)
     (r.0 ++ c ∷ [], ap (λ (x : List ℕ). x ++ c ∷ []) r.1, block_push part next r.0 c r.2 h)
 
-integer_base : (t : List ℕ) → IsInteger t → IsBase t
+integer_base : (t : List ℕ) → ReadInteger t → IsBase t
 integer_base t h = (t, [], sym (append-nil t), h, inl refl)
 
 -- a mark after an integer part, or after a fraction

@@ -7,6 +7,7 @@ pub use Rattle.graphql_lexical.proofs.EachKind.{other_kind}
 pub use Rattle.graphql_lexical.proofs.Escapes.{counted_within, u_short}
 pub use Rattle.graphql_lexical.proofs.Gaps.{gap_longest}
 pub use Rattle.graphql_lexical.proofs.Joints.{few_tokens}
+pub use Rattle.graphql_lexical.proofs.NumberParts.{float_same, integer_same, name_same}
 pub use Rattle.graphql_lexical.proofs.Places.{place_push, steps_by_characters}
 pub use Rattle.graphql_lexical.proofs.Readings.{answer_finds, same_Ok}
 pub use Rattle.graphql_lexical.proofs.Runs.{Stops, reach_is}

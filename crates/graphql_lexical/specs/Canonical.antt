@@ -1,5 +1,5 @@
 -- The canonical text of tokens.
-use Rattle.std.specs.Prelude.{ℕ, Bool, not, ◌&&◌, ◌||◌, List, [], ◌∷◌, ◌++◌, if◌then◌else◌}
+use Rattle.std.specs.Prelude.{ℕ, Bool, not, ◌&&◌, ◌||◌, List, [], ◌∷◌, ◌++◌, if◌then◌else◌, codes}
 use Rattle.graphql_lexical.specs.Kinds.{Kind, Ellipsis, same_kind, is_fixed}
 use Rattle.graphql_lexical.specs.Cutting.{Lexeme}
 use Rattle.graphql_lexical.specs.Tokens.{written}
@@ -10,7 +10,7 @@ is_parted kind next = not (is_fixed kind) && (not (is_fixed next) || same_kind n
 
 -- a space, or nothing
 abbrev pub space_if : Bool → List ℕ
-space_if parted = if parted then 32 ∷ [] else []
+space_if parted = if parted then codes " " else []
 
 -- what stands between a token of this kind and those behind it
 abbrev pub parting : Kind → List Lexeme → List ℕ

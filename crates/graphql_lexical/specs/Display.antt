@@ -1,15 +1,16 @@
 -- How a token and a lexical error are shown.
-use Rattle.std.specs.Prelude.{ℕ, List, [], ◌∷◌, ◌++◌, codes, if◌then◌else◌, ◌||◌, ◌==◌, flat_map}
+use Rattle.std.specs.Prelude.{ℕ, List, [], ◌∷◌, ◌++◌, codes, if◌then◌else◌, flat_map}
+use Rattle.graphql_lexical.specs.Characters.{is_among}
 use Rattle.graphql_lexical.specs.Kinds.{Kind, Spelling, Names, Strings, BlockStrings, Floats, Ints, Fixed, NoText, spelling, LexicalError, UnknownCharacter, UnexpectedCharacter, UnterminatedString, UnknownCharacterInString, UnknownEscapeSequence, UnexpectedEndOfFile, InvalidNumber}
 use Rattle.graphql_lexical.specs.Tokens.{mark}
 
 -- a text between quotes
 abbrev pub quoted : List ℕ → List ℕ
-quoted cs = 34 ∷ (cs ++ 34 ∷ [])
+quoted cs = codes "\"" ++ (cs ++ codes "\"")
 
 -- a quote and a backslash have a backslash before them
 abbrev pub escape : ℕ → List ℕ
-escape c = if c == 34 || c == 92 then 92 ∷ c ∷ [] else c ∷ []
+escape c = if is_among (codes "\"\\") c then codes "\\" ++ c ∷ [] else c ∷ []
 
 abbrev pub escaped : List ℕ → List ℕ
 escaped cs = flat_map escape cs

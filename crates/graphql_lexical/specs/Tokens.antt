@@ -1,51 +1,60 @@
 -- Which texts are tokens.
-use Rattle.std.specs.Prelude.{◌≡◌, ◌≢◌, ℕ, ◌+◌, ◌-◌, ◌*◌, ◌<◌, ◌⊎◌, List, [], ◌∷◌, ◌++◌, length, take, drop, IsTrue, nat_le, ◌==◌, if◌then◌else◌, Option, Bool, false}
+use Rattle.std.specs.Prelude.{◌≡◌, ◌≢◌, ℕ, ◌+◌, ◌-◌, ◌*◌, ◌<◌, ◌⊎◌, List, [], ◌∷◌, ◌++◌, length, take, drop, IsTrue, nat_le, ◌==◌, if◌then◌else◌, Option, Bool, false, codes}
 use Rattle.std.specs.List.{AllByRecursion, concat, find}
 use Rattle.std.specs.Option.{option_map_or}
-use Rattle.graphql_lexical.specs.Characters.{is_source, is_digit, is_nonzero_digit, is_name_start, is_name_character, is_exponent_mark, is_sign, is_hex, is_plain, is_escape}
+use Rattle.graphql_lexical.specs.Parts.{◌·◌, ◌or◌, Nothing}
+use Rattle.graphql_lexical.specs.Characters.{is_source, is_digit, is_nonzero_digit, is_name_start, is_name_character, is_among, is_hex, is_plain, is_escape}
 use Rattle.graphql_lexical.specs.Kinds.{Kind, all_kinds, Spelling, Names, Strings, BlockStrings, Floats, Ints, Fixed, NoText, spelling, character_of}
 
--- the text is pieces of this kind, one after another
-abbrev pub IsMadeOf : (List ℕ → Type 0) → List ℕ → Type 0
-IsMadeOf IsPiece text = (pieces : List (List ℕ)) × AllByRecursion IsPiece pieces × (text ≡ concat pieces)
+-- P?
+abbrev pub Maybe : (List ℕ → Type 0) → List ℕ → Type 0
+Maybe P = Nothing or P
 
--- ---- names
+-- these characters
+abbrev pub These : List ℕ → List ℕ → Type 0
+These text t = t ≡ text
 
--- a letter or `_`, then letters, digits and `_`
+-- one character that is so
+abbrev pub One : (ℕ → Bool) → List ℕ → Type 0
+One is text = (c : ℕ) × (text ≡ c ∷ []) × IsTrue (is c)
+
+-- any number of characters that are so
+abbrev pub Any : (ℕ → Bool) → List ℕ → Type 0
+Any is = AllByRecursion (λ c. IsTrue (is c))
+
+-- P*
+abbrev pub Pieces : (List ℕ → Type 0) → List ℕ → Type 0
+Pieces P text = (pieces : List (List ℕ)) × AllByRecursion P pieces × (text ≡ concat pieces)
+
+-- ---- names and numbers
+
+-- Name = (letter | "_") (letter | "_" | digit)*
 abbrev pub IsName : List ℕ → Type 0
-IsName text = (c : ℕ) × (cs : List ℕ) × (text ≡ c ∷ cs) × IsTrue (is_name_start c) × AllByRecursion (λ d. IsTrue (is_name_character d)) cs
+IsName = One is_name_start · Any is_name_character
 
--- ---- numbers
-
+-- digit+
 abbrev pub AreDigits : List ℕ → Type 0
-AreDigits = AllByRecursion (λ d. IsTrue (is_digit d))
+AreDigits = One is_digit · Any is_digit
 
--- one or more digits
-abbrev pub AreSomeDigits : List ℕ → Type 0
-AreSomeDigits text = (0 < length text) × AreDigits text
-
--- `0` or `-0`
+-- "0" | "-0"
 abbrev pub IsZero : List ℕ → Type 0
-IsZero text = (text ≡ 48 ∷ []) ⊎ (text ≡ 45 ∷ 48 ∷ [])
+IsZero = These (codes "0") or These (codes "-0")
 
--- an optional `-`, a digit from 1 on, then any digits
-abbrev pub IsLongInteger : List ℕ → Type 0
-IsLongInteger text = (sign : List ℕ) × (d : ℕ) × (ds : List ℕ) × (text ≡ sign ++ d ∷ ds) × ((sign ≡ []) ⊎ (sign ≡ 45 ∷ [])) × IsTrue (is_nonzero_digit d) × AreDigits ds
-
+-- Int = "-"? ("0" | nonzero-digit digit*)
 abbrev pub IsInteger : List ℕ → Type 0
-IsInteger text = IsZero text ⊎ IsLongInteger text
+IsInteger = Maybe (These (codes "-")) · (These (codes "0") or One is_nonzero_digit · Any is_digit)
 
--- `.` and digits
+-- "." digit+
 abbrev pub IsFraction : List ℕ → Type 0
-IsFraction text = (ds : List ℕ) × (text ≡ 46 ∷ ds) × AreSomeDigits ds
+IsFraction = These (codes ".") · AreDigits
 
--- `e` or `E`, an optional sign, and digits
+-- ("e" | "E") ("+" | "-")? digit+
 abbrev pub IsExponent : List ℕ → Type 0
-IsExponent text = (e : ℕ) × (sign : List ℕ) × (ds : List ℕ) × (text ≡ e ∷ sign ++ ds) × IsTrue (is_exponent_mark e) × ((sign ≡ []) ⊎ ((s : ℕ) × (sign ≡ s ∷ []) × IsTrue (is_sign s))) × AreSomeDigits ds
+IsExponent = One (is_among (codes "eE")) · Maybe (One (is_among (codes "+-"))) · AreDigits
 
--- an integer part, then a fraction, an exponent, or both
+-- Float = Int Fraction | Int Fraction? Exponent
 abbrev pub IsFloat : List ℕ → Type 0
-IsFloat text = (whole : List ℕ) × (fraction : List ℕ) × (exponent : List ℕ) × (text ≡ whole ++ (fraction ++ exponent)) × IsInteger whole × ((IsFraction fraction × (exponent ≡ [])) ⊎ (((fraction ≡ []) ⊎ IsFraction fraction) × IsExponent exponent))
+IsFloat = IsInteger · (IsFraction or Maybe IsFraction · IsExponent)
 
 -- ---- strings
 
@@ -67,31 +76,31 @@ pub record IsScalar (h i j k : ℕ) : Type 0 where
 -- what a string is made of
 pub data IsUnit : List ℕ → Type 0 where
   plain : {c : ℕ} → IsTrue (is_plain c) → IsUnit (c ∷ [])
-  escape : {c : ℕ} → IsTrue (is_escape c) → IsUnit (92 ∷ c ∷ [])
-  unicode : {h i j k : ℕ} → IsScalar h i j k → IsUnit (92 ∷ 117 ∷ h ∷ i ∷ j ∷ k ∷ [])
+  escape : {c : ℕ} → IsTrue (is_escape c) → IsUnit (codes "\\" ++ c ∷ [])
+  unicode : {h i j k : ℕ} → IsScalar h i j k → IsUnit (codes "\\u" ++ h ∷ i ∷ j ∷ k ∷ [])
 
 abbrev pub AreUnits : List ℕ → Type 0
-AreUnits = IsMadeOf IsUnit
+AreUnits = Pieces IsUnit
 
 -- a quote, units, a quote
 abbrev pub IsString : List ℕ → Type 0
-IsString text = (units : List ℕ) × (text ≡ 34 ∷ units ++ 34 ∷ []) × AreUnits units
+IsString text = (units : List ℕ) × (text ≡ codes "\"" ++ (units ++ codes "\"")) × AreUnits units
 
 -- ---- block strings
 
 -- three quotes
 abbrev pub mark : List ℕ
-mark = 34 ∷ 34 ∷ 34 ∷ []
+mark = codes "\"\"\""
 
 -- neither three quotes nor a backslash and three quotes begin there
 abbrev pub BeginsNoMark : List ℕ → Type 0
-BeginsNoMark text = (take 3 text ≢ mark) × (take 4 text ≢ 92 ∷ mark)
+BeginsNoMark text = (take 3 text ≢ mark) × (take 4 text ≢ codes "\\" ++ mark)
 
 -- The text is block units, where `after` follows it: a unit is a backslash and three quotes, or one source
 -- character at which neither these nor three quotes begin.
 pub data AreBlockUnits : List ℕ → List ℕ → Type 0 where
   nothing : {after : List ℕ} → AreBlockUnits [] after
-  escaped_mark : {units after : List ℕ} → AreBlockUnits units after → AreBlockUnits (92 ∷ 34 ∷ 34 ∷ 34 ∷ units) after
+  escaped_mark : {units after : List ℕ} → AreBlockUnits units after → AreBlockUnits (codes "\\" ++ (mark ++ units)) after
   character : {c : ℕ} {units after : List ℕ} → IsTrue (is_source c) → BeginsNoMark (c ∷ units ++ after) → AreBlockUnits units after → AreBlockUnits (c ∷ units) after
 
 -- three quotes, block units, three quotes
@@ -125,7 +134,7 @@ punctuator c = find (is_character c) all_kinds
 -- what stands on each side of a text that is spelled so
 abbrev pub quotes : Spelling → List ℕ
 quotes Names = []
-quotes Strings = 34 ∷ []
+quotes Strings = codes "\""
 quotes BlockStrings = mark
 quotes Floats = []
 quotes Ints = []
@@ -154,9 +163,9 @@ written kind text = around (quotes (spelling kind)) text
 abbrev pub Starts : List ℕ → Type 0
 Starts text = (more : List ℕ) × (kind : Kind) × Spells (text ++ more) kind
 
--- the whole text is an Int or a Float
+-- an Int or a Float
 abbrev pub IsNumber : List ℕ → Type 0
-IsNumber text = IsInteger text ⊎ IsFloat text
+IsNumber = IsInteger or IsFloat
 
 -- some Int or Float begins with the text
 abbrev pub StartsNumber : List ℕ → Type 0

@@ -19,7 +19,7 @@ sum_of_ones : {A : Type 0} (xs : List A) → sum_by one xs ≡ length xs
 sum_of_ones [] = search rules
 sum_of_ones (x ∷ xs) = omega (arith, sum_by-cons one x xs, sum_of_ones xs)
 
-some_token : (ts : List Lexeme) (x : TypeRef) → IsType ts x → 1 ≤ length ts
+some_token : (ts : List Lexeme) (x : TypeRef) → IsType x ts → 1 ≤ length ts
 some_token ts (NamedType name) h = says_takes name ts h
 some_token ts (ListType size x) h = front_takes (is_takes BracketOpen) ts h.0
 some_token ts (NonNullType x) h = back_takes (is_takes ExclamationMark) ts h.0
@@ -33,7 +33,7 @@ module _ {C F : Type 0} (S : Scalars C F) where
     others = λ t k span label inner u. omega arith;
   }
 
-  pub few_nodes : (ts : List Lexeme) (ds : List (Definition C)) → IsDocument S ts ds
+  pub few_nodes : (ts : List Lexeme) (ds : List (Definition C)) → IsDocument S ds ts
       → length (document_nodes ds) < length ts
   few_nodes ts ds h =
       let front = document_front S one one ones ts ds h in
@@ -47,7 +47,7 @@ module _ {C F : Type 0} (S : Scalars C F) where
       )
 
   pub few_nodes_of_source : (source : List ℕ) (ts : List Lexeme) (ds : List (Definition C)) → Cut source ts
-      → IsDocument S ts ds
+      → IsDocument S ds ts
       → length (document_nodes ds) ≤ length source
   few_nodes_of_source source ts ds c h =
       let front = document_front S one one ones ts ds h in

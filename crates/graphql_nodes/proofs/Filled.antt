@@ -46,42 +46,42 @@ module _ {C : Type 0} where
 
 -- ---- parts in a row
 
-each_filled : {A : Type 0} (R : List Lexeme → A → Type 0) (P : A → Type 0)
-    → ((ts : List Lexeme) (x : A) → R ts x → P x)
-    → (ts : List Lexeme) (xs : List A) → Each R ts xs → AllByRecursion P xs
+each_filled : {A : Type 0} (R : A → List Lexeme → Type 0) (P : A → Type 0)
+    → ((ts : List Lexeme) (x : A) → R x ts → P x)
+    → (ts : List Lexeme) (xs : List A) → Each R xs ts → AllByRecursion P xs
 each_filled R P f ts [] h = tt
 each_filled R P f ts (x ∷ xs) h = (f h.front x h.first, each_filled R P f h.back xs h.second)
 
-several_filled : {A : Type 0} (R : List Lexeme → A → Type 0) (P : A → Type 0)
-    → ((ts : List Lexeme) (x : A) → R ts x → P x)
-    → (ts : List Lexeme) (xs : List A) → Several R ts xs → AllByRecursion P xs
+several_filled : {A : Type 0} (R : A → List Lexeme → Type 0) (P : A → Type 0)
+    → ((ts : List Lexeme) (x : A) → R x ts → P x)
+    → (ts : List Lexeme) (xs : List A) → Several R xs ts → AllByRecursion P xs
 several_filled R P f ts xs h = each_filled R P f ts xs h.0
 
-listed_filled : {A : Type 0} (opening closing : Kind) (R : List Lexeme → A → Type 0) (P : A → Type 0)
-    → ((ts : List Lexeme) (x : A) → R ts x → P x)
-    → (ts : List Lexeme) (xs : List A) → Listed opening closing R ts xs → AllByRecursion P xs
+listed_filled : {A : Type 0} (opening closing : Kind) (R : A → List Lexeme → Type 0) (P : A → Type 0)
+    → ((ts : List Lexeme) (x : A) → R x ts → P x)
+    → (ts : List Lexeme) (xs : List A) → Listed opening closing R xs ts → AllByRecursion P xs
 listed_filled opening closing R P f ts xs h = several_filled R P f h.second.front xs h.second.first
 
-optional_filled : {A : Type 0} (R : List Lexeme → A → Type 0) (P : A → Type 0)
-    → ((ts : List Lexeme) (x : A) → R ts x → P x)
-    → (ts : List Lexeme) (a : Option A) → Optional R ts a → IfPresent P a
+optional_filled : {A : Type 0} (R : A → List Lexeme → Type 0) (P : A → Type 0)
+    → ((ts : List Lexeme) (x : A) → R x ts → P x)
+    → (ts : List Lexeme) (a : Option A) → Optional R a ts → IfPresent P a
 optional_filled R P f ts None h = tt
 optional_filled R P f ts (Some x) h = f ts x h
 
 module _ {C F : Type 0} (S : Scalars C F) where
-  directives_filled : (ts : List Lexeme) (ds : Directives C) → IsDirectives S ts ds → FilledDirectives ds
+  directives_filled : (ts : List Lexeme) (ds : Directives C) → IsDirectives S ds ts → FilledDirectives ds
   directives_filled ts None h = tt
   directives_filled ts (Some []) h = absurd (h.1 refl)
   directives_filled ts (Some (d ∷ ds)) h = tt
 
-  variable_filled : (ts : List Lexeme) (v : VariableDefinition C) → IsVariableDefinition S ts v → FilledVariable v
+  variable_filled : (ts : List Lexeme) (v : VariableDefinition C) → IsVariableDefinition S v ts → FilledVariable v
   variable_filled ts v h = let rest = h.second.second.second in directives_filled rest.back v.directives rest.second
 
-  variables_filled : (ts : List Lexeme) (v : Variables C) → IsVariables S ts v → FilledVariables v
+  variables_filled : (ts : List Lexeme) (v : Variables C) → IsVariables S v ts → FilledVariables v
   variables_filled ts v h = listed_filled _ _ (IsVariableDefinition S) FilledVariable variable_filled ts v.items h.0
 
   mutual
-    selection_filled : (ts : List Lexeme) (s : Selection C) → IsSelection S ts s → FilledSelection s
+    selection_filled : (ts : List Lexeme) (s : Selection C) → IsSelection S s ts → FilledSelection s
     selection_filled ts (tree.Field alias name arguments directives ss p) h =
         let body = h.0.second.second.second in
         (directives_filled body.front directives body.first, optional_set_filled body.back ss body.second)
@@ -91,24 +91,24 @@ module _ {C F : Type 0} (S : Scalars C F) where
         let body = h.0.second.second in
         (directives_filled body.front directives body.first, set_filled body.back ss body.second)
 
-    optional_set_filled : (ts : List Lexeme) (ss : OptionalSelections C) → IsOptionalSelectionSet S ts ss
+    optional_set_filled : (ts : List Lexeme) (ss : OptionalSelections C) → IsOptionalSelectionSet S ss ts
         → FilledOptional ss
     optional_set_filled ts absent h = tt
     optional_set_filled ts (present no_selections) h = h
     optional_set_filled ts (present (selection s ss)) h = set_filled ts (selection s ss) h
 
-    set_filled : (ts : List Lexeme) (ss : Selections C) → IsSelectionSet S ts ss → FilledSelections ss
+    set_filled : (ts : List Lexeme) (ss : Selections C) → IsSelectionSet S ss ts → FilledSelections ss
     set_filled ts no_selections h = absurd h
     set_filled ts (selection s ss) h =
         let inner = h.second in let others = inner.second in
         (selection_filled inner.front s inner.first, selections_filled others.front ss others.first)
 
-    selections_filled : (ts : List Lexeme) (ss : Selections C) → AreSelections S ts ss → FilledSelections ss
+    selections_filled : (ts : List Lexeme) (ss : Selections C) → AreSelections S ss ts → FilledSelections ss
     selections_filled ts no_selections h = tt
     selections_filled ts (selection s ss) h =
         (selection_filled h.front s h.first, selections_filled h.back ss h.second)
 
-  definition_filled : (ts : List Lexeme) (d : Definition C) → IsDefinition S ts d → FilledDefinition d
+  definition_filled : (ts : List Lexeme) (d : Definition C) → IsDefinition S d ts → FilledDefinition d
   definition_filled ts (tree.Operation type name variables directives ss p) (q, inl (h, t, n, v, d)) =
       (subst (IfPresent FilledVariables) (sym v) tt, subst FilledDirectives (sym d) tt, set_filled ts ss h)
   definition_filled ts (tree.Operation type name variables directives ss p) (q, inr h) =
@@ -121,7 +121,7 @@ module _ {C F : Type 0} (S : Scalars C F) where
       let body = h.0.second.second.second in
       (directives_filled body.front directives body.first, set_filled body.back ss body.second)
 
-  pub document_filled : (ts : List Lexeme) (ds : List (Definition C)) → IsDocument S ts ds
+  pub document_filled : (ts : List Lexeme) (ds : List (Definition C)) → IsDocument S ds ts
       → AllByRecursion FilledDefinition ds
   document_filled ts ds h =
       several_filled (IsDefinition S) FilledDefinition definition_filled h.front ds h.first

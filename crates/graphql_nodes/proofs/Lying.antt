@@ -11,7 +11,8 @@ use Rattle.graphql_lexical.proofs.Public.{steps_by_characters, slices_in_order}
 use Rattle.graphql_grammar.specs.Tokens.{Text, Word, last_of, span_of}
 use Rattle.graphql_grammar.specs.Tree as tree
 use Rattle.graphql_grammar.specs.Tree.{Scalars, TypeRef, Value, Items, no_items, item, ObjectFields, no_fields, object_field, Argument, Arguments, Directive, Directives, VariableDefinition, Variables, Selection, Selections, no_selections, selection, OptionalSelections, absent, present, Definition}
-use Rattle.graphql_grammar.specs.Grammar.{IsToken, Is, Sequence, IsValue, AreItems, AreFields, Each, Optional, Several, Listed, IsType, IsArgument, IsArguments, IsDirective, IsDirectives, IsDefault, IsVariableDefinition, IsVariables, IsAlias, IsSelection, IsOptionalSelectionSet, IsSelectionSet, AreSelections, IsDefinition, IsDocument}
+use Rattle.graphql_lexical.specs.Parts.{Sequence}
+use Rattle.graphql_grammar.specs.Grammar.{Token, Is, IsValue, AreItems, AreFields, Each, Optional, Several, Listed, IsType, IsArgument, IsArguments, IsDirective, IsDirectives, IsDefault, IsVariableDefinition, IsVariables, IsAlias, IsSelection, IsOptionalSelectionSet, IsSelectionSet, AreSelections, IsDefinition, IsDocument}
 use Rattle.graphql_nodes.specs.declared.kind.NodeKind.{NodeKind}
 use Rattle.graphql_nodes.specs.declared.kind.NodeKind.TheVariants as kind
 use Rattle.graphql_nodes.specs.Nodes.{Node, Label, Unnamed, Typed, over, scalar_node, if_present, each, value_nodes, items_nodes, fields_nodes, argument_nodes, arguments_nodes, directive_nodes, directives_nodes, variable_nodes, variables_nodes, alias_nodes, selection_nodes, optional_nodes, selections_nodes, definition_nodes, document_nodes}
@@ -80,7 +81,7 @@ module _ (source : List ℕ) where
     whole_lies : span ≡ span_of ts → Lie ts → LiesIn source span
     whole_lies e h = subst (LiesIn source) (sym e) (span_lies ts h)
 
-    token_lies : (kind : Kind) (text : Text) → IsToken ts kind text span → Lie ts → LiesIn source span
+    token_lies : (kind : Kind) (text : Text) → Token kind text span ts → Lie ts → LiesIn source span
     token_lies kind text e h = (subst Lie e h).0
 
   module _ {P Q : List Lexeme → Type 0} (ts : List Lexeme) (h : Sequence P Q ts) (lie : Lie ts) where
@@ -127,45 +128,45 @@ module _ {C F : Type 0} (S : Scalars C F) (source : List ℕ) where
       → ((us : List Lexeme) → P us → Within us ns) → Sequence (Is opening) (Sequence P (Is closing)) ts → Within ts ns
   bracketed opening closing ts ns f h = behind ts h ns (λ q. before h.back q ns (f q.front))
 
-  each_lies : {A : Type 0} (R : List Lexeme → A → Type 0) (nodes : A → List (Node C))
-      → ((ts : List Lexeme) (x : A) → R ts x → Within ts (nodes x))
-      → (ts : List Lexeme) (xs : List A) → Each R ts xs → Within ts (each nodes xs)
+  each_lies : {A : Type 0} (R : A → List Lexeme → Type 0) (nodes : A → List (Node C))
+      → ((ts : List Lexeme) (x : A) → R x ts → Within ts (nodes x))
+      → (ts : List Lexeme) (xs : List A) → Each R xs ts → Within ts (each nodes xs)
   unfolding each
   each_lies R nodes f ts [] h = none ts
   each_lies R nodes f ts (x ∷ xs) h =
       joined ts h (nodes x) (each nodes xs) (f h.front x) (each_lies R nodes f h.back xs)
 
-  several_lie : {A : Type 0} (R : List Lexeme → A → Type 0) (nodes : A → List (Node C))
-      → ((ts : List Lexeme) (x : A) → R ts x → Within ts (nodes x))
-      → (ts : List Lexeme) (xs : List A) → Several R ts xs → Within ts (each nodes xs)
+  several_lie : {A : Type 0} (R : A → List Lexeme → Type 0) (nodes : A → List (Node C))
+      → ((ts : List Lexeme) (x : A) → R x ts → Within ts (nodes x))
+      → (ts : List Lexeme) (xs : List A) → Several R xs ts → Within ts (each nodes xs)
   several_lie R nodes f ts xs h = each_lies R nodes f ts xs h.0
 
-  optional_lies : {A : Type 0} (R : List Lexeme → A → Type 0) (nodes : A → List (Node C))
-      → ((ts : List Lexeme) (x : A) → R ts x → Within ts (nodes x))
-      → (ts : List Lexeme) (a : Option A) → Optional R ts a → Within ts (if_present nodes a)
+  optional_lies : {A : Type 0} (R : A → List Lexeme → Type 0) (nodes : A → List (Node C))
+      → ((ts : List Lexeme) (x : A) → R x ts → Within ts (nodes x))
+      → (ts : List Lexeme) (a : Option A) → Optional R a ts → Within ts (if_present nodes a)
   optional_lies R nodes f ts None h = none ts
   optional_lies R nodes f ts (Some x) h = f ts x h
 
-  listed_lie : {A : Type 0} (opening closing : Kind) (R : List Lexeme → A → Type 0) (nodes : A → List (Node C))
-      → ((ts : List Lexeme) (x : A) → R ts x → Within ts (nodes x))
-      → (ts : List Lexeme) (xs : List A) → Listed opening closing R ts xs → Within ts (each nodes xs)
+  listed_lie : {A : Type 0} (opening closing : Kind) (R : A → List Lexeme → Type 0) (nodes : A → List (Node C))
+      → ((ts : List Lexeme) (x : A) → R x ts → Within ts (nodes x))
+      → (ts : List Lexeme) (xs : List A) → Listed opening closing R xs ts → Within ts (each nodes xs)
   listed_lie opening closing R nodes f ts xs h =
       bracketed opening closing ts (each nodes xs) (λ us. several_lie R nodes f us xs) h
 
   -- ---- values
 
-  scalar_lies : (ts : List Lexeme) (k : Kind) (w : Text) (c : C) (p : Span) → IsToken ts k w p
+  scalar_lies : (ts : List Lexeme) (k : Kind) (w : Text) (c : C) (p : Span) → Token k w p ts
       → Within ts (scalar_node c p ∷ [])
   scalar_lies ts k w c p h = record { lie = λ l. (token_lies source ts p k w h l, tt) }
 
-  token_node : (ts : List Lexeme) (k : Kind) (w : Text) (n : NodeKind) (p : Span) (l : Label) → IsToken ts k w p
+  token_node : (ts : List Lexeme) (k : Kind) (w : Text) (n : NodeKind) (p : Span) (l : Label) → Token k w p ts
       → Within ts (over n p l [])
   token_node ts k w n p l h = above ts n p l [] (token_lies source ts p k w h) (none ts)
 
   mutual
     unfolding value_nodes
 
-    value_lies : (free : Bool) (ts : List Lexeme) (v : Value C) → IsValue S free ts v → Within ts (value_nodes v)
+    value_lies : (free : Bool) (ts : List Lexeme) (v : Value C) → IsValue S free v ts → Within ts (value_nodes v)
     value_lies free ts (tree.Null p) h = token_node ts _ _ _ p _ h
     value_lies free ts (tree.Scalar c p) (inl (k, w, h, s, e)) = scalar_lies ts k w c p h
     value_lies free ts (tree.Scalar c p) (inr (inl h)) = scalar_lies ts _ _ c p h.0
@@ -177,12 +178,12 @@ module _ {C F : Type 0} (S : Scalars C F) (source : List ℕ) where
     value_lies free ts (tree.Object fs p) h = above ts _ p _ (fields_nodes fs) (whole_lies source ts p h.1)
         (bracketed _ _ ts (fields_nodes fs) (λ us. fields_lie free us fs) h.0)
 
-    items_lie : (free : Bool) (ts : List Lexeme) (vs : Items C) → AreItems S free ts vs → Within ts (items_nodes vs)
+    items_lie : (free : Bool) (ts : List Lexeme) (vs : Items C) → AreItems S free vs ts → Within ts (items_nodes vs)
     items_lie free ts no_items h = none ts
     items_lie free ts (item v vs) h =
         joined ts h (value_nodes v) (items_nodes vs) (value_lies free h.front v) (items_lie free h.back vs)
 
-    fields_lie : (free : Bool) (ts : List Lexeme) (fs : ObjectFields C) → AreFields S free ts fs
+    fields_lie : (free : Bool) (ts : List Lexeme) (fs : ObjectFields C) → AreFields S free fs ts
         → Within ts (fields_nodes fs)
     fields_lie free ts no_fields h = none ts
     fields_lie free ts (object_field w p v fs) h =
@@ -192,36 +193,36 @@ module _ {C F : Type 0} (S : Scalars C F) (source : List ℕ) where
 
   -- ---- arguments and directives
 
-  argument_lies : (ts : List Lexeme) (a : Argument C) → IsArgument S ts a → Within ts (argument_nodes a)
+  argument_lies : (ts : List Lexeme) (a : Argument C) → IsArgument S a ts → Within ts (argument_nodes a)
   unfolding argument_nodes
   argument_lies ts a h =
       above ts _ a.name.span _ (value_nodes a.value) (λ l. token_lies source h.front a.name.span _ a.name.text h.first
       (front_lies source ts h l)) (behind ts h _ (λ q. behind h.back q _ (value_lies true q.back a.value)))
 
-  arguments_lie : (ts : List Lexeme) (a : Arguments C) → IsArguments S ts a → Within ts (arguments_nodes a)
+  arguments_lie : (ts : List Lexeme) (a : Arguments C) → IsArguments S a ts → Within ts (arguments_nodes a)
   unfolding arguments_nodes
   arguments_lie ts a h = above ts _ a.span _ _ (whole_lies source ts a.span h.1)
       (listed_lie _ _ (IsArgument S) argument_nodes argument_lies ts a.items h.0)
 
-  directive_lies : (ts : List Lexeme) (d : Directive C) → IsDirective S ts d → Within ts (directive_nodes d)
+  directive_lies : (ts : List Lexeme) (d : Directive C) → IsDirective S d ts → Within ts (directive_nodes d)
   unfolding directive_nodes
   directive_lies ts d h = above ts _ d.span _ _ (whole_lies source ts d.span h.1) (behind ts h.0 _ (λ q. behind h.0.back q _
       (optional_lies (IsArguments S) arguments_nodes arguments_lie q.back d.arguments)))
 
-  directives_lie : (ts : List Lexeme) (ds : Directives C) → IsDirectives S ts ds → Within ts (directives_nodes ds)
+  directives_lie : (ts : List Lexeme) (ds : Directives C) → IsDirectives S ds ts → Within ts (directives_nodes ds)
   unfolding directives_nodes
   directives_lie = optional_lies (Several (IsDirective S)) (each directive_nodes)
       (several_lie (IsDirective S) directive_nodes directive_lies)
 
   -- ---- variable definitions
 
-  default_lies : (ts : List Lexeme) (v : Value C) → IsDefault S ts v → Within ts (value_nodes v)
+  default_lies : (ts : List Lexeme) (v : Value C) → IsDefault S v ts → Within ts (value_nodes v)
   default_lies ts v h = behind ts h (value_nodes v) (value_lies false h.back v)
 
   type_lies : (ts : List Lexeme) (type : TypeRef) (p : Span) → p ≡ span_of ts → Within ts (over kind.Type p (Typed type) [])
   type_lies ts type p e = above ts kind.Type p (Typed type) [] (whole_lies source ts p e) (none ts)
 
-  variable_lies : (ts : List Lexeme) (v : VariableDefinition C) → IsVariableDefinition S ts v
+  variable_lies : (ts : List Lexeme) (v : VariableDefinition C) → IsVariableDefinition S v ts
       → Within ts (variable_nodes v)
   unfolding variable_nodes
   variable_lies ts v h =
@@ -235,14 +236,14 @@ module _ {C F : Type 0} (S : Scalars C F) (source : List ℕ) where
       (optional_lies (IsDefault S) value_nodes default_lies rest.front v.default)
       (directives_lie rest.back v.directives)))))
 
-  variables_lie : (ts : List Lexeme) (v : Variables C) → IsVariables S ts v → Within ts (variables_nodes v)
+  variables_lie : (ts : List Lexeme) (v : Variables C) → IsVariables S v ts → Within ts (variables_nodes v)
   unfolding variables_nodes
   variables_lie ts v h = above ts _ v.span _ _ (whole_lies source ts v.span h.1)
       (listed_lie _ _ (IsVariableDefinition S) variable_nodes variable_lies ts v.items h.0)
 
   -- ---- selections
 
-  alias_lies : (ts : List Lexeme) (w : Word) → IsAlias S ts w → Within ts (alias_nodes w)
+  alias_lies : (ts : List Lexeme) (w : Word) → IsAlias S w ts → Within ts (alias_nodes w)
   unfolding alias_nodes
   alias_lies ts w h = above ts _ w.span _ [] (λ l. token_lies source h.front w.span _ w.text h.first
       (front_lies source ts h l)) (none ts)
@@ -250,7 +251,7 @@ module _ {C F : Type 0} (S : Scalars C F) (source : List ℕ) where
   mutual
     unfolding selection_nodes
 
-    selection_lies : (ts : List Lexeme) (s : Selection C) → IsSelection S ts s → Within ts (selection_nodes s)
+    selection_lies : (ts : List Lexeme) (s : Selection C) → IsSelection S s ts → Within ts (selection_nodes s)
     selection_lies ts (tree.Field alias name arguments ds ss p) h = above ts _ p _ _ (whole_lies source ts p h.1)
         (joined ts h.0 _ _ (optional_lies (IsAlias S) alias_nodes alias_lies h.0.front alias)
         (λ named. behind h.0.back named _ (λ q. joined named.back q _ _
@@ -262,17 +263,17 @@ module _ {C F : Type 0} (S : Scalars C F) (source : List ℕ) where
         (behind ts h.0 _ (λ q. behind h.0.back q _
         (λ r. joined q.back r _ _ (directives_lie r.front ds) (set_lies r.back ss))))
 
-    optional_set_lies : (ts : List Lexeme) (ss : OptionalSelections C) → IsOptionalSelectionSet S ts ss
+    optional_set_lies : (ts : List Lexeme) (ss : OptionalSelections C) → IsOptionalSelectionSet S ss ts
         → Within ts (optional_nodes ss)
     optional_set_lies ts absent h = none ts
     optional_set_lies ts (present ss) h = set_lies ts ss h
 
-    set_lies : (ts : List Lexeme) (ss : Selections C) → IsSelectionSet S ts ss → Within ts (selections_nodes ss)
+    set_lies : (ts : List Lexeme) (ss : Selections C) → IsSelectionSet S ss ts → Within ts (selections_nodes ss)
     set_lies ts no_selections h = absurd h
     set_lies ts (selection s ss) h = behind ts h _ (λ q. joined h.back q _ _ (selection_lies q.front s)
         (λ r. before q.back r _ (selections_lie r.front ss)))
 
-    selections_lie : (ts : List Lexeme) (ss : Selections C) → AreSelections S ts ss
+    selections_lie : (ts : List Lexeme) (ss : Selections C) → AreSelections S ss ts
         → Within ts (selections_nodes ss)
     selections_lie ts no_selections h = none ts
     selections_lie ts (selection s ss) h =
@@ -280,7 +281,7 @@ module _ {C F : Type 0} (S : Scalars C F) (source : List ℕ) where
 
   -- ---- documents
 
-  definition_lies : (ts : List Lexeme) (d : Definition C) → IsDefinition S ts d → Within ts (definition_nodes d)
+  definition_lies : (ts : List Lexeme) (d : Definition C) → IsDefinition S d ts → Within ts (definition_nodes d)
   unfolding definition_nodes directives_nodes
   definition_lies ts (tree.Operation type name variables ds ss p) (e, inl (h, t, n, v, d)) =
       subst (λ vs. Within ts (definition_nodes (tree.Operation type name vs ds ss p))) (sym v)
@@ -295,7 +296,7 @@ module _ {C F : Type 0} (S : Scalars C F) (source : List ℕ) where
       (λ typed. behind named.back typed _
       (λ body. joined typed.back body _ _ (directives_lie body.front ds) (set_lies body.back ss)))))
 
-  pub nodes_lie : (ts : List Lexeme) (ds : List (Definition C)) → Cut source ts → IsDocument S ts ds
+  pub nodes_lie : (ts : List Lexeme) (ds : List (Definition C)) → Cut source ts → IsDocument S ds ts
       → NodesLieIn source (document_nodes ds)
   unfolding document_nodes
   nodes_lie ts ds c h =

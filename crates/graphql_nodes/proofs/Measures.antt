@@ -10,7 +10,8 @@ use Rattle.graphql_lexical.specs.Cutting.{Lexeme}
 use Rattle.graphql_grammar.specs.Tokens.{Text, Word}
 use Rattle.graphql_grammar.specs.Tree as tree
 use Rattle.graphql_grammar.specs.Tree.{Scalars, TypeRef, Value, Items, no_items, item, ObjectFields, no_fields, object_field, Argument, Arguments, Directive, Directives, VariableDefinition, Variables, Selection, Selections, no_selections, selection, OptionalSelections, absent, present, Definition}
-use Rattle.graphql_grammar.specs.Grammar.{IsToken, Is, IsWord, Says, IsScalarKind, Sequence, IsValue, AreItems, AreFields, Each, Optional, Several, Listed, IsType, IsArgument, IsArguments, IsDirective, IsDirectives, IsDefault, IsVariableDefinition, IsVariables, IsAlias, IsSelection, IsOptionalSelectionSet, IsSelectionSet, AreSelections, IsDefinition, IsDocument}
+use Rattle.graphql_lexical.specs.Parts.{Sequence}
+use Rattle.graphql_grammar.specs.Grammar.{Token, Is, IsName, Says, IsScalarKind, IsValue, AreItems, AreFields, Each, Optional, Several, Listed, IsType, IsArgument, IsArguments, IsDirective, IsDirectives, IsDefault, IsVariableDefinition, IsVariables, IsAlias, IsSelection, IsOptionalSelectionSet, IsSelectionSet, AreSelections, IsDefinition, IsDocument}
 use Rattle.graphql_grammar.proofs.Public.{token_in, name_in, row_front, row_right}
 use Rattle.graphql_nodes.specs.declared.kind.NodeKind.{NodeKind}
 use Rattle.graphql_nodes.specs.declared.kind.NodeKind.TheVariants as kind
@@ -29,7 +30,7 @@ untyped_name (Some word) = tt
 
 -- A node measures at most what the tokens weigh that are its own: of a type all of its tokens, of each other node one.
 pub record Weighs {C F : Type 0} (S : Scalars C F) (measure : Node C → ℕ) (weight : Lexeme → ℕ) : Type 0 where
-  pub types : (ts : List Lexeme) (type : TypeRef) (span : Span) → IsType ts type
+  pub types : (ts : List Lexeme) (type : TypeRef) (span : Span) → IsType type ts
       → measure (node_over kind.Type span (Typed type) []) ≤ sum_by weight ts
   pub scalars : (t : Lexeme) (content : C) (span : Span) → IsScalarKind t.kind → S.read t.kind t.text ≡ Ok content
       → measure (scalar_node content span) ≤ weight t
@@ -81,7 +82,7 @@ module _ {C F : Type 0} (S : Scalars C F) (measure : Node C → ℕ) (weight : L
   says_one : (text : Text) → AreOne (Says text)
   says_one text ts h = (name_in text ts h, h.1)
 
-  word_one : (w : Word) → AreOne (λ ts. IsWord ts w)
+  word_one : (w : Word) → AreOne (λ ts. IsName w ts)
   word_one w ts h = (record { kind = Name; text = w.text; span = w.span }, h)
 
   one_token : (ts : List Lexeme) (t : Lexeme) (n : NodeKind) (p : Span) (l : Label) → IsUntyped l → ts ≡ t ∷ []
@@ -133,28 +134,28 @@ module _ {C F : Type 0} (S : Scalars C F) (measure : Node C → ℕ) (weight : L
         );
       })
 
-  each_within : {A : Type 0} (R : List Lexeme → A → Type 0) (nodes : A → List (Node C))
-      → ((ts : List Lexeme) (x : A) → R ts x → Within ts (nodes x))
-      → (ts : List Lexeme) (xs : List A) → Each R ts xs → Within ts (each nodes xs)
+  each_within : {A : Type 0} (R : A → List Lexeme → Type 0) (nodes : A → List (Node C))
+      → ((ts : List Lexeme) (x : A) → R x ts → Within ts (nodes x))
+      → (ts : List Lexeme) (xs : List A) → Each R xs ts → Within ts (each nodes xs)
   unfolding each
   each_within R nodes f ts [] h = subst (λ ts. Within ts []) (sym h) nothing
   each_within R nodes f ts (x ∷ xs) h =
       joined ts h (nodes x) (each nodes xs) (f h.front x) (each_within R nodes f h.back xs)
 
-  several_within : {A : Type 0} (R : List Lexeme → A → Type 0) (nodes : A → List (Node C))
-      → ((ts : List Lexeme) (x : A) → R ts x → Within ts (nodes x))
-      → (ts : List Lexeme) (xs : List A) → Several R ts xs → Within ts (each nodes xs)
+  several_within : {A : Type 0} (R : A → List Lexeme → Type 0) (nodes : A → List (Node C))
+      → ((ts : List Lexeme) (x : A) → R x ts → Within ts (nodes x))
+      → (ts : List Lexeme) (xs : List A) → Several R xs ts → Within ts (each nodes xs)
   several_within R nodes f ts xs h = each_within R nodes f ts xs h.0
 
-  optional_within : {A : Type 0} (R : List Lexeme → A → Type 0) (nodes : A → List (Node C))
-      → ((ts : List Lexeme) (x : A) → R ts x → Within ts (nodes x))
-      → (ts : List Lexeme) (a : Option A) → Optional R ts a → Within ts (if_present nodes a)
+  optional_within : {A : Type 0} (R : A → List Lexeme → Type 0) (nodes : A → List (Node C))
+      → ((ts : List Lexeme) (x : A) → R x ts → Within ts (nodes x))
+      → (ts : List Lexeme) (a : Option A) → Optional R a ts → Within ts (if_present nodes a)
   optional_within R nodes f ts None h = subst (λ ts. Within ts []) (sym h) nothing
   optional_within R nodes f ts (Some x) h = f ts x h
 
-  listed_within : {A : Type 0} (opening closing : Kind) (R : List Lexeme → A → Type 0) (nodes : A → List (Node C))
-      → ((ts : List Lexeme) (x : A) → R ts x → Within ts (nodes x))
-      → (k : NodeKind) (p : Span) (ts : List Lexeme) (xs : List A) → Listed opening closing R ts xs
+  listed_within : {A : Type 0} (opening closing : Kind) (R : A → List Lexeme → Type 0) (nodes : A → List (Node C))
+      → ((ts : List Lexeme) (x : A) → R x ts → Within ts (nodes x))
+      → (k : NodeKind) (p : Span) (ts : List Lexeme) (xs : List A) → Listed opening closing R xs ts
       → Within ts (over k p Unnamed (each nodes xs))
   listed_within opening closing R nodes f k p ts xs h =
       bracketed opening closing ts k p _ (λ us. several_within R nodes f us xs) h
@@ -172,7 +173,7 @@ module _ {C F : Type 0} (S : Scalars C F) (measure : Node C → ℕ) (weight : L
   truth_within ts t b c p h e = subst (λ ts. Within ts (scalar_node c p ∷ [])) (sym h)
       (scalar_within t c p (subst (λ c. measure (scalar_node c p) ≤ weight t) (sym e) (weighs.truths t b p)))
 
-  read_within : (ts : List Lexeme) (k : Kind) (w : Text) (c : C) (p : Span) → IsToken ts k w p → IsScalarKind k
+  read_within : (ts : List Lexeme) (k : Kind) (w : Text) (c : C) (p : Span) → Token k w p ts → IsScalarKind k
       → S.read k w ≡ Ok c
       → Within ts (scalar_node c p ∷ [])
   read_within ts k w c p h s e = let t : Lexeme = record { kind = k; text = w; span = p } in
@@ -181,7 +182,7 @@ module _ {C F : Type 0} (S : Scalars C F) (measure : Node C → ℕ) (weight : L
   mutual
     unfolding value_nodes
 
-    value_within : (free : Bool) (ts : List Lexeme) (v : Value C) → IsValue S free ts v → Within ts (value_nodes v)
+    value_within : (free : Bool) (ts : List Lexeme) (v : Value C) → IsValue S free v ts → Within ts (value_nodes v)
     value_within free ts (tree.Null p) h = one_token ts _ _ p _ tt h
     value_within free ts (tree.Scalar c p) (inl (k, w, h, s, e)) = read_within ts k w c p h s e
     value_within free ts (tree.Scalar c p) (inr (inl h)) = truth_within ts _ true c p h.0 h.1
@@ -194,12 +195,12 @@ module _ {C F : Type 0} (S : Scalars C F) (measure : Node C → ℕ) (weight : L
     value_within free ts (tree.Object fs p) h =
         bracketed _ _ ts _ p (fields_nodes fs) (λ us. fields_within free us fs) h.0
 
-    items_within : (free : Bool) (ts : List Lexeme) (vs : Items C) → AreItems S free ts vs → Within ts (items_nodes vs)
+    items_within : (free : Bool) (ts : List Lexeme) (vs : Items C) → AreItems S free vs ts → Within ts (items_nodes vs)
     items_within free ts no_items h = none ts
     items_within free ts (item v vs) h =
         joined ts h (value_nodes v) (items_nodes vs) (value_within free h.front v) (items_within free h.back vs)
 
-    fields_within : (free : Bool) (ts : List Lexeme) (fs : ObjectFields C) → AreFields S free ts fs
+    fields_within : (free : Bool) (ts : List Lexeme) (fs : ObjectFields C) → AreFields S free fs ts
         → Within ts (fields_nodes fs)
     fields_within free ts no_fields h = none ts
     fields_within free ts (object_field w p v fs) h =
@@ -209,28 +210,28 @@ module _ {C F : Type 0} (S : Scalars C F) (measure : Node C → ℕ) (weight : L
 
   -- ---- arguments and directives
 
-  argument_within : (ts : List Lexeme) (a : Argument C) → IsArgument S ts a → Within ts (argument_nodes a)
+  argument_within : (ts : List Lexeme) (a : Argument C) → IsArgument S a ts → Within ts (argument_nodes a)
   unfolding argument_nodes
   argument_within ts a h = headed ts h (word_one a.name) _ _ _ (value_nodes a.value) tt
       (λ q. behind h.back q (value_nodes a.value) (value_within true q.back a.value))
 
-  arguments_within : (ts : List Lexeme) (a : Arguments C) → IsArguments S ts a → Within ts (arguments_nodes a)
+  arguments_within : (ts : List Lexeme) (a : Arguments C) → IsArguments S a ts → Within ts (arguments_nodes a)
   unfolding arguments_nodes
   arguments_within ts a h = listed_within _ _ (IsArgument S) argument_nodes argument_within _ _ ts a.items h.0
 
-  directive_within : (ts : List Lexeme) (d : Directive C) → IsDirective S ts d → Within ts (directive_nodes d)
+  directive_within : (ts : List Lexeme) (d : Directive C) → IsDirective S d ts → Within ts (directive_nodes d)
   unfolding directive_nodes
   directive_within ts d h = headed ts h.0 (is_one At) _ _ _ _ tt (λ q. behind h.0.back q _
       (optional_within (IsArguments S) arguments_nodes arguments_within q.back d.arguments))
 
-  directives_within : (ts : List Lexeme) (ds : Directives C) → IsDirectives S ts ds → Within ts (directives_nodes ds)
+  directives_within : (ts : List Lexeme) (ds : Directives C) → IsDirectives S ds ts → Within ts (directives_nodes ds)
   unfolding directives_nodes
   directives_within = optional_within (Several (IsDirective S)) (each directive_nodes)
       (several_within (IsDirective S) directive_nodes directive_within)
 
   -- ---- variable definitions
 
-  type_within : (ts : List Lexeme) (type : TypeRef) (p : Span) → IsType ts type
+  type_within : (ts : List Lexeme) (type : TypeRef) (p : Span) → IsType type ts
       → Within ts (over kind.Type p (Typed type) [])
   type_within ts type p h = record {
     le = omega (
@@ -242,10 +243,10 @@ module _ {C F : Type 0} (S : Scalars C F) (measure : Node C → ℕ) (weight : L
     );
   }
 
-  default_within : (ts : List Lexeme) (v : Value C) → IsDefault S ts v → Within ts (value_nodes v)
+  default_within : (ts : List Lexeme) (v : Value C) → IsDefault S v ts → Within ts (value_nodes v)
   default_within ts v h = behind ts h (value_nodes v) (value_within false h.back v)
 
-  variable_within : (ts : List Lexeme) (v : VariableDefinition C) → IsVariableDefinition S ts v
+  variable_within : (ts : List Lexeme) (v : VariableDefinition C) → IsVariableDefinition S v ts
       → Within ts (variable_nodes v)
   unfolding variable_nodes
   variable_within ts v h =
@@ -256,14 +257,14 @@ module _ {C F : Type 0} (S : Scalars C F) (measure : Node C → ℕ) (weight : L
       (optional_within (IsDefault S) value_nodes default_within rest.front v.default)
       (directives_within rest.back v.directives)))))
 
-  variables_within : (ts : List Lexeme) (v : Variables C) → IsVariables S ts v → Within ts (variables_nodes v)
+  variables_within : (ts : List Lexeme) (v : Variables C) → IsVariables S v ts → Within ts (variables_nodes v)
   unfolding variables_nodes
   variables_within ts v h =
       listed_within _ _ (IsVariableDefinition S) variable_nodes variable_within _ _ ts v.items h.0
 
   -- ---- selections
 
-  alias_within : (ts : List Lexeme) (w : Word) → IsAlias S ts w → Within ts (alias_nodes w)
+  alias_within : (ts : List Lexeme) (w : Word) → IsAlias S w ts → Within ts (alias_nodes w)
   unfolding alias_nodes
   alias_within ts w h = headed ts h (word_one w) _ _ _ [] tt (λ q. none h.back)
 
@@ -294,7 +295,7 @@ module _ {C F : Type 0} (S : Scalars C F) (measure : Node C → ℕ) (weight : L
   mutual
     unfolding selection_nodes
 
-    selection_within : (ts : List Lexeme) (s : Selection C) → IsSelection S ts s → Within ts (selection_nodes s)
+    selection_within : (ts : List Lexeme) (s : Selection C) → IsSelection S s ts → Within ts (selection_nodes s)
     selection_within ts (tree.Field alias name arguments ds ss p) h = field_within ts h.0 (word_one name) _ _ _ _ _ tt
         (optional_within (IsAlias S) alias_nodes alias_within h.0.front alias)
         (λ q. joined h.0.second.back q _ _
@@ -306,17 +307,17 @@ module _ {C F : Type 0} (S : Scalars C F) (measure : Node C → ℕ) (weight : L
         headed ts h.0 (is_one Ellipsis) _ _ _ _ (untyped_name condition) (λ q. behind h.0.back q _
         (λ r. joined q.back r _ _ (directives_within r.front ds) (set_within r.back ss)))
 
-    optional_set_within : (ts : List Lexeme) (ss : OptionalSelections C) → IsOptionalSelectionSet S ts ss
+    optional_set_within : (ts : List Lexeme) (ss : OptionalSelections C) → IsOptionalSelectionSet S ss ts
         → Within ts (optional_nodes ss)
     optional_set_within ts absent h = none ts
     optional_set_within ts (present ss) h = set_within ts ss h
 
-    set_within : (ts : List Lexeme) (ss : Selections C) → IsSelectionSet S ts ss → Within ts (selections_nodes ss)
+    set_within : (ts : List Lexeme) (ss : Selections C) → IsSelectionSet S ss ts → Within ts (selections_nodes ss)
     set_within ts no_selections h = absurd h
     set_within ts (selection s ss) h = behind ts h _ (λ q. joined h.back q _ _ (selection_within q.front s)
         (λ r. before q.back r _ (selections_within r.front ss)))
 
-    selections_within : (ts : List Lexeme) (ss : Selections C) → AreSelections S ts ss
+    selections_within : (ts : List Lexeme) (ss : Selections C) → AreSelections S ss ts
         → Within ts (selections_nodes ss)
     selections_within ts no_selections h = none ts
     selections_within ts (selection s ss) h =
@@ -326,14 +327,14 @@ module _ {C F : Type 0} (S : Scalars C F) (measure : Node C → ℕ) (weight : L
 
   -- the opening bracket is a node's
   set_over : (ts : List Lexeme) (ss : Selections C) (k : NodeKind) (p : Span) (l : Label) → IsUntyped l
-      → IsSelectionSet S ts ss → Within ts (over k p l (selections_nodes ss))
+      → IsSelectionSet S ss ts → Within ts (over k p l (selections_nodes ss))
   unfolding selection_nodes
   set_over ts no_selections k p l u h = absurd h
   set_over ts (selection s ss) k p l u h = headed ts h (is_one CurlyOpen) k p l _ u
       (λ q. joined h.back q _ _ (selection_within q.front s) (λ r. before q.back r _ (selections_within r.front ss)))
 
   -- A query in short has no words: its node is the opening bracket's.
-  definition_within : (ts : List Lexeme) (d : Definition C) → IsDefinition S ts d → Within ts (definition_nodes d)
+  definition_within : (ts : List Lexeme) (d : Definition C) → IsDefinition S d ts → Within ts (definition_nodes d)
   unfolding definition_nodes directives_nodes
   definition_within ts (tree.Operation type name variables ds ss p) (q, inl (h, t, n, v, d)) =
       subst (λ vs. Within ts (definition_nodes (tree.Operation type name vs ds ss p))) (sym v)
@@ -355,7 +356,7 @@ module _ {C F : Type 0} (S : Scalars C F) (measure : Node C → ℕ) (weight : L
     pub ends : end.kind ≡ EndOfFile
     pub le : sum_by measure ns ≤ sum_by weight front
 
-  pub document_front : (ts : List Lexeme) (ds : List (Definition C)) → IsDocument S ts ds
+  pub document_front : (ts : List Lexeme) (ds : List (Definition C)) → IsDocument S ds ts
       → Front ts (document_nodes ds)
   unfolding document_nodes
   document_front ts ds h = record {

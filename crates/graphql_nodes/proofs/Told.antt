@@ -367,7 +367,7 @@ module _ {C : Type 0} where
       (same_fragment n n' c c' ds ds' ss ss' p p' words.0 words.1 directives.0 selections same.span, same.rest)
 
   pub document_told : {F G : Type 0} (S : Scalars C F) (T : Scalars C G) (ts us : List Lexeme)
-      (a b : List (Definition C)) → IsDocument S ts a → IsDocument T us b → document_nodes a ≡ document_nodes b → a ≡ b
+      (a b : List (Definition C)) → IsDocument S a ts → IsDocument T b us → document_nodes a ≡ document_nodes b → a ≡ b
   unfolding document_nodes
   document_told S T ts us a b h k e =
       all_told definition_nodes FilledDefinition definition_told a b (document_filled S ts a h)

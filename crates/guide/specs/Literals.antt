@@ -22,7 +22,7 @@ module _ {C : Type 0} (scalars : Scalars C Error) where
     pub front : List Lexeme
     pub left : List Lexeme
     pub whole : lexemes ≡ front ++ left
-    pub means : IsValue scalars true front value
+    pub means : IsValue scalars true value front
 
   -- The text begins with no value. Where it can't be cut into tokens, the fault is its first lexical one. Where it can,
   -- the fault is at the first token with which no value goes on.

@@ -66,20 +66,20 @@ runs_past ts mid rest p (Some q) a b = runs_on ts mid rest p q a b
 module _ {C : Type 0} (S : Scalars C Error) where
   -- ---- what was read, by the rule that is kept
 
-  module _ {A : Type 0} (p : Steps C A) (fits : Fits S p) (R : List Lexeme → A → Type 0)
+  module _ {A : Type 0} (p : Steps C A) (fits : Fits S p) (R : A → List Lexeme → Type 0)
       (rule : (n : ℕ) → Rule n (reads S n p) (reads S n p) R) where
     pub read_is : (ts rest : List Lexeme) (x : A) → cursor S p ts ≡ Ok (x, rest)
-        → (us : List Lexeme) × (ts ≡ us ++ rest) × R us x
+        → (us : List Lexeme) × (ts ≡ us ++ rest) × R x us
     read_is ts rest x e = took_is (λ n. reads S n p) R rule ts rest x (seen_took (fully (λ n. reads S n p) ts) x rest
         (shown_fully S (symbols_shown S) p fits (reads_answer S p R rule) ts ∙ e))
 
-    pub read_runs : (sp : A → Span) → ((us : List Lexeme) (x : A) → R us x → (0 < length us) × (sp x ≡ span_of us))
+    pub read_runs : (sp : A → Span) → ((us : List Lexeme) (x : A) → R x us → (0 < length us) × (sp x ≡ span_of us))
         → (ts rest : List Lexeme) (x : A) → cursor S p ts ≡ Ok (x, rest) → Runs ts rest (sp x)
     read_runs sp has ts rest x e =
         let r = read_is ts rest x e in let h = has r.0 x r.2 in
         subst (λ q. Runs ts rest q) (sym h.1) (runs_of r.0 ts rest r.1 h.0)
 
-    module _ (takes : (us : List Lexeme) (x : A) → R us x → 0 < length us) (k : Kind)
+    module _ (takes : (us : List Lexeme) (x : A) → R x us → 0 < length us) (k : Kind)
         (closes : passes (of k) (sample k) ≡ true) (is : IsSample (sample k)) where
       pub several_fits : Fits S (several k p)
       several_fits = (fits, λ x. (closed_answer S p R rule takes k closes is, λ xs q. tt))
@@ -239,7 +239,7 @@ module _ {C : Type 0} (S : Scalars C Error) where
 
   -- further directives after what runs from ts to mid
   each_runs : (ts mid rest us : List Lexeme) (p : Span) (ds : List (Directive C)) → Runs ts mid p → mid ≡ us ++ rest
-      → Each (IsDirective S) us ds → Runs ts rest (record { start = p.start; end = last_end p.end ds })
+      → Each (IsDirective S) ds us → Runs ts rest (record { start = p.start; end = last_end p.end ds })
   each_runs ts mid rest us p [] r e h = subst (λ l. Runs ts l p) (e ∙ ap (λ l. l ++ rest) h) r
   each_runs ts mid rest us p (d ∷ ds) r e h =
       let has = directive_has S h.front d h.first in
@@ -249,7 +249,7 @@ module _ {C : Type 0} (S : Scalars C Error) where
       each_runs ts (h.back ++ rest) rest h.back (from_to p d.span) ds (runs_on ts mid (h.back ++ rest) p d.span r one)
       refl h.second
 
-  all_run : (ts rest us : List Lexeme) (ds : List (Directive C)) → ts ≡ us ++ rest → Each (IsDirective S) us ds
+  all_run : (ts rest us : List Lexeme) (ds : List (Directive C)) → ts ≡ us ++ rest → Each (IsDirective S) ds us
       → RunsOn ts rest (option_map (λ o. o.1) (all_directives ds))
   all_run ts rest us [] e h = e ∙ ap (λ l. l ++ rest) h
   all_run ts rest us (d ∷ ds) e h =
@@ -341,7 +341,7 @@ module _ {C : Type 0} (S : Scalars C Error) where
   selection_set_run = read_runs selection_set selection_set_fits (IsSpannedSet S) (λ n. set_rule S n n (le_refl n))
       (λ s. s.1) (λ us s h. (set_takes us s.0 h.0, h.1))
     where
-      set_takes : (us : List Lexeme) (ss : Selections C) → IsSelectionSet S us ss → 0 < length us
+      set_takes : (us : List Lexeme) (ss : Selections C) → IsSelectionSet S ss us → 0 < length us
       set_takes us ss h = select_takes S us ss h
 
   optional_set_fits : Fits S optional_set

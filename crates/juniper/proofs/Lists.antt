@@ -39,8 +39,8 @@ module _ {A : Type 0} (k : Kind) (f : Reader Error A) (rest : Reader Error (List
       ∙ bind_assoc (item ts) _ _ ∙ bind_same (item ts) _ _ (λ x. closed_others x.0 (seen (rest x.1)))
 
 module _ {C : Type 0} (S : Scalars C Error) {A : Type 0} (p : Steps C A) (fits : Fits S p)
-    (R : List Lexeme → A → Type 0) (rule : (n : ℕ) → Rule n (reads S n p) (reads S n p) R)
-    (takes : (us : List Lexeme) (x : A) → R us x → 0 < length us) where
+    (R : A → List Lexeme → Type 0) (rule : (n : ℕ) → Rule n (reads S n p) (reads S n p) R)
+    (takes : (us : List Lexeme) (x : A) → R x us → 0 < length us) where
   item_seen : (ts : List Lexeme) → seen (fully (λ n. reads S n p) ts) ≡ cursor S p ts
   item_seen = shown_fully S (symbols_shown S) p fits (reads_answer S p R rule)
 

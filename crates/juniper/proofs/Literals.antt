@@ -48,7 +48,7 @@ fault_is a b p q e = let h : (a, p) ≡ (b, q) = cc in (
   sym (ap (λ (x : Fault × List Lexeme). x.1) h),
 )
 
-module _ {A : Type 0} (R : List Lexeme → A → Type 0)
+module _ {A : Type 0} (R : A → List Lexeme → Type 0)
     (RefusedAt : List Lexeme → ℕ → Lexeme → grammar.Fault Error → Type 0) (old left : List Lexeme) where
   refuses : (fault : Fault) (z : reading.Read Error A) → GivesFront R (RefusedAt old) old z → seen z ≡ Err (fault, left)
       → Refuses R RefusedAt fault old left

@@ -63,7 +63,7 @@ module _ {C : Type 0} (S : Scalars C Error) (ts : List Lexeme) (spelled : AllByR
 
   -- a tree is that of a document
   pub document_is : (tree : List (Definition C)) (left : List Lexeme) → cursor S document ts ≡ Ok (tree, left)
-      → IsDocument S ts tree
+      → IsDocument S tree ts
   document_is tree left e =
       let took = seen_took (fully (λ n. reads S n document) ts) tree left (document_seen S ts ∙ e) in
       (subst (λ z. GivesWhole (IsDocument S) (DocumentRefusedAt S ts) ts z) took given).0
@@ -95,12 +95,12 @@ module _ {C : Type 0} (S : Scalars C Error) (ts : List Lexeme) (spelled : AllByR
 -- ---- what holds of the tokens of a text holds of the text
 
 module _ {C : Type 0} (S : Scalars C Error) (source : List ℕ) (ts : List Lexeme) (cut : Cut source ts) where
-  document_there : (others : List Lexeme) (tree : List (Definition C)) → Cut source others → IsDocument S others tree
-      → IsDocument S ts tree
-  document_there others tree d h = subst (λ (xs : List Lexeme). IsDocument S xs tree) (same_cut source others ts d cut)
+  document_there : (others : List Lexeme) (tree : List (Definition C)) → Cut source others → IsDocument S tree others
+      → IsDocument S tree ts
+  document_there others tree d h = subst (λ (xs : List Lexeme). IsDocument S tree xs) (same_cut source others ts d cut)
       h
 
-  pub tree_of : (tree : List (Definition C)) → IsDocument S ts tree → HasTree S source tree
+  pub tree_of : (tree : List (Definition C)) → IsDocument S tree ts → HasTree S source tree
   tree_of tree document = record {
     lexemes = ts;
     cut = cut;

@@ -9,7 +9,8 @@ use Rattle.graphql_lexical.specs.Tokens.{IsName}
 use Rattle.graphql_lexical.specs.laws.Written.{Bare, AreOf}
 use Rattle.graphql_grammar.specs.Tokens.{Text, nowhere, span_of}
 use Rattle.graphql_grammar.specs.Tree.{Value, Null, Scalar, Enum, Variable, ListOf, Object, Items, no_items, item, ObjectFields, no_fields, object_field, TypeRef, NamedType, ListType, NonNullType}
-use Rattle.graphql_grammar.specs.Grammar.{◌·◌, Sequence, IsToken, Is, IsValue, AreItems, AreFields, IsType}
+use Rattle.graphql_lexical.specs.Parts.{◌·◌, Sequence}
+use Rattle.graphql_grammar.specs.Grammar.{Token, Is, IsValue, AreItems, AreFields, IsType}
 use Rattle.graphql_grammar.specs.Unlocated.{unlocated_value, unlocated_items, unlocated_fields}
 use Rattle.graphql_grammar.proofs.Public.{IsNullable, name_nullable, list_nullable, row, row_as, row_map, row_front, row_back, token_is}
 use Rattle.juniper_values.specs.Value as input
@@ -50,7 +51,7 @@ parted (b ∷ bs) cs (t ∷ ts) a =
     }
 
 -- one token, wherever it stands
-one : (b : Bare) (ts : List Lexeme) → AreOf ts (b ∷ []) → (span : Span) × IsToken ts b.kind b.text span
+one : (b : Bare) (ts : List Lexeme) → AreOf ts (b ∷ []) → (span : Span) × Token b.kind b.text span ts
 one b [] a = absurd a
 one b (t ∷ []) a = (t.span, token_is b.kind b.text t a.0 a.1)
 one b (t ∷ u ∷ ts) a = absurd a.2
@@ -70,7 +71,7 @@ between opening closing bs ts a = row_map (mark opening)
 
 -- whatever has these tokens is this type
 abbrev Mean : List Bare → TypeRef → Type 0
-Mean bs type = (ts : List Lexeme) → AreOf ts bs → IsType ts type
+Mean bs type = (ts : List Lexeme) → AreOf ts bs → IsType type ts
 
 named : (name : Text) → Mean (token Name name ∷ []) (NamedType name)
 named name ts a = one (token Name name) ts a
@@ -120,17 +121,17 @@ inside h p = row_as h h.first (row_as h.second p h.second.second)
 
 record IsBack (ts : List Lexeme) (v : input.Value Content) : Type 0 where
   tree : Value Content
-  means : IsValue default_scalars true ts tree
+  means : IsValue default_scalars true tree ts
   same : unlocated_value tree ≡ unlocated_value (placed v nowhere)
 
 record AreItemsBack (ts : List Lexeme) (xs : input.Items Content) : Type 0 where
   trees : Items Content
-  means : AreItems default_scalars true ts trees
+  means : AreItems default_scalars true trees ts
   same : unlocated_items trees ≡ unlocated_items (placed_items xs)
 
 record AreFieldsBack (ts : List Lexeme) (fs : input.Fields Content) : Type 0 where
   trees : ObjectFields Content
-  means : AreFields default_scalars true ts trees
+  means : AreFields default_scalars true trees ts
   same : unlocated_fields trees ≡ unlocated_fields (placed_fields fs)
 
 scalar_back : (ts : List Lexeme) (s : Content) → IsPlainScalar s → AreOf ts (scalar_token s ∷ [])

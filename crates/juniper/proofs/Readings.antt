@@ -101,7 +101,7 @@ module _ {C : Type 0} (S : Scalars C Error) where
 
   -- The tokens that were taken for a definition are that definition.
   pub definition_taken : (ts rest : List Lexeme) (d : Definition C) → cursor S definition ts ≡ Ok (d, rest)
-      → (us : List Lexeme) × (ts ≡ us ++ rest) × IsDefinition S us d
+      → (us : List Lexeme) × (ts ≡ us ++ rest) × IsDefinition S d us
   unfolding fully
   definition_taken ts rest d e =
       let n : ℕ = suc (length ts) in

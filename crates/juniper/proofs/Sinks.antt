@@ -19,8 +19,8 @@ use Rattle.juniper.proofs.Readings.{definition_taken}
 
 -- ---- definitions in a row
 
-push_each : {A : Type 0} (R : List Lexeme → A → Type 0) (front us : List Lexeme) (xs : List A) (x : A)
-    → Each R front xs → R us x → Each R (front ++ us) (xs ++ x ∷ [])
+push_each : {A : Type 0} (R : A → List Lexeme → Type 0) (front us : List Lexeme) (xs : List A) (x : A)
+    → Each R xs front → R x us → Each R (xs ++ x ∷ []) (front ++ us)
 push_each R front us [] x h r = record {
   front = us;
   back = [];
@@ -68,7 +68,7 @@ module _ {C : Type 0} (S : Scalars C Error) where
   pub record WereRead (ts left : List Lexeme) (ds : List (Definition C)) : Type 0 where
     pub front : List Lexeme
     pub whole : ts ≡ front ++ left
-    pub each : Each (IsDefinition S) front ds
+    pub each : Each (IsDefinition S) ds front
     pub goes_on : (front ≡ []) ⊎ EndsOnce left
 
   pub none_read : (ts : List Lexeme) → WereRead ts ts []
@@ -101,7 +101,7 @@ module _ {C : Type 0} (S : Scalars C Error) where
         front = [];
         rest = inner;
         whole = refl;
-        each = subst (λ (xs : List Lexeme). Each (IsDefinition S) xs ds) none h.each;
+        each = subst (λ (xs : List Lexeme). Each (IsDefinition S) ds xs) none h.each;
       }
       by_goes_on (inr ended) = by_rest left ended (sym h.whole ∙ e)
 

@@ -39,8 +39,8 @@ module _ {C : Type 0} (S : Scalars C Error) where
   pub record HasTree (source : List ℕ) (tree : List (Definition C)) : Type 0 where
     pub lexemes : List Lexeme
     pub cut : Cut source lexemes
-    pub document : IsDocument S lexemes tree
-    pub only : (others : List Lexeme) (other : List (Definition C)) → Cut source others → IsDocument S others other → other ≡ tree
+    pub document : IsDocument S tree lexemes
+    pub only : (others : List Lexeme) (other : List (Definition C)) → Cut source others → IsDocument S other others → other ≡ tree
 
   -- The fault is that of the grammar: it has the span of the token at which the tokens are refused, and names its error.
   pub record IsRefusedAt (lexemes : List Lexeme) (fault : Fault) : Type 0 where
@@ -54,7 +54,7 @@ module _ {C : Type 0} (S : Scalars C Error) where
   -- The text is no document. Where it can't be cut into tokens, the fault is its first lexical one. Where it can, the
   -- fault is that of the grammar.
   pub record IsRefusal (source : List ℕ) (fault : Fault) : Type 0 where
-    pub no_document : (lexemes : List Lexeme) (tree : List (Definition C)) → Cut source lexemes → IsDocument S lexemes tree → ⊥
+    pub no_document : (lexemes : List Lexeme) (tree : List (Definition C)) → Cut source lexemes → IsDocument S tree lexemes → ⊥
     pub lexical : (error : LexicalError) (at : Place) → Breaks source error at → fault ≡ lexical_fault error at
     pub grammatical : (lexemes : List Lexeme) → Cut source lexemes → IsRefusedAt lexemes fault
 
@@ -76,17 +76,17 @@ AnswersAs view (Err e) read = (left : List Lexeme) × Fails e left read
 
 -- ---- literals
 
-module _ {A : Type 0} (R : List Lexeme → A → Type 0) where
+module _ {A : Type 0} (R : A → List Lexeme → Type 0) where
   -- A front of the tokens that were left means x, and was taken.
   pub record Takes (x : A) (old left : List Lexeme) : Type 0 where
     pub taken : List Lexeme
     pub whole : old ≡ taken ++ left
-    pub means : R taken x
+    pub means : R x taken
 
   -- No front of the tokens means anything. The fault has the span of the token at which they are refused, and names its
   -- error. That token is taken, unless it is the end.
   pub record Refuses (Refused : List Lexeme → ℕ → Lexeme → grammar.Fault Error → Type 0) (fault : Fault) (old left : List Lexeme) : Type 0 where
-    pub none : (us vs : List Lexeme) (y : A) → old ≡ us ++ vs → R us y → ⊥
+    pub none : (us vs : List Lexeme) (y : A) → old ≡ us ++ vs → R y us → ⊥
     pub number : ℕ
     pub token : Lexeme
     pub says : grammar.Fault Error
@@ -97,12 +97,12 @@ module _ {A : Type 0} (R : List Lexeme → A → Type 0) where
 
 -- A value and no other front of the tokens was taken, or none is a value.
 abbrev pub AnswersValue : {X C : Type 0} → Scalars C Error → Bool → (X → Value C) → Result X ParseFailure → List Lexeme → List Lexeme → Type 0
-AnswersValue {C = C} S free view (Ok x) old left = Takes (IsValue S free) (view x) old left × ((us vs : List Lexeme) (y : Value C) → old ≡ us ++ vs → IsValue S free us y → (vs ≡ left) × (y ≡ view x))
+AnswersValue {C = C} S free view (Ok x) old left = Takes (IsValue S free) (view x) old left × ((us vs : List Lexeme) (y : Value C) → old ≡ us ++ vs → IsValue S free y us → (vs ≡ left) × (y ≡ view x))
 AnswersValue S free view (Err (failure.Refused e)) old left = Refuses (IsValue S free) (ValueRefusedAt S free) (view_fault e) old left
 AnswersValue S free view (Err failure.Memory) old left = Unit {0}
 
 -- The longest front that is a type was taken, or none is one.
 abbrev pub AnswersType : {X : Type 0} → (X → TypeRef × Span) → Result X ParseFailure → List Lexeme → List Lexeme → Type 0
-AnswersType view (Ok x) old left = Takes (λ ts y. IsType ts y.0 × (y.1 ≡ span_of ts)) (view x) old left × ((us vs : List Lexeme) (y : TypeRef) → old ≡ us ++ vs → IsType us y → length left ≤ length vs)
+AnswersType view (Ok x) old left = Takes (λ y ts. IsType y.0 ts × (y.1 ≡ span_of ts)) (view x) old left × ((us vs : List Lexeme) (y : TypeRef) → old ≡ us ++ vs → IsType y us → length left ≤ length vs)
 AnswersType view (Err (failure.Refused e)) old left = Refuses IsType TypeRefusedAt (view_fault e) old left
 AnswersType view (Err failure.Memory) old left = Unit {0}

@@ -37,7 +37,7 @@ pub record IsReadAsType (text : Text) (type : TypeRef) : Type 0 where
   pub lexemes : List Lexeme
   pub end : Lexeme
   pub cut : Cut text (lexemes ++ end ∷ [])
-  pub means : IsType lexemes type
+  pub means : IsType type lexemes
 
 -- the type of a name and modifiers, the innermost first
 abbrev pub type_of : Text → List TypeModifier → TypeRef
@@ -51,7 +51,7 @@ pub record IsReadAsValue (text : Text) (value : Value Content) : Type 0 where
   pub end : Lexeme
   pub tree : Value Content
   pub cut : Cut text (lexemes ++ end ∷ [])
-  pub means : IsValue default_scalars true lexemes tree
+  pub means : IsValue default_scalars true tree lexemes
   pub same : SameValue tree value
 
 -- the display of an input value is read as its tree

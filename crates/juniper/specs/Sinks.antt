@@ -17,7 +17,7 @@ pub record StandInFront {C : Type 0} (S : Scalars C Error) (lexemes : List Lexem
   pub front : List Lexeme
   pub rest : List Lexeme
   pub whole : lexemes ≡ front ++ rest
-  pub each : Each (IsDefinition S) front ds
+  pub each : Each (IsDefinition S) ds front
 
 -- It holds the definitions of a source that it has taken.
 module _ {D C : Type 0} (holds : List ℕ → D → List (Definition C) → Type 0) (old new : D) where

@@ -77,11 +77,11 @@ pub fn alike_texts<S: ScalarValue>()
 {}
 
 /// Each scalar token of a document is one that the scalar type reads. A document of other scalars is the same document of
-/// these, where these are read from its scalar tokens as those are, and are the same for `true` and `false`.
+/// these, where these are read from its scalar tokens as those are, and are the same `true` and `false`.
 pub fn scalar_tokens<S: ScalarValue>()
-    ensures read { (ts : List Lexeme) (tree : List (Definition Content)) → IsDocument (stated S.reading S.of_bool) ts tree → AllByRecursion (IsRead (stated S.reading S.of_bool)) ts }
+    ensures read { (ts : List Lexeme) (tree : List (Definition Content)) → IsDocument (stated S.reading S.of_bool) tree ts → AllByRecursion (IsRead (stated S.reading S.of_bool)) ts }
     ensures of_others { (T : Scalars Content Error) (ts : List Lexeme) (tree : List (Definition Content)) → T.of_bool ≡ S.of_bool
-        → AllByRecursion (IsReadAlso T (stated S.reading S.of_bool)) ts → IsDocument T ts tree → IsDocument (stated S.reading S.of_bool) ts tree }
+        → AllByRecursion (IsReadAlso T (stated S.reading S.of_bool)) ts → IsDocument T tree ts → IsDocument (stated S.reading S.of_bool) tree ts }
 {}
 
 /// The display of a type is read back as that type, where its name is a Name, no `!` stands directly upon another, and
@@ -90,7 +90,7 @@ pub fn type_display_is_read_back()
     ensures { (name : Text) (ms : List TypeModifier) → IsName name → AreWritable ms → IsReadAsType (type_text name ms) (type_of name ms) }
 {}
 
-/// The display of a plain value of default scalars is read back as that value, but for its places.
+/// The display of a plain value of default scalars is read back as that value, but its places.
 pub fn value_display_is_read_back()
     ensures { (v : InputValue DefaultScalarValue) → IsPlain (view default_content v) → IsReadBack v }
 {}

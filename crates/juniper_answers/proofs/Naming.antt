@@ -10,7 +10,7 @@ use Rattle.graphql_lexical.specs.Tokens.{IsName, Spells, text_of}
 use Rattle.graphql_lexical.specs.Reading.{Reads}
 use Rattle.graphql_lexical.specs.Cutting.{Lexeme, Cut}
 use Rattle.graphql_lexical.specs.laws.Written.{AreOf}
-use Rattle.graphql_lexical.proofs.Public.{few_tokens, writes_nothing, writes_token}
+use Rattle.graphql_lexical.proofs.Public.{few_tokens, name_same, writes_nothing, writes_token}
 use Rattle.juniper_answers.specs.laws.AnswerLaws.{IsOneName}
 use Rattle.juniper_answers.specs.Names.{is_name}
 
@@ -30,12 +30,13 @@ spelled : (text : List ℕ) → is_name text ≡ true → IsName text
 spelled [] e = absurd cc
 spelled (c ∷ cs) e =
     let all = all_held (c ∷ cs) (second_so (is_name_start c) (list_all is_name_character (c ∷ cs)) e) in
-    (c, cs, refl, first_so (is_name_start c) (list_all is_name_character (c ∷ cs)) e, all.1)
+    (name_same (c ∷ cs)).1 (c, cs, refl, first_so (is_name_start c) (list_all is_name_character (c ∷ cs)) e, all.1)
 
 tested : (text : List ℕ) → IsName text → is_name text ≡ true
-tested text n = subst (λ t. is_name t ≡ true) (sym n.2) (and_from (is_name_start n.0)
-    (list_all is_name_character (n.0 ∷ n.1)) n.3
-    (all_tested (n.0 ∷ n.1) (or_left (is_name_start n.0) (is_digit n.0) n.3, n.4)))
+tested text n =
+    let r = (name_same text).0 n in
+    subst (λ t. is_name t ≡ true) (sym r.2) (and_from (is_name_start r.0) (list_all is_name_character (r.0 ∷ r.1)) r.3
+    (all_tested (r.0 ∷ r.1) (or_left (is_name_start r.0) (is_digit r.0) r.3, r.4)))
 
 one_token : (text : List ℕ) → IsName text → IsOneName text
 one_token text n =

@@ -33,6 +33,6 @@ scalar_is_short k t (inr (inr (inr s))) c e =
     (ap (λ k. scalar_reading k t) (sym s) ∙ e)
 
 pub short_texts : (source : Text) (ts : List Lexeme) (ds : List (Definition Content)) → Cut source ts
-    → IsDocument (stated scalar_reading boolean) ts ds
+    → IsDocument (stated scalar_reading boolean) ds ts
     → length (encode_utf8_all (node_texts (document_nodes ds))) ≤ length (encode_utf8_all source)
 short_texts = texts_are_short scalar_reading scalar_is_short

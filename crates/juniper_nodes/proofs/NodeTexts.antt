@@ -8,7 +8,8 @@ use Rattle.graphql_lexical.specs.declared.kind.Kind.{Kind}
 use Rattle.graphql_lexical.specs.Cutting.{Lexeme, Cut}
 use Rattle.graphql_lexical.proofs.Public.{cut_front}
 use Rattle.graphql_grammar.specs.Tree.{TypeRef, NamedType, ListType, NonNullType, Definition}
-use Rattle.graphql_grammar.specs.Grammar.{Sequence, IsType, IsDocument}
+use Rattle.graphql_lexical.specs.Parts.{Sequence}
+use Rattle.graphql_grammar.specs.Grammar.{IsType, IsDocument}
 use Rattle.graphql_nodes.specs.Nodes.{Node, Label, Unnamed, Named, OnType, Typed, document_nodes}
 use Rattle.graphql_nodes.specs.Types.{type_text}
 use Rattle.graphql_nodes.proofs.Public.{IsUntyped, Weighs, document_front}
@@ -33,7 +34,7 @@ row_weight : {P Q : List Lexeme → Type 0} (ts : List Lexeme) (h : Sequence P Q
     → sum_by weight ts ≡ sum_by weight h.front + sum_by weight h.back
 row_weight ts h = ap (sum_by weight) h.whole ∙ sum_by-append weight h.front h.back
 
-type_is_short : (ts : List Lexeme) (type : TypeRef) → IsType ts type → size (type_text type) ≤ sum_by weight ts
+type_is_short : (ts : List Lexeme) (type : TypeRef) → IsType type ts → size (type_text type) ≤ sum_by weight ts
 unfolding type_text
 type_is_short ts (NamedType name) h = omega (arith, (own_weight ts _ h.1).1)
 type_is_short ts (ListType size_of type) (h, s) =
@@ -81,7 +82,7 @@ texts_size (n ∷ ns) = omega
 
 pub texts_are_short : (reading : Kind → Text → Reading) → ReadsShort reading
     → (source : Text) (ts : List Lexeme) (ds : List (Definition Content)) → Cut source ts
-    → IsDocument (stated reading boolean) ts ds
+    → IsDocument (stated reading boolean) ds ts
     → length (encode_utf8_all (node_texts (document_nodes ds))) ≤ length (encode_utf8_all source)
 texts_are_short reading short source ts ds c h =
     let front = document_front (stated reading boolean) measure weight (texts_weigh reading short) ts ds h in

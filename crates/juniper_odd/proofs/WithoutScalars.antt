@@ -25,12 +25,12 @@ read_also S T [] h = tt
 read_also S T (t ∷ ts) h = ((λ c s e. absurd (h.0 s)), read_also S T ts h.1)
 
 abbrev pub Read : Type 0
-Read = (ts : List Lexeme) (tree : List (Definition Content)) → IsDocument no_literals ts tree
+Read = (ts : List Lexeme) (tree : List (Definition Content)) → IsDocument no_literals tree ts
     → AllByRecursion (IsRead no_literals) ts
 
 abbrev pub OfOthers : Type 0
 OfOthers = (T : Scalars Content Error) (ts : List Lexeme) (tree : List (Definition Content)) → T.of_bool ≡ boolean
-    → AllByRecursion (IsReadAlso T no_literals) ts → IsDocument T ts tree → IsDocument no_literals ts tree
+    → AllByRecursion (IsReadAlso T no_literals) ts → IsDocument T tree ts → IsDocument no_literals tree ts
 
 pub accepts_exactly : {X : Type 0} (view : X → List (Definition Content)) (source : List ℕ)
     (result : Result X ParseFailure) → Read → OfOthers

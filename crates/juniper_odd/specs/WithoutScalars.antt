@@ -24,7 +24,7 @@ pub record IsDocumentWithoutScalars (source : List ℕ) : Type 0 where
   pub scalars : Scalars Content Error
   pub truths : scalars.of_bool ≡ boolean
   pub tree : List (Definition Content)
-  pub document : IsDocument scalars lexemes tree
+  pub document : IsDocument scalars tree lexemes
 
 -- A tree is answered where P holds, and a fault where it doesn't. Memory may run out.
 abbrev pub AcceptsExactly : {X : Type 0} → Result X ParseFailure → Type 0 → Type 0

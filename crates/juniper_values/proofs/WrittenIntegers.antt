@@ -8,7 +8,9 @@ use Rattle.std.proofs.lemmas.Fmt.{decimal_is_IsNumeral, decimal_digit, first_dec
 use Rattle.std.proofs.lemmas.Str.Parse.{digit_from_value}
 use Rattle.graphql_lexical.specs.declared.kind.Kind.TheVariants.{Int}
 use Rattle.graphql_lexical.specs.Characters.{is_digit, is_nonzero_digit}
-use Rattle.graphql_lexical.specs.Tokens.{AreDigits, IsLongInteger, Spells}
+use Rattle.graphql_lexical.specs.Tokens.{Any, Spells}
+use Rattle.graphql_lexical.specs.device.Numbers.{ReadLongInteger}
+use Rattle.graphql_lexical.proofs.Public.{integer_same}
 use Rattle.juniper_values.specs.Text.{Text}
 use Rattle.juniper_values.specs.Scalar.{integer}
 use Rattle.juniper_values.specs.Integers.{is_digits, number_of, has_minus, after_sign, is_integer, integer_of, is_i32}
@@ -27,26 +29,28 @@ digit_is c l u = grind (arith, nat_tests)
 nonzero_is : (c : ℕ) → 48 < c → c ≤ 57 → IsTrue (is_nonzero_digit c)
 nonzero_is c l u = grind (arith, nat_tests)
 
-are_digits : (ds : Text) → AllDigits 10 ds → AreDigits ds
+are_digits : (ds : Text) → AllDigits 10 ds → Any is_digit ds
 are_digits [] d = tt
 are_digits (c ∷ cs) d = let k = digit_from_value c d.0 in (digit_is c k.0 k.1, are_digits cs d.1)
 
 digits_are_long : (sign ds : Text) → (sign ≡ []) ⊎ (sign ≡ 45 ∷ []) → 48 < get_or ds 0 0 → AllDigits 10 ds
-    → IsLongInteger (sign ++ ds)
+    → ReadLongInteger (sign ++ ds)
 digits_are_long sign [] s f d = absurd (omega arith)
 digits_are_long sign (c ∷ cs) s f d =
     let k = digit_from_value c d.0 in
     (sign, c, cs, refl, s, nonzero_is c f k.1, are_digits cs d.1)
 
 decimal_is_long : (sign : Text) (n : ℕ) → (sign ≡ []) ⊎ (sign ≡ 45 ∷ []) → suc n < 2 ^ 64
-    → IsLongInteger (sign ++ decimal (suc n))
+    → ReadLongInteger (sign ++ decimal (suc n))
 decimal_is_long sign n s h = digits_are_long sign (decimal (suc n)) s (first_decimal (suc n) (omega arith) h)
     (decimal_is_IsNumeral (suc n) h).0.1
 
 pub spells_integer : (z : ℤ) → IsTrue (is_i32 z) → Spells (signed_decimal z) Int
-spells_integer (pos zero) h = inl (inl (decimal_digit 0 (omega arith)))
-spells_integer (pos (suc n)) h = inr (decimal_is_long [] n (inl refl) (positive_small (suc n) h))
-spells_integer (negsuc n) h = inr (decimal_is_long (45 ∷ []) n (inr refl) (negative_small n h))
+spells_integer (pos zero) h = (integer_same _).1 (inl (inl (decimal_digit 0 (omega arith))))
+spells_integer (pos (suc n)) h =
+    (integer_same _).1 (inr (decimal_is_long [] n (inl refl) (positive_small (suc n) h)))
+spells_integer (negsuc n) h =
+    (integer_same _).1 (inr (decimal_is_long (45 ∷ []) n (inr refl) (negative_small n h)))
 
 -- ---- and back
 

@@ -1,5 +1,5 @@
 -- A front of a source, and tokens behind it with spaces between.
-use Rattle.std.specs.Prelude.{◌≡◌, ℕ, List, [], ◌∷◌, ◌++◌, take, None}
+use Rattle.std.specs.Prelude.{◌≡◌, ℕ, List, [], ◌∷◌, ◌++◌, take, None, codes}
 use Rattle.std.specs.List.{last_or}
 use Rattle.std.specs.Option.{option_map_or}
 use Rattle.graphql_lexical.specs.Kinds.{EndOfFile}
@@ -9,7 +9,7 @@ use Rattle.graphql_lexical.specs.laws.Alike.{AllAlike}
 
 -- a space, and then the text
 abbrev pub after_space : List ℕ → List ℕ
-after_space text = 32 ∷ text
+after_space text = codes " " ++ text
 
 -- the source up to the end of the last of these tokens
 abbrev pub up_to : List ℕ → List Lexeme → List ℕ
