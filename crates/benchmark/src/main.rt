@@ -1,4 +1,4 @@
-//! Lexes and parses standard input over and over, and tells on standard error the speed of each stage's best round.
+//! Lexes and parses standard input over and over, and reports on standard error the speed of each stage's best round.
 //!
 //! The arguments are the number of rounds, how often a round reads the text, and the one stage that is measured, by its
 //! name. Where they aren't there, each is 1, and every stage is measured.
@@ -31,7 +31,7 @@ fn main(rt: HostRuntime) -> io::Result<()> {
     Ok(())
 }
 
-// The number that an argument is, 1 where there is none.
+// The number that an argument is, or 1 where there is none.
 fn number_at<R: Env + AllocGlobal>(rt: &R, place: usize) -> io::Result<u32> {
     match env::args(rt)?.nth(place) {
         Some(text) => Ok(text.as_str().parse::<u32>().unwrap_or(1)),
@@ -39,7 +39,7 @@ fn number_at<R: Env + AllocGlobal>(rt: &R, place: usize) -> io::Result<u32> {
     }
 }
 
-// The best speed of so many rounds. A round in which nothing is read counts as none.
+// The best speed of `rounds` rounds. A round in which nothing is read counts as none.
 fn best_of<R: Clock + AllocGlobal>(
     rt: &R,
     stage: Stage,
@@ -59,7 +59,7 @@ fn best_of<R: Clock + AllocGlobal>(
     Ok(best)
 }
 
-// Reads a text so often, and answers whether it could be read each time.
+// Reads a text `count` times, and returns whether it could be read each time.
 fn is_read_often(alloc: Global, stage: Stage, source: &str, count: u32) -> bool {
     let mut is_read = count > 0;
     for _ in 0..count {

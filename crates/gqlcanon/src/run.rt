@@ -17,11 +17,11 @@ use streams::{Stop, Watched, read_all, write_all};
 pub enum RunEnd {
     /// The bytes are a text that can be cut into tokens: its canonical text.
     Text,
-    /// The bytes are a text that can't be cut into tokens: its fault, and where it stands.
+    /// The bytes are a text that can't be cut into tokens: its first lexical error, and where it stands.
     Refused,
     /// The bytes are no text: a line that says so.
     NotUtf8,
-    /// A read or a write failed: after a failed read nothing, after a failed write a beginning of the report.
+    /// A read or a write failed: after a failed read nothing, after a failed write a prefix of the report.
     Device,
     /// Memory ran out: nothing.
     Memory,
@@ -31,8 +31,8 @@ const NOT_UTF8: &str = "Not UTF-8\n";
 
 /// Reads all of the reader, and writes the report of its bytes.
 ///
-/// The report is a function of the bytes. It is built whole before any of it is written. A reader that neither ends nor fails leads to `Memory`.
-/// Condition: neither the reader nor the writer has failed yet.
+/// The report is a function of the bytes. It is built whole before any of it is written. A reader that neither ends nor
+/// fails leads to `Memory`. Condition: neither the reader nor the writer has failed yet.
 pub fn run<R: Read, W: Write>(
     alloc: Global,
     reader: &mut Watched<R>,
@@ -51,14 +51,14 @@ pub fn run<R: Read, W: Write>(
     ensures device { (result ≡ RunEnd.Device)
         ↔ ((has_failed reader.new ≡ true) ⊎ (has_failed writer.new ≡ true)) }
 
-    // After a failed write a beginning of the report has gone out.
+    // After a failed write a prefix of the report has been written.
     ensures failed_write { has_failed writer.new ≡ true → (bytes : List ℕ)
         × Consumes (R.remaining (inner_of reader.old)) (R.remaining (inner_of reader.new)) bytes
         × IsAtEnd (R.remaining (inner_of reader.new))
         × ((end : RunEnd) × (text : List ℕ) × Report bytes end text
         × ((n : ℕ) × Appends (W.contents (inner_of writer.old)) (W.contents (inner_of writer.new)) (take n text))) }
 
-    // After a failed read, and after want of memory, nothing has.
+    // After a failed read, and where memory ran out, nothing has.
     ensures failed_read { has_failed reader.new ≡ true
         → Keeps (W.contents (inner_of writer.old)) (W.contents (inner_of writer.new)) }
     ensures memory { result ≡ RunEnd.Memory
@@ -80,7 +80,7 @@ pub fn run<R: Read, W: Write>(
     }
 }
 
-// Bytes have one report, since a text has one cut into tokens, or one fault.
+// Bytes have one report, since a text has one cut into tokens, or one lexical error.
 fn one_report()
     ensures { OneReport }
 {
@@ -101,7 +101,7 @@ fn report(alloc: Global, bytes: &[u8]) -> Result<(RunEnd, String), AllocError>
     }
 }
 
-// The line that tells a fault.
+// The line that reports a fault.
 fn fault_text(alloc: Global, fault: &Spanning<LexerError>) -> Result<String, AllocError>
     ensures { IfOk result (λ text. string_bytes text ≡ fault_line (view_lexer_error fault.now.item) fault.now.span.start) }
 {

@@ -1,4 +1,4 @@
--- What a run's end leaves behind.
+-- The exit status of a run's end, and what is written to standard error.
 use Rattle.std.specs.Prelude.{ℕ, Option, Some, None}
 use Rattle.gqlcheck.specs.declared.Fault.{Fault}
 use Rattle.gqlcheck.specs.declared.Fault.TheVariants as fault
@@ -14,7 +14,7 @@ status_at Device = 3
 status_at Memory = 4
 status_at TooDeep = 5
 
--- what is told on standard error, where a run has no report
+-- what is written to standard error, where a run has no report
 abbrev pub fault_at : RunEnd → Option Fault
 fault_at Tree = None
 fault_at Refused = None

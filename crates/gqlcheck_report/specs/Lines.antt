@@ -12,7 +12,7 @@ use Rattle.graphql_nodes.specs.declared.kind.NodeKind.{NodeKind}
 unfoldable pub place_text : NodeKind → ℕ → ℕ → Text
 place_text kind start end = kind_name kind ++ (32 ∷ (decimal start ++ (32 ∷ decimal end)))
 
--- what names a node, after a space
+-- the label of a node, after a space
 unfoldable pub label_text : Label → Text
 label_text Unnamed = []
 label_text (Named name) = 32 ∷ name.text

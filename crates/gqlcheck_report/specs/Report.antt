@@ -30,7 +30,7 @@ fault_line fault = encode_utf8_all (error_text fault.error) ++ (codes ". At " ++
 abbrev pub deep_line : Span → List ℕ
 deep_line span = codes "Too deeply nested. At " ++ (position_text span.start ++ 10 ∷ [])
 
--- how deep brackets may be nested
+-- the limit on the nesting of brackets
 abbrev pub limit : ℕ
 limit = 200
 

@@ -48,7 +48,7 @@ fn write_place(out: &mut String, kind: NodeKind, start: usize, end: usize) -> Re
     write!(out, "{word} {start} {end}")
 }
 
-// Writes what names the node, if anything does.
+// Writes the label of the node, if it has one.
 fn write_label<S: ScalarValue>(out: &mut String, node: &Node<'_, '_, S>) -> Result<(), AllocError>
     ensures { OnOk result (string_bytes out.new ≡ string_bytes out.old ++ encode_utf8_all (label_text (view_node S.content node.now).label)) }
 {

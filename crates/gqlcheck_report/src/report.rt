@@ -27,13 +27,13 @@ pub enum RunEnd {
     NotUtf8,
     /// A token of the text is nested deeper than 200 brackets, and those before it begin a document: where it stands.
     TooDeep,
-    /// A read or a write failed: after a failed read nothing, after a failed write a beginning of the report.
+    /// A read or a write failed: after a failed read nothing, after a failed write a prefix of the report.
     Device,
     /// Memory ran out: nothing.
     Memory,
 }
 
-// How deep brackets may be nested.
+// The limit on the nesting of brackets.
 const LIMIT: usize = 200;
 
 const NOT_UTF8: &str = "Not UTF-8\n";
@@ -60,14 +60,14 @@ pub fn run<R: Read, W: Write>(
     ensures device { (result ≡ RunEnd.Device)
         ↔ ((has_failed reader.new ≡ true) ⊎ (has_failed writer.new ≡ true)) }
 
-    // After a failed write a beginning of the report has gone out.
+    // After a failed write a prefix of the report has been written.
     ensures failed_write { has_failed writer.new ≡ true → (bytes : List ℕ)
         × Consumes (R.remaining (inner_of reader.old)) (R.remaining (inner_of reader.new)) bytes
         × IsAtEnd (R.remaining (inner_of reader.new))
         × ((end : RunEnd) × (text : List ℕ) × Report bytes end text
         × ((n : ℕ) × Appends (W.contents (inner_of writer.old)) (W.contents (inner_of writer.new)) (take n text))) }
 
-    // After a failed read, and after want of memory, nothing has.
+    // After a failed read, and where memory ran out, nothing has.
     ensures failed_read { has_failed reader.new ≡ true
         → Keeps (W.contents (inner_of writer.old)) (W.contents (inner_of writer.new)) }
     ensures memory { result ≡ RunEnd.Memory
@@ -115,7 +115,7 @@ fn report(alloc: Global, bytes: &[u8]) -> Result<(RunEnd, String), AllocError>
     }
 }
 
-// The line that tells where a text is nested too deep.
+// The line that reports where a text is nested too deep.
 fn deep_text(alloc: Global, span: Span) -> Result<String, AllocError>
     ensures { IfOk result (λ text. string_bytes text ≡ deep_line (view_span span)) }
 {
@@ -123,7 +123,7 @@ fn deep_text(alloc: Global, span: Span) -> Result<String, AllocError>
     format!(in alloc; "Too deeply nested. At {start}\n")
 }
 
-// The line that tells a fault.
+// The line that reports a fault.
 fn fault_text(alloc: Global, fault: &Spanning<ParseError>) -> Result<String, AllocError>
     ensures { IfOk result (λ text. string_bytes text ≡ fault_line (view_fault fault.now)) }
 {

@@ -8,7 +8,7 @@ use Rattle.graphql_grammar.specs.Grammar.{IsDocument}
 use Rattle.graphql_grammar.specs.Faults.{Begins}
 
 module _ {C F : Type 0} (S : Scalars C F) where
-  -- some document has a front that is alike with these tokens
+  -- some document has a prefix that is alike with these tokens
   abbrev pub BeginsDocument : List Lexeme → Type 0
   BeginsDocument = Begins IsSpelled (IsDocument S)
 

@@ -35,7 +35,7 @@ abbrev pub AnyToken : Lexeme → Type 0
 AnyToken t = Unit {0}
 
 module _ (Allowed : Lexeme → Type 0) where
-  -- Some list of allowed tokens that R admits has a front that is alike with ts.
+  -- Some list of allowed tokens that R admits has a prefix that is alike with ts.
   abbrev pub Begins : {A : Type 0} → (A → List Lexeme → Type 0) → List Lexeme → Type 0
   Begins {A} R ts = (front more : List Lexeme) × (a : A) × AllAlike ts front × R a (front ++ more) × AllByRecursion Allowed (front ++ more)
 

@@ -12,7 +12,7 @@ pub record Scalars (C F : Type 0) : Type 0 where
   pub read : Kind → Text → Result C F
   pub of_bool : Bool → C
 
--- Each value ends in its span. The fields of an object are in their order, doubled keys kept.
+-- Each value ends in its span. The fields of an object are in their order, repeated keys kept.
 mutual
   pub data Value (C : Type 0) : Type 0 where
     Null : Span → Value C

@@ -30,7 +30,7 @@ pub fn one_type()
     ensures { (ts : List Lexeme) (a b : TypeRef) → IsType a ts → IsType b ts → a ≡ b }
 {}
 
-/// No value's list of tokens is a proper front of another's.
+/// No value's list of tokens is a proper prefix of another's.
 pub fn value_front<C, F>()
     ensures { (S : Scalars C F) (free : Bool) (us vs : List Lexeme) (v w : Value C) → IsValue S free v us → IsValue S free w (us ++ vs) → vs ≡ [] }
 {}
@@ -47,13 +47,13 @@ pub fn one_refusal<C, F>()
     ensures { (S : Scalars C F) (ts : List Lexeme) (i j : ℕ) (t u : Lexeme) (e d : Fault F) → DocumentRefusedAt S ts i t e → DocumentRefusedAt S ts j u d → (i ≡ j) × (t ≡ u) × (e ≡ d) }
 {}
 
-/// The tokens before the refused one are completed to a document by sample tokens alone.
+/// The tokens before the refused one can be completed to a document by sample tokens alone.
 pub fn fault_completed<C, F>()
     ensures { (S : Scalars C F) (ts : List Lexeme) (i : ℕ) → AllByRecursion IsSpelled ts → EndsOnce ts → AtFault IsSpelled (IsDocument S) ts i → (more : List Lexeme) × (ds : List (Definition C)) × AreSamples more × IsDocument S ds (take i ts ++ more) }
 {}
 
-/// Up to the end of the last token before the refused one, a text goes on, after a space, to a document's text, whose
-/// first tokens are those, with their spans. Up to the end of the refused one it doesn't.
+/// The text up to the end of the last token before the refused one, and a space, can be completed to a document's text
+/// whose first tokens are those, with their spans. Up to the end of the refused one it can't.
 pub fn fault_in_characters<C, F>()
     ensures { (S : Scalars C F) (source : List ℕ) (ts : List Lexeme) (i : ℕ) → Cut source ts → AtFault IsSpelled (IsDocument S) ts i → AtFaultInText S source ts i }
 {}
@@ -63,19 +63,19 @@ pub fn document_is_balanced<C, F>()
     ensures { (S : Scalars C F) (ts : List Lexeme) (ds : List (Definition C)) → IsDocument S ds ts → opened ts ≡ closed ts }
 {}
 
-/// A list that is refused at a token of its front is refused there whatever stands behind that front.
+/// A list that is refused at a token of a prefix is refused there whatever stands after that prefix.
 pub fn refused_in_front<C, F>()
     ensures { (S : Scalars C F) (front more other : List Lexeme) (i : ℕ) (t : Lexeme) (e : Fault F) → i < length front → DocumentRefusedAt S (front ++ more) i t e → DocumentRefusedAt S (front ++ other) i t e }
 {}
 
-/// Lists that are alike both are documents, whose trees differ in spans alone, or are both refused at the same number
+/// Lists that are alike are both documents, whose trees differ in spans alone, or are both refused at the same number
 /// with the same error.
 pub fn alike_documents<C, F>()
     ensures accepted { (S : Scalars C F) (ts us : List Lexeme) (a : List (Definition C)) → AllAlike ts us → IsDocument S a ts → (b : List (Definition C)) × IsDocument S b us × SameDocument a b }
     ensures refused { (S : Scalars C F) (ts us : List Lexeme) (i : ℕ) (t : Lexeme) (e : Fault F) → AllAlike ts us → DocumentRefusedAt S ts i t e → (u : Lexeme) × Alike t u × DocumentRefusedAt S us i u e }
 {}
 
-/// Lists that are alike both are values, which differ in spans alone, or are both none.
+/// Lists that are alike are both values, which differ in spans alone, or neither is one.
 pub fn alike_values<C, F>()
     ensures { (S : Scalars C F) (free : Bool) (ts us : List Lexeme) (a : Value C) → AllAlike ts us → IsValue S free a ts → (b : Value C) × IsValue S free b us × SameValue a b }
 {}
@@ -91,7 +91,7 @@ pub fn other_scalars<C, F>()
     ensures { (S T : Scalars C F) (ts : List Lexeme) (ds : List (Definition C)) → S.of_bool ≡ T.of_bool → AllByRecursion (IsReadAlso S T) ts → IsDocument S ds ts → IsDocument T ds ts }
 {}
 
-/// The tokens that a source is cut into are spelled, and the last one and no other is the end.
+/// The tokens that a source is cut into are spelled. The last of them, and no other, is the end.
 pub fn cut_is_spelled()
     ensures spelled { (source : List ℕ) (ts : List Lexeme) → Cut source ts → AllByRecursion IsSpelled ts }
     ensures ended { (source : List ℕ) (ts : List Lexeme) → Cut source ts → EndsOnce ts }
@@ -107,12 +107,12 @@ pub fn document_is_read<C, F>()
     ensures { (S : Scalars C F) (ts : List Lexeme) → AllByRecursion IsSpelled ts → EndsOnce ts → GivesWhole (IsDocument S) (DocumentRefusedAt S ts) ts (fully (λ n. reads S n document) ts) }
 {}
 
-/// The reading of a value gives the one front that is a value, or refuses where the definitions do.
+/// The reading of a value gives the one prefix that is a value, or refuses where the definitions do.
 pub fn value_is_read<C, F>()
     ensures { (S : Scalars C F) (free : Bool) (ts : List Lexeme) → EndsOnce ts → GivesFront (IsValue S free) (ValueRefusedAt S free ts) ts (fully (λ n. symbol_at S n _ (a_value free)) ts) }
 {}
 
-/// The reading of a type gives the longest front that is a type, with its span, or refuses where the definitions do.
+/// The reading of a type gives the longest prefix that is a type, with its span, or refuses where the definitions do.
 pub fn type_is_read<C, F>()
     ensures { (S : Scalars C F) (ts : List Lexeme) → EndsOnce ts → GivesFront (λ x us. IsType x.0 us × (x.1 ≡ span_of us)) (TypeRefusedAt ts) ts (fully (λ n. symbol_at S n _ a_type) ts) }
 {}

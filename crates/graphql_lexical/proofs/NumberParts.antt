@@ -75,7 +75,7 @@ exponent_same t = (to, from)
     from : ReadExponent t → IsExponent t
     from (c, sign, ds, e, m, s, d) =
         let signed : (Maybe (One is_sign) · AreDigits) (sign ++ ds) =
-            record { front = sign; back = ds; whole = refl; first = s; second = (digits_same ds).1 d } in
+        record { front = sign; back = ds; whole = refl; first = s; second = (digits_same ds).1 d } in
         first_then t c (sign ++ ds) e m signed
 
 pub float_same : (t : List ℕ) → IsFloat t ↔ ReadFloat t

@@ -4,7 +4,8 @@ use Rattle.graphql_lexical.specs.Kinds.{Kind, Ellipsis, same_kind, is_fixed}
 use Rattle.graphql_lexical.specs.Cutting.{Lexeme}
 use Rattle.graphql_lexical.specs.Tokens.{written}
 
--- whether neighbours of these kinds are parted: the first is no punctuator, and the next is none either, or it is `...`
+-- whether neighbours of these kinds are separated: the first is no punctuator, and the next is none either, or it is
+-- `...`
 abbrev pub is_parted : Kind → Kind → Bool
 is_parted kind next = not (is_fixed kind) && (not (is_fixed next) || same_kind next Ellipsis)
 
@@ -12,12 +13,12 @@ is_parted kind next = not (is_fixed kind) && (not (is_fixed next) || same_kind n
 abbrev pub space_if : Bool → List ℕ
 space_if parted = if parted then codes " " else []
 
--- what stands between a token of this kind and those behind it
+-- what stands between a token of this kind and those after it
 abbrev pub parting : Kind → List Lexeme → List ℕ
 parting kind [] = []
 parting kind (x ∷ xs) = space_if (is_parted kind x.kind)
 
--- The tokens as they are written, one behind the other, with one space between neighbours that are parted.
+-- The tokens as they are written, one after another, with one space between neighbours that are separated.
 abbrev pub canonical : List Lexeme → List ℕ
 canonical [] = []
 canonical (x ∷ xs) = written x.kind x.text ++ (parting x.kind xs ++ canonical xs)

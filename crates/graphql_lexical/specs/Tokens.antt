@@ -88,22 +88,22 @@ IsString text = (units : List ℕ) × (text ≡ codes "\"" ++ (units ++ codes "\
 
 -- ---- block strings
 
--- three quotes
+-- a triple quote
 abbrev pub mark : List ℕ
 mark = codes "\"\"\""
 
--- neither three quotes nor a backslash and three quotes begin there
+-- neither a triple quote nor a backslash and a triple quote begin there
 abbrev pub BeginsNoMark : List ℕ → Type 0
 BeginsNoMark text = (take 3 text ≢ mark) × (take 4 text ≢ codes "\\" ++ mark)
 
--- The text is block units, where `after` follows it: a unit is a backslash and three quotes, or one source
--- character at which neither these nor three quotes begin.
+-- The text is block units, where `after` follows it: a unit is a backslash and a triple quote, or one source character
+-- at which neither these nor a triple quote begin.
 pub data AreBlockUnits : List ℕ → List ℕ → Type 0 where
   nothing : {after : List ℕ} → AreBlockUnits [] after
   escaped_mark : {units after : List ℕ} → AreBlockUnits units after → AreBlockUnits (codes "\\" ++ (mark ++ units)) after
   character : {c : ℕ} {units after : List ℕ} → IsTrue (is_source c) → BeginsNoMark (c ∷ units ++ after) → AreBlockUnits units after → AreBlockUnits (c ∷ units) after
 
--- three quotes, block units, three quotes
+-- a triple quote, block units, a triple quote
 abbrev pub IsBlockString : List ℕ → Type 0
 IsBlockString text = (units : List ℕ) × (text ≡ mark ++ (units ++ mark)) × AreBlockUnits units mark
 
@@ -145,17 +145,17 @@ abbrev pub between : List ℕ → List ℕ → List ℕ
 between [] whole = whole
 between (q ∷ qs) whole = take (length whole - 2 * length (q ∷ qs)) (drop (length (q ∷ qs)) whole)
 
--- the token's text: for a string what stands between its quotes, for a block string between its marks of three
+-- the token's text: for a string what stands between its quotes, for a block string between its triple quotes
 abbrev pub text_of : Kind → List ℕ → List ℕ
 text_of kind whole = between (quotes (spelling kind)) whole
 
--- a text between the same marks
+-- a text between the same quotes
 abbrev pub around : List ℕ → List ℕ → List ℕ
 around [] text = text
 around (q ∷ qs) text = q ∷ qs ++ (text ++ q ∷ qs)
 
--- how a token of this kind and text is written: a String's text between quotes, a block string's between three on each
--- side, the end as nothing
+-- how a token of this kind and text is written: a String's text between quotes, a block string's between triple quotes,
+-- the end as nothing
 abbrev pub written : Kind → List ℕ → List ℕ
 written kind text = around (quotes (spelling kind)) text
 

@@ -5,7 +5,7 @@ use crate::kind::Kind;
 #[derive(Clone, Copy)]
 pub enum State {
     Start,
-    /// A whole token, which nothing goes on with.
+    /// A whole token, which no character continues.
     Done(Kind),
     OneDot,
     TwoDots,
@@ -20,7 +20,7 @@ pub enum State {
     Point,
     /// The digits after a point.
     Fraction,
-    /// `e` or `E`.
+    /// The exponent letter, `e` or `E`.
     ExponentMark,
     ExponentSign,
     /// The digits of an exponent.
@@ -44,16 +44,16 @@ pub enum State {
     InBlock(Block),
 }
 
-/// What of its end has been read in a block string.
+/// What has been read of a block string's end.
 #[derive(Clone, Copy)]
 pub enum Block {
     Inside,
     OneQuote,
     TwoQuotes,
-    /// A backslash, with which three quotes stand for themselves.
+    /// A backslash, with which a triple quote stands for itself.
     Escaping,
     EscapedQuote,
     EscapedQuotes,
-    /// All three quotes.
+    /// The whole triple quote.
     Closed,
 }

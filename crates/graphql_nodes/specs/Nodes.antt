@@ -12,7 +12,7 @@ use Rattle.graphql_nodes.specs.declared.kind.NodeKind.TheVariants as kind
 
 -- ---- a node
 
--- What names a node: nothing, a name, a fragment's name and its type condition, or a type.
+-- The label of a node: nothing, a name, a fragment's name and its type condition, or a type.
 pub data Label : Type 0 where
   Unnamed : Label
   Named : Word → Label
@@ -25,7 +25,7 @@ pub record Node (C : Type 0) : Type 0 where
   pub label : Label
   -- what a scalar is known by
   pub content : Option C
-  -- how many of the nodes behind it are of parts in it
+  -- the number of the nodes after it that are of parts in it
   pub descendants : ℕ
 
 module _ {C : Type 0} where

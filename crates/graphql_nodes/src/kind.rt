@@ -9,7 +9,7 @@ pub enum NodeKind {
     Query,
     /// An operation that writes.
     Mutation,
-    /// An operation that stays.
+    /// A long-lived operation.
     Subscription,
     /// The definition of a fragment.
     Fragment,

@@ -7,12 +7,12 @@ ghost use Rattle.graphql_nodes.specs.Nodes.{Node, document_nodes};
 ghost use Rattle.graphql_nodes.specs.Forests.{IsForest};
 ghost use Rattle.graphql_nodes.specs.laws.SpanLaws.{NodesLieIn};
 
-/// Documents of the same nodes are the same tree, of whatever scalar types and tokens.
+/// Documents with the same nodes have the same tree, whatever their scalar types and tokens.
 pub fn nodes_tell_the_tree<C, F, G>()
     ensures { (S : Scalars C F) (T : Scalars C G) (ts us : List Lexeme) (a b : List (Definition C)) → IsDocument S a ts → IsDocument T b us → document_nodes a ≡ document_nodes b → a ≡ b }
 {}
 
-/// The nodes of every tree are a forest: each one's descendants stand behind it, as many as it says, before the next
+/// The nodes of every tree are a forest: each one's descendants stand after it, as many as it says, before the next
 /// node that is none of them.
 pub fn nodes_are_a_forest<C>()
     ensures forest { (a : List (Definition C)) → IsForest (document_nodes a) }

@@ -1,4 +1,4 @@
--- What is told of a text.
+-- What is reported of a text.
 use Rattle.std.specs.Prelude.{◌≡◌, ℕ, List, ◌++◌, codes, Option, Some, None, String, string_bytes, encode_utf8_all}
 use Rattle.std.specs.declared.alloc.Global.{Global}
 use Rattle.juniper_tokens.specs.Errors.{Fault, error_text}

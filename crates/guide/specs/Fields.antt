@@ -5,7 +5,7 @@ use Rattle.std.specs.Str.{chars}
 use Rattle.graphql_grammar.specs.Tokens.{Text}
 use Rattle.graphql_grammar.specs.Tree.{Selection, Field, FragmentSpread, InlineFragment, Selections, no_selections, selection, OptionalSelections, absent, present, Definition, Operation, Fragment}
 
--- what lent strings say
+-- what borrowed strings say
 abbrev pub texts : List (Bor (List ℕ)) → List Text
 texts names = map (λ name. chars name.now) names
 

@@ -24,8 +24,8 @@ module _ {C : Type 0} (scalars : Scalars C Error) where
     pub whole : lexemes ≡ front ++ left
     pub means : IsValue scalars true value front
 
-  -- The text begins with no value. Where it can't be cut into tokens, the fault is its first lexical one. Where it can,
-  -- the fault is at the first token with which no value goes on.
+  -- The text begins with no value. Where it can't be cut into tokens, the fault is its first lexical error. Where it
+  -- can, the fault is at the first token that cannot continue a value.
   pub record HasNoValue (source : List ℕ) (fault : Fault) : Type 0 where
     pub none : (value : Value C) → BeginsWith source value → ⊥
     pub lexical : (error : LexicalError) (at : Place) → Breaks source error at → fault ≡ lexical_fault error at
@@ -35,7 +35,7 @@ module _ {C : Type 0} (scalars : Scalars C Error) where
   abbrev pub FirstFault : List ℕ → List ℕ → Fault → Type 0
   FirstFault one other fault = HasNoValue one fault ⊎ (((value : Value C) × BeginsWith one value) × HasNoValue other fault)
 
-  -- Both texts begin with values, which are equal whatever their places, or are not, as the answer says.
+  -- Both texts begin with values, which are equal regardless of their places, or are not, as the result says.
   pub record AreCompared {S : Type 0} (content : S → C) (equal : S → S → Bool) (one other : List ℕ) (answer : Bool) : Type 0 where
     pub value : Spanning (InputValue S)
     pub other_value : Spanning (InputValue S)

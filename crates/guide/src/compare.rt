@@ -1,4 +1,4 @@
-//! Literals, compared whatever their places.
+//! Literals, compared regardless of their places.
 ghost use Rattle.std.specs.Prelude.{IfOk};
 ghost use Rattle.std.specs.Str.{chars};
 ghost use Rattle.juniper_tokens.specs.Errors.{view_fault};
@@ -13,7 +13,7 @@ use juniper::{
 };
 use std::alloc::Global;
 
-/// Whether two texts begin with the same value, however it is laid out. The first refusal of either is the answer.
+/// Whether two texts begin with the same value, regardless of their layout. Returns the first refusal of either.
 pub fn same_literal<S: ScalarValue>(
     alloc: Global,
     one: &str,

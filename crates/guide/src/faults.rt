@@ -1,4 +1,4 @@
-//! How a refusal is told.
+//! How a refusal is reported.
 ghost use Rattle.std.specs.Prelude.{◌≡◌, IfOk, string_bytes};
 ghost use Rattle.std.specs.Str.{chars};
 ghost use Rattle.juniper_tokens.specs.Errors.{view_fault};

@@ -7,7 +7,7 @@ use juniper::{DefaultScalarValue, ParseFailure, Span, parse_document_source};
 use std::alloc::{AllocError, Global};
 
 /// The span of a text's fault. Where the text can be cut into tokens, those that stand before it may be kept, whatever
-/// is typed next: after a space, some text behind them makes a document. None where the text is a document.
+/// is typed next: after a space, some text after them makes a document. None where the text is a document.
 pub fn kept_up_to(alloc: Global, source: &str) -> Result<Option<Span>, AllocError>
     ensures { IfOk result (λ span. IsKept (chars source.now) span) }
 {

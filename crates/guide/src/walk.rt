@@ -63,7 +63,7 @@ fn note_selection<'a, S: ScalarValue>(
     }
 }
 
-// The name of a field, and behind it those of the fields within.
+// The name of a field, and after it those of the fields within.
 #[cycle(fields)]
 fn note_field<'a, S: ScalarValue>(
     names: &mut Vec<&'a str>,

@@ -1,4 +1,4 @@
--- What is promised of a text, in the words of the grammar.
+-- What is promised for a text, in the words of the grammar.
 use Rattle.std.specs.Prelude.{◌≡◌, ◌≤◌, ℕ, suc, Bool, List, [], ◌∷◌, ◌++◌, drop, length, Result, Ok, Err, if◌then◌else◌}
 use Rattle.graphql_lexical.specs.Place.{Place, Span}
 use Rattle.graphql_lexical.specs.declared.kind.Kind.TheVariants.{EndOfFile}
@@ -19,11 +19,11 @@ use Rattle.juniper_tokens.specs.Errors as errors
 use Rattle.juniper_tokens.specs.Errors.{Error, Fault, Lexical, view_fault}
 use Rattle.juniper_tokens.specs.Cursor.{Read, Fails}
 
--- a lexical fault, of zero width
+-- a lexical error, of zero width
 abbrev pub lexical_fault : LexicalError → Place → Fault
 lexical_fault error at = record { error = Lexical error; span = record { start = at; end = at } }
 
--- A token is told by what is shown of it.
+-- A token is reported by what is shown of it.
 abbrev pub error_of : grammar.Fault Error → Error
 error_of grammar.UnexpectedEndOfFile = errors.UnexpectedEndOfFile
 error_of (grammar.UnexpectedToken kind text) = errors.UnexpectedToken (shown kind text)
@@ -51,15 +51,16 @@ module _ {C : Type 0} (S : Scalars C Error) where
     pub error : fault.error ≡ error_of says
     pub span : fault.span ≡ token.span
 
-  -- The text is no document. Where it can't be cut into tokens, the fault is its first lexical one. Where it can, the
+  -- The text is no document. Where it can't be cut into tokens, the fault is its first lexical error. Where it can, the
   -- fault is that of the grammar.
   pub record IsRefusal (source : List ℕ) (fault : Fault) : Type 0 where
     pub no_document : (lexemes : List Lexeme) (tree : List (Definition C)) → Cut source lexemes → IsDocument S tree lexemes → ⊥
     pub lexical : (error : LexicalError) (at : Place) → Breaks source error at → fault ≡ lexical_fault error at
     pub grammatical : (lexemes : List Lexeme) → Cut source lexemes → IsRefusedAt lexemes fault
 
-  -- Where the text can be cut into tokens, the fault is that of the grammar, in characters, too: up to the end of the
-  -- token before the refused one the text goes on, after a space, to a document's, and up to the refused one's it doesn't.
+  -- Where the text can be cut into tokens, the fault is that of the grammar, in characters, too: the text up to the end
+  -- of the token before the refused one, and a space, can be completed to a document's; up to the refused one's it
+  -- can't.
   abbrev pub IsRefusalInText : List ℕ → Fault → Type 0
   IsRefusalInText source fault = (lexemes : List Lexeme) → Cut source lexemes → (at : IsRefusedAt lexemes fault) × AtFaultInText S source lexemes at.number
 
@@ -77,14 +78,14 @@ AnswersAs view (Err e) read = (left : List Lexeme) × Fails e left read
 -- ---- literals
 
 module _ {A : Type 0} (R : A → List Lexeme → Type 0) where
-  -- A front of the tokens that were left means x, and was taken.
+  -- A prefix of the tokens that were left means x, and was taken.
   pub record Takes (x : A) (old left : List Lexeme) : Type 0 where
     pub taken : List Lexeme
     pub whole : old ≡ taken ++ left
     pub means : R x taken
 
-  -- No front of the tokens means anything. The fault has the span of the token at which they are refused, and names its
-  -- error. That token is taken, unless it is the end.
+  -- No prefix of the tokens means anything. The fault has the span of the token at which they are refused, and names
+  -- its error. That token is taken, unless it is the end.
   pub record Refuses (Refused : List Lexeme → ℕ → Lexeme → grammar.Fault Error → Type 0) (fault : Fault) (old left : List Lexeme) : Type 0 where
     pub none : (us vs : List Lexeme) (y : A) → old ≡ us ++ vs → R y us → ⊥
     pub number : ℕ
@@ -95,13 +96,13 @@ module _ {A : Type 0} (R : A → List Lexeme → Type 0) where
     pub span : fault.span ≡ token.span
     pub leaves : left ≡ past (token ∷ drop (suc number) old)
 
--- A value and no other front of the tokens was taken, or none is a value.
+-- The one prefix that is a value was taken, or none is one.
 abbrev pub AnswersValue : {X C : Type 0} → Scalars C Error → Bool → (X → Value C) → Result X ParseFailure → List Lexeme → List Lexeme → Type 0
 AnswersValue {C = C} S free view (Ok x) old left = Takes (IsValue S free) (view x) old left × ((us vs : List Lexeme) (y : Value C) → old ≡ us ++ vs → IsValue S free y us → (vs ≡ left) × (y ≡ view x))
 AnswersValue S free view (Err (failure.Refused e)) old left = Refuses (IsValue S free) (ValueRefusedAt S free) (view_fault e) old left
 AnswersValue S free view (Err failure.Memory) old left = Unit {0}
 
--- The longest front that is a type was taken, or none is one.
+-- The longest prefix that is a type was taken, or none is one.
 abbrev pub AnswersType : {X : Type 0} → (X → TypeRef × Span) → Result X ParseFailure → List Lexeme → List Lexeme → Type 0
 AnswersType view (Ok x) old left = Takes (λ y ts. IsType y.0 ts × (y.1 ≡ span_of ts)) (view x) old left × ((us vs : List Lexeme) (y : TypeRef) → old ≡ us ++ vs → IsType y us → length left ≤ length vs)
 AnswersType view (Err (failure.Refused e)) old left = Refuses IsType TypeRefusedAt (view_fault e) old left

@@ -25,7 +25,7 @@ BeginsUnmarked [] = Unit {0}
 BeginsUnmarked (NonNull ∷ ms) = ⊥
 BeginsUnmarked (ListModifier size ∷ ms) = Unit {0}
 
--- no `!` stands directly upon another, and no list has a size
+-- no `!` stands directly after another, and no list has a size
 abbrev pub AreWritable : List TypeModifier → Type 0
 AreWritable [] = Unit {0}
 AreWritable (NonNull ∷ ms) = BeginsUnmarked ms × AreWritable ms
@@ -45,7 +45,7 @@ type_of name ms = wrapped (NamedType name) ms
 
 -- ---- values
 
--- the text is cut into tokens that are this value but for its places, and the end
+-- the text is cut into tokens that are this value apart from its places, and the end
 pub record IsReadAsValue (text : Text) (value : Value Content) : Type 0 where
   pub lexemes : List Lexeme
   pub end : Lexeme

@@ -70,7 +70,7 @@ module _ {S C : Type 0} (content : S → C) where
 
 -- ---- types
 
--- these modifiers, from the innermost on, round a type
+-- these modifiers, the innermost first, around a type
 abbrev pub wrapped : TypeRef → List TypeModifier → TypeRef
 wrapped type [] = type
 wrapped type (modifier.NonNull ∷ ms) = wrapped (NonNullType type) ms

@@ -1,4 +1,4 @@
--- What is answered for a text within a limit on nesting.
+-- What is returned for a text within a limit on nesting.
 use Rattle.std.specs.Prelude.{◌≡◌, ◌⊎◌, ℕ, List, Option, Some, None, Result, Ok, Err, IfOk, ◌==◌, if◌then◌else◌}
 use Rattle.graphql_lexical.specs.Place.{Span}
 use Rattle.graphql_lexical.specs.Cutting.{Lexeme, Cut}
@@ -22,7 +22,7 @@ IfRefusedWithin (Err (limited.Parse (failure.Refused fault))) P = P fault
 IfRefusedWithin (Err (limited.Parse failure.Memory)) P = Unit {0}
 IfRefusedWithin (Err (limited.TooDeep span)) P = Unit {0}
 
--- Where a text is nested too deep, P holds of the span that is told.
+-- Where a text is nested too deep, P holds of the span that is reported.
 abbrev pub IfTooDeep : {X : Type 0} → Result X DepthFailure → (spans.Span → Type 0) → Type 0
 IfTooDeep (Ok x) P = Unit {0}
 IfTooDeep (Err (limited.Parse e)) P = Unit {0}
@@ -62,14 +62,14 @@ module _ {C : Type 0} (S : Scalars C Error) (depth : ℕ) (source : List ℕ) wh
   abbrev pub IsNestedTooDeep : Type 0
   IsNestedTooDeep = (span : Span) × HasTooDeep span
 
-  -- One of these three holds of the text, and no two do.
+  -- Exactly one of these three holds of the text.
   pub record HasOneAnswer : Type 0 where
     pub some : HasTreeWithin ⊎ (IsRefusedWithin ⊎ IsNestedTooDeep)
     pub tree_or_refused : HasTreeWithin → IsRefusedWithin → ⊥
     pub tree_or_too_deep : HasTreeWithin → IsNestedTooDeep → ⊥
     pub refused_or_too_deep : IsRefusedWithin → IsNestedTooDeep → ⊥
 
-  -- What is promised of an answer, by outcome.
+  -- What is promised of a result, by outcome.
   pub record AnswersWithin {X : Type 0} (view : X → List (Definition C)) (result : Result X DepthFailure) : Type 0 where
     pub accepted : IfOk result (λ x. HasTree S source (view x))
     pub refused : IfRefusedWithin result (λ fault. IsRefusal S source (view_fault fault))
@@ -77,7 +77,7 @@ module _ {C : Type 0} (S : Scalars C Error) (depth : ℕ) (source : List ℕ) wh
     pub within : IfDecided result IsWithin
     pub too_deep : IfTooDeep result (λ span. HasTooDeep (view_span span))
 
--- A fault of tokens that were ended behind a deep one, as it is told: of zero width is the end alone.
+-- A fault of tokens that were ended after a deep one, as it is reported: only the end has zero width.
 abbrev pub told_within : Option spans.Span → ParseFailure → DepthFailure
 told_within None e = limited.Parse e
 told_within (Some span) (failure.Refused fault) = if fault.span.start.index == fault.span.end.index then limited.TooDeep span else limited.Parse (failure.Refused fault)

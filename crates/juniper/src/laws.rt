@@ -39,12 +39,12 @@ pub use juniper_tokens::laws as tokens;
 use juniper_values::ScalarValue;
 pub use juniper_values::laws as values;
 
-/// A source text is cut into tokens in one way, or breaks at one place with one error, and never both.
+/// A source text has one cut into tokens, or one break at one place with one error, and never both.
 pub fn one_cut_or_break()
     ensures { (source : List ℕ) → CutsOnce source }
 {}
 
-/// Where a lexer fails at its source's break, a parser tells the lexical fault that stands there.
+/// Where a lexer fails at its source's break, a parser returns the lexical error that stands there.
 pub fn lexer_failures_are_told()
     ensures { (source : List ℕ) (failed : LexFailure) → FailsAtBreak source failed → IsRefusedAtBreak source (failure_of failed) }
 {}
@@ -61,13 +61,13 @@ pub fn one_too_deep<S: ScalarValue>()
     ensures { (depth : ℕ) (source : List ℕ) (a b : Span) → HasTooDeep (stated S.reading S.of_bool) depth source a → HasTooDeep (stated S.reading S.of_bool) depth source b → a ≡ b }
 {}
 
-/// Within a limit on nesting, a source text has a tree, is refused, or has a token that is nested too deep: always one of
-/// these, and never two.
+/// Within a limit on nesting, a source text has a tree, is refused, or has a token that is nested too deep: exactly one
+/// of these.
 pub fn one_answer_within<S: ScalarValue>()
     ensures { (depth : ℕ) (source : List ℕ) → HasOneAnswer (stated S.reading S.of_bool) depth source }
 {}
 
-/// Two source texts whose tokens are alike, in kinds and texts, both are documents, whose trees differ in spans alone,
+/// Two source texts whose tokens are alike, in kinds and texts, are both documents, whose trees differ in spans alone,
 /// or are both refused at the same token's number with the same error.
 pub fn alike_texts<S: ScalarValue>()
     ensures accepted { (a b : List ℕ) (ts us : List Lexeme) (x : List (Definition Content)) → Cut a ts → Cut b us → AllAlike ts us
@@ -76,31 +76,31 @@ pub fn alike_texts<S: ScalarValue>()
         → IsRefusal (stated S.reading S.of_bool) a f → (g : Fault) × IsRefusal (stated S.reading S.of_bool) b g × AreRefusedAlike (stated S.reading S.of_bool) ts us f g }
 {}
 
-/// Each scalar token of a document is one that the scalar type reads. A document of other scalars is the same document of
-/// these, where these are read from its scalar tokens as those are, and are the same `true` and `false`.
+/// Each scalar token of a document is one that the scalar type reads. A document of another scalar type is the same
+/// document of this one, if this type reads its scalar tokens as the other does, and has the same `true` and `false`.
 pub fn scalar_tokens<S: ScalarValue>()
     ensures read { (ts : List Lexeme) (tree : List (Definition Content)) → IsDocument (stated S.reading S.of_bool) tree ts → AllByRecursion (IsRead (stated S.reading S.of_bool)) ts }
     ensures of_others { (T : Scalars Content Error) (ts : List Lexeme) (tree : List (Definition Content)) → T.of_bool ≡ S.of_bool
         → AllByRecursion (IsReadAlso T (stated S.reading S.of_bool)) ts → IsDocument T tree ts → IsDocument (stated S.reading S.of_bool) tree ts }
 {}
 
-/// The display of a type is read back as that type, where its name is a Name, no `!` stands directly upon another, and
-/// no list has a size.
+/// The display of a type is read back as that type, if its name is a Name, no `!` stands directly after another, and no
+/// list has a size.
 pub fn type_display_is_read_back()
     ensures { (name : Text) (ms : List TypeModifier) → IsName name → AreWritable ms → IsReadAsType (type_text name ms) (type_of name ms) }
 {}
 
-/// The display of a plain value of default scalars is read back as that value, but its places.
+/// The display of a plain value of default scalars is read back as that value, apart from its places.
 pub fn value_display_is_read_back()
     ensures { (v : InputValue DefaultScalarValue) → IsPlain (view default_content v) → IsReadBack v }
 {}
 
-/// What a value of a tree is seen as, variant by variant: a scalar by its content.
+/// The view of a value of a tree, variant by variant: of a scalar its content.
 pub fn values_are_seen<S: ScalarValue>()
     ensures { SeesValues S.content }
 {}
 
-/// What a field and an inline fragment are seen as among the selections.
+/// The views of a field and of an inline fragment among the selections.
 pub fn selections_are_seen<S: ScalarValue>()
     ensures { SeesSelections S.content }
 {}

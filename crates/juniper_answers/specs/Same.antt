@@ -1,4 +1,4 @@
--- When two lists of entries are equal, in whatever order: at each key of either, both have a value, and the two are equal.
+-- When two lists of entries are equal, in any order: at each key of either, both have a value, and the two are equal.
 use Rattle.std.specs.Prelude.{Bool, List, String}
 use Rattle.std.specs.HashMap.{HashMap, entries_eq}
 use Rattle.std.specs.String.{string_eq}

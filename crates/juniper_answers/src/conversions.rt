@@ -1,4 +1,4 @@
-//! What can be made input values and answer values.
+//! Conversions to input values and answer values.
 ghost use Rattle.std.specs.Prelude.{◌≡◌, IfOk, MatchOption, string_bytes};
 ghost use Rattle.std.specs.Cow.{cow_str_bytes};
 ghost use Rattle.std.specs.Str.{chars};
@@ -16,20 +16,20 @@ use std::borrow::CowStr;
 
 /// A type whose values become input values with scalars of type `S`.
 pub trait IntoInputValue<S> {
-    // What input value a value becomes.
+    // The input value that a value becomes.
     ghost becomes: { Self → InputValue S → Type 0 };
 
-    /// The input value that the value becomes. `AllocError` where memory ran out; the value is dropped then.
+    /// Converts the value to an input value. Returns `AllocError` where memory ran out; the value is dropped then.
     fn into_input_value(self, alloc: Global) -> Result<InputValue<S>, AllocError>
         ensures { IfOk result (λ v. becomes self v) };
 }
 
 /// A type whose values become answer values with scalars of type `S`.
 pub trait IntoValue<S> {
-    // What answer value a value becomes.
+    // The answer value that a value becomes.
     ghost becomes: { Self → Value S → Type 0 };
 
-    /// The answer value that the value becomes. `AllocError` where memory ran out; the value is dropped then.
+    /// Converts the value to an answer value. Returns `AllocError` where memory ran out; the value is dropped then.
     fn into_value(self, alloc: Global) -> Result<Value<S>, AllocError>
         ensures { IfOk result (λ v. becomes self v) };
 }
@@ -91,7 +91,7 @@ impl<S: ScalarValue> IntoInputValue<S> for i32 {
     }
 }
 
-/// The scalar of the truth value.
+/// The scalar of the boolean.
 impl<S: ScalarValue> IntoInputValue<S> for bool {
     ghost becomes = { λ b v. input_view S.content v ≡ input_scalar (S.of_bool b) };
 
@@ -157,7 +157,7 @@ impl<S: ScalarValue> IntoValue<S> for i32 {
     }
 }
 
-/// The scalar of the truth value.
+/// The scalar of the boolean.
 impl<S: ScalarValue> IntoValue<S> for bool {
     ghost becomes = { λ b v. view S.content v ≡ scalar (S.of_bool b) };
 
@@ -166,7 +166,7 @@ impl<S: ScalarValue> IntoValue<S> for bool {
     }
 }
 
-/// The input value of a text's scalar. `AllocError` where memory ran out.
+/// The input value of a text's scalar. Returns `AllocError` where memory ran out.
 pub fn input_value_from_str<S: ScalarValue>(
     alloc: Global,
     text: &str,
@@ -176,7 +176,7 @@ pub fn input_value_from_str<S: ScalarValue>(
     Ok(InputValue::Scalar(scalar_from_str(alloc, text)?))
 }
 
-/// The answer value of a text's scalar. `AllocError` where memory ran out.
+/// The answer value of a text's scalar. Returns `AllocError` where memory ran out.
 pub fn value_from_str<S: ScalarValue>(alloc: Global, text: &str) -> Result<Value<S>, AllocError>
     ensures { IfOk result (λ v. view S.content v ≡ scalar (S.of_text (chars text.now))) }
 {

@@ -13,7 +13,7 @@ use juniper_values::{Scalar, ScalarValue};
 use std::fmt;
 use std::fmt::Write;
 
-/// Displays the value in JSON's form (GraphQL specification, October 2021, section 7.2.1), but for texts and keys, which
+/// Displays the value in JSON's form (GraphQL specification, October 2021, section 7.2.1), except that texts and keys
 /// stand between quotes without escaping.
 impl<S: ScalarValue> fmt::Display for Value<S> {
     ghost output = { λ v. Some (encode_utf8_all (data_text (scalar_display S.content S.str_in S.shown) (shape v))) };
@@ -88,7 +88,7 @@ fn write_scalar<S: ScalarValue, W: Write>(f: &mut fmt::Formatter<W>, scalar: &S)
     write!(f, "{shown}")
 }
 
-// What stands before an item or a field.
+// Writes what stands before an item or a field.
 fn write_separator<W: Write>(f: &mut fmt::Formatter<W>, first: bool) -> fmt::Result
     ensures { WritesOnOk W.write_str_gives f.old result (encode_utf8_all (separator first)) f.new }
 {

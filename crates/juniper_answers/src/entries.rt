@@ -16,7 +16,7 @@ use std::alloc::{AllocError, Global};
 use std::marker::Model;
 use std::{mem, slice, vec};
 
-/// Each key with the value at its place. A key or a value past the other's end counts for nothing.
+/// Each key with the value at its place. A key or a value past the other's end is ignored.
 #[derive(Drop)]
 pub struct Entries<V> {
     keys: IndexSet<String>,
@@ -27,7 +27,7 @@ impl<V> Entries<V> {
     ghost use Rattle.juniper_answers.specs.Entries.{entries_of, with_value};
     ghost use Rattle.juniper_answers.specs.contracts.entries.Entries.{the_row};
 
-    /// No entries, with room for some.
+    /// No entries, with capacity for some.
     pub fn with_capacity(alloc: Global, size: usize) -> Result<Self, AllocError>
         ensures { IfOk result (λ o. entries_of o ≡ []) }
     {
@@ -85,7 +85,7 @@ impl<V> Entries<V> {
         }
     }
 
-    /// Puts a value at a key.
+    /// Puts a value at a key, and returns the value that it replaces, if there is one.
     pub fn insert(&mut self, key: String, value: V) -> Result<Option<V>, (String, V)>
         ensures old { IfOk result (λ old. old ≡ lookup (has_text (string_bytes key)) (entries_of self.old)) }
         ensures put { OnOk result (entries_of self.new ≡ insert_entry string_eq (entries_of self.old) key value) }
@@ -117,7 +117,7 @@ impl<V> Entries<V> {
         self.keys.len().min(self.values.len())
     }
 
-    /// The value at a key.
+    /// The value at a key, or None.
     pub fn get(&self, key: &str) -> Option<&V>
         ensures { option_copied result ≡ lookup (has_text key.now) (entries_of self.now) }
     {
@@ -135,7 +135,7 @@ impl<V> Entries<V> {
         &mut self.values[place]
     }
 
-    /// The value at a key, to write.
+    /// The value at a key, mutable, or None.
     pub fn get_mut(&mut self, key: &str) -> Option<&mut V>
         ensures* writes_back { sem 𝓛 (LendsSo (the_row V.row) V.row self.entry result (λ n w. OnSome result (entries_of n ≡ set_value (has_text key.now) (entries_of self.old) w)) (λ n. entries_of n ≡ entries_of self.old)) }
         ensures value { option_copied_mut result ≡ lookup (has_text key.now) (entries_of self.old) }
@@ -146,7 +146,7 @@ impl<V> Entries<V> {
         }
     }
 
-    /// The entries by value, in order.
+    /// An iterator over the entries by value, in order.
     pub fn into_iter(self) -> IntoIter<V>
         ensures rest { result ≡ entries_of self }
         ensures runs { GivesInOrder (String Global × V) }
@@ -160,7 +160,7 @@ impl<V> Entries<V> {
         }
     }
 
-    /// The entries, in order.
+    /// An iterator over the entries, in order.
     pub fn iter(&self) -> Iter<'_, V>
         ensures rest { result ≡ entries_of self.now }
         ensures runs { ShowsInOrder (deref_pair {K = String Global} {X = V}) }
@@ -174,7 +174,7 @@ impl<V> Entries<V> {
     }
 }
 
-/// Keys and values, by reference.
+/// An iterator over keys and values, by reference.
 #[derive(Drop)]
 pub struct Iter<'a, V> {
     pub(crate) keys: slice::Iter<'a, String>,
@@ -205,7 +205,7 @@ impl<'a, V> Iterator for Iter<'a, V> {
     }
 }
 
-/// Keys and values, by value.
+/// An iterator over keys and values, by value.
 #[derive(Drop)]
 pub struct IntoIter<V> {
     keys: set::IntoIter<String>,
@@ -236,7 +236,7 @@ impl<V: Drop> Iterator for IntoIter<V> {
     }
 }
 
-// Equal where each key of either is in both, with equal values, in whatever order.
+// Equal if each key of either is in both, with equal values, in any order.
 impl<V: PartialEq> PartialEq for Entries<V> {
     ghost use Rattle.juniper_answers.specs.laws.EqualityLaws.{same_held_per};
     ghost use Rattle.juniper_answers.specs.Same.{same_held};

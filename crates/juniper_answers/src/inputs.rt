@@ -10,12 +10,13 @@ use juniper_tokens::Spanning;
 use juniper_values::{InputValue, ScalarValue};
 use std::alloc::{AllocError, Global};
 
-/// A type whose values can be made input values with scalars of type `S`.
+/// A type whose values can be converted to input values with scalars of type `S`.
 pub trait ToInputValue<S> {
-    // What input value stands for a value.
+    // The input value that stands for a value.
     ghost stands_for: { Self → InputValue S → Type 0 };
 
-    /// The value as an input value (GraphQL specification, October 2021, section 2.9). `AllocError` where memory ran out.
+    /// Converts the value to an input value (GraphQL specification, October 2021, section 2.9). Returns `AllocError`
+    /// where memory ran out.
     fn to_input_value(&self, alloc: Global) -> Result<InputValue<S>, AllocError>
         ensures { IfOk result (λ v. stands_for self.now v) };
 }

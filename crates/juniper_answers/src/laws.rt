@@ -22,7 +22,7 @@ use crate::value::{Fields, IntoFields, Object, Value};
 use juniper_values::ScalarValue;
 use std::hash::Hash;
 
-/// A text is a name exactly where it is one token, a Name with this very text.
+/// A text is a name exactly if it is one token, a Name with this very text.
 pub fn names_are_tokens()
     ensures { (text : List ℕ) → (is_name text ≡ true) ↔ IsOneName text }
 {}
@@ -37,13 +37,13 @@ pub fn objects_are_compared<S: Eq>()
     ensures { IsEqualityLike ⟦<Object<S> as PartialEq>⟧.eq }
 {}
 
-/// Values are equal where they are of one kind and hold equal parts, the fields of objects in whatever order.
+/// Values are equal if they are of one kind and hold equal parts, the fields of objects in any order.
 pub fn values_are_compared_by_parts<S: Eq>()
     ensures parts { ComparesParts S.eq ⟦<Value<S> as PartialEq>⟧.eq }
     ensures kinds { TellsKindsApart ⟦<Value<S> as PartialEq>⟧.eq }
 {}
 
-/// Objects are equal where they have the same keys, in whatever order, with equal values.
+/// Objects are equal if they have the same keys, in any order, with equal values.
 pub fn objects_are_compared_by_fields<S: Eq>()
     ensures { (a b : Object S) → ⟦<Object<S> as PartialEq>⟧.eq a b ≡ same_entries ⟦<Value<S> as PartialEq>⟧.eq (pairs a) (pairs b) }
 {}

@@ -10,20 +10,19 @@ use std::alloc::{AllocError, Global};
 use std::error::Error;
 use std::fmt;
 
-/// A name: an ASCII letter or `_`, and then ASCII letters, digits and `_`
-/// (GraphQL specification, October 2021, section 2.1.9). Whoever holds one knows that its text is so. Names are compared and
-/// ordered by their texts.
+/// A name: an ASCII letter or `_`, and then ASCII letters, digits and `_` (GraphQL specification, October 2021, section
+/// 2.1.9). The text of every `Name` has this form. Names are compared and ordered by their texts.
 #[derive(PartialEq, Eq, PartialOrd, Ord, Hash, Debug, Drop)]
 pub struct Name {
     text: String,
     pub ghost valid: { is_name (chars (string_bytes text)) ≡ true },
 }
 
-/// Why a text is no name, as a text. Two are compared and ordered by their texts.
+/// The error that a text is no name, as a text. Two are compared and ordered by their texts.
 #[derive(PartialEq, Eq, PartialOrd, Ord, Debug, Drop)]
 pub struct NameParseError(String);
 
-/// Why there is no name.
+/// Why no name was made.
 #[derive(Debug, Drop)]
 pub enum NameFailure {
     /// The text is no name.
@@ -75,7 +74,7 @@ impl Name {
 
     /// The name with this text.
     ///
-    /// `Invalid` tells that the text is no name, and shows the text; `Memory` that memory ran out.
+    /// Fails with `Invalid`, which shows the text, where the text is no name, and with `Memory` where memory ran out.
     pub fn new(alloc: Global, input: &str) -> Result<Name, NameFailure>
         ensures named { IfOk result (λ name. text_of_name name ≡ input.now) }
         ensures valid { OnOk result (is_name (chars input.now) ≡ true) }
@@ -99,7 +98,7 @@ impl Name {
     }
 }
 
-// Tells that a text is no name.
+// The error that a text is no name.
 fn refusal(alloc: Global, input: &str) -> NameFailure
     requires { is_name (chars input.now) ≡ false }
     ensures { IsRefusalOf input.now result }

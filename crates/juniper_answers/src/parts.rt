@@ -1,4 +1,4 @@
-//! Making answer values, and looking into them.
+//! Making answer values, and reading them.
 ghost use Rattle.std.specs.Prelude.{◌≡◌, option_map, Some, None, OnSome};
 ghost use Rattle.std.specs.Borrow.{sem, LendsSo};
 ghost use Rattle.juniper_answers.specs.Parts.{is_null, object_in, list_in, scalar_in};
@@ -57,7 +57,7 @@ impl<S> Value<S> {
         }
     }
 
-    /// The object that the value is, to write, if it is one. What is written is the object that the value then is.
+    /// The object that the value is, mutable, if it is one. What is written is the object that the value then is.
     pub fn as_mut_object_value(&mut self) -> Option<&mut Object<S>>
         ensures* writes_back { sem 𝓛 (LendsSo (value_row S.row) (object_row S.row) self.entry result (λ n o. OnSome result (n ≡ Value.Object o)) (λ n. n ≡ self.old)) }
         ensures value { option_map (λ o. fields_view (λ s. s) (pairs o.now)) result ≡ object_in (shape self.old) }

@@ -14,15 +14,15 @@ ghost use Rattle.juniper_answers.specs.Keys.{has_text};
 use crate::entries::{Entries, IntoIter, Iter};
 use std::alloc::{AllocError, Global};
 
-/// The fields of an object by reference, in order. It ends after the last.
+/// An iterator over the fields of an object by reference, in order. It ends after the last.
 pub type Fields<'a, S> = Iter<'a, Value<S>>;
 
-/// The fields of an object by value, in order. It ends after the last.
+/// An iterator over the fields of an object by value, in order. It ends after the last.
 pub type IntoFields<S> = IntoIter<Value<S>>;
 
-/// An answer value: what an executor answers with (GraphQL specification, October 2021, section 7.2).
+/// An answer value: what an executor returns (GraphQL specification, October 2021, section 7.2).
 ///
-/// Values are equal where they are of one kind and hold equal parts, the fields of objects in whatever order.
+/// Values are equal if they are of one kind and hold equal parts, the fields of objects in any order.
 #[derive(PartialEq, Eq, Drop)]
 #[cycle(value)]
 pub enum Value<S> {
@@ -39,10 +39,11 @@ pub enum Value<S> {
 /// An object of answer values: values at distinct keys, in the order in which the keys came (GraphQL specification,
 /// October 2021, section 7.2.2).
 ///
-/// Objects are equal where they have the same keys, in whatever order, with equal values.
+/// Objects are equal if they have the same keys, in any order, with equal values.
 ///
-/// Keys are hashed with a fixed seed: whoever picks them can make them collide, and a look-up then takes time in proportion
-/// to their number. So limit the fields of an object whose keys a stranger picks, also in `from_iter`.
+/// Keys are hashed with a fixed seed: whoever picks them can make them collide, and a look-up then takes time in
+/// proportion to their number. So limit the fields of an object whose keys an untrusted sender picks, also in
+/// `from_iter`.
 #[derive(PartialEq, Eq, Drop)]
 #[cycle(value)]
 pub struct Object<S> {
@@ -55,9 +56,10 @@ impl<S> Object<S> {
     ghost use Rattle.juniper_answers.specs.contracts.value.Object.{the_row};
     ghost use Rattle.juniper_answers.specs.contracts.value.Value.{the_row as value_row};
 
-    /// An object without fields, with room for some. The size is a hint: more fields may come, and each may be refused.
+    /// An object without fields, with capacity for some. The size is a hint: more fields may come, and each may be
+    /// refused.
     ///
-    /// `AllocError` where memory ran out.
+    /// Returns `AllocError` where memory ran out.
     pub fn with_capacity(alloc: Global, size: usize) -> Result<Self, AllocError>
         ensures { IfOk result (λ o. pairs o ≡ []) }
     {
@@ -66,10 +68,11 @@ impl<S> Object<S> {
         })
     }
 
-    /// Puts a value at a key. A value that is there is replaced in its place and handed back, and nothing is merged; a new
+    /// Puts a value at a key. A value that is there is replaced in its place and returned, and nothing is merged; a new
     /// key goes last.
     ///
-    /// Where memory ran out the key and the value come back, and the object is unchanged. A key that is there needs none.
+    /// Where memory ran out, returns the key and the value, and the object is unchanged. A key that is there needs no
+    /// memory.
     pub fn add_field(
         &mut self,
         key: String,
@@ -84,10 +87,10 @@ impl<S> Object<S> {
         self.entries.insert(key, value)
     }
 
-    /// The object of these pairs: each put in turn, as `add_field` puts it, into an object without fields.
+    /// The object of these pairs: each is put in turn, as `add_field` puts it, into an object without fields.
     ///
-    /// Of a doubled key the first place and the last value stay. `AllocError` where memory ran out; what came until then is
-    /// dropped. Condition: the iterator may be asked for its items, and ends.
+    /// A repeated key keeps its first place and takes the last value. Returns `AllocError` where memory ran out; what
+    /// came until then is dropped. Condition: the iterator may be asked for its items, and ends.
     pub fn from_iter<I: Iterator<Item = (String, Value<S>)>>(
         alloc: Global,
         items: I,
@@ -131,14 +134,14 @@ impl<S> Object<S> {
         self.entries.len()
     }
 
-    /// The value at a key, if there is one.
+    /// The value at a key, or None.
     pub fn get_field_value(&self, key: &str) -> Option<&Value<S>>
         ensures { option_copied result ≡ lookup (has_text key.now) (pairs self.now) }
     {
         self.entries.get(key)
     }
 
-    /// The value at a key, if there is one, to write. A write changes the value of this field alone.
+    /// The value at a key, mutable, or None. A write changes the value of this field alone.
     pub fn get_mut_field_value(&mut self, key: &str) -> Option<&mut Value<S>>
         ensures* writes_back { sem 𝓛 (LendsSo (the_row S.row) (value_row S.row) self.entry result (λ n w. OnSome result (pairs n ≡ set_value (has_text key.now) (pairs self.old) w)) (λ n. pairs n ≡ pairs self.old)) }
         ensures value { option_copied_mut result ≡ lookup (has_text key.now) (pairs self.old) }
@@ -146,7 +149,7 @@ impl<S> Object<S> {
         self.entries.get_mut(key)
     }
 
-    /// The fields by value, in order.
+    /// An iterator over the fields by value, in order.
     pub fn into_iter(self) -> IntoFields<S>
         ensures rest { result ≡ pairs self }
         ensures runs { GivesInOrder (String Global × Value S) }
@@ -157,7 +160,7 @@ impl<S> Object<S> {
         entries.into_iter()
     }
 
-    /// The fields, in order.
+    /// An iterator over the fields, in order.
     pub fn iter(&self) -> Fields<'_, S>
         ensures rest { result ≡ pairs self.now }
         ensures runs { ShowsInOrder (deref_pair {K = String Global} {X = Value S}) }

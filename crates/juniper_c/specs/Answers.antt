@@ -1,4 +1,4 @@
--- What a call answers of a source, and what it leaves in the caller's memory.
+-- What a call returns for a source, and what it leaves in the caller's memory.
 use Rattle.std.specs.Prelude.{◌≡◌, ◌<◌, ◌≤◌, ◌^◌, ◌⊎◌, ℕ, List, ◌++◌, take, drop, length, codes, encode_utf8_all, IsUtf8, chars, Result, Ok, Err, string_bytes}
 use Rattle.graphql_lexical.specs.Place.{Span}
 use Rattle.graphql_grammar.specs.Tree.{Scalars, Definition}
@@ -48,7 +48,7 @@ pub record HasDeepToken (source : List ℕ) (depth : ℕ) (span : Span) : Type 0
   pub utf8 : IsUtf8 source
   pub deep : HasTooDeep scalars depth (chars source) span
 
--- ---- what is told
+-- ---- what is reported
 
 -- the nodes of a tree
 abbrev pub nodes_of : List ℕ → List (Definition Content) → List Node
@@ -58,11 +58,11 @@ nodes_of source tree = told_nodes (chars source) 0 (document_nodes tree)
 abbrev pub texts_of : List (Definition Content) → List ℕ
 texts_of tree = encode_utf8_all (node_texts (document_nodes tree))
 
--- these stand where the room begins, and the rest of it is as it was
+-- these stand at the beginning of the buffer, and the rest of it is unchanged
 abbrev pub Begins : {A : Type 0} → List A → List A → List A → Type 0
 Begins xs old new = new ≡ xs ++ drop (length xs) old
 
--- as many of these as the room is long stand where it begins, and the rest of it is as it was
+-- as many of these as the buffer is long stand at its beginning, and the rest of it is unchanged
 abbrev pub Fills : {A : Type 0} → List A → List A → List A → Type 0
 Fills xs old new = new ≡ take (length old) xs ++ drop (length xs) old
 
@@ -80,7 +80,7 @@ HasMessage source depth message =
     ((fault : errors.Fault) × HasRefusal source depth fault × (message ≡ refusal_message fault))
     ⊎ ((span : Span) × HasDeepToken source depth span × (message ≡ deep_message span))
 
--- ---- before the rooms are looked at
+-- ---- before the buffers are looked at
 
 abbrev pub AnswersFlat : List ℕ → ℕ → Result Flat Stop → Type 0
 AnswersFlat source depth (Ok flat) = (length source < 2 ^ 32) × ((tree : List (Definition Content)) × HasDocument source depth tree

@@ -1,4 +1,4 @@
--- What a table from characters to bytes answers.
+-- What a table from characters to bytes returns.
 use Rattle.std.specs.Prelude.{◌≡◌, ℕ, min, List, length, Option, Some, None, slice_get}
 use Rattle.std.specs.Option.{unwrap_or}
 use Rattle.std.specs.Global.{Vec}
@@ -12,6 +12,6 @@ byte_from (Some starts) length index = unwrap_or (slice_get starts.items index) 
 abbrev pub byte_in : ByteTable → ℕ → ℕ
 byte_in table index = byte_from table.starts table.length index
 
--- the table answers for each index as the source has it
+-- the table returns for each index what the source has
 abbrev pub IsTableOf : List ℕ → ByteTable → Type 0
 IsTableOf source table = (index : ℕ) → byte_in table index ≡ byte_behind source index

@@ -1,4 +1,4 @@
--- What a call answers of a source's canonical text.
+-- What a call returns for a source's canonical text.
 use Rattle.std.specs.Prelude.{◌≡◌, ◌<◌, ◌≤◌, ◌^◌, ◌⊎◌, ℕ, List, length, IsUtf8, chars, string_bytes, encode_utf8_all}
 use Rattle.graphql_lexical.specs.Place.{Place}
 use Rattle.graphql_lexical.specs.Kinds.{LexicalError}
@@ -17,7 +17,7 @@ IsCanonicalStatus n = (n ≤ 2) ⊎ ((n ≡ 4) ⊎ ((n ≡ 6) ⊎ (n ≡ 7)))
 
 -- ---- what private contracts say
 
--- The fault is told of an error whose place fits.
+-- The fault reports an error whose place fits.
 abbrev pub IsToldRefusal : List ℕ → LexicalError → Place → Canonical → Type 0
 IsToldRefusal source error at (answer.Text text) = ⊥
 IsToldRefusal source error at (answer.Refused fault) = PlaceFits at → fault ≡ told_fault source (lexical_fault error at)

@@ -12,7 +12,7 @@ use Rattle.juniper_c.specs.declared.token.Token.{Token}
 use Rattle.juniper_c.specs.declared.tokens.Told.{Told}
 use Rattle.juniper_c.specs.declared.tokens.Told.TheVariants as told
 
--- What a source with a limit on its tokens gives, and what it makes of a room.
+-- What a source with a limit on its tokens gives, and what it makes of a buffer.
 abbrev pub AnswersTokens : List ℕ → ℕ → List Token → List Token → Told → Type 0
 AnswersTokens source most old new (told.Tokens count) = (length source < 2 ^ 32) × ((lexemes : List Lexeme) × HasTokens source lexemes
     × (length lexemes ≤ most + 1) × Fills (told_tokens (chars source) lexemes) old new × (count ≡ length lexemes))

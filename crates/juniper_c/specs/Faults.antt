@@ -1,4 +1,4 @@
--- Why a source has no tree, as C is told it.
+-- Why a source has no tree, as C gets it.
 use Rattle.std.specs.Prelude.{ℕ, List}
 use Rattle.graphql_lexical.specs.Place.{Span}
 use Rattle.graphql_lexical.specs.Kinds.{LexicalError, UnknownCharacter, UnexpectedCharacter, UnterminatedString, UnknownCharacterInString, UnknownEscapeSequence, UnexpectedEndOfFile, InvalidNumber}
@@ -11,7 +11,7 @@ use Rattle.juniper_c.specs.declared.fault.Reason.{Reason}
 abbrev pub because : ℕ → ℕ → ℕ → Reason
 because kind detail character = record { kind = kind; detail = detail; character = character }
 
--- why there is no token, and the character that it speaks of
+-- why there is no token, and the character that the error names
 abbrev pub lexical_reason : LexicalError → Reason
 lexical_reason (UnknownCharacter c) = because 2 1 c
 lexical_reason (UnexpectedCharacter c) = because 2 2 c

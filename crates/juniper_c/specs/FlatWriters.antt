@@ -1,4 +1,4 @@
--- What C is told while a source is read.
+-- What C gets while a source is read.
 use Rattle.std.specs.Prelude.{◌≡◌, ℕ, ◌+◌, ◌^◌, ◌<◌, List, [], ◌∷◌, string_bytes, encode_utf8_all}
 use Rattle.graphql_lexical.specs.Place as places
 use Rattle.graphql_grammar.specs.Tree.{Definition}
@@ -28,9 +28,9 @@ abbrev pub NodesFit : ℕ → List (Node Content) → Type 0
 NodesFit at [] = Unit {0}
 NodesFit at (node ∷ others) = NodeFits at node × NodesFit (at + byte_count (text_of_node node)) others
 
--- ---- what takes definitions
+-- ---- sinks of definitions
 
--- The nodes of these definitions of the source are told, where their numbers fit, and their texts.
+-- The nodes of these definitions of the source are reported, where their numbers fit, and their texts.
 pub record Holds (source : List ℕ) (it : FlatWriter) (ds : List (Definition Content)) : Type 0 where
   pub table : IsTableOf source it.table.now
   pub nodes : NodesFit 0 (document_nodes ds) → it.flat.nodes.items ≡ told_nodes source 0 (document_nodes ds)

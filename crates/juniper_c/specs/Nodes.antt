@@ -1,4 +1,4 @@
--- Nodes of a document, as C is told them.
+-- Nodes of a document, as C gets them.
 use Rattle.std.specs.Prelude.{ℕ, ◌+◌, ◌-◌, ℤ, pos, unsigned_abs, Bool, if◌then◌else◌, List, [], ◌∷◌, length, Option, Some, None, encode_utf8_all}
 use Rattle.graphql_lexical.specs.Place.{Span}
 use Rattle.graphql_grammar.specs.Tokens.{Text, Word}
@@ -52,7 +52,7 @@ content_number (text t) = 24
 content_number (boolean b) = 26
 content_number (custom ns) = custom_number ns
 
--- a scalar's number tells what stands
+-- a scalar's number says what stands
 abbrev pub node_number : NodeKind → Option Content → ℕ
 node_number kind None = kind_number kind
 node_number kind (Some content) = content_number content
@@ -123,7 +123,7 @@ content_value at None None None = no_value
 abbrev pub condition_value : Extent → Value
 condition_value extent = record { number = pos extent.start; length = extent.end - extent.start }
 
--- what a scalar tells, where there is one
+-- what a scalar reports, where there is one
 abbrev pub scalar_value : ℕ → Option Content → Value
 scalar_value at None = no_value
 scalar_value at (Some content) = content_value at (int_in content) (bool_in content) (str_in content)

@@ -1,9 +1,9 @@
--- Places of a source, as C is told them.
+-- Places of a source, as C gets them.
 use Rattle.std.specs.Prelude.{ℕ, List, take, length, encode_utf8_all}
 use Rattle.graphql_lexical.specs.Place as places
 use Rattle.juniper_c.specs.declared.place.Place.{Place}
 
--- how many bytes of a source stand before the character of this index; all of them where there is none
+-- the number of bytes of a source before the character of this index, or of all bytes where there is none
 abbrev pub byte_behind : List ℕ → ℕ → ℕ
 byte_behind source index = length (encode_utf8_all (take index source))
 

@@ -10,7 +10,7 @@ use Rattle.juniper_nodes.specs.Literal.{string_reading, of_large_int, of_float, 
 use Rattle.juniper_c.specs.declared.scalar.Scalar.{Scalar}
 use Rattle.juniper_c.specs.declared.scalar.Scalar.TheVariants as scalar
 
--- the default type's contents, and else those of literals, with no text written
+-- the default type's contents, and otherwise those of literals, with no text written
 abbrev pub scalar_content : Scalar → Content
 scalar_content (scalar.Default s) = default_content s
 scalar_content scalar.LargeInt = of_large_int []

@@ -1,4 +1,4 @@
--- From one token of a source to the next.
+-- Steps from one token of a source to the next.
 use Rattle.std.specs.Prelude.{◌≡◌, false}
 use Rattle.graphql_lexical.specs.declared.kind.Kind.TheVariants.{EndOfFile}
 use Rattle.graphql_lexical.specs.Cutting.{Lexeme, Stands}
@@ -8,7 +8,7 @@ use Rattle.juniper_tokens.specs.Spans.{view_span}
 use Rattle.juniper_c.specs.declared.step.Step.{Step}
 use Rattle.juniper_c.specs.declared.step.Step.TheVariants as step
 
--- A step of a lexer goes past a token that isn't the end, past the end, or past a lexical error.
+-- A step of a lexer advances past a token that isn't the end, past the end, or past a lexical error.
 abbrev pub Steps : LexerState → Step → LexerState → Type 0
 Steps s (step.Token kind span) t = (token : Lexeme) × Stands s.source s.index token t.index × (token.kind ≡ EndOfFile → ⊥)
     × (kind ≡ token.kind) × (view_span span ≡ token.span) × (t.source ≡ s.source) × (t.ended ≡ false)

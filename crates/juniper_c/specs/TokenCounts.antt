@@ -11,13 +11,13 @@ use Rattle.juniper_c.specs.FlatWriters.{SpanFits}
 use Rattle.juniper_c.specs.declared.count.Counted.{Counted}
 use Rattle.juniper_c.specs.declared.count.Counted.TheVariants as counted
 
--- Behind a gap from place k on the source ends, or a rest stands there that begins with no token.
+-- After a gap from place k on the source ends, or a rest stands there that begins with no token.
 abbrev pub EndsAt : List ℕ → ℕ → Type 0
 EndsAt source k =
     ((token : Lexeme) × (next : ℕ) × Stands source k token next × (token.kind ≡ EndOfFile))
     ⊎ ((error : LexicalError) × (at : places.Place) × BreaksAt source k error at)
 
--- From place k on stand no more than so many tokens before the end, or before the first lexical error.
+-- From place k on stand no more than this many tokens before the end, or before the first lexical error.
 pub record HasFew (source : List ℕ) (k most : ℕ) : Type 0 where
   pub tokens : List Lexeme
   pub next : ℕ
@@ -25,7 +25,7 @@ pub record HasFew (source : List ℕ) (k most : ℕ) : Type 0 where
   pub ends : EndsAt source next
   pub few : length tokens ≤ most
 
--- From place k on stand so many tokens, none of them the end, and behind them one more, which has this span.
+-- From place k on stand this many tokens, none of them the end, and after them one more, which has this span.
 pub record HasMore (source : List ℕ) (k most : ℕ) (span : Span) : Type 0 where
   pub front : List Lexeme
   pub middle : ℕ
@@ -43,7 +43,7 @@ IsCountStatus n = (n ≡ 0) ⊎ ((n ≡ 2) ⊎ ((n ≡ 4) ⊎ ((n ≡ 7) ⊎ (n 
 
 -- ---- what private contracts say
 
--- The fault is told of a token whose numbers fit.
+-- The fault reports a token whose numbers fit.
 abbrev pub IsTooMany : List ℕ → Span → Counted → Type 0
 IsTooMany source span counted.Few = ⊥
 IsTooMany source span (counted.Many fault) = SpanFits span → fault ≡ many_fault source span

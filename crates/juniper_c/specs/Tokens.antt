@@ -1,4 +1,4 @@
--- Tokens of a source, as C is told them.
+-- Tokens of a source, as C gets them.
 use Rattle.std.specs.Prelude.{◌≡◌, ◌⊎◌, ℕ, ◌+◌, ◌-◌, ◌*◌, List, length, map, take, drop, IsUtf8, chars, encode_utf8_all}
 use Rattle.graphql_lexical.specs.Place.{Place, Span}
 use Rattle.graphql_lexical.specs.Kinds.{LexicalError, spelling}
@@ -31,7 +31,7 @@ kind_number kind.At = 16
 kind_number kind.Pipe = 17
 kind_number kind.EndOfFile = 18
 
--- how many quotes stand on each side of a token's text
+-- the number of quotes on each side of a token's text
 abbrev pub quote_count : Kind → ℕ
 quote_count kind = length (quotes (spelling kind))
 
@@ -55,7 +55,7 @@ told_tokens source xs = map (told_token source) xs
 abbrev pub text_bytes : List ℕ → Token → List ℕ
 text_bytes source token = take ((token.end.byte - token.start.byte) - 2 * token.quotes) (drop (token.start.byte + token.quotes) source)
 
--- a token is told with the bytes of its text
+-- a token is reported with the bytes of its text
 abbrev pub TellsText : List ℕ → Lexeme → Type 0
 TellsText source x = text_bytes source (told_token (chars source) x) ≡ encode_utf8_all x.text
 
@@ -66,7 +66,7 @@ pub record HasTokens (source : List ℕ) (lexemes : List Lexeme) : Type 0 where
   pub utf8 : IsUtf8 source
   pub cut : Cut (chars source) lexemes
 
--- The source is a text that begins with these tokens, none of them the end, and behind them stands this lexical error.
+-- The source is a text that begins with these tokens, none of them the end, and after them stands this lexical error.
 pub record HasFaultBehind (source : List ℕ) (before : List Lexeme) (error : LexicalError) (at : Place) : Type 0 where
   pub utf8 : IsUtf8 source
   pub next : ℕ

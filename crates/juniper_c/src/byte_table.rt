@@ -1,4 +1,4 @@
-//! From characters to bytes.
+//! Byte offsets of characters.
 ghost use Rattle.std.specs.Prelude.{◌≡◌, ◌<◌, ◌^◌, not, length, IfOk};
 ghost use Rattle.std.specs.Str.{chars};
 ghost use Rattle.juniper_tokens.specs.device.ByteRuns.{is_inner};
@@ -6,12 +6,12 @@ ghost use Rattle.juniper_c.specs.ByteTables.{byte_in, IsTableOf};
 
 use std::alloc::{AllocError, Global};
 
-/// Where the characters of a text begin in its bytes.
+/// A table of where the characters of a text begin in its bytes.
 #[derive(Drop)]
 pub(crate) struct ByteTable {
     // The first byte of each character; None where each character is one byte.
     starts: Option<Vec<u32>>,
-    // How many bytes the text has.
+    // The number of bytes of the text.
     length: u32,
 }
 
@@ -41,7 +41,7 @@ impl ByteTable {
         })
     }
 
-    /// How many bytes stand before the character of this index; all of them where there is none.
+    /// The number of bytes before the character of this index, or of all bytes where there is none.
     pub(crate) fn byte(&self, index: usize) -> u32
         ensures { result ≡ byte_in self.now index }
     {

@@ -22,7 +22,7 @@ use juniper_canonical::canonical_text;
 use juniper_tokens::LexFailure;
 use std::alloc::Global;
 
-/// Writes the canonical text of a source into the caller's room, or its first lexical error.
+/// Writes the canonical text of a source into the caller's buffer, or its first lexical error.
 #[unsafe(no_mangle)]
 pub extern "C" fn firthnapkin_canonical(
     alloc: Global,
@@ -33,24 +33,24 @@ pub extern "C" fn firthnapkin_canonical(
 ) -> u32
     ensures statuses { IsCanonicalStatus result }
 
-    // The room begins with the canonical text of the source's tokens.
+    // The buffer begins with the canonical text of the source's tokens.
     ensures canonical { result ≡ CANONICAL → (lexemes : List Lexeme) × HasTokens source.now lexemes
         × Begins (encode_utf8_all (canonical lexemes)) room.old room.new
         × (needed.new ≡ length (encode_utf8_all (canonical lexemes))) }
 
-    // It has not the room for it.
+    // The buffer is too short for it.
     ensures room { result ≡ ROOM → (lexemes : List Lexeme) × HasTokens source.now lexemes
         × (length room.old < length (encode_utf8_all (canonical lexemes)))
         × (needed.new ≡ length (encode_utf8_all (canonical lexemes))) }
 
-    // So a room twice as long as the source is never too short.
+    // So a buffer twice as long as the source is never too short.
     ensures bounds { needed.new ≤ 2 * length source.now }
     ensures refused { result ≡ REFUSED → IsUtf8 source.now × ((error : LexicalError) × (at : places.Place)
         × Breaks (chars source.now) error at × (fault.new ≡ told_fault (chars source.now) (lexical_fault error at))) }
     ensures no_text { result ≡ NOT_UTF8 → ¬ IsUtf8 source.now }
     ensures too_long { result ≡ TOO_LONG ↔ 2 ^ 32 ≤ length source.now }
 
-    // What is kept.
+    // What is left unchanged.
     ensures room_kept { result ≢ CANONICAL → room.new ≡ room.old }
     ensures no_count { result ≢ CANONICAL → result ≢ ROOM → needed.new ≡ 0 }
     ensures fault_kept { result ≢ REFUSED → fault.new ≡ fault.old }
@@ -98,7 +98,7 @@ fn canonical_of_text(alloc: Global, text: &str) -> Canonical
     }
 }
 
-// A source that is refused for this error, which stands there.
+// A source that is refused for this error at this place.
 fn refused(alloc: Global, text: &str, error: &LexerError, at: SourcePosition) -> Canonical
     requires { length text.now < 2 ^ 32 }
     ensures { IsToldRefusal (chars text.now) (view_lexer_error error.now) at result }

@@ -15,7 +15,7 @@ use juniper::Span;
 use juniper_tokens::Lexer;
 use std::alloc::Global;
 
-/// Says whether a source has more tokens than that, besides its end, and where the first one too many is.
+/// Reports whether a source has more tokens than the limit, besides its end, and where the first one too many is.
 #[unsafe(no_mangle)]
 pub extern "C" fn firthnapkin_count(
     alloc: Global,
@@ -76,7 +76,7 @@ fn count_of_text(alloc: Global, text: &str, most: u32) -> Counted
                 left -= 1;
             }
             Step::End(_) => return Counted::Few,
-            // None of what stands behind an error is a token.
+            // Nothing after an error is a token.
             Step::Fault(_) => return Counted::Few,
             Step::Memory => return Counted::Memory,
         }

@@ -1,4 +1,4 @@
-//! Why a source has no tree, as C is told it.
+//! Why a source has no tree, as C gets it.
 ghost use Rattle.std.specs.Prelude.{◌≡◌, ℕ, List};
 ghost use Rattle.juniper_tokens.specs.Errors.{view_error, view_fault, view_lexer_error};
 ghost use Rattle.juniper_tokens.specs.Spans.{view_span};
@@ -15,12 +15,12 @@ use juniper::{LexerError, ParseError, SourcePosition, Span, Spanning};
 #[repr(C)]
 #[derive(Clone, Copy)]
 pub struct Fault {
-    /// 0 for an unexpected token, 1 for an unexpected end, 2 where there is no token, 3 for a scalar, 4 for nesting, 5 for a
-    /// token too many.
+    /// 0 for an unexpected token, 1 for an unexpected end, 2 for a lexical error, 3 for a scalar, 4 for nesting, 5 for
+    /// a token too many.
     pub kind: u32,
     /// A number for each `LexerError`, from 1 on in their order; 0 where the source is refused for no such error.
     pub detail: u32,
-    /// The character that the lexer's error tells, or 0.
+    /// The character that the lexical error names, or 0.
     pub character: u32,
     pub start: Place,
     pub end: Place,

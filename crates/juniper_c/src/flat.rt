@@ -1,4 +1,4 @@
-//! What there is to tell of a source, before the caller's rooms are looked at.
+//! What is known of a source before the caller's buffers are looked at.
 ghost use Rattle.std.specs.Prelude.{◌≡◌, ◌<◌, ◌≤◌, ◌^◌, ◌++◌, ℕ, List, [], length, map, IfOk, OnOk, OnErr, string_bytes, encode_utf8_all};
 ghost use Rattle.std.specs.Str.{chars};
 ghost use Rattle.graphql_nodes.specs.Nodes.{definition_nodes};
@@ -21,14 +21,15 @@ use juniper::{Definition, DefinitionSink, DepthFailure, ParseFailure, parse_docu
 use juniper_nodes::push_definition;
 use std::alloc::{AllocError, Global};
 
-/// The nodes of a document, and their texts one behind the other.
+/// The nodes of a document, and their texts one after another.
 #[derive(Drop)]
 pub(crate) struct Flat {
     pub(crate) nodes: Vec<Node>,
     pub(crate) texts: String,
 }
 
-// What takes the definitions of a source and keeps what C is told of them, so that no tree is larger than a definition.
+// A sink that takes the definitions of a source and keeps what C gets of them, so that no tree is larger than a
+// definition.
 #[derive(Drop)]
 struct FlatWriter<'b> {
     alloc: Global,
@@ -51,7 +52,7 @@ impl DefinitionSink<Scalar> for FlatWriter<'_> {
     }
 }
 
-// About how many bytes of a source there are for a node: more nodes ask for more memory.
+// About how many bytes of a source there are for a node: more nodes need more memory.
 const BYTES_OF_A_NODE: usize = 8;
 
 // About how many nodes a definition has.
@@ -121,7 +122,8 @@ fn flat_of_text(alloc: Global, text: &str, depth: u32) -> Result<Flat, Stop>
     }
 }
 
-// Room for about as many nodes as a source of this length has, if there is as much: else the list grows as it must.
+// A list with capacity for about as many nodes as a source of this length has, if there is as much memory; otherwise
+// the list grows as it must.
 fn room_for_nodes(alloc: Global, length: usize) -> Vec<Node>
     ensures { result.items ≡ [] }
 {
@@ -131,7 +133,7 @@ fn room_for_nodes(alloc: Global, length: usize) -> Vec<Node>
     }
 }
 
-// Tells the nodes of a definition behind the others, or none of them.
+// Appends the nodes of a definition, or none of them.
 fn tell_definition<'t, 'a>(
     alloc: Global,
     flat: &mut Flat,
@@ -158,7 +160,7 @@ fn tell_definition<'t, 'a>(
     }
 }
 
-// Tells these nodes behind the others. Where memory runs out, some may stand there, and none of their texts.
+// Appends these nodes. Where memory runs out, some may stand there, and none of their texts.
 fn tell(
     alloc: Global,
     flat: &mut Flat,

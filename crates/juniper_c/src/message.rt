@@ -18,7 +18,7 @@ use juniper::{
 };
 use std::alloc::{AllocError, Global};
 
-/// Writes into the caller's room why a source has no tree.
+/// Writes into the caller's buffer why a source has no tree.
 #[unsafe(no_mangle)]
 pub extern "C" fn firthnapkin_message(
     alloc: Global,
@@ -39,7 +39,7 @@ pub extern "C" fn firthnapkin_message(
     ensures too_long { result ≡ TOO_LONG ↔ 2 ^ 32 ≤ length source.now }
     ensures depth_refused { result ≡ DEPTH ↔ ((MOST_DEPTH < depth) × (length source.now < 2 ^ 32)) }
 
-    // What is kept.
+    // What is left unchanged.
     ensures room_kept { result ≢ REFUSED → result ≢ TOO_DEEP → room.new ≡ room.old }
     ensures no_message { result ≢ REFUSED → result ≢ TOO_DEEP → result ≢ ROOM → needed.new ≡ 0 }
 {

@@ -1,4 +1,4 @@
-//! Nodes, as C is told them.
+//! Nodes, as C gets them.
 ghost use Rattle.std.specs.Prelude.{◌≡◌, ◌-◌, ◌+◌, ◌^◌, ◌<◌, ◌++◌, ℕ, List, [], length, pos, option_map, option_and_then, OnOk, string_bytes, encode_utf8_all};
 ghost use Rattle.std.specs.Option.{unwrap_or};
 ghost use Rattle.std.specs.Str.{chars};
@@ -24,23 +24,23 @@ use std::alloc::AllocError;
 #[repr(C)]
 #[derive(Clone, Copy)]
 pub struct Node {
-    /// What it stands for, a number for each `NodeKind` in their order, for a scalar one for each kind of literal.
+    /// What it stands for: a number for each `NodeKind` in their order, for a scalar one for each kind of literal.
     pub kind: u32,
-    /// How many of the nodes behind it are of parts in it.
+    /// The number of the nodes after it that are of parts in it.
     pub descendants: u32,
     pub start: Place,
     pub end: Place,
-    /// The first byte of the source that names it, and the one behind the last.
+    /// The first byte of the source that names it, and the one after the last.
     pub name_start: u32,
     pub name_end: u32,
     /// An Int's number, a Boolean's 0 or 1, the byte of the texts where a string's meaning or a type begins, the byte of
     /// the source where a fragment's type condition begins.
     pub value: i64,
-    /// How many bytes the text or the type condition has.
+    /// The number of bytes of the text or the type condition.
     pub value_length: u32,
 }
 
-// Two places between bytes.
+// Two offsets in bytes.
 #[derive(Clone, Copy)]
 struct Extent {
     start: u32,
@@ -81,7 +81,7 @@ pub(crate) fn told_node(
     }
 }
 
-/// Puts what the node has in the texts behind the others.
+/// Appends what the node has in the texts.
 pub(crate) fn write_node(
     texts: &mut String,
     node: &juniper_nodes::Node<'_, '_, Scalar>,

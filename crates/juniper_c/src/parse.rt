@@ -15,7 +15,7 @@ use crate::node::Node;
 use crate::status::{DEPTH, MEMORY, NOT_UTF8, REFUSED, ROOM, TOO_DEEP, TOO_LONG, TREE};
 use std::alloc::Global;
 
-/// Writes the nodes of a source's tree and their texts into the caller's rooms, or its fault.
+/// Writes the nodes of a source's tree and their texts into the caller's buffers, or its fault.
 #[unsafe(no_mangle)]
 pub extern "C" fn firthnapkin_parse(
     alloc: Global,
@@ -29,17 +29,17 @@ pub extern "C" fn firthnapkin_parse(
 ) -> u32
     ensures statuses { IsStatus result }
 
-    // The rooms begin with the nodes of the source's tree and with their texts.
+    // The buffers begin with the nodes of the source's tree and with their texts.
     ensures tree { result ≡ TREE → (tree : List (Definition Content)) × HasDocument source.now depth tree
         × Begins (nodes_of source.now tree) nodes.old nodes.new × Begins (texts_of tree) texts.old texts.new
         × (nodes_needed.new ≡ length (nodes_of source.now tree)) × (texts_needed.new ≡ length (texts_of tree)) }
 
-    // One of the two has not the room for them.
+    // One of the two is too short for them.
     ensures room { result ≡ ROOM → (tree : List (Definition Content)) × HasDocument source.now depth tree
         × ((length nodes.old < length (nodes_of source.now tree)) ⊎ (length texts.old < length (texts_of tree)))
         × (nodes_needed.new ≡ length (nodes_of source.now tree)) × (texts_needed.new ≡ length (texts_of tree)) }
 
-    // So rooms as long as the source are never too short.
+    // So buffers as long as the source are never too short.
     ensures bounds { (nodes_needed.new ≤ length source.now) × (texts_needed.new ≤ length source.now) }
     ensures refused { result ≡ REFUSED → (found : errors.Fault) × HasRefusal source.now depth found × (fault.new ≡ told_fault (chars source.now) found) }
     ensures too_deep { result ≡ TOO_DEEP → (span : places.Span) × HasDeepToken source.now depth span × (fault.new ≡ deep_fault (chars source.now) span) }
@@ -47,7 +47,7 @@ pub extern "C" fn firthnapkin_parse(
     ensures too_long { result ≡ TOO_LONG ↔ 2 ^ 32 ≤ length source.now }
     ensures depth_refused { result ≡ DEPTH ↔ ((MOST_DEPTH < depth) × (length source.now < 2 ^ 32)) }
 
-    // What is kept.
+    // What is left unchanged.
     ensures rooms_kept { result ≢ TREE → (nodes.new ≡ nodes.old) × (texts.new ≡ texts.old) }
     ensures no_counts { result ≢ TREE → result ≢ ROOM → (nodes_needed.new ≡ 0) × (texts_needed.new ≡ 0) }
     ensures fault_kept { result ≢ REFUSED → result ≢ TOO_DEEP → fault.new ≡ fault.old }
@@ -81,7 +81,7 @@ pub extern "C" fn firthnapkin_parse(
     }
 }
 
-// Copies both to the beginnings of their rooms, if both are long enough, and says whether they are.
+// Copies both to the beginnings of their buffers, if both are long enough, and returns whether they are.
 fn fill(nodes: &mut [Node], texts: &mut [u8], told: &[Node], bytes: &[u8]) -> bool
     ensures filled { result ≡ true → Begins told.now nodes.old nodes.new × Begins bytes.now texts.old texts.new }
     ensures short { result ≡ false → ((length nodes.old < length told.now) ⊎ (length texts.old < length bytes.now)) × (nodes.new ≡ nodes.old) × (texts.new ≡ texts.old) }

@@ -1,4 +1,4 @@
-//! Places of a source, as C is told them.
+//! Places of a source, as C gets them.
 ghost use Rattle.std.specs.Prelude.{◌≡◌, ℕ, ◌<◌, ◌^◌, List};
 ghost use Rattle.juniper_c.specs.Places.{told_place};
 ghost use Rattle.juniper_c.specs.FlatWriters.{PlaceFits};
@@ -7,7 +7,7 @@ ghost use Rattle.juniper_c.specs.ByteTables.{IsTableOf};
 use crate::byte_table::ByteTable;
 use juniper_tokens::SourcePosition;
 
-/// A place of the source: how many characters, line feeds, characters of its line and bytes stand before it.
+/// A place of the source: the number of characters, line feeds, characters of its line and bytes before it.
 #[repr(C)]
 #[derive(Clone, Copy)]
 pub struct Place {

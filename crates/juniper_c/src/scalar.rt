@@ -13,11 +13,11 @@ use juniper::{DefaultScalarValue, ParseScalarResult, ParseScalarValue, ScalarTok
 use std::alloc::{AllocError, Global};
 use std::fmt;
 
-/// A scalar as C is told it: what it means; of a number beyond the default type, its kind alone, since its text stands
-/// in the source.
+/// A scalar as C gets it: what it means; of a number beyond the default type, its kind alone, since its text stands in
+/// the source.
 #[derive(Debug, Drop)]
 pub(crate) enum Scalar {
-    /// What the default type reads, but for block strings.
+    /// What the default type reads, except block strings.
     Default(DefaultScalarValue),
     /// An Int beyond 32 bits.
     LargeInt,

@@ -13,7 +13,7 @@ pub(crate) enum Unread {
     TooLong,
 }
 
-/// The text that these bytes are.
+/// These bytes as a text, or why they are not read as one.
 pub(crate) fn text_of(source: &[u8]) -> Result<&str, Unread>
     ensures { MatchResult result (λ text. (text.now ≡ source.now) × (length source.now < 2 ^ 32)) (IsUnread source.now) }
 {

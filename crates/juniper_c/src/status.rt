@@ -1,4 +1,4 @@
-//! What a call answers.
+//! What a call returns.
 
 pub(crate) const TREE: u32 = 0;
 
@@ -24,5 +24,5 @@ pub(crate) const TOKENS: u32 = 0;
 
 pub(crate) const CANONICAL: u32 = 0;
 
-/// How many bytes of a source are too many: a byte's place in it is told in 32 bits.
+/// The least number of bytes of a source that is too many: an offset in it has 32 bits.
 pub(crate) const TOO_LONG_FROM: usize = 1 << 32;

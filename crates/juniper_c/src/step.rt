@@ -1,11 +1,11 @@
-//! From one token of a source to the next.
+//! Steps from one token of a source to the next.
 ghost use Rattle.std.specs.Prelude.{◌≡◌, false};
 ghost use Rattle.juniper_c.specs.Steps.{Steps};
 
 use juniper::{LexerError, Span, Spanning};
 use juniper_tokens::{Kind, LexFailure, Lexer};
 
-/// What stands behind the next gap: a token that isn't the end, the end, or a lexical error.
+/// What stands after the next ignored tokens: a token that isn't the end, the end, or a lexical error.
 #[derive(Drop)]
 pub(crate) enum Step {
     Token(Kind, Span),
@@ -14,7 +14,7 @@ pub(crate) enum Step {
     Memory,
 }
 
-/// Goes past the next gap and what stands behind it. The lexer has not ended.
+/// Skips the next ignored tokens, and takes what stands after them. The lexer has not ended.
 pub(crate) fn next_step(lexer: &mut Lexer<'_>) -> Step
     requires { lexer.old.ended ≡ false }
     ensures { Steps lexer.old result lexer.new }

@@ -1,4 +1,4 @@
-//! Tokens, as C is told them.
+//! Tokens, as C gets them.
 ghost use Rattle.std.specs.Prelude.{◌≡◌, ℕ, List};
 ghost use Rattle.juniper_tokens.specs.Spans.{view_span};
 ghost use Rattle.juniper_c.specs.ByteTables.{IsTableOf};
@@ -16,7 +16,7 @@ use juniper_tokens::Kind;
 pub struct Token {
     /// A number for each `Kind`, in their order.
     pub kind: u32,
-    /// How many quotes stand on each side of its text.
+    /// The number of quotes on each side of its text.
     pub quotes: u32,
     pub start: Place,
     pub end: Place,

@@ -21,8 +21,8 @@ use crate::token::{Token, token_at};
 use juniper_tokens::{Kind, Lexer};
 use std::alloc::Global;
 
-/// Writes the tokens of a source into the caller's room, its end among them, or where it has a lexical error or more tokens
-/// than that.
+/// Writes the tokens of a source into the caller's buffer, its end among them, or where it has a lexical error or more
+/// tokens than the limit.
 #[unsafe(no_mangle)]
 pub extern "C" fn firthnapkin_tokens(
     alloc: Global,
@@ -34,22 +34,22 @@ pub extern "C" fn firthnapkin_tokens(
 ) -> u32
     ensures statuses { IsTokensStatus result }
 
-    // The room begins with the source's tokens, the last of them the end.
+    // The buffer begins with the source's tokens, the last of them the end.
     ensures tokens { result ≡ TOKENS → (lexemes : List Lexeme) × HasTokens source.now lexemes × (length lexemes ≤ most + 1)
         × Begins (told_tokens (chars source.now) lexemes) tokens.old tokens.new × (tokens_needed.new ≡ length lexemes) }
 
-    // It is full of them, and has not the room for all.
+    // It is full of them, and too short for all.
     ensures room { result ≡ ROOM → (lexemes : List Lexeme) × HasTokens source.now lexemes × (length lexemes ≤ most + 1)
         × (length tokens.old < length lexemes)
         × Fills (told_tokens (chars source.now) lexemes) tokens.old tokens.new × (tokens_needed.new ≡ length lexemes) }
 
-    // It begins with the tokens before the source's first lexical error, as many as it has room for.
+    // It begins with the tokens before the source's first lexical error, as many as it has capacity for.
     ensures refused { result ≡ REFUSED → (before : List Lexeme) × (error : LexicalError) × (at : places.Place)
         × HasFaultBehind source.now before error at × (length before ≤ most)
         × Fills (told_tokens (chars source.now) before) tokens.old tokens.new × (tokens_needed.new ≡ length before)
         × Breaks (chars source.now) error at × (fault.new ≡ told_fault (chars source.now) (lexical_fault error at)) }
 
-    // It begins with the tokens before the first that is one too many, as many as it has room for.
+    // It begins with the tokens before the first that is one too many, as many as it has capacity for.
     ensures many { result ≡ MANY → IsUtf8 source.now × ((span : places.Span) × (more : HasMore (chars source.now) 0 most span)
         × Fills (told_tokens (chars source.now) more.front) tokens.old tokens.new × (tokens_needed.new ≡ most)
         × (fault.new ≡ many_fault (chars source.now) span)) }
@@ -60,14 +60,14 @@ pub extern "C" fn firthnapkin_tokens(
     ensures no_text { result ≡ NOT_UTF8 → ¬ IsUtf8 source.now }
     ensures too_long { result ≡ TOO_LONG ↔ 2 ^ 32 ≤ length source.now }
 
-    // So a room of one token more than the source has bytes is never too short.
+    // So a buffer of one token more than the source has bytes is never too short.
     ensures bounds { tokens_needed.new ≤ length source.now + 1 }
 
-    // A token that stands in the source is told with the bytes of its text.
+    // A token that stands in the source has the bytes of its text.
     ensures texts { IsUtf8 source.now → (k : ℕ) (x : Lexeme) (next : ℕ) → k ≤ length (chars source.now)
         → Stands (chars source.now) k x next → TellsText source.now x }
 
-    // What is kept.
+    // What is left unchanged.
     ensures room_kept { (result ≡ NOT_UTF8) ⊎ (result ≡ TOO_LONG) → tokens.new ≡ tokens.old }
     ensures no_count { (result ≡ NOT_UTF8) ⊎ ((result ≡ TOO_LONG) ⊎ (result ≡ MEMORY)) → tokens_needed.new ≡ 0 }
     ensures fault_kept { result ≢ REFUSED → result ≢ MANY → fault.new ≡ fault.old }
@@ -94,7 +94,7 @@ pub extern "C" fn firthnapkin_tokens(
     }
 }
 
-// What has been put into the room: so many tokens, the end among them, or those before a fault.
+// What has been put into the buffer: a number of tokens, the end among them, or those before an error.
 #[derive(Clone, Copy)]
 enum Told {
     Tokens(usize),

@@ -16,17 +16,17 @@ ghost use Rattle.juniper_canonical.specs.device.Parting.{is_behind_space};
 use juniper_tokens::{LexFailure, Lexer, ScalarToken, Token};
 use std::alloc::{AllocError, Global};
 
-/// The tokens of a source as they are written, one behind the other, with one space between two neighbours of which
-/// neither is a punctuator, and before `...` behind one that is none.
+/// The canonical text of a source: its tokens as they are written, one after another, with one space between two
+/// neighbours of which neither is a punctuator, and before `...` after one that is none.
 ///
-/// White space, line ends, commas, comments and byte order marks are left out (GraphQL specification, October 2021,
-/// section 2.1.7). Strings and block strings stay as they are written. So two sources have the same canonical text exactly
-/// where their tokens are alike, and are the same document then, or are refused alike; a canonical text is its own, and
-/// never more than twice as long as its source.
+/// Ignored tokens are left out: white space, line ends, commas, comments and byte order marks (GraphQL specification,
+/// October 2021, section 2.1.7). Strings and block strings stay as they are written. So two sources have the same
+/// canonical text exactly if their tokens are alike, and are the same document then, or are refused alike. A canonical
+/// text is its own canonical text, and never more than twice as long as its source.
 ///
-/// `LexFailure::Fault` is the source's first fault, with zero width, where the source can't be cut into tokens. Whether
-/// these make a document is not looked at. `LexFailure::Memory` where memory ran out: room for as many bytes as the source
-/// has is asked for at once.
+/// Returns `LexFailure::Fault` with the source's first lexical error, which has an empty span, where the source can't
+/// be cut into tokens. Whether these make a document is not checked. Returns `LexFailure::Memory` where memory ran out:
+/// capacity for as many bytes as the source has is requested at once.
 ///
 /// ```
 /// let text = canonical_text(alloc, "{ a, b(c: \"d\") } # all")?;
@@ -53,7 +53,7 @@ pub fn canonical_text(alloc: Global, source: &str) -> Result<String, LexFailure>
     Ok(text)
 }
 
-// Writes a token behind one that is bare or isn't, and answers whether it is bare: neither a punctuator nor the end.
+// Writes a token after one that is bare or isn't, and returns whether it is bare: neither a punctuator nor the end.
 fn write_token(out: &mut String, is_bare: bool, token: Token<'_>) -> Result<bool, AllocError>
     ensures bare { IfOk result (λ next. next ≡ not (is_fixed (token_kind token.entry))) }
     ensures text { IfOk result (λ next. string_bytes out.new ≡ string_bytes out.old
@@ -88,7 +88,7 @@ fn write_punctuator(out: &mut String, mark: char) -> Result<bool, AllocError>
     Ok(false)
 }
 
-// Writes `...` behind a token that is bare or isn't.
+// Writes `...` after a token that is bare or isn't.
 #[tactic(auto, using(crate::proofs::Growth::grown, crate::proofs::Growth::grown_none, crate::proofs::Growth::grown_text, crate::proofs::Marks::chars_dots))]
 fn write_ellipsis(out: &mut String, is_bare: bool) -> Result<bool, AllocError>
     ensures bare { IfOk result (λ next. next ≡ false) }
@@ -100,7 +100,7 @@ fn write_ellipsis(out: &mut String, is_bare: bool) -> Result<bool, AllocError>
     Ok(false)
 }
 
-// Writes a String, a block string or a number behind a token that is bare or isn't.
+// Writes a String, a block string or a number after a token that is bare or isn't.
 #[tactic(auto, using(crate::proofs::Marks::chars_quote, crate::proofs::Marks::chars_mark))]
 fn write_scalar(
     out: &mut String,
@@ -118,7 +118,7 @@ fn write_scalar(
     }
 }
 
-// Writes a text behind a token that is bare or isn't.
+// Writes a text after a token that is bare or isn't.
 fn write_word(out: &mut String, is_bare: bool, text: &str) -> Result<bool, AllocError>
     ensures bare { IfOk result (λ next. next ≡ true) }
     ensures text { IfOk result (λ next. string_bytes out.new ≡ string_bytes out.old
@@ -129,7 +129,7 @@ fn write_word(out: &mut String, is_bare: bool, text: &str) -> Result<bool, Alloc
     Ok(true)
 }
 
-// Writes a text between the same marks, behind a token that is bare or isn't.
+// Writes a text between the same quotes, after a token that is bare or isn't.
 fn write_quoted(
     out: &mut String,
     is_bare: bool,

@@ -38,12 +38,12 @@ literal_content (scalar.Float t) = of_float (text_of t)
 literal_content (scalar.String s) = of_string (text_of s.written) (text_of s.value)
 literal_content (scalar.BlockString s) = of_block (text_of s.written) (text_of s.value)
 
--- ---- what contents tell
+-- ---- what contents say
 
 abbrev pub characters : List ℤ → Text
 characters ns = map unsigned_abs ns
 
--- what stands behind the text of a string
+-- what stands after the text of a string
 abbrev pub meaning : List ℤ → Text
 meaning [] = []
 meaning (n ∷ ns) = drop (unsigned_abs n) (characters ns)

@@ -17,7 +17,7 @@ use Rattle.juniper_nodes.specs.declared.node.Label.{Label}
 use Rattle.juniper_nodes.specs.declared.node.Label.TheVariants as label
 use Rattle.juniper_nodes.specs.declared.node.Node.{Node}
 
--- what names a node of this span
+-- the label of a node of this span
 abbrev pub view_label : Span → Label → nodes.Label
 view_label span label.Unnamed = nodes.Unnamed
 view_label span (label.Name name) = nodes.Named (view_word name.now)
@@ -25,7 +25,7 @@ view_label span (label.Text text) = nodes.named (chars text.now) span
 view_label span (label.Fragment name condition) = nodes.OnType (view_word name.now) (view_word condition.now)
 view_label span (label.Type type) = nodes.Typed (view_type type.now)
 
--- the label tells this name, or that there is none, wherever the node stands
+-- the label has this name, or there is none, wherever the node stands
 abbrev pub TellsName : Label → Option Word → Type 0
 TellsName label name = (span : Span) → view_label span label ≡ nodes.name_of name
 
@@ -43,7 +43,7 @@ module _ {S C : Type 0} (content : S → C) where
   abbrev pub view_nodes : Vec (Node S) → List (nodes.Node C)
   view_nodes ns = map view_node ns.items
 
-  -- the new list has these nodes behind the old ones
+  -- the new list has these nodes after the old ones
   pub record Gains (old new : Vec (Node S)) (added : List (nodes.Node C)) : Type 0 where
     pub nodes : view_nodes new ≡ view_nodes old ++ added
 
@@ -57,7 +57,7 @@ module _ {S C : Type 0} (content : S → C) where
   Grows (Ok x) old new added = Gains old new added
   Grows (Err e) old new added = StandsInFront old new
 
-  -- The node at this place has its number of descendants: all nodes behind it.
+  -- The node at this place has its number of descendants: all nodes after it.
   pub record CountsInner (old new : Vec (Node S)) (place : ℕ) : Type 0 where
     pub nodes : (before inner : List (nodes.Node C)) (node : nodes.Node C) → length before ≡ place
         → view_nodes old ≡ before ++ (node ∷ inner)

@@ -1,8 +1,8 @@
-//! A node of a document, and what names it.
+//! A node of a document, and its label.
 use graphql_nodes::NodeKind;
 use juniper::{Span, Spanning, Type};
 
-/// What names a node (GraphQL specification, October 2021, section 2).
+/// The label of a node: what names it (GraphQL specification, October 2021, section 2).
 #[derive(Clone, Copy, Drop)]
 pub enum Label<'t, 'a> {
     /// Nothing.
@@ -17,16 +17,16 @@ pub enum Label<'t, 'a> {
     Type(&'t Type<&'a str>),
 }
 
-/// A part of a document (GraphQL specification, October 2021, section 2). It lends what it tells from the document's tree.
+/// A part of a document (GraphQL specification, October 2021, section 2). It borrows from the document's tree.
 #[derive(Drop)]
 pub struct Node<'t, 'a, S: Drop> {
     pub kind: NodeKind,
-    /// From the part's first character to the place behind its last.
+    /// From the part's first character to the place after its last.
     pub span: &'t Span,
     pub label: Label<'t, 'a>,
     /// The scalar, at a node of that kind alone.
     pub scalar: Option<&'t S>,
-    /// How many of the nodes behind this one are of parts in it: the next node that isn't stands at this one's index plus one
-    /// plus this number.
+    /// The number of the nodes after this one that are of parts in it: the next node that isn't stands at this one's
+    /// index plus one plus this number.
     pub descendants: usize,
 }

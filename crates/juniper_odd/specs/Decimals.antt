@@ -21,11 +21,11 @@ abbrev pub without_minus : Text → Text
 without_minus [] = []
 without_minus (c ∷ cs) = if c == 45 then cs else c ∷ cs
 
--- a whole part of one or more digits, an optional `-` in front, and a fraction of one to three digits
+-- a whole part of one or more digits, an optional leading `-`, and a fraction of one to three digits
 abbrev pub is_decimal : Text → Text → Bool
 is_decimal before after = is_digits (without_minus before) && is_digits after && nat_le (length after) 3
 
--- what fills one to three places up to three
+-- the zeros that fill one to three places up to three
 abbrev pub zeros : ℕ → Text
 zeros places = if places == 1 then codes "00" else if places == 2 then codes "0" else []
 
@@ -58,6 +58,6 @@ abbrev pub sign : ℤ → Text
 sign (pos n) = []
 sign (negsuc n) = codes "-"
 
--- a number of thousandths, a `-` in front of a negative one
+-- a number of thousandths, with a leading `-` where it is negative
 abbrev pub milli_text : ℤ → Text
 milli_text n = sign n ++ with_places (unsigned_abs n)

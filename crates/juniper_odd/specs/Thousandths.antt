@@ -10,7 +10,7 @@ use Rattle.juniper_odd.specs.Decimals.{thousandths_in, milli_text}
 use Rattle.juniper_odd.specs.declared.thousandths.Thousandths.{Thousandths}
 use Rattle.juniper_odd.specs.declared.thousandths.Thousandths.TheVariants as scalar
 
--- the content of so many thousandths
+-- the content of this many thousandths
 abbrev pub milli : ℤ → Content
 milli n = custom (n ∷ [])
 

@@ -26,7 +26,7 @@ pub record IsDocumentWithoutScalars (source : List ℕ) : Type 0 where
   pub tree : List (Definition Content)
   pub document : IsDocument scalars tree lexemes
 
--- A tree is answered where P holds, and a fault where it doesn't. Memory may run out.
+-- A tree is returned where P holds, and an error where it doesn't. Memory may run out.
 abbrev pub AcceptsExactly : {X : Type 0} → Result X ParseFailure → Type 0 → Type 0
 AcceptsExactly (Ok x) P = P
 AcceptsExactly (Err (failure.Refused fault)) P = ¬ P

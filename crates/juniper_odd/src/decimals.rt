@@ -34,7 +34,7 @@ fn is_decimal(whole: &str, fraction: &str) -> bool
     is_digits(without_minus(whole)) && is_digits(fraction) && fraction.len() <= 3
 }
 
-// The text without a `-` in front.
+// The text without a leading `-`.
 fn without_minus(text: &str) -> &str
     ensures { result.now ≡ without_minus text.now }
 {
@@ -62,7 +62,7 @@ fn all_digits(bytes: &[u8]) -> bool
     true
 }
 
-// The whole part, and behind it the fraction with zeros up to three places.
+// The whole part, and after it the fraction with zeros up to three places.
 fn joined(alloc: Global, whole: &str, fraction: &str) -> Result<String, AllocError>
     ensures { IfOk result (λ digits. string_bytes digits ≡ whole.now ++ filled fraction.now) }
 {
@@ -70,7 +70,7 @@ fn joined(alloc: Global, whole: &str, fraction: &str) -> Result<String, AllocErr
     format!(in alloc; "{whole}{fraction}{zeros}")
 }
 
-// What fills one to three places up to three.
+// The zeros that fill one to three places up to three.
 fn zeros(places: usize) -> &'static str
     ensures { result.now ≡ zeros places }
 {

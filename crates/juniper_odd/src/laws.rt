@@ -1,4 +1,4 @@
-//! What the parser's promise comes to where no literal is read.
+//! What the parser's contract means where no literal is read.
 ghost use Rattle.std.specs.Prelude.{IfOk};
 ghost use Rattle.std.specs.Str.{chars};
 ghost use Rattle.juniper_tokens.specs.Errors.{view_fault};
@@ -12,11 +12,11 @@ use juniper::laws::scalar_tokens;
 use juniper::{OwnedDocument, UnlocatedParseResult, parse_document_source};
 use std::alloc::Global;
 
-/// The tree of a text by `RefuseAll`: the documents without scalar tokens are exactly those that it accepts.
+/// Parses a text as a document by `RefuseAll`: it accepts exactly the documents without scalar tokens.
 ///
 /// Any other text is refused as the grammar refuses it: a scalar token where a value may stand as
-/// `ExpectedScalarError("No literals")`, and elsewhere as `UnexpectedToken`. `ParseFailure::Memory` where memory ran out.
-/// The stack holds the nesting of the text.
+/// `ExpectedScalarError("No literals")`, and elsewhere as `UnexpectedToken`. Returns `ParseFailure::Memory` where
+/// memory ran out. The stack holds the nesting of the text.
 pub fn documents_without_scalars<'a>(
     alloc: Global,
     source: &'a str,

@@ -1,4 +1,4 @@
-//! A scalar type whose error is a lexer's.
+//! A scalar type whose error is a lexical error.
 use crate::read_by::{ReadBy, TokenReader};
 use juniper::{
     DefaultScalarValue, LexerError, ParseError, ParseScalarResult, ParseScalarValue, ReadFailure,
@@ -8,11 +8,11 @@ use std::alloc::Global;
 
 /// Scalars of the default type whose strings are not read from tokens.
 ///
-/// A String and a block string are refused as `LexerError(InvalidNumber)`, which no lexer answers. An Int and a Float
+/// A String and a block string are refused as `LexerError(InvalidNumber)`, which no lexer returns. An Int and a Float
 /// are read as the default type reads them.
 pub type OddError = ReadBy<NoStrings>;
 
-/// The way of `OddError` to read tokens.
+/// How `OddError` reads tokens.
 #[derive(Debug, Drop)]
 pub struct NoStrings;
 

@@ -18,9 +18,9 @@ pub trait TokenReader {
     // What is stated of a token of that kind and text.
     ghost reads: { Kind → Text → Reading };
 
-    /// The scalar that the token spells in this way.
+    /// Reads the scalar of the token in this way.
     ///
-    /// `Refused` is the error that is stated of the token; `Memory` that memory ran out.
+    /// Fails with `Refused` and the error that is stated of the token, or with `Memory` where memory ran out.
     fn read(alloc: Global, token: ScalarToken<'_>) -> ParseScalarResult<DefaultScalarValue>
         ensures { MeetsReading default_content (reads (scalar_kind token.entry) (scalar_text token.entry)) result };
 }

@@ -8,7 +8,7 @@ use std::alloc::Global;
 /// Every scalar token, a block string too, is refused as `ExpectedScalarError("No literals")`.
 pub type RefuseAll = ReadBy<NoLiterals>;
 
-/// The way of `RefuseAll` to read tokens.
+/// How `RefuseAll` reads tokens.
 #[derive(Debug, Drop)]
 pub struct NoLiterals;
 

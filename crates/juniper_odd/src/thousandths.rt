@@ -18,7 +18,7 @@ use std::fmt;
 pub enum Thousandths {
     /// A scalar of the default type.
     Default(DefaultScalarValue),
-    /// So many thousandths.
+    /// This number of thousandths.
     Milli(i64),
 }
 
@@ -57,7 +57,7 @@ impl fmt::Display for Thousandths {
     }
 }
 
-/// A Float is read as a number of thousandths where it has no more than three places, no exponent, and a number of
+/// Reads a Float as a number of thousandths if it has no more than three places, no exponent, and a number of
 /// thousandths of 64 bits; any other is refused as `ExpectedScalarError("Not thousandths")`. An Int, a String and a
 /// block string are read as the default type reads them.
 impl ParseScalarValue<Thousandths> for Thousandths {
@@ -89,7 +89,7 @@ fn read_float(alloc: Global, text: &str) -> ParseScalarResult<Thousandths>
     }
 }
 
-// What a number of thousandths displays.
+// The display of a number of thousandths.
 fn milli_string(alloc: Global, number: i64) -> Result<String, AllocError>
     ensures { IfOk result (λ text. chars (string_bytes text) ≡ milli_text number) }
 {

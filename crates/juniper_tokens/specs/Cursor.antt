@@ -72,7 +72,7 @@ RefusesEnd (Ok x) ts = ⊥
 RefusesEnd (Err (failures.Refused e)) ts = view_fault e ≡ record { error = UnexpectedEndOfFile; span = (first_of ts).span }
 RefusesEnd (Err failures.Memory) ts = ⊥
 
--- The next lexeme is taken, and told as unexpected; at the end it stays.
+-- The next lexeme is taken, and reported as unexpected; at the end it stays.
 abbrev pub refused_at : {A : Type 0} → List Lexeme → Read A
 refused_at ts = next_at ts >>= λ t. Err (record { error = UnexpectedToken (shown t.0.kind t.0.text); span = t.0.span }, t.1)
 
@@ -104,12 +104,12 @@ OnMemory (Ok x) P = Unit {0}
 OnMemory (Err (failures.Refused e)) P = Unit {0}
 OnMemory (Err failures.Memory) P = P
 
--- the step tells that a token is unexpected, whose text takes memory
+-- the step reports that a token is unexpected, whose text takes memory
 abbrev pub WantsText : {A : Type 0} → Read A → Type 0
 WantsText (Ok x) = ⊥
 WantsText (Err f) = elim f.0.error [ UnexpectedToken t ↦ Unit {0} | _ ↦ ⊥ ]
 
--- Nothing was taken, and memory was wanted for the text of a refusal alone.
+-- Nothing was taken, and memory was needed for the text of an error alone.
 pub record Unmoved {A : Type 0} (old new : List Lexeme) (step : Read A) : Type 0 where
   pub same : new ≡ old
   pub wants : WantsText step

@@ -20,11 +20,11 @@ pub record IsProperRest (old new : List Lexeme) : Type 0 where
   pub rest : IsRest old new
   pub shorter : length new < length old
 
--- What the calls of a function may give: at a cursor an answer, and the cursor after it.
+-- What the calls of a function may give: at a cursor a result, and the cursor after it.
 abbrev pub Giving : Type 0 → Type 1
 Giving R = MutBor (List Lexeme) → R → MutBor (List Lexeme) → Type 0
 
--- At a cursor over these lexemes a call may answer r and leave the new ones.
+-- At a cursor over these lexemes a call may return r and leave the new ones.
 pub record Calls {R : Type 0} (gives : Giving R) (old : List Lexeme) (r : R) (new : List Lexeme) : Type 0 where
   pub given : MutBor (List Lexeme)
   pub given_is : given.now ≡ old
@@ -32,12 +32,12 @@ pub record Calls {R : Type 0} (gives : Giving R) (old : List Lexeme) (r : R) (ne
   pub called : gives given r left
   pub left_is : left.now ≡ new
 
--- An item is a proper rest further, and where there is none a rest was left.
+-- After an item a proper suffix is left, and where there is none a suffix.
 abbrev pub Leaves : {X R : Type 0} → Result X R → List Lexeme → List Lexeme → Type 0
 Leaves (Ok x) old new = IsProperRest old new
 Leaves (Err e) old new = IsRest old new
 
--- A function may be called wherever a proper rest of these lexemes stands, and reads on from there.
+-- A function may be called wherever a proper suffix of these lexemes stands, and reads on from there.
 pub record ReadsItems {X R : Type 0} (may_call : MutBor (List Lexeme) → Type 0) (gives : Giving (Result X R)) (ts : List Lexeme) : Type 0 where
   pub callable : (given : MutBor (List Lexeme)) → IsProperRest ts given.now → may_call given
   pub leaves : (given left : MutBor (List Lexeme)) (r : Result X R) → IsProperRest ts given.now → gives given r left → Leaves r given.now left.now
@@ -62,7 +62,7 @@ pub record IsRefused {R Y : Type 0} (from : ParseFailure → R → Type 0) (step
   pub refuses : Refuses failure old new step
 
 module _ {X R : Type 0} (gives : Giving (Result X R)) where
-  -- a call answers e, or there is no memory for its item
+  -- a call returns e, or there is no memory for its item
   pub data HasNoItem (from : ParseFailure → R → Type 0) (old : List Lexeme) (e : R) (new : List Lexeme) : Type 0 where
     refused : Calls gives old (Err e) new → HasNoItem from old e new
     no_memory : (item : X) → Calls gives old (Ok item) new → from failures.Memory e → HasNoItem from old e new
@@ -71,12 +71,12 @@ module _ {X R : Type 0} (gives : Giving (Result X R)) where
   abbrev pub OpenItem : Token → List Lexeme → X → List Lexeme → Type 0
   OpenItem closing ts x next = GoesOn closing ts × Calls gives ts (Ok x) next
 
-  -- an item, behind which no closing token stands
+  -- an item, after which no closing token stands
   abbrev pub ItemOpen : Token → List Lexeme → X → List Lexeme → Type 0
   ItemOpen closing ts x next = Calls gives ts (Ok x) next × GoesOn closing next
 
 module _ {X R : Type 0} (gives : Giving (Result X R)) (from : ParseFailure → R → Type 0) (opening closing : Token) where
-  -- After the opening token: items up to the closing one. The span goes from the one to the other.
+  -- After the opening token: items up to the closing one. The span runs from the one to the other.
   pub record ReadsList (old : List Lexeme) (items : List X) (span : Span) (new : List Lexeme) : Type 0 where
     pub opener : Lexeme
     pub first : List Lexeme

@@ -72,7 +72,7 @@ same_error (Lexical d) (Lexical e) = same_lexical_error d e
 same_error (ExpectedScalar s) (ExpectedScalar t) = same_text s t
 same_error d e = false
 
--- A text that is refused for a lexical fault is refused at the fault's place.
+-- A text that is refused for a lexical error is refused at the error's place.
 abbrev pub failure_of : LexFailure → ParseFailure
 failure_of (lexing.Fault fault) = parsing.Refused (record { item = parse.LexerError fault.item; span = fault.span })
 failure_of lexing.Memory = parsing.Memory

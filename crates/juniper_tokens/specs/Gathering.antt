@@ -19,6 +19,6 @@ IfMemory (Ok x) P Q = Q
 IfMemory (Err (failure.Fault fault)) P Q = Q
 IfMemory (Err failure.Memory) P Q = P
 
--- The lexer stands behind some of the tokens that were left, or has ended.
+-- The lexer stands after some of the tokens that were left, or has ended.
 abbrev pub StandsLaterOrEnded : LexerState → LexerState → Type 0
 StandsLaterOrEnded s t = ((tokens : List Lexeme) × Leads s.source s.index tokens t.index) ⊎ (t.ended ≡ true)

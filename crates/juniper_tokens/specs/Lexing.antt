@@ -22,7 +22,7 @@ pub record LexerState : Type 0 where
 abbrev pub started : List ℕ → LexerState
 started source = record { source = source; index = 0; ended = false }
 
--- From place k on stand a gap and then a rest with this fault at this place.
+-- From place k on stand a gap and then a rest with this lexical error at this place.
 pub record BreaksAt (source : List ℕ) (k : ℕ) (error : LexicalError) (at : Place) : Type 0 where
   pub gap : ℕ
   pub size : ℕ
@@ -30,18 +30,18 @@ pub record BreaksAt (source : List ℕ) (k : ℕ) (error : LexicalError) (at : P
   pub fails : Fails (drop (k + gap) source) size error
   pub at_is : at ≡ place source ((k + gap) + size)
 
--- A token stands where the lexer did, which is then behind it, and has ended where the token is the end.
+-- A token stands where the lexer did, which is then after it, and has ended where the token is the end.
 pub record GivesToken (s : LexerState) (token : Spanning Token) (t : LexerState) : Type 0 where
   pub stands : Stands s.source s.index (view_token token) t.index
   pub ends : (t.ended ≡ true) ↔ (token_kind token.item ≡ EndOfFile)
 
--- A fault of zero width stands where the lexer did, which has then ended.
+-- A lexical error of zero width stands where the lexer did, which has then ended.
 pub record GivesFault (s : LexerState) (fault : Spanning LexerError) (t : LexerState) : Type 0 where
   pub breaks : BreaksAt s.source s.index (view_lexer_error fault.item) fault.span.start
   pub zero_width : fault.span.end ≡ fault.span.start
   pub ends : t.ended ≡ true
 
--- No memory was left for the text of the escape that is the fault where the lexer stood, which has then ended.
+-- There was no memory for the text of the escape that is the error where the lexer stood, which has then ended.
 pub record WantsMemory (s : LexerState) (t : LexerState) : Type 0 where
   pub text : List ℕ
   pub at : Place

@@ -7,7 +7,7 @@ pub record Lines : Type 0 where
   pub starts : List ℕ
   pub count : ℕ
 
--- the lines that begin after these characters, which are character k and those behind it
+-- the lines that begin after these characters, which are character k and those after it
 abbrev pub starts_after : ℕ → List ℕ → List ℕ
 starts_after k [] = []
 starts_after k (c ∷ cs) = if c == 10 then (k + 1) ∷ starts_after (k + 1) cs else starts_after (k + 1) cs
@@ -29,7 +29,7 @@ abbrev pub AscendFrom : ℕ → List ℕ → Type 0
 AscendFrom k [] = Unit {0}
 AscendFrom k (s ∷ ss) = (k < s) × AscendFrom s ss
 
--- the first line begins with the source, and each further one behind the beginning of the one before it
+-- the first line begins with the source, and each further one after the beginning of the one before it
 abbrev pub StartLines : List ℕ → Type 0
 StartLines [] = ⊥
 StartLines (s ∷ ss) = (s ≡ 0) × AscendFrom s ss

@@ -1,4 +1,4 @@
--- From place to place.
+-- Steps from place to place.
 use Rattle.std.specs.Prelude.{ℕ, ◌+◌, List, ◌++◌, codes}
 use Rattle.std.specs.Fmt.{decimal}
 use Rattle.graphql_lexical.specs.Place.{Place}

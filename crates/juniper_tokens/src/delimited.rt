@@ -12,11 +12,11 @@ use crate::span::Spanning;
 use crate::token::Token;
 
 impl<'a> Parser<'a> {
-    /// The items between an opening and a closing token, each read by a call of `f`. There may be none.
+    /// Parses the items between an opening and a closing token, each by a call of `f`. There may be none.
     ///
-    /// The span goes from the opening to the closing token. The first refusal of a token or of an item is the
-    /// answer, and the cursor then stands where it left it. Where memory ran out a rest of the tokens is left; where the
-    /// list can't grow the item was taken.
+    /// The span runs from the opening to the closing token. The first refusal of a token or of an item is returned, and
+    /// the cursor then stands where it left it. Where memory ran out, a suffix of the tokens is left; where the list
+    /// can't grow, the item was taken.
     pub fn delimited_list<
         T: Drop,
         R: Drop + From<ParseFailure>,
@@ -43,9 +43,9 @@ impl<'a> Parser<'a> {
         }
     }
 
-    /// The items between an opening and a closing token, one or more, each read by a call of `f`.
+    /// Parses one or more items between an opening and a closing token, each by a call of `f`.
     ///
-    /// Span, refusals and want of memory are those of `delimited_list`.
+    /// The span, the refusals and what stands where memory ran out are those of `delimited_list`.
     pub fn delimited_nonempty_list<
         T: Drop,
         R: Drop + From<ParseFailure>,
@@ -65,10 +65,10 @@ impl<'a> Parser<'a> {
         self.unlocated_delimited_nonempty_list(opening, f, closing)
     }
 
-    /// The items between an opening and a closing token, one or more, each read by a call of `f` and without a
-    /// place of its own.
+    /// Parses one or more items without places of their own between an opening and a closing token, each by a call of
+    /// `f`.
     ///
-    /// Span, refusals and want of memory are those of `delimited_list`.
+    /// The span, the refusals and what stands where memory ran out are those of `delimited_list`.
     pub fn unlocated_delimited_nonempty_list<
         T: Drop,
         R: Drop + From<ParseFailure>,
@@ -90,7 +90,7 @@ impl<'a> Parser<'a> {
         }
     }
 
-    // Takes the opening token, and tells where it starts.
+    // Takes the opening token, and returns where it starts.
     fn take_opening<R: Drop + From<ParseFailure>>(
         &mut self,
         opening: &Token<'_>,
@@ -103,7 +103,7 @@ impl<'a> Parser<'a> {
         }
     }
 
-    // Takes the closing token, if it stands next, and tells where it ends.
+    // Takes the closing token if it stands next, and returns where it ends.
     fn take_closing<R: Drop + From<ParseFailure>>(
         &mut self,
         closing: &Token<'_>,
@@ -117,7 +117,7 @@ impl<'a> Parser<'a> {
         }
     }
 
-    // Reads an item, and puts it behind those that are there.
+    // Parses an item, and appends it to those that are there.
     fn take_item<T: Drop, R: Drop + From<ParseFailure>, F: Fn(&mut Parser<'a>) -> Result<T, R>>(
         &mut self,
         f: &F,

@@ -7,12 +7,12 @@ use crate::token::{Token, same_text, write_text};
 use std::alloc::{AllocError, AllocFailed, Global};
 use std::fmt;
 
-/// Why a text is no token.
+/// A lexical error: why a text is no token.
 #[derive(Debug, Drop, PartialEq, Eq)]
 pub enum LexerError {
     /// The character begins no token.
     UnknownCharacter(char),
-    /// What stood before this character begins a token, and does not go on with it.
+    /// The text before this character begins a token that this character does not continue.
     UnexpectedCharacter(char),
     /// The source or the line ends within a string.
     UnterminatedString,
@@ -22,18 +22,18 @@ pub enum LexerError {
     UnknownEscapeSequence(String),
     /// The source ends within a token.
     UnexpectedEndOfFile,
-    /// Kept from juniper. The lexer never answers it.
+    /// Kept from juniper. The lexer never returns it.
     InvalidNumber,
 }
 
 /// Why a text is refused.
 #[derive(Debug, Drop)]
 pub enum ParseError {
-    /// No document goes on with this token, which is told as it is displayed.
+    /// No document continues with this token, which is given as it is displayed.
     UnexpectedToken(String),
     /// The source ends within a document.
     UnexpectedEndOfFile,
-    /// The source has no token here.
+    /// A lexical error: the source has no token here.
     LexerError(LexerError),
     /// The scalar type does not read this literal.
     ExpectedScalarError(&'static str),
@@ -68,16 +68,16 @@ impl Eq for ParseError {
     ghost laws = { same_error-equiv };
 }
 
-/// Why a lexer gave no token.
+/// Why a lexer returned no token.
 #[derive(Debug, Drop)]
 pub enum LexFailure {
-    /// The text is no token. The fault has zero width.
+    /// A lexical error: the text is no token. Its span is empty.
     Fault(Spanning<LexerError>),
     /// Memory ran out.
     Memory,
 }
 
-/// Why a parser gave nothing.
+/// Why a parser returned nothing.
 #[derive(Debug, Drop)]
 pub enum ParseFailure {
     /// The text is refused.
@@ -92,7 +92,7 @@ pub type ParseResult<T> = Result<Spanning<T>, ParseFailure>;
 /// An item without a place, or why there is none.
 pub type UnlocatedParseResult<T> = Result<T, ParseFailure>;
 
-/// An item with its place, if it stands there, or why the text is refused.
+/// An item with its place, or None where it is absent, or why the text is refused.
 pub type OptionParseResult<T> = Result<Option<Spanning<T>>, ParseFailure>;
 
 impl From<AllocError> for ParseFailure {
@@ -115,7 +115,7 @@ impl<T: Drop> From<AllocFailed<T>> for ParseFailure {
     }
 }
 
-/// The lexer's fault is why the text is refused, at the same place. Want of memory stays so.
+/// A lexical error becomes a refusal at the same place. `Memory` stays `Memory`.
 impl From<LexFailure> for ParseFailure {
     ghost use Rattle.juniper_tokens.specs.Errors.{failure_of};
 
@@ -174,9 +174,9 @@ impl ParseError {
     ghost use Rattle.juniper_tokens.specs.Tokens.{shown_token};
     ghost use Rattle.juniper_tokens.specs.Errors.{view_error, UnexpectedToken};
 
-    /// The error that says that a token is unexpected, by the token's display.
+    /// The error `UnexpectedToken` with the token's display.
     ///
-    /// `AllocError` where memory ran out.
+    /// Returns `AllocError` where memory ran out.
     pub fn unexpected_token(alloc: Global, token: Token<'_>) -> Result<Self, AllocError>
         ensures { IfOk result (λ e. view_error e ≡ UnexpectedToken (shown_token token.entry)) }
     {

@@ -21,73 +21,72 @@ use crate::span::{Span, Spanning};
 use graphql_lexical::laws as lexical;
 use std::hash::Hash;
 
-/// Steps that are the same at all characters past ASCII go over the bytes of a text as over its characters.
+/// Steps that treat all non-ASCII characters alike go over the bytes of a text as over its characters.
 #[tactic(auto, using(crate::proofs::ByteRuns::reach_bytes))]
 pub fn bytes_go_as_characters<S>()
     ensures { (step : S → ℕ → Option S) → GoesOverBytes step }
 {}
 
-/// How many bytes are in each class.
+/// The number of bytes in each class.
 pub fn counts_of_classes()
     ensures { CountsOfClasses }
 {}
 
-/// What stands at the front of a text is exactly one token or exactly one fault.
+/// At the front of a text stands exactly one token or exactly one lexical error.
 pub fn one_answer()
     ensures { (rest : List ℕ) → HasOneAnswer rest }
 {
     lexical::one_answer();
 }
 
-/// Where three quotes begin a token they begin a block string.
+/// A triple quote that begins a token begins a block string.
 pub fn three_quotes_begin_a_block_string()
     ensures { (rest : List ℕ) → BeginsBlockString rest }
 {
     lexical::three_quotes_begin_a_block_string();
 }
 
-/// A source has exactly one cut into tokens or exactly one break, which is its first fault.
+/// A source has exactly one cut into tokens or exactly one break, which is its first lexical error.
 pub fn one_end()
     ensures { (source : List ℕ) → HasOneEnd source }
 {
     lexical::one_end();
 }
 
-/// Where two texts are put together that can't run into each other, the cut goes on: the tokens of the first without
-/// the end, with their spans, and then tokens alike with those of the second.
+/// Where two texts that can't run into each other are joined, the cut has the tokens of the first without the end, with
+/// their spans, and then tokens alike with those of the second.
 pub fn joined_texts()
     ensures { (a b : List ℕ) → Joins a b }
 {
     lexical::joined_texts();
 }
 
-/// Up to the end of one of its tokens that isn't its last, or up to its beginning, a source goes on with a space and
-/// then spelled tokens, a space behind each: the cut has the source's tokens up to that one, with their spans, then
-/// tokens alike with those, and the end.
+/// Take a source up to the end of one of its tokens that isn't the last, or up to the source's beginning, then a space
+/// and spelled tokens, each with a space after it: the cut has the source's tokens up to that one, with their spans,
+/// then tokens alike with the spelled ones, and the end.
 pub fn spaced_texts()
     ensures { (source : List ℕ) → GoesOnSpaced source }
 {
     lexical::spaced_texts();
 }
 
-/// A source of n characters has at most n + 1 tokens, the last of which and no other is the end.
+/// A source of n characters has at most n + 1 tokens. The last of them, and no other, is the end.
 pub fn few_tokens()
     ensures { (source : List ℕ) → HasFewTokens source }
 {
     lexical::few_tokens();
 }
 
-/// The slice of the source between a token's places is its text, of a String a quote, its text and a quote, of a block
-/// string three quotes, its text and three quotes. Each token stands behind the one before it.
+/// The slice of the source between a token's places is its text; of a String a quote, its text and a quote; of a block
+/// string a triple quote, its text and a triple quote. Each token stands after the one before it.
 pub fn slices_in_order()
     ensures { (source : List ℕ) → HasSlicesInOrder source }
 {
     lexical::slices_in_order();
 }
 
-/// The place of a source's beginning is the origin, and each further place follows from the one before it by
-/// the character between: a line feed begins a line, and any other character, a carriage return too, goes one
-/// column on.
+/// The place of a source's beginning is the origin. Each further place follows from the one before it by the character
+/// between: a line feed begins a line, and any other character, a carriage return too, adds one column.
 pub fn places_step_by_characters()
     ensures { (source : List ℕ) → StepsByCharacters source }
 {
@@ -102,14 +101,14 @@ pub fn positions_agree()
     ensures order { (p q : Place) → ⟦<SourcePosition as Ord>⟧.cmp p q ≡ compare_places p q }
 {}
 
-/// Spans are equal where they are the same, and items with their spans where both the items and the spans are.
+/// Spans are equal exactly if they are the same; items with their spans are equal if both the items and the spans are.
 pub fn spanned_items_are_compared_whole<T: PartialEq>()
     ensures spans { (s t : Span) → IsTrue (⟦<Span as PartialEq>⟧.eq s t) ↔ (s ≡ t) }
     ensures items { (x y : Spanning T) → ⟦<Spanning<T> as PartialEq>⟧.eq x y
         ≡ (T.eq x.item y.item && ⟦<Span as PartialEq>⟧.eq x.span y.span) }
 {}
 
-/// Errors are equal exactly where they are of the same kind, with the same character or text.
+/// Errors are equal exactly if they are of the same kind, with the same character or text.
 pub fn errors_are_compared_whole()
     ensures lexical { (a b : LexerError) → IsTrue (⟦<LexerError as PartialEq>⟧.eq a b) ↔ (view_lexer_error a ≡ view_lexer_error b) }
     ensures refusals { (a b : ParseError) → IsTrue (⟦<ParseError as PartialEq>⟧.eq a b) ↔ (view_error a ≡ view_error b) }

@@ -37,17 +37,18 @@ pub(crate) use walk::walk_text;
 /// A token with its place, or why there is none.
 pub type LexerResult<'a> = Result<Spanning<Token<'a>>, LexFailure>;
 
-/// The tokens of a source, one after another (GraphQL specification, October 2021, section 2.1).
+/// An iterator over the tokens of a source (GraphQL specification, October 2021, section 2.1).
 ///
-/// White space, line ends, commas and comments before a token are skipped. Places count characters, not bytes.
-/// The last item is the token `EndOfFile`, or the first fault, or want of memory; after it comes None alone.
+/// Ignored tokens are skipped: white space, line ends, commas and comments. Places count characters, not bytes. The
+/// last item is the token `EndOfFile`, the first lexical error, or the error that memory ran out; after it comes only
+/// None.
 #[derive(Drop)]
 pub struct Lexer<'a> {
     alloc: Global,
     source: &'a str,
-    // How many bytes stand before the rest.
+    // The offset of the rest, in bytes.
     at: usize,
-    // Where the rest begins, counted in characters.
+    // The place of the rest.
     position: SourcePosition,
     ended: bool,
 }
@@ -66,10 +67,10 @@ impl<'a> Model for Lexer<'a> {
 
 impl<'a> Lexer<'a> {
     /// A lexer at the beginning of a source (GraphQL specification, October 2021, section 2.1). It takes no memory; the
-    /// allocator serves the texts of faults alone.
+    /// allocator serves the texts of lexical errors alone.
     ///
-    /// A lexer is an iterator: each call of `next` gives a token with its span or the source's first lexical fault, and
-    /// `None` once it has given the end or a fault.
+    /// A lexer is an iterator: each call of `next` returns a token with its span or the source's first lexical error,
+    /// and `None` once it has returned the end or an error.
     ///
     /// ```
     /// for token in Lexer::new(alloc, "{ a }") {
@@ -109,7 +110,7 @@ impl<'a> Lexer<'a> {
         self.ended
     }
 
-    // Goes past white space and comments, and tells the class of the byte behind them.
+    // Skips ignored tokens, and returns the class of the byte after them.
     #[inline(always)]
     fn skip_gap(&mut self) -> ByteClass
         ensures passes { self.new ≡ past_gap self.old }
@@ -125,7 +126,7 @@ impl<'a> Lexer<'a> {
         gap.class
     }
 
-    // Goes past a token that stands here.
+    // Takes the token that was found here.
     fn take(&mut self, found: Found) -> TokenRange
         requires { Finds (drop self.old.index self.old.source) found }
         ensures source { self.new.source ≡ self.old.source }
@@ -154,10 +155,10 @@ impl<'a> Lexer<'a> {
         range
     }
 
-    /// A lexer that stands where this one does.
+    /// A copy of this lexer.
     ///
-    /// A call that is not inlined is made on such a one, which then takes the place of the lexer: so the lexer itself,
-    /// whose address no call gets, stays in registers from token to token.
+    /// A call that is not inlined is made on a copy, which then replaces the lexer. So the lexer itself, whose address
+    /// no call gets, stays in registers from token to token.
     #[inline(always)]
     pub(crate) fn duplicate(&self) -> Self
         ensures { result ≡ self.now }
@@ -171,9 +172,9 @@ impl<'a> Lexer<'a> {
         }
     }
 
-    /// Goes past white space and comments, and takes the token behind them if it is a plain one.
+    /// Skips ignored tokens, and takes the token after them if it is a plain one.
     ///
-    /// Else the lexer stands where a token may begin, which `next_other` takes.
+    /// Otherwise the lexer stands where a token may begin, which `next_other` takes.
     #[inline(always)]
     pub(crate) fn next_plain(&mut self) -> Option<TokenRange>
         ensures source { self.new.source ≡ self.old.source }
@@ -201,7 +202,7 @@ impl<'a> Lexer<'a> {
         item
     }
 
-    // The same, of a token its text and places.
+    // The same, with the token's text and places.
     #[inline(always)]
     fn next_other_token(&mut self) -> LexerResult<'a>
         ensures source { self.new.source ≡ self.old.source }
@@ -248,7 +249,7 @@ impl<'a> Lexer<'a> {
         }
     }
 
-    // The token of the range behind which the lexer stands.
+    // The token of the range at whose end the lexer stands.
     #[inline(always)]
     fn token(&self, range: TokenRange) -> Spanning<Token<'a>>
         requires range { IsRange self.now.source range }
@@ -269,8 +270,8 @@ impl<'a> Iterator for Lexer<'a> {
 
     ghost remaining = { λ s. at_most (items_left s) };
 
-    /// The next token, with its place. A fault is of zero width, at the character where the text goes wrong, or
-    /// at the end. Memory is wanted only for the text of an unknown escape.
+    /// Returns the next token, with its place. A lexical error has an empty span, at the character where the text goes
+    /// wrong, or at the end. Memory is needed only for the text of an unknown escape.
     #[inline(always)]
     fn next(&mut self) -> Option<LexerResult<'a>> {
         if self.has_ended() {

@@ -1,4 +1,4 @@
-//! Positions from the beginnings of lines.
+//! Positions found by the beginnings of lines.
 ghost use Rattle.std.specs.Prelude.{◌≡◌, ◌-◌, ◌≤◌, List, ℕ, length, IfOk, MatchOption};
 ghost use Rattle.std.specs.Str.{chars};
 ghost use Rattle.graphql_lexical.specs.Place.{place};
@@ -8,12 +8,12 @@ use crate::position::SourcePosition;
 use std::alloc::{AllocError, Global};
 use std::marker::Model;
 
-/// Where the lines of a source begin. Positions are found by a binary search.
+/// A table of where the lines of a source begin. Positions are found by a binary search.
 #[derive(Drop)]
 pub struct LineTable {
     // The index of the character at which each line begins.
     starts: Vec<usize>,
-    // How many characters the source has.
+    // The number of characters of the source.
     count: usize,
 }
 
@@ -35,7 +35,7 @@ struct Line {
 }
 
 impl Line {
-    // The place behind so many characters of the source, on this line.
+    // The place after `index` characters of the source, on this line.
     fn position(self, index: usize) -> SourcePosition
         requires before { self.start ≤ index }
         requires below { self.number ≤ self.start }
@@ -48,7 +48,7 @@ impl Line {
 impl LineTable {
     /// The table of a source. A line ends at a line feed alone.
     ///
-    /// `AllocError` where memory ran out: the table takes eight bytes a line.
+    /// Returns `AllocError` where memory ran out: the table takes eight bytes a line.
     pub fn new(alloc: Global, source: &str) -> Result<Self, AllocError>
         ensures { IfOk result (λ table. table ≡ lines_of (chars source.now)) }
     {
@@ -64,7 +64,7 @@ impl LineTable {
         Ok(LineTable { starts, count })
     }
 
-    /// The place behind `index` characters of the table's source, or None where that has fewer.
+    /// The place after `index` characters of the table's source, or None where it has fewer.
     pub fn position(&self, index: usize) -> Option<SourcePosition>
         ensures table { IsTable self.now }
         ensures place { (source : List ℕ) → self.now ≡ lines_of source → result ≡ place_within source index }
@@ -75,7 +75,7 @@ impl LineTable {
         Some(self.place(index))
     }
 
-    /// The place behind `index` characters of a source that has as many.
+    /// The place after `index` characters of a source that has as many.
     pub(crate) fn place(&self, index: usize) -> SourcePosition
         ensures { (source : List ℕ) → self.now ≡ lines_of source → index ≤ length source → result ≡ place source index }
     {

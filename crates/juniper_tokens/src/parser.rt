@@ -24,16 +24,16 @@ use graphql_lexical::Kind;
 use std::alloc::Global;
 use std::marker::Model;
 
-/// The tokens of a source that are left, the last of which and no other is the end.
+/// A cursor over the tokens of a source that are left. The last of them, and no other, is the end.
 ///
-/// The end is never taken: at the end each call answers `UnexpectedEndOfFile` with the end's place.
+/// The end is never taken: at the end each call that takes a token returns `UnexpectedEndOfFile` with the end's place.
 #[derive(Drop)]
 pub struct Parser<'a> {
     alloc: Global,
     source: &'a str,
-    // All tokens that the lexer had left. The text of one is found when it comes next.
+    // All tokens that the lexer had left. A token's text is found when it comes next.
     ranges: Vec<TokenRange>,
-    // How many have been taken.
+    // The number of tokens that have been taken.
     taken: usize,
     // The next token.
     current: Spanning<Token<'a>>,
@@ -55,9 +55,9 @@ impl<'a> Model for Parser<'a> {
 impl<'a> Parser<'a> {
     /// A cursor at the first of the tokens that a lexer has left, of which all are taken first.
     ///
-    /// So the lexer's first fault is the answer, whatever tokens stand before it. `Memory` says that the list of tokens
-    /// could not grow, or that the text of a fault could not be made. Unless memory ran out the lexer has ended. The
-    /// cursor keeps the lexer's allocator.
+    /// So the lexer's first lexical error is returned, whatever tokens stand before it. `Memory` is returned where the
+    /// list of tokens could not grow, or the text of an error could not be made. Unless memory ran out the lexer has
+    /// ended. The cursor keeps the lexer's allocator.
     ///
     /// ```
     /// let mut lexer = Lexer::new(alloc, "{ a }");
@@ -96,17 +96,17 @@ impl<'a> Parser<'a> {
         }
     }
 
-    /// The allocator of the lexer that gave the tokens. A `Global` is a handle without data: there is but one.
+    /// The allocator of the lexer that gave the tokens. A `Global` is a handle without data; there is only one.
     pub fn allocator(&self) -> Global
         ensures { (given : Allocator) → result ≡ given }
     {
         self.alloc
     }
 
-    /// Ends the tokens behind the first one at which more brackets are open than `depth`, and gives its span.
+    /// Ends the tokens after the first one at which more than `depth` brackets are open, and returns its span.
     ///
-    /// A bracket is `(`, `[` or `{`. The end then stands where that token ends. Where there is no such token, None is
-    /// the answer, and nothing changes.
+    /// A bracket is `(`, `[` or `{`. The end then stands where that token ends. If there is no such token, returns None
+    /// and changes nothing.
     pub fn end_at_nesting(&mut self, depth: usize) -> Option<Span>
         ensures { EndsAtNesting depth self.old result self.new }
     {
@@ -117,7 +117,7 @@ impl<'a> Parser<'a> {
         Some(span)
     }
 
-    /// The next token, which is left there.
+    /// The next token, which is not taken.
     pub fn peek(&self) -> &Spanning<Token<'a>>
         ensures first { view_token result.now ≡ first_of self.now }
         ensures ended { EndsOnce self.now }
@@ -125,7 +125,7 @@ impl<'a> Parser<'a> {
         &self.current
     }
 
-    /// The kind of the next token, which is left there.
+    /// The kind of the next token, which is not taken.
     #[inline(always)]
     pub fn kind(&self) -> Kind
         ensures is { result ≡ kind_at self.now }
@@ -140,7 +140,7 @@ impl<'a> Parser<'a> {
         self.kind() == Kind::EndOfFile
     }
 
-    /// Goes past the next token, which must not be the end.
+    /// Advances past the next token, which must not be the end.
     pub fn advance(&mut self)
         requires { same_kind (kind_at self.old) EndOfFile ≡ false }
         ensures { self.new ≡ drop 1 self.old }
@@ -166,7 +166,7 @@ impl<'a> Parser<'a> {
         token
     }
 
-    // The refusal at the end.
+    // The error at the end.
     #[cold]
     fn refuse_end<T: Drop>(&self) -> Result<T, ParseFailure>
         requires { same_kind (kind_at self.now) EndOfFile ≡ true }
@@ -176,7 +176,7 @@ impl<'a> Parser<'a> {
         Err(ParseFailure::Refused(Spanning::new(span, ParseError::UnexpectedEndOfFile)))
     }
 
-    /// Takes the next token. At the end it answers `UnexpectedEndOfFile`, and nothing is taken. It takes no memory.
+    /// Takes the next token. At the end it returns `UnexpectedEndOfFile`, and nothing is taken. It takes no memory.
     #[tactic(auto, using(crate::proofs::Rests::none_taken, crate::proofs::Rests::one_taken))]
     pub fn next_token(&mut self) -> ParseResult<Token<'a>>
         ensures gives { Gives view_token result self.new (next_at self.old) }
@@ -190,7 +190,7 @@ impl<'a> Parser<'a> {
         Ok(self.take())
     }
 
-    // Takes the next token, and tells that it is unexpected. At the end nothing is taken.
+    // Takes the next token, and returns the error that it is unexpected. At the end nothing is taken.
     #[tactic(auto, using(crate::proofs::Rests::none_taken, crate::proofs::Rests::one_taken))]
     #[cold]
     fn refuse<T: Drop>(&mut self) -> Result<T, ParseFailure>
@@ -207,10 +207,10 @@ impl<'a> Parser<'a> {
         Err(ParseFailure::Refused(Spanning::new(token.span, error)))
     }
 
-    /// Takes the next token, which has to equal the wanted one in kind and text.
+    /// Takes the next token if it equals `wanted` in kind and text, else returns an error.
     ///
-    /// Another token is taken too, and told as `UnexpectedToken`. At the end, whatever was wanted, it answers
-    /// `UnexpectedEndOfFile`, and nothing is taken. Want of memory, for the text of a refusal, leaves all as it was.
+    /// Another token is taken too, and reported as `UnexpectedToken`. At the end, whatever was wanted, it returns
+    /// `UnexpectedEndOfFile`, and nothing is taken. Where there is no memory for the text of an error, nothing changes.
     #[tactic(auto, unfolding(crate::specs::Cursor::expect_at))]
     pub fn expect(&mut self, wanted: &Token<'_>) -> ParseResult<Token<'a>>
         ensures gives { Gives view_token result self.new (expect_at wanted.now self.old) }
@@ -225,7 +225,7 @@ impl<'a> Parser<'a> {
         }
     }
 
-    // Whether the next token equals the wanted one in kind and text.
+    // Whether the next token equals `wanted` in kind and text.
     fn is_next(&self, wanted: &Token<'_>) -> bool
         ensures { result ≡ is_wanted (token_kind wanted.now) (token_text wanted.now) (first_of self.now) }
     {
@@ -236,9 +236,9 @@ impl<'a> Parser<'a> {
         kind.spelling().is_some() || same_text(self.current.item.text(), wanted.text())
     }
 
-    /// Takes the next token if it equals the wanted one, and else answers None and takes nothing.
+    /// Takes the next token if it equals `wanted`, else returns None and takes nothing.
     ///
-    /// At the end, whatever was wanted, it answers `UnexpectedEndOfFile`, and nothing is taken. It takes no memory.
+    /// At the end, whatever was wanted, it returns `UnexpectedEndOfFile`, and nothing is taken. It takes no memory.
     #[tactic(auto, using(crate::proofs::Rests::none_taken), unfolding(crate::specs::Cursor::skip_at))]
     pub fn skip(&mut self, wanted: &Token<'_>) -> OptionParseResult<Token<'a>>
         ensures gives { Gives (option_map view_token) result self.new (skip_at wanted.now self.old) }
@@ -255,8 +255,8 @@ impl<'a> Parser<'a> {
         Ok(None)
     }
 
-    /// Takes the next token, which has to be a Name, and gives its text. Refusals, and what stands after them and after
-    /// want of memory, are those of `expect`.
+    /// Takes the next token if it is a Name, and returns its text, else returns an error. The errors, and what stands
+    /// after them and where memory ran out, are those of `expect`.
     #[tactic(auto, using(crate::proofs::Rests::one_taken), unfolding(crate::specs::Cursor::expect_name_at))]
     pub fn expect_name(&mut self) -> ParseResult<&'a str>
         ensures gives { Gives view_name result self.new (expect_name_at self.old) }
@@ -299,7 +299,8 @@ fn gather(lexer: &mut Lexer<'_>) -> Result<Vec<TokenRange>, LexFailure>
     Ok(ranges)
 }
 
-// Room for a token every four bytes of a source, as few sources have more, if there is as much.
+// A list with capacity for a token every four bytes of a source, if there is as much memory. Few sources have more
+// tokens.
 fn room_for_ranges(alloc: Global, source: &str) -> Vec<TokenRange>
     ensures { result.items ≡ [] }
 {

@@ -8,8 +8,7 @@ use std::marker::Model;
 
 /// A place in a source text, counted in characters and not in bytes.
 ///
-/// A line ends at a line feed alone. All three numbers count from 0, and the line and the column together
-/// are never above the index.
+/// A line ends at a line feed alone. All three numbers count from 0. The line plus the column is at most the index.
 #[derive(Clone, Copy, Debug, PartialEq, Eq, PartialOrd, Ord, Hash)]
 pub struct SourcePosition {
     index: usize,
@@ -28,7 +27,7 @@ impl Model for SourcePosition {
 }
 
 impl SourcePosition {
-    /// The place behind `index` characters, at column `col` of line `line`.
+    /// The place after `index` characters, at column `col` of line `line`.
     pub fn new(index: usize, line: usize, col: usize) -> Self
         requires { line + col ≤ index }
         ensures { result ≡ record { index = index; line = line; column = col } }
@@ -47,7 +46,7 @@ impl SourcePosition {
         }
     }
 
-    /// Goes past a character that is no line feed.
+    /// Advances past a character that is not a line feed.
     pub fn advance_col(&mut self)
         requires { self.old.index < usize.MAX }
         ensures { self.new ≡ next_column self.old }
@@ -56,7 +55,7 @@ impl SourcePosition {
         self.col += 1;
     }
 
-    /// Goes past a line feed.
+    /// Advances past a line feed.
     pub fn advance_line(&mut self)
         requires { self.old.index < usize.MAX }
         ensures { self.new ≡ next_line self.old }
@@ -66,7 +65,7 @@ impl SourcePosition {
         self.col = 0;
     }
 
-    /// The place `count` characters on in the same line.
+    /// The place `count` characters further on the same line.
     pub(crate) fn columns_on(self, count: usize) -> Self
         requires { self.index + count < 2 ^ 64 }
         ensures { result ≡ columns_on count self }
@@ -78,21 +77,21 @@ impl SourcePosition {
         }
     }
 
-    /// How many characters stand before this place.
+    /// The number of characters before this place.
     pub fn index(&self) -> usize
         ensures { result ≡ self.now.index }
     {
         self.index
     }
 
-    /// How many line feeds stand before this place.
+    /// The number of line feeds before this place.
     pub fn line(&self) -> usize
         ensures { result ≡ self.now.line }
     {
         self.line
     }
 
-    /// How many characters stand between the last line feed and this place.
+    /// The number of characters between the last line feed and this place.
     pub fn column(&self) -> usize
         ensures { result ≡ self.now.column }
     {

@@ -11,12 +11,12 @@ use std::fmt;
 pub struct Span {
     /// The place before the first character.
     pub start: SourcePosition,
-    /// The place behind the last character.
+    /// The place after the last character.
     pub end: SourcePosition,
 }
 
 impl Span {
-    /// Nothing, at a place.
+    /// An empty span at `pos`.
     pub fn zero_width(pos: SourcePosition) -> Self
         ensures { result ≡ record { start = pos; end = pos } }
     {
@@ -26,7 +26,7 @@ impl Span {
         }
     }
 
-    /// One character that is no line feed, from a place on.
+    /// The span of one character at `pos` that is not a line feed.
     pub fn single_width(pos: SourcePosition) -> Self
         requires { pos.index < usize.MAX }
         ensures { result ≡ record { start = pos; end = next_column pos } }
@@ -36,7 +36,7 @@ impl Span {
         Span { start: pos, end }
     }
 
-    /// Nothing, where a source begins: the span of what stands in no source.
+    /// An empty span at the beginning of a source, for what stands in no source.
     pub fn unlocated() -> Self
         ensures { result ≡ origin_span }
     {
@@ -63,7 +63,7 @@ impl<T> Spanning<T> {
         Spanning { item, span }
     }
 
-    /// An item at a place, without a width.
+    /// An item with an empty span at `pos`.
     pub fn zero_width(pos: &SourcePosition, item: T) -> Spanning<T>
         ensures { result ≡ record { item = item; span = record { start = pos.now; end = pos.now } } }
     {
@@ -73,7 +73,7 @@ impl<T> Spanning<T> {
         }
     }
 
-    /// An item that is one character wide, and no line feed.
+    /// An item with the span of one character at `pos` that is not a line feed.
     pub fn single_width(pos: &SourcePosition, item: T) -> Spanning<T>
         requires { pos.now.index < usize.MAX }
         ensures { result ≡ record { item = item; span = record { start = pos.now; end = next_column pos.now } } }
@@ -84,7 +84,7 @@ impl<T> Spanning<T> {
         }
     }
 
-    /// An item from one place to another.
+    /// An item with the span from `start` to `end`.
     pub fn start_end(start: &SourcePosition, end: &SourcePosition, item: T) -> Spanning<T>
         ensures { result ≡ record { item = item; span = record { start = start.now; end = end.now } } }
     {
@@ -97,7 +97,7 @@ impl<T> Spanning<T> {
         }
     }
 
-    /// An item that stands in no source.
+    /// An item that stands in no source, with the span `Span::unlocated`.
     pub fn unlocated(item: T) -> Spanning<T>
         ensures { result ≡ record { item = item; span = origin_span } }
     {
@@ -107,7 +107,7 @@ impl<T> Spanning<T> {
         }
     }
 
-    /// The items, with the span from the first one's start to the last one's end. None of no items.
+    /// The items, with the span from the first one's start to the last one's end, or None if there are no items.
     pub fn spanning(v: Vec<Spanning<T>>) -> Option<Spanning<Vec<Spanning<T>>>>
     where
         T: Drop,
@@ -131,14 +131,14 @@ impl<T> Spanning<T> {
         self.span.start
     }
 
-    /// Where the item ends: the place behind its last character.
+    /// Where the item ends: the place after its last character.
     pub fn end(&self) -> SourcePosition
         ensures { result ≡ self.now.span.end }
     {
         self.span.end
     }
 
-    /// What `f` makes of the item, with the same span.
+    /// Applies `f` to the item, and keeps the span.
     pub fn map<O, F: Fn(T) -> O>(self, f: F) -> Spanning<O>
         requires { F.pre f self.item }
         ensures item { F.post f self.item result.item }
@@ -150,7 +150,7 @@ impl<T> Spanning<T> {
         }
     }
 
-    /// What `f` makes of the item, with the same span, or None where it makes nothing.
+    /// Applies `f` to the item, and keeps the span. Returns None where `f` does.
     pub fn and_then<O, F: Fn(T) -> Option<O>>(self, f: F) -> Option<Spanning<O>>
         requires { F.pre f self.item }
         ensures { MatchOption result (F.post f self.item None) (λ s. F.post f self.item (Some s.item) × (s.span ≡ self.span)) }

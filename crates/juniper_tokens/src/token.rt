@@ -9,15 +9,15 @@ ghost use Rattle.graphql_lexical.specs.Tokens.{mark};
 use graphql_lexical::Kind;
 use std::fmt;
 
-/// A token that spells a scalar, with its text as it stands in the source.
+/// A scalar token, with its text as it stands in the source.
 ///
-/// The text of a String is what stands between its quotes, escapes not replaced, and that of a block string what stands
-/// between its three quotes on each side, with the lines as they are.
+/// The text of a String is what stands between its quotes, escapes not replaced. That of a block string is what stands
+/// between its triple quotes, with the lines as they are.
 #[derive(Clone, Copy, Debug)]
 pub enum ScalarToken<'a> {
     /// A text between quotes (GraphQL specification, October 2021, section 2.9.4).
     String(&'a str),
-    /// A text between three quotes on each side (section 2.9.4).
+    /// A text between triple quotes (section 2.9.4).
     BlockString(&'a str),
     /// A number with a fraction or an exponent (section 2.9.2).
     Float(&'a str),
@@ -28,7 +28,7 @@ pub enum ScalarToken<'a> {
 /// A token of the language (GraphQL specification, October 2021, section 2.1).
 #[derive(Clone, Copy, Debug)]
 pub enum Token<'a> {
-    /// A name or a word of the language, with its text.
+    /// A name or a keyword, with its text.
     Name(&'a str),
     /// A String, a block string, a Float or an Int.
     Scalar(ScalarToken<'a>),
@@ -72,7 +72,7 @@ pub(crate) fn same_text(a: &str, b: &str) -> bool
 impl<'a> ScalarToken<'a> {
     ghost use Rattle.juniper_tokens.specs.Tokens.{scalar_kind, scalar_text};
 
-    // The token without its text, and its text.
+    // The token's kind and its text.
     fn parts(&self) -> (Kind, &'a str)
         ensures kind { result.0 ≡ scalar_kind self.now }
         ensures text { chars result.1.now ≡ scalar_text self.now }
@@ -85,7 +85,7 @@ impl<'a> ScalarToken<'a> {
         }
     }
 
-    /// The token without its text.
+    /// The token's kind.
     pub fn kind(&self) -> Kind
         ensures { result ≡ scalar_kind self.now }
     {
@@ -105,7 +105,7 @@ impl<'a> Token<'a> {
     ghost use Rattle.graphql_lexical.specs.declared.kind.Kind.TheVariants.{EndOfFile};
     ghost use Rattle.graphql_lexical.specs.Kinds.{same_kind};
 
-    // The token without its text, and its text where the kind leaves it open.
+    // The token's kind, and its text where the kind leaves it open.
     fn parts(&self) -> (Kind, &'a str)
         ensures kind { result.0 ≡ token_kind self.now }
         ensures text { kind_text result.0 (chars result.1.now) ≡ token_text self.now }
@@ -130,15 +130,15 @@ impl<'a> Token<'a> {
         }
     }
 
-    /// The token without its text.
+    /// The token's kind.
     pub fn kind(&self) -> Kind
         ensures { result ≡ token_kind self.now }
     {
         self.parts().0
     }
 
-    /// The token's text: of a String and of a block string what stands between its quotes, of the end nothing, else the
-    /// whole token.
+    /// The token's text: of a String and of a block string what stands between its quotes, of the end nothing,
+    /// otherwise the whole token.
     pub fn text(&self) -> &'a str
         ensures { chars result.now ≡ token_text self.now }
     {
@@ -207,7 +207,7 @@ fn write_string<W: fmt::Write>(f: &mut fmt::Formatter<W>, text: &str) -> fmt::Re
     f.write_str("\"")
 }
 
-// Writes the text as it stands, between three quotes on each side.
+// Writes the text as it stands, between triple quotes.
 fn write_block<W: fmt::Write>(f: &mut fmt::Formatter<W>, text: &str) -> fmt::Result
     ensures { DisplaysOnOk W.write_str_gives f.old result (Some (encode_utf8_all (mark ++ (chars text.now ++ mark)))) f.new }
 {

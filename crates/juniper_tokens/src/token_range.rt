@@ -16,20 +16,20 @@ use crate::span::Spanning;
 use crate::token::{ScalarToken, Token};
 use graphql_lexical::Kind;
 
-/// A token's kind, and the part of the source that the token is.
+/// A token's kind, and the part of the source that it takes.
 #[derive(Clone, Copy)]
 pub(crate) struct TokenRange {
     pub(crate) kind: Kind,
-    /// How many bytes stand before the first character.
+    /// The offset of the first character, in bytes.
     pub(crate) at: usize,
     /// The place before the first character.
     pub(crate) start: SourcePosition,
-    /// The border behind the last character.
+    /// The offset after the last character.
     pub(crate) end: Border,
 }
 
 impl TokenRange {
-    /// The range of a token that was found behind so many bytes of a source, at this place.
+    /// The range of a token that was found in a source at the byte `at` and the place `start`.
     #[inline(always)]
     pub(crate) fn from_found(found: Found, source: &str, at: usize, start: SourcePosition) -> Self
         requires placed { IsPlaced source.now at start }
@@ -47,7 +47,7 @@ impl TokenRange {
         }
     }
 
-    // The border before the first character.
+    // The offset of the first character.
     fn border(&self) -> Border
         ensures { result ≡ record { bytes = self.now.at; characters = self.now.start.index } }
     {
@@ -57,7 +57,7 @@ impl TokenRange {
         }
     }
 
-    // The border behind the last character, from the first one.
+    // The offset after the last character, from the first one.
     fn size(&self) -> Border
         requires bytes { self.now.at ≤ self.now.end.bytes }
         requires characters { self.now.start.index ≤ self.now.end.characters }
@@ -69,7 +69,7 @@ impl TokenRange {
         }
     }
 
-    /// The place behind the last character, on the line of the first.
+    /// The place after the last character, on the line of the first.
     #[inline(always)]
     pub(crate) fn end_on_line(&self) -> SourcePosition
         requires { self.now.start.index ≤ self.now.end.characters }
@@ -79,7 +79,7 @@ impl TokenRange {
             .columns_on(self.end.characters - self.start.index())
     }
 
-    /// The place behind the last character. A block string alone may end on a later line.
+    /// The place after the last character. A block string alone may end on a later line.
     pub(crate) fn end_position(&self, source: &str) -> SourcePosition
         requires { IsRange (chars source.now) self.now }
         ensures { result ≡ place (chars source.now) self.now.end.characters }
@@ -93,7 +93,7 @@ impl TokenRange {
         }
     }
 
-    // What the source has there, of a String and of a block string what stands between the quotes.
+    // The part of the source, of a String and of a block string what stands between the quotes.
     fn text<'a>(&self, source: &'a str) -> &'a str
         requires { IsRange (chars source.now) self.now }
         ensures { chars result.now ≡ text_of self.now.kind (range_slice (chars source.now) self.now) }

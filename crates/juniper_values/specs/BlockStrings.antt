@@ -10,7 +10,7 @@ use Rattle.juniper_values.specs.Text.{Text}
 abbrev pub line_feed : Text
 line_feed = 10 ∷ []
 
--- `\"""` is three quotes: a backslash before three quotes is left out
+-- `\"""` is a triple quote: a backslash before a triple quote is left out
 abbrev pub with_quotes : Text → Text
 with_quotes [] = []
 with_quotes (c ∷ t) = if c == 92 && starts_with nat_eq t mark then with_quotes t else c ∷ with_quotes t
@@ -49,7 +49,7 @@ least [] = 0
 least (n ∷ []) = n
 least (n ∷ m ∷ ns) = min n (least (m ∷ ns))
 
--- what is removed from the front of these lines
+-- what is removed at the beginning of these lines
 abbrev pub common_indent : List Text → ℕ
 common_indent ls = least (indents ls)
 
@@ -60,7 +60,7 @@ unindented (first ∷ others) = first ∷ map (drop (common_indent others)) othe
 
 -- ---- blank lines
 
--- without the blank lines in front
+-- without the blank lines at the beginning
 abbrev pub drop_blank_front : List Text → List Text
 drop_blank_front [] = []
 drop_blank_front (line ∷ ls) = if is_blank line then drop_blank_front ls else line ∷ ls
@@ -76,6 +76,6 @@ drop_blank_end (line ∷ ls) = if list_all is_blank (line ∷ ls) then [] else l
 abbrev pub joined : List Text → Text
 joined = join_with_byte 10
 
--- the value of the block string that has this text between its marks
+-- the value of the block string that has this text between its triple quotes
 abbrev pub block_value : Text → Text
 block_value t = joined (drop_blank_end (drop_blank_front (unindented (lines (with_quotes t)))))

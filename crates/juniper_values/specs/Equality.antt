@@ -1,4 +1,4 @@
--- Equality of input values, their places too.
+-- Equality of input values, their places included.
 use Rattle.std.specs.Prelude.{Bool, true, false, ◌&&◌, ◌==◌}
 use Rattle.graphql_lexical.specs.Place.{Place, Span}
 use Rattle.juniper_values.specs.Text.{same_text}

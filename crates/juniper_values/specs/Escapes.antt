@@ -29,22 +29,22 @@ is_scalar h i j k = is_hex h && is_hex i && is_hex j && is_hex k && not (is_surr
 abbrev pub unicode_escape : ℕ → ℕ → ℕ → ℕ → Option ℕ
 unicode_escape h i j k = if is_scalar h i j k then Some (hex_number h i j k) else None
 
--- a character in front of a text, where both are there
+-- a character before a text, if both are there
 abbrev pub in_front : Option ℕ → Option Text → Option Text
 in_front character text = option_and_then (λ c. option_map (λ t. c ∷ t) text) character
 
 abbrev mutual
-  -- what the text stands for; None where some backslash begins no escape
+  -- what the text stands for, or None where a backslash begins no escape
   pub unescape : Text → Option Text
   unescape [] = Some []
   unescape (c ∷ t) = if c == 92 then behind_backslash t else in_front (Some c) (unescape t)
 
-  -- the same of what stands behind a backslash
+  -- the same of the text after a backslash
   pub behind_backslash : Text → Option Text
   behind_backslash [] = None
   behind_backslash (c ∷ t) = if c == 117 then behind_u t else in_front (short_escape c) (unescape t)
 
-  -- and behind `\u`
+  -- and after `\u`
   pub behind_u : Text → Option Text
   behind_u (h ∷ i ∷ j ∷ k ∷ t) = in_front (unicode_escape h i j k) (unescape t)
   behind_u t = None

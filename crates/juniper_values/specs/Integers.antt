@@ -21,7 +21,7 @@ abbrev pub has_minus : Text → Bool
 has_minus [] = false
 has_minus (c ∷ cs) = c == 45
 
--- what stands after a `+` or a `-` in front, if there is one
+-- what stands after a leading `+` or `-`, if there is one
 abbrev pub after_sign : Text → Text
 after_sign [] = []
 after_sign (c ∷ cs) = if c == 43 || c == 45 then cs else c ∷ cs

@@ -14,7 +14,7 @@ module _ {C : Type 0} where
   put_all ps no_fields = ps
   put_all ps (field k s v t fs) = put_all (put ps k v) fs
 
-  -- the fields as a map: a doubled key keeps its first place and takes the last value
+  -- the fields as a map: a repeated key keeps its first place and takes the last value
   abbrev pub as_map : Fields C → List (Text × Value C)
   as_map fs = put_all [] fs
 

@@ -32,7 +32,7 @@ abbrev pub closing_tokens : TypeModifier → List Bare
 closing_tokens NonNull = punctuation ExclamationMark ∷ []
 closing_tokens (ListOf size) = punctuation BracketClose ∷ []
 
--- these modifiers, from the innermost on, round the tokens of a type
+-- these modifiers, the innermost first, around the tokens of a type
 abbrev pub wrapped_tokens : List Bare → List TypeModifier → List Bare
 wrapped_tokens inner [] = inner
 wrapped_tokens inner (m ∷ ms) = wrapped_tokens (opening_tokens m ++ (inner ++ closing_tokens m)) ms
@@ -75,7 +75,7 @@ pub record IsEnumName (t : Text) : Type 0 where
   pub not_null : t ≡ codes "null" → ⊥
 
 -- An integer of 32 bits, a text without quotes, backslashes and characters below the space other than the tab, or a
--- truth value.
+-- boolean.
 abbrev pub IsPlainScalar : Content → Type 0
 IsPlainScalar (integer n) = IsTrue (is_i32 n)
 IsPlainScalar (text t) = AllByRecursion (λ c. IsTrue (is_plain c)) t

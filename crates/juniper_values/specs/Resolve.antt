@@ -14,13 +14,13 @@ abbrev pub or_null : {C : Type 0} → Option (Value C) → Value C
 or_null None = null
 or_null (Some v) = v
 
--- the field in front of the others, if it has a value
+-- the field before the others, if it has a value
 abbrev pub field_if : {C : Type 0} → Text → Span → Option (Value C) → Span → Fields C → Fields C
 field_if k s None t fs = fs
 field_if k s (Some v) t fs = field k s v t fs
 
--- What a value becomes. A variable becomes its value, left as it is, or nothing where it has none. An item of a list
--- that becomes nothing is null, and a field of an object that does is left out.
+-- What a value becomes. A variable becomes its value, in which no variable is replaced, or nothing where it has none.
+-- An item of a list that becomes nothing is null, and a field of an object that does is left out.
 abbrev mutual
   pub resolve : {C : Type 0} → Values C → Value C → Option (Value C)
   resolve m null = Some null
@@ -38,8 +38,8 @@ abbrev mutual
   resolve_fields m no_fields = no_fields
   resolve_fields m (field k s v t fs) = field_if k s (resolve m v) t (resolve_fields m fs)
 
--- What a value may become, scalar by scalar: a scalar of its own is itself, and what takes the place of a variable equals
--- the variable's value, scalars by `eq`.
+-- What a value may become, scalar by scalar: a scalar of its own is itself, and what replaces a variable equals the
+-- variable's value, scalars by `eq`.
 module _ {S : Type 0} (eq : S → S → Bool) (m : Values S) where
   abbrev mutual
     pub Becomes : Value S → Option (Value S) → Type 0

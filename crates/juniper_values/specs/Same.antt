@@ -1,4 +1,4 @@
--- Equality of input values whatever their places.
+-- Equality of input values regardless of their places.
 use Rattle.std.specs.Prelude.{ℕ, ◌+◌, ◌==◌, Bool, true, false, ◌&&◌, ◌||◌, List, [], ◌∷◌}
 use Rattle.juniper_values.specs.Text.{Text, same_text}
 use Rattle.juniper_values.specs.Value.{Value, null, scalar, enum_value, variable, list, object, Items, no_items, item, Fields, no_fields, field}
@@ -12,12 +12,12 @@ module _ {C : Type 0} where
   field_count no_fields = 0
   field_count (field k s v t fs) = field_count fs + 1
 
-  -- some field is what is wanted
+  -- some field has the wanted key, and a value that passes
   abbrev pub is_found : Wanted C → Fields C → Bool
   is_found w no_fields = false
   is_found w (field k s v t fs) = (same_text w.0 k && w.1 v) || is_found w fs
 
-  -- for each that is wanted there is a field
+  -- each one that is wanted is found among the fields
   abbrev pub all_found : List (Wanted C) → Fields C → Bool
   all_found [] fs = true
   all_found (w ∷ ws) fs = is_found w fs && all_found ws fs

@@ -27,14 +27,14 @@ same_content a b = false
 abbrev pub Reading : Type 0
 Reading = Result Content Error
 
--- want of memory aside, the answer is the stated reading
+-- unless memory ran out, the result is the stated reading
 abbrev pub MeetsReading : {S : Type 0} → (S → Content) → Reading → Result S ReadFailure → Type 0
 MeetsReading content reading (Ok s) = reading ≡ Ok (content s)
 MeetsReading content reading (Err (Refused e)) = reading ≡ Err (view_error e)
 MeetsReading content reading (Err Memory) = Unit {0}
 
--- What a scalar becomes in another scalar type, which makes contents of an integer, of a truth value and of a text:
--- that of its integer where it has one, else of its truth value, else of its text.
+-- What a scalar becomes in another scalar type, which makes contents of an integer, of a boolean and of a text: that of
+-- its integer where it has one, else of its boolean, else of its text.
 abbrev pub other_content : Option ℤ → Option Bool → Option Text → (ℤ → Content) → (Bool → Content) → (Text → Content) → Option Content
 other_content (Some n) b t of_int of_bool of_text = Some (of_int n)
 other_content None (Some b) t of_int of_bool of_text = Some (of_bool b)

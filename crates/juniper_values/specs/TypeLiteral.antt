@@ -1,4 +1,4 @@
--- Types as they are written: a name, and modifiers from the innermost on.
+-- Types as they are written: a name, and modifiers, the innermost first.
 use Rattle.std.specs.Prelude.{◌-◌, List, [], ◌∷◌, ◌++◌, length, slice_get, Bool, true, false, ◌==◌, ◌&&◌, Option, Some, None, if◌then◌else◌}
 use Rattle.std.specs.Cmp.Lexicographic.{pointwise}
 use Rattle.std.specs.List.{list_any}
@@ -14,7 +14,7 @@ abbrev pub modifiers_of : TypeModifiers → List TypeModifier
 modifiers_of (Static s) = s.now
 modifiers_of (Dynamic v) = v.items
 
--- What a type is: its innermost name, and the modifiers round it, the innermost first. N is the type of the name.
+-- What a type is: its innermost name, and the modifiers around it, the innermost first. N is the type of the name.
 pub record TypeShape (N : Type 0) : Type 0 where
   pub name : N
   pub modifiers : List TypeModifier
@@ -35,7 +35,7 @@ outermost ms = slice_get ms (length ms - 1)
 abbrev pub is_non_null : List TypeModifier → Bool
 is_non_null ms = option_map_or is_non_null_modifier (outermost ms) false
 
--- a list is held, wherever
+-- a list is contained, anywhere
 abbrev pub is_list : List TypeModifier → Bool
 is_list ms = list_any is_list_modifier ms
 
@@ -69,7 +69,7 @@ abbrev pub closing : TypeModifier → Text
 closing NonNull = 33 ∷ []
 closing (ListOf size) = 93 ∷ []
 
--- The text of a type: `!` after what is not null, and `[` and `]` round the items of a list, whatever its size.
+-- The text of a type: `!` after what is not null, and `[` and `]` around the items of a list, whatever its size.
 abbrev pub type_text : Text → List TypeModifier → Text
 type_text inner [] = inner
 type_text inner (m ∷ ms) = type_text (opening m ++ (inner ++ closing m)) ms

@@ -16,7 +16,7 @@ use std::alloc::{AllocError, Global};
 // How far a line of the value is written.
 #[derive(Clone, Copy)]
 pub(crate) enum Line {
-    // It has nothing but tabs and spaces so far, and so many characters of it are still to be removed.
+    // It has nothing but tabs and spaces so far, and this number of its characters is still to be removed.
     Blank(usize),
     // It has another character.
     Filled,
@@ -27,14 +27,14 @@ pub(crate) enum Line {
 pub(crate) enum Place {
     // In the first line, whose indent does not count.
     First,
-    // Behind so many tabs and spaces.
+    // After this number of tabs and spaces.
     Indent(usize),
-    // Behind another character.
+    // After another character.
     Behind,
 }
 
-// The value of the block string that has this text between its marks. It is never longer than the text, so memory is
-// asked for once. What stands for itself within a line is copied at once.
+// The value of the block string that has this text between its triple quotes. It is never longer than the text, so
+// memory is asked for once. A run of characters that stand for themselves is copied at once.
 pub(crate) fn block_value(alloc: Global, text: &str) -> Result<String, AllocError>
     ensures { IfOk result (λ s. text_of s ≡ block_value (chars text.now)) }
 {
@@ -66,8 +66,8 @@ pub(crate) fn block_value(alloc: Global, text: &str) -> Result<String, AllocErro
     Ok(value)
 }
 
-// Ends a line of the value. The last line that is not blank ends at the byte `kept`, 0 where there is none, and behind
-// this line at the result. Blank lines in front do not stay.
+// Ends a line of the value. The last line that is not blank ends at the byte `kept`, 0 where there is none, and after
+// this line at the result. Blank lines at the beginning are removed.
 fn end_line(value: &mut String, line: Line, kept: usize) -> Result<usize, AllocError>
     ensures kept { IfOk result (λ n. n ≡ (if is_filled line then string_len value.old else kept)) }
     ensures text { IfOk result (λ n. text_of value.new ≡ (if n == 0 then [] else text_of value.old ++ 10 ∷ [])) }
@@ -109,8 +109,8 @@ fn write(value: &mut String, line: Line, c: char) -> Result<Line, AllocError>
     }
 }
 
-// The least number of tabs and spaces in front of a line but the first that has another character, or 0 where there is
-// no such line.
+// The least number of tabs and spaces at the beginning of a line but the first that has another character, or 0 where
+// there is no such line.
 fn common_indent(text: &str) -> usize
     ensures { result ≡ common_indent (drop 1 (lines (with_quotes (chars text.now)))) }
 {
@@ -132,7 +132,7 @@ fn common_indent(text: &str) -> usize
     least.unwrap_or(0)
 }
 
-// The least indent that is known behind the character.
+// The least indent that is known after the character.
 fn least_after(least: Option<usize>, place: Place, c: char) -> Option<usize>
     ensures { result ≡ least_after least place c }
 {
@@ -145,7 +145,7 @@ fn least_after(least: Option<usize>, place: Place, c: char) -> Option<usize>
     }
 }
 
-// The place behind the character.
+// The place after the character.
 fn place_after(place: Place, c: char) -> Place
     requires { white_before place + 1 < 2 ^ 64 }
     ensures { result ≡ place_after place c }
@@ -170,7 +170,7 @@ fn is_in_indent(place: Place) -> bool
     }
 }
 
-// A backslash before three quotes stands for nothing, and neither does a CR before LF.
+// Whether the character is left out: a backslash before a triple quote, or a CR before LF.
 fn is_left_out(c: char, rest: &str) -> bool
     ensures { result ≡ is_left_out c (chars rest.now) }
 {

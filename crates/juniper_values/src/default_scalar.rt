@@ -1,4 +1,4 @@
-//! The default scalar: integers of 32 bits, texts and truth values.
+//! The default scalar: integers of 32 bits, texts and booleans.
 ghost use Rattle.std.specs.Prelude.{◌≡◌, Some, Err};
 ghost use Rattle.std.specs.Str.{chars, encode_utf8_all};
 ghost use Rattle.juniper_tokens.specs.Errors.{UnexpectedToken};
@@ -15,14 +15,14 @@ use juniper_tokens::{ParseError, ScalarToken, Token};
 use std::alloc::{AllocError, Global};
 use std::fmt;
 
-/// A scalar of the types that GraphQL builds in, but for its floats (GraphQL specification, October 2021, section 3.5).
+/// A scalar of the types that GraphQL builds in, except floats (GraphQL specification, October 2021, section 3.5).
 #[derive(Debug, Drop)]
 pub enum DefaultScalarValue {
     /// An integer.
     Int(i32),
     /// A text, escapes replaced.
     String(String),
-    /// A truth value.
+    /// A boolean.
     Boolean(bool),
 }
 
@@ -63,9 +63,8 @@ impl fmt::Display for DefaultScalarValue {
     }
 }
 
-/// A String is read as its text with the escapes replaced, a block string as its value, an Int as its number where that
-/// has 32 bits, and a Float not
-/// at all (GraphQL specification, October 2021, sections 2.9.1, 2.9.2 and 2.9.4).
+/// Reads a String as its text with the escapes replaced, a block string as its value, and an Int as its number if that
+/// has 32 bits. Refuses a Float (GraphQL specification, October 2021, sections 2.9.1, 2.9.2 and 2.9.4).
 impl ParseScalarValue<DefaultScalarValue> for DefaultScalarValue {
     ghost use Rattle.juniper_values.specs.Default.{default_reading};
 
@@ -105,7 +104,7 @@ fn read_int(alloc: Global, text: &str) -> ParseScalarResult<DefaultScalarValue>
     }
 }
 
-// Tells the token as unexpected.
+// The error that the token is unexpected.
 fn refuse(alloc: Global, token: ScalarToken<'_>) -> ParseScalarResult<DefaultScalarValue>
     ensures { MeetsReading default_content (Err (UnexpectedToken (shown_scalar token.entry))) result }
 {

@@ -10,7 +10,7 @@ ghost use Rattle.juniper_values.specs.Escapes.{unescape, behind_backslash, behin
 use crate::text::split_char;
 use std::alloc::{AllocError, Global};
 
-// The text with each escape replaced, or nothing where some backslash begins none. Most texts have no backslash.
+// The text with each escape replaced, or None where a backslash begins no escape. Most texts have no backslash.
 pub(crate) fn unescape(alloc: Global, text: &str) -> Result<Option<String>, AllocError>
     ensures { IfOk result (λ o. option_map text_of o ≡ unescape (chars text.now)) }
 {
@@ -21,7 +21,7 @@ pub(crate) fn unescape(alloc: Global, text: &str) -> Result<Option<String>, Allo
     }
 }
 
-// The same, escape by escape: what stands between two is copied at once. The outcome is never longer than the text, so
+// The same, escape by escape: what stands between two is copied at once. The result is never longer than the text, so
 // memory is asked for once.
 fn replace_escapes(alloc: Global, text: &str) -> Result<Option<String>, AllocError>
     ensures { IfOk result (λ o. option_map text_of o ≡ unescape (chars text.now)) }
@@ -42,7 +42,7 @@ fn replace_escapes(alloc: Global, text: &str) -> Result<Option<String>, AllocErr
     Ok(Some(out))
 }
 
-// The character that the escape behind a backslash stands for, and what follows it; nothing where none begins.
+// The character that the escape after a backslash stands for, and the text after it; None where there is no escape.
 fn escaped(text: &str) -> Option<(char, &str)>
     ensures value { MatchOption result (behind_backslash (chars text.now) ≡ None)
         (λ p. behind_backslash (chars text.now) ≡ in_front (Some p.0) (unescape (chars p.1.now))) }
@@ -58,7 +58,7 @@ fn escaped(text: &str) -> Option<(char, &str)>
     }
 }
 
-// The same behind `\u`.
+// The same after `\u`.
 fn numbered(text: &str) -> Option<(char, &str)>
     ensures value { MatchOption result (behind_u (chars text.now) ≡ None)
         (λ p. behind_u (chars text.now) ≡ in_front (Some p.0) (unescape (chars p.1.now))) }
@@ -73,7 +73,7 @@ fn numbered(text: &str) -> Option<(char, &str)>
     Some((unicode(h, i, j, k)?, rest))
 }
 
-// The character that `\u` and these stand for.
+// The character that `\u` and these four stand for, or None.
 fn unicode(h: char, i: char, j: char, k: char) -> Option<char>
     ensures value { result ≡ unicode_escape h i j k }
     ensures scalar { IfSome result IsScalar }
@@ -87,7 +87,7 @@ fn unicode(h: char, i: char, j: char, k: char) -> Option<char>
     }
 }
 
-// The character that a backslash and this one stand for.
+// The character that a backslash and this one stand for, or None.
 fn short(c: char) -> Option<char>
     ensures value { result ≡ short_escape c }
     ensures scalar { IfSome result IsScalar }
@@ -111,7 +111,7 @@ fn is_hex(c: char) -> bool
     matches!(c, '0'..='9' | 'A'..='F' | 'a'..='f')
 }
 
-// The number of a hexadecimal digit.
+// The value of a hexadecimal digit.
 fn hex_value(c: char) -> u32
     requires { IsTrue (is_hex c) }
     ensures value { result ≡ hex_value c }

@@ -1,4 +1,4 @@
-//! Input values: what a request hands to arguments and variables.
+//! Input values: what a request passes to arguments and variables.
 ghost use Rattle.std.specs.Prelude.{◌≡◌, option_map};
 ghost use Rattle.std.specs.Str.{chars};
 ghost use Rattle.juniper_values.specs.Kinds.{is_null, is_variable, enum_in, scalar_in};
@@ -32,7 +32,7 @@ pub enum InputValue<S> {
     Variable(String),
     /// A list.
     List(Vec<Spanning<InputValue<S>>>),
-    /// The fields of an object, in their order, doubled keys kept.
+    /// The fields of an object, in their order, repeated keys kept.
     Object(Vec<(Spanning<String>, Spanning<InputValue<S>>)>),
 }
 
@@ -57,7 +57,7 @@ impl<S> InputValue<S> {
         }
     }
 
-    /// The name of an enum value.
+    /// The name of an enum value, or None for another value.
     pub fn as_enum_value(&self) -> Option<&str>
         ensures { option_map (λ s. chars s.now) result ≡ enum_in (view (λ s. s) self.now) }
     {

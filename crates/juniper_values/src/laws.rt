@@ -44,12 +44,13 @@ pub fn block_strings_have_no_blank_ends()
     ensures { (t : Text) → block_value t ≢ [] → HasNoBlankEnds (block_value t) }
 {}
 
-/// A block string has the same value where every line but the first stands behind as many tabs and spaces more.
+/// A block string has the same value where every line but the first is indented by the same number of tabs and spaces
+/// more.
 pub fn indented_block_strings_are_alike()
     ensures { (n : ℕ) (t u : Text) → IsIndented n t u → block_value u ≡ block_value t }
 {}
 
-/// Three texts between the marks of block strings, and their values.
+/// Three texts between the triple quotes of block strings, and their values.
 pub fn block_strings_stand_for_texts()
     ensures indented { block_value (codes "\n    a\n      b\n  ") ≡ codes "a\n  b" }
     ensures empty { block_value (codes "\n") ≡ [] }
@@ -61,24 +62,24 @@ pub fn scalars_are_compared<S: ScalarValue>()
     ensures { IsEqualityLike S.eq }
 {}
 
-/// Scalars of one content are equal. So a copy equals its source.
+/// Scalars of the same content are equal. So a copy equals its source.
 pub fn scalar_copies_are_equal<S: ScalarValue>()
     ensures { (a b : S) → S.content a ≡ S.content b → S.eq a b ≡ true }
 {}
 
-/// Values are equal exactly where their scalars have the same contents and all else is the same. So a copy of a value equals
-/// its source.
+/// Values are equal exactly if their scalars have the same contents and all else is the same. So a copy of a value
+/// equals its source.
 pub fn value_copies_are_equal<S: ScalarValue>()
     ensures { (a b : InputValue S) → (view S.content a ≡ view S.content b) ↔ (same_value S.eq (view (λ s. s) a) (view (λ s. s) b) ≡ true) }
 {}
 
-/// Where no variable's value has a variable, resolving leaves no variable, and leaves nothing only of a variable without a
+/// If no variable's value has a variable, resolving leaves no variable, and returns None only for a variable without a
 /// value.
 pub fn resolving_removes_variables<S: ScalarValue>()
     ensures { (m : Values Content) → HaveNoVariables m → (v : InputValue S) → RemovesVariables m (view S.content v) }
 {}
 
-/// Resolving leaves a value without variables as it is.
+/// Resolving leaves a value without variables unchanged.
 pub fn resolving_keeps_values_without_variables<S: ScalarValue>()
     ensures { (m : Values Content) (v : InputValue S) → HasNoVariable (view S.content v) → resolve m (view S.content v) ≡ Some (view S.content v) }
 {}
@@ -89,38 +90,39 @@ pub fn no_variables<S: ScalarValue>()
     ensures by_content { (v : InputValue S) → IsEmptyWithoutVariables (view S.content v) }
 {}
 
-/// Equality of values whatever their places is reflexive, symmetric and transitive, as equality of their scalars is.
+/// Equality of values regardless of their places is reflexive, symmetric and transitive, as equality of their scalars
+/// is.
 pub fn values_are_compared_whatever_their_places<S: Eq>()
     ensures { IsEqualityLike (same_but_place S.eq) }
 {}
 
-/// Equal values are equal whatever their places.
+/// Equal values are equal regardless of their places.
 pub fn equal_values_are_so_whatever_their_places<S: Eq>()
     ensures { (v w : Value S) → same_value S.eq v w ≡ true → same_but_place S.eq v w ≡ true }
 {}
 
-/// Two objects are equal whatever their places exactly where they have as many fields, and each field of either has in
-/// the other one with its key and an equal value.
+/// Two objects are equal regardless of their places exactly if they have the same number of fields, and each field of
+/// either has in the other one with its key and an equal value.
 pub fn objects_are_compared_both_ways<S: Eq>()
     ensures { (fs gs : Fields S) → (same_but_place S.eq (object fs) (object gs) ≡ true) ↔ AreSameFields S.eq fs gs }
 {}
 
-/// What wrapping a type once more does.
+/// The effect of wrapping a type once more.
 pub fn wrapping()
     ensures { (name : Text) (ms : List TypeModifier) (m : TypeModifier) → WrapsOnce name ms m }
 {}
 
-/// Types are equal exactly where their names' texts and their modifiers are.
+/// Types are equal exactly if their names' texts and their modifiers are.
 pub fn types_are_compared<N: NameText>()
     ensures { (a b : TypeShape N) → (same_type N.name_text a b ≡ true) ↔ ((N.name_text a.name ≡ N.name_text b.name) × (a.modifiers ≡ b.modifiers)) }
 {}
 
-/// The text of a type whose name is a Name is cut into these tokens.
+/// The text of a type whose name is a Name is cut into the type's tokens.
 pub fn type_texts_are_cut()
     ensures { (name : Text) (ms : List TypeModifier) → IsName name → IsCutInto (type_text name ms) (type_tokens name ms) }
 {}
 
-/// The text of a plain value of default scalars is cut into these tokens.
+/// The text of a plain value of default scalars is cut into the value's tokens.
 pub fn value_texts_are_cut()
     ensures { (v : Value Content) → IsPlain v → IsCutInto (value_text plain_shown v) (value_tokens v) }
 {}

@@ -1,4 +1,4 @@
-//! Scalar types: what one states of itself, and what it answers.
+//! Scalar types: what one states of itself, and what it returns.
 ghost use Rattle.std.specs.Prelude.{◌≡◌, ◌↔◌, ◌⊎◌, ℤ, Bool, Option, Some, None, true, IsSome, IfSome, IfOk, Result, option_map, string_bytes};
 ghost use Rattle.std.specs.Fmt.{DisplaysOnOk};
 ghost use Rattle.std.specs.Str.{chars, encode_utf8_all};
@@ -15,7 +15,7 @@ use std::convert::Infallible;
 use std::fmt;
 use std::marker::Model;
 
-/// Why a scalar type gave no scalar of a token.
+/// Why a scalar type returned no scalar for a token.
 #[derive(Debug, Drop)]
 pub enum ReadFailure {
     /// The type does not read this token.
@@ -47,9 +47,9 @@ pub trait ParseScalarValue<S> {
     // What this type states of a token of that kind and text.
     ghost reading: { Kind → Text → Reading };
 
-    /// The scalar that the token spells (GraphQL specification, October 2021, section 2.9).
+    /// Reads the scalar of the token (GraphQL specification, October 2021, section 2.9).
     ///
-    /// `Refused` is the error that the type's reading states; `Memory` that memory ran out.
+    /// Fails with `Refused` and the error that the type's reading states, or with `Memory` where memory ran out.
     fn from_str(alloc: Global, token: ScalarToken<'_>) -> ParseScalarResult<S>
         ensures { MeetsReading content (reading (scalar_kind token.entry) (scalar_text token.entry)) result };
 }
@@ -58,7 +58,7 @@ pub trait ParseScalarValue<S> {
 ///
 /// A scalar is known by its content, and equal scalars are those of equal contents.
 pub trait ScalarValue: Sized + Drop + fmt::Display + Eq + ParseScalarValue<Self> {
-    // The content of a scalar that is made of a truth value, of an integer and of a text.
+    // The content of a scalar that is made of a boolean, of an integer and of a text.
     ghost of_bool: { Bool → Content };
 
     ghost of_int: { ℤ → Content };
@@ -76,10 +76,10 @@ pub trait ScalarValue: Sized + Drop + fmt::Display + Eq + ParseScalarValue<Self>
 
     ghost own_string_in: { Content → Option Text };
 
-    // How a scalar shows itself.
+    // The text that a scalar displays.
     ghost shown: { Content → Text };
 
-    /// The scalar of a truth value.
+    /// The scalar of a boolean.
     fn from_bool(value: bool) -> Self
         ensures { Self.content result ≡ of_bool value };
 
@@ -91,7 +91,7 @@ pub trait ScalarValue: Sized + Drop + fmt::Display + Eq + ParseScalarValue<Self>
     fn from_string(value: String) -> Self
         ensures { Self.content result ≡ of_text (chars (string_bytes value)) };
 
-    /// The truth value that the scalar is, if it is one.
+    /// The boolean that the scalar is, if it is one.
     fn try_to_bool(&self) -> Option<bool>
         ensures { result ≡ bool_in (Self.content self.now) };
 
@@ -99,11 +99,11 @@ pub trait ScalarValue: Sized + Drop + fmt::Display + Eq + ParseScalarValue<Self>
     fn try_to_int(&self) -> Option<i32>
         ensures { result ≡ int_in (Self.content self.now) };
 
-    /// The text that the scalar is, if it is one that can be lent.
+    /// The text that the scalar is, if it is one that can be borrowed.
     fn try_as_str(&self) -> Option<&str>
         ensures { option_map (λ s. chars s.now) result ≡ str_in (Self.content self.now) };
 
-    /// A copy of the text that the scalar is, if it is one. `AllocError` where memory ran out.
+    /// A copy of the text that the scalar is, if it is one. Returns `AllocError` where memory ran out.
     fn try_to_string(&self, alloc: Global) -> Result<Option<String>, AllocError>
         ensures { IfOk result
             (λ o. option_map (λ s. chars (string_bytes s)) o ≡ string_in (Self.content self.now)) };
@@ -113,18 +113,18 @@ pub trait ScalarValue: Sized + Drop + fmt::Display + Eq + ParseScalarValue<Self>
         ensures { IfOk result
             (λ o. option_map (λ s. chars (string_bytes s)) o ≡ own_string_in (Self.content self)) };
 
-    /// A copy, which equals the scalar. `AllocError` where memory ran out.
+    /// A copy, which equals the scalar. Returns `AllocError` where memory ran out.
     fn try_clone(&self, alloc: Global) -> Result<Self, AllocError>
         ensures { IfOk result (λ s. Self.content s ≡ Self.content self.now) };
 
-    /// What the type `T` makes of the scalar.
+    /// Converts the scalar to the type `T`.
     final fn try_to<'a, T: FromScalarValue<'a, Self>>(&'a self) -> Result<T, T::Error>
         ensures { T.answers self.now result }
     {
         T::from_scalar_value(self)
     }
 
-    /// The scalar of another type that is made of this one's integer, else of its truth value, else of its text.
+    /// Converts the scalar to another scalar type: by its integer, else by its boolean, else by its text.
     ///
     /// The scalar is dropped, also where memory ran out.
     final fn into_another<S2: ScalarValue>(self, alloc: Global) -> Result<S2, AllocError>
@@ -147,27 +147,27 @@ pub trait ScalarValue: Sized + Drop + fmt::Display + Eq + ParseScalarValue<Self>
     // Equality is equality of contents.
     ghost equal_by_content: { (a b : Self) → Self.Eq.eq a b ≡ true ↔ Self.content a ≡ Self.content b };
 
-    // A scalar is an integer, a truth value or a text.
+    // A scalar is an integer, a boolean or a text.
     ghost has_form: { (a : Self) → IsSome (int_in (Self.content a)) ⊎ IsSome (bool_in (Self.content a)) ⊎ IsSome (own_string_in (Self.content a)) };
 
     // The display is the one stated.
     ghost shows_itself: { (a : Self) → Self.Display.output a ≡ Some (encode_utf8_all (shown (Self.content a))) };
 
-    // A text that is lent is also the one that is copied, and the one that is handed out.
+    // A text that is borrowed is also the one that is copied, and the one that is moved out.
     ghost lent_is_copied: { (a : Self) (t : Text) → str_in (Self.content a) ≡ Some t → string_in (Self.content a) ≡ Some t };
 
     ghost lent_is_handed_out: { (a : Self) (t : Text) → str_in (Self.content a) ≡ Some t → own_string_in (Self.content a) ≡ Some t };
 }
 
-/// A type that can be made of a scalar of type `S` that lives for `'s`.
+/// A type that can be made from a scalar of type `S` that lives for `'s`.
 pub trait FromScalarValue<'s, S>: Sized {
-    /// Why a scalar is refused.
+    /// The error for a scalar that is refused.
     type Error;
 
-    // What the conversion may answer on a scalar.
+    // What the conversion may return for a scalar.
     ghost answers: { S → Result Self Self.Error → Type 0 };
 
-    /// What the type makes of the scalar.
+    /// Converts the scalar to this type.
     fn from_scalar_value(value: &'s S) -> Result<Self, Self::Error>
         ensures { answers value.now result };
 }
@@ -245,10 +245,10 @@ pub(crate) fn write_scalar<S: ScalarValue, W: fmt::Write>(
     }
 }
 
-/// A scalar that is not of the type that was wanted.
+/// The error that a scalar is not of the expected type.
 #[derive(Debug, Drop)]
 pub struct WrongInputScalarTypeError<'a, S> {
-    /// The name of the type that was wanted.
+    /// The name of the expected type.
     pub type_name: &'a str,
     /// The scalar that was found.
     pub input: &'a S,
@@ -270,12 +270,12 @@ fn write_wanted<W: fmt::Write>(f: &mut fmt::Formatter<W>, name: &str) -> fmt::Re
     write!(f, "Expected `{name}`, found: ")
 }
 
-/// A type whose values can be made scalars of type `S`.
+/// A type whose values can be converted to scalars of type `S`.
 pub trait ToScalarValue<S> {
     // What the scalar of a value is.
     ghost gives: { Self → S → Type 0 };
 
-    /// The value as a scalar. `AllocError` where memory ran out, for the copy of a text.
+    /// Converts the value to a scalar. Returns `AllocError` where memory ran out, for the copy of a text.
     fn to_scalar_value(&self, alloc: Global) -> Result<S, AllocError>
         ensures { IfOk result (λ s. gives self.now s) };
 }
@@ -304,7 +304,7 @@ impl<S: ScalarValue> ToScalarValue<S> for String {
     }
 }
 
-/// The scalar of a text, which is copied. `AllocError` where memory ran out.
+/// The scalar of a text, which is copied. Returns `AllocError` where memory ran out.
 pub fn scalar_from_str<S: ScalarValue>(alloc: Global, text: &str) -> Result<S, AllocError>
     ensures { IfOk result (λ s. S.content s ≡ S.of_text (chars text.now)) }
 {

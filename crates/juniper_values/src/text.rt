@@ -24,7 +24,7 @@ pub(crate) fn same_string(a: &String, b: &String) -> bool
     same_str(a.as_str(), b.as_str())
 }
 
-// The text's first character, and what follows it.
+// The text's first character, and the text after it, or None.
 pub(crate) fn split_char(text: &str) -> Option<(char, &str)>
     ensures parts { MatchOption result (chars text.now ≡ []) (λ p. chars text.now ≡ p.0 ∷ chars p.1.now) }
     ensures scalar { IfSome result (λ p. IsScalar p.0) }

@@ -1,4 +1,4 @@
-//! Types as they are written: a name, and modifiers from the innermost on.
+//! Types as they are written: a name, and modifiers, the innermost first.
 ghost use Rattle.std.specs.Prelude.{◌≡◌, ◌++◌, ◌∷◌, [], Some, IsTrue, IsOk, IsSome, IfSome, MatchResult, option_map, option_copied, flat_map};
 ghost use Rattle.std.specs.Str.{chars, encode_utf8_all};
 ghost use Rattle.juniper_values.specs.Text.{Text};
@@ -10,12 +10,12 @@ use std::alloc::Global;
 use std::fmt;
 use std::marker::Model;
 
-/// What stands round a type (GraphQL specification, October 2021, section 2.11).
+/// A modifier around a type (GraphQL specification, October 2021, section 2.11).
 #[derive(Clone, Copy, Debug)]
 pub enum TypeModifier {
     /// `!`
     NonNull,
-    /// `[` and `]`, of lists of this length, if it is known.
+    /// `[` and `]`: a list, with its length if it is known.
     List(Option<usize>),
 }
 
@@ -67,7 +67,7 @@ static LIST: [TypeModifier; 1] = [TypeModifier::List(None)];
 static NON_NULL_LIST: [TypeModifier; 2] = [TypeModifier::NonNull, TypeModifier::List(None)];
 
 impl TypeModifiers {
-    /// The list.
+    /// The modifiers as a slice.
     pub fn as_slice(&self) -> &[TypeModifier]
         ensures { result.now ≡ modifiers_of self.now }
     {
@@ -77,7 +77,7 @@ impl TypeModifiers {
         }
     }
 
-    // The list with one more at its end, or as it was where memory ran out.
+    // The list with one more modifier at its end, or as it was where memory ran out.
     fn wrapped(self, alloc: Global, outer: TypeModifier) -> Result<TypeModifiers, TypeModifiers>
         ensures value { MatchResult result
             (λ ms. modifiers_of ms ≡ modifiers_of self ++ outer ∷ [])
@@ -103,7 +103,7 @@ impl TypeModifiers {
     }
 }
 
-// The modifiers of `T!`, `[T]` and `[T!]`, if these they are.
+// The modifiers of `T!`, `[T]` or `[T!]`, if these are they.
 fn common(inner: &[TypeModifier], outer: TypeModifier) -> Option<&'static [TypeModifier]>
     ensures value { IfSome result (λ ms. ms.now ≡ inner.now ++ outer ∷ []) }
     ensures found { IsTrue (is_common (inner.now ++ outer ∷ [])) → IsSome result }
@@ -162,15 +162,15 @@ impl NameText for String {
     }
 }
 
-/// A type: a name within any number of list types, each of which may be one without null
-/// (GraphQL specification, October 2021, section 2.11).
+/// A type: a name within any number of list types, each of which may be non-null (GraphQL specification, October 2021,
+/// section 2.11).
 #[derive(Debug, Drop)]
 pub struct TypeLiteral<N> {
     name: N,
     modifiers: TypeModifiers,
 }
 
-/// A type: a name within any number of list types, each of which may be one without null.
+/// A type: a name within any number of list types, each of which may be non-null.
 pub type Type<N> = TypeLiteral<N>;
 
 impl<N> Model for TypeLiteral<N> {
@@ -192,9 +192,9 @@ impl<N: NameText + Drop> TypeLiteral<N> {
         }
     }
 
-    /// The list type round this type, of lists of that length, if one is given.
+    /// The list type of this type, with that length, if one is given.
     ///
-    /// Where memory ran out the type comes back. `[T]` and `[T!]` without a length need no memory.
+    /// Where memory ran out, returns the type. `[T]` and `[T!]` without a length need no memory.
     pub fn wrap_list(self, alloc: Global, size: Option<usize>) -> Result<Self, Self>
         ensures value { MatchResult result
             (λ t. t ≡ record { name = self.name; modifiers = self.modifiers ++ TypeModifier.List size ∷ [] })
@@ -204,9 +204,9 @@ impl<N: NameText + Drop> TypeLiteral<N> {
         self.wrap(alloc, TypeModifier::List(size))
     }
 
-    /// This type without null.
+    /// The non-null type of this type.
     ///
-    /// Where memory ran out the type comes back. `T!` needs no memory.
+    /// Where memory ran out, returns the type. `T!` needs no memory.
     pub fn wrap_non_null(self, alloc: Global) -> Result<Self, Self>
         ensures value { MatchResult result
             (λ t. t ≡ record { name = self.name; modifiers = self.modifiers ++ TypeModifier.NonNull ∷ [] })
@@ -229,7 +229,7 @@ impl<N: NameText + Drop> TypeLiteral<N> {
         }
     }
 
-    /// The name of a type that holds no list type.
+    /// The name of a type that contains no list type, or None.
     pub fn name(&self) -> Option<&str>
         ensures { option_map (λ s. chars s.now) result ≡ name_unless_list (N.name_text self.now.name) self.now.modifiers }
     {
@@ -271,7 +271,7 @@ impl<N: NameText + Drop> TypeLiteral<N> {
         }
     }
 
-    /// Whether the type is or holds a list type. So `[T]!` is one.
+    /// Whether the type is or contains a list type. So `[T]!` is one.
     pub fn is_list(&self) -> bool
         ensures { result ≡ is_list self.now.modifiers }
     {
@@ -281,7 +281,7 @@ impl<N: NameText + Drop> TypeLiteral<N> {
     }
 }
 
-/// Types are equal in the texts of their names and in their modifiers.
+/// Types are equal if the texts of their names and their modifiers are.
 impl<N: NameText> PartialEq for TypeLiteral<N> {
     ghost use Rattle.juniper_values.specs.TypeLiteral.{same_type};
     ghost use Rattle.juniper_values.specs.laws.TypeLaws.{same_type-laws};
@@ -302,7 +302,7 @@ impl<N: NameText> Eq for TypeLiteral<N> {
     ghost laws = { same_type-equiv N.name_text };
 }
 
-/// Displays the type as it is written, but for the lengths of lists.
+/// Displays the type as it is written, without the lengths of lists.
 impl<N: NameText + Drop> fmt::Display for TypeLiteral<N> {
     ghost output = { λ t. Some (encode_utf8_all (type_text (N.name_text t.name) t.modifiers)) };
 
@@ -314,7 +314,7 @@ impl<N: NameText + Drop> fmt::Display for TypeLiteral<N> {
     }
 }
 
-// What the modifiers write before the name.
+// Writes the part of the modifiers before the name.
 fn write_openings<W: fmt::Write>(
     f: &mut fmt::Formatter<W>,
     modifiers: &[TypeModifier],
@@ -327,7 +327,7 @@ fn write_openings<W: fmt::Write>(
     Ok(())
 }
 
-// What the modifiers write after the name.
+// Writes the part of the modifiers after the name.
 fn write_closings<W: fmt::Write>(
     f: &mut fmt::Formatter<W>,
     modifiers: &[TypeModifier],

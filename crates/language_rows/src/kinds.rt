@@ -1,4 +1,4 @@
-//! What each kind of row answers.
+//! The results of each kind of row.
 
 mod answers;
 mod conversions;
@@ -19,7 +19,7 @@ use crate::write::Written;
 use juniper::DefaultScalarValue;
 use std::alloc::Global;
 
-/// Writes what stands below a row of this kind and text, if it holds. The wanted lines say which calls are made.
+/// Writes what stands below a row of this kind and text, if it holds. The expected lines say which calls are made.
 pub fn write_answer(
     alloc: Global,
     out: &mut String,
@@ -45,7 +45,7 @@ pub fn write_answer(
     }
 }
 
-// The answers of calls each of which begins with the text anew.
+// The results of calls, each of which begins with the text anew.
 fn write_calls(alloc: Global, out: &mut String, kind: &str, text: &str, wanted: &str) -> Written {
     for line in wanted.lines() {
         let call = call_of(line);
@@ -78,7 +78,7 @@ pub(crate) fn call_of(line: &str) -> &str {
     }
 }
 
-/// The first word of a call, and what stands behind the space.
+/// The first word of a call, and what stands after the space.
 pub(crate) fn word_of(call: &str) -> (&str, &str) {
     call.split_once(' ').unwrap_or((call, ""))
 }

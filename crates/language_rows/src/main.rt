@@ -1,5 +1,5 @@
-//! Reads rows of the language from the files that its arguments name, and tells how many of each kind hold, and which
-//! don't. What a row is, `rows` says; what each kind of row answers, the files of `kinds`.
+//! Reads rows of the language from the files that its arguments name, and reports how many of each kind hold, and which
+//! don't. The module `rows` says what a row is, the modules of `kinds` what each kind of row returns.
 #![tactic(auto)]
 
 mod kinds;
@@ -19,14 +19,14 @@ fn main(rt: HostRuntime) -> ExitCode {
         Ok(true) => ExitCode::SUCCESS,
         Ok(false) => ExitCode::from(1),
         Err(error) => {
-            // Nobody is left to tell where standard error fails too.
+            // Where standard error fails too, nothing is left to report to.
             let _ = eprintln!(rt; "language_rows: {error}");
             ExitCode::from(2)
         }
     }
 }
 
-// Tells what becomes of the rows of all files, and answers whether each of them holds.
+// Reports on the rows of all files, and returns whether each of them holds.
 fn tell_all<R: Files + Env + Print + AllocGlobal>(rt: &R) -> io::Result<bool> {
     let mut tally = Tally::new(rt.alloc());
     tell_files(rt, &mut tally)?;
@@ -60,7 +60,7 @@ fn tell_file<R: Files + Print + AllocGlobal>(
     tell_rows(rt, name, text.as_str(), tally)
 }
 
-// Tries the rows of one file, and tells those that don't hold.
+// Tries the rows of one file, and reports those that don't hold.
 fn tell_rows<R: Print + AllocGlobal>(
     rt: &R,
     name: &str,

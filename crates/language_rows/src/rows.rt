@@ -1,10 +1,10 @@
 //! Rows as they are written in a file.
 //!
-//! A row is a line of a kind's word, a space and a text, and below it the lines of its answer, each behind two spaces.
-//! Lines that are empty or begin with `#` say nothing. In texts and answers `\n`, `\r`, `\t` and `\\` stand for a line
-//! feed, a carriage return, a tab and a backslash, and `\u{F}` for the character of that number in hexadecimal digits. A
-//! backslash before anything else stands for itself. A kind whose answers are calls has a line for each call: the call,
-//! ` -> ` and what it answers.
+//! A row is a line of a kind's word, a space and a text, and below it the lines of its result, each after two spaces.
+//! Lines that are empty or begin with `#` are ignored. In texts and results `\n`, `\r`, `\t` and `\\` stand for a line
+//! feed, a carriage return, a tab and a backslash, and `\u{F}` for the character of that number in hexadecimal digits.
+//! A backslash before anything else stands for itself. A kind whose results are calls has a line for each call: the
+//! call, ` -> ` and what it returns.
 
 use std::alloc::{AllocError, Global};
 
@@ -26,7 +26,7 @@ impl<'a> Row<'a> {
         Ok(text)
     }
 
-    /// The lines of the wanted answer, each with a line feed behind it, their escapes replaced.
+    /// The lines of the expected result, each with a line feed after it, their escapes replaced.
     pub fn wanted(&self, alloc: Global) -> Result<String, AllocError> {
         let mut lines = String::new(alloc);
         for line in self.answer.iter() {
@@ -48,7 +48,7 @@ pub fn rows_of(alloc: Global, text: &str) -> Result<Vec<Row<'_>>, AllocError> {
     Ok(rows)
 }
 
-// Begins a row, or adds a line of the last one's answer.
+// Begins a row, or adds a line to the last one's result.
 fn note_line<'a>(
     alloc: Global,
     rows: &mut Vec<Row<'a>>,
@@ -93,14 +93,14 @@ fn push_plain(plain: &mut String, written: &str) -> Result<(), AllocError> {
     Ok(())
 }
 
-// Adds what stands behind a backslash, up to the next one.
+// Adds what stands after a backslash, up to the next one.
 fn push_behind_backslash(plain: &mut String, part: &str) -> Result<(), AllocError> {
     let (c, rest) = escape_of(part).unwrap_or(('\\', part));
     plain.push(c)?;
     plain.push_str(rest)
 }
 
-// The character of the escape that a text behind a backslash begins with, and the rest of the text.
+// The character of the escape that a text after a backslash begins with, and the rest of the text.
 fn escape_of(part: &str) -> Option<(char, &str)> {
     if let Some(rest) = part.strip_prefix('n') {
         return Some(('\n', rest));

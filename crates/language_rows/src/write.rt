@@ -1,9 +1,9 @@
-//! How places, tokens and errors are written in a row's answer.
+//! How places, tokens and errors are written in a row's result.
 
 use juniper::{LexerError, ParseError, ParseFailure, SourcePosition, Span, Spanning, Token};
 use std::alloc::AllocError;
 
-/// What a writing comes to.
+/// The result of writing.
 pub type Written = Result<(), AllocError>;
 
 fn write_place(out: &mut String, place: SourcePosition) -> Written {
@@ -44,7 +44,7 @@ fn write_lexer_error(out: &mut String, error: &LexerError) -> Written {
     }
 }
 
-/// Writes a lexical fault: its span, its variant and what that holds.
+/// Writes a lexical error: its span, its variant and what that holds.
 pub fn write_fault(out: &mut String, fault: &Spanning<LexerError>) -> Written {
     write_span(out, &fault.span)?;
     write_lexer_error(out, &fault.item)
@@ -63,7 +63,7 @@ pub fn write_error(out: &mut String, error: &ParseError) -> Written {
     }
 }
 
-/// Writes why a parser gave nothing: a refusal's span and error, or want of memory.
+/// Writes why a parser returned nothing: a refusal's span and error, or that memory ran out.
 pub fn write_failure(out: &mut String, failure: &ParseFailure) -> Written {
     match failure {
         ParseFailure::Refused(fault) => {
@@ -74,7 +74,7 @@ pub fn write_failure(out: &mut String, failure: &ParseFailure) -> Written {
     }
 }
 
-/// Writes a comma and a space, unless nothing was written behind this many bytes.
+/// Writes a comma and a space, unless nothing was written after this many bytes.
 pub fn write_separator(out: &mut String, before: usize) -> Written {
     if out.len() > before {
         out.push_str(", ")?;
@@ -95,7 +95,7 @@ pub fn write_optional_text(out: &mut String, text: Option<&str>) -> Written {
     }
 }
 
-/// Writes a line of why a parser gave nothing.
+/// Writes a line that says why a parser returned nothing.
 pub fn write_refusal(out: &mut String, failure: &ParseFailure) -> Written {
     write_failure(out, failure)?;
     out.push('\n')

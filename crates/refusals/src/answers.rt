@@ -24,7 +24,7 @@ fn made(alloc: Global, text: &str) -> Result<Answer, AllocError> {
     value_from_str(alloc, text)
 }
 
-// The answer of a text that is lent.
+// The answer value of a text that is borrowed.
 fn write_lent(alloc: Global, out: &mut String, text: &str) -> Result<(), AllocError> {
     let owned = String::from_str(alloc, text)?;
     let lent: Result<Answer, AllocError> = Some(&owned).into_value(alloc);
@@ -126,7 +126,7 @@ fn write_added(
     write_whole(out, Ok(object))
 }
 
-// Writes the value that was replaced, or the pair that came back.
+// Writes the value that was replaced, or the pair that was returned.
 fn write_old(
     out: &mut String,
     old: &Result<Option<Answer>, (String, Answer)>,

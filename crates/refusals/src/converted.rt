@@ -1,4 +1,4 @@
-//! A type of a caller's own, which is made of input values.
+//! A type of a caller's own, which is made from input values.
 
 use crate::write::write_made;
 use juniper::{DefaultScalarValue, FromInputValue, InputValue};

@@ -8,8 +8,8 @@ use juniper::{
 };
 use std::alloc::{AllocError, Global};
 
-/// `walk`: see there. Any other word: a call on a parser of the text, and the tokens that are left. The lists stand
-/// between `[` and `]`, and their items are Names.
+/// `walk`: see `write_walk`. Any other word: a call on a parser of the text, and the tokens that are left. The lists
+/// stand between `[` and `]`, and their items are Names.
 pub fn answer(alloc: Global, out: &mut String, call: &str, text: &str) -> Result<(), AllocError> {
     let mut lexer = Lexer::new(alloc, text);
     let Ok(mut parser) = Parser::new(&mut lexer) else {
@@ -59,7 +59,7 @@ pub fn write_rest(out: &mut String, parser: &mut Parser<'_>) -> Result<(), Alloc
     out.push('\n')
 }
 
-// Asks for memory, tells whether it was given, and takes all tokens then by calls that need none.
+// Requests memory, writes whether it was granted, and then takes all tokens by calls that need none.
 fn write_walk(
     alloc: Global,
     out: &mut String,

@@ -9,7 +9,7 @@ use std::io;
 
 type Document<'a> = OwnedDocument<'a, DefaultScalarValue>;
 
-// How many definitions were given.
+// The number of definitions that were given.
 #[derive(Drop)]
 struct Given(usize);
 
@@ -51,8 +51,8 @@ fn is_same<'a>(alloc: Global, word: &str, text: &'a str, document: Document<'a>)
     }
 }
 
-/// Tells whether the text has a tree, and then whether another parse gives the same one. The second line that is
-/// written tells that the first parse is over. With the word `into` it tells how many definitions were given, after the
+/// Writes whether the text has a tree, and then whether another parse gives the same one. The second line that is
+/// written says that the first parse is over. With the word `into` it writes how many definitions were given, after the
 /// fault where there is one.
 pub fn tell<R: Print + AllocGlobal>(rt: &R, word: &str, text: &str) -> io::Result<()> {
     println!(rt; "calling")?;

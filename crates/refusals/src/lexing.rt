@@ -16,7 +16,7 @@ pub fn answer(alloc: Global, out: &mut String, call: &str, text: &str) -> Result
     }
 }
 
-// Writes the items that a lexer gives.
+// Writes the items that a lexer returns.
 fn write_left(out: &mut String, lexer: &mut Lexer<'_>) -> Result<(), AllocError> {
     for _ in 0..1000 {
         let Some(item) = lexer.next() else {

@@ -1,9 +1,10 @@
-//! Makes one call that takes memory, on the text of standard input, and tells what it answers and what stands after it.
+//! Makes one call that takes memory, on the text of standard input, and reports what it returns and what stands after
+//! it.
 //!
 //! The arguments name the kind of the call, the call, and what it is given beside the text. The first line that is
-//! written tells that the call comes now: an allocator that refuses requests counts them from there on. What is told
-//! then goes into room that was taken before. So the requests are those of the call, and before them those of what is
-//! handed to it; `not called` is told where one of these is refused.
+//! written says that the call comes now: an allocator that refuses requests counts them from there on. What is reported
+//! then goes into a buffer that was taken before. So the requests are those of the call, and before them those of its
+//! arguments; `not called` is reported where one of these is refused.
 #![tactic(auto)]
 
 mod answers;
@@ -29,7 +30,7 @@ struct Call<'a> {
     text: &'a str,
 }
 
-// How many bytes may be told.
+// The number of bytes that may be reported.
 const ROOM: usize = 65536;
 
 fn main(rt: HostRuntime) -> io::Result<()> {
@@ -61,7 +62,7 @@ fn text_of(word: &Option<String>) -> &str {
     }
 }
 
-// Writes what a call answers, and what stands after it.
+// Writes what a call returns, and what stands after it.
 fn answer(alloc: Global, out: &mut String, kind: &str, call: &Call<'_>) -> Result<(), AllocError> {
     match kind {
         "lexing" => lexing::answer(alloc, out, call.name, call.text),

@@ -10,7 +10,7 @@ use std::alloc::{AllocError, Global};
 type Nodes<'t, 'a> = Vec<Node<'t, 'a, DefaultScalarValue>>;
 
 /// `value_nodes`: how many nodes the value literal has that is the text. Any other word: how many there are after each
-/// definition of the document was put behind the others by `push_definition`.
+/// definition of the document was appended by `push_definition`.
 pub fn answer(alloc: Global, out: &mut String, call: &str, text: &str) -> Result<(), AllocError> {
     match call {
         "value_nodes" => write_of_value(alloc, out, text),

@@ -90,7 +90,7 @@ fn another<S: ScalarValue>(alloc: Global, scalar: S) -> Result<DefaultScalarValu
     scalar.into_another(alloc)
 }
 
-// The scalar of a text that is lent.
+// The scalar of a text that is borrowed.
 fn write_copied<S: ScalarValue>(
     alloc: Global,
     out: &mut String,

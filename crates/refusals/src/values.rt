@@ -114,7 +114,7 @@ fn items_of(alloc: Global, value: Input) -> Result<Vec<Input>, AllocError> {
     Ok(items)
 }
 
-// Writes a list, or the items that came back.
+// Writes a list, or the items that were returned.
 fn write_list(out: &mut String, list: &Result<Input, Vec<Input>>) -> Result<(), AllocError> {
     match list {
         Ok(list) => writeln!(out, "{list}"),
@@ -133,7 +133,7 @@ fn fields_of(alloc: Global, value: Input) -> Result<IndexMap<String, Input>, All
     Ok(fields)
 }
 
-// Writes an object, or the fields that came back.
+// Writes an object, or the fields that were returned.
 fn write_object(
     out: &mut String,
     object: &Result<Input, IndexMap<String, Input>>,

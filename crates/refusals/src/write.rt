@@ -1,10 +1,10 @@
-//! How answers are written: each on a line, and `Memory` where memory ran out.
+//! How results are written: each on a line, and `Memory` where memory ran out.
 
 use juniper::{ParseFailure, ParseResult};
 use std::alloc::AllocError;
 use std::fmt;
 
-/// Writes why a parser gave nothing.
+/// Writes why a parser returned nothing.
 pub fn write_failure(out: &mut String, failure: &ParseFailure) -> Result<(), AllocError> {
     match failure {
         ParseFailure::Refused(fault) => writeln!(out, "{fault}"),
@@ -12,7 +12,7 @@ pub fn write_failure(out: &mut String, failure: &ParseFailure) -> Result<(), All
     }
 }
 
-/// Writes what a parser gave, or why it gave nothing.
+/// Writes what a parser returned, or why it returned nothing.
 pub fn write_answer<T: fmt::Display + Drop>(
     out: &mut String,
     answer: &ParseResult<T>,

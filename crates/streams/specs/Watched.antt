@@ -14,7 +14,7 @@ last_failure w = w.failure
 abbrev pub has_failed : {T : Type 0} → Watched T → Bool
 has_failed w = is_some (last_failure w)
 
--- a write of n bytes was answered by an error, or took none of some bytes
+-- a write of n bytes returned an error, or took none of some bytes
 abbrev pub is_refused : {E : Type 0} → Result ℕ E → ℕ → Bool
 is_refused (Ok taken) n = nat_eq taken 0 && nat_lt 0 n
 is_refused (Err e) n = true

@@ -1,4 +1,4 @@
-//! Readers and writers for programs that read all of their input, and then write what they say of it.
+//! Readers and writers for programs that read all of their input, and then write their output.
 #![tactic(auto)]
 
 mod watched;

@@ -5,7 +5,7 @@ ghost use Rattle.std.specs.Io.KnownBytes.{ReadConsumes, WriteAppends};
 
 use std::io::{self, ErrorKind, Read, Write};
 
-/// Passes each call on, and remembers the last failure.
+/// A reader or a writer that passes each call on, and remembers the last failure.
 #[derive(Drop)]
 pub struct Watched<T> {
     inner: T,
@@ -34,7 +34,7 @@ impl<T> Watched<T> {
         self.inner
     }
 
-    /// True once a read or a write has failed.
+    /// Whether a read or a write has failed.
     pub fn failed(&self) -> bool
         ensures { result ≡ has_failed self.now }
     {
@@ -45,7 +45,7 @@ impl<T> Watched<T> {
 impl<R: Read> Watched<R> {
     ghost use Rattle.streams.specs.Watched.{inner_of, has_failed, last_failure};
 
-    /// Reads once from the reader inside, and answers what that answers. An error of any kind is a failure.
+    /// Reads once from the reader inside, and returns its result. An error of any kind is a failure.
     pub fn read(&mut self, buf: &mut [u8]) -> io::Result<usize>
         ensures bound { ReadsAtMost result buf.new }
         ensures bytes { ReadConsumes (R.remaining (inner_of self.old)) (R.remaining (inner_of self.new)) result buf.new }
@@ -63,8 +63,8 @@ impl<R: Read> Watched<R> {
 impl<W: Write> Watched<W> {
     ghost use Rattle.streams.specs.Watched.{inner_of, has_failed, last_failure, is_refused};
 
-    /// Writes once to the writer inside, and answers what that answers. An error of any kind is a failure, and so is
-    /// to take no byte of some.
+    /// Writes once to the writer inside, and returns its result. An error of any kind is a failure, and so is to take
+    /// no byte of some.
     pub fn write(&mut self, buf: &[u8]) -> io::Result<usize>
         ensures bound { WritesAtMost result buf.now }
         ensures bytes { WriteAppends (W.contents (inner_of self.old)) (W.contents (inner_of self.new)) result buf.now }

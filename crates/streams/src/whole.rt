@@ -1,4 +1,4 @@
-//! All bytes of a reader, and all of a text to a writer.
+//! Reading all bytes of a reader, and writing all of a text to a writer.
 ghost use Rattle.std.specs.Prelude.{◌≡◌, ℕ, ◌↔◌, true, false, not, Err, IfOk, IsTrue, take};
 ghost use Rattle.std.specs.Io.KnownBytes.{Appends, Consumes, IsAtEnd};
 ghost use Rattle.streams.specs.Watched.{inner_of, has_failed};
@@ -18,10 +18,10 @@ pub enum Stop {
 
 const CHUNK: usize = 4096;
 
-/// The bytes of the reader, to its end.
+/// Reads the bytes of the reader, to its end.
 ///
-/// `Stop::Device` where a read failed, `Stop::Memory` where memory ran out; a reader that neither ends nor fails leads to
-/// the latter. Condition: the reader has not failed yet.
+/// Fails with `Stop::Device` where a read failed, and with `Stop::Memory` where memory ran out; a reader that neither
+/// ends nor fails leads to the latter. Condition: the reader has not failed yet.
 pub fn read_all<R: Read>(alloc: Global, reader: &mut Watched<R>) -> Result<Vec<u8>, Stop>
     requires { has_failed reader.old ≡ false }
     ensures all { IfOk result (λ source.
@@ -44,7 +44,8 @@ pub fn read_all<R: Read>(alloc: Global, reader: &mut Watched<R>) -> Result<Vec<u
     }
 }
 
-/// Writes the text, and says whether all of it went out. Else a write has failed, and a beginning of the text has gone out.
+/// Writes the text, and returns whether all of it was written. Otherwise a write has failed, and a prefix of the text
+/// has been written.
 ///
 /// Condition: the writer has not failed yet.
 pub fn write_all<W: Write>(writer: &mut Watched<W>, text: &[u8]) -> bool

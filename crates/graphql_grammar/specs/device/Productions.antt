@@ -13,7 +13,7 @@ use Rattle.graphql_grammar.specs.device.Reading.{Test, of, word, Reader, Out, Sy
 abbrev pub optional : {C A : Type 0} → Kind → Steps C A → Steps C (Option A)
 optional kind p = sees (of kind) (part p (λ a. gives (Some a))) (gives None)
 
--- one item or more up to a closing token, and where that stands
+-- one item or more up to a closing token, and where it stands
 abbrev pub several : {C A : Type 0} → Kind → Steps C A → Steps C (List A × Span)
 several kind p = part p (λ x. closed (of kind) p (λ xs q. gives (x ∷ xs, q)))
 

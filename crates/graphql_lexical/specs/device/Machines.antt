@@ -1,7 +1,7 @@
 -- A device: machines that go over characters, one step at each.
 use Rattle.std.specs.Prelude.{ℕ, suc, List, [], ◌∷◌, Option, Some, None}
 
--- a step at this character, and how far the steps go behind it
+-- a step at this character, and how far the steps go after it
 abbrev pub onward : {S : Type 0} → S → (S → ℕ × S) → Option S → ℕ × S
 onward q go None = (0, q)
 onward q go (Some p) = let r = go p in (suc r.0, r.1)

@@ -23,7 +23,7 @@ is_hex_d c = c == 68 || c == 100
 abbrev pub is_octal : ℕ → Bool
 is_octal c = nat_le 48 c && nat_le c 55
 
--- a character of a block string that doesn't go on with a mark
+-- a character of a block string that doesn't continue quotes
 abbrev pub block_other : ℕ → Option Block
 block_other c = if c == 92 then Some Escaping else (if is_source c then Some Inside else None)
 
@@ -150,7 +150,7 @@ answer TwoHexDigits n rest = after_u (n - 3) (drop (n - 2) rest)
 answer ThreeHexDigits n rest = after_u (n - 4) (drop (n - 3) rest)
 answer (InBlock part) n rest = answer_in_block part n rest
 
--- the token at the front of the rest, or the fault there
+-- the token at the front of the rest, or the lexical error there
 abbrev pub scan : List ℕ → Result Found Missed
 scan rest = let r = reach step Start rest in answer r.1 r.0 rest
 
@@ -178,7 +178,7 @@ is_end kind = same_kind kind EndOfFile
 abbrev pub lexeme_at : List ℕ → ℕ → Found → Lexeme
 lexeme_at source j f = record { kind = f.kind; text = f.text; span = record { start = place source j; end = place source (j + f.size) } }
 
--- the token at place j, and what goes on behind it
+-- the token at place j, and what follows it
 abbrev pub last_or : List ℕ → ℕ → (ℕ → Result (List Lexeme) Broken) → Found → Bool → Result (List Lexeme) Broken
 last_or source j go f true = Ok (lexeme_at source j f ∷ [])
 last_or source j go f false = with_first (lexeme_at source j f) (go (j + f.size))
@@ -194,6 +194,6 @@ cut_from (suc fuel) source k =
     let j = k + gap_size (drop k source) in
     next_cut source j (λ next. cut_from fuel source next) (scan (drop j source))
 
--- the source's tokens, or its first fault
+-- the source's tokens, or its first lexical error
 abbrev pub cut_of : List ℕ → Result (List Lexeme) Broken
 cut_of source = cut_from (suc (length source)) source 0

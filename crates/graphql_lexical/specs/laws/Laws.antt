@@ -37,7 +37,7 @@ pub record IsOnlyFault (rest : List ℕ) (n : ℕ) (error : LexicalError) : Type
 abbrev pub HasOneAnswer : List ℕ → Type 0
 HasOneAnswer rest = ((n : ℕ) × (kind : Kind) × (text : List ℕ) × IsOnlyReading rest n kind text) ⊎ ((n : ℕ) × (error : LexicalError) × IsOnlyFault rest n error)
 
--- no token but a block string begins with three quotes
+-- no token but a block string begins with a triple quote
 abbrev pub BeginsBlockString : List ℕ → Type 0
 BeginsBlockString rest = (n : ℕ) (kind : Kind) (text : List ℕ) → Reads (mark ++ rest) n kind text → kind ≡ BlockString
 
@@ -69,7 +69,7 @@ HasFewTokens source = (front : List Lexeme) (last : Lexeme) → Cut source (fron
 abbrev pub slice_of : List ℕ → Span → List ℕ
 slice_of source span = take (span.end.index - span.start.index) (drop span.start.index source)
 
--- The token stands at or behind character k: its places are places of the source, and what stands between them is its
+-- The token stands at or after character k: its places are places of the source, and what stands between them is its
 -- text, of a String and of a block string its text between the quotes.
 pub record IsSliceFrom (source : List ℕ) (k : ℕ) (x : Lexeme) : Type 0 where
   pub behind : k ≤ x.span.start.index
@@ -79,11 +79,11 @@ pub record IsSliceFrom (source : List ℕ) (k : ℕ) (x : Lexeme) : Type 0 where
   pub end : x.span.end ≡ place source x.span.end.index
   pub slice : slice_of source x.span ≡ written x.kind x.text
 
--- each token stands behind the one before it
+-- each token stands after the one before it
 abbrev pub AreSlicesFrom : List ℕ → ℕ → List Lexeme → Type 0
 AreSlicesFrom source k [] = Unit {0}
 AreSlicesFrom source k (x ∷ xs) = IsSliceFrom source k x × AreSlicesFrom source x.span.end.index xs
 
--- the tokens of a source are slices of it, one behind the other
+-- the tokens of a source are slices of it, one after another
 abbrev pub HasSlicesInOrder : List ℕ → Type 0
 HasSlicesInOrder source = (lexemes : List Lexeme) → Cut source lexemes → AreSlicesFrom source 0 lexemes

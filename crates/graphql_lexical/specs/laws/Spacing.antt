@@ -1,4 +1,4 @@
--- A front of a source, and tokens behind it with spaces between.
+-- A prefix of a source, and tokens after it with spaces between.
 use Rattle.std.specs.Prelude.{◌≡◌, ℕ, List, [], ◌∷◌, ◌++◌, take, None, codes}
 use Rattle.std.specs.List.{last_or}
 use Rattle.std.specs.Option.{option_map_or}
@@ -15,7 +15,7 @@ after_space text = codes " " ++ text
 abbrev pub up_to : List ℕ → List Lexeme → List ℕ
 up_to source tokens = take (option_map_or (λ x. x.span.end.index) (last_or None tokens) 0) source
 
--- The text is these tokens in a row, each spelled, with a space behind it.
+-- The text is these tokens in a row, each spelled, with a space after it.
 abbrev pub IsSpaced : List ℕ → List Lexeme → Type 0
 IsSpaced text [] = text ≡ []
 IsSpaced text (x ∷ xs) = (whole rest : List ℕ) × (text ≡ whole ++ after_space rest) × Spells whole x.kind × (x.text ≡ text_of x.kind whole) × IsSpaced rest xs
@@ -29,6 +29,6 @@ pub record GoesOn (text : List ℕ) (front others : List Lexeme) : Type 0 where
   pub is_end : end.kind ≡ EndOfFile
 
 -- The source up to the end of a token that is not its last, or up to its beginning, then a space, and then spelled
--- tokens with a space behind each: this is cut into the source's tokens up to that one and tokens alike with those.
+-- tokens with a space after each: this is cut into the source's tokens up to that one and tokens alike with those.
 abbrev pub GoesOnSpaced : List ℕ → Type 0
 GoesOnSpaced source = (front : List Lexeme) (next : Lexeme) (after others : List Lexeme) (text : List ℕ) → Cut source (front ++ next ∷ after) → IsSpaced text others → GoesOn (up_to source front ++ after_space text) front others

@@ -1,4 +1,4 @@
--- A device: the parts of a tree that are handed from one parse function to another, as the readers give them.
+-- A device: the parts of a tree that one parse function passes to another, as the readers give them.
 use Rattle.std.specs.Prelude.{ℕ, List, map, Option, option_map}
 use Rattle.std.specs.Borrow.{Bor}
 use Rattle.std.specs.Global.{Vec}
@@ -12,7 +12,7 @@ use Rattle.juniper.specs.declared.tree.ast.Directive.{Directive}
 use Rattle.juniper.specs.declared.tree.ast.Selection.{Selection}
 use Rattle.juniper.specs.View.{view_word, view_directive, view_directives, view_selections}
 
--- items, and where what closes them stands
+-- items, and where their closing token stands
 abbrev pub view_list : {X A : Type 0} → (X → A) → Spanning (Vec X) → List A × Span
 view_list view s = (map view s.item.items, view_span s.span)
 

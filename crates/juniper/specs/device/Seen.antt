@@ -1,4 +1,4 @@
--- A device: what a cursor answers where a reader of the grammar gives r.
+-- A device: what a cursor returns where a reader of the grammar gives r.
 use Rattle.std.specs.Prelude.{[], ◌∷◌, Ok, Err}
 use Rattle.graphql_grammar.specs.device.Reading.{Took, Refused, Out}
 use Rattle.graphql_grammar.specs.device.Reading as reading

@@ -1,4 +1,4 @@
--- A device: what a cursor answers where the steps of a production are read.
+-- A device: what a cursor returns where the steps of a production are read.
 use Rattle.std.specs.Prelude.{◌≡◌, List, drop, Bool, Option, Some, None, Result, Ok, Err, if◌then◌else◌}
 use Rattle.graphql_lexical.specs.Place.{Span}
 use Rattle.graphql_lexical.specs.declared.kind.Kind.{Kind}
@@ -15,7 +15,7 @@ use Rattle.juniper_tokens.specs.Spans.{view_span}
 use Rattle.juniper_tokens.specs.Cursor.{Read, Fails, ◌>>=◌, nowhere, first_of, kind_at, next_at, next_if}
 use Rattle.juniper.specs.device.Seen.{seen}
 
--- a scalar token by the scalar type's reading; another token is told as unexpected
+-- a scalar token by the scalar type's reading; another token is reported as unexpected
 abbrev pub literal_here : {C : Type 0} → (Kind → Text → Result C Error) → Kind → Text → Result C Error
 literal_here read kind text = if scalar_token kind text then read kind text else unexpected kind text
 
@@ -23,16 +23,16 @@ abbrev pub read_here : {C : Type 0} → Result C Error → Span → List Lexeme 
 read_here (Ok c) p ts = Ok (Scalar c p, ts)
 read_here (Err e) p ts = Err (record { error = e; span = p }, ts)
 
--- The next token was taken, and it is told where it stood.
+-- The next token was taken, and its place is returned.
 abbrev pub GivesPlace : Result code.Span ParseFailure → List Lexeme → List Lexeme → Read Lexeme → Type 0
 GivesPlace (Ok place) old new r = (r ≡ Ok (first_of old, new)) × (view_span place ≡ (first_of old).span)
 GivesPlace (Err e) old new r = Fails e new r
 
--- a token of the kind k is taken, and its span answered
+-- a token of the kind k is taken, and its span returned
 abbrev pub closing_at : Kind → List Lexeme → Option Span × List Lexeme
 closing_at k ts = if same_kind (kind_at ts) k then (Some (first_of ts).span, drop 1 ts) else (None, ts)
 
--- items, and the span of what closes them
+-- items, and the span of their closing token
 abbrev pub closed_by : {A : Type 0} → Read (List A × Lexeme) → Read (List A × Span)
 closed_by r = r >>= λ x. Ok ((x.0.0, x.0.1.span), x.1)
 
@@ -78,7 +78,7 @@ module _ {C : Type 0} (S : Scalars C Error) where
     cursor (closed close p k) ts = closed_read close p ts >>= λ r. cursor (k r.0.0 r.0.1) r.1
     cursor (each test p k) ts = each_read test p ts >>= λ r. cursor (k r.0) r.1
 
-    -- with the span that the last step tells
+    -- with the span that the last step gives
     pub located : {A : Type 0} → Steps C A → List Lexeme → Read (Span × A)
     located (gives a) ts = Ok ((nowhere, a), ts)
     located (gives_at p a) ts = Ok ((p, a), ts)

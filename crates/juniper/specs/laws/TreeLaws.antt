@@ -1,4 +1,4 @@
--- What the laws of this crate say of views, of cuts and of lexical faults.
+-- What the laws of this crate say of views, of cuts and of lexical errors.
 use Rattle.std.specs.Prelude.{◌≡◌, ℕ, map, List, String, Vec, Err}
 use Rattle.std.specs.declared.alloc.Global.{Global}
 use Rattle.graphql_lexical.specs.Place.{Place, Span}
@@ -20,7 +20,7 @@ use Rattle.juniper.specs.Promise.{lexical_fault}
 use Rattle.juniper.specs.View.{text_of, view_at, view_value, view_object_field, view_selection, view_field, view_inline}
 
 module _ {S C : Type 0} (content : S → C) where
-  -- what a value is seen as in its place, variant by variant
+  -- the view of a value in its place, variant by variant
   pub record SeesValues : Type 0 where
     pub null : (place : Span) → view_at content value.Null place ≡ Null place
     pub scalar : (s : S) (place : Span) → view_at content (value.Scalar s) place ≡ Scalar (content s) place
@@ -31,7 +31,7 @@ module _ {S C : Type 0} (content : S → C) where
     pub object : (v : Vec (Spanning (String Global) × Spanning (InputValue S)) Global) (place : Span)
         → view_at content (value.Object v) place ≡ Object (fields_of (map (view_object_field content) v.items)) place
 
-  -- what a selection is seen as that holds selections
+  -- the view of a selection that holds selections
   pub record SeesSelections : Type 0 where
     pub field : (f : Spanning (Field S)) → view_selection content (selection.Field f) ≡ view_field content f
     pub inline_fragment : (f : Spanning (InlineFragment S)) → view_selection content (selection.InlineFragment f) ≡ view_inline content f
@@ -42,12 +42,12 @@ pub record CutsOnce (source : List ℕ) : Type 0 where
   pub one_break : (d e : LexicalError) (p q : Place) → Breaks source d p → Breaks source e q → (d ≡ e) × (p ≡ q)
   pub never_both : (ts : List Lexeme) (error : LexicalError) (at : Place) → Cut source ts → Breaks source error at → ⊥
 
--- The lexer failed where the source breaks, with its error and in no width, or memory ran out.
+-- The lexer failed where the source breaks, with its error and with zero width, or memory ran out.
 pub record FailsAtBreak (source : List ℕ) (failed : LexFailure) : Type 0 where
   pub breaks : IfFault {X = List Lexeme} (Err failed) (λ fault. Breaks source (view_lexer_error fault.item) fault.span.start)
   pub zero_width : IfFault {X = List Lexeme} (Err failed) (λ fault. fault.span.end ≡ fault.span.start)
 
--- The text is refused for the fault at which it breaks, or memory ran out.
+-- The text is refused for the lexical error at which it breaks, or memory ran out.
 abbrev pub IsRefusedAtBreak : List ℕ → ParseFailure → Type 0
 IsRefusedAtBreak source (Refused fault) = (error : LexicalError) × (at : Place) × Breaks source error at × (view_fault fault ≡ lexical_fault error at)
 IsRefusedAtBreak source Memory = Unit {0}

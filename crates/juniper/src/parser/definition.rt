@@ -46,7 +46,7 @@ pub(crate) fn parse_definition<'a, S: ScalarValue>(
     }
 }
 
-/// The type of the operation that the next token begins, if it begins one. The token is left there.
+/// The type of the operation that the next token begins, or None. The token is not taken.
 #[tactic(auto, using(crate::proofs::Names::query_is, crate::proofs::Names::mutation_is, crate::proofs::Names::subscription_is, crate::proofs::Names::operation_type_is))]
 fn next_operation(parser: &Parser<'_>) -> Option<OperationType>
     ensures { result ≡ (if passes operation_word (first_of parser.now) then Some (operation_of (first_of parser.now).text) else None) }
@@ -123,7 +123,7 @@ fn parse_optional_name<'a>(parser: &mut Parser<'a>) -> OptionParseResult<&'a str
     }
 }
 
-/// `FragmentName "on" Name Directive* SelectionSet`, after the word.
+/// `FragmentName "on" Name Directive* SelectionSet`, after the word `fragment`.
 #[tactic(auto, unfolding(graphql_grammar::specs::device::Productions::fragment))]
 fn parse_fragment<'a, S: ScalarValue>(
     parser: &mut Parser<'a>,

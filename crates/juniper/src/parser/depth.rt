@@ -18,21 +18,21 @@ use std::alloc::Global;
 /// Why a source has no tree within a limit on nesting.
 #[derive(Debug, Drop)]
 pub enum DepthFailure {
-    /// What `parse_document_source` answers.
+    /// The failure that `parse_document_source` returns.
     Parse(ParseFailure),
     /// The span of the first token that is nested too deep.
     TooDeep(Span),
 }
 
-/// The tree of a source text whose brackets are not nested deeper than `depth`.
+/// Parses a source text as a document whose brackets are nested at most `depth` deep.
 ///
-/// A bracket is `(`, `[` or `{`. The nesting at a token is the number of brackets that are opened up to it, and with
-/// it, less that of those that are closed. `TooDeep` is answered with the span of the first token whose nesting exceeds
-/// `depth`, exactly where the text can be cut into tokens and those up to that one begin a document. Otherwise the
-/// answer is that of `parse_document_source`: so a lexical fault anywhere wins, and so does a fault of the grammar at
-/// or before that token. No token behind it is parsed, so the calls that read the parts of a part go no deeper than
-/// `depth` allows, and the stack holds that nesting at most. `TooDeep` itself takes no memory; where memory ran out,
-/// `DepthFailure::Parse` has `ParseFailure::Memory`.
+/// A bracket is `(`, `[` or `{`. The nesting at a token is the number of brackets opened up to and including it, less
+/// the number of those closed. `TooDeep` is returned with the span of the first token whose nesting exceeds `depth`,
+/// exactly where the text can be cut into tokens and those up to that one begin a document. Otherwise the result is
+/// that of `parse_document_source`: so a lexical error anywhere wins, and so does an error of the grammar at or before
+/// that token. No token after it is parsed, so the calls that read the parts of a part go no deeper than `depth`
+/// allows, and the stack holds that nesting at most. `TooDeep` itself takes no memory; where memory ran out, returns
+/// `DepthFailure::Parse` with `ParseFailure::Memory`.
 ///
 /// ```
 /// match parse_document_source_within::<DefaultScalarValue>(alloc, source, 200) {
@@ -59,7 +59,7 @@ pub fn parse_document_source_within<'a, S: ScalarValue>(
     }
 }
 
-// The tree of the tokens of a source.
+// Parses the tokens of a source.
 fn parse_within<'a, S: ScalarValue>(
     parser: &mut Parser<'a>,
     depth: usize,
@@ -73,8 +73,8 @@ fn parse_within<'a, S: ScalarValue>(
     }
 }
 
-/// Why tokens that were ended behind a deep one have no tree: where they are refused at that end, they are too deep. No
-/// other token has a span of zero width.
+/// The failure for tokens that were ended after one nested too deep: where they are refused at that end, they are too
+/// deep. No other token has an empty span.
 pub(crate) fn told(deep: Option<Span>, failure: ParseFailure) -> DepthFailure
     ensures { result ≡ told_within deep failure }
 {

@@ -16,17 +16,17 @@ use juniper_tokens::{Kind, Lexer, Parser, UnlocatedParseResult};
 use juniper_values::ScalarValue;
 use std::alloc::Global;
 
-/// The tree of a source text: `Document = Definition+ EndOfFile`
+/// Parses a source text as a document: `Document = Definition+ EndOfFile`
 ///
-/// A tree is answered exactly where the text is a document of the grammar, and then it is its one tree, in which each
-/// span runs from the first character of its part's first token to the place behind the last one. A text that can't
-/// be cut into tokens is refused as `ParseError::LexerError` at its first lexical fault, whatever stands before it.
-/// Any other text is refused at the first token with which no document goes on: at the end as `UnexpectedEndOfFile`, at
-/// a scalar that the scalar type refuses with that type's error, and else as `UnexpectedToken`. What is written up to
-/// the end of the token before goes on to a document's text, after a space and with the same tokens in the same places.
+/// A tree is returned exactly where the text is a document of the grammar. It is then the text's one tree, in which
+/// each span runs from the first character of its part's first token to the place after its last one. A text that can't
+/// be cut into tokens is refused as `ParseError::LexerError` at its first lexical error, whatever stands before it. Any
+/// other text is refused at the first token that cannot continue a document: at the end as `UnexpectedEndOfFile`, at a
+/// scalar that the scalar type refuses with that type's error, and otherwise as `UnexpectedToken`. The text up to the
+/// end of the token before, and a space, can be completed to a document's text with the same tokens in the same places.
 ///
-/// `ParseFailure::Memory` where memory ran out. The stack holds the nesting of the text; from a stranger take a text by
-/// `parse_document_source_within`.
+/// Returns `ParseFailure::Memory` where memory ran out. The stack holds the nesting of the text; parse a text from an
+/// untrusted sender by `parse_document_source_within`.
 ///
 /// ```
 /// match parse_document_source::<DefaultScalarValue>(alloc, "{ a { b } }") {

@@ -11,29 +11,29 @@ use juniper_values::InputValue;
 use std::{slice, vec};
 
 impl<'a, S: Drop> Arguments<'a, S> {
-    /// The arguments by value, in their order (GraphQL specification, October 2021, section 2.6).
+    /// An iterator over the arguments by value, in their order (GraphQL specification, October 2021, section 2.6).
     pub fn into_iter(self) -> vec::IntoIter<(Spanning<&'a str>, Spanning<InputValue<S>>)>
         ensures { into_iter_items result ≡ self.entry.items.items }
     {
         self.items.into_iter()
     }
 
-    /// The arguments, in their order (GraphQL specification, October 2021, section 2.6).
+    /// An iterator over the arguments, in their order (GraphQL specification, October 2021, section 2.6).
     pub fn iter(&self) -> slice::Iter<'_, (Spanning<&'a str>, Spanning<InputValue<S>>)>
         ensures { iter_rest result ≡ self.now.items.items }
     {
         self.items.iter()
     }
 
-    /// How many arguments there are (GraphQL specification, October 2021, section 2.6).
+    /// The number of arguments (GraphQL specification, October 2021, section 2.6).
     pub fn len(&self) -> usize
         ensures { result ≡ length self.now.items.items }
     {
         self.items.len()
     }
 
-    /// The value of the first argument of this name; None where there is none of it
-    /// (GraphQL specification, October 2021, section 2.6). It takes time in proportion to the number of arguments.
+    /// The value of the first argument of this name, or None (GraphQL specification, October 2021, section 2.6). It
+    /// takes time in proportion to the number of arguments.
     ///
     /// ```
     /// // of `user(id: 1, first: 10)`
@@ -50,12 +50,12 @@ impl<'a, S: Drop> Arguments<'a, S> {
         None
     }
 
-    /// The value of the first argument of this name, to write; None where there is none of it
-    /// (GraphQL specification, October 2021, section 2.6).
+    /// The value of the first argument of this name, mutable, or None (GraphQL specification, October 2021, section
+    /// 2.6).
     ///
-    /// The contract says which value is lent. It does not say that a write leaves the other arguments, their number and the
-    /// names as they were.
-    // A loan of a part of an element that holds a reference is not followed, so no clause can say what stays.
+    /// The contract says which value is borrowed. It does not say that a write leaves the other arguments, their number
+    /// and the names as they were.
+    // A borrow of a part of an element that holds a reference is not followed, so no clause can say what stays.
     pub fn get_mut(&mut self, name: &str) -> Option<&mut Spanning<InputValue<S>>>
         ensures { option_copied_mut result ≡ first_named name.now self.old.items.items }
     {
@@ -69,7 +69,7 @@ impl<'a, S: Drop> Arguments<'a, S> {
 }
 
 impl<'a, S: Drop> VariableDefinitions<'a, S> {
-    /// The variable definitions, in their order (GraphQL specification, October 2021, section 2.10).
+    /// An iterator over the variable definitions, in their order (GraphQL specification, October 2021, section 2.10).
     pub fn iter(&self) -> slice::Iter<'_, (Spanning<&'a str>, VariableDefinition<'a, S>)>
         ensures { iter_rest result ≡ self.now.items.items }
     {

@@ -3,11 +3,11 @@ ghost use Rattle.std.specs.Prelude.{◌≡◌, ◌++◌, ◌∷◌, [], OnOk};
 
 use std::alloc::AllocError;
 
-// Room for so many is asked for at the first of several items. Most lists have no more.
+// The capacity that is requested at the first of several items. Most lists have no more.
 const FEW: usize = 3;
 
-/// Adds an item behind the others. The first one of a list asks for room for itself alone, if it is the last one too, so
-/// that a list of one item has no room that stays empty.
+/// Appends an item. The first one of a list requests capacity for itself alone, if it is the last one too, so that a
+/// list of one item has no unused capacity.
 #[inline(always)]
 pub(crate) fn push_item<T: Drop>(
     items: &mut Vec<T>,

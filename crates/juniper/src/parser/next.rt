@@ -11,7 +11,7 @@ ghost use Rattle.juniper.specs.device.Steps.{closing_at, GivesPlace};
 
 use juniper_tokens::{Kind, ParseError, ParseFailure, Parser, Span, Spanning, Token};
 
-/// Whether the next token, which is left there, is of this kind.
+/// Whether the next token is of this kind. It is not taken.
 pub(crate) fn next_is(parser: &Parser<'_>, kind: Kind) -> bool
     ensures is { result ≡ same_kind (kind_at parser.now) kind }
     ensures ended { EndsOnce parser.now }
@@ -19,7 +19,7 @@ pub(crate) fn next_is(parser: &Parser<'_>, kind: Kind) -> bool
     parser.kind() == kind
 }
 
-/// Whether the next token, which is left there, is a Name of this text.
+/// Whether the next token is a Name of this text. It is not taken.
 pub(crate) fn next_is_word(parser: &Parser<'_>, text: &str) -> bool
     ensures is { result ≡ passes (word (chars text.now)) (first_of parser.now) }
     ensures ended { EndsOnce parser.now }
@@ -30,7 +30,7 @@ pub(crate) fn next_is_word(parser: &Parser<'_>, text: &str) -> bool
     }
 }
 
-/// Takes the next token, which must not be the end, and answers where it stood.
+/// Takes the next token, which must not be the end, and returns its span.
 #[tactic(auto, using(crate::proofs::Cursors::next_is_first, juniper_tokens::proofs::Public::one_taken))]
 #[inline(always)]
 pub(crate) fn take_next(parser: &mut Parser<'_>) -> Span
@@ -47,7 +47,7 @@ pub(crate) fn take_next(parser: &mut Parser<'_>) -> Span
     place
 }
 
-/// Takes the next token where it is of this kind, and answers where it stood.
+/// Takes the next token if it is of this kind, and returns its span, else returns None.
 #[tactic(auto, using(crate::proofs::Cursors::closing_is_no_end, juniper_tokens::proofs::Public::none_taken))]
 #[inline(always)]
 pub(crate) fn take_closing(parser: &mut Parser<'_>, closing: Kind) -> Option<Span>
@@ -65,9 +65,9 @@ pub(crate) fn take_closing(parser: &mut Parser<'_>, closing: Kind) -> Option<Spa
     }
 }
 
-/// Takes the next token, which has to be of this kind, and answers where it stood.
+/// Takes the next token if it is of this kind, and returns its span, else returns an error.
 ///
-/// Another one is taken too, and told as unexpected. At the end nothing is taken.
+/// Another token is taken too, and reported as unexpected. At the end nothing is taken.
 #[tactic(auto, using(crate::proofs::Cursors::closing_is_no_end))]
 #[inline(always)]
 pub(crate) fn expect_kind(parser: &mut Parser<'_>, kind: Kind) -> Result<Span, ParseFailure>
@@ -83,7 +83,7 @@ pub(crate) fn expect_kind(parser: &mut Parser<'_>, kind: Kind) -> Result<Span, P
     }
 }
 
-/// Takes the next token, and tells that it is unexpected. At the end nothing is taken.
+/// Takes the next token, and returns the error that it is unexpected. At the end nothing is taken.
 pub(crate) fn refuse<T: Drop>(parser: &mut Parser<'_>) -> Result<T, ParseFailure>
     ensures gives { Gives (λ x. x) result parser.new (refused_at parser.old) }
     ensures never { OnOk result ⊥ }

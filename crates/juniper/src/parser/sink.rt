@@ -22,27 +22,27 @@ use juniper_tokens::{Kind, Lexer, ParseFailure, Parser, UnlocatedParseResult};
 use juniper_values::ScalarValue;
 use std::alloc::{AllocError, Global};
 
-/// What takes the definitions of a document one behind the other.
+/// A sink that takes the definitions of a document one after another.
 pub trait DefinitionSink<S: ScalarValue> {
     // It has taken these definitions of a document that this source writes.
     ghost holds: { List ℕ → Self → List (Seen Content) → Type 0 };
 
-    /// Takes a definition, behind the others.
+    /// Takes a definition, after the others.
     ///
-    /// `AllocError` where memory ran out. It then holds what it held before.
+    /// Returns `AllocError` where memory ran out. The sink then holds what it held before.
     fn take(&mut self, definition: Definition<'_, S>) -> Result<(), AllocError>
         ensures taken { OnOk result (Gains holds self.old self.new (view_definition S.content definition.entry ∷ [])) }
         ensures kept { OnErr result (Gains holds self.old self.new []) };
 }
 
-/// Gives the definitions of a source text whose brackets are not nested deeper than `depth` to what takes them, each as
+/// Parses a source text whose brackets are nested at most `depth` deep, and gives its definitions to a sink, each as
 /// soon as it is read: so no more than one needs to be in memory at a time.
 ///
-/// The answer is that of `parse_document_source_within`, and where that is a tree, its definitions have been given in
-/// order. Whatever the answer, what was given are definitions that stand at the front of the source's tokens, in order:
-/// before a fault, and where memory ran out, there may be some. Where the source can't be cut into tokens, none were given.
-/// The stack holds a nesting of `depth` at most; where memory ran out, in the parser or in what takes a definition,
-/// `DepthFailure::Parse` has `ParseFailure::Memory`.
+/// The result is that of `parse_document_source_within`, and where that is a tree, its definitions have been given in
+/// order. Whatever the result, what was given are definitions that stand at the front of the source's tokens, in order:
+/// before an error, and where memory ran out, there may be some. Where the source can't be cut into tokens, none were
+/// given. The stack holds a nesting of `depth` at most; where memory ran out, in the parser or in the sink, returns
+/// `DepthFailure::Parse` with `ParseFailure::Memory`.
 ///
 /// ```
 /// // `Fields` is a type of the program's own that counts fields, and is a `DefinitionSink`

@@ -11,11 +11,11 @@ use crate::parser::next::{expect_kind, next_is, take_next};
 use juniper_tokens::{Kind, ParseFailure, ParseResult, Parser, Spanning};
 use juniper_values::Type;
 
-/// Takes the type that stands next (GraphQL specification, October 2021, section 2.11).
+/// Parses the longest prefix of the tokens that is a type (GraphQL specification, October 2021, section 2.11).
 ///
-/// A type is answered exactly where a front of the tokens is one, and the longest such front is taken. Else the tokens
-/// are refused at the first one with which no type goes on, which is taken, unless it is the end. Where memory
-/// ran out, a rest of the tokens is left. The stack holds the type's nesting.
+/// It succeeds exactly where some prefix is a type. Otherwise it fails at the first token that cannot continue one,
+/// which is taken, unless it is the end. Where memory ran out, a suffix of the tokens is left. The stack holds the
+/// type's nesting.
 ///
 /// ```
 /// // of `[ID!] = 1`: the type is `[ID!]`, and `=` stands next

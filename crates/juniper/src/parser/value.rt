@@ -22,11 +22,12 @@ use juniper_tokens::{Kind, ParseError, ParseFailure, ParseResult, Parser, Span, 
 use juniper_values::{InputValue, ReadFailure, ScalarValue};
 use std::alloc::{AllocError, Global};
 
-/// Takes the value that stands next; constant ones have no variables (GraphQL specification, October 2021, section 2.9).
+/// Parses the prefix of the tokens that is a value; a constant one has no variables (GraphQL specification, October
+/// 2021, section 2.9).
 ///
-/// A value is answered exactly where a front of the tokens is one. Else the tokens are refused at the first one with
-/// which no value goes on, which is taken, unless it is the end. Where memory ran out, a rest of
-/// the tokens is left. The stack holds the value's nesting.
+/// It succeeds exactly where some prefix is a value. Otherwise it fails at the first token that cannot continue one,
+/// which is taken, unless it is the end. Where memory ran out, a suffix of the tokens is left. The stack holds the
+/// value's nesting.
 ///
 /// ```
 /// let mut lexer = Lexer::new(alloc, "{a: [1, $n]}");
@@ -222,7 +223,7 @@ fn parse_scalar<'a, S: ScalarValue>(parser: &mut Parser<'a>) -> ParseResult<Inpu
     }
 }
 
-/// The scalar of a scalar token, or the error that tells the token.
+/// The scalar of a scalar token. Another token is refused as unexpected.
 fn scalar_of<S: ScalarValue>(alloc: Global, token: Token<'_>) -> Result<S, ReadFailure>
     ensures { MeetsReading S.content (literal_here S.reading (token_kind token.entry) (token_text token.entry)) result }
 {
@@ -232,7 +233,7 @@ fn scalar_of<S: ScalarValue>(alloc: Global, token: Token<'_>) -> Result<S, ReadF
     }
 }
 
-/// `true` and `false` are scalars, `null` is of its own, any other name is one of an enum.
+/// `true` and `false` are scalars, `null` is null, any other name is an enum value.
 fn value_of_name<'a, S: ScalarValue>(
     alloc: Global,
     name: Spanning<&'a str>,

@@ -4,7 +4,7 @@ use graphql_grammar::OperationType;
 use juniper_tokens::Spanning;
 use juniper_values::{InputValue, Type};
 
-/// What a variable is declared as (GraphQL specification, October 2021, section 2.10).
+/// The definition of a variable, without its name (GraphQL specification, October 2021, section 2.10).
 #[derive(Drop, PartialEq)]
 pub struct VariableDefinition<'a, S: Drop> {
     pub var_type: Spanning<Type<&'a str>>,
@@ -30,13 +30,13 @@ pub struct Arguments<'a, S: Drop> {
 #[derive(Drop, PartialEq)]
 #[cycle(ast)]
 pub struct Field<'a, S: Drop> {
-    /// The name that the answer uses in place of the field's own.
+    /// The name that the response uses in place of the field's own.
     pub alias: Option<Spanning<&'a str>>,
     pub name: Spanning<&'a str>,
     pub arguments: Option<Spanning<Arguments<'a, S>>>,
-    /// None where there is none, and else not empty.
+    /// None if there are none, otherwise not empty.
     pub directives: Option<Vec<Spanning<Directive<'a, S>>>>,
-    /// None where there is none, and else not empty.
+    /// None if there is none, otherwise not empty.
     pub selection_set: Option<Vec<Selection<'a, S>>>,
 }
 
@@ -44,7 +44,7 @@ pub struct Field<'a, S: Drop> {
 #[derive(Drop, PartialEq)]
 pub struct FragmentSpread<'a, S: Drop> {
     pub name: Spanning<&'a str>,
-    /// None where there is none, and else not empty.
+    /// None if there are none, otherwise not empty.
     pub directives: Option<Vec<Spanning<Directive<'a, S>>>>,
 }
 
@@ -53,9 +53,9 @@ pub struct FragmentSpread<'a, S: Drop> {
 #[derive(Drop, PartialEq)]
 #[cycle(ast)]
 pub struct InlineFragment<'a, S: Drop> {
-    /// The type on which the selections apply; None where they apply on any.
+    /// The type on which the selections apply, or None where they apply on any.
     pub type_condition: Option<Spanning<&'a str>>,
-    /// None where there is none, and else not empty.
+    /// None if there are none, otherwise not empty.
     pub directives: Option<Vec<Spanning<Directive<'a, S>>>>,
     pub selection_set: Vec<Selection<'a, S>>,
 }
@@ -86,7 +86,7 @@ pub struct Operation<'a, S: Drop> {
     pub operation_type: OperationType,
     pub name: Option<Spanning<&'a str>>,
     pub variable_definitions: Option<Spanning<VariableDefinitions<'a, S>>>,
-    /// None where there is none, and else not empty.
+    /// None if there are none, otherwise not empty.
     pub directives: Option<Vec<Spanning<Directive<'a, S>>>>,
     pub selection_set: Vec<Selection<'a, S>>,
 }
@@ -97,7 +97,7 @@ pub struct Fragment<'a, S: Drop> {
     pub name: Spanning<&'a str>,
     /// The type on which the fragment applies.
     pub type_condition: Spanning<&'a str>,
-    /// None where there is none, and else not empty.
+    /// None if there are none, otherwise not empty.
     pub directives: Option<Vec<Spanning<Directive<'a, S>>>>,
     pub selection_set: Vec<Selection<'a, S>>,
 }

@@ -33,7 +33,7 @@ type Selections<'a, S> = Vec<Selection<'a, S>>;
 
 type Variable<'a, S> = (Word<'a>, VariableDefinition<'a, S>);
 
-/// A part of a tree is equal to another exactly where each of its fields is, spans too.
+/// Two parts of a tree are equal exactly if all their fields are, spans included.
 pub fn parts_are_compared_whole<'a, S: PartialEq + Drop>()
     ensures arguments { (a b : Arguments S) → ⟦<Arguments<'a, S> as PartialEq>⟧.eq a b
         ≡ ⟦<Vec<(Word<'a>, Spanning<InputValue<S>>)> as PartialEq>⟧.eq a.items b.items }
@@ -72,8 +72,8 @@ pub fn parts_are_compared_whole<'a, S: PartialEq + Drop>()
         && ⟦<Selections<'a, S> as PartialEq>⟧.eq a.selection_set b.selection_set))) }
 {}
 
-/// Operation types are equal where they are the same, and selections and definitions where they are of one kind and
-/// what they hold is equal, spans too.
+/// Operation types are equal if they are the same; selections and definitions if they are of one kind and what they
+/// hold is equal, spans included.
 pub fn kinds_are_compared_apart<'a, S: PartialEq + Drop>()
     ensures operation_type { (a b : OperationType) → IsTrue (⟦<OperationType as PartialEq>⟧.eq a b) ↔ (a ≡ b) }
     ensures fields { (a b : Spanning (Field S)) → ⟦<Selection<'a, S> as PartialEq>⟧.eq (Selection.Field a) (Selection.Field b)

@@ -46,7 +46,7 @@ abbrev mutual
 
 -- ---- equality
 
--- Values are equal where they are of one kind and hold equal parts: lists place by place, objects in whatever order.
+-- Values are equal if they are of one kind and hold equal parts: lists place by place, objects in any order.
 pub record ComparesParts {S : Type 0} (eq : S → S → Bool) (value_eq : Value S → Value S → Bool) : Type 0 where
   pub nulls : value_eq V.Null V.Null ≡ true
   pub scalars : (a b : S) → value_eq (V.Scalar a) (V.Scalar b) ≡ eq a b

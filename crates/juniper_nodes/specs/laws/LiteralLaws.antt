@@ -28,7 +28,7 @@ meaning-is_shown (kind ∷ ns) t e = by_kind (is_string kind) _ e
     by_kind true u e = e
     by_kind false u e = absurd (cc e)
 
--- a text that is lent is the text of the scalar
+-- a text that is borrowed is the text of the scalar
 pub lent-is_string : (c : Content) (t : Text) → str_in c ≡ Some t → string_in c ≡ Some t
 lent-is_string (integer n) t e = absurd (cc e)
 lent-is_string (text u) t e = e

@@ -48,7 +48,7 @@ fn push_arguments<'t, 'a, S: ScalarValue>(
     Ok(())
 }
 
-/// Puts the nodes of arguments behind the others, if there are any (GraphQL specification, October 2021, section 2.6).
+/// Appends the nodes of arguments, if there are any (GraphQL specification, October 2021, section 2.6).
 pub(crate) fn push_optional_arguments<'t, 'a, S: ScalarValue>(
     nodes: &mut Vec<Node<'t, 'a, S>>,
     arguments: &'t Option<Spanning<Arguments<'a, S>>>,
@@ -86,7 +86,7 @@ fn push_each_directive<'t, 'a, S: ScalarValue>(
     Ok(())
 }
 
-/// Puts the nodes of directives behind the others, if there are any (GraphQL specification, October 2021, section 2.12).
+/// Appends the nodes of directives, if there are any (GraphQL specification, October 2021, section 2.12).
 pub(crate) fn push_directives<'t, 'a, S: ScalarValue>(
     nodes: &mut Vec<Node<'t, 'a, S>>,
     directives: &'t Option<Vec<Spanning<Directive<'a, S>>>>,

@@ -1,4 +1,4 @@
-//! How one node comes to the list.
+//! Appending one node to the list.
 ghost use Rattle.std.specs.Prelude.{◌≡◌, ◌∷◌, [], ◌<◌, List, length, option_map, OnErr, IfOk};
 ghost use Rattle.graphql_nodes.specs.Nodes.{Node, over, scalar_node};
 ghost use Rattle.juniper_tokens.specs.Spans.{view_span};
@@ -10,7 +10,7 @@ use graphql_nodes::NodeKind;
 use juniper::{ScalarValue, Span, Spanning};
 use std::alloc::AllocError;
 
-/// Puts a node behind the others, as if no part were in it, and gives its index.
+/// Appends a node, as if no part were in it, and returns its index.
 pub(crate) fn push_open<'t, 'a, S: ScalarValue>(
     nodes: &mut Vec<Node<'t, 'a, S>>,
     kind: NodeKind,
@@ -31,7 +31,7 @@ pub(crate) fn push_open<'t, 'a, S: ScalarValue>(
     Ok(place)
 }
 
-/// Puts the node of a part behind the others in which no part is.
+/// Appends the node of a part that has no part in it.
 pub(crate) fn push_leaf<'t, 'a, S: ScalarValue>(
     nodes: &mut Vec<Node<'t, 'a, S>>,
     kind: NodeKind,
@@ -44,7 +44,7 @@ pub(crate) fn push_leaf<'t, 'a, S: ScalarValue>(
     Ok(())
 }
 
-/// Puts the node of a scalar behind the others.
+/// Appends the node of a scalar.
 pub(crate) fn push_scalar<'t, 'a, S: ScalarValue>(
     nodes: &mut Vec<Node<'t, 'a, S>>,
     scalar: &'t S,
@@ -62,7 +62,7 @@ pub(crate) fn push_scalar<'t, 'a, S: ScalarValue>(
     Ok(())
 }
 
-/// What names a part that may have a name.
+/// The label of a part that may have a name.
 pub(crate) fn label_of<'t, 'a>(name: &'t Option<Spanning<&'a str>>) -> Label<'t, 'a>
     ensures { TellsName result (option_map view_word name.now) }
 {
@@ -72,7 +72,7 @@ pub(crate) fn label_of<'t, 'a>(name: &'t Option<Spanning<&'a str>>) -> Label<'t,
     }
 }
 
-/// Counts the nodes behind the one at this index, all of which are of parts in it.
+/// Counts the nodes after the one at this index, all of which are of parts in it.
 pub(crate) fn close<S: ScalarValue>(nodes: &mut Vec<Node<'_, '_, S>>, place: usize)
     requires { place < length (view_nodes S.content nodes.old) }
     ensures { CountsInner S.content nodes.old nodes.new place }

@@ -93,7 +93,7 @@ fn push_inline<'t, 'a, S: ScalarValue>(
     Ok(())
 }
 
-/// Puts the nodes of selections behind the others (GraphQL specification, October 2021, section 2.4).
+/// Appends the nodes of selections (GraphQL specification, October 2021, section 2.4).
 #[cycle(selection)]
 pub(crate) fn push_selections<'t, 'a, S: ScalarValue>(
     nodes: &mut Vec<Node<'t, 'a, S>>,

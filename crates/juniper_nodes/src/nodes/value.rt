@@ -14,7 +14,7 @@ use std::alloc::{AllocError, Global};
 
 /// The nodes of a value (GraphQL specification, October 2021, section 2.9).
 ///
-/// `AllocError` where memory ran out.
+/// Returns `AllocError` where memory ran out.
 pub fn value_nodes<'t, S: ScalarValue>(
     alloc: Global,
     value: &'t Spanning<InputValue<S>>,
@@ -26,7 +26,7 @@ pub fn value_nodes<'t, S: ScalarValue>(
     Ok(nodes)
 }
 
-/// Puts the nodes of a value behind the others (GraphQL specification, October 2021, section 2.9).
+/// Appends the nodes of a value (GraphQL specification, October 2021, section 2.9).
 #[cycle(value)]
 pub(crate) fn push_value<'t, 'a, S: ScalarValue>(
     nodes: &mut Vec<Node<'t, 'a, S>>,

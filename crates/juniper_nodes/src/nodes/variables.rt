@@ -69,8 +69,7 @@ fn push_variables<'t, 'a, S: ScalarValue>(
     Ok(())
 }
 
-/// Puts the nodes of variable definitions behind the others, if there are any
-/// (GraphQL specification, October 2021, section 2.10).
+/// Appends the nodes of variable definitions, if there are any (GraphQL specification, October 2021, section 2.10).
 pub(crate) fn push_optional_variables<'t, 'a, S: ScalarValue>(
     nodes: &mut Vec<Node<'t, 'a, S>>,
     variables: &'t Option<Spanning<VariableDefinitions<'a, S>>>,

@@ -15,7 +15,7 @@ thousandths-has_form (scalar.Default (default.String s)) = inr (inr refl)
 thousandths-has_form (scalar.Default (default.Boolean b)) = inr (inl refl)
 thousandths-has_form (scalar.Milli n) = inr (inr refl)
 
--- a text that is lent is the text of the scalar
+-- a text that is borrowed is the text of the scalar
 pub lent-is_string : (c : Content) (t : Text) → text_in c ≡ Some t → string_in c ≡ Some t
 lent-is_string (integer n) t e = e
 lent-is_string (text u) t e = e

@@ -1,4 +1,4 @@
--- A device: borders between the characters of a text.
+-- A device: offsets between the characters of a text.
 use Rattle.std.specs.Prelude.{◌≡◌, ℕ, zero, suc, ◌<◌, ◌≤◌, List, [], ◌∷◌, ◌++◌, length, take, drop}
 use Rattle.juniper_tokens.specs.declared.lexer.text.Border.{Border}
 use Rattle.juniper_tokens.specs.device.ByteRuns.{byte_at}
@@ -7,18 +7,18 @@ use Rattle.juniper_tokens.specs.device.ByteRuns.{byte_at}
 abbrev pub IsBorder : Border → List ℕ → Type 0
 IsBorder b cs = b.bytes ≡ byte_at b.characters cs
 
--- so many characters stand before it, or all where there are fewer
+-- this many characters stand before it, or all where there are fewer
 pub record IsBorderBehind (count : ℕ) (cs : List ℕ) (b : Border) : Type 0 where
   pub border : IsBorder b cs
   pub front : take b.characters cs ≡ take count cs
   pub rest : drop b.characters cs ≡ drop count cs
 
--- so many quotes
+-- this many quotes
 abbrev pub quotes : ℕ → List ℕ
 quotes zero = []
 quotes (suc n) = 34 ∷ quotes n
 
--- the border at which a text's front that is so many quotes, a text and as many quotes ends
+-- the offset at which a text's prefix that is this many quotes, a text and as many quotes ends
 pub record EndsQuoted (width : ℕ) (cs : List ℕ) (bytes characters : ℕ) : Type 0 where
   pub units : List ℕ
   pub whole : take characters cs ≡ quotes width ++ (units ++ quotes width)

@@ -3,15 +3,15 @@ use Rattle.std.specs.Prelude.{◌≡◌, ℕ, ◌+◌, ◌≤◌, Bool, ◌&&◌
 use Rattle.graphql_lexical.specs.device.Machines.{reach}
 use lib.Utf8.{encodes}
 
--- the byte goes on with a character past ASCII
+-- the byte is a continuation byte
 abbrev pub is_inner : ℕ → Bool
 is_inner b = nat_le 128 b && nat_lt b 192
 
--- The same steps over bytes: those that go on with a character keep the state.
+-- The same steps over bytes: continuation bytes keep the state.
 abbrev pub byte_step : {S : Type 0} → (S → ℕ → Option S) → S → ℕ → Option S
 byte_step step q b = if is_inner b then Some q else step q b
 
--- the steps are the same at all characters past ASCII
+-- the steps are the same at all non-ASCII characters
 abbrev pub IsSamePastAscii : {S : Type 0} → (S → ℕ → Option S) → Type 0
 IsSamePastAscii {S} step = (q : S) (c d : ℕ) → 128 ≤ c → 128 ≤ d → step q c ≡ step q d
 
@@ -31,7 +31,7 @@ with_value step f s c = option_map (λ p. (p, f s.1 c)) (step s.0 c)
 abbrev pub count_one : ℕ → ℕ → ℕ
 count_one n c = n + 1
 
--- so many elements before
+-- this many elements before
 abbrev pub on : {S : Type 0} → ℕ → ℕ × S → ℕ × S
 on n r = (n + r.0, r.1)
 

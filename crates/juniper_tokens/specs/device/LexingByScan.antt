@@ -1,4 +1,4 @@
--- A device: the gap before a token, by the computed scan.
+-- A device: the gap of ignored tokens before a token, by the computed scan.
 use Rattle.std.specs.Prelude.{◌≡◌, ℕ, ◌+◌, ◌≤◌, ◌<◌, ◌^◌, ◌==◌, Bool, false, List, [], ◌∷◌, drop, length}
 use Rattle.std.specs.Str.{chars}
 use Rattle.graphql_lexical.specs.Place.{Place, place}

@@ -40,8 +40,8 @@ range_lexeme source r = record {
 abbrev pub range_lexemes : List ℕ → List TokenRange → List Lexeme
 range_lexemes source = map (range_lexeme source)
 
--- Both ends are borders within the source, the start not behind the end; a String has its quotes, and a block string
--- its three on each side; any other token than a block string ends on its line.
+-- Both ends are offsets within the source, the start not after the end; a String has its quotes, and a block string its
+-- triple quotes; any other token than a block string ends on its line.
 pub record IsRange (source : List ℕ) (r : TokenRange) : Type 0 where
   pub at_is : r.at ≡ byte_at r.start.index source
   pub start_is : r.start ≡ place source r.start.index
@@ -52,7 +52,7 @@ pub record IsRange (source : List ℕ) (r : TokenRange) : Type 0 where
   pub marked : r.kind ≡ kinds.BlockString → EndsQuoted 3 (drop r.start.index source) (r.end.bytes - r.at) (r.end.characters - r.start.index)
   pub lined : (r.kind ≡ kinds.BlockString → ⊥) → columns_on (r.end.characters - r.start.index) r.start ≡ place source r.end.characters
 
--- A token of this range stands where the lexer did, which is then behind it, and has ended where the token is the end.
+-- A token of this range stands where the lexer did, which is then after it, and has ended where the token is the end.
 pub record GivesRange (s : LexerState) (r : TokenRange) (t : LexerState) : Type 0 where
   pub stands : Stands s.source s.index (range_lexeme s.source r) t.index
   pub is_range : IsRange s.source r
@@ -70,7 +70,7 @@ range_steps s (Some item) t = (s.ended ≡ false) × (t.source ≡ s.source) × 
 
 -- ---- by the computed scan
 
--- the range of a token that was found behind so many bytes of a source, at this place
+-- the range of a token that was found after this many bytes of a source, at this place
 abbrev pub range_of : Found → ℕ → Place → TokenRange
 range_of found at start = record {
   kind = found.kind;
@@ -88,7 +88,7 @@ pub record TakesRange (s : LexerState) (r : TokenRange) (t : LexerState) : Type 
   pub is_range : IsRange s.source r
   pub ends : t.ended ≡ same_kind r.kind kinds.EndOfFile
 
--- A fault of zero width stands where the lexer does, which has then ended.
+-- A lexical error of zero width stands where the lexer does, which has then ended.
 pub record FailsThere (s : LexerState) (fault : Spanning LexerError) (t : LexerState) : Type 0 where
   pub size : ℕ
   pub scanned : scans.scan (drop s.index s.source) ≡ scans.missed size (view_lexer_error fault.item)
@@ -102,18 +102,18 @@ TakesItem s (Ok range) t = TakesRange s range t
 TakesItem s (Err (failure.Fault fault)) t = FailsThere s fault t
 TakesItem s (Err failure.Memory) t = MissesEscape (scans.scan (drop s.index s.source)) × (t.ended ≡ true)
 
--- The lexer went over a gap, and over the token behind it or no further.
+-- The lexer went over a gap, and over the token after it or no further.
 abbrev pub MayTake : LexerState → Option TokenRange → LexerState → Type 0
 MayTake s None t = t ≡ past_gap s
 MayTake s (Some range) t = TakesRange (past_gap s) range t
 
 -- ---- cursors
 
--- the end of a source as a range, at this border and place
+-- the end of a source as a range, at this offset and place
 abbrev pub end_at : Border → Place → TokenRange
 end_at border place = record { kind = kinds.EndOfFile; at = border.bytes; start = place; end = border }
 
--- A cursor has taken so many of these ranges of a source, whose last token and no other is the end.
+-- A cursor has taken this many of these ranges of a source, whose last token and no other is the end.
 pub record IsCursor (source : List ℕ) (ranges : List TokenRange) (taken : ℕ) (current : Spanning Token) : Type 0 where
   pub are_ranges : All (IsRange source) ranges
   pub ended : EndsOnce (range_lexemes source (drop taken ranges))

@@ -23,7 +23,7 @@ abbrev pub Misses : Missed → Result scans.Found scans.Missed → Type 0
 Misses (missed.Fault e at) s = s ≡ Err (record { at = at; error = view_lexer_error e })
 Misses missed.Memory s = MissesEscape s
 
--- what the scan of a text gives: a token and the border at which it ends, or why there is none
+-- what the scan of a text gives: a token and the offset at which it ends, or why there is none
 abbrev pub MeetsScan : Result Found Missed → List ℕ → Result scans.Found scans.Missed → Type 0
 MeetsScan (Ok f) cs s = (s ≡ scans.found f.end.characters f.kind cs) × IsBorder f.end cs
 MeetsScan (Err m) cs s = Misses m s

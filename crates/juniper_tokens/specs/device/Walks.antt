@@ -15,7 +15,7 @@ use Rattle.juniper_tokens.specs.declared.byte_classes.ByteClass.{ByteClass}
 use Rattle.juniper_tokens.specs.ByteClasses.{class_of}
 use Rattle.juniper_tokens.specs.device.ByteRuns.{byte_at, byte_step, with_value, count_one, on, Walked}
 
--- what a run is of
+-- the kind of a run
 abbrev pub run_test : Run → ℕ → Bool
 run_test run.Name c = is_name_character c
 run_test run.Digits c = is_digit c
@@ -36,7 +36,7 @@ run_size run cs = (reach (run_step run) tt cs).0
 abbrev pub run_machine : Run → Unit {0} × ℕ → ℕ → Option (Unit {0} × ℕ)
 run_machine run = byte_step (with_value (run_step run) count_one)
 
--- so many bytes and characters
+-- this many bytes and characters
 abbrev pub RunsTo : Run → List ℕ → Border → Type 0
 RunsTo run bytes b = reach (run_machine run) (tt, 0) bytes ≡ (b.bytes, (tt, b.characters))
 
@@ -44,26 +44,26 @@ RunsTo run bytes b = reach (run_machine run) (tt, 0) bytes ≡ (b.bytes, (tt, b.
 abbrev pub token_machine : State × ℕ → ℕ → Option (State × ℕ)
 token_machine = byte_step (with_value step count_one)
 
--- A loop over the bytes of a token stands behind so many of them and of its characters, in this state.
+-- A loop over the bytes of a token stands after this many of them and of its characters, in this state.
 abbrev pub WalkedToken : List ℕ → ℕ → State → ℕ → Type 0
 WalkedToken bytes i q n = Walked token_machine (Start, 0) bytes i (q, n)
 
--- From this state the steps of a token go over so many bytes and characters, and stay.
+-- From this state the steps of a token go over this many bytes and characters, and stay.
 abbrev pub StaysOver : State → List ℕ → Border → Type 0
 StaysOver q bytes b = (n : ℕ) → reach token_machine (q, n) bytes ≡ on b.bytes (reach token_machine (q, n + b.characters) (drop b.bytes bytes))
 
--- so many characters, counted
+-- this many characters, counted
 abbrev pub count_to : ℕ → ℕ → ℕ → Option ℕ
 count_to count n c = if n == count then None else Some (n + 1)
 
 abbrev pub count_machine : ℕ → ℕ → ℕ → Option ℕ
 count_machine count = byte_step (count_to count)
 
--- the place behind each character, over bytes
+-- the place after each character, over bytes
 abbrev pub place_machine : Unit {0} × Place → ℕ → Option (Unit {0} × Place)
 place_machine = byte_step (with_value (λ q c. Some q) past_character)
 
--- digits go on here with a fraction or an exponent
+-- a fraction or an exponent follows the digits here
 abbrev pub is_in_float : List ℕ → Bool
 is_in_float [] = false
 is_in_float (c ∷ cs) = is_some (step Zero c)

@@ -30,7 +30,7 @@ same_lexical_kind kinds.UnexpectedEndOfFile kinds.UnexpectedEndOfFile = true
 same_lexical_kind InvalidNumber InvalidNumber = true
 same_lexical_kind d e = false
 
--- equality of lexical errors tells them apart
+-- equality of lexical errors distinguishes them
 pub same_lexical_error-Decides : (a b : LexicalError) → Decides (same_lexical_error a b) (a ≡ b)
 unfolding character_or escape_or same_lexical_kind
 same_lexical_error-Decides (UnknownCharacter c) (UnknownCharacter d) =
@@ -63,7 +63,7 @@ same_error_kind (Lexical d) (Lexical e) = true
 same_error_kind (ExpectedScalar s) (ExpectedScalar t) = true
 same_error_kind d e = false
 
--- equality of errors tells them apart
+-- equality of errors distinguishes them
 pub same_error-Decides : (a b : Error) → Decides (same_error a b) (a ≡ b)
 unfolding text_or lexical_or same_error_kind
 same_error-Decides (UnexpectedToken s) (UnexpectedToken t) =

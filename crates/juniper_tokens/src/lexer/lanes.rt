@@ -8,7 +8,7 @@ use std::simd::prelude::*;
 
 pub(crate) const LANES: usize = 16;
 
-// The first lane at which a run stops, or how many lanes there are: the lowest bit that is set.
+// The first lane at which a run stops, or the number of lanes: the lowest bit that is set.
 #[inline(always)]
 fn first_set(mask: u64) -> usize
     ensures { result ≡ first_set mask 16 }
@@ -20,8 +20,8 @@ fn first_set(mask: u64) -> usize
     }
 }
 
-// A byte is among n that follow on one another where it is below n once their first is taken off, since what is below the
-// first wraps. With the bit 0x20 a capital letter is its small one, and no other byte becomes a letter.
+// A byte is among n consecutive ones if it is below n after their first is subtracted, since what is below the first
+// wraps. With the bit 0x20 a capital letter is its small one, and no other byte becomes a letter.
 #[inline(always)]
 fn over_name(bytes: &[u8], at: usize) -> usize
     requires { at + LANES ≤ length bytes.now }
@@ -103,9 +103,9 @@ fn over_spaces(bytes: &[u8], at: usize) -> usize
     first_set(stops.to_bitmask())
 }
 
-/// How many of sixteen bytes, from the first on, are ASCII characters with which a run goes on.
+/// How many of sixteen bytes, from the first on, are ASCII characters that continue a run.
 ///
-/// An ASCII byte behind fewer than sixteen ends the run.
+/// An ASCII byte after fewer than sixteen ends the run.
 #[inline(always)]
 pub(crate) fn over_lanes(run: Run, bytes: &[u8], at: usize) -> usize
     requires { at + LANES ≤ length bytes.now }

@@ -13,7 +13,7 @@ use crate::lexer::scan::Found;
 use crate::lexer::text::{Border, text_from};
 use graphql_lexical::Kind;
 
-/// The token at the front of a text, if it is a Name, an Int that begins with none of `-` and `0`, a punctuator of one
+/// The token at the front of a text, if it is a Name, an Int that does not begin with `-` or `0`, a punctuator of one
 /// character, or a String that is not empty and has no escape. The class is that of the text's first byte.
 #[inline(always)]
 pub(crate) fn plain_token(class: ByteClass, text: &str) -> Option<Found>
@@ -45,7 +45,7 @@ pub(crate) fn plain_token(class: ByteClass, text: &str) -> Option<Found>
     }
 }
 
-// The Int whose first digit stands first, where it doesn't go on as a Float.
+// The Int whose first digit stands first, unless it continues as a Float.
 fn plain_int(text: &str) -> Option<Found>
     requires digit { class_of (get_or text.now 0 0) ≡ Digit }
     requires nonzero { (get_or text.now 0 0 == 48) ≡ false }
@@ -62,7 +62,7 @@ fn plain_int(text: &str) -> Option<Found>
     })
 }
 
-// Whether digits go on here with a fraction or an exponent.
+// Whether a fraction or an exponent follows the digits here.
 fn is_in_float(rest: &str) -> bool
     ensures { result ≡ is_in_float (chars rest.now) }
 {

@@ -1,4 +1,4 @@
-//! The token at the front of a text, or the fault there, from the state in which the steps stop.
+//! The token at the front of a text, or the lexical error there, from the state in which the steps stop.
 ghost use Rattle.std.specs.Prelude.{◌≡◌, ◌+◌, ◌-◌, ◌<◌, ◌≤◌, ◌^◌, ◌++◌, drop, length, Ok};
 ghost use Rattle.std.specs.Str.{chars};
 ghost use Rattle.graphql_lexical.specs.Kinds.{UnknownEscapeSequence};
@@ -15,24 +15,24 @@ use crate::lexer::walk::{Reached, walk_token};
 use graphql_lexical::{Block, Kind, State};
 use std::alloc::Global;
 
-/// The kind of a token, and its end.
+/// A token's kind and its end.
 #[derive(Clone, Copy)]
 pub(crate) struct Found {
     pub(crate) kind: Kind,
-    /// Where it ends, from where it begins.
+    /// The offset of the end, from where the token begins.
     pub(crate) end: Border,
 }
 
 /// Why there is no token.
 #[derive(Drop)]
 pub(crate) enum Missed {
-    /// The text is none. The number is how many characters stand before the fault.
+    /// A lexical error, and the number of characters before it.
     Fault(LexerError, usize),
     /// Memory ran out.
     Memory,
 }
 
-// Where what begins a number is none.
+// The error where what begins a number is none.
 fn number_fault(rest: &str, at: usize) -> Missed
     ensures { Misses result (stopped at (chars rest.now)) }
 {
@@ -42,7 +42,7 @@ fn number_fault(rest: &str, at: usize) -> Missed
     }
 }
 
-// After one or two dots.
+// The error after one or two dots.
 fn dots_fault(rest: &str, at: usize) -> Missed
     ensures { Misses result (after_dots at (chars rest.now)) }
 {
@@ -53,7 +53,7 @@ fn dots_fault(rest: &str, at: usize) -> Missed
     }
 }
 
-// Where a string goes on neither with what stands for itself nor with an escape.
+// The error where a string continues neither with a character that stands for itself nor with an escape.
 fn string_fault(rest: &str, at: usize) -> Missed
     ensures { Misses result (after_units at (chars rest.now)) }
 {
@@ -69,7 +69,7 @@ fn string_fault(rest: &str, at: usize) -> Missed
     }
 }
 
-// Where a block string has no end.
+// The error where a block string has no end.
 fn block_fault(rest: &str, at: usize) -> Missed
     ensures { Misses result (after_block at (chars rest.now)) }
 {
@@ -79,7 +79,7 @@ fn block_fault(rest: &str, at: usize) -> Missed
     }
 }
 
-// The text after the marks, which are a backslash, or a backslash and `u`, makes no escape with them.
+// The error where the text after `marks`, a backslash or a backslash and `u`, makes no escape with them.
 fn escape_fault(alloc: Global, marks: &str, rest: &str, at: usize) -> Missed
     ensures { Misses result (missed at (UnknownEscapeSequence (chars marks.now ++ chars rest.now))) }
 {
@@ -89,7 +89,7 @@ fn escape_fault(alloc: Global, marks: &str, rest: &str, at: usize) -> Missed
     }
 }
 
-// After a backslash.
+// The error after a backslash.
 fn backslash_fault(alloc: Global, rest: &str, at: usize) -> Missed
     ensures { Misses result (after_backslash at (chars rest.now)) }
 {
@@ -100,7 +100,7 @@ fn backslash_fault(alloc: Global, rest: &str, at: usize) -> Missed
     }
 }
 
-// After a backslash and the `u` that stands at a place.
+// The error after a backslash and the `u` that stands at a place.
 fn unicode_fault(alloc: Global, rest: &str, at: usize) -> Missed
     requires { at + 1 + length rest.now < 2 ^ 64 }
     ensures { Misses result (after_u at (chars rest.now)) }
@@ -113,7 +113,7 @@ fn unicode_fault(alloc: Global, rest: &str, at: usize) -> Missed
     }
 }
 
-// The same, where so many characters of the text have been read, some digits after the `u` among them.
+// The same, where `end` characters of the text have been read, `digits` digits after the `u` among them.
 fn digits_fault(alloc: Global, text: &str, end: usize, digits: usize) -> Missed
     requires end { end ≤ length text.now }
     requires digits { digits < 4 }
@@ -123,7 +123,7 @@ fn digits_fault(alloc: Global, text: &str, end: usize, digits: usize) -> Missed
     unicode_fault(alloc, rest, end.saturating_sub(digits + 1))
 }
 
-// A token that ends there.
+// The token of this kind that ends there.
 fn token_of(kind: Kind, end: Border) -> Result<Found, Missed>
     ensures { result ≡ Ok (record { kind = kind; end = end }) }
 {
@@ -156,7 +156,7 @@ fn scan_unknown(text: &str) -> Result<Found, Missed>
     }
 }
 
-// The token or the fault where the steps have stopped.
+// The token or the lexical error where the steps have stopped.
 fn scan_reached(alloc: Global, text: &str, reached: Reached) -> Result<Found, Missed>
     requires border { IsBorder reached.end (chars text.now) }
     requires within { reached.end.characters ≤ length text.now }
@@ -189,7 +189,7 @@ fn scan_reached(alloc: Global, text: &str, reached: Reached) -> Result<Found, Mi
     }
 }
 
-// The same, where they have stopped in a block string or behind it.
+// The same, where they have stopped in a block string or after it.
 fn scan_block(text: &str, part: Block, end: Border) -> Result<Found, Missed>
     requires { IsBorder end (chars text.now) }
     ensures { MeetsScan result (chars text.now) (answer_in_block part end.characters (chars text.now)) }
@@ -200,7 +200,7 @@ fn scan_block(text: &str, part: Block, end: Border) -> Result<Found, Missed>
     }
 }
 
-/// The token at the front of a text, or the fault there.
+/// The token at the front of a text, or the lexical error there.
 pub(crate) fn scan_token(alloc: Global, text: &str) -> Result<Found, Missed>
     ensures { MeetsScan result (chars text.now) (scan (chars text.now)) }
 {

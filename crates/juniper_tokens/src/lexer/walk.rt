@@ -18,7 +18,7 @@ use crate::lexer::text::{Border, begins_with_mark, first_characters, text_from};
 use crate::position::SourcePosition;
 use graphql_lexical::{Block, State};
 
-/// The end of white space and comments.
+/// The end of ignored tokens, a gap.
 #[derive(Clone, Copy)]
 pub(crate) struct GapEnd {
     pub(crate) bytes: usize,
@@ -34,7 +34,7 @@ pub(crate) struct Reached {
     pub(crate) end: Border,
 }
 
-/// Goes past white space and comments.
+/// Skips the ignored tokens at the front of a text.
 #[inline(always)]
 pub(crate) fn walk_gap(text: &str, start: SourcePosition) -> GapEnd
     requires { start.index + length text.now < 2 ^ 64 }
@@ -88,7 +88,7 @@ pub(crate) fn walk_gap(text: &str, start: SourcePosition) -> GapEnd
     }
 }
 
-// Whether a byte order mark stands behind so many bytes and characters.
+// Whether a byte order mark stands at this offset.
 #[cold]
 fn is_mark_at(text: &str, bytes: usize, characters: usize) -> bool
     requires { bytes ≡ byte_at characters (chars text.now) }
@@ -97,7 +97,7 @@ fn is_mark_at(text: &str, bytes: usize, characters: usize) -> bool
     begins_with_mark(text_from(text, Border { bytes, characters }))
 }
 
-// Goes over what stands for itself in a string or in a block string.
+// The offset after the characters that stand for themselves in a string or in a block string.
 #[inline(always)]
 fn walk_run(state: State, bytes: &[u8]) -> Border
     ensures stays { StaysOver state bytes.now result }
@@ -114,7 +114,7 @@ fn walk_run(state: State, bytes: &[u8]) -> Border
     }
 }
 
-/// Goes as far as the steps of a token go.
+/// Follows the steps of a token as far as they go.
 pub(crate) fn walk_token(text: &str) -> Reached
     ensures reached { reach next_state Start (chars text.now) ≡ (result.end.characters, result.state) }
     ensures border { IsBorder result.end (chars text.now) }
@@ -156,7 +156,7 @@ pub(crate) fn walk_token(text: &str) -> Reached
     }
 }
 
-/// The place at the end of a text that begins at a place.
+/// The place at the end of a text that begins at `start`.
 pub(crate) fn walk_text(text: &str, start: SourcePosition) -> SourcePosition
     requires { start.index + length text.now < 2 ^ 64 }
     ensures { result ≡ fold past_character start (chars text.now) }
@@ -183,7 +183,7 @@ pub(crate) fn walk_text(text: &str, start: SourcePosition) -> SourcePosition
     position
 }
 
-/// The place so many characters on, or at the end of the text.
+/// The place `count` characters after `start`, or at the end of the text.
 pub(crate) fn walk_characters(text: &str, start: SourcePosition, count: usize) -> SourcePosition
     requires { start.index + length text.now < 2 ^ 64 }
     ensures { result ≡ fold past_character start (take count (chars text.now)) }

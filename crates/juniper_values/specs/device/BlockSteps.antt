@@ -10,7 +10,7 @@ use Rattle.juniper_values.specs.declared.block_string.Line.TheVariants.{Blank, F
 use Rattle.juniper_values.specs.declared.block_string.Place.{Place}
 use Rattle.juniper_values.specs.declared.block_string.Place.TheVariants.{First, Indent, Behind}
 
--- a backslash before three quotes, and a CR before LF
+-- a backslash before a triple quote, and a CR before LF
 abbrev pub is_left_out : ℕ → Text → Bool
 is_left_out c t = (c == 92 && starts_with nat_eq t mark) || (c == 13 && starts_with nat_eq t line_feed)
 
@@ -20,7 +20,7 @@ white_before First = 0
 white_before (Indent n) = n
 white_before Behind = 0
 
--- the place behind a character
+-- the place after a character
 abbrev pub place_after : Place → ℕ → Place
 place_after First c = if is_line_end c then Indent 0 else First
 place_after (Indent n) c = if is_line_end c then Indent 0 else if is_indent c then Indent (n + 1) else Behind
@@ -30,13 +30,13 @@ abbrev pub lesser : Option ℕ → ℕ → ℕ
 lesser None n = n
 lesser (Some m) n = min m n
 
--- the least indent behind a character
+-- the least indent after a character
 abbrev pub least_after : Option ℕ → Place → ℕ → Option ℕ
 least_after o First c = o
 least_after o (Indent n) c = if is_line_end c || is_indent c then o else Some (lesser o n)
 least_after o Behind c = o
 
--- what is written of a character within a line, and the line behind it
+-- what is written of a character within a line, and the line after it
 abbrev pub written : Line → ℕ → Text
 written (Blank zero) c = c ∷ []
 written (Blank (suc n)) c = []
@@ -51,7 +51,7 @@ abbrev pub is_filled : Line → Bool
 is_filled (Blank n) = false
 is_filled Filled = true
 
--- the place is within the tabs and spaces in front of a line but the first
+-- the place is within the tabs and spaces at the beginning of a line but the first
 abbrev pub is_in_indent : Place → Bool
 is_in_indent First = false
 is_in_indent (Indent n) = true
@@ -67,7 +67,7 @@ ends_run c = c == 92 || is_line_end c
 abbrev pub run_length : List ℕ → ℕ
 run_length = position_or_len ends_run
 
--- so many bytes from a place on, of no more than sixteen, come before the first that ends a run
+-- this many bytes from a place on, of no more than sixteen, come before the first that ends a run
 abbrev pub RunsOver : List ℕ → ℕ → ℕ → Type 0
 RunsOver bytes at n =
     (n ≤ 16) × ((k : ℕ) → at ≤ k → k < at + n → ends_run (get_or bytes k 0) ≡ false)

@@ -8,7 +8,7 @@ pub record HasNoBlankEnds (t : Text) : Type 0 where
   pub first : (line : Text) (others : List Text) → lines t ≡ line ∷ others → is_blank line ≡ false
   pub last : (others : List Text) (line : Text) → lines t ≡ others ++ line ∷ [] → is_blank line ≡ false
 
--- the second lines are the first ones, each behind n tabs and spaces more; an empty one may stay empty
+-- the second lines are the first ones, each after n more tabs and spaces; an empty one may stay empty
 pub data AreIndented (n : ℕ) : List Text → List Text → Type 0 where
   none : AreIndented n [] []
   empty : (ls ms : List Text) → AreIndented n ls ms → AreIndented n ([] ∷ ls) ([] ∷ ms)

@@ -34,7 +34,7 @@ same_form (boolean a) (boolean b) = true
 same_form (custom a) (custom b) = true
 same_form a b = false
 
--- equality of contents tells contents apart
+-- equality of contents distinguishes contents
 pub same_content-Decides : (a b : Content) → Decides (same_content a b) (a ≡ b)
 unfolding integer_or text_or boolean_or custom_or same_form
 same_content-Decides (integer a) (integer b) = ((λ e. ap integer ((signed_Decides a b).0 e)), (λ e. (signed_Decides a b).1 (ap (integer_or a) e)))

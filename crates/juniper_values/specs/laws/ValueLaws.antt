@@ -49,7 +49,7 @@ HasField (field l s w t fs) k v = ((k ≡ l) × (v ≡ w)) ⊎ HasField fs k v
 abbrev pub AreAmong : {C : Type 0} → (Value C → Value C → Type 0) → Fields C → Fields C → Type 0
 AreAmong {C} R fs gs = (k : Text) (v : Value C) → HasField fs k v → (w : Value C) × HasField gs k w × R v w
 
--- two objects are so whatever their places
+-- two objects are so regardless of their places
 pub record AreSameFields {C : Type 0} (eq : C → C → Bool) (fs gs : Fields C) : Type 0 where
   pub count : field_count fs ≡ field_count gs
   pub forth : AreAmong (λ v w. same_but_place eq v w ≡ true) fs gs
@@ -57,7 +57,7 @@ pub record AreSameFields {C : Type 0} (eq : C → C → Bool) (fs gs : Fields C)
 
 -- ---- types
 
--- what one modifier more round a type does
+-- what one modifier more around a type does
 pub record WrapsOnce (name : Text) (ms : List TypeModifier) (m : TypeModifier) : Type 0 where
   pub outside : outermost (ms ++ m ∷ []) ≡ Some m
   pub lists : is_list (ms ++ m ∷ []) ≡ (is_list ms || is_list_modifier m)

@@ -8,7 +8,7 @@ use std::simd::prelude::*;
 
 const LANES: usize = 16;
 
-// The longest front of a text without a backslash and without a line end, and what stands behind it.
+// Splits a text after its longest prefix without a backslash and without a line end.
 pub(crate) fn split_run(text: &str) -> (&str, &str)
     ensures run { chars result.0.now ≡ take (run_length (chars text.now)) (chars text.now) }
     ensures behind { chars result.1.now ≡ drop (run_length (chars text.now)) (chars text.now) }
@@ -18,7 +18,7 @@ pub(crate) fn split_run(text: &str) -> (&str, &str)
     text.split_at(run_length(text.as_bytes()))
 }
 
-// How many bytes come before the first that ends a run. What ends one is ASCII, so it is a character of its own.
+// The number of bytes before the first that ends a run. What ends one is ASCII, so it is a character of its own.
 fn run_length(bytes: &[u8]) -> usize
     ensures { result ≡ run_length bytes.now }
 {

@@ -1,4 +1,4 @@
-//! Equality of input values whatever their places.
+//! Equality of input values regardless of their places.
 ghost use Rattle.std.specs.Prelude.{◌≡◌, ◌<◌, length, drop, true};
 ghost use Rattle.juniper_values.specs.Same.{same_but_place, same_items_but_place, wanted, is_found, is_wanted, all_found, all_wanted};
 ghost use Rattle.juniper_values.specs.device.Keys.{has_key, keys_differ, found_at, wanted_at};
@@ -10,9 +10,9 @@ use crate::text::same_string;
 use juniper_tokens::Spanning;
 
 impl<S: PartialEq> InputValue<S> {
-    /// Whether the values are equal whatever their places. Fields of objects may stand in any order.
+    /// Whether the values are equal regardless of their places. Fields of objects may stand in any order.
     ///
-    /// Where this value is made of `m` values and the other of `n`, at most `m * n * n` pairs of values are compared. No
+    /// If this value consists of `m` values and the other of `n`, at most `m * n * n` pairs of values are compared. No
     /// memory is taken. The stack holds the nesting of both.
     ///
     /// ```
@@ -225,7 +225,7 @@ fn keys_differ<S>(fields: &Vec<(Spanning<String>, Spanning<InputValue<S>>)>) -> 
 }
 
 // The index of the field that is compared once: where keys repeat, of the largest. Which one it is changes what a
-// comparison costs, and no answer.
+// comparison costs, not its result.
 fn compared_once<S>(
     fields: &Vec<(Spanning<String>, Spanning<InputValue<S>>)>,
     differ: bool,
@@ -248,7 +248,7 @@ fn compared_once<S>(
     at
 }
 
-// How many values it is made of, itself among them.
+// The number of values that it consists of, itself among them.
 #[cycle(size)]
 fn size<S>(value: &InputValue<S>) -> usize {
     match value {

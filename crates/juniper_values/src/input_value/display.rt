@@ -13,7 +13,7 @@ use juniper_tokens::Spanning;
 use std::fmt;
 use std::fmt::Write;
 
-/// Displays the value in GraphQL's own form, but for texts, which stand between quotes without escaping.
+/// Displays the value in GraphQL's own form, except that texts stand between quotes without escaping.
 impl<S: ScalarValue> fmt::Display for InputValue<S> {
     ghost output = { λ v. Some (encode_utf8_all (value_text (scalar_display S.content S.str_in S.shown) (view (λ s. s) v))) };
 
@@ -86,7 +86,7 @@ fn write_fields<S: ScalarValue, W: Write>(
     Ok(())
 }
 
-// What stands before an item or a field.
+// Writes what stands before an item or a field.
 fn write_separator<W: Write>(f: &mut fmt::Formatter<W>, first: bool) -> fmt::Result
     ensures { WritesOnOk W.write_str_gives f.old result (encode_utf8_all (separator first)) f.new }
 {

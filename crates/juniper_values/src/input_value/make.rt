@@ -40,14 +40,14 @@ impl<S> InputValue<S> {
         InputValue::Object(fields)
     }
 
-    /// The enum value of this name, which is copied. `AllocError` where memory ran out.
+    /// The enum value of this name, which is copied. Returns `AllocError` where memory ran out.
     pub fn enum_value(alloc: Global, name: &str) -> Result<Self, AllocError>
         ensures { IfOk result (λ v. view (λ s. s) v ≡ enum_value (chars name.now)) }
     {
         Ok(InputValue::Enum(String::from_str(alloc, name)?))
     }
 
-    /// The variable of this name, which is given without its `$`, and copied. `AllocError` where memory ran out.
+    /// The variable of this name, which is given without its `$` and copied. Returns `AllocError` where memory ran out.
     pub fn variable(alloc: Global, name: &str) -> Result<Self, AllocError>
         ensures { IfOk result (λ v. view (λ s. s) v ≡ variable (chars name.now)) }
     {
@@ -58,7 +58,7 @@ impl<S> InputValue<S> {
 impl<S: Drop> InputValue<S> {
     /// The list of these items, each with the place `Span::unlocated`.
     ///
-    /// Where memory ran out the items come back.
+    /// Where memory ran out, returns the items.
     pub fn list(alloc: Global, items: Vec<Self>) -> Result<Self, Vec<Self>>
         ensures { MatchResult result
             (λ v. view (λ s. s) v ≡ list (unlocated_items (map (view (λ s. s)) items.items)))
@@ -72,7 +72,7 @@ impl<S: Drop> InputValue<S> {
 
     /// The object of these fields, each key and value with the place `Span::unlocated`.
     ///
-    /// Where memory ran out the fields come back.
+    /// Where memory ran out, returns the fields.
     pub fn object(
         alloc: Global,
         fields: IndexMap<String, Self>,
@@ -88,7 +88,7 @@ impl<S: Drop> InputValue<S> {
     }
 }
 
-// The items with a place, in a list that has room for them.
+// The items with a place, in a list that has capacity for them.
 fn placed_items<S: Drop>(
     room: Vec<Spanning<InputValue<S>>>,
     items: Vec<InputValue<S>>,
@@ -104,7 +104,7 @@ fn placed_items<S: Drop>(
     placed
 }
 
-// The fields with places, in a list that has room for them.
+// The fields with places, in a list that has capacity for them.
 fn placed_fields<S: Drop>(
     room: Vec<(Spanning<String>, Spanning<InputValue<S>>)>,
     fields: IndexMap<String, InputValue<S>>,

@@ -14,20 +14,21 @@ use std::collections::HashMap;
 /// The values of variables, by their names.
 ///
 /// The map hashes with a fixed seed: whoever picks the names can make them collide, and a look-up then takes time in
-/// proportion to their number. So limit the variables that a stranger sends.
+/// proportion to their number. So limit the variables that come from an untrusted sender.
 pub type Variables<S> = HashMap<String, InputValue<S>>;
 
 impl<S: ScalarValue> InputValue<S> {
-    /// The value with each variable replaced by a copy of its value, which is left as it is. What is no variable is moved: its
-    /// scalars are the given ones.
+    /// Replaces each variable in the value by a copy of its value, in which no variable is replaced. All else is moved:
+    /// its scalars are the given ones.
     ///
-    /// A variable that has none becomes nothing: a value that is it gives `None`, an item of a list becomes `null`, and
-    /// a field of an object is left out (GraphQL specification, October 2021, section 2.10). `AllocError` where memory ran
-    /// out; the value is dropped then. The stack holds the nesting of the value and of what takes a variable's place.
+    /// A variable without a value is removed: a value that is one gives `None`, an item of a list becomes `null`, and a
+    /// field of an object is left out (GraphQL specification, October 2021, section 2.10). Returns `AllocError` where
+    /// memory ran out; the value is dropped then. The stack holds the nesting of the value and of what replaces a
+    /// variable.
     ///
-    /// Each use of a variable is a copy of its whole value, so time and memory grow with the number of uses times the size
-    /// of the value. Whoever takes both from a stranger limits that product: a hundred thousand uses of a value of a
-    /// million parts are 10^11 parts.
+    /// Each use of a variable is a copy of its whole value, so time and memory grow with the number of uses times the
+    /// size of the value. Whoever takes both from an untrusted sender limits that product: a hundred thousand uses of a
+    /// value of a million parts are 10^11 parts.
     ///
     /// ```
     /// // of [1, $n, $m], with n as 2: [1, 2, null]

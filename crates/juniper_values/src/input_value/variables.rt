@@ -9,10 +9,10 @@ use juniper_tokens::Spanning;
 use std::alloc::{AllocError, Global};
 
 impl<S> InputValue<S> {
-    /// The names of the variables in the value, from left to right, repeats kept
-    /// (GraphQL specification, October 2021, section 2.10).
+    /// The names of the variables in the value, from left to right, repeats kept (GraphQL specification, October 2021,
+    /// section 2.10).
     ///
-    /// `AllocError` where memory ran out. The stack holds the value's nesting.
+    /// Returns `AllocError` where memory ran out. The stack holds the value's nesting.
     pub fn referenced_variables(&self, alloc: Global) -> Result<Vec<&str>, AllocError>
         ensures { IfOk result (λ v. map (λ s. chars s.now) v.items ≡ variables (view (λ s. s) self.now)) }
     {

@@ -12,7 +12,7 @@ use std::borrow::CowStr;
 
 pub(crate) type Answer = Value<DefaultScalarValue>;
 
-/// `answer`: calls, one after the other, on the answer value that is made of the text, a value literal: of an enum its
+/// `answer`: calls, one after another, on the answer value that is made of the text, a value literal: of an enum its
 /// text, of a variable null.
 pub fn write_calls(alloc: Global, out: &mut String, text: &str, wanted: &str) -> Written {
     let Some(mut value) = answer_in(alloc, text)? else {
@@ -34,7 +34,7 @@ fn answer_in(alloc: Global, text: &str) -> Result<Option<Answer>, AllocError> {
     }
 }
 
-/// An answer made by constructors and conversions.
+/// An answer value made by constructors and conversions.
 #[cycle(answers)]
 pub(crate) fn answer_of(alloc: Global, value: &Input) -> Result<Answer, AllocError> {
     match value {
@@ -91,7 +91,7 @@ fn answer_call(alloc: Global, out: &mut String, value: &mut Answer, call: &str) 
     }
 }
 
-// A call on a whole answer, or on the object that it is.
+// A call on a whole answer value, or on the object that it is.
 fn answer_whole(
     alloc: Global,
     out: &mut String,
@@ -131,7 +131,7 @@ fn write_mapped(alloc: Global, out: &mut String, value: &Answer) -> Written {
     write!(out, "{mapped} {is_equal}")
 }
 
-// Whether an answer equals the one that is written, and the other way round.
+// Whether an answer value equals the one that is written, and the other way round.
 fn write_compared(alloc: Global, out: &mut String, value: &Answer, other: &str) -> Written {
     match answer_in(alloc, other)? {
         Some(other) => write_both(out, *value == other, other == *value),
@@ -143,7 +143,7 @@ fn write_both(out: &mut String, there: bool, back: bool) -> Written {
     write!(out, "{there} {back}")
 }
 
-// The input value of an answer, and whether it has no place.
+// The input value of an answer value, and whether it has no place.
 fn write_input(alloc: Global, out: &mut String, value: &Answer) -> Written {
     write_unlocated(out, &value.to_input_value(alloc)?)
 }
@@ -167,7 +167,7 @@ fn is_unlocated(value: &Input) -> bool {
     }
 }
 
-// Which variant a value is, as its calls tell it.
+// Which variant a value is, as its calls report it.
 fn write_parts(out: &mut String, value: &Answer) -> Written {
     if value.is_null() {
         return out.push_str("null");
@@ -239,7 +239,7 @@ fn write_added(
     }
 }
 
-// Adds a pair, and answers the value that was there.
+// Adds a pair, and returns the value that was there.
 fn added(
     alloc: Global,
     object: &mut Object<DefaultScalarValue>,
@@ -265,7 +265,7 @@ fn write_pairs(out: &mut String, object: &Object<DefaultScalarValue>) -> Written
     Ok(())
 }
 
-// The pairs of an answer, which is taken apart.
+// The pairs of an answer value, which is taken apart.
 fn write_taken_apart(out: &mut String, value: Answer) -> Written {
     match value.into_object() {
         Some(object) => write_own_pairs(out, object),
@@ -281,7 +281,7 @@ fn write_own_pairs(out: &mut String, object: Object<DefaultScalarValue>) -> Writ
     Ok(())
 }
 
-// Writes a pair of a list that begins behind this many bytes.
+// Writes a pair of a list that begins after this many bytes.
 fn write_pair(out: &mut String, before: usize, key: &str, value: &Answer) -> Written {
     write_separator(out, before)?;
     write!(out, "{key}: {value}")

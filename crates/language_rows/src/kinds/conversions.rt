@@ -1,4 +1,4 @@
-//! Rows of what texts, truth values and values themselves become.
+//! Rows of what texts, booleans and values themselves become.
 
 use crate::write::Written;
 use juniper::{

@@ -9,9 +9,8 @@ use juniper::{
 };
 use std::alloc::Global;
 
-/// `cursor`: calls on a parser of the text, one after the other. `expect` and `skip` take the token that is written
-/// behind them, the end where nothing is; the lists take their opening and their closing token, and their items are
-/// Names.
+/// `cursor`: calls on a parser of the text, one after another. `expect` and `skip` take the token that is written after
+/// them, the end where nothing is; the lists take their opening and their closing token, and their items are Names.
 pub fn write_calls(alloc: Global, out: &mut String, text: &str, wanted: &str) -> Written {
     let mut lexer = Lexer::new(alloc, text);
     match Parser::new(&mut lexer) {

@@ -61,7 +61,7 @@ impl Write for Target {
 
 /// `devices`: a run over the text. The call says how many bytes a read gives, `read=N`, and a write takes, `write=N`,
 /// and which of them fails, `failed_read=N`, `interrupted_read=N`, `failed_write=N`, `interrupted_write=N`,
-/// `empty_write=N` by taking no byte; 1000 bytes and none where nothing is said. The answer says how the run ended,
+/// `empty_write=N` by taking no byte; 1000 bytes and none where nothing is said. The result says how the run ended,
 /// whether the reader or the writer has failed, and how many bytes of the report were written.
 pub fn answer(alloc: Global, out: &mut String, text: &str, call: &str) -> Written {
     let bytes = text.as_bytes();
@@ -139,7 +139,7 @@ fn write_beginning(alloc: Global, out: &mut String, bytes: &[u8], written: &[u8]
     }
 }
 
-// The number that a call tells behind a word, or another one where it doesn't tell it.
+// The number that a call gives after a word, or another one where it gives none.
 fn told(call: &str, word: &str, other: usize) -> usize {
     for part in call.split_whitespace() {
         if let Some(number) = part.strip_prefix(word) {

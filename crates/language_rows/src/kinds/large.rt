@@ -1,5 +1,5 @@
-//! Rows of large literals that are built here: a row's text says what is built, its answer tells how long the literal
-//! is, and which calls on its value give what they are to give.
+//! Rows of large literals that are built here: a row's text says what is built, its result says how long the literal
+//! is, and which calls on its value return what is expected.
 
 use crate::kinds::answers::answer_of;
 use crate::kinds::input_values::{Input, literal, made_anew};
@@ -9,10 +9,10 @@ use crate::write::{Written, write_separator};
 use std::alloc::{AllocError, Global};
 use std::collections::HashMap;
 
-// What a text begins with, what stands in it so many times, and what it ends with.
+// What a text begins with, what is repeated in it, and what it ends with.
 type Parts = (&'static str, &'static str, &'static str);
 
-// The texts that are wanted.
+// The expected texts.
 #[derive(Drop)]
 struct Wanted {
     // What the value displays.
@@ -21,8 +21,8 @@ struct Wanted {
     answered: String,
 }
 
-/// `large`: `string N` is a String of N escapes, `block_string N` a block string of N lines behind its first, `name N` an
-/// enum value of N characters behind its first, `list N` a list of N numbers behind its first.
+/// `large`: `string N` is a String of N escapes, `block_string N` a block string of N lines after its first, `name N`
+/// an enum value of N characters after its first, `list N` a list of N numbers after its first.
 pub fn write_large(alloc: Global, out: &mut String, text: &str) -> Written {
     let (word, number) = word_of(text);
     let number = number.parse::<usize>().unwrap_or(0);
@@ -57,7 +57,7 @@ fn shown_parts(word: &str) -> Parts {
     }
 }
 
-// An answer value has no enum values, and a text in its place.
+// An answer value has no enum values, and has a text instead.
 fn answered_parts(word: &str) -> Parts {
     match word {
         "name" => ("\"n", "n", "\""),
@@ -74,7 +74,7 @@ fn built(alloc: Global, parts: Parts, number: usize) -> Result<String, AllocErro
     Ok(text)
 }
 
-// The words of the calls that give what is wanted.
+// The words of the calls that return what is expected.
 fn write_held(alloc: Global, out: &mut String, value: &Input, wanted: &Wanted) -> Written {
     let shown = wanted.shown.as_str();
     let before = out.len();
@@ -119,7 +119,7 @@ fn is_resolved(alloc: Global, value: &Input, shown: &str) -> Result<bool, AllocE
     }
 }
 
-// Whether the answer value of a value, and a copy of that, display so.
+// Whether the answer value of a value, and a copy of that, display this text.
 fn is_answered(alloc: Global, value: &Input, answered: &str) -> Result<bool, AllocError> {
     let answer = answer_of(alloc, value)?;
     let copy = answer.try_clone(alloc)?;

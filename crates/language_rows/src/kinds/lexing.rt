@@ -4,7 +4,7 @@ use crate::write::{Written, write_fault, write_span, write_token};
 use juniper::{LexFailure, Lexer, LexerResult, LineTable, Span};
 use std::alloc::Global;
 
-/// `lexer`: a line for each item: a token or a fault, and `None` after the last one.
+/// `lexer`: a line for each item: a token or a lexical error, and `None` after the last one.
 pub fn write_items(alloc: Global, out: &mut String, text: &str) -> Written {
     let mut lexer = Lexer::new(alloc, text);
     for _ in 0..text.len().saturating_add(3) {

@@ -8,7 +8,7 @@ use juniper::{
 };
 use std::alloc::Global;
 
-/// `type`: what `parse_type` answers.
+/// `type`: what `parse_type` returns.
 pub fn write_type_in(alloc: Global, out: &mut String, text: &str) -> Written {
     let mut lexer = Lexer::new(alloc, text);
     match Parser::new(&mut lexer) {
@@ -27,7 +27,7 @@ fn write_type_read(out: &mut String, literal: &ParseResult<Type<&str>>) -> Writt
     }
 }
 
-/// `value` and `const`: what `parse_value_literal` answers, const or not.
+/// `value` and `const`: what `parse_value_literal` returns, const or not.
 pub fn write_value_in(alloc: Global, out: &mut String, text: &str, is_const: bool) -> Written {
     let mut lexer = Lexer::new(alloc, text);
     match Parser::new(&mut lexer) {

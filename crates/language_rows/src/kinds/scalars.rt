@@ -127,7 +127,7 @@ fn write_lent<S: ScalarValue>(out: &mut String, scalar: &S) -> Written {
     }
 }
 
-// The scalars that are made of a text, of an integer and of a truth value, and the input values of a text.
+// The scalars that are made of a text, of an integer and of a boolean, and the input values of a text.
 fn write_made(alloc: Global, out: &mut String, text: &str) -> Written {
     write_made_of(out, &scalar_from_str(alloc, text)?)?;
     out.push(' ')?;
