@@ -1,4 +1,4 @@
-/* The calls of the library for bindings: on as much stack as they may take, whatever the caller's thread has left. */
+/* The calls of the library for bindings. They run on as much stack as they may take, whatever the caller's thread has left. */
 #ifndef FIRTHNAPKIN_CALLS_H
 #define FIRTHNAPKIN_CALLS_H
 
@@ -10,7 +10,7 @@
 #include <pthread.h>
 #include <signal.h>
 
-/* How many bytes of this thread's stack are left: 0 where that isn't known, as on a stack that somebody else made. */
+/* How many bytes of this thread's stack are left: 0 where that isn't known, as on a stack that the program made itself. */
 static inline size_t stack_left(void) {
     static __thread char *lowest, *highest;
     char here;
@@ -38,8 +38,8 @@ static inline void *stack_begin(void *call) {
     return NULL;
 }
 
-/* Runs what takes at most so many bytes of stack in a thread of its own, which no signal reaches. False where there is no
- * thread to be had. */
+/* Runs a call that takes at most so many bytes of stack in a thread of its own, which gets no signals. False where no thread
+ * can be made. */
 static inline int run_in_thread(size_t size, stack_call call) {
     enum { MARGIN = 1 << 16, PAGE = 1 << 12 };
     pthread_attr_t attributes;
@@ -64,13 +64,13 @@ static inline int run_on_stack(size_t size, void (*run)(void *), void *argument)
     return 1;
 }
 
-/* As much as a call takes; one that refuses its depth takes next to nothing. */
+/* The stack that a call takes; one that refuses its depth takes next to nothing. */
 static inline size_t stack_for(uint32_t depth) {
     return FIRTHNAPKIN_STACK(depth <= FIRTHNAPKIN_MOST_DEPTH ? depth : 0);
 }
 
-/* A call of one of those that are run on a stack: what it is given, and what it answers. The room and the count of
- * firthnapkin_message and firthnapkin_canonical stand among the texts. */
+/* A call that runs on such a stack: its arguments and its result. For firthnapkin_message and firthnapkin_canonical the
+ * buffer and its count are those of the texts. */
 typedef struct {
     const uint8_t *source;
     size_t length;
@@ -105,7 +105,7 @@ static inline void run_canonical(void *call) {
     c->status = firthnapkin_canonical(c->source, c->length, c->texts, c->texts_room, c->texts_needed, c->fault);
 }
 
-/* firthnapkin_parse; want of memory where there is no stack to be had. */
+/* firthnapkin_parse; FIRTHNAPKIN_MEMORY where no stack can be made. */
 static inline uint32_t parse_on_stack(const uint8_t *source, size_t length, uint32_t depth, firthnapkin_node *nodes,
                                       size_t nodes_room, size_t *nodes_needed, uint8_t *texts, size_t texts_room,
                                       size_t *texts_needed, firthnapkin_fault *fault) {

@@ -1,12 +1,12 @@
-/* Calls whose rooms are found: for bindings that copy what they give into their own language's memory. */
+/* Calls that allocate their buffers: for bindings that copy the result into their own language's memory. */
 #ifndef FIRTHNAPKIN_WHOLE_H
 #define FIRTHNAPKIN_WHOLE_H
 
 #include "calls.h"
 #include <stdlib.h>
 
-/* What a source gives. The texts are those of the nodes, or the canonical text; where there is a fault, its words, but where
- * there are too many tokens. */
+/* The result for a source. The texts are those of the nodes, or the canonical text. Where there is a fault they are its words,
+ * unless there are too many tokens. */
 typedef struct {
     uint32_t status;
     firthnapkin_node *nodes;
@@ -27,7 +27,7 @@ static inline void give_back(whole *w) {
     w->texts = NULL;
 }
 
-/* Rooms of so many nodes and bytes, in place of those that are there; never NULL. False where memory ran out. */
+/* Allocates arrays of so many nodes and bytes, in place of those that are there; never NULL. False where memory ran out. */
 static inline int make_rooms(whole *w, size_t nodes, size_t texts) {
     give_back(w);
     w->nodes = malloc((nodes + 1) * sizeof *w->nodes);
@@ -47,15 +47,15 @@ static inline uint32_t find_words(whole *w, const uint8_t *source, size_t length
     return status;
 }
 
-/* How many nodes, tokens or bytes of texts there is room for at first: one for four bytes of the source. */
+/* How many nodes, tokens or bytes of texts are allocated at first: one for four bytes of the source. */
 static inline size_t at_first(size_t length) {
     enum { MOST_AT_FIRST = 1 << 22 };
     return length / 4 < MOST_AT_FIRST ? length / 4 : MOST_AT_FIRST;
 }
 
-/* Parses a source with no more than so many tokens; UINT32_MAX is no limit. What it gives is to be given back, whatever the
- * status. Few texts have more nodes than one for four bytes; for those, and for the largest, the second try has the room that
- * the first asked for. Memory that is not written to costs nothing. */
+/* Parses a source with no more than so many tokens; UINT32_MAX is no limit. The result has to be freed, whatever the status.
+ * Few texts have more nodes than one for four bytes. For those, and for the largest, the second try has the size that the first
+ * returned. Memory that is not written to costs nothing. */
 static inline whole parse_whole(const uint8_t *source, size_t length, uint32_t depth, uint32_t tokens) {
     whole w = {.status = FIRTHNAPKIN_MEMORY};
     if (tokens != UINT32_MAX) {
@@ -77,8 +77,8 @@ static inline whole parse_whole(const uint8_t *source, size_t length, uint32_t d
     return w;
 }
 
-/* Cuts a source into no more than so many tokens, its end not counted; UINT32_MAX is no limit. What it gives is to be given
- * back, whatever the status. */
+/* Cuts a source into no more than so many tokens, its end not counted; UINT32_MAX is no limit. The result has to be freed,
+ * whatever the status. */
 static inline whole cut_whole(const uint8_t *source, size_t length, uint32_t most) {
     whole w = {.status = FIRTHNAPKIN_MEMORY};
     size_t tokens = at_first(length) + 16;
@@ -90,13 +90,12 @@ static inline whole cut_whole(const uint8_t *source, size_t length, uint32_t mos
             : tokens_on_stack(source, length, most, w.tokens, tokens, &w.tokens_count, &w.fault);
         tokens = w.tokens_count;
     } while (w.status == FIRTHNAPKIN_ROOM);
-    /* A text that can't be cut is refused for that at any depth. */
+    /* A text that can't be cut is refused for that reason at any depth. */
     if (w.status == FIRTHNAPKIN_REFUSED) w.status = find_words(&w, source, length, 0);
     return w;
 }
 
-/* The canonical text of a source, which is seldom longer than the source. What it gives is to be given back, whatever the
- * status. */
+/* The canonical text of a source, which is seldom longer than the source. The result has to be freed, whatever the status. */
 static inline whole canonical_whole(const uint8_t *source, size_t length) {
     whole w = {.status = FIRTHNAPKIN_MEMORY};
     size_t texts = length;

@@ -1,4 +1,4 @@
-/* Writes the nodes of standard input: how deep each stands, its number of kind, its name.
+/* Writes the nodes of standard input: each node's depth, the number of its kind, its name.
  *
  *     cc lines.c $(pkg-config --cflags --libs firthnapkin) -o lines
  */
@@ -32,7 +32,7 @@ static size_t write_node(const uint8_t *source, const firthnapkin_node *nodes, s
     return end;
 }
 
-/* Writes why a source is no document: the first call asks how many bytes that is. */
+/* Writes why a source is no document: the first call returns how many bytes that is. */
 static uint32_t write_fault(const uint8_t *source, size_t length) {
     size_t needed;
     uint32_t status = firthnapkin_message(source, length, DEPTH, NULL, 0, &needed);
@@ -50,7 +50,7 @@ int main(void) {
     size_t length, nodes_needed, texts_needed;
     uint8_t *source = all(stdin, &length);
     if (source == NULL) return FIRTHNAPKIN_MEMORY;
-    /* Rooms as long as the source are never too short. */
+    /* Buffers as long as the source are never too short. */
     firthnapkin_node *nodes = malloc((length + 1) * sizeof *nodes);
     uint8_t *texts = malloc(length + 1);
     uint32_t status = FIRTHNAPKIN_MEMORY;

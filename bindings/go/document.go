@@ -5,7 +5,7 @@ import (
 	"strconv"
 )
 
-// Kind is what a node stands for. There is no 15.
+// Kind is the kind of a node. There is no 15.
 type Kind uint32
 
 // The kinds of nodes.
@@ -26,12 +26,12 @@ const (
 	Argument     Kind = 13 // an argument, by its name
 	Null         Kind = 14
 	Enum         Kind = 16
-	Reference    Kind = 17 // a variable that stands as a value
+	Reference    Kind = 17 // a variable used as a value
 	List         Kind = 18
 	Object       Kind = 19
 	Key          Kind = 20 // a field of an object, by its name
 	Int          Kind = 21 // an Int that 32 bits hold
-	LargeInt     Kind = 22 // an Int that they don't hold
+	LargeInt     Kind = 22 // an Int that 32 bits don't hold
 	Float        Kind = 23
 	String       Kind = 24
 	BlockString  Kind = 25
@@ -52,19 +52,19 @@ func (k Kind) String() string {
 	return "Kind(" + strconv.Itoa(int(k)) + ")"
 }
 
-// Place is how many characters of the source, line feeds, characters of the line, and bytes stand before it.
+// Place is the number of characters of the source, of line feeds, of characters of the line, and of bytes before it.
 type Place struct {
 	Index, Line, Column, Byte uint32
 }
 
-// Node is a part of a document. Behind it stand the nodes of the parts in it. Document's methods tell its texts.
+// Node is a part of a document. After it come the nodes of the parts in it. Document's methods return its texts.
 type Node struct {
 	Kind        Kind
-	Descendants uint32 // how many of the nodes behind it are of parts in it
+	Descendants uint32 // how many of the nodes after it are of parts in it
 	Start, End  Place
-	// The bytes of the source that name it: Document.Name.
+	// The bytes of the source that are its name: Document.Name.
 	NameStart, NameEnd uint32
-	// Value is an Int's number, a Boolean's 0 or 1. Of strings, types and fragments see Document.Meaning; else it is 0.
+	// Value is an Int's number, a Boolean's 0 or 1. Of strings, types and fragments see Document.Meaning; otherwise it is 0.
 	Value       int64
 	ValueLength uint32
 	_           uint32
@@ -77,19 +77,19 @@ type Document struct {
 	texts  string
 }
 
-// Text returns what node i is written as.
+// Text returns the text of node i, as it is written.
 func (d *Document) Text(i int) string {
 	return d.Source[d.Nodes[i].Start.Byte:d.Nodes[i].End.Byte]
 }
 
-// Name returns what names node i, without $ and @: of a scalar, null and a type all of it, of an inline fragment its type
+// Name returns the name of node i, without $ and @: of a scalar, null and a type all of it, of an inline fragment its type
 // condition, and nothing where there is no name.
 func (d *Document) Name(i int) string {
 	return d.Source[d.Nodes[i].NameStart:d.Nodes[i].NameEnd]
 }
 
 // Meaning returns what the string or block string i means, the type i without spaces, and the type condition of the
-// fragment i; of all other nodes nothing.
+// fragment i; for all other nodes it returns nothing.
 func (d *Document) Meaning(i int) string {
 	n := &d.Nodes[i]
 	from, length := n.Value, int64(n.ValueLength)
@@ -102,7 +102,7 @@ func (d *Document) Meaning(i int) string {
 	return ""
 }
 
-// Next returns the index behind node i and the parts in it: of its next sibling, where it has one.
+// Next returns the index after node i and the parts in it: the index of its next sibling, where it has one.
 func (d *Document) Next(i int) int {
 	return i + 1 + int(d.Nodes[i].Descendants)
 }
@@ -130,7 +130,7 @@ type Reason uint32
 
 // The reasons.
 const (
-	UnexpectedToken Reason = 0 // no document goes on with the token
+	UnexpectedToken Reason = 0 // no document has the token after those before it
 	UnexpectedEnd   Reason = 1 // the source ends within a document
 	Lexical         Reason = 2 // there is no token here; the Detail says why
 	Nested          Reason = 4 // the token is nested too deep
@@ -156,8 +156,8 @@ type SyntaxError struct {
 	Message   string
 	Reason    Reason
 	Detail    Detail
-	Character rune // the character that the Detail speaks of, else 0
-	// Of a token its places, else of zero width. Lines and columns are counted from 0, columns in characters.
+	Character rune // the character of the Detail, otherwise 0
+	// The places of a token, or of zero width. Lines and columns are counted from 0, columns in characters.
 	Start, End Place
 }
 

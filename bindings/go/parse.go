@@ -48,7 +48,7 @@ import (
 	"unsafe"
 )
 
-// DefaultDepth is how deep Parse lets brackets be nested.
+// DefaultDepth is how deep Parse allows brackets to be nested.
 const DefaultDepth = 200
 
 // MostDepth is the largest depth that ParseWithin takes.
@@ -57,7 +57,7 @@ const MostDepth = C.FIRTHNAPKIN_MOST_DEPTH
 // AnyTokens is a number of tokens that no source exceeds.
 const AnyTokens = 1<<32 - 1
 
-// Version is the library's.
+// Version is the library's version.
 const Version = C.FIRTHNAPKIN_VERSION_TEXT
 
 // What Parse and ParseWithin return besides a *SyntaxError.
@@ -75,13 +75,13 @@ var (
 )
 
 // Parse returns the document that a source is, with brackets nested at most DefaultDepth deep, or an error: a *SyntaxError
-// where the source is no such document, else one of the Err values.
+// where the source is no such document, otherwise one of the Err values.
 func Parse(source string) (*Document, error) {
 	return ParseWithin(source, DefaultDepth, AnyTokens)
 }
 
-// ParseWithin is Parse with brackets nested at most as deep as that, from 0 to MostDepth, and no more tokens than that. A
-// source with more is refused at the first one too many, before anything is made of it.
+// ParseWithin is Parse with brackets nested at most as deep as depth, from 0 to MostDepth, and no more than that many tokens.
+// A source with more is refused at the first one too many, before anything is built.
 func ParseWithin(source string, depth, tokens int) (*Document, error) {
 	if depth < 0 || depth > MostDepth {
 		return nil, ErrDepth
@@ -110,12 +110,12 @@ func count(source string, tokens int) error {
 	return errorOf(status)
 }
 
-// How many nodes there is room for at the first call, at most.
+// How many nodes are allocated for the first call, at most.
 const mostAtFirst = 1 << 20
 
 func parse(source string, depth int) (*Document, error) {
-	// Few sources have more nodes than one for six bytes; for others, and for the largest, the second call has the room that
-	// the first asks for.
+	// Few sources have more nodes than one for six bytes; for others, and for the largest, the second call has the capacity that
+	// the first returns.
 	first := len(source) / 6
 	if first > mostAtFirst {
 		first = mostAtFirst
@@ -153,7 +153,7 @@ func errorOf(status C.uint32_t) error {
 	return fmt.Errorf("firthnapkin: the parser answered %d", status)
 }
 
-// bytesOf returns where a string's bytes stand. C reads them and keeps nothing.
+// bytesOf returns a pointer to a string's bytes. C reads them and keeps nothing.
 func bytesOf(source string) *C.char {
 	return *(**C.char)(unsafe.Pointer(&source))
 }
@@ -192,7 +192,7 @@ func placeOf(place C.firthnapkin_place) Place {
 	return Place{uint32(place.index), uint32(place.line), uint32(place.column), uint32(place.byte)}
 }
 
-// The nodes of a slice are laid out as the library writes them; each of these is a compile error where one isn't.
+// The nodes of a slice are laid out as the library writes them; each of these lines is a compile error where that is wrong.
 var (
 	_ = [1]struct{}{}[unsafe.Sizeof(Node{})-C.sizeof_firthnapkin_node]
 	_ = [1]struct{}{}[unsafe.Offsetof(Node{}.Descendants)-unsafe.Offsetof(C.firthnapkin_node{}.descendants)]

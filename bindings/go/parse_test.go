@@ -222,7 +222,7 @@ func TestTokens(t *testing.T) {
 		same(t, "too many tokens", []any{fault.Reason, fault.Message, fault.Start.Index}, []any{TooMany, "Too many tokens", start})
 		same(t, "their error", fault.Error(), fmt.Sprintf("Too many tokens. At 0:%d", start))
 	}
-	// What stands behind the first token too many is not looked at, and no deep text is parsed.
+	// Nothing after the first token too many is read, and no deep text is parsed.
 	for _, source := range []string{strings.Repeat("{a", 1<<20), "{ a ) } \"", "{ a \"\x00"} {
 		_, err := ParseWithin(source, 5, 2)
 		var fault *SyntaxError
@@ -261,7 +261,7 @@ func TestStatuses(t *testing.T) {
 	same(t, "the error of another", errorOf(3).Error(), "firthnapkin: the parser answered 3")
 }
 
-// A source that is too long is not looked at: no memory stands behind this one.
+// A source that is too long is not read: there is no memory behind this one.
 func TestTooLong(t *testing.T) {
 	bytes, err := syscall.Mmap(-1, 0, 1<<32, syscall.PROT_READ, syscall.MAP_PRIVATE|syscall.MAP_ANON|syscall.MAP_NORESERVE)
 	if err != nil {

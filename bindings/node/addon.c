@@ -1,4 +1,4 @@
-/* The library's calls for index.js, which sees to the kinds of arguments: parse(buffer, depth, tokens) gives { status,
+/* The library's calls for index.js, which checks the types of arguments: parse(buffer, depth, tokens) returns { status,
  * nodes, texts }, an ArrayBuffer of the nodes or of the fault, and a Buffer of the texts or of the fault's words. */
 #define _GNU_SOURCE
 #include "whole.h"
@@ -12,7 +12,7 @@ static napi_value failed(napi_env env, const char *words) {
     return NULL;
 }
 
-/* An object with one property more; false where that failed. */
+/* Adds a property to an object; false where that failed. */
 static int has(napi_env env, napi_value object, const char *name, napi_status made, const napi_value *value) {
     return made == napi_ok && napi_set_named_property(env, object, name, *value) == napi_ok;
 }
@@ -42,7 +42,7 @@ static napi_value parse(napi_env env, napi_callback_info info) {
         || napi_get_value_double(env, arguments[1], &depth) != napi_ok
         || napi_get_value_double(env, arguments[2], &tokens) != napi_ok)
         return failed(env, "parse takes a buffer, a depth and a number of tokens");
-    /* What is no number is no less than 0, nor more. */
+    /* NaN is neither less than 0 nor more. */
     uint32_t limit = depth >= 0 && depth <= FIRTHNAPKIN_MOST_DEPTH ? (uint32_t)depth : UINT32_MAX;
     uint32_t most = tokens >= 0 && tokens < UINT32_MAX ? (uint32_t)tokens : UINT32_MAX;
     whole w = parse_whole(source, length, limit, most);

@@ -1,4 +1,4 @@
-/** What a node stands for. */
+/** The kind of a node. */
 export type Kind =
   | "query" | "mutation" | "subscription"
   /** The definition of a fragment. */
@@ -22,18 +22,18 @@ export type Kind =
   /** An argument, by its name. */
   | "argument"
   | "null" | "enum"
-  /** A variable that stands as a value. */
+  /** A variable used as a value. */
   | "reference"
   | "list" | "object"
   /** A field of an object, by its name. */
   | "key"
   /** An Int that 32 bits hold. */
   | "int"
-  /** An Int that they don't hold. */
+  /** An Int that 32 bits don't hold. */
   | "largeInt"
   | "float" | "string" | "blockString" | "boolean";
 
-/** What stands before a place: UTF-16 units of the source, line feeds, units of the line, bytes of UTF-8. */
+/** How much comes before a place: UTF-16 units of the source, line feeds, units of the line, bytes of UTF-8. */
 export interface Place {
   readonly index: number;
   readonly line: number;
@@ -44,15 +44,15 @@ export interface Place {
 /** A part of a document. */
 export interface Node {
   readonly document: Document;
-  /** The place among the document's nodes. */
+  /** The index among the document's nodes. */
   readonly index: number;
   readonly kind: Kind;
-  /** How many of the nodes behind this one are of parts in it. */
+  /** How many of the nodes after this one are of parts in it. */
   readonly descendants: number;
   readonly start: Place;
-  /** The place behind the last character. */
+  /** The place after the last character. */
   readonly end: Place;
-  /** What stands in the source from the start to the end: of a number how it is written. */
+  /** The text of the source from the start to the end: of a number how it is written. */
   readonly text: string;
   /** The name, without `$` and `@`; of an inline fragment its type condition. */
   readonly name: string | null;
@@ -67,7 +67,7 @@ export interface Node {
   readonly parent: Node | null;
 }
 
-/** A document's nodes, each part before the parts in it. A node is made each time that one is asked for. */
+/** A document's nodes, each part before the parts in it. A node is made each time that one is read. */
 export interface Document extends Iterable<Node> {
   readonly source: string;
   readonly length: number;
@@ -89,15 +89,15 @@ export type Detail =
 export class Fault extends Error {
   private constructor();
   readonly name: "Fault";
-  /** `surrogate`: a half of a surrogate pair stands alone, so the string is no text. */
+  /** `surrogate`: a half of a surrogate pair is alone, so the string is no text. */
   readonly reason: "unexpectedToken" | "unexpectedEnd" | "lexical" | "nested" | "tooMany" | "surrogate";
   /** Where the reason is `lexical`. */
   readonly detail: Detail | null;
-  /** The character that the detail speaks of. */
+  /** The character of the detail. */
   readonly character: string | null;
   readonly start: Place;
   readonly end: Place;
-  /** The line and the column, both counted from 1, as in the errors of an answer. */
+  /** The line and the column, both counted from 1, as in the errors of a response. */
   readonly locations: ReadonlyArray<{ readonly line: number; readonly column: number }>;
 }
 
@@ -110,7 +110,7 @@ export interface Options {
 
 /**
  * The document that a source is. Throws a Fault where it is none, a bracket is nested deeper, or a token is one too many,
- * before anything is made of it; a TypeError where the source is no string or a limit no number; a RangeError where a limit
+ * before anything is built; a TypeError where the source is no string or a limit no number; a RangeError where a limit
  * is no integer of its range; an Error where memory ran out.
  */
 export function parse(source: string, options?: Options): Document;

@@ -23,14 +23,14 @@ const DETAILS = [
   "unexpectedEndInToken", "invalidNumber",
 ];
 
-// The details that speak of a character.
+// The details that have a character.
 const WITH_CHARACTER = ["unknownCharacter", "unexpectedCharacter", "unknownCharacterInString"];
 
-// What all of such a node is written as is no name.
+// The kinds of nodes that have no name: their bytes are all that the node is written as.
 const WITHOUT_NAME = new Set(["type", "null", "int", "largeInt", "float", "string", "blockString", "boolean"]);
 
 // The numbers of 32 bits of a node, in their order: its kind, its descendants, the start's and the end's index, line, column
-// and byte, the name's bytes, the value's low and high half, the value's length, and one that says nothing.
+// and byte, the name's bytes, the value's low and high half, the value's length, and one without a meaning.
 const WORDS = 16;
 const START = 2;
 const END = 6;
@@ -41,10 +41,10 @@ const LENGTH = 14;
 // Counts a source's characters in UTF-16 units.
 class Units {
   constructor(source) {
-    // The indexes in characters of those that take two units.
+    // The indexes in characters of the characters that take two units.
     this.pairs = [];
     let index = 0;
-    // A source without them is passed over at once.
+    // A source without them needs no loop.
     if (!/[\ud800-\udbff]/.test(source)) return;
     for (const character of source) {
       if (character.length === 2) this.pairs.push(index);
@@ -52,7 +52,7 @@ class Units {
     }
   }
 
-  // How many units stand before the character of this index.
+  // How many units come before the character of this index.
   before(index) {
     let low = 0;
     let high = this.pairs.length;
@@ -64,7 +64,7 @@ class Units {
     return index + low;
   }
 
-  // A place whose numbers stand there.
+  // The place whose numbers begin there.
   place(words, at) {
     const index = this.before(words[at]);
     return { index, line: words[at + 1], column: index - this.before(words[at] - words[at + 2]), byte: words[at + 3] };

@@ -1,5 +1,5 @@
-// Tells how fast requests are parsed, and how fast their nodes are gone over besides: the best of half a second's rounds, in
-// microseconds.
+// Measures how fast requests are parsed, and how fast that is with a walk over their nodes: the best of half a second's rounds,
+// in microseconds.
 //
 //     node speed.js
 "use strict";

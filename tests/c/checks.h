@@ -1,4 +1,4 @@
-/* Counts what holds, and tells what doesn't. */
+/* Counts the checks that hold, and prints those that don't. */
 #ifndef CHECKS_H
 #define CHECKS_H
 

@@ -1,5 +1,5 @@
 /* One call on the text of standard input: growth parse, message, count, tokens, or canonical. Without a word it makes none. The
- * first line that is written tells that the call comes now, the second what it answers. */
+ * first line that is written says that the call comes now, the second what it returns. */
 #include "../../include/firthnapkin.h"
 #include <stdio.h>
 #include <stdlib.h>

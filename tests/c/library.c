@@ -1,4 +1,4 @@
-/* What the library writes, and where: rooms of every size, no source, threads, a large text, every status. */
+/* What the library writes, and where: buffers of every size, no source, threads, a large text, every status. */
 #define _GNU_SOURCE
 #include "../../include/firthnapkin.h"
 #include "checks.h"
@@ -13,14 +13,14 @@ static const char *const SOURCES[] = {
     "mutation { m }\nsubscription S { s }",
 };
 
-/* What stands behind a node's last field says nothing. */
+/* The bytes after a node's last field have no meaning. */
 static int same_nodes(const firthnapkin_node *a, const firthnapkin_node *b, size_t count) {
     for (size_t i = 0; i < count; i++)
         if (memcmp(&a[i], &b[i], offsetof(firthnapkin_node, value_length) + sizeof a[i].value_length)) return 0;
     return 1;
 }
 
-/* A parse into rooms of these sizes. */
+/* A parse into buffers of these sizes. */
 typedef struct {
     uint32_t status;
     size_t nodes_room, texts_room, nodes_needed, texts_needed;
@@ -44,7 +44,7 @@ static void give_back(run r) {
     free(r.texts);
 }
 
-/* Nothing is written behind the room, nor behind what is needed, and nothing at all where there is no tree. */
+/* Nothing is written after the buffer, nor after what is needed, and nothing at all where there is no tree. */
 static int is_kept(run r) {
     size_t nodes = r.status == FIRTHNAPKIN_TREE ? r.nodes_needed : 0, texts = r.status == FIRTHNAPKIN_TREE ? r.texts_needed : 0;
     return are_canaries(r.nodes + nodes, (r.nodes_room - nodes) * sizeof *r.nodes + BEYOND)
@@ -132,7 +132,7 @@ static void statuses(void) {
     check(firthnapkin_version() == FIRTHNAPKIN_VERSION, "the number of the interface");
 }
 
-/* Where a count is 0 there need be no memory. */
+/* Where a count is 0 no memory is needed. */
 static void no_memory(void) {
     size_t nodes_needed = 1, texts_needed = 1;
     firthnapkin_fault fault;
@@ -154,7 +154,7 @@ static void no_memory(void) {
           "no source and no room for words");
 }
 
-/* A source that is too long is not looked at. */
+/* A source that is too long is not read. */
 static void too_long(void) {
     size_t length = (size_t)1 << 32, needed = 1;
     void *source = mmap(NULL, length, PROT_NONE, MAP_PRIVATE | MAP_ANONYMOUS | MAP_NORESERVE, -1, 0);
@@ -170,7 +170,7 @@ static void too_long(void) {
     munmap(source, length);
 }
 
-/* A depth above the largest is refused, and the source not looked at. */
+/* A depth above the largest is refused, and the source is not read. */
 static void depths(void) {
     static const uint32_t depth[] = {FIRTHNAPKIN_MOST_DEPTH + 1, (uint32_t)1 << 31, UINT32_MAX};
     static const char *const sources[] = {"{a}", "{ a ) }", "\xff{", ""};
@@ -190,7 +190,7 @@ static void depths(void) {
     give_back(r);
 }
 
-/* Every limit from 0 to behind the number of tokens: where the limit is below it, the fault is the first token too many. */
+/* Every limit from 0 to above the number of tokens: where the limit is below it, the fault is the first token too many. */
 static void every_count(const char *source, uint32_t tokens, const uint32_t *starts, const uint32_t *ends) {
     for (uint32_t most = 0; most < tokens + 3; most++) {
         firthnapkin_fault fault;
@@ -211,7 +211,7 @@ static void counts(void) {
     every_count("  , # {a}\n", 0, NULL, NULL);
     every_count("#\xc3\xa9\n{a(b:\"\xc3\xa9\",...)}", 9, (const uint32_t[]){4, 5, 6, 7, 8, 9, 14, 17, 18},
                 (const uint32_t[]){5, 6, 7, 8, 9, 13, 17, 18, 19});
-    /* No token behind the first one too many is looked at, and none stands behind a lexical error. */
+    /* No token after the first one too many is read, and there is none after a lexical error. */
     every_count("{a ? b c d", 2, (const uint32_t[]){0, 1}, (const uint32_t[]){1, 2});
     every_count("a b \"", 2, (const uint32_t[]){0, 2}, (const uint32_t[]){1, 3});
     firthnapkin_fault fault;
@@ -225,7 +225,7 @@ static void counts(void) {
           "a place beyond ASCII");
 }
 
-/* A text of nested parts: a head, so many openings, a middle, as many closings, a tail; the head opens some, too. */
+/* A text of nested parts: a head, a number of openings, a middle, as many closings, a tail; the head opens some, too. */
 typedef struct {
     const char *head, *opening, *middle, *closing, *tail;
     uint32_t opened;
@@ -243,7 +243,7 @@ static char *repeated(char *at, const char *part, uint32_t count) {
     return at;
 }
 
-/* Calls on a stack of no more than the header tells. */
+/* Calls on a stack of no more than the header says. */
 typedef struct {
     const char *source;
     size_t length;

@@ -10,7 +10,7 @@
 
 enum { CANARY = 0xA5, BEYOND = 64 };
 
-/* A block of memory, written all over with one byte. */
+/* A block of memory, filled with one byte. */
 static uint8_t *canaries(size_t length) {
     uint8_t *room = malloc(length);
     if (room == NULL) abort();
@@ -24,7 +24,7 @@ static int are_canaries(const void *room, size_t length) {
     return 1;
 }
 
-/* Runs it in a thread of as much stack as the header tells for this depth, behind memory that nothing may touch. */
+/* Runs it in a thread with as much stack as the header says for this depth, beside memory that nothing may touch. */
 static void on_stack(uint32_t depth, void *(*run)(void *), void *argument) {
     enum { PAGE = 4096, GUARD = 16 * PAGE };
     size_t size = (FIRTHNAPKIN_STACK(depth) + PAGE - 1) / PAGE * PAGE;

@@ -1,5 +1,5 @@
-/* Refuses each request for memory of each call in turn: that one alone, or it and all after it. The call answers want of
- * memory, or what it answers where memory is ample, and gives back what it was given. Linked with --wrap. */
+/* Refuses each request for memory of each call in turn: that one alone, or it and all after it. The call reports that memory
+ * ran out, or returns what it returns where memory is ample, and frees what it was given. Linked with --wrap. */
 #include "../../include/firthnapkin.h"
 #include "checks.h"
 #include <stdlib.h>
@@ -11,7 +11,7 @@ extern void __real_free(void *);
 
 static long asked, refused_request, live;
 static int is_onwards;
-/* Requests of so many bytes are refused, too, and counted. */
+/* Requests of this many bytes are refused, too, and counted. */
 static size_t refused_size;
 static long refused_sizes;
 
@@ -66,7 +66,7 @@ static answer message(const char *source) {
     return a;
 }
 
-/* With room for two tokens, so that a place is told. */
+/* With an array of two tokens, so that a place is written. */
 static answer count(const char *source) {
     answer a = {.nodes_needed = 0, .texts_needed = 0};
     firthnapkin_fault fault;
@@ -74,7 +74,7 @@ static answer count(const char *source) {
     return a;
 }
 
-/* What is put into the room before memory runs out is not told. */
+/* What is written to the array before memory runs out is not reported. */
 static answer tokens(const char *source) {
     answer a = {.nodes_needed = 1, .texts_needed = 0};
     firthnapkin_fault fault;
@@ -89,7 +89,7 @@ static answer canonical(const char *source) {
     return a;
 }
 
-/* The call with this request refused, and whether it gave back all. */
+/* The call with this request refused, and whether it freed all. */
 static answer with_refused(answer (*call)(const char *), const char *source, long number, int onwards) {
     asked = live = 0;
     refused_request = number;
@@ -120,7 +120,7 @@ static void each(answer (*call)(const char *), const char *source) {
     check(requests == 0 || memory > 0, "want of memory is answered, for %s", source);
 }
 
-/* The room for nodes that is asked for before the first token is a hint: where it is refused, the answer stays. */
+/* The capacity for nodes that is requested before the first token is a hint: where it is refused, the result stays. */
 static void room_is_a_hint(const char *source) {
     answer ample = with_refused(parse, source, 0, 0);
     refused_size = strlen(source) / 8 * sizeof(firthnapkin_node);

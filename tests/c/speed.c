@@ -1,4 +1,4 @@
-/* Parses a file over and over from C, and tells the speed of the best round: speed FILE ROUNDS. */
+/* Parses a file over and over from C, and reports the speed of the best round: speed FILE ROUNDS. */
 #define _POSIX_C_SOURCE 200809L
 #include "../../include/firthnapkin.h"
 #include <stdio.h>

@@ -1,11 +1,11 @@
-/* What a source is cut into, and its canonical text: rooms of every size, every limit, faults, no source, threads, large texts,
- * a small stack. */
+/* What a source is cut into, and its canonical text: buffers of every size, every limit, errors, no source, threads, large
+ * texts, a small stack. */
 #define _GNU_SOURCE
 #include "../../include/firthnapkin.h"
 #include "checks.h"
 #include "memory.h"
 
-/* A token, as it is written; of a fault that stands behind the tokens what it is and the byte where it stands. */
+/* A token, as it is written; of an error after the tokens which it is and the byte where it is. */
 typedef struct {
     uint32_t kind, quotes;
     const char *written;
@@ -42,7 +42,7 @@ static const cut_source CUT[] = {
       {FIRTHNAPKIN_TOKEN_BLOCK_STRING, 3, "\"\"\"\"\"\""},
       {FIRTHNAPKIN_TOKEN_BLOCK_STRING, 3, "\"\"\"\n \xf0\x9d\x84\x9e\\\"\"\"\n\"\"\""}, {FIRTHNAPKIN_TOKEN_INT, 0, "1"},
       {FIRTHNAPKIN_TOKEN_NAME, 0, "a"}, END}},
-    /* What no document is can be cut, too. */
+    /* A text that is no document can be cut, too. */
     {") } { query", 0, 0, 0,
      {{FIRTHNAPKIN_TOKEN_PAREN_CLOSE, 0, ")"}, {FIRTHNAPKIN_TOKEN_CURLY_CLOSE, 0, "}"}, {FIRTHNAPKIN_TOKEN_CURLY_OPEN, 0, "{"},
       {FIRTHNAPKIN_TOKEN_NAME, 0, "query"}, END}},
@@ -56,7 +56,7 @@ static const cut_source CUT[] = {
     {"1 -", FIRTHNAPKIN_UNEXPECTED_END_IN_TOKEN, 0, 3, {{FIRTHNAPKIN_TOKEN_INT, 0, "1"}}},
 };
 
-/* The place behind so many bytes of a source. */
+/* The place after this many bytes of a source. */
 static firthnapkin_place place_of(const char *source, size_t byte) {
     firthnapkin_place place = {0, 0, 0, (uint32_t)byte};
     for (size_t i = 0; i < byte; i++) {
@@ -93,7 +93,7 @@ static int same_place(firthnapkin_place a, firthnapkin_place b) {
     return memcmp(&a, &b, sizeof a) == 0;
 }
 
-/* A call with a room of this size. */
+/* A call with an array of this size. */
 typedef struct {
     uint32_t status;
     size_t room, needed;
@@ -109,7 +109,7 @@ static run cut(const char *source, size_t length, uint32_t most, size_t room) {
     return r;
 }
 
-/* The room begins with the first of these, as many as it has room for, and nothing else is written. */
+/* The array begins with the first of these, as many as fit, and nothing else is written. */
 static int holds(run r, const firthnapkin_token *wanted, size_t count) {
     size_t some = count < r.room ? count : r.room;
     return (some == 0 || !memcmp(r.tokens, wanted, some * sizeof *wanted))
@@ -141,7 +141,7 @@ static void every_room(const cut_source *c) {
     }
 }
 
-/* Every limit from 0 to behind the number of tokens: a limit below it tells the first token too many, whatever the room. */
+/* Every limit from 0 to above the number of tokens: a limit below it reports the first token too many, whatever the array. */
 static void every_limit(const cut_source *c) {
     firthnapkin_token wanted[ANY_TOKENS];
     size_t length = strlen(c->source), count = wanted_of(c, wanted), others = count - (c->detail == 0);
@@ -231,7 +231,7 @@ static void canonical_texts(void) {
 
 /* ---- both */
 
-/* Where a count is 0 there need be no memory. */
+/* Where a count is 0 no memory is needed. */
 static void no_memory(void) {
     size_t needed = 99;
     firthnapkin_fault fault;
@@ -271,7 +271,7 @@ static void not_looked_at(void) {
     munmap(source, length);
 }
 
-/* A source of ten million bytes, and calls on no more stack than the header tells. */
+/* A source of ten million bytes, and calls on no more stack than the header says. */
 typedef struct {
     const char *source;
     size_t length, tokens, text, tokens_needed, text_needed;

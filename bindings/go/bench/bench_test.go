@@ -1,4 +1,4 @@
-// Package bench tells how fast sources are parsed by this package and by gqlparser.
+// Package bench measures how fast sources are parsed by this package and by gqlparser.
 package bench
 
 import (

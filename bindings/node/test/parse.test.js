@@ -46,7 +46,7 @@ test("the rows of the language, which tests/rows.py writes", { skip: ROWS ? fals
   let count = 0;
   for (const row of fs.readFileSync(ROWS, "latin1").trim().split("\n")) {
     const [source, wanted] = row.split(" ").map((word) => Buffer.from(word, "hex"));
-    // What is no text cannot be had as a string.
+    // Bytes that are no text can't be a string.
     if (wanted.toString() === "Not UTF-8") continue;
     assert.strictEqual(lines(source.toString()), wanted.toString());
     count++;
@@ -163,7 +163,7 @@ test("tokens", () => {
     // The message counts characters.
     assert.strictEqual(fault.message, `Too many tokens. At 0:${start > 10 ? start - 1 : start}`);
   });
-  // What stands behind the first token too many is not looked at, and none stands behind a lexical error.
+  // Nothing after the first token too many is read, and there is no token after a lexical error.
   assert.strictEqual(faultOf('{ a ) } "', { maxTokens: 2 }).reason, "tooMany");
   assert.strictEqual(faultOf('{ a ) } "', { maxTokens: 4 }).reason, "lexical");
   assert.strictEqual(faultOf("{a".repeat(1000), { maxTokens: 1999 }).reason, "tooMany");

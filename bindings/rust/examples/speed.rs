@@ -1,4 +1,4 @@
-//! Tells how fast requests are parsed: the best of half a second's rounds, in microseconds.
+//! Measures how fast requests are parsed: the best of half a second's rounds, in microseconds.
 //!
 //!     cargo run --release --example speed
 

@@ -1,4 +1,4 @@
-//! The calls of the library. All that is unsafe but the look at the thread's stack stands here.
+//! The calls of the library. All unsafe code is here, but for the look at the thread's stack.
 
 use crate::document::{Document, Place, RawNode};
 use crate::error::{Detail, Error, Fault, Reason};
@@ -54,7 +54,7 @@ pub fn parse(source: &str) -> Result<Document<'_>, Error> {
 }
 
 /// The document that a source is, within these limits. A source with too many tokens is refused at the first one too many,
-/// before anything is made of it.
+/// before anything is built.
 pub fn parse_within(source: &str, limits: Limits) -> Result<Document<'_>, Error> {
     if limits.depth > MOST_DEPTH {
         return Err(Error::Depth);
@@ -69,7 +69,7 @@ fn count(source: &str, tokens: u32) -> Result<(), Error> {
         return Ok(());
     }
     let mut fault = RawFault::default();
-    // SAFETY: the source has as many bytes as are told.
+    // SAFETY: the source has as many bytes as its length says.
     let status = unsafe { firthnapkin_count(source.as_ptr(), source.len(), tokens, &mut fault) };
     match status {
         FEW => Ok(()),
@@ -78,11 +78,11 @@ fn count(source: &str, tokens: u32) -> Result<(), Error> {
     }
 }
 
-/// How many nodes there is room for at the first call, at most.
+/// How many nodes are allocated for the first call, at most.
 const MOST_AT_FIRST: usize = 1 << 22;
 
 /// The same on this thread's stack. Few sources have more nodes than one for four bytes; for others, and for the largest, the
-/// second call has the room that the first asks for. Memory that is not written to costs nothing.
+/// second call has the capacity that the first returns. Memory that is not written to costs nothing.
 fn parse_here(source: &str, depth: u32) -> Result<Document<'_>, Error> {
     let first = (source.len() / 4).min(MOST_AT_FIRST);
     let (mut nodes_needed, mut texts_needed) = (first + 16, first + 64);
@@ -90,7 +90,7 @@ fn parse_here(source: &str, depth: u32) -> Result<Document<'_>, Error> {
         let mut nodes: Vec<RawNode> = room(nodes_needed)?;
         let mut texts: Vec<u8> = room(texts_needed)?;
         let mut fault = RawFault::default();
-        // SAFETY: each pointer has the room that is told behind it, none overlaps another, and the stack is enough.
+        // SAFETY: each pointer refers to as much memory as its count says, none overlaps another, and the stack is enough.
         let status = unsafe {
             firthnapkin_parse(
                 source.as_ptr(),
@@ -122,14 +122,14 @@ fn parse_here(source: &str, depth: u32) -> Result<Document<'_>, Error> {
     }
 }
 
-/// Room for as many, if there is memory.
+/// A vector with this capacity, if there is memory.
 fn room<T>(count: usize) -> Result<Vec<T>, Error> {
     let mut room = Vec::new();
     room.try_reserve_exact(count).map_err(|_| Error::Memory)?;
     Ok(room)
 }
 
-/// A `str` is UTF-8, and the depth is no larger than what is taken.
+/// A `str` is UTF-8, and the depth is no larger than the largest.
 fn failure(status: u32) -> Error {
     match status {
         TOO_LONG => Error::TooLong,

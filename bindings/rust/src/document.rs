@@ -2,7 +2,7 @@
 
 use std::fmt;
 
-/// What a node stands for.
+/// The kind of a node.
 #[derive(Clone, Copy, Debug, PartialEq, Eq, Hash)]
 #[non_exhaustive]
 #[repr(u32)]
@@ -32,7 +32,7 @@ pub enum Kind {
     Argument = 13,
     Null = 14,
     Enum = 16,
-    /// A variable that stands as a value.
+    /// A variable used as a value.
     Reference = 17,
     List = 18,
     Object = 19,
@@ -40,7 +40,7 @@ pub enum Kind {
     Key = 20,
     /// An Int that 32 bits hold.
     Int = 21,
-    /// An Int that they don't hold.
+    /// An Int that 32 bits don't hold.
     LargeInt = 22,
     Float = 23,
     String = 24,
@@ -60,7 +60,7 @@ const KINDS: [Option<Kind>; 27] = {
     ]
 };
 
-/// How many characters of the source, line feeds, characters of the line, and bytes stand before a place.
+/// The number of characters of the source, of line feeds, of characters of the line, and of bytes before a place.
 #[repr(C)]
 #[derive(Clone, Copy, Debug, Default, PartialEq, Eq, PartialOrd, Ord, Hash)]
 pub struct Place {
@@ -120,7 +120,7 @@ impl<'a> Document<'a> {
         self.nodes.len()
     }
 
-    /// Never: a document has a definition.
+    /// Always false: a document has a definition.
     pub fn is_empty(&self) -> bool {
         self.nodes.is_empty()
     }
@@ -159,7 +159,7 @@ impl<'d, 'a> Node<'d, 'a> {
         &self.document.nodes[self.index]
     }
 
-    /// The place among the document's nodes.
+    /// The index among the document's nodes.
     pub fn index(&self) -> usize {
         self.index
     }
@@ -168,7 +168,7 @@ impl<'d, 'a> Node<'d, 'a> {
         KINDS[self.raw().kind as usize].expect("the library tells no other kind")
     }
 
-    /// How many of the nodes behind this one are of parts in it.
+    /// How many of the nodes after this one are of parts in it.
     pub fn descendants(&self) -> usize {
         self.raw().descendants as usize
     }
@@ -177,12 +177,12 @@ impl<'d, 'a> Node<'d, 'a> {
         self.raw().start
     }
 
-    /// The place behind the last character.
+    /// The place after the last character.
     pub fn end(&self) -> Place {
         self.raw().end
     }
 
-    /// What the node is written as.
+    /// The text of the node, as it is written.
     pub fn text(&self) -> &'a str {
         &self.document.source[self.raw().start.byte as usize..self.raw().end.byte as usize]
     }

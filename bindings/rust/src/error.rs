@@ -8,7 +8,7 @@ use std::fmt;
 #[derive(Clone, Debug, PartialEq, Eq)]
 #[non_exhaustive]
 pub enum Error {
-    /// The source is none, or exceeds a limit.
+    /// The source is no document, or exceeds a limit.
     Fault(Fault),
     /// Memory ran out.
     Memory,
@@ -26,7 +26,7 @@ pub struct Fault {
     pub reason: Reason,
     /// Where the reason is [`Reason::Lexical`].
     pub detail: Option<Detail>,
-    /// Of a token its places, else of zero width.
+    /// The places of a token, or of zero width.
     pub start: Place,
     pub end: Place,
 }
@@ -34,7 +34,7 @@ pub struct Fault {
 #[derive(Clone, Copy, Debug, PartialEq, Eq)]
 #[non_exhaustive]
 pub enum Reason {
-    /// No document goes on with the token.
+    /// No document has the token after those before it.
     UnexpectedToken,
     /// The source ends within a document.
     UnexpectedEnd,
@@ -46,7 +46,7 @@ pub enum Reason {
     TooMany,
 }
 
-/// Why there is no token, and the character that it speaks of.
+/// Why there is no token, with the character where there is one.
 #[derive(Clone, Copy, Debug, PartialEq, Eq)]
 #[non_exhaustive]
 pub enum Detail {

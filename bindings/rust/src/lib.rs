@@ -16,7 +16,7 @@ pub use call::{parse, parse_within};
 pub use document::{Children, Document, Kind, Node, Place, Value};
 pub use error::{Detail, Error, Fault, Reason};
 
-/// How deep [`parse`] lets brackets be nested.
+/// How deep [`parse`] allows brackets to be nested.
 pub const DEFAULT_DEPTH: u32 = 200;
 
 /// The largest depth that [`parse_within`] takes.

@@ -1,8 +1,8 @@
-//! Enough of the machine's stack for a call.
+//! Makes sure that a call has enough of the machine's stack.
 
 use std::{io, panic, thread};
 
-/// As many bytes are enough for a call with this depth: `FIRTHNAPKIN_STACK` of the header, and this crate's own.
+/// So many bytes are enough for a call with this depth: `FIRTHNAPKIN_STACK` of the header, and this crate's own.
 const fn needed(depth: u32) -> usize {
     32768 + 2304 * depth as usize + OWN
 }
@@ -10,7 +10,7 @@ const fn needed(depth: u32) -> usize {
 const OWN: usize = 1 << 14;
 
 /// Runs a call with this depth on this thread's stack, or, where less is left or it isn't known, in a thread of its own.
-/// An error where no thread can be had.
+/// An error where no thread can be made.
 pub(crate) fn with<R: Send>(depth: u32, call: impl FnOnce() -> R + Send) -> io::Result<R> {
     if left() >= needed(depth) {
         return Ok(call());
@@ -51,7 +51,7 @@ mod bounds {
         static BOUNDS: Cell<Option<(usize, usize)>> = const { Cell::new(None) };
     }
 
-    /// The lowest address of this thread's stack, and that behind its highest.
+    /// The lowest address of this thread's stack, and the one after its highest.
     pub(super) fn of_this_thread() -> Option<(usize, usize)> {
         if BOUNDS.get().is_none() {
             BOUNDS.set(found());
@@ -62,7 +62,7 @@ mod bounds {
     fn found() -> Option<(usize, usize)> {
         let mut attributes = Attributes([0; 128]);
         let (mut start, mut size) = (std::ptr::null_mut(), 0);
-        // SAFETY: the room is larger than `pthread_attr_t`, and is given back after its use.
+        // SAFETY: the buffer is larger than `pthread_attr_t`, and the attributes are destroyed after their use.
         let is_found = unsafe {
             if pthread_getattr_np(pthread_self(), &mut attributes) != 0 {
                 return None;

@@ -54,7 +54,7 @@ fn rows() {
     let mut count = 0;
     for row in std::fs::read_to_string(path).unwrap().lines() {
         let (source, wanted) = row.split_once(' ').unwrap();
-        // What is no UTF-8 cannot be had as a `str`.
+        // Bytes that are not UTF-8 can't be a `str`.
         let Ok(source) = String::from_utf8(bytes_of(source)) else { continue };
         assert_eq!(lines(&source).as_bytes(), bytes_of(wanted), "{source}");
         count += 1;
@@ -225,7 +225,7 @@ fn tokens() {
             other => panic!("{tokens} tokens: {other:?}"),
         }
     }
-    // What stands behind the first token too many is not looked at, and none stands behind a lexical error.
+    // Nothing after the first token too many is read, and there is no token after a lexical error.
     let reason = |source, tokens| match within(source, tokens) {
         Err(Error::Fault(fault)) => fault.reason,
         other => panic!("{other:?}"),
