@@ -1,8 +1,8 @@
-# What ./gqlcheck, ./gqlcanon, ./prove and ./c-library share: which crates a crate stands on, whether what was built is
+# What ./gqlcheck, ./gqlcanon, ./prove and ./c-library share: which crates a crate depends on, whether what was built is
 # older than a source, how crates are proved side by side, and how a program is run. It is sourced, with the repository's
 # folder in $root.
 
-# crates_below NAME ..: the crates of this repository that these stand on, the lowest first, each once, and they themselves.
+# crates_below NAME ..: the crates of this repository that these depend on, the lowest first, each once, and they themselves.
 crates_below() {
     crates_in_turn "$@" | awk '!seen[$0]++'
 }
