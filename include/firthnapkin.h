@@ -90,12 +90,12 @@ typedef struct {
     uint32_t kind; /* a firthnapkin_kind */
     uint32_t descendants;
     firthnapkin_place start, end;
-    /* The bytes of the source that are its name, without `$` and `@`. Of a scalar, of null and of a type they are all of it.
-     * Without a name both are the byte where the node starts. */
+    /* The bytes of the source that are its name, without `$` and `@`. For a scalar, for null and for a type they are all of
+     * it. Without a name both are the byte where the node starts. */
     uint32_t name_start, name_end;
-    /* Of an Int its number, of a Boolean 0 or 1. Of a string and a block string the byte of the texts where its meaning
-     * begins, of a type where the type without spaces begins; value_length is the number of its bytes. Of a fragment the byte
-     * of the source where its type condition begins; value_length is the number of its bytes. Otherwise 0. */
+    /* For an Int its number, for a Boolean 0 or 1. For a string and a block string the byte of the texts where its meaning
+     * begins, for a type where the type without spaces begins; value_length is the number of its bytes. For a fragment the
+     * byte of the source where its type condition begins; value_length is the number of its bytes. Otherwise 0. */
     int64_t value;
     uint32_t value_length;
 } firthnapkin_node;
