@@ -90,7 +90,7 @@ static inline whole cut_whole(const uint8_t *source, size_t length, uint32_t mos
             : tokens_on_stack(source, length, most, w.tokens, tokens, &w.tokens_count, &w.fault);
         tokens = w.tokens_count;
     } while (w.status == FIRTHNAPKIN_ROOM);
-    /* A text that can't be cut is refused for that reason at any depth. */
+    /* A text that can't be cut is refused for that at any depth. */
     if (w.status == FIRTHNAPKIN_REFUSED) w.status = find_words(&w, source, length, 0);
     return w;
 }
