@@ -128,11 +128,11 @@ module _ {C F : Type 0} (S T : Scalars C F) (truths : S.of_bool ≡ T.of_bool) w
   -- ---- documents
 
   definition : (d : Definition C) → Carries (IsDefinition S d) (IsDefinition T d)
-  definition (Operation kind name vars ds ss p) ts a (q, inl (h, i, j, k, l)) =
-      (q, inl (selection_set ss ts a h, i, j, k, l))
-  definition (Operation kind name vars ds ss p) ts a (q, inr h) = (
-    q,
+  definition (Operation kind name vars ds ss p) ts a (inl (h, i, j, k, l), q) =
+      (inl (selection_set ss ts a h, i, j, k, l), q)
+  definition (Operation kind name vars ds ss p) ts a (inr h, q) = (
     inr (after (after (both (optional variables vars) (both (directives ds) (selection_set ss)))) ts a h),
+    q,
   )
   definition (Fragment name on_type ds ss p) ts a h =
       spanned (after (after (after (both (directives ds) (selection_set ss))))) ts a h

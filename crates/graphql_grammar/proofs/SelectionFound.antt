@@ -233,7 +233,7 @@ module _ {C F : Type 0} (S : Scalars C F) where
   -- ---- definitions
 
   definition_apart : (d : Definition C) → Before (IsDefinition S d) Any (NotAt (of EndOfFile))
-  definition_apart (Operation type name vars ds ss p) = record { at = λ ts rest h g. cases ts rest h.1 }
+  definition_apart (Operation type name vars ds ss p) = record { at = λ ts rest h g. cases ts rest h.0 }
     where
       cases : (ts rest : List Lexeme)
           → (IsSelectionSet S ss ts × (type ≡ Query) × (name ≡ None) × (vars ≡ None) × (ds ≡ None))
@@ -306,9 +306,9 @@ module _ {C F : Type 0} (S : Scalars C F) where
 
     definition_found : (d : Definition C) → Finds n (reads S n definition) (IsDefinition S d) Any d
     unfolding definition
-    definition_found (Operation type name vars ds ss p) = found_as (λ ts h. (h.1, h.0))
-        (span_found (λ q. Operation type name vars ds ss q) p
-        (either_found (bare_found type name vars ds ss) (operation_found type name vars ds ss)))
+    definition_found (Operation type name vars ds ss p) =
+        span_found (λ q. Operation type name vars ds ss q) p
+        (either_found (bare_found type name vars ds ss) (operation_found type name vars ds ss))
     definition_found (Fragment name condition ds ss p) =
         span_found (λ q. Fragment name condition ds ss q) p (fragment_found name condition ds ss)
 

@@ -196,8 +196,8 @@ module _ {C F : Type 0} (S : Scalars C F) where
   operation_says t e = three_words t (or_cases _ _ e)
 
   pub definition_takes : (ts : List Lexeme) (d : Definition C) → IsDefinition S d ts → 0 < length ts
-  definition_takes ts (Operation kind name vars ds ss p) (q, inl h) = select_takes ts ss h.0
-  definition_takes ts (Operation kind name vars ds ss p) (q, inr h) = front_takes (says_takes _) ts h
+  definition_takes ts (Operation kind name vars ds ss p) (inl h, q) = select_takes ts ss h.0
+  definition_takes ts (Operation kind name vars ds ss p) (inr h, q) = front_takes (says_takes _) ts h
   definition_takes ts (Fragment name condition ds ss p) h = front_takes (says_takes _) ts h.0
 
   pub optional_name_rule : (k n m : ℕ) → Rule k (reads S n optional_name) (reads S m optional_name) (Optional IsName)
@@ -253,9 +253,9 @@ module _ {C F : Type 0} (S : Scalars C F) where
         done_rule _ (Operation (operation_of t.text) name vars x.0 x.1.0)
         (Operation (operation_of t'.text) name' vars' x'.0 x'.1.0) _
         (rw append-nil (
-          refl,
           inr (row (t ∷ []) (us ++ (vs ++ ws)) (operation_says t p)
               (row us (vs ++ ws) a (row vs ws b (body_is ws x c)))),
+          refl,
         )))))
 
     fragment_rule : (t t' : Lexeme) → passes (word (codes "fragment")) t ≡ true
@@ -280,7 +280,7 @@ module _ {C F : Type 0} (S : Scalars C F) where
         (on_rule n (word (codes "fragment")) _ _ _ _ _ (λ t t' p. fragment_rule t t' p)
         (step n n _ _ _ _ IsSpannedSet _ (le_refl n) set_rule (λ us ss ss' h.
         done_rule _ (Operation Query None None None ss.0) (Operation Query None None None ss'.0) _
-        (rw append-nil (refl, inl (h.0, refl, refl, refl, refl)))))))
+        (rw append-nil (inl (h.0, refl, refl, refl, refl), refl))))))
 
     document_is : (ts : List Lexeme) (ds : List (Definition C)) → ClosedSome (of EndOfFile) (IsDefinition S) ds ts
         → IsDocument S ds ts

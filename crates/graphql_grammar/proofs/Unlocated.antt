@@ -188,8 +188,7 @@ module _ {C F : Type 0} (S : Scalars C F) where
   -- ---- documents
 
   definition : (d : Definition C) → Bares (IsDefinition S d) (IsDefinition S (unlocated_definition d))
-  definition (Operation kind name vars ds ss p) ts (q, inl (h, a, b, c, e)) = (
-    sym (span_bare ts),
+  definition (Operation kind name vars ds ss p) ts (inl (h, a, b, c, e), q) = (
     inl (
       selection_set ss ts h,
       a,
@@ -197,11 +196,12 @@ module _ {C F : Type 0} (S : Scalars C F) where
       ap (if_some unlocated_variables) c,
       ap unlocated_directives e,
     ),
-  )
-  definition (Operation kind name vars ds ss p) ts (q, inr h) = (
     sym (span_bare ts),
+  )
+  definition (Operation kind name vars ds ss p) ts (inr h, q) = (
     inr (both (says _) (both (optional unlocated_word word name)
         (both (optional unlocated_variables variables vars) (both (directives ds) (selection_set ss)))) ts h),
+    sym (span_bare ts),
   )
   definition (Fragment name on_type ds ss p) ts h = spanned (both (says _) (both (fragment_name name)
       (both (condition on_type) (both (directives ds) (selection_set ss))))) ts h

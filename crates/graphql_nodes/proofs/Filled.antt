@@ -109,9 +109,9 @@ module _ {C F : Type 0} (S : Scalars C F) where
         (selection_filled h.front s h.first, selections_filled h.back ss h.second)
 
   definition_filled : (ts : List Lexeme) (d : Definition C) → IsDefinition S d ts → FilledDefinition d
-  definition_filled ts (tree.Operation type name variables directives ss p) (q, inl (h, t, n, v, d)) =
+  definition_filled ts (tree.Operation type name variables directives ss p) (inl (h, t, n, v, d), q) =
       (subst (IfPresent FilledVariables) (sym v) tt, subst FilledDirectives (sym d) tt, set_filled ts ss h)
-  definition_filled ts (tree.Operation type name variables directives ss p) (q, inr h) =
+  definition_filled ts (tree.Operation type name variables directives ss p) (inr h, q) =
       let rest = h.second.second in let body = rest.second in (
         optional_filled (IsVariables S) FilledVariables variables_filled rest.front variables rest.first,
         directives_filled body.front directives body.first,

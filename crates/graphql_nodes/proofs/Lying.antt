@@ -283,11 +283,11 @@ module _ {C F : Type 0} (S : Scalars C F) (source : List ℕ) where
 
   definition_lies : (ts : List Lexeme) (d : Definition C) → IsDefinition S d ts → Within ts (definition_nodes d)
   unfolding definition_nodes directives_nodes
-  definition_lies ts (tree.Operation type name variables ds ss p) (e, inl (h, t, n, v, d)) =
+  definition_lies ts (tree.Operation type name variables ds ss p) (inl (h, t, n, v, d), e) =
       subst (λ vs. Within ts (definition_nodes (tree.Operation type name vs ds ss p))) (sym v)
       (subst (λ ds. Within ts (definition_nodes (tree.Operation type name None ds ss p))) (sym d)
       (above ts _ p _ _ (whole_lies source ts p e) (set_lies ts ss h)))
-  definition_lies ts (tree.Operation type name variables ds ss p) (e, inr h) =
+  definition_lies ts (tree.Operation type name variables ds ss p) (inr h, e) =
       above ts _ p _ _ (whole_lies source ts p e) (behind ts h _ (λ named. behind h.back named _ (λ r. joined named.back r _ _
       (optional_lies (IsVariables S) variables_nodes variables_lie r.front variables)
       (λ body. joined r.back body _ _ (directives_lie body.front ds) (set_lies body.back ss)))))

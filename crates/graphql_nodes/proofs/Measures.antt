@@ -336,11 +336,11 @@ module _ {C F : Type 0} (S : Scalars C F) (measure : Node C → ℕ) (weight : L
   -- A query in short has no words: its node is the opening bracket's.
   definition_within : (ts : List Lexeme) (d : Definition C) → IsDefinition S d ts → Within ts (definition_nodes d)
   unfolding definition_nodes directives_nodes
-  definition_within ts (tree.Operation type name variables ds ss p) (q, inl (h, t, n, v, d)) =
+  definition_within ts (tree.Operation type name variables ds ss p) (inl (h, t, n, v, d), q) =
       subst (λ vs. Within ts (definition_nodes (tree.Operation type name vs ds ss p))) (sym v)
       (subst (λ ds. Within ts (definition_nodes (tree.Operation type name None ds ss p))) (sym d)
       (set_over ts ss _ _ _ (untyped_name name) h))
-  definition_within ts (tree.Operation type name variables ds ss p) (q, inr h) =
+  definition_within ts (tree.Operation type name variables ds ss p) (inr h, q) =
       headed ts h (says_one _) _ _ _ _ (untyped_name name) (λ named. behind h.back named _ (λ r. joined named.back r _ _
       (optional_within (IsVariables S) variables_nodes variables_within r.front variables)
       (λ body. joined r.back body _ _ (directives_within body.front ds) (set_within body.back ss))))
