@@ -18,6 +18,7 @@ use crate::place::{Place, in_word, place_at};
 use crate::scalar::Scalar;
 use juniper::{DefaultScalarValue, ScalarValue, Span, Spanning, Type};
 use juniper_nodes::{Label, NodeKind};
+use juniper_tokens::text::push_text;
 use std::alloc::AllocError;
 
 /// A part of a document.
@@ -281,7 +282,7 @@ fn write_scalar(texts: &mut String, scalar: Option<&Scalar>) -> Result<(), Alloc
     ensures { let content = option_map (λ scalar. scalar_content scalar.now) scalar.entry in OnOk result (string_bytes texts.new ≡ string_bytes texts.old ++ encode_utf8_all (unwrap_or (option_and_then str_in content) [])) }
 {
     match scalar.and_then(|scalar| scalar.try_as_str()) {
-        Some(text) => write_text(texts, text),
+        Some(text) => push_text(texts, text),
         None => Ok(()),
     }
 }
@@ -290,10 +291,4 @@ fn write_type(texts: &mut String, literal: &Type<&str>) -> Result<(), AllocError
     ensures { OnOk result (string_bytes texts.new ≡ string_bytes texts.old ++ encode_utf8_all (type_text (view_type literal.now))) }
 {
     write!(texts, "{literal}")
-}
-
-fn write_text(texts: &mut String, text: &str) -> Result<(), AllocError>
-    ensures { OnOk result (string_bytes texts.new ≡ string_bytes texts.old ++ encode_utf8_all (chars text.now)) }
-{
-    texts.push_str(text)
 }

@@ -10,6 +10,7 @@ ghost use Rattle.juniper_nodes.specs.Literal.{literal_shown, string_reading, of_
 ghost use Rattle.juniper_c.specs.Scalars.{scalar_content, int_reading};
 
 use juniper::{DefaultScalarValue, ParseScalarResult, ParseScalarValue, ScalarToken, ScalarValue};
+use juniper_tokens::text::{copied, write_text};
 use std::alloc::{AllocError, Global};
 use std::fmt;
 
@@ -72,13 +73,6 @@ impl fmt::Display for Scalar {
     }
 }
 
-// Writes the text as it stands.
-fn write_text<W: fmt::Write>(f: &mut fmt::Formatter<W>, text: &str) -> fmt::Result
-    ensures { DisplaysOnOk W.write_str_gives f.old result (Some (encode_utf8_all (chars text.now))) f.new }
-{
-    f.write_str(text)
-}
-
 /// A number beyond the default type takes no memory.
 impl ParseScalarValue<Scalar> for Scalar {
     ghost use Rattle.juniper_c.specs.Scalars.{scalar_reading};
@@ -117,12 +111,6 @@ fn read_block(alloc: Global, text: &str) -> ParseScalarResult<Scalar>
         DefaultScalarValue::String(value) => Ok(Scalar::BlockString(value)),
         scalar => Ok(Scalar::Default(scalar)),
     }
-}
-
-fn copied(alloc: Global, text: &String) -> Result<String, AllocError>
-    ensures { IfOk result (λ s. text_of s ≡ text_of text.now) }
-{
-    String::from_str(alloc, text.as_str())
 }
 
 impl ScalarValue for Scalar {

@@ -13,6 +13,7 @@ ghost use Rattle.juniper_tokens.specs.Gathering.{IfFault};
 ghost use Rattle.juniper_tokens.specs.Tokens.{token_kind, token_text, scalar_kind, scalar_text};
 ghost use Rattle.juniper_canonical.specs.device.Parting.{is_behind_space};
 
+use juniper_tokens::text::push_text;
 use juniper_tokens::{LexFailure, Lexer, ScalarToken, Token};
 use std::alloc::{AllocError, Global};
 
@@ -96,7 +97,7 @@ fn write_ellipsis(out: &mut String, is_bare: bool) -> Result<bool, AllocError>
         ++ encode_utf8_all (space_if is_bare ++ (46 ∷ 46 ∷ 46 ∷ []))) }
 {
     write_space(out, is_bare)?;
-    write_text(out, "...")?;
+    push_text(out, "...")?;
     Ok(false)
 }
 
@@ -125,7 +126,7 @@ fn write_word(out: &mut String, is_bare: bool, text: &str) -> Result<bool, Alloc
         ++ encode_utf8_all (space_if is_bare ++ chars text.now)) }
 {
     write_space(out, is_bare)?;
-    write_text(out, text)?;
+    push_text(out, text)?;
     Ok(true)
 }
 
@@ -141,9 +142,9 @@ fn write_quoted(
         ++ encode_utf8_all (space_if is_bare ++ (chars marks.now ++ (chars text.now ++ chars marks.now)))) }
 {
     write_space(out, is_bare)?;
-    write_text(out, marks)?;
-    write_text(out, text)?;
-    write_text(out, marks)?;
+    push_text(out, marks)?;
+    push_text(out, text)?;
+    push_text(out, marks)?;
     Ok(true)
 }
 
@@ -155,10 +156,4 @@ fn write_space(out: &mut String, is_bare: bool) -> Result<(), AllocError>
         return out.push(' ');
     }
     Ok(())
-}
-
-fn write_text(out: &mut String, text: &str) -> Result<(), AllocError>
-    ensures { OnOk result (string_bytes out.new ≡ string_bytes out.old ++ encode_utf8_all (chars text.now)) }
-{
-    out.push_str(text)
 }

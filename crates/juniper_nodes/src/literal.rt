@@ -13,6 +13,7 @@ ghost use Rattle.juniper_nodes.specs.Literal.{literal_content, literal_shown, in
 use juniper::{
     DefaultScalarValue, ParseScalarResult, ParseScalarValue, ReadFailure, ScalarToken, ScalarValue,
 };
+use juniper_tokens::text::{copied, write_text};
 use std::alloc::{AllocError, Global};
 use std::fmt;
 
@@ -124,13 +125,6 @@ impl fmt::Display for Literal {
     }
 }
 
-// Writes the text as it stands.
-fn write_text<W: fmt::Write>(f: &mut fmt::Formatter<W>, text: &str) -> fmt::Result
-    ensures { DisplaysOnOk W.write_str_gives f.old result (Some (encode_utf8_all (chars text.now))) f.new }
-{
-    f.write_str(text)
-}
-
 /// A Float is kept as it is written, and so is an Int beyond 32 bits. An Int of 32 bits, a String and a block string are
 /// kept with what the default type reads them as; a String that it refuses is refused.
 impl ParseScalarValue<Literal> for Literal {
@@ -188,12 +182,6 @@ fn read_block(alloc: Global, text: &str) -> ParseScalarResult<Literal>
         Ok(scalar) => Ok(Literal::Default(scalar)),
         Err(failure) => Err(failure),
     }
-}
-
-fn copied(alloc: Global, text: &String) -> Result<String, AllocError>
-    ensures { IfOk result (λ s. text_of s ≡ text_of text.now) }
-{
-    String::from_str(alloc, text.as_str())
 }
 
 fn copied_string(alloc: Global, string: &StringLiteral) -> Result<StringLiteral, AllocError>

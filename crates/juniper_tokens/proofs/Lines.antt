@@ -1,12 +1,18 @@
 -- Tables of the beginnings of lines.
-use Rattle.std.proofs.Common.{◌≡◌, ℕ, zero, suc, ◌+◌, ◌-◌, ◌<◌, ◌≤◌, Bool, true, false, cond, ◌==◌, List, [], ◌∷◌, ◌++◌, length, take, refl, sym, ap, ap₂, ◌∙◌, subst, arith, Some, None, inl, inr, append-nil, add-one, length-append}
+use Rattle.std.proofs.Common.{◌≡◌, ℕ, zero, suc, ◌+◌, ◌-◌, ◌<◌, ◌≤◌, Bool, true, false, cond, ◌==◌, List, [], ◌∷◌, ◌++◌, length, take, refl, sym, ap, ap₂, ◌∙◌, subst, arith, Some, None, append-nil, append_assoc, add-one}
 use Rattle.std.specs.Prelude.{slice_get}
 use Rattle.std.specs.List.{fold}
-use Rattle.std.proofs.lemmas.Bool.{le-leb, cases_Bool, eqb-true}
+use Rattle.std.proofs.lemmas.Bool.{le-leb}
 use Rattle.std.proofs.lemmas.Option.{none-some, get_or_from_slice_get}
 use Rattle.graphql_lexical.specs.Place.{Place, place, past_character, next_line, next_column}
+use Rattle.juniper_tokens.specs.declared.lexer.run.Run.TheVariants as run
+use Rattle.juniper_tokens.specs.device.ByteRuns.{is_inner}
+use Rattle.juniper_tokens.specs.device.Walks.{run_test, each_machine}
+use Rattle.juniper_tokens.specs.device.LineSteps.{no_lines, longer, one_line, past}
 use Rattle.juniper_tokens.specs.LineTables.{Lines, starts_after, lines_of, IsTable, place_within, AscendFrom, StartLines, IsOnLine}
+use Rattle.juniper_tokens.proofs.LineWalks.{no_feed_in_line, no_feed_past_ascii}
 use Rattle.juniper_tokens.proofs.Places.{place_fold}
+use Rattle.juniper_tokens.proofs.RunWalks.{plus_plus}
 
 -- ---- the table ascends
 
@@ -28,24 +34,11 @@ lines_start source = (refl, after_ascend 0 source)
 pub table_starts : (table : Lines) → IsTable table → StartLines table.starts
 table_starts table h = subst StartLines (sym (ap (λ (t : Lines). t.starts) h.is)) (lines_start h.source)
 
-push_feed : (b : Bool) (x : ℕ) (new old more : List ℕ) → new ≡ old ++ more
-    → cond b (x ∷ new) new ≡ cond b (x ∷ old) old ++ more
-push_feed true x new old more e = ap (λ ss. x ∷ ss) e
-push_feed false x new old more e = e
-
 plus_none : (k : ℕ) → k + 0 ≡ k
 plus_none k = omega arith
 
 plus_suc : (a b : ℕ) → (a + 1) + b ≡ a + suc b
 plus_suc a b = omega arith
-
--- one character more
-pub starts_push : (k : ℕ) (cs : List ℕ) (c : ℕ)
-    → starts_after k (cs ++ c ∷ []) ≡ starts_after k cs ++ cond (c == 10) ((k + length cs + 1) ∷ []) []
-starts_push k [] c = ap (λ n. cond (c == 10) ((n + 1) ∷ []) []) (sym (plus_none k))
-starts_push k (d ∷ cs) c = push_feed (d == 10) (k + 1) _ _ _
-    (starts_push (k + 1) cs c ∙ ap (λ n. starts_after (k + 1) cs ++ cond (c == 10) ((n + 1) ∷ []) [])
-    (plus_suc k (length cs)))
 
 -- ---- a line's number is at most the index where it begins
 
@@ -131,41 +124,44 @@ pub record Narrowed (starts : List ℕ) (k low start high : ℕ) : Type 0 where
   pub before : start ≤ k
   pub after : (next : ℕ) → slice_get starts high ≡ Some next → k < next
 
--- ---- the loop over the characters
+-- ---- the lines after each character
 
-pub table_is : (starts : List ℕ) (count : ℕ) (front source : List ℕ)
-    → (starts ≡ 0 ∷ starts_after 0 front) × (count ≡ length front) → front ≡ source
-    → record { starts = starts; count = count } ≡ lines_of source
-table_is starts count front source h e =
-    ap₂ (λ (ss : List ℕ) (n : ℕ). record { starts = ss; count = n }) h.0 h.1 ∙ ap lines_of e
+abbrev pub made_table : List ℕ → ℕ → Lines
+made_table starts count = record { starts = starts; count = count }
 
--- the lines after one character more
-pub one_more : (starts new : List ℕ) (count : ℕ) (front : List ℕ) (c : ℕ)
-    → (starts ≡ 0 ∷ starts_after 0 front) × (count ≡ length front)
-    → new ≡ starts ++ cond (c == 10) ((count + 1) ∷ []) []
-    → (new ≡ 0 ∷ starts_after 0 (front ++ c ∷ [])) × (count + 1 ≡ length (front ++ c ∷ []))
-one_more starts new count front c h e = (
-  e ∙ (ap₂ (λ (ss : List ℕ) (n : ℕ). ss ++ cond (c == 10) ((n + 1) ∷ []) []) h.0 (h.1 ∙ sym (none_plus (length front)))
-      ∙ ap (λ ss. 0 ∷ ss) (sym (starts_push 0 front c))),
-  ap (λ n. n + 1) h.1 ∙ sym (length-append front (c ∷ [])),
-)
+pub no_longer : (t : Lines) → longer 0 t ≡ t
+no_longer t = ap (λ n. made_table t.starts n) (plus_none t.count)
 
-pub line_feed : (starts new : List ℕ) (count : ℕ) (front : List ℕ) (c : ℕ)
-    → (starts ≡ 0 ∷ starts_after 0 front) × (count ≡ length front) → c ≡ 10 → new ≡ starts ++ (count + 1) ∷ []
-    → (new ≡ 0 ∷ starts_after 0 (front ++ c ∷ [])) × (count + 1 ≡ length (front ++ c ∷ []))
-line_feed starts new count front c h is e =
-    one_more starts new count front c h (e ∙ ap (λ b. starts ++ cond b ((count + 1) ∷ []) []) (sym feed)) where
-      feed : (c == 10) ≡ true
-      feed = ap (λ n. n == 10) is
+pub longer_more : (t : Lines) (k c : ℕ) → run_test run.Line c ≡ true → past (longer k t) c ≡ longer (k + 1) t
+longer_more t k c e =
+    ap (λ b. cond b (one_line (longer k t)) (longer 1 (longer k t))) (no_feed_in_line c e)
+    ∙ ap (λ n. made_table t.starts n) (plus_plus t.count k 1)
 
-pub no_line_feed : (starts : List ℕ) (count : ℕ) (front : List ℕ) (c : ℕ)
-    → (starts ≡ 0 ∷ starts_after 0 front) × (count ≡ length front) → (c ≡ 10 → ⊥)
-    → (starts ≡ 0 ∷ starts_after 0 (front ++ c ∷ [])) × (count + 1 ≡ length (front ++ c ∷ []))
-no_line_feed starts count front c h other =
-    one_more starts starts count front c h (sym (append-nil starts)
-    ∙ ap (λ b. starts ++ cond b ((count + 1) ∷ []) []) (sym no_feed)) where
-      no_feed : (c == 10) ≡ false
-      no_feed = elim (cases_Bool (c == 10)) [
-        | inl y ↦ absurd (other (eqb-true c 10 y))
-        | inr n ↦ n
-      ]
+pub past_alike : (t : Lines) (c d : ℕ) → 128 ≤ c → 128 ≤ d → past t c ≡ past t d
+past_alike t c d l m =
+    ap (λ b. cond b (one_line t) (longer 1 t)) (no_feed_past_ascii c l ∙ sym (no_feed_past_ascii d m))
+
+pub past_other : (t : Lines) (b : ℕ) → is_inner b ≡ false → (b == 10) ≡ false
+    → each_machine past (tt, t) b ≡ Some (tt, longer 1 t)
+past_other t b e f = rw (e, f) refl
+
+-- the lines of all characters
+pub lines_are : (cs : List ℕ) → fold past no_lines cs ≡ lines_of cs
+lines_are cs = go cs (0 ∷ []) 0 ∙ ap (made_table (0 ∷ starts_after 0 cs)) (none_plus (length cs))
+  where
+    longer_by : (n : ℕ) (cs : List ℕ) → (n + 1) + length cs ≡ n + suc (length cs)
+    longer_by n cs = omega arith
+
+    by_feed : (b : Bool) (ss rest : List ℕ) (n : ℕ)
+        → ((ss : List ℕ) → fold past (made_table ss (n + 1)) rest
+        ≡ made_table (ss ++ starts_after (n + 1) rest) ((n + 1) + length rest))
+        → fold past (cond b (made_table (ss ++ (n + 1) ∷ []) (n + 1)) (made_table ss (n + 1))) rest
+        ≡ made_table (ss ++ cond b ((n + 1) ∷ starts_after (n + 1) rest) (starts_after (n + 1) rest)) (n + suc (length rest))
+    by_feed true ss rest n h =
+        h (ss ++ (n + 1) ∷ [])
+        ∙ ap₂ made_table (append_assoc ss ((n + 1) ∷ []) (starts_after (n + 1) rest)) (longer_by n rest)
+    by_feed false ss rest n h = h ss ∙ ap (made_table (ss ++ starts_after (n + 1) rest)) (longer_by n rest)
+
+    go : (cs ss : List ℕ) (n : ℕ) → fold past (made_table ss n) cs ≡ made_table (ss ++ starts_after n cs) (n + length cs)
+    go [] ss n = ap₂ made_table (sym (append-nil ss)) (sym (plus_none n))
+    go (c ∷ cs) ss n = by_feed (c == 10) ss cs n (λ ts. go cs ts (n + 1))

@@ -1,104 +1,38 @@
 -- Places over bytes, a run at a time, and so many characters.
-use Rattle.std.proofs.Common.{◌≡◌, ℕ, suc, ◌+◌, ◌-◌, ◌≤◌, ◌<◌, ◌⊎◌, inl, inr, Bool, true, false, cond, not, ◌==◌, List, [], ◌∷◌, length, take, drop, get_or, Option, Some, None, refl, sym, ap, ap₂, subst, ◌∙◌, arith}
-use Rattle.std.specs.List.{fold}
+use Rattle.std.proofs.Common.{◌≡◌, ℕ, suc, ◌+◌, ◌-◌, ◌≤◌, ◌<◌, ◌⊎◌, inl, inr, true, false, cond, ◌==◌, List, [], ◌∷◌, length, take, drop, Some, None, refl, sym, ap, ap₂, subst, ◌∙◌, arith}
 use Rattle.std.specs.Str.{chars, IsUtf8}
 use Rattle.std.proofs.lemmas.List.{take_all, drop_all}
 use Rattle.std.proofs.lemmas.Str.{encodes-chars}
 use Rattle.graphql_lexical.specs.device.Machines.{reach}
 use Rattle.graphql_lexical.specs.Place.{Place, past_character, next_line, next_column}
 use Rattle.juniper_tokens.specs.declared.lexer.run.Run.TheVariants as run
-use Rattle.juniper_tokens.specs.declared.lexer.text.Border.{Border}
 use Rattle.juniper_tokens.specs.Positions.{columns_on}
 use Rattle.juniper_tokens.specs.device.Borders.{IsBorderBehind}
-use Rattle.juniper_tokens.specs.device.ByteRuns.{is_inner, byte_at, with_value, on, Walked}
-use Rattle.juniper_tokens.specs.device.Walks.{run_test, RunsTo, place_machine, count_to, count_machine}
-use Rattle.juniper_tokens.proofs.ByteRuns.{reach_bytes, reach_with_value, same_with_value, in_bytes, step_once, walked_on}
+use Rattle.juniper_tokens.specs.device.ByteRuns.{is_inner, byte_at}
+use Rattle.juniper_tokens.specs.device.Walks.{run_test, place_machine, count_to, count_machine}
+use Rattle.juniper_tokens.proofs.ByteRuns.{reach_bytes, in_bytes, step_once}
 use Rattle.std.proofs.lemmas.Bool.{eq-eqb, ne_eqb, cases_eq}
-use Rattle.juniper_tokens.proofs.RunWalks.{goes_over, walked_further, walked_none, same_place, plus_none, plus_plus}
+use Rattle.juniper_tokens.proofs.LineWalks.{no_feed_in_line, no_feed_past_ascii}
+use Rattle.juniper_tokens.proofs.RunWalks.{plus_none, plus_plus}
 
-abbrev always : Unit {0} → ℕ → Option (Unit {0})
-always q c = Some q
+pub place_same : (p : Place) (c d : ℕ) → 128 ≤ c → 128 ≤ d → past_character p c ≡ past_character p d
+place_same p c d l m =
+    ap (λ b. cond b (next_line p) (next_column p)) (no_feed_past_ascii c l ∙ sym (no_feed_past_ascii d m))
 
-place_same : (p : Place) (c d : ℕ) → 128 ≤ c → 128 ≤ d → past_character p c ≡ past_character p d
-place_same p c d l m = ap (λ b. cond b (next_line p) (next_column p)) (no_feed c l ∙ sym (no_feed d m))
-  where
-    no_feed : (c : ℕ) → 128 ≤ c → (c == 10) ≡ false
-    no_feed c l = grind arith
-
-column_on : (p : Place) (k c : ℕ) → run_test run.Line c ≡ true
+pub column_on : (p : Place) (k c : ℕ) → run_test run.Line c ≡ true
     → past_character (columns_on k p) c ≡ columns_on (k + 1) p
 column_on p k c e =
-    ap (λ b. cond b (next_line (columns_on k p)) (next_column (columns_on k p))) (feed (c == 10) e)
+    ap (λ b. cond b (next_line (columns_on k p)) (next_column (columns_on k p))) (no_feed_in_line c e)
     ∙ ap₂ (λ (i j : ℕ). record { index = i; line = p.line; column = j }) (plus_plus p.index k 1)
     (plus_plus p.column k 1)
-  where
-    feed : (b : Bool) → not b ≡ true → b ≡ false
-    feed true e = absurd (cc e)
-    feed false e = refl
 
-no_columns : (p : Place) → columns_on 0 p ≡ p
+pub no_columns : (p : Place) → columns_on 0 p ≡ p
 no_columns p = ap₂ (λ (i j : ℕ). record { index = i; line = p.line; column = j }) (plus_none p.index)
     (plus_none p.column)
-
--- a run that ends no line
-pub walked_line : (start p : Place) (bytes tail : List ℕ) (i : ℕ) (b : Border)
-    → tail ≡ take (length bytes - i) (drop i bytes) → RunsTo run.Line tail b → b.bytes ≤ length tail
-    → Walked place_machine (tt, start) bytes i (tt, p)
-    → Walked place_machine (tt, start) bytes (i + b.bytes) (tt, columns_on b.characters p)
-walked_line start p bytes tail i b e h s w =
-    walked_further place_machine (tt, start) (tt, p) (tt, columns_on b.characters p) bytes tail i b.bytes e s
-    (subst (λ x. reach place_machine (tt, x) tail
-    ≡ on b.bytes (reach place_machine (tt, columns_on b.characters p) (drop b.bytes tail)))
-    (no_columns p)
-    (goes_over always past_character run.Line tt (λ k. columns_on k p) (λ c e. refl)
-    (λ k c e. column_on p k c e) tail b h)) w
-
--- the first line
-pub walked_first : (start : Place) (bytes : List ℕ) (b : Border) → RunsTo run.Line bytes b → b.bytes ≤ length bytes
-    → Walked place_machine (tt, start) bytes b.bytes (tt, columns_on b.characters start)
-walked_first start bytes b h s =
-    same_place place_machine (tt, start) (tt, columns_on b.characters start) bytes (0 + b.bytes) b.bytes
-    (none_plus b.bytes)
-    (walked_line start start bytes bytes 0 b (sym (take_all (length bytes - 0) bytes (omega arith))) h s
-    (walked_none place_machine (tt, start) bytes))
-  where
-    none_plus : (k : ℕ) → 0 + k ≡ k
-    none_plus k = omega arith
-
--- a line feed, and a run behind it
-pub walked_feed : (start p : Place) (bytes tail : List ℕ) (i : ℕ) (b : Border) → i < length bytes
-    → get_or bytes i 0 ≡ 10
-    → tail ≡ take (length bytes - (i + 1)) (drop (i + 1) bytes) → RunsTo run.Line tail b → b.bytes ≤ length tail
-    → Walked place_machine (tt, start) bytes i (tt, p)
-    → Walked place_machine (tt, start) bytes (i + (1 + b.bytes)) (tt, columns_on b.characters (next_line p))
-walked_feed start p bytes tail i b l f e h s w =
-    same_place place_machine (tt, start) (tt, columns_on b.characters (next_line p)) bytes _ _ (plus_plus i 1 b.bytes)
-    (walked_line start (next_line p) bytes tail (i + 1) b e h s
-    (walked_on place_machine (tt, start) (tt, p) (tt, next_line p) bytes i l (ap (place_machine (tt, p)) f) w))
-
-pub place_inner : (p : Place) (b : ℕ) → is_inner b ≡ true → place_machine (tt, p) b ≡ Some (tt, p)
-place_inner p b e = rw e refl
 
 pub place_column : (p : Place) (b : ℕ) → is_inner b ≡ false → (b == 10) ≡ false
     → place_machine (tt, p) b ≡ Some (tt, next_column p)
 place_column p b e f = rw (e, f) refl
-
-all_gone : (cs : List ℕ) → (reach always tt cs).0 ≡ length cs
-all_gone [] = refl
-all_gone (c ∷ cs) = ap suc (all_gone cs)
-
-pub place_reached : (text bytes : List ℕ) (i : ℕ) (start p : Place) → IsUtf8 text → bytes ≡ text
-    → reach place_machine (tt, start) bytes ≡ (i, (tt, p)) → p ≡ fold past_character start (chars text)
-place_reached text bytes i start p u same h =
-    let cs = chars text in
-    let r = reach always tt cs in
-    let both : (i, (tt {0}, p)) ≡ in_bytes cs (r.0, (r.1, fold past_character start (take r.0 cs))) =
-    sym h ∙ (ap (reach place_machine (tt, start)) (same ∙ sym (encodes-chars text u))
-    ∙ (reach_bytes (with_value always past_character)
-    (same_with_value always past_character (λ q c d l m. refl) place_same) (tt, start) cs
-    ∙ ap (in_bytes cs) (reach_with_value always past_character tt start cs))) in
-    ap (λ (x : ℕ × (Unit {0} × Place)). x.1.1) both
-    ∙ ap (fold past_character start) (take_all r.0 cs (omega (arith, all_gone cs)))
 
 -- ---- so many characters
 

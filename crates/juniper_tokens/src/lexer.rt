@@ -12,7 +12,7 @@ ghost use Rattle.juniper_tokens.specs.Tokens.{view_token};
 mod lanes;
 mod machine;
 mod plain;
-mod run;
+pub(crate) mod run;
 mod scan;
 pub(crate) mod text;
 mod walk;

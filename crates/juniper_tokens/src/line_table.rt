@@ -4,6 +4,8 @@ ghost use Rattle.std.specs.Str.{chars};
 ghost use Rattle.graphql_lexical.specs.Place.{place};
 ghost use Rattle.juniper_tokens.specs.LineTables.{lines_of, IsTable, place_within, StartLines, IsOnLine};
 
+use crate::byte_classes::{ByteClass, byte_class};
+use crate::lexer::run::{Run, run_over};
 use crate::position::SourcePosition;
 use std::alloc::{AllocError, Global};
 use std::marker::Model;
@@ -52,13 +54,25 @@ impl LineTable {
     pub fn new(alloc: Global, source: &str) -> Result<Self, AllocError>
         ensures { IfOk result (λ table. table ≡ lines_of (chars source.now)) }
     {
+        let bytes = source.as_bytes();
         let mut starts = Vec::new(alloc);
         starts.push(0)?;
-        let mut count = 0;
-        for c in source.chars() {
-            count += 1;
-            if c == '\n' {
-                starts.push(count)?;
+        let first = run_over(Run::Line, bytes);
+        let mut count = first.characters;
+        let mut i = first.bytes;
+        while i < bytes.len() {
+            match byte_class(bytes[i]) {
+                ByteClass::LineFeed => {
+                    starts.push(count + 1)?;
+                    let line = run_over(Run::Line, &bytes[i + 1..]);
+                    count += 1 + line.characters;
+                    i += 1 + line.bytes;
+                }
+                ByteClass::Inner => i += 1,
+                _ => {
+                    count += 1;
+                    i += 1;
+                }
             }
         }
         Ok(LineTable { starts, count })

@@ -6,6 +6,7 @@ ghost use Rattle.std.specs.Str.{chars, encode_utf8_all};
 ghost use Rattle.graphql_lexical.specs.Display.{quoted, escaped, escape, shown};
 ghost use Rattle.graphql_lexical.specs.Tokens.{mark};
 
+use crate::text::write_text;
 use graphql_lexical::Kind;
 use std::fmt;
 
@@ -189,13 +190,6 @@ impl<'a> Eq for ScalarToken<'a> {
     ghost use Rattle.juniper_tokens.specs.laws.TokenLaws.{same_scalar-equiv};
 
     ghost laws = { same_scalar-equiv };
-}
-
-// Writes the text as it stands.
-pub(crate) fn write_text<W: fmt::Write>(f: &mut fmt::Formatter<W>, text: &str) -> fmt::Result
-    ensures { DisplaysOnOk W.write_str_gives f.old result (Some (encode_utf8_all (chars text.now))) f.new }
-{
-    f.write_str(text)
 }
 
 // Writes the text between quotes, with a backslash before each quote and each backslash.

@@ -36,20 +36,6 @@ pub(crate) fn split_char(text: &str) -> Option<(char, &str)>
     Some((c, rest.as_str()))
 }
 
-// A copy of a text.
-pub(crate) fn copied(alloc: Global, text: &String) -> Result<String, AllocError>
-    ensures { IfOk result (λ s. text_of s ≡ text_of text.now) }
-{
-    String::from_str(alloc, text.as_str())
-}
-
-// Writes the text as it stands.
-pub(crate) fn write_text<W: fmt::Write>(f: &mut fmt::Formatter<W>, text: &str) -> fmt::Result
-    ensures { DisplaysOnOk W.write_str_gives f.old result (Some (encode_utf8_all (chars text.now))) f.new }
-{
-    f.write_str(text)
-}
-
 // Writes the text as it stands, between quotes.
 pub(crate) fn write_quoted<W: fmt::Write>(f: &mut fmt::Formatter<W>, text: &str) -> fmt::Result
     ensures { DisplaysOnOk W.write_str_gives f.old result (Some (encode_utf8_all (quoted (chars text.now)))) f.new }

@@ -5,7 +5,8 @@ ghost use Rattle.juniper_values.specs.Text.{Text};
 ghost use Rattle.juniper_values.specs.TypeLiteral.{modifiers_of, outermost, is_list_modifier, is_non_null, is_list, is_common, name_unless_list, type_text, opening, closing};
 ghost use Rattle.std.specs.Fmt.{DisplaysOnOk};
 
-use crate::text::{same_str, write_text};
+use crate::text::same_str;
+use juniper_tokens::text::write_text;
 use std::alloc::Global;
 use std::fmt;
 use std::marker::Model;

@@ -59,9 +59,13 @@ count_to count n c = if n == count then None else Some (n + 1)
 abbrev pub count_machine : ℕ → ℕ → ℕ → Option ℕ
 count_machine count = byte_step (count_to count)
 
+-- a value that each character changes, over bytes
+abbrev pub each_machine : {X : Type 0} → (X → ℕ → X) → Unit {0} × X → ℕ → Option (Unit {0} × X)
+each_machine f = byte_step (with_value (λ q c. Some q) f)
+
 -- the place after each character, over bytes
 abbrev pub place_machine : Unit {0} × Place → ℕ → Option (Unit {0} × Place)
-place_machine = byte_step (with_value (λ q c. Some q) past_character)
+place_machine = each_machine past_character
 
 -- a fraction or an exponent follows the digits here
 abbrev pub is_in_float : List ℕ → Bool

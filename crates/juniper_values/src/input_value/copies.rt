@@ -4,8 +4,8 @@ ghost use Rattle.juniper_values.specs.View.{view, view_items, view_fields};
 
 use crate::input_value::InputValue;
 use crate::scalar::ScalarValue;
-use crate::text::copied;
 use juniper_tokens::Spanning;
+use juniper_tokens::text::copied;
 use std::alloc::{AllocError, Global};
 
 impl<S: ScalarValue> InputValue<S> {

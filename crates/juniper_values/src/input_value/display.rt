@@ -8,8 +8,8 @@ ghost use Rattle.juniper_values.specs.View.{view, view_items, view_fields, text_
 
 use crate::input_value::InputValue;
 use crate::scalar::{ScalarValue, write_scalar};
-use crate::text::write_text;
 use juniper_tokens::Spanning;
+use juniper_tokens::text::write_text;
 use std::fmt;
 use std::fmt::Write;
 

@@ -6,7 +6,9 @@ use Rattle.juniper_tokens.specs.device.ByteRuns.{Walked}
 use Rattle.juniper_tokens.specs.device.Walks.{place_machine}
 use Rattle.juniper_tokens.proofs.ByteRuns.{walked_on, walked_end}
 use Rattle.juniper_tokens.proofs.ByteClasses.{outer, not_inner, feed_byte, no_feed_byte}
-use Rattle.juniper_tokens.proofs.PlaceWalks.{walked_first, walked_feed, place_inner, place_column, place_reached}
+use Rattle.graphql_lexical.specs.Place.{past_character}
+use Rattle.juniper_tokens.proofs.LineWalks.{walked_first, walked_feed, at_inner, reached}
+use Rattle.juniper_tokens.proofs.PlaceWalks.{no_columns, column_on, place_column, place_same}
 use Rattle.juniper_tokens.proofs.lexer.walk.walk_text.Goals as goal
 
 pub loop-i-init : goal.loop-i-init
@@ -14,7 +16,7 @@ loop-i-init c = (
   subst (λ (p : Place). Walked place_machine (tt, c.args.start) c.as_bytes-bytes.result.now
       c.run_over-first.result.bytes (tt, p))
       (sym c.columns_on-position.ensures)
-      (walked_first c.args.start c.as_bytes-bytes.result.now c.run_over-first.result c.run_over-first.ensures.runs
+      (walked_first past_character columns_on no_columns column_on c.args.start c.as_bytes-bytes.result.now c.run_over-first.result c.run_over-first.ensures.runs
       c.run_over-first.ensures.within),
   omega (arith, ap (λ (p : Place). p.index) c.columns_on-position.ensures, c.run_over-first.ensures.fewer),
 )
@@ -31,7 +33,7 @@ loop-i-preserved-in-LineFeed c =
       subst (λ (p : Place). Walked place_machine (tt, c.args.start) bytes
           (c.loop-i.i + (1 + c.run_over-line.result.bytes)) (tt, p))
           (sym place)
-          (walked_feed c.args.start c.loop-i.position bytes _ c.loop-i.i c.run_over-line.result c.loop-i-test.true
+          (walked_feed past_character columns_on no_columns column_on c.args.start c.loop-i.position bytes _ c.loop-i.i c.run_over-line.result c.loop-i-test.true
           (feed_byte b c.byte_class.result small c.byte_class.ensures c.in-LineFeed.is) refl
           c.run_over-line.ensures.runs c.run_over-line.ensures.within c.loop-i.invariant.0),
       omega (arith, ap (λ (p : Place). p.index) place, c.run_over-line.ensures.fewer, c.loop-i.invariant.1),
@@ -44,7 +46,7 @@ loop-i-preserved-in-Inner c =
     let small : b < 256 = omega (arith, c.type_inv.bytes c.loop-i.i) in (
       walked_on place_machine (tt, c.args.start) (tt, c.loop-i.position) (tt, c.loop-i.position) bytes c.loop-i.i
           c.loop-i-test.true
-          (place_inner c.loop-i.position b (outer b c.byte_class.result true small c.byte_class.ensures
+          (at_inner past_character columns_on no_columns column_on c.loop-i.position b (outer b c.byte_class.result true small c.byte_class.ensures
           (sym (ap inner_class c.in-Inner.is))))
           c.loop-i.invariant.0,
       omega (arith, c.loop-i.invariant.1),
@@ -69,6 +71,6 @@ pub returns : goal.returns
 returns c =
     let bytes = c.as_bytes-bytes.result.now in
     let end : length bytes ≤ c.loop-i.i = omega (arith, c.loop-i-test.false) in
-    place_reached c.args.text.now bytes c.loop-i.i c.args.start c.loop-i.position c.utf8.text
+    reached past_character columns_on no_columns column_on place_same c.args.text.now bytes c.loop-i.i c.args.start c.loop-i.position c.utf8.text
     c.as_bytes-bytes.ensures.value
     (walked_end place_machine (tt, c.args.start) (tt, c.loop-i.position) bytes c.loop-i.i end c.loop-i.invariant.0)

@@ -1,0 +1,29 @@
+//! Copying and writing texts, for this crate and those above it.
+ghost use Rattle.std.specs.Prelude.{◌≡◌, ◌++◌, Some, OnOk, IfOk};
+ghost use Rattle.std.specs.Fmt.{DisplaysOnOk};
+ghost use Rattle.std.specs.Str.{chars, encode_utf8_all};
+ghost use Rattle.std.specs.String.{string_bytes};
+
+use std::alloc::{AllocError, Global};
+use std::fmt;
+
+/// A copy of a text. Returns `AllocError` where memory ran out.
+pub fn copied(alloc: Global, text: &String) -> Result<String, AllocError>
+    ensures { IfOk result (λ copy. chars (string_bytes copy) ≡ chars (string_bytes text.now)) }
+{
+    String::from_str(alloc, text.as_str())
+}
+
+/// Writes a text as it stands. Returns the formatter's error where that fails.
+pub fn write_text<W: fmt::Write>(f: &mut fmt::Formatter<W>, text: &str) -> fmt::Result
+    ensures { DisplaysOnOk W.write_str_gives f.old result (Some (encode_utf8_all (chars text.now))) f.new }
+{
+    f.write_str(text)
+}
+
+/// Puts a text behind another. Returns `AllocError` where memory ran out.
+pub fn push_text(out: &mut String, text: &str) -> Result<(), AllocError>
+    ensures { OnOk result (string_bytes out.new ≡ string_bytes out.old ++ encode_utf8_all (chars text.now)) }
+{
+    out.push_str(text)
+}
