@@ -135,7 +135,7 @@ class Texts(unittest.TestCase):
             with self.subTest(text=text):
                 with mock.patch.object(graphql_core, "own_parse", return_value="asked") as asked:
                     self.assertEqual(graphql_core.parse(text), "asked")
-                asked.assert_called_once_with(text, False, None, False)
+                asked.assert_called_once_with(text, no_location=False, allow_legacy_fragment_variables=False)
                 self.same(text)
 
 
@@ -242,27 +242,6 @@ class Arguments(unittest.TestCase):
         self.assertEqual(graphql_core.parse("{a}").loc.source.name, "GraphQL request")
         source = Source(WHOLE)
         self.assertIs(graphql_core.parse(source).loc.source, source)
-
-    def test_max_tokens(self) -> None:
-        """Every limit about the number of tokens."""
-        texts = [WHOLE, "{a}", "query{a}", "query Q{a}", "{a(b:[1,$c,{d:E}])@e(f:\"\")...F...on T{g}...{h}x:y}",
-                 "query($a:[T!]!=1@b,$c:D){e}fragment F on T@g{h}", "{a ) }", "{"]  # fmt: skip
-        for text in texts:
-            for most in [*range(0, 40), *range(150, 230), 10**6, 2**63 - 1, 2**63, 10**30, -1]:
-                own, ours = answer(own_parse, text, max_tokens=most), answer(graphql_core.parse, text, max_tokens=most)
-                self.assertEqual(ours, own, (text, most))
-        for most in (1.5, "5", True):
-            self.assertEqual(answer(graphql_core.parse, "{a}", max_tokens=most), answer(own_parse, "{a}", max_tokens=most))
-
-    def test_tokens_are_counted(self) -> None:
-        """No other parser is asked where a limit is kept, and it is asked where it isn't."""
-        tokens, token = 0, own_parse(WHOLE).loc.start_token
-        while token.next:
-            token = token.next
-            tokens += token.kind not in (TokenKind.EOF, TokenKind.COMMENT)
-        with mock.patch.object(graphql_core, "own_parse", return_value="asked"):
-            self.assertIsInstance(graphql_core.parse(WHOLE, max_tokens=tokens), ast.DocumentNode)
-            self.assertEqual(graphql_core.parse(WHOLE, max_tokens=tokens - 1), "asked")
 
     def test_fragment_variables(self) -> None:
         for text in (WHOLE, "fragment F($a: Int = 1) on T { a }"):

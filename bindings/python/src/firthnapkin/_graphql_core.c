@@ -2,8 +2,6 @@
 #include "_graphql_nodes.h"
 #include "whole.h"
 
-#include <string.h>
-
 /* ---- the document */
 
 static bool is_called(PyObject *function) {
@@ -51,75 +49,97 @@ static bool is_read_otherwise(const builder *b) {
     return false;
 }
 
-/* How many tokens a node has besides those of the parts in it. */
-static size_t own_tokens(const builder *b, size_t i) {
-    const firthnapkin_node *n = &b->nodes[i];
-    bool has_name = n->name_start < n->name_end;
-    size_t tokens = 0;
-    switch (n->kind) {
-    case FIRTHNAPKIN_QUERY:
-    case FIRTHNAPKIN_MUTATION:
-    case FIRTHNAPKIN_SUBSCRIPTION: return 2 + (b->source[n->start.byte] != '{') + has_name;
-    case FIRTHNAPKIN_FRAGMENT: return 6;
-    /* The next part may be a default value. */
-    case FIRTHNAPKIN_VARIABLE: {
-        size_t value = behind(b, i + 1);
-        return 3 + (value < behind(b, i) && b->nodes[value].kind != FIRTHNAPKIN_DIRECTIVE);
+/* Whether graphql-core refuses one of these tokens, all of which but the last begin a document: a number that goes on, or a
+ * variable that stands deeper than those that an operation defines. */
+static bool has_refused_token(const whole *cut, const uint8_t *source, size_t length) {
+    size_t depth = 0;
+    bool is_constant = false;
+    for (size_t i = 0; i < cut->tokens_count; i++) {
+        const firthnapkin_token *t = &cut->tokens[i];
+        char next = t->end.byte < length ? (char)source[t->end.byte] : ' ';
+        switch (t->kind) {
+        case FIRTHNAPKIN_TOKEN_INT:
+        case FIRTHNAPKIN_TOKEN_FLOAT:
+            if (begins_name(next) || next == '.') return true;
+            break;
+        case FIRTHNAPKIN_TOKEN_DOLLAR:
+            if (is_constant && depth > 1) return true;
+            break;
+        case FIRTHNAPKIN_TOKEN_PAREN_OPEN:
+        case FIRTHNAPKIN_TOKEN_BRACKET_OPEN:
+        case FIRTHNAPKIN_TOKEN_CURLY_OPEN:
+            /* Outside of braces an operation's variables are opened, or the arguments of a directive, behind its name. */
+            if (depth == 0)
+                is_constant = t->kind == FIRTHNAPKIN_TOKEN_PAREN_OPEN && !(i >= 2 && t[-2].kind == FIRTHNAPKIN_TOKEN_AT);
+            depth++;
+            break;
+        case FIRTHNAPKIN_TOKEN_PAREN_CLOSE:
+        case FIRTHNAPKIN_TOKEN_BRACKET_CLOSE:
+        case FIRTHNAPKIN_TOKEN_CURLY_CLOSE: depth--; break;
+        default: break;
+        }
     }
-    case FIRTHNAPKIN_TYPE:
-        for (uint32_t k = 0; k < n->value_length; k++) tokens += strchr("[]!", b->texts[n->value + k]) != NULL;
-        return tokens + 1;
-    case FIRTHNAPKIN_FIELD: {
-        parts p = {i + 1, behind(b, i), {0, 0}};
-        while (has(b, &p, FIRTHNAPKIN_ALIAS) || has(b, &p, FIRTHNAPKIN_ARGUMENTS) || has(b, &p, FIRTHNAPKIN_DIRECTIVE))
-            p.next = behind(b, p.next);
-        return 1 + 2 * (p.next < p.end);
-    }
-    case FIRTHNAPKIN_INLINE: return 3 + 2 * has_name;
-    case FIRTHNAPKIN_NULL:
-    case FIRTHNAPKIN_ENUM:
-    case FIRTHNAPKIN_INT:
-    case FIRTHNAPKIN_LARGE_INT:
-    case FIRTHNAPKIN_FLOAT:
-    case FIRTHNAPKIN_STRING:
-    case FIRTHNAPKIN_BLOCK_STRING:
-    case FIRTHNAPKIN_BOOLEAN: return 1;
-    default: return 2;
-    }
+    return false;
 }
 
-static bool has_more_tokens(const builder *b, Py_ssize_t most) {
-    size_t tokens = 0;
-    for (size_t i = 0; i < b->count; i++) tokens += own_tokens(b, i);
-    return tokens > (size_t)most;
+/* ---- limits */
+
+/* What the tokens before the first one too many are: FIRTHNAPKIN_MANY where a document begins with them, and else what is told
+ * of them, with its fault. No room is given, so nothing is made of them. */
+static uint32_t begun(const uint8_t *source, uint32_t depth, firthnapkin_fault *fault) {
+    size_t nodes, texts;
+    firthnapkin_fault found;
+    uint32_t status = parse_on_stack(source, fault->start.byte, depth, NULL, 0, &nodes, NULL, 0, &texts, &found);
+    bool is_whole = status == FIRTHNAPKIN_ROOM || status == FIRTHNAPKIN_TREE;
+    if (is_whole || (status == FIRTHNAPKIN_REFUSED && found.kind == FIRTHNAPKIN_UNEXPECTED_END)) return FIRTHNAPKIN_MANY;
+    if (status == FIRTHNAPKIN_TOO_DEEP) *fault = found;
+    return status;
+}
+
+/* The nodes of a source that keeps both limits. Where it doesn't, the status says which one, and the fault is the first token
+ * beyond it; but it is FIRTHNAPKIN_REFUSED where graphql-core tells of a token before that one. */
+static whole within(const uint8_t *source, size_t length, uint32_t depth, uint32_t most) {
+    whole w = parse_whole(source, length, depth, most);
+    if (w.status == FIRTHNAPKIN_MANY) w.status = begun(source, depth, &w.fault);
+    if (w.status != FIRTHNAPKIN_MANY && w.status != FIRTHNAPKIN_TOO_DEEP) return w;
+    /* graphql-core reads the token beyond the limit, too, before it looks at the limit. */
+    whole cut = cut_whole(source, w.fault.end.byte, UINT32_MAX);
+    if (cut.status == FIRTHNAPKIN_MEMORY)
+        w.status = FIRTHNAPKIN_MEMORY;
+    else if (has_refused_token(&cut, source, length))
+        w.status = FIRTHNAPKIN_REFUSED;
+    give_back(&cut);
+    return w;
 }
 
 /* ---- the module */
 
 PyDoc_STRVAR(document_doc,
-             "document(source, characters, depth, origin, max_tokens, /)\n--\n\n"
-             "The DocumentNode of the UTF-8 of a str of so many characters; None where graphql-core is to be asked; the index of\n"
-             "the first token that is nested too deep. No origin is None, no limit on tokens is below 0.");
+             "document(source, characters, depth, origin, tokens, /)\n--\n\n"
+             "The DocumentNode of the UTF-8 of a str of so many characters; None where graphql-core is to be asked; where a limit\n"
+             "isn't kept, the index of the first token beyond it, and whether that is nested too deep. No origin is None.");
 
 static PyObject *document_in(PyObject *module, PyObject *arguments) {
     module_state *state = PyModule_GetState(module);
     PyObject *source, *origin, *result = NULL;
-    Py_ssize_t characters, most_tokens, length;
-    unsigned long depth;
+    Py_ssize_t characters, length;
+    unsigned long depth, tokens;
     char *bytes;
-    if (!PyArg_ParseTuple(arguments, "SnkOn:document", &source, &characters, &depth, &origin, &most_tokens)) return NULL;
+    if (!PyArg_ParseTuple(arguments, "SnkOk:document", &source, &characters, &depth, &origin, &tokens)) return NULL;
     if (PyBytes_AsStringAndSize(source, &bytes, &length) != 0) return NULL;
     if (!state->is_set) return PyErr_Format(PyExc_SystemError, "setup is to be called first");
     uint32_t limit = depth <= FIRTHNAPKIN_MOST_DEPTH ? (uint32_t)depth : UINT32_MAX;
+    uint32_t most = tokens < UINT32_MAX ? (uint32_t)tokens : UINT32_MAX;
     PyThreadState *thread = PyEval_SaveThread();
-    whole w = parse_whole((const uint8_t *)bytes, (size_t)length, limit, UINT32_MAX);
+    whole w = within((const uint8_t *)bytes, (size_t)length, limit, most);
     PyEval_RestoreThread(thread);
     builder b = {state, w.nodes, w.nodes_count, bytes, (const char *)w.texts, (size_t)length, characters == length, origin, NULL};
+    bool is_deep = w.status == FIRTHNAPKIN_TOO_DEEP;
     if (w.status == FIRTHNAPKIN_MEMORY)
         result = PyErr_NoMemory();
-    else if (w.status == FIRTHNAPKIN_TOO_DEEP)
-        result = PyLong_FromUnsignedLong(w.fault.start.index);
-    else if (w.status != FIRTHNAPKIN_TREE || is_read_otherwise(&b) || (most_tokens >= 0 && has_more_tokens(&b, most_tokens)))
+    else if (is_deep || w.status == FIRTHNAPKIN_MANY)
+        result = Py_BuildValue("kO", (unsigned long)w.fault.start.index, is_deep ? Py_True : Py_False);
+    else if (w.status != FIRTHNAPKIN_TREE || is_read_otherwise(&b))
         result = none();
     else
         result = document_at_once(&b, characters);

@@ -4,20 +4,23 @@
     graphql_core.install()
 
 `parse` gives what graphql-core's own gives: its nodes, with their locations, and its errors. Where a text is no document of
-this package's parser, or one that graphql-core may read otherwise, graphql-core's own parser is asked.
+this package's parser, or one that graphql-core may read otherwise, graphql-core's own parser is asked. Only that a text does not
+keep a limit, on nesting or on the number of tokens, is told here.
 """
 
 from __future__ import annotations
 
+import inspect
 import sys
 from typing import Any, Callable, Dict, Optional, Tuple, Union
 
 import graphql
 from graphql.error import GraphQLSyntaxError
 from graphql.language import Lexer, OperationType, Source, Token, TokenKind, ast
+from graphql.language.parser import Parser
 from graphql.language.parser import parse as own_parse
 
-from . import _graphql_core
+from . import _graphql_core, _parser
 from .parser import limit_of
 
 __all__ = ["install", "parse", "uninstall"]
@@ -119,6 +122,10 @@ _graphql_core.setup(
 )  # fmt: skip
 
 
+# The first releases of graphql-core 3.2 know no limit on tokens.
+_COUNTS_TOKENS = "max_tokens" in inspect.signature(own_parse).parameters
+
+
 def parse(
     source: Union[Source, str],
     no_location: bool = False,
@@ -129,29 +136,76 @@ def parse(
 ) -> ast.DocumentNode:
     """graphql-core's DocumentNode of a source.
 
-    The arguments are those of graphql-core's parse, and `depth`, which is how deep brackets may be nested. Raises
-    GraphQLSyntaxError as graphql-core does, and where a bracket is nested deeper; TypeError or ValueError where the depth is
-    none.
+    The arguments are those of graphql-core's newest parse, and `depth`, which is how deep brackets may be nested. Raises
+    GraphQLSyntaxError as graphql-core does, and at the first token that is nested deeper. With `max_tokens`, which every
+    release takes here, a text with more is refused at the first token too many, before any node is made. TypeError where the
+    depth is no int, ValueError where it is below 0 or above MOST_DEPTH; what is no int as `max_tokens` is graphql-core's to
+    take or to refuse.
     """
     limit = limit_of(depth)
     body = source.body if isinstance(source, Source) else source
-    is_limit = max_tokens is None or (type(max_tokens) is int and max_tokens >= 0)
-    found: Union[ast.DocumentNode, int, None] = None
+    is_limit = max_tokens is None or type(max_tokens) is int
     if type(body) is str and is_limit and not allow_legacy_fragment_variables:
-        origin = source if isinstance(source, Source) else Source(body)
-        try:
-            written = body.encode()
-        except UnicodeEncodeError:
-            # graphql-core says what it thinks of a lone surrogate.
-            pass
-        else:
-            most = -1 if max_tokens is None else min(max_tokens, sys.maxsize)
-            found = _graphql_core.document(written, len(body), limit, None if no_location else origin, most)
-        if isinstance(found, int):
-            raise GraphQLSyntaxError(origin, found, f"Brackets are nested deeper than {limit}.")
-    if isinstance(found, ast.DocumentNode):
+        found = _document(source if isinstance(source, Source) else Source(body), no_location, max_tokens, limit)
+        if found is not None:
+            return found
+    return _own_document(source, no_location, max_tokens, allow_legacy_fragment_variables)
+
+
+def _document(origin: Source, no_location: bool, max_tokens: Optional[int], depth: int) -> Optional[ast.DocumentNode]:
+    """The document of a source, and None where graphql-core is to be asked."""
+    try:
+        written = origin.body.encode()
+    except UnicodeEncodeError:
+        # graphql-core says what it thinks of a lone surrogate.
+        return None
+    most = _parser.MOST_TOKENS if max_tokens is None else min(max(max_tokens, 0), _parser.MOST_TOKENS)
+    found = _graphql_core.document(written, len(origin.body), depth, None if no_location else origin, most)
+    if not isinstance(found, tuple):
         return found
-    return own_parse(source, no_location, max_tokens, allow_legacy_fragment_variables)
+    index, is_deep = found
+    if is_deep:
+        raise GraphQLSyntaxError(origin, index, f"Brackets are nested deeper than {depth}.")
+    raise _too_many(origin, index, max_tokens)
+
+
+def _too_many(source: Source, index: int, max_tokens: Optional[int]) -> GraphQLSyntaxError:
+    """It has the words of graphql-core."""
+    return GraphQLSyntaxError(source, index, f"Document contains more than {max_tokens} tokens. Parsing aborted.")
+
+
+class _CountedLexer(Lexer):
+    """A lexer that ends at the first token too many, for a parser that doesn't count."""
+
+    def __init__(self, source: Source, max_tokens: int) -> None:
+        super().__init__(source)
+        self._max_tokens = max_tokens
+        self._count = 0
+
+    def advance(self) -> Token:
+        token = super().advance()
+        if token.kind is not TokenKind.EOF:
+            self._count += 1
+            if self._count > self._max_tokens:
+                raise _too_many(self.source, token.start, self._max_tokens)
+        return token
+
+
+def _own_document(
+    source: Union[Source, str], no_location: bool, max_tokens: Optional[int], allow_legacy_fragment_variables: bool
+) -> ast.DocumentNode:
+    """What graphql-core's own parser says."""
+    options: Dict[str, Any] = {
+        "no_location": no_location,
+        "allow_legacy_fragment_variables": allow_legacy_fragment_variables,
+    }
+    if max_tokens is None:
+        return own_parse(source, **options)
+    if _COUNTS_TOKENS:
+        return own_parse(source, max_tokens=max_tokens, **options)
+    parser = Parser(source, **options)
+    parser._lexer = _CountedLexer(parser._lexer.source, max_tokens)
+    return parser.parse_document()
 
 
 def install() -> None:

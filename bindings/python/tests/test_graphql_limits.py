@@ -1,0 +1,305 @@
+"""Limits in graphql-core's place: what is told, where, and by whom. Skipped where graphql-core 3.2 is not there."""
+
+import inspect
+import math
+import os
+import random
+import resource
+import subprocess
+import sys
+import tracemalloc
+import unittest
+from contextlib import ExitStack, contextmanager
+from typing import Any, Iterator, List
+from unittest import mock
+
+from test_graphql_core import WHOLE, answer, made_texts, row_texts  # skips where graphql-core 3.2 is not there
+
+import graphql
+from firthnapkin import graphql_core
+from graphql import GraphQLSyntaxError, Source
+from graphql.language import Lexer, TokenKind, ast
+from graphql.language.parser import Parser
+from graphql.language.parser import parse as own_parse
+
+# The first releases of 3.2 take no max_tokens; with them only what is written here is compared.
+HAS_OPTION = "max_tokens" in inspect.signature(own_parse).parameters
+
+
+class FirstParser(Parser):
+    """A parser as those releases have it: it counts nothing."""
+
+    def __init__(self, source: Any, no_location: bool = False, allow_legacy_fragment_variables: bool = False) -> None:
+        super().__init__(source, no_location=no_location, allow_legacy_fragment_variables=allow_legacy_fragment_variables)
+
+
+def first_parse(source: Any, no_location: bool = False, allow_legacy_fragment_variables: bool = False) -> Any:
+    """The parse of those releases."""
+    return FirstParser(source, no_location, allow_legacy_fragment_variables).parse_document()
+
+
+@contextmanager
+def first_release() -> Iterator[None]:
+    with ExitStack() as stack:
+        stack.enter_context(mock.patch.object(graphql_core, "own_parse", first_parse))
+        stack.enter_context(mock.patch.object(graphql_core, "Parser", FirstParser))
+        stack.enter_context(mock.patch.object(graphql_core, "_COUNTS_TOKENS", False))
+        yield
+
+
+@contextmanager
+def nobody_else() -> Iterator[None]:
+    """graphql-core's own parser fails where it is asked."""
+    with mock.patch.object(graphql_core, "own_parse", side_effect=AssertionError("asked")):
+        with mock.patch.object(graphql_core, "Parser", side_effect=AssertionError("asked")):
+            yield
+
+
+def releases() -> List[Any]:
+    return [ExitStack, first_release] if HAS_OPTION else [ExitStack]
+
+
+def starts(text: str) -> List[int]:
+    """Where graphql-core's tokens start, comments and the end not counted."""
+    lexer, found = Lexer(Source(text)), []
+    while lexer.advance().kind is not TokenKind.EOF:
+        found.append(lexer.token.start)
+    return found
+
+
+def told(most: object) -> str:
+    return f"Syntax Error: Document contains more than {most} tokens. Parsing aborted."
+
+
+# Texts that both read alike, to their last token.
+READ = [
+    WHOLE, "{a}", "query{a}", "query Q{a}", "{a(b:[1,$c,{d:E}])@e(f:\"\")...F...on T{g}...{h}x:y}",
+    "query($a:[T!]!=1@b,$c:D){e}fragment F on T@g{h}", "{a}{b}", "#é𝄞\n{#𝄞\na}",
+    "\ufeff{ a(b: \"𝄞é\" c: \"\"\"é\n𝄞\"\"\") }", "query @d(x: {y: $a}) { b }", "{a(b:1.5e3,c:-1)}", "{a\r\n\rb\n#\r c}",
+    "fragment F on T @d(x: [$a]) { b(c: $d) }",
+]  # fmt: skip
+
+# Texts with a fault, or with what only one of both reads.
+FAULTY = [
+    "", "{", "{a ) }", "{a} }", "}", "{a ? b}", "{a}é", "{a é", "{a(b:1c:2)}", "{a(b:1.x)}", "{a(b:[1...", "{a(b:[1.5...",
+    "{a(b:01)}", "{a(b:1_)}", "{a(b:1.5c)}", "query($a:Int=$b){c}", "query($a:Int=[$b]){c}", "query($a:Int@d(x:$b)){c}",
+    "query Q($a:Int@d(x:[{y:$b}])){c}", "query($a:Int @d(x:$", "query($a:Int){a}query($a:Int @d(x:$b)){c}", "type T { a: B }",
+    '"d" type T { a: B }', '"""d""" { a }', "fragment on on T {a}", "fragment F($a: Int) on T { a }", "{ ...on }",
+    '{a(b:"\\u{1F600}") c}', '{a(b:"\\ud83d\\ude00") c}', '{a(b:"\\x") c}', '{a "b c}', '{a """b c}', "{a #\x01\n b}",
+    '{a(b:"\x01") c}', "{a \x01 b}", "{a . b}", "{a .. b}", "{a & b}", "{\ud800}", "{a #\ud800\n b}", '{a(b:"\ud800")}',
+    "extend schema @d", "{a(b:-)}", "{a(b:1e)}", "{a(b:)}", "query query query", "{a(", "#é𝄞\n{a(b:\"𝄞\"] c}", "𝄞{a}",
+    "{a(b:\"𝄞é\" ? c}", "query($a:[T!!]){b}", "subscription S", "query(){a}", "{a()}", "{}",
+]  # fmt: skip
+
+
+class TooMany(unittest.TestCase):
+    """Told by this package, in graphql-core's words, at the place that graphql-core tells."""
+
+    def refused(self, text: str, most: int, index: int) -> None:
+        with self.assertRaises(GraphQLSyntaxError) as raised:
+            graphql_core.parse(text, max_tokens=most)
+        error = raised.exception
+        self.assertIs(type(error), GraphQLSyntaxError)
+        self.assertEqual((error.message, error.positions, error.source.body), (told(most), [index], text))
+        self.assertEqual(error.locations, GraphQLSyntaxError(Source(text), index, "").locations)
+
+    def test_written_places(self) -> None:
+        for text, most, index in [
+            ("{a}", 0, 0), ("{a}", 1, 1), ("{a}", 2, 2), ("{a}{b}", 3, 3), ("{a} }", 3, 4), ("{ a ) }", 2, 4), ("{a ) }", 1, 1),
+            ("# é𝄞\n{a}", 0, 5), ("# é𝄞\n{a}", 1, 6), ('{a(b:"𝄞é")\nc}', 6, 9), ('{a(b:"𝄞é")\nc}', 7, 11),
+            ('{ a(b: """\n𝄞\n""") }', 6, 16), ("\ufeff{a#}}\n b}", 2, 8), ("{a ?", 1, 1), ("{a(b:1c:2)}", 4, 4), ("}", 0, 0),
+            ("query($a:Int=$b){c}", 6, 12), ("query($a:Int=$b){c}", 5, 9), ("query($a:Int@d(x:$b)){c}", 5, 9), ("type T", 0, 0),
+        ]:  # fmt: skip
+            with self.subTest(text=text, most=most), nobody_else():
+                self.refused(text, most, index)
+
+    def test_every_token(self) -> None:
+        """Each token is the first one too many for one limit, and for none where there are as many as may be."""
+        for text in READ:
+            places = starts(text)
+            with nobody_else():
+                for most, index in enumerate(places):
+                    self.refused(text, most, index)
+                for most in (len(places), len(places) + 1, 2**32 - 1, 2**32 + 5, 2**63, 10**30):
+                    self.assertIsInstance(graphql_core.parse(text, max_tokens=most), ast.DocumentNode)
+
+    def test_a_large_text(self) -> None:
+        """No node is made: the bytes of the text are the most that is taken."""
+        text = "{" + "a " * 500_000 + "}"
+        for most in (0, 5, 400_000):
+            tracemalloc.start()
+            try:
+                with nobody_else():
+                    self.refused(text, most, 2 * most - 1 if most else 0)
+                self.assertLess(tracemalloc.get_traced_memory()[1], 3 * len(text))
+            finally:
+                tracemalloc.stop()
+
+    @unittest.skipUnless(os.path.exists("/proc/self/statm"), "no /proc")
+    def test_nothing_is_left(self) -> None:
+        """The memory of the process stays, however often a limit is told."""
+
+        def resident() -> int:
+            with open("/proc/self/statm", encoding="ascii") as file:
+                return int(file.read().split()[1]) * resource.getpagesize()
+
+        text = "{" + "a " * 500_000 + "}"
+        self.refused(text, 400_000, 799_999)
+        before = resident()
+        for _ in range(20):
+            self.refused(text, 400_000, 799_999)
+        self.assertLess(resident() - before, 2**26)
+
+    def test_want_of_memory(self) -> None:
+        program = (
+            "import resource\n"
+            "from firthnapkin import graphql_core\n"
+            "text = '{' + 'a ' * 2**24\n"
+            "taken = int(open('/proc/self/statm').read().split()[0]) * resource.getpagesize()\n"
+            "resource.setrlimit(resource.RLIMIT_AS, (taken + 2**26, resource.RLIM_INFINITY))\n"
+            "try: graphql_core.parse(text, max_tokens=2**24)\n"
+            "except MemoryError: print('memory', len(graphql_core.parse('{a}', max_tokens=3).definitions))\n"
+        )
+        told = subprocess.run([sys.executable, "-B", "-c", program], capture_output=True, check=False)
+        self.assertEqual((told.stdout, told.stderr), (b"memory 1\n", b""))
+
+    def test_other_arguments(self) -> None:
+        source = Source("{\n a b}", "a name", (7, 3))
+        for options in ({}, {"no_location": True}):
+            with self.assertRaises(GraphQLSyntaxError) as raised, nobody_else():
+                graphql_core.parse(source, max_tokens=2, **options)
+            self.assertIs(raised.exception.source, source)
+            self.assertEqual(str(raised.exception), str(GraphQLSyntaxError(source, 5, told(2)[len("Syntax Error: ") :])))
+
+    def test_installed(self) -> None:
+        graphql_core.install()
+        try:
+            self.assertEqual(answer(graphql.parse, "{a b}", max_tokens=2), (GraphQLSyntaxError, told(2), [3]))
+            self.assertEqual(graphql.parse("{a b}", max_tokens=4), own_parse("{a b}"))
+        finally:
+            graphql_core.uninstall()
+
+
+class Verdicts(unittest.TestCase):
+    """What graphql-core says itself within a limit, whether the release counts tokens or not."""
+
+    def same(self, text: str, most: object, **options: Any) -> Any:
+        own = answer(own_parse, text, max_tokens=most, **options)
+        for release in releases():
+            with release():
+                self.assertEqual(answer(graphql_core.parse, text, max_tokens=most, depth=1000, **options), own, (text, most))
+        return own
+
+    @unittest.skipUnless(HAS_OPTION, "this graphql-core counts no tokens")
+    def test_every_limit(self) -> None:
+        for text in FAULTY + [cut for text in READ[1:] for cut in (text[:-1], text + "}", text + "?", text + "1a")]:
+            for most in range(16):
+                self.same(text, most)
+        for most in [*range(40), *range(150, 230)]:
+            self.same(WHOLE[:-3], most)
+
+    @unittest.skipUnless(HAS_OPTION, "this graphql-core counts no tokens")
+    def test_rows_and_made_texts(self) -> None:
+        """Some limit for each text, and who tells that it isn't kept."""
+        refused = ours = 0
+        random.seed(2021)
+        for text in [*row_texts(), *made_texts()]:
+            most = random.choice([random.randrange(12), random.randrange(230)])
+            own = self.same(text, most)
+            if isinstance(own, tuple) and own[1] == told(most):
+                refused += 1
+                with mock.patch.object(graphql_core, "own_parse", return_value="asked"):
+                    ours += answer(graphql_core.parse, text, max_tokens=most, depth=1000) == own
+        self.assertGreater(refused, 2000)
+        self.assertGreater(ours, refused * 0.95)
+
+    @unittest.skipUnless(HAS_OPTION, "this graphql-core counts no tokens")
+    def test_limits_of_every_kind(self) -> None:
+        class Number(int):
+            pass
+
+        for most in [-1, -(10**30), 2**32 - 1, 2**32 + 5, 2**63, 10**30, 1.5, 0.0, math.inf, -math.inf, math.nan, True, False, "5",
+                     b"5", [], object, Number(2), Number(-1)]:  # fmt: skip
+            for text in ["{a}", "{a ) }", "", "{", "?", "type T { a: B }", "{a(b:1c)}"]:
+                self.same(text, most)
+        self.assertEqual(graphql_core.parse("{a}", max_tokens=None), own_parse("{a}"))
+
+    @unittest.skipUnless(HAS_OPTION, "this graphql-core counts no tokens")
+    def test_other_options(self) -> None:
+        for text in [*READ[:4], "fragment F($a: Int = 1) on T { a }", "{a ) }"]:
+            for most in (0, 1, 5, 9, 11, 12, 10**6):
+                self.same(text, most, no_location=True)
+                self.same(text, most, allow_legacy_fragment_variables=True)
+
+    def test_who_is_asked(self) -> None:
+        """graphql-core's own parser, within the limit, for what it may read otherwise and for each fault before the limit."""
+        for text, most, message, index in [
+            ("{a ) }", 3, "Expected Name, found ')'.", 3),
+            ("{a ) }", 4, "Expected Name, found ')'.", 3),
+            ("{a ?", 2, "Unexpected character: '?'.", 3),
+            ("{a} }", 4, "Unexpected '}'.", 4),
+            ("{a(b:1c:2)}", 5, "Invalid number, expected digit but got: 'c'.", 6),
+            ("{a(b:1c:2)}", 6, "Invalid number, expected digit but got: 'c'.", 6),
+            ("query($a:Int=$b){c}", 9, "Unexpected variable '$b' in constant value.", 13),
+            ("query($a:Int@d(x:$b)){c}", 13, "Unexpected variable '$b' in constant value.", 17),
+            ("#é𝄞\n{a(b:\"𝄞\"] c}", 7, "Expected Name, found ']'.", 12),
+            ("type T { a: B }", 6, told(6)[len("Syntax Error: ") :], 14),
+            ('{a(b:"\\u{1F600}") c}', 7, told(7)[len("Syntax Error: ") :], 18),
+        ]:  # fmt: skip
+            for release in releases():
+                with self.subTest(text=text, most=most, release=release.__name__), release():
+                    error = answer(graphql_core.parse, text, max_tokens=most)
+                    self.assertEqual(error, (GraphQLSyntaxError, f"Syntax Error: {message}", [index]))
+        for release in releases():
+            with release():
+                self.assertEqual(graphql_core.parse("type T { a: B }", max_tokens=7), own_parse("type T { a: B }"))
+
+    def test_what_is_asked(self) -> None:
+        """The limit is handed on, and where it can't be, tokens are counted."""
+        self.assertIs(graphql_core._COUNTS_TOKENS, HAS_OPTION)
+        with mock.patch.object(graphql_core, "own_parse", return_value="asked") as asked:
+            with mock.patch.object(graphql_core, "_COUNTS_TOKENS", True):
+                self.assertEqual(graphql_core.parse("{a ) }", True, 3), "asked")
+            asked.assert_called_once_with("{a ) }", max_tokens=3, no_location=True, allow_legacy_fragment_variables=False)
+            with mock.patch.object(graphql_core, "_COUNTS_TOKENS", False):
+                self.assertEqual(graphql_core.parse("type T{a:B}", True, 7).definitions[0].loc, None)
+            asked.assert_called_once()
+
+
+class BothLimits(unittest.TestCase):
+    """The first token beyond either limit is told; one beyond both is one too many."""
+
+    def test_which_is_told(self) -> None:
+        deep = "Syntax Error: Brackets are nested deeper than 1."
+        for text, most, message, index in [
+            ("{a{b}}", 1, told(1), 1), ("{a{b}}", 2, told(2), 2), ("{a{b}}", 3, deep, 2), ("{a{b}}", 4, deep, 2),
+            ("#é𝄞\n{a(b:1)}", 3, deep, 6), ("#é𝄞\n{a(b:1)}", 2, told(2), 6), ("{a ? {b}}", 9, "?", 3), ("{a ) {b}}", 9, ")", 3),
+            ("query($a:T=1c:{}){d}", 20, "'c'", 12), ("query($a:T){d(b:$a)}", 20, deep, 13),
+        ]:  # fmt: skip
+            with self.subTest(text=text, most=most):
+                error = answer(graphql_core.parse, text, max_tokens=most, depth=1)
+                self.assertIn(message, error[1])
+                self.assertEqual((error[0], error[2]), (GraphQLSyntaxError, [index]))
+
+    def test_deep_texts(self) -> None:
+        text = "{a" * 200_000
+        for most, message, index in [(400, told(400), 400), (401, "200", 400), (100, told(100), 100), (10**6, "200", 400)]:
+            with nobody_else():
+                error = answer(graphql_core.parse, text, max_tokens=most)
+            self.assertIn(message, error[1])
+            self.assertEqual((error[0], error[2]), (GraphQLSyntaxError, [index]))
+
+    def test_faults_before_what_is_too_deep(self) -> None:
+        """They are told, although the parser of this package goes on behind them."""
+        for text, depth in [
+            ("{a(b:1c:[[]])}", 3), ("{a(b:[1.5e3a [[]]])}", 3), ("query($a:Int @d(x:$b) = [[]]){c}", 2),
+            ("query($a:Int @d(x:$b) $c: T @e(f: [[1]])){c}", 2),
+        ]:  # fmt: skip
+            with self.subTest(text=text):
+                self.assertEqual(answer(graphql_core.parse, text, depth=depth), answer(own_parse, text))
+
+    def test_wrong_depths(self) -> None:
+        for depth in (None, 1.5, "5", [], math.inf):
+            self.assertRaises(TypeError, graphql_core.parse, "{a}", max_tokens=1, depth=depth)
+        for depth in (-1, 1001, 2**32 - 1, 2**32 + 5, 10**30):
+            self.assertRaises(ValueError, graphql_core.parse, "{a}", max_tokens=1, depth=depth)
