@@ -120,7 +120,7 @@ class TooMany(unittest.TestCase):
             with nobody_else():
                 for most, index in enumerate(places):
                     self.refused(text, most, index)
-                for most in (len(places), len(places) + 1, 2**32 - 1, 2**32 + 5, 2**63, 10**30):
+                for most in (len(places), len(places) + 1, 2**32 - 1, 2**32 + 5, 2**63, 2**64, 2**64 + 1, 10**30):
                     self.assertIsInstance(graphql_core.parse(text, max_tokens=most), ast.DocumentNode)
 
     def test_a_large_text(self) -> None:
@@ -218,8 +218,8 @@ class Verdicts(unittest.TestCase):
         class Number(int):
             pass
 
-        for most in [-1, -(10**30), 2**32 - 1, 2**32 + 5, 2**63, 10**30, 1.5, 0.0, math.inf, -math.inf, math.nan, True, False, "5",
-                     b"5", [], object, Number(2), Number(-1)]:  # fmt: skip
+        for most in [-1, -(10**30), 2**32 - 1, 2**32 + 5, 2**63, 2**64 + 1, 10**30, 1.5, 0.0, math.inf, -math.inf, math.nan, True,
+                     False, "5", b"5", [], object, Number(2), Number(-1)]:  # fmt: skip
             for text in ["{a}", "{a ) }", "", "{", "?", "type T { a: B }", "{a(b:1c)}"]:
                 self.same(text, most)
         self.assertEqual(graphql_core.parse("{a}", max_tokens=None), own_parse("{a}"))
