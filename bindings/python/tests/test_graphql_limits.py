@@ -109,6 +109,7 @@ class TooMany(unittest.TestCase):
             ("# é𝄞\n{a}", 0, 5), ("# é𝄞\n{a}", 1, 6), ('{a(b:"𝄞é")\nc}', 6, 9), ('{a(b:"𝄞é")\nc}', 7, 11),
             ('{ a(b: """\n𝄞\n""") }', 6, 16), ("\ufeff{a#}}\n b}", 2, 8), ("{a ?", 1, 1), ("{a(b:1c:2)}", 4, 4), ("}", 0, 0),
             ("query($a:Int=$b){c}", 6, 12), ("query($a:Int=$b){c}", 5, 9), ("query($a:Int@d(x:$b)){c}", 5, 9), ("type T", 0, 0),
+            ("query($a:Int@d(x:$b)){c}", 11, 17), ("query($a:Int@d(x:$b)){c}", 12, 18), ("query($a:Int=$b){c}", 7, 13),
         ]:  # fmt: skip
             with self.subTest(text=text, most=most), nobody_else():
                 self.refused(text, most, index)

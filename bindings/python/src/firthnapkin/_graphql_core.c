@@ -63,7 +63,8 @@ static bool has_refused_token(const whole *cut, const uint8_t *source, size_t le
             if (begins_name(next) || next == '.') return true;
             break;
         case FIRTHNAPKIN_TOKEN_DOLLAR:
-            if (is_constant && depth > 1) return true;
+            /* It is refused when its name is read, which the end of the cut and the token beyond the limit stand behind. */
+            if (is_constant && depth > 1 && i + 3 < cut->tokens_count) return true;
             break;
         case FIRTHNAPKIN_TOKEN_PAREN_OPEN:
         case FIRTHNAPKIN_TOKEN_BRACKET_OPEN:
