@@ -1,6 +1,7 @@
 #!/usr/bin/env python3
 """Tells how fast texts are parsed by this package, and by graphql-core 3.2 with and without it: the best of a second's rounds,
-each in microseconds, and how often graphql-core's own takes what `firthnapkin.graphql_core` takes.
+each in microseconds, and how often graphql-core's own takes what `firthnapkin.graphql_core` takes; and what that takes where it
+counts tokens, and where it refuses the 101st.
 
     python bench.py    with this package installed, and graphql-core 3.2
 """
@@ -59,13 +60,27 @@ def best(calls: Dict[str, Callable[[str], Any]], text: str) -> Dict[str, float]:
     return times
 
 
+def counted(text: str) -> Any:
+    return graphql_core.parse(text, max_tokens=10**6)
+
+
+def refused(text: str) -> None:
+    try:
+        graphql_core.parse(text, max_tokens=100)
+    except graphql.GraphQLSyntaxError:
+        return
+    raise AssertionError("a text has less than 101 tokens")
+
+
 def main() -> None:
-    print(f"{'':20} {'bytes':>7} {'nodes alone':>12} {'graphql_core':>12} {'own':>10} {'times':>6}")
+    calls = {"alone": firthnapkin.parse, "ours": graphql_core.parse, "own": graphql_core.own_parse, "counted": counted,
+             "refused": refused}  # fmt: skip
+    print(f"{'':20} {'bytes':>7} {'nodes alone':>12} {'graphql_core':>12} {'own':>10} {'times':>6} {'counted':>10} {'refused':>8}")
     for name, text in texts().items():
-        found = best({"alone": firthnapkin.parse, "ours": graphql_core.parse, "own": graphql_core.own_parse}, text)
         assert graphql_core.parse(text) == graphql_core.own_parse(text)
-        alone, ours, own = (1e6 * found[it] for it in ("alone", "ours", "own"))
-        print(f"{name:20} {len(text.encode()):7} {alone:12.1f} {ours:12.1f} {own:10.1f} {own / ours:6.1f}")
+        times = {call: 1e6 * it for call, it in best(calls, text).items()}
+        print(f"{name:20} {len(text.encode()):7} {times['alone']:12.1f} {times['ours']:12.1f} {times['own']:10.1f}"
+              f" {times['own'] / times['ours']:6.1f} {times['counted']:10.1f} {times['refused']:8.1f}")  # fmt: skip
 
 
 if __name__ == "__main__":
