@@ -1,7 +1,7 @@
 #!/usr/bin/env python3
-"""Tells how fast texts are parsed by this package, and by graphql-core 3.2 with and without it: the best of a second's rounds,
-each in microseconds, and how often graphql-core's own takes what `firthnapkin.graphql_core` takes; and what that takes where it
-counts tokens, and where it refuses the 101st.
+"""Measures how fast texts are parsed by this package, and by graphql-core 3.2 with and without it. It prints the best of a
+second's rounds, in microseconds, how many times as long graphql-core's own parser takes as `firthnapkin.graphql_core`, and the
+time of the latter where it counts tokens, and where it refuses the 101st.
 
     python bench.py    with this package installed, and graphql-core 3.2
 """
@@ -27,7 +27,7 @@ query Q { find(text: "größe 𝄞 мир", other: \"\"\"
 
 
 def repeated(text: str, size: int) -> str:
-    """Definitions of other names, until they have so many bytes."""
+    """Definitions with different names, until they have so many bytes."""
     parts, length = [], 0
     while length < size:
         part = text.replace("Order on", f"Order{len(parts)} on").replace("...Order ", f"...Order{len(parts)} ")
@@ -49,7 +49,7 @@ def texts() -> Dict[str, str]:
 
 
 def best(calls: Dict[str, Callable[[str], Any]], text: str) -> Dict[str, float]:
-    """The best time of each call; they take turns, so that what else the machine does strikes all."""
+    """The best time of each call. The calls take turns, so that other work of the machine slows all of them."""
     times = {name: float("inf") for name in calls}
     end = time.perf_counter() + 1.0 * len(calls)
     while time.perf_counter() < end:

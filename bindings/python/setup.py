@@ -1,6 +1,6 @@
-"""Builds the package with the library inside, on the stable ABI: the wheel serves Python 3.9 and later.
+"""Builds the package with the library included, on the stable ABI: the wheel works with Python 3.9 and later.
 
-There is no pyproject.toml: with one, pip fetches setuptools from a registry even where it is installed.
+There is no pyproject.toml. With one, pip fetches setuptools from a registry even where it is installed.
 """
 
 import sys

@@ -1,4 +1,4 @@
-/* graphql-core's nodes of a source that both read alike, for graphql_core.py. */
+/* graphql-core's nodes of a source that both parsers read alike, for graphql_core.py. */
 #include "_graphql_nodes.h"
 #include "whole.h"
 
@@ -10,7 +10,7 @@ static bool is_called(PyObject *function) {
     return result != NULL;
 }
 
-/* Keeps the error that is told. */
+/* Enables it, and keeps the Python error that is set. */
 static void enable_after_error(const module_state *state) {
     PyObject *type, *value, *trace;
     PyErr_Fetch(&type, &value, &trace);
@@ -18,8 +18,8 @@ static void enable_after_error(const module_state *state) {
     PyErr_Restore(type, value, trace);
 }
 
-/* The same, with no search for circles meanwhile: none can be left behind, and a search among nodes that are all new takes as
- * long as their making. No other thread runs while they are made. */
+/* The same, without garbage collection of reference cycles meanwhile: no cycle can be left, and a search among nodes that are
+ * all new takes as long as making them. No other thread runs while they are made. */
 static PyObject *document_at_once(builder *b, Py_ssize_t characters) {
     PyObject *result = NULL, *is_enabled = PyObject_CallObject(b->state->is_enabled, NULL);
     bool is_collecting = is_enabled == Py_True;
@@ -33,10 +33,10 @@ static PyObject *document_at_once(builder *b, Py_ssize_t characters) {
     return result;
 }
 
-/* ---- where graphql-core is to be asked */
+/* ---- where graphql-core's own parser has to be called */
 
-/* Whether graphql-core may read the source otherwise: where a number is followed by what begins a name, and where a variable
- * stands in what is constant. No document has a number that is followed by a dot. */
+/* Whether graphql-core may read the source otherwise: where a character that begins a name follows a number, and where a
+ * variable is in a constant part. No document has a number that is followed by a dot. */
 static bool is_read_otherwise(const builder *b) {
     size_t constant = 0;
     for (size_t i = 0; i < b->count; i++) {
@@ -49,8 +49,8 @@ static bool is_read_otherwise(const builder *b) {
     return false;
 }
 
-/* Whether graphql-core refuses one of these tokens, all of which but the last begin a document: a number that goes on, or a
- * variable that stands deeper than those that an operation defines. */
+/* Whether graphql-core refuses one of these tokens. All but the last one begin a document. It refuses a number that goes on, and
+ * a variable that is nested deeper than those that an operation defines. */
 static bool has_refused_token(const whole *cut, const uint8_t *source, size_t length) {
     size_t depth = 0;
     bool is_constant = false;
@@ -63,13 +63,13 @@ static bool has_refused_token(const whole *cut, const uint8_t *source, size_t le
             if (begins_name(next) || next == '.') return true;
             break;
         case FIRTHNAPKIN_TOKEN_DOLLAR:
-            /* It is refused when its name is read, which the end of the cut and the token beyond the limit stand behind. */
+            /* It is refused when its name is read. The token beyond the limit and the end of the cut come after the name. */
             if (is_constant && depth > 1 && i + 3 < cut->tokens_count) return true;
             break;
         case FIRTHNAPKIN_TOKEN_PAREN_OPEN:
         case FIRTHNAPKIN_TOKEN_BRACKET_OPEN:
         case FIRTHNAPKIN_TOKEN_CURLY_OPEN:
-            /* Outside of braces an operation's variables are opened, or the arguments of a directive, behind its name. */
+            /* Outside of braces this opens an operation's variables, or the arguments of a directive after its name. */
             if (depth == 0)
                 is_constant = t->kind == FIRTHNAPKIN_TOKEN_PAREN_OPEN && !(i >= 2 && t[-2].kind == FIRTHNAPKIN_TOKEN_AT);
             depth++;
@@ -85,8 +85,8 @@ static bool has_refused_token(const whole *cut, const uint8_t *source, size_t le
 
 /* ---- limits */
 
-/* What the tokens before the first one too many are: FIRTHNAPKIN_MANY where a document begins with them, and else what is told
- * of them, with its fault. No room is given, so nothing is made of them. */
+/* What the tokens before the first one too many are: FIRTHNAPKIN_MANY where a document begins with them, and otherwise the
+ * status that is returned for them, with its fault. No buffers are passed, so nothing is built from them. */
 static uint32_t begun(const uint8_t *source, uint32_t depth, firthnapkin_fault *fault) {
     size_t nodes, texts;
     firthnapkin_fault found;
@@ -97,8 +97,8 @@ static uint32_t begun(const uint8_t *source, uint32_t depth, firthnapkin_fault *
     return status;
 }
 
-/* The nodes of a source that keeps both limits. Where it doesn't, the status says which one, and the fault is the first token
- * beyond it; but it is FIRTHNAPKIN_REFUSED where graphql-core tells of a token before that one. */
+/* The nodes of a source that keeps both limits. Where it doesn't, the status says which one, and the fault is at the first
+ * token beyond it. But the status is FIRTHNAPKIN_REFUSED where graphql-core reports an earlier token. */
 static whole within(const uint8_t *source, size_t length, uint32_t depth, uint32_t most) {
     whole w = parse_whole(source, length, depth, most);
     if (w.status == FIRTHNAPKIN_MANY) w.status = begun(source, depth, &w.fault);
@@ -169,7 +169,7 @@ static int find_attributes(node_class *c, PyObject *class, PyObject *names) {
         a->descriptor = a->name == NULL ? NULL : PyObject_GetAttr(class, a->name);
         if (a->descriptor == NULL) return -1;
         a->set = (descrsetfunc)PyType_GetSlot(Py_TYPE(a->descriptor), Py_tp_descr_set);
-        /* Python 3.9 tells no slot of a type that is not on the heap. */
+        /* Python 3.9 returns no slot of a type that is not on the heap. */
         PyErr_Clear();
     }
     return 0;

@@ -1,5 +1,5 @@
-/* graphql-core's nodes of a source. They are made from the last to the first, each after the parts in it, so that no text
- * takes more of the stack by its nesting. Places of graphql-core are indexes of a str. */
+/* graphql-core's nodes of a source. They are made from the last to the first, each after the parts in it, so that nesting
+ * takes no more stack. Places of graphql-core are indexes of a str. */
 #ifndef FIRTHNAPKIN_GRAPHQL_NODES_H
 #define FIRTHNAPKIN_GRAPHQL_NODES_H
 
@@ -10,7 +10,7 @@
 
 #include <stdbool.h>
 
-/* The classes, in the order in which setup is given them. */
+/* The classes, in the order in which setup gets them. */
 enum {
     NAME,
     DOCUMENT,
@@ -43,7 +43,7 @@ enum {
 
 enum { MOST_ATTRIBUTES = 6, OPERATIONS = 3 };
 
-/* An attribute, and how it is set; where that isn't told, it is set by its name. */
+/* An attribute, and how it is set. Where that isn't known, it is set by its name. */
 typedef struct {
     PyObject *name, *descriptor;
     descrsetfunc set;
@@ -58,7 +58,7 @@ typedef struct {
 typedef struct {
     node_class classes[CLASSES];
     PyObject *operations[OPERATIONS], *nothing;
-    /* What module gc has. */
+    /* The functions of module gc. */
     PyObject *is_enabled, *disable, *enable;
     bool is_set;
 } module_state;
@@ -73,13 +73,13 @@ typedef struct {
     size_t length;
     /* Each character is a byte. */
     bool is_ascii;
-    /* The Source, or None where locations aren't wanted. */
+    /* The Source, or None where no locations are made. */
     PyObject *origin;
-    /* Of each node what was made of it, until a node around it takes that. */
+    /* The object that was made of each node, until a node around it takes it. */
     PyObject **made;
 } builder;
 
-/* Characters of the str, from the first to behind the last. */
+/* Characters of the str: the index of the first, and the index after the last. */
 typedef struct {
     uint32_t start, end;
 } span;
@@ -98,8 +98,8 @@ static PyObject *none(void) {
     return Py_None;
 }
 
-/* An object with these attributes, which are given away, whether it is made or not. One of them may be missing, where it
- * could not be made. */
+/* An object with these attributes. Their references are taken, whether the object is made or not. An attribute that could not be
+ * made is missing. */
 static PyObject *object_of(const builder *b, int class, PyObject **values) {
     const node_class *c = &b->state->classes[class];
     bool is_whole = true;
@@ -117,7 +117,7 @@ static PyObject *location_of(const builder *b, int class, span at) {
     Py_INCREF(b->origin);
     PyObject *values[] = {PyLong_FromUnsignedLong(at.start), PyLong_FromUnsignedLong(at.end), b->origin};
     PyObject *location = object_of(b, class, values);
-    /* It refers to numbers and a source alone, so it is in no circle that is to be found. */
+    /* It refers only to numbers and a source, so it is in no reference cycle that the collector has to find. */
     if (location != NULL) PyObject_GC_UnTrack(location);
     return location;
 }
@@ -134,7 +134,7 @@ static span span_of(const firthnapkin_node *n) {
     return (span){n->start.index, n->end.index};
 }
 
-/* The place of a byte that stands behind another. */
+/* The place of a byte that comes after another. */
 static spot spot_at(const builder *b, spot from, uint32_t byte) {
     if (b->is_ascii) return (spot){byte, byte};
     for (; from.byte < byte; from.byte++) from.index += ((unsigned char)b->source[from.byte] & 0xC0) != 0x80;
@@ -155,7 +155,7 @@ static spot token_behind(const builder *b, spot from) {
             is_comment = c != '\n' && c != '\r';
         else if (c == '#')
             is_comment = true;
-        /* No token begins beyond ASCII: the byte order mark stands there. */
+        /* No token begins beyond ASCII: this is the byte order mark. */
         else if (c > ' ' && c != ',')
             break;
     }
@@ -168,7 +168,7 @@ static size_t behind(const builder *b, size_t i) {
 
 /* ---- parts of nodes */
 
-/* The nodes of the parts in a node that are left, and the end of what was taken last. */
+/* The nodes of the parts in a node that are left, and the end of the one that was taken last. */
 typedef struct {
     size_t next, end;
     spot last;
@@ -178,7 +178,7 @@ static bool has(const builder *b, const parts *p, uint32_t kind) {
     return p->next < p->end && b->nodes[p->next].kind == kind;
 }
 
-/* What was made of the next one. */
+/* The object that was made of the next one. */
 static PyObject *take(const builder *b, parts *p) {
     PyObject *made = b->made[p->next];
     b->made[p->next] = NULL;
@@ -187,14 +187,14 @@ static PyObject *take(const builder *b, parts *p) {
     return made;
 }
 
-/* The next one where it is of this kind, else None or an empty tuple. */
+/* The next one if it is of this kind, otherwise None or an empty tuple. */
 static PyObject *take_if(const builder *b, parts *p, uint32_t kind, PyObject *otherwise) {
     if (has(b, p, kind)) return take(b, p);
     Py_INCREF(otherwise);
     return otherwise;
 }
 
-/* A tuple of the next ones: all that are left, or the directives alone. */
+/* A tuple of the next ones: all that are left, or only the directives. */
 static PyObject *take_all(const builder *b, parts *p, bool directives) {
     Py_ssize_t count = 0;
     size_t i = p->next;
@@ -226,13 +226,13 @@ static PyObject *named_type(const builder *b, spot *last, uint32_t start, uint32
     return NODE(b, NAMED_TYPE, ((span){last->index - (end - start), last->index}), name);
 }
 
-/* The parts that are left, as a selection set, which ends where the node around it does. */
+/* The parts that are left, as a selection set. It ends where the node around it does. */
 static PyObject *selections(const builder *b, parts *p, const firthnapkin_node *n) {
     span at = {token_behind(b, p->last).index, n->end.index};
     return NODE(b, SELECTION_SET, at, take_all(b, p, false));
 }
 
-/* A type, by its source: what is opened and closed around a name. */
+/* A type, by its source: the brackets and exclamation marks around a name. */
 static PyObject *type_of(const builder *b, const firthnapkin_node *n) {
     uint32_t opened[FIRTHNAPKIN_MOST_DEPTH], count = 0;
     spot at = spot_of(n->start);
@@ -313,7 +313,7 @@ static PyObject *string(const builder *b, const firthnapkin_node *n) {
     return NODE(b, STRING, span_of(n), value, PyBool_FromLong(n->kind == FIRTHNAPKIN_BLOCK_STRING));
 }
 
-/* What is written, as the value of a number or an enum. */
+/* The text as it is written, as the value of a number or an enum. */
 static PyObject *written(const builder *b, int class, const firthnapkin_node *n) {
     return NODE(b, class, span_of(n), text_of(b->source, n->start.byte, n->end.byte));
 }

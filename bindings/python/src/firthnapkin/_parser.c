@@ -1,4 +1,4 @@
-/* The library's calls for the package, which sees to the kinds of arguments: what is given here is bytes and numbers. */
+/* The library's calls for the package. The package checks the types of arguments: here they are bytes and numbers. */
 #define PY_SSIZE_T_CLEAN
 #include <Python.h>
 
@@ -10,7 +10,8 @@ static PyObject *pair_of(uint32_t status, const void *first, size_t first_length
                          texts, (Py_ssize_t)w->texts_count);
 }
 
-/* What a call told: its status, and two bytes objects. The first is this, or the fault. What the call gave is given back. */
+/* The result of a call: its status, and two bytes objects. The first one is `first`, or the fault. The memory of the call is
+ * freed. */
 static PyObject *told(whole *w, const void *first, size_t first_length) {
     PyObject *result;
     if (w->status == FIRTHNAPKIN_MEMORY)
@@ -23,7 +24,7 @@ static PyObject *told(whole *w, const void *first, size_t first_length) {
     return result;
 }
 
-/* A number of tokens; the largest of 32 bits, which is no limit, stands for a larger one. */
+/* A number of tokens. For a larger one it is the largest number of 32 bits, which is no limit. */
 static uint32_t limit_of(unsigned long tokens) {
     return tokens < UINT32_MAX ? (uint32_t)tokens : UINT32_MAX;
 }

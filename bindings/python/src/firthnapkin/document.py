@@ -13,7 +13,7 @@ __all__ = ["Document", "Kind", "Node"]
 
 
 class Kind(enum.Enum):
-    """What a node stands for."""
+    """The kind of a part that a node stands for."""
 
     QUERY = 0
     MUTATION = 1
@@ -40,15 +40,15 @@ class Kind(enum.Enum):
     ARGUMENT = 13
     NULL = 14
     ENUM = 16
-    #: A variable that stands as a value.
+    #: A variable used as a value.
     REFERENCE = 17
     LIST = 18
     OBJECT = 19
     #: A field of an object, by its name.
     KEY = 20
-    #: An Int that 32 bits hold.
+    #: An Int that fits into 32 bits.
     INT = 21
-    #: An Int that they don't hold.
+    #: An Int that doesn't.
     LARGE_INT = 22
     FLOAT = 23
     STRING = 24
@@ -58,7 +58,7 @@ class Kind(enum.Enum):
 
 _KINDS = {kind.value: kind for kind in Kind}
 
-# What these are named by is all that they are written as.
+# The name range of these kinds is all of their text, and no name.
 _WITHOUT_NAME = frozenset(
     (Kind.TYPE, Kind.NULL, Kind.INT, Kind.LARGE_INT, Kind.FLOAT, Kind.STRING, Kind.BLOCK_STRING, Kind.BOOLEAN)
 )
@@ -81,7 +81,7 @@ class Node(Part):
 
     @property
     def descendants(self) -> int:
-        """How many of the nodes behind this one are of parts in it."""
+        """How many of the nodes after this one are of parts in it."""
         return self._told[1]
 
     @property
@@ -94,9 +94,9 @@ class Node(Part):
 
     @property
     def value(self) -> Union[None, bool, int, float, str]:
-        """What a scalar means; a type without spaces; the name of an enum or a variable; a fragment's type condition.
+        """The meaning of a scalar; a type without spaces; the name of an enum or a variable; a fragment's type condition.
 
-        Raises OverflowError where Python takes no Int of so many digits, or a Float is beyond a float; `text` has it.
+        Raises OverflowError for an Int of more digits than Python accepts, and for a Float beyond a float. `text` has both.
         """
         told, kind = self._told, self.kind
         if kind is Kind.INT:
@@ -122,7 +122,7 @@ class Node(Part):
 
     @property
     def parent(self) -> Optional[Node]:
-        """The node of the part that this one is in; None of a definition."""
+        """The node of the part that this one is in; None for a definition."""
         parent = self._whole._parents()[self.index]
         return None if parent < 0 else Node(self._whole, parent)
 
@@ -173,7 +173,7 @@ class Document(Parts[Node]):
             index += 1 + node.descendants
 
     def _parents(self) -> array[int]:
-        """The index of each node's parent, and -1 of a definition: found when one is asked for first."""
+        """The index of each node's parent, and -1 for a definition. They are computed when one is first asked for."""
         if self._parent is None:
             parents, around = array("q"), [(-1, self._count)]
             for index, (_, descendants, *_rest) in enumerate(self._LAYOUT.iter_unpack(self._parts)):

@@ -1,4 +1,4 @@
-"""Why a text is no document."""
+"""The errors of texts that are no document."""
 
 from __future__ import annotations
 
@@ -14,19 +14,19 @@ __all__ = ["Detail", "Fault", "Reason"]
 class Reason(enum.Enum):
     """Why a text is no document within the limits."""
 
-    #: No document goes on with the token.
+    #: No document can go on with this token.
     UNEXPECTED_TOKEN = 0
     #: The text ends within a document.
     UNEXPECTED_END = 1
-    #: There is no token here; the fault's `detail` says why.
+    #: A lexical error: there is no token here. The fault's `detail` says why.
     LEXICAL = 2
-    #: Never told.
+    #: Never reported.
     SCALAR = 3
     #: The token is nested too deep.
     NESTED = 4
     #: The token is one too many.
     TOO_MANY = 5
-    #: A half of a surrogate pair stands alone: such a str is no text.
+    #: There is half of a surrogate pair alone: such a str is no text.
     SURROGATE = 6
 
 
@@ -40,7 +40,7 @@ class Detail(enum.Enum):
     UNKNOWN_CHARACTER_IN_STRING = 4
     UNKNOWN_ESCAPE = 5
     UNEXPECTED_END_IN_TOKEN = 6
-    #: Never told.
+    #: Never reported.
     INVALID_NUMBER = 7
 
 
@@ -65,12 +65,12 @@ class Fault(ValueError):
         self.end = end
         self.source = source
         self.detail = detail
-        #: The character that the detail speaks of.
+        #: The character that the detail is about.
         self.character = character
 
     @property
     def line(self) -> int:
-        """The line, counted from 0; lines end at line feeds."""
+        """The line, counted from 0. Lines end at line feeds."""
         return self.start.line
 
     @property
@@ -96,7 +96,7 @@ class Fault(ValueError):
 
     @property
     def excerpt(self) -> str:
-        """The lines around the place, numbered from 1, with a caret below it; here a carriage return ends a line, too."""
+        """The lines around the place, numbered from 1, with a caret below it. Here a carriage return ends a line, too."""
         return _excerpt(self.source, self.start.index)
 
     def __reduce__(self) -> Tuple[Any, ...]:

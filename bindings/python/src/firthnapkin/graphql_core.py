@@ -3,9 +3,9 @@
     from firthnapkin import graphql_core
     graphql_core.install()
 
-`parse` gives what graphql-core's own gives: its nodes, with their locations, and its errors. Where a text is no document of
-this package's parser, or one that graphql-core may read otherwise, graphql-core's own parser is asked. Only that a text does not
-keep a limit, on nesting or on the number of tokens, is told here.
+`parse` gives the results of graphql-core's own: its nodes, with their locations, and its errors. graphql-core's own parser is
+called where a text is no document for this package's parser, and where graphql-core may read it otherwise. Only texts beyond a
+limit, on nesting or on the number of tokens, are reported here.
 """
 
 from __future__ import annotations
@@ -46,7 +46,7 @@ class _Tokens:
 
 
 def _tokens_of(source: Source) -> _Tokens:
-    """They are found when one is asked for first, and kept with the source."""
+    """They are computed when one is first asked for, and kept with the source."""
     tokens: Optional[_Tokens] = source.__dict__.get("_firthnapkin_tokens")
     if tokens is None or tokens.body is not source.body:
         tokens = source.__dict__["_firthnapkin_tokens"] = _Tokens(source)
@@ -122,7 +122,7 @@ _graphql_core.setup(
 )  # fmt: skip
 
 
-# The first releases of graphql-core 3.2 know no limit on tokens.
+# The first releases of graphql-core 3.2 have no limit on tokens.
 _COUNTS_TOKENS = "max_tokens" in inspect.signature(own_parse).parameters
 
 
@@ -137,10 +137,10 @@ def parse(
     """graphql-core's DocumentNode of a source.
 
     The arguments are those of graphql-core's newest parse, and `depth`, which is how deep brackets may be nested. Raises
-    GraphQLSyntaxError as graphql-core does, and at the first token that is nested deeper. With `max_tokens`, which every
-    release takes here, a text with more is refused at the first token too many, before any node is made. TypeError where the
-    depth is no int, ValueError where it is below 0 or above MOST_DEPTH; what is no int as `max_tokens` is graphql-core's to
-    take or to refuse.
+    GraphQLSyntaxError as graphql-core does, and at the first token that is nested deeper. With `max_tokens`, which works
+    here with every release, a text with more is refused at the first token too many, before any node is made. Raises
+    TypeError where the depth is no int, ValueError where it is below 0 or above MOST_DEPTH. A `max_tokens` that is no int
+    is passed to graphql-core, which accepts or refuses it.
     """
     limit = limit_of(depth)
     body = source.body if isinstance(source, Source) else source
@@ -153,11 +153,11 @@ def parse(
 
 
 def _document(origin: Source, no_location: bool, max_tokens: Optional[int], depth: int) -> Optional[ast.DocumentNode]:
-    """The document of a source, and None where graphql-core is to be asked."""
+    """The document of a source, and None where graphql-core's own parser has to be called."""
     try:
         written = origin.body.encode()
     except UnicodeEncodeError:
-        # graphql-core says what it thinks of a lone surrogate.
+        # A lone surrogate: graphql-core's own parser decides.
         return None
     most = _parser.MOST_TOKENS if max_tokens is None else min(max(max_tokens, 0), _parser.MOST_TOKENS)
     found = _graphql_core.document(written, len(origin.body), depth, None if no_location else origin, most)
@@ -170,7 +170,7 @@ def _document(origin: Source, no_location: bool, max_tokens: Optional[int], dept
 
 
 def _too_many(source: Source, index: int, max_tokens: Optional[int]) -> GraphQLSyntaxError:
-    """It has the words of graphql-core."""
+    """An error in the words of graphql-core."""
     return GraphQLSyntaxError(source, index, f"Document contains more than {max_tokens} tokens. Parsing aborted.")
 
 
@@ -194,7 +194,7 @@ class _CountedLexer(Lexer):
 def _own_document(
     source: Union[Source, str], no_location: bool, max_tokens: Optional[int], allow_legacy_fragment_variables: bool
 ) -> ast.DocumentNode:
-    """What graphql-core's own parser says."""
+    """The result of graphql-core's own parser, or its error."""
     options: Dict[str, Any] = {
         "no_location": no_location,
         "allow_legacy_fragment_variables": allow_legacy_fragment_variables,

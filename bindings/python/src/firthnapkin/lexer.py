@@ -14,7 +14,7 @@ __all__ = ["Token", "TokenKind", "Tokens", "canonical", "tokens"]
 
 
 class TokenKind(enum.Enum):
-    """What a token is."""
+    """The kind of a token."""
 
     #: A name or a word of the language.
     NAME = 0
@@ -66,7 +66,7 @@ class Token(Part):
 
 
 class Tokens(Parts[Token]):
-    """A text's tokens, the last of which is its end. A token object is made each time that one is asked for."""
+    """A text's tokens. The last one is its end. A token object is made each time that one is asked for."""
 
     __slots__ = ()
 
@@ -81,14 +81,14 @@ class Tokens(Parts[Token]):
 
 
 def tokens(source: str, *, max_tokens: Optional[int] = None) -> Tokens:
-    """The tokens of a text, the last of which is its end. Other threads go on meanwhile.
+    """The tokens of a text. The last one is its end. Other threads run meanwhile.
 
-    White space, line ends, commas, comments and byte order marks are none. With `max_tokens` the text may have no more tokens
-    than that, its end not counted; one with more is refused at the first token too many, whatever stands behind.
+    White space, line ends, commas, comments and byte order marks are no tokens. With `max_tokens` the text may have no more
+    tokens than that, its end not counted. A text with more is refused at the first token too many, whatever comes after it.
 
-    Raises Fault, a ValueError, at the first place where no token is, or at the first token too many; TypeError where the source
+    Raises Fault, a ValueError, at the first place that has no token, or at the first token too many; TypeError where the source
     is no str, or max_tokens neither an int nor None; ValueError where max_tokens is below 0, or the text has 4 GiB or more;
-    MemoryError where memory ran out.
+    MemoryError where memory runs out.
     """
     require_text(source)
     most = most_of(max_tokens)
@@ -97,13 +97,14 @@ def tokens(source: str, *, max_tokens: Optional[int] = None) -> Tokens:
 
 
 def canonical(source: str) -> str:
-    """The canonical text of a text: one for each query, whatever its white space and comments. Other threads go on meanwhile.
+    """The canonical text of a text: one for each query, whatever its white space and comments. Other threads run meanwhile.
 
     It is the tokens of the text as they are written, with a space between two neighbours of which neither is a punctuator, and
-    before `...` behind one that is none; it is never more than twice as long. Whether it is a document is not looked at.
+    before `...` after a token that is no punctuator. It is never more than twice as long as the text. The call doesn't check
+    whether the text is a document.
 
-    Raises Fault, a ValueError, at the first place where no token is; TypeError where the source is no str; ValueError where the
-    text has 4 GiB or more; MemoryError where memory ran out.
+    Raises Fault, a ValueError, at the first place that has no token; TypeError where the source is no str; ValueError where the
+    text has 4 GiB or more; MemoryError where memory runs out.
     """
     require_text(source)
     _, text = given(source, *_parser.canonical(encoded(source)))

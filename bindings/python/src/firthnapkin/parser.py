@@ -1,4 +1,4 @@
-"""The call of the parser, and what the package's calls share."""
+"""The call of the parser, and the functions that the package's calls share."""
 
 from __future__ import annotations
 
@@ -13,7 +13,7 @@ from .parts import Place
 
 __all__ = ["parse"]
 
-# Of each call 0 says that it gives what it is asked for.
+# The status 0 of each call says that it returns what it was asked for.
 _GIVEN, _REFUSED, _TOO_DEEP, _TOO_LONG, _MANY = 0, 1, 5, 7, 9
 
 # kind, detail, character, and the places
@@ -21,14 +21,14 @@ _FAULT = struct.Struct("=3I8I")
 
 
 def parse(source: str, *, depth: int = 200, max_tokens: Optional[int] = None) -> Document:
-    """The document that a text is, with brackets nested at most `depth` deep. Other threads go on meanwhile.
+    """The document of a text, with brackets nested at most `depth` deep. Other threads run meanwhile.
 
-    With `max_tokens` the text may have no more tokens than that; one with more is refused at the first token too many,
-    before anything is made of it, whatever stands behind.
+    With `max_tokens` the text may have no more tokens than that. A text with more is refused at the first token too many,
+    before anything is built from it, whatever comes after it.
 
     Raises Fault, a ValueError, where the text is no document, a bracket is nested deeper, or a token is one too many;
     TypeError where the source is no str, the depth no int, or max_tokens neither an int nor None; ValueError where the depth
-    is below 0 or above MOST_DEPTH, max_tokens is below 0, or the text has 4 GiB or more; MemoryError where memory ran out.
+    is below 0 or above MOST_DEPTH, max_tokens is below 0, or the text has 4 GiB or more; MemoryError where memory runs out.
     """
     require_text(source)
     limit, most = limit_of(depth), most_of(max_tokens)
@@ -43,7 +43,7 @@ def require_text(source: str) -> None:
 
 
 def limit_of(depth: int) -> int:
-    """The number that a depth is, if it is one that is taken."""
+    """A depth as a number, if it is one that is accepted."""
     limit = _number("depth", depth)
     if not 0 <= limit <= _parser.MOST_DEPTH:
         raise ValueError(f"depth must be from 0 to {_parser.MOST_DEPTH}")
@@ -51,7 +51,7 @@ def limit_of(depth: int) -> int:
 
 
 def most_of(max_tokens: Optional[int]) -> int:
-    """The number that a limit on tokens is, if it is one that is taken; none of them is above MOST_TOKENS."""
+    """A limit on tokens as a number, if it is one that is accepted. The result is never above MOST_TOKENS."""
     most = _parser.MOST_TOKENS if max_tokens is None else _number("max_tokens", max_tokens)
     if most < 0:
         raise ValueError("max_tokens must not be below 0")
@@ -66,7 +66,7 @@ def _number(name: str, value: int) -> int:
 
 
 def encoded(source: str) -> bytes:
-    """The bytes of a text, if it is one."""
+    """The bytes of a str, if it is a text: it has no lone surrogate."""
     try:
         return str.encode(source)
     except UnicodeEncodeError as error:
@@ -74,7 +74,7 @@ def encoded(source: str) -> bytes:
 
 
 def given(source: str, status: int, first: bytes, texts: bytes) -> Tuple[bytes, bytes]:
-    """What a call gives, if it gives what it is asked for."""
+    """The results of a call, if its status says that it has them. Otherwise raises its error."""
     if status == _GIVEN:
         return first, texts
     if status in (_REFUSED, _TOO_DEEP, _MANY):
@@ -105,10 +105,10 @@ _WITH_CHARACTER = (
 
 
 def _surrogate(source: str, index: int) -> Fault:
-    """The fault of a str that no UTF-8 has."""
+    """The fault of a str that can't be written as UTF-8."""
     before = source[:index]
     line, column = before.count("\n"), index - (before.rfind("\n") + 1)
     start = Place(index, line, column, len(str.encode(before)))
-    # The bytes that it would take.
+    # It would take three bytes.
     end = Place(index + 1, line, column + 1, start.byte + 3)
     return Fault(f"Lone surrogate U+{ord(source[index]):04X}", Reason.SURROGATE, start, end, source)

@@ -1,4 +1,4 @@
-"""Parts of a text, which the library tells as bytes, one part behind the other."""
+"""Parts of a text, which the library returns as bytes, one part after the other."""
 
 from __future__ import annotations
 
@@ -9,7 +9,7 @@ __all__ = ["Place"]
 
 
 class Place(NamedTuple):
-    """How many characters, line feeds, characters of the line, and bytes of UTF-8 stand before a place."""
+    """How many characters, line feeds, characters of the line, and bytes of UTF-8 are before a place."""
 
     index: int  # type: ignore[assignment]
     line: int
@@ -18,13 +18,13 @@ class Place(NamedTuple):
 
 
 class Part:
-    """A part of a text. Its numbers are two of its own, the eight of its places, and more of its own."""
+    """A part of a text. Its numbers are two of its own, the eight of its places, and further ones of its own."""
 
     __slots__ = ("_whole", "index", "_told")
 
     def __init__(self, whole: Parts[Any], index: int) -> None:
         self._whole = whole
-        #: The place among the parts of the text.
+        #: The index among the parts of the text.
         self.index = index
         self._told: Tuple[int, ...] = whole._LAYOUT.unpack_from(whole._parts, whole._LAYOUT.size * index)
 
@@ -34,16 +34,16 @@ class Part:
 
     @property
     def end(self) -> Place:
-        """The place behind the last character."""
+        """The place after the last character."""
         return Place(*self._told[6:10])
 
     @property
     def text(self) -> str:
-        """What stands in the source from the start to the end: of a number how it is written, of a string its quotes, too."""
+        """The source from the start to the end: a number as it is written, a string with its quotes."""
         return self._whole.text[self._told[2] : self._told[6]]
 
     def __eq__(self, other: object) -> bool:
-        """Whether both are the same part, of one text that was read once."""
+        """Whether both are the same part of the result of one call."""
         if not isinstance(other, Part):
             return NotImplemented
         return self._whole is other._whole and self.index == other.index
@@ -60,7 +60,7 @@ class Parts(Sequence[P]):
 
     __slots__ = ("text", "_parts", "_count")
 
-    #: How the numbers of a part are written.
+    #: The layout of a part's numbers in bytes.
     _LAYOUT: ClassVar[struct.Struct]
 
     def __init__(self, text: str, parts: bytes) -> None:

@@ -11,19 +11,19 @@ __all__ = ["Step", "Visitor"]
 
 
 class Step(enum.Enum):
-    """What a visitor wants instead of going on."""
+    """What the walk does instead of going on."""
 
-    #: From `enter`: the parts in the node are passed over, and it isn't left.
+    #: Returned from `enter`: the parts in the node are skipped, and `leave` isn't called for it.
     SKIP = "skip"
     #: The walk ends.
     STOP = "stop"
 
 
 class Visitor:
-    """Goes over nodes, each part before and after the parts in it.
+    """Walks over nodes. Each part is entered before the parts in it, and left after them.
 
-    A subclass has `enter_KIND` or `leave_KIND` for the kinds that it wants, as `enter_field`, and `enter` or `leave` for the
-    others. Each takes a node, and gives None or a Step.
+    A subclass has `enter_KIND` or `leave_KIND` for kinds of its choice, as `enter_field`, and `enter` or `leave` for the
+    others. Each takes a node, and returns None or a Step.
     """
 
     def enter(self, node: Node) -> Optional[Step]:
@@ -33,7 +33,7 @@ class Visitor:
         return None
 
     def visit(self, part: Union[Document, Node]) -> None:
-        """Goes over a document, or a node and the parts in it. It calls itself nowhere, so no depth is too much."""
+        """Walks over a document, or a node and the parts in it. It is not recursive, so no nesting is too deep for it."""
         document = part.document if isinstance(part, Node) else part
         index = part.index if isinstance(part, Node) else 0
         end = _end(part) if isinstance(part, Node) else len(part)
@@ -60,5 +60,5 @@ class Visitor:
 
 
 def _end(node: Node) -> int:
-    """The index behind a node and the parts in it."""
+    """The index after a node and the parts in it."""
     return node.index + 1 + node.descendants
