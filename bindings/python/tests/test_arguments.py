@@ -1,4 +1,4 @@
-"""Arguments of the wrong kind and of every extreme: none ends the process."""
+"""Arguments of the wrong type and at every extreme: none ends the process."""
 
 import os
 import pickle
@@ -14,7 +14,7 @@ from firthnapkin import MOST_DEPTH, Fault, Kind, Reason, __version__, parse
 
 
 class Index:
-    """What stands for a number, as those of other libraries do."""
+    """An object that can be used as a number, like those of other libraries."""
 
     def __index__(self) -> int:
         return 2
@@ -72,7 +72,7 @@ class Tokens(unittest.TestCase):
             self.assertEqual(str(pickle.loads(pickle.dumps(fault))), str(fault))
 
     def test_order(self) -> None:
-        """What stands behind the first token too many is not looked at, and none stands behind a lexical error."""
+        """Nothing after the first token too many is read, and there is no token after a lexical error."""
         for text, most, reason in [
             ('{ a ) } "', 2, Reason.TOO_MANY),
             ('{ a ) } "', 4, Reason.LEXICAL),
@@ -124,7 +124,7 @@ class Sources(unittest.TestCase):
 
 
 class Stacks(unittest.TestCase):
-    # The nesting that takes the most of the stack, and others.
+    # The nesting that takes the most stack, and others.
     DEEP = ("{...", "{a", "{a(x:{k:", "query($a:[")
 
     def in_thread(self, size: int, depth: int) -> List[str]:
@@ -172,7 +172,7 @@ class Stacks(unittest.TestCase):
 
 class Statuses(unittest.TestCase):
     def test_statuses(self) -> None:
-        """What each answer of the library is told as."""
+        """The error that is raised for each status of the library."""
         for status, error in ((7, ValueError), (2, SystemError), (3, SystemError), (6, SystemError), (8, SystemError)):
             with mock.patch.object(firthnapkin._parser, "parse", return_value=(status, b"", b"")):
                 with self.subTest(status=status), self.assertRaises(error) as raised:
@@ -181,7 +181,7 @@ class Statuses(unittest.TestCase):
                 self.assertIn("4 GiB" if status == 7 else str(status), str(raised.exception))
 
     def test_refused_depth(self) -> None:
-        """The extension alone takes no depth as it comes, either."""
+        """The extension by itself checks its depth and the types of its arguments, too."""
         for depth in (1001, 2**32 - 1, 2**32 + 5, -1, 2**64 - 1):
             self.assertEqual(firthnapkin._parser.parse(b"{a" * 200000, depth, 2**32 - 1)[0], 8)
         self.assertEqual(firthnapkin._parser.parse(b"\xff", 200, 2**32 - 1)[0], 2)
@@ -191,7 +191,7 @@ class Statuses(unittest.TestCase):
                 firthnapkin._parser.parse(*arguments)  # type: ignore[arg-type]
 
     def test_memory(self) -> None:
-        """Where memory runs out the process goes on."""
+        """The process goes on after memory has run out."""
         program = (
             "import resource, firthnapkin\n"
             "source = b'{' + b'a ' * 2**24 + b'}'\n"

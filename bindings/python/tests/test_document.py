@@ -1,4 +1,4 @@
-"""What a document's nodes say."""
+"""The nodes of a document, and their values."""
 
 import copy
 import pickle
@@ -117,7 +117,7 @@ class Nodes(unittest.TestCase):
         self.assertEqual((node.index, node.kind, node.text, node.parent), (5, Kind.ARGUMENTS, document[5].text, node.document[4]))
 
     def test_rooms(self) -> None:
-        """Texts of many nodes and of large rooms."""
+        """Texts with many nodes, and texts that need large buffers."""
         for text in ("{a(b:[" + "1 " * 9 + "])}", "{a(b:[" + "[]" * 90000 + "])}", "{" + "a " * 200000 + "}"):
             document = parse(text)
             self.assertEqual(document[0].descendants, len(document) - 1)
@@ -142,7 +142,7 @@ class Nodes(unittest.TestCase):
         self.assertEqual(found, [True] * 80)
 
     def test_other_threads_go_on(self) -> None:
-        """While a long text is parsed, another thread never waits for as long as half of that."""
+        """While a long text is parsed, another thread never waits for as long as half of that time."""
         text = ("{" + "a " * 1000000 + "}").encode()
         times: List[float] = []
         is_done = threading.Event()
@@ -228,7 +228,7 @@ class Visits(unittest.TestCase):
         self.assertEqual(seen, ["QUERY", "VARIABLES", "VARIABLE", "TYPE", "a", "SPREAD", "FRAGMENT"])
 
     def test_depth(self) -> None:
-        """A walk takes no more of the interpreter's stack for a deep text."""
+        """A walk over a deep text takes no more of the interpreter's stack."""
         document = parse("{a" * 1000 + "}" * 1000, depth=1000)
         count = [0]
 
@@ -244,7 +244,7 @@ class Visits(unittest.TestCase):
 
 class EditedTexts(unittest.TestCase):
     def test_places(self) -> None:
-        """Each text has a document or a fault, whose place lies in the text."""
+        """Each text has a document or a fault, and the place of the fault lies in the text."""
         random.seed(7)
         base = 'query Q($x: [Int!]! = [1, "a"]) @d { b: c(d: {e: $x, s: "q\\n"}) @f(a: T) { ... on T { g } ...F } }'
         base += " fragment F on T { a }"

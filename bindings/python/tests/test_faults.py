@@ -1,4 +1,4 @@
-"""What a fault says."""
+"""Faults: their words, places, excerpts and copies."""
 
 import concurrent.futures
 import copy
@@ -25,7 +25,7 @@ def parts(fault: Fault) -> Dict[str, Any]:
 
 class Faults(unittest.TestCase):
     def test_reasons(self) -> None:
-        """Each reason and each detail, with its words, its characters and both its places."""
+        """Each reason and each detail, with its message, its character and both its places."""
         for text, reason, detail, character, start, end, told in [
             ("{\n  a )\n}", Reason.UNEXPECTED_TOKEN, Detail.NO_DETAIL, None, (6, 1, 4, 6), (7, 1, 5, 7), 'Unexpected ")". At 1:4'),
             ("{ a: }", Reason.UNEXPECTED_TOKEN, Detail.NO_DETAIL, None, (5, 0, 5, 5), (6, 0, 6, 6), 'Unexpected "}". At 0:5'),
@@ -66,7 +66,7 @@ class Faults(unittest.TestCase):
         parse("{a" * 200 + "}" * 200)
 
     def test_long_words(self) -> None:
-        """Words of every length about the rooms that are tried."""
+        """Messages of lengths around the sizes of the buffers that are tried."""
         for length in (1, 200, 243, 244, 245, 255, 256, 257, 5000):
             name = "n" * length
             self.assertEqual(str(fault_of("query a " + name)), f'Unexpected "{name}". At 0:8')
@@ -100,7 +100,7 @@ class Copies(unittest.TestCase):
                 self.assertEqual(parts(other), parts(fault))
 
     def test_pool(self) -> None:
-        """A refused text in another process."""
+        """The fault of a text that is refused in another process."""
         context = multiprocessing.get_context("spawn")
         with concurrent.futures.ProcessPoolExecutor(1, mp_context=context) as pool:
             answer = pool.submit(parse, "{ a ) }")
@@ -128,7 +128,7 @@ class Excerpts(unittest.TestCase):
         self.assertEqual(fault_of('{a(b:"c\n)}').excerpt, 'GraphQL request:1:8\n1 | {a(b:"c\n  |        ^\n2 | )}')
 
     def test_long_lines(self) -> None:
-        """A line of more than 120 characters is cut into pieces of 80, and ends a piece behind the caret."""
+        """A line of more than 120 characters is cut into pieces of 80, and ends one piece after the caret."""
         text = "{ " + "abcdefg " * 20 + ")" + " x" * 60
         pieces = [text[i : i + 80] for i in range(0, len(text), 80)]
         self.assertEqual(text.index(")"), 162)

@@ -1,4 +1,4 @@
-"""In graphql-core's place: what it gives, and what it tells, for every text. Skipped where graphql-core 3.2 is not there."""
+"""In graphql-core's place: results and errors for every text. Skipped where graphql-core 3.2 is not installed."""
 
 import copy
 import gc
@@ -27,7 +27,7 @@ from graphql.language.parser import parse as own_parse
 sys.path.insert(0, os.path.join(os.path.dirname(os.path.abspath(__file__)), "..", "..", "..", "tests"))
 from rows import rows
 
-# Every kind of node, and characters beyond ASCII in front of names, types and braces.
+# Every kind of node, and characters beyond ASCII before names, types and braces.
 WHOLE = """
 query Q(# é𝄞
   $x: [ # é
@@ -86,7 +86,7 @@ def row_texts() -> Iterator[str]:
 
 
 def answer(parse: Any, *arguments: Any, **options: Any) -> Any:
-    """A document, or what is raised. The words of graphql-core's error fail where it cannot find the place itself."""
+    """A document, or the error that is raised. Formatting graphql-core's error fails where it cannot find the place itself."""
     try:
         return parse(*arguments, **options)
     except GraphQLSyntaxError as error:
@@ -97,7 +97,7 @@ def answer(parse: Any, *arguments: Any, **options: Any) -> Any:
 
 class Texts(unittest.TestCase):
     def same(self, text: str) -> bool:
-        """Whether both give a document, which is the same."""
+        """Checks that both give the same document or the same error. Returns whether it is a document."""
         own, ours = answer(own_parse, text), answer(graphql_core.parse, text, depth=1000)
         self.assertEqual(ours, own)
         if isinstance(own, tuple):
@@ -120,13 +120,13 @@ class Texts(unittest.TestCase):
         self.assertGreater(trees, 500)
 
     def test_no_other_parser_is_asked(self) -> None:
-        """What both read alike is read by this package alone."""
+        """Texts that both read alike are read by this package alone."""
         with mock.patch.object(graphql_core, "own_parse", side_effect=AssertionError):
             for text in (WHOLE, "{a}", "{a(b:1 c:-0.5e3)}", "query($a:Int=1@d(x:2)){a(b:$a)}"):
                 self.assertIsInstance(graphql_core.parse(text), ast.DocumentNode)
 
     def test_the_other_parser_is_asked(self) -> None:
-        """Each difference between the two, and each fault."""
+        """Each difference between the two, and each error."""
         for text in [
             "{a(b:1c:2)}", "{a(b:[1.5.c])}", "{a(b:1_:2)}", "query($a:Int @d(x:$b)){a}", "query($a:Int @d(x:[{y:$b}])){a}",
             '{a(b:"\\ud83d\\ude00")}', '{a(b:"\\u{1F600}")}', "type T { a: B }", '"d" type T { a: B }', "{a b: }", "\ud800", "",
@@ -196,7 +196,7 @@ class Nodes(unittest.TestCase):
         self.assertEqual(str(errors[1][0]), str(errors[0][0]))
 
     def test_search_for_circles(self) -> None:
-        """Whether the interpreter looks for circles is as it was."""
+        """Garbage collection is enabled or disabled as it was before."""
         self.assertTrue(gc.isenabled())
         for text in (WHOLE, "{ a ) }", "{a{b}}"):
             answer(graphql_core.parse, text, depth=1 if text == "{a{b}}" else 200)
@@ -209,7 +209,7 @@ class Nodes(unittest.TestCase):
                 gc.enable()
 
     def test_nothing_is_kept(self) -> None:
-        """What is made is given back, and counts of references stay."""
+        """All objects that are made are freed, and counts of references stay the same."""
         texts = [WHOLE, "{a(b:1c:2)}", "{a{b}}", "{ a ) }"]
         kept = [None, (), True, False, graphql.OperationType.QUERY, ast.FieldNode, graphql_core.Location]
 

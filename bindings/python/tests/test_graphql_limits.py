@@ -1,4 +1,5 @@
-"""Limits in graphql-core's place: what is told, where, and by whom. Skipped where graphql-core 3.2 is not there."""
+"""Limits in graphql-core's place: the errors, their places, and which parser reports them. Skipped where graphql-core 3.2 is
+not installed."""
 
 import inspect
 import math
@@ -13,7 +14,7 @@ from contextlib import ExitStack, contextmanager
 from typing import Any, Iterator, List
 from unittest import mock
 
-from test_graphql_core import WHOLE, answer, made_texts, row_texts  # skips where graphql-core 3.2 is not there
+from test_graphql_core import WHOLE, answer, made_texts, row_texts  # skips where graphql-core 3.2 is not installed
 
 import graphql
 from firthnapkin import graphql_core
@@ -22,12 +23,12 @@ from graphql.language import Lexer, TokenKind, ast
 from graphql.language.parser import Parser
 from graphql.language.parser import parse as own_parse
 
-# The first releases of 3.2 take no max_tokens; with them only what is written here is compared.
+# The first releases of 3.2 have no max_tokens. With them, results are compared only with those that are written here.
 HAS_OPTION = "max_tokens" in inspect.signature(own_parse).parameters
 
 
 class FirstParser(Parser):
-    """A parser as those releases have it: it counts nothing."""
+    """A parser as in those releases: it doesn't count tokens."""
 
     def __init__(self, source: Any, no_location: bool = False, allow_legacy_fragment_variables: bool = False) -> None:
         super().__init__(source, no_location=no_location, allow_legacy_fragment_variables=allow_legacy_fragment_variables)
@@ -49,7 +50,7 @@ def first_release() -> Iterator[None]:
 
 @contextmanager
 def nobody_else() -> Iterator[None]:
-    """graphql-core's own parser fails where it is asked."""
+    """graphql-core's own parser fails when it is called."""
     with mock.patch.object(graphql_core, "own_parse", side_effect=AssertionError("asked")):
         with mock.patch.object(graphql_core, "Parser", side_effect=AssertionError("asked")):
             yield
@@ -60,7 +61,7 @@ def releases() -> List[Any]:
 
 
 def starts(text: str) -> List[int]:
-    """Where graphql-core's tokens start, comments and the end not counted."""
+    """Where graphql-core's tokens start, without comments and the end."""
     lexer, found = Lexer(Source(text)), []
     while lexer.advance().kind is not TokenKind.EOF:
         found.append(lexer.token.start)
@@ -79,7 +80,7 @@ READ = [
     "fragment F on T @d(x: [$a]) { b(c: $d) }",
 ]  # fmt: skip
 
-# Texts with a fault, or with what only one of both reads.
+# Texts with an error, or with a part that only one of the two parsers reads.
 FAULTY = [
     "", "{", "{a ) }", "{a} }", "}", "{a ? b}", "{a}é", "{a é", "{a(b:1c:2)}", "{a(b:1.x)}", "{a(b:[1...", "{a(b:[1.5...",
     "{a(b:01)}", "{a(b:1_)}", "{a(b:1.5c)}", "query($a:Int=$b){c}", "query($a:Int=[$b]){c}", "query($a:Int@d(x:$b)){c}",
@@ -93,7 +94,7 @@ FAULTY = [
 
 
 class TooMany(unittest.TestCase):
-    """Told by this package, in graphql-core's words, at the place that graphql-core tells."""
+    """This package reports it, in graphql-core's words, at the place that graphql-core reports."""
 
     def refused(self, text: str, most: int, index: int) -> None:
         with self.assertRaises(GraphQLSyntaxError) as raised:
@@ -115,7 +116,7 @@ class TooMany(unittest.TestCase):
                 self.refused(text, most, index)
 
     def test_every_token(self) -> None:
-        """Each token is the first one too many for one limit, and for none where there are as many as may be."""
+        """Each token is the first one too many for one limit. None is where the limit is not below the number of tokens."""
         for text in READ:
             places = starts(text)
             with nobody_else():
@@ -125,7 +126,7 @@ class TooMany(unittest.TestCase):
                     self.assertIsInstance(graphql_core.parse(text, max_tokens=most), ast.DocumentNode)
 
     def test_a_large_text(self) -> None:
-        """No node is made: the bytes of the text are the most that is taken."""
+        """No node is made. The bytes of the text are most of the memory that is taken."""
         text = "{" + "a " * 500_000 + "}"
         for most in (0, 5, 400_000):
             tracemalloc.start()
@@ -138,7 +139,7 @@ class TooMany(unittest.TestCase):
 
     @unittest.skipUnless(os.path.exists("/proc/self/statm"), "no /proc")
     def test_nothing_is_left(self) -> None:
-        """The memory of the process stays, however often a limit is told."""
+        """The process keeps no more memory, however often it reports a limit."""
 
         def resident() -> int:
             with open("/proc/self/statm", encoding="ascii") as file:
@@ -182,7 +183,7 @@ class TooMany(unittest.TestCase):
 
 
 class Verdicts(unittest.TestCase):
-    """What graphql-core says itself within a limit, whether the release counts tokens or not."""
+    """graphql-core's own results within a limit, whether the release counts tokens or not."""
 
     def same(self, text: str, most: object, **options: Any) -> Any:
         own = answer(own_parse, text, max_tokens=most, **options)
@@ -201,7 +202,7 @@ class Verdicts(unittest.TestCase):
 
     @unittest.skipUnless(HAS_OPTION, "this graphql-core counts no tokens")
     def test_rows_and_made_texts(self) -> None:
-        """Some limit for each text, and who tells that it isn't kept."""
+        """Some limit for each text, and which parser reports a token beyond it."""
         refused = ours = 0
         random.seed(2021)
         for text in [*row_texts(), *made_texts()]:
@@ -233,7 +234,7 @@ class Verdicts(unittest.TestCase):
                 self.same(text, most, allow_legacy_fragment_variables=True)
 
     def test_who_is_asked(self) -> None:
-        """graphql-core's own parser, within the limit, for what it may read otherwise and for each fault before the limit."""
+        """graphql-core's own parser is called, within the limit: for texts that it may read otherwise, and for earlier errors."""
         for text, most, message, index in [
             ("{a ) }", 3, "Expected Name, found ')'.", 3),
             ("{a ) }", 4, "Expected Name, found ')'.", 3),
@@ -256,7 +257,7 @@ class Verdicts(unittest.TestCase):
                 self.assertEqual(graphql_core.parse("type T { a: B }", max_tokens=7), own_parse("type T { a: B }"))
 
     def test_what_is_asked(self) -> None:
-        """The limit is handed on, and where it can't be, tokens are counted."""
+        """The limit is passed on. Where it can't be, tokens are counted."""
         self.assertIs(graphql_core._COUNTS_TOKENS, HAS_OPTION)
         with mock.patch.object(graphql_core, "own_parse", return_value="asked") as asked:
             with mock.patch.object(graphql_core, "_COUNTS_TOKENS", True):
@@ -268,7 +269,7 @@ class Verdicts(unittest.TestCase):
 
 
 class BothLimits(unittest.TestCase):
-    """The first token beyond either limit is told; one beyond both is one too many."""
+    """The first token beyond either limit is reported. A token beyond both is reported as one too many."""
 
     def test_which_is_told(self) -> None:
         deep = "Syntax Error: Brackets are nested deeper than 1."
@@ -291,7 +292,7 @@ class BothLimits(unittest.TestCase):
             self.assertEqual((error[0], error[2]), (GraphQLSyntaxError, [index]))
 
     def test_faults_before_what_is_too_deep(self) -> None:
-        """They are told, although the parser of this package goes on behind them."""
+        """They are reported, although this package's parser goes on after them."""
         for text, depth in [
             ("{a(b:1c:[[]])}", 3), ("{a(b:[1.5e3a [[]]])}", 3), ("query($a:Int @d(x:$b) = [[]]){c}", 2),
             ("query($a:Int @d(x:$b) $c: T @e(f: [[1]])){c}", 2),

@@ -1,5 +1,5 @@
-"""The rows of the language: a text's nodes give the lines that gqlcheck writes, and its fault is gqlcheck's own; its tokens are
-those that a pattern cuts, and its canonical text is what gqlcanon writes."""
+"""The rows of the language. A text's nodes give the lines that gqlcheck writes, and its error is the same as gqlcheck's. Its
+tokens are those that a pattern finds, and its canonical text is the one that gqlcanon writes."""
 
 import os
 import sys
@@ -56,7 +56,7 @@ class Rows(unittest.TestCase):
         self.of_file("peer.rows", 1500)
 
     def test_tokens(self) -> None:
-        """Kinds and texts of each text that can be cut; of each other text of gqlcheck the fault that parse has."""
+        """Kinds and texts of the tokens of each text that can be cut. For each other text of gqlcheck, the fault of parse."""
         counts = {"cut": 0, "refused": 0}
         for name in ("gqlcheck.rows", "peer.rows", "canonical.rows"):
             for row in rows(name):
@@ -87,7 +87,7 @@ class Rows(unittest.TestCase):
         self.assertGreater(counts["refused"], 1000)
 
     def test_documents(self) -> None:
-        """A row of documents tells the first and the last place of each part, too."""
+        """A row of documents has the first and the last place of each part, too."""
         count = 0
         for row in rows("documents.rows"):
             if row.kind != "document" or not row.wanted or " " not in row.wanted[0]:

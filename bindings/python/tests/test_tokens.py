@@ -1,4 +1,4 @@
-"""What a text is cut into, and its canonical text."""
+"""The tokens of a text, and its canonical text."""
 
 import copy
 import os
@@ -75,7 +75,7 @@ class Cut(unittest.TestCase):
         self.assertEqual((token.index, token.kind, token.unquoted), (5, K.STRING, 'é𝄞\\"'))
 
     def test_rooms(self) -> None:
-        """Numbers of tokens about the rooms that are tried, and many."""
+        """Numbers of tokens around the sizes of the arrays that are tried, and large ones."""
         for count in (*range(0, 70), 5000, 300000):
             for part in ("a ", "!"):
                 text = part * count
@@ -85,7 +85,7 @@ class Cut(unittest.TestCase):
                     self.assertEqual(found[-2].start.index, len(text) - len(part))
 
     def test_not_a_document(self) -> None:
-        """Whether the tokens are a document is not looked at, nor how deep brackets are nested."""
+        """It is not checked whether the tokens are a document, nor how deep brackets are nested."""
         self.assertEqual([it.text for it in tokens(") type {")], [")", "type", "{", ""])
         self.assertEqual(len(tokens("{" * 100000)), 100001)
 
@@ -106,7 +106,7 @@ class Canonical(unittest.TestCase):
                 self.assertEqual(canonical(wanted), wanted)
 
     def test_longer_than_the_text(self) -> None:
-        """As many spaces as there are seams: the first room is too short."""
+        """As many spaces as there are seams: the first buffer is too short."""
         for count in (*range(1, 40), 5000, 100000):
             text = '1a""' * count
             self.assertEqual(canonical(text), " ".join(["1", "a", '""'] * count))
@@ -114,7 +114,7 @@ class Canonical(unittest.TestCase):
 
 class Faults(unittest.TestCase):
     def test_faults(self) -> None:
-        """Of both calls the first place where no token is, with its words: parse has the same fault."""
+        """Both calls report the first place that has no token, with its message. parse has the same fault."""
         for text, detail, character, index, message in [
             ("?", Detail.UNKNOWN_CHARACTER, "?", 0, 'Unknown character "?"'),
             ("} é ?", Detail.UNKNOWN_CHARACTER, "é", 2, 'Unknown character "é"'),
@@ -152,7 +152,7 @@ class Faults(unittest.TestCase):
             self.assertEqual((parsed.start, parsed.end, str(parsed)), (fault.start, fault.end, str(fault)))
 
     def test_order(self) -> None:
-        """What stands behind the first token too many is not looked at, and none stands behind a lexical error."""
+        """Nothing after the first token too many is read, and there is no token after a lexical error."""
         for text, most, reason in [
             ('{ a "', 1, Reason.TOO_MANY),
             ('{ a "', 2, Reason.LEXICAL),
@@ -208,7 +208,7 @@ class Arguments(unittest.TestCase):
         self.assertEqual(fault_of(tokens, "!" * 2**26, max_tokens=2**22).start.index, 2**22)
 
     def test_statuses(self) -> None:
-        """What each answer of the library is told as."""
+        """The error that is raised for each status of the library."""
         for status, error in ((7, ValueError), (2, SystemError), (3, SystemError), (6, SystemError), (8, SystemError)):
             for name, call in (("tokens", tokens), ("canonical", canonical)):
                 with mock.patch.object(firthnapkin._parser, name, return_value=(status, b"", b"")):
@@ -218,7 +218,7 @@ class Arguments(unittest.TestCase):
                     self.assertIn("4 GiB" if status == 7 else str(status), str(raised.exception))
 
     def test_the_extension_alone(self) -> None:
-        """It takes no argument as it comes, either."""
+        """The extension checks the types of its arguments, too."""
         extension = firthnapkin._parser
         for most in (2, 2**32 - 1, 2**32 + 5, 2**64 - 1):
             self.assertEqual(extension.tokens(b"\xff", most)[0], 2)
@@ -239,7 +239,7 @@ class Processes(unittest.TestCase):
         return found.stdout
 
     def test_memory(self) -> None:
-        """Where memory runs out the process goes on."""
+        """The process goes on after memory has run out."""
         for call in ("tokens(source, 2**32 - 1)", "canonical(source)"):
             program = (
                 "import resource, firthnapkin\n"
@@ -252,7 +252,7 @@ class Processes(unittest.TestCase):
             self.assertEqual(self.written(program), b"memory 4 a b\n")
 
     def test_small_stacks(self) -> None:
-        """Threads with the least stack that there is."""
+        """Threads with the smallest possible stack."""
         found: List[Any] = []
 
         def work() -> None:
@@ -283,7 +283,7 @@ class Processes(unittest.TestCase):
         self.assertEqual(found, [True] * 40)
 
     def test_other_threads_go_on(self) -> None:
-        """While a long text is cut, another thread never waits for as long as half of that."""
+        """While a long text is cut, another thread never waits for as long as half of that time."""
         text = ("a" * 60 + " #" + "é" * 60 + "\n").encode() * 200000
         for call in (lambda: firthnapkin._parser.tokens(text, 2**32 - 1), lambda: firthnapkin._parser.canonical(text)):
             times: List[float] = []
@@ -305,7 +305,7 @@ class Processes(unittest.TestCase):
             self.assertLess(max(b - a for a, b in zip(within, within[1:])), (end - begin) / 2)
 
     def test_nothing_is_kept(self) -> None:
-        """What a call takes from the system is given back."""
+        """A call frees all memory that it takes from the system."""
         program = (
             "import firthnapkin\n"
             "texts = ['a ' * 50000, '1a\"\"' * 20000, 'a ' * 50000 + '?']\n"

@@ -49,8 +49,8 @@ static bool is_read_otherwise(const builder *b) {
     return false;
 }
 
-/* Whether graphql-core refuses one of these tokens. All but the last one begin a document. It refuses a number that goes on, and
- * a variable that is nested deeper than those that an operation defines. */
+/* Whether graphql-core refuses one of these tokens. All but the last one begin a document. It refuses a number that goes on,
+ * and a variable that is nested deeper than those that an operation defines. */
 static bool has_refused_token(const whole *cut, const uint8_t *source, size_t length) {
     size_t depth = 0;
     bool is_constant = false;

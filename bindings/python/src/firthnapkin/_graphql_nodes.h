@@ -98,8 +98,8 @@ static PyObject *none(void) {
     return Py_None;
 }
 
-/* An object with these attributes. Their references are taken, whether the object is made or not. An attribute that could not be
- * made is missing. */
+/* An object with these attributes. Their references are taken, whether the object is made or not. An attribute that could
+ * not be made is missing. */
 static PyObject *object_of(const builder *b, int class, PyObject **values) {
     const node_class *c = &b->state->classes[class];
     bool is_whole = true;
