@@ -1,8 +1,8 @@
-# What ./gqlcheck, ./gqlcanon, ./prove and ./c-library share: which crates a crate depends on, whether what was built is
-# older than a source, how crates are proved side by side, and how a program is run. It is sourced, with the repository's
-# folder in $root.
+# The functions that ./gqlcheck, ./gqlcanon, ./prove and ./c-library share: which crates a crate depends on, whether a built
+# file is older than a source, how crates are proved in parallel, and how a program is run. It is sourced, with the
+# repository's folder in $root.
 
-# crates_below NAME ..: the crates of this repository that these depend on, the lowest first, each once, and they themselves.
+# crates_below NAME ..: these crates and the crates of this repository that they depend on, the lowest first, each once.
 crates_below() {
     crates_in_turn "$@" | awk '!seen[$0]++'
 }
@@ -32,7 +32,7 @@ is_older() {
         -newer "$file" -print -quit)" ]
 }
 
-# has_kit WHO: ends with a line on standard error, and status 127, where the kit's command is not there.
+# has_kit WHO: ends with a line on standard error, and status 127, where the kit's command is missing.
 has_kit() {
     if ! command -v rt > /dev/null; then
         echo "$1: the command rt of the Rattle kit is not on this machine's PATH" >&2
@@ -40,8 +40,8 @@ has_kit() {
     fi
 }
 
-# prove_crates WHO LOG NAME ..: proves these crates, each as soon as those that it stands on are proved, and tells each as
-# it begins. What was proved before and is not older than its sources is passed over by the kit. False where one fails.
+# prove_crates WHO LOG NAME ..: proves these crates, each as soon as those that it depends on are proved, and reports each when
+# its proof begins. The kit skips a crate that was proved before and is not older than its sources. False where one fails.
 prove_crates() {
     local who=$1 log=$2 begin=$SECONDS number=0 name marks
     shift 2
@@ -57,7 +57,7 @@ prove_crates() {
     [ "$proved" = $# ]
 }
 
-# One of them: it waits for those that it stands on, and does nothing where one of these has failed.
+# Proves one of them. It waits for those that it depends on, and does nothing where one of these has failed.
 prove_after_others() {
     local who=$1 log=$2 name=$3 number=$4 begin=$5 marks=$6 below
     shift 6
@@ -78,7 +78,7 @@ prove_after_others() {
     fi
 }
 
-# A program is proved by a run of it, a library by its build.
+# A program is proved by running it, a library by building it.
 prove_crate() {
     cd "$root/crates/$1" || return 1
     if [ -e src/main.rt ]; then
@@ -88,12 +88,12 @@ prove_crate() {
     fi
 }
 
-# The longest text of a checked run, in bytes: of much less it gives no answer in time.
+# The longest text of a checked run, in bytes. Much shorter ones already get no result in time.
 longest=$((1 << 24))
 
-# run_program NAME WORD ..: runs the program of this crate on standard input, where it is no older than its sources. Else
-# the kit's checked run answers, which proves nothing and checks every access as it runs; a line on standard error says so.
-# The statuses are the program's; 125 says that the checked run gave no answer, and 127 that the kit is missing.
+# run_program NAME WORD ..: runs the program of this crate on standard input, where it is no older than its sources. Otherwise
+# it makes the kit's checked run, which proves nothing and checks every access as it runs. A line on standard error says so.
+# The statuses are the program's. The status 125 says that the checked run gave no result, and 127 that the kit is missing.
 run_program() {
     local name=$1 program=$root/crates/$1/out/$1
     shift
@@ -109,8 +109,8 @@ run_program() {
     run_checked "$name"
 }
 
-# run_checked NAME: the checked run over the file `text` of $folder. Its last line tells whether a status is the
-# program's: only then is what was written a report.
+# run_checked NAME: the checked run on the file `text` of $folder. Its last line says whether a status is the program's. Only
+# then its output is a report.
 run_checked() {
     local name=$1 status last
     (cd "$root/crates/$name" && rt try) < "$folder/text" > "$folder/report" 2> "$folder/told"
@@ -126,7 +126,7 @@ run_checked() {
     ends_with "$name: the checked run gave no answer: ${last:-it told nothing}" 125
 }
 
-# write_report NAME STATUS: writes what a checked run wrote. The kit puts a line end behind a text that ends without one,
+# write_report NAME STATUS: writes the output of a checked run. The kit adds a line end to an output that ends without one,
 # and a canonical text never ends with one.
 write_report() {
     if [ "$1 $2" = 'gqlcanon 0' ] && [ -z "$(tail -c 1 "$folder/report")" ]; then
@@ -136,7 +136,7 @@ write_report() {
     fi
 }
 
-# ends_with LINE STATUS: ends with a line on standard error.
+# ends_with LINE STATUS: ends with this status, and this line on standard error.
 ends_with() {
     echo "$1" >&2
     exit "$2"
