@@ -16,23 +16,23 @@ check = checks.check
 version = read("VERSION").strip()
 kinds, refusals, details = enum("firthnapkin_kind"), enum("firthnapkin_refusal"), enum("firthnapkin_detail")
 statuses = enum("firthnapkin_status")
-# Neither is ever told.
+# The library never reports these two.
 told_refusals = {word: number for word, number in refusals.items() if word != "SCALAR"}
 told_details = {word: number for word, number in details.items() if word != "INVALID_NUMBER"}
 
 
 def upper(name):
-    """`LARGE_INT` of `LargeInt` and `largeInt`."""
+    """`LARGE_INT` for `LargeInt` and `largeInt`."""
     return re.sub(r"(?<=[a-z0-9])(?=[A-Z])", "_", name).upper()
 
 
 def numbers(text, pattern):
-    """Words, in the header's way to write them, and their numbers."""
+    """Words, written as in the header, and their numbers."""
     return {upper(word): int(number) for word, number in re.findall(pattern, text, re.M)}
 
 
 def part(text, begin, end):
-    """What stands between two pieces of text."""
+    """The text between two pieces of text."""
     return re.search(f"{begin}(.*?){end}", text, re.S)[1]
 
 

@@ -1,9 +1,10 @@
-"""Texts cut into tokens by the specification's grammar, written as one pattern: beside what the programs and the library do."""
+"""Cuts texts into tokens by the specification's grammar, written as one pattern. The programs and the library are compared with
+it."""
 
 import re
 from typing import List, Tuple
 
-# Ignored tokens, and the one group of all others. It is asked of texts that can be cut alone.
+# Ignored tokens, and the one group of all others. It is used only on texts that can be cut.
 PIECE = re.compile(
     r'[\ufeff\t\n\r ,]+|#[^\n\r]*|("""(?:\\"""|(?!\\?""").)*"""|"(?:\\.|[^"\\\n\r])*"|\.\.\.|[A-Za-z_][A-Za-z0-9_]*'
     r"|-?(?:0|[1-9][0-9]*)(?:\.[0-9]+)?(?:[eE][+-]?[0-9]+)?|[!$()\[\]{}:=@|])",
@@ -12,7 +13,7 @@ PIECE = re.compile(
 
 PUNCTUATOR = re.compile(r"\.\.\.|[!$()\[\]{}:=@|]")
 
-# The kinds of tokens by what they are written as; a token that is none of the last ones is an Int.
+# The kinds of tokens by their text. A token that matches none of OTHERS is an Int.
 PUNCTUATORS = {
     "!": "EXCLAMATION_MARK", "$": "DOLLAR", "(": "PAREN_OPEN", ")": "PAREN_CLOSE", "[": "BRACKET_OPEN", "]": "BRACKET_CLOSE",
     "{": "CURLY_OPEN", "}": "CURLY_CLOSE", "...": "ELLIPSIS", ":": "COLON", "=": "EQUALS", "@": "AT", "|": "PIPE",
@@ -21,7 +22,7 @@ OTHERS = (("BLOCK_STRING", '"""'), ("STRING", '"'), ("NAME", "[A-Za-z_]"), ("FLO
 
 
 def cut(text: str) -> List[Tuple[int, str]]:
-    """Where each token of a text begins, and its text, up to what is none."""
+    """Where each token of a text begins, and its text, up to the first place that has no token."""
     tokens, at = [], 0
     while at < len(text):
         piece = PIECE.match(text, at)
@@ -34,17 +35,17 @@ def cut(text: str) -> List[Tuple[int, str]]:
 
 
 def kind_of(token: str) -> str:
-    """The word of a token's kind."""
+    """The name of a token's kind."""
     return PUNCTUATORS.get(token) or next((kind for kind, begin in OTHERS if re.match(begin, token)), "INT")
 
 
 def unquoted(token: str) -> str:
-    """A token without the quotes of a string."""
+    """The text of a token without the quotes of a string."""
     return token[3:-3] if token.startswith('"""') else token[1:-1] if token.startswith('"') else token
 
 
 def joined(tokens: List[str]) -> str:
-    """Tokens one behind the other, with a space between two that are no punctuators, and before `...` behind one that is none."""
+    """Tokens one after the other, with a space between two that are no punctuators, and before `...` after one that is none."""
     parted = (
         not PUNCTUATOR.fullmatch(before) and (after == "..." or not PUNCTUATOR.fullmatch(after))
         for before, after in zip(tokens, tokens[1:])

@@ -1,7 +1,8 @@
-"""For pytest, which tests/graphql_core_tests runs: puts firthnapkin's parse in graphql-core's place where FIRTHNAPKIN_PARSE is
-'ours', and writes what came of each test into the file that FIRTHNAPKIN_OUTCOMES names, a line of JSON each.
+"""A plugin for pytest, which tests/graphql_core_tests runs. It puts firthnapkin's parse in graphql-core's place where
+FIRTHNAPKIN_PARSE is 'ours', and writes the outcome of each test into the file that FIRTHNAPKIN_OUTCOMES names, a line of JSON
+each.
 
-Tests of graphql-core 2.3 find the names that they import, so far as 3.2 has what they stand for.
+It defines the names that tests of graphql-core 2.3 import, as far as 3.2 has the same under another name.
 """
 
 import json
@@ -17,7 +18,7 @@ from graphql.type import definition
 
 
 class Loc:
-    """A location as 2.3 has it: it equals each that begins and ends with it."""
+    """A location as in 2.3: it equals each location with the same start and end."""
 
     def __init__(self, start: int, end: int, source: Any = None) -> None:
         self.start, self.end, self.source = start, end, source
@@ -30,7 +31,7 @@ class Loc:
 
 
 def name_without(ending: str, module: Any, source: Any) -> None:
-    """What the source has under a name with the ending stands in the module under the name without it, too."""
+    """Each name of the source that has the ending is defined in the module without the ending, too."""
     for name, it in list(vars(source).items()):
         if name.endswith(ending) and not hasattr(module, name[: -len(ending)]):
             setattr(module, name[: -len(ending)], it)
@@ -65,7 +66,7 @@ def pytest_configure() -> None:
 
 
 def write(report: Any) -> None:
-    """What a report tells, without the addresses of objects and the length of a traceback, which no two runs share."""
+    """Writes a report, without the addresses of objects and the length of a traceback, which differ between two runs."""
     crash = getattr(report.longrepr, "reprcrash", None)
     words = crash.message if crash else str(report.longrepr or "")
     words = re.sub(r"0x[0-9a-f]+|tblen=[0-9]+", "", words)

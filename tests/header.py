@@ -1,4 +1,4 @@
-"""The header and other files of the repository, as the checks of tests/ read them."""
+"""Reads the header and other files of the repository, for the checks in tests/."""
 
 import re
 import sys
@@ -28,12 +28,12 @@ def declared(word):
 
 
 def defined(word):
-    """What stands behind a name that the header defines."""
+    """The text after a name that the header defines."""
     return re.search(rf"^#define {re.escape(word)} (.*)$", header, re.M)[1]
 
 
 class Checks:
-    """Counts what holds, and tells what doesn't."""
+    """Counts the checks that hold, and prints those that don't."""
 
     def __init__(self):
         self.passed = self.failed = 0

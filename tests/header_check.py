@@ -3,7 +3,7 @@
 the fields of each type, their types, offsets and sizes, the calls' parameters, the numbers of statuses, of kinds of nodes and
 of tokens, of refusals and details, and the version. The last line is 'N passed, M failed'.
 
-    tests/header_check.py LAYOUT    what the program of tests/c/layout.c writes
+    tests/header_check.py LAYOUT    a file with the output of the program of tests/c/layout.c
 """
 
 import re
@@ -25,7 +25,7 @@ def part_of(name, begin, end):
 
 # ---- types
 
-# Of each type of a field its size and alignment, and its name in C.
+# For each type of a field its size and alignment, and its name in C.
 SIZES = {"u32": (4, 4), "i64": (8, 8)}
 C_NAMES = {"u32": "uint32_t", "i64": "int64_t", "Place": "firthnapkin_place"}
 
@@ -108,7 +108,7 @@ words = {
 check("details", enum("firthnapkin_detail"), {"NO_DETAIL": 0, **{words[name]: int(detail) for name, _, detail, _ in lexical}})
 check("the largest depth", defined("FIRTHNAPKIN_MOST_DEPTH"), re.search(r"const MOST_DEPTH: u32 = (\d+);", source("depth"))[1])
 
-# ---- the version, which the file VERSION says
+# ---- the version, which is in the file VERSION
 
 version = read("VERSION").strip()
 first, second, third = map(int, version.split("."))
@@ -133,7 +133,7 @@ C_TYPES = {
     "needed: &mut usize": ["size_t *needed"],
     "tokens: &mut [Token]": ["firthnapkin_token *tokens", "size_t tokens_room"],
     "tokens_needed: &mut usize": ["size_t *tokens_needed"],
-    # It takes no place among the parameters.
+    # C has no parameter for it.
     "alloc: Global": [],
 }
 exported = 0

@@ -1,10 +1,10 @@
-/* An allocator that refuses, and measures: a library for LD_PRELOAD, over the allocator of glibc.
+/* An allocator that refuses requests, and measures: a library for LD_PRELOAD that calls the allocator of glibc.
  *
  * It counts the requests for memory that a program makes between the first and the second line that it writes to
  * standard output or, where REFUSALS_FROM_START is set, all of them. It refuses the request of number REFUSED_REQUEST,
- * from 1, and where REFUSED_ONWARDS is set each counted one after it. At the end it writes four numbers to the file that
- * REFUSALS_TOLD names: the requests that were counted, those that were refused, the blocks that were not given back, and
- * how many more bytes the program held at most while requests were counted than it held before.
+ * counted from 1, and where REFUSED_ONWARDS is set each counted one after it. At the end it writes four numbers to the file
+ * that REFUSALS_TOLD names: the requests that were counted, those that were refused, the blocks that were not freed, and how
+ * many more bytes the program held at most while requests were counted than it held before.
  */
 #define _GNU_SOURCE
 #include <errno.h>
@@ -38,7 +38,7 @@ static int is_counting(void) {
     return is_from_start || lines == 1;
 }
 
-/* Counts a request, and says whether it is refused. */
+/* Counts a request, and returns whether it is refused. */
 static int is_refused(void) {
     if (!is_counting()) return 0;
     requests++;
@@ -49,14 +49,14 @@ static int is_refused(void) {
     return 1;
 }
 
-/* Counts the bytes of a block that is there, or is there no longer. */
+/* Counts the bytes of a block that is held, or no longer held. */
 static void hold(void *block, long sign) {
     if (block == NULL || !is_counting()) return;
     held += sign * (long)malloc_usable_size(block);
     if (held > most_held) most_held = held;
 }
 
-/* Counts a block that was given. */
+/* Counts a block that was allocated. */
 static void *given(void *block) {
     if (block != NULL) blocks++;
     hold(block, 1);
@@ -105,7 +105,7 @@ void free(void *block) {
     __libc_free(block);
 }
 
-/* Writes, and counts the lines that standard output gets. */
+/* Writes, and counts the lines that are written to standard output. */
 ssize_t write(int file, const void *bytes, size_t count) {
     ssize_t written = syscall(SYS_write, file, bytes, count);
     if (file == 1) {

@@ -1,20 +1,20 @@
-"""Tries the rows of tests/rows on the programs gqlcheck and gqlcanon.
+"""Tests the programs gqlcheck and gqlcanon on the rows of tests/rows.
 
-    gqlcheck TEXT     what a run over the text writes, and the word of its end
-    built WORD N      the same of a large text: how long it is, how the run ends and how many lines there are with that
-                      word, the first and the last. `deep` is a field in a field, N deep; `wide` a query of N fields; `mixed` N
+    gqlcheck TEXT     the output of a run on the text, and the word of its end
+    built WORD N      the same for a large text: how long it is, how the run ends, how many lines there are with that word, the
+                      first and the last. `deep` is a field in a field, N deep; `wide` a query of N fields; `mixed` N
                       operations with all parts
-    completed TEXT    the text is refused; behind what stands before its fault and a space each line of the answer puts a
-                      further text, and says how many tokens stand before the fault, whether a run over the whole ends in a
-                      tree, and whether these tokens are the same in it, places included
-    canonical TEXT    what a run of gqlcanon over the text writes, and the word of its end
+    completed TEXT    the text is refused. Each line of the answer adds a further text to the text before the error and a
+                      space. It says how many tokens are before the error, whether a run on the whole ends in a tree, and
+                      whether these tokens are the same in it, places included
+    canonical TEXT    the output of a run of gqlcanon on the text, and the word of its end
 
-Of each text of kind `gqlcheck` that can be cut into tokens the canonical text is these, joined here; it is its own canonical
-text, and has the same tree, places left out, or is refused alike.
+For each text of kind `gqlcheck` that can be cut into tokens, the canonical text has to be these tokens, joined here. It has to
+be its own canonical text, and to have the same tree, except for places, or to be refused alike.
 
-A completion is looked for, too, of each text of kind `gqlcheck` that is refused and can be cut into tokens. Whether it can
-be cut, and which tokens go on, the library for C says; that what is found is a document, a run of gqlcheck. Tokens are
-cut by `cutting`.
+For each text of kind `gqlcheck` that is refused and can be cut into tokens, a completion is looked for, too. The library for C
+decides whether the text can be cut, and which tokens go on. A run of gqlcheck shows that the completed text is a document.
+Tokens are cut by `cutting`.
 
     row_tests.py GQLCHECK GQLCANON     the last line is 'N passed, M failed'
 """
@@ -34,16 +34,16 @@ from rows import Row, plain, rows
 ROOT = Path(__file__).resolve().parent.parent
 LIBRARY = ROOT / "out/libfirthnapkin.so.0"
 
-# How many rows of each kind there are, and how many refused texts that can be cut: a row more is counted up.
+# How many rows of each kind there are, and how many refused texts that can be cut. A new row has to be counted here.
 COMPLETION = "completion of a refused text"
 SAME = "canonical text of a row"
 COUNTS = {"gqlcheck": 2127, "built": 4, "completed": 8, "canonical": 29, COMPLETION: 462, SAME: 636}
 
-# The word of a run's end, by the program's exit status; where gqlcheck ends in a tree gqlcanon ends in a text.
+# The word of a run's end, by the program's exit status. Where gqlcheck ends in a tree gqlcanon ends in a text.
 ENDS = ("Tree", "Refused", "NotUtf8", "Device", "Memory", "TooDeep")
 SECONDS = 20
 
-# What may go on, in the order in which it is tried: first what closes.
+# The tokens that may go on, in the order in which they are tried: closing ones first.
 NEXT = ("}", ")", "]", ":", "null", "on", "T", "a", "$", "{")
 
 MIXED = """query Q($v: [T!] = [1, {k: "é"}] @d) @e(x: $v) {
@@ -59,7 +59,7 @@ BUILT = {
 
 
 class Run(NamedTuple):
-    """What a run writes, and the word of its end, with what stands on standard error."""
+    """The output of a run, and the word of its end, with the text on standard error."""
 
     written: str
     end: str
@@ -69,7 +69,7 @@ class Run(NamedTuple):
 
 
 class Refusal(NamedTuple):
-    """Where a text that can be cut is refused: of each token before where it begins and its text, and the text up to their end."""
+    """A refused text that can be cut: where each token before the error begins, its text, and the text up to their end."""
 
     tokens: List[Tuple[int, str]]
     front: str
@@ -86,7 +86,7 @@ def run(program: str, source: bytes) -> Run:
 
 
 def refusal_of(text: str, told: str) -> Optional[Refusal]:
-    """Where a run tells that a text is refused; None where that is neither at a token nor at the end."""
+    """The place where a run refuses a text; None where that is neither at a token nor at the end."""
     place = re.search(r"\. At (\d+):(\d+)\nRefused\n$", told)
     if place is None:
         return None
@@ -115,7 +115,7 @@ def answer_of_completed(program: str, text: str, wanted: List[str]) -> str:
 
 
 def completed(program: str, refusal: Refusal, further: str) -> str:
-    """What an answer says of a further text. The parts of the tree begin and end where tokens do."""
+    """The line of an answer for a further text. The parts of the tree begin and end where tokens do."""
     number = len(refusal.tokens)
     whole = f"{refusal.front} {further}"
     ran = run(program, whole.encode())
@@ -128,10 +128,10 @@ def completed(program: str, refusal: Refusal, further: str) -> str:
 
 
 class Library:
-    """The library for C, asked what becomes of a text."""
+    """The library for C, for the outcome of a text."""
 
     TREE, REFUSED, ROOM = 0, 1, 6
-    # Why a text is refused: at its end, or since it can't be cut.
+    # Why a text is refused: at its end, or because it can't be cut.
     END, LEXICAL = 1, 2
     DEPTH = 1000
 
@@ -154,7 +154,7 @@ class Library:
 
 
 def completion_of(library: Library, front: str) -> Optional[str]:
-    """A further text, by which a front and a space are a document: token by token the first with which some document goes on."""
+    """A further text that completes a front and a space to a document: token by token the first that can go on."""
     further = ""
     for _ in range(len(front) + 100):
         outcome = library.outcome(f"{front} {further}")
@@ -168,7 +168,7 @@ def completion_of(library: Library, front: str) -> Optional[str]:
 
 
 def fault_of_completion(program: str, library: Library, text: str, told: str) -> Optional[str]:
-    """What is wrong with the completion of a refused text; None where nothing is."""
+    """What is wrong with the completion of a refused text; None where nothing is wrong."""
     refusal = refusal_of(text, told)
     if refusal is None:
         return "the fault is neither at a token nor at the end"
@@ -180,13 +180,13 @@ def fault_of_completion(program: str, library: Library, text: str, told: str) ->
 
 
 def canonical(canon: str, source: bytes) -> Run:
-    """A run of gqlcanon. A canonical text ends without a line end, so it gets one."""
+    """A run of gqlcanon. A canonical text ends without a line end, so one is added."""
     ran = run(canon, source)
     return Run(ran.written + "\n", "Text" + ran.end[4:]) if ran.end.startswith("Tree") else ran
 
 
 def fault_of_canonical(program: str, canon: str, text: str, told: Run) -> Optional[str]:
-    """What is wrong with the canonical text of a text that can be cut; None where nothing is."""
+    """What is wrong with the canonical text of a text that can be cut; None where nothing is wrong."""
     ran = canonical(canon, text.encode())
     made = ran.written[:-1]
     if ran.end != "Text":
@@ -201,7 +201,7 @@ def fault_of_canonical(program: str, canon: str, text: str, told: Run) -> Option
 
 
 def try_row(program: str, canon: str, library: Optional[Library], name: str, row: Row) -> List[Tuple[str, Optional[str]]]:
-    """Of each thing that a row shows its kind, and what is wrong with it."""
+    """For each check of a row its kind, and what is wrong; None where nothing is wrong."""
     wanted = [plain(line).decode() for line in row.wanted]
     if row.kind == "gqlcheck":
         ran = run(program, row.text)
@@ -227,7 +227,7 @@ def try_row(program: str, canon: str, library: Optional[Library], name: str, row
 
 
 def is_cut(library: Optional[Library], source: bytes, ran: Run) -> bool:
-    """Whether a text can be cut into tokens; of one that gqlcheck refuses the library knows."""
+    """Whether a text can be cut into tokens. For a text that gqlcheck refuses the library decides."""
     if ran.end == "Refused":
         return library is not None and library.outcome(source.decode()) != "no cut"
     return ran.end in ("Tree", "TooDeep")

@@ -1,14 +1,14 @@
 #!/usr/bin/env python3
-"""The rows of the language, as they are written in files.
+"""Reads the rows of the language from files.
 
-A row is a line of a kind's word, a space and a text, and below it the lines of its answer, each behind two spaces. Lines that
-are empty or begin with `#` say nothing. In texts and answers `\\n`, `\\r`, `\\t` and `\\\\` stand for a line feed, a carriage
+A row is a line of a kind's word, a space and a text, and below it the lines of its answer, each after two spaces. Lines that
+are empty or begin with `#` are ignored. In texts and answers `\\n`, `\\r`, `\\t` and `\\\\` stand for a line feed, a carriage
 return, a tab and a backslash, `\\u{F}` for the character of that number in hexadecimal digits, and `\\x{F}` for the byte. A
 backslash before anything else stands for itself. The program language_rows reads the same, but for `\\x{F}`.
 
-    tests/rows.py    writes a line for each row of gqlcheck that every scalar type answers alike: its text, and the lines that
-                     are wanted, each as hexadecimal digits of its bytes. `-` stands for no bytes. Of a text that is no
-                     UTF-8 the wanted line is 'Not UTF-8'
+    tests/rows.py    writes a line for each row of gqlcheck that has the same result with every scalar type: its text, and the
+                     expected lines, each as hexadecimal digits of its bytes. `-` stands for no bytes. For a text that is no
+                     UTF-8 the expected line is 'Not UTF-8'
 """
 
 import os
@@ -21,7 +21,7 @@ ESCAPE = re.compile(rb"\\(n|r|t|\\|u\{[0-9A-Fa-f]+\}|x\{[0-9A-Fa-f]+\})")
 
 
 class Row(NamedTuple):
-    """A number of a line, a kind's word, a text, and the lines that are wanted, as they are written."""
+    """The number of its line, the word of its kind, its text, and the expected lines as they are written."""
 
     number: int
     kind: str
@@ -30,7 +30,7 @@ class Row(NamedTuple):
 
 
 def plain(written: str) -> bytes:
-    """A written text, its escapes replaced."""
+    """A written text with its escapes replaced."""
 
     def replaced(match: "re.Match[bytes]") -> bytes:
         word = match[1].decode()
@@ -69,7 +69,7 @@ def is_other_scalar(wanted: List[str]) -> bool:
 
 
 def gqlcheck(name: str) -> Iterator[Row]:
-    """The rows of a file that say what gqlcheck writes, of a tree or of a fault."""
+    """The rows of a file with the output of gqlcheck, of a tree or of an error."""
     for row in rows(name):
         if row.kind == "gqlcheck" and not is_other_scalar(row.wanted):
             yield row._replace(wanted=[plain(line).decode() for line in row.wanted[:-1]])

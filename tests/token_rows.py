@@ -1,8 +1,8 @@
 #!/usr/bin/env python3
-"""Cuts the texts of the rows of tests/rows by the library for C, and compares kinds, texts and places with what `cutting` cuts
-them into, and canonical texts with these tokens joined; those of the rows of gqlcanon with the rows. Where a row says that a text
-can't be cut, the fault is compared with the row, and the tokens before it with those that `cutting` finds. The last line is
-'N passed, M failed'.
+"""Cuts the texts of the rows of tests/rows with the library for C. Kinds, texts and places are compared with the tokens that
+`cutting` finds, and canonical texts with these tokens joined. The canonical texts of the rows of gqlcanon are compared with the
+rows. Where a row says that a text can't be cut, the error is compared with the row, and the tokens before it with those that
+`cutting` finds. The last line is 'N passed, M failed'.
 
     tests/token_rows.py [LIBRARY]     out/libfirthnapkin.so.0 where none is named
 """
@@ -21,9 +21,9 @@ ROOT = Path(__file__).resolve().parent.parent
 KINDS = {number: word.removeprefix("TOKEN_") for word, number in enum("firthnapkin_token_kind").items()}
 STATUS = enum("firthnapkin_status")
 
-# The words of the errors that only a text that can't be cut has.
+# The beginnings of the errors that only a text that can't be cut has.
 LEXICAL = re.compile(r"Unknown |Unexpected character |Unterminated string literal")
-# How many rows there are at least, and of how many the text can't be cut.
+# The least number of rows, and of rows whose text can't be cut.
 ROWS, WITHOUT_CUT = 2168, 1490
 
 
@@ -43,11 +43,11 @@ class Fault(ctypes.Structure):
 
 
 class Answer:
-    """What the library tells of a text: statuses of both calls, tokens, the canonical text and the faults."""
+    """The library's results for a text: statuses of both calls, tokens, the canonical text and the faults."""
 
     def __init__(self, library: ctypes.CDLL, source: bytes) -> None:
         needed, self.fault, self.other_fault = ctypes.c_size_t(), Fault(), Fault()
-        # Rooms that are never too short.
+        # Buffers that are never too short.
         room = (Token * (len(source) + 1))()
         self.status = library.firthnapkin_tokens(
             source, ctypes.c_size_t(len(source)), ctypes.c_uint32(2**32 - 1), room, ctypes.c_size_t(len(room)),
@@ -63,20 +63,20 @@ class Answer:
 
 
 def place(text: str, index: int) -> Tuple[int, ...]:
-    """The numbers of the place behind so many characters."""
+    """The numbers of the place after so many characters."""
     before = text[:index]
     return index, before.count("\n"), index - (before.rfind("\n") + 1), len(before.encode())
 
 
 def told(source: bytes, token: Token) -> Tuple[str, str, str, Tuple[int, ...], Tuple[int, ...]]:
-    """A token as the library tells it: its kind, what is written, its text, and both places."""
+    """A token as the library returns it: its kind, how it is written, its text, and both places."""
     start, end = token.start.byte, token.end.byte
     text = source[start + token.quotes : end - token.quotes]
     return KINDS[token.kind], source[start:end].decode(), text.decode(), token.start.numbers(), token.end.numbers()
 
 
 def wanted(text: str, begin: int, token: str) -> Tuple[str, str, str, Tuple[int, ...], Tuple[int, ...]]:
-    """The same as it is cut here."""
+    """The same for a token that is cut here."""
     return kind_of(token), token, unquoted(token), place(text, begin), place(text, begin + len(token))
 
 
@@ -91,7 +91,7 @@ def is_cut_by_row(row: Row) -> Optional[bool]:
 
 
 def tokens_fault(answer: Answer, source: bytes, text: str) -> Optional[str]:
-    """What is wrong with the tokens that are told; None where nothing is."""
+    """What is wrong with the tokens that are returned; None where nothing is wrong."""
     found = [told(source, token) for token in answer.tokens]
     here = [wanted(text, *token) for token in cut(text)]
     if answer.status == STATUS["TOKENS"]:
@@ -104,7 +104,7 @@ def tokens_fault(answer: Answer, source: bytes, text: str) -> Optional[str]:
 
 
 def row_fault(answer: Answer, row: Row) -> Optional[str]:
-    """What is wrong with an answer by the row itself."""
+    """What is wrong with the results according to the row itself; None where nothing is wrong."""
     says = is_cut_by_row(row)
     is_cut = answer.status == STATUS["TOKENS"]
     if answer.status not in (STATUS["TOKENS"], STATUS["REFUSED"]) or answer.canonical_status != answer.status:
@@ -122,7 +122,7 @@ def row_fault(answer: Answer, row: Row) -> Optional[str]:
 
 
 def try_row(library: ctypes.CDLL, row: Row) -> Tuple[Optional[str], bool]:
-    """What is wrong with what is told of a row's text, and whether the text can't be cut."""
+    """What is wrong with the results for a row's text, and whether the text can't be cut."""
     answer = Answer(library, row.text)
     try:
         text = row.text.decode()
