@@ -2,7 +2,7 @@
 use Rattle.std.proofs.Common.{ℕ, suc, Bool, true, false, cond, ◌≡◌, ◌+◌, ◌<◌, ◌≤◌, ◌⊎◌, ◌∷◌, [], List, ◌++◌, length, take, refl, sym, ap, ap₂, ◌∙◌, subst, arith, inl, inr, append_assoc, length-append}
 use Rattle.std.specs.List.{AllByRecursion}
 use Rattle.std.proofs.Math.Nat.{eq-or-lt_of_le}
-use Rattle.std.proofs.lemmas.List.{take-append-le}
+use Rattle.std.proofs.Math.Seq.{take-append_seam}
 use Rattle.std.proofs.lemmas.List.Sums.{sum_by-cons, sum_by-append}
 use Rattle.graphql_lexical.specs.declared.kind.Kind.{Kind}
 use Rattle.graphql_lexical.specs.declared.kind.Kind.TheVariants.{EndOfFile}
@@ -12,7 +12,7 @@ use Rattle.graphql_lexical.proofs.Public.{opened_push, closed_push, deep_count, 
 use Rattle.graphql_grammar.specs.Tokens.{IsSpelled}
 use Rattle.graphql_grammar.specs.Tree.{Scalars, Definition}
 use Rattle.graphql_grammar.specs.Grammar.{IsScalarKind, IsDocument}
-use Rattle.graphql_grammar.specs.Faults.{Fault, NoEnd, EndsOnce, Begins, RefusedAt, DocumentRefusedAt}
+use Rattle.graphql_grammar.specs.Faults.{Fault, NoEnd, EndsOnce, AtFault, DocumentRefusedAt}
 use Rattle.graphql_grammar.specs.device.Productions.{document, reads}
 use Rattle.graphql_grammar.specs.Depth.{BeginsDocument}
 use Rattle.graphql_grammar.proofs.Elements.{all_front, all_join}
@@ -20,8 +20,7 @@ use Rattle.graphql_grammar.proofs.Nested as nested
 use Rattle.graphql_grammar.proofs.Nested.{is_plain, IsPair}
 use Rattle.graphql_grammar.proofs.TokenTests.{both}
 use Rattle.std.proofs.lemmas.Bool.{not-true}
-use Rattle.graphql_grammar.proofs.Faulty.{front_begins, split}
-use Rattle.graphql_grammar.proofs.OneFault.{same_parts}
+use Rattle.graphql_grammar.proofs.Faulty.{front_begins, same_parts}
 use Rattle.graphql_grammar.proofs.Readers.{document_reads}
 use Rattle.graphql_grammar.proofs.Spelling.{sample_spelled}
 
@@ -127,26 +126,16 @@ within (u ∷ us) vs (b ∷ bs) after t e l =
     let w = within us vs bs after t h (omega (arith, l)) in
     (w.0, ap₂ (λ x xs. x ∷ xs) k w.1)
 
-pub same_front : (i : ℕ) (us vs ws : List Lexeme) → i ≤ length us → take i (us ++ vs) ≡ take i (us ++ ws)
-same_front i us vs ws l = take-append-le i us vs l ∙ sym (take-append-le i us ws l)
-
-pub refused_in_front : (Allowed : Lexeme → Type 0) {F A : Type 0} (R : A → List Lexeme → Type 0)
-    (Error : List Lexeme → Lexeme → Fault F → Type 0) (us vs ws : List Lexeme) (i : ℕ) (t : Lexeme) (e : Fault F)
-    → i < length us
-    → RefusedAt Allowed R Error (us ++ vs) i t e → RefusedAt Allowed R Error (us ++ ws) i t e
-refused_in_front Allowed R Error us vs ws i t e l h =
-    let w = within us vs h.before h.after t h.whole (omega (arith, l, h.number)) in
+pub refused_in_front : (Allowed : Lexeme → Type 0) {A : Type 0} (R : A → List Lexeme → Type 0)
+    (us vs ws before : List Lexeme) (t : Lexeme) → length before < length us
+    → AtFault Allowed R (us ++ vs) before t → AtFault Allowed R (us ++ ws) before t
+refused_in_front Allowed R us vs ws before t l h =
+    let w = within us vs before h.after t h.whole l in
     record {
-      before = h.before;
       after = w.0 ++ ws;
-      whole = ap (λ l. l ++ ws) w.1 ∙ append_assoc h.before (t ∷ w.0) ws;
-      number = h.number;
-      fault = record {
-        inside = omega (arith, l, length-append us ws);
-        begins = subst (Begins Allowed R) (same_front i us vs ws (omega (arith, l))) h.fault.begins;
-        ends = λ b. h.fault.ends (subst (Begins Allowed R) (same_front (suc i) us ws vs (omega (arith, l))) b);
-      };
-      named = h.named;
+      whole = ap (λ l. l ++ ws) w.1 ∙ append_assoc before (t ∷ w.0) ws;
+      begins = h.begins;
+      ends = h.ends;
     }
 
 -- ---- tokens up to a deep one, and then the end
@@ -170,13 +159,13 @@ middle_of P [] vs t h = h.0
 middle_of P (u ∷ us) vs t h = middle_of P us vs t h.1
 
 module _ {C F : Type 0} (S : Scalars C F) where
-  -- Of the tokens up to token i, which is t and opens a bracket, and then an end, token j, which is u, is refused.
+  -- Of the tokens up to token i, which is t and opens a bracket, and then an end, u is refused.
   -- Either that is the end, and then the tokens up to t begin a document. Or it is no end, and then they don't, and all
   -- tokens are refused there too.
-  abbrev pub TellsDepth : List Lexeme → ℕ → Lexeme → ℕ → Lexeme → Fault F → Type 0
-  TellsDepth ts i t j u e =
+  abbrev pub TellsDepth : List Lexeme → ℕ → Lexeme → List Lexeme → Lexeme → Fault F → Type 0
+  TellsDepth ts i t us u e =
       ((u ≡ end_behind t) × BeginsDocument S (take (suc i) ts))
-      ⊎ ((u.kind ≡ EndOfFile → ⊥) × (BeginsDocument S (take (suc i) ts) → ⊥) × DocumentRefusedAt S ts j u e)
+      ⊎ ((u.kind ≡ EndOfFile → ⊥) × (BeginsDocument S (take (suc i) ts) → ⊥) × DocumentRefusedAt S ts us u e)
 
   pub document_balanced : (ts : List Lexeme) (ds : List (Definition C)) → IsDocument S ds ts → opened ts ≡ closed ts
   document_balanced = nested.document IsBalanced refl join plain around S (λ t c k e. scalar t k)
@@ -224,56 +213,49 @@ module _ {C F : Type 0} (S : Scalars C F) where
       short_ends =
           record { inner = front; end = end_behind t; whole = short_parts; no_end = front_no_end; is_end = refl }
 
-      -- the fronts of both lists are one
-      one_front : (k : ℕ) → k ≤ suc i → take k (front ++ end_behind t ∷ []) ≡ take k ts
-      one_front k l =
-          same_front k front (end_behind t ∷ []) d.after (omega (arith, l, front_length))
-          ∙ ap (take k) (sym whole_parts)
+      front_is : front ≡ take (suc i) ts
+      front_is =
+          sym (ap (λ k. take k ts) (sym front_length) ∙ ap (take (length front)) whole_parts
+          ∙ take-append_seam front d.after)
 
-      at_end : (j : ℕ) (u : Lexeme) (e : Fault F) → DocumentRefusedAt S (front ++ end_behind t ∷ []) j u e → j ≡ suc i
-          → TellsDepth ts i t j u e
-      at_end j u e h same =
-          let parts = same_parts IsSpelled S (IsDocument S) front h.before [] h.after (end_behind t) u
-          (front_length ∙ sym same ∙ sym h.number) h.whole in
-          inl (
-            sym parts.1,
-            subst (BeginsDocument S) (ap (λ k. take k (front ++ end_behind t ∷ [])) same
-                ∙ one_front (suc i) (omega arith)) h.fault.begins,
-          )
+      at_end : (us : List Lexeme) (u : Lexeme) (e : Fault F) → DocumentRefusedAt S (front ++ end_behind t ∷ []) us u e
+          → length us ≡ suc i → TellsDepth ts i t us u e
+      at_end us u e h same =
+          let parts = same_parts front us [] h.0.after (end_behind t) u (front_length ∙ sym same) h.0.whole in
+          inl (sym parts.1, subst (BeginsDocument S) (sym parts.0 ∙ front_is) h.0.begins)
 
-      before_end : (j : ℕ) (u : Lexeme) (e : Fault F) → DocumentRefusedAt S (front ++ end_behind t ∷ []) j u e
-          → j < suc i → TellsDepth ts i t j u e
-      before_end j u e h l =
-          let inside = within front (end_behind t ∷ []) h.before h.after u h.whole
-          (omega (arith, l, front_length, h.number)) in
-          let goes_on : u.kind ≡ EndOfFile → ⊥ = middle_of (λ (x : Lexeme). x.kind ≡ EndOfFile → ⊥) h.before inside.0 u
+      before_end : (us : List Lexeme) (u : Lexeme) (e : Fault F)
+          → DocumentRefusedAt S (front ++ end_behind t ∷ []) us u e → length us < suc i → TellsDepth ts i t us u e
+      before_end us u e h l =
+          let shorter_by : length us < length front = omega (arith, l, front_length) in
+          let inside = within front (end_behind t ∷ []) us h.0.after u h.0.whole shorter_by in
+          let goes_on : u.kind ≡ EndOfFile → ⊥ = middle_of (λ (x : Lexeme). x.kind ≡ EndOfFile → ⊥) us inside.0 u
           (subst NoEnd inside.1 front_no_end) in
-          let refused : DocumentRefusedAt S ts j u e = subst (λ l. DocumentRefusedAt S l j u e) (sym whole_parts)
-          (refused_in_front IsSpelled (IsDocument S) _ front (end_behind t ∷ []) d.after j u e
-          (omega (arith, l, front_length)) h) in
-          let s = split (λ n. reads S n document) (IsDocument S) (document_reads S) IsSpelled sample_spelled (suc j)
-          (suc i) ts (omega (arith, l)) in
+          let refused : DocumentRefusedAt S ts us u e = subst (λ l. DocumentRefusedAt S l us u e) (sym whole_parts)
+          (refused_in_front IsSpelled (IsDocument S) front (end_behind t ∷ []) d.after us u shorter_by h.0, h.1) in
           inr (
             goes_on,
-            (λ b. refused.fault.ends (front_begins (λ n. reads S n document) (IsDocument S) (document_reads S) IsSpelled
-                sample_spelled (take (suc j) ts) s.0 (subst (BeginsDocument S) s.1 b))),
+            (λ b. refused.0.ends (front_begins (λ n. reads S n document) (IsDocument S) (document_reads S) IsSpelled
+                sample_spelled (us ++ u ∷ []) inside.0 (subst (BeginsDocument S)
+                (sym front_is ∙ inside.1 ∙ sym (append_assoc us (u ∷ []) inside.0)) b))),
             refused,
           )
 
       -- Where they are refused tells of all tokens.
-      pub short_tells : (j : ℕ) (u : Lexeme) (e : Fault F) → DocumentRefusedAt S (ended_by d.before t) j u e
-          → TellsDepth ts i t j u e
-      short_tells j u e h =
-          let g : DocumentRefusedAt S (front ++ end_behind t ∷ []) j u e =
-          subst (λ l. DocumentRefusedAt S l j u e) short_parts h in
-          let inside : j < suc (suc i) = omega (
+      pub short_tells : (us : List Lexeme) (u : Lexeme) (e : Fault F) → DocumentRefusedAt S (ended_by d.before t) us u e
+          → TellsDepth ts i t us u e
+      short_tells us u e h =
+          let g : DocumentRefusedAt S (front ++ end_behind t ∷ []) us u e =
+          subst (λ l. DocumentRefusedAt S l us u e) short_parts h in
+          let inside : length us < suc (suc i) = omega (
             arith,
-            g.fault.inside,
+            ap length g.0.whole,
             length-append front (end_behind t ∷ []),
+            length-append us (u ∷ g.0.after),
             front_length,
           ) in
-          let up_to : j ≤ suc i = omega (arith, inside) in
+          let up_to : length us ≤ suc i = omega (arith, inside) in
           elim (eq-or-lt_of_le up_to) [
-            | inl same ↦ at_end j u e g same
-            | inr l ↦ before_end j u e g l
+            | inl same ↦ at_end us u e g same
+            | inr l ↦ before_end us u e g l
           ]

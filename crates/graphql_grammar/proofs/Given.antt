@@ -1,5 +1,5 @@
 -- What readers give on a list that ends in its one end.
-use Rattle.std.proofs.Common.{ℕ, suc, Bool, ◌≡◌, ◌≤◌, ◌<◌, ◌∷◌, [], List, ◌++◌, length, take, drop, refl, sym, ap, ◌∙◌, arith, append_assoc, append-nil, subst, length-append, inl, inr, le_refl, Bool, true, false, cond, ◌+◌}
+use Rattle.std.proofs.Common.{ℕ, suc, Bool, ◌≡◌, ◌≤◌, ◌<◌, ◌∷◌, [], List, ◌++◌, length, refl, sym, ap, ◌∙◌, arith, append_assoc, append-nil, subst, length-append, inl, inr, le_refl, Bool, true, false, cond, ◌+◌}
 use Rattle.std.proofs.lemmas.List.{append_cancel_right}
 use Rattle.std.specs.List.{AllByRecursion}
 use Rattle.graphql_lexical.specs.declared.kind.Kind.{Kind}
@@ -21,14 +21,14 @@ use Rattle.graphql_grammar.proofs.Faulty.{Reads, cut_front, at_fault}
 use Rattle.graphql_grammar.proofs.ScalarFaults.{TellsFault}
 use Rattle.graphql_grammar.proofs.DocumentFaults.{value_tells, type_tells, document_tells}
 use Rattle.graphql_grammar.proofs.Readers.{every_scalar, value_reads, type_reads, document_reads}
-use Rattle.graphql_grammar.proofs.Named.{refused_at, drop_next}
+use Rattle.graphql_grammar.proofs.Named.{refused_at}
 use Rattle.graphql_grammar.proofs.Spelling.{sample_spelled}
 use Rattle.graphql_grammar.proofs.DocumentFound.{type_covers}
 
 module _ {F A : Type 0} (f : ℕ → Reader F A) (R : A → List Lexeme → Type 0) (r : Reads f R)
-    (Refuses : ℕ → Lexeme → Fault F → Type 0) (ts : List Lexeme) (ends : EndsOnce ts)
+    (Refuses : List Lexeme → Lexeme → Fault F → Type 0) (ts : List Lexeme) (ends : EndsOnce ts)
     (refused : (rest : List Lexeme) (t : Lexeme) (e : Fault F) → f (suc (length ts)) ts ≡ Refused (t ∷ rest) e
-    → (i : ℕ) × (rest ≡ drop (suc i) ts) × Refuses i t e) where
+    → (before : List Lexeme) × (ts ≡ before ++ (t ∷ rest)) × Refuses before t e) where
   n : ℕ
   n = suc (length ts)
 
@@ -146,38 +146,33 @@ bare_begins ts (front, more, x, a, h, al) = (front, more, x.0, a, h.0, al)
 spanned_begins : (ts : List Lexeme) → Begins AnyToken IsType ts → Begins AnyToken IsSpannedType ts
 spanned_begins ts (front, more, x, a, h, al) = (front, more, (x, span_of (front ++ more)), a, (h, refl), al)
 
-bare_fault : (ts : List Lexeme) (i : ℕ) → AtFault AnyToken IsSpannedType ts i → AtFault AnyToken IsType ts i
-bare_fault ts i h = record {
-  inside = h.inside;
-  begins = bare_begins (take i ts) h.begins;
-  ends = λ b. h.ends (spanned_begins (take (suc i) ts) b);
+bare_fault : (ts before : List Lexeme) (t : Lexeme) → AtFault AnyToken IsSpannedType ts before t
+    → AtFault AnyToken IsType ts before t
+bare_fault ts before t h = record {
+  after = h.after;
+  whole = h.whole;
+  begins = bare_begins before h.begins;
+  ends = λ b. h.ends (spanned_begins (before ++ t ∷ []) b);
 }
 
 module _ {C F : Type 0} (S : Scalars C F) where
   type_refused : (ts rest : List Lexeme) (t : Lexeme) (e : Fault F)
       → symbol_at S (suc (length ts)) _ a_type ts ≡ Refused (t ∷ rest) e
-      → (i : ℕ) × (rest ≡ drop (suc i) ts) × TypeRefusedAt ts i t e
+      → (us : List Lexeme) × (ts ≡ us ++ (t ∷ rest)) × TypeRefusedAt ts us t e
   unfolding every_scalar fault_of
   type_refused ts rest t e p = by_tell
       (subst (λ z. TellsFault (every_scalar F) false (symbol_at S (suc (length ts)) _ a_type) ts z) p
       ((type_tells (every_scalar F) S (suc (length ts))).at ts))
     where
       by_tell : TellsFault (every_scalar F) false (symbol_at S (suc (length ts)) _ a_type) ts (Refused (t ∷ rest) e)
-          → (i : ℕ) × (rest ≡ drop (suc i) ts) × TypeRefusedAt ts i t e
+          → (us : List Lexeme) × (ts ≡ us ++ (t ∷ rest)) × TypeRefusedAt ts us t e
       by_tell (us, q, inl (y, x, s, d)) = absurd (cc d)
       by_tell (us, q, inr o) =
           let a = at_fault (λ n. symbol_at S n _ a_type) IsSpannedType (type_reads S) AnyToken (λ u h. tt)
           (suc (length ts)) ts rest t e (any_allowed ts) p in (
-            length a.0,
-            sym (ap (drop (suc (length a.0))) a.1 ∙ drop_next a.0 rest t),
-            record {
-              before = a.0;
-              after = rest;
-              whole = a.1;
-              number = refl;
-              fault = bare_fault ts (length a.0) a.2;
-              named = rw o.0 (type_error F t (of EndOfFile t.kind t.text) refl);
-            },
+            a.0,
+            a.1,
+            (bare_fault ts a.0 t a.2, rw o.0 (type_error F t (of EndOfFile t.kind t.text) refl)),
           )
 
   pub type_given : (ts : List Lexeme) → EndsOnce ts

@@ -1,5 +1,5 @@
 -- The fault that a reader names.
-use Rattle.std.proofs.Common.{ℕ, suc, Bool, true, false, cond, ◌≡◌, ◌≤◌, ◌+◌, ◌∷◌, [], List, ◌++◌, length, refl, sym, ap, ◌∙◌, arith, append_assoc, append-nil, subst, inl, inr, le_refl, drop}
+use Rattle.std.proofs.Common.{ℕ, suc, Bool, true, false, cond, ◌≡◌, ◌≤◌, ◌+◌, ◌∷◌, [], List, ◌++◌, length, refl, sym, ap, ◌∙◌, arith, append_assoc, append-nil, subst, inl, inr, le_refl}
 use Rattle.std.proofs.lemmas.List.{append_cancel_right}
 use Rattle.graphql_lexical.specs.declared.kind.Kind.{Kind}
 use Rattle.graphql_lexical.specs.declared.kind.Kind.TheVariants.{BracketOpen, CurlyOpen, EndOfFile}
@@ -9,7 +9,7 @@ use Rattle.graphql_grammar.specs.device.Reading.{of, Took, Refused, Reader, faul
 use Rattle.graphql_grammar.specs.Samples.{sample, IsSample}
 use Rattle.graphql_grammar.specs.Tree.{Scalars}
 use Rattle.graphql_grammar.specs.Grammar.{IsScalarKind}
-use Rattle.graphql_grammar.specs.Faults.{Fault, UnexpectedEndOfFile, UnexpectedToken, ScalarError, Begins, ValueMayStand, NamedError, RefusedAt}
+use Rattle.graphql_grammar.specs.Faults.{Fault, UnexpectedEndOfFile, UnexpectedToken, ScalarError, Begins, ValueMayStand, NamedError, AtFault}
 use Rattle.graphql_grammar.proofs.Rules.{Meets, AllAlike_refl, SameHead_refl}
 use Rattle.graphql_grammar.proofs.TokenTests.{of_kind}
 use Rattle.graphql_grammar.proofs.Faulty.{Reads, fails_all, value_stands, at_fault}
@@ -22,10 +22,6 @@ not_scalar_error : {F : Type 0} (b : Bool) (t : Lexeme) (y : F)
     → cond b UnexpectedEndOfFile (UnexpectedToken t.kind t.text) ≡ ScalarError y → ⊥
 not_scalar_error true t y e = absurd (cc e)
 not_scalar_error false t y e = absurd (cc e)
-
-pub drop_next : (us rest : List Lexeme) (t : Lexeme) → drop (suc (length us)) (us ++ (t ∷ rest)) ≡ rest
-drop_next [] rest t = refl
-drop_next (u ∷ us) rest t = drop_next us rest t
 
 module _ {C F A : Type 0} (S : Scalars C F) (f : ℕ → Reader F A) (R : A → List Lexeme → Type 0) (r : Reads f R)
     (strict : Bool) (tells : (n : ℕ) → TellsFaults S strict (f n)) (Allowed : Lexeme → Type 0)
@@ -119,19 +115,9 @@ module _ {C F A : Type 0} (S : Scalars C F) (f : ℕ → Reader F A) (R : A → 
   -- Where the reader refuses, the definitions do.
   pub refused_at : (n : ℕ) (ts rest : List Lexeme) (t : Lexeme) (e : Fault F) → AllByRecursion Allowed ts
       → f n ts ≡ Refused (t ∷ rest) e
-      → (i : ℕ) × (rest ≡ drop (suc i) ts) × RefusedAt Allowed R (NamedError Allowed S R) ts i t e
+      → (us : List Lexeme) × (ts ≡ us ++ (t ∷ rest)) × (AtFault Allowed R ts us t × NamedError Allowed S R us t e)
   refused_at n ts rest t e al p =
       let a = at_fault f R r Allowed fills n ts rest t e al p in
-      let w = names n ts rest t e al p in (
-        length a.0,
-        sym (ap (drop (suc (length a.0))) a.1 ∙ drop_next a.0 rest t),
-        record {
-          before = a.0;
-          after = rest;
-          whole = a.1;
-          number = refl;
-          fault = a.2;
-          named = subst (λ z. NamedError Allowed S R z t e) (append_cancel_right w.0 a.0 (t ∷ rest) (sym w.1 ∙ a.1))
-              w.2;
-        },
-      )
+      let w = names n ts rest t e al p in
+      (a.0, a.1, (a.2, subst (λ z. NamedError Allowed S R z t e)
+      (append_cancel_right w.0 a.0 (t ∷ rest) (sym w.1 ∙ a.1)) w.2))

@@ -4,10 +4,11 @@ pub use Rattle.graphql_grammar.proofs.Depths.{TellsDepth, middle_of, short_ends,
 pub use Rattle.graphql_grammar.proofs.DocumentRules.{AreDirectives, IsNullable, IsSpannedType, argument_rule, argument_takes, arguments_rule, directive_rule, directive_takes, directives_rule, list_nullable, name_nullable, variable_definition_rule, variable_takes, variables_rule}
 pub use Rattle.graphql_grammar.proofs.Elements.{all_each}
 pub use Rattle.graphql_grammar.proofs.Extents.{Runs, RunsOn, arguments_have, closed_runs, directive_has, runs_front, runs_of, runs_on, runs_one, took_is, variables_have}
+pub use Rattle.graphql_grammar.proofs.Faulty.{same_parts}
 pub use Rattle.graphql_grammar.proofs.Found.{value_found}
 pub use Rattle.graphql_grammar.proofs.Fuel.{Answers, settled}
 pub use Rattle.graphql_grammar.proofs.Given.{document_given, type_given, value_given}
-pub use Rattle.graphql_grammar.proofs.OneFault.{document_alike, document_or_fault, document_refusal_alike, never_both, one_document_refusal, same_parts}
+pub use Rattle.graphql_grammar.proofs.OneFault.{document_alike, document_or_fault, document_refusal_alike, never_both, one_document_refusal}
 pub use Rattle.graphql_grammar.proofs.OtherScalars.{document}
 pub use Rattle.graphql_grammar.proofs.PartRules.{Closed}
 pub use Rattle.graphql_grammar.proofs.ReadScalars.{document_is_read}

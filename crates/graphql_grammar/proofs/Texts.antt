@@ -1,5 +1,5 @@
 -- What begins a document in tokens begins one in characters.
-use Rattle.std.proofs.Common.{ℕ, zero, suc, ◌≡◌, ◌<◌, inl, inr, List, [], ◌∷◌, ◌++◌, length, take, refl, sym, ap, ap₂, ◌∙◌, subst, arith, length-append}
+use Rattle.std.proofs.Common.{◌≡◌, inl, inr, List, [], ◌∷◌, ◌++◌, length, refl, sym, ap, ap₂, ◌∙◌, subst, arith, length-append}
 use Rattle.std.specs.List.{AllByRecursion}
 use Rattle.graphql_lexical.specs.declared.kind.Kind.{Kind}
 use Rattle.graphql_lexical.specs.declared.kind.Kind.TheVariants.{EndOfFile}
@@ -12,7 +12,7 @@ use Rattle.graphql_grammar.specs.Tokens.{Text, IsSpelled}
 use Rattle.graphql_grammar.specs.Tree.{Scalars}
 use Rattle.graphql_grammar.specs.Grammar.{IsDocument}
 use Rattle.graphql_grammar.specs.Faults.{NoEnd, Begins, AtFault}
-use Rattle.graphql_grammar.specs.Texts.{BeginsText, AtFaultInText}
+use Rattle.graphql_grammar.specs.Texts.{BeginsText}
 use Rattle.graphql_grammar.proofs.Elements.{all_front}
 use Rattle.graphql_grammar.proofs.Rules.{AllAlike_refl}
 use Rattle.graphql_grammar.proofs.Alike.{alike_sym, alike_join}
@@ -25,13 +25,6 @@ use Rattle.graphql_grammar.proofs.OneFault.{document_alike}
 all_back : (P : Lexeme → Type 0) (xs ys : List Lexeme) → AllByRecursion P (xs ++ ys) → AllByRecursion P ys
 all_back P [] ys h = h
 all_back P (x ∷ xs) ys h = all_back P xs ys h.1
-
--- token i, and the tokens before it
-around : (i : ℕ) (ts : List Lexeme) → i < length ts
-    → (next : Lexeme) × (after : List Lexeme) × (ts ≡ take i ts ++ next ∷ after)
-around i [] l = absurd (omega (arith, l))
-around zero (t ∷ ts) l = (t, ts, refl)
-around (suc i) (t ∷ ts) l = let r = around i ts (omega (arith, l)) in (r.0, r.1, ap (λ (us : List Lexeme). t ∷ us) r.2)
 
 -- no token before another is the end
 no_end_before : (us : List Lexeme) (next : Lexeme) (after inner : List Lexeme) (end : Lexeme)
@@ -64,7 +57,7 @@ behind (u ∷ us) more (x ∷ inner) end e h k =
 -- ---- spelled tokens
 
 end_text : (t : Lexeme) → IsSpelled t → t.kind ≡ EndOfFile → t.text ≡ []
-end_text t (inl (whole, s, is)) e = absurd (subst (λ (k : Kind). Spells whole k) e s)
+end_text t (inl (whole, s)) e = absurd (subst (λ (k : Kind). Spells whole k t.text) e s)
 end_text t (inr h) e = h.1
 
 spaced : (ts : List Lexeme) → NoEnd ts → AllByRecursion IsSpelled ts → (text : Text) × IsSpaced text ts
@@ -72,7 +65,7 @@ spaced [] h s = ([], refl)
 spaced (t ∷ ts) h s = by_first s.0 (spaced ts h.1 s.1)
   where
     by_first : IsSpelled t → (text : Text) × IsSpaced text ts → (text : Text) × IsSpaced text (t ∷ ts)
-    by_first (inl (whole, spells, is)) r = (whole ++ after_space r.0, (whole, r.0, refl, spells, is, r.1))
+    by_first (inl (whole, spells)) r = (whole ++ after_space r.0, (whole, r.0, refl, spells, r.1))
     by_first (inr x) r = absurd (h.0 x.0)
 
 -- ---- documents
@@ -112,11 +105,9 @@ module _ {C F : Type 0} (S : Scalars C F) where
   text_begins source ts (further, after, tree, cut, document) =
       (ts, after, tree, AllAlike_refl ts, document, cut_spelled _ _ cut)
 
-  pub fault_in_text : (source : Text) (ts : List Lexeme) (i : ℕ) → Cut source ts
-      → AtFault IsSpelled (IsDocument S) ts i → AtFaultInText S source ts i
-  fault_in_text source ts i cut h =
-      let a = around i ts h.inside in
-      record {
-        begins = begins_text source (take i ts) a.0 a.1 (subst (Cut source) a.2 cut) h.begins;
-        ends = λ b. h.ends (text_begins source (take (suc i) ts) b);
-      }
+  pub fault_in_text : (source : Text) (ts before : List Lexeme) (t : Lexeme) → Cut source ts
+      → AtFault IsSpelled (IsDocument S) ts before t
+      → BeginsText S source before × (BeginsText S source (before ++ t ∷ []) → ⊥)
+  fault_in_text source ts before t cut h =
+      (begins_text source before t h.after (subst (Cut source) h.whole cut) h.begins,
+      λ b. h.ends (text_begins source (before ++ t ∷ []) b))

@@ -2,7 +2,7 @@
 --
 -- R says which whole lists of tokens are something, and what: documents, values or types. `Allowed` says of which
 -- tokens the lists are that are asked about: of all tokens, or of those that a text spells.
-use Rattle.std.specs.Prelude.{ℕ, suc, Bool, ◌≡◌, ◌≢◌, ◌<◌, codes, Err, IsErr, List, [], ◌∷◌, ◌++◌, take, length}
+use Rattle.std.specs.Prelude.{Bool, ◌≡◌, ◌≢◌, codes, Err, IsErr, List, [], ◌∷◌, ◌++◌}
 use Rattle.std.specs.List.{AllByRecursion}
 use Rattle.graphql_lexical.specs.declared.kind.Kind.{Kind}
 use Rattle.graphql_lexical.specs.declared.kind.Kind.TheVariants.{EndOfFile, BracketOpen, CurlyOpen, Name}
@@ -39,11 +39,12 @@ module _ (Allowed : Lexeme → Type 0) where
   abbrev pub Begins : {A : Type 0} → (A → List Lexeme → Type 0) → List Lexeme → Type 0
   Begins {A} R ts = (front more : List Lexeme) × (a : A) × AllAlike ts front × R a (front ++ more) × AllByRecursion Allowed (front ++ more)
 
-  -- The first i tokens begin something, the first i + 1 don't.
-  pub record AtFault {A : Type 0} (R : A → List Lexeme → Type 0) (ts : List Lexeme) (i : ℕ) : Type 0 where
-    pub inside : i < length ts
-    pub begins : Begins R (take i ts)
-    pub ends : Begins R (take (suc i) ts) → ⊥
+  -- The list is refused at t: the tokens before t begin something, and with t they don't.
+  pub record AtFault {A : Type 0} (R : A → List Lexeme → Type 0) (ts before : List Lexeme) (t : Lexeme) : Type 0 where
+    pub after : List Lexeme
+    pub whole : ts ≡ before ++ t ∷ after
+    pub begins : Begins R before
+    pub ends : Begins R (before ++ t ∷ []) → ⊥
 
   -- A value may stand after these tokens: each of the Name null, `[` and `{` may.
   pub record ValueMayStand {A : Type 0} (R : A → List Lexeme → Type 0) (before : List Lexeme) : Type 0 where
@@ -59,24 +60,15 @@ module _ (Allowed : Lexeme → Type 0) where
   NamedError S R before t (UnexpectedToken kind text) = (kind ≡ t.kind) × (text ≡ t.text) × (t.kind ≢ EndOfFile)
       × (IsScalarKind t.kind → IsErr (S.read t.kind t.text) → ValueMayStand R before → ⊥)
 
-  -- The list is refused at its token i, which is t, with this error. `Error` says which error t has after the tokens
-  -- before it.
-  pub record RefusedAt {F A : Type 0} (R : A → List Lexeme → Type 0) (Error : List Lexeme → Lexeme → Fault F → Type 0) (ts : List Lexeme) (i : ℕ) (t : Lexeme) (e : Fault F) : Type 0 where
-    pub before : List Lexeme
-    pub after : List Lexeme
-    pub whole : ts ≡ before ++ t ∷ after
-    pub number : length before ≡ i
-    pub fault : AtFault R ts i
-    pub named : Error before t e
-
 -- ---- documents, values and types
 
--- A document is asked about among lists of tokens that a text spells.
-abbrev pub DocumentRefusedAt : {C F : Type 0} → Scalars C F → List Lexeme → ℕ → Lexeme → Fault F → Type 0
-DocumentRefusedAt S = RefusedAt IsSpelled (IsDocument S) (NamedError IsSpelled S (IsDocument S))
+-- The list is refused at t, after the tokens before it, with this error. A document is asked about among lists of tokens
+-- that a text spells.
+abbrev pub DocumentRefusedAt : {C F : Type 0} → Scalars C F → List Lexeme → List Lexeme → Lexeme → Fault F → Type 0
+DocumentRefusedAt S ts before t e = AtFault IsSpelled (IsDocument S) ts before t × NamedError IsSpelled S (IsDocument S) before t e
 
-abbrev pub ValueRefusedAt : {C F : Type 0} → Scalars C F → Bool → List Lexeme → ℕ → Lexeme → Fault F → Type 0
-ValueRefusedAt S free = RefusedAt AnyToken (IsValue S free) (NamedError AnyToken S (IsValue S free))
+abbrev pub ValueRefusedAt : {C F : Type 0} → Scalars C F → Bool → List Lexeme → List Lexeme → Lexeme → Fault F → Type 0
+ValueRefusedAt S free ts before t e = AtFault AnyToken (IsValue S free) ts before t × NamedError AnyToken S (IsValue S free) before t e
 
 -- The error of a token that no type has there.
 abbrev pub TypeError : {F : Type 0} → Lexeme → Fault F → Type 0
@@ -84,5 +76,5 @@ TypeError t UnexpectedEndOfFile = t.kind ≡ EndOfFile
 TypeError t (UnexpectedToken kind text) = (kind ≡ t.kind) × (text ≡ t.text) × (t.kind ≢ EndOfFile)
 TypeError t (ScalarError e) = ⊥
 
-abbrev pub TypeRefusedAt : {F : Type 0} → List Lexeme → ℕ → Lexeme → Fault F → Type 0
-TypeRefusedAt = RefusedAt AnyToken IsType (λ before. TypeError)
+abbrev pub TypeRefusedAt : {F : Type 0} → List Lexeme → List Lexeme → Lexeme → Fault F → Type 0
+TypeRefusedAt ts before t e = AtFault AnyToken IsType ts before t × TypeError t e

@@ -1,5 +1,5 @@
 -- Where a text is refused, in characters.
-use Rattle.std.specs.Prelude.{ℕ, suc, List, ◌++◌, take}
+use Rattle.std.specs.Prelude.{List, ◌++◌}
 use Rattle.graphql_lexical.specs.Cutting.{Lexeme, Cut}
 use Rattle.graphql_lexical.specs.laws.Spacing.{after_space, up_to}
 use Rattle.graphql_grammar.specs.Tokens.{Text}
@@ -11,8 +11,3 @@ module _ {C F : Type 0} (S : Scalars C F) where
   -- first tokens are these, with their spans.
   abbrev pub BeginsText : Text → List Lexeme → Type 0
   BeginsText source ts = (further : Text) × (after : List Lexeme) × (tree : List (Definition C)) × Cut (up_to source ts ++ after_space further) (ts ++ after) × IsDocument S tree (ts ++ after)
-
-  -- The source's first i tokens begin a document's text, the first i + 1 don't.
-  pub record AtFaultInText (source : Text) (ts : List Lexeme) (i : ℕ) : Type 0 where
-    pub begins : BeginsText source (take i ts)
-    pub ends : BeginsText source (take (suc i) ts) → ⊥

@@ -1,12 +1,10 @@
 -- Tokens, as the grammar sees them.
-use Rattle.std.specs.Prelude.{ℕ, ◌≡◌, ◌⊎◌, List, [], ◌∷◌, Option, Some, None}
+use Rattle.std.specs.Prelude.{◌≡◌, ◌⊎◌, List, [], ◌∷◌, Option, Some, None}
 use Rattle.graphql_lexical.specs.declared.kind.Kind.TheVariants.{EndOfFile}
+pub use Rattle.graphql_lexical.specs.Characters.{Text}
 use Rattle.graphql_lexical.specs.Place.{Span}
-use Rattle.graphql_lexical.specs.Tokens.{Spells, text_of}
+use Rattle.graphql_lexical.specs.Tokens.{Spells}
 use Rattle.graphql_lexical.specs.Cutting.{Lexeme}
-
-abbrev pub Text : Type 0
-Text = List ℕ
 
 -- the text of a Name, and where it stands
 pub record Word : Type 0 where
@@ -45,4 +43,4 @@ to_end_of p (Some q) = from_to p q
 
 -- Some text spells the token, or it is the end, which has no text.
 abbrev pub IsSpelled : Lexeme → Type 0
-IsSpelled t = ((whole : Text) × Spells whole t.kind × (t.text ≡ text_of t.kind whole)) ⊎ ((t.kind ≡ EndOfFile) × (t.text ≡ []))
+IsSpelled t = ((whole : Text) × Spells whole t.kind t.text) ⊎ ((t.kind ≡ EndOfFile) × (t.text ≡ []))

@@ -1,5 +1,5 @@
 //! Laws of the document grammar.
-ghost use Rattle.std.specs.Prelude.{◌≡◌, ◌<◌, ◌⊎◌, ◌++◌, ℕ, List, [], Bool, length, take};
+ghost use Rattle.std.specs.Prelude.{◌≡◌, ◌<◌, ◌⊎◌, ◌++◌, ℕ, List, [], Bool, length, take, ◌∷◌};
 ghost use Rattle.std.specs.List.{AllByRecursion};
 ghost use Rattle.graphql_lexical.specs.Cutting.{Lexeme, Cut};
 ghost use Rattle.graphql_lexical.specs.laws.Alike.{Alike, AllAlike};
@@ -9,7 +9,7 @@ ghost use Rattle.graphql_grammar.specs.Tree.{Scalars, Value, TypeRef, Definition
 ghost use Rattle.graphql_grammar.specs.Grammar.{IsValue, IsType, IsDocument};
 ghost use Rattle.graphql_grammar.specs.Faults.{Fault, EndsOnce, AtFault, DocumentRefusedAt, ValueRefusedAt, TypeRefusedAt};
 ghost use Rattle.graphql_grammar.specs.ScalarTokens.{IsRead, IsReadAlso};
-ghost use Rattle.graphql_grammar.specs.Texts.{AtFaultInText};
+ghost use Rattle.graphql_grammar.specs.Texts.{BeginsText};
 ghost use Rattle.graphql_grammar.specs.Unlocated.{SameDocument, SameValue};
 ghost use Rattle.graphql_grammar.specs.Samples.{IsSample, AreSamples};
 ghost use Rattle.graphql_grammar.specs.device.Reading.{a_value, a_type, fully, GivesWhole, GivesFront};
@@ -37,25 +37,25 @@ pub fn value_front<C, F>()
 
 /// Tokens that a text spells, with one end, the last, are a document or are refused at one place, and never both.
 pub fn document_or_fault<C, F>()
-    ensures either { (S : Scalars C F) (ts : List Lexeme) → AllByRecursion IsSpelled ts → EndsOnce ts → ((ds : List (Definition C)) × IsDocument S ds ts) ⊎ ((i : ℕ) × (t : Lexeme) × (e : Fault F) × DocumentRefusedAt S ts i t e) }
-    ensures one { (S : Scalars C F) (ts : List Lexeme) (i j : ℕ) → AtFault IsSpelled (IsDocument S) ts i → AtFault IsSpelled (IsDocument S) ts j → i ≡ j }
-    ensures never_both { (S : Scalars C F) (ts : List Lexeme) (ds : List (Definition C)) (i : ℕ) → AllByRecursion IsSpelled ts → IsDocument S ds ts → AtFault IsSpelled (IsDocument S) ts i → ⊥ }
+    ensures either { (S : Scalars C F) (ts : List Lexeme) → AllByRecursion IsSpelled ts → EndsOnce ts → ((ds : List (Definition C)) × IsDocument S ds ts) ⊎ ((before : List Lexeme) × (t : Lexeme) × (e : Fault F) × DocumentRefusedAt S ts before t e) }
+    ensures one { (S : Scalars C F) (ts us vs : List Lexeme) (t u : Lexeme) → AtFault IsSpelled (IsDocument S) ts us t → AtFault IsSpelled (IsDocument S) ts vs u → (us ≡ vs) × (t ≡ u) }
+    ensures never_both { (S : Scalars C F) (ts before : List Lexeme) (ds : List (Definition C)) (t : Lexeme) → AllByRecursion IsSpelled ts → IsDocument S ds ts → AtFault IsSpelled (IsDocument S) ts before t → ⊥ }
 {}
 
-/// A refused list of tokens has one number, one token and one error.
+/// A list of tokens is refused at one token, after the same tokens, and with one error.
 pub fn one_refusal<C, F>()
-    ensures { (S : Scalars C F) (ts : List Lexeme) (i j : ℕ) (t u : Lexeme) (e d : Fault F) → DocumentRefusedAt S ts i t e → DocumentRefusedAt S ts j u d → (i ≡ j) × (t ≡ u) × (e ≡ d) }
+    ensures { (S : Scalars C F) (ts us vs : List Lexeme) (t u : Lexeme) (e d : Fault F) → DocumentRefusedAt S ts us t e → DocumentRefusedAt S ts vs u d → (us ≡ vs) × (t ≡ u) × (e ≡ d) }
 {}
 
 /// The tokens before the refused one can be completed to a document by sample tokens alone.
 pub fn fault_completed<C, F>()
-    ensures { (S : Scalars C F) (ts : List Lexeme) (i : ℕ) → AllByRecursion IsSpelled ts → EndsOnce ts → AtFault IsSpelled (IsDocument S) ts i → (more : List Lexeme) × (ds : List (Definition C)) × AreSamples more × IsDocument S ds (take i ts ++ more) }
+    ensures { (S : Scalars C F) (ts before : List Lexeme) (t : Lexeme) → AllByRecursion IsSpelled ts → EndsOnce ts → AtFault IsSpelled (IsDocument S) ts before t → (more : List Lexeme) × (ds : List (Definition C)) × AreSamples more × IsDocument S ds (before ++ more) }
 {}
 
 /// The text up to the end of the last token before the refused one, and a space, can be completed to a document's text
 /// whose first tokens are those, with their spans. Up to the end of the refused one it can't.
 pub fn fault_in_characters<C, F>()
-    ensures { (S : Scalars C F) (source : List ℕ) (ts : List Lexeme) (i : ℕ) → Cut source ts → AtFault IsSpelled (IsDocument S) ts i → AtFaultInText S source ts i }
+    ensures { (S : Scalars C F) (source : List ℕ) (ts before : List Lexeme) (t : Lexeme) → Cut source ts → AtFault IsSpelled (IsDocument S) ts before t → BeginsText S source before × (BeginsText S source (before ++ t ∷ []) → ⊥) }
 {}
 
 /// A document closes as many brackets as it opens.
@@ -65,14 +65,14 @@ pub fn document_is_balanced<C, F>()
 
 /// A list that is refused at a token of a prefix is refused there whatever stands after that prefix.
 pub fn refused_in_front<C, F>()
-    ensures { (S : Scalars C F) (front more other : List Lexeme) (i : ℕ) (t : Lexeme) (e : Fault F) → i < length front → DocumentRefusedAt S (front ++ more) i t e → DocumentRefusedAt S (front ++ other) i t e }
+    ensures { (S : Scalars C F) (front more other before : List Lexeme) (t : Lexeme) (e : Fault F) → length before < length front → DocumentRefusedAt S (front ++ more) before t e → DocumentRefusedAt S (front ++ other) before t e }
 {}
 
-/// Lists that are alike are both documents, whose trees differ in spans alone, or are both refused at the same number
-/// with the same error.
+/// Lists that are alike are both documents, whose trees differ in spans alone, or are both refused, after tokens that are
+/// alike and at tokens that are, with the same error.
 pub fn alike_documents<C, F>()
     ensures accepted { (S : Scalars C F) (ts us : List Lexeme) (a : List (Definition C)) → AllAlike ts us → IsDocument S a ts → (b : List (Definition C)) × IsDocument S b us × SameDocument a b }
-    ensures refused { (S : Scalars C F) (ts us : List Lexeme) (i : ℕ) (t : Lexeme) (e : Fault F) → AllAlike ts us → DocumentRefusedAt S ts i t e → (u : Lexeme) × Alike t u × DocumentRefusedAt S us i u e }
+    ensures refused { (S : Scalars C F) (ts us before : List Lexeme) (t : Lexeme) (e : Fault F) → AllAlike ts us → DocumentRefusedAt S ts before t e → (front : List Lexeme) × (u : Lexeme) × AllAlike before front × Alike t u × DocumentRefusedAt S us front u e }
 {}
 
 /// Lists that are alike are both values, which differ in spans alone, or neither is one.

@@ -1,7 +1,8 @@
 -- The canonical text of a source is cut into tokens alike with the source's.
 use Rattle.std.proofs.Common.{◌≡◌, ℕ, ◌+◌, ◌⊎◌, inl, inr, Bool, true, false, not, ◌&&◌, ◌||◌, List, [], ◌∷◌, ◌++◌, take, drop, Result, Ok, IsTrue, refl, sym, ap, ap₂, ◌∙◌, subst}
 use Rattle.graphql_lexical.specs.Kinds.{Kind, ExclamationMark, Dollar, ParenOpen, ParenClose, BracketOpen, BracketClose, CurlyOpen, CurlyClose, Ellipsis, Colon, Equals, At, Pipe, EndOfFile, Fixed, spelling, is_fixed, same_kind}
-use Rattle.graphql_lexical.specs.Tokens.{Admits, Spells, text_of, written}
+use Rattle.graphql_lexical.specs.Tokens.{Spells, quotes, written}
+use Rattle.graphql_lexical.specs.device.Whole.{Admits, IsToken, between, text_of}
 use Rattle.graphql_lexical.specs.Reading.{Reads}
 use Rattle.graphql_lexical.specs.Cutting.{Lexeme, CutFrom, Cut}
 use Rattle.graphql_lexical.specs.Canonical.{is_parted, space_if, parting, canonical}
@@ -13,12 +14,13 @@ use Rattle.graphql_lexical.proofs.EachKind.{each_kind}
 use Rattle.graphql_lexical.proofs.Slices.{front_read}
 use Rattle.graphql_lexical.proofs.Cuts.{cut_computes}
 use Rattle.graphql_lexical.proofs.Writing.{nothing_cut, no_lexeme, lone_lexeme, token_cut, white_cut}
+use Rattle.graphql_lexical.proofs.Wholes.{spells_token, token_spells}
 
 -- ---- tokens as they are written
 
 -- What is written of a token spells it.
 record IsSpelled (kind : Kind) (text : List ℕ) : Type 0 where
-  spells : Spells (written kind text) kind
+  spells : IsToken (written kind text) kind
   text_is : text ≡ text_of kind (written kind text)
 
 read_spelled : (rest : List ℕ) (n : ℕ) (kind : Kind) (text : List ℕ) → Reads rest n kind text → (kind ≡ EndOfFile → ⊥)
@@ -26,28 +28,29 @@ read_spelled : (rest : List ℕ) (n : ℕ) (kind : Kind) (text : List ℕ) → R
 read_spelled [] n kind text r none = absurd (none r.1)
 read_spelled (c ∷ cs) n kind text r none =
     let front = (front_read (c ∷ cs) n kind text r).front in
+    let s = spells_token (take n (c ∷ cs)) kind text r.spells in
     record {
-      spells = subst (λ (t : List ℕ). Spells t kind) front r.spells;
-      text_is = r.text_is ∙ ap (text_of kind) front;
+      spells = subst (λ (t : List ℕ). IsToken t kind) front s.0;
+      text_is = s.1 ∙ ap (text_of kind) front;
     }
 
 pub no_text : (rest : List ℕ) (n : ℕ) (kind : Kind) (text : List ℕ) → Reads rest n kind text → kind ≡ EndOfFile
     → text ≡ []
 no_text [] n kind text r e = r.2
-no_text (c ∷ cs) n kind text r e = absurd (subst (Spells (take n (c ∷ cs))) e r.spells)
+no_text (c ∷ cs) n kind text r e = absurd (subst (λ (k : Kind). Spells (take n (c ∷ cs)) k text) e r.spells)
 
 -- ---- what may stand behind a token
 
 fixed_begins : (kind : Kind) (c : ℕ) → spelling kind ≡ Fixed (c ∷ []) → IsTrue (is_fixed kind) → (whole rest : List ℕ)
-    → Spells whole kind → BeginsApart (whole ++ rest)
+    → IsToken whole kind → BeginsApart (whole ++ rest)
 fixed_begins kind c e f whole rest s =
     let is : whole ≡ c ∷ [] = subst (λ w. Admits w whole) e s in
-    subst (λ (t : List ℕ). BeginsApart (t ++ rest)) (sym is) (inr (kind, f, subst (λ (t : List ℕ). Spells t kind) is s))
+    subst (λ (t : List ℕ). BeginsApart (t ++ rest)) (sym is) (inr (kind, f, token_spells (c ∷ []) kind (c ∷ []) (subst (λ (t : List ℕ). IsToken t kind) is s) (sym (ap (λ w. between (quotes w) (c ∷ [])) e))))
 
 -- each punctuator but `...` stands apart
 abbrev BeginsOrDots : Kind → Type 0
 BeginsOrDots kind =
-    (whole rest : List ℕ) → IsTrue (is_fixed kind) → Spells whole kind → BeginsApart (whole ++ rest) ⊎ (kind ≡ Ellipsis)
+    (whole rest : List ℕ) → IsTrue (is_fixed kind) → IsToken whole kind → BeginsApart (whole ++ rest) ⊎ (kind ≡ Ellipsis)
 
 begins_or_dots : (kind : Kind) → BeginsOrDots kind
 begins_or_dots = each_kind BeginsOrDots (

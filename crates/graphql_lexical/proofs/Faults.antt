@@ -7,7 +7,7 @@ use Rattle.std.specs.Prelude.{option_map}
 use Rattle.graphql_lexical.specs.Characters.{is_digit, is_line_end, is_source, is_plain, is_escape}
 use Rattle.graphql_lexical.specs.Kinds.{Kind, Name, String, Float, Int, Ellipsis, LexicalError, UnknownCharacter, UnexpectedCharacter, UnterminatedString, UnknownCharacterInString, UnknownEscapeSequence, UnexpectedEndOfFile, BlockString}
 use Rattle.graphql_lexical.specs.Tokens.{IsZero, IsNumber, AreUnits, mark}
-use Rattle.graphql_lexical.specs.Reading.{StringFails, at_end, at_line_end, at_control, lone_backslash, wrong_escape, Fails, number_ends, number_stops, zero_goes_on, string_fails, dot_ends, dots_end, dot_stops, dots_stop, unknown, block_ends, block_stops}
+use Rattle.graphql_lexical.specs.Reading.{StringFails, at_end, at_line_end, at_control, lone_backslash, wrong_escape, Fails, number_ends, number_stops, zero_goes_on, string_fails, dots_end, dots_stop, unknown, block_ends, block_stops}
 use Rattle.graphql_lexical.specs.device.Machines.{reach}
 use Rattle.graphql_lexical.specs.device.Scan.{State, Start, Done, OneDot, TwoDots, InName, Minus, Zero, Digits, Point, Fraction, ExponentMark, ExponentSign, Exponent, InString, Backslash, NoHexDigit, OneHexDigit, HexDigitD, TwoHexDigits, ThreeHexDigits, step, Missed, found, missed, stopped, after_zero, after_dots, after_units, after_backslash, after_u, answer, scan, Quote, EmptyString, InBlock, Block, Inside, Closed, block_step, after_block}
 use Rattle.graphql_lexical.proofs.Runs.{Stops, run}
@@ -150,14 +150,14 @@ backslash_fails n (c ∷ after) m s e =
 
 -- what follows a front, with its equation
 dot_missed : (b : List ℕ) (m : Missed) → Stops step OneDot b → after_dots 1 b ≡ Err m → FailsAs (46 ∷ b) m
-dot_missed [] m s e = missed_as (46 ∷ []) 1 UnexpectedEndOfFile m e dot_ends
+dot_missed [] m s e = missed_as (46 ∷ []) 1 UnexpectedEndOfFile m e (dots_end (inl refl))
 dot_missed (c ∷ b) m s e = missed_as (46 ∷ c ∷ b) 0 (UnexpectedCharacter 46) m e
-    (dot_stops (eqb-false c 46 (cond_none (eqb c 46) TwoDots None s).0))
+    (dots_stop c (46 ∷ []) b (inl refl) (eqb-false c 46 (cond_none (eqb c 46) TwoDots None s).0))
 
 dots_missed : (b : List ℕ) (m : Missed) → Stops step TwoDots b → after_dots 2 b ≡ Err m → FailsAs (46 ∷ 46 ∷ b) m
-dots_missed [] m s e = missed_as (46 ∷ 46 ∷ []) 2 UnexpectedEndOfFile m e dots_end
+dots_missed [] m s e = missed_as (46 ∷ 46 ∷ []) 2 UnexpectedEndOfFile m e (dots_end (inr refl))
 dots_missed (c ∷ b) m s e = missed_as (46 ∷ 46 ∷ c ∷ b) 0 (UnexpectedCharacter 46) m e
-    (dots_stop (eqb-false c 46 (cond_none (eqb c 46) (Done Ellipsis) None s).0))
+    (dots_stop c (46 ∷ 46 ∷ []) b (inr refl) (eqb-false c 46 (cond_none (eqb c 46) (Done Ellipsis) None s).0))
 
 front_is : (n : ℕ) (rest t : List ℕ) → n ≤ length rest → take n rest ≡ t → (rest ≡ t ++ drop n rest) × (n ≡ length t)
 front_is n rest t l e = (

@@ -7,7 +7,8 @@ use Rattle.std.proofs.lemmas.Bool.{eqb-true}
 use Rattle.std.proofs.lemmas.Option.{none-some, same_Some}
 use Rattle.graphql_lexical.specs.Characters.{is_digit, is_name_character, is_exponent_mark, is_sign, is_hex}
 use Rattle.graphql_lexical.specs.Kinds.{Kind, String, Ellipsis, all_kinds, Fixed, spelling, character_of}
-use Rattle.graphql_lexical.specs.Tokens.{IsZero, IsUnit, plain, escape, unicode, AreUnits, Admits, Spells, is_character, punctuator, mark}
+use Rattle.graphql_lexical.specs.Tokens.{IsZero, IsUnit, plain, escape, unicode, AreUnits, is_character, punctuator, mark}
+use Rattle.graphql_lexical.specs.device.Whole.{Admits, IsToken}
 use Rattle.graphql_lexical.specs.device.Numbers.{ReadName, ReadDigits, ReadLongInteger, ReadInteger, ReadFraction, ReadExponent}
 use Rattle.graphql_lexical.specs.device.Scan.{State, Start, Done, OneDot, TwoDots, InName, Minus, Zero, Digits, Point, Fraction, ExponentMark, ExponentSign, Exponent, InString, Backslash, NoHexDigit, OneHexDigit, HexDigitD, TwoHexDigits, ThreeHexDigits, is_hex_d, step, Quote, EmptyString, InBlock, Block, Inside, block_step}
 use Rattle.graphql_lexical.proofs.EachKind.{lone_spelling}
@@ -27,7 +28,7 @@ pub record IsOpen (tail text : List ℕ) : Type 0 where
 
 abbrev pub IsRead : State → List ℕ → Type 0
 IsRead Start t = t ≡ []
-IsRead (Done kind) t = Spells t kind
+IsRead (Done kind) t = IsToken t kind
 IsRead OneDot t = t ≡ 46 ∷ []
 IsRead TwoDots t = t ≡ 46 ∷ 46 ∷ []
 IsRead InName t = ReadName t
@@ -136,16 +137,16 @@ found_passes test [] x e = absurd (none-some x e)
 found_passes test (y ∷ ys) x e =
     if_then (λ z. test z ≡ true) (test y) y (find test ys) (λ h. h) (found_passes test ys) x e
 
-pub punctuator_spells : (c : ℕ) (kind : Kind) → punctuator c ≡ Some kind → Spells (c ∷ []) kind
+pub punctuator_spells : (c : ℕ) (kind : Kind) → punctuator c ≡ Some kind → IsToken (c ∷ []) kind
 punctuator_spells c kind e =
     by_character (character_of kind) (lone_spelling kind) (found_passes (is_character c) all_kinds kind e)
   where
     by_character : (o : Option ℕ) → IfSome o (λ d. spelling kind ≡ Fixed (d ∷ []))
-        → option_map_or (λ d. eqb c d) o false ≡ true → Spells (c ∷ []) kind
+        → option_map_or (λ d. eqb c d) o false ≡ true → IsToken (c ∷ []) kind
     by_character None s h = absurd cc
     by_character (Some d) s h = subst (λ x. Admits x (c ∷ [])) (sym s) (ap (λ (x : ℕ). x ∷ []) (eqb-true c d h))
 
-pub punctuator_read : (c : ℕ) (o : Option Kind) → ((kind : Kind) → o ≡ Some kind → Spells (c ∷ []) kind) → (p : State)
+pub punctuator_read : (c : ℕ) (o : Option Kind) → ((kind : Kind) → o ≡ Some kind → IsToken (c ∷ []) kind) → (p : State)
     → option_map Done o ≡ Some p → IsRead p (c ∷ [])
 punctuator_read c None h p e = absurd (none-some p e)
 punctuator_read c (Some kind) h p e = subst (λ (s : State). IsRead s (c ∷ [])) (same_Some (Done kind) p e) (h kind refl)

@@ -1,6 +1,6 @@
 -- Names and numbers as the grammar of tokens writes them, and as their parts: the same.
 use Rattle.std.proofs.Common.{◌≡◌, ◌↔◌, ◌⊎◌, ℕ, Bool, List, [], ◌∷◌, ◌++◌, IsTrue, codes, refl, sym, ap, ap₂, ◌∙◌, subst, inl, inr, arith, append-nil}
-use Rattle.graphql_lexical.specs.Characters.{is_digit, is_nonzero_digit, is_name_start, is_name_character, is_exponent_mark, is_sign}
+use Rattle.graphql_lexical.specs.Characters.{is_digit, is_nonzero_digit, is_sign}
 use Rattle.graphql_lexical.specs.Parts.{Sequence, ◌·◌, ◌or◌}
 use Rattle.graphql_lexical.specs.Tokens.{These, One, Any, Maybe, IsName, AreDigits, IsInteger, IsFraction, IsExponent, IsFloat}
 use Rattle.graphql_lexical.specs.device.Numbers.{ReadName, ReadDigits, ReadInteger, ReadFraction, ReadExponent, ReadFloat}

@@ -11,8 +11,9 @@ pub use Rattle.graphql_lexical.proofs.NumberParts.{float_same, integer_same, nam
 pub use Rattle.graphql_lexical.proofs.Places.{place_push, steps_by_characters}
 pub use Rattle.graphql_lexical.proofs.Readings.{answer_finds, same_Ok}
 pub use Rattle.graphql_lexical.proofs.Runs.{Stops, reach_is}
-pub use Rattle.graphql_lexical.proofs.Slices.{front_read, place_index, slices_in_order, unquoted}
+pub use Rattle.graphql_lexical.proofs.Slices.{front_read, place_index, slices_in_order}
 pub use Rattle.graphql_lexical.proofs.Spacing.{goes_on_spaced}
 pub use Rattle.graphql_lexical.proofs.Spelled.{RunsAs, accepts, runs_as}
+pub use Rattle.graphql_lexical.proofs.Wholes.{spells_token, unquoted}
 pub use Rattle.graphql_lexical.proofs.Widths.{IsWide, tokens_wide}
 pub use Rattle.graphql_lexical.proofs.Writing.{writes_nothing, writes_token, writes_white}

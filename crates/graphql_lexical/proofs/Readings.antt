@@ -4,13 +4,15 @@ use Rattle.std.proofs.lemmas.Option.{none-some, same_Some}
 use Rattle.std.proofs.lemmas.Bool.{cond-false}
 use Rattle.graphql_lexical.specs.Characters.{is_digit, is_line_end}
 use Rattle.graphql_lexical.specs.Kinds.{Kind, Name, String, BlockString, Float, Int, EndOfFile, LexicalError, UnexpectedCharacter, UnterminatedString, UnknownCharacterInString, UnknownEscapeSequence}
-use Rattle.graphql_lexical.specs.Tokens.{Spells, Starts, IsZero, text_of}
+use Rattle.graphql_lexical.specs.Tokens.{Starts, IsZero}
+use Rattle.graphql_lexical.specs.device.Whole.{IsToken, text_of}
 use Rattle.graphql_lexical.specs.Reading.{counted, Longest, ReadsToken, Reads}
 use Rattle.graphql_lexical.specs.device.Machines.{reach}
 use Rattle.graphql_lexical.specs.device.Scan.{State, Start, Done, OneDot, TwoDots, InName, Minus, Zero, Digits, Point, Fraction, ExponentMark, ExponentSign, Exponent, InString, Backslash, NoHexDigit, OneHexDigit, HexDigitD, TwoHexDigits, ThreeHexDigits, step, Found, Missed, found, missed, stopped, after_zero, after_dots, after_units, after_backslash, after_u, answer, scan, Quote, EmptyString, InBlock, Closed, after_block}
 use Rattle.graphql_lexical.proofs.Runs.{Reaches, reach_is, Longest_same}
 use Rattle.graphql_lexical.proofs.History.{IsRead, read_run}
 use Rattle.graphql_lexical.proofs.Spelled.{Goes, accepts, accepts_spells, spells_run, starts_from, starts_run}
+use Rattle.graphql_lexical.proofs.Wholes.{spells_token, token_spells}
 
 abbrev pub Reached : List ℕ → ℕ → State → Type 0
 Reached rest n q = Reaches step Start rest n q
@@ -33,7 +35,7 @@ pub same_state : (t : List ℕ) (p q : State) → Goes Start t p → Goes Start 
 same_state t p q a b = same_Some p q (sym a ∙ b)
 
 -- what spells a token has led to a state that is this token
-pub spells_accepts : (t : List ℕ) (q : State) (kind : Kind) → Goes Start t q → Spells t kind → accepts q ≡ Some kind
+pub spells_accepts : (t : List ℕ) (q : State) (kind : Kind) → Goes Start t q → IsToken t kind → accepts q ≡ Some kind
 spells_accepts t q kind e s =
     let r = spells_run t kind s in
     ap accepts (same_state t q r.state e r.runs) ∙ r.accepted
@@ -168,8 +170,9 @@ finds_reads rest n q f h g =
     subst (λ (k : ℕ). ReadsToken rest k f.kind f.text) g.size_is (record {
       longest = starts_longest rest n q h;
       some = some_read rest n q f.kind h g.accepted;
-      spells = accepts_spells q f.kind (take n rest) g.accepted (front_read rest n q h);
-      text_is = g.text_is;
+      spells =
+          token_spells (take n rest) f.kind f.text (accepts_spells q f.kind (take n rest) g.accepted (front_read rest n q h))
+          g.text_is;
       alone = λ z. g.alone (zero_state (take n rest) q h.runs z);
     })
 
@@ -185,12 +188,13 @@ reads_answer : (rest : List ℕ) (m n : ℕ) (q : State) (kind : Kind) (text : L
     → Reached rest m q → answer q m rest ≡ Ok (record { size = n; kind = kind; text = text })
 reads_answer rest m n q kind text r h =
     let same : n ≡ m = Longest_same Starts rest n m r.longest (starts_longest rest m q h) in
-    let spelled : Spells (take m rest) kind = subst (λ (k : ℕ). Spells (take k rest) kind) same r.spells in
+    let s = spells_token (take n rest) kind text r.spells in
+    let spelled : IsToken (take m rest) kind = subst (λ (k : ℕ). IsToken (take k rest) kind) same s.0 in
     let a = spells_accepts (take m rest) q kind h.runs spelled in
     let alone : q ≡ Zero → NoDigit (drop m rest) =
     λ z. subst (λ (k : ℕ). IsZero (take k rest) → NoDigit (drop k rest)) same r.alone
     (subst (λ (x : State). IsRead x (take m rest)) z (front_read rest m q h)) in
-    accepts_answer q m rest kind a alone ∙ rw (r.text_is, ← same)
+    accepts_answer q m rest kind a alone ∙ rw (s.1, ← same)
 
 pub reads_scan : (rest : List ℕ) (n : ℕ) (kind : Kind) (text : List ℕ) → Reads rest n kind text
     → scan rest ≡ Ok (record { size = n; kind = kind; text = text })

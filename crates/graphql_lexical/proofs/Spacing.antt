@@ -38,12 +38,10 @@ alike_bares (x ∷ xs) (y ∷ others) h = (record { kind = h.0; text = h.1 }, al
 
 spaced_cut : (text : List ℕ) (others : List Lexeme) → IsSpaced text others → IsCutInto text (bares others)
 spaced_cut text [] h = subst (λ (t : List ℕ). IsCutInto t []) (sym h) writes_nothing
-spaced_cut text (x ∷ xs) (whole, rest, e, spells, is, more) =
-    let w = writes_token whole x.kind (after_space rest) (bares xs) spells (inr (space_apart rest))
+spaced_cut text (x ∷ xs) (whole, rest, e, spells, more) =
+    let w = writes_token whole x.kind x.text (after_space rest) (bares xs) spells (inr (space_apart rest))
     (writes_space rest (bares xs) (spaced_cut rest xs more)) in
-    subst (λ (t : List ℕ). IsCutInto t (bares (x ∷ xs))) (sym e)
-    (subst (λ (t : List ℕ). IsCutInto (whole ++ after_space rest) (record { kind = x.kind; text = t } ∷ bares xs))
-    (sym is) w)
+    subst (λ (t : List ℕ). IsCutInto t (bares (x ∷ xs))) (sym e) w
 
 -- ---- tokens of a source before others
 

@@ -8,7 +8,7 @@ use Rattle.std.specs.Prelude.{option_map}
 use Rattle.graphql_lexical.specs.Characters.{is_digit, is_line_end, is_source, is_plain, is_escape}
 use Rattle.graphql_lexical.specs.Kinds.{Kind, Name, Float, Int, LexicalError, UnexpectedCharacter, UnterminatedString, UnknownEscapeSequence, String}
 use Rattle.graphql_lexical.specs.Tokens.{Starts, IsZero, IsNumber, StartsNumber, AreUnits, mark}
-use Rattle.graphql_lexical.specs.Reading.{Longest, counted, StringFails, at_end, at_line_end, at_control, lone_backslash, wrong_escape, short_unicode, wrong_unicode, no_unicode, Fails, number_ends, number_stops, zero_goes_on, string_fails, dot_ends, dots_end, dot_stops, dots_stop, unknown, block_ends, block_stops}
+use Rattle.graphql_lexical.specs.Reading.{Longest, counted, StringFails, at_end, at_line_end, at_control, lone_backslash, wrong_escape, short_unicode, wrong_unicode, no_unicode, Fails, number_ends, number_stops, zero_goes_on, string_fails, dots_end, dots_stop, unknown, block_ends, block_stops}
 use Rattle.graphql_lexical.specs.device.Machines.{reach, onward}
 use Rattle.graphql_lexical.specs.device.Scan.{State, Start, Done, OneDot, TwoDots, InName, Minus, Zero, Digits, Point, Fraction, ExponentMark, ExponentSign, Exponent, InString, Backslash, NoHexDigit, OneHexDigit, HexDigitD, TwoHexDigits, ThreeHexDigits, step, Found, Missed, missed, stopped, after_zero, after_units, after_backslash, after_u, answer, scan, Quote, EmptyString, InBlock, Block, Closed, after_block}
 use Rattle.graphql_lexical.proofs.Runs.{reach_on, Longest_same, Stops}
@@ -249,6 +249,16 @@ unknown_stops c n = by_step (step Start c) refl
     by_step None e = refl
     by_step (Some p) e = absurd (n (starts_from (c ∷ []) p (rw e)))
 
+one_dot : (c : ℕ) (after : List ℕ) → (c ≡ 46 → ⊥) → scan (46 ∷ c ∷ after) ≡ missed 0 (UnexpectedCharacter 46)
+one_dot c after n =
+    ap (λ (r : ℕ × State). answer r.1 (suc r.0) (46 ∷ c ∷ after))
+    (stop_reach OneDot c after (cond-false (eqb c 46) _ _ (ne_eqb c 46 n)))
+
+two_dots : (c : ℕ) (after : List ℕ) → (c ≡ 46 → ⊥) → scan (46 ∷ 46 ∷ c ∷ after) ≡ missed 0 (UnexpectedCharacter 46)
+two_dots c after n =
+    ap (λ (r : ℕ × State). answer r.1 (suc (suc r.0)) (46 ∷ 46 ∷ c ∷ after))
+    (stop_reach TwoDots c after (cond-false (eqb c 46) _ _ (ne_eqb c 46 n)))
+
 pub fails_scan : (rest : List ℕ) (n : ℕ) (error : LexicalError) → Fails rest n error → scan rest ≡ missed n error
 fails_scan _ _ _ (number_ends {rest} {n} b l none d) =
     let r = reach step Start rest in
@@ -265,13 +275,9 @@ fails_scan _ _ _ (block_ends {units} h) =
 fails_scan _ _ _ (block_stops {c} {units} {after} h x) =
     let o = units_run_open units (c ∷ after) h in
     block_scan units (c ∷ after) o (ap (option_map InBlock) (block_control_stops o.part c x))
-fails_scan _ _ _ dot_ends = refl
-fails_scan _ _ _ dots_end = refl
-fails_scan _ _ _ (dot_stops {c} {after} n) =
-    ap (λ (r : ℕ × State). answer r.1 (suc r.0) (46 ∷ c ∷ after))
-    (stop_reach OneDot c after (cond-false (eqb c 46) _ _ (ne_eqb c 46 n)))
-fails_scan _ _ _ (dots_stop {c} {after} n) =
-    ap (λ (r : ℕ × State). answer r.1 (suc (suc r.0)) (46 ∷ 46 ∷ c ∷ after))
-    (stop_reach TwoDots c after (cond-false (eqb c 46) _ _ (ne_eqb c 46 n)))
+fails_scan _ _ _ (dots_end (inl e)) = rw e
+fails_scan _ _ _ (dots_end (inr e)) = rw e
+fails_scan _ _ _ (dots_stop c dots after (inl e) n) = rw e (one_dot c after n)
+fails_scan _ _ _ (dots_stop c dots after (inr e) n) = rw e (two_dots c after n)
 fails_scan _ _ _ (unknown {c} {after} n) =
     ap (λ (r : ℕ × State). answer r.1 r.0 (c ∷ after)) (stop_reach Start c after (unknown_stops c n))

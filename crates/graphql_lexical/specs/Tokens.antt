@@ -1,5 +1,5 @@
 -- Which texts are tokens.
-use Rattle.std.specs.Prelude.{◌≡◌, ◌≢◌, ℕ, ◌+◌, ◌-◌, ◌*◌, ◌<◌, ◌⊎◌, List, [], ◌∷◌, ◌++◌, length, take, drop, IsTrue, nat_le, ◌==◌, if◌then◌else◌, Option, Bool, false, codes}
+use Rattle.std.specs.Prelude.{◌≡◌, ◌≢◌, ℕ, ◌+◌, ◌-◌, ◌*◌, ◌<◌, ◌⊎◌, List, [], ◌∷◌, ◌++◌, take, IsTrue, nat_le, ◌==◌, if◌then◌else◌, Option, Bool, false, codes}
 use Rattle.std.specs.List.{AllByRecursion, concat, find}
 use Rattle.std.specs.Option.{option_map_or}
 use Rattle.graphql_lexical.specs.Parts.{◌·◌, ◌or◌, Nothing}
@@ -66,12 +66,8 @@ abbrev pub hex_number : ℕ → ℕ → ℕ → ℕ → ℕ
 hex_number h i j k = 4096 * hex_value h + (256 * hex_value i + (16 * hex_value j + hex_value k))
 
 -- four hexadecimal digits, whose number isn't from D800 to DFFF
-pub record IsScalar (h i j k : ℕ) : Type 0 where
-  pub first : IsTrue (is_hex h)
-  pub second : IsTrue (is_hex i)
-  pub third : IsTrue (is_hex j)
-  pub fourth : IsTrue (is_hex k)
-  pub whole : (hex_number h i j k < 55296) ⊎ (57343 < hex_number h i j k)
+abbrev pub IsScalar : ℕ → ℕ → ℕ → ℕ → Type 0
+IsScalar h i j k = Any is_hex (h ∷ i ∷ j ∷ k ∷ []) × ((hex_number h i j k < 55296) ⊎ (57343 < hex_number h i j k))
 
 -- what a string is made of
 pub data IsUnit : List ℕ → Type 0 where
@@ -81,10 +77,6 @@ pub data IsUnit : List ℕ → Type 0 where
 
 abbrev pub AreUnits : List ℕ → Type 0
 AreUnits = Pieces IsUnit
-
--- a quote, units, a quote
-abbrev pub IsString : List ℕ → Type 0
-IsString text = (units : List ℕ) × (text ≡ codes "\"" ++ (units ++ codes "\"")) × AreUnits units
 
 -- ---- block strings
 
@@ -103,25 +95,22 @@ pub data AreBlockUnits : List ℕ → List ℕ → Type 0 where
   escaped_mark : {units after : List ℕ} → AreBlockUnits units after → AreBlockUnits (codes "\\" ++ (mark ++ units)) after
   character : {c : ℕ} {units after : List ℕ} → IsTrue (is_source c) → BeginsNoMark (c ∷ units ++ after) → AreBlockUnits units after → AreBlockUnits (c ∷ units) after
 
--- a triple quote, block units, a triple quote
-abbrev pub IsBlockString : List ℕ → Type 0
-IsBlockString text = (units : List ℕ) × (text ≡ mark ++ (units ++ mark)) × AreBlockUnits units mark
-
 -- ---- tokens
 
--- the whole text is a token that is spelled so
-abbrev pub Admits : Spelling → List ℕ → Type 0
-Admits Names text = IsName text
-Admits Strings text = IsString text
-Admits BlockStrings text = IsBlockString text
-Admits Floats text = IsFloat text
-Admits Ints text = IsInteger text
-Admits (Fixed fixed) text = text ≡ fixed
-Admits NoText text = ⊥
+-- The whole text is a token that is spelled so, and this is the token's text: that of a string is what stands between its
+-- quotes, that of a block string what stands between its triple quotes.
+abbrev pub SpelledAs : Spelling → List ℕ → List ℕ → Type 0
+SpelledAs Names whole text = IsName whole × (text ≡ whole)
+SpelledAs Strings whole text = (whole ≡ codes "\"" ++ (text ++ codes "\"")) × AreUnits text
+SpelledAs BlockStrings whole text = (whole ≡ mark ++ (text ++ mark)) × AreBlockUnits text mark
+SpelledAs Floats whole text = IsFloat whole × (text ≡ whole)
+SpelledAs Ints whole text = IsInteger whole × (text ≡ whole)
+SpelledAs (Fixed fixed) whole text = (whole ≡ fixed) × (text ≡ whole)
+SpelledAs NoText whole text = ⊥
 
--- the whole text is a token of this kind
-abbrev pub Spells : List ℕ → Kind → Type 0
-Spells text kind = Admits (spelling kind) text
+-- the whole text is a token of this kind and this text
+abbrev pub Spells : List ℕ → Kind → List ℕ → Type 0
+Spells whole kind text = SpelledAs (spelling kind) whole text
 
 -- each token of this kind is this character
 abbrev pub is_character : ℕ → Kind → Bool
@@ -141,14 +130,6 @@ quotes Ints = []
 quotes (Fixed fixed) = []
 quotes NoText = []
 
-abbrev pub between : List ℕ → List ℕ → List ℕ
-between [] whole = whole
-between (q ∷ qs) whole = take (length whole - 2 * length (q ∷ qs)) (drop (length (q ∷ qs)) whole)
-
--- the token's text: for a string what stands between its quotes, for a block string between its triple quotes
-abbrev pub text_of : Kind → List ℕ → List ℕ
-text_of kind whole = between (quotes (spelling kind)) whole
-
 -- a text between the same quotes
 abbrev pub around : List ℕ → List ℕ → List ℕ
 around [] text = text
@@ -161,7 +142,7 @@ written kind text = around (quotes (spelling kind)) text
 
 -- some token begins with the text
 abbrev pub Starts : List ℕ → Type 0
-Starts text = (more : List ℕ) × (kind : Kind) × Spells (text ++ more) kind
+Starts front = (more : List ℕ) × (kind : Kind) × (text : List ℕ) × Spells (front ++ more) kind text
 
 -- an Int or a Float
 abbrev pub IsNumber : List ℕ → Type 0

@@ -1,3 +1,4 @@
 pub mod Machines
 pub mod Scan
 pub mod Numbers
+pub mod Whole

@@ -1,4 +1,4 @@
-//! The code of the guide: what a caller does with a text, as functions that are proved. `language_rows` calls each of them.
+//! The code of the guide: what a caller does with a text, as functions that are proved. `check_calls` calls each of them.
 #![tactic(auto)]
 
 mod arguments;

@@ -150,7 +150,7 @@ module _ {C : Type 0} (S : Scalars C Error) (depth : ℕ) (source : List ℕ) wh
 
       module _ (i : ℕ) (t : Lexeme) (d : IsFirstDeeper depth ts i t) where
         deep_fault : (span : spans.Span) (fault : Spanning ParseError) → view_span span ≡ t.span
-            → (h : IsRefusedAt S (ended_by d.before t) (view_fault fault)) → TellsDepth S ts i t h.number h.token h.says
+            → (h : IsRefusedAt S (ended_by d.before t) (view_fault fault)) → TellsDepth S ts i t h.before h.token h.says
             → Promised (answer_within (Some span) (Err (failure.Refused fault)))
         deep_fault span fault e h (inl (end, begins)) =
             let at_end = h.span ∙ ap (λ (x : Lexeme). x.span) end in
@@ -159,12 +159,12 @@ module _ {C : Type 0} (S : Scalars C Error) (depth : ℕ) (source : List ℕ) wh
             rw (same_number fault.span.start.index fault.span.end.index (from ∙ sym to))
             (deep_within span (begun_too_deep ts cut i t d begins (view_span span) e))
         deep_fault span fault e h (inr (goes_on, none, refused)) =
-            let all_wide = subst (AllByRecursion IsWide) refused.whole (tokens_wide source ts cut) in
-            let wide = middle_of IsWide refused.before refused.after h.token all_wide goes_on in
+            let all_wide = subst (AllByRecursion IsWide) refused.0.whole (tokens_wide source ts cut) in
+            let wide = middle_of IsWide h.before refused.0.after h.token all_wide goes_on in
             let some : fault.span.start.index < fault.span.end.index = subst (λ (p : Span). p.start.index < p.end.index)
             (sym h.span) wide in
             let at : IsRefusedAt S ts (view_fault fault) = record {
-              number = h.number;
+              before = h.before;
               token = h.token;
               says = h.says;
               refused = refused;
@@ -189,7 +189,7 @@ module _ {C : Type 0} (S : Scalars C Error) (depth : ℕ) (source : List ℕ) wh
         deep_answer span (Err (failure.Refused fault)) e a =
             let h = refused_is S (ended_by d.before t) spelled ends (view_fault fault) a.0 a.1 in
             let tells = short_tells S depth ts i t d (cut_spelled source ts cut) (cut_ends source ts cut) in
-            deep_fault span fault e h (tells h.number h.token h.says h.refused)
+            deep_fault span fault e h (tells h.before h.token h.says h.refused)
         deep_answer span (Err failure.Memory) e a = memory_within
 
       pub answers_within : (deep : Option spans.Span) (left : List Lexeme) (result : Result X ParseFailure)
@@ -223,7 +223,7 @@ module _ {C : Type 0} (S : Scalars C Error) (depth : ℕ) (source : List ℕ) wh
       let d = h.deep.deeper in
       let e = (deep_there h.lexemes h.cut b k).deeper in
       let number = one_deep depth h.lexemes h.number k.number h.token k.token d e in
-      let parts = same_parts IsSpelled S (IsDocument S) d.before e.before d.after e.after h.token k.token
+      let parts = same_parts d.before e.before d.after e.after h.token k.token
       (d.number ∙ number ∙ sym e.number) (sym d.whole ∙ e.whole) in
       h.at ∙ ap (λ (t : Lexeme). t.span) parts.1 ∙ sym k.at
 
@@ -244,11 +244,11 @@ module _ {C : Type 0} (S : Scalars C Error) (depth : ℕ) (source : List ℕ) wh
 
     module _ (i : ℕ) (t : Lexeme) (d : IsFirstDeeper depth ts i t) where
       -- where the tokens up to the deep one, and then an end, are refused tells which
-      told_has_one : (j : ℕ) (u : Lexeme) (e : Fault Error) → TellsDepth S ts i t j u e → SomeAnswer
-      told_has_one j u e (inl (end, begins)) =
+      told_has_one : (us : List Lexeme) (u : Lexeme) (e : Fault Error) → TellsDepth S ts i t us u e → SomeAnswer
+      told_has_one us u e (inl (end, begins)) =
           inr (inr (t.span, begun_too_deep ts cut i t d begins t.span refl))
-      told_has_one j u e (inr (goes_on, none, refused)) =
-          inr (inl (unbegun_within ts cut i t d none, (_, refusal_of S source ts j u e cut refused)))
+      told_has_one us u e (inr (goes_on, none, refused)) =
+          inr (inl (unbegun_within ts cut i t d none, (_, refusal_of S source ts us u e cut refused)))
 
       deep_has_one : SomeAnswer
       deep_has_one =

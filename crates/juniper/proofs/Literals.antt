@@ -49,22 +49,24 @@ fault_is a b p q e = let h : (a, p) ≡ (b, q) = cc in (
 )
 
 module _ {A : Type 0} (R : A → List Lexeme → Type 0)
-    (RefusedAt : List Lexeme → ℕ → Lexeme → grammar.Fault Error → Type 0) (old left : List Lexeme) where
+    (RefusedAt : List Lexeme → List Lexeme → Lexeme → grammar.Fault Error → Type 0) (old left : List Lexeme) where
   refuses : (fault : Fault) (z : reading.Read Error A) → GivesFront R (RefusedAt old) old z → seen z ≡ Err (fault, left)
       → Refuses R RefusedAt fault old left
   refuses fault (Took x rest) g q = absurd (cc q)
   refuses fault (Refused [] x) g q = absurd g
-  refuses fault (Refused (t ∷ rest) x) (none, (i, r, at)) q =
+  refuses fault (Refused (t ∷ rest) x) (none, (before, whole, at)) q =
       let is = fault_is {A = A} _ fault _ left q in
       record {
         none = none;
-        number = i;
+        before = before;
         token = t;
+        after = rest;
+        whole = whole;
         says = x;
         refused = at;
         error = ap (λ (f : Fault). f.error) is.0;
         span = ap (λ (f : Fault). f.span) is.0;
-        leaves = is.1 ∙ ap (λ (l : List Lexeme). past (t ∷ l)) r;
+        leaves = is.1;
       }
   refuses fault Out g q = absurd g
 
@@ -114,8 +116,10 @@ answers_type view (Err (failure.Refused e)) old left ended h =
     (type_given no_scalars old (ends_once old ended)) h in
     record {
       none = λ us vs y q k. r.none us vs (y, span_of us) q (k, refl);
-      number = r.number;
+      before = r.before;
       token = r.token;
+      after = r.after;
+      whole = r.whole;
       says = r.says;
       refused = r.refused;
       error = r.error;

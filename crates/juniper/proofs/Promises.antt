@@ -75,10 +75,10 @@ module _ {C : Type 0} (S : Scalars C Error) (ts : List Lexeme) (spelled : AllByR
       → GivesWhole (IsDocument S) (DocumentRefusedAt S ts) ts z → seen z ≡ Err (fault, left) → IsRefusedAt S ts fault
   by_read fault left (Took tree rest) g q = absurd (cc q)
   by_read fault left (Refused [] x) g q = absurd g
-  by_read fault left (Refused (t ∷ rest) x) (i, r, at) q =
+  by_read fault left (Refused (t ∷ rest) x) (before, whole, at) q =
       let is = fault_is _ fault _ left q in
       record {
-        number = i;
+        before = before;
         token = t;
         says = x;
         refused = at;
@@ -110,8 +110,8 @@ module _ {C : Type 0} (S : Scalars C Error) (source : List ℕ) (ts : List Lexem
 
   pub refusal_at : (fault : Fault) → IsRefusedAt S ts fault → IsRefusal S source fault
   refusal_at fault at = record {
-    no_document = λ others tree d h. never_both S ts tree at.number (cut_spelled source ts cut)
-        (document_there others tree d h) at.refused.fault;
+    no_document = λ others tree d h. never_both S ts at.before tree at.token (cut_spelled source ts cut)
+        (document_there others tree d h) at.refused.0;
     lexical = λ error place b. absurd (cut_or_break source ts error place cut b);
     grammatical = λ others d. subst (λ (xs : List Lexeme). IsRefusedAt S xs fault) (same_cut source ts others cut d) at;
   }
@@ -143,7 +143,8 @@ pub refusal_in_text : {C : Type 0} (S : Scalars C Error) (source : List ℕ) (fa
     → IsRefusalInText S source fault
 refusal_in_text S source fault h = λ lexemes cut.
     let at = h.grammatical lexemes cut in
-    (at, fault_in_text S source lexemes at.number cut at.refused.fault)
+    let in_characters = fault_in_text S source lexemes at.before at.token cut at.refused.0 in
+    (at, in_characters.0, in_characters.1)
 
 pub in_text : {C X : Type 0} (S : Scalars C Error) (source : List ℕ) (result : Result X ParseFailure)
     → IfRefused result (λ fault. IsRefusal S source (view_fault fault))

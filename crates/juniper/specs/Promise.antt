@@ -1,5 +1,5 @@
 -- What is promised for a text, in the words of the grammar.
-use Rattle.std.specs.Prelude.{◌≡◌, ◌≤◌, ℕ, suc, Bool, List, [], ◌∷◌, ◌++◌, drop, length, Result, Ok, Err, if◌then◌else◌}
+use Rattle.std.specs.Prelude.{◌≡◌, ◌≤◌, ℕ, Bool, List, [], ◌∷◌, ◌++◌, length, Result, Ok, Err, if◌then◌else◌}
 use Rattle.graphql_lexical.specs.Place.{Place, Span}
 use Rattle.graphql_lexical.specs.declared.kind.Kind.TheVariants.{EndOfFile}
 use Rattle.graphql_lexical.specs.Kinds.{LexicalError, same_kind}
@@ -9,7 +9,7 @@ use Rattle.graphql_grammar.specs.Tree.{Scalars, Value, TypeRef, Definition}
 use Rattle.graphql_grammar.specs.Grammar.{IsValue, IsType, IsDocument}
 use Rattle.graphql_grammar.specs.Faults as grammar
 use Rattle.graphql_grammar.specs.Faults.{DocumentRefusedAt, ValueRefusedAt, TypeRefusedAt}
-use Rattle.graphql_grammar.specs.Texts.{AtFaultInText}
+use Rattle.graphql_grammar.specs.Texts.{BeginsText}
 use Rattle.graphql_grammar.specs.Tokens.{span_of}
 use Rattle.juniper_tokens.specs.declared.error.ParseError.{ParseError}
 use Rattle.juniper_tokens.specs.declared.error.ParseFailure.{ParseFailure}
@@ -44,10 +44,10 @@ module _ {C : Type 0} (S : Scalars C Error) where
 
   -- The fault is that of the grammar: it has the span of the token at which the tokens are refused, and names its error.
   pub record IsRefusedAt (lexemes : List Lexeme) (fault : Fault) : Type 0 where
-    pub number : ℕ
+    pub before : List Lexeme
     pub token : Lexeme
     pub says : grammar.Fault Error
-    pub refused : DocumentRefusedAt S lexemes number token says
+    pub refused : DocumentRefusedAt S lexemes before token says
     pub error : fault.error ≡ error_of says
     pub span : fault.span ≡ token.span
 
@@ -62,7 +62,8 @@ module _ {C : Type 0} (S : Scalars C Error) where
   -- of the token before the refused one, and a space, can be completed to a document's; up to the refused one's it
   -- can't.
   abbrev pub IsRefusalInText : List ℕ → Fault → Type 0
-  IsRefusalInText source fault = (lexemes : List Lexeme) → Cut source lexemes → (at : IsRefusedAt lexemes fault) × AtFaultInText S source lexemes at.number
+  IsRefusalInText source fault = (lexemes : List Lexeme) → Cut source lexemes → (at : IsRefusedAt lexemes fault)
+      × BeginsText S source at.before × (BeginsText S source (at.before ++ at.token ∷ []) → ⊥)
 
 -- Where a text was refused, P holds of the error and its place.
 abbrev pub IfRefused : {X : Type 0} → Result X ParseFailure → (Spanning ParseError → Type 0) → Type 0
@@ -86,15 +87,17 @@ module _ {A : Type 0} (R : A → List Lexeme → Type 0) where
 
   -- No prefix of the tokens means anything. The fault has the span of the token at which they are refused, and names
   -- its error. That token is taken, unless it is the end.
-  pub record Refuses (Refused : List Lexeme → ℕ → Lexeme → grammar.Fault Error → Type 0) (fault : Fault) (old left : List Lexeme) : Type 0 where
+  pub record Refuses (Refused : List Lexeme → List Lexeme → Lexeme → grammar.Fault Error → Type 0) (fault : Fault) (old left : List Lexeme) : Type 0 where
     pub none : (us vs : List Lexeme) (y : A) → old ≡ us ++ vs → R y us → ⊥
-    pub number : ℕ
+    pub before : List Lexeme
     pub token : Lexeme
+    pub after : List Lexeme
+    pub whole : old ≡ before ++ token ∷ after
     pub says : grammar.Fault Error
-    pub refused : Refused old number token says
+    pub refused : Refused old before token says
     pub error : fault.error ≡ error_of says
     pub span : fault.span ≡ token.span
-    pub leaves : left ≡ past (token ∷ drop (suc number) old)
+    pub leaves : left ≡ past (token ∷ after)
 
 -- The one prefix that is a value was taken, or none is one.
 abbrev pub AnswersValue : {X C : Type 0} → Scalars C Error → Bool → (X → Value C) → Result X ParseFailure → List Lexeme → List Lexeme → Type 0

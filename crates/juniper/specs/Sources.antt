@@ -1,19 +1,23 @@
 -- Two lists of tokens, refused alike.
-use Rattle.std.specs.Prelude.{ℕ, ◌≡◌, List}
+use Rattle.std.specs.Prelude.{◌≡◌, List}
 use Rattle.graphql_lexical.specs.Cutting.{Lexeme}
+use Rattle.graphql_lexical.specs.laws.Alike.{Alike, AllAlike}
 use Rattle.graphql_grammar.specs.Faults as grammar
 use Rattle.graphql_grammar.specs.Faults.{DocumentRefusedAt}
 use Rattle.graphql_grammar.specs.Tree.{Scalars}
 use Rattle.juniper_tokens.specs.Errors.{Error, Fault}
 
--- Both are refused at the same token's number, where these faults stand, with the same error.
+-- Both are refused after tokens that are alike, at tokens that are, where these faults stand, with the same error.
 pub record AreRefusedAlike {C : Type 0} (S : Scalars C Error) (ts us : List Lexeme) (f g : Fault) : Type 0 where
-  pub number : ℕ
+  pub before : List Lexeme
+  pub other_before : List Lexeme
+  pub fronts : AllAlike before other_before
   pub token : Lexeme
   pub other : Lexeme
+  pub tokens : Alike token other
   pub says : grammar.Fault Error
-  pub refused : DocumentRefusedAt S ts number token says
-  pub other_refused : DocumentRefusedAt S us number other says
+  pub refused : DocumentRefusedAt S ts before token says
+  pub other_refused : DocumentRefusedAt S us other_before other says
   pub span : f.span ≡ token.span
   pub other_span : g.span ≡ other.span
   pub error : f.error ≡ g.error

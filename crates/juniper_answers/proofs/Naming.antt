@@ -6,7 +6,7 @@ use Rattle.std.proofs.lemmas.Bool.{and_from, or_left}
 use Rattle.graphql_lexical.specs.Characters.{is_digit, is_name_start, is_name_character}
 use Rattle.graphql_lexical.specs.declared.kind.Kind.{Kind}
 use Rattle.graphql_lexical.specs.declared.kind.Kind.TheVariants.{Name}
-use Rattle.graphql_lexical.specs.Tokens.{IsName, Spells, text_of}
+use Rattle.graphql_lexical.specs.Tokens.{IsName, Spells}
 use Rattle.graphql_lexical.specs.Reading.{Reads}
 use Rattle.graphql_lexical.specs.Cutting.{Lexeme, Cut}
 use Rattle.graphql_lexical.specs.laws.Written.{AreOf}
@@ -40,7 +40,7 @@ tested text n =
 
 one_token : (text : List ℕ) → IsName text → IsOneName text
 one_token text n =
-    let w = writes_token text Name [] [] n (inr tt) writes_nothing in
+    let w = writes_token text Name text [] [] (n, refl) (inr tt) writes_nothing in
     subst IsOneName (append-nil text) (go w.lexemes w.end w.cut w.are)
   where
     go : (xs : List Lexeme) (e : Lexeme) → Cut (text ++ []) (xs ++ e ∷ [])
@@ -59,9 +59,8 @@ one_token text n =
 name_read : (rest : List ℕ) (n : ℕ) (kind : Kind) (text : List ℕ) → Reads rest n kind text → kind ≡ Name → IsName text
 name_read [] n kind text r e = absurd (cc)
 name_read (c ∷ cs) n kind text r e =
-    let front = take n (c ∷ cs) in
-    let s : IsName front = subst (λ (k : Kind). Spells front k) e r.spells in
-    subst IsName (sym (r.text_is ∙ ap (λ (k : Kind). text_of k front) e)) s
+    let s = subst (λ (k : Kind). Spells (take n (c ∷ cs)) k text) e r.spells in
+    subst IsName (sym s.1) s.0
 
 only_name : (text : List ℕ) → IsOneName text → IsName text
 only_name text o =

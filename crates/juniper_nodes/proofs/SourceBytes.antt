@@ -7,10 +7,11 @@ use Rattle.std.proofs.lemmas.List.{take-append-drop, length-take-le, drop-drop}
 use Rattle.std.proofs.lemmas.List.Sums.{sum_by-cons}
 use Rattle.graphql_lexical.specs.declared.kind.Kind.TheVariants.{EndOfFile}
 use Rattle.graphql_lexical.specs.Kinds.{spelling}
-use Rattle.graphql_lexical.specs.Tokens.{quotes, between}
+use Rattle.graphql_lexical.specs.Tokens.{quotes}
+use Rattle.graphql_lexical.specs.device.Whole.{between}
 use Rattle.graphql_lexical.specs.Reading.{Reads}
 use Rattle.graphql_lexical.specs.Cutting.{Lexeme, Leads}
-use Rattle.graphql_lexical.proofs.Public.{reads_size}
+use Rattle.graphql_lexical.proofs.Public.{reads_size, spells_token}
 use Rattle.juniper_values.specs.Text.{Text}
 use Rattle.juniper_nodes.proofs.TextLengths.{size, size_joins, drop_is_short}
 
@@ -48,7 +49,7 @@ reads_bytes (c ∷ cs) n t r none =
     let whole = take n (c ∷ cs) in
     let some = reads_size (c ∷ cs) n t.kind t.text r none in
     let text : size t.text ≤ size whole =
-    subst (λ (u : Text). size u ≤ size whole) (sym r.text_is) (between_is_short (quotes (spelling t.kind)) whole) in
+    subst (λ (u : Text). size u ≤ size whole) (sym (spells_token whole t.kind t.text r.spells).1) (between_is_short (quotes (spelling t.kind)) whole) in
     let bytes : 1 ≤ size whole = omega (arith, some.0, some.1, some_bytes whole, length-take-le n (c ∷ cs) some.1) in
     one_or (size t.text) (size whole) bytes text
 

@@ -4,7 +4,7 @@ use Rattle.std.proofs.Math.Seq.{take-append_seam, drop-append_seam}
 use Rattle.std.proofs.lemmas.List.{length-take-le}
 use Rattle.std.proofs.lemmas.Str.{encodes-append, encode_ascii}
 use lib.Utf8.{encodes}
-use Rattle.graphql_lexical.specs.Tokens.{between}
+use Rattle.graphql_lexical.specs.device.Whole.{between}
 use Rattle.graphql_lexical.proofs.Public.{unquoted}
 use Rattle.juniper_tokens.specs.device.ByteRuns.{byte_at}
 use Rattle.juniper_tokens.specs.device.Borders.{EndsQuoted, quotes}

@@ -11,12 +11,12 @@ use Rattle.graphql_lexical.specs.Place.{Place, place, past_character}
 use Rattle.graphql_lexical.specs.declared.kind.Kind.{Kind}
 use Rattle.graphql_lexical.specs.declared.kind.Kind.TheVariants as kinds
 use Rattle.graphql_lexical.specs.Kinds.{same_kind, Spelling, Names, Strings, BlockStrings, Floats, Ints, Fixed, NoText, spelling, fixed_text}
-use Rattle.graphql_lexical.specs.Tokens.{Admits, between, text_of, Spells}
+use Rattle.graphql_lexical.specs.device.Whole.{Admits, IsToken, between, text_of}
 use Rattle.graphql_lexical.specs.Tokens as grammar
 use Rattle.graphql_lexical.specs.Reading.{Reads}
 use Rattle.graphql_lexical.specs.Cutting.{Lexeme, Stands}
 use Rattle.graphql_lexical.specs.device.Scan.{found, gap_size}
-use Rattle.graphql_lexical.proofs.Public.{finds_what_reads, gap_longest, place_index}
+use Rattle.graphql_lexical.proofs.Public.{finds_what_reads, gap_longest, place_index, spells_token}
 use Rattle.juniper_tokens.specs.declared.span.Spanning.{Spanning}
 use Rattle.juniper_tokens.specs.declared.token.Token.{Token}
 use Rattle.juniper_tokens.specs.declared.token_range.TokenRange.{TokenRange}
@@ -104,9 +104,10 @@ read_within (c ∷ cs) n kind text r = r.longest.within
 
 read_spelled : (rest : List ℕ) (n : ℕ) (kind k : Kind) (text : List ℕ) → Reads rest n kind text → kind ≡ k
     → (k ≡ kinds.EndOfFile → ⊥)
-    → Spells (take n rest) k
+    → IsToken (take n rest) k
 read_spelled [] n kind k text r e no_end = absurd (no_end (sym e ∙ r.1))
-read_spelled (c ∷ cs) n kind k text r e no_end = subst (Spells (take n (c ∷ cs))) e r.spells
+read_spelled (c ∷ cs) n kind k text r e no_end =
+    subst (IsToken (take n (c ∷ cs))) e (spells_token _ _ _ r.spells).0
 
 -- a token that stands where a lexer does
 pub found_range : (source : List ℕ) (at : ℕ) (p : Place) (f : Found) → IsPlaced source at p
@@ -195,7 +196,9 @@ spelled_text NoText whole h = absurd h
 read_text : (rest : List ℕ) (n : ℕ) (kind : Kind) (text : List ℕ) → Reads rest n kind text
     → text ≡ kind_text kind (text_of kind (take n rest))
 read_text [] n kind text r = r.2 ∙ sym (ap₂ (λ k (m : ℕ). kind_text k (text_of k (take m []))) r.1 r.0)
-read_text (c ∷ cs) n kind text r = r.text_is ∙ spelled_text (spelling kind) (take n (c ∷ cs)) r.spells
+read_text (c ∷ cs) n kind text r =
+    let s = spells_token (take n (c ∷ cs)) kind text r.spells in
+    s.1 ∙ spelled_text (spelling kind) (take n (c ∷ cs)) s.0
 
 -- ---- in the words of the definitions
 

@@ -3,6 +3,7 @@ pub mod Spans
 pub mod SpanningText
 pub mod Tokens
 pub mod Errors
+pub mod Escapes
 pub mod Cursor
 pub mod Delimited
 pub mod Nesting

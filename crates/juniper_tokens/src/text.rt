@@ -1,8 +1,10 @@
-//! Copying and writing texts, for this crate and those above it.
-ghost use Rattle.std.specs.Prelude.{◌≡◌, ◌++◌, Some, OnOk, IfOk};
+//! Copying and writing texts, and the escapes of Strings, for this crate and those above it.
+ghost use Rattle.std.specs.Prelude.{◌≡◌, ◌++◌, Some, OnOk, IfOk, IfSome};
+ghost use Rattle.std.specs.Char.{IsScalar};
 ghost use Rattle.std.specs.Fmt.{DisplaysOnOk};
 ghost use Rattle.std.specs.Str.{chars, encode_utf8_all};
 ghost use Rattle.std.specs.String.{string_bytes};
+ghost use Rattle.juniper_tokens.specs.Escapes as escapes;
 
 use std::alloc::{AllocError, Global};
 use std::fmt;
@@ -26,4 +28,24 @@ pub fn push_text(out: &mut String, text: &str) -> Result<(), AllocError>
     ensures { OnOk result (string_bytes out.new ≡ string_bytes out.old ++ encode_utf8_all (chars text.now)) }
 {
     out.push_str(text)
+}
+
+/// The character that a backslash and this one stand for in a String, or None where they are no escape (GraphQL
+/// specification, October 2021, section 2.9.4). `\u` isn't among them.
+#[inline(always)]
+pub fn short_escape(c: char) -> Option<char>
+    ensures value { result ≡ escapes.short_escape c }
+    ensures scalar { IfSome result IsScalar }
+{
+    match c {
+        '"' => Some('"'),
+        '\\' => Some('\\'),
+        '/' => Some('/'),
+        'b' => Some('\u{8}'),
+        'f' => Some('\u{c}'),
+        'n' => Some('\n'),
+        'r' => Some('\r'),
+        't' => Some('\t'),
+        _ => None,
+    }
 }

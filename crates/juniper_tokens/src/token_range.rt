@@ -2,7 +2,7 @@
 ghost use Rattle.std.specs.Prelude.{◌≡◌, ◌-◌, ◌≤◌, drop};
 ghost use Rattle.std.specs.Str.{chars};
 ghost use Rattle.graphql_lexical.specs.Place.{place};
-ghost use Rattle.graphql_lexical.specs.Tokens.{text_of};
+ghost use Rattle.graphql_lexical.specs.device.Whole.{text_of};
 ghost use Rattle.juniper_tokens.specs.Positions.{columns_on};
 ghost use Rattle.juniper_tokens.specs.Tokens.{kind_text, token_kind, token_text, view_token};
 ghost use Rattle.juniper_tokens.specs.device.LexingByScan.{IsPlaced};

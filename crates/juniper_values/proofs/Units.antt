@@ -35,7 +35,7 @@ apart_from : (n : ℕ) → not (is_surrogate n) ≡ true → (n < 55296) ⊎ (57
 apart_from n e = grind (arith, nat_tests, e)
 
 of_scalar : (h i j k : ℕ) → IsScalar h i j k → unicode_escape h i j k ≡ Some (hex_number h i j k)
-of_scalar h i j k q = rw (q.first, q.second, q.third, q.fourth, apart (hex_number h i j k) q.whole) refl
+of_scalar h i j k q = rw (q.0.0, q.0.1.0, q.0.1.1.0, q.0.1.1.1.0, apart (hex_number h i j k) q.1) refl
 
 scalar_from : (h i j k c : ℕ) → unicode_escape h i j k ≡ Some c → IsScalar h i j k × (hex_number h i j k ≡ c)
 scalar_from h i j k c =
@@ -46,7 +46,7 @@ scalar_from h i j k c =
     let three = and_parts _ _ four.0 in
     let two = and_parts _ _ three.0 in
     let number = apart_from (hex_number h i j k) whole.1 in
-    (record { first = two.0; second = two.1; third = three.1; fourth = four.1; whole = number }, cc))
+    (((two.0, (two.1, (three.1, (four.1, tt)))), number), cc))
     (λ t e. absurd (cc e))
 
 -- ---- both ways

@@ -8,7 +8,7 @@ use Rattle.std.proofs.lemmas.Fmt.{decimal_is_IsNumeral, decimal_digit, first_dec
 use Rattle.std.proofs.lemmas.Str.Parse.{digit_from_value}
 use Rattle.graphql_lexical.specs.declared.kind.Kind.TheVariants.{Int}
 use Rattle.graphql_lexical.specs.Characters.{is_digit, is_nonzero_digit}
-use Rattle.graphql_lexical.specs.Tokens.{Any, Spells}
+use Rattle.graphql_lexical.specs.Tokens.{Any, IsInteger}
 use Rattle.graphql_lexical.specs.device.Numbers.{ReadLongInteger}
 use Rattle.graphql_lexical.proofs.Public.{integer_same}
 use Rattle.juniper_values.specs.Text.{Text}
@@ -45,7 +45,7 @@ decimal_is_long : (sign : Text) (n : ℕ) → (sign ≡ []) ⊎ (sign ≡ 45 ∷
 decimal_is_long sign n s h = digits_are_long sign (decimal (suc n)) s (first_decimal (suc n) (omega arith) h)
     (decimal_is_IsNumeral (suc n) h).0.1
 
-pub spells_integer : (z : ℤ) → IsTrue (is_i32 z) → Spells (signed_decimal z) Int
+pub spells_integer : (z : ℤ) → IsTrue (is_i32 z) → IsInteger (signed_decimal z)
 spells_integer (pos zero) h = (integer_same _).1 (inl (inl (decimal_digit 0 (omega arith))))
 spells_integer (pos (suc n)) h =
     (integer_same _).1 (inr (decimal_is_long [] n (inl refl) (positive_small (suc n) h)))

@@ -2,20 +2,8 @@
 use Rattle.std.specs.Prelude.{ℕ, Bool, [], ◌∷◌, Option, Some, None, option_map, option_and_then, if◌then◌else◌, ◌==◌, ◌&&◌, not, nat_le}
 use Rattle.graphql_lexical.specs.Characters.{is_hex}
 use Rattle.graphql_lexical.specs.Tokens.{hex_number}
+pub use Rattle.juniper_tokens.specs.Escapes.{short_escape}
 use Rattle.juniper_values.specs.Text.{Text}
-
--- what a backslash and this character stand for
-abbrev pub short_escape : ℕ → Option ℕ
-short_escape c =
-    if c == 34 then Some 34
-    else if c == 92 then Some 92
-    else if c == 47 then Some 47
-    else if c == 98 then Some 8
-    else if c == 102 then Some 12
-    else if c == 110 then Some 10
-    else if c == 114 then Some 13
-    else if c == 116 then Some 9
-    else None
 
 -- from D800 to DFFF
 abbrev pub is_surrogate : ℕ → Bool

@@ -1,8 +1,6 @@
 -- A text is a list of characters.
-use Rattle.std.specs.Prelude.{ℕ, List, Bool, bytes_eq}
-
-abbrev pub Text : Type 0
-Text = List ℕ
+use Rattle.std.specs.Prelude.{Bool, bytes_eq}
+pub use Rattle.graphql_lexical.specs.Characters.{Text}
 
 -- whether two texts have the same characters
 abbrev pub same_text : Text → Text → Bool

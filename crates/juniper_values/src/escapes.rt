@@ -5,9 +5,10 @@ ghost use Rattle.std.specs.Str.{chars, IsUtf8};
 ghost use Rattle.graphql_lexical.specs.Characters.{is_hex};
 ghost use Rattle.graphql_lexical.specs.Tokens.{hex_value};
 ghost use Rattle.juniper_values.specs.View.{text_of};
-ghost use Rattle.juniper_values.specs.Escapes.{unescape, behind_backslash, behind_u, in_front, short_escape, unicode_escape};
+ghost use Rattle.juniper_values.specs.Escapes.{unescape, behind_backslash, behind_u, in_front, unicode_escape};
 
 use crate::text::split_char;
+use juniper_tokens::text::short_escape;
 use std::alloc::{AllocError, Global};
 
 // The text with each escape replaced, or None where a backslash begins no escape. Most texts have no backslash.
@@ -54,7 +55,7 @@ fn escaped(text: &str) -> Option<(char, &str)>
     if c == 'u' {
         numbered(rest)
     } else {
-        Some((short(c)?, rest))
+        Some((short_escape(c)?, rest))
     }
 }
 
@@ -84,24 +85,6 @@ fn unicode(h: char, i: char, j: char, k: char) -> Option<char>
         )
     } else {
         None
-    }
-}
-
-// The character that a backslash and this one stand for, or None.
-fn short(c: char) -> Option<char>
-    ensures value { result ≡ short_escape c }
-    ensures scalar { IfSome result IsScalar }
-{
-    match c {
-        '"' => Some('"'),
-        '\\' => Some('\\'),
-        '/' => Some('/'),
-        'b' => Some('\u{8}'),
-        'f' => Some('\u{c}'),
-        'n' => Some('\n'),
-        'r' => Some('\r'),
-        't' => Some('\t'),
-        _ => None,
     }
 }
 

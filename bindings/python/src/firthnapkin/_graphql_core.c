@@ -117,8 +117,9 @@ static whole within(const uint8_t *source, size_t length, uint32_t depth, uint32
 
 PyDoc_STRVAR(document_doc,
              "document(source, characters, depth, origin, tokens, /)\n--\n\n"
-             "The DocumentNode of the UTF-8 of a str of so many characters; None where graphql-core is to be asked; where a limit\n"
-             "isn't kept, the index of the first token beyond it, and whether that is nested too deep. No origin is None.");
+             "Returns the DocumentNode of a source, which is the UTF-8 of a str of this many characters. Returns None where\n"
+             "graphql-core's own parser is to be asked. Where a limit is exceeded, returns the index of the first token\n"
+             "beyond it and whether that token is nested too deep. An origin of None is no origin.");
 
 static PyObject *document_in(PyObject *module, PyObject *arguments) {
     module_state *state = PyModule_GetState(module);
@@ -176,7 +177,7 @@ static int find_attributes(node_class *c, PyObject *class, PyObject *names) {
 }
 
 PyDoc_STRVAR(setup_doc, "setup(classes, operations, /)\n--\n\n"
-                        "Takes a tuple of the classes, each with a tuple of the names of its attributes, and the operation types.");
+                        "Takes the classes, a tuple in which each has a tuple of the names of its attributes, and the operation types.");
 
 static PyObject *setup(PyObject *module, PyObject *arguments) {
     module_state *state = PyModule_GetState(module);

@@ -30,7 +30,7 @@ static uint32_t limit_of(unsigned long tokens) {
 }
 
 PyDoc_STRVAR(parse_doc, "parse(source, depth, tokens, /)\n--\n\n"
-                        "The status, the bytes of the nodes or of the fault, and those of the texts or of its words.");
+                        "Returns the status, the bytes of the nodes or of the error, and the bytes of the texts or of the error's message.");
 
 static PyObject *parse(PyObject *module, PyObject *arguments) {
     PyObject *source;
@@ -48,7 +48,7 @@ static PyObject *parse(PyObject *module, PyObject *arguments) {
 }
 
 PyDoc_STRVAR(tokens_doc, "tokens(source, tokens, /)\n--\n\n"
-                         "The status, the bytes of the tokens or of the fault, and those of its words.");
+                         "Returns the status, the bytes of the tokens or of the error, and the bytes of the error's message.");
 
 static PyObject *tokens(PyObject *module, PyObject *arguments) {
     PyObject *source;
@@ -65,7 +65,7 @@ static PyObject *tokens(PyObject *module, PyObject *arguments) {
 }
 
 PyDoc_STRVAR(canonical_doc, "canonical(source, /)\n--\n\n"
-                            "The status, the bytes of the fault, and those of the canonical text or of the fault's words.");
+                            "Returns the status, the bytes of the error, and the bytes of the canonical text or of the error's message.");
 
 static PyObject *canonical(PyObject *module, PyObject *source) {
     char *bytes;

@@ -3,7 +3,7 @@ use Rattle.std.specs.Prelude.{◌≡◌, ℕ, List, [], ◌∷◌, ◌++◌, tak
 use Rattle.std.specs.List.{last_or}
 use Rattle.std.specs.Option.{option_map_or}
 use Rattle.graphql_lexical.specs.Kinds.{EndOfFile}
-use Rattle.graphql_lexical.specs.Tokens.{Spells, text_of}
+use Rattle.graphql_lexical.specs.Tokens.{Spells}
 use Rattle.graphql_lexical.specs.Cutting.{Lexeme, Cut}
 use Rattle.graphql_lexical.specs.laws.Alike.{AllAlike}
 
@@ -18,7 +18,7 @@ up_to source tokens = take (option_map_or (λ x. x.span.end.index) (last_or None
 -- The text is these tokens in a row, each spelled, with a space after it.
 abbrev pub IsSpaced : List ℕ → List Lexeme → Type 0
 IsSpaced text [] = text ≡ []
-IsSpaced text (x ∷ xs) = (whole rest : List ℕ) × (text ≡ whole ++ after_space rest) × Spells whole x.kind × (x.text ≡ text_of x.kind whole) × IsSpaced rest xs
+IsSpaced text (x ∷ xs) = (whole rest : List ℕ) × (text ≡ whole ++ after_space rest) × Spells whole x.kind x.text × IsSpaced rest xs
 
 -- The text is cut into these tokens, with these spans, then tokens alike with the others, and the end.
 pub record GoesOn (text : List ℕ) (front others : List Lexeme) : Type 0 where

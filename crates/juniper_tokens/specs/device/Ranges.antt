@@ -5,7 +5,7 @@ use Rattle.graphql_lexical.specs.Place.{Place, place}
 use Rattle.graphql_lexical.specs.declared.kind.Kind.TheVariants as kinds
 use Rattle.graphql_lexical.specs.Kinds.{same_kind}
 use Rattle.graphql_lexical.specs.device.Scan as scans
-use Rattle.graphql_lexical.specs.Tokens.{text_of}
+use Rattle.graphql_lexical.specs.device.Whole.{text_of}
 use Rattle.graphql_lexical.specs.Cutting.{Lexeme, Stands}
 use Rattle.juniper_tokens.specs.declared.span.Spanning.{Spanning}
 use Rattle.juniper_tokens.specs.declared.token.Token.{Token}

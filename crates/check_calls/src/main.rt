@@ -20,7 +20,7 @@ fn main(rt: HostRuntime) -> ExitCode {
         Ok(false) => ExitCode::from(1),
         Err(error) => {
             // Where standard error fails too, nothing is left to report to.
-            let _ = eprintln!(rt; "language_rows: {error}");
+            let _ = eprintln!(rt; "check_calls: {error}");
             ExitCode::from(2)
         }
     }
