@@ -1,4 +1,4 @@
-"""A plugin for pytest, which tests/graphql_core_tests runs. It puts firthnapkin's parse in graphql-core's place where
+"""A plugin for pytest, which tests/check_graphql_core runs. It puts firthnapkin's parse in graphql-core's place where
 FIRTHNAPKIN_PARSE is 'ours', and writes the outcome of each test into the file that FIRTHNAPKIN_OUTCOMES names, a line of JSON
 each.
 

@@ -4,7 +4,7 @@
 rows. Where a row says that a text can't be cut, the error is compared with the row, and the tokens before it with those that
 `cutting` finds. The last line is 'N passed, M failed'.
 
-    tests/token_rows.py [LIBRARY]     out/libfirthnapkin.so.0 where none is named
+    tests/check_tokens.py [LIBRARY]     out/libfirthnapkin.so.0 where none is named
 """
 
 import ctypes

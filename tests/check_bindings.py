@@ -3,7 +3,7 @@
 fields of nodes, tokens and faults, the depths, the stack that a call takes, and the version, which the file VERSION says. The last
 line is 'N passed, M failed'.
 
-    tests/bindings_check.py
+    tests/check_bindings.py
 """
 
 import json

@@ -3,7 +3,7 @@
 the fields of each type, their types, offsets and sizes, the calls' parameters, the numbers of statuses, of kinds of nodes and
 of tokens, of refusals and details, and the version. The last line is 'N passed, M failed'.
 
-    tests/header_check.py LAYOUT    a file with the output of the program of tests/c/layout.c
+    tests/check_header.py LAYOUT    a file with the output of the program of tests/c/layout.c
 """
 
 import re

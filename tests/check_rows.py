@@ -16,7 +16,7 @@ For each text of kind `gqlcheck` that is refused and can be cut into tokens, a c
 decides whether the text can be cut, and which tokens go on. A run of gqlcheck shows that the completed text is a document.
 Tokens are cut by `cutting`.
 
-    row_tests.py GQLCHECK GQLCANON     the last line is 'N passed, M failed'
+    check_rows.py GQLCHECK GQLCANON     the last line is 'N passed, M failed'
 """
 
 import ctypes
@@ -237,7 +237,7 @@ def main() -> int:
     program, canon = sys.argv[1:]
     library = Library() if LIBRARY.exists() else None
     if library is None:
-        print(f"row_tests: skipped: completions of refused texts, since {LIBRARY.relative_to(ROOT)} is not built")
+        print(f"check_rows: skipped: completions of refused texts, since {LIBRARY.relative_to(ROOT)} is not built")
     work = [(path.name, row) for path in sorted((ROOT / "tests/rows").glob("*.rows")) for row in rows(path.name)]
     held, tried = dict.fromkeys(COUNTS, 0), dict.fromkeys(COUNTS, 0)
     with ThreadPoolExecutor(os.cpu_count()) as pool:
