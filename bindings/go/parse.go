@@ -150,7 +150,7 @@ func errorOf(status C.uint32_t) error {
 	case C.FIRTHNAPKIN_DEPTH:
 		return ErrDepth
 	}
-	return fmt.Errorf("firthnapkin: the parser answered %d", status)
+	return fmt.Errorf("firthnapkin: the parser returned %d", status)
 }
 
 // bytesOf returns a pointer to a string's bytes. C reads them and keeps nothing.

@@ -258,7 +258,7 @@ func TestSources(t *testing.T) {
 func TestStatuses(t *testing.T) {
 	same(t, "the errors of statuses", []error{errorOf(2), errorOf(4), errorOf(7), errorOf(8)},
 		[]error{ErrNotUTF8, ErrMemory, ErrTooLong, ErrDepth})
-	same(t, "the error of another", errorOf(3).Error(), "firthnapkin: the parser answered 3")
+	same(t, "the error of another", errorOf(3).Error(), "firthnapkin: the parser returned 3")
 }
 
 // A source that is too long is not read: there is no memory behind this one.

@@ -283,7 +283,7 @@ function parse(source, { depth = 200, maxTokens = Number.MAX_SAFE_INTEGER } = {}
   if (status === TREE) return new Document(source, bytes, nodes, texts);
   if (status === REFUSED || status === TOO_DEEP || status === MANY) throw fault(source, nodes, texts);
   // No string has 4 GiB.
-  throw new Error(`the parser answered ${status}`);
+  throw new Error(`the parser returned ${status}`);
 }
 
 module.exports = { parse, Document, Node, Fault, MOST_DEPTH: addon.MOST_DEPTH, version: addon.VERSION };

@@ -117,9 +117,10 @@ static whole within(const uint8_t *source, size_t length, uint32_t depth, uint32
 
 PyDoc_STRVAR(document_doc,
              "document(source, characters, depth, origin, tokens, /)\n--\n\n"
-             "Returns the DocumentNode of a source, which is the UTF-8 of a str of this many characters. Returns None where\n"
-             "graphql-core's own parser is to be asked. Where a limit is exceeded, returns the index of the first token\n"
-             "beyond it and whether that token is nested too deep. An origin of None is no origin.");
+             "Returns the DocumentNode of a str of that many characters, which source has as UTF-8.\n\n"
+             "The origin is the Source of its locations, or None where it has no locations. Returns None where graphql-core's own\n"
+             "parser has to be called. Where a limit is exceeded, returns the index of the first token beyond it, and whether\n"
+             "that token is nested too deep. Raises MemoryError where memory runs out.");
 
 static PyObject *document_in(PyObject *module, PyObject *arguments) {
     module_state *state = PyModule_GetState(module);
@@ -177,7 +178,9 @@ static int find_attributes(node_class *c, PyObject *class, PyObject *names) {
 }
 
 PyDoc_STRVAR(setup_doc, "setup(classes, operations, /)\n--\n\n"
-                        "Takes the classes, a tuple in which each has a tuple of the names of its attributes, and the operation types.");
+                        "Keeps graphql-core's classes and operation types for document, and returns None.\n\n"
+                        "The classes are a tuple of pairs: a class and a tuple of the names of its attributes. Raises an error\n"
+                        "where a class has other attributes.");
 
 static PyObject *setup(PyObject *module, PyObject *arguments) {
     module_state *state = PyModule_GetState(module);

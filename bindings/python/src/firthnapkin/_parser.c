@@ -30,7 +30,9 @@ static uint32_t limit_of(unsigned long tokens) {
 }
 
 PyDoc_STRVAR(parse_doc, "parse(source, depth, tokens, /)\n--\n\n"
-                        "Returns the status, the bytes of the nodes or of the error, and the bytes of the texts or of the error's message.");
+                        "Returns the status, the bytes of the nodes, and the bytes of the texts.\n\n"
+                        "For an error the bytes are those of the fault and of its message. Raises MemoryError where memory\n"
+                        "runs out.");
 
 static PyObject *parse(PyObject *module, PyObject *arguments) {
     PyObject *source;
@@ -48,7 +50,9 @@ static PyObject *parse(PyObject *module, PyObject *arguments) {
 }
 
 PyDoc_STRVAR(tokens_doc, "tokens(source, tokens, /)\n--\n\n"
-                         "Returns the status, the bytes of the tokens or of the error, and the bytes of the error's message.");
+                         "Returns the status, the bytes of the tokens, and no bytes.\n\n"
+                         "For an error the bytes are those of the fault and of its message. Raises MemoryError where memory\n"
+                         "runs out.");
 
 static PyObject *tokens(PyObject *module, PyObject *arguments) {
     PyObject *source;
@@ -65,7 +69,9 @@ static PyObject *tokens(PyObject *module, PyObject *arguments) {
 }
 
 PyDoc_STRVAR(canonical_doc, "canonical(source, /)\n--\n\n"
-                            "Returns the status, the bytes of the error, and the bytes of the canonical text or of the error's message.");
+                            "Returns the status, no bytes, and the bytes of the canonical text.\n\n"
+                            "For an error the bytes are those of the fault and of its message. Raises MemoryError where\n"
+                            "memory runs out.");
 
 static PyObject *canonical(PyObject *module, PyObject *source) {
     char *bytes;

@@ -134,7 +134,7 @@ def parse(
     *,
     depth: int = 200,
 ) -> ast.DocumentNode:
-    """graphql-core's DocumentNode of a source.
+    """Returns graphql-core's DocumentNode of a source.
 
     The arguments are those of graphql-core's newest parse, and `depth`, which is how deep brackets may be nested. Raises
     GraphQLSyntaxError as graphql-core does, and at the first token that is nested deeper. With `max_tokens`, which works
@@ -153,7 +153,10 @@ def parse(
 
 
 def _document(origin: Source, no_location: bool, max_tokens: Optional[int], depth: int) -> Optional[ast.DocumentNode]:
-    """The document of a source, and None where graphql-core's own parser has to be called."""
+    """Returns the document of a source, or None where graphql-core's own parser has to be called.
+
+    Raises GraphQLSyntaxError where a limit is exceeded.
+    """
     try:
         written = origin.body.encode()
     except UnicodeEncodeError:
@@ -170,7 +173,7 @@ def _document(origin: Source, no_location: bool, max_tokens: Optional[int], dept
 
 
 def _too_many(source: Source, index: int, max_tokens: Optional[int]) -> GraphQLSyntaxError:
-    """An error in the words of graphql-core."""
+    """Returns an error in the words of graphql-core."""
     return GraphQLSyntaxError(source, index, f"Document contains more than {max_tokens} tokens. Parsing aborted.")
 
 
@@ -194,7 +197,7 @@ class _CountedLexer(Lexer):
 def _own_document(
     source: Union[Source, str], no_location: bool, max_tokens: Optional[int], allow_legacy_fragment_variables: bool
 ) -> ast.DocumentNode:
-    """The result of graphql-core's own parser, or its error."""
+    """Returns the document by graphql-core's own parser. Raises the error of that parser."""
     options: Dict[str, Any] = {
         "no_location": no_location,
         "allow_legacy_fragment_variables": allow_legacy_fragment_variables,

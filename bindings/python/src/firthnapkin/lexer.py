@@ -81,7 +81,7 @@ class Tokens(Parts[Token]):
 
 
 def tokens(source: str, *, max_tokens: Optional[int] = None) -> Tokens:
-    """The tokens of a text. The last one is its end. Other threads run meanwhile.
+    """Returns the tokens of a text. The last one is its end. Other threads run meanwhile.
 
     White space, line ends, commas, comments and byte order marks are no tokens. With `max_tokens` the text may have no more
     tokens than that, its end not counted. A text with more is refused at the first token too many, whatever comes after it.
@@ -97,7 +97,7 @@ def tokens(source: str, *, max_tokens: Optional[int] = None) -> Tokens:
 
 
 def canonical(source: str) -> str:
-    """The canonical text of a text: one for each query, whatever its white space and comments. Other threads run meanwhile.
+    """Returns the canonical text: one for each query, whatever its white space and comments. Other threads run meanwhile.
 
     It is the tokens of the text as they are written, with a space between two neighbours of which neither is a punctuator, and
     before `...` after a token that is no punctuator. It is never more than twice as long as the text. The call doesn't check

@@ -21,7 +21,7 @@ _FAULT = struct.Struct("=3I8I")
 
 
 def parse(source: str, *, depth: int = 200, max_tokens: Optional[int] = None) -> Document:
-    """The document of a text, with brackets nested at most `depth` deep. Other threads run meanwhile.
+    """Returns the document of a text, with brackets nested at most `depth` deep. Other threads run meanwhile.
 
     With `max_tokens` the text may have no more tokens than that. A text with more is refused at the first token too many,
     before anything is built from it, whatever comes after it.
@@ -43,7 +43,7 @@ def require_text(source: str) -> None:
 
 
 def limit_of(depth: int) -> int:
-    """A depth as a number, if it is one that is accepted."""
+    """Returns a depth as a number. Raises TypeError or ValueError where it is not accepted."""
     limit = _number("depth", depth)
     if not 0 <= limit <= _parser.MOST_DEPTH:
         raise ValueError(f"depth must be from 0 to {_parser.MOST_DEPTH}")
@@ -51,7 +51,7 @@ def limit_of(depth: int) -> int:
 
 
 def most_of(max_tokens: Optional[int]) -> int:
-    """A limit on tokens as a number, if it is one that is accepted. The result is never above MOST_TOKENS."""
+    """Returns a limit on tokens as a number, at most MOST_TOKENS. Raises TypeError or ValueError where it is not accepted."""
     most = _parser.MOST_TOKENS if max_tokens is None else _number("max_tokens", max_tokens)
     if most < 0:
         raise ValueError("max_tokens must not be below 0")
@@ -66,7 +66,7 @@ def _number(name: str, value: int) -> int:
 
 
 def encoded(source: str) -> bytes:
-    """The bytes of a str, if it is a text: it has no lone surrogate."""
+    """Returns the UTF-8 of a str. Raises Fault where it has a lone surrogate."""
     try:
         return str.encode(source)
     except UnicodeEncodeError as error:
@@ -74,14 +74,14 @@ def encoded(source: str) -> bytes:
 
 
 def given(source: str, status: int, first: bytes, texts: bytes) -> Tuple[bytes, bytes]:
-    """The results of a call, if its status says that it has them. Otherwise raises its error."""
+    """Returns the results of a call. Raises its error where the status says that it failed."""
     if status == _GIVEN:
         return first, texts
     if status in (_REFUSED, _TOO_DEEP, _MANY):
         raise _fault(source, first, texts)
     if status == _TOO_LONG:
         raise ValueError("source must have less than 4 GiB")
-    raise SystemError(f"the parser answered {status}")
+    raise SystemError(f"the parser returned {status}")
 
 
 def _fault(source: str, told: bytes, words: bytes) -> Fault:
@@ -105,7 +105,7 @@ _WITH_CHARACTER = (
 
 
 def _surrogate(source: str, index: int) -> Fault:
-    """The fault of a str that can't be written as UTF-8."""
+    """Returns the error of a str that can't be written as UTF-8."""
     before = source[:index]
     line, column = before.count("\n"), index - (before.rfind("\n") + 1)
     start = Place(index, line, column, len(str.encode(before)))
