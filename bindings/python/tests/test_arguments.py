@@ -1,16 +1,14 @@
 """Arguments of the wrong type and at every extreme: none ends the process."""
 
-import os
 import pickle
-import subprocess
 import sys
-import threading
 import unittest
-from typing import Any, List
+from typing import List
 from unittest import mock
 
 import firthnapkin
-from firthnapkin import MOST_DEPTH, Fault, Kind, Reason, __version__, parse
+from firthnapkin import MOST_DEPTH, Fault, Kind, Reason, __version__, canonical, parse, tokens
+from helpers import LARGE_LIMITS, LOW_LIMITS, NO_LIMITS, NO_SOURCES, Text, on_stack, process
 
 
 class Index:
@@ -35,8 +33,6 @@ class Depths(unittest.TestCase):
             with self.subTest(depth=depth), self.assertRaises(TypeError) as raised:
                 parse("{a}", depth=depth)  # type: ignore[arg-type]
             self.assertIn("depth", str(raised.exception))
-        self.assertRaises(TypeError, parse, "{a}", 5)
-        self.assertRaises(TypeError, parse)
 
     def test_taken(self) -> None:
         for depth in (0, 1, 2, 199, 200, 1000):
@@ -61,7 +57,7 @@ class Tokens(unittest.TestCase):
     STARTS = (0, 2, 3, 4, 5, 7, 11, 13, 16, 18)
 
     def test_every_limit(self) -> None:
-        for most in (None, 10, 11, 2**32 - 2, 2**32 - 1, 2**32, 2**32 + 5, 2**64 + 5, 10**30):
+        for most in (10, 11, *LARGE_LIMITS):
             self.assertEqual(len(parse(self.SOURCE, max_tokens=most)), 6)
         for most, start in enumerate(self.STARTS):
             with self.assertRaises(Fault) as raised:
@@ -86,29 +82,33 @@ class Tokens(unittest.TestCase):
             self.assertIs(raised.exception.reason, reason)
 
     def test_wrong_kinds(self) -> None:
-        for most in (1.0, float("nan"), "5", b"5", [], object()):
-            with self.assertRaises(TypeError) as raised:
-                parse("{a}", max_tokens=most)  # type: ignore[arg-type]
-            self.assertIn("max_tokens", str(raised.exception))
-        for most in (-1, -(2**63), -(10**30)):
-            with self.assertRaises(ValueError) as raised_value:
-                parse("{a}", max_tokens=most)
-            self.assertIn("max_tokens", str(raised_value.exception))
+        for call in (parse, tokens):
+            for most in NO_LIMITS:
+                with self.assertRaises(TypeError) as raised:
+                    call("{a}", max_tokens=most)  # type: ignore[operator]
+                self.assertIn("max_tokens", str(raised.exception))
+            for most in LOW_LIMITS:
+                for text in ("{a}", "\ud800"):
+                    with self.assertRaises(ValueError) as raised_value:
+                        call(text, max_tokens=most)  # type: ignore[operator]
+                    self.assertNotIsInstance(raised_value.exception, Fault)
+                    self.assertIn("max_tokens", str(raised_value.exception))
 
 
 class Sources(unittest.TestCase):
     def test_wrong_kinds(self) -> None:
-        for source in (None, b"{a}", bytearray(b"{a}"), b"\xff{", 5, 1.5, ["{a}"], object()):
-            with self.subTest(source=source), self.assertRaises(TypeError) as raised:
-                parse(source)  # type: ignore[arg-type]
-            self.assertIn("source", str(raised.exception))
+        for call in (parse, tokens, canonical):
+            for source in NO_SOURCES:
+                with self.subTest(source=source, call=call.__name__), self.assertRaises(TypeError) as raised:
+                    call(source)  # type: ignore[operator]
+                self.assertIn("source", str(raised.exception))
+            for arguments in ((), ("{a}", 5)):
+                self.assertRaises(TypeError, call, *arguments)
 
     def test_kinds_of_str(self) -> None:
-        class Text(str):
-            def encode(self, *_: Any) -> bytes:
-                return b"\xff"
-
         self.assertEqual(parse(Text("{a}"))[1].name, "a")
+        self.assertEqual([it.text for it in tokens(Text("{a}"))], ["{", "a", "}", ""])
+        self.assertEqual(canonical(Text("{ a }")), "{a}")
 
     def test_extremes(self) -> None:
         for text in ("", "\0", "{a\0}", "\ufeff", " " * 1000, "{}", "#", '"', '"""', "\x7f", "\U0010ffff"):
@@ -139,13 +139,7 @@ class Stacks(unittest.TestCase):
             document = parse("{..." * depth + "{a}" + "}" * depth, depth=depth + 1)
             found.append(document[-1].kind.name)
 
-        before = threading.stack_size(size)
-        try:
-            thread = threading.Thread(target=work)
-            thread.start()
-            thread.join()
-        finally:
-            threading.stack_size(before)
+        on_stack(size, work)
         return found
 
     def test_small_stacks(self) -> None:
@@ -165,8 +159,7 @@ class Stacks(unittest.TestCase):
         )
         if not hasattr(sys, "orig_argv"):
             self.skipTest("this Python does not tell how it was begun")
-        here = os.path.dirname(os.path.abspath(__file__))
-        found = subprocess.run([sys.executable, "-c", program], cwd=here, capture_output=True, check=False)
+        found = process(program)
         self.assertEqual((found.returncode, found.stdout.strip()), (0, b"201"), found.stderr)
 
 
@@ -174,11 +167,12 @@ class Statuses(unittest.TestCase):
     def test_statuses(self) -> None:
         """The error that is raised for each status of the library."""
         for status, error in ((7, ValueError), (2, SystemError), (3, SystemError), (6, SystemError), (8, SystemError)):
-            with mock.patch.object(firthnapkin._parser, "parse", return_value=(status, b"", b"")):
-                with self.subTest(status=status), self.assertRaises(error) as raised:
-                    parse("{a}")
-                self.assertNotIsInstance(raised.exception, Fault)
-                self.assertIn("4 GiB" if status == 7 else str(status), str(raised.exception))
+            for call in (parse, tokens, canonical):
+                with mock.patch.object(firthnapkin._parser, call.__name__, return_value=(status, b"", b"")):
+                    with self.subTest(status=status, call=call.__name__), self.assertRaises(error) as raised:
+                        call("{a}")  # type: ignore[operator]
+                    self.assertNotIsInstance(raised.exception, Fault)
+                    self.assertIn("4 GiB" if status == 7 else str(status), str(raised.exception))
 
     def test_refused_depth(self) -> None:
         """The extension by itself checks its depth and the types of its arguments, too."""
@@ -192,17 +186,16 @@ class Statuses(unittest.TestCase):
 
     def test_memory(self) -> None:
         """The process goes on after memory has run out."""
-        program = (
-            "import resource, firthnapkin\n"
-            "source = b'{' + b'a ' * 2**24 + b'}'\n"
-            "taken = int(open('/proc/self/statm').read().split()[0]) * resource.getpagesize()\n"
-            "resource.setrlimit(resource.RLIMIT_AS, (taken + 2**25, resource.RLIM_INFINITY))\n"
-            "try: firthnapkin._parser.parse(source, 200, 2**32 - 1)\n"
-            "except MemoryError: print('memory', len(firthnapkin.parse('{a}')))\n"
-        )
-        here = os.path.dirname(os.path.abspath(__file__))
-        found = subprocess.run([sys.executable, "-c", program], cwd=here, capture_output=True, check=False)
-        self.assertEqual((found.returncode, found.stdout), (0, b"memory 2\n"), found.stderr)
+        for call, room in (("parse(source, 200, 2**32 - 1)", 25), ("tokens(source, 2**32 - 1)", 24), ("canonical(source)", 24)):
+            found = process(
+                "import resource, firthnapkin\n"
+                "source = b'{' + b'a ' * 2**24 + b'}'\n"
+                "taken = int(open('/proc/self/statm').read().split()[0]) * resource.getpagesize()\n"
+                f"resource.setrlimit(resource.RLIMIT_AS, (taken + 2**{room}, resource.RLIM_INFINITY))\n"
+                f"try: firthnapkin._parser.{call}\n"
+                "except MemoryError: print('memory', len(firthnapkin.parse('{a}')), firthnapkin.canonical('a  b'))\n"
+            )
+            self.assertEqual((found.returncode, found.stdout), (0, b"memory 2 a b\n"), found.stderr)
 
 
 class Version(unittest.TestCase):

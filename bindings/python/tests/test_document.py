@@ -4,13 +4,12 @@ import copy
 import pickle
 import random
 import sys
-import threading
-import time
 import unittest
 from typing import List, Optional
 
 import firthnapkin
 from firthnapkin import Fault, Kind, Node, Step, Visitor, parse
+from helpers import in_threads, longest_wait
 
 
 def only(text: str) -> Node:
@@ -127,40 +126,13 @@ class Nodes(unittest.TestCase):
 
     def test_threads(self) -> None:
         text = "query Q { " + 'user(id: 4, b: {c: [1.5, "x"]}) { id name } ' * 500 + "}"
-        wanted = [(node.kind, node.text, node.value) for node in parse(text)]
-        found: List[bool] = []
-
-        def work() -> None:
-            for _ in range(20):
-                found.append([(node.kind, node.text, node.value) for node in parse(text)] == wanted)
-
-        threads = [threading.Thread(target=work) for _ in range(4)]
-        for thread in threads:
-            thread.start()
-        for thread in threads:
-            thread.join()
+        found = in_threads(lambda: [(node.kind, node.text, node.value) for node in parse(text)], 20)
         self.assertEqual(found, [True] * 80)
 
     def test_other_threads_go_on(self) -> None:
         """While a long text is parsed, another thread never waits for as long as half of that time."""
         text = ("{" + "a " * 1000000 + "}").encode()
-        times: List[float] = []
-        is_done = threading.Event()
-
-        def count() -> None:
-            while not is_done.is_set():
-                times.append(time.monotonic())
-                time.sleep(0.001)
-
-        thread = threading.Thread(target=count)
-        thread.start()
-        begin = time.monotonic()
-        firthnapkin._parser.parse(text, 200, 2**32 - 1)
-        end = time.monotonic()
-        is_done.set()
-        thread.join()
-        within = [begin, *(moment for moment in times if begin < moment < end), end]
-        self.assertLess(max(b - a for a, b in zip(within, within[1:])), (end - begin) / 2)
+        self.assertLess(longest_wait(lambda: firthnapkin._parser.parse(text, 200, 2**32 - 1)), 0.5)
 
 
 class Visits(unittest.TestCase):

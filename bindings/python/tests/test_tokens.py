@@ -1,18 +1,13 @@
 """The tokens of a text, and its canonical text."""
 
 import copy
-import os
 import pickle
-import subprocess
-import sys
-import threading
-import time
 import unittest
 from typing import Any, Callable, List
-from unittest import mock
 
 import firthnapkin
 from firthnapkin import Detail, Fault, Place, Reason, Token, TokenKind, canonical, tokens
+from helpers import LARGE_LIMITS, in_threads, longest_wait, on_stack, process
 
 K = TokenKind
 WHOLE = '#é\n{a(b:"é𝄞\\"" c:""" \n𝄞"""),...F} -1 0.5 [!$@=:|]'
@@ -142,7 +137,7 @@ class Faults(unittest.TestCase):
 
     def test_every_limit(self) -> None:
         count = len(tokens(WHOLE)) - 1
-        for most in (None, count, count + 1, 2**32 - 2, 2**32 - 1, 2**32, 2**32 + 5, 2**64 + 5, 10**30):
+        for most in (count, count + 1, *LARGE_LIMITS):
             self.assertEqual(len(tokens(WHOLE, max_tokens=most)), count + 1)
         for most, token in enumerate(tokens(WHOLE)[:-1]):
             fault = fault_of(tokens, WHOLE, max_tokens=most)
@@ -169,35 +164,7 @@ class Faults(unittest.TestCase):
             self.assertEqual((fault.start, fault.end), (Place(4, 1, 1, 5), Place(5, 1, 2, 8)))
 
 
-class Arguments(unittest.TestCase):
-    def test_wrong_kinds(self) -> None:
-        for source in (None, b"{a}", bytearray(b"{a}"), b"\xff{", 5, 1.5, ["{a}"], object()):
-            for call in (tokens, canonical):
-                with self.subTest(source=source, call=call.__name__), self.assertRaises(TypeError) as raised:
-                    call(source)  # type: ignore[operator]
-                self.assertIn("source", str(raised.exception))
-        for most in (1.0, float("nan"), "5", b"5", [], object()):
-            with self.assertRaises(TypeError) as raised:
-                tokens("{a}", max_tokens=most)  # type: ignore[arg-type]
-            self.assertIn("max_tokens", str(raised.exception))
-        for most in (-1, -(2**63), -(10**30)):
-            with self.assertRaises(ValueError) as raised_value:
-                tokens("\ud800", max_tokens=most)
-            self.assertNotIsInstance(raised_value.exception, Fault)
-            self.assertIn("max_tokens", str(raised_value.exception))
-        self.assertRaises(TypeError, tokens, "{a}", 5)
-        self.assertRaises(TypeError, tokens)
-        self.assertRaises(TypeError, canonical, "{a}", 5)
-        self.assertRaises(TypeError, canonical)
-
-    def test_kinds_of_str(self) -> None:
-        class Text(str):
-            def encode(self, *_: Any) -> bytes:
-                return b"\xff"
-
-        self.assertEqual([it.text for it in tokens(Text("{a}"))], ["{", "a", "}", ""])
-        self.assertEqual(canonical(Text("{ a }")), "{a}")
-
+class Extremes(unittest.TestCase):
     def test_64_megabytes(self) -> None:
         text = ("a" * 63 + " ") * 2**20
         found = tokens(text)
@@ -206,16 +173,6 @@ class Arguments(unittest.TestCase):
         for call in (tokens, canonical):
             self.assertEqual(fault_of(call, '"' + "é" * 2**25).start, Place(2**25 + 1, 0, 2**25 + 1, 2**26 + 1))
         self.assertEqual(fault_of(tokens, "!" * 2**26, max_tokens=2**22).start.index, 2**22)
-
-    def test_statuses(self) -> None:
-        """The error that is raised for each status of the library."""
-        for status, error in ((7, ValueError), (2, SystemError), (3, SystemError), (6, SystemError), (8, SystemError)):
-            for name, call in (("tokens", tokens), ("canonical", canonical)):
-                with mock.patch.object(firthnapkin._parser, name, return_value=(status, b"", b"")):
-                    with self.subTest(status=status, name=name), self.assertRaises(error) as raised:
-                        call("{a}")
-                    self.assertNotIsInstance(raised.exception, Fault)
-                    self.assertIn("4 GiB" if status == 7 else str(status), str(raised.exception))
 
     def test_the_extension_alone(self) -> None:
         """The extension checks the types of its arguments, too."""
@@ -232,25 +189,6 @@ class Arguments(unittest.TestCase):
 
 
 class Processes(unittest.TestCase):
-    def written(self, program: str) -> bytes:
-        here = os.path.dirname(os.path.abspath(__file__))
-        found = subprocess.run([sys.executable, "-c", program], cwd=here, capture_output=True, check=False)
-        self.assertEqual(found.returncode, 0, found.stderr)
-        return found.stdout
-
-    def test_memory(self) -> None:
-        """The process goes on after memory has run out."""
-        for call in ("tokens(source, 2**32 - 1)", "canonical(source)"):
-            program = (
-                "import resource, firthnapkin\n"
-                "source = b'a ' * 2**24\n"
-                "taken = int(open('/proc/self/statm').read().split()[0]) * resource.getpagesize()\n"
-                "resource.setrlimit(resource.RLIMIT_AS, (taken + 2**24, resource.RLIM_INFINITY))\n"
-                f"try: firthnapkin._parser.{call}\n"
-                "except MemoryError: print('memory', len(firthnapkin.tokens('{a}')), firthnapkin.canonical('a  b'))\n"
-            )
-            self.assertEqual(self.written(program), b"memory 4 a b\n")
-
     def test_small_stacks(self) -> None:
         """Threads with the smallest possible stack."""
         found: List[Any] = []
@@ -258,55 +196,22 @@ class Processes(unittest.TestCase):
         def work() -> None:
             found.extend((len(tokens("{a" * 100000)), canonical("{ a " * 5), fault_of(canonical, "{" * 9 + "?").column))
 
-        before = threading.stack_size(64 * 1024)
-        try:
-            thread = threading.Thread(target=work)
-            thread.start()
-            thread.join()
-        finally:
-            threading.stack_size(before)
+        on_stack(64 * 1024, work)
         self.assertEqual(found, [200001, "{a{a{a{a{a", 9])
 
     def test_threads(self) -> None:
-        wanted = [(it.kind, it.text, it.end) for it in tokens(WHOLE * 50)], canonical(WHOLE * 50)
-        found: List[bool] = []
-
-        def work() -> None:
-            for _ in range(10):
-                found.append(([(it.kind, it.text, it.end) for it in tokens(WHOLE * 50)], canonical(WHOLE * 50)) == wanted)
-
-        threads = [threading.Thread(target=work) for _ in range(4)]
-        for thread in threads:
-            thread.start()
-        for thread in threads:
-            thread.join()
+        found = in_threads(lambda: ([(it.kind, it.text, it.end) for it in tokens(WHOLE * 50)], canonical(WHOLE * 50)), 10)
         self.assertEqual(found, [True] * 40)
 
     def test_other_threads_go_on(self) -> None:
         """While a long text is cut, another thread never waits for as long as half of that time."""
         text = ("a" * 60 + " #" + "é" * 60 + "\n").encode() * 200000
         for call in (lambda: firthnapkin._parser.tokens(text, 2**32 - 1), lambda: firthnapkin._parser.canonical(text)):
-            times: List[float] = []
-            is_done = threading.Event()
-
-            def count() -> None:
-                while not is_done.is_set():
-                    times.append(time.monotonic())
-                    time.sleep(0.001)
-
-            thread = threading.Thread(target=count)
-            thread.start()
-            begin = time.monotonic()
-            call()
-            end = time.monotonic()
-            is_done.set()
-            thread.join()
-            within = [begin, *(moment for moment in times if begin < moment < end), end]
-            self.assertLess(max(b - a for a, b in zip(within, within[1:])), (end - begin) / 2)
+            self.assertLess(longest_wait(call), 0.5)
 
     def test_nothing_is_kept(self) -> None:
         """A call frees all memory that it takes from the system."""
-        program = (
+        found = process(
             "import firthnapkin\n"
             "texts = ['a ' * 50000, '1a\"\"' * 20000, 'a ' * 50000 + '?']\n"
             "def taken(): return int(open('/proc/self/statm').read().split()[1])\n"
@@ -320,4 +225,4 @@ class Processes(unittest.TestCase):
             "for _ in range(100): work()\n"
             "print(taken() - before < 2000)\n"
         )
-        self.assertEqual(self.written(program), b"True\n")
+        self.assertEqual((found.returncode, found.stdout), (0, b"True\n"), found.stderr)
