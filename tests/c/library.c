@@ -156,18 +156,15 @@ static void no_memory(void) {
 
 /* A source that is too long is not read. */
 static void too_long(void) {
-    size_t length = (size_t)1 << 32, needed = 1;
-    void *source = mmap(NULL, length, PROT_NONE, MAP_PRIVATE | MAP_ANONYMOUS | MAP_NORESERVE, -1, 0);
-    if (source == MAP_FAILED) {
-        printf("library: no address space for 4 GiB, so status %d was not tried\n", FIRTHNAPKIN_TOO_LONG);
-        return;
-    }
-    run r = parsed(source, length, DEPTH, 1, 1);
+    size_t needed = 1;
+    void *source = too_long_source();
+    if (source == NULL) return;
+    run r = parsed(source, FOUR_GIB, DEPTH, 1, 1);
     check(r.status == FIRTHNAPKIN_TOO_LONG && is_kept(r) && is_fault_kept(r) && !r.nodes_needed && !r.texts_needed, "4 GiB");
     give_back(r);
-    check(firthnapkin_message(source, length, DEPTH, NULL, 0, &needed) == FIRTHNAPKIN_TOO_LONG && needed == 0, "4 GiB, in words");
-    check(firthnapkin_count(source, length, 1, &r.fault) == FIRTHNAPKIN_TOO_LONG && is_fault_kept(r), "4 GiB, counted");
-    munmap(source, length);
+    check(firthnapkin_message(source, FOUR_GIB, DEPTH, NULL, 0, &needed) == FIRTHNAPKIN_TOO_LONG && needed == 0, "4 GiB, in words");
+    check(firthnapkin_count(source, FOUR_GIB, 1, &r.fault) == FIRTHNAPKIN_TOO_LONG && is_fault_kept(r), "4 GiB, counted");
+    munmap(source, FOUR_GIB);
 }
 
 /* A depth above the largest is refused, and the source is not read. */
@@ -360,17 +357,6 @@ static void *many(void *failures) {
     return NULL;
 }
 
-static void threads(void) {
-    pthread_t thread[4];
-    long failures[4] = {0};
-    for (int i = 0; i < 4; i++)
-        if (pthread_create(&thread[i], NULL, many, &failures[i])) abort();
-    for (int i = 0; i < 4; i++) {
-        pthread_join(thread[i], NULL);
-        check(failures[i] == 0, "thread %d", i);
-    }
-}
-
 /* Ten million bytes, with and without characters beyond ASCII. */
 static void large(const char *part, size_t nodes, size_t texts) {
     size_t step = strlen(part), count = 10000000 / step + 1, length = count * step + 2;
@@ -400,7 +386,7 @@ int main(void) {
     stacks();
     fields();
     numbers();
-    threads();
+    in_threads(many);
     large("user(id: 4, b: {c: [1, \"x\"]}) { id name } ", 12, 1);
     large("say(text: \"\xd0\xbc\xd0\xb8\xd1\x80\") # \xd0\xbc\xd0\xb8\xd1\x80\n", 4, 6);
     return counted();

@@ -1,8 +1,9 @@
-/* Memory of which every byte is known, and stacks of a known size. */
+/* Memory of which every byte is known, memory that can't be read, stacks of a known size, and threads. */
 #ifndef MEMORY_H
 #define MEMORY_H
 
 #include "../../include/firthnapkin.h"
+#include "checks.h"
 #include <pthread.h>
 #include <stdlib.h>
 #include <string.h>
@@ -22,6 +23,28 @@ static int are_canaries(const void *room, size_t length) {
     for (size_t i = 0; i < length; i++)
         if (((const uint8_t *)room)[i] != CANARY) return 0;
     return 1;
+}
+
+static const size_t FOUR_GIB = (size_t)1 << 32;
+
+/* A source of 4 GiB of which no byte can be read; NULL, and a line that says so, where there is no address space for it. */
+static void *too_long_source(void) {
+    void *source = mmap(NULL, FOUR_GIB, PROT_NONE, MAP_PRIVATE | MAP_ANONYMOUS | MAP_NORESERVE, -1, 0);
+    if (source != MAP_FAILED) return source;
+    printf("no address space for 4 GiB, so status %d was not tried\n", FIRTHNAPKIN_TOO_LONG);
+    return NULL;
+}
+
+/* Runs it in four threads at once. Each counts failures where its argument points, and none may have any. */
+static void in_threads(void *(*run)(void *)) {
+    pthread_t thread[4];
+    long failures[4] = {0};
+    for (int i = 0; i < 4; i++)
+        if (pthread_create(&thread[i], NULL, run, &failures[i])) abort();
+    for (int i = 0; i < 4; i++) {
+        pthread_join(thread[i], NULL);
+        check(failures[i] == 0, "thread %d", i);
+    }
 }
 
 /* Runs it in a thread with as much stack as the header says for this depth, beside memory that nothing may touch. */

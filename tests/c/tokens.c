@@ -255,20 +255,17 @@ static void not_looked_at(void) {
     check(r.status == FIRTHNAPKIN_REFUSED && r.needed == 2 && r.fault.detail == FIRTHNAPKIN_UNKNOWN_CHARACTER && r.fault.start.byte == 2,
           "a byte 0");
     free(r.tokens);
-    size_t length = (size_t)1 << 32, needed = 99;
-    void *source = mmap(NULL, length, PROT_NONE, MAP_PRIVATE | MAP_ANONYMOUS | MAP_NORESERVE, -1, 0);
-    if (source == MAP_FAILED) {
-        printf("tokens: no address space for 4 GiB, so status %d was not tried\n", FIRTHNAPKIN_TOO_LONG);
-        return;
-    }
-    r = cut(source, length, 1, 9);
+    size_t needed = 99;
+    void *source = too_long_source();
+    if (source == NULL) return;
+    r = cut(source, FOUR_GIB, 1, 9);
     check(r.status == FIRTHNAPKIN_TOO_LONG && r.needed == 0 && holds(r, NULL, 0) && is_fault_kept(r), "4 GiB");
     uint8_t text = CANARY;
-    check(firthnapkin_canonical(source, length, &text, 1, &needed, &r.fault) == FIRTHNAPKIN_TOO_LONG && needed == 0 && text == CANARY
+    check(firthnapkin_canonical(source, FOUR_GIB, &text, 1, &needed, &r.fault) == FIRTHNAPKIN_TOO_LONG && needed == 0 && text == CANARY
               && is_fault_kept(r),
           "4 GiB, as a canonical text");
     free(r.tokens);
-    munmap(source, length);
+    munmap(source, FOUR_GIB);
 }
 
 /* A source of ten million bytes, and calls on no more stack than the header says. */
@@ -321,17 +318,6 @@ static void *many(void *failures) {
     return NULL;
 }
 
-static void threads(void) {
-    pthread_t thread[4];
-    long failures[4] = {0};
-    for (int i = 0; i < 4; i++)
-        if (pthread_create(&thread[i], NULL, many, &failures[i])) abort();
-    for (int i = 0; i < 4; i++) {
-        pthread_join(thread[i], NULL);
-        check(failures[i] == 0, "thread %d", i);
-    }
-}
-
 int main(void) {
     for (size_t i = 0; i < sizeof CUT / sizeof *CUT; i++) {
         every_room(&CUT[i]);
@@ -341,7 +327,7 @@ int main(void) {
     canonical_texts();
     no_memory();
     not_looked_at();
-    threads();
+    in_threads(many);
     large("{a(b:[1,\"x\\n\"])...F}", 13, 20);
     large("{...a,b #c\n} ", 5, 8);
     large("\"\xd0\xbc\xd0\xb8\xd1\x80\"\"\"\"\n\"\"\" # \xd0\xbc\xd0\xb8\xd1\x80\n}", 3, 17);
