@@ -27,8 +27,8 @@ use Rattle.juniper_tokens.specs.Errors.{Error, view_fault, view_lexer_error, fai
 use Rattle.juniper_tokens.specs.Lexing.{LexerState, started}
 use Rattle.juniper_tokens.specs.Gathering.{IfFault}
 use Rattle.juniper_tokens.specs.Nesting.{IsShallow, EndsAtNesting}
-use Rattle.juniper.specs.declared.parser.depth.DepthFailure.{DepthFailure}
-use Rattle.juniper.specs.declared.parser.depth.DepthFailure.TheVariants as limited
+use Rattle.juniper.specs.declared.parser.document.depth.DepthFailure.{DepthFailure}
+use Rattle.juniper.specs.declared.parser.document.depth.DepthFailure.TheVariants as limited
 use Rattle.juniper.specs.Promise.{HasTree, IsRefusedAt, IsRefusal, AnswersAs, lexical_fault}
 use Rattle.juniper.specs.Within.{HasTooDeep, IsWithin, AnswersWithin, HasTreeWithin, IsRefusedWithin, IsNestedTooDeep, HasOneAnswer, answer_within}
 use Rattle.graphql_grammar.specs.device.Productions.{document}

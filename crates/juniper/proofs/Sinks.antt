@@ -11,7 +11,7 @@ use Rattle.juniper_tokens.specs.Cursor.{EndsOnce}
 use Rattle.juniper_tokens.specs.Errors.{Error}
 use Rattle.juniper_tokens.specs.Nesting.{EndsAtNesting}
 use Rattle.juniper_tokens.specs.declared.span.Span as spans
-use Rattle.juniper.specs.declared.parser.depth.DepthFailure.{DepthFailure}
+use Rattle.juniper.specs.declared.parser.document.depth.DepthFailure.{DepthFailure}
 use Rattle.juniper.specs.Sinks.{StandInFront, Gains, GainsTree, GainsFront, GainsBeforeEnd, GivesWithin}
 use Rattle.juniper.specs.device.Steps.{cursor}
 use Rattle.juniper.proofs.Promises.{same_cut, cut_or_break}

@@ -8,7 +8,7 @@ use Rattle.graphql_grammar.specs.Grammar.{Each, IsDefinition}
 use Rattle.juniper_tokens.specs.declared.error.ParseFailure.{ParseFailure}
 use Rattle.juniper_tokens.specs.Errors.{Error}
 use Rattle.juniper_tokens.specs.Cursor.{Read, Fails}
-use Rattle.juniper.specs.declared.parser.depth.DepthFailure.{DepthFailure}
+use Rattle.juniper.specs.declared.parser.document.depth.DepthFailure.{DepthFailure}
 use Rattle.juniper.specs.Promise.{HasTree}
 use Rattle.juniper.specs.Within.{AnswersWithin}
 

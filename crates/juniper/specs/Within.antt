@@ -11,8 +11,8 @@ use Rattle.juniper_tokens.specs.declared.span.Span as spans
 use Rattle.juniper_tokens.specs.declared.span.Spanning.{Spanning}
 use Rattle.juniper_tokens.specs.Spans.{view_span}
 use Rattle.juniper_tokens.specs.Errors.{Error, Fault, view_fault}
-use Rattle.juniper.specs.declared.parser.depth.DepthFailure.{DepthFailure}
-use Rattle.juniper.specs.declared.parser.depth.DepthFailure.TheVariants as limited
+use Rattle.juniper.specs.declared.parser.document.depth.DepthFailure.{DepthFailure}
+use Rattle.juniper.specs.declared.parser.document.depth.DepthFailure.TheVariants as limited
 use Rattle.juniper.specs.Promise.{HasTree, IsRefusal, IsRefusalInText}
 
 -- Where a text was refused, P holds of the error and its place.

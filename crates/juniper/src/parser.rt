@@ -1,13 +1,11 @@
 //! The parser: a function for each rule of the document grammar.
 pub(crate) mod definition;
-pub(crate) mod depth;
 pub(crate) mod directives;
 pub(crate) mod document;
 pub(crate) mod items;
 pub(crate) mod lists;
 pub(crate) mod next;
 pub(crate) mod selection;
-pub(crate) mod sink;
 pub(crate) mod spans;
 pub(crate) mod types;
 pub(crate) mod value;

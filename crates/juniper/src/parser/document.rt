@@ -8,6 +8,9 @@ ghost use Rattle.graphql_grammar.specs.device.Productions.{document};
 ghost use Rattle.juniper.specs.device.Steps.{cursor};
 ghost use Rattle.juniper.specs.Promise.{HasTree, IsRefusal, IsRefusalInText, IfRefused, AnswersAs};
 
+pub(crate) mod depth;
+pub(crate) mod sink;
+
 use crate::parser::definition::parse_definition;
 use crate::parser::lists::push_item;
 use crate::parser::next::next_is;

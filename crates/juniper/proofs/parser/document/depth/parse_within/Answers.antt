@@ -2,9 +2,9 @@ use Rattle.std.proofs.Common.{sym, subst, Ok, Err}
 use Rattle.juniper.specs.View.{view_document}
 use Rattle.juniper.specs.Scalars.{stated}
 use Rattle.juniper.specs.Within.{AnswersWithin}
-use Rattle.juniper.specs.declared.parser.depth.DepthFailure.{DepthFailure}
+use Rattle.juniper.specs.declared.parser.document.depth.DepthFailure.{DepthFailure}
 use Rattle.juniper.proofs.Limits.{answers_within}
-use Rattle.juniper.proofs.parser.depth.parse_within.Goals as goal
+use Rattle.juniper.proofs.parser.document.depth.parse_within.Goals as goal
 
 pub returns-in-Ok : goal.returns-in-Ok
 returns-in-Ok g c = λ source cut.

@@ -5,11 +5,11 @@ use Rattle.juniper_tokens.specs.declared.error.ParseFailure.{ParseFailure}
 use Rattle.juniper_values.specs.Scalar.{Content}
 use Rattle.juniper.specs.Scalars.{stated}
 use Rattle.juniper.specs.Within.{AnswersWithin}
-use Rattle.juniper.specs.declared.parser.depth.DepthFailure.TheVariants.{Parse}
+use Rattle.juniper.specs.declared.parser.document.depth.DepthFailure.TheVariants.{Parse}
 use Rattle.juniper.proofs.Promises.{cut_from_start}
 use Rattle.juniper.proofs.Limits.{lexical_within}
 use Rattle.juniper.proofs.Sinks.{gains_tree, none_given}
-use Rattle.juniper.proofs.parser.sink.parse_document_source_into.Goals as goal
+use Rattle.juniper.proofs.parser.document.sink.parse_document_source_into.Goals as goal
 
 pub returns-in-Ok : goal.returns-in-Ok
 returns-in-Ok g c =

@@ -7,7 +7,7 @@ use Rattle.juniper.specs.device.Steps.{cursor}
 use Rattle.juniper.proofs.Loops.{before_none}
 use Rattle.juniper.proofs.Documents.{go_on, end, fail}
 use Rattle.juniper.proofs.Sinks.{grown, grown_none, grown_still, none_read, one_more_read, read_before_end}
-use Rattle.juniper.proofs.parser.sink.give_definitions.Goals as goal
+use Rattle.juniper.proofs.parser.document.sink.give_definitions.Goals as goal
 
 pub loop-parser-init : goal.loop-parser-init
 loop-parser-init g c =

@@ -15,7 +15,7 @@ ghost use Rattle.juniper.specs.Within.{IfRefusedWithin, IfTooDeep, IfDecided, Ha
 ghost use Rattle.juniper.specs.Sinks.{Gains, GainsTree, GainsFront, GainsBeforeEnd, GivesAs, GivesWithin};
 
 use crate::parser::definition::parse_definition;
-use crate::parser::depth::{DepthFailure, told};
+use crate::parser::document::depth::{DepthFailure, told};
 use crate::parser::next::next_is;
 use crate::tree::ast::Definition;
 use juniper_tokens::{Kind, Lexer, ParseFailure, Parser, UnlocatedParseResult};

@@ -4,10 +4,10 @@ use Rattle.juniper_tokens.specs.declared.error.ParseFailure.{ParseFailure}
 use Rattle.juniper.specs.View.{view_document}
 use Rattle.juniper.specs.Scalars.{stated}
 use Rattle.juniper.specs.Within.{AnswersWithin}
-use Rattle.juniper.specs.declared.parser.depth.DepthFailure.TheVariants.{Parse}
+use Rattle.juniper.specs.declared.parser.document.depth.DepthFailure.TheVariants.{Parse}
 use Rattle.juniper.proofs.Promises.{cut_from_start}
 use Rattle.juniper.proofs.Limits.{lexical_within}
-use Rattle.juniper.proofs.parser.depth.parse_document_source_within.Goals as goal
+use Rattle.juniper.proofs.parser.document.depth.parse_document_source_within.Goals as goal
 
 pub returns-in-Ok : goal.returns-in-Ok
 returns-in-Ok g c =

@@ -3,10 +3,10 @@ use Rattle.graphql_grammar.specs.Tree.{Definition}
 use Rattle.juniper_values.specs.Scalar.{Content}
 use Rattle.juniper.specs.Scalars.{stated}
 use Rattle.juniper.specs.Within.{AnswersWithin}
-use Rattle.juniper.specs.declared.parser.depth.DepthFailure.{DepthFailure}
+use Rattle.juniper.specs.declared.parser.document.depth.DepthFailure.{DepthFailure}
 use Rattle.juniper.proofs.Limits.{answers_within}
 use Rattle.juniper.proofs.Sinks.{given_of_text}
-use Rattle.juniper.proofs.parser.sink.give_within.Goals as goal
+use Rattle.juniper.proofs.parser.document.sink.give_within.Goals as goal
 
 pub returns-in-Ok-clause-answer : goal.returns-in-Ok-clause-answer
 returns-in-Ok-clause-answer g c = λ source cut.

@@ -8,7 +8,7 @@ use Rattle.juniper.specs.Sinks.{Gains}
 use Rattle.juniper.specs.device.Steps.{cursor}
 use Rattle.juniper.proofs.Loops.{before_others}
 use Rattle.juniper.proofs.Sinks.{WereRead}
-use Rattle.juniper.proofs.parser.sink.give_definitions.Given as goal
+use Rattle.juniper.proofs.parser.document.sink.give_definitions.Given as goal
 
 abbrev pub invariant-loop-parser : goal.invariant-loop-parser
 invariant-loop-parser g l =
