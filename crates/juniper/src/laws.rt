@@ -31,7 +31,9 @@ ghost use Rattle.juniper.specs.Scalars.{stated};
 ghost use Rattle.juniper.specs.Sources.{AreRefusedAlike};
 ghost use Rattle.juniper.specs.Within.{HasTooDeep, HasOneAnswer};
 
-pub use crate::tree::equality::{kinds_are_compared_apart, parts_are_compared_whole};
+mod equality;
+
+pub use equality::{kinds_are_compared_apart, parts_are_compared_whole};
 pub use graphql_grammar::laws as grammar;
 pub use graphql_lexical::laws as lexical;
 pub use juniper_answers::laws as answers;

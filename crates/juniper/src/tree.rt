@@ -1,3 +1,2 @@
-//! The tree of a document, and how trees are compared.
+//! The tree of a document.
 pub(crate) mod ast;
-pub(crate) mod equality;

@@ -12,8 +12,8 @@ use Rattle.juniper.specs.contracts.tree.ast.FragmentSpreadPartialEq.TheImpl as s
 use Rattle.juniper.specs.contracts.tree.ast.InlineFragmentPartialEq.TheImpl as inline
 use Rattle.juniper.specs.contracts.tree.ast.SelectionPartialEq.TheImpl as selection
 use Rattle.juniper.specs.contracts.tree.ast.SelectionPartialEq.TheImpl.Laws.{is}
-use Rattle.juniper.proofs.tree.equality.kinds_are_compared_apart.Given.{Over}
-use Rattle.juniper.proofs.tree.equality.kinds_are_compared_apart.Goals as goal
+use Rattle.juniper.proofs.laws.equality.kinds_are_compared_apart.Given.{Over}
+use Rattle.juniper.proofs.laws.equality.kinds_are_compared_apart.Goals as goal
 
 module _ (g : Over) where
   abbrev parts : List (List Part)

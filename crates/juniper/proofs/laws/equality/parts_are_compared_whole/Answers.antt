@@ -1,6 +1,6 @@
 use Rattle.juniper.specs.contracts.tree.ast.FieldPartialEq.TheImpl.Laws as field
 use Rattle.juniper.specs.contracts.tree.ast.InlineFragmentPartialEq.TheImpl.Laws as inline
-use Rattle.juniper.proofs.tree.equality.parts_are_compared_whole.Goals as goal
+use Rattle.juniper.proofs.laws.equality.parts_are_compared_whole.Goals as goal
 
 pub returns-clause-field : goal.returns-clause-field
 returns-clause-field g c a b = field.is g.row.S g.S.PartialEq g.S.PartialEq-dict g.S.Destruct-dict
