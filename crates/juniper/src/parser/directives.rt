@@ -38,11 +38,9 @@ fn parse_argument_list<'a, S: ScalarValue>(
 {
     let mut items = Vec::new(parser.allocator());
     loop {
-        push_item(
-            &mut items,
-            parse_argument(parser)?,
-            next_is(parser, Kind::ParenClose),
-        )?;
+        let argument = parse_argument(parser)?;
+        let is_last = next_is(parser, Kind::ParenClose);
+        push_item(&mut items, argument, is_last)?;
         if let Some(closing) = take_closing(parser, Kind::ParenClose) {
             return Ok(Spanning::new(closing, items));
         }
@@ -101,11 +99,9 @@ pub(crate) fn parse_directives<'a, S: ScalarValue>(
 {
     let mut items = Vec::new(parser.allocator());
     while next_is(parser, Kind::At) {
-        push_item(
-            &mut items,
-            parse_directive(parser)?,
-            !next_is(parser, Kind::At),
-        )?;
+        let directive = parse_directive(parser)?;
+        let is_last = !next_is(parser, Kind::At);
+        push_item(&mut items, directive, is_last)?;
     }
     Ok(Spanning::spanning(items))
 }

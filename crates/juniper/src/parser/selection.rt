@@ -44,11 +44,9 @@ fn parse_selection_list<'a, S: ScalarValue>(
 {
     let mut items = Vec::new(parser.allocator());
     loop {
-        push_item(
-            &mut items,
-            parse_selection(parser)?,
-            next_is(parser, Kind::CurlyClose),
-        )?;
+        let selection = parse_selection(parser)?;
+        let is_last = next_is(parser, Kind::CurlyClose);
+        push_item(&mut items, selection, is_last)?;
         if let Some(closing) = take_closing(parser, Kind::CurlyClose) {
             return Ok(Spanning::new(closing, items));
         }

@@ -125,11 +125,9 @@ fn parse_items<'a, S: ScalarValue>(
         if let Some(closing) = take_closing(parser, Kind::BracketClose) {
             return Ok(Spanning::new(closing, items));
         }
-        push_item(
-            &mut items,
-            parse_value(parser, is_const)?,
-            next_is(parser, Kind::BracketClose),
-        )?;
+        let item = parse_value(parser, is_const)?;
+        let is_last = next_is(parser, Kind::BracketClose);
+        push_item(&mut items, item, is_last)?;
     }
 }
 
@@ -165,11 +163,9 @@ fn parse_fields<'a, S: ScalarValue>(
         if let Some(closing) = take_closing(parser, Kind::CurlyClose) {
             return Ok(Spanning::new(closing, fields));
         }
-        push_item(
-            &mut fields,
-            parse_object_field(parser, is_const)?,
-            next_is(parser, Kind::CurlyClose),
-        )?;
+        let field = parse_object_field(parser, is_const)?;
+        let is_last = next_is(parser, Kind::CurlyClose);
+        push_item(&mut fields, field, is_last)?;
     }
 }
 

@@ -65,11 +65,9 @@ fn parse_variable_list<'a, S: ScalarValue>(
 {
     let mut items = Vec::new(parser.allocator());
     loop {
-        push_item(
-            &mut items,
-            parse_variable_definition(parser)?,
-            next_is(parser, Kind::ParenClose),
-        )?;
+        let variable = parse_variable_definition(parser)?;
+        let is_last = next_is(parser, Kind::ParenClose);
+        push_item(&mut items, variable, is_last)?;
         if let Some(closing) = take_closing(parser, Kind::ParenClose) {
             return Ok(Spanning::new(closing, items));
         }

@@ -11,20 +11,20 @@ use Rattle.juniper.proofs.PartViews.{spanned_is}
 use Rattle.juniper.proofs.Readings.{directives_repeat}
 use Rattle.juniper.proofs.parser.directives.parse_directives.Goals as goal
 
-pub returns-in_err-parse_directive-clause-gives : goal.returns-in_err-parse_directive-clause-gives
+pub returns-in_err-directive-clause-gives : goal.returns-in_err-directive-clause-gives
 unfolding directives
-returns-in_err-parse_directive-clause-gives g c =
+returns-in_err-directive-clause-gives g c =
     let p = err_from_is_err_and c.from_residual.result c.from_residual.ensures.1 in
-    rw (p.1, p.2) (after_fails c.in_err-parse_directive.field-0.0 _ _ _
-    (before_fail (directives_repeat _) _ _ c.next_is.ensures.ended c.loop-items.invariant.so_far
-    (sym c.next_is.ensures.is ∙ c.loop-items-test.true) c.in_err-parse_directive.field-0.0 _
-    c.in_err-parse_directive.ensures.gives))
+    rw (p.1, p.2) (after_fails c.in_err-directive.field-0.0 _ _ _
+    (before_fail (directives_repeat _) _ _ c.next_is.ensures.ended c.loop-parser.invariant.so_far
+    (sym c.next_is.ensures.is ∙ c.loop-parser-test.true) c.in_err-directive.field-0.0 _
+    c.in_err-directive.ensures.gives))
 
-pub loop-items-preserved : goal.loop-items-preserved
-loop-items-preserved g c = record {
+pub loop-parser-preserved : goal.loop-parser-preserved
+loop-parser-preserved g c = record {
   so_far = rw (c.in_ok-push_item.ensures.items, map-append)
-      (before_go_on (directives_repeat _) _ _ c.next_is.ensures.ended c.loop-items.invariant.so_far
-      (sym c.next_is.ensures.is ∙ c.loop-items-test.true) c.in_ok-parse_directive.ensures.gives);
+      (before_go_on (directives_repeat _) _ _ c.next_is.ensures.ended c.loop-parser.invariant.so_far
+      (sym c.next_is.ensures.is ∙ c.loop-parser-test.true) c.in_ok-directive.ensures.gives);
   not_longer = search rules;
 }
 
@@ -32,8 +32,8 @@ pub returns-clause-gives : goal.returns-clause-gives
 unfolding directives
 returns-clause-gives g c =
     ap (λ (r : Read (List (Directive Content))). r >>= λ ds. Ok (all_directives ds.0, ds.1))
-    (before_end (directives_repeat _) _ _ c.next_is.ensures.ended c.loop-items.invariant.so_far
-    (sym c.next_is.ensures.is ∙ c.loop-items-test.false))
-    ∙ ap (λ (o : Option (List (Directive Content) × Span)). Ok (o, c.loop-items.parser))
-    (sym (spanned_is g.S.ParseScalarValue.content c.loop-items.items c.spanning.result
+    (before_end (directives_repeat _) _ _ c.next_is.ensures.ended c.loop-parser.invariant.so_far
+    (sym c.next_is.ensures.is ∙ c.loop-parser-test.false))
+    ∙ ap (λ (o : Option (List (Directive Content) × Span)). Ok (o, c.loop-parser.parser))
+    (sym (spanned_is g.S.ParseScalarValue.content c.loop-parser.items c.spanning.result
     c.spanning.ensures.span c.spanning.ensures.items))

@@ -8,13 +8,13 @@ use Rattle.juniper.specs.device.Steps.{each_read}
 use Rattle.juniper.proofs.Loops.{before_others}
 use Rattle.juniper.proofs.parser.directives.parse_directives.Given as goal
 
-abbrev pub invariant-loop-items : goal.invariant-loop-items
-invariant-loop-items g l =
+abbrev pub invariant-loop-parser : goal.invariant-loop-parser
+invariant-loop-parser g l =
     let read = each_read (stated g.S.ParseScalarValue.reading g.S.ScalarValue.of_bool) (of At) directive in record {
       so_far : before_others (map (view_directive g.S.ParseScalarValue.content) l.items.items)
           (read l.parser) ≡ read l.fn.parser;
       not_longer : length l.parser ≤ length l.fn.parser;
     }
 
-abbrev pub decreases-loop-items : goal.decreases-loop-items
-decreases-loop-items g l = length l.parser
+abbrev pub decreases-loop-parser : goal.decreases-loop-parser
+decreases-loop-parser g l = length l.parser

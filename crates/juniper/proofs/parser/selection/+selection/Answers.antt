@@ -14,23 +14,23 @@ use Rattle.juniper.proofs.Readings.{selections_repeat}
 use Rattle.juniper.proofs.SelectionViews.{selections_are, field_view, whole_span}
 use Rattle.juniper.proofs.parser.selection.+selection.Goals as goal
 
-pub parse_selection_list-returns-in_err-parse_selection-clause-gives :
-    goal.parse_selection_list-returns-in_err-parse_selection-clause-gives
-parse_selection_list-returns-in_err-parse_selection-clause-gives g t c =
+pub parse_selection_list-returns-in_err-selection-clause-gives :
+    goal.parse_selection_list-returns-in_err-selection-clause-gives
+parse_selection_list-returns-in_err-selection-clause-gives g t c =
     let p = err_from_is_err_and c.from_residual.result c.from_residual.ensures.1 in
     rw (p.1, p.2) (some_item_fails (selections_repeat _) _ _ c.loop-items.invariant.so_far
-    c.in_err-parse_selection.field-0.0 _ c.in_err-parse_selection.ensures.gives)
+    c.in_err-selection.field-0.0 _ c.in_err-selection.ensures.gives)
 
 pub parse_selection_list-returns-in-Some-clause-gives : goal.parse_selection_list-returns-in-Some-clause-gives
 parse_selection_list-returns-in-Some-clause-gives g t c =
-    some_end (selections_repeat _) _ _ c.loop-items.invariant.so_far c.in_ok-parse_selection.ensures.gives
+    some_end (selections_repeat _) _ _ c.loop-items.invariant.so_far c.in_ok-selection.ensures.gives
     c.take_closing.ensures.ended (rw c.in-Some.is at c.take_closing.ensures.takes)
     ∙ rw (c.new.ensures, c.in_ok-push_item.ensures.items, map-append) refl
 
 pub parse_selection_list-loop-items-preserved : goal.parse_selection_list-loop-items-preserved
 parse_selection_list-loop-items-preserved g t c = record {
   so_far = rw (c.in_ok-push_item.ensures.items, map-append)
-      (some_go_on (selections_repeat _) _ _ c.loop-items.invariant.so_far c.in_ok-parse_selection.ensures.gives
+      (some_go_on (selections_repeat _) _ _ c.loop-items.invariant.so_far c.in_ok-selection.ensures.gives
       c.take_closing.ensures.ended (rw c.in_default.is at c.take_closing.ensures.takes));
   not_longer = search rules;
 }

@@ -18,21 +18,21 @@ parse_items-returns-in-Some-clause-gives g t c =
     (rw c.in-Some.is at c.take_closing.ensures.takes)
     ∙ rw c.new.ensures refl
 
-pub parse_items-returns-in_err-parse_value-clause-gives : goal.parse_items-returns-in_err-parse_value-clause-gives
-parse_items-returns-in_err-parse_value-clause-gives g t c =
+pub parse_items-returns-in_err-item-clause-gives : goal.parse_items-returns-in_err-item-clause-gives
+parse_items-returns-in_err-item-clause-gives g t c =
     let p = err_from_is_err_and c.from_residual.result c.from_residual.ensures.1 in
     rw (p.1, p.2) (item_fails (values_repeat _ _) _ _ c.take_closing.ensures.ended
-    c.loop-closing.invariant.so_far c.in_err-parse_value.field-0.0 _
-    (rw c.in_default.is at c.take_closing.ensures.takes) c.in_err-parse_value.ensures.gives)
+    c.loop-closing.invariant.so_far c.in_err-item.field-0.0 _
+    (rw c.in_default.is at c.take_closing.ensures.takes) c.in_err-item.ensures.gives)
 
 pub parse_items-loop-closing-preserved : goal.parse_items-loop-closing-preserved
 parse_items-loop-closing-preserved g t c = record {
   so_far = rw (c.in_ok-push_item.ensures.items, map-append)
       (goes_on (values_repeat _ _) _ _ c.take_closing.ensures.ended c.loop-closing.invariant.so_far
-      (rw c.in_default.is at c.take_closing.ensures.takes) c.in_ok-parse_value.ensures.gives);
+      (rw c.in_default.is at c.take_closing.ensures.takes) c.in_ok-item.ensures.gives);
   not_longer = search rules;
   rest = further _ _ _ c.loop-closing.invariant.rest
-      (further _ _ _ c.take_closing.ensures.rest c.in_ok-parse_value.ensures.rest);
+      (further _ _ _ c.take_closing.ensures.rest c.in_ok-item.ensures.rest);
 }
 
 pub parse_fields-returns-in-Some-clause-gives : goal.parse_fields-returns-in-Some-clause-gives
@@ -41,22 +41,22 @@ parse_fields-returns-in-Some-clause-gives g t c =
     (rw c.in-Some.is at c.take_closing.ensures.takes)
     ∙ rw c.new.ensures refl
 
-pub parse_fields-returns-in_err-parse_object_field-clause-gives :
-    goal.parse_fields-returns-in_err-parse_object_field-clause-gives
-parse_fields-returns-in_err-parse_object_field-clause-gives g t c =
+pub parse_fields-returns-in_err-field-clause-gives :
+    goal.parse_fields-returns-in_err-field-clause-gives
+parse_fields-returns-in_err-field-clause-gives g t c =
     let p = err_from_is_err_and c.from_residual.result c.from_residual.ensures.1 in
     rw (p.1, p.2) (item_fails (fields_repeat _ _) _ _ c.take_closing.ensures.ended c.loop-closing.invariant.so_far
-    c.in_err-parse_object_field.field-0.0 _ (rw c.in_default.is at c.take_closing.ensures.takes)
-    c.in_err-parse_object_field.ensures.gives)
+    c.in_err-field.field-0.0 _ (rw c.in_default.is at c.take_closing.ensures.takes)
+    c.in_err-field.ensures.gives)
 
 pub parse_fields-loop-closing-preserved : goal.parse_fields-loop-closing-preserved
 parse_fields-loop-closing-preserved g t c = record {
   so_far = rw (c.in_ok-push_item.ensures.items, map-append)
       (goes_on (fields_repeat _ _) _ _ c.take_closing.ensures.ended c.loop-closing.invariant.so_far
-      (rw c.in_default.is at c.take_closing.ensures.takes) c.in_ok-parse_object_field.ensures.gives);
+      (rw c.in_default.is at c.take_closing.ensures.takes) c.in_ok-field.ensures.gives);
   not_longer = search rules;
   rest = further _ _ _ c.loop-closing.invariant.rest
-      (further _ _ _ c.take_closing.ensures.rest c.in_ok-parse_object_field.ensures.rest);
+      (further _ _ _ c.take_closing.ensures.rest c.in_ok-field.ensures.rest);
 }
 
 pub parse_list-returns-clause-gives : goal.parse_list-returns-clause-gives
@@ -78,29 +78,29 @@ parse_object-returns-clause-gives g t c =
 pub parse_items-returns-in-Some-clause-rest : goal.parse_items-returns-in-Some-clause-rest
 parse_items-returns-in-Some-clause-rest g t c = further _ _ _ c.loop-closing.invariant.rest c.take_closing.ensures.rest
 
-pub parse_items-returns-in_err-parse_value-clause-rest : goal.parse_items-returns-in_err-parse_value-clause-rest
-parse_items-returns-in_err-parse_value-clause-rest g t c =
+pub parse_items-returns-in_err-item-clause-rest : goal.parse_items-returns-in_err-item-clause-rest
+parse_items-returns-in_err-item-clause-rest g t c =
     further _ _ _ c.loop-closing.invariant.rest
-    (further _ _ _ c.take_closing.ensures.rest c.in_err-parse_value.ensures.rest)
+    (further _ _ _ c.take_closing.ensures.rest c.in_err-item.ensures.rest)
 
 pub parse_items-returns-in_err-push_item-clause-rest : goal.parse_items-returns-in_err-push_item-clause-rest
 parse_items-returns-in_err-push_item-clause-rest g t c =
     further _ _ _ c.loop-closing.invariant.rest
-    (further _ _ _ c.take_closing.ensures.rest c.in_ok-parse_value.ensures.rest)
+    (further _ _ _ c.take_closing.ensures.rest c.in_ok-item.ensures.rest)
 
 pub parse_fields-returns-in-Some-clause-rest : goal.parse_fields-returns-in-Some-clause-rest
 parse_fields-returns-in-Some-clause-rest g t c = further _ _ _ c.loop-closing.invariant.rest c.take_closing.ensures.rest
 
-pub parse_fields-returns-in_err-parse_object_field-clause-rest :
-    goal.parse_fields-returns-in_err-parse_object_field-clause-rest
-parse_fields-returns-in_err-parse_object_field-clause-rest g t c =
+pub parse_fields-returns-in_err-field-clause-rest :
+    goal.parse_fields-returns-in_err-field-clause-rest
+parse_fields-returns-in_err-field-clause-rest g t c =
     further _ _ _ c.loop-closing.invariant.rest
-    (further _ _ _ c.take_closing.ensures.rest c.in_err-parse_object_field.ensures.rest)
+    (further _ _ _ c.take_closing.ensures.rest c.in_err-field.ensures.rest)
 
 pub parse_fields-returns-in_err-push_item-clause-rest : goal.parse_fields-returns-in_err-push_item-clause-rest
 parse_fields-returns-in_err-push_item-clause-rest g t c =
     further _ _ _ c.loop-closing.invariant.rest
-    (further _ _ _ c.take_closing.ensures.rest c.in_ok-parse_object_field.ensures.rest)
+    (further _ _ _ c.take_closing.ensures.rest c.in_ok-field.ensures.rest)
 
 pub parse_object_field-returns-in_err-expect_kind-clause-rest :
     goal.parse_object_field-returns-in_err-expect_kind-clause-rest
