@@ -40,7 +40,7 @@ other_is_name t e = by_parts (same_kind t.kind Name) (bytes_eq t.text (codes "on
     by_parts true false p = refl
     by_parts false b p = refl
 
-operation_no_end : PassesNoEnd operation_word
+pub operation_no_end : PassesNoEnd operation_word
 operation_no_end t e = kind_no_end Name refl t (by_parts (same_kind t.kind Name) (bytes_eq t.text (codes "query"))
     (bytes_eq t.text (codes "mutation")) (bytes_eq t.text (codes "subscription")) e)
   where

@@ -1,24 +1,23 @@
 -- What the code reads is what the grammar's readers read.
-use Rattle.std.proofs.Common.{◌≡◌, ℕ, suc, length, arith, Bool, true, false, cond, Some, None, List, [], ◌∷◌, ◌++◌, Ok, refl, sym, ap, ◌∙◌, inl, inr, le_refl}
+use Rattle.std.proofs.Common.{◌≡◌, ℕ, suc, length, arith, Bool, true, false, cond, Some, None, List, [], ◌∷◌, ◌++◌, codes, Ok, refl, ap, ◌∙◌, inl, inr, le_refl}
 use Rattle.graphql_lexical.specs.declared.kind.Kind.TheVariants.{At, BracketClose, CurlyClose, ParenClose, EndOfFile}
 use Rattle.graphql_lexical.specs.Kinds.{same_kind}
 use Rattle.graphql_lexical.specs.Cutting.{Lexeme}
 use Rattle.graphql_grammar.specs.Tree.{Scalars, Definition}
 use Rattle.graphql_grammar.specs.Grammar.{IsValue, IsArgument, IsVariableDefinition, IsSelection, IsDirective, IsDefinition, IsDocument}
 use Rattle.graphql_grammar.specs.declared.operation.OperationType.{OperationType}
-use Rattle.graphql_grammar.specs.device.Reading.{of, passes, fully, a_value, a_type, a_selection, Symbol, symbol}
-use Rattle.graphql_grammar.specs.device.Productions.{steps_of, symbol_at, reads, value, type, any_selection, key_and_value, argument, arguments_inner, directive, variable_definition, variables_inner, selections_inner, operation_word, operation_of, definition, document, operation}
+use Rattle.graphql_grammar.specs.device.Reading.{of, word, passes, fully, a_value, a_type, a_selection, Symbol, symbol}
+use Rattle.graphql_grammar.specs.device.Productions.{steps_of, symbol_at, reads, value, type, any_selection, key_and_value, argument, arguments_inner, directive, variable_definition, variables_inner, selections_inner, operation_word, operation_of, definition, document, operation, fragment}
 use Rattle.graphql_grammar.proofs.Public.{Answers, value_rule, value_takes, IsField, field_rule, field_takes, argument_rule, argument_takes, directive_rule, directive_takes, variable_definition_rule, variable_takes, selection_rule, selection_takes, definition_rule, definition_takes, document_rule, values_answer, types_answer, selections_answer, reads_answer, closed_answer}
 use Rattle.juniper_tokens.specs.Errors.{Error}
 use Rattle.juniper_tokens.specs.Cursor.{◌>>=◌, first_of, kind_at, next_at}
 use Rattle.juniper.specs.device.Seen.{seen}
 use Rattle.juniper.specs.device.Steps.{closing_at, no_scalars, value_read, type_read, selection_read, closed_read, cursor, whole, each_read}
-use Rattle.juniper.proofs.Cursors.{next_takes}
 use Rattle.juniper.proofs.Stepping.{seen_took}
 use Rattle.juniper.proofs.Loops.{Repeats, RepeatsSome, RepeatsWhile}
 use Rattle.juniper.proofs.CursorGoes.{Fits, shown, shown_fully}
 use Rattle.juniper.proofs.Symbols.{symbols_shown}
-use Rattle.juniper.proofs.CursorFits.{value_fits, type_fits, key_and_value_fits, argument_fits, directive_fits, variable_definition_fits, any_selection_fits, definition_fits}
+use Rattle.juniper.proofs.CursorFits.{value_fits, type_fits, key_and_value_fits, argument_fits, directive_fits, variable_definition_fits, any_selection_fits, definition_fits, operation_no_end}
 use Rattle.juniper.proofs.Lists.{closed_repeats, several_repeats, closed_turn, each_unfolds}
 
 module _ {C : Type 0} (S : Scalars C Error) where
@@ -123,14 +122,31 @@ operation_says : (begins : Bool) (type o : OperationType) → cond begins (Some 
 operation_says true type o e = (refl, cc e)
 operation_says false type o e = absurd (cc e)
 
-pub operation_begins : {C : Type 0} (S : Scalars C Error) (ts : List Lexeme) (o : OperationType) (t : Lexeme)
-    (rest : List Lexeme)
+-- the word that an operation begins with is not the end
+pub operation_is_no_end : (ts : List Lexeme) (o : OperationType)
     → cond (passes operation_word (first_of ts)) (Some (operation_of (first_of ts).text)) None ≡ Some o
-    → next_at ts ≡ Ok (t, rest) → cursor S definition ts ≡ whole S (operation o t.span) rest
+    → same_kind (kind_at ts) EndOfFile ≡ false
+operation_is_no_end ts o e =
+    operation_no_end (first_of ts)
+    (operation_says (passes operation_word (first_of ts)) (operation_of (first_of ts).text) o e).0
+
+pub operation_begins : {C : Type 0} (S : Scalars C Error) (ts : List Lexeme) (o : OperationType) (rest : List Lexeme)
+    → cond (passes operation_word (first_of ts)) (Some (operation_of (first_of ts).text)) None ≡ Some o
+    → next_at ts ≡ Ok (first_of ts, rest) → cursor S definition ts ≡ whole S (operation o (first_of ts).span) rest
 unfolding definition
-operation_begins S ts o t rest e f =
-    let taken = next_takes ts (t, rest) f in
-    let first : first_of ts ≡ t = ap first_of taken in
+operation_begins S ts o rest e f =
     let says = operation_says (passes operation_word (first_of ts)) (operation_of (first_of ts).text) o e in
-    let type : operation_of t.text ≡ o = ap (λ (x : Lexeme). operation_of x.text) (sym first) ∙ says.1 in
-    rw (says.0, f) (ap (λ (x : OperationType). whole S (operation x t.span) rest) type)
+    rw (says.0, f) (ap (λ (x : OperationType). whole S (operation x (first_of ts).span) rest) says.1)
+
+begins_no_operation : (begins : Bool) (type : OperationType) → cond begins (Some type) None ≡ None → begins ≡ false
+begins_no_operation true type e = absurd (cc e)
+begins_no_operation false type e = refl
+
+pub fragment_begins : {C : Type 0} (S : Scalars C Error) (ts rest : List Lexeme)
+    → cond (passes operation_word (first_of ts)) (Some (operation_of (first_of ts).text)) None ≡ None
+    → passes (word (codes "fragment")) (first_of ts) ≡ true
+    → next_at ts ≡ Ok (first_of ts, rest) → cursor S definition ts ≡ whole S (fragment (first_of ts).span) rest
+unfolding definition
+fragment_begins S ts rest none says f =
+    let no = begins_no_operation (passes operation_word (first_of ts)) (operation_of (first_of ts).text) none in
+    rw (no, says, f) refl

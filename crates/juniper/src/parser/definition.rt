@@ -10,7 +10,7 @@ ghost use Rattle.juniper.specs.Scalars.{stated};
 ghost use Rattle.juniper_tokens.specs.Spans.{view_span};
 ghost use Rattle.juniper.specs.device.Steps.{no_scalars, cursor, whole};
 
-use crate::parser::next::{next_is, next_is_word, refuse};
+use crate::parser::next::{next_is, next_is_word, refuse, take_next};
 use crate::parser::selection::{parse_inline_parts, parse_selection_set};
 use crate::parser::variables::parse_optional_variables;
 use crate::tree::ast::{Definition, Fragment, Operation};
@@ -23,7 +23,7 @@ use juniper_values::ScalarValue;
 /// `Definition = SelectionSet
 ///            | ("query" | "mutation" | "subscription") Name? Variables? Directive* SelectionSet
 ///            | "fragment" FragmentName "on" Name Directive* SelectionSet`
-#[tactic(auto, using(crate::proofs::Names::fragment_is), unfolding(graphql_grammar::specs::device::Productions::definition))]
+#[tactic(auto, using(crate::proofs::Names::fragment_is, crate::proofs::Cursors::word_is_no_end), unfolding(graphql_grammar::specs::device::Productions::definition))]
 pub(crate) fn parse_definition<'a, S: ScalarValue>(
     parser: &mut Parser<'a>,
 ) -> UnlocatedParseResult<Definition<'a, S>>
@@ -32,12 +32,12 @@ pub(crate) fn parse_definition<'a, S: ScalarValue>(
 {
     match next_operation(parser) {
         Some(operation_type) => {
-            let word = parser.next_token()?.span;
+            let word = take_next(parser);
             parse_operation(parser, operation_type, word)
         }
         None => {
             if next_is_word(parser, "fragment") {
-                let word = parser.next_token()?.span;
+                let word = take_next(parser);
                 parse_fragment(parser, word)
             } else {
                 parse_shorthand(parser)
@@ -162,13 +162,13 @@ fn parse_fragment_name<'a>(parser: &mut Parser<'a>) -> ParseResult<&'a str>
 }
 
 /// `"on" Name`
-#[tactic(auto, using(crate::proofs::Names::on_is), unfolding(juniper_tokens::specs::Cursor::expect_name_at))]
+#[tactic(auto, using(crate::proofs::Names::on_is, crate::proofs::Cursors::word_is_no_end), unfolding(juniper_tokens::specs::Cursor::expect_name_at))]
 fn parse_type_condition<'a>(parser: &mut Parser<'a>) -> ParseResult<&'a str>
     ensures gives { Gives view_word result parser.new (cursor no_scalars type_condition parser.old) }
     ensures shorter { OnOk result (length parser.new < length parser.old) }
 {
     if next_is_word(parser, "on") {
-        parser.next_token()?;
+        take_next(parser);
         parser.expect_name()
     } else {
         refuse(parser)

@@ -133,7 +133,7 @@ fn parse_names<'a>(
 
 /// `"..." FragmentName Directive* | "..." ("on" Name)? Directive* SelectionSet`
 #[cycle(selection)]
-#[tactic(auto, using(crate::proofs::Names::on_is, crate::proofs::CursorFits::other_is_name), unfolding(graphql_grammar::specs::device::Productions::spread, juniper_tokens::specs::Cursor::expect_name_at))]
+#[tactic(auto, using(crate::proofs::Names::on_is, crate::proofs::Cursors::word_is_no_end, crate::proofs::CursorFits::other_is_name), unfolding(graphql_grammar::specs::device::Productions::spread, juniper_tokens::specs::Cursor::expect_name_at))]
 fn parse_spread<'a, S: ScalarValue>(
     parser: &mut Parser<'a>,
 ) -> UnlocatedParseResult<Selection<'a, S>>
@@ -142,7 +142,7 @@ fn parse_spread<'a, S: ScalarValue>(
 {
     let dots = expect_kind(parser, Kind::Ellipsis)?;
     if next_is_word(parser, "on") {
-        parser.next_token()?;
+        take_next(parser);
         parse_typed_fragment(parser, dots)
     } else if next_is(parser, Kind::Name) {
         let name = parser.expect_name()?;

@@ -9,7 +9,7 @@ ghost use Rattle.juniper.specs.device.Steps.{cursor};
 
 use crate::parser::directives::parse_directives;
 use crate::parser::lists::push_item;
-use crate::parser::next::{expect_kind, next_is, take_closing};
+use crate::parser::next::{expect_kind, next_is, take_closing, take_next};
 use crate::parser::spans::item_of;
 use crate::parser::types::parse_any_type;
 use crate::parser::value::parse_value;
@@ -24,7 +24,7 @@ fn parse_default<'a, S: ScalarValue>(parser: &mut Parser<'a>) -> OptionParseResu
     ensures not_longer { OnOk result (length parser.new ≤ length parser.old) }
 {
     if next_is(parser, Kind::Equals) {
-        expect_kind(parser, Kind::Equals)?;
+        take_next(parser);
         Ok(Some(parse_value(parser, true)?))
     } else {
         Ok(None)

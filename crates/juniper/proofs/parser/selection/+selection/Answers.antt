@@ -66,12 +66,12 @@ parse_field-returns-clause-gives g t c =
     c.span_of.ensures c.from_part-named.ensures c.span_of-2.ensures c.up_to.ensures c.span_of-3.ensures
     c.up_to-2.ensures c.span_of-4.ensures c.up_to-span.ensures)))
 
-pub parse_spread-returns-in_ok-next_token-clause-gives : goal.parse_spread-returns-in_ok-next_token-clause-gives
+pub parse_spread-returns-then-next_is_word-clause-gives : goal.parse_spread-returns-then-next_is_word-clause-gives
 unfolding spread
-parse_spread-returns-in_ok-next_token-clause-gives g t c =
+parse_spread-returns-then-next_is_word-clause-gives g t c =
     let dots = c.in_ok-dots.ensures.gives in
     let on = says_on (first_of c.expect_kind.new.parser) _ _ c.next_is_word.ensures.is c.if-next_is_word.true in
-    rw (dots.0, ← dots.1, on, c.in_ok-next_token.ensures.gives) c.parse_typed_fragment.ensures.gives
+    rw (dots.0, ← dots.1, on, c.take_next.ensures.takes) c.parse_typed_fragment.ensures.gives
 
 pub parse_spread-returns-in_ok-name-clause-gives : goal.parse_spread-returns-in_ok-name-clause-gives
 unfolding spread expect_name_at
