@@ -3,8 +3,8 @@ ghost use Rattle.std.specs.Prelude.{◌≡◌, Some, IfOk};
 ghost use Rattle.std.specs.Str.{encode_utf8_all};
 
 use crate::span::Spanning;
-use crate::text::write_text;
-use crate::token::{Token, same_text};
+use crate::text::{same_text, write_text};
+use crate::token::Token;
 use std::alloc::{AllocError, AllocFailed, Global};
 use std::fmt;
 

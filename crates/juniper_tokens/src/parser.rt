@@ -18,7 +18,8 @@ use crate::error::{LexFailure, OptionParseResult, ParseError, ParseFailure, Pars
 use crate::lexer::Lexer;
 use crate::nesting::{end_behind, first_deeper};
 use crate::span::{Span, Spanning};
-use crate::token::{Token, same_text};
+use crate::text::same_text;
+use crate::token::Token;
 use crate::token_range::TokenRange;
 use graphql_lexical::Kind;
 use std::alloc::Global;

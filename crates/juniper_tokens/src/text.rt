@@ -1,6 +1,7 @@
-//! Copying and writing texts, and the escapes of Strings, for this crate and those above it.
-ghost use Rattle.std.specs.Prelude.{◌≡◌, ◌++◌, Some, OnOk, IfOk, IfSome};
+//! Comparing, copying and writing texts, and the escapes of Strings, for this crate and those above it.
+ghost use Rattle.std.specs.Prelude.{◌≡◌, ◌++◌, Some, OnOk, IfOk, IfSome, nat_eq};
 ghost use Rattle.std.specs.Char.{IsScalar};
+ghost use Rattle.std.specs.Cmp.Lexicographic.{pointwise};
 ghost use Rattle.std.specs.Fmt.{DisplaysOnOk};
 ghost use Rattle.std.specs.Str.{chars, encode_utf8_all};
 ghost use Rattle.std.specs.String.{string_bytes};
@@ -8,6 +9,13 @@ ghost use Rattle.juniper_tokens.specs.Escapes as escapes;
 
 use std::alloc::{AllocError, Global};
 use std::fmt;
+
+/// Whether two texts have the same characters.
+pub fn same_text(a: &str, b: &str) -> bool
+    ensures { result ≡ pointwise nat_eq (chars a.now) (chars b.now) }
+{
+    a == b
+}
 
 /// A copy of a text. Returns `AllocError` where memory ran out.
 pub fn copied(alloc: Global, text: &String) -> Result<String, AllocError>

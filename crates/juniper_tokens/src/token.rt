@@ -1,12 +1,11 @@
 //! Tokens.
-ghost use Rattle.std.specs.Prelude.{◌≡◌, ◌++◌, Some, nat_eq};
-ghost use Rattle.std.specs.Cmp.Lexicographic.{pointwise};
+ghost use Rattle.std.specs.Prelude.{◌≡◌, ◌++◌, Some};
 ghost use Rattle.std.specs.Fmt.{DisplaysOnOk};
 ghost use Rattle.std.specs.Str.{chars, encode_utf8_all};
 ghost use Rattle.graphql_lexical.specs.Display.{quoted, escaped, escape, shown};
 ghost use Rattle.graphql_lexical.specs.Tokens.{mark};
 
-use crate::text::write_text;
+use crate::text::{same_text, write_text};
 use graphql_lexical::Kind;
 use std::fmt;
 
@@ -61,13 +60,6 @@ pub enum Token<'a> {
     Pipe,
     /// The end of the source.
     EndOfFile,
-}
-
-/// Whether two texts have the same characters.
-pub(crate) fn same_text(a: &str, b: &str) -> bool
-    ensures { result ≡ pointwise nat_eq (chars a.now) (chars b.now) }
-{
-    a == b
 }
 
 impl<'a> ScalarToken<'a> {

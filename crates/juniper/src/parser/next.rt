@@ -1,5 +1,5 @@
 //! The next token.
-ghost use Rattle.std.specs.Prelude.{◌≡◌, ◌<◌, ◌≤◌, length, drop, false, option_map, bytes_eq, Ok, OnOk, IfSome};
+ghost use Rattle.std.specs.Prelude.{◌≡◌, ◌<◌, ◌≤◌, length, drop, false, option_map, Ok, OnOk, IfSome};
 ghost use Rattle.std.specs.Str.{chars};
 ghost use Rattle.graphql_lexical.specs.Kinds.{same_kind};
 ghost use Rattle.graphql_lexical.specs.declared.kind.Kind.TheVariants.{EndOfFile};
@@ -9,6 +9,7 @@ ghost use Rattle.juniper_tokens.specs.Delimited.{IsRest};
 ghost use Rattle.juniper_tokens.specs.Spans.{view_span};
 ghost use Rattle.juniper.specs.device.Steps.{closing_at, GivesPlace};
 
+use juniper_tokens::text::same_text;
 use juniper_tokens::{Kind, ParseError, ParseFailure, Parser, Span, Spanning, Token};
 
 /// Whether the next token is of this kind. It is not taken.
@@ -92,11 +93,4 @@ pub(crate) fn refuse<T: Drop>(parser: &mut Parser<'_>) -> Result<T, ParseFailure
     let token = parser.next_token()?;
     let error = ParseError::unexpected_token(parser.allocator(), token.item)?;
     Err(ParseFailure::Refused(Spanning::new(token.span, error)))
-}
-
-/// Whether two texts have the same characters.
-pub(crate) fn same_text(a: &str, b: &str) -> bool
-    ensures { result ≡ bytes_eq (chars a.now) (chars b.now) }
-{
-    a == b
 }

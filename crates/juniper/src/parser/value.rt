@@ -17,7 +17,8 @@ ghost use Rattle.juniper.specs.Scalars.{stated};
 ghost use Rattle.juniper_values.specs.Scalar.{MeetsReading};
 
 use crate::parser::lists::push_item;
-use crate::parser::next::{expect_kind, next_is, same_text, take_closing, take_next};
+use crate::parser::next::{expect_kind, next_is, take_closing, take_next};
+use juniper_tokens::text::same_text;
 use juniper_tokens::{Kind, ParseError, ParseFailure, ParseResult, Parser, Span, Spanning, Token};
 use juniper_values::{InputValue, ReadFailure, ScalarValue};
 use std::alloc::{AllocError, Global};
