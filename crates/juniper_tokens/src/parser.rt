@@ -191,10 +191,11 @@ impl<'a> Parser<'a> {
         Ok(self.take())
     }
 
-    // Takes the next token, and returns the error that it is unexpected. At the end nothing is taken.
+    /// Takes the next token, and returns the error that it is unexpected. At the end it returns `UnexpectedEndOfFile`, and
+    /// nothing is taken. Where there is no memory for the text of the error, nothing changes.
     #[tactic(auto, using(crate::proofs::Rests::none_taken, crate::proofs::Rests::one_taken))]
     #[cold]
-    fn refuse<T: Drop>(&mut self) -> Result<T, ParseFailure>
+    pub fn refuse<T: Drop>(&mut self) -> Result<T, ParseFailure>
         ensures gives { Gives (λ x. x) result self.new (refused_at self.old) }
         ensures never { OnOk result ⊥ }
         ensures memory { OnMemory result (Unmoved {A = Lexeme} self.old self.new (refused_at self.old)) }

@@ -10,7 +10,7 @@ ghost use Rattle.juniper.specs.Scalars.{stated};
 ghost use Rattle.juniper_tokens.specs.Spans.{view_span};
 ghost use Rattle.juniper.specs.device.Steps.{no_scalars, cursor, whole};
 
-use crate::parser::next::{next_is, next_is_word, refuse, take_next};
+use crate::parser::next::{next_is, next_is_word, take_next};
 use crate::parser::selection::{parse_inline_parts, parse_selection_set};
 use crate::parser::variables::parse_optional_variables;
 use crate::tree::ast::{Definition, Fragment, Operation};
@@ -155,7 +155,7 @@ fn parse_fragment_name<'a>(parser: &mut Parser<'a>) -> ParseResult<&'a str>
     ensures shorter { OnOk result (length parser.new < length parser.old) }
 {
     if next_is_word(parser, "on") {
-        refuse(parser)
+        parser.refuse()
     } else {
         parser.expect_name()
     }
@@ -171,6 +171,6 @@ fn parse_type_condition<'a>(parser: &mut Parser<'a>) -> ParseResult<&'a str>
         take_next(parser);
         parser.expect_name()
     } else {
-        refuse(parser)
+        parser.refuse()
     }
 }

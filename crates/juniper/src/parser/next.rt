@@ -3,14 +3,14 @@ ghost use Rattle.std.specs.Prelude.{◌≡◌, ◌<◌, ◌≤◌, length, drop,
 ghost use Rattle.std.specs.Str.{chars};
 ghost use Rattle.graphql_lexical.specs.Kinds.{same_kind};
 ghost use Rattle.graphql_lexical.specs.declared.kind.Kind.TheVariants.{EndOfFile};
-ghost use Rattle.juniper_tokens.specs.Cursor.{EndsOnce, Gives, first_of, kind_at, next_at, next_if, refused_at};
+ghost use Rattle.juniper_tokens.specs.Cursor.{EndsOnce, first_of, kind_at, next_at, next_if};
 ghost use Rattle.graphql_grammar.specs.device.Reading.{passes, word};
 ghost use Rattle.juniper_tokens.specs.Delimited.{IsRest};
 ghost use Rattle.juniper_tokens.specs.Spans.{view_span};
 ghost use Rattle.juniper.specs.device.Steps.{closing_at, GivesPlace};
 
 use juniper_tokens::text::same_text;
-use juniper_tokens::{Kind, ParseError, ParseFailure, Parser, Span, Spanning, Token};
+use juniper_tokens::{Kind, ParseFailure, Parser, Span, Token};
 
 /// Whether the next token is of this kind. It is not taken.
 pub(crate) fn next_is(parser: &Parser<'_>, kind: Kind) -> bool
@@ -80,17 +80,6 @@ pub(crate) fn expect_kind(parser: &mut Parser<'_>, kind: Kind) -> Result<Span, P
     if next_is(parser, kind) {
         Ok(take_next(parser))
     } else {
-        refuse(parser)
+        parser.refuse()
     }
-}
-
-/// Takes the next token, and returns the error that it is unexpected. At the end nothing is taken.
-pub(crate) fn refuse<T: Drop>(parser: &mut Parser<'_>) -> Result<T, ParseFailure>
-    ensures gives { Gives (λ x. x) result parser.new (refused_at parser.old) }
-    ensures never { OnOk result ⊥ }
-    ensures rest { IsRest parser.old parser.new }
-{
-    let token = parser.next_token()?;
-    let error = ParseError::unexpected_token(parser.allocator(), token.item)?;
-    Err(ParseFailure::Refused(Spanning::new(token.span, error)))
 }
