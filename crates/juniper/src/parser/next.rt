@@ -1,4 +1,4 @@
-//! The next token.
+//! The next token. One that was looked at is taken by `take_next`, one that has to be there by `expect_kind`.
 ghost use Rattle.std.specs.Prelude.{◌≡◌, ◌<◌, ◌≤◌, length, drop, false, option_map, Ok, OnOk, IfSome};
 ghost use Rattle.std.specs.Str.{chars};
 ghost use Rattle.graphql_lexical.specs.Kinds.{same_kind};

@@ -15,7 +15,7 @@ returns-in-Some-clause-gives g c =
     let word = c.take_next-word in
     rw (
       operation_begins scalars c.args.parser.now c.in-Some.operation_type word.new.parser
-      (sym c.next_operation.ensures ∙ c.in-Some.is) word.ensures.takes,
+          (sym c.next_operation.ensures ∙ c.in-Some.is) word.ensures.takes,
       ← word.ensures.place,
     )
     c.parse_operation.ensures.gives
@@ -27,7 +27,7 @@ returns-then-next_is_word-clause-gives g c =
     let says = says_fragment (first_of c.args.parser.now) _ _ c.next_is_word.ensures.is c.if-next_is_word.true in
     rw (
       fragment_begins scalars c.args.parser.now word.new.parser (sym c.next_operation.ensures ∙ c.in-None.is) says
-      word.ensures.takes,
+          word.ensures.takes,
       ← word.ensures.place,
     )
     c.parse_fragment.ensures.gives
