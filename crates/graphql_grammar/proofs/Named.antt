@@ -118,6 +118,12 @@ module _ {C F A : Type 0} (S : Scalars C F) (f : ℕ → Reader F A) (R : A → 
       → (us : List Lexeme) × (ts ≡ us ++ (t ∷ rest)) × (AtFault Allowed R ts us t × NamedError Allowed S R us t e)
   refused_at n ts rest t e al p =
       let a = at_fault f R r Allowed fills n ts rest t e al p in
-      let w = names n ts rest t e al p in
-      (a.0, a.1, (a.2, subst (λ z. NamedError Allowed S R z t e)
-      (append_cancel_right w.0 a.0 (t ∷ rest) (sym w.1 ∙ a.1)) w.2))
+      let w = names n ts rest t e al p in (
+        a.0,
+        a.1,
+        (
+          a.2,
+          subst (λ z. NamedError Allowed S R z t e)
+              (append_cancel_right w.0 a.0 (t ∷ rest) (sym w.1 ∙ a.1)) w.2,
+        ),
+      )

@@ -108,6 +108,7 @@ module _ {C F : Type 0} (S : Scalars C F) where
   pub fault_in_text : (source : Text) (ts before : List Lexeme) (t : Lexeme) → Cut source ts
       → AtFault IsSpelled (IsDocument S) ts before t
       → BeginsText S source before × (BeginsText S source (before ++ t ∷ []) → ⊥)
-  fault_in_text source ts before t cut h =
-      (begins_text source before t h.after (subst (Cut source) h.whole cut) h.begins,
-      λ b. h.ends (text_begins source (before ++ t ∷ []) b))
+  fault_in_text source ts before t cut h = (
+    begins_text source before t h.after (subst (Cut source) h.whole cut) h.begins,
+    λ b. h.ends (text_begins source (before ++ t ∷ []) b),
+  )
