@@ -58,9 +58,9 @@ refusal_lies source fault h = by_end (one_end source) where
   by_end : HasOneEnd source → LiesIn source fault.span
   by_end (inl (lexemes, c)) =
       let at = h.grammatical lexemes c.cut in
-      let refused = at.refused in
+      let refused = at.refused.0 in
       let lies = tokens_lie source lexemes c.cut in
-      subst (LiesIn source) (sym at.span) (token_among source lexemes refused.before refused.after at.token refused.whole lies)
+      subst (LiesIn source) (sym at.span) (token_among source lexemes at.before refused.after at.token refused.whole lies)
   by_end (inr (error, at, b)) =
       let lies = broken_lies source b.breaks in
       subst (λ (f : errors.Fault). LiesIn source f.span) (sym (h.lexical error at b.breaks))
