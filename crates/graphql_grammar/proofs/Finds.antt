@@ -8,7 +8,7 @@ use Rattle.graphql_lexical.specs.declared.kind.Kind.TheVariants.{Name}
 use Rattle.graphql_lexical.specs.Cutting.{Lexeme}
 use Rattle.graphql_grammar.specs.Tokens.{Word, Text, span_of, from_to}
 use Rattle.graphql_grammar.specs.device.Reading.{Test, passes, of, Read, Took, Reader, after, seq, done, on, want, many, look, choose, maybe, with_span, give_span, one_or_more}
-use Rattle.graphql_lexical.specs.Parts.{Sequence, ◌·◌}
+use Rattle.graphql_lexical.specs.Parts.{◌·◌}
 use Rattle.graphql_grammar.specs.Grammar.{Is, IsName, Says, Each, Optional, Listed}
 use Rattle.graphql_grammar.proofs.Sequences.{token_in, enclosed_span, row_as, row_front, row_back, one_takes, back_takes, row_length, row_before, row_right}
 use Rattle.graphql_grammar.proofs.TokenRules.{on_passed, on_failed, want_passed}
@@ -52,7 +52,7 @@ pub is_starts : {k : Kind} (ts : List Lexeme) → Is k ts → StartsWith k ts
 is_starts ts h = (h.0, h.1, [], h.2)
 
 pub front_starts : {k : Kind} {P Q : List Lexeme → Type 0} → ((ts : List Lexeme) → P ts → StartsWith k ts)
-    → (ts : List Lexeme) → Sequence P Q ts → StartsWith k ts
+    → (ts : List Lexeme) → (P · Q) ts → StartsWith k ts
 front_starts s ts h =
     let t = s h.front h.first in (t.0, t.1, t.2 ++ h.back, h.whole ∙ ap (λ us. us ++ h.back) t.3)
 
@@ -215,7 +215,7 @@ none_found takes = record { at = λ ts rest le h g. absurd (let t = takes ts h i
 
 -- one part, and then the others
 module _ {F A B : Type 0} (k : A → Reader F B) where
-  row_took : {P Q : List Lexeme → Type 0} (f : Reader F A) (ts rest : List Lexeme) (h : Sequence P Q ts) (a : A)
+  row_took : {P Q : List Lexeme → Type 0} (f : Reader F A) (ts rest : List Lexeme) (h : (P · Q) ts) (a : A)
       (r : Read F B) → f (h.front ++ (h.back ++ rest)) ≡ Took a (h.back ++ rest) → k a (h.back ++ rest) ≡ r
       → seq f k (ts ++ rest) ≡ r
   row_took f ts rest h a r e q = ap (seq f k) (row_before ts rest h) ∙ seq_took f k _ (h.back ++ rest) a e ∙ q
@@ -257,8 +257,8 @@ done_found = record { at = λ ts rest le h g. rw h }
 
 -- ---- one token at either end of a row
 
-pub last_one : {P : List Lexeme → Type 0} {k : Kind} (ts : List Lexeme) (h : Sequence P (Is k) ts)
-    → Sequence P (Only (token k h.second.0 h.second.1)) ts
+pub last_one : {P : List Lexeme → Type 0} {k : Kind} (ts : List Lexeme) (h : (P · Is k) ts)
+    → (P · (Only (token k h.second.0 h.second.1))) ts
 last_one ts h = row_as h h.first h.second.2
 
 -- where a row begins or ends with one token, the reader may be told which

@@ -4,18 +4,18 @@ use Rattle.std.proofs.lemmas.List.{append_cancel_right}
 use Rattle.graphql_lexical.specs.declared.kind.Kind.{Kind}
 use Rattle.graphql_lexical.specs.declared.kind.Kind.TheVariants.{BracketOpen, CurlyOpen, EndOfFile}
 use Rattle.graphql_lexical.specs.Cutting.{Lexeme}
-use Rattle.graphql_lexical.specs.laws.Alike.{AllAlike}
+use Rattle.graphql_lexical.specs.laws.Alike.{Alike}
 use Rattle.graphql_grammar.specs.device.Reading.{of, Took, Refused, Reader, fault_of}
 use Rattle.graphql_grammar.specs.Samples.{sample, IsSample}
 use Rattle.graphql_grammar.specs.Tree.{Scalars}
 use Rattle.graphql_grammar.specs.Grammar.{IsScalarKind}
 use Rattle.graphql_grammar.specs.Faults.{Fault, UnexpectedEndOfFile, UnexpectedToken, ScalarError, Begins, ValueMayStand, NamedError, AtFault}
-use Rattle.graphql_grammar.proofs.Rules.{Meets, AllAlike_refl, SameHead_refl}
+use Rattle.graphql_grammar.proofs.Rules.{Meets, alike_refl, SameHead_refl}
 use Rattle.graphql_grammar.proofs.TokenTests.{of_kind}
 use Rattle.graphql_grammar.proofs.Faulty.{Reads, fails_all, value_stands, at_fault}
 use Rattle.graphql_grammar.proofs.NoValues.{NoValueBehind}
 use Rattle.graphql_grammar.proofs.ScalarFaults.{TellsFault, TellsFaults, IsScalarFault}
-use Rattle.std.specs.List.{AllByRecursion}
+use Rattle.std.specs.List.{AllByRecursion, AllZip}
 use Rattle.graphql_grammar.proofs.Alike.{alike_sym, alike_join}
 
 not_scalar_error : {F : Type 0} (b : Bool) (t : Lexeme) (y : F)
@@ -39,9 +39,9 @@ module _ {C F A : Type 0} (S : Scalars C F) (f : ℕ → Reader F A) (R : A → 
       by_agrees : (m : ℕ) → Meets m R (f m) (vs ++ more) (Took a []) → (b : A) × (f m (us ++ (w ∷ more)) ≡ Took b [])
       by_agrees m (ws, e, g, agrees) =
           let same : vs ++ more ≡ ws = e ∙ append-nil ws in
-          let alike : AllAlike (vs ++ more) ((us ++ (w ∷ [])) ++ more) =
-          alike_join vs (us ++ (w ∷ [])) more more (alike_sym (us ++ (w ∷ [])) vs h) (AllAlike_refl more) in
-          let z = agrees ((us ++ (w ∷ [])) ++ more) [] (subst (λ l. AllAlike l ((us ++ (w ∷ [])) ++ more)) same alike)
+          let alike : AllZip Alike (vs ++ more) ((us ++ (w ∷ [])) ++ more) =
+          alike_join vs (us ++ (w ∷ [])) more more (alike_sym (us ++ (w ∷ [])) vs h) (alike_refl more) in
+          let z = agrees ((us ++ (w ∷ [])) ++ more) [] (subst (λ l. AllZip Alike l ((us ++ (w ∷ [])) ++ more)) same alike)
           tt in
           (z.0, ap (f m) (sym (append-nil ((us ++ (w ∷ [])) ++ more) ∙ append_assoc us (w ∷ []) more)) ∙ z.1)
 
@@ -64,7 +64,7 @@ module _ {C F A : Type 0} (S : Scalars C F) (f : ℕ → Reader F A) (R : A → 
       m = n + (b1.0 + b2.0)
 
       refused : f m (us ++ (t ∷ rest)) ≡ Refused (t ∷ rest) e
-      refused = fails_all f R r n m (omega arith) ts us rest t e p q us (t ∷ rest) (AllAlike_refl us)
+      refused = fails_all f R r n m (omega arith) ts us rest t e p q us (t ∷ rest) (alike_refl us)
           (SameHead_refl (t ∷ rest))
 
       by_no_value : (vs : List Lexeme) → vs ≡ us → NoValueBehind strict (f m) vs → ⊥

@@ -1,10 +1,11 @@
 -- What a reader keeps: the rules for readers that give a result, and for one after another.
 use Rattle.std.proofs.Common.{ℕ, zero, suc, Bool, true, false, ◌≡◌, ◌≤◌, ◌+◌, ◌∷◌, [], List, ◌++◌, length, refl, sym, ap, ◌∙◌, arith, append_assoc, subst, length-append, cond, codes, ◌⊎◌}
+use Rattle.std.specs.List.{AllZip}
 use Rattle.std.proofs.lemmas.List.{append_cancel_right}
 use Rattle.graphql_lexical.specs.declared.kind.Kind.{Kind}
 use Rattle.graphql_lexical.specs.declared.kind.Kind.TheVariants.{Name, BracketOpen, CurlyOpen, EndOfFile}
 use Rattle.graphql_lexical.specs.Cutting.{Lexeme}
-use Rattle.graphql_lexical.specs.laws.Alike.{Alike, AllAlike}
+use Rattle.graphql_lexical.specs.laws.Alike.{Alike}
 use Rattle.graphql_grammar.specs.Tokens.{Text}
 use Rattle.graphql_grammar.specs.Samples.{AreSamples}
 use Rattle.graphql_grammar.specs.device.Reading.{of, Read, Took, Refused, Out, Reader, after, seq, done, fault_of}
@@ -25,11 +26,11 @@ less (suc n) (t ∷ ts) = less n ts
 
 -- The reader g goes on in the same way where the tokens that were read, and the next one, are alike.
 abbrev pub Agrees : {F A : Type 0} → List Lexeme → List Lexeme → Reader F A → Type 0
-Agrees {F} {A} us rest g = (us' rest' : List Lexeme) → AllAlike us us' → SameHead rest rest'
+Agrees {F} {A} us rest g = (us' rest' : List Lexeme) → AllZip Alike us us' → SameHead rest rest'
     → (b : A) × (g (us' ++ rest') ≡ Took b rest')
 
 abbrev pub Fails : {F A : Type 0} → List Lexeme → List Lexeme → Fault F → Reader F A → Type 0
-Fails us rest e g = (us' rest' : List Lexeme) → AllAlike us us' → SameHead rest rest'
+Fails us rest e g = (us' rest' : List Lexeme) → AllZip Alike us us' → SameHead rest rest'
     → g (us' ++ rest') ≡ Refused rest' e
 
 -- tokens with which a value can begin, whatever the scalar type reads
@@ -119,7 +120,7 @@ less_below n [] = omega arith
 less_below zero (t ∷ us) = omega arith
 less_below (suc n) (t ∷ us) = omega (arith, less_below n us)
 
-pub same_head : (a b c d : List Lexeme) → AllAlike a b → SameHead c d → SameHead (a ++ c) (b ++ d)
+pub same_head : (a b c d : List Lexeme) → AllZip Alike a b → SameHead c d → SameHead (a ++ c) (b ++ d)
 same_head [] [] c d p q = q
 same_head [] (y ∷ b) c d p q = absurd p
 same_head (x ∷ a) [] c d p q = absurd p
@@ -127,16 +128,16 @@ same_head (x ∷ a) (y ∷ b) c d p q = p.0
 
 -- a list that is alike with two lists in a row is two such lists in a row
 abbrev pub Parts : List Lexeme → List Lexeme → List Lexeme → Type 0
-Parts a b cs = (a' b' : List Lexeme) × (cs ≡ a' ++ b') × AllAlike a a' × AllAlike b b'
+Parts a b cs = (a' b' : List Lexeme) × (cs ≡ a' ++ b') × AllZip Alike a a' × AllZip Alike b b'
 
-pub parts : (a b cs : List Lexeme) → AllAlike (a ++ b) cs → Parts a b cs
+pub parts : (a b cs : List Lexeme) → AllZip Alike (a ++ b) cs → Parts a b cs
 parts [] b cs p = ([], cs, refl, tt, p)
 parts (x ∷ a) b [] p = absurd p
 parts (x ∷ a) b (c ∷ cs) p = let r = parts a b cs p.1 in (c ∷ r.0, r.1, ap (λ l. c ∷ l) r.2, (p.0, r.3), r.4)
 
-pub AllAlike_refl : (ts : List Lexeme) → AllAlike ts ts
-AllAlike_refl [] = tt
-AllAlike_refl (t ∷ ts) = (record { kind = refl; text = refl }, AllAlike_refl ts)
+pub alike_refl : (ts : List Lexeme) → AllZip Alike ts ts
+alike_refl [] = tt
+alike_refl (t ∷ ts) = (record { kind = refl; text = refl }, alike_refl ts)
 
 pub SameHead_refl : (ts : List Lexeme) → SameHead ts ts
 SameHead_refl [] = tt
@@ -156,8 +157,8 @@ module _ {F A B : Type 0} (n : ℕ) (f g : Reader F A) (k l : A → Reader F B) 
 
   -- g takes the first part of a list that is alike
   first_part : (us vs rest last us' rest' : List Lexeme) → rest ≡ vs ++ last → Agrees us rest g
-      → AllAlike (us ++ vs) us' → SameHead last rest'
-      → (b : A) × (mid : List Lexeme) × AllAlike vs mid × (seq g l (us' ++ rest') ≡ l b (mid ++ rest'))
+      → AllZip Alike (us ++ vs) us' → SameHead last rest'
+      → (b : A) × (mid : List Lexeme) × AllZip Alike vs mid × (seq g l (us' ++ rest') ≡ l b (mid ++ rest'))
   first_part us vs rest last us' rest' e p r t =
       let ps : Parts us vs us' = parts us vs us' r in
       let h : SameHead rest (ps.1 ++ rest') = rw e (same_head vs ps.1 last rest' ps.4 t) in
@@ -230,7 +231,7 @@ module _ {F A B : Type 0} (n : ℕ) (f g : Reader F A) (k l : A → Reader F B) 
 
   pub seq_meets : (ts : List Lexeme) (r : Read F A) → Meets n Next g ts r → Meets n G (seq g l) ts (after r k)
   seq_meets ts (Took a rest) (us, e, h, p) =
-      let b = (p us rest (AllAlike_refl us) (SameHead_refl rest)).0 in
+      let b = (p us rest (alike_refl us) (SameHead_refl rest)).0 in
       second_meets ts us rest b e p (k a rest) (λ c. (h c).at rest) ((h b).at rest)
   seq_meets ts (Refused rest x) (us, e, (more, a, h, y), p, z) =
       let s = some_of (less n (us ++ more)) (k a) (l a) (λ y vs. G y ((us ++ more) ++ vs)) (h a) in (

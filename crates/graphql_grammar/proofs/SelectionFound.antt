@@ -9,7 +9,7 @@ use Rattle.graphql_grammar.specs.device.Productions.{directives_of, optional_var
 use Rattle.graphql_grammar.specs.Tree.{Scalars, Arguments, Variables, Selection, Field, FragmentSpread, InlineFragment, Selections, no_selections, selection, Definition, Operation, Fragment, Directives, OptionalSelections, absent, present, operation_name, selections_of}
 use Rattle.graphql_grammar.specs.declared.operation.OperationType.{OperationType}
 use Rattle.graphql_grammar.specs.declared.operation.OperationType.TheVariants.{Query, Mutation, Subscription}
-use Rattle.graphql_lexical.specs.Parts.{Sequence, ◌·◌}
+use Rattle.graphql_lexical.specs.Parts.{◌·◌}
 use Rattle.graphql_grammar.specs.Grammar.{Is, Says, Each, Optional, IsName, IsArguments, IsDirectives, IsVariables, IsAlias, IsTypeCondition, IsFragmentName, IsSelection, IsOptionalSelectionSet, IsSelectionSet, AreSelections, IsDefinition, IsDocument}
 use Rattle.graphql_grammar.proofs.Sequences.{row_front, row_back, row_right, row_left, back_takes, nothing_first, nothing_last}
 use Rattle.graphql_grammar.proofs.TokenTests.{text_other}
@@ -48,7 +48,7 @@ module _ {C F : Type 0} (S : Scalars C F) where
   }
 
   field_starts : (alias : Option Word) (name : Word) {Q : List Lexeme → Type 0} (ts : List Lexeme)
-      → Sequence (Optional (IsAlias S) alias) (Sequence (IsName name) Q) ts → StartsWith Name ts
+      → (Optional (IsAlias S) alias · IsName name · Q) ts → StartsWith Name ts
   field_starts None name ts h = front_starts (λ us w. word_starts us name w) ts (nothing_first ts h)
   field_starts (Some x) name ts h = front_starts (front_starts (λ us w. word_starts us x w)) ts h
 

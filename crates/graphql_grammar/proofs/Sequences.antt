@@ -4,7 +4,7 @@ use Rattle.graphql_lexical.specs.declared.kind.Kind.{Kind}
 use Rattle.graphql_lexical.specs.declared.kind.Kind.TheVariants.{Name}
 use Rattle.graphql_lexical.specs.Cutting.{Lexeme}
 use Rattle.graphql_grammar.specs.Tokens.{Text, word_of, over, last_of, span_of}
-use Rattle.graphql_lexical.specs.Parts.{Sequence}
+use Rattle.graphql_lexical.specs.Parts.{◌·◌}
 use Rattle.graphql_grammar.specs.Grammar.{Token, Is, IsName, Says}
 
 -- ---- one token
@@ -42,31 +42,31 @@ says_takes text ts h = one_takes ts _ h.1
 -- ---- two parts
 
 module _ {P Q : List Lexeme → Type 0} where
-  pub row : (us vs : List Lexeme) → P us → Q vs → Sequence P Q (us ++ vs)
+  pub row : (us vs : List Lexeme) → P us → Q vs → (P · Q) (us ++ vs)
   row us vs p q = record { front = us; back = vs; whole = refl; first = p; second = q }
 
-  pub row_length : (ts : List Lexeme) (h : Sequence P Q ts) → length ts ≡ length h.front + length h.back
+  pub row_length : (ts : List Lexeme) (h : (P · Q) ts) → length ts ≡ length h.front + length h.back
   row_length ts h = ap length h.whole ∙ length-append h.front h.back
 
-  pub front_takes : ((us : List Lexeme) → P us → 0 < length us) → (ts : List Lexeme) → Sequence P Q ts → 0 < length ts
+  pub front_takes : ((us : List Lexeme) → P us → 0 < length us) → (ts : List Lexeme) → (P · Q) ts → 0 < length ts
   front_takes f ts h = let p = f h.front h.first in omega (arith, row_length ts h)
 
-  pub back_takes : ((us : List Lexeme) → Q us → 0 < length us) → (ts : List Lexeme) → Sequence P Q ts → 0 < length ts
+  pub back_takes : ((us : List Lexeme) → Q us → 0 < length us) → (ts : List Lexeme) → (P · Q) ts → 0 < length ts
   back_takes f ts h = let p = f h.back h.second in omega (arith, row_length ts h)
 
   -- the first part begins the list, and others may follow
-  pub row_before : (ts rest : List Lexeme) (h : Sequence P Q ts) → ts ++ rest ≡ h.front ++ (h.back ++ rest)
+  pub row_before : (ts rest : List Lexeme) (h : (P · Q) ts) → ts ++ rest ≡ h.front ++ (h.back ++ rest)
   row_before ts rest h = ap (λ l. l ++ rest) h.whole ∙ append_assoc h.front h.back rest
 
 -- an opening token, a part and a closing token
 pub enclosed : {P : List Lexeme → Type 0} (opening closing : Kind) (o c : Lexeme) (us : List Lexeme)
-    → o.kind ≡ opening → c.kind ≡ closing → P us → Sequence (Is opening) (Sequence P (Is closing)) (o ∷ us ++ (c ∷ []))
+    → o.kind ≡ opening → c.kind ≡ closing → P us → (Is opening · P · Is closing) (o ∷ us ++ (c ∷ []))
 enclosed opening closing o c us a b h =
     row (o ∷ []) (us ++ (c ∷ [])) (kind_is opening o a) (row us (c ∷ []) h (kind_is closing c b))
 
 -- The first two of three parts are a row, or the last two.
-pub row_right : {P Q R : List Lexeme → Type 0} (ts : List Lexeme) → Sequence (Sequence P Q) R ts
-    → Sequence P (Sequence Q R) ts
+pub row_right : {P Q R : List Lexeme → Type 0} (ts : List Lexeme) → ((P · Q) · R) ts
+    → (P · Q · R) ts
 row_right ts h = record {
   front = h.first.front;
   back = h.first.back ++ h.back;
@@ -75,8 +75,8 @@ row_right ts h = record {
   second = row h.first.back h.back h.first.second h.second;
 }
 
-pub row_left : {P Q R : List Lexeme → Type 0} (ts : List Lexeme) → Sequence P (Sequence Q R) ts
-    → Sequence (Sequence P Q) R ts
+pub row_left : {P Q R : List Lexeme → Type 0} (ts : List Lexeme) → (P · Q · R) ts
+    → ((P · Q) · R) ts
 row_left ts h = record {
   front = h.front ++ h.second.front;
   back = h.second.back;
@@ -86,38 +86,38 @@ row_left ts h = record {
 }
 
 -- a part before a token
-pub ended_is : {P : List Lexeme → Type 0} (kind : Kind) (ts : List Lexeme) (h : Sequence P (Is kind) ts)
+pub ended_is : {P : List Lexeme → Type 0} (kind : Kind) (ts : List Lexeme) (h : (P · Is kind) ts)
     → ts ≡ h.front ++ (token_in kind h.back h.second ∷ [])
 ended_is kind ts h = h.whole ∙ ap (λ l. h.front ++ l) h.second.2
 
 -- a part between two tokens
 pub enclosed_is : {P : List Lexeme → Type 0} (opening closing : Kind) (ts : List Lexeme)
-    (h : Sequence (Is opening) (Sequence P (Is closing)) ts)
+    (h : (Is opening · P · Is closing) ts)
     → ts ≡ token_in opening h.front h.first ∷ h.second.front ++ (token_in closing h.second.back h.second.second ∷ [])
 enclosed_is opening closing ts h =
     h.whole ∙ ap₂ (λ us vs. us ++ vs) h.first.2 (ended_is closing h.back h.second)
 
 -- the same parts, taken for others
-pub row_as : {P Q P' Q' : List Lexeme → Type 0} {ts : List Lexeme} (h : Sequence P Q ts) → P' h.front → Q' h.back
-    → Sequence P' Q' ts
+pub row_as : {P Q P' Q' : List Lexeme → Type 0} {ts : List Lexeme} (h : (P · Q) ts) → P' h.front → Q' h.back
+    → (P' · Q') ts
 row_as h p q = record { front = h.front; back = h.back; whole = h.whole; first = p; second = q }
 
 pub row_map : {P Q P' Q' : List Lexeme → Type 0} → ((us : List Lexeme) → P us → P' us)
-    → ((us : List Lexeme) → Q us → Q' us) → (ts : List Lexeme) → Sequence P Q ts → Sequence P' Q' ts
+    → ((us : List Lexeme) → Q us → Q' us) → (ts : List Lexeme) → (P · Q) ts → (P' · Q') ts
 row_map f g ts h = row_as h (f h.front h.first) (g h.back h.second)
 
 pub row_front : {P Q P' : List Lexeme → Type 0} → ((us : List Lexeme) → P us → P' us) → (ts : List Lexeme)
-    → Sequence P Q ts → Sequence P' Q ts
+    → (P · Q) ts → (P' · Q) ts
 row_front f ts h = row_map f (λ us q. q) ts h
 
 pub row_back : {P Q Q' : List Lexeme → Type 0} → ((us : List Lexeme) → Q us → Q' us) → (ts : List Lexeme)
-    → Sequence P Q ts → Sequence P Q' ts
+    → (P · Q) ts → (P · Q') ts
 row_back g ts h = row_map (λ us p. p) g ts h
 
-pub nothing_first : {P : List Lexeme → Type 0} (ts : List Lexeme) → Sequence (λ us. us ≡ []) P ts → P ts
+pub nothing_first : {P : List Lexeme → Type 0} (ts : List Lexeme) → ((λ us. us ≡ []) · P) ts → P ts
 nothing_first ts h = rw (h.whole, h.first) h.second
 
-pub nothing_last : {P : List Lexeme → Type 0} (ts : List Lexeme) → P ts → Sequence P (λ us. us ≡ []) ts
+pub nothing_last : {P : List Lexeme → Type 0} (ts : List Lexeme) → P ts → (P · (λ us. us ≡ [])) ts
 nothing_last ts h = record { front = ts; back = []; whole = sym (append-nil ts); first = h; second = refl }
 
 -- ---- spans
@@ -130,7 +130,7 @@ pub over_enclosed : (o c : Lexeme) (us : List Lexeme) → over o c ≡ span_of (
 over_enclosed o c us = ap (over o) (sym (last_joined o c us []))
 
 pub enclosed_span : {P : List Lexeme → Type 0} (opening closing : Kind) (ts : List Lexeme)
-    (h : Sequence (Is opening) (Sequence P (Is closing)) ts)
+    (h : (Is opening · P · Is closing) ts)
     → span_of ts ≡ over (token_in opening h.front h.first) (token_in closing h.second.back h.second.second)
 enclosed_span opening closing ts h =
     ap span_of (enclosed_is opening closing ts h) ∙ sym (over_enclosed _ _ h.second.front)

@@ -1,12 +1,12 @@
 -- What begins a document in tokens begins one in characters.
-use Rattle.std.proofs.Common.{◌≡◌, inl, inr, List, [], ◌∷◌, ◌++◌, length, refl, sym, ap, ap₂, ◌∙◌, subst, arith, length-append}
-use Rattle.std.specs.List.{AllByRecursion}
+use Rattle.std.proofs.Common.{codes, ◌≡◌, inl, inr, List, [], ◌∷◌, ◌++◌, length, refl, sym, ap, ap₂, ◌∙◌, subst, arith, length-append}
+use Rattle.std.specs.List.{AllByRecursion, AllZip}
 use Rattle.graphql_lexical.specs.declared.kind.Kind.{Kind}
 use Rattle.graphql_lexical.specs.declared.kind.Kind.TheVariants.{EndOfFile}
 use Rattle.graphql_lexical.specs.Tokens.{Spells}
 use Rattle.graphql_lexical.specs.Cutting.{Lexeme, Cut}
-use Rattle.graphql_lexical.specs.laws.Alike.{AllAlike}
-use Rattle.graphql_lexical.specs.laws.Spacing.{after_space, IsSpaced}
+use Rattle.graphql_lexical.specs.laws.Alike.{Alike}
+use Rattle.graphql_lexical.specs.laws.Spacing.{IsSpaced}
 use Rattle.graphql_lexical.proofs.Public.{goes_on_spaced}
 use Rattle.graphql_grammar.specs.Tokens.{Text, IsSpelled}
 use Rattle.graphql_grammar.specs.Tree.{Scalars}
@@ -14,7 +14,7 @@ use Rattle.graphql_grammar.specs.Grammar.{IsDocument}
 use Rattle.graphql_grammar.specs.Faults.{NoEnd, Begins, AtFault}
 use Rattle.graphql_grammar.specs.Texts.{BeginsText}
 use Rattle.graphql_grammar.proofs.Elements.{all_front}
-use Rattle.graphql_grammar.proofs.Rules.{AllAlike_refl}
+use Rattle.graphql_grammar.proofs.Rules.{alike_refl}
 use Rattle.graphql_grammar.proofs.Alike.{alike_sym, alike_join}
 use Rattle.graphql_grammar.proofs.Ends.{document_ends}
 use Rattle.graphql_grammar.proofs.Spelling.{cut_spelled, cut_ends}
@@ -36,7 +36,7 @@ no_end_before (u ∷ us) next after (x ∷ inner) end e h =
     let tails : us ++ next ∷ after ≡ inner ++ end ∷ [] = cc in
     (subst (λ (t : Lexeme). t.kind ≡ EndOfFile → ⊥) heads h.0, no_end_before us next after inner end tails h.1)
 
-no_end_alike : (us vs : List Lexeme) → AllAlike us vs → NoEnd us → NoEnd vs
+no_end_alike : (us vs : List Lexeme) → AllZip Alike us vs → NoEnd us → NoEnd vs
 no_end_alike [] [] a h = tt
 no_end_alike [] (v ∷ vs) a h = absurd a
 no_end_alike (u ∷ us) [] a h = absurd a
@@ -65,7 +65,7 @@ spaced [] h s = ([], refl)
 spaced (t ∷ ts) h s = by_first s.0 (spaced ts h.1 s.1)
   where
     by_first : IsSpelled t → (text : Text) × IsSpaced text ts → (text : Text) × IsSpaced text (t ∷ ts)
-    by_first (inl (whole, spells)) r = (whole ++ after_space r.0, (whole, r.0, refl, spells, r.1))
+    by_first (inl (whole, spells)) r = (whole ++ (codes " " ++ r.0), (whole, r.0, refl, spells, r.1))
     by_first (inr x) r = absurd (h.0 x.0)
 
 -- ---- documents
@@ -87,23 +87,23 @@ module _ {C F : Type 0} (S : Scalars C F) where
       let g = goes_on_spaced source before next after others text.0 cut text.1 in
       let end_spelled = all_back IsSpelled g.added (g.end ∷ []) (all_back IsSpelled before (g.added ++ g.end ∷ [])
       (cut_spelled _ _ g.cut)) in
-      let end_alike : AllAlike (ends.end ∷ []) (g.end ∷ []) = (
+      let end_alike : AllZip Alike (ends.end ∷ []) (g.end ∷ []) = (
         record {
           kind = ends.is_end ∙ sym g.is_end;
           text = end_text ends.end last.0 ends.is_end ∙ sym (end_text g.end end_spelled.0 g.is_end);
         },
         tt,
       ) in
-      let all_alike : AllAlike (front ++ more) (before ++ (g.added ++ g.end ∷ [])) =
+      let all_alike : AllZip Alike (front ++ more) (before ++ (g.added ++ g.end ∷ [])) =
       alike_join front before more (g.added ++ g.end ∷ []) (alike_sym before front alike)
-      (subst (λ (ts : List Lexeme). AllAlike ts (g.added ++ g.end ∷ [])) (sym b.1)
+      (subst (λ (ts : List Lexeme). AllZip Alike ts (g.added ++ g.end ∷ [])) (sym b.1)
       (alike_join others g.added (ends.end ∷ []) (g.end ∷ []) (alike_sym g.added others g.alike) end_alike)) in
       let d = document_alike S (front ++ more) (before ++ (g.added ++ g.end ∷ [])) tree all_alike document in
       (text.0, g.added ++ g.end ∷ [], d.0, g.cut, d.1)
 
   text_begins : (source : Text) (ts : List Lexeme) → BeginsText S source ts → Begins IsSpelled (IsDocument S) ts
   text_begins source ts (further, after, tree, cut, document) =
-      (ts, after, tree, AllAlike_refl ts, document, cut_spelled _ _ cut)
+      (ts, after, tree, alike_refl ts, document, cut_spelled _ _ cut)
 
   pub fault_in_text : (source : Text) (ts before : List Lexeme) (t : Lexeme) → Cut source ts
       → AtFault IsSpelled (IsDocument S) ts before t

@@ -1,11 +1,12 @@
 -- The grammar sees no span: a list of tokens without spans has the tree without spans.
 use Rattle.std.proofs.Common.{Bool, ◌≡◌, ◌∷◌, [], List, refl, sym, ap, ap₂, ◌∙◌, inl, inr, Option, Some, None, map, true, false}
+use Rattle.std.specs.List.{AllZip}
 use Rattle.std.proofs.lemmas.List.{map-append}
 use Rattle.graphql_lexical.specs.declared.kind.Kind.{Kind}
 use Rattle.graphql_lexical.specs.declared.kind.Kind.TheVariants.{Name, ExclamationMark, Dollar, ParenOpen, ParenClose, BracketOpen, BracketClose, CurlyOpen, CurlyClose, Ellipsis, Colon, Equals, At, EndOfFile}
 use Rattle.graphql_lexical.specs.Place.{Span}
 use Rattle.graphql_lexical.specs.Cutting.{Lexeme}
-use Rattle.graphql_lexical.specs.laws.Alike.{AllAlike}
+use Rattle.graphql_lexical.specs.laws.Alike.{Alike}
 use Rattle.graphql_grammar.specs.Tokens.{Text, Word, last_of, nowhere, span_of}
 use Rattle.graphql_grammar.specs.Tree.{Scalars, Value, Null, Scalar, Enum, Variable, ListOf, Object, Items, no_items, item, ObjectFields, no_fields, object_field, TypeRef, NamedType, ListType, NonNullType, Argument, Arguments, Directive, Directives, VariableDefinition, Variables, Selection, Field, FragmentSpread, InlineFragment, Selections, no_selections, selection, OptionalSelections, absent, present, Definition, Operation, Fragment}
 use Rattle.graphql_lexical.specs.Parts.{◌·◌}
@@ -19,7 +20,7 @@ bare t = record { kind = t.kind; text = t.text; span = nowhere }
 abbrev pub all_bare : List Lexeme → List Lexeme
 all_bare ts = map bare ts
 
-pub alike_bare : (ts us : List Lexeme) → AllAlike ts us → all_bare ts ≡ all_bare us
+pub alike_bare : (ts us : List Lexeme) → AllZip Alike ts us → all_bare ts ≡ all_bare us
 alike_bare [] [] h = refl
 alike_bare [] (u ∷ us) h = absurd h
 alike_bare (t ∷ ts) [] h = absurd h

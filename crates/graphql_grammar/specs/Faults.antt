@@ -3,11 +3,11 @@
 -- R says which whole lists of tokens are something, and what: documents, values or types. `Allowed` says of which
 -- tokens the lists are that are asked about: of all tokens, or of those that a text spells.
 use Rattle.std.specs.Prelude.{Bool, ◌≡◌, ◌≢◌, codes, Err, IsErr, List, [], ◌∷◌, ◌++◌}
-use Rattle.std.specs.List.{AllByRecursion}
+use Rattle.std.specs.List.{AllByRecursion, AllZip}
 use Rattle.graphql_lexical.specs.declared.kind.Kind.{Kind}
 use Rattle.graphql_lexical.specs.declared.kind.Kind.TheVariants.{EndOfFile, BracketOpen, CurlyOpen, Name}
 use Rattle.graphql_lexical.specs.Cutting.{Lexeme}
-use Rattle.graphql_lexical.specs.laws.Alike.{AllAlike}
+use Rattle.graphql_lexical.specs.laws.Alike.{Alike}
 use Rattle.graphql_grammar.specs.Tokens.{Text, IsSpelled}
 use Rattle.graphql_grammar.specs.Samples.{token_of}
 use Rattle.graphql_grammar.specs.Tree.{Scalars}
@@ -37,7 +37,7 @@ AnyToken t = Unit {0}
 module _ (Allowed : Lexeme → Type 0) where
   -- Some list of allowed tokens that R admits has a prefix that is alike with ts.
   abbrev pub Begins : {A : Type 0} → (A → List Lexeme → Type 0) → List Lexeme → Type 0
-  Begins {A} R ts = (front more : List Lexeme) × (a : A) × AllAlike ts front × R a (front ++ more) × AllByRecursion Allowed (front ++ more)
+  Begins {A} R ts = (front more : List Lexeme) × (a : A) × AllZip Alike ts front × R a (front ++ more) × AllByRecursion Allowed (front ++ more)
 
   -- The list is refused at t: the tokens before t begin something, and with t they don't.
   pub record AtFault {A : Type 0} (R : A → List Lexeme → Type 0) (ts before : List Lexeme) (t : Lexeme) : Type 0 where

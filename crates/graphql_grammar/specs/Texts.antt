@@ -1,7 +1,7 @@
 -- Where a text is refused, in characters.
-use Rattle.std.specs.Prelude.{List, ◌++◌}
+use Rattle.std.specs.Prelude.{List, ◌++◌, codes}
 use Rattle.graphql_lexical.specs.Cutting.{Lexeme, Cut}
-use Rattle.graphql_lexical.specs.laws.Spacing.{after_space, up_to}
+use Rattle.graphql_lexical.specs.laws.Spacing.{up_to}
 use Rattle.graphql_grammar.specs.Tokens.{Text}
 use Rattle.graphql_grammar.specs.Tree.{Scalars, Definition}
 use Rattle.graphql_grammar.specs.Grammar.{IsDocument}
@@ -10,4 +10,4 @@ module _ {C F : Type 0} (S : Scalars C F) where
   -- The source up to the end of the last of these tokens, then a space and some further text, is a document's text. Its
   -- first tokens are these, with their spans.
   abbrev pub BeginsText : Text → List Lexeme → Type 0
-  BeginsText source ts = (further : Text) × (after : List Lexeme) × (tree : List (Definition C)) × Cut (up_to source ts ++ after_space further) (ts ++ after) × IsDocument S tree (ts ++ after)
+  BeginsText source ts = (further : Text) × (after : List Lexeme) × (tree : List (Definition C)) × Cut (up_to source ts ++ (codes " " ++ further)) (ts ++ after) × IsDocument S tree (ts ++ after)

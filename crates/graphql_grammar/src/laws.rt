@@ -1,8 +1,8 @@
 //! Laws of the document grammar.
 ghost use Rattle.std.specs.Prelude.{◌≡◌, ◌<◌, ◌⊎◌, ◌++◌, ℕ, List, [], Bool, length, take, ◌∷◌};
-ghost use Rattle.std.specs.List.{AllByRecursion};
+ghost use Rattle.std.specs.List.{AllByRecursion, AllZip};
 ghost use Rattle.graphql_lexical.specs.Cutting.{Lexeme, Cut};
-ghost use Rattle.graphql_lexical.specs.laws.Alike.{Alike, AllAlike};
+ghost use Rattle.graphql_lexical.specs.laws.Alike.{Alike};
 ghost use Rattle.graphql_lexical.specs.Nesting.{opened, closed};
 ghost use Rattle.graphql_grammar.specs.Tokens.{IsSpelled, span_of};
 ghost use Rattle.graphql_grammar.specs.Tree.{Scalars, Value, TypeRef, Definition};
@@ -71,13 +71,13 @@ pub fn refused_in_front<C, F>()
 /// Lists that are alike are both documents, whose trees differ in spans alone, or are both refused, after tokens that are
 /// alike and at tokens that are, with the same error.
 pub fn alike_documents<C, F>()
-    ensures accepted { (S : Scalars C F) (ts us : List Lexeme) (a : List (Definition C)) → AllAlike ts us → IsDocument S a ts → (b : List (Definition C)) × IsDocument S b us × SameDocument a b }
-    ensures refused { (S : Scalars C F) (ts us before : List Lexeme) (t : Lexeme) (e : Fault F) → AllAlike ts us → DocumentRefusedAt S ts before t e → (front : List Lexeme) × (u : Lexeme) × AllAlike before front × Alike t u × DocumentRefusedAt S us front u e }
+    ensures accepted { (S : Scalars C F) (ts us : List Lexeme) (a : List (Definition C)) → AllZip Alike ts us → IsDocument S a ts → (b : List (Definition C)) × IsDocument S b us × SameDocument a b }
+    ensures refused { (S : Scalars C F) (ts us before : List Lexeme) (t : Lexeme) (e : Fault F) → AllZip Alike ts us → DocumentRefusedAt S ts before t e → (front : List Lexeme) × (u : Lexeme) × AllZip Alike before front × Alike t u × DocumentRefusedAt S us front u e }
 {}
 
 /// Lists that are alike are both values, which differ in spans alone, or neither is one.
 pub fn alike_values<C, F>()
-    ensures { (S : Scalars C F) (free : Bool) (ts us : List Lexeme) (a : Value C) → AllAlike ts us → IsValue S free a ts → (b : Value C) × IsValue S free b us × SameValue a b }
+    ensures { (S : Scalars C F) (free : Bool) (ts us : List Lexeme) (a : Value C) → AllZip Alike ts us → IsValue S free a ts → (b : Value C) × IsValue S free b us × SameValue a b }
 {}
 
 /// Each scalar token of a document is one that the scalar type reads.

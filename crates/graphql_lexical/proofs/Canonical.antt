@@ -1,5 +1,6 @@
 -- The canonical text of a source is cut into tokens alike with the source's.
 use Rattle.std.proofs.Common.{◌≡◌, ℕ, ◌+◌, ◌⊎◌, inl, inr, Bool, true, false, not, ◌&&◌, ◌||◌, List, [], ◌∷◌, ◌++◌, take, drop, Result, Ok, IsTrue, refl, sym, ap, ap₂, ◌∙◌, subst}
+use Rattle.std.specs.List.{AllZip}
 use Rattle.graphql_lexical.specs.Kinds.{Kind, ExclamationMark, Dollar, ParenOpen, ParenClose, BracketOpen, BracketClose, CurlyOpen, CurlyClose, Ellipsis, Colon, Equals, At, Pipe, EndOfFile, Fixed, spelling, is_fixed, same_kind}
 use Rattle.graphql_lexical.specs.Tokens.{Spells, quotes, written}
 use Rattle.graphql_lexical.specs.device.Whole.{Admits, IsToken, between, text_of}
@@ -7,7 +8,7 @@ use Rattle.graphql_lexical.specs.Reading.{Reads}
 use Rattle.graphql_lexical.specs.Cutting.{Lexeme, CutFrom, Cut}
 use Rattle.graphql_lexical.specs.Canonical.{is_parted, space_if, parting, canonical}
 use Rattle.graphql_lexical.specs.device.Scan.{Broken}
-use Rattle.graphql_lexical.specs.laws.Alike.{AllAlike}
+use Rattle.graphql_lexical.specs.laws.Alike.{Alike}
 use Rattle.graphql_lexical.specs.laws.Joining.{BeginsApart}
 use Rattle.graphql_lexical.specs.laws.Canonical.{KeepsTokens, TellsTokens, IsItsOwn}
 use Rattle.graphql_lexical.proofs.EachKind.{each_kind}
@@ -15,6 +16,7 @@ use Rattle.graphql_lexical.proofs.Slices.{front_read}
 use Rattle.graphql_lexical.proofs.Cuts.{cut_computes}
 use Rattle.graphql_lexical.proofs.Writing.{nothing_cut, no_lexeme, lone_lexeme, token_cut, white_cut}
 use Rattle.graphql_lexical.proofs.Wholes.{spells_token, token_spells}
+use Rattle.graphql_lexical.proofs.Readings.{read_end, read_token}
 
 -- ---- tokens as they are written
 
@@ -25,10 +27,10 @@ record IsSpelled (kind : Kind) (text : List ℕ) : Type 0 where
 
 read_spelled : (rest : List ℕ) (n : ℕ) (kind : Kind) (text : List ℕ) → Reads rest n kind text → (kind ≡ EndOfFile → ⊥)
     → IsSpelled kind text
-read_spelled [] n kind text r none = absurd (none r.1)
+read_spelled [] n kind text r none = absurd (none (read_end n kind text r).1)
 read_spelled (c ∷ cs) n kind text r none =
     let front = (front_read (c ∷ cs) n kind text r).front in
-    let s = spells_token (take n (c ∷ cs)) kind text r.spells in
+    let s = spells_token (take n (c ∷ cs)) kind text (read_token c cs n kind text r).1 in
     record {
       spells = subst (λ (t : List ℕ). IsToken t kind) front s.0;
       text_is = s.1 ∙ ap (text_of kind) front;
@@ -36,8 +38,9 @@ read_spelled (c ∷ cs) n kind text r none =
 
 pub no_text : (rest : List ℕ) (n : ℕ) (kind : Kind) (text : List ℕ) → Reads rest n kind text → kind ≡ EndOfFile
     → text ≡ []
-no_text [] n kind text r e = r.2
-no_text (c ∷ cs) n kind text r e = absurd (subst (λ (k : Kind). Spells (take n (c ∷ cs)) k text) e r.spells)
+no_text [] n kind text r e = (read_end n kind text r).2
+no_text (c ∷ cs) n kind text r e = 
+    absurd (subst (λ (k : Kind). Spells (take n (c ∷ cs)) k text) e (read_token c cs n kind text r).1)
 
 -- ---- what may stand behind a token
 
@@ -120,7 +123,7 @@ may_follow source kind xs k c = by_kind (is_fixed kind) refl
 
 -- ---- lists that are alike
 
-pub alike_trans : (xs ys zs : List Lexeme) → AllAlike xs ys → AllAlike ys zs → AllAlike xs zs
+pub alike_trans : (xs ys zs : List Lexeme) → AllZip Alike xs ys → AllZip Alike ys zs → AllZip Alike xs zs
 alike_trans [] [] [] a b = tt
 alike_trans (x ∷ xs) (y ∷ ys) (z ∷ zs) a b =
     (record { kind = a.0.kind ∙ b.0.kind; text = a.0.text ∙ b.0.text }, alike_trans xs ys zs a.1 b.1)
@@ -129,7 +132,7 @@ alike_trans [] (y ∷ ys) zs a b = absurd a
 alike_trans (x ∷ xs) [] zs a b = absurd a
 alike_trans (x ∷ xs) (y ∷ ys) [] a b = absurd b
 
-pub alike_sym : (xs ys : List Lexeme) → AllAlike xs ys → AllAlike ys xs
+pub alike_sym : (xs ys : List Lexeme) → AllZip Alike xs ys → AllZip Alike ys xs
 alike_sym [] [] a = tt
 alike_sym (x ∷ xs) (y ∷ ys) a = (record { kind = sym a.0.kind; text = sym a.0.text }, alike_sym xs ys a.1)
 alike_sym [] (y ∷ ys) a = absurd a
@@ -138,21 +141,21 @@ alike_sym (x ∷ xs) [] a = absurd a
 -- ---- the tokens are kept
 
 space_cut : (b : Bool) (rest : List ℕ) (us : List Lexeme) → Cut rest us
-    → (vs : List Lexeme) × Cut (space_if b ++ rest) vs × AllAlike vs us
+    → (vs : List Lexeme) × Cut (space_if b ++ rest) vs × AllZip Alike vs us
 space_cut true rest us c = white_cut 32 rest us refl c
 space_cut false rest us c = (us, c, alike_self us)
   where
-    alike_self : (xs : List Lexeme) → AllAlike xs xs
+    alike_self : (xs : List Lexeme) → AllZip Alike xs xs
     alike_self [] = tt
     alike_self (x ∷ xs) = (record { kind = refl; text = refl }, alike_self xs)
 
 parted_cut : (kind : Kind) (xs us : List Lexeme) → Cut (canonical xs) us
-    → (vs : List Lexeme) × Cut (parting kind xs ++ canonical xs) vs × AllAlike vs us
+    → (vs : List Lexeme) × Cut (parting kind xs ++ canonical xs) vs × AllZip Alike vs us
 parted_cut kind [] us c = space_cut false [] us c
 parted_cut kind (x ∷ xs) us c = space_cut (is_parted kind x.kind) (canonical (x ∷ xs)) us c
 
 keeps_from : (source : List ℕ) (xs : List Lexeme) (k : ℕ) → CutFrom source k xs
-    → (ys : List Lexeme) × Cut (canonical xs) ys × AllAlike ys xs
+    → (ys : List Lexeme) × Cut (canonical xs) ys × AllZip Alike ys xs
 keeps_from source [] k c = absurd c
 keeps_from source (x ∷ xs) k (n, s, inl (end, none)) =
     let text = no_text (drop (k + s.gap) source) s.size x.kind x.text s.reads end in
@@ -161,7 +164,7 @@ keeps_from source (x ∷ xs) k (n, s, inl (end, none)) =
     ∙ ap₂ (λ (i : Kind) (t : List ℕ). written i t ++ []) end text in (
       no_lexeme ∷ [],
       subst (λ (t : List ℕ). Cut t (no_lexeme ∷ [])) (sym empty) nothing_cut,
-      subst (λ (ys : List Lexeme). AllAlike (no_lexeme ∷ []) (x ∷ ys)) (sym none)
+      subst (λ (ys : List Lexeme). AllZip Alike (no_lexeme ∷ []) (x ∷ ys)) (sym none)
           (record { kind = sym end; text = sym text }, tt),
     )
 keeps_from source (x ∷ xs) k (n, s, inr (no_end, c)) =
@@ -183,13 +186,13 @@ keeps_tokens source xs c = keeps_from source xs 0 c
 
 -- ---- alike tokens have one canonical text
 
-same_parting : (i j : Kind) (xs ys : List Lexeme) → i ≡ j → AllAlike xs ys → parting i xs ≡ parting j ys
+same_parting : (i j : Kind) (xs ys : List Lexeme) → i ≡ j → AllZip Alike xs ys → parting i xs ≡ parting j ys
 same_parting i j [] [] e a = refl
 same_parting i j (x ∷ xs) (y ∷ ys) e a = ap₂ (λ (p q : Kind). space_if (is_parted p q)) e a.0.kind
 same_parting i j [] (y ∷ ys) e a = absurd a
 same_parting i j (x ∷ xs) [] e a = absurd a
 
-pub same_canonical : (xs ys : List Lexeme) → AllAlike xs ys → canonical xs ≡ canonical ys
+pub same_canonical : (xs ys : List Lexeme) → AllZip Alike xs ys → canonical xs ≡ canonical ys
 same_canonical [] [] a = refl
 same_canonical (x ∷ xs) (y ∷ ys) a =
     let parts : parting x.kind xs ≡ parting y.kind ys = same_parting x.kind y.kind xs ys a.0.kind a.1 in
@@ -204,12 +207,12 @@ only_cut source xs ys a b = same_list xs ys (sym (cut_computes source xs a) ∙ 
     same_list : (x y : List Lexeme) → ◌≡◌ {A = Result (List Lexeme) Broken} (Ok x) (Ok y) → x ≡ y
     same_list x y e = cc
 
-same_tokens : (a b : List ℕ) (xs ys : List Lexeme) → Cut a xs → Cut b ys → canonical xs ≡ canonical ys → AllAlike xs ys
+same_tokens : (a b : List ℕ) (xs ys : List Lexeme) → Cut a xs → Cut b ys → canonical xs ≡ canonical ys → AllZip Alike xs ys
 same_tokens a b xs ys c d e =
     let k = keeps_tokens a xs c in
     let l = keeps_tokens b ys d in
     let same : k.0 ≡ l.0 = only_cut (canonical ys) k.0 l.0 (subst (λ (t : List ℕ). Cut t k.0) e k.1) l.1 in
-    alike_trans xs k.0 ys (alike_sym k.0 xs k.2) (subst (λ (z : List Lexeme). AllAlike z ys) (sym same) l.2)
+    alike_trans xs k.0 ys (alike_sym k.0 xs k.2) (subst (λ (z : List Lexeme). AllZip Alike z ys) (sym same) l.2)
 
 pub tells_tokens : (a b : List ℕ) → TellsTokens a b
 tells_tokens a b xs ys c d = (same_tokens a b xs ys c d, same_canonical xs ys)
@@ -218,4 +221,4 @@ pub is_its_own : (source : List ℕ) → IsItsOwn source
 is_its_own source xs ys c d =
     let k = keeps_tokens source xs c in
     let same : ys ≡ k.0 = only_cut (canonical xs) ys k.0 d k.1 in
-    same_canonical ys xs (subst (λ (z : List Lexeme). AllAlike z xs) (sym same) k.2)
+    same_canonical ys xs (subst (λ (z : List Lexeme). AllZip Alike z xs) (sym same) k.2)

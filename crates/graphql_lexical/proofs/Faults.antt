@@ -6,7 +6,7 @@ use Rattle.std.proofs.lemmas.Option.{none-some}
 use Rattle.std.specs.Prelude.{option_map}
 use Rattle.graphql_lexical.specs.Characters.{is_digit, is_line_end, is_source, is_plain, is_escape}
 use Rattle.graphql_lexical.specs.Kinds.{Kind, Name, String, Float, Int, Ellipsis, LexicalError, UnknownCharacter, UnexpectedCharacter, UnterminatedString, UnknownCharacterInString, UnknownEscapeSequence, UnexpectedEndOfFile, BlockString}
-use Rattle.graphql_lexical.specs.Tokens.{IsZero, IsNumber, AreUnits, mark}
+use Rattle.graphql_lexical.specs.Tokens.{IsZero, IsNumber, Pieces, IsUnit, mark}
 use Rattle.graphql_lexical.specs.Reading.{StringFails, at_end, at_line_end, at_control, lone_backslash, wrong_escape, Fails, number_ends, number_stops, zero_goes_on, string_fails, dots_end, dots_stop, unknown, block_ends, block_stops}
 use Rattle.graphql_lexical.specs.device.Machines.{reach}
 use Rattle.graphql_lexical.specs.device.Scan.{State, Start, Done, OneDot, TwoDots, InName, Minus, Zero, Digits, Point, Fraction, ExponentMark, ExponentSign, Exponent, InString, Backslash, NoHexDigit, OneHexDigit, HexDigitD, TwoHexDigits, ThreeHexDigits, step, Missed, found, missed, stopped, after_zero, after_dots, after_units, after_backslash, after_u, answer, scan, Quote, EmptyString, InBlock, Block, Inside, Closed, block_step, after_block}
@@ -68,7 +68,7 @@ record Opened (tail : List ℕ) (n : ℕ) (rest : List ℕ) : Type 0 where
   units : List ℕ
   size : n ≡ suc (length units + length tail)
   rest_is : rest ≡ 34 ∷ (units ++ (tail ++ drop n rest))
-  made : AreUnits units
+  made : Pieces IsUnit units
 
 opened : (tail : List ℕ) (n : ℕ) (rest : List ℕ) → n ≤ length rest → IsOpen tail (take n rest) → Opened tail n rest
 opened tail n rest l h = record {
@@ -80,14 +80,14 @@ opened tail n rest l h = record {
   made = h.made;
 }
 
-string_from : (units after : List ℕ) (m : ℕ) (e : LexicalError) → AreUnits units → NoUnit after → StringFails after m e
+string_from : (units after : List ℕ) (m : ℕ) (e : LexicalError) → Pieces IsUnit units → NoUnit after → StringFails after m e
     → Fails (34 ∷ (units ++ after)) (suc (length units) + m) e
 string_from units after m e made none f =
     let k = length units in
     let t : take k (units ++ after) ≡ units = take_at units after k refl in
     let d : drop k (units ++ after) ≡ after = drop_at units after k refl in
     string_fails (units_longest (units ++ after) k (omega (arith, length-append units after))
-    (subst AreUnits (sym t) made) (subst NoUnit (sym d) none)) (subst (λ (x : List ℕ). StringFails x m e) (sym d) f)
+    (subst (Pieces IsUnit) (sym t) made) (subst NoUnit (sym d) none)) (subst (λ (x : List ℕ). StringFails x m e) (sym d) f)
 
 string_missed : (tail : List ℕ) (n : ℕ) (rest : List ℕ) (q : State) (m : ℕ) (e : LexicalError) → Reached rest n q
     → IsOpen tail (take n rest) → NoUnit (tail ++ drop n rest) → StringFails (tail ++ drop n rest) m e → (at : ℕ)

@@ -7,7 +7,7 @@ use Rattle.std.proofs.lemmas.Bool.{eqb-true}
 use Rattle.std.proofs.lemmas.Option.{none-some, same_Some}
 use Rattle.graphql_lexical.specs.Characters.{is_digit, is_name_character, is_exponent_mark, is_sign, is_hex}
 use Rattle.graphql_lexical.specs.Kinds.{Kind, String, Ellipsis, all_kinds, Fixed, spelling, character_of}
-use Rattle.graphql_lexical.specs.Tokens.{IsZero, IsUnit, plain, escape, unicode, AreUnits, is_character, punctuator, mark}
+use Rattle.graphql_lexical.specs.Tokens.{IsZero, IsUnit, plain, escape, unicode, Pieces, is_character, punctuator, mark}
 use Rattle.graphql_lexical.specs.device.Whole.{Admits, IsToken}
 use Rattle.graphql_lexical.specs.device.Numbers.{ReadName, ReadDigits, ReadLongInteger, ReadInteger, ReadFraction, ReadExponent}
 use Rattle.graphql_lexical.specs.device.Scan.{State, Start, Done, OneDot, TwoDots, InName, Minus, Zero, Digits, Point, Fraction, ExponentMark, ExponentSign, Exponent, InString, Backslash, NoHexDigit, OneHexDigit, HexDigitD, TwoHexDigits, ThreeHexDigits, is_hex_d, step, Quote, EmptyString, InBlock, Block, Inside, block_step}
@@ -24,7 +24,7 @@ IsBase base = (whole : List ℕ) × (fraction : List ℕ) × (base ≡ whole ++ 
 pub record IsOpen (tail text : List ℕ) : Type 0 where
   pub units : List ℕ
   pub text_is : text ≡ 34 ∷ units ++ tail
-  pub made : AreUnits units
+  pub made : Pieces IsUnit units
 
 abbrev pub IsRead : State → List ℕ → Type 0
 IsRead Start t = t ≡ []
@@ -79,7 +79,7 @@ pub All_push : (P : ℕ → Type 0) (xs : List ℕ) (c : ℕ) → AllByRecursion
 All_push P [] c h p = (p, tt)
 All_push P (x ∷ xs) c h p = (h.0, All_push P xs c h.1 p)
 
-pub units_then : (us u : List ℕ) → AreUnits us → IsUnit u → AreUnits (us ++ u)
+pub units_then : (us u : List ℕ) → Pieces IsUnit us → IsUnit u → Pieces IsUnit (us ++ u)
 units_then us u h x = (h.0 ++ u ∷ [], pieces_then h.0 u h.1 x, rw (h.2) (concat_then h.0 u))
   where
     pieces_then : (ps : List (List ℕ)) (u : List ℕ) → AllByRecursion IsUnit ps → IsUnit u

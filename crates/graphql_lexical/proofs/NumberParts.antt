@@ -1,12 +1,12 @@
 -- Names and numbers as the grammar of tokens writes them, and as their parts: the same.
 use Rattle.std.proofs.Common.{◌≡◌, ◌↔◌, ◌⊎◌, ℕ, Bool, List, [], ◌∷◌, ◌++◌, IsTrue, codes, refl, sym, ap, ap₂, ◌∙◌, subst, inl, inr, arith, append-nil}
 use Rattle.graphql_lexical.specs.Characters.{is_digit, is_nonzero_digit, is_sign}
-use Rattle.graphql_lexical.specs.Parts.{Sequence, ◌·◌, ◌or◌}
+use Rattle.graphql_lexical.specs.Parts.{◌·◌, ◌or◌}
 use Rattle.graphql_lexical.specs.Tokens.{These, One, Any, Maybe, IsName, AreDigits, IsInteger, IsFraction, IsExponent, IsFloat}
 use Rattle.graphql_lexical.specs.device.Numbers.{ReadName, ReadDigits, ReadInteger, ReadFraction, ReadExponent, ReadFloat}
 
 -- a part of one character, and what follows
-first_and_more : {is : ℕ → Bool} {Q : List ℕ → Type 0} (t : List ℕ) (h : Sequence (One is) Q t) → t ≡ h.first.0 ∷ h.back
+first_and_more : {is : ℕ → Bool} {Q : List ℕ → Type 0} (t : List ℕ) (h : (One is · Q) t) → t ≡ h.first.0 ∷ h.back
 first_and_more t h = h.whole ∙ ap (λ (l : List ℕ). l ++ h.back) h.first.1
 
 -- one character, and then a part

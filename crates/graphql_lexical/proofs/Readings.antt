@@ -4,9 +4,9 @@ use Rattle.std.proofs.lemmas.Option.{none-some, same_Some}
 use Rattle.std.proofs.lemmas.Bool.{cond-false}
 use Rattle.graphql_lexical.specs.Characters.{is_digit, is_line_end}
 use Rattle.graphql_lexical.specs.Kinds.{Kind, Name, String, BlockString, Float, Int, EndOfFile, LexicalError, UnexpectedCharacter, UnterminatedString, UnknownCharacterInString, UnknownEscapeSequence}
-use Rattle.graphql_lexical.specs.Tokens.{Starts, IsZero}
+use Rattle.graphql_lexical.specs.Tokens.{Spells, Starts, IsZero}
 use Rattle.graphql_lexical.specs.device.Whole.{IsToken, text_of}
-use Rattle.graphql_lexical.specs.Reading.{counted, Longest, ReadsToken, Reads}
+use Rattle.graphql_lexical.specs.Reading.{counted, Longest, Reads}
 use Rattle.graphql_lexical.specs.device.Machines.{reach}
 use Rattle.graphql_lexical.specs.device.Scan.{State, Start, Done, OneDot, TwoDots, InName, Minus, Zero, Digits, Point, Fraction, ExponentMark, ExponentSign, Exponent, InString, Backslash, NoHexDigit, OneHexDigit, HexDigitD, TwoHexDigits, ThreeHexDigits, step, Found, Missed, found, missed, stopped, after_zero, after_dots, after_units, after_backslash, after_u, answer, scan, Quote, EmptyString, InBlock, Closed, after_block}
 use Rattle.graphql_lexical.proofs.Runs.{Reaches, reach_is, Longest_same}
@@ -165,30 +165,65 @@ some_read rest zero q kind h a = let e = same_Some Start q h.runs in absurd (non
 some_read rest (suc n) q kind h a = omega arith
 
 finds_reads : (rest : List ℕ) (n : ℕ) (q : State) (f : Found) → Reached rest n q → Finds q n rest f
-    → ReadsToken rest f.size f.kind f.text
+    → Reads rest f.size f.kind f.text
 finds_reads rest n q f h g =
-    subst (λ (k : ℕ). ReadsToken rest k f.kind f.text) g.size_is (record {
+    subst (λ (k : ℕ). Reads rest k f.kind f.text) g.size_is (record {
       longest = starts_longest rest n q h;
-      some = some_read rest n q f.kind h g.accepted;
       spells =
-          token_spells (take n rest) f.kind f.text (accepts_spells q f.kind (take n rest) g.accepted (front_read rest n q h))
-          g.text_is;
+          inl (token_spells (take n rest) f.kind f.text
+          (accepts_spells q f.kind (take n rest) g.accepted (front_read rest n q h)) g.text_is);
       alone = λ z. g.alone (zero_state (take n rest) q h.runs z);
     })
+
+pub end_reads : Reads [] 0 EndOfFile []
+end_reads = record {
+  longest = let r = reach step Start [] in starts_longest [] r.0 r.1 (reached []);
+  spells = inr (refl, refl, refl);
+  alone = λ z c after e. absurd cc;
+}
+
+-- no token has no characters
+pub no_empty : (kind : Kind) → IsToken [] kind → ⊥
+no_empty kind s = let r = spells_run [] kind s in start_no_token r.state kind r.runs r.accepted
+  where
+    start_no_token : (q : State) (kind : Kind) → Goes Start [] q → accepts q ≡ Some kind → ⊥
+    start_no_token Start kind g a = none-some kind a
+    start_no_token _ kind g a = absurd cc
+
+-- where nothing is left, the end is read
+pub read_end : (n : ℕ) (kind : Kind) (text : List ℕ) → Reads [] n kind text
+    → (n ≡ 0) × (kind ≡ EndOfFile) × (text ≡ [])
+read_end zero kind text r = elim r.spells [
+  | inl s ↦ absurd (no_empty kind (spells_token [] kind text s).0)
+  | inr e ↦ (refl, e.1, e.2)
+]
+read_end (suc n) kind text r = absurd (omega (arith, r.longest.within))
+
+-- where something is left, a token is read, which isn't empty
+pub read_token : (c : ℕ) (cs : List ℕ) (n : ℕ) (kind : Kind) (text : List ℕ) → Reads (c ∷ cs) n kind text
+    → (0 < n) × Spells (take n (c ∷ cs)) kind text
+read_token c cs n kind text r = elim r.spells [
+  | inl s ↦ (some n s, s)
+  | inr e ↦ absurd (let g = e.0 in cc)
+]
+  where
+    some : (n : ℕ) → Spells (take n (c ∷ cs)) kind text → 0 < n
+    some zero s = absurd (no_empty kind (spells_token [] kind text s).0)
+    some (suc n) s = omega arith
 
 pub scan_reads : (rest : List ℕ) (f : Found) → scan rest ≡ Ok f → Reads rest f.size f.kind f.text
 scan_reads [] f e =
     subst (λ (x : Found). Reads [] x.size x.kind x.text)
-    (same_Ok (record { size = 0; kind = EndOfFile; text = [] }) f e) (refl, refl, refl)
+    (same_Ok (record { size = 0; kind = EndOfFile; text = [] }) f e) end_reads
 scan_reads (c ∷ cs) f e =
     let r = reach step Start (c ∷ cs) in
     finds_reads (c ∷ cs) r.0 r.1 f (reached (c ∷ cs)) (answer_finds r.1 r.0 c cs f e)
 
-reads_answer : (rest : List ℕ) (m n : ℕ) (q : State) (kind : Kind) (text : List ℕ) → ReadsToken rest n kind text
-    → Reached rest m q → answer q m rest ≡ Ok (record { size = n; kind = kind; text = text })
-reads_answer rest m n q kind text r h =
+reads_answer : (rest : List ℕ) (m n : ℕ) (q : State) (kind : Kind) (text : List ℕ) → Reads rest n kind text
+    → Spells (take n rest) kind text → Reached rest m q → answer q m rest ≡ Ok (record { size = n; kind = kind; text = text })
+reads_answer rest m n q kind text r spells h =
     let same : n ≡ m = Longest_same Starts rest n m r.longest (starts_longest rest m q h) in
-    let s = spells_token (take n rest) kind text r.spells in
+    let s = spells_token (take n rest) kind text spells in
     let spelled : IsToken (take m rest) kind = subst (λ (k : ℕ). IsToken (take k rest) kind) same s.0 in
     let a = spells_accepts (take m rest) q kind h.runs spelled in
     let alone : q ≡ Zero → NoDigit (drop m rest) =
@@ -198,7 +233,7 @@ reads_answer rest m n q kind text r h =
 
 pub reads_scan : (rest : List ℕ) (n : ℕ) (kind : Kind) (text : List ℕ) → Reads rest n kind text
     → scan rest ≡ Ok (record { size = n; kind = kind; text = text })
-reads_scan [] n kind text r = rw (r.0, r.1, r.2)
+reads_scan [] n kind text r = let e = read_end n kind text r in rw (e.0, e.1, e.2)
 reads_scan (c ∷ cs) n kind text r =
     let x = reach step Start (c ∷ cs) in
-    reads_answer (c ∷ cs) x.0 n x.1 kind text r (reached (c ∷ cs))
+    reads_answer (c ∷ cs) x.0 n x.1 kind text r (read_token c cs n kind text r).1 (reached (c ∷ cs))

@@ -1,14 +1,14 @@
 -- Behind a front of a source tokens go on after a space.
-use Rattle.std.proofs.Common.{◌≡◌, ℕ, ◌≤◌, inl, inr, List, [], ◌∷◌, ◌++◌, length, take, Some, refl, sym, ap, ◌∙◌, subst, append_assoc, zero-le, le_refl}
-use Rattle.std.specs.List.{last_or}
+use Rattle.std.proofs.Common.{codes, ◌≡◌, ℕ, ◌≤◌, inl, inr, List, [], ◌∷◌, ◌++◌, length, take, Some, refl, sym, ap, ◌∙◌, subst, append_assoc, zero-le, le_refl}
+use Rattle.std.specs.List.{last_or, AllZip}
 use Rattle.std.specs.Option.{option_map_or}
 use Rattle.std.proofs.lemmas.List.{take_all}
 use Rattle.graphql_lexical.specs.Place.{Place, place, place_after}
 use Rattle.graphql_lexical.specs.Cutting.{Lexeme, Leads, Cut}
-use Rattle.graphql_lexical.specs.laws.Alike.{AllAlike}
+use Rattle.graphql_lexical.specs.laws.Alike.{Alike}
 use Rattle.graphql_lexical.specs.laws.Joining.{BeginsApart, IsSeam}
 use Rattle.graphql_lexical.specs.laws.Written.{Bare, AreOf, IsCutInto}
-use Rattle.graphql_lexical.specs.laws.Spacing.{after_space, up_to, IsSpaced, GoesOn, GoesOnSpaced}
+use Rattle.graphql_lexical.specs.laws.Spacing.{up_to, IsSpaced, GoesOn, GoesOnSpaced}
 use Rattle.graphql_lexical.proofs.Slices.{place_index}
 use Rattle.graphql_lexical.proofs.Cuts.{stands_size, cut_front}
 use Rattle.graphql_lexical.proofs.Joints.{after_front, front_joins, few_tokens}
@@ -18,10 +18,10 @@ use Rattle.graphql_lexical.proofs.Fronts.{leads_shorter}
 -- ---- a space
 
 -- no token runs over it
-space_apart : (text : List ℕ) → BeginsApart (after_space text)
+space_apart : (text : List ℕ) → BeginsApart (codes " " ++ text)
 space_apart text = inl refl
 
-writes_space : (text : List ℕ) (bs : List Bare) → IsCutInto text bs → IsCutInto (after_space text) bs
+writes_space : (text : List ℕ) (bs : List Bare) → IsCutInto text bs → IsCutInto (codes " " ++ text) bs
 writes_space text bs = writes_white 32 text bs refl
 
 -- ---- what is spelled with spaces is cut
@@ -30,7 +30,7 @@ abbrev bares : List Lexeme → List Bare
 bares [] = []
 bares (x ∷ xs) = record { kind = x.kind; text = x.text } ∷ bares xs
 
-alike_bares : (xs others : List Lexeme) → AreOf xs (bares others) → AllAlike xs others
+alike_bares : (xs others : List Lexeme) → AreOf xs (bares others) → AllZip Alike xs others
 alike_bares [] [] h = tt
 alike_bares [] (y ∷ others) h = absurd h
 alike_bares (x ∷ xs) [] h = absurd h
@@ -39,7 +39,7 @@ alike_bares (x ∷ xs) (y ∷ others) h = (record { kind = h.0; text = h.1 }, al
 spaced_cut : (text : List ℕ) (others : List Lexeme) → IsSpaced text others → IsCutInto text (bares others)
 spaced_cut text [] h = subst (λ (t : List ℕ). IsCutInto t []) (sym h) writes_nothing
 spaced_cut text (x ∷ xs) (whole, rest, e, spells, more) =
-    let w = writes_token whole x.kind x.text (after_space rest) (bares xs) spells (inr (space_apart rest))
+    let w = writes_token whole x.kind x.text (codes " " ++ rest) (bares xs) spells (inr (space_apart rest))
     (writes_space rest (bares xs) (spaced_cut rest xs more)) in
     subst (λ (t : List ℕ). IsCutInto t (bares (x ∷ xs))) (sym e) w
 
@@ -70,7 +70,7 @@ whole_place : (a : List ℕ) → place_after a ≡ place a (length a)
 whole_place a = ap place_after (sym (take_all (length a) a (le_refl (length a))))
 
 space_is_seam : (source : List ℕ) (front : List Lexeme) (n : ℕ) (text : List ℕ) → Leads source 0 front n
-    → IsSeam (take n source) front (after_space text)
+    → IsSeam (take n source) front (codes " " ++ text)
 space_is_seam source [] n text h = inl (ap (λ (i : ℕ). take i source) (sym h))
 space_is_seam source (x ∷ xs) n text h =
     let r = last_ends source x xs 0 n h in
@@ -79,10 +79,10 @@ space_is_seam source (x ∷ xs) n text h =
 -- ---- the law
 
 goes_on : (source : List ℕ) (front others : List Lexeme) (n : ℕ) (text : List ℕ) → Leads source 0 front n
-    → IsSpaced text others → GoesOn (take n source ++ after_space text) front others
+    → IsSpaced text others → GoesOn (take n source ++ (codes " " ++ text)) front others
 goes_on source front others n text h spaced =
     let a : List ℕ = take n source in
-    let b : List ℕ = after_space text in
+    let b : List ℕ = codes " " ++ text in
     let w = writes_space text (bares others) (spaced_cut text others spaced) in
     let lead = front_joins a b front n (leads_shorter source front 0 n zero-le h)
     (space_is_seam source front n text h) in
@@ -103,5 +103,5 @@ goes_on source front others n text h spaced =
 pub goes_on_spaced : (source : List ℕ) → GoesOnSpaced source
 goes_on_spaced source front next after others text cut spaced =
     let f = cut_front source front next after 0 cut in
-    subst (λ (t : List ℕ). GoesOn (t ++ after_space text) front others) (sym (front_is source front f.0 f.1))
+    subst (λ (t : List ℕ). GoesOn (t ++ (codes " " ++ text)) front others) (sym (front_is source front f.0 f.1))
     (goes_on source front others f.0 text f.1 spaced)

@@ -7,7 +7,7 @@ use Rattle.std.proofs.lemmas.Option.{none-some}
 use Rattle.std.specs.Prelude.{option_map}
 use Rattle.graphql_lexical.specs.Characters.{is_digit, is_line_end, is_source, is_plain, is_escape}
 use Rattle.graphql_lexical.specs.Kinds.{Kind, Name, Float, Int, LexicalError, UnexpectedCharacter, UnterminatedString, UnknownEscapeSequence, String}
-use Rattle.graphql_lexical.specs.Tokens.{Starts, IsZero, IsNumber, StartsNumber, AreUnits, mark}
+use Rattle.graphql_lexical.specs.Tokens.{Starts, IsZero, IsNumber, StartsNumber, Pieces, IsUnit, mark}
 use Rattle.graphql_lexical.specs.Reading.{Longest, counted, StringFails, at_end, at_line_end, at_control, lone_backslash, wrong_escape, short_unicode, wrong_unicode, no_unicode, Fails, number_ends, number_stops, zero_goes_on, string_fails, dots_end, dots_stop, unknown, block_ends, block_stops}
 use Rattle.graphql_lexical.specs.device.Machines.{reach, onward}
 use Rattle.graphql_lexical.specs.device.Scan.{State, Start, Done, OneDot, TwoDots, InName, Minus, Zero, Digits, Point, Fraction, ExponentMark, ExponentSign, Exponent, InString, Backslash, NoHexDigit, OneHexDigit, HexDigitD, TwoHexDigits, ThreeHexDigits, step, Found, Missed, missed, stopped, after_zero, after_units, after_backslash, after_u, answer, scan, Quote, EmptyString, InBlock, Block, Closed, after_block}
@@ -198,7 +198,7 @@ quote_answer front after m error p q (inl e) f =
     same _ _ _ (wrong_unicode {after} l s) = refl
     same _ _ _ (no_unicode {c} {after} z) = refl
 
-string_scan : (more : List ℕ) (k m : ℕ) (error : LexicalError) → Longest AreUnits more k
+string_scan : (more : List ℕ) (k m : ℕ) (error : LexicalError) → Longest (Pieces IsUnit) more k
     → StringFails (drop k more) m error → scan (34 ∷ more) ≡ missed (suc k + m) error
 string_scan more k m error l f =
     let front : List ℕ = 34 ∷ take k more in

@@ -2,7 +2,7 @@
 use Rattle.std.proofs.Common.{◌≡◌, ℕ, suc, ◌+◌, ◌-◌, ◌*◌, List, [], ◌∷◌, ◌++◌, length, take, sym, ap, ap₂, subst, ◌∙◌, refl, arith, length-append, codes}
 use Rattle.std.proofs.Math.Seq.{take-append_seam, drop-append_seam}
 use Rattle.graphql_lexical.specs.Kinds.{Kind, Spelling, Names, Strings, BlockStrings, Floats, Ints, Fixed, NoText, spelling}
-use Rattle.graphql_lexical.specs.Tokens.{AreUnits, AreBlockUnits, mark, quotes, around, SpelledAs, Spells, Starts}
+use Rattle.graphql_lexical.specs.Tokens.{Pieces, IsUnit, AreBlockUnits, mark, quotes, around, SpelledAs, Spells, Starts}
 use Rattle.graphql_lexical.specs.device.Whole.{Admits, IsToken, between, text_of}
 
 -- a text between quotes without its quotes
@@ -35,7 +35,7 @@ pub spelled_as : (s : Spelling) (whole text : List ℕ) → Admits s whole → t
     → SpelledAs s whole text
 spelled_as Names whole text h e = (h, e)
 spelled_as Strings whole text (units, w, h) e =
-    subst (λ (t : List ℕ). (whole ≡ codes "\"" ++ (t ++ codes "\"")) × AreUnits t)
+    subst (λ (t : List ℕ). (whole ≡ codes "\"" ++ (t ++ codes "\"")) × Pieces IsUnit t)
     (sym (in_quotes whole units w) ∙ sym e) (w, h)
 spelled_as BlockStrings whole text (units, w, h) e =
     subst (λ (t : List ℕ). (whole ≡ mark ++ (t ++ mark)) × AreBlockUnits t mark)

@@ -1,5 +1,5 @@
 -- Which texts are tokens.
-use Rattle.std.specs.Prelude.{◌≡◌, ◌≢◌, ℕ, ◌+◌, ◌-◌, ◌*◌, ◌<◌, ◌⊎◌, List, [], ◌∷◌, ◌++◌, take, IsTrue, nat_le, ◌==◌, if◌then◌else◌, Option, Bool, false, codes}
+use Rattle.std.specs.Prelude.{◌≡◌, ◌≢◌, ℕ, List, [], ◌∷◌, ◌++◌, take, IsTrue, ◌==◌, Option, Bool, false, codes}
 use Rattle.std.specs.List.{AllByRecursion, concat, find}
 use Rattle.std.specs.Option.{option_map_or}
 use Rattle.graphql_lexical.specs.Parts.{◌·◌, ◌or◌, Nothing}
@@ -58,25 +58,15 @@ IsFloat = IsInteger · (IsFraction or Maybe IsFraction · IsExponent)
 
 -- ---- strings
 
-abbrev pub hex_value : ℕ → ℕ
-hex_value c = if nat_le c 57 then c - 48 else (if nat_le c 70 then c - 55 else c - 87)
-
--- the number that four hexadecimal digits write
-abbrev pub hex_number : ℕ → ℕ → ℕ → ℕ → ℕ
-hex_number h i j k = 4096 * hex_value h + (256 * hex_value i + (16 * hex_value j + hex_value k))
-
--- four hexadecimal digits, whose number isn't from D800 to DFFF
+-- Four hexadecimal digits, where a D comes before an octal digit: their number isn't from D800 to DFFF.
 abbrev pub IsScalar : ℕ → ℕ → ℕ → ℕ → Type 0
-IsScalar h i j k = Any is_hex (h ∷ i ∷ j ∷ k ∷ []) × ((hex_number h i j k < 55296) ⊎ (57343 < hex_number h i j k))
+IsScalar h i j k = Any is_hex (h ∷ i ∷ j ∷ k ∷ []) × (IsTrue (is_among (codes "Dd") h) → IsTrue (is_among (codes "01234567") i))
 
 -- what a string is made of
 pub data IsUnit : List ℕ → Type 0 where
   plain : {c : ℕ} → IsTrue (is_plain c) → IsUnit (c ∷ [])
   escape : {c : ℕ} → IsTrue (is_escape c) → IsUnit (codes "\\" ++ c ∷ [])
   unicode : {h i j k : ℕ} → IsScalar h i j k → IsUnit (codes "\\u" ++ h ∷ i ∷ j ∷ k ∷ [])
-
-abbrev pub AreUnits : List ℕ → Type 0
-AreUnits = Pieces IsUnit
 
 -- ---- block strings
 
@@ -101,7 +91,7 @@ pub data AreBlockUnits : List ℕ → List ℕ → Type 0 where
 -- quotes, that of a block string what stands between its triple quotes.
 abbrev pub SpelledAs : Spelling → List ℕ → List ℕ → Type 0
 SpelledAs Names whole text = IsName whole × (text ≡ whole)
-SpelledAs Strings whole text = (whole ≡ codes "\"" ++ (text ++ codes "\"")) × AreUnits text
+SpelledAs Strings whole text = (whole ≡ codes "\"" ++ (text ++ codes "\"")) × Pieces IsUnit text
 SpelledAs BlockStrings whole text = (whole ≡ mark ++ (text ++ mark)) × AreBlockUnits text mark
 SpelledAs Floats whole text = IsFloat whole × (text ≡ whole)
 SpelledAs Ints whole text = IsInteger whole × (text ≡ whole)

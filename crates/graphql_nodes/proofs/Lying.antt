@@ -11,7 +11,7 @@ use Rattle.graphql_lexical.proofs.Public.{steps_by_characters, slices_in_order}
 use Rattle.graphql_grammar.specs.Tokens.{Text, Word, last_of, span_of}
 use Rattle.graphql_grammar.specs.Tree as tree
 use Rattle.graphql_grammar.specs.Tree.{Scalars, TypeRef, Value, Items, no_items, item, ObjectFields, no_fields, object_field, Argument, Arguments, Directive, Directives, VariableDefinition, Variables, Selection, Selections, no_selections, selection, OptionalSelections, absent, present, Definition}
-use Rattle.graphql_lexical.specs.Parts.{Sequence}
+use Rattle.graphql_lexical.specs.Parts.{◌·◌}
 use Rattle.graphql_grammar.specs.Grammar.{Token, Is, IsValue, AreItems, AreFields, Each, Optional, Several, Listed, IsType, IsArgument, IsArguments, IsDirective, IsDirectives, IsDefault, IsVariableDefinition, IsVariables, IsAlias, IsSelection, IsOptionalSelectionSet, IsSelectionSet, AreSelections, IsDefinition, IsDocument}
 use Rattle.graphql_nodes.specs.declared.kind.NodeKind.{NodeKind}
 use Rattle.graphql_nodes.specs.declared.kind.NodeKind.TheVariants as kind
@@ -84,7 +84,7 @@ module _ (source : List ℕ) where
     token_lies : (kind : Kind) (text : Text) → Token kind text span ts → Lie ts → LiesIn source span
     token_lies kind text e h = (subst Lie e h).0
 
-  module _ {P Q : List Lexeme → Type 0} (ts : List Lexeme) (h : Sequence P Q ts) (lie : Lie ts) where
+  module _ {P Q : List Lexeme → Type 0} (ts : List Lexeme) (h : (P · Q) ts) (lie : Lie ts) where
     parts_lie : Lie h.front × Lie h.back
     parts_lie = all_of_each (λ t. LiesIn source t.span) h.front h.back (subst Lie h.whole lie)
 
@@ -105,7 +105,7 @@ module _ {C F : Type 0} (S : Scalars C F) (source : List ℕ) where
       → (Lie source ts → LiesIn source p) → Within ts inner → Within ts (over k p l inner)
   above ts k p l inner f h = record { lie = λ m. (f m, h.lie m) }
 
-  module _ {P Q : List Lexeme → Type 0} (ts : List Lexeme) (h : Sequence P Q ts) where
+  module _ {P Q : List Lexeme → Type 0} (ts : List Lexeme) (h : (P · Q) ts) where
     -- both parts have nodes
     joined : (ms ns : List (Node C)) → (P h.front → Within h.front ms) → (Q h.back → Within h.back ns)
         → Within ts (ms ++ ns)
@@ -125,7 +125,7 @@ module _ {C F : Type 0} (S : Scalars C F) (source : List ℕ) where
 
   -- in brackets
   bracketed : {P : List Lexeme → Type 0} (opening closing : Kind) (ts : List Lexeme) (ns : List (Node C))
-      → ((us : List Lexeme) → P us → Within us ns) → Sequence (Is opening) (Sequence P (Is closing)) ts → Within ts ns
+      → ((us : List Lexeme) → P us → Within us ns) → (Is opening · P · Is closing) ts → Within ts ns
   bracketed opening closing ts ns f h = behind ts h ns (λ q. before h.back q ns (f q.front))
 
   each_lies : {A : Type 0} (R : A → List Lexeme → Type 0) (nodes : A → List (Node C))

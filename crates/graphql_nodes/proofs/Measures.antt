@@ -10,7 +10,7 @@ use Rattle.graphql_lexical.specs.Cutting.{Lexeme}
 use Rattle.graphql_grammar.specs.Tokens.{Text, Word}
 use Rattle.graphql_grammar.specs.Tree as tree
 use Rattle.graphql_grammar.specs.Tree.{Scalars, TypeRef, Value, Items, no_items, item, ObjectFields, no_fields, object_field, Argument, Arguments, Directive, Directives, VariableDefinition, Variables, Selection, Selections, no_selections, selection, OptionalSelections, absent, present, Definition}
-use Rattle.graphql_lexical.specs.Parts.{Sequence}
+use Rattle.graphql_lexical.specs.Parts.{◌·◌}
 use Rattle.graphql_grammar.specs.Grammar.{Token, Is, IsName, Says, IsScalarKind, IsValue, AreItems, AreFields, Each, Optional, Several, Listed, IsType, IsArgument, IsArguments, IsDirective, IsDirectives, IsDefault, IsVariableDefinition, IsVariables, IsAlias, IsSelection, IsOptionalSelectionSet, IsSelectionSet, AreSelections, IsDefinition, IsDocument}
 use Rattle.graphql_grammar.proofs.Public.{token_in, name_in, row_front, row_right}
 use Rattle.graphql_nodes.specs.declared.kind.NodeKind.{NodeKind}
@@ -89,7 +89,7 @@ module _ {C F : Type 0} (S : Scalars C F) (measure : Node C → ℕ) (weight : L
       → Within ts (over n p l [])
   one_token ts t n p l u e = subst (λ ts. Within ts (over n p l [])) (sym e) (node t [] n p l [] u nothing)
 
-  module _ {P Q : List Lexeme → Type 0} (ts : List Lexeme) (h : Sequence P Q ts) where
+  module _ {P Q : List Lexeme → Type 0} (ts : List Lexeme) (h : (P · Q) ts) where
     -- both parts have nodes
     joined : (ms ns : List (Node C)) → (P h.front → Within h.front ms) → (Q h.back → Within h.back ns)
         → Within ts (ms ++ ns)
@@ -115,12 +115,12 @@ module _ {C F : Type 0} (S : Scalars C F) (measure : Node C → ℕ) (weight : L
   -- in brackets, of which the first is the node's
   bracketed : {P : List Lexeme → Type 0} (opening closing : Kind) (ts : List Lexeme) (k : NodeKind) (p : Span)
       (inner : List (Node C)) → ((us : List Lexeme) → P us → Within us inner)
-      → Sequence (Is opening) (Sequence P (Is closing)) ts → Within ts (over k p Unnamed inner)
+      → (Is opening · P · Is closing) ts → Within ts (over k p Unnamed inner)
   bracketed opening closing ts k p inner f h =
       headed ts h (is_one opening) k p Unnamed inner tt (λ q. before h.back q inner (f q.front))
 
   -- the first part is the token of a node over the first nodes of the second one's
-  headed_before : {P Q : List Lexeme → Type 0} (ts : List Lexeme) (h : Sequence P Q ts) → AreOne P → (k : NodeKind)
+  headed_before : {P Q : List Lexeme → Type 0} (ts : List Lexeme) (h : (P · Q) ts) → AreOne P → (k : NodeKind)
       (p : Span) (l : Label) (inner ns : List (Node C)) → IsUntyped l → (Q h.back → Within h.back (inner ++ ns))
       → Within ts (over k p l inner ++ ns)
   headed_before ts h one k p l inner ns u g = let t = one h.front h.first in let w = g h.second in
@@ -269,7 +269,7 @@ module _ {C F : Type 0} (S : Scalars C F) (measure : Node C → ℕ) (weight : L
   alias_within ts w h = headed ts h (word_one w) _ _ _ [] tt (λ q. none h.back)
 
   -- a field's node is its name's
-  field_within : {P W Q : List Lexeme → Type 0} (ts : List Lexeme) (h : Sequence P (Sequence W Q) ts) → AreOne W
+  field_within : {P W Q : List Lexeme → Type 0} (ts : List Lexeme) (h : (P · W · Q) ts) → AreOne W
       → (k : NodeKind) (p : Span) (l : Label) (ms ns : List (Node C)) → IsUntyped l
       → (P h.front → Within h.front ms) → (Q h.second.back → Within h.second.back ns)
       → Within ts (over k p l (ms ++ ns))

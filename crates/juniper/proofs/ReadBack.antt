@@ -9,7 +9,7 @@ use Rattle.graphql_lexical.specs.Tokens.{IsName}
 use Rattle.graphql_lexical.specs.laws.Written.{Bare, AreOf}
 use Rattle.graphql_grammar.specs.Tokens.{Text, nowhere, span_of}
 use Rattle.graphql_grammar.specs.Tree.{Value, Null, Scalar, Enum, Variable, ListOf, Object, Items, no_items, item, ObjectFields, no_fields, object_field, TypeRef, NamedType, ListType, NonNullType}
-use Rattle.graphql_lexical.specs.Parts.{◌·◌, Sequence}
+use Rattle.graphql_lexical.specs.Parts.{◌·◌}
 use Rattle.graphql_grammar.specs.Grammar.{Token, Is, IsValue, AreItems, AreFields, IsType}
 use Rattle.graphql_grammar.specs.Unlocated.{unlocated_value, unlocated_items, unlocated_fields}
 use Rattle.graphql_grammar.proofs.Public.{IsNullable, name_nullable, list_nullable, row, row_as, row_map, row_front, row_back, token_is}
@@ -115,8 +115,8 @@ type_read_back name ms n w =
 -- ---- values
 
 -- the part between two tokens, taken for another one
-inside : {O P R P' : List Lexeme → Type 0} {ts : List Lexeme} (h : Sequence O (Sequence P R) ts)
-    → P' h.second.front → Sequence O (Sequence P' R) ts
+inside : {O P R P' : List Lexeme → Type 0} {ts : List Lexeme} (h : (O · P · R) ts)
+    → P' h.second.front → (O · P' · R) ts
 inside h p = row_as h h.first (row_as h.second p h.second.second)
 
 record IsBack (ts : List Lexeme) (v : input.Value Content) : Type 0 where

@@ -1,7 +1,8 @@
 -- Two lists of tokens, refused alike.
 use Rattle.std.specs.Prelude.{◌≡◌, List}
+use Rattle.std.specs.List.{AllZip}
 use Rattle.graphql_lexical.specs.Cutting.{Lexeme}
-use Rattle.graphql_lexical.specs.laws.Alike.{Alike, AllAlike}
+use Rattle.graphql_lexical.specs.laws.Alike.{Alike}
 use Rattle.graphql_grammar.specs.Faults as grammar
 use Rattle.graphql_grammar.specs.Faults.{DocumentRefusedAt}
 use Rattle.graphql_grammar.specs.Tree.{Scalars}
@@ -11,7 +12,7 @@ use Rattle.juniper_tokens.specs.Errors.{Error, Fault}
 pub record AreRefusedAlike {C : Type 0} (S : Scalars C Error) (ts us : List Lexeme) (f g : Fault) : Type 0 where
   pub before : List Lexeme
   pub other_before : List Lexeme
-  pub fronts : AllAlike before other_before
+  pub fronts : AllZip Alike before other_before
   pub token : Lexeme
   pub other : Lexeme
   pub tokens : Alike token other

@@ -4,11 +4,11 @@
 //! The laws of the token grammar, of the document grammar, of tokens, of input values and of answer values stand in modules
 //! of their own.
 ghost use Rattle.std.specs.Prelude.{◌≡◌, ◌⊎◌, ℕ, List};
-ghost use Rattle.std.specs.List.{AllByRecursion};
+ghost use Rattle.std.specs.List.{AllByRecursion, AllZip};
 ghost use Rattle.graphql_lexical.specs.Place.{Span};
 ghost use Rattle.graphql_lexical.specs.Tokens.{IsName};
 ghost use Rattle.graphql_lexical.specs.Cutting.{Lexeme, Cut};
-ghost use Rattle.graphql_lexical.specs.laws.Alike.{AllAlike};
+ghost use Rattle.graphql_lexical.specs.laws.Alike.{Alike};
 ghost use Rattle.graphql_grammar.specs.Grammar.{IsDocument};
 ghost use Rattle.graphql_grammar.specs.ScalarTokens.{IsRead, IsReadAlso};
 ghost use Rattle.graphql_grammar.specs.Tree.{Definition, Scalars};
@@ -72,9 +72,9 @@ pub fn one_answer_within<S: ScalarValue>()
 /// Two source texts whose tokens are alike, in kinds and texts, are both documents, whose trees differ in spans alone,
 /// or are both refused at the same token's number with the same error.
 pub fn alike_texts<S: ScalarValue>()
-    ensures accepted { (a b : List ℕ) (ts us : List Lexeme) (x : List (Definition Content)) → Cut a ts → Cut b us → AllAlike ts us
+    ensures accepted { (a b : List ℕ) (ts us : List Lexeme) (x : List (Definition Content)) → Cut a ts → Cut b us → AllZip Alike ts us
         → HasTree (stated S.reading S.of_bool) a x → (y : List (Definition Content)) × HasTree (stated S.reading S.of_bool) b y × SameDocument x y }
-    ensures refused { (a b : List ℕ) (ts us : List Lexeme) (f : Fault) → Cut a ts → Cut b us → AllAlike ts us
+    ensures refused { (a b : List ℕ) (ts us : List Lexeme) (f : Fault) → Cut a ts → Cut b us → AllZip Alike ts us
         → IsRefusal (stated S.reading S.of_bool) a f → (g : Fault) × IsRefusal (stated S.reading S.of_bool) b g × AreRefusedAlike (stated S.reading S.of_bool) ts us f g }
 {}
 

@@ -8,7 +8,7 @@ use Rattle.graphql_lexical.specs.declared.kind.Kind.{Kind}
 use Rattle.graphql_lexical.specs.Cutting.{Lexeme, Cut}
 use Rattle.graphql_lexical.proofs.Public.{cut_front}
 use Rattle.graphql_grammar.specs.Tree.{TypeRef, NamedType, ListType, NonNullType, Definition}
-use Rattle.graphql_lexical.specs.Parts.{Sequence}
+use Rattle.graphql_lexical.specs.Parts.{◌·◌}
 use Rattle.graphql_grammar.specs.Grammar.{IsType, IsDocument}
 use Rattle.graphql_nodes.specs.Nodes.{Node, Label, Unnamed, Named, OnType, Typed, document_nodes}
 use Rattle.graphql_nodes.specs.Types.{type_text}
@@ -30,7 +30,7 @@ own_weight : (ts : List Lexeme) (t : Lexeme) → ts ≡ t ∷ [] → (1 ≤ sum_
 own_weight ts t e = let one = ap (sum_by weight) e ∙ sum_by-cons weight t [] in
     (omega (arith, one, (own_token t).0), omega (arith, one, (own_token t).1))
 
-row_weight : {P Q : List Lexeme → Type 0} (ts : List Lexeme) (h : Sequence P Q ts)
+row_weight : {P Q : List Lexeme → Type 0} (ts : List Lexeme) (h : (P · Q) ts)
     → sum_by weight ts ≡ sum_by weight h.front + sum_by weight h.back
 row_weight ts h = ap (sum_by weight) h.whole ∙ sum_by-append weight h.front h.back
 

@@ -5,10 +5,11 @@ use Rattle.std.specs.List.{AllByRecursion, concat}
 use Rattle.std.proofs.lemmas.Bool.{and_parts, eqb-true, eqb-false, ne_eqb}
 use Rattle.std.proofs.lemmas.Bool.Decides.{nat_tests}
 use Rattle.graphql_lexical.specs.Characters.{is_escape, is_plain}
-use Rattle.graphql_lexical.specs.Tokens.{IsScalar, hex_number, IsUnit, plain, escape as escape_unit, unicode as unicode_unit, AreUnits}
+use Rattle.graphql_lexical.specs.Tokens.{IsScalar, IsUnit, plain, escape as escape_unit, unicode as unicode_unit, Pieces}
 use Rattle.juniper_values.specs.Text.{Text}
-use Rattle.juniper_values.specs.Escapes.{short_escape, is_surrogate, is_scalar, unicode_escape, in_front, unescape, behind_backslash, behind_u}
+use Rattle.juniper_values.specs.Escapes.{hex_number, short_escape, is_surrogate, is_scalar, unicode_escape, in_front, unescape, behind_backslash, behind_u}
 use Rattle.juniper_values.specs.laws.ValueLaws.{IsExactlyUnescaped}
+use Rattle.juniper_values.proofs.HexNumbers.{scalar_number, number_scalar}
 use Rattle.juniper_values.specs.Units.{StandsFor, nothing, itself, escape, unicode}
 
 -- ---- one character
@@ -35,7 +36,7 @@ apart_from : (n : ℕ) → not (is_surrogate n) ≡ true → (n < 55296) ⊎ (57
 apart_from n e = grind (arith, nat_tests, e)
 
 of_scalar : (h i j k : ℕ) → IsScalar h i j k → unicode_escape h i j k ≡ Some (hex_number h i j k)
-of_scalar h i j k q = rw (q.0.0, q.0.1.0, q.0.1.1.0, q.0.1.1.1.0, apart (hex_number h i j k) q.1) refl
+of_scalar h i j k q = rw (q.0.0, q.0.1.0, q.0.1.1.0, q.0.1.1.1.0, apart (hex_number h i j k) (scalar_number h i j k q)) refl
 
 scalar_from : (h i j k c : ℕ) → unicode_escape h i j k ≡ Some c → IsScalar h i j k × (hex_number h i j k ≡ c)
 scalar_from h i j k c =
@@ -46,7 +47,7 @@ scalar_from h i j k c =
     let three = and_parts _ _ four.0 in
     let two = and_parts _ _ three.0 in
     let number = apart_from (hex_number h i j k) whole.1 in
-    (((two.0, (two.1, (three.1, (four.1, tt)))), number), cc))
+    ((number_scalar h i j k two.0 two.1 three.1 four.1 number), cc))
     (λ t e. absurd (cc e))
 
 -- ---- both ways
@@ -111,5 +112,5 @@ pieces_stand : (ps : List Text) → AllByRecursion IsUnit ps → (u : Text) × S
 pieces_stand [] h = ([], nothing)
 pieces_stand (p ∷ ps) h = let r = pieces_stand ps h.1 in unit_stands p (concat ps) r.0 h.0 r.1
 
-pub units_stand : (t : Text) → AreUnits t → (u : Text) × StandsFor t u
+pub units_stand : (t : Text) → Pieces IsUnit t → (u : Text) × StandsFor t u
 units_stand t h = let r = pieces_stand h.0 h.1 in (r.0, subst (λ x. StandsFor x r.0) (sym h.2) r.1)

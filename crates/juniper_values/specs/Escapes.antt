@@ -1,9 +1,16 @@
 -- The text that the slice of a String token stands for (GraphQL specification, October 2021, section 2.9.4).
-use Rattle.std.specs.Prelude.{ℕ, Bool, [], ◌∷◌, Option, Some, None, option_map, option_and_then, if◌then◌else◌, ◌==◌, ◌&&◌, not, nat_le}
+use Rattle.std.specs.Prelude.{ℕ, ◌+◌, ◌-◌, ◌*◌, Bool, [], ◌∷◌, Option, Some, None, option_map, option_and_then, if◌then◌else◌, ◌==◌, ◌&&◌, not, nat_le}
 use Rattle.graphql_lexical.specs.Characters.{is_hex}
-use Rattle.graphql_lexical.specs.Tokens.{hex_number}
 pub use Rattle.juniper_tokens.specs.Escapes.{short_escape}
 use Rattle.juniper_values.specs.Text.{Text}
+
+-- what a hexadecimal digit counts
+abbrev pub hex_value : ℕ → ℕ
+hex_value c = if nat_le c 57 then c - 48 else (if nat_le c 70 then c - 55 else c - 87)
+
+-- the number that four hexadecimal digits write
+abbrev pub hex_number : ℕ → ℕ → ℕ → ℕ → ℕ
+hex_number h i j k = 4096 * hex_value h + (256 * hex_value i + (16 * hex_value j + hex_value k))
 
 -- from D800 to DFFF
 abbrev pub is_surrogate : ℕ → Bool

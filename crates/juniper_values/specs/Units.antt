@@ -1,8 +1,8 @@
 -- What the text of a String token stands for, unit by unit.
 use Rattle.std.specs.Prelude.{◌≡◌, ◌≢◌, ℕ, [], ◌∷◌, Some}
-use Rattle.graphql_lexical.specs.Tokens.{IsScalar, hex_number}
+use Rattle.graphql_lexical.specs.Tokens.{IsScalar}
 use Rattle.juniper_values.specs.Text.{Text}
-use Rattle.juniper_values.specs.Escapes.{short_escape}
+use Rattle.juniper_values.specs.Escapes.{short_escape, hex_number}
 
 -- The first text stands for the second: a character other than the backslash for itself, a backslash and one of eight
 -- characters for what the table says, and `\u` and four hexadecimal digits for the character of that number.

@@ -3,9 +3,8 @@ ghost use Rattle.std.specs.Prelude.{◌≡◌, ◌<◌, [], ◌∷◌, length, I
 ghost use Rattle.std.specs.Char.{IsScalar};
 ghost use Rattle.std.specs.Str.{chars, IsUtf8};
 ghost use Rattle.graphql_lexical.specs.Characters.{is_hex};
-ghost use Rattle.graphql_lexical.specs.Tokens.{hex_value};
 ghost use Rattle.juniper_values.specs.View.{text_of};
-ghost use Rattle.juniper_values.specs.Escapes.{unescape, behind_backslash, behind_u, in_front, unicode_escape};
+ghost use Rattle.juniper_values.specs.Escapes.{unescape, behind_backslash, behind_u, in_front, unicode_escape, hex_value};
 
 use crate::text::split_char;
 use juniper_tokens::text::short_escape;

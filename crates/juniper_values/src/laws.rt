@@ -1,6 +1,6 @@
 //! Laws of scalars, types and input values.
 ghost use Rattle.std.specs.Prelude.{◌≡◌, ◌≢◌, ◌↔◌, ℕ, true, List, [], All, Some, codes};
-ghost use Rattle.graphql_lexical.specs.Tokens.{AreUnits, IsName};
+ghost use Rattle.graphql_lexical.specs.Tokens.{Pieces, IsUnit, IsName};
 ghost use Rattle.graphql_lexical.specs.laws.Written.{IsCutInto};
 ghost use Rattle.juniper_values.specs.Text.{Text};
 ghost use Rattle.juniper_values.specs.laws.BlockLaws.{HasNoBlankEnds, IsIndented};
@@ -31,7 +31,7 @@ pub fn strings_are_unescaped()
 
 /// Each String that a source can hold stands for a text.
 pub fn units_stand_for_a_text()
-    ensures { (t : Text) → AreUnits t → (u : Text) × StandsFor t u }
+    ensures { (t : Text) → Pieces IsUnit t → (u : Text) × StandsFor t u }
 {}
 
 /// The value of a block string has no carriage return.

@@ -1,11 +1,11 @@
 -- A device: which texts are tokens, without the token's text, and the text of one that is a token.
 use Rattle.std.specs.Prelude.{◌≡◌, ℕ, ◌-◌, ◌*◌, List, [], ◌∷◌, ◌++◌, length, take, drop, codes}
 use Rattle.graphql_lexical.specs.Kinds.{Kind, Spelling, Names, Strings, BlockStrings, Floats, Ints, Fixed, NoText, spelling}
-use Rattle.graphql_lexical.specs.Tokens.{IsName, IsFloat, IsInteger, AreUnits, AreBlockUnits, mark, quotes}
+use Rattle.graphql_lexical.specs.Tokens.{IsName, IsFloat, IsInteger, Pieces, IsUnit, AreBlockUnits, mark, quotes}
 
 -- a quote, units, a quote
 abbrev pub IsString : List ℕ → Type 0
-IsString text = (units : List ℕ) × (text ≡ codes "\"" ++ (units ++ codes "\"")) × AreUnits units
+IsString text = (units : List ℕ) × (text ≡ codes "\"" ++ (units ++ codes "\"")) × Pieces IsUnit units
 
 -- a triple quote, block units, a triple quote
 abbrev pub IsBlockString : List ℕ → Type 0

@@ -1,15 +1,11 @@
 -- A prefix of a source, and tokens after it with spaces between.
 use Rattle.std.specs.Prelude.{◌≡◌, ℕ, List, [], ◌∷◌, ◌++◌, take, None, codes}
-use Rattle.std.specs.List.{last_or}
+use Rattle.std.specs.List.{last_or, AllZip}
 use Rattle.std.specs.Option.{option_map_or}
 use Rattle.graphql_lexical.specs.Kinds.{EndOfFile}
 use Rattle.graphql_lexical.specs.Tokens.{Spells}
 use Rattle.graphql_lexical.specs.Cutting.{Lexeme, Cut}
-use Rattle.graphql_lexical.specs.laws.Alike.{AllAlike}
-
--- a space, and then the text
-abbrev pub after_space : List ℕ → List ℕ
-after_space text = codes " " ++ text
+use Rattle.graphql_lexical.specs.laws.Alike.{Alike}
 
 -- the source up to the end of the last of these tokens
 abbrev pub up_to : List ℕ → List Lexeme → List ℕ
@@ -18,17 +14,17 @@ up_to source tokens = take (option_map_or (λ x. x.span.end.index) (last_or None
 -- The text is these tokens in a row, each spelled, with a space after it.
 abbrev pub IsSpaced : List ℕ → List Lexeme → Type 0
 IsSpaced text [] = text ≡ []
-IsSpaced text (x ∷ xs) = (whole rest : List ℕ) × (text ≡ whole ++ after_space rest) × Spells whole x.kind x.text × IsSpaced rest xs
+IsSpaced text (x ∷ xs) = (whole rest : List ℕ) × (text ≡ whole ++ (codes " " ++ rest)) × Spells whole x.kind x.text × IsSpaced rest xs
 
 -- The text is cut into these tokens, with these spans, then tokens alike with the others, and the end.
 pub record GoesOn (text : List ℕ) (front others : List Lexeme) : Type 0 where
   pub added : List Lexeme
   pub end : Lexeme
   pub cut : Cut text (front ++ (added ++ end ∷ []))
-  pub alike : AllAlike added others
+  pub alike : AllZip Alike added others
   pub is_end : end.kind ≡ EndOfFile
 
 -- The source up to the end of a token that is not its last, or up to its beginning, then a space, and then spelled
 -- tokens with a space after each: this is cut into the source's tokens up to that one and tokens alike with those.
 abbrev pub GoesOnSpaced : List ℕ → Type 0
-GoesOnSpaced source = (front : List Lexeme) (next : Lexeme) (after others : List Lexeme) (text : List ℕ) → Cut source (front ++ next ∷ after) → IsSpaced text others → GoesOn (up_to source front ++ after_space text) front others
+GoesOnSpaced source = (front : List Lexeme) (next : Lexeme) (after others : List Lexeme) (text : List ℕ) → Cut source (front ++ next ∷ after) → IsSpaced text others → GoesOn (up_to source front ++ (codes " " ++ text)) front others
