@@ -4,13 +4,13 @@ use Rattle.graphql_lexical.specs.Place.{Span}
 use Rattle.graphql_lexical.specs.declared.kind.Kind.{Kind}
 use Rattle.graphql_lexical.specs.declared.kind.Kind.TheVariants.{At}
 use Rattle.graphql_lexical.specs.Cutting.{Lexeme}
-use Rattle.graphql_grammar.specs.Tokens.{over, last_of, span_of, from_to}
+use Rattle.graphql_grammar.specs.Tokens.{over, span_of, from_to}
 use Rattle.graphql_grammar.specs.Tree.{Scalars, Arguments, Directive, Variables}
 use Rattle.graphql_grammar.specs.Grammar.{IsArguments, IsDirective, IsVariables, Listed}
 use Rattle.graphql_grammar.specs.device.Reading.{Test, Took, Reader, front, fully}
 use Rattle.graphql_grammar.proofs.Rules.{Meets, Rule}
 use Rattle.graphql_grammar.proofs.PartRules.{Closed, front_is}
-use Rattle.graphql_grammar.proofs.Sequences.{is_takes, front_takes, last_joined}
+use Rattle.graphql_grammar.proofs.Sequences.{is_takes, front_takes, last_joined, last_of}
 
 -- Some tokens stand in ts before rest, from the start of the first to the end of the last one.
 pub record Runs (ts rest : List Lexeme) (p : Span) : Type 0 where

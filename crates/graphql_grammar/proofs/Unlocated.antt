@@ -7,11 +7,12 @@ use Rattle.graphql_lexical.specs.declared.kind.Kind.TheVariants.{Name, Exclamati
 use Rattle.graphql_lexical.specs.Place.{Span}
 use Rattle.graphql_lexical.specs.Cutting.{Lexeme}
 use Rattle.graphql_lexical.specs.laws.Alike.{Alike}
-use Rattle.graphql_grammar.specs.Tokens.{Text, Word, last_of, nowhere, span_of}
+use Rattle.graphql_grammar.specs.Tokens.{Text, Word, nowhere, span_of}
 use Rattle.graphql_grammar.specs.Tree.{Scalars, Value, Null, Scalar, Enum, Variable, ListOf, Object, Items, no_items, item, ObjectFields, no_fields, object_field, TypeRef, NamedType, ListType, NonNullType, Argument, Arguments, Directive, Directives, VariableDefinition, Variables, Selection, Field, FragmentSpread, InlineFragment, Selections, no_selections, selection, OptionalSelections, absent, present, Definition, Operation, Fragment}
 use Rattle.graphql_lexical.specs.Parts.{◌·◌}
 use Rattle.graphql_grammar.specs.Grammar.{Token, Is, IsVariable, IsValue, AreItems, AreFields, Each, Optional, Several, IsName, Says, Listed, IsType, IsArgument, IsArguments, IsDirective, IsDirectives, IsDefault, IsVariableDefinition, IsVariables, IsAlias, IsTypeCondition, IsFragmentName, IsSelection, IsOptionalSelectionSet, IsSelectionSet, AreSelections, IsDefinition, IsDocument}
 use Rattle.graphql_grammar.specs.Unlocated.{if_some, unlocated_word, unlocated_value, unlocated_items, unlocated_fields, unlocated_argument, unlocated_arguments, unlocated_directive, unlocated_directives, unlocated_variable, unlocated_variables, unlocated_selection, unlocated_selections, unlocated_optional, unlocated_definition}
+use Rattle.graphql_grammar.proofs.Sequences.{last_of, last_next}
 
 -- a token without its span
 abbrev pub bare : Lexeme → Lexeme
@@ -29,7 +30,8 @@ alike_bare (t ∷ ts) (u ∷ us) h = ap₂ (λ a b. a ∷ b) (ap₂ (λ k w. rec
 
 last_bare : (t : Lexeme) (ts : List Lexeme) → (last_of (bare t) (all_bare ts)).span ≡ nowhere
 last_bare t [] = refl
-last_bare t (u ∷ us) = last_bare u us
+last_bare t (u ∷ us) =
+    ap (λ (x : Lexeme). x.span) (last_next (bare t) (bare u) (all_bare us)) ∙ last_bare u us
 
 span_bare : (ts : List Lexeme) → span_of (all_bare ts) ≡ nowhere
 span_bare [] = refl

@@ -1,4 +1,6 @@
 -- Tokens, as the grammar sees them.
+use Rattle.std.specs.List.{last_or}
+use Rattle.std.specs.Option.{unwrap_or}
 use Rattle.std.specs.Prelude.{◌≡◌, ◌⊎◌, List, [], ◌∷◌, Option, Some, None}
 use Rattle.graphql_lexical.specs.declared.kind.Kind.TheVariants.{EndOfFile}
 pub use Rattle.graphql_lexical.specs.Characters.{Text}
@@ -18,11 +20,6 @@ word_of t = record { text = t.text; span = t.span }
 abbrev pub over : Lexeme → Lexeme → Span
 over first last = record { start = first.span.start; end = last.span.end }
 
--- the last of one or more tokens
-abbrev pub last_of : Lexeme → List Lexeme → Lexeme
-last_of t [] = t
-last_of t (u ∷ us) = last_of u us
-
 -- where no token stands
 abbrev pub nowhere : Span
 nowhere = record { start = record { index = 0; line = 0; column = 0 }; end = record { index = 0; line = 0; column = 0 } }
@@ -30,7 +27,7 @@ nowhere = record { start = record { index = 0; line = 0; column = 0 }; end = rec
 -- From the start of the first token to the end of the last. No node of a tree is an empty list of tokens.
 abbrev pub span_of : List Lexeme → Span
 span_of [] = nowhere
-span_of (t ∷ ts) = record { start = t.span.start; end = (last_of t ts).span.end }
+span_of (t ∷ ts) = record { start = t.span.start; end = (unwrap_or (last_or None ts) t).span.end }
 
 -- from the start of one span to the end of another
 abbrev pub from_to : Span → Span → Span

@@ -8,7 +8,7 @@ pub use Rattle.graphql_lexical.proofs.Escapes.{counted_within, u_short}
 pub use Rattle.graphql_lexical.proofs.Gaps.{gap_longest}
 pub use Rattle.graphql_lexical.proofs.Joints.{few_tokens}
 pub use Rattle.graphql_lexical.proofs.NumberParts.{float_same, integer_same, name_same}
-pub use Rattle.graphql_lexical.proofs.Places.{place_push, steps_by_characters}
+pub use Rattle.graphql_lexical.proofs.Places.{place_after, place_push, steps_by_characters}
 pub use Rattle.graphql_lexical.proofs.Readings.{answer_finds, read_end, read_token, same_Ok}
 pub use Rattle.graphql_lexical.proofs.Runs.{Stops, reach_is}
 pub use Rattle.graphql_lexical.proofs.Slices.{front_read, place_index, slices_in_order}

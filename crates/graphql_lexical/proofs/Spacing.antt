@@ -3,7 +3,7 @@ use Rattle.std.proofs.Common.{codes, ◌≡◌, ℕ, ◌≤◌, inl, inr, List, 
 use Rattle.std.specs.List.{last_or, AllZip}
 use Rattle.std.specs.Option.{option_map_or}
 use Rattle.std.proofs.lemmas.List.{take_all}
-use Rattle.graphql_lexical.specs.Place.{Place, place, place_after}
+use Rattle.graphql_lexical.specs.Place.{Place, place}
 use Rattle.graphql_lexical.specs.Cutting.{Lexeme, Leads, Cut}
 use Rattle.graphql_lexical.specs.laws.Alike.{Alike}
 use Rattle.graphql_lexical.specs.laws.Joining.{BeginsApart, IsSeam}
@@ -14,6 +14,7 @@ use Rattle.graphql_lexical.proofs.Cuts.{stands_size, cut_front}
 use Rattle.graphql_lexical.proofs.Joints.{after_front, front_joins, few_tokens}
 use Rattle.graphql_lexical.proofs.Writing.{alike_front, writes_token, writes_white, writes_nothing}
 use Rattle.graphql_lexical.proofs.Fronts.{leads_shorter}
+use Rattle.graphql_lexical.proofs.Places.{place_after}
 
 -- ---- a space
 

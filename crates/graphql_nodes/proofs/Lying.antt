@@ -4,11 +4,11 @@ use Rattle.std.specs.List.{AllByRecursion}
 use Rattle.graphql_lexical.specs.declared.kind.Kind.{Kind}
 use Rattle.std.proofs.lemmas.List.{length-take}
 use Rattle.graphql_lexical.specs.Kinds.{LexicalError}
-use Rattle.graphql_lexical.specs.Place.{Place, Span, place_after, place, origin}
+use Rattle.graphql_lexical.specs.Place.{Place, Span, place, origin}
 use Rattle.graphql_lexical.specs.Cutting.{Lexeme, Cut, BreaksFrom, here, behind as past}
 use Rattle.graphql_lexical.specs.laws.Laws.{AreSlicesFrom}
-use Rattle.graphql_lexical.proofs.Public.{steps_by_characters, slices_in_order}
-use Rattle.graphql_grammar.specs.Tokens.{Text, Word, last_of, span_of}
+use Rattle.graphql_lexical.proofs.Public.{steps_by_characters, slices_in_order, place_after}
+use Rattle.graphql_grammar.specs.Tokens.{Text, Word, span_of}
 use Rattle.graphql_grammar.specs.Tree as tree
 use Rattle.graphql_grammar.specs.Tree.{Scalars, TypeRef, Value, Items, no_items, item, ObjectFields, no_fields, object_field, Argument, Arguments, Directive, Directives, VariableDefinition, Variables, Selection, Selections, no_selections, selection, OptionalSelections, absent, present, Definition}
 use Rattle.graphql_lexical.specs.Parts.{◌·◌}
@@ -17,6 +17,7 @@ use Rattle.graphql_nodes.specs.declared.kind.NodeKind.{NodeKind}
 use Rattle.graphql_nodes.specs.declared.kind.NodeKind.TheVariants as kind
 use Rattle.graphql_nodes.specs.Nodes.{Node, Label, Unnamed, Typed, over, scalar_node, if_present, each, value_nodes, items_nodes, fields_nodes, argument_nodes, arguments_nodes, directive_nodes, directives_nodes, variable_nodes, variables_nodes, alias_nodes, selection_nodes, optional_nodes, selections_nodes, definition_nodes, document_nodes}
 use Rattle.graphql_nodes.specs.laws.SpanLaws.{IsPlaceOf, LiesIn, NodesLieIn}
+use Rattle.graphql_grammar.proofs.Public.{last_of, last_next}
 
 module _ {A : Type 0} (P : A → Type 0) where
   all_of_both : (xs ys : List A) → AllByRecursion P xs → AllByRecursion P ys → AllByRecursion P (xs ++ ys)
@@ -70,7 +71,8 @@ module _ (source : List ℕ) where
 
   last_lies : (t : Lexeme) (ts : List Lexeme) → Lie (t ∷ ts) → LiesIn source (last_of t ts).span
   last_lies t [] h = h.0
-  last_lies t (u ∷ us) h = last_lies u us h.1
+  last_lies t (u ∷ us) h =
+      subst (λ (x : Lexeme). LiesIn source x.span) (sym (last_next t u us)) (last_lies u us h.1)
 
   -- from the start of the first token to the end of the last
   span_lies : (ts : List Lexeme) → Lie ts → LiesIn source (span_of ts)

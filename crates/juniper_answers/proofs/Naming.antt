@@ -10,7 +10,7 @@ use Rattle.graphql_lexical.specs.Tokens.{IsName, Spells}
 use Rattle.graphql_lexical.specs.Reading.{Reads}
 use Rattle.graphql_lexical.specs.Cutting.{Lexeme, Cut}
 use Rattle.graphql_lexical.specs.laws.Written.{AreOf}
-use Rattle.graphql_lexical.proofs.Public.{few_tokens, name_same, writes_nothing, writes_token}
+use Rattle.graphql_lexical.proofs.Public.{few_tokens, name_same, writes_nothing, writes_token, read_end, read_token}
 use Rattle.juniper_answers.specs.laws.AnswerLaws.{IsOneName}
 use Rattle.juniper_answers.specs.Names.{is_name}
 
@@ -57,9 +57,9 @@ one_token text n =
     go (x ∷ y ∷ ys) e c a = absurd a.2
 
 name_read : (rest : List ℕ) (n : ℕ) (kind : Kind) (text : List ℕ) → Reads rest n kind text → kind ≡ Name → IsName text
-name_read [] n kind text r e = absurd (cc)
+name_read [] n kind text r e = let end = (read_end n kind text r).1 in absurd cc
 name_read (c ∷ cs) n kind text r e =
-    let s = subst (λ (k : Kind). Spells (take n (c ∷ cs)) k text) e r.spells in
+    let s = subst (λ (k : Kind). Spells (take n (c ∷ cs)) k text) e (read_token c cs n kind text r).1 in
     subst IsName (sym s.1) s.0
 
 only_name : (text : List ℕ) → IsOneName text → IsName text

@@ -11,7 +11,7 @@ use Rattle.graphql_lexical.specs.Tokens.{quotes}
 use Rattle.graphql_lexical.specs.device.Whole.{between}
 use Rattle.graphql_lexical.specs.Reading.{Reads}
 use Rattle.graphql_lexical.specs.Cutting.{Lexeme, Leads}
-use Rattle.graphql_lexical.proofs.Public.{reads_size, spells_token}
+use Rattle.graphql_lexical.proofs.Public.{reads_size, spells_token, read_end, read_token}
 use Rattle.juniper_values.specs.Text.{Text}
 use Rattle.juniper_nodes.proofs.TextLengths.{size, size_joins, drop_is_short}
 
@@ -44,12 +44,12 @@ one_or m n h k = omega arith
 
 reads_bytes : (rest : Text) (n : ℕ) (t : Lexeme) → Reads rest n t.kind t.text → (t.kind ≡ EndOfFile → ⊥)
     → weight t ≤ size (take n rest)
-reads_bytes [] n t r none = absurd (none r.1)
+reads_bytes [] n t r none = absurd (none (read_end n t.kind t.text r).1)
 reads_bytes (c ∷ cs) n t r none =
     let whole = take n (c ∷ cs) in
     let some = reads_size (c ∷ cs) n t.kind t.text r none in
     let text : size t.text ≤ size whole =
-    subst (λ (u : Text). size u ≤ size whole) (sym (spells_token whole t.kind t.text r.spells).1) (between_is_short (quotes (spelling t.kind)) whole) in
+    subst (λ (u : Text). size u ≤ size whole) (sym (spells_token whole t.kind t.text (read_token c cs n t.kind t.text r).1).1) (between_is_short (quotes (spelling t.kind)) whole) in
     let bytes : 1 ≤ size whole = omega (arith, some.0, some.1, some_bytes whole, length-take-le n (c ∷ cs) some.1) in
     one_or (size t.text) (size whole) bytes text
 

@@ -12,9 +12,9 @@ use Rattle.graphql_lexical.specs.declared.state.Block.{Block}
 use Rattle.graphql_lexical.specs.declared.state.Block.TheVariants.{Closed}
 use Rattle.graphql_lexical.specs.declared.kind.Kind.{Kind}
 use Rattle.graphql_lexical.specs.declared.kind.Kind.TheVariants.{BlockString, EndOfFile}
-use Rattle.graphql_lexical.proofs.Public.{answer_finds, same_Ok, accepts, reach_is, place_push}
+use Rattle.graphql_lexical.proofs.Public.{answer_finds, same_Ok, accepts, reach_is, place_push, place_after}
 use Rattle.std.proofs.lemmas.List.{length-take-le}
-use Rattle.graphql_lexical.specs.Place.{Place, place_after, place, past_character, next_line, next_column}
+use Rattle.graphql_lexical.specs.Place.{Place, place, past_character, next_line, next_column}
 use Rattle.juniper_tokens.specs.Positions.{columns_on}
 
 abbrev made : ℕ → ℕ → ℕ → Place

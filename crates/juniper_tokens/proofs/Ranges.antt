@@ -16,7 +16,7 @@ use Rattle.graphql_lexical.specs.Tokens as grammar
 use Rattle.graphql_lexical.specs.Reading.{Reads}
 use Rattle.graphql_lexical.specs.Cutting.{Lexeme, Stands}
 use Rattle.graphql_lexical.specs.device.Scan.{found, gap_size}
-use Rattle.graphql_lexical.proofs.Public.{finds_what_reads, gap_longest, place_index, spells_token}
+use Rattle.graphql_lexical.proofs.Public.{finds_what_reads, gap_longest, place_index, spells_token, read_end, read_token}
 use Rattle.juniper_tokens.specs.declared.span.Spanning.{Spanning}
 use Rattle.juniper_tokens.specs.declared.token.Token.{Token}
 use Rattle.juniper_tokens.specs.declared.token_range.TokenRange.{TokenRange}
@@ -99,15 +99,14 @@ placed_behind source at p q r h i e =
 -- ---- the range of a token that has been read
 
 read_within : (rest : List ℕ) (n : ℕ) (kind : Kind) (text : List ℕ) → Reads rest n kind text → n ≤ length rest
-read_within [] n kind text r = omega (arith, r.0)
-read_within (c ∷ cs) n kind text r = r.longest.within
+read_within rest n kind text r = r.longest.within
 
 read_spelled : (rest : List ℕ) (n : ℕ) (kind k : Kind) (text : List ℕ) → Reads rest n kind text → kind ≡ k
     → (k ≡ kinds.EndOfFile → ⊥)
     → IsToken (take n rest) k
-read_spelled [] n kind k text r e no_end = absurd (no_end (sym e ∙ r.1))
+read_spelled [] n kind k text r e no_end = absurd (no_end (sym e ∙ (read_end n kind text r).1))
 read_spelled (c ∷ cs) n kind k text r e no_end =
-    subst (IsToken (take n (c ∷ cs))) e (spells_token _ _ _ r.spells).0
+    subst (IsToken (take n (c ∷ cs))) e (spells_token _ _ _ (read_token c cs n kind text r).1).0
 
 -- a token that stands where a lexer does
 pub found_range : (source : List ℕ) (at : ℕ) (p : Place) (f : Found) → IsPlaced source at p
@@ -195,9 +194,11 @@ spelled_text NoText whole h = absurd h
 
 read_text : (rest : List ℕ) (n : ℕ) (kind : Kind) (text : List ℕ) → Reads rest n kind text
     → text ≡ kind_text kind (text_of kind (take n rest))
-read_text [] n kind text r = r.2 ∙ sym (ap₂ (λ k (m : ℕ). kind_text k (text_of k (take m []))) r.1 r.0)
+read_text [] n kind text r =
+    let e = read_end n kind text r in
+    e.2 ∙ sym (ap₂ (λ k (m : ℕ). kind_text k (text_of k (take m []))) e.1 e.0)
 read_text (c ∷ cs) n kind text r =
-    let s = spells_token (take n (c ∷ cs)) kind text r.spells in
+    let s = spells_token (take n (c ∷ cs)) kind text (read_token c cs n kind text r).1 in
     s.1 ∙ spelled_text (spelling kind) (take n (c ∷ cs)) s.0
 
 -- ---- in the words of the definitions
