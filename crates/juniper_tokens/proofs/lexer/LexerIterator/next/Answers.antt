@@ -16,3 +16,10 @@ pub returns-in-Some-clause-goes : goal.returns-in-Some-clause-goes
 returns-in-Some-clause-goes c =
     let less = items_fewer c.args.self.now (Ok c.token.result) c.next_plain.new.self (returns-in-Some-clause-steps c) in
     record { on = λ _. search (rules, less); keeps = search rules; rests = λ _. search rules }
+
+pub returns-in-None-clause-goes : goal.returns-in-None-clause-goes
+returns-in-None-clause-goes c =
+    let less = items_fewer c.args.self.now c.next_other_token.result c.next_other_token.new.self
+    (sym c.has_ended.ensures ∙ c.if-has_ended.false, c.next_other_token.ensures.source ∙ c.in-None.ensures.source,
+    c.next_other_token.ensures.gives c.args.self.now c.in-None.ensures.takes) in
+    record { on = λ _. search (rules, less); keeps = search rules; rests = λ _. search rules }
