@@ -12,7 +12,8 @@ use Rattle.graphql_lexical.proofs.Public.{opened_push, closed_push, deep_count, 
 use Rattle.graphql_grammar.specs.Tokens.{IsSpelled}
 use Rattle.graphql_grammar.specs.Tree.{Scalars, Definition}
 use Rattle.graphql_grammar.specs.Grammar.{IsScalarKind, IsDocument}
-use Rattle.graphql_grammar.specs.Faults.{Fault, NoEnd, EndsOnce, AtFault, DocumentRefusedAt}
+use Rattle.graphql_grammar.specs.Faults.{NoEnd, EndsOnce, AtFault}
+use Rattle.graphql_grammar.specs.device.Faults.{Fault, DocumentFaultAt}
 use Rattle.graphql_grammar.specs.device.Productions.{document, reads}
 use Rattle.graphql_grammar.specs.Depth.{BeginsDocument}
 use Rattle.graphql_grammar.proofs.Elements.{all_front, all_join}
@@ -165,7 +166,7 @@ module _ {C F : Type 0} (S : Scalars C F) where
   abbrev pub TellsDepth : List Lexeme → ℕ → Lexeme → List Lexeme → Lexeme → Fault F → Type 0
   TellsDepth ts i t us u e =
       ((u ≡ end_behind t) × BeginsDocument S (take (suc i) ts))
-      ⊎ ((u.kind ≡ EndOfFile → ⊥) × (BeginsDocument S (take (suc i) ts) → ⊥) × DocumentRefusedAt S ts us u e)
+      ⊎ ((u.kind ≡ EndOfFile → ⊥) × (BeginsDocument S (take (suc i) ts) → ⊥) × DocumentFaultAt S ts us u e)
 
   pub document_balanced : (ts : List Lexeme) (ds : List (Definition C)) → IsDocument S ds ts → opened ts ≡ closed ts
   document_balanced = nested.document IsBalanced refl join plain around S (λ t c k e. scalar t k)
@@ -218,20 +219,20 @@ module _ {C F : Type 0} (S : Scalars C F) where
           sym (ap (λ k. take k ts) (sym front_length) ∙ ap (take (length front)) whole_parts
           ∙ take-append_seam front d.after)
 
-      at_end : (us : List Lexeme) (u : Lexeme) (e : Fault F) → DocumentRefusedAt S (front ++ end_behind t ∷ []) us u e
+      at_end : (us : List Lexeme) (u : Lexeme) (e : Fault F) → DocumentFaultAt S (front ++ end_behind t ∷ []) us u e
           → length us ≡ suc i → TellsDepth ts i t us u e
       at_end us u e h same =
           let parts = same_parts front us [] h.0.after (end_behind t) u (front_length ∙ sym same) h.0.whole in
           inl (sym parts.1, subst (BeginsDocument S) (sym parts.0 ∙ front_is) h.0.begins)
 
       before_end : (us : List Lexeme) (u : Lexeme) (e : Fault F)
-          → DocumentRefusedAt S (front ++ end_behind t ∷ []) us u e → length us < suc i → TellsDepth ts i t us u e
+          → DocumentFaultAt S (front ++ end_behind t ∷ []) us u e → length us < suc i → TellsDepth ts i t us u e
       before_end us u e h l =
           let shorter_by : length us < length front = omega (arith, l, front_length) in
           let inside = within front (end_behind t ∷ []) us h.0.after u h.0.whole shorter_by in
           let goes_on : u.kind ≡ EndOfFile → ⊥ = middle_of (λ (x : Lexeme). x.kind ≡ EndOfFile → ⊥) us inside.0 u
           (subst NoEnd inside.1 front_no_end) in
-          let refused : DocumentRefusedAt S ts us u e = subst (λ l. DocumentRefusedAt S l us u e) (sym whole_parts)
+          let refused : DocumentFaultAt S ts us u e = subst (λ l. DocumentFaultAt S l us u e) (sym whole_parts)
           (refused_in_front IsSpelled (IsDocument S) front (end_behind t ∷ []) d.after us u shorter_by h.0, h.1) in
           inr (
             goes_on,
@@ -242,11 +243,11 @@ module _ {C F : Type 0} (S : Scalars C F) where
           )
 
       -- Where they are refused tells of all tokens.
-      pub short_tells : (us : List Lexeme) (u : Lexeme) (e : Fault F) → DocumentRefusedAt S (ended_by d.before t) us u e
+      pub short_tells : (us : List Lexeme) (u : Lexeme) (e : Fault F) → DocumentFaultAt S (ended_by d.before t) us u e
           → TellsDepth ts i t us u e
       short_tells us u e h =
-          let g : DocumentRefusedAt S (front ++ end_behind t ∷ []) us u e =
-          subst (λ l. DocumentRefusedAt S l us u e) short_parts h in
+          let g : DocumentFaultAt S (front ++ end_behind t ∷ []) us u e =
+          subst (λ l. DocumentFaultAt S l us u e) short_parts h in
           let inside : length us < suc (suc i) = omega (
             arith,
             ap length g.0.whole,

@@ -8,7 +8,8 @@ use Rattle.graphql_lexical.specs.Cutting.{Lexeme}
 use Rattle.graphql_grammar.specs.Tokens.{IsSpelled, span_of}
 use Rattle.graphql_grammar.specs.Tree.{Scalars}
 use Rattle.graphql_grammar.specs.Grammar.{IsValue, IsType, IsDocument}
-use Rattle.graphql_grammar.specs.Faults.{Fault, UnexpectedEndOfFile, UnexpectedToken, AnyToken, NoEnd, EndsOnce, Begins, AtFault, DocumentRefusedAt, ValueRefusedAt, TypeRefusedAt, TypeError}
+use Rattle.graphql_grammar.specs.Faults.{AnyToken, NoEnd, EndsOnce, Begins, AtFault}
+use Rattle.graphql_grammar.specs.device.Faults.{Fault, UnexpectedEndOfFile, UnexpectedToken, DocumentFaultAt, ValueFaultAt, TypeFaultAt, TypeFault}
 use Rattle.graphql_grammar.specs.device.Reading.{of, Read, Took, Refused, Out, Reader, fault_of, a_value, a_type, fully, GivesWhole, GivesFront}
 use Rattle.graphql_grammar.specs.device.Productions.{document, symbol_at, reads}
 use Rattle.graphql_grammar.proofs.Elements.{all_front, all_each}
@@ -106,16 +107,16 @@ any_allowed ts = all_each AnyToken (λ t. tt) ts
 
 module _ {C F : Type 0} (S : Scalars C F) where
   pub document_given : (ts : List Lexeme) → AllByRecursion IsSpelled ts → EndsOnce ts
-      → GivesWhole (IsDocument S) (DocumentRefusedAt S ts) ts (fully (λ n. reads S n document) ts)
+      → GivesWhole (IsDocument S) (DocumentFaultAt S ts) ts (fully (λ n. reads S n document) ts)
   document_given ts spelled ends = whole_given (λ n. reads S n document) (IsDocument S) (document_reads S)
-      (DocumentRefusedAt S ts) ts ends
+      (DocumentFaultAt S ts) ts ends
       (λ rest t e. refused_at S (λ n. reads S n document) (IsDocument S) (document_reads S) true (document_tells S)
       IsSpelled sample_spelled (suc (length ts)) ts rest t e spelled) (document_ends S)
 
   pub value_given : (free : Bool) (ts : List Lexeme) → EndsOnce ts
-      → GivesFront (IsValue S free) (ValueRefusedAt S free ts) ts (fully (λ n. symbol_at S n _ (a_value free)) ts)
+      → GivesFront (IsValue S free) (ValueFaultAt S free ts) ts (fully (λ n. symbol_at S n _ (a_value free)) ts)
   value_given free ts ends = front_given (λ n. symbol_at S n _ (a_value free)) (IsValue S free) (value_reads S free)
-      (ValueRefusedAt S free ts) ts ends
+      (ValueFaultAt S free ts) ts ends
       (λ rest t e. refused_at S (λ n. symbol_at S n _ (a_value free)) (IsValue S free) (value_reads S free) true
       (value_tells S free) AnyToken (λ u h. tt) (suc (length ts)) ts rest t e (any_allowed ts))
       (values S free) (λ us vs v h m le. (
@@ -130,7 +131,7 @@ module _ {C F : Type 0} (S : Scalars C F) where
 -- ---- types
 
 type_error : (F : Type 0) (t : Lexeme) (b : Bool) → of EndOfFile t.kind t.text ≡ b
-    → TypeError {F = F} t (cond b UnexpectedEndOfFile (UnexpectedToken t.kind t.text))
+    → TypeFault {F = F} t (cond b UnexpectedEndOfFile (UnexpectedToken t.kind t.text))
 type_error F t true e = of_kind EndOfFile t e
 type_error F t false e = (
   refl,
@@ -158,14 +159,14 @@ bare_fault ts before t h = record {
 module _ {C F : Type 0} (S : Scalars C F) where
   type_refused : (ts rest : List Lexeme) (t : Lexeme) (e : Fault F)
       → symbol_at S (suc (length ts)) _ a_type ts ≡ Refused (t ∷ rest) e
-      → (us : List Lexeme) × (ts ≡ us ++ (t ∷ rest)) × TypeRefusedAt ts us t e
+      → (us : List Lexeme) × (ts ≡ us ++ (t ∷ rest)) × TypeFaultAt ts us t e
   unfolding every_scalar fault_of
   type_refused ts rest t e p = by_tell
       (subst (λ z. TellsFault (every_scalar F) false (symbol_at S (suc (length ts)) _ a_type) ts z) p
       ((type_tells (every_scalar F) S (suc (length ts))).at ts))
     where
       by_tell : TellsFault (every_scalar F) false (symbol_at S (suc (length ts)) _ a_type) ts (Refused (t ∷ rest) e)
-          → (us : List Lexeme) × (ts ≡ us ++ (t ∷ rest)) × TypeRefusedAt ts us t e
+          → (us : List Lexeme) × (ts ≡ us ++ (t ∷ rest)) × TypeFaultAt ts us t e
       by_tell (us, q, inl (y, x, s, d)) = absurd (cc d)
       by_tell (us, q, inr o) =
           let a = at_fault (λ n. symbol_at S n _ a_type) IsSpannedType (type_reads S) AnyToken (λ u h. tt)
@@ -176,6 +177,6 @@ module _ {C F : Type 0} (S : Scalars C F) where
           )
 
   pub type_given : (ts : List Lexeme) → EndsOnce ts
-      → GivesFront IsSpannedType (TypeRefusedAt ts) ts (fully (λ n. symbol_at S n _ a_type) ts)
-  type_given ts ends = front_given (λ n. symbol_at S n _ a_type) IsSpannedType (type_reads S) (TypeRefusedAt ts) ts ends
+      → GivesFront IsSpannedType (TypeFaultAt ts) ts (fully (λ n. symbol_at S n _ a_type) ts)
+  type_given ts ends = front_given (λ n. symbol_at S n _ a_type) IsSpannedType (type_reads S) (TypeFaultAt ts) ts ends
       (type_refused ts) (λ us x h. types us x.0 h.0) (λ us vs x h n le. type_covers S us vs x.0 h.0 n le)

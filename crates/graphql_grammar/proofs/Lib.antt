@@ -27,6 +27,7 @@ pub mod Spelling
 pub mod Given
 pub mod Unlocated
 pub mod OneFault
+pub mod Errors
 pub mod Texts
 pub mod Depths
 pub mod Extents

@@ -9,7 +9,8 @@ use Rattle.graphql_grammar.specs.device.Reading.{of, Took, Refused, Reader, faul
 use Rattle.graphql_grammar.specs.Samples.{sample, IsSample}
 use Rattle.graphql_grammar.specs.Tree.{Scalars}
 use Rattle.graphql_grammar.specs.Grammar.{IsScalarKind}
-use Rattle.graphql_grammar.specs.Faults.{Fault, UnexpectedEndOfFile, UnexpectedToken, ScalarError, Begins, ValueMayStand, NamedError, AtFault}
+use Rattle.graphql_grammar.specs.Faults.{Begins, ValueMayStand, AtFault}
+use Rattle.graphql_grammar.specs.device.Faults.{Fault, UnexpectedEndOfFile, UnexpectedToken, ScalarError, NamesFault}
 use Rattle.graphql_grammar.proofs.Rules.{Meets, alike_refl, SameHead_refl}
 use Rattle.graphql_grammar.proofs.TokenTests.{of_kind}
 use Rattle.graphql_grammar.proofs.Faulty.{Reads, fails_all, value_stands, at_fault}
@@ -85,13 +86,13 @@ module _ {C F A : Type 0} (S : Scalars C F) (f : ℕ → Reader F A) (R : A → 
 
   -- The reader's fault is the one of the definition.
   names : (n : ℕ) (ts rest : List Lexeme) (t : Lexeme) (e : Fault F) → AllByRecursion Allowed ts
-      → f n ts ≡ Refused (t ∷ rest) e → (us : List Lexeme) × (ts ≡ us ++ (t ∷ rest)) × NamedError Allowed S R us t e
+      → f n ts ≡ Refused (t ∷ rest) e → (us : List Lexeme) × (ts ≡ us ++ (t ∷ rest)) × NamesFault Allowed S R us t e
   unfolding fault_of
   names n ts rest t e al p = by_tell (subst (λ z. TellsFault S strict (f n) ts z) p ((tells n).at ts))
     where
       by_fault : (us : List Lexeme) (b : Bool) → ts ≡ us ++ (t ∷ rest) → of EndOfFile t.kind t.text ≡ b
           → e ≡ cond b UnexpectedEndOfFile (UnexpectedToken t.kind t.text) → e ≡ fault_of t.kind t.text
-          → NamedError Allowed S R us t e
+          → NamesFault Allowed S R us t e
       by_fault us true q h x xe = rw x (of_kind EndOfFile t h)
       by_fault us false q h x xe = rw x (
         refl,
@@ -101,21 +102,21 @@ module _ {C F A : Type 0} (S : Scalars C F) (f : ℕ → Reader F A) (R : A → 
         λ s i v. no_value n ts us rest t e p q xe s v,
       )
 
-      by_scalar_fault : (us : List Lexeme) → ts ≡ us ++ (t ∷ rest) → IsScalarFault S t e → NamedError Allowed S R us t e
+      by_scalar_fault : (us : List Lexeme) → ts ≡ us ++ (t ∷ rest) → IsScalarFault S t e → NamesFault Allowed S R us t e
       by_scalar_fault us q (y, x, s, d) =
           let w = value_stands f R r Allowed fills n ts rest t y al
           (p ∙ ap (λ (z : Fault F). Refused (t ∷ rest) z) x) in
           rw x (s, d, subst (λ z. ValueMayStand Allowed R z) (append_cancel_right w.0 us (t ∷ rest) (sym w.1 ∙ q)) w.2)
 
       by_tell : TellsFault S strict (f n) ts (Refused (t ∷ rest) e)
-          → (us : List Lexeme) × (ts ≡ us ++ (t ∷ rest)) × NamedError Allowed S R us t e
+          → (us : List Lexeme) × (ts ≡ us ++ (t ∷ rest)) × NamesFault Allowed S R us t e
       by_tell (us, q, inl o) = (us, q, by_scalar_fault us q o)
       by_tell (us, q, inr o) = (us, q, by_fault us (of EndOfFile t.kind t.text) q refl o.0 o.0)
 
   -- Where the reader refuses, the definitions do.
   pub refused_at : (n : ℕ) (ts rest : List Lexeme) (t : Lexeme) (e : Fault F) → AllByRecursion Allowed ts
       → f n ts ≡ Refused (t ∷ rest) e
-      → (us : List Lexeme) × (ts ≡ us ++ (t ∷ rest)) × (AtFault Allowed R ts us t × NamedError Allowed S R us t e)
+      → (us : List Lexeme) × (ts ≡ us ++ (t ∷ rest)) × (AtFault Allowed R ts us t × NamesFault Allowed S R us t e)
   refused_at n ts rest t e al p =
       let a = at_fault f R r Allowed fills n ts rest t e al p in
       let w = names n ts rest t e al p in (
@@ -123,7 +124,7 @@ module _ {C F A : Type 0} (S : Scalars C F) (f : ℕ → Reader F A) (R : A → 
         a.1,
         (
           a.2,
-          subst (λ z. NamedError Allowed S R z t e)
+          subst (λ z. NamesFault Allowed S R z t e)
               (append_cancel_right w.0 a.0 (t ∷ rest) (sym w.1 ∙ a.1)) w.2,
         ),
       )

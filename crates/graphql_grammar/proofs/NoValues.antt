@@ -8,7 +8,7 @@ use Rattle.graphql_grammar.specs.Tokens.{Text}
 use Rattle.graphql_grammar.specs.device.Reading.{Test, of, word, Refused, Reader}
 use Rattle.graphql_grammar.specs.device.Productions.{other_than_on, operation_word}
 use Rattle.graphql_grammar.specs.Grammar.{IsScalarKind}
-use Rattle.graphql_grammar.specs.Faults.{Fault}
+use Rattle.graphql_grammar.specs.device.Faults.{Fault}
 
 -- The first tokens are the same, or a scalar token and an opening bracket.
 abbrev pub Exchange : List Lexeme → List Lexeme → Type 0

@@ -7,7 +7,7 @@ use Rattle.graphql_grammar.specs.Tokens.{span_of}
 use Rattle.graphql_grammar.specs.Samples.{IsSample}
 use Rattle.graphql_grammar.specs.device.Reading.{Test, passes, Read, Took, Refused, Out, Reader, after, seq, done, want, many, with_span, give_span, front, maybe, one_or_more, repeated}
 use Rattle.graphql_grammar.specs.Grammar.{Each, Optional}
-use Rattle.graphql_grammar.specs.Faults.{Fault}
+use Rattle.graphql_grammar.specs.device.Faults.{Fault}
 use Rattle.graphql_grammar.proofs.Sequences.{row}
 use Rattle.graphql_grammar.proofs.Rules.{less, Agrees, place_map, Meets, Rule, done_rule, less_below, Next, seq_rule, weaken}
 use Rattle.graphql_grammar.proofs.TokenRules.{want_rule, on_rule, look_rule}

@@ -9,7 +9,7 @@ use Rattle.graphql_lexical.specs.laws.Alike.{Alike}
 use Rattle.graphql_grammar.specs.Tokens.{Text}
 use Rattle.graphql_grammar.specs.Samples.{AreSamples}
 use Rattle.graphql_grammar.specs.device.Reading.{of, Read, Took, Refused, Out, Reader, after, seq, done, fault_of}
-use Rattle.graphql_grammar.specs.Faults.{Fault, UnexpectedEndOfFile, UnexpectedToken, ScalarError}
+use Rattle.graphql_grammar.specs.device.Faults.{Fault, UnexpectedEndOfFile, UnexpectedToken, ScalarError}
 
 -- the first tokens are alike, or there is none
 abbrev pub SameHead : List Lexeme → List Lexeme → Type 0

@@ -8,7 +8,7 @@ use Rattle.graphql_grammar.specs.Tokens.{Text, span_of}
 use Rattle.graphql_grammar.specs.device.Reading.{Test, passes, of, Read, Took, Refused, Out, Reader, after, seq, done, fault_of, refuse, pick, on, want, many, look, choose, with_span, give_span, front, maybe, one_or_more, repeated}
 use Rattle.graphql_grammar.specs.Tree.{Scalars}
 use Rattle.graphql_grammar.specs.Grammar.{IsScalarKind}
-use Rattle.graphql_grammar.specs.Faults.{Fault, ScalarError}
+use Rattle.graphql_grammar.specs.device.Faults.{Fault, ScalarError}
 use Rattle.graphql_grammar.proofs.TokenRules.{on_passed, on_failed}
 use Rattle.graphql_grammar.proofs.PartRules.{front_is, span_took, span_refused}
 use Rattle.graphql_grammar.proofs.Finds.{seq_took}

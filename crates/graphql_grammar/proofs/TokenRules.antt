@@ -4,7 +4,7 @@ use Rattle.graphql_lexical.specs.Cutting.{Lexeme}
 use Rattle.graphql_lexical.specs.laws.Alike.{Alike}
 use Rattle.graphql_grammar.specs.Samples.{IsSample}
 use Rattle.graphql_grammar.specs.device.Reading.{Test, passes, Took, Refused, Reader, after, seq, done, fault_of, refuse, pick, on, want, look, choose}
-use Rattle.graphql_grammar.specs.Faults.{UnexpectedEndOfFile}
+use Rattle.graphql_grammar.specs.device.Faults.{UnexpectedEndOfFile}
 use Rattle.graphql_grammar.proofs.Rules.{SameHead, less, Agrees, Fails, place_fault, Meets, Rule, Some_of, seq_meets, turn}
 
 -- refuse

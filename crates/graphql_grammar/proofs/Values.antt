@@ -11,7 +11,7 @@ use Rattle.graphql_grammar.specs.Tree.{Scalars, Value, Null, Scalar, Enum, Varia
 use Rattle.graphql_lexical.specs.Parts.{◌·◌}
 use Rattle.graphql_grammar.specs.Grammar.{IsScalarKind, Token, Is, IsName, IsValue, AreItems, AreFields, Each}
 use Rattle.graphql_grammar.proofs.Sequences.{row, row_back, row_right, enclosed, over_enclosed, kind_is, token_is, word_is, says_is, one_takes, is_takes, front_takes}
-use Rattle.graphql_grammar.specs.Faults.{ScalarError}
+use Rattle.graphql_grammar.specs.device.Faults.{ScalarError}
 use Rattle.graphql_grammar.proofs.Rules.{SameHead, less, Agrees, Fails, Meets, Rule, Some_of, done_rule, seq_rule, turn, weaken, less_below, IsOpener, More}
 use Rattle.graphql_grammar.proofs.TokenRules.{refuse_rule, want_rule, on_rule}
 use Rattle.graphql_grammar.proofs.PartRules.{many_rule, step, Closed}

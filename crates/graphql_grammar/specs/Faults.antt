@@ -1,8 +1,9 @@
 -- Where a list of tokens is refused, and with which error.
 --
 -- R says which whole lists of tokens are something, and what: documents, values or types. `Allowed` says of which
--- tokens the lists are that are asked about: of all tokens, or of those that a text spells.
-use Rattle.std.specs.Prelude.{Bool, ◌≡◌, ◌≢◌, codes, Err, IsErr, List, [], ◌∷◌, ◌++◌}
+-- tokens the lists are that are asked about: of all tokens, or of those that a text spells. `at_end` is the error of the
+-- end where it is refused, `unexpected` that of another token, by its kind and text.
+use Rattle.std.specs.Prelude.{Bool, ◌≡◌, ◌≢◌, ◌⊎◌, codes, Err, IsErr, List, [], ◌∷◌, ◌++◌}
 use Rattle.std.specs.List.{AllByRecursion, AllZip}
 use Rattle.graphql_lexical.specs.declared.kind.Kind.{Kind}
 use Rattle.graphql_lexical.specs.declared.kind.Kind.TheVariants.{EndOfFile, BracketOpen, CurlyOpen, Name}
@@ -12,12 +13,6 @@ use Rattle.graphql_grammar.specs.Tokens.{Text, IsSpelled}
 use Rattle.graphql_grammar.specs.Samples.{token_of}
 use Rattle.graphql_grammar.specs.Tree.{Scalars}
 use Rattle.graphql_grammar.specs.Grammar.{IsScalarKind, IsValue, IsType, IsDocument}
-
--- Why a token is refused. The last is the error of the scalar type's own reading.
-pub data Fault (F : Type 0) : Type 0 where
-  UnexpectedEndOfFile : Fault F
-  UnexpectedToken : Kind → Text → Fault F
-  ScalarError : F → Fault F
 
 -- none of these tokens is the end
 abbrev pub NoEnd : List Lexeme → Type 0
@@ -52,29 +47,28 @@ module _ (Allowed : Lexeme → Type 0) where
     pub bracket : Begins R (before ++ token_of BracketOpen (codes "[") ∷ [])
     pub curly : Begins R (before ++ token_of CurlyOpen (codes "{") ∷ [])
 
-  -- The error of t, which is refused after the tokens before it. It is the reading's own where t is a scalar token
-  -- that the reading refuses and a value may stand there.
-  abbrev pub NamedError : {C F A : Type 0} → Scalars C F → (A → List Lexeme → Type 0) → List Lexeme → Lexeme → Fault F → Type 0
-  NamedError S R before t UnexpectedEndOfFile = t.kind ≡ EndOfFile
-  NamedError S R before t (ScalarError e) = IsScalarKind t.kind × (S.read t.kind t.text ≡ Err e) × ValueMayStand R before
-  NamedError S R before t (UnexpectedToken kind text) = (kind ≡ t.kind) × (text ≡ t.text) × (t.kind ≢ EndOfFile)
-      × (IsScalarKind t.kind → IsErr (S.read t.kind t.text) → ValueMayStand R before → ⊥)
+module _ {F : Type 0} (at_end : F) (unexpected : Kind → Text → F) where
+  module _ {C A : Type 0} (Allowed : Lexeme → Type 0) (S : Scalars C F) (R : A → List Lexeme → Type 0) (before : List Lexeme) (t : Lexeme) where
+    -- The error of t, which is refused after the tokens before it. It is the reading's own where t is a scalar token
+    -- that the reading refuses and a value may stand there.
+    pub data NamedError : F → Type 0 where
+      end : t.kind ≡ EndOfFile → NamedError at_end
+      own : {error : F} → IsScalarKind t.kind → S.read t.kind t.text ≡ Err error → ValueMayStand Allowed R before → NamedError error
+      other : t.kind ≢ EndOfFile → (IsScalarKind t.kind → IsErr (S.read t.kind t.text) → ValueMayStand Allowed R before → ⊥) → NamedError (unexpected t.kind t.text)
 
--- ---- documents, values and types
+  -- ---- documents, values and types
 
--- The list is refused at t, after the tokens before it, with this error. A document is asked about among lists of tokens
--- that a text spells.
-abbrev pub DocumentRefusedAt : {C F : Type 0} → Scalars C F → List Lexeme → List Lexeme → Lexeme → Fault F → Type 0
-DocumentRefusedAt S ts before t e = AtFault IsSpelled (IsDocument S) ts before t × NamedError IsSpelled S (IsDocument S) before t e
+  -- The list is refused at t, after the tokens before it, with this error. A document is asked about among lists of tokens
+  -- that a text spells.
+  abbrev pub DocumentRefusedAt : {C : Type 0} → Scalars C F → List Lexeme → List Lexeme → Lexeme → F → Type 0
+  DocumentRefusedAt S ts before t e = AtFault IsSpelled (IsDocument S) ts before t × NamedError IsSpelled S (IsDocument S) before t e
 
-abbrev pub ValueRefusedAt : {C F : Type 0} → Scalars C F → Bool → List Lexeme → List Lexeme → Lexeme → Fault F → Type 0
-ValueRefusedAt S free ts before t e = AtFault AnyToken (IsValue S free) ts before t × NamedError AnyToken S (IsValue S free) before t e
+  abbrev pub ValueRefusedAt : {C : Type 0} → Scalars C F → Bool → List Lexeme → List Lexeme → Lexeme → F → Type 0
+  ValueRefusedAt S free ts before t e = AtFault AnyToken (IsValue S free) ts before t × NamedError AnyToken S (IsValue S free) before t e
 
--- The error of a token that no type has there.
-abbrev pub TypeError : {F : Type 0} → Lexeme → Fault F → Type 0
-TypeError t UnexpectedEndOfFile = t.kind ≡ EndOfFile
-TypeError t (UnexpectedToken kind text) = (kind ≡ t.kind) × (text ≡ t.text) × (t.kind ≢ EndOfFile)
-TypeError t (ScalarError e) = ⊥
+  -- The error of a token that no type has there.
+  abbrev pub TypeError : Lexeme → F → Type 0
+  TypeError t e = ((t.kind ≡ EndOfFile) × (e ≡ at_end)) ⊎ ((t.kind ≢ EndOfFile) × (e ≡ unexpected t.kind t.text))
 
-abbrev pub TypeRefusedAt : {F : Type 0} → List Lexeme → List Lexeme → Lexeme → Fault F → Type 0
-TypeRefusedAt ts before t e = AtFault AnyToken IsType ts before t × TypeError t e
+  abbrev pub TypeRefusedAt : List Lexeme → List Lexeme → Lexeme → F → Type 0
+  TypeRefusedAt ts before t e = AtFault AnyToken IsType ts before t × TypeError t e

@@ -4,10 +4,12 @@ ghost use Rattle.std.specs.List.{AllByRecursion, AllZip};
 ghost use Rattle.graphql_lexical.specs.Cutting.{Lexeme, Cut};
 ghost use Rattle.graphql_lexical.specs.laws.Alike.{Alike};
 ghost use Rattle.graphql_lexical.specs.Nesting.{opened, closed};
-ghost use Rattle.graphql_grammar.specs.Tokens.{IsSpelled, span_of};
+ghost use Rattle.graphql_lexical.specs.declared.kind.Kind.{Kind};
+ghost use Rattle.graphql_grammar.specs.Tokens.{Text, IsSpelled, span_of};
 ghost use Rattle.graphql_grammar.specs.Tree.{Scalars, Value, TypeRef, Definition};
 ghost use Rattle.graphql_grammar.specs.Grammar.{IsValue, IsType, IsDocument};
-ghost use Rattle.graphql_grammar.specs.Faults.{Fault, EndsOnce, AtFault, DocumentRefusedAt, ValueRefusedAt, TypeRefusedAt};
+ghost use Rattle.graphql_grammar.specs.Faults.{EndsOnce, AtFault, DocumentRefusedAt};
+ghost use Rattle.graphql_grammar.specs.device.Faults.{DocumentFaultAt, ValueFaultAt, TypeFaultAt};
 ghost use Rattle.graphql_grammar.specs.ScalarTokens.{IsRead, IsReadAlso};
 ghost use Rattle.graphql_grammar.specs.Texts.{BeginsText};
 ghost use Rattle.graphql_grammar.specs.Unlocated.{SameDocument, SameValue};
@@ -37,14 +39,14 @@ pub fn value_front<C, F>()
 
 /// Tokens that a text spells, with one end, the last, are a document or are refused at one place, and never both.
 pub fn document_or_fault<C, F>()
-    ensures either { (S : Scalars C F) (ts : List Lexeme) → AllByRecursion IsSpelled ts → EndsOnce ts → ((ds : List (Definition C)) × IsDocument S ds ts) ⊎ ((before : List Lexeme) × (t : Lexeme) × (e : Fault F) × DocumentRefusedAt S ts before t e) }
+    ensures either { (at_end : F) (unexpected : Kind → Text → F) (S : Scalars C F) (ts : List Lexeme) → AllByRecursion IsSpelled ts → EndsOnce ts → ((ds : List (Definition C)) × IsDocument S ds ts) ⊎ ((before : List Lexeme) × (t : Lexeme) × (e : F) × DocumentRefusedAt at_end unexpected S ts before t e) }
     ensures one { (S : Scalars C F) (ts us vs : List Lexeme) (t u : Lexeme) → AtFault IsSpelled (IsDocument S) ts us t → AtFault IsSpelled (IsDocument S) ts vs u → (us ≡ vs) × (t ≡ u) }
     ensures never_both { (S : Scalars C F) (ts before : List Lexeme) (ds : List (Definition C)) (t : Lexeme) → AllByRecursion IsSpelled ts → IsDocument S ds ts → AtFault IsSpelled (IsDocument S) ts before t → ⊥ }
 {}
 
 /// A list of tokens is refused at one token, after the same tokens, and with one error.
 pub fn one_refusal<C, F>()
-    ensures { (S : Scalars C F) (ts us vs : List Lexeme) (t u : Lexeme) (e d : Fault F) → DocumentRefusedAt S ts us t e → DocumentRefusedAt S ts vs u d → (us ≡ vs) × (t ≡ u) × (e ≡ d) }
+    ensures { (at_end : F) (unexpected : Kind → Text → F) (S : Scalars C F) (ts us vs : List Lexeme) (t u : Lexeme) (e d : F) → DocumentRefusedAt at_end unexpected S ts us t e → DocumentRefusedAt at_end unexpected S ts vs u d → (us ≡ vs) × (t ≡ u) × (e ≡ d) }
 {}
 
 /// The tokens before the refused one can be completed to a document by sample tokens alone.
@@ -65,14 +67,14 @@ pub fn document_is_balanced<C, F>()
 
 /// A list that is refused at a token of a prefix is refused there whatever stands after that prefix.
 pub fn refused_in_front<C, F>()
-    ensures { (S : Scalars C F) (front more other before : List Lexeme) (t : Lexeme) (e : Fault F) → length before < length front → DocumentRefusedAt S (front ++ more) before t e → DocumentRefusedAt S (front ++ other) before t e }
+    ensures { (at_end : F) (unexpected : Kind → Text → F) (S : Scalars C F) (front more other before : List Lexeme) (t : Lexeme) (e : F) → length before < length front → DocumentRefusedAt at_end unexpected S (front ++ more) before t e → DocumentRefusedAt at_end unexpected S (front ++ other) before t e }
 {}
 
 /// Lists that are alike are both documents, whose trees differ in spans alone, or are both refused, after tokens that are
 /// alike and at tokens that are, with the same error.
 pub fn alike_documents<C, F>()
     ensures accepted { (S : Scalars C F) (ts us : List Lexeme) (a : List (Definition C)) → AllZip Alike ts us → IsDocument S a ts → (b : List (Definition C)) × IsDocument S b us × SameDocument a b }
-    ensures refused { (S : Scalars C F) (ts us before : List Lexeme) (t : Lexeme) (e : Fault F) → AllZip Alike ts us → DocumentRefusedAt S ts before t e → (front : List Lexeme) × (u : Lexeme) × AllZip Alike before front × Alike t u × DocumentRefusedAt S us front u e }
+    ensures refused { (at_end : F) (unexpected : Kind → Text → F) (S : Scalars C F) (ts us before : List Lexeme) (t : Lexeme) (e : F) → AllZip Alike ts us → DocumentRefusedAt at_end unexpected S ts before t e → (front : List Lexeme) × (u : Lexeme) × AllZip Alike before front × Alike t u × DocumentRefusedAt at_end unexpected S us front u e }
 {}
 
 /// Lists that are alike are both values, which differ in spans alone, or neither is one.
@@ -104,15 +106,15 @@ pub fn samples_are_spelled()
 
 /// The reading of a document gives the one tree, or refuses where the definitions do.
 pub fn document_is_read<C, F>()
-    ensures { (S : Scalars C F) (ts : List Lexeme) → AllByRecursion IsSpelled ts → EndsOnce ts → GivesWhole (IsDocument S) (DocumentRefusedAt S ts) ts (fully (λ n. reads S n document) ts) }
+    ensures { (S : Scalars C F) (ts : List Lexeme) → AllByRecursion IsSpelled ts → EndsOnce ts → GivesWhole (IsDocument S) (DocumentFaultAt S ts) ts (fully (λ n. reads S n document) ts) }
 {}
 
 /// The reading of a value gives the one prefix that is a value, or refuses where the definitions do.
 pub fn value_is_read<C, F>()
-    ensures { (S : Scalars C F) (free : Bool) (ts : List Lexeme) → EndsOnce ts → GivesFront (IsValue S free) (ValueRefusedAt S free ts) ts (fully (λ n. symbol_at S n _ (a_value free)) ts) }
+    ensures { (S : Scalars C F) (free : Bool) (ts : List Lexeme) → EndsOnce ts → GivesFront (IsValue S free) (ValueFaultAt S free ts) ts (fully (λ n. symbol_at S n _ (a_value free)) ts) }
 {}
 
 /// The reading of a type gives the longest prefix that is a type, with its span, or refuses where the definitions do.
 pub fn type_is_read<C, F>()
-    ensures { (S : Scalars C F) (ts : List Lexeme) → EndsOnce ts → GivesFront (λ x us. IsType x.0 us × (x.1 ≡ span_of us)) (TypeRefusedAt ts) ts (fully (λ n. symbol_at S n _ a_type) ts) }
+    ensures { (S : Scalars C F) (ts : List Lexeme) → EndsOnce ts → GivesFront (λ x us. IsType x.0 us × (x.1 ≡ span_of us)) (TypeFaultAt ts) ts (fully (λ n. symbol_at S n _ a_type) ts) }
 {}

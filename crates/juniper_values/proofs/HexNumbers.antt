@@ -1,5 +1,5 @@
 -- Four hexadecimal digits are those of a scalar by their first two digits, and by their number: the same.
-use Rattle.std.proofs.Common.{◌≡◌, ℕ, ◌+◌, ◌-◌, ◌*◌, ◌<◌, ◌≤◌, ◌⊎◌, Bool, true, false, IsTrue, arith, refl, codes}
+use Rattle.std.proofs.Common.{inl, inr, ◌≡◌, ℕ, ◌+◌, ◌-◌, ◌*◌, ◌<◌, ◌≤◌, ◌⊎◌, Bool, true, false, IsTrue, arith, refl, codes}
 use Rattle.std.proofs.lemmas.Bool.Decides.{nat_tests}
 use Rattle.graphql_lexical.specs.Characters.{is_among, is_hex}
 use Rattle.graphql_lexical.specs.Tokens.{IsScalar}

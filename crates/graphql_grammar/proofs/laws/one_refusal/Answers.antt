@@ -1,5 +1,5 @@
-use Rattle.graphql_grammar.proofs.OneFault.{one_document_refusal}
+use Rattle.graphql_grammar.proofs.Errors.{one_document_error}
 use Rattle.graphql_grammar.proofs.laws.one_refusal.Goals as goal
 
 pub returns : goal.returns
-returns g c = one_document_refusal
+returns g c = λ at_end unexpected S. one_document_error at_end unexpected S

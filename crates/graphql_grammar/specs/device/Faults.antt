@@ -1,0 +1,43 @@
+-- A device: why a reader refuses a token, and the error that is made of it.
+use Rattle.std.specs.Prelude.{Bool, ◌≡◌, ◌≢◌, Err, IsErr, List}
+use Rattle.graphql_lexical.specs.declared.kind.Kind.{Kind}
+use Rattle.graphql_lexical.specs.declared.kind.Kind.TheVariants.{EndOfFile}
+use Rattle.graphql_lexical.specs.Cutting.{Lexeme}
+use Rattle.graphql_grammar.specs.Tokens.{Text, IsSpelled}
+use Rattle.graphql_grammar.specs.Tree.{Scalars}
+use Rattle.graphql_grammar.specs.Grammar.{IsScalarKind, IsValue, IsType, IsDocument}
+use Rattle.graphql_grammar.specs.Faults.{AnyToken, AtFault, ValueMayStand}
+
+-- The last is the error of the scalar type's own reading.
+pub data Fault (F : Type 0) : Type 0 where
+  UnexpectedEndOfFile : Fault F
+  UnexpectedToken : Kind → Text → Fault F
+  ScalarError : F → Fault F
+
+-- the error of a fault, by that of the end and that of another token
+abbrev pub told : {F : Type 0} → F → (Kind → Text → F) → Fault F → F
+told at_end unexpected UnexpectedEndOfFile = at_end
+told at_end unexpected (UnexpectedToken kind text) = unexpected kind text
+told at_end unexpected (ScalarError e) = e
+
+module _ (Allowed : Lexeme → Type 0) where
+  -- The fault of t, which is refused after the tokens before it.
+  abbrev pub NamesFault : {C F A : Type 0} → Scalars C F → (A → List Lexeme → Type 0) → List Lexeme → Lexeme → Fault F → Type 0
+  NamesFault S R before t UnexpectedEndOfFile = t.kind ≡ EndOfFile
+  NamesFault S R before t (ScalarError e) = IsScalarKind t.kind × (S.read t.kind t.text ≡ Err e) × ValueMayStand Allowed R before
+  NamesFault S R before t (UnexpectedToken kind text) = (kind ≡ t.kind) × (text ≡ t.text) × (t.kind ≢ EndOfFile)
+      × (IsScalarKind t.kind → IsErr (S.read t.kind t.text) → ValueMayStand Allowed R before → ⊥)
+
+abbrev pub DocumentFaultAt : {C F : Type 0} → Scalars C F → List Lexeme → List Lexeme → Lexeme → Fault F → Type 0
+DocumentFaultAt S ts before t e = AtFault IsSpelled (IsDocument S) ts before t × NamesFault IsSpelled S (IsDocument S) before t e
+
+abbrev pub ValueFaultAt : {C F : Type 0} → Scalars C F → Bool → List Lexeme → List Lexeme → Lexeme → Fault F → Type 0
+ValueFaultAt S free ts before t e = AtFault AnyToken (IsValue S free) ts before t × NamesFault AnyToken S (IsValue S free) before t e
+
+abbrev pub TypeFault : {F : Type 0} → Lexeme → Fault F → Type 0
+TypeFault t UnexpectedEndOfFile = t.kind ≡ EndOfFile
+TypeFault t (UnexpectedToken kind text) = (kind ≡ t.kind) × (text ≡ t.text) × (t.kind ≢ EndOfFile)
+TypeFault t (ScalarError e) = ⊥
+
+abbrev pub TypeFaultAt : {F : Type 0} → List Lexeme → List Lexeme → Lexeme → Fault F → Type 0
+TypeFaultAt ts before t e = AtFault AnyToken IsType ts before t × TypeFault t e
