@@ -18,6 +18,7 @@ use Rattle.graphql_grammar.proofs.NoValues.{NoValueBehind}
 use Rattle.graphql_grammar.proofs.ScalarFaults.{TellsFault, TellsFaults, IsScalarFault}
 use Rattle.std.specs.List.{AllByRecursion, AllZip}
 use Rattle.graphql_grammar.proofs.Alike.{alike_sym, alike_join}
+use Rattle.graphql_grammar.specs.Tokens.{nowhere}
 
 not_scalar_error : {F : Type 0} (b : Bool) (t : Lexeme) (y : F)
     → cond b UnexpectedEndOfFile (UnexpectedToken t.kind t.text) ≡ ScalarError y → ⊥
@@ -55,11 +56,11 @@ module _ {C F A : Type 0} (S : Scalars C F) (f : ℕ → Reader F A) (R : A → 
     where
       b1 : (N : ℕ) × (more : List Lexeme) × ((m : ℕ) → N ≤ m → (b : A)
           × (f m (us ++ (sample BracketOpen ∷ more)) ≡ Took b []))
-      b1 = begun us (sample BracketOpen) v.bracket
+      b1 = begun us (sample BracketOpen) (v nowhere (sample BracketOpen ∷ []) (inr (inl refl)))
 
       b2 : (N : ℕ) × (more : List Lexeme) × ((m : ℕ) → N ≤ m → (b : A)
           × (f m (us ++ (sample CurlyOpen ∷ more)) ≡ Took b []))
-      b2 = begun us (sample CurlyOpen) v.curly
+      b2 = begun us (sample CurlyOpen) (v nowhere (sample CurlyOpen ∷ []) (inr (inr refl)))
 
       m : ℕ
       m = n + (b1.0 + b2.0)

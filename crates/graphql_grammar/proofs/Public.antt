@@ -9,7 +9,7 @@ pub use Rattle.graphql_grammar.proofs.Found.{value_found}
 pub use Rattle.graphql_grammar.proofs.Fuel.{Answers, settled}
 pub use Rattle.graphql_grammar.proofs.Given.{document_given, type_given, value_given}
 pub use Rattle.graphql_grammar.proofs.Errors.{document_error, document_error_alike, document_fault, document_or_error, one_document_error, type_error, value_error}
-pub use Rattle.graphql_grammar.proofs.OneFault.{document_alike, never_both}
+pub use Rattle.graphql_grammar.proofs.OneFault.{document_alike, document_or_fault, never_both}
 pub use Rattle.graphql_grammar.proofs.OtherScalars.{document}
 pub use Rattle.graphql_grammar.proofs.PartRules.{Closed}
 pub use Rattle.graphql_grammar.proofs.ReadScalars.{document_is_read}

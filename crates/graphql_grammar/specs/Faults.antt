@@ -7,12 +7,13 @@ use Rattle.std.specs.Prelude.{Bool, ◌≡◌, ◌≢◌, ◌⊎◌, codes, Err,
 use Rattle.std.specs.List.{AllByRecursion, AllZip}
 use Rattle.graphql_lexical.specs.declared.kind.Kind.{Kind}
 use Rattle.graphql_lexical.specs.declared.kind.Kind.TheVariants.{EndOfFile, BracketOpen, CurlyOpen, Name}
+use Rattle.graphql_lexical.specs.Place.{Span}
+use Rattle.graphql_lexical.specs.Parts.{◌or◌}
 use Rattle.graphql_lexical.specs.Cutting.{Lexeme}
 use Rattle.graphql_lexical.specs.laws.Alike.{Alike}
 use Rattle.graphql_grammar.specs.Tokens.{Text, IsSpelled}
-use Rattle.graphql_grammar.specs.Samples.{token_of}
 use Rattle.graphql_grammar.specs.Tree.{Scalars}
-use Rattle.graphql_grammar.specs.Grammar.{IsScalarKind, IsValue, IsType, IsDocument}
+use Rattle.graphql_grammar.specs.Grammar.{Token, IsScalarKind, IsValue, IsType, IsDocument}
 
 -- none of these tokens is the end
 abbrev pub NoEnd : List Lexeme → Type 0
@@ -42,10 +43,9 @@ module _ (Allowed : Lexeme → Type 0) where
     pub ends : Begins R (before ++ t ∷ []) → ⊥
 
   -- A value may stand after these tokens: each of the Name null, `[` and `{` may.
-  pub record ValueMayStand {A : Type 0} (R : A → List Lexeme → Type 0) (before : List Lexeme) : Type 0 where
-    pub null : Begins R (before ++ token_of Name (codes "null") ∷ [])
-    pub bracket : Begins R (before ++ token_of BracketOpen (codes "[") ∷ [])
-    pub curly : Begins R (before ++ token_of CurlyOpen (codes "{") ∷ [])
+  abbrev pub ValueMayStand : {A : Type 0} → (A → List Lexeme → Type 0) → List Lexeme → Type 0
+  ValueMayStand R before = (span : Span) (next : List Lexeme)
+      → (Token Name (codes "null") span or Token BracketOpen (codes "[") span or Token CurlyOpen (codes "{") span) next → Begins R (before ++ next)
 
 module _ {F : Type 0} (at_end : F) (unexpected : Kind → Text → F) where
   module _ {C A : Type 0} (Allowed : Lexeme → Type 0) (S : Scalars C F) (R : A → List Lexeme → Type 0) (before : List Lexeme) (t : Lexeme) where

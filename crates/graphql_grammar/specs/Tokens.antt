@@ -4,7 +4,7 @@ use Rattle.std.specs.Option.{unwrap_or}
 use Rattle.std.specs.Prelude.{◌≡◌, ◌⊎◌, List, [], ◌∷◌, Option, Some, None}
 use Rattle.graphql_lexical.specs.declared.kind.Kind.TheVariants.{EndOfFile}
 pub use Rattle.graphql_lexical.specs.Characters.{Text}
-use Rattle.graphql_lexical.specs.Place.{Span}
+use Rattle.graphql_lexical.specs.Place.{Span, place}
 use Rattle.graphql_lexical.specs.Tokens.{Spells}
 use Rattle.graphql_lexical.specs.Cutting.{Lexeme}
 
@@ -26,7 +26,7 @@ nowhere = record { start = record { index = 0; line = 0; column = 0 }; end = rec
 
 -- From the start of the first token to the end of the last. No node of a tree is an empty list of tokens.
 abbrev pub span_of : List Lexeme → Span
-span_of [] = nowhere
+span_of [] = record { start = place [] 0; end = place [] 0 }
 span_of (t ∷ ts) = record { start = t.span.start; end = (unwrap_or (last_or None ts) t).span.end }
 
 -- from the start of one span to the end of another

@@ -9,20 +9,20 @@ use Rattle.graphql_grammar.specs.Faults.{ValueRefusedAt}
 use Rattle.juniper_tokens.specs.declared.error.ParseFailure.{ParseFailure}
 use Rattle.juniper_tokens.specs.declared.error.ParseFailure.TheVariants as failure
 use Rattle.juniper_tokens.specs.declared.error.LexFailure.{LexFailure}
-use Rattle.juniper_tokens.specs.Errors.{Error, Fault, view_fault, failure_of}
+use Rattle.juniper_tokens.specs.Errors.{Error, UnexpectedEndOfFile, Fault, view_fault, failure_of}
 use Rattle.juniper.specs.laws.TreeLaws.{CutsOnce, IsRefusedAtBreak}
-use Rattle.juniper.specs.Promise.{lexical_fault, Refuses, IfRefused, AnswersValue}
+use Rattle.juniper.specs.Promise.{lexical_fault, unexpected, Refuses, IfRefused, AnswersValue}
 use Rattle.guide.specs.Literals.{HasNoValue}
 
 module _ {C : Type 0} (S : Scalars C Error) (source : List ℕ) (ends : CutsOnce source) where
   module _ (ts left : List Lexeme) (cut : Cut source ts) where
-    refused : (fault : Fault) → Refuses (IsValue S true) (ValueRefusedAt S true) fault ts left
+    refused : (fault : Fault) → Refuses (IsValue S true) (ValueRefusedAt UnexpectedEndOfFile unexpected S true) fault ts left
         → HasNoValue S source fault
     refused fault r = record {
       none = λ value b. r.none b.front b.left value (ends.one_cut ts b.lexemes cut b.cut ∙ b.whole) b.means;
       lexical = λ error at b. absurd (ends.never_both ts error at cut b);
       grammatical = λ others d. subst (λ (xs : List Lexeme). (rest : List Lexeme)
-          × Refuses (IsValue S true) (ValueRefusedAt S true) fault xs rest) (ends.one_cut ts others cut d) (left, r);
+          × Refuses (IsValue S true) (ValueRefusedAt UnexpectedEndOfFile unexpected S true) fault xs rest) (ends.one_cut ts others cut d) (left, r);
     }
 
     -- what is refused of the tokens is refused of the text

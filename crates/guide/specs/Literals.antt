@@ -7,11 +7,11 @@ use Rattle.graphql_grammar.specs.Tree.{Scalars, Value}
 use Rattle.graphql_grammar.specs.Grammar.{IsValue}
 use Rattle.graphql_grammar.specs.Faults.{ValueRefusedAt}
 use Rattle.juniper_tokens.specs.declared.span.Spanning.{Spanning}
-use Rattle.juniper_tokens.specs.Errors.{Error, Fault}
+use Rattle.juniper_tokens.specs.Errors.{Error, UnexpectedEndOfFile, Fault}
 use Rattle.juniper_values.specs.Same.{same_but_place}
 use Rattle.juniper_values.specs.View.{view}
 use Rattle.juniper_values.specs.declared.input_value.InputValue.{InputValue}
-use Rattle.juniper.specs.Promise.{lexical_fault, Refuses}
+use Rattle.juniper.specs.Promise.{lexical_fault, unexpected, Refuses}
 use Rattle.juniper.specs.View.{view_value}
 
 module _ {C : Type 0} (scalars : Scalars C Error) where
@@ -29,7 +29,7 @@ module _ {C : Type 0} (scalars : Scalars C Error) where
   pub record HasNoValue (source : List ℕ) (fault : Fault) : Type 0 where
     pub none : (value : Value C) → BeginsWith source value → ⊥
     pub lexical : (error : LexicalError) (at : Place) → Breaks source error at → fault ≡ lexical_fault error at
-    pub grammatical : (lexemes : List Lexeme) → Cut source lexemes → (left : List Lexeme) × Refuses (IsValue scalars true) (ValueRefusedAt scalars true) fault lexemes left
+    pub grammatical : (lexemes : List Lexeme) → Cut source lexemes → (left : List Lexeme) × Refuses (IsValue scalars true) (ValueRefusedAt UnexpectedEndOfFile unexpected scalars true) fault lexemes left
 
   -- The fault is that of the first of two texts that begins with no value.
   abbrev pub FirstFault : List ℕ → List ℕ → Fault → Type 0

@@ -12,9 +12,10 @@ use Rattle.graphql_lexical.specs.Nesting.{nesting, IsFirstDeeper, ended_by}
 use Rattle.graphql_grammar.specs.Tree.{Scalars, Definition}
 use Rattle.graphql_grammar.specs.Grammar.{IsDocument}
 use Rattle.graphql_grammar.specs.Tokens.{IsSpelled}
-use Rattle.graphql_grammar.specs.Faults.{Fault, EndsOnce}
+use Rattle.graphql_grammar.specs.Faults.{EndsOnce, DocumentRefusedAt}
+use Rattle.graphql_grammar.specs.device.Faults.{Fault, told}
 use Rattle.graphql_grammar.specs.Depth.{BeginsDocument, IsTooDeep}
-use Rattle.graphql_grammar.proofs.Public.{same_parts, document_or_fault, cut_spelled, cut_ends, short_spelled, short_ends, TellsDepth, short_no_document, short_tells, middle_of}
+use Rattle.graphql_grammar.proofs.Public.{same_parts, document_error, document_fault, document_or_fault, cut_spelled, cut_ends, short_spelled, short_ends, TellsDepth, short_no_document, short_tells, middle_of}
 use Rattle.juniper_tokens.specs.declared.error.ParseError.{ParseError}
 use Rattle.juniper_tokens.specs.declared.error.ParseFailure.{ParseFailure}
 use Rattle.juniper_tokens.specs.declared.error.ParseFailure.TheVariants as failure
@@ -23,13 +24,13 @@ use Rattle.juniper_tokens.specs.declared.error.LexFailure.TheVariants as lexing
 use Rattle.juniper_tokens.specs.declared.span.Spanning.{Spanning}
 use Rattle.juniper_tokens.specs.declared.span.Span as spans
 use Rattle.juniper_tokens.specs.Spans.{view_span}
-use Rattle.juniper_tokens.specs.Errors.{Error, view_fault, view_lexer_error, failure_of}
+use Rattle.juniper_tokens.specs.Errors.{Error, UnexpectedEndOfFile, view_fault, view_lexer_error, failure_of}
 use Rattle.juniper_tokens.specs.Lexing.{LexerState, started}
 use Rattle.juniper_tokens.specs.Gathering.{IfFault}
 use Rattle.juniper_tokens.specs.Nesting.{IsShallow, EndsAtNesting}
 use Rattle.juniper.specs.declared.parser.document.depth.DepthFailure.{DepthFailure}
 use Rattle.juniper.specs.declared.parser.document.depth.DepthFailure.TheVariants as limited
-use Rattle.juniper.specs.Promise.{HasTree, IsRefusedAt, IsRefusal, AnswersAs, lexical_fault}
+use Rattle.juniper.specs.Promise.{HasTree, IsRefusedAt, IsRefusal, AnswersAs, lexical_fault, unexpected}
 use Rattle.juniper.specs.Within.{HasTooDeep, IsWithin, AnswersWithin, HasTreeWithin, IsRefusedWithin, IsNestedTooDeep, HasOneAnswer, answer_within}
 use Rattle.graphql_grammar.specs.device.Productions.{document}
 use Rattle.juniper.specs.device.Steps.{cursor}
@@ -150,15 +151,16 @@ module _ {C : Type 0} (S : Scalars C Error) (depth : ℕ) (source : List ℕ) wh
 
       module _ (i : ℕ) (t : Lexeme) (d : IsFirstDeeper depth ts i t) where
         deep_fault : (span : spans.Span) (fault : Spanning ParseError) → view_span span ≡ t.span
-            → (h : IsRefusedAt S (ended_by d.before t) (view_fault fault)) → TellsDepth S ts i t h.before h.token h.says
+            → (h : IsRefusedAt S (ended_by d.before t) (view_fault fault)) (e : Fault Error)
+            → (view_fault fault).error ≡ told UnexpectedEndOfFile unexpected e → TellsDepth S ts i t h.before h.token e
             → Promised (answer_within (Some span) (Err (failure.Refused fault)))
-        deep_fault span fault e h (inl (end, begins)) =
+        deep_fault span fault e h x is (inl (end, begins)) =
             let at_end = h.span ∙ ap (λ (x : Lexeme). x.span) end in
             let from : fault.span.start.index ≡ t.span.end.index = ap (λ (p : Span). p.start.index) at_end in
             let to : fault.span.end.index ≡ t.span.end.index = ap (λ (p : Span). p.end.index) at_end in
             rw (same_number fault.span.start.index fault.span.end.index (from ∙ sym to))
             (deep_within span (begun_too_deep ts cut i t d begins (view_span span) e))
-        deep_fault span fault e h (inr (goes_on, none, refused)) =
+        deep_fault span fault e h x is (inr (goes_on, none, refused)) =
             let all_wide = subst (AllByRecursion IsWide) refused.0.whole (tokens_wide source ts cut) in
             let wide = middle_of IsWide h.before refused.0.after h.token all_wide goes_on in
             let some : fault.span.start.index < fault.span.end.index = subst (λ (p : Span). p.start.index < p.end.index)
@@ -166,9 +168,9 @@ module _ {C : Type 0} (S : Scalars C Error) (depth : ℕ) (source : List ℕ) wh
             let at : IsRefusedAt S ts (view_fault fault) = record {
               before = h.before;
               token = h.token;
-              says = h.says;
-              refused = refused;
-              error = h.error;
+              refused =
+                  subst (DocumentRefusedAt UnexpectedEndOfFile unexpected S ts h.before h.token) (sym is)
+                  (document_error UnexpectedEndOfFile unexpected S ts h.before h.token x refused);
               span = h.span;
             } in
             rw (other_number fault.span.start.index fault.span.end.index some)
@@ -189,7 +191,9 @@ module _ {C : Type 0} (S : Scalars C Error) (depth : ℕ) (source : List ℕ) wh
         deep_answer span (Err (failure.Refused fault)) e a =
             let h = refused_is S (ended_by d.before t) spelled ends (view_fault fault) a.0 a.1 in
             let tells = short_tells S depth ts i t d (cut_spelled source ts cut) (cut_ends source ts cut) in
-            deep_fault span fault e h (tells h.before h.token h.says h.refused)
+            let f = document_fault UnexpectedEndOfFile unexpected S (ended_by d.before t) h.before h.token
+            (view_fault fault).error h.refused in
+            deep_fault span fault e h f.0 f.2 (tells h.before h.token f.0 f.1)
         deep_answer span (Err failure.Memory) e a = memory_within
 
       pub answers_within : (deep : Option spans.Span) (left : List Lexeme) (result : Result X ParseFailure)
@@ -248,7 +252,14 @@ module _ {C : Type 0} (S : Scalars C Error) (depth : ℕ) (source : List ℕ) wh
       told_has_one us u e (inl (end, begins)) =
           inr (inr (t.span, begun_too_deep ts cut i t d begins t.span refl))
       told_has_one us u e (inr (goes_on, none, refused)) =
-          inr (inl (unbegun_within ts cut i t d none, (_, refusal_of S source ts us u e cut refused)))
+          inr (inl (
+            unbegun_within ts cut i t d none,
+            (
+              _,
+              refusal_of S source ts us u _ cut
+                  (document_error UnexpectedEndOfFile unexpected S ts us u e refused),
+            ),
+          ))
 
       deep_has_one : SomeAnswer
       deep_has_one =

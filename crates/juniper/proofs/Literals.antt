@@ -10,17 +10,19 @@ use Rattle.graphql_grammar.specs.Tree.{Scalars, Value, TypeRef}
 use Rattle.graphql_grammar.specs.Grammar.{IsValue}
 use Rattle.graphql_grammar.specs.Faults as grammar
 use Rattle.graphql_grammar.specs.Faults.{ValueRefusedAt, TypeRefusedAt}
+use Rattle.graphql_grammar.specs.device.Faults as device
+use Rattle.graphql_grammar.specs.device.Faults.{ValueFaultAt, TypeFaultAt}
 use Rattle.graphql_grammar.specs.device.Reading.{Took, Refused, Out, Reader, GivesFront, fully, a_value, a_type}
 use Rattle.graphql_grammar.specs.device.Productions.{symbol_at}
-use Rattle.graphql_grammar.proofs.Public.{IsSpannedType, value_given, type_given, value_found}
+use Rattle.graphql_grammar.proofs.Public.{value_error, type_error, IsSpannedType, value_given, type_given, value_found}
 use Rattle.graphql_grammar.specs.device.Reading as reading
 use Rattle.juniper_tokens.specs.declared.error.ParseFailure.{ParseFailure}
 use Rattle.juniper_tokens.specs.declared.error.ParseFailure.TheVariants as failure
-use Rattle.juniper_tokens.specs.Errors.{Error, Fault, view_fault}
+use Rattle.juniper_tokens.specs.Errors.{Error, UnexpectedEndOfFile, Fault, view_fault}
 use Rattle.juniper_tokens.specs.Cursor.{Read, EndsOnce, Gives}
-use Rattle.juniper.specs.device.Seen.{seen}
+use Rattle.juniper.specs.device.Seen.{error_of, seen}
 use Rattle.juniper.specs.device.Steps.{no_scalars, value_read, type_read}
-use Rattle.juniper.specs.Promise.{Refuses, AnswersValue, AnswersType, past}
+use Rattle.juniper.specs.Promise.{Refuses, AnswersValue, AnswersType, past, unexpected}
 use Rattle.juniper.proofs.Stepping.{seen_took}
 
 -- The last token and no other is the end, as the cursor and as the grammar say it.
@@ -49,8 +51,11 @@ fault_is a b p q e = let h : (a, p) ≡ (b, q) = cc in (
 )
 
 module _ {A : Type 0} (R : A → List Lexeme → Type 0)
-    (RefusedAt : List Lexeme → List Lexeme → Lexeme → grammar.Fault Error → Type 0) (old left : List Lexeme) where
-  refuses : (fault : Fault) (z : reading.Read Error A) → GivesFront R (RefusedAt old) old z → seen z ≡ Err (fault, left)
+    (FaultAt : List Lexeme → List Lexeme → Lexeme → device.Fault Error → Type 0)
+    (RefusedAt : List Lexeme → List Lexeme → Lexeme → Error → Type 0)
+    (error_is : (ts before : List Lexeme) (t : Lexeme) (x : device.Fault Error) → FaultAt ts before t x
+    → RefusedAt ts before t (error_of x)) (old left : List Lexeme) where
+  refuses : (fault : Fault) (z : reading.Read Error A) → GivesFront R (FaultAt old) old z → seen z ≡ Err (fault, left)
       → Refuses R RefusedAt fault old left
   refuses fault (Took x rest) g q = absurd (cc q)
   refuses fault (Refused [] x) g q = absurd g
@@ -62,9 +67,7 @@ module _ {A : Type 0} (R : A → List Lexeme → Type 0)
         token = t;
         after = rest;
         whole = whole;
-        says = x;
-        refused = at;
-        error = ap (λ (f : Fault). f.error) is.0;
+        refused = subst (RefusedAt old before t) (sym (ap (λ (f : Fault). f.error) is.0)) (error_is old before t x at);
         span = ap (λ (f : Fault). f.span) is.0;
         leaves = is.1;
       }
@@ -79,7 +82,7 @@ module _ {C : Type 0} (S : Scalars C Error) (free : Bool) where
   unfolding fully value_read
   answers_value view (Ok x) old left ended h =
       let took = seen_took (fully value_at old) (view x) left h in
-      let g = subst (λ z. GivesFront (IsValue S free) (ValueRefusedAt S free old) old z) took
+      let g = subst (λ z. GivesFront (IsValue S free) (ValueFaultAt S free old) old z) took
       (value_given S free old (ends_once old ended)) in (
         record { taken = g.0; whole = g.1; means = g.2 },
         λ us vs y e k. (
@@ -89,7 +92,8 @@ module _ {C : Type 0} (S : Scalars C Error) (free : Bool) where
             (cc both, cc both)),
       )
   answers_value view (Err (failure.Refused e)) old left ended h =
-      refuses (IsValue S free) (ValueRefusedAt S free) old left (view_fault e) (fully value_at old)
+      refuses (IsValue S free) (ValueFaultAt S free) (ValueRefusedAt UnexpectedEndOfFile unexpected S free)
+      (value_error UnexpectedEndOfFile unexpected S free) old left (view_fault e) (fully value_at old)
       (value_given S free old (ends_once old ended)) h
   answers_value view (Err failure.Memory) old left ended h = tt
 
@@ -102,7 +106,7 @@ pub answers_type : {X : Type 0} (view : X → TypeRef × Span) (result : Result 
     → EndsOnce old → Gives view result left (type_read old) → AnswersType view result old left
 unfolding type_read
 answers_type view (Ok x) old left ended h =
-    let g = subst (λ z. GivesFront IsSpannedType (TypeRefusedAt old) old z)
+    let g = subst (λ z. GivesFront IsSpannedType (TypeFaultAt old) old z)
     (seen_took (fully type_at old) (view x) left h) (type_given no_scalars old (ends_once old ended)) in (
       record { taken = g.0; whole = g.1; means = g.2 },
       λ us vs y e k. (
@@ -112,7 +116,8 @@ answers_type view (Ok x) old left ended h =
           omega (arith, longest, one, two)),
     )
 answers_type view (Err (failure.Refused e)) old left ended h =
-    let r = refuses IsSpannedType TypeRefusedAt old left (view_fault e) (fully type_at old)
+    let r = refuses IsSpannedType TypeFaultAt (TypeRefusedAt UnexpectedEndOfFile unexpected)
+    (type_error UnexpectedEndOfFile unexpected) old left (view_fault e) (fully type_at old)
     (type_given no_scalars old (ends_once old ended)) h in
     record {
       none = λ us vs y q k. r.none us vs (y, span_of us) q (k, refl);
@@ -120,9 +125,7 @@ answers_type view (Err (failure.Refused e)) old left ended h =
       token = r.token;
       after = r.after;
       whole = r.whole;
-      says = r.says;
       refused = r.refused;
-      error = r.error;
       span = r.span;
       leaves = r.leaves;
     }

@@ -8,11 +8,12 @@ use Rattle.graphql_lexical.proofs.Public.{one_end}
 use Rattle.graphql_grammar.specs.Tree.{Scalars, Definition}
 use Rattle.graphql_grammar.specs.Grammar.{IsDocument}
 use Rattle.graphql_grammar.specs.Faults.{EndsOnce, DocumentRefusedAt}
+use Rattle.graphql_grammar.specs.device.Faults.{DocumentFaultAt}
 use Rattle.graphql_grammar.specs.Tokens.{IsSpelled}
 use Rattle.graphql_grammar.specs.device.Reading.{Took, Refused, Out, GivesWhole, fully}
 use Rattle.graphql_grammar.specs.device.Productions.{reads, document}
 use Rattle.graphql_grammar.specs.device.Reading as reading
-use Rattle.graphql_grammar.proofs.Public.{document_given, never_both, one_document, cut_spelled, cut_ends, fault_in_text}
+use Rattle.graphql_grammar.proofs.Public.{document_error, document_given, never_both, one_document, cut_spelled, cut_ends, fault_in_text}
 use Rattle.juniper_tokens.specs.declared.error.ParseFailure.{ParseFailure}
 use Rattle.juniper_tokens.specs.declared.error.ParseFailure.TheVariants as failure
 use Rattle.juniper_tokens.specs.declared.error.LexFailure.{LexFailure}
@@ -20,13 +21,13 @@ use Rattle.juniper_tokens.specs.declared.error.LexFailure.TheVariants as lexing
 use Rattle.juniper_tokens.specs.declared.error.LexerError.{LexerError}
 use Rattle.juniper_tokens.specs.declared.error.ParseError.TheVariants as parse
 use Rattle.juniper_tokens.specs.declared.span.Spanning.{Spanning}
-use Rattle.juniper_tokens.specs.Errors.{Error, Fault, Lexical, view_fault, view_lexer_error, failure_of}
+use Rattle.juniper_tokens.specs.Errors.{Error, UnexpectedEndOfFile, Fault, Lexical, view_fault, view_lexer_error, failure_of}
 use Rattle.juniper_tokens.specs.Cursor.{Read}
 use Rattle.juniper_tokens.specs.Lexing.{LexerState, started}
 use Rattle.juniper_tokens.specs.Gathering.{IfFault}
 use Rattle.juniper.specs.device.Seen.{seen}
 use Rattle.juniper.specs.laws.TreeLaws.{FailsAtBreak, IsRefusedAtBreak}
-use Rattle.juniper.specs.Promise.{lexical_fault, HasTree, IsRefusedAt, IsRefusal, IsRefusalInText, IfRefused, AnswersAs}
+use Rattle.juniper.specs.Promise.{lexical_fault, unexpected, HasTree, IsRefusedAt, IsRefusal, IsRefusalInText, IfRefused, AnswersAs}
 use Rattle.juniper.specs.device.Steps.{cursor}
 use Rattle.juniper.proofs.Stepping.{seen_took}
 use Rattle.juniper.proofs.Readings.{document_seen}
@@ -58,7 +59,7 @@ same_break source d e p q b c = elim (one_end source) [
 
 module _ {C : Type 0} (S : Scalars C Error) (ts : List Lexeme) (spelled : AllByRecursion IsSpelled ts)
     (ends : EndsOnce ts) where
-  given : GivesWhole (IsDocument S) (DocumentRefusedAt S ts) ts (fully (λ n. reads S n document) ts)
+  given : GivesWhole (IsDocument S) (DocumentFaultAt S ts) ts (fully (λ n. reads S n document) ts)
   given = document_given S ts spelled ends
 
   -- a tree is that of a document
@@ -66,13 +67,13 @@ module _ {C : Type 0} (S : Scalars C Error) (ts : List Lexeme) (spelled : AllByR
       → IsDocument S tree ts
   document_is tree left e =
       let took = seen_took (fully (λ n. reads S n document) ts) tree left (document_seen S ts ∙ e) in
-      (subst (λ z. GivesWhole (IsDocument S) (DocumentRefusedAt S ts) ts z) took given).0
+      (subst (λ z. GivesWhole (IsDocument S) (DocumentFaultAt S ts) ts z) took given).0
 
   fault_is : (a b : Fault) (p q : List Lexeme) → ◌≡◌ {A = Read (List (Definition C))} (Err (a, p)) (Err (b, q)) → b ≡ a
   fault_is a b p q e = let h : (a, p) ≡ (b, q) = cc in sym (ap (λ (x : Fault × List Lexeme). x.0) h)
 
   by_read : (fault : Fault) (left : List Lexeme) (z : reading.Read Error (List (Definition C)))
-      → GivesWhole (IsDocument S) (DocumentRefusedAt S ts) ts z → seen z ≡ Err (fault, left) → IsRefusedAt S ts fault
+      → GivesWhole (IsDocument S) (DocumentFaultAt S ts) ts z → seen z ≡ Err (fault, left) → IsRefusedAt S ts fault
   by_read fault left (Took tree rest) g q = absurd (cc q)
   by_read fault left (Refused [] x) g q = absurd g
   by_read fault left (Refused (t ∷ rest) x) (before, whole, at) q =
@@ -80,9 +81,9 @@ module _ {C : Type 0} (S : Scalars C Error) (ts : List Lexeme) (spelled : AllByR
       record {
         before = before;
         token = t;
-        says = x;
-        refused = at;
-        error = ap (λ (f : Fault). f.error) is;
+        refused =
+            subst (DocumentRefusedAt UnexpectedEndOfFile unexpected S ts before t) (sym (ap (λ (f : Fault). f.error) is))
+            (document_error UnexpectedEndOfFile unexpected S ts before t x at);
         span = ap (λ (f : Fault). f.span) is;
       }
   by_read fault left Out g q = absurd g

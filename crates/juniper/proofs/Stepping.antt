@@ -6,15 +6,14 @@ use Rattle.graphql_lexical.specs.declared.kind.Kind.TheVariants.{EndOfFile}
 use Rattle.graphql_lexical.specs.Kinds.{same_kind}
 use Rattle.graphql_lexical.specs.Cutting.{Lexeme}
 use Rattle.graphql_lexical.specs.Display.{shown}
-use Rattle.graphql_grammar.specs.Faults as grammar
+use Rattle.graphql_grammar.specs.device.Faults as grammar
 use Rattle.graphql_grammar.specs.Tokens.{span_of}
 use Rattle.graphql_grammar.specs.device.Reading.{Test, of, passes, Took, Refused, Out, Reader, after, seq, done, on, want, refuse, fault_of, pick, look, choose, with_span, give_span, front}
 use Rattle.graphql_grammar.specs.device.Reading as reading
 use Rattle.graphql_grammar.proofs.Public.{of_kind}
 use Rattle.juniper_tokens.specs.Errors.{Error, UnexpectedToken, UnexpectedEndOfFile}
 use Rattle.juniper_tokens.specs.Cursor.{Read, ◌>>=◌, EndsOnce, first_of, kind_at, next_at, refused_at, next_if}
-use Rattle.juniper.specs.device.Seen.{seen}
-use Rattle.juniper.specs.Promise.{error_of}
+use Rattle.juniper.specs.device.Seen.{error_of, seen}
 
 -- ---- steps in a row
 

@@ -1,13 +1,13 @@
 -- What is promised for a text, in the words of the grammar.
 use Rattle.std.specs.Prelude.{◌≡◌, ◌≤◌, ℕ, Bool, List, [], ◌∷◌, ◌++◌, length, Result, Ok, Err, if◌then◌else◌}
 use Rattle.graphql_lexical.specs.Place.{Place, Span}
+use Rattle.graphql_lexical.specs.declared.kind.Kind.{Kind}
 use Rattle.graphql_lexical.specs.declared.kind.Kind.TheVariants.{EndOfFile}
 use Rattle.graphql_lexical.specs.Kinds.{LexicalError, same_kind}
 use Rattle.graphql_lexical.specs.Cutting.{Lexeme, Cut, Breaks}
 use Rattle.graphql_lexical.specs.Display.{shown}
 use Rattle.graphql_grammar.specs.Tree.{Scalars, Value, TypeRef, Definition}
 use Rattle.graphql_grammar.specs.Grammar.{IsValue, IsType, IsDocument}
-use Rattle.graphql_grammar.specs.Faults as grammar
 use Rattle.graphql_grammar.specs.Faults.{DocumentRefusedAt, ValueRefusedAt, TypeRefusedAt}
 use Rattle.graphql_grammar.specs.Texts.{BeginsText}
 use Rattle.graphql_grammar.specs.Tokens.{span_of}
@@ -15,8 +15,7 @@ use Rattle.juniper_tokens.specs.declared.error.ParseError.{ParseError}
 use Rattle.juniper_tokens.specs.declared.error.ParseFailure.{ParseFailure}
 use Rattle.juniper_tokens.specs.declared.error.ParseFailure.TheVariants as failure
 use Rattle.juniper_tokens.specs.declared.span.Spanning.{Spanning}
-use Rattle.juniper_tokens.specs.Errors as errors
-use Rattle.juniper_tokens.specs.Errors.{Error, Fault, Lexical, view_fault}
+use Rattle.juniper_tokens.specs.Errors.{Error, UnexpectedToken, UnexpectedEndOfFile, Lexical, Fault, view_fault}
 use Rattle.juniper_tokens.specs.Cursor.{Read, Fails}
 
 -- a lexical error, of zero width
@@ -24,10 +23,8 @@ abbrev pub lexical_fault : LexicalError → Place → Fault
 lexical_fault error at = record { error = Lexical error; span = record { start = at; end = at } }
 
 -- A token is reported by what is shown of it.
-abbrev pub error_of : grammar.Fault Error → Error
-error_of grammar.UnexpectedEndOfFile = errors.UnexpectedEndOfFile
-error_of (grammar.UnexpectedToken kind text) = errors.UnexpectedToken (shown kind text)
-error_of (grammar.ScalarError e) = e
+abbrev pub unexpected : Kind → List ℕ → Error
+unexpected kind text = UnexpectedToken (shown kind text)
 
 -- the tokens past the refused one, which is taken unless it is the end
 abbrev pub past : List Lexeme → List Lexeme
@@ -46,9 +43,7 @@ module _ {C : Type 0} (S : Scalars C Error) where
   pub record IsRefusedAt (lexemes : List Lexeme) (fault : Fault) : Type 0 where
     pub before : List Lexeme
     pub token : Lexeme
-    pub says : grammar.Fault Error
-    pub refused : DocumentRefusedAt S lexemes before token says
-    pub error : fault.error ≡ error_of says
+    pub refused : DocumentRefusedAt UnexpectedEndOfFile unexpected S lexemes before token fault.error
     pub span : fault.span ≡ token.span
 
   -- The text is no document. Where it can't be cut into tokens, the fault is its first lexical error. Where it can, the
@@ -67,9 +62,8 @@ module _ {C : Type 0} (S : Scalars C Error) where
 
 -- Where a text was refused, P holds of the error and its place.
 abbrev pub IfRefused : {X : Type 0} → Result X ParseFailure → (Spanning ParseError → Type 0) → Type 0
-IfRefused (Ok x) P = Unit {0}
 IfRefused (Err (failure.Refused fault)) P = P fault
-IfRefused (Err failure.Memory) P = Unit {0}
+IfRefused _ P = Unit {0}
 
 -- The result is what the reading gives, unless memory ran out. Nothing is said of what it leaves.
 abbrev pub AnswersAs : {X Y : Type 0} → (X → Y) → Result X ParseFailure → Read Y → Type 0
@@ -87,26 +81,24 @@ module _ {A : Type 0} (R : A → List Lexeme → Type 0) where
 
   -- No prefix of the tokens means anything. The fault has the span of the token at which they are refused, and names
   -- its error. That token is taken, unless it is the end.
-  pub record Refuses (Refused : List Lexeme → List Lexeme → Lexeme → grammar.Fault Error → Type 0) (fault : Fault) (old left : List Lexeme) : Type 0 where
+  pub record Refuses (Refused : List Lexeme → List Lexeme → Lexeme → Error → Type 0) (fault : Fault) (old left : List Lexeme) : Type 0 where
     pub none : (us vs : List Lexeme) (y : A) → old ≡ us ++ vs → R y us → ⊥
     pub before : List Lexeme
     pub token : Lexeme
     pub after : List Lexeme
     pub whole : old ≡ before ++ token ∷ after
-    pub says : grammar.Fault Error
-    pub refused : Refused old before token says
-    pub error : fault.error ≡ error_of says
+    pub refused : Refused old before token fault.error
     pub span : fault.span ≡ token.span
     pub leaves : left ≡ past (token ∷ after)
 
 -- The one prefix that is a value was taken, or none is one.
 abbrev pub AnswersValue : {X C : Type 0} → Scalars C Error → Bool → (X → Value C) → Result X ParseFailure → List Lexeme → List Lexeme → Type 0
 AnswersValue {C = C} S free view (Ok x) old left = Takes (IsValue S free) (view x) old left × ((us vs : List Lexeme) (y : Value C) → old ≡ us ++ vs → IsValue S free y us → (vs ≡ left) × (y ≡ view x))
-AnswersValue S free view (Err (failure.Refused e)) old left = Refuses (IsValue S free) (ValueRefusedAt S free) (view_fault e) old left
+AnswersValue S free view (Err (failure.Refused e)) old left = Refuses (IsValue S free) (ValueRefusedAt UnexpectedEndOfFile unexpected S free) (view_fault e) old left
 AnswersValue S free view (Err failure.Memory) old left = Unit {0}
 
 -- The longest prefix that is a type was taken, or none is one.
 abbrev pub AnswersType : {X : Type 0} → (X → TypeRef × Span) → Result X ParseFailure → List Lexeme → List Lexeme → Type 0
 AnswersType view (Ok x) old left = Takes (λ y ts. IsType y.0 ts × (y.1 ≡ span_of ts)) (view x) old left × ((us vs : List Lexeme) (y : TypeRef) → old ≡ us ++ vs → IsType y us → length left ≤ length vs)
-AnswersType view (Err (failure.Refused e)) old left = Refuses IsType TypeRefusedAt (view_fault e) old left
+AnswersType view (Err (failure.Refused e)) old left = Refuses IsType (TypeRefusedAt UnexpectedEndOfFile unexpected) (view_fault e) old left
 AnswersType view (Err failure.Memory) old left = Unit {0}
