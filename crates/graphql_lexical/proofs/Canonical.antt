@@ -39,7 +39,7 @@ read_spelled (c ∷ cs) n kind text r none =
 pub no_text : (rest : List ℕ) (n : ℕ) (kind : Kind) (text : List ℕ) → Reads rest n kind text → kind ≡ EndOfFile
     → text ≡ []
 no_text [] n kind text r e = (read_end n kind text r).2
-no_text (c ∷ cs) n kind text r e = 
+no_text (c ∷ cs) n kind text r e =
     absurd (subst (λ (k : Kind). Spells (take n (c ∷ cs)) k text) e (read_token c cs n kind text r).1)
 
 -- ---- what may stand behind a token

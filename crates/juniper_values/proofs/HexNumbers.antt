@@ -47,8 +47,8 @@ pub number_scalar : (h i j k : ℕ) → IsTrue (is_hex h) → IsTrue (is_hex i) 
 number_scalar h i j k a b c d n = (
   (a, (b, (c, (d, tt)))),
   (λ e.
-  octal_from i b (below (hex_value h) (hex_value i) (hex_value j) (hex_value k) (d_value h e) (value_below j c)
-  (value_below k d) n (value_below i b))),
+      octal_from i b (below (hex_value h) (hex_value i) (hex_value j) (hex_value k) (d_value h e) (value_below j c)
+      (value_below k d) n (value_below i b))),
 )
   where
     below : (a b c d : ℕ) → a ≡ 13 → c < 16 → d < 16

@@ -19,7 +19,9 @@ returns-in-Some-clause-goes c =
 
 pub returns-in-None-clause-goes : goal.returns-in-None-clause-goes
 returns-in-None-clause-goes c =
-    let less = items_fewer c.args.self.now c.next_other_token.result c.next_other_token.new.self
-    (sym c.has_ended.ensures ∙ c.if-has_ended.false, c.next_other_token.ensures.source ∙ c.in-None.ensures.source,
-    c.next_other_token.ensures.gives c.args.self.now c.in-None.ensures.takes) in
+    let less = items_fewer c.args.self.now c.next_other_token.result c.next_other_token.new.self (
+      sym c.has_ended.ensures ∙ c.if-has_ended.false,
+      c.next_other_token.ensures.source ∙ c.in-None.ensures.source,
+      c.next_other_token.ensures.gives c.args.self.now c.in-None.ensures.takes,
+    ) in
     record { on = λ _. search (rules, less); keeps = search rules; rests = λ _. search rules }
