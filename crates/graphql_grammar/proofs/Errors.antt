@@ -1,12 +1,12 @@
 -- The error of a refused token: as the definitions name it, and as a reader gives it.
-use Rattle.std.proofs.Common.{Bool, ◌≡◌, ◌∷◌, [], List, refl, sym, ap, ap₂, ◌∙◌, subst, ◌⊎◌, inl, inr}
+use Rattle.std.proofs.Common.{Bool, ◌≡◌, List, refl, sym, ap, ap₂, ◌∙◌, subst, ◌⊎◌, inl, inr}
 use Rattle.std.specs.List.{AllByRecursion, AllZip}
 use Rattle.graphql_lexical.specs.declared.kind.Kind.{Kind}
 use Rattle.graphql_lexical.specs.Cutting.{Lexeme}
 use Rattle.graphql_lexical.specs.laws.Alike.{Alike}
 use Rattle.graphql_grammar.specs.Tokens.{Text, IsSpelled}
 use Rattle.graphql_grammar.specs.Tree.{Scalars, Definition}
-use Rattle.graphql_grammar.specs.Grammar.{IsValue, IsType, IsDocument}
+use Rattle.graphql_grammar.specs.Grammar.{IsValue, IsDocument}
 use Rattle.graphql_grammar.specs.Faults.{EndsOnce, AnyToken, NamedError, end, own, other, DocumentRefusedAt, ValueRefusedAt, TypeError, TypeRefusedAt}
 use Rattle.graphql_grammar.specs.device.Faults.{Fault, UnexpectedEndOfFile, UnexpectedToken, ScalarError, told, NamesFault, DocumentFaultAt, ValueFaultAt, TypeFault, TypeFaultAt}
 use Rattle.graphql_grammar.proofs.OneFault.{document_or_fault, one_document_refusal, document_refusal_alike}
