@@ -1,22 +1,30 @@
 -- The cursor's steps on the tokens that it holds.
-use Rattle.std.proofs.Common.{◌≡◌, ℕ, zero, suc, ◌+◌, ◌<◌, false, List, [], ◌∷◌, length, drop, refl, sym, ap, ◌∙◌, subst, arith, add-one, length-drop, get_or, drop-cons}
+use Rattle.std.proofs.Common.{◌≡◌, ℕ, zero, suc, ◌+◌, ◌-◌, ◌<◌, ◌≤◌, Ok, false, List, [], ◌∷◌, length, drop, refl, sym, ap, ◌∙◌, subst, arith, add-one, length-drop, get_or, drop-cons}
 use Rattle.graphql_lexical.specs.declared.kind.Kind.{Kind}
 use Rattle.graphql_lexical.specs.declared.kind.Kind.TheVariants.{EndOfFile}
 use Rattle.graphql_lexical.specs.Kinds.{same_kind}
 use Rattle.graphql_lexical.specs.Cutting.{Lexeme}
 use Rattle.juniper_tokens.specs.declared.token_range.TokenRange.{TokenRange}
-use Rattle.juniper_tokens.specs.Cursor.{first_of, kind_at, EndsOnce}
+use Rattle.juniper_tokens.specs.Cursor.{first_of, kind_at, next_at, EndsOnce}
+use Rattle.std.proofs.lemmas.List.{drop-drop, drop-map, length-map}
 use Rattle.std.proofs.lemmas.List.Elements.{All-get_or}
 use Rattle.juniper_tokens.specs.declared.span.Spanning.{Spanning}
 use Rattle.juniper_tokens.specs.declared.token.Token.{Token}
 use Rattle.juniper_tokens.specs.Tokens.{view_token}
-use Rattle.juniper_tokens.specs.device.Ranges.{range_lexeme, range_lexemes, IsRange, IsCursor}
+use Rattle.juniper_tokens.specs.device.Ranges.{range_lexeme, range_lexemes, IsRange, AreLeft, IsCursor}
 
 -- past a token that is not the end, the list still ends once
 pub still_ended : (ts : List Lexeme) → EndsOnce ts → same_kind (kind_at ts) EndOfFile ≡ false → EndsOnce (drop 1 ts)
 still_ended [] h e = absurd h
 still_ended (t ∷ []) h e = absurd (cc (e, ap (λ (k : Kind). same_kind k EndOfFile) h))
 still_ended (t ∷ u ∷ ts) h e = h.1
+
+-- the same past several tokens
+pub ended_after : (k : ℕ) (ts : List Lexeme) → EndsOnce ts → k < length ts → EndsOnce (drop k ts)
+ended_after zero ts h l = h
+ended_after (suc k) [] h l = absurd h
+ended_after (suc k) (t ∷ []) h l = absurd (omega (arith, l))
+ended_after (suc k) (t ∷ u ∷ ts) h l = ended_after k (u ∷ ts) h.1 (omega (arith, l))
 
 -- ---- on the ranges that are left
 
@@ -33,19 +41,21 @@ drop_one_more source (x ∷ xs) zero = refl
 drop_one_more source (x ∷ xs) (suc i) =
     rw add-one (sym (ap (λ k. range_lexemes source (drop k xs)) (add-one i)) ∙ drop_one_more source xs i)
 
--- what is left of these ranges once so many have been taken still ends once
-pub record StillEnds (source : List ℕ) (ranges : List TokenRange) (taken : ℕ) : Type 0 where
-  pub within : taken < length ranges
-  pub ended : EndsOnce (range_lexemes source (drop taken ranges))
+-- what is left past a token that is not the end
+pub one_fewer : (source : List ℕ) (ranges : List TokenRange) (taken : ℕ) → AreLeft source ranges taken
+    → (left : List Lexeme) → range_lexemes source (drop taken ranges) ≡ left → same_kind (kind_at left) EndOfFile ≡ false
+    → AreLeft source ranges (taken + 1)
+one_fewer source ranges taken here left seen more = record {
+  are_ranges = here.are_ranges;
+  ended =
+      subst EndsOnce (sym (drop_one_more source ranges taken))
+      (still_ended _ here.ended (ap (λ ts. same_kind (kind_at ts) EndOfFile) seen ∙ more));
+}
 
--- what a cursor keeps where it goes past a token
-pub left_ended : (source : List ℕ) (ranges : List TokenRange) (i : ℕ) → EndsOnce (range_lexemes source (drop i ranges))
-    → same_kind (kind_at (range_lexemes source (drop i ranges))) EndOfFile ≡ false → StillEnds source ranges (i + 1)
-left_ended source ranges i h e =
-    let g : EndsOnce (range_lexemes source (drop (i + 1) ranges)) =
-    subst EndsOnce (sym (drop_one_more source ranges i)) (still_ended _ h e) in
-    let l : 0 < length (drop (i + 1) ranges) = some_left source (drop (i + 1) ranges) g in
-    record { within = omega (arith, l, length-drop (i + 1) ranges); ended = g }
+pub next_is_taken : (ts : List Lexeme) → EndsOnce ts → same_kind (kind_at ts) EndOfFile ≡ false
+    → next_at ts ≡ Ok (first_of ts, drop 1 ts)
+next_is_taken [] h e = absurd h
+next_is_taken (t ∷ ts) h e = rw e refl
 
 -- the token that stands next
 pub first_left : (source : List ℕ) (ranges : List TokenRange) (i : ℕ) (r : TokenRange) → i < length ranges
@@ -58,24 +68,41 @@ pub left_within : (source : List ℕ) (ranges : List TokenRange) (i : ℕ) → E
     → i < length ranges
 left_within source ranges i h = omega (arith, some_left source (drop i ranges) h, length-drop i ranges)
 
--- A cursor goes past a token that is not the end; r is the range behind it.
-module _ (source : List ℕ) (ranges : List TokenRange) (taken : ℕ) (current : Spanning Token)
-    (here : IsCursor source ranges taken current) (left : List Lexeme)
-    (seen : range_lexemes source (drop taken ranges) ≡ left) (more : same_kind (kind_at left) EndOfFile ≡ false) where
-  pub next_left : StillEnds source ranges (taken + 1)
-  next_left = left_ended source ranges taken here.ended (ap (λ ts. same_kind (kind_at ts) EndOfFile) seen ∙ more)
+-- r is the range that comes next.
+module _ (source : List ℕ) (ranges : List TokenRange) (taken : ℕ) (here : AreLeft source ranges taken)
+    (r : TokenRange) (next : r ≡ get_or ranges taken r) where
+  pub next_is_range : IsRange source r
+  next_is_range = subst (IsRange source) (sym next)
+      (All-get_or (IsRange source) ranges taken r (left_within source ranges taken here.ended) here.are_ranges)
 
-  module _ (r : TokenRange) (next : r ≡ get_or ranges (taken + 1) r) where
-    pub next_is_range : IsRange source r
-    next_is_range = subst (IsRange source) (sym next)
-        (All-get_or (IsRange source) ranges (taken + 1) r next_left.within here.are_ranges)
+  pub next_is : first_of (range_lexemes source (drop taken ranges)) ≡ range_lexeme source r
+  next_is = first_left source ranges taken r (left_within source ranges taken here.ended) (sym next)
 
-    pub next_cursor : (token : Spanning Token) → view_token token ≡ range_lexeme source r
-        → IsCursor source ranges (taken + 1) token
-    next_cursor token e = record {
-      are_ranges = here.are_ranges;
-      ended = next_left.ended;
-      first = e ∙ sym (first_left source ranges (taken + 1) r next_left.within (sym next));
-    }
+  pub next_held : (token : Spanning Token) → view_token token ≡ range_lexeme source r
+      → IsCursor source ranges taken token
+  next_held token e = record { left = here; first = e ∙ sym next_is }
+
+-- Tokens are taken until so many are left.
+module _ (source : List ℕ) (ranges : List TokenRange) (taken : ℕ) (here : AreLeft source ranges taken)
+    (old : List Lexeme) (seen : range_lexemes source (drop taken ranges) ≡ old) (left : ℕ) (some : 0 < left)
+    (fewer : left ≤ length old) (all : ℕ) (all_are : all ≡ length ranges) where
+  pub left_many : range_lexemes source (drop (all - left) ranges) ≡ drop (length old - left) old
+  left_many =
+      let count : length old ≡ length ranges - taken = sym (ap length seen)
+      ∙ length-map (drop taken ranges) (range_lexeme source) ∙ length-drop taken ranges in
+      let sum : all - left ≡ taken + (length old - left) =
+      omega (arith, all_are, count, fewer, left_within source ranges taken here.ended) in
+      ap (λ k. range_lexemes source (drop k ranges)) sum
+      ∙ ap (range_lexemes source) (sym (drop-drop (length old - left) taken ranges))
+      ∙ sym (drop-map (range_lexeme source) (length old - left) (drop taken ranges))
+      ∙ ap (drop (length old - left)) seen
+
+  pub so_many_left : AreLeft source ranges (all - left)
+  so_many_left = record {
+    are_ranges = here.are_ranges;
+    ended =
+        subst EndsOnce (sym left_many)
+        (ended_after (length old - left) old (subst EndsOnce seen here.ended) (omega (arith, some, fewer)));
+  }
 
 -- ---- the wanted token

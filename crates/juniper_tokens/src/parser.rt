@@ -1,5 +1,5 @@
 //! The cursor over the tokens of a source.
-ghost use Rattle.std.specs.Prelude.{◌≡◌, ◌<◌, ◌≤◌, [], ◌∷◌, drop, false, true, length, option_map, OnOk, IfOk};
+ghost use Rattle.std.specs.Prelude.{◌≡◌, ◌-◌, ◌<◌, ◌≤◌, [], ◌∷◌, drop, false, true, length, option_map, OnOk, IfOk};
 ghost use Rattle.std.specs.List.{All};
 ghost use Rattle.std.specs.Global.{Global as Allocator};
 ghost use Rattle.std.specs.Str.{chars};
@@ -14,7 +14,8 @@ ghost use Rattle.juniper_tokens.specs.Nesting.{EndsAtNesting};
 ghost use Rattle.juniper_tokens.specs.Delimited.{IsRest};
 ghost use Rattle.juniper_tokens.specs.Cursor.{Gives, RefusesEnd, OnMemory, Unmoved, EndsOnce, first_of, kind_at, is_wanted, next_at, refused_at, expect_at, expect_name_at, skip_at};
 
-use crate::error::{LexFailure, OptionParseResult, ParseError, ParseFailure, ParseResult};
+use crate::cursor::Cursor;
+use crate::error::{LexFailure, OptionParseResult, ParseFailure, ParseResult};
 use crate::lexer::Lexer;
 use crate::nesting::{end_behind, first_deeper};
 use crate::span::{Span, Spanning};
@@ -118,6 +119,31 @@ impl<'a> Parser<'a> {
         Some(span)
     }
 
+    /// A cursor over the tokens that are left, which makes a token's text and places only where they are asked for. The
+    /// parser stays as it is, until `take_until` makes it follow.
+    pub fn cursor(&self) -> Cursor<'_, 'a>
+        ensures { result ≡ self.now }
+    {
+        Cursor::from_ranges(self.alloc, self.source, &self.ranges, self.taken)
+    }
+
+    /// Takes tokens until `left` of them are left, the end among them.
+    ///
+    /// ```
+    /// let mut cursor = parser.cursor();
+    /// let name = cursor.expect_name();
+    /// let left = cursor.count();
+    /// parser.take_until(left);
+    /// ```
+    pub fn take_until(&mut self, left: usize)
+        requires some { 0 < left }
+        requires fewer { left ≤ length self.old }
+        ensures { self.new ≡ drop (length self.old - left) self.old }
+    {
+        self.taken = self.ranges.len() - left;
+        self.current = self.ranges[self.taken].located(self.source);
+    }
+
     /// The next token, which is not taken.
     pub fn peek(&self) -> &Spanning<Token<'a>>
         ensures first { view_token result.now ≡ first_of self.now }
@@ -147,12 +173,7 @@ impl<'a> Parser<'a> {
         ensures { self.new ≡ drop 1 self.old }
     {
         self.taken += 1;
-        let range = &self.ranges[self.taken];
-        if range.kind == Kind::BlockString {
-            self.current = range.located(self.source);
-        } else {
-            self.current = range.located_to(self.source, range.end_on_line());
-        }
+        self.current = self.ranges[self.taken].located(self.source);
     }
 
     // Takes the next token, which is not the end.
@@ -173,8 +194,7 @@ impl<'a> Parser<'a> {
         requires { same_kind (kind_at self.now) EndOfFile ≡ true }
         ensures { RefusesEnd result self.now }
     {
-        let span = self.current.span;
-        Err(ParseFailure::Refused(Spanning::new(span, ParseError::UnexpectedEndOfFile)))
+        self.cursor().refuse_end()
     }
 
     /// Takes the next token. At the end it returns `UnexpectedEndOfFile`, and nothing is taken. It takes no memory.
@@ -193,7 +213,7 @@ impl<'a> Parser<'a> {
 
     /// Takes the next token, and returns the error that it is unexpected. At the end it returns `UnexpectedEndOfFile`, and
     /// nothing is taken. Where there is no memory for the text of the error, nothing changes.
-    #[tactic(auto, using(crate::proofs::Rests::none_taken, crate::proofs::Rests::one_taken))]
+    #[tactic(auto, using(crate::proofs::Rests::rest_is, crate::proofs::Rests::no_longer))]
     #[cold]
     pub fn refuse<T: Drop>(&mut self) -> Result<T, ParseFailure>
         ensures gives { Gives (λ x. x) result self.new (refused_at self.old) }
@@ -201,12 +221,11 @@ impl<'a> Parser<'a> {
         ensures memory { OnMemory result (Unmoved {A = Lexeme} self.old self.new (refused_at self.old)) }
         ensures rest { IsRest self.old self.new }
     {
-        if self.is_at_end() {
-            return self.refuse_end();
-        }
-        let error = ParseError::unexpected_token(self.alloc, self.current.item)?;
-        let token = self.take();
-        Err(ParseFailure::Refused(Spanning::new(token.span, error)))
+        let mut cursor = self.cursor();
+        let refused = cursor.refuse();
+        let left = cursor.count();
+        self.take_until(left);
+        refused
     }
 
     /// Takes the next token if it equals `wanted` in kind and text, else returns an error.

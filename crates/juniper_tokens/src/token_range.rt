@@ -4,6 +4,7 @@ ghost use Rattle.std.specs.Str.{chars};
 ghost use Rattle.graphql_lexical.specs.Place.{place};
 ghost use Rattle.graphql_lexical.specs.device.Whole.{text_of};
 ghost use Rattle.juniper_tokens.specs.Positions.{columns_on};
+ghost use Rattle.juniper_tokens.specs.Spans.{view_span};
 ghost use Rattle.juniper_tokens.specs.Tokens.{kind_text, token_kind, token_text, view_token};
 ghost use Rattle.juniper_tokens.specs.device.LexingByScan.{IsPlaced};
 ghost use Rattle.juniper_tokens.specs.device.Scans.{Finds};
@@ -12,7 +13,7 @@ ghost use Rattle.juniper_tokens.specs.device.Ranges.{IsRange, range_of, range_sl
 use crate::lexer::text::{Border, text_before, text_from, unquoted};
 use crate::lexer::{Found, walk_text};
 use crate::position::SourcePosition;
-use crate::span::Spanning;
+use crate::span::{Span, Spanning};
 use crate::token::{ScalarToken, Token};
 use graphql_lexical::Kind;
 
@@ -80,21 +81,43 @@ impl TokenRange {
     }
 
     /// The place after the last character. A block string alone may end on a later line.
+    #[inline(always)]
     pub(crate) fn end_position(&self, source: &str) -> SourcePosition
         requires { IsRange (chars source.now) self.now }
         ensures { result ≡ place (chars source.now) self.now.end.characters }
     {
         if self.kind == Kind::BlockString {
-            let rest = text_from(source, self.border());
-            let size = self.size();
-            walk_text(text_before(rest, size), self.start)
+            self.end_by_walk(source)
         } else {
             self.end_on_line()
         }
     }
 
-    // The part of the source, of a String and of a block string what stands between the quotes.
-    fn text<'a>(&self, source: &'a str) -> &'a str
+    // The place after the last character, on whichever line it is.
+    #[inline(never)]
+    fn end_by_walk(&self, source: &str) -> SourcePosition
+        requires { IsRange (chars source.now) self.now }
+        ensures { result ≡ place (chars source.now) self.now.end.characters }
+    {
+        let rest = text_from(source, self.border());
+        let size = self.size();
+        walk_text(text_before(rest, size), self.start)
+    }
+
+    /// From the first character to the place after the last one.
+    #[inline(always)]
+    pub(crate) fn span(&self, source: &str) -> Span
+        requires { IsRange (chars source.now) self.now }
+        ensures { view_span result ≡ (range_lexeme (chars source.now) self.now).span }
+    {
+        Span {
+            start: self.start,
+            end: self.end_position(source),
+        }
+    }
+
+    /// The part of the source, of a String and of a block string what stands between the quotes.
+    pub(crate) fn text<'a>(&self, source: &'a str) -> &'a str
         requires { IsRange (chars source.now) self.now }
         ensures { chars result.now ≡ text_of self.now.kind (range_slice (chars source.now) self.now) }
     {

@@ -1,5 +1,5 @@
 -- A device: what a cursor returns where the steps of a production are read.
-use Rattle.std.specs.Prelude.{◌≡◌, List, drop, Bool, Option, Some, None, Result, Ok, Err, if◌then◌else◌}
+use Rattle.std.specs.Prelude.{◌≡◌, List, [], ◌∷◌, ◌++◌, drop, Bool, Option, Some, None, Result, Ok, Err, if◌then◌else◌}
 use Rattle.graphql_lexical.specs.Place.{Span}
 use Rattle.graphql_lexical.specs.declared.kind.Kind.{Kind}
 use Rattle.graphql_lexical.specs.Kinds.{same_kind}
@@ -27,6 +27,11 @@ read_here (Err e) p ts = Err (record { error = e; span = p }, ts)
 abbrev pub GivesPlace : Result code.Span ParseFailure → List Lexeme → List Lexeme → Read Lexeme → Type 0
 GivesPlace (Ok place) old new r = (r ≡ Ok (first_of old, new)) × (view_span place ≡ (first_of old).span)
 GivesPlace (Err e) old new r = Fails e new r
+
+-- An item was appended to a list, and those lexemes were left: that is what the step gives, unless memory ran out.
+abbrev pub Appends : {X A : Type 0} → (X → A) → Result (Unit {0}) ParseFailure → List X → List X → List Lexeme → Read A → Type 0
+Appends {X} view (Ok _) before after left read = (x : X) × (after ≡ before ++ x ∷ []) × (read ≡ Ok (view x, left))
+Appends view (Err e) before after left read = Fails e left read
 
 -- a token of the kind k is taken, and its span returned
 abbrev pub closing_at : Kind → List Lexeme → Option Span × List Lexeme

@@ -15,9 +15,7 @@ use crate::parser::selection::{parse_inline_parts, parse_selection_set};
 use crate::parser::variables::parse_optional_variables;
 use crate::tree::ast::{Definition, Fragment, Operation};
 use graphql_grammar::OperationType;
-use juniper_tokens::{
-    Kind, OptionParseResult, ParseResult, Parser, Span, Spanning, UnlocatedParseResult,
-};
+use juniper_tokens::{Cursor, Kind, OptionParseResult, ParseResult, Span, Spanning, UnlocatedParseResult};
 use juniper_values::ScalarValue;
 
 /// `Definition = SelectionSet
@@ -25,22 +23,22 @@ use juniper_values::ScalarValue;
 ///            | "fragment" FragmentName "on" Name Directive* SelectionSet`
 #[tactic(auto, using(crate::proofs::Names::fragment_is, crate::proofs::Cursors::word_is_no_end), unfolding(graphql_grammar::specs::device::Productions::definition))]
 pub(crate) fn parse_definition<'a, S: ScalarValue>(
-    parser: &mut Parser<'a>,
+    tokens: &mut Cursor<'_, 'a>,
 ) -> UnlocatedParseResult<Definition<'a, S>>
-    ensures gives { Gives (view_definition S.content) result parser.new (cursor (stated S.reading S.of_bool) definition parser.old) }
-    ensures shorter { OnOk result (length parser.new < length parser.old) }
+    ensures gives { Gives (view_definition S.content) result tokens.new (cursor (stated S.reading S.of_bool) definition tokens.old) }
+    ensures shorter { OnOk result (length tokens.new < length tokens.old) }
 {
-    match next_operation(parser) {
+    match next_operation(tokens) {
         Some(operation_type) => {
-            let word = take_next(parser);
-            parse_operation(parser, operation_type, word)
+            let word = take_next(tokens);
+            parse_operation(tokens, operation_type, word)
         }
         None => {
-            if next_is_word(parser, "fragment") {
-                let word = take_next(parser);
-                parse_fragment(parser, word)
+            if next_is_word(tokens, "fragment") {
+                let word = take_next(tokens);
+                parse_fragment(tokens, word)
             } else {
-                parse_shorthand(parser)
+                parse_shorthand(tokens)
             }
         }
     }
@@ -48,14 +46,14 @@ pub(crate) fn parse_definition<'a, S: ScalarValue>(
 
 /// The type of the operation that the next token begins, or None. The token is not taken.
 #[tactic(auto, using(crate::proofs::Names::query_is, crate::proofs::Names::mutation_is, crate::proofs::Names::subscription_is, crate::proofs::Names::operation_type_is))]
-fn next_operation(parser: &Parser<'_>) -> Option<OperationType>
-    ensures { result ≡ (if passes operation_word (first_of parser.now) then Some (operation_of (first_of parser.now).text) else None) }
+fn next_operation(tokens: &Cursor<'_, '_>) -> Option<OperationType>
+    ensures { result ≡ (if passes operation_word (first_of tokens.now) then Some (operation_of (first_of tokens.now).text) else None) }
 {
-    if next_is_word(parser, "mutation") {
+    if next_is_word(tokens, "mutation") {
         Some(OperationType::Mutation)
-    } else if next_is_word(parser, "subscription") {
+    } else if next_is_word(tokens, "subscription") {
         Some(OperationType::Subscription)
-    } else if next_is_word(parser, "query") {
+    } else if next_is_word(tokens, "query") {
         Some(OperationType::Query)
     } else {
         None
@@ -65,12 +63,12 @@ fn next_operation(parser: &Parser<'_>) -> Option<OperationType>
 /// `SelectionSet`
 #[tactic(auto, unfolding(graphql_grammar::specs::device::Productions::shorthand))]
 fn parse_shorthand<'a, S: ScalarValue>(
-    parser: &mut Parser<'a>,
+    tokens: &mut Cursor<'_, 'a>,
 ) -> UnlocatedParseResult<Definition<'a, S>>
-    ensures gives { Gives (view_definition S.content) result parser.new (whole (stated S.reading S.of_bool) shorthand parser.old) }
-    ensures shorter { OnOk result (length parser.new < length parser.old) }
+    ensures gives { Gives (view_definition S.content) result tokens.new (whole (stated S.reading S.of_bool) shorthand tokens.old) }
+    ensures shorter { OnOk result (length tokens.new < length tokens.old) }
 {
-    let set = parse_selection_set(parser)?;
+    let set = parse_selection_set(tokens)?;
     Ok(Definition::Operation(Spanning::new(
         set.span,
         Operation {
@@ -86,16 +84,16 @@ fn parse_shorthand<'a, S: ScalarValue>(
 /// `Name? Variables? Directive* SelectionSet`, after the word of this type.
 #[tactic(auto, unfolding(graphql_grammar::specs::device::Productions::operation))]
 fn parse_operation<'a, S: ScalarValue>(
-    parser: &mut Parser<'a>,
+    tokens: &mut Cursor<'_, 'a>,
     operation_type: OperationType,
     word: Span,
 ) -> UnlocatedParseResult<Definition<'a, S>>
-    ensures gives { Gives (view_definition S.content) result parser.new (whole (stated S.reading S.of_bool) (operation operation_type (view_span word)) parser.old) }
-    ensures shorter { OnOk result (length parser.new < length parser.old) }
+    ensures gives { Gives (view_definition S.content) result tokens.new (whole (stated S.reading S.of_bool) (operation operation_type (view_span word)) tokens.old) }
+    ensures shorter { OnOk result (length tokens.new < length tokens.old) }
 {
-    let name = parse_optional_name(parser)?;
-    let variable_definitions = parse_optional_variables(parser)?;
-    let (directives, set) = parse_inline_parts(parser)?;
+    let name = parse_optional_name(tokens)?;
+    let variable_definitions = parse_optional_variables(tokens)?;
+    let (directives, set) = parse_inline_parts(tokens)?;
     let end = set.span.end;
     Ok(Definition::Operation(Spanning::start_end(
         &word.start,
@@ -112,12 +110,12 @@ fn parse_operation<'a, S: ScalarValue>(
 
 /// `Name?`
 #[tactic(auto, unfolding(juniper_tokens::specs::Cursor::expect_name_at))]
-fn parse_optional_name<'a>(parser: &mut Parser<'a>) -> OptionParseResult<&'a str>
-    ensures gives { Gives (option_map view_word) result parser.new (cursor no_scalars optional_name parser.old) }
-    ensures not_longer { OnOk result (length parser.new ≤ length parser.old) }
+fn parse_optional_name<'a>(tokens: &mut Cursor<'_, 'a>) -> OptionParseResult<&'a str>
+    ensures gives { Gives (option_map view_word) result tokens.new (cursor no_scalars optional_name tokens.old) }
+    ensures not_longer { OnOk result (length tokens.new ≤ length tokens.old) }
 {
-    if next_is(parser, Kind::Name) {
-        Ok(Some(parser.expect_name()?))
+    if next_is(tokens, Kind::Name) {
+        Ok(Some(tokens.expect_name()?))
     } else {
         Ok(None)
     }
@@ -126,15 +124,15 @@ fn parse_optional_name<'a>(parser: &mut Parser<'a>) -> OptionParseResult<&'a str
 /// `FragmentName "on" Name Directive* SelectionSet`, after the word `fragment`.
 #[tactic(auto, unfolding(graphql_grammar::specs::device::Productions::fragment))]
 fn parse_fragment<'a, S: ScalarValue>(
-    parser: &mut Parser<'a>,
+    tokens: &mut Cursor<'_, 'a>,
     word: Span,
 ) -> UnlocatedParseResult<Definition<'a, S>>
-    ensures gives { Gives (view_definition S.content) result parser.new (whole (stated S.reading S.of_bool) (fragment (view_span word)) parser.old) }
-    ensures shorter { OnOk result (length parser.new < length parser.old) }
+    ensures gives { Gives (view_definition S.content) result tokens.new (whole (stated S.reading S.of_bool) (fragment (view_span word)) tokens.old) }
+    ensures shorter { OnOk result (length tokens.new < length tokens.old) }
 {
-    let name = parse_fragment_name(parser)?;
-    let type_condition = parse_type_condition(parser)?;
-    let (directives, set) = parse_inline_parts(parser)?;
+    let name = parse_fragment_name(tokens)?;
+    let type_condition = parse_type_condition(tokens)?;
+    let (directives, set) = parse_inline_parts(tokens)?;
     let end = set.span.end;
     Ok(Definition::Fragment(Spanning::start_end(
         &word.start,
@@ -150,27 +148,27 @@ fn parse_fragment<'a, S: ScalarValue>(
 
 /// `FragmentName = a Name other than "on"`
 #[tactic(auto, using(crate::proofs::Names::on_is), unfolding(juniper_tokens::specs::Cursor::expect_name_at))]
-fn parse_fragment_name<'a>(parser: &mut Parser<'a>) -> ParseResult<&'a str>
-    ensures gives { Gives view_word result parser.new (cursor no_scalars fragment_name parser.old) }
-    ensures shorter { OnOk result (length parser.new < length parser.old) }
+fn parse_fragment_name<'a>(tokens: &mut Cursor<'_, 'a>) -> ParseResult<&'a str>
+    ensures gives { Gives view_word result tokens.new (cursor no_scalars fragment_name tokens.old) }
+    ensures shorter { OnOk result (length tokens.new < length tokens.old) }
 {
-    if next_is_word(parser, "on") {
-        parser.refuse()
+    if next_is_word(tokens, "on") {
+        tokens.refuse()
     } else {
-        parser.expect_name()
+        tokens.expect_name()
     }
 }
 
 /// `"on" Name`
 #[tactic(auto, using(crate::proofs::Names::on_is, crate::proofs::Cursors::word_is_no_end), unfolding(juniper_tokens::specs::Cursor::expect_name_at))]
-fn parse_type_condition<'a>(parser: &mut Parser<'a>) -> ParseResult<&'a str>
-    ensures gives { Gives view_word result parser.new (cursor no_scalars type_condition parser.old) }
-    ensures shorter { OnOk result (length parser.new < length parser.old) }
+fn parse_type_condition<'a>(tokens: &mut Cursor<'_, 'a>) -> ParseResult<&'a str>
+    ensures gives { Gives view_word result tokens.new (cursor no_scalars type_condition tokens.old) }
+    ensures shorter { OnOk result (length tokens.new < length tokens.old) }
 {
-    if next_is_word(parser, "on") {
-        take_next(parser);
-        parser.expect_name()
+    if next_is_word(tokens, "on") {
+        take_next(tokens);
+        tokens.expect_name()
     } else {
-        parser.refuse()
+        tokens.refuse()
     }
 }

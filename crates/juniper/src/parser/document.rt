@@ -15,7 +15,7 @@ use crate::parser::definition::parse_definition;
 use crate::parser::lists::push_item;
 use crate::parser::next::next_is;
 use crate::tree::ast::OwnedDocument;
-use juniper_tokens::{Kind, Lexer, Parser, UnlocatedParseResult};
+use juniper_tokens::{Cursor, Kind, Lexer, Parser, UnlocatedParseResult};
 use juniper_values::ScalarValue;
 use std::alloc::Global;
 
@@ -47,20 +47,20 @@ pub fn parse_document_source<'a, S: ScalarValue>(
     ensures in_characters { IfRefused result (λ fault. IsRefusalInText (stated S.reading S.of_bool) (chars s.now) (view_fault fault)) }
 {
     let mut lexer = Lexer::new(alloc, s);
-    let mut parser = Parser::new(&mut lexer)?;
-    parse_definitions(&mut parser)
+    let parser = Parser::new(&mut lexer)?;
+    parse_definitions(&mut parser.cursor())
 }
 
 /// `Definition+`, up to the end, which is left there.
 pub(crate) fn parse_definitions<'a, S: ScalarValue>(
-    parser: &mut Parser<'a>,
+    tokens: &mut Cursor<'_, 'a>,
 ) -> UnlocatedParseResult<OwnedDocument<'a, S>>
-    ensures { AnswersAs (view_document S.content) result (cursor (stated S.reading S.of_bool) document parser.old) }
+    ensures { AnswersAs (view_document S.content) result (cursor (stated S.reading S.of_bool) document tokens.old) }
 {
-    let mut definitions = Vec::new(parser.allocator());
+    let mut definitions = Vec::new(tokens.allocator());
     loop {
-        let definition = parse_definition(parser)?;
-        let is_last = next_is(parser, Kind::EndOfFile);
+        let definition = parse_definition(tokens)?;
+        let is_last = next_is(tokens, Kind::EndOfFile);
         push_item(&mut definitions, definition, is_last)?;
         if is_last {
             return Ok(definitions);

@@ -10,57 +10,53 @@ ghost use Rattle.juniper_tokens.specs.Spans.{view_span};
 ghost use Rattle.juniper.specs.device.Steps.{closing_at, GivesPlace};
 
 use juniper_tokens::text::same_text;
-use juniper_tokens::{Kind, ParseFailure, Parser, Span, Token};
+use juniper_tokens::{Cursor, Kind, ParseFailure, Span};
 
 /// Whether the next token is of this kind. It is not taken.
-pub(crate) fn next_is(parser: &Parser<'_>, kind: Kind) -> bool
-    ensures is { result ≡ same_kind (kind_at parser.now) kind }
-    ensures ended { EndsOnce parser.now }
+pub(crate) fn next_is(tokens: &Cursor<'_, '_>, kind: Kind) -> bool
+    ensures is { result ≡ same_kind (kind_at tokens.now) kind }
+    ensures ended { EndsOnce tokens.now }
 {
-    parser.kind() == kind
+    tokens.kind() == kind
 }
 
 /// Whether the next token is a Name of this text. It is not taken.
-pub(crate) fn next_is_word(parser: &Parser<'_>, text: &str) -> bool
-    ensures is { result ≡ passes (word (chars text.now)) (first_of parser.now) }
-    ensures ended { EndsOnce parser.now }
+pub(crate) fn next_is_word(tokens: &Cursor<'_, '_>, text: &str) -> bool
+    ensures is { result ≡ passes (word (chars text.now)) (first_of tokens.now) }
+    ensures ended { EndsOnce tokens.now }
 {
-    match parser.peek().item {
-        Token::Name(name) => same_text(name, text),
-        _ => false,
-    }
+    tokens.kind() == Kind::Name && same_text(tokens.text(), text)
 }
 
 /// Takes the next token, which must not be the end, and returns its span.
-#[tactic(auto, using(crate::proofs::Cursors::next_is_first, juniper_tokens::proofs::Public::one_taken))]
 #[inline(always)]
-pub(crate) fn take_next(parser: &mut Parser<'_>) -> Span
-    requires { same_kind (kind_at parser.old) EndOfFile ≡ false }
-    ensures place { view_span result ≡ (first_of parser.old).span }
-    ensures takes { next_at parser.old ≡ Ok (first_of parser.old, parser.new) }
-    ensures left { parser.new ≡ drop 1 parser.old }
-    ensures ended { EndsOnce parser.old }
-    ensures shorter { length parser.new < length parser.old }
-    ensures rest { IsRest parser.old parser.new }
+pub(crate) fn take_next(tokens: &mut Cursor<'_, '_>) -> Span
+    requires { same_kind (kind_at tokens.old) EndOfFile ≡ false }
+    ensures place { view_span result ≡ (first_of tokens.old).span }
+    ensures takes { next_at tokens.old ≡ Ok (first_of tokens.old, tokens.new) }
+    ensures left { tokens.new ≡ drop 1 tokens.old }
+    ensures ended { EndsOnce tokens.old }
+    ensures shorter { length tokens.new < length tokens.old }
+    ensures rest { IsRest tokens.old tokens.new }
 {
-    let place = parser.peek().span;
-    parser.advance();
+    let place = tokens.span();
+    tokens.advance();
     place
 }
 
 /// Takes the next token if it is of this kind, and returns its span, else returns None.
 #[tactic(auto, using(crate::proofs::Cursors::closing_is_no_end, juniper_tokens::proofs::Public::none_taken))]
 #[inline(always)]
-pub(crate) fn take_closing(parser: &mut Parser<'_>, closing: Kind) -> Option<Span>
+pub(crate) fn take_closing(tokens: &mut Cursor<'_, '_>, closing: Kind) -> Option<Span>
     requires { same_kind closing EndOfFile ≡ false }
-    ensures takes { (option_map view_span result, parser.new) ≡ closing_at closing parser.old }
-    ensures ended { EndsOnce parser.old }
-    ensures shorter { IfSome result (λ place. length parser.new < length parser.old) }
-    ensures not_longer { length parser.new ≤ length parser.old }
-    ensures rest { IsRest parser.old parser.new }
+    ensures takes { (option_map view_span result, tokens.new) ≡ closing_at closing tokens.old }
+    ensures ended { EndsOnce tokens.old }
+    ensures shorter { IfSome result (λ place. length tokens.new < length tokens.old) }
+    ensures not_longer { length tokens.new ≤ length tokens.old }
+    ensures rest { IsRest tokens.old tokens.new }
 {
-    if next_is(parser, closing) {
-        Some(take_next(parser))
+    if next_is(tokens, closing) {
+        Some(take_next(tokens))
     } else {
         None
     }
@@ -71,15 +67,15 @@ pub(crate) fn take_closing(parser: &mut Parser<'_>, closing: Kind) -> Option<Spa
 /// Another token is taken too, and reported as unexpected. At the end nothing is taken.
 #[tactic(auto, using(crate::proofs::Cursors::closing_is_no_end))]
 #[inline(always)]
-pub(crate) fn expect_kind(parser: &mut Parser<'_>, kind: Kind) -> Result<Span, ParseFailure>
+pub(crate) fn expect_kind(tokens: &mut Cursor<'_, '_>, kind: Kind) -> Result<Span, ParseFailure>
     requires { same_kind kind EndOfFile ≡ false }
-    ensures gives { GivesPlace result parser.old parser.new (next_if (same_kind (kind_at parser.old) kind) parser.old) }
-    ensures shorter { OnOk result (length parser.new < length parser.old) }
-    ensures rest { IsRest parser.old parser.new }
+    ensures gives { GivesPlace result tokens.old tokens.new (next_if (same_kind (kind_at tokens.old) kind) tokens.old) }
+    ensures shorter { OnOk result (length tokens.new < length tokens.old) }
+    ensures rest { IsRest tokens.old tokens.new }
 {
-    if next_is(parser, kind) {
-        Ok(take_next(parser))
+    if next_is(tokens, kind) {
+        Ok(take_next(tokens))
     } else {
-        parser.refuse()
+        tokens.refuse()
     }
 }

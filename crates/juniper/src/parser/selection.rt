@@ -3,9 +3,9 @@ ghost use Rattle.std.specs.Prelude.{◌≡◌, ◌<◌, ◌≤◌, length, optio
 ghost use Rattle.graphql_grammar.specs.device.Productions.{selections_inner, selection_set, optional_set, names, field, named_spread, inline_parts, inline, typed, spread};
 ghost use Rattle.juniper_tokens.specs.Spans.{view_span};
 ghost use Rattle.juniper_tokens.specs.Cursor.{Gives};
-ghost use Rattle.juniper.specs.View.{view_word, view_selection, view_field};
+ghost use Rattle.juniper.specs.View.{view_word, view_selection};
 ghost use Rattle.juniper.specs.Scalars.{stated};
-ghost use Rattle.juniper.specs.device.Steps.{no_scalars, cursor, whole, selection_read};
+ghost use Rattle.juniper.specs.device.Steps.{no_scalars, cursor, whole, selection_read, Appends};
 ghost use Rattle.juniper.specs.device.PartViews.{view_list, view_names, view_spanned_set, view_inline_parts};
 
 use crate::parser::directives::{parse_directives, parse_optional_arguments};
@@ -13,23 +13,21 @@ use crate::parser::lists::push_item;
 use crate::parser::next::{expect_kind, next_is, next_is_word, take_closing, take_next};
 use crate::parser::spans::{from_part, item_of, span_of, up_to};
 use crate::tree::ast::{Directive, Field, FragmentSpread, InlineFragment, Selection};
-use juniper_tokens::{
-    Kind, OptionParseResult, ParseFailure, ParseResult, Parser, Span, Spanning,
-    UnlocatedParseResult,
-};
+use juniper_tokens::{Cursor, Kind, OptionParseResult, ParseFailure, ParseResult, Span, Spanning, UnlocatedParseResult};
 use juniper_values::ScalarValue;
 
 /// `SelectionSet = "{" Selection+ "}"`
 #[cycle(selection)]
+#[inline(never)]
 #[tactic(auto, unfolding(graphql_grammar::specs::device::Productions::selection_set))]
 pub(crate) fn parse_selection_set<'a, S: ScalarValue>(
-    parser: &mut Parser<'a>,
+    tokens: &mut Cursor<'_, 'a>,
 ) -> ParseResult<Vec<Selection<'a, S>>>
-    ensures gives { Gives (view_spanned_set S.content) result parser.new (cursor (stated S.reading S.of_bool) selection_set parser.old) }
-    ensures shorter { OnOk result (length parser.new < length parser.old) }
+    ensures gives { Gives (view_spanned_set S.content) result tokens.new (cursor (stated S.reading S.of_bool) selection_set tokens.old) }
+    ensures shorter { OnOk result (length tokens.new < length tokens.old) }
 {
-    let opening = expect_kind(parser, Kind::CurlyOpen)?;
-    let list = parse_selection_list(parser)?;
+    let opening = expect_kind(tokens, Kind::CurlyOpen)?;
+    let list = parse_selection_list(tokens)?;
     let end = list.span.end;
     Ok(Spanning::start_end(&opening.start, &end, list.item))
 }
@@ -37,17 +35,15 @@ pub(crate) fn parse_selection_set<'a, S: ScalarValue>(
 /// `Selection+ "}"`, with the place of the brace.
 #[cycle(selection)]
 fn parse_selection_list<'a, S: ScalarValue>(
-    parser: &mut Parser<'a>,
+    tokens: &mut Cursor<'_, 'a>,
 ) -> ParseResult<Vec<Selection<'a, S>>>
-    ensures gives { Gives (view_list (view_selection S.content)) result parser.new (cursor (stated S.reading S.of_bool) selections_inner parser.old) }
-    ensures shorter { OnOk result (length parser.new < length parser.old) }
+    ensures gives { Gives (view_list (view_selection S.content)) result tokens.new (cursor (stated S.reading S.of_bool) selections_inner tokens.old) }
+    ensures shorter { OnOk result (length tokens.new < length tokens.old) }
 {
-    let mut items = Vec::new(parser.allocator());
+    let mut items = Vec::new(tokens.allocator());
     loop {
-        let selection = parse_selection(parser)?;
-        let is_last = next_is(parser, Kind::CurlyClose);
-        push_item(&mut items, selection, is_last)?;
-        if let Some(closing) = take_closing(parser, Kind::CurlyClose) {
+        parse_selection(tokens, &mut items)?;
+        if let Some(closing) = take_closing(tokens, Kind::CurlyClose) {
             return Ok(Spanning::new(closing, items));
         }
     }
@@ -55,177 +51,196 @@ fn parse_selection_list<'a, S: ScalarValue>(
 
 /// `SelectionSet?`
 #[cycle(selection)]
+#[inline(always)]
 #[tactic(auto, unfolding(graphql_grammar::specs::device::Productions::optional_set))]
 fn parse_optional_selection_set<'a, S: ScalarValue>(
-    parser: &mut Parser<'a>,
+    tokens: &mut Cursor<'_, 'a>,
 ) -> OptionParseResult<Vec<Selection<'a, S>>>
-    ensures gives { Gives (option_map (view_spanned_set S.content)) result parser.new (cursor (stated S.reading S.of_bool) optional_set parser.old) }
-    ensures not_longer { OnOk result (length parser.new ≤ length parser.old) }
+    ensures gives { Gives (option_map (view_spanned_set S.content)) result tokens.new (cursor (stated S.reading S.of_bool) optional_set tokens.old) }
+    ensures not_longer { OnOk result (length tokens.new ≤ length tokens.old) }
 {
-    if next_is(parser, Kind::CurlyOpen) {
-        Ok(Some(parse_selection_set(parser)?))
+    if next_is(tokens, Kind::CurlyOpen) {
+        Ok(Some(parse_selection_set(tokens)?))
     } else {
         Ok(None)
     }
 }
 
-/// `Selection = Field | "..." FragmentName Directive* | "..." ("on" Name)? Directive* SelectionSet`
+/// `Selection = Field | "..." FragmentName Directive* | "..." ("on" Name)? Directive* SelectionSet`, appended.
 #[cycle(selection)]
-#[tactic(auto, using(crate::proofs::SelectionViews::view_of_field, crate::proofs::Readings::selection_is), unfolding(graphql_grammar::specs::device::Productions::any_selection))]
+#[tactic(auto, using(crate::proofs::Readings::selection_is), unfolding(graphql_grammar::specs::device::Productions::any_selection))]
 fn parse_selection<'a, S: ScalarValue>(
-    parser: &mut Parser<'a>,
-) -> UnlocatedParseResult<Selection<'a, S>>
-    ensures gives { Gives (view_selection S.content) result parser.new (selection_read (stated S.reading S.of_bool) parser.old) }
-    ensures shorter { OnOk result (length parser.new < length parser.old) }
+    tokens: &mut Cursor<'_, 'a>,
+    selections: &mut Vec<Selection<'a, S>>,
+) -> UnlocatedParseResult<()>
+    ensures appends { Appends (view_selection S.content) result selections.old.items selections.new.items tokens.new (selection_read (stated S.reading S.of_bool) tokens.old) }
+    ensures shorter { OnOk result (length tokens.new < length tokens.old) }
 {
-    if next_is(parser, Kind::Ellipsis) {
-        parse_spread(parser)
+    if next_is(tokens, Kind::Ellipsis) {
+        parse_spread(tokens, selections)
     } else {
-        Ok(Selection::Field(parse_field(parser)?))
+        parse_field(tokens, selections)
     }
 }
 
-/// `Field = (Name ":")? Name Arguments? Directive* SelectionSet?`
+/// `Field = (Name ":")? Name Arguments? Directive* SelectionSet?`, appended.
 #[cycle(selection)]
 #[tactic(auto, unfolding(graphql_grammar::specs::device::Productions::field))]
-fn parse_field<'a, S: ScalarValue>(parser: &mut Parser<'a>) -> ParseResult<Field<'a, S>>
-    ensures gives { Gives (view_field S.content) result parser.new (cursor (stated S.reading S.of_bool) field parser.old) }
-    ensures shorter { OnOk result (length parser.new < length parser.old) }
+fn parse_field<'a, S: ScalarValue>(
+    tokens: &mut Cursor<'_, 'a>,
+    selections: &mut Vec<Selection<'a, S>>,
+) -> UnlocatedParseResult<()>
+    ensures appends { Appends (view_selection S.content) result selections.old.items selections.new.items tokens.new (cursor (stated S.reading S.of_bool) field tokens.old) }
+    ensures shorter { OnOk result (length tokens.new < length tokens.old) }
 {
-    let (alias, name) = parse_names(parser)?;
-    let arguments = parse_optional_arguments(parser)?;
-    let directives = parse_directives(parser)?;
-    let set = parse_optional_selection_set(parser)?;
+    let (alias, name) = parse_names(tokens)?;
+    let arguments = parse_optional_arguments(tokens)?;
+    let directives = parse_directives(tokens)?;
+    let set = parse_optional_selection_set(tokens)?;
     let named = from_part(span_of(&alias), name.span);
     let span = up_to(
         up_to(up_to(named, span_of(&arguments)), span_of(&directives)),
         span_of(&set),
     );
-    Ok(Spanning::new(
-        span,
-        Field {
-            alias,
-            name,
-            arguments,
-            directives: item_of(directives),
-            selection_set: item_of(set),
-        },
-    ))
+    let field = Field {
+        alias,
+        name,
+        arguments,
+        directives: item_of(directives),
+        selection_set: item_of(set),
+    };
+    push_item(
+        selections,
+        Selection::Field(Spanning::new(span, field)),
+        next_is(tokens, Kind::CurlyClose),
+    )?;
+    Ok(())
 }
 
 /// `(Name ":")? Name`
 #[tactic(auto, unfolding(juniper_tokens::specs::Cursor::expect_name_at))]
 fn parse_names<'a>(
-    parser: &mut Parser<'a>,
+    tokens: &mut Cursor<'_, 'a>,
 ) -> Result<(Option<Spanning<&'a str>>, Spanning<&'a str>), ParseFailure>
-    ensures gives { Gives view_names result parser.new (cursor no_scalars names parser.old) }
-    ensures shorter { OnOk result (length parser.new < length parser.old) }
+    ensures gives { Gives view_names result tokens.new (cursor no_scalars names tokens.old) }
+    ensures shorter { OnOk result (length tokens.new < length tokens.old) }
 {
-    let first = parser.expect_name()?;
-    if next_is(parser, Kind::Colon) {
-        take_next(parser);
-        let name = parser.expect_name()?;
+    let first = tokens.expect_name()?;
+    if next_is(tokens, Kind::Colon) {
+        take_next(tokens);
+        let name = tokens.expect_name()?;
         Ok((Some(first), name))
     } else {
         Ok((None, first))
     }
 }
 
-/// `"..." FragmentName Directive* | "..." ("on" Name)? Directive* SelectionSet`
+/// `"..." FragmentName Directive* | "..." ("on" Name)? Directive* SelectionSet`, appended.
 #[cycle(selection)]
 #[tactic(auto, using(crate::proofs::Names::on_is, crate::proofs::Cursors::word_is_no_end, crate::proofs::CursorFits::other_is_name), unfolding(graphql_grammar::specs::device::Productions::spread, juniper_tokens::specs::Cursor::expect_name_at))]
 fn parse_spread<'a, S: ScalarValue>(
-    parser: &mut Parser<'a>,
-) -> UnlocatedParseResult<Selection<'a, S>>
-    ensures gives { Gives (view_selection S.content) result parser.new (cursor (stated S.reading S.of_bool) spread parser.old) }
-    ensures shorter { OnOk result (length parser.new < length parser.old) }
+    tokens: &mut Cursor<'_, 'a>,
+    selections: &mut Vec<Selection<'a, S>>,
+) -> UnlocatedParseResult<()>
+    ensures appends { Appends (view_selection S.content) result selections.old.items selections.new.items tokens.new (cursor (stated S.reading S.of_bool) spread tokens.old) }
+    ensures shorter { OnOk result (length tokens.new < length tokens.old) }
 {
-    let dots = expect_kind(parser, Kind::Ellipsis)?;
-    if next_is_word(parser, "on") {
-        take_next(parser);
-        parse_typed_fragment(parser, dots)
-    } else if next_is(parser, Kind::Name) {
-        let name = parser.expect_name()?;
-        parse_named_spread(parser, dots, name)
+    let dots = expect_kind(tokens, Kind::Ellipsis)?;
+    if next_is_word(tokens, "on") {
+        take_next(tokens);
+        parse_typed_fragment(tokens, dots, selections)
+    } else if next_is(tokens, Kind::Name) {
+        let name = tokens.expect_name()?;
+        parse_named_spread(tokens, dots, name, selections)
     } else {
-        parse_untyped_fragment(parser, dots)
+        parse_untyped_fragment(tokens, dots, selections)
     }
 }
 
-/// `Directive*`, after three dots and a FragmentName.
+/// `Directive*`, after three dots and a FragmentName, appended.
 #[tactic(auto, unfolding(graphql_grammar::specs::device::Productions::named_spread))]
 fn parse_named_spread<'a, S: ScalarValue>(
-    parser: &mut Parser<'a>,
+    tokens: &mut Cursor<'_, 'a>,
     dots: Span,
     name: Spanning<&'a str>,
-) -> UnlocatedParseResult<Selection<'a, S>>
-    ensures gives { Gives (view_selection S.content) result parser.new (whole (stated S.reading S.of_bool) (named_spread (view_span dots) (view_word name.entry)) parser.old) }
-    ensures not_longer { OnOk result (length parser.new ≤ length parser.old) }
+    selections: &mut Vec<Selection<'a, S>>,
+) -> UnlocatedParseResult<()>
+    ensures appends { Appends (view_selection S.content) result selections.old.items selections.new.items tokens.new (whole (stated S.reading S.of_bool) (named_spread (view_span dots) (view_word name.entry)) tokens.old) }
+    ensures not_longer { OnOk result (length tokens.new ≤ length tokens.old) }
 {
     let named = from_part(Some(dots), name.span);
-    let directives = parse_directives(parser)?;
+    let directives = parse_directives(tokens)?;
     let span = up_to(named, span_of(&directives));
-    Ok(Selection::FragmentSpread(Spanning::new(
-        span,
-        FragmentSpread {
-            name: Spanning::new(name.span, name.item),
-            directives: item_of(directives),
-        },
-    )))
+    let spread = FragmentSpread {
+        name: Spanning::new(name.span, name.item),
+        directives: item_of(directives),
+    };
+    push_item(
+        selections,
+        Selection::FragmentSpread(Spanning::new(span, spread)),
+        next_is(tokens, Kind::CurlyClose),
+    )?;
+    Ok(())
 }
 
-/// `Name Directive* SelectionSet`, after three dots and `on`.
+/// `Name Directive* SelectionSet`, after three dots and `on`, appended.
 #[cycle(selection)]
-#[tactic(auto, using(crate::proofs::SelectionViews::view_of_inline), unfolding(graphql_grammar::specs::device::Productions::typed, graphql_grammar::specs::device::Productions::inline, juniper_tokens::specs::Cursor::expect_name_at))]
+#[tactic(auto, unfolding(graphql_grammar::specs::device::Productions::typed, graphql_grammar::specs::device::Productions::inline, juniper_tokens::specs::Cursor::expect_name_at))]
 fn parse_typed_fragment<'a, S: ScalarValue>(
-    parser: &mut Parser<'a>,
+    tokens: &mut Cursor<'_, 'a>,
     dots: Span,
-) -> UnlocatedParseResult<Selection<'a, S>>
-    ensures gives { Gives (view_selection S.content) result parser.new (whole (stated S.reading S.of_bool) (typed (view_span dots)) parser.old) }
-    ensures shorter { OnOk result (length parser.new < length parser.old) }
+    selections: &mut Vec<Selection<'a, S>>,
+) -> UnlocatedParseResult<()>
+    ensures appends { Appends (view_selection S.content) result selections.old.items selections.new.items tokens.new (whole (stated S.reading S.of_bool) (typed (view_span dots)) tokens.old) }
+    ensures shorter { OnOk result (length tokens.new < length tokens.old) }
 {
-    let name = parser.expect_name()?;
-    let (directives, set) = parse_inline_parts(parser)?;
+    let name = tokens.expect_name()?;
+    let (directives, set) = parse_inline_parts(tokens)?;
     let end = set.span.end;
-    Ok(Selection::InlineFragment(Spanning::start_end(
-        &dots.start,
-        &end,
-        InlineFragment {
-            type_condition: Some(name),
-            directives,
-            selection_set: set.item,
-        },
-    )))
+    let fragment = InlineFragment {
+        type_condition: Some(name),
+        directives,
+        selection_set: set.item,
+    };
+    push_item(
+        selections,
+        Selection::InlineFragment(Spanning::start_end(&dots.start, &end, fragment)),
+        next_is(tokens, Kind::CurlyClose),
+    )?;
+    Ok(())
 }
 
-/// `Directive* SelectionSet`, after three dots.
+/// `Directive* SelectionSet`, after three dots, appended.
 #[cycle(selection)]
-#[tactic(auto, using(crate::proofs::SelectionViews::view_of_inline), unfolding(graphql_grammar::specs::device::Productions::inline))]
+#[tactic(auto, unfolding(graphql_grammar::specs::device::Productions::inline))]
 fn parse_untyped_fragment<'a, S: ScalarValue>(
-    parser: &mut Parser<'a>,
+    tokens: &mut Cursor<'_, 'a>,
     dots: Span,
-) -> UnlocatedParseResult<Selection<'a, S>>
-    ensures gives { Gives (view_selection S.content) result parser.new (whole (stated S.reading S.of_bool) (inline (view_span dots) None) parser.old) }
-    ensures shorter { OnOk result (length parser.new < length parser.old) }
+    selections: &mut Vec<Selection<'a, S>>,
+) -> UnlocatedParseResult<()>
+    ensures appends { Appends (view_selection S.content) result selections.old.items selections.new.items tokens.new (whole (stated S.reading S.of_bool) (inline (view_span dots) None) tokens.old) }
+    ensures shorter { OnOk result (length tokens.new < length tokens.old) }
 {
-    let (directives, set) = parse_inline_parts(parser)?;
+    let (directives, set) = parse_inline_parts(tokens)?;
     let end = set.span.end;
-    Ok(Selection::InlineFragment(Spanning::start_end(
-        &dots.start,
-        &end,
-        InlineFragment {
-            type_condition: None,
-            directives,
-            selection_set: set.item,
-        },
-    )))
+    let fragment = InlineFragment {
+        type_condition: None,
+        directives,
+        selection_set: set.item,
+    };
+    push_item(
+        selections,
+        Selection::InlineFragment(Spanning::start_end(&dots.start, &end, fragment)),
+        next_is(tokens, Kind::CurlyClose),
+    )?;
+    Ok(())
 }
 
 /// `Directive* SelectionSet`
 #[cycle(selection)]
 #[tactic(auto, using(crate::proofs::PartViews::without_span), unfolding(graphql_grammar::specs::device::Productions::inline_parts))]
 pub(crate) fn parse_inline_parts<'a, S: ScalarValue>(
-    parser: &mut Parser<'a>,
+    tokens: &mut Cursor<'_, 'a>,
 ) -> Result<
     (
         Option<Vec<Spanning<Directive<'a, S>>>>,
@@ -233,10 +248,10 @@ pub(crate) fn parse_inline_parts<'a, S: ScalarValue>(
     ),
     ParseFailure,
 >
-    ensures gives { Gives (view_inline_parts S.content) result parser.new (cursor (stated S.reading S.of_bool) inline_parts parser.old) }
-    ensures shorter { OnOk result (length parser.new < length parser.old) }
+    ensures gives { Gives (view_inline_parts S.content) result tokens.new (cursor (stated S.reading S.of_bool) inline_parts tokens.old) }
+    ensures shorter { OnOk result (length tokens.new < length tokens.old) }
 {
-    let directives = item_of(parse_directives(parser)?);
-    let set = parse_selection_set(parser)?;
+    let directives = item_of(parse_directives(tokens)?);
+    let set = parse_selection_set(tokens)?;
     Ok((directives, set))
 }

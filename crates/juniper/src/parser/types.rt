@@ -8,7 +8,7 @@ ghost use Rattle.juniper.specs.View.{view_spanned_type};
 ghost use Rattle.juniper.specs.device.Steps.{no_scalars, cursor, type_read};
 
 use crate::parser::next::{expect_kind, next_is, take_next};
-use juniper_tokens::{Kind, ParseFailure, ParseResult, Parser, Spanning};
+use juniper_tokens::{Cursor, Kind, ParseFailure, ParseResult, Parser, Spanning};
 use juniper_values::Type;
 
 /// Parses the longest prefix of the tokens that is a type (GraphQL specification, October 2021, section 2.11).
@@ -19,66 +19,70 @@ use juniper_values::Type;
 ///
 /// ```
 /// // of `[ID!] = 1`: the type is `[ID!]`, and `=` stands next
-/// let of_type = parse_type(&mut parser)?;
+/// let of_type = parse_type(&mut tokens)?;
 /// ```
 pub fn parse_type<'a>(parser: &mut Parser<'a>) -> ParseResult<Type<&'a str>>
     ensures answers { AnswersType view_spanned_type result parser.old parser.new }
     ensures memory { OnMemory result (IsRest parser.old parser.new) }
 {
-    parse_any_type(parser)
+    let mut tokens = parser.cursor();
+    let result = parse_any_type(&mut tokens);
+    let left = tokens.count();
+    parser.take_until(left);
+    result
 }
 
 /// `Type = Name "!"? | "[" Type "]" "!"?`
 #[cycle(types)]
-pub(crate) fn parse_any_type<'a>(parser: &mut Parser<'a>) -> ParseResult<Type<&'a str>>
-    ensures gives { Gives view_spanned_type result parser.new (type_read parser.old) }
-    ensures ended { EndsOnce parser.old }
-    ensures shorter { OnOk result (length parser.new < length parser.old) }
-    ensures rest { IsRest parser.old parser.new }
+pub(crate) fn parse_any_type<'a>(tokens: &mut Cursor<'_, 'a>) -> ParseResult<Type<&'a str>>
+    ensures gives { Gives view_spanned_type result tokens.new (type_read tokens.old) }
+    ensures ended { EndsOnce tokens.old }
+    ensures shorter { OnOk result (length tokens.new < length tokens.old) }
+    ensures rest { IsRest tokens.old tokens.new }
 {
-    let inner = parse_nullable_type(parser)?;
-    parse_non_null(parser, inner)
+    let inner = parse_nullable_type(tokens)?;
+    parse_non_null(tokens, inner)
 }
 
 /// `Name | "[" Type "]"`
 #[cycle(types)]
 #[tactic(auto, unfolding(graphql_grammar::specs::device::Productions::nullable_type))]
-fn parse_nullable_type<'a>(parser: &mut Parser<'a>) -> ParseResult<Type<&'a str>>
-    ensures gives { Gives view_spanned_type result parser.new (cursor no_scalars nullable_type parser.old) }
-    ensures ended { EndsOnce parser.old }
-    ensures shorter { OnOk result (length parser.new < length parser.old) }
-    ensures rest { IsRest parser.old parser.new }
+fn parse_nullable_type<'a>(tokens: &mut Cursor<'_, 'a>) -> ParseResult<Type<&'a str>>
+    ensures gives { Gives view_spanned_type result tokens.new (cursor no_scalars nullable_type tokens.old) }
+    ensures ended { EndsOnce tokens.old }
+    ensures shorter { OnOk result (length tokens.new < length tokens.old) }
+    ensures rest { IsRest tokens.old tokens.new }
 {
-    if next_is(parser, Kind::Name) {
-        parse_named_type(parser)
+    if next_is(tokens, Kind::Name) {
+        parse_named_type(tokens)
     } else {
-        parse_list_type(parser)
+        parse_list_type(tokens)
     }
 }
 
 /// `Name`
 #[tactic(auto, unfolding(graphql_grammar::specs::device::Productions::named_type, juniper_tokens::specs::Cursor::expect_name_at))]
-fn parse_named_type<'a>(parser: &mut Parser<'a>) -> ParseResult<Type<&'a str>>
-    ensures gives { Gives view_spanned_type result parser.new (cursor no_scalars named_type parser.old) }
-    ensures shorter { OnOk result (length parser.new < length parser.old) }
-    ensures rest { IsRest parser.old parser.new }
+fn parse_named_type<'a>(tokens: &mut Cursor<'_, 'a>) -> ParseResult<Type<&'a str>>
+    ensures gives { Gives view_spanned_type result tokens.new (cursor no_scalars named_type tokens.old) }
+    ensures shorter { OnOk result (length tokens.new < length tokens.old) }
+    ensures rest { IsRest tokens.old tokens.new }
 {
-    let name = parser.expect_name()?;
+    let name = tokens.expect_name()?;
     Ok(Spanning::new(name.span, Type::nullable(name.item)))
 }
 
 /// `"[" Type "]"`
 #[cycle(types)]
 #[tactic(auto, using(crate::proofs::Wrapping::wrapped_list), unfolding(graphql_grammar::specs::device::Productions::list_type))]
-fn parse_list_type<'a>(parser: &mut Parser<'a>) -> ParseResult<Type<&'a str>>
-    ensures gives { Gives view_spanned_type result parser.new (cursor no_scalars list_type parser.old) }
-    ensures shorter { OnOk result (length parser.new < length parser.old) }
-    ensures rest { IsRest parser.old parser.new }
+fn parse_list_type<'a>(tokens: &mut Cursor<'_, 'a>) -> ParseResult<Type<&'a str>>
+    ensures gives { Gives view_spanned_type result tokens.new (cursor no_scalars list_type tokens.old) }
+    ensures shorter { OnOk result (length tokens.new < length tokens.old) }
+    ensures rest { IsRest tokens.old tokens.new }
 {
-    let opening = expect_kind(parser, Kind::BracketOpen)?;
-    let inner = parse_any_type(parser)?;
-    let closing = expect_kind(parser, Kind::BracketClose)?;
-    match inner.item.wrap_list(parser.allocator(), None) {
+    let opening = expect_kind(tokens, Kind::BracketOpen)?;
+    let inner = parse_any_type(tokens)?;
+    let closing = expect_kind(tokens, Kind::BracketClose)?;
+    match inner.item.wrap_list(tokens.allocator(), None) {
         Ok(list) => Ok(Spanning::start_end(&opening.start, &closing.end, list)),
         Err(_) => Err(ParseFailure::Memory),
     }
@@ -87,19 +91,19 @@ fn parse_list_type<'a>(parser: &mut Parser<'a>) -> ParseResult<Type<&'a str>>
 /// `"!"?`, after this type.
 #[tactic(auto, using(crate::proofs::Wrapping::wrapped_non_null), unfolding(graphql_grammar::specs::device::Productions::non_null))]
 fn parse_non_null<'a>(
-    parser: &mut Parser<'a>,
+    tokens: &mut Cursor<'_, 'a>,
     inner: Spanning<Type<&'a str>>,
 ) -> ParseResult<Type<&'a str>>
-    ensures gives { Gives view_spanned_type result parser.new (cursor no_scalars (non_null (view_spanned_type inner.entry)) parser.old) }
-    ensures not_longer { OnOk result (length parser.new ≤ length parser.old) }
-    ensures rest { IsRest parser.old parser.new }
+    ensures gives { Gives view_spanned_type result tokens.new (cursor no_scalars (non_null (view_spanned_type inner.entry)) tokens.old) }
+    ensures not_longer { OnOk result (length tokens.new ≤ length tokens.old) }
+    ensures rest { IsRest tokens.old tokens.new }
 {
-    if !next_is(parser, Kind::ExclamationMark) {
+    if !next_is(tokens, Kind::ExclamationMark) {
         return Ok(inner);
     }
     let start = inner.span.start;
-    let mark = take_next(parser);
-    match inner.item.wrap_non_null(parser.allocator()) {
+    let mark = take_next(tokens);
+    match inner.item.wrap_non_null(tokens.allocator()) {
         Ok(of_type) => Ok(Spanning::start_end(&start, &mark.end, of_type)),
         Err(_) => Err(ParseFailure::Memory),
     }

@@ -19,7 +19,7 @@ ghost use Rattle.juniper_values.specs.Scalar.{MeetsReading};
 use crate::parser::lists::push_item;
 use crate::parser::next::{expect_kind, next_is, take_closing, take_next};
 use juniper_tokens::text::same_text;
-use juniper_tokens::{Kind, ParseError, ParseFailure, ParseResult, Parser, Span, Spanning, Token};
+use juniper_tokens::{Cursor, Kind, ParseError, ParseFailure, ParseResult, Parser, Span, Spanning, Token};
 use juniper_values::{InputValue, ReadFailure, ScalarValue};
 use std::alloc::{AllocError, Global};
 
@@ -42,7 +42,11 @@ pub fn parse_value_literal<'a, S: ScalarValue>(
     ensures answers { AnswersValue (stated S.reading S.of_bool) (not is_const) (view_value S.content) result parser.old parser.new }
     ensures memory { OnMemory result (IsRest parser.old parser.new) }
 {
-    parse_value(parser, is_const)
+    let mut tokens = parser.cursor();
+    let result = parse_value(&mut tokens, is_const);
+    let left = tokens.count();
+    parser.take_until(left);
+    result
 }
 
 /// `Value(c) = a scalar token that the scalar type reads | Name | "$" Name where c is free
@@ -50,30 +54,30 @@ pub fn parse_value_literal<'a, S: ScalarValue>(
 #[cycle(value)]
 #[tactic(auto, using(crate::proofs::Readings::value_is), unfolding(graphql_grammar::specs::device::Productions::value, juniper_tokens::specs::Cursor::expect_name_at))]
 pub(crate) fn parse_value<'a, S: ScalarValue>(
-    parser: &mut Parser<'a>,
+    tokens: &mut Cursor<'_, 'a>,
     is_const: bool,
 ) -> ParseResult<InputValue<S>>
-    ensures gives { Gives (view_value S.content) result parser.new (value_read (stated S.reading S.of_bool) (not is_const) parser.old) }
-    ensures ended { EndsOnce parser.old }
-    ensures shorter { OnOk result (length parser.new < length parser.old) }
-    ensures rest { IsRest parser.old parser.new }
+    ensures gives { Gives (view_value S.content) result tokens.new (value_read (stated S.reading S.of_bool) (not is_const) tokens.old) }
+    ensures ended { EndsOnce tokens.old }
+    ensures shorter { OnOk result (length tokens.new < length tokens.old) }
+    ensures rest { IsRest tokens.old tokens.new }
 {
-    match parser.kind() {
+    match tokens.kind() {
         Kind::BracketOpen => {
-            let opening = take_next(parser);
-            parse_list(parser, is_const, opening)
+            let opening = take_next(tokens);
+            parse_list(tokens, is_const, opening)
         }
         Kind::CurlyOpen => {
-            let opening = take_next(parser);
-            parse_object(parser, is_const, opening)
+            let opening = take_next(tokens);
+            parse_object(tokens, is_const, opening)
         }
         Kind::Dollar if !is_const => {
-            let dollar = take_next(parser);
-            parse_variable(parser, dollar)
+            let dollar = take_next(tokens);
+            parse_variable(tokens, dollar)
         }
         Kind::Name => {
-            let name = parser.expect_name()?;
-            Ok(value_of_name(parser.allocator(), name)?)
+            let name = tokens.expect_name()?;
+            Ok(value_of_name(tokens.allocator(), name)?)
         }
         Kind::String
         | Kind::BlockString
@@ -90,7 +94,7 @@ pub(crate) fn parse_value<'a, S: ScalarValue>(
         | Kind::Equals
         | Kind::At
         | Kind::Pipe
-        | Kind::EndOfFile => parse_scalar(parser),
+        | Kind::EndOfFile => parse_scalar(tokens),
     }
 }
 
@@ -98,15 +102,15 @@ pub(crate) fn parse_value<'a, S: ScalarValue>(
 #[cycle(value)]
 #[tactic(auto, unfolding(graphql_grammar::specs::device::Productions::list))]
 fn parse_list<'a, S: ScalarValue>(
-    parser: &mut Parser<'a>,
+    tokens: &mut Cursor<'_, 'a>,
     is_const: bool,
     opening: Span,
 ) -> ParseResult<InputValue<S>>
-    ensures gives { Gives (view_value S.content) result parser.new (cursor (stated S.reading S.of_bool) (list (not is_const) (view_span opening)) parser.old) }
-    ensures shorter { OnOk result (length parser.new < length parser.old) }
-    ensures rest { IsRest parser.old parser.new }
+    ensures gives { Gives (view_value S.content) result tokens.new (cursor (stated S.reading S.of_bool) (list (not is_const) (view_span opening)) tokens.old) }
+    ensures shorter { OnOk result (length tokens.new < length tokens.old) }
+    ensures rest { IsRest tokens.old tokens.new }
 {
-    let items = parse_items(parser, is_const)?;
+    let items = parse_items(tokens, is_const)?;
     let end = items.span.end;
     Ok(Spanning::start_end(&opening.start, &end, InputValue::List(items.item)))
 }
@@ -114,20 +118,20 @@ fn parse_list<'a, S: ScalarValue>(
 /// `Value(c)* "]"`, with the place of the bracket.
 #[cycle(value)]
 fn parse_items<'a, S: ScalarValue>(
-    parser: &mut Parser<'a>,
+    tokens: &mut Cursor<'_, 'a>,
     is_const: bool,
 ) -> ParseResult<Vec<Spanning<InputValue<S>>>>
-    ensures gives { Gives (view_list (view_value S.content)) result parser.new (closed_read (stated S.reading S.of_bool) (of BracketClose) (symbol (a_value (not is_const))) parser.old) }
-    ensures shorter { OnOk result (length parser.new < length parser.old) }
-    ensures rest { IsRest parser.old parser.new }
+    ensures gives { Gives (view_list (view_value S.content)) result tokens.new (closed_read (stated S.reading S.of_bool) (of BracketClose) (symbol (a_value (not is_const))) tokens.old) }
+    ensures shorter { OnOk result (length tokens.new < length tokens.old) }
+    ensures rest { IsRest tokens.old tokens.new }
 {
-    let mut items = Vec::new(parser.allocator());
+    let mut items = Vec::new(tokens.allocator());
     loop {
-        if let Some(closing) = take_closing(parser, Kind::BracketClose) {
+        if let Some(closing) = take_closing(tokens, Kind::BracketClose) {
             return Ok(Spanning::new(closing, items));
         }
-        let item = parse_value(parser, is_const)?;
-        let is_last = next_is(parser, Kind::BracketClose);
+        let item = parse_value(tokens, is_const)?;
+        let is_last = next_is(tokens, Kind::BracketClose);
         push_item(&mut items, item, is_last)?;
     }
 }
@@ -136,15 +140,15 @@ fn parse_items<'a, S: ScalarValue>(
 #[cycle(value)]
 #[tactic(auto, unfolding(graphql_grammar::specs::device::Productions::object))]
 fn parse_object<'a, S: ScalarValue>(
-    parser: &mut Parser<'a>,
+    tokens: &mut Cursor<'_, 'a>,
     is_const: bool,
     opening: Span,
 ) -> ParseResult<InputValue<S>>
-    ensures gives { Gives (view_value S.content) result parser.new (cursor (stated S.reading S.of_bool) (object (not is_const) (view_span opening)) parser.old) }
-    ensures shorter { OnOk result (length parser.new < length parser.old) }
-    ensures rest { IsRest parser.old parser.new }
+    ensures gives { Gives (view_value S.content) result tokens.new (cursor (stated S.reading S.of_bool) (object (not is_const) (view_span opening)) tokens.old) }
+    ensures shorter { OnOk result (length tokens.new < length tokens.old) }
+    ensures rest { IsRest tokens.old tokens.new }
 {
-    let fields = parse_fields(parser, is_const)?;
+    let fields = parse_fields(tokens, is_const)?;
     let end = fields.span.end;
     Ok(Spanning::start_end(&opening.start, &end, InputValue::Object(fields.item)))
 }
@@ -152,20 +156,20 @@ fn parse_object<'a, S: ScalarValue>(
 /// `(Name ":" Value(c))* "}"`, with the place of the brace.
 #[cycle(value)]
 fn parse_fields<'a, S: ScalarValue>(
-    parser: &mut Parser<'a>,
+    tokens: &mut Cursor<'_, 'a>,
     is_const: bool,
 ) -> ParseResult<Vec<(Spanning<String>, Spanning<InputValue<S>>)>>
-    ensures gives { Gives (view_list (view_object_field S.content)) result parser.new (closed_read (stated S.reading S.of_bool) (of CurlyClose) (key_and_value (not is_const)) parser.old) }
-    ensures shorter { OnOk result (length parser.new < length parser.old) }
-    ensures rest { IsRest parser.old parser.new }
+    ensures gives { Gives (view_list (view_object_field S.content)) result tokens.new (closed_read (stated S.reading S.of_bool) (of CurlyClose) (key_and_value (not is_const)) tokens.old) }
+    ensures shorter { OnOk result (length tokens.new < length tokens.old) }
+    ensures rest { IsRest tokens.old tokens.new }
 {
-    let mut fields = Vec::new(parser.allocator());
+    let mut fields = Vec::new(tokens.allocator());
     loop {
-        if let Some(closing) = take_closing(parser, Kind::CurlyClose) {
+        if let Some(closing) = take_closing(tokens, Kind::CurlyClose) {
             return Ok(Spanning::new(closing, fields));
         }
-        let field = parse_object_field(parser, is_const)?;
-        let is_last = next_is(parser, Kind::CurlyClose);
+        let field = parse_object_field(tokens, is_const)?;
+        let is_last = next_is(tokens, Kind::CurlyClose);
         push_item(&mut fields, field, is_last)?;
     }
 }
@@ -174,44 +178,44 @@ fn parse_fields<'a, S: ScalarValue>(
 #[cycle(value)]
 #[tactic(auto, unfolding(graphql_grammar::specs::device::Productions::key_and_value, juniper_tokens::specs::Cursor::expect_name_at))]
 fn parse_object_field<'a, S: ScalarValue>(
-    parser: &mut Parser<'a>,
+    tokens: &mut Cursor<'_, 'a>,
     is_const: bool,
 ) -> Result<(Spanning<String>, Spanning<InputValue<S>>), ParseFailure>
-    ensures gives { Gives (view_object_field S.content) result parser.new (cursor (stated S.reading S.of_bool) (key_and_value (not is_const)) parser.old) }
-    ensures shorter { OnOk result (length parser.new < length parser.old) }
-    ensures rest { IsRest parser.old parser.new }
+    ensures gives { Gives (view_object_field S.content) result tokens.new (cursor (stated S.reading S.of_bool) (key_and_value (not is_const)) tokens.old) }
+    ensures shorter { OnOk result (length tokens.new < length tokens.old) }
+    ensures rest { IsRest tokens.old tokens.new }
 {
-    let key = parser.expect_name()?;
-    expect_kind(parser, Kind::Colon)?;
-    let value = parse_value(parser, is_const)?;
-    let text = String::from_str(parser.allocator(), key.item)?;
+    let key = tokens.expect_name()?;
+    expect_kind(tokens, Kind::Colon)?;
+    let value = parse_value(tokens, is_const)?;
+    let text = String::from_str(tokens.allocator(), key.item)?;
     Ok((Spanning::new(key.span, text), value))
 }
 
 /// `Name`, after the dollar that stands at `dollar`.
 #[tactic(auto, using(crate::proofs::ValueViews::view_of_variable), unfolding(graphql_grammar::specs::device::Productions::variable, juniper_tokens::specs::Cursor::expect_name_at))]
 fn parse_variable<'a, S: ScalarValue>(
-    parser: &mut Parser<'a>,
+    tokens: &mut Cursor<'_, 'a>,
     dollar: Span,
 ) -> ParseResult<InputValue<S>>
-    ensures gives { Gives (view_value S.content) result parser.new (cursor (stated S.reading S.of_bool) (variable (view_span dollar)) parser.old) }
-    ensures shorter { OnOk result (length parser.new < length parser.old) }
-    ensures rest { IsRest parser.old parser.new }
+    ensures gives { Gives (view_value S.content) result tokens.new (cursor (stated S.reading S.of_bool) (variable (view_span dollar)) tokens.old) }
+    ensures shorter { OnOk result (length tokens.new < length tokens.old) }
+    ensures rest { IsRest tokens.old tokens.new }
 {
-    let name = parser.expect_name()?;
-    let text = String::from_str(parser.allocator(), name.item)?;
+    let name = tokens.expect_name()?;
+    let text = String::from_str(tokens.allocator(), name.item)?;
     Ok(Spanning::start_end(&dollar.start, &name.span.end, InputValue::Variable(text)))
 }
 
 /// A scalar token. Another token is refused.
 #[tactic(auto, using(crate::proofs::ValueViews::view_of_scalar), unfolding(crate::specs::device::Steps::scalar_read))]
-fn parse_scalar<'a, S: ScalarValue>(parser: &mut Parser<'a>) -> ParseResult<InputValue<S>>
-    ensures gives { Gives (view_value S.content) result parser.new (scalar_read (stated S.reading S.of_bool) parser.old) }
-    ensures shorter { OnOk result (length parser.new < length parser.old) }
-    ensures rest { IsRest parser.old parser.new }
+fn parse_scalar<'a, S: ScalarValue>(tokens: &mut Cursor<'_, 'a>) -> ParseResult<InputValue<S>>
+    ensures gives { Gives (view_value S.content) result tokens.new (scalar_read (stated S.reading S.of_bool) tokens.old) }
+    ensures shorter { OnOk result (length tokens.new < length tokens.old) }
+    ensures rest { IsRest tokens.old tokens.new }
 {
-    let token = parser.next_token()?;
-    match scalar_of(parser.allocator(), token.item) {
+    let token = tokens.next_token()?;
+    match scalar_of(tokens.allocator(), token.item) {
         Ok(scalar) => Ok(Spanning::new(token.span, InputValue::Scalar(scalar))),
         Err(ReadFailure::Refused(error)) => {
             Err(ParseFailure::Refused(Spanning::new(token.span, error)))

@@ -14,18 +14,18 @@ use crate::parser::spans::item_of;
 use crate::parser::types::parse_any_type;
 use crate::parser::value::parse_value;
 use crate::tree::ast::{VariableDefinition, VariableDefinitions};
-use juniper_tokens::{Kind, OptionParseResult, ParseFailure, ParseResult, Parser, Spanning};
+use juniper_tokens::{Cursor, Kind, OptionParseResult, ParseFailure, ParseResult, Spanning};
 use juniper_values::{InputValue, ScalarValue};
 
 /// `("=" Value(const))?`
 #[tactic(auto, unfolding(graphql_grammar::specs::device::Productions::default))]
-fn parse_default<'a, S: ScalarValue>(parser: &mut Parser<'a>) -> OptionParseResult<InputValue<S>>
-    ensures gives { Gives (option_map (view_value S.content)) result parser.new (cursor (stated S.reading S.of_bool) default parser.old) }
-    ensures not_longer { OnOk result (length parser.new ≤ length parser.old) }
+fn parse_default<'a, S: ScalarValue>(tokens: &mut Cursor<'_, 'a>) -> OptionParseResult<InputValue<S>>
+    ensures gives { Gives (option_map (view_value S.content)) result tokens.new (cursor (stated S.reading S.of_bool) default tokens.old) }
+    ensures not_longer { OnOk result (length tokens.new ≤ length tokens.old) }
 {
-    if next_is(parser, Kind::Equals) {
-        take_next(parser);
-        Ok(Some(parse_value(parser, true)?))
+    if next_is(tokens, Kind::Equals) {
+        take_next(tokens);
+        Ok(Some(parse_value(tokens, true)?))
     } else {
         Ok(None)
     }
@@ -34,17 +34,17 @@ fn parse_default<'a, S: ScalarValue>(parser: &mut Parser<'a>) -> OptionParseResu
 /// `"$" Name ":" Type ("=" Value(const))? Directive*`
 #[tactic(auto, using(crate::proofs::PartViews::without_span), unfolding(graphql_grammar::specs::device::Productions::variable_definition, juniper_tokens::specs::Cursor::expect_name_at))]
 fn parse_variable_definition<'a, S: ScalarValue>(
-    parser: &mut Parser<'a>,
+    tokens: &mut Cursor<'_, 'a>,
 ) -> Result<(Spanning<&'a str>, VariableDefinition<'a, S>), ParseFailure>
-    ensures gives { Gives (view_variable S.content) result parser.new (cursor (stated S.reading S.of_bool) variable_definition parser.old) }
-    ensures shorter { OnOk result (length parser.new < length parser.old) }
+    ensures gives { Gives (view_variable S.content) result tokens.new (cursor (stated S.reading S.of_bool) variable_definition tokens.old) }
+    ensures shorter { OnOk result (length tokens.new < length tokens.old) }
 {
-    let start = expect_kind(parser, Kind::Dollar)?.start;
-    let name = parser.expect_name()?;
-    expect_kind(parser, Kind::Colon)?;
-    let var_type = parse_any_type(parser)?;
-    let default_value = parse_default(parser)?;
-    let directives = item_of(parse_directives(parser)?);
+    let start = expect_kind(tokens, Kind::Dollar)?.start;
+    let name = tokens.expect_name()?;
+    expect_kind(tokens, Kind::Colon)?;
+    let var_type = parse_any_type(tokens)?;
+    let default_value = parse_default(tokens)?;
+    let directives = item_of(parse_directives(tokens)?);
     let end = name.span.end;
     Ok((
         Spanning::start_end(&start, &end, name.item),
@@ -58,32 +58,33 @@ fn parse_variable_definition<'a, S: ScalarValue>(
 
 /// `("$" Name ":" Type ("=" Value(const))? Directive*)+ ")"`, with the place of the parenthesis.
 fn parse_variable_list<'a, S: ScalarValue>(
-    parser: &mut Parser<'a>,
+    tokens: &mut Cursor<'_, 'a>,
 ) -> ParseResult<Vec<(Spanning<&'a str>, VariableDefinition<'a, S>)>>
-    ensures gives { Gives (view_list (view_variable S.content)) result parser.new (cursor (stated S.reading S.of_bool) variables_inner parser.old) }
-    ensures shorter { OnOk result (length parser.new < length parser.old) }
+    ensures gives { Gives (view_list (view_variable S.content)) result tokens.new (cursor (stated S.reading S.of_bool) variables_inner tokens.old) }
+    ensures shorter { OnOk result (length tokens.new < length tokens.old) }
 {
-    let mut items = Vec::new(parser.allocator());
+    let mut items = Vec::new(tokens.allocator());
     loop {
-        let variable = parse_variable_definition(parser)?;
-        let is_last = next_is(parser, Kind::ParenClose);
+        let variable = parse_variable_definition(tokens)?;
+        let is_last = next_is(tokens, Kind::ParenClose);
         push_item(&mut items, variable, is_last)?;
-        if let Some(closing) = take_closing(parser, Kind::ParenClose) {
+        if let Some(closing) = take_closing(tokens, Kind::ParenClose) {
             return Ok(Spanning::new(closing, items));
         }
     }
 }
 
 /// `Variables = "(" ("$" Name ":" Type ("=" Value(const))? Directive*)+ ")"`
+#[inline(never)]
 #[tactic(auto, unfolding(graphql_grammar::specs::device::Productions::variables))]
 fn parse_variables<'a, S: ScalarValue>(
-    parser: &mut Parser<'a>,
+    tokens: &mut Cursor<'_, 'a>,
 ) -> ParseResult<VariableDefinitions<'a, S>>
-    ensures gives { Gives (view_variables S.content) result parser.new (cursor (stated S.reading S.of_bool) variables parser.old) }
-    ensures shorter { OnOk result (length parser.new < length parser.old) }
+    ensures gives { Gives (view_variables S.content) result tokens.new (cursor (stated S.reading S.of_bool) variables tokens.old) }
+    ensures shorter { OnOk result (length tokens.new < length tokens.old) }
 {
-    let opening = expect_kind(parser, Kind::ParenOpen)?;
-    let list = parse_variable_list(parser)?;
+    let opening = expect_kind(tokens, Kind::ParenOpen)?;
+    let list = parse_variable_list(tokens)?;
     let end = list.span.end;
     Ok(Spanning::start_end(
         &opening.start,
@@ -95,13 +96,13 @@ fn parse_variables<'a, S: ScalarValue>(
 /// `Variables?`
 #[tactic(auto, unfolding(graphql_grammar::specs::device::Productions::optional_variables))]
 pub(crate) fn parse_optional_variables<'a, S: ScalarValue>(
-    parser: &mut Parser<'a>,
+    tokens: &mut Cursor<'_, 'a>,
 ) -> OptionParseResult<VariableDefinitions<'a, S>>
-    ensures gives { Gives (option_map (view_variables S.content)) result parser.new (cursor (stated S.reading S.of_bool) optional_variables parser.old) }
-    ensures not_longer { OnOk result (length parser.new ≤ length parser.old) }
+    ensures gives { Gives (option_map (view_variables S.content)) result tokens.new (cursor (stated S.reading S.of_bool) optional_variables tokens.old) }
+    ensures not_longer { OnOk result (length tokens.new ≤ length tokens.old) }
 {
-    if next_is(parser, Kind::ParenOpen) {
-        Ok(Some(parse_variables(parser)?))
+    if next_is(tokens, Kind::ParenOpen) {
+        Ok(Some(parse_variables(tokens)?))
     } else {
         Ok(None)
     }

@@ -113,8 +113,12 @@ MayTake s (Some range) t = TakesRange (past_gap s) range t
 abbrev pub end_at : Border → Place → TokenRange
 end_at border place = record { kind = kinds.EndOfFile; at = border.bytes; start = place; end = border }
 
--- A cursor has taken this many of these ranges of a source, whose last token and no other is the end.
-pub record IsCursor (source : List ℕ) (ranges : List TokenRange) (taken : ℕ) (current : Spanning Token) : Type 0 where
+-- This many of these ranges of a source have been taken. Of those that are left the last one, and no other, is the end.
+pub record AreLeft (source : List ℕ) (ranges : List TokenRange) (taken : ℕ) : Type 0 where
   pub are_ranges : All (IsRange source) ranges
   pub ended : EndsOnce (range_lexemes source (drop taken ranges))
+
+-- the same, of which the next one is held as a token
+pub record IsCursor (source : List ℕ) (ranges : List TokenRange) (taken : ℕ) (current : Spanning Token) : Type 0 where
+  pub left : AreLeft source ranges taken
   pub first : view_token current ≡ first_of (range_lexemes source (drop taken ranges))

@@ -67,7 +67,7 @@ fn parse_within<'a, S: ScalarValue>(
     ensures { (source : List ℕ) → Cut source parser.old → AnswersWithin (stated S.reading S.of_bool) depth source (view_document S.content) result }
 {
     let deep = parser.end_at_nesting(depth);
-    match parse_definitions(parser) {
+    match parse_definitions(&mut parser.cursor()) {
         Ok(tree) => Ok(tree),
         Err(failure) => Err(told(deep, failure)),
     }

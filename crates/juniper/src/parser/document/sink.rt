@@ -18,7 +18,7 @@ use crate::parser::definition::parse_definition;
 use crate::parser::document::depth::{DepthFailure, told};
 use crate::parser::next::next_is;
 use crate::tree::ast::Definition;
-use juniper_tokens::{Kind, Lexer, ParseFailure, Parser, UnlocatedParseResult};
+use juniper_tokens::{Cursor, Kind, Lexer, ParseFailure, Parser, UnlocatedParseResult};
 use juniper_values::ScalarValue;
 use std::alloc::{AllocError, Global};
 
@@ -79,7 +79,7 @@ fn give_within<S: ScalarValue, D: DefinitionSink<S>>(
     ensures given { (source : List ℕ) → Cut source parser.old → GainsFront D.holds definitions.old definitions.new (stated S.reading S.of_bool) source }
 {
     let deep = parser.end_at_nesting(depth);
-    match give_definitions(parser, definitions) {
+    match give_definitions(&mut parser.cursor(), definitions) {
         Ok(()) => Ok(()),
         Err(failure) => Err(told(deep, failure)),
     }
@@ -87,15 +87,15 @@ fn give_within<S: ScalarValue, D: DefinitionSink<S>>(
 
 /// `Definition+`, up to the end, which is left there.
 fn give_definitions<S: ScalarValue, D: DefinitionSink<S>>(
-    parser: &mut Parser<'_>,
+    tokens: &mut Cursor<'_, '_>,
     definitions: &mut D,
 ) -> UnlocatedParseResult<()>
-    ensures answer { GivesAs D.holds definitions.old definitions.new result (cursor (stated S.reading S.of_bool) document parser.old) }
-    ensures given { GainsBeforeEnd D.holds definitions.old definitions.new (stated S.reading S.of_bool) parser.old }
+    ensures answer { GivesAs D.holds definitions.old definitions.new result (cursor (stated S.reading S.of_bool) document tokens.old) }
+    ensures given { GainsBeforeEnd D.holds definitions.old definitions.new (stated S.reading S.of_bool) tokens.old }
 {
     loop {
-        definitions.take(parse_definition(parser)?)?;
-        if next_is(parser, Kind::EndOfFile) {
+        definitions.take(parse_definition(tokens)?)?;
+        if next_is(tokens, Kind::EndOfFile) {
             return Ok(());
         }
     }

@@ -10,9 +10,9 @@ abbrev pub invariant-loop-items : goal.invariant-loop-items
 invariant-loop-items g l =
     let read = cursor (stated g.S.ParseScalarValue.reading g.S.ScalarValue.of_bool) arguments_inner in record {
       so_far : with_front (map (view_argument g.S.ParseScalarValue.content) l.items.items)
-          (read l.parser) ≡ read l.fn.parser;
-      not_longer : length l.parser ≤ length l.fn.parser;
+          (read l.tokens) ≡ read l.fn.tokens;
+      not_longer : length l.tokens ≤ length l.fn.tokens;
     }
 
 abbrev pub decreases-loop-items : goal.decreases-loop-items
-decreases-loop-items g l = length l.parser
+decreases-loop-items g l = length l.tokens

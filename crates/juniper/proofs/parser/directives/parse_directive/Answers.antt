@@ -20,7 +20,7 @@ returns-clause-gives g c =
         arguments = option_map (view_arguments g.S.ParseScalarValue.content) c.in_ok-arguments.arguments;
         span = p;
       },
-      c.parse_optional_arguments.new.parser,
+      c.parse_optional_arguments.new.tokens,
     ))
     (sym (c.up_to-span.ensures ∙ rw (c.span_of.ensures, c.start_end.ensures)
     (ap (to_end_of (from_to (view_span c.in_ok-start.field-0) (view_span c.in_ok-name.name.span)))

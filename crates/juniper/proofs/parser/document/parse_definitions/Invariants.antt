@@ -10,8 +10,8 @@ abbrev pub invariant-loop-definitions : goal.invariant-loop-definitions
 invariant-loop-definitions g l =
     let read = cursor (stated g.S.ParseScalarValue.reading g.S.ScalarValue.of_bool) document in record {
       so_far : before_others (map (view_definition g.S.ParseScalarValue.content) l.definitions.items)
-          (read l.parser) ≡ read l.fn.parser;
+          (read l.tokens) ≡ read l.fn.tokens;
     }
 
 abbrev pub decreases-loop-definitions : goal.decreases-loop-definitions
-decreases-loop-definitions g l = length l.parser
+decreases-loop-definitions g l = length l.tokens

@@ -11,13 +11,13 @@ pub returns-clause-accepted : goal.returns-clause-accepted
 returns-clause-accepted g c =
     accepts (stated g.S.ParseScalarValue.reading g.S.ScalarValue.of_bool) (chars c.args.s.now) c.in_ok-parser.parser
     (cut_from_start _ _ _ c.new-lexer.ensures c.in_ok-parser.ensures.tokens)
-    (view_document g.S.ParseScalarValue.content) c.parse_definitions.result c.parse_definitions.ensures
+    (view_document g.S.ParseScalarValue.content) c.parse_definitions.result (rw c.cursor.ensures at c.parse_definitions.ensures)
 
 pub returns-clause-refused : goal.returns-clause-refused
 returns-clause-refused g c =
     refuses (stated g.S.ParseScalarValue.reading g.S.ScalarValue.of_bool) (chars c.args.s.now) c.in_ok-parser.parser
     (cut_from_start _ _ _ c.new-lexer.ensures c.in_ok-parser.ensures.tokens)
-    (view_document g.S.ParseScalarValue.content) c.parse_definitions.result c.parse_definitions.ensures
+    (view_document g.S.ParseScalarValue.content) c.parse_definitions.result (rw c.cursor.ensures at c.parse_definitions.ensures)
 
 pub returns-in_err-parser-clause-refused : goal.returns-in_err-parser-clause-refused
 returns-in_err-parser-clause-refused g c =

@@ -6,12 +6,12 @@ use Rattle.juniper.proofs.parser.types.+types.Goals as goal
 
 pub parse_any_type-returns-clause-gives : goal.parse_any_type-returns-clause-gives
 unfolding type
-parse_any_type-returns-clause-gives t c = rw (type_is c.args.parser.now) (search rules)
+parse_any_type-returns-clause-gives t c = rw (type_is c.args.tokens.now) (search rules)
 
 pub parse_any_type-returns-in_err-inner-clause-gives :
     goal.parse_any_type-returns-in_err-inner-clause-gives
 unfolding type
-parse_any_type-returns-in_err-inner-clause-gives t c = rw (type_is c.args.parser.now) (search rules)
+parse_any_type-returns-in_err-inner-clause-gives t c = rw (type_is c.args.tokens.now) (search rules)
 
 pub parse_any_type-returns-clause-rest : goal.parse_any_type-returns-clause-rest
 parse_any_type-returns-clause-rest t c = further _ _ _ c.in_ok-inner.ensures.rest c.parse_non_null.ensures.rest

@@ -1,16 +1,28 @@
+use Rattle.std.proofs.Common.{List}
 use Rattle.std.specs.Prelude.{not}
+use Rattle.graphql_lexical.specs.Cutting.{Lexeme}
+use Rattle.juniper_tokens.specs.Cursor.{OnMemory}
+use Rattle.juniper_tokens.specs.Delimited.{IsRest}
+use Rattle.juniper_tokens.proofs.Public.{follows, on_memory}
+use Rattle.juniper.specs.Promise.{AnswersValue}
 use Rattle.juniper.specs.Scalars.{stated}
 use Rattle.juniper.specs.View.{view_value}
-use Rattle.juniper_tokens.proofs.Public.{on_memory}
 use Rattle.juniper.proofs.Literals.{answers_value}
 use Rattle.juniper.proofs.parser.value.parse_value_literal.Goals as goal
 
 pub returns-clause-answers : goal.returns-clause-answers
 returns-clause-answers g c =
-    answers_value (stated g.S.ParseScalarValue.reading g.S.ScalarValue.of_bool) (not c.args.is_const)
-    (view_value g.S.ParseScalarValue.content) c.parse_value.result c.args.parser.now c.parse_value.new.parser
-    c.parse_value.ensures.ended c.parse_value.ensures.gives
+    let S = stated g.S.ParseScalarValue.reading g.S.ScalarValue.of_bool in
+    let view = view_value g.S.ParseScalarValue.content in
+    let parsed = c.parse_value-result in
+    follows (AnswersValue S (not c.args.is_const) view parsed.result) _ _ _ _ _ c.cursor-tokens.ensures
+    parsed.ensures.rest c.count-left.ensures.is c.take_until.ensures
+    (answers_value S (not c.args.is_const) view parsed.result c.cursor-tokens.result parsed.new.tokens
+    parsed.ensures.ended parsed.ensures.gives)
 
 pub returns-clause-memory : goal.returns-clause-memory
-returns-clause-memory g c = on_memory c.parse_value.result c.args.parser.now c.parse_value.new.parser
-    c.parse_value.ensures.rest
+returns-clause-memory g c =
+    let parsed = c.parse_value-result in
+    follows (λ (old new : List Lexeme). OnMemory parsed.result (IsRest old new)) _ _ _ _ _ c.cursor-tokens.ensures
+    parsed.ensures.rest c.count-left.ensures.is c.take_until.ensures
+    (on_memory parsed.result c.cursor-tokens.result parsed.new.tokens parsed.ensures.rest)

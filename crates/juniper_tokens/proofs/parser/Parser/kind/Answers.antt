@@ -10,5 +10,5 @@ returns-clause-is c =
     let here = c.self.inside in
     let source = chars here.source.now in
     let first = first_left source here.ranges.items here.taken c.index.result.now
-    (left_within source here.ranges.items here.taken c.self.invariant.ended) (sym c.index.ensures) in
+    (left_within source here.ranges.items here.taken c.self.invariant.left.ended) (sym c.index.ensures) in
     sym (ap (λ (t : Lexeme). t.kind) first) ∙ ap kind_at c.self.view_is

@@ -12,7 +12,7 @@ returns-in-Ok g c = λ source cut.
     let view = view_document g.S.ParseScalarValue.content in
     let deep = c.end_at_nesting-deep in
     answers_within S c.args.depth source view c.args.parser.now cut deep.result deep.new.self (Ok c.in-Ok.tree)
-    deep.ensures c.in-Ok.ensures
+    deep.ensures (rw c.cursor.ensures at c.in-Ok.ensures)
 
 pub returns-in-Err : goal.returns-in-Err
 returns-in-Err g c = λ source cut.
@@ -21,4 +21,4 @@ returns-in-Err g c = λ source cut.
     let deep = c.end_at_nesting-deep in
     subst (λ (e : DepthFailure). AnswersWithin S c.args.depth source view (Err e)) (sym c.told.ensures)
     (answers_within S c.args.depth source view c.args.parser.now cut deep.result deep.new.self (Err c.in-Err.failure)
-    deep.ensures c.in-Err.ensures)
+    deep.ensures (rw c.cursor.ensures at c.in-Err.ensures))

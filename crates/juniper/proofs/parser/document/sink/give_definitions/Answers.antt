@@ -9,19 +9,19 @@ use Rattle.juniper.proofs.Documents.{go_on, end, fail}
 use Rattle.juniper.proofs.Sinks.{grown, grown_none, grown_still, none_read, one_more_read, read_before_end}
 use Rattle.juniper.proofs.parser.document.sink.give_definitions.Goals as goal
 
-pub loop-parser-init : goal.loop-parser-init
-loop-parser-init g c =
+pub loop-tokens-init : goal.loop-tokens-init
+loop-tokens-init g c =
     let S = stated g.S.ParseScalarValue.reading g.S.ScalarValue.of_bool in record {
       front = [];
-      so_far = before_none (cursor S document c.args.parser.now);
+      so_far = before_none (cursor S document c.args.tokens.now);
       gains = grown_none g.D.DefinitionSink.holds c.args.definitions.now;
-      were_read = none_read S c.args.parser.now;
+      were_read = none_read S c.args.tokens.now;
     }
 
-pub loop-parser-preserved : goal.loop-parser-preserved
-loop-parser-preserved g c =
+pub loop-tokens-preserved : goal.loop-tokens-preserved
+loop-tokens-preserved g c =
     let S = stated g.S.ParseScalarValue.reading g.S.ScalarValue.of_bool in
-    let l = c.loop-parser in
+    let l = c.loop-tokens in
     let read = c.in_ok-parse_definition in
     let ended = c.next_is.ensures.ended in record {
       front = l.invariant.front ++ view_definition g.S.ParseScalarValue.content read.field-0 ∷ [];
@@ -33,11 +33,11 @@ loop-parser-preserved g c =
 pub returns-in_err-parse_definition : goal.returns-in_err-parse_definition
 returns-in_err-parse_definition g c =
     let S = stated g.S.ParseScalarValue.reading g.S.ScalarValue.of_bool in
-    let l = c.loop-parser in
+    let l = c.loop-tokens in
     let p = err_from_is_err_and c.from_residual.result c.from_residual.ensures.1 in
     let failed = c.in_err-parse_definition in record {
       answer = rw (p.1, p.2) (
-        c.parse_definition.new.parser,
+        c.parse_definition.new.tokens,
         fail _ _ _ l.invariant.so_far failed.field-0.0 _ failed.ensures.gives,
       );
       given = record {
@@ -50,7 +50,7 @@ returns-in_err-parse_definition g c =
 pub returns-in_err-take-clause-given : goal.returns-in_err-take-clause-given
 returns-in_err-take-clause-given g c =
     let S = stated g.S.ParseScalarValue.reading g.S.ScalarValue.of_bool in
-    let l = c.loop-parser in record {
+    let l = c.loop-tokens in record {
       given = l.invariant.front;
       gains = grown_still g.D.DefinitionSink.holds l.invariant.gains c.in_err-take.ensures.kept;
       in_front = read_before_end S l.invariant.were_read;
@@ -59,14 +59,14 @@ returns-in_err-take-clause-given g c =
 pub returns-then-next_is : goal.returns-then-next_is
 returns-then-next_is g c =
     let S = stated g.S.ParseScalarValue.reading g.S.ScalarValue.of_bool in
-    let l = c.loop-parser in
+    let l = c.loop-tokens in
     let read = c.in_ok-parse_definition in
     let ended = c.next_is.ensures.ended in
     let given = l.invariant.front ++ view_definition g.S.ParseScalarValue.content read.field-0 ∷ [] in
     let gains = grown g.D.DefinitionSink.holds l.invariant.gains c.in_ok-take.ensures.taken in record {
       answer = (
         given,
-        drop 1 c.parse_definition.new.parser,
+        drop 1 c.parse_definition.new.tokens,
         end _ _ _ l.invariant.so_far read.ensures.gives ended (sym c.next_is.ensures.is ∙ c.if-next_is.true),
         gains,
       );

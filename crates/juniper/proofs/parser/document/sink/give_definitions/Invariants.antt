@@ -10,15 +10,15 @@ use Rattle.juniper.proofs.Loops.{before_others}
 use Rattle.juniper.proofs.Sinks.{WereRead}
 use Rattle.juniper.proofs.parser.document.sink.give_definitions.Given as goal
 
-abbrev pub invariant-loop-parser : goal.invariant-loop-parser
-invariant-loop-parser g l =
+abbrev pub invariant-loop-tokens : goal.invariant-loop-tokens
+invariant-loop-tokens g l =
     let S = stated g.S.ParseScalarValue.reading g.S.ScalarValue.of_bool in
     let read = cursor S document in record {
       front : List (Definition Content);
-      so_far : before_others front (read l.parser) ≡ read l.fn.parser;
+      so_far : before_others front (read l.tokens) ≡ read l.fn.tokens;
       gains : Gains g.D.DefinitionSink.holds l.initial.definitions l.definitions front;
-      were_read : WereRead S l.fn.parser l.parser front;
+      were_read : WereRead S l.fn.tokens l.tokens front;
     }
 
-abbrev pub decreases-loop-parser : goal.decreases-loop-parser
-decreases-loop-parser g l = length l.parser
+abbrev pub decreases-loop-tokens : goal.decreases-loop-tokens
+decreases-loop-tokens g l = length l.tokens

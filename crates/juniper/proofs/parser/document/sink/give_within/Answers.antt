@@ -12,7 +12,7 @@ pub returns-in-Ok-clause-answer : goal.returns-in-Ok-clause-answer
 returns-in-Ok-clause-answer g c = λ source cut.
     let S = stated g.S.ParseScalarValue.reading g.S.ScalarValue.of_bool in
     let deep = c.end_at_nesting-deep in
-    let given = c.in-Ok.ensures.answer in
+    let given = rw c.cursor.ensures at c.in-Ok.ensures.answer in
     let view : Unit {0} → List (Definition Content) = λ x. given.0 in record {
       tree = given.0;
       answers = answers_within S c.args.depth source view c.args.parser.now cut deep.result deep.new.self (Ok tt)
@@ -25,7 +25,7 @@ returns-in-Ok-clause-given g c = λ source cut.
     let S = stated g.S.ParseScalarValue.reading g.S.ScalarValue.of_bool in
     let deep = c.end_at_nesting-deep in
     given_of_text g.D.DefinitionSink.holds S c.args.depth source c.args.parser.now deep.new.self deep.result cut
-    deep.ensures c.in-Ok.ensures.given
+    deep.ensures (rw c.cursor.ensures at c.in-Ok.ensures.given)
 
 pub returns-in-Err-clause-answer : goal.returns-in-Err-clause-answer
 returns-in-Err-clause-answer g c = λ source cut.
@@ -34,7 +34,7 @@ returns-in-Err-clause-answer g c = λ source cut.
     let failed = c.in-Err in
     let view : Unit {0} → List (Definition Content) = λ x. [] in
     let answers = answers_within S c.args.depth source view c.args.parser.now cut deep.result deep.new.self
-    (Err failed.failure) deep.ensures failed.ensures.answer in record {
+    (Err failed.failure) deep.ensures (rw c.cursor.ensures at failed.ensures.answer) in record {
       tree = [];
       answers = subst (λ (e : DepthFailure). AnswersWithin S c.args.depth source view (Err e)) (sym c.told.ensures)
           answers;
@@ -46,4 +46,4 @@ returns-in-Err-clause-given g c = λ source cut.
     let S = stated g.S.ParseScalarValue.reading g.S.ScalarValue.of_bool in
     let deep = c.end_at_nesting-deep in
     given_of_text g.D.DefinitionSink.holds S c.args.depth source c.args.parser.now deep.new.self deep.result cut
-    deep.ensures c.in-Err.ensures.given
+    deep.ensures (rw c.cursor.ensures at c.in-Err.ensures.given)

@@ -6,15 +6,15 @@ use Rattle.juniper.specs.Scalars.{stated}
 use Rattle.juniper.specs.View.{view_directive}
 use Rattle.juniper.specs.device.Steps.{each_read}
 use Rattle.juniper.proofs.Loops.{before_others}
-use Rattle.juniper.proofs.parser.directives.parse_directives.Given as goal
+use Rattle.juniper.proofs.parser.directives.parse_directive_list.Given as goal
 
-abbrev pub invariant-loop-parser : goal.invariant-loop-parser
-invariant-loop-parser g l =
+abbrev pub invariant-loop-tokens : goal.invariant-loop-tokens
+invariant-loop-tokens g l =
     let read = each_read (stated g.S.ParseScalarValue.reading g.S.ScalarValue.of_bool) (of At) directive in record {
       so_far : before_others (map (view_directive g.S.ParseScalarValue.content) l.items.items)
-          (read l.parser) ≡ read l.fn.parser;
-      not_longer : length l.parser ≤ length l.fn.parser;
+          (read l.tokens) ≡ read l.fn.tokens;
+      not_longer : length l.tokens ≤ length l.fn.tokens;
     }
 
-abbrev pub decreases-loop-parser : goal.decreases-loop-parser
-decreases-loop-parser g l = length l.parser
+abbrev pub decreases-loop-tokens : goal.decreases-loop-tokens
+decreases-loop-tokens g l = length l.tokens

@@ -1,0 +1,191 @@
+//! The cursor that the parse functions call: it makes a token's text and places only where they are asked for.
+ghost use Rattle.std.specs.Prelude.{◌≡◌, ◌<◌, drop, false, true, length, IsTrue, Ok, OnOk};
+ghost use Rattle.std.specs.Global.{Global as Allocator};
+ghost use Rattle.std.specs.Str.{chars};
+ghost use Rattle.graphql_lexical.specs.Cutting.{Lexeme};
+ghost use Rattle.graphql_lexical.specs.declared.kind.Kind.TheVariants.{EndOfFile};
+ghost use Rattle.graphql_lexical.specs.Kinds.{same_kind};
+ghost use Rattle.juniper_tokens.specs.Cursor.{Gives, RefusesEnd, OnMemory, Unmoved, EndsOnce, first_of, kind_at, has_text, next_at, refused_at, expect_name_at};
+ghost use Rattle.juniper_tokens.specs.Delimited.{IsRest};
+ghost use Rattle.juniper_tokens.specs.Spans.{view_span};
+ghost use Rattle.juniper_tokens.specs.device.Ranges.{range_lexemes, AreLeft};
+ghost use Rattle.juniper_tokens.specs.Tokens.{view_token, view_name};
+
+use crate::error::{ParseError, ParseFailure, ParseResult};
+use crate::span::{Span, Spanning};
+use crate::token::Token;
+use crate::token_range::TokenRange;
+use graphql_lexical::Kind;
+use std::alloc::Global;
+use std::marker::Model;
+
+/// A cursor over the tokens that a `Parser` has left, which it borrows.
+///
+/// It has no current token: where a token stands and which text it has is found where it is asked for. The last token,
+/// and no other, is the end, which is never taken. `Parser::take_until` makes the parser follow.
+#[derive(Drop)]
+pub struct Cursor<'p, 'a> {
+    alloc: Global,
+    source: &'a str,
+    ranges: &'p [TokenRange],
+    // The number of tokens that have been taken.
+    taken: usize,
+}
+
+impl<'p, 'a> Model for Cursor<'p, 'a> {
+    ghost use Rattle.std.specs.Prelude.{List, drop};
+    ghost use Rattle.std.specs.Str.{chars};
+    ghost use Rattle.graphql_lexical.specs.Cutting.{Lexeme};
+    ghost use Rattle.juniper_tokens.specs.device.Ranges.{range_lexemes, AreLeft};
+
+    ghost Value = { List Lexeme };
+
+    ghost view = { λ c. range_lexemes (chars c.source.now) (drop c.taken c.ranges.now) };
+
+    ghost invariant = { λ c. AreLeft (chars c.source.now) c.ranges.now c.taken };
+}
+
+impl<'p, 'a> Cursor<'p, 'a> {
+    // A cursor over what is left of these ranges once so many have been taken.
+    pub(crate) fn from_ranges(
+        alloc: Global,
+        source: &'a str,
+        ranges: &'p [TokenRange],
+        taken: usize,
+    ) -> Self
+        requires { AreLeft (chars source.now) ranges.now taken }
+        ensures { result ≡ range_lexemes (chars source.now) (drop taken ranges.now) }
+    {
+        Cursor {
+            alloc,
+            source,
+            ranges,
+            taken,
+        }
+    }
+
+    /// The allocator of the lexer that gave the tokens. A `Global` is a handle without data; there is only one.
+    pub fn allocator(&self) -> Global
+        ensures { (given : Allocator) → result ≡ given }
+    {
+        self.alloc
+    }
+
+    /// The number of tokens that are left, the end among them.
+    pub fn count(&self) -> usize
+        ensures is { result ≡ length self.now }
+        ensures some { 0 < result }
+    {
+        self.ranges.len() - self.taken
+    }
+
+    /// The kind of the next token, which is not taken.
+    #[inline(always)]
+    pub fn kind(&self) -> Kind
+        ensures is { result ≡ kind_at self.now }
+        ensures ended { EndsOnce self.now }
+    {
+        self.ranges[self.taken].kind
+    }
+
+    /// The text of the next token: of a String and of a block string what stands between its quotes, as it is written.
+    /// Where the kind leaves no text open it is not said which text is returned.
+    pub fn text(&self) -> &'a str
+        ensures { IsTrue (has_text (kind_at self.now)) → chars result.now ≡ (first_of self.now).text }
+    {
+        self.ranges[self.taken].text(self.source)
+    }
+
+    /// Where the next token stands.
+    #[inline(always)]
+    pub fn span(&self) -> Span
+        ensures { view_span result ≡ (first_of self.now).span }
+    {
+        self.ranges[self.taken].span(self.source)
+    }
+
+    /// The next token, with its place.
+    pub fn token(&self) -> Spanning<Token<'a>>
+        ensures { view_token result ≡ first_of self.now }
+    {
+        self.ranges[self.taken].located(self.source)
+    }
+
+    /// Takes the next token, which must not be the end.
+    #[tactic(auto, using(crate::proofs::Rests::one_taken))]
+    #[inline(always)]
+    pub fn advance(&mut self)
+        requires { same_kind (kind_at self.old) EndOfFile ≡ false }
+        ensures left { self.new ≡ drop 1 self.old }
+        ensures takes { next_at self.old ≡ Ok (first_of self.old, self.new) }
+        ensures ended { EndsOnce self.old }
+        ensures shorter { length self.new < length self.old }
+        ensures rest { IsRest self.old self.new }
+    {
+        self.taken += 1;
+    }
+
+    /// The error at the end, where nothing is taken.
+    #[cold]
+    pub(crate) fn refuse_end<T: Drop>(&self) -> Result<T, ParseFailure>
+        requires { same_kind (kind_at self.now) EndOfFile ≡ true }
+        ensures { RefusesEnd result self.now }
+    {
+        Err(ParseFailure::Refused(Spanning::new(
+            self.span(),
+            ParseError::UnexpectedEndOfFile,
+        )))
+    }
+
+    /// Takes the next token. At the end it returns `UnexpectedEndOfFile`, and nothing is taken. It takes no memory.
+    #[tactic(auto, using(crate::proofs::Rests::none_taken))]
+    pub fn next_token(&mut self) -> ParseResult<Token<'a>>
+        ensures gives { Gives view_token result self.new (next_at self.old) }
+        ensures shorter { OnOk result (length self.new < length self.old) }
+        ensures memory { OnMemory result ⊥ }
+        ensures rest { IsRest self.old self.new }
+    {
+        if self.kind() == Kind::EndOfFile {
+            return self.refuse_end();
+        }
+        let token = self.token();
+        self.advance();
+        Ok(token)
+    }
+
+    /// Takes the next token, and returns the error that it is unexpected. At the end it returns `UnexpectedEndOfFile`, and
+    /// nothing is taken. Where there is no memory for the text of the error, nothing changes.
+    #[tactic(auto, using(crate::proofs::Rests::none_taken))]
+    #[cold]
+    pub fn refuse<T: Drop>(&mut self) -> Result<T, ParseFailure>
+        ensures gives { Gives (λ x. x) result self.new (refused_at self.old) }
+        ensures never { OnOk result ⊥ }
+        ensures memory { OnMemory result (Unmoved {A = Lexeme} self.old self.new (refused_at self.old)) }
+        ensures rest { IsRest self.old self.new }
+    {
+        if self.kind() == Kind::EndOfFile {
+            return self.refuse_end();
+        }
+        let token = self.token();
+        let error = ParseError::unexpected_token(self.alloc, token.item)?;
+        self.advance();
+        Err(ParseFailure::Refused(Spanning::new(token.span, error)))
+    }
+
+    /// Takes the next token if it is a Name, and returns its text and its span, else returns an error. The errors are
+    /// those of `refuse`.
+    #[tactic(auto, unfolding(crate::specs::Cursor::expect_name_at))]
+    pub fn expect_name(&mut self) -> ParseResult<&'a str>
+        ensures gives { Gives view_name result self.new (expect_name_at self.old) }
+        ensures shorter { OnOk result (length self.new < length self.old) }
+        ensures memory { OnMemory result (Unmoved self.old self.new (expect_name_at self.old)) }
+        ensures rest { IsRest self.old self.new }
+    {
+        if self.kind() != Kind::Name {
+            return self.refuse();
+        }
+        let name = Spanning::new(self.span(), self.text());
+        self.advance();
+        Ok(name)
+    }
+}
