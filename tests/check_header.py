@@ -19,10 +19,6 @@ def source(name):
     return read(f"crates/juniper_c/src/{name}.rt")
 
 
-def part_of(name, begin, end):
-    return re.search(f"{begin}(.*?){end}", source(name), re.S)[1]
-
-
 # ---- types
 
 # For each type of a field its size and alignment, and its name in C.
@@ -82,7 +78,7 @@ check("the number of a scalar, which no node has", kinds.pop("SCALAR"), 15)
 scalars = {upper(w): int(n) for w, n in re.findall(r"Scalar(?:Value)?::(\w+)(?:\(_\)+)? => (\d+),", source("node"))}
 check("kinds", enum("firthnapkin_kind"), {**kinds, **scalars})
 
-tokens = {upper(w): int(n) for w, n in re.findall(r"Kind::(\w+) => (\d+),", part_of("token", "fn kind_number", r"\n}"))}
+tokens = {upper(w): int(n) for w, n in re.findall(r"^kind_number kind\.(\w+) = (\d+)$", read("crates/juniper_c/specs/Tokens.antt"), re.M)}
 named = re.findall(r"^    (\w+),$", re.search(r"pub enum Kind \{(.*?)\n\}", read("crates/graphql_lexical/src/kind.rt"), re.S)[1], re.M)
 check("the order of kinds of tokens", list(tokens), [upper(name) for name in named])
 check("kinds of tokens", enum("firthnapkin_token_kind"), {f"TOKEN_{word}": number for number, word in enumerate(tokens)})

@@ -1,51 +1,32 @@
 -- Bytes have exactly one report, since a text has one cut or one break.
-use Rattle.std.proofs.Common.{◌≡◌, ◌⊎◌, inl, inr, ℕ, Bool, true, false, List, chars, codes, refl, sym, ap, ap₂, ◌∙◌, encode_utf8_all}
+use Rattle.std.proofs.Common.{◌≡◌, inl, inr, ℕ, Bool, true, false, List, chars, codes, refl, sym, ap, ap₂, ◌∙◌, encode_utf8_all}
 use Rattle.std.specs.Prelude.{IsUtf8}
 use Rattle.std.specs.Str.{is_utf8}
 use Rattle.std.proofs.lemmas.Str.{IsUtf8-from_is_utf8, is_utf8-from_IsUtf8}
-use Rattle.graphql_lexical.specs.Place.{Place}
-use Rattle.graphql_lexical.specs.Kinds.{LexicalError}
-use Rattle.graphql_lexical.specs.Cutting.{Lexeme, Cut, Breaks}
+use Rattle.graphql_lexical.specs.Cutting.{Lexeme}
 use Rattle.graphql_lexical.specs.Canonical.{canonical}
-use Rattle.graphql_lexical.specs.laws.Laws.{HasOneEnd}
+use Rattle.graphql_lexical.specs.laws.Laws.{HasOneCutOrBreak}
 use Rattle.gqlcanon.specs.Report.{Report, OneReport, fault_line}
 use Rattle.gqlcanon.specs.declared.run.RunEnd.{RunEnd}
 use Rattle.gqlcanon.specs.declared.run.RunEnd.TheVariants.{Text, Refused, NotUtf8, Device, Memory}
 
-module _ (ends : (source : List ℕ) → HasOneEnd source) where
-  same_cut : (source : List ℕ) (xs ys : List Lexeme) → Cut source xs → Cut source ys → HasOneEnd source → xs ≡ ys
-  same_cut source xs ys a b (inl (_, only)) = only.alone xs a ∙ sym (only.alone ys b)
-  same_cut source xs ys a b (inr (_, _, only)) = absurd (only.no_cut xs a)
-
-  same_break : (source : List ℕ) (e f : LexicalError) (p q : Place) → Breaks source e p → Breaks source f q
-      → HasOneEnd source → (e ≡ f) × (p ≡ q)
-  same_break source e f p q a b (inl (_, only)) = absurd (only.no_break e p a)
-  same_break source e f p q a b (inr (_, _, only)) =
-      let first = only.alone e p a in
-      let second = only.alone f q b in
-      (first.0 ∙ sym second.0, first.1 ∙ sym second.1)
-
-  never_both : (source : List ℕ) (xs : List Lexeme) (e : LexicalError) (p : Place) → Cut source xs
-      → Breaks source e p → HasOneEnd source → ⊥
-  never_both source xs e p a b (inl (_, only)) = only.no_break e p b
-  never_both source xs e p a b (inr (_, _, only)) = only.no_cut xs a
-
+module _ (ends : (source : List ℕ) → HasOneCutOrBreak source) where
   same_report : (bytes : List ℕ) (end other : RunEnd) (text another : List ℕ) → Report bytes end text
       → Report bytes other another → (end ≡ other) × (text ≡ another)
   same_report bytes Text Text s t a b = (
     refl,
     a.1.2 ∙ ap (λ (xs : List Lexeme). encode_utf8_all (canonical xs))
-        (same_cut (chars bytes) a.1.0 b.1.0 a.1.1 b.1.1 (ends (chars bytes))) ∙ sym b.1.2,
+        ((ends (chars bytes)).one_cut a.1.0 b.1.0 a.1.1 b.1.1) ∙ sym b.1.2,
   )
   same_report bytes Text Refused s t a b =
-      absurd (never_both (chars bytes) a.1.0 b.1.0 b.1.1 a.1.1 b.1.2 (ends (chars bytes)))
+      absurd ((ends (chars bytes)).never_both a.1.0 b.1.0 b.1.1 a.1.1 b.1.2)
   same_report bytes Text NotUtf8 s t a b = absurd (b.0 a.0)
   same_report bytes Text Device s t a b = absurd b
   same_report bytes Text Memory s t a b = absurd b
   same_report bytes Refused Text s t a b =
-      absurd (never_both (chars bytes) b.1.0 a.1.0 a.1.1 b.1.1 a.1.2 (ends (chars bytes)))
+      absurd ((ends (chars bytes)).never_both b.1.0 a.1.0 a.1.1 b.1.1 a.1.2)
   same_report bytes Refused Refused s t a b =
-      let same = same_break (chars bytes) a.1.0 b.1.0 a.1.1 b.1.1 a.1.2 b.1.2 (ends (chars bytes)) in
+      let same = (ends (chars bytes)).one_break a.1.0 b.1.0 a.1.1 b.1.1 a.1.2 b.1.2 in
       (refl, a.1.3 ∙ (ap₂ fault_line same.0 same.1 ∙ sym b.1.3))
   same_report bytes Refused NotUtf8 s t a b = absurd (b.0 a.0)
   same_report bytes Refused Device s t a b = absurd b
@@ -61,15 +42,17 @@ module _ (ends : (source : List ℕ) → HasOneEnd source) where
   abbrev SomeReport : List ℕ → Type 0
   SomeReport bytes = (end : RunEnd) × (text : List ℕ) × Report bytes end text
 
-  report_of : (bytes : List ℕ) → IsUtf8 bytes → HasOneEnd (chars bytes) → SomeReport bytes
-  report_of bytes utf8 (inl (xs, only)) = (Text, encode_utf8_all (canonical xs), (utf8, (xs, only.cut, refl)))
-  report_of bytes utf8 (inr (e, p, only)) = (Refused, fault_line e p, (utf8, (e, p, only.breaks, refl)))
+  report_of : (bytes : List ℕ) → IsUtf8 bytes → SomeReport bytes
+  report_of bytes utf8 = elim (ends (chars bytes)).some [
+    | inl cut ↦ (Text, encode_utf8_all (canonical cut.0), (utf8, (cut.0, cut.1, refl)))
+    | inr break ↦ (Refused, fault_line break.0 break.1, (utf8, (break.0, break.1, break.2, refl)))
+  ]
 
   some_report : (bytes : List ℕ) → SomeReport bytes
   some_report bytes = by_test (is_utf8 bytes) refl
     where
       by_test : (b : Bool) → is_utf8 bytes ≡ b → SomeReport bytes
-      by_test true e = report_of bytes (IsUtf8-from_is_utf8 bytes e) (ends (chars bytes))
+      by_test true e = report_of bytes (IsUtf8-from_is_utf8 bytes e)
       by_test false e = (
         NotUtf8,
         codes "Not UTF-8\n",

@@ -5,7 +5,7 @@ ghost use Rattle.streams.specs.Watched.{inner_of, has_failed};
 ghost use Rattle.juniper_tokens.specs.Errors.{view_lexer_error};
 ghost use Rattle.gqlcanon.specs.Report.{Report, OneReport, IsReportEnd, fault_line};
 
-use graphql_lexical::laws::one_end;
+use graphql_lexical::laws::one_cut_or_break;
 use juniper_canonical::canonical_text;
 use juniper_tokens::{LexFailure, LexerError, Spanning};
 use std::alloc::{AllocError, Global};
@@ -84,7 +84,7 @@ pub fn run<R: Read, W: Write>(
 fn one_report()
     ensures { OneReport }
 {
-    one_end();
+    one_cut_or_break();
 }
 
 // How a run over these bytes ends, and what it writes.

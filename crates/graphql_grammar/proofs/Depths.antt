@@ -21,7 +21,7 @@ use Rattle.graphql_grammar.proofs.Nested as nested
 use Rattle.graphql_grammar.proofs.Nested.{is_plain, IsPair}
 use Rattle.graphql_grammar.proofs.TokenTests.{both}
 use Rattle.std.proofs.lemmas.Bool.{not-true}
-use Rattle.graphql_grammar.proofs.Faulty.{front_begins, same_parts}
+use Rattle.graphql_grammar.proofs.Faulty.{front_begins, same_parts, within}
 use Rattle.graphql_grammar.proofs.Readers.{document_reads}
 use Rattle.graphql_grammar.proofs.Spelling.{sample_spelled}
 
@@ -115,17 +115,6 @@ end_balanced us t e = (
 )
 
 -- ---- a refusal sees no token behind it
-
--- a token that stands within a front is the front's
-within : (us vs before after : List Lexeme) (t : Lexeme) → us ++ vs ≡ before ++ t ∷ after → length before < length us
-    → (middle : List Lexeme) × (us ≡ before ++ t ∷ middle)
-within [] vs before after t e l = absurd (omega (arith, l))
-within (u ∷ us) vs [] after t e l = let h : u ≡ t = cc in (us, ap (λ x. x ∷ us) h)
-within (u ∷ us) vs (b ∷ bs) after t e l =
-    let h : us ++ vs ≡ bs ++ t ∷ after = cc in
-    let k : u ≡ b = cc in
-    let w = within us vs bs after t h (omega (arith, l)) in
-    (w.0, ap₂ (λ x xs. x ∷ xs) k w.1)
 
 pub refused_in_front : (Allowed : Lexeme → Type 0) {A : Type 0} (R : A → List Lexeme → Type 0)
     (us vs ws before : List Lexeme) (t : Lexeme) → length before < length us

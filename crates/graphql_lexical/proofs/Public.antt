@@ -1,7 +1,7 @@
 -- What proofs of other crates may import of this crate's proofs, and all of it.
 pub use Rattle.graphql_lexical.proofs.Answers.{finds_what_reads, misses_what_fails}
 pub use Rattle.graphql_lexical.proofs.CanonicalSizes.{has_canonical_sizes}
-pub use Rattle.graphql_lexical.proofs.Cuts.{cut_front, each_stands, front_breaks, front_cut, leads_size, one_end, reads_size, stands_size}
+pub use Rattle.graphql_lexical.proofs.Cuts.{cut_front, each_stands, front_breaks, front_cut, leads_size, one_cut_or_break, reads_size, stands_size}
 pub use Rattle.graphql_lexical.proofs.DeepTokens.{closed_push, crossed, deep_count, one_deep, opened_push, opening_goes_on, opening_no_end, opens, take_next}
 pub use Rattle.graphql_lexical.proofs.EachKind.{other_kind}
 pub use Rattle.graphql_lexical.proofs.Escapes.{counted_within, u_short}

@@ -3,6 +3,7 @@ use Rattle.std.proofs.Common.{◌≡◌, ℕ, true, List, Result, Ok, Err, IsErr
 use Rattle.graphql_lexical.specs.Place.{Place}
 use Rattle.graphql_lexical.specs.Kinds.{LexicalError}
 use Rattle.graphql_lexical.specs.Cutting.{Lexeme, Cut, Breaks}
+use Rattle.graphql_lexical.specs.laws.Laws.{HasOneCutOrBreak}
 use Rattle.graphql_grammar.specs.Tree.{Scalars, Value}
 use Rattle.graphql_grammar.specs.Grammar.{IsValue}
 use Rattle.graphql_grammar.specs.Faults.{ValueRefusedAt}
@@ -10,11 +11,11 @@ use Rattle.juniper_tokens.specs.declared.error.ParseFailure.{ParseFailure}
 use Rattle.juniper_tokens.specs.declared.error.ParseFailure.TheVariants as failure
 use Rattle.juniper_tokens.specs.declared.error.LexFailure.{LexFailure}
 use Rattle.juniper_tokens.specs.Errors.{Error, UnexpectedEndOfFile, Fault, view_fault, failure_of}
-use Rattle.juniper.specs.laws.TreeLaws.{CutsOnce, IsRefusedAtBreak}
+use Rattle.juniper.specs.laws.TreeLaws.{IsRefusedAtBreak}
 use Rattle.juniper.specs.Promise.{lexical_fault, unexpected, Refuses, IfRefused, AnswersValue}
 use Rattle.guide.specs.Literals.{HasNoValue}
 
-module _ {C : Type 0} (S : Scalars C Error) (source : List ℕ) (ends : CutsOnce source) where
+module _ {C : Type 0} (S : Scalars C Error) (source : List ℕ) (ends : HasOneCutOrBreak source) where
   module _ (ts left : List Lexeme) (cut : Cut source ts) where
     refused : (fault : Fault) → Refuses (IsValue S true) (ValueRefusedAt UnexpectedEndOfFile unexpected S true) fault ts left
         → HasNoValue S source fault

@@ -7,7 +7,7 @@ use Rattle.std.specs.List.{AllByRecursion}
 use Rattle.graphql_lexical.specs.Place.{Place, Span}
 use Rattle.graphql_lexical.specs.Kinds.{LexicalError}
 use Rattle.graphql_lexical.specs.Cutting.{Lexeme, Cut, Breaks, BreaksFrom}
-use Rattle.graphql_lexical.proofs.Public.{one_end, one_deep, crossed, IsWide, tokens_wide}
+use Rattle.graphql_lexical.proofs.Public.{one_cut_or_break, one_deep, crossed, IsWide, tokens_wide}
 use Rattle.graphql_lexical.specs.Nesting.{nesting, IsFirstDeeper, ended_by}
 use Rattle.graphql_grammar.specs.Tree.{Scalars, Definition}
 use Rattle.graphql_grammar.specs.Grammar.{IsDocument}
@@ -34,7 +34,7 @@ use Rattle.juniper.specs.Promise.{HasTree, IsRefusedAt, IsRefusal, AnswersAs, le
 use Rattle.juniper.specs.Within.{HasTooDeep, IsWithin, AnswersWithin, HasTreeWithin, IsRefusedWithin, IsNestedTooDeep, HasOneAnswer, answer_within}
 use Rattle.graphql_grammar.specs.device.Productions.{document}
 use Rattle.juniper.specs.device.Steps.{cursor}
-use Rattle.juniper.proofs.Promises.{same_cut, cut_or_break, document_is, refused_is, refusal_at, accepts, refuses, refusal_in_text, lexical, break_from_start, told_lexical}
+use Rattle.juniper.proofs.Promises.{document_is, refused_is, refusal_at, accepts, refuses, refusal_in_text, lexical, break_from_start, told_lexical}
 use Rattle.juniper.proofs.Sources.{either, never_both, refusal_of}
 
 same_number : (a b : ℕ) → a ≡ b → (a == b) ≡ true
@@ -78,7 +78,7 @@ module _ {C : Type 0} (S : Scalars C Error) (depth : ℕ) (source : List ℕ) wh
   module _ (ts : List Lexeme) (cut : Cut source ts) where
     deep_there : (span : Span) (h : HasTooDeep S depth source span) → IsTooDeep S depth ts h.number h.token
     deep_there span h =
-        let same = same_cut source h.lexemes ts h.cut cut in
+        let same = (one_cut_or_break source).one_cut h.lexemes ts h.cut cut in
         subst (λ (xs : List Lexeme). IsTooDeep S depth xs h.number h.token) same h.deep
 
     none_there : IsShallow depth ts → (i : ℕ) (t : Lexeme) → IsFirstDeeper depth ts i t → ⊥
@@ -215,7 +215,7 @@ module _ {C : Type 0} (S : Scalars C Error) (depth : ℕ) (source : List ℕ) wh
     lexical_within state (lexing.Fault fault) e b z =
         let breaks = break_from_start state source _ _ e b in
         let uncut : IsWithin S depth source = record {
-          none = λ span h. cut_or_break source h.lexemes _ _ h.cut breaks;
+          none = λ span h. (one_cut_or_break source).never_both h.lexemes _ _ h.cut breaks;
         } in
         refusal_within _ (lexical S source _ _ _ breaks (told_lexical fault z)) uncut
     lexical_within state lexing.Memory e b z = memory_within
@@ -237,7 +237,7 @@ module _ {C : Type 0} (S : Scalars C Error) (depth : ℕ) (source : List ℕ) wh
   SomeAnswer = HasTreeWithin S depth source ⊎ (IsRefusedWithin S depth source ⊎ IsNestedTooDeep S depth source)
 
   uncut_within : (error : LexicalError) (at : Place) → Breaks source error at → IsWithin S depth source
-  uncut_within error at b = record { none = λ span h. cut_or_break source h.lexemes error at h.cut b }
+  uncut_within error at b = record { none = λ span h. (one_cut_or_break source).never_both h.lexemes error at h.cut b }
 
   module _ (ts : List Lexeme) (cut : Cut source ts) where
     shallow_has_one : IsShallow depth ts → SomeAnswer
@@ -272,14 +272,14 @@ module _ {C : Type 0} (S : Scalars C Error) (depth : ℕ) (source : List ℕ) wh
           ]
 
   some_answer : SomeAnswer
-  some_answer = elim (one_end source) [
+  some_answer = elim (one_cut_or_break source).some [
     | inl cut ↦ elim (shallow_or_deeper depth cut.0) [
-      | inl shallow ↦ shallow_has_one cut.0 cut.1.cut shallow
-      | inr deep ↦ deep_has_one cut.0 cut.1.cut deep.0 deep.1 deep.2
+      | inl shallow ↦ shallow_has_one cut.0 cut.1 shallow
+      | inr deep ↦ deep_has_one cut.0 cut.1 deep.0 deep.1 deep.2
     ]
     | inr break ↦ inr (inl (
-      uncut_within break.0 break.1 break.2.breaks,
-      (lexical_fault break.0 break.1, lexical S source break.0 break.1 _ break.2.breaks refl),
+      uncut_within break.0 break.1 break.2,
+      (lexical_fault break.0 break.1, lexical S source break.0 break.1 _ break.2 refl),
     ))
   ]
 

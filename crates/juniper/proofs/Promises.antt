@@ -1,10 +1,10 @@
 -- From the tokens of a text to the text.
-use Rattle.std.proofs.Common.{◌≡◌, ℕ, List, [], ◌∷◌, inl, inr, sym, ap, ap₂, subst, ◌∙◌, Result, Ok, Err, IfOk, IsErrAnd}
+use Rattle.std.proofs.Common.{◌≡◌, ℕ, List, [], ◌∷◌, sym, ap, ap₂, subst, ◌∙◌, Result, Ok, Err, IfOk, IsErrAnd}
 use Rattle.std.specs.List.{AllByRecursion}
 use Rattle.graphql_lexical.specs.Place.{Place}
 use Rattle.graphql_lexical.specs.Kinds.{LexicalError}
 use Rattle.graphql_lexical.specs.Cutting.{Lexeme, CutFrom, BreaksFrom, Cut, Breaks}
-use Rattle.graphql_lexical.proofs.Public.{one_end}
+use Rattle.graphql_lexical.proofs.Public.{one_cut_or_break}
 use Rattle.graphql_grammar.specs.Tree.{Scalars, Definition}
 use Rattle.graphql_grammar.specs.Grammar.{IsDocument}
 use Rattle.graphql_grammar.specs.Faults.{EndsOnce, DocumentRefusedAt}
@@ -31,29 +31,6 @@ use Rattle.juniper.specs.Promise.{lexical_fault, unexpected, HasTree, IsRefusedA
 use Rattle.juniper.specs.device.Steps.{cursor}
 use Rattle.juniper.proofs.Stepping.{seen_took}
 use Rattle.juniper.proofs.Readings.{document_seen}
-
--- a text has one cut
-pub same_cut : (source : List ℕ) (xs ys : List Lexeme) → Cut source xs → Cut source ys → xs ≡ ys
-same_cut source xs ys c d = elim (one_end source) [
-  | inl cut ↦ cut.1.alone xs c ∙ sym (cut.1.alone ys d)
-  | inr break ↦ absurd (break.2.no_cut xs c)
-]
-
--- and no break beside it
-pub cut_or_break : (source : List ℕ) (xs : List Lexeme) (error : LexicalError) (at : Place) → Cut source xs
-    → Breaks source error at → ⊥
-cut_or_break source xs error at c b = elim (one_end source) [
-  | inl cut ↦ cut.1.no_break error at b
-  | inr break ↦ break.2.no_cut xs c
-]
-
--- or one break
-pub same_break : (source : List ℕ) (d e : LexicalError) (p q : Place) → Breaks source d p → Breaks source e q
-    → (d ≡ e) × (p ≡ q)
-same_break source d e p q b c = elim (one_end source) [
-  | inl cut ↦ absurd (cut.1.no_break d p b)
-  | inr break ↦ let x = break.2.alone d p b in let y = break.2.alone e q c in (x.0 ∙ sym y.0, x.1 ∙ sym y.1)
-]
 
 -- ---- what is read of tokens that end once
 
@@ -98,7 +75,7 @@ module _ {C : Type 0} (S : Scalars C Error) (ts : List Lexeme) (spelled : AllByR
 module _ {C : Type 0} (S : Scalars C Error) (source : List ℕ) (ts : List Lexeme) (cut : Cut source ts) where
   document_there : (others : List Lexeme) (tree : List (Definition C)) → Cut source others → IsDocument S tree others
       → IsDocument S tree ts
-  document_there others tree d h = subst (λ (xs : List Lexeme). IsDocument S tree xs) (same_cut source others ts d cut)
+  document_there others tree d h = subst (λ (xs : List Lexeme). IsDocument S tree xs) ((one_cut_or_break source).one_cut others ts d cut)
       h
 
   pub tree_of : (tree : List (Definition C)) → IsDocument S tree ts → HasTree S source tree
@@ -113,8 +90,8 @@ module _ {C : Type 0} (S : Scalars C Error) (source : List ℕ) (ts : List Lexem
   refusal_at fault at = record {
     no_document = λ others tree d h. never_both S ts at.before tree at.token (cut_spelled source ts cut)
         (document_there others tree d h) at.refused.0;
-    lexical = λ error place b. absurd (cut_or_break source ts error place cut b);
-    grammatical = λ others d. subst (λ (xs : List Lexeme). IsRefusedAt S xs fault) (same_cut source ts others cut d) at;
+    lexical = λ error place b. absurd ((one_cut_or_break source).never_both ts error place cut b);
+    grammatical = λ others d. subst (λ (xs : List Lexeme). IsRefusedAt S xs fault) ((one_cut_or_break source).one_cut ts others cut d) at;
   }
 
   pub accepts : {X : Type 0} (view : X → List (Definition C)) (result : Result X ParseFailure)
@@ -134,9 +111,9 @@ module _ {C : Type 0} (S : Scalars C Error) (source : List ℕ) (ts : List Lexem
 pub lexical : {C : Type 0} (S : Scalars C Error) (source : List ℕ) (error : LexicalError) (at : Place) (fault : Fault)
     → Breaks source error at → fault ≡ lexical_fault error at → IsRefusal S source fault
 lexical S source error at fault b e = record {
-  no_document = λ lexemes tree c d. cut_or_break source lexemes error at c b;
-  lexical = λ other place c. let s = same_break source error other at place b c in e ∙ ap₂ lexical_fault s.0 s.1;
-  grammatical = λ lexemes c. absurd (cut_or_break source lexemes error at c b);
+  no_document = λ lexemes tree c d. (one_cut_or_break source).never_both lexemes error at c b;
+  lexical = λ other place c. let s = (one_cut_or_break source).one_break error other at place b c in e ∙ ap₂ lexical_fault s.0 s.1;
+  grammatical = λ lexemes c. absurd ((one_cut_or_break source).never_both lexemes error at c b);
 }
 
 -- a refusal in tokens is one in characters

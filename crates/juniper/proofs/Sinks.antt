@@ -3,6 +3,7 @@ use Rattle.std.proofs.Common.{◌≡◌, ◌⊎◌, inl, inr, List, ◌++◌, []
 use Rattle.std.specs.Prelude.{Result, Ok, Err, IfOk, Option, Some, None}
 use Rattle.graphql_lexical.specs.Cutting.{Lexeme, Cut}
 use Rattle.graphql_lexical.specs.Nesting.{end_behind}
+use Rattle.graphql_lexical.proofs.Public.{one_cut_or_break}
 use Rattle.graphql_grammar.specs.Tree.{Scalars, Definition}
 use Rattle.graphql_grammar.specs.Grammar.{Each, IsDefinition}
 use Rattle.graphql_grammar.specs.device.Productions.{definition}
@@ -14,7 +15,6 @@ use Rattle.juniper_tokens.specs.declared.span.Span as spans
 use Rattle.juniper.specs.declared.parser.document.depth.DepthFailure.{DepthFailure}
 use Rattle.juniper.specs.Sinks.{StandInFront, Gains, GainsTree, GainsFront, GainsBeforeEnd, GivesWithin}
 use Rattle.juniper.specs.device.Steps.{cursor}
-use Rattle.juniper.proofs.Promises.{same_cut, cut_or_break}
 use Rattle.juniper.proofs.Readings.{definition_taken}
 
 -- ---- definitions in a row
@@ -158,8 +158,8 @@ module _ {D C : Type 0} (holds : List ℕ → D → List (Definition C) → Type
     given = h.given;
     gains = h.gains;
     in_front = λ lexemes other. subst (λ (xs : List Lexeme). StandInFront S xs h.given)
-        (same_cut source ts lexemes cut other) (stand_in_all S depth source ts left deep h.given cut e h.in_front);
-    none = λ error at broken. absurd (cut_or_break source ts error at cut broken);
+        ((one_cut_or_break source).one_cut ts lexemes cut other) (stand_in_all S depth source ts left deep h.given cut e h.in_front);
+    none = λ error at broken. absurd ((one_cut_or_break source).never_both ts error at cut broken);
   }
 
   -- What is given of a text within a limit is its tree, where it has one.

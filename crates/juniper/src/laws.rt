@@ -26,7 +26,7 @@ ghost use Rattle.juniper_values.specs.declared.input_value.InputValue.{InputValu
 ghost use Rattle.juniper_values.specs.declared.type_literal.TypeModifier.{TypeModifier};
 ghost use Rattle.juniper.specs.ReadBack.{AreWritable, IsReadAsType, IsReadBack, type_of};
 ghost use Rattle.juniper.specs.Promise.{HasTree, IsRefusal};
-ghost use Rattle.juniper.specs.laws.TreeLaws.{CutsOnce, FailsAtBreak, IsRefusedAtBreak, SeesValues, SeesSelections};
+ghost use Rattle.juniper.specs.laws.TreeLaws.{FailsAtBreak, IsRefusedAtBreak, SeesValues, SeesSelections};
 ghost use Rattle.juniper.specs.Scalars.{stated};
 ghost use Rattle.juniper.specs.Sources.{AreRefusedAlike};
 ghost use Rattle.juniper.specs.Within.{HasTooDeep, HasOneAnswer};
@@ -36,15 +36,11 @@ mod equality;
 pub use equality::{kinds_are_compared_apart, parts_are_compared_whole};
 pub use graphql_grammar::laws as grammar;
 pub use graphql_lexical::laws as lexical;
+pub use graphql_lexical::laws::one_cut_or_break;
 pub use juniper_answers::laws as answers;
 pub use juniper_tokens::laws as tokens;
 use juniper_values::ScalarValue;
 pub use juniper_values::laws as values;
-
-/// A source text has one cut into tokens, or one break at one place with one error, and never both.
-pub fn one_cut_or_break()
-    ensures { (source : List ℕ) → CutsOnce source }
-{}
 
 /// Where a lexer fails at its source's break, a parser returns the lexical error that stands there.
 pub fn lexer_failures_are_told()

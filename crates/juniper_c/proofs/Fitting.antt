@@ -10,8 +10,7 @@ use Rattle.graphql_lexical.specs.Place as places
 use Rattle.graphql_lexical.specs.Place.{place}
 use Rattle.graphql_lexical.specs.Kinds.{LexicalError}
 use Rattle.graphql_lexical.specs.Cutting.{Breaks}
-use Rattle.graphql_lexical.specs.laws.Laws.{HasOneEnd}
-use Rattle.graphql_lexical.proofs.Public.{one_end}
+use Rattle.graphql_lexical.proofs.Public.{one_cut_or_break}
 use Rattle.graphql_grammar.specs.Tree.{Definition}
 use Rattle.graphql_nodes.specs.Nodes as nodes
 use Rattle.graphql_nodes.specs.Nodes.{document_nodes}
@@ -54,17 +53,17 @@ span_fits source span l h = (place_fits source span.start l h.start, place_fits 
 -- ---- faults
 
 refusal_lies : (source : List ℕ) (fault : errors.Fault) → IsRefusal scalars source fault → LiesIn source fault.span
-refusal_lies source fault h = by_end (one_end source) where
-  by_end : HasOneEnd source → LiesIn source fault.span
-  by_end (inl (lexemes, c)) =
-      let at = h.grammatical lexemes c.cut in
+refusal_lies source fault h = elim (one_cut_or_break source).some [
+  | inl cut ↦ (
+      let at = h.grammatical cut.0 cut.1 in
       let refused = at.refused.0 in
-      let lies = tokens_lie source lexemes c.cut in
-      subst (LiesIn source) (sym at.span) (token_among source lexemes at.before refused.after at.token refused.whole lies)
-  by_end (inr (error, at, b)) =
-      let lies = broken_lies source b.breaks in
-      subst (λ (f : errors.Fault). LiesIn source f.span) (sym (h.lexical error at b.breaks))
-      (record { start = lies; end = lies })
+      let lies = tokens_lie source cut.0 cut.1 in
+      subst (LiesIn source) (sym at.span) (token_among source cut.0 at.before refused.after at.token refused.whole lies))
+  | inr break ↦ (
+      let lies = broken_lies source break.2 in
+      subst (λ (f : errors.Fault). LiesIn source f.span) (sym (h.lexical break.0 break.1 break.2))
+      (record { start = lies; end = lies }))
+]
 
 deep_lies : (source : List ℕ) (depth : ℕ) (span : places.Span) → HasTooDeep scalars depth source span
     → LiesIn source span

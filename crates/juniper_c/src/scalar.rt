@@ -10,7 +10,7 @@ ghost use Rattle.juniper_nodes.specs.Literal.{literal_shown, string_reading, of_
 ghost use Rattle.juniper_c.specs.Scalars.{scalar_content, int_reading};
 
 use juniper::{DefaultScalarValue, ParseScalarResult, ParseScalarValue, ScalarToken, ScalarValue};
-use juniper_tokens::text::{copied, write_text};
+use juniper_tokens::text::{copied, same_text, write_text};
 use std::alloc::{AllocError, Global};
 use std::fmt;
 
@@ -50,7 +50,7 @@ impl PartialEq for Scalar {
 fn same_block(a: &str, b: &str) -> bool
     ensures { result ≡ same_content (of_block [] (chars a.now)) (of_block [] (chars b.now)) }
 {
-    a == b
+    same_text(a, b)
 }
 
 impl Eq for Scalar {

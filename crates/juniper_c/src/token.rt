@@ -37,27 +37,7 @@ pub(crate) fn token_at(table: &ByteTable, kind: Kind, span: &Span) -> Token
 fn kind_number(kind: Kind) -> u32
     ensures { result ≡ kind_number kind }
 {
-    match kind {
-        Kind::Name => 0,
-        Kind::String => 1,
-        Kind::BlockString => 2,
-        Kind::Float => 3,
-        Kind::Int => 4,
-        Kind::ExclamationMark => 5,
-        Kind::Dollar => 6,
-        Kind::ParenOpen => 7,
-        Kind::ParenClose => 8,
-        Kind::BracketOpen => 9,
-        Kind::BracketClose => 10,
-        Kind::CurlyOpen => 11,
-        Kind::CurlyClose => 12,
-        Kind::Ellipsis => 13,
-        Kind::Colon => 14,
-        Kind::Equals => 15,
-        Kind::At => 16,
-        Kind::Pipe => 17,
-        Kind::EndOfFile => 18,
-    }
+    kind as u32
 }
 
 fn quote_count(kind: Kind) -> u32
@@ -66,22 +46,6 @@ fn quote_count(kind: Kind) -> u32
     match kind {
         Kind::String => 1,
         Kind::BlockString => 3,
-        Kind::Name
-        | Kind::Float
-        | Kind::Int
-        | Kind::ExclamationMark
-        | Kind::Dollar
-        | Kind::ParenOpen
-        | Kind::ParenClose
-        | Kind::BracketOpen
-        | Kind::BracketClose
-        | Kind::CurlyOpen
-        | Kind::CurlyClose
-        | Kind::Ellipsis
-        | Kind::Colon
-        | Kind::Equals
-        | Kind::At
-        | Kind::Pipe
-        | Kind::EndOfFile => 0,
+        _ => 0,
     }
 }

@@ -9,7 +9,3 @@ chars_quote = refl
 pub chars_mark : chars (34 ∷ 34 ∷ 34 ∷ []) ≡ 34 ∷ 34 ∷ 34 ∷ []
 unfolding chars
 chars_mark = refl
-
-pub chars_dots : chars (46 ∷ 46 ∷ 46 ∷ []) ≡ 46 ∷ 46 ∷ 46 ∷ []
-unfolding chars
-chars_dots = refl

@@ -1,8 +1,7 @@
 //! The canonical text of a source.
 #![tactic(auto, using(crate::proofs::Growth::grown, crate::proofs::Growth::grown_none, crate::proofs::Growth::grown_text))]
 
-ghost use Rattle.std.specs.Prelude.{◌≡◌, ◌++◌, ◌∷◌, List, [], OnOk, IfOk, true, false, not, string_bytes, encode_utf8_all};
-ghost use Rattle.std.specs.Char.{IsScalar};
+ghost use Rattle.std.specs.Prelude.{◌≡◌, ◌++◌, List, [], OnOk, IfOk, true, false, not, string_bytes, encode_utf8_all};
 ghost use Rattle.std.specs.Str.{chars};
 ghost use Rattle.graphql_lexical.specs.Kinds.{is_fixed};
 ghost use Rattle.graphql_lexical.specs.Tokens.{written};
@@ -10,11 +9,11 @@ ghost use Rattle.graphql_lexical.specs.Cutting.{Lexeme, Cut, Breaks};
 ghost use Rattle.graphql_lexical.specs.Canonical.{space_if, canonical};
 ghost use Rattle.juniper_tokens.specs.Errors.{view_lexer_error};
 ghost use Rattle.juniper_tokens.specs.Gathering.{IfFault};
-ghost use Rattle.juniper_tokens.specs.Tokens.{token_kind, token_text, scalar_kind, scalar_text};
+ghost use Rattle.juniper_tokens.specs.Tokens.{kind_text, token_kind, token_text, scalar_kind, scalar_text};
 ghost use Rattle.juniper_canonical.specs.device.Parting.{is_behind_space};
 
 use juniper_tokens::text::push_text;
-use juniper_tokens::{LexFailure, Lexer, ScalarToken, Token};
+use juniper_tokens::{Kind, LexFailure, Lexer, ScalarToken, Token};
 use std::alloc::{AllocError, Global};
 
 /// The canonical text of a source: its tokens as they are written, one after another, with one space between two
@@ -63,41 +62,19 @@ fn write_token(out: &mut String, is_bare: bool, token: Token<'_>) -> Result<bool
     match token {
         Token::Name(text) => write_word(out, is_bare, text),
         Token::Scalar(scalar) => write_scalar(out, is_bare, scalar),
-        Token::ExclamationMark => write_punctuator(out, '!'),
-        Token::Dollar => write_punctuator(out, '$'),
-        Token::ParenOpen => write_punctuator(out, '('),
-        Token::ParenClose => write_punctuator(out, ')'),
-        Token::BracketOpen => write_punctuator(out, '['),
-        Token::BracketClose => write_punctuator(out, ']'),
-        Token::CurlyOpen => write_punctuator(out, '{'),
-        Token::CurlyClose => write_punctuator(out, '}'),
-        Token::Ellipsis => write_ellipsis(out, is_bare),
-        Token::Colon => write_punctuator(out, ':'),
-        Token::Equals => write_punctuator(out, '='),
-        Token::At => write_punctuator(out, '@'),
-        Token::Pipe => write_punctuator(out, '|'),
-        Token::EndOfFile => Ok(false),
+        _ => write_fixed(out, is_bare, token.kind()),
     }
 }
 
-fn write_punctuator(out: &mut String, mark: char) -> Result<bool, AllocError>
-    requires { IsScalar mark }
-    ensures bare { IfOk result (λ next. next ≡ false) }
-    ensures text { IfOk result (λ next. string_bytes out.new ≡ string_bytes out.old ++ encode_utf8_all (mark ∷ [])) }
-{
-    out.push(mark)?;
-    Ok(false)
-}
-
-// Writes `...` after a token that is bare or isn't.
-#[tactic(auto, using(crate::proofs::Growth::grown, crate::proofs::Growth::grown_none, crate::proofs::Growth::grown_text, crate::proofs::Marks::chars_dots))]
-fn write_ellipsis(out: &mut String, is_bare: bool) -> Result<bool, AllocError>
+// Writes a punctuator, or nothing for the end, after a token that is bare or isn't.
+fn write_fixed(out: &mut String, is_bare: bool, kind: Kind) -> Result<bool, AllocError>
+    requires { is_fixed kind ≡ true }
     ensures bare { IfOk result (λ next. next ≡ false) }
     ensures text { IfOk result (λ next. string_bytes out.new ≡ string_bytes out.old
-        ++ encode_utf8_all (space_if is_bare ++ (46 ∷ 46 ∷ 46 ∷ []))) }
+        ++ encode_utf8_all (space_if (is_behind_space is_bare kind) ++ kind_text kind [])) }
 {
-    write_space(out, is_bare)?;
-    push_text(out, "...")?;
+    write_space(out, is_bare && kind == Kind::Ellipsis)?;
+    push_text(out, kind.spelling().unwrap_or(""))?;
     Ok(false)
 }
 

@@ -13,7 +13,7 @@ ghost use Rattle.juniper_nodes.specs.Literal.{literal_content, literal_shown, in
 use juniper::{
     DefaultScalarValue, ParseScalarResult, ParseScalarValue, ReadFailure, ScalarToken, ScalarValue,
 };
-use juniper_tokens::text::{copied, write_text};
+use juniper_tokens::text::{copied, same_string, write_text};
 use std::alloc::{AllocError, Global};
 use std::fmt;
 
@@ -61,26 +61,13 @@ impl PartialEq for Literal {
         match (self, other) {
             (Literal::Default(a), Literal::Default(b)) => a == b,
             (Literal::Int(a), Literal::Int(b)) => same_int(a, b),
-            (Literal::LargeInt(a), Literal::LargeInt(b)) => same(a, b),
-            (Literal::Float(a), Literal::Float(b)) => same(a, b),
-            (Literal::String(a), Literal::String(b)) => same_string(a, b),
-            (Literal::BlockString(a), Literal::BlockString(b)) => same_string(a, b),
+            (Literal::LargeInt(a), Literal::LargeInt(b)) => same_string(a, b),
+            (Literal::Float(a), Literal::Float(b)) => same_string(a, b),
+            (Literal::String(a), Literal::String(b)) => same_literal(a, b),
+            (Literal::BlockString(a), Literal::BlockString(b)) => same_literal(a, b),
             _ => false,
         }
     }
-}
-
-// Whether two texts have the same characters.
-fn same_str(a: &str, b: &str) -> bool
-    ensures { result ≡ same_text (chars a.now) (chars b.now) }
-{
-    a == b
-}
-
-fn same(a: &String, b: &String) -> bool
-    ensures { result ≡ same_text (text_of a.now) (text_of b.now) }
-{
-    same_str(a.as_str(), b.as_str())
 }
 
 fn same_number(a: i32, b: i32) -> bool
@@ -92,13 +79,13 @@ fn same_number(a: i32, b: i32) -> bool
 fn same_int(a: &IntLiteral, b: &IntLiteral) -> bool
     ensures { result ≡ (int_eq a.now.value b.now.value && same_text (text_of a.now.written) (text_of b.now.written)) }
 {
-    same_number(a.value, b.value) && same(&a.written, &b.written)
+    same_number(a.value, b.value) && same_string(&a.written, &b.written)
 }
 
-fn same_string(a: &StringLiteral, b: &StringLiteral) -> bool
+fn same_literal(a: &StringLiteral, b: &StringLiteral) -> bool
     ensures { result ≡ (same_text (text_of a.now.written) (text_of b.now.written) && same_text (text_of a.now.value) (text_of b.now.value)) }
 {
-    same(&a.written, &b.written) && same(&a.value, &b.value)
+    same_string(&a.written, &b.written) && same_string(&a.value, &b.value)
 }
 
 impl Eq for Literal {

@@ -131,10 +131,7 @@ impl<'p, 'a> Cursor<'p, 'a> {
         requires { same_kind (kind_at self.now) EndOfFile ≡ true }
         ensures { RefusesEnd result self.now }
     {
-        Err(ParseFailure::Refused(Spanning::new(
-            self.span(),
-            ParseError::UnexpectedEndOfFile,
-        )))
+        Err(ParseFailure::Refused(Spanning::new(self.span(), ParseError::UnexpectedEndOfFile)))
     }
 
     /// Takes the next token. At the end it returns `UnexpectedEndOfFile`, and nothing is taken. It takes no memory.

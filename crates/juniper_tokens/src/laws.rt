@@ -16,8 +16,8 @@ use crate::error::{LexerError, ParseError};
 use crate::position::SourcePosition;
 use crate::span::{Span, Spanning};
 pub use graphql_lexical::laws::{
-    few_tokens, joined_texts, one_answer, one_end, places_step_by_characters, slices_in_order,
-    spaced_texts, three_quotes_begin_a_block_string,
+    few_tokens, joined_texts, one_answer, one_cut_or_break, places_step_by_characters,
+    slices_in_order, spaced_texts, three_quotes_begin_a_block_string,
 };
 use std::hash::Hash;
 

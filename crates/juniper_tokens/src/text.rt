@@ -17,6 +17,13 @@ pub fn same_text(a: &str, b: &str) -> bool
     a == b
 }
 
+/// Whether two strings have the same characters.
+pub fn same_string(a: &String, b: &String) -> bool
+    ensures { result ≡ pointwise nat_eq (chars (string_bytes a.now)) (chars (string_bytes b.now)) }
+{
+    same_text(a.as_str(), b.as_str())
+}
+
 /// A copy of a text. Returns `AllocError` where memory ran out.
 pub fn copied(alloc: Global, text: &String) -> Result<String, AllocError>
     ensures { IfOk result (λ copy. chars (string_bytes copy) ≡ chars (string_bytes text.now)) }

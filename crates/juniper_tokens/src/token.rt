@@ -6,6 +6,7 @@ ghost use Rattle.graphql_lexical.specs.Display.{quoted, escaped, escape, shown};
 ghost use Rattle.graphql_lexical.specs.Tokens.{mark};
 
 use crate::text::{same_text, write_text};
+use crate::token_range::TokenRange;
 use graphql_lexical::Kind;
 use std::fmt;
 
@@ -90,6 +91,41 @@ impl<'a> ScalarToken<'a> {
         ensures { chars result.now ≡ scalar_text self.now }
     {
         self.parts().1
+    }
+}
+
+impl TokenRange {
+    ghost use Rattle.graphql_lexical.specs.device.Whole.{text_of};
+    ghost use Rattle.juniper_tokens.specs.Tokens.{kind_text, token_kind, token_text};
+    ghost use Rattle.juniper_tokens.specs.device.Ranges.{IsRange, range_slice};
+
+    /// The token, with its text.
+    pub(crate) fn token<'a>(&self, source: &'a str) -> Token<'a>
+        requires { IsRange (chars source.now) self.now }
+        ensures kind { token_kind result ≡ self.now.kind }
+        ensures text { token_text result ≡ kind_text self.now.kind (text_of self.now.kind (range_slice (chars source.now) self.now)) }
+    {
+        match self.kind {
+            Kind::Name => Token::Name(self.text(source)),
+            Kind::String => Token::Scalar(ScalarToken::String(self.text(source))),
+            Kind::BlockString => Token::Scalar(ScalarToken::BlockString(self.text(source))),
+            Kind::Float => Token::Scalar(ScalarToken::Float(self.text(source))),
+            Kind::Int => Token::Scalar(ScalarToken::Int(self.text(source))),
+            Kind::ExclamationMark => Token::ExclamationMark,
+            Kind::Dollar => Token::Dollar,
+            Kind::ParenOpen => Token::ParenOpen,
+            Kind::ParenClose => Token::ParenClose,
+            Kind::BracketOpen => Token::BracketOpen,
+            Kind::BracketClose => Token::BracketClose,
+            Kind::CurlyOpen => Token::CurlyOpen,
+            Kind::CurlyClose => Token::CurlyClose,
+            Kind::Ellipsis => Token::Ellipsis,
+            Kind::Colon => Token::Colon,
+            Kind::Equals => Token::Equals,
+            Kind::At => Token::At,
+            Kind::Pipe => Token::Pipe,
+            Kind::EndOfFile => Token::EndOfFile,
+        }
     }
 }
 

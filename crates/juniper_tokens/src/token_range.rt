@@ -5,7 +5,7 @@ ghost use Rattle.graphql_lexical.specs.Place.{place};
 ghost use Rattle.graphql_lexical.specs.device.Whole.{text_of};
 ghost use Rattle.juniper_tokens.specs.Positions.{columns_on};
 ghost use Rattle.juniper_tokens.specs.Spans.{view_span};
-ghost use Rattle.juniper_tokens.specs.Tokens.{kind_text, token_kind, token_text, view_token};
+ghost use Rattle.juniper_tokens.specs.Tokens.{view_token};
 ghost use Rattle.juniper_tokens.specs.device.LexingByScan.{IsPlaced};
 ghost use Rattle.juniper_tokens.specs.device.Scans.{Finds};
 ghost use Rattle.juniper_tokens.specs.device.Ranges.{IsRange, range_of, range_slice, range_lexeme};
@@ -14,7 +14,7 @@ use crate::lexer::text::{Border, text_before, text_from, unquoted};
 use crate::lexer::{Found, walk_text};
 use crate::position::SourcePosition;
 use crate::span::{Span, Spanning};
-use crate::token::{ScalarToken, Token};
+use crate::token::Token;
 use graphql_lexical::Kind;
 
 /// A token's kind, and the part of the source that it takes.
@@ -129,35 +129,6 @@ impl TokenRange {
             unquoted(rest, size, 3)
         } else {
             text_before(rest, size)
-        }
-    }
-
-    // The token, with its text.
-    fn token<'a>(&self, source: &'a str) -> Token<'a>
-        requires { IsRange (chars source.now) self.now }
-        ensures kind { token_kind result ≡ self.now.kind }
-        ensures text { token_text result ≡ kind_text self.now.kind (text_of self.now.kind (range_slice (chars source.now) self.now)) }
-    {
-        match self.kind {
-            Kind::Name => Token::Name(self.text(source)),
-            Kind::String => Token::Scalar(ScalarToken::String(self.text(source))),
-            Kind::BlockString => Token::Scalar(ScalarToken::BlockString(self.text(source))),
-            Kind::Float => Token::Scalar(ScalarToken::Float(self.text(source))),
-            Kind::Int => Token::Scalar(ScalarToken::Int(self.text(source))),
-            Kind::ExclamationMark => Token::ExclamationMark,
-            Kind::Dollar => Token::Dollar,
-            Kind::ParenOpen => Token::ParenOpen,
-            Kind::ParenClose => Token::ParenClose,
-            Kind::BracketOpen => Token::BracketOpen,
-            Kind::BracketClose => Token::BracketClose,
-            Kind::CurlyOpen => Token::CurlyOpen,
-            Kind::CurlyClose => Token::CurlyClose,
-            Kind::Ellipsis => Token::Ellipsis,
-            Kind::Colon => Token::Colon,
-            Kind::Equals => Token::Equals,
-            Kind::At => Token::At,
-            Kind::Pipe => Token::Pipe,
-            Kind::EndOfFile => Token::EndOfFile,
         }
     }
 

@@ -11,7 +11,7 @@ use Rattle.juniper_values.specs.Make.{unlocated_fields}
 use Rattle.juniper_values.specs.View.{view, text_of}
 use Rattle.juniper_values.specs.declared.input_value.InputValue.{InputValue}
 use Rattle.graphql_lexical.specs.Place.{Span}
-use Rattle.juniper_values.proofs.Texts.{same_text-chars}
+use Rattle.juniper_tokens.proofs.Public.{pointwise-chars}
 
 pub map_last : {A B : Type 0} (f : A → B) (xs : List A) (x : A) → map f (xs ++ x ∷ []) ≡ map f xs ++ f x ∷ []
 map_last f [] x = refl
@@ -34,7 +34,7 @@ module _ {V W : Type 0} (f : V → W) where
   seen-insert (e ∷ es) k v t u =
       by_key (eq k e.0) (seen-insert es k v t.1 u)
       ∙ ap (λ b. if b then (chars e.0.now, f v) ∷ map seen es else seen e ∷ put (map seen es) (chars k.now) (f v))
-      (sym (same_text-chars k.now e.0.now u t.0))
+      (pointwise-chars k.now e.0.now u t.0)
     where
       by_key : (b : Bool) → map seen (insert_entry eq es k v) ≡ put (map seen es) (chars k.now) (f v)
           → map seen (if b then (e.0, v) ∷ es else e ∷ insert_entry eq es k v)

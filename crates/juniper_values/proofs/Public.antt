@@ -4,6 +4,5 @@ pub use Rattle.juniper_values.proofs.Displays.{IsWritten, between, left, one_mor
 pub use Rattle.juniper_values.proofs.Integers.{read, refused}
 pub use Rattle.juniper_values.proofs.ReadBack.{plain_unescaped, type_is_cut, value_is_cut}
 pub use Rattle.juniper_values.proofs.Reading.{drop_read, nothing_left, prepend, taken, turn}
-pub use Rattle.juniper_values.proofs.Texts.{same_text-chars}
 pub use Rattle.juniper_values.proofs.Trees.{put_field, put_item, view-Object, view_fields-prepend, view_items-prepend}
 pub use Rattle.juniper_values.proofs.WrittenIntegers.{integer_read_back}

@@ -3,28 +3,19 @@ use Rattle.std.proofs.Common.{◌≡◌, sym, ap, ◌∙◌, ℕ, List, [], ◌�
 use Rattle.std.specs.Prelude.{codes}
 use Rattle.std.specs.HashMap.{get_by}
 use Rattle.std.specs.Str.{chars, IsUtf8}
-use Rattle.std.proofs.lemmas.Slice.Eq.{bytes_eq-Decides}
-use Rattle.std.proofs.lemmas.Bool.Decides.{same_from_decides}
 use Rattle.std.proofs.lemmas.Str.{encodes-chars, encodes-append, IsUtf8-string_bytes}
 use lib.Utf8.{encode, encodes}
 use Rattle.graphql_lexical.specs.Display.{quoted}
+use Rattle.juniper_tokens.proofs.Public.{pointwise-chars}
 use Rattle.juniper_values.specs.Text.{same_text}
 use Rattle.juniper_values.specs.ScalarDisplay.{wanted_text}
 use Rattle.juniper_values.specs.View.{text_of}
 
--- texts of the same characters have the same bytes
-pub same_text-chars : (a b : List ℕ) → IsUtf8 a → IsUtf8 b → same_text (chars a) (chars b) ≡ bytes_eq a b
-same_text-chars a b u v =
-    sym (same_from_decides (bytes_eq a b) (bytes_eq (chars a) (chars b))
-    (bytes_eq-Decides a b) (
-      (λ e. sym (encodes-chars a u) ∙ ap encodes ((bytes_eq-Decides (chars a) (chars b)).0 e) ∙ encodes-chars b v),
-      (λ e. (bytes_eq-Decides (chars a) (chars b)).1 (ap chars e)),
-    ))
-
+-- strings of the same characters have the same bytes
 pub same_text-strings : (s t : String Global)
     → same_text (text_of s) (text_of t) ≡ bytes_eq (string_bytes s) (string_bytes t)
-same_text-strings s t = same_text-chars (string_bytes s) (string_bytes t) (IsUtf8-string_bytes s)
-    (IsUtf8-string_bytes t)
+same_text-strings s t =
+    sym (pointwise-chars (string_bytes s) (string_bytes t) (IsUtf8-string_bytes s) (IsUtf8-string_bytes t))
 
 -- a look-up by a name's text is one by its bytes
 pub found_by_text : {V H : Type 0} (name : String Global) (q : List ℕ) (m : HashMap (String Global) V H) (r : Option V)

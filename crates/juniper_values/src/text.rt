@@ -1,28 +1,11 @@
-//! Comparing, cutting, copying and writing texts.
-ghost use Rattle.std.specs.Prelude.{◌≡◌, ◌<◌, [], ◌∷◌, length, Some, IfOk, IfSome, MatchOption};
+//! Cutting and writing texts.
+ghost use Rattle.std.specs.Prelude.{◌≡◌, ◌<◌, [], ◌∷◌, length, Some, IfSome, MatchOption};
 ghost use Rattle.std.specs.Char.{IsScalar};
 ghost use Rattle.std.specs.Fmt.{DisplaysOnOk, signed_decimal};
 ghost use Rattle.std.specs.Str.{chars, encode_utf8_all, IsUtf8};
 ghost use Rattle.graphql_lexical.specs.Display.{quoted};
-ghost use Rattle.juniper_values.specs.View.{text_of};
-ghost use Rattle.juniper_values.specs.Text.{same_text};
 
-use std::alloc::{AllocError, Global};
 use std::fmt;
-
-// Whether two texts have the same characters.
-pub(crate) fn same_str(a: &str, b: &str) -> bool
-    ensures { result ≡ same_text (chars a.now) (chars b.now) }
-{
-    a == b
-}
-
-// Whether two texts have the same characters.
-pub(crate) fn same_string(a: &String, b: &String) -> bool
-    ensures { result ≡ same_text (text_of a.now) (text_of b.now) }
-{
-    same_str(a.as_str(), b.as_str())
-}
 
 // The text's first character, and the text after it, or None.
 pub(crate) fn split_char(text: &str) -> Option<(char, &str)>

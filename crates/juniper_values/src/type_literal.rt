@@ -5,8 +5,7 @@ ghost use Rattle.juniper_values.specs.Text.{Text};
 ghost use Rattle.juniper_values.specs.TypeLiteral.{modifiers_of, outermost, is_list_modifier, is_non_null, is_list, is_common, name_unless_list, type_text, opening, closing};
 ghost use Rattle.std.specs.Fmt.{DisplaysOnOk};
 
-use crate::text::same_str;
-use juniper_tokens::text::write_text;
+use juniper_tokens::text::{same_text, write_text};
 use std::alloc::Global;
 use std::fmt;
 use std::marker::Model;
@@ -292,7 +291,7 @@ impl<N: NameText> PartialEq for TypeLiteral<N> {
     ghost laws = { same_type-laws N.name_text };
 
     fn eq(&self, other: &TypeLiteral<N>) -> bool {
-        same_str(self.name.text(), other.name.text())
+        same_text(self.name.text(), other.name.text())
             && self.modifiers.as_slice() == other.modifiers.as_slice()
     }
 }

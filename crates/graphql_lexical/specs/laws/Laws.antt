@@ -47,19 +47,12 @@ CutsWhatIsCut source = (xs : List Lexeme) → (cut_of source ≡ Ok xs) ↔ Cut 
 abbrev pub BreaksWhatIsBroken : List ℕ → Type 0
 BreaksWhatIsBroken source = (b : Broken) → (cut_of source ≡ Err b) ↔ Breaks source b.error b.at
 
-pub record IsOnlyCut (source : List ℕ) (lexemes : List Lexeme) : Type 0 where
-  pub cut : Cut source lexemes
-  pub alone : (xs : List Lexeme) → Cut source xs → xs ≡ lexemes
-  pub no_break : (error : LexicalError) (at : Place) → Breaks source error at → ⊥
-
-pub record IsOnlyBreak (source : List ℕ) (error : LexicalError) (at : Place) : Type 0 where
-  pub breaks : Breaks source error at
-  pub alone : (e : LexicalError) (p : Place) → Breaks source e p → (e ≡ error) × (p ≡ at)
-  pub no_cut : (xs : List Lexeme) → Cut source xs → ⊥
-
--- a source has exactly one cut or one break
-abbrev pub HasOneEnd : List ℕ → Type 0
-HasOneEnd source = ((lexemes : List Lexeme) × IsOnlyCut source lexemes) ⊎ ((error : LexicalError) × (at : Place) × IsOnlyBreak source error at)
+-- a source has a cut or a break, no other cut, no other break, and never both
+pub record HasOneCutOrBreak (source : List ℕ) : Type 0 where
+  pub some : ((lexemes : List Lexeme) × Cut source lexemes) ⊎ ((error : LexicalError) × (at : Place) × Breaks source error at)
+  pub one_cut : (xs ys : List Lexeme) → Cut source xs → Cut source ys → xs ≡ ys
+  pub one_break : (d e : LexicalError) (p q : Place) → Breaks source d p → Breaks source e q → (d ≡ e) × (p ≡ q)
+  pub never_both : (xs : List Lexeme) (error : LexicalError) (at : Place) → Cut source xs → Breaks source error at → ⊥
 
 -- a source of n characters has at most n + 1 tokens, the last the end and no other
 abbrev pub HasFewTokens : List ℕ → Type 0

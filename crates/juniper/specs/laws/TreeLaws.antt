@@ -3,7 +3,7 @@ use Rattle.std.specs.Prelude.{◌≡◌, ℕ, map, List, String, Vec, Err}
 use Rattle.std.specs.declared.alloc.Global.{Global}
 use Rattle.graphql_lexical.specs.Place.{Place, Span}
 use Rattle.graphql_lexical.specs.Kinds.{LexicalError}
-use Rattle.graphql_lexical.specs.Cutting.{Lexeme, Cut, Breaks}
+use Rattle.graphql_lexical.specs.Cutting.{Lexeme, Breaks}
 use Rattle.graphql_grammar.specs.Tree.{Null, Scalar, Enum, Variable, ListOf, Object, items_of, fields_of}
 use Rattle.juniper_tokens.specs.declared.error.LexFailure.{LexFailure}
 use Rattle.juniper_tokens.specs.declared.error.ParseFailure.{ParseFailure}
@@ -35,12 +35,6 @@ module _ {S C : Type 0} (content : S → C) where
   pub record SeesSelections : Type 0 where
     pub field : (f : Spanning (Field S)) → view_selection content (selection.Field f) ≡ view_field content f
     pub inline_fragment : (f : Spanning (InlineFragment S)) → view_selection content (selection.InlineFragment f) ≡ view_inline content f
-
--- The source has one cut or one break, and never both.
-pub record CutsOnce (source : List ℕ) : Type 0 where
-  pub one_cut : (ts us : List Lexeme) → Cut source ts → Cut source us → ts ≡ us
-  pub one_break : (d e : LexicalError) (p q : Place) → Breaks source d p → Breaks source e q → (d ≡ e) × (p ≡ q)
-  pub never_both : (ts : List Lexeme) (error : LexicalError) (at : Place) → Cut source ts → Breaks source error at → ⊥
 
 -- The lexer failed where the source breaks, with its error and with zero width, or memory ran out.
 pub record FailsAtBreak (source : List ℕ) (failed : LexFailure) : Type 0 where

@@ -15,7 +15,9 @@ use crate::parser::selection::{parse_inline_parts, parse_selection_set};
 use crate::parser::variables::parse_optional_variables;
 use crate::tree::ast::{Definition, Fragment, Operation};
 use graphql_grammar::OperationType;
-use juniper_tokens::{Cursor, Kind, OptionParseResult, ParseResult, Span, Spanning, UnlocatedParseResult};
+use juniper_tokens::{
+    Cursor, Kind, OptionParseResult, ParseResult, Span, Spanning, UnlocatedParseResult,
+};
 use juniper_values::ScalarValue;
 
 /// `Definition = SelectionSet

@@ -13,7 +13,10 @@ use crate::parser::lists::push_item;
 use crate::parser::next::{expect_kind, next_is, next_is_word, take_closing, take_next};
 use crate::parser::spans::{from_part, item_of, span_of, up_to};
 use crate::tree::ast::{Directive, Field, FragmentSpread, InlineFragment, Selection};
-use juniper_tokens::{Cursor, Kind, OptionParseResult, ParseFailure, ParseResult, Span, Spanning, UnlocatedParseResult};
+use juniper_tokens::{
+    Cursor, Kind, OptionParseResult, ParseFailure, ParseResult, Span, Spanning,
+    UnlocatedParseResult,
+};
 use juniper_values::ScalarValue;
 
 /// `SelectionSet = "{" Selection+ "}"`
@@ -77,7 +80,9 @@ fn parse_selection<'a, S: ScalarValue>(
     ensures shorter { OnOk result (length tokens.new < length tokens.old) }
 {
     if next_is(tokens, Kind::Ellipsis) {
-        parse_spread(tokens, selections)
+        let spread = parse_spread(tokens)?;
+        push_item(selections, spread, next_is(tokens, Kind::CurlyClose))?;
+        Ok(())
     } else {
         parse_field(tokens, selections)
     }
@@ -135,105 +140,94 @@ fn parse_names<'a>(
     }
 }
 
-/// `"..." FragmentName Directive* | "..." ("on" Name)? Directive* SelectionSet`, appended.
+/// `"..." FragmentName Directive* | "..." ("on" Name)? Directive* SelectionSet`
 #[cycle(selection)]
 #[tactic(auto, using(crate::proofs::Names::on_is, crate::proofs::Cursors::word_is_no_end, crate::proofs::CursorFits::other_is_name), unfolding(graphql_grammar::specs::device::Productions::spread, juniper_tokens::specs::Cursor::expect_name_at))]
 fn parse_spread<'a, S: ScalarValue>(
     tokens: &mut Cursor<'_, 'a>,
-    selections: &mut Vec<Selection<'a, S>>,
-) -> UnlocatedParseResult<()>
-    ensures appends { Appends (view_selection S.content) result selections.old.items selections.new.items tokens.new (cursor (stated S.reading S.of_bool) spread tokens.old) }
+) -> UnlocatedParseResult<Selection<'a, S>>
+    ensures gives { Gives (view_selection S.content) result tokens.new (cursor (stated S.reading S.of_bool) spread tokens.old) }
     ensures shorter { OnOk result (length tokens.new < length tokens.old) }
 {
     let dots = expect_kind(tokens, Kind::Ellipsis)?;
     if next_is_word(tokens, "on") {
         take_next(tokens);
-        parse_typed_fragment(tokens, dots, selections)
+        parse_typed_fragment(tokens, dots)
     } else if next_is(tokens, Kind::Name) {
         let name = tokens.expect_name()?;
-        parse_named_spread(tokens, dots, name, selections)
+        parse_named_spread(tokens, dots, name)
     } else {
-        parse_untyped_fragment(tokens, dots, selections)
+        parse_untyped_fragment(tokens, dots)
     }
 }
 
-/// `Directive*`, after three dots and a FragmentName, appended.
+/// `Directive*`, after three dots and a FragmentName.
 #[tactic(auto, unfolding(graphql_grammar::specs::device::Productions::named_spread))]
 fn parse_named_spread<'a, S: ScalarValue>(
     tokens: &mut Cursor<'_, 'a>,
     dots: Span,
     name: Spanning<&'a str>,
-    selections: &mut Vec<Selection<'a, S>>,
-) -> UnlocatedParseResult<()>
-    ensures appends { Appends (view_selection S.content) result selections.old.items selections.new.items tokens.new (whole (stated S.reading S.of_bool) (named_spread (view_span dots) (view_word name.entry)) tokens.old) }
+) -> UnlocatedParseResult<Selection<'a, S>>
+    ensures gives { Gives (view_selection S.content) result tokens.new (whole (stated S.reading S.of_bool) (named_spread (view_span dots) (view_word name.entry)) tokens.old) }
     ensures not_longer { OnOk result (length tokens.new ≤ length tokens.old) }
 {
     let named = from_part(Some(dots), name.span);
     let directives = parse_directives(tokens)?;
     let span = up_to(named, span_of(&directives));
-    let spread = FragmentSpread {
-        name: Spanning::new(name.span, name.item),
-        directives: item_of(directives),
-    };
-    push_item(
-        selections,
-        Selection::FragmentSpread(Spanning::new(span, spread)),
-        next_is(tokens, Kind::CurlyClose),
-    )?;
-    Ok(())
+    Ok(Selection::FragmentSpread(Spanning::new(
+        span,
+        FragmentSpread {
+            name: Spanning::new(name.span, name.item),
+            directives: item_of(directives),
+        },
+    )))
 }
 
-/// `Name Directive* SelectionSet`, after three dots and `on`, appended.
+/// `Name Directive* SelectionSet`, after three dots and `on`.
 #[cycle(selection)]
-#[tactic(auto, unfolding(graphql_grammar::specs::device::Productions::typed, graphql_grammar::specs::device::Productions::inline, juniper_tokens::specs::Cursor::expect_name_at))]
+#[tactic(auto, using(crate::proofs::SelectionViews::view_of_inline), unfolding(graphql_grammar::specs::device::Productions::typed, graphql_grammar::specs::device::Productions::inline, juniper_tokens::specs::Cursor::expect_name_at))]
 fn parse_typed_fragment<'a, S: ScalarValue>(
     tokens: &mut Cursor<'_, 'a>,
     dots: Span,
-    selections: &mut Vec<Selection<'a, S>>,
-) -> UnlocatedParseResult<()>
-    ensures appends { Appends (view_selection S.content) result selections.old.items selections.new.items tokens.new (whole (stated S.reading S.of_bool) (typed (view_span dots)) tokens.old) }
+) -> UnlocatedParseResult<Selection<'a, S>>
+    ensures gives { Gives (view_selection S.content) result tokens.new (whole (stated S.reading S.of_bool) (typed (view_span dots)) tokens.old) }
     ensures shorter { OnOk result (length tokens.new < length tokens.old) }
 {
     let name = tokens.expect_name()?;
     let (directives, set) = parse_inline_parts(tokens)?;
     let end = set.span.end;
-    let fragment = InlineFragment {
-        type_condition: Some(name),
-        directives,
-        selection_set: set.item,
-    };
-    push_item(
-        selections,
-        Selection::InlineFragment(Spanning::start_end(&dots.start, &end, fragment)),
-        next_is(tokens, Kind::CurlyClose),
-    )?;
-    Ok(())
+    Ok(Selection::InlineFragment(Spanning::start_end(
+        &dots.start,
+        &end,
+        InlineFragment {
+            type_condition: Some(name),
+            directives,
+            selection_set: set.item,
+        },
+    )))
 }
 
-/// `Directive* SelectionSet`, after three dots, appended.
+/// `Directive* SelectionSet`, after three dots.
 #[cycle(selection)]
-#[tactic(auto, unfolding(graphql_grammar::specs::device::Productions::inline))]
+#[tactic(auto, using(crate::proofs::SelectionViews::view_of_inline), unfolding(graphql_grammar::specs::device::Productions::inline))]
 fn parse_untyped_fragment<'a, S: ScalarValue>(
     tokens: &mut Cursor<'_, 'a>,
     dots: Span,
-    selections: &mut Vec<Selection<'a, S>>,
-) -> UnlocatedParseResult<()>
-    ensures appends { Appends (view_selection S.content) result selections.old.items selections.new.items tokens.new (whole (stated S.reading S.of_bool) (inline (view_span dots) None) tokens.old) }
+) -> UnlocatedParseResult<Selection<'a, S>>
+    ensures gives { Gives (view_selection S.content) result tokens.new (whole (stated S.reading S.of_bool) (inline (view_span dots) None) tokens.old) }
     ensures shorter { OnOk result (length tokens.new < length tokens.old) }
 {
     let (directives, set) = parse_inline_parts(tokens)?;
     let end = set.span.end;
-    let fragment = InlineFragment {
-        type_condition: None,
-        directives,
-        selection_set: set.item,
-    };
-    push_item(
-        selections,
-        Selection::InlineFragment(Spanning::start_end(&dots.start, &end, fragment)),
-        next_is(tokens, Kind::CurlyClose),
-    )?;
-    Ok(())
+    Ok(Selection::InlineFragment(Spanning::start_end(
+        &dots.start,
+        &end,
+        InlineFragment {
+            type_condition: None,
+            directives,
+            selection_set: set.item,
+        },
+    )))
 }
 
 /// `Directive* SelectionSet`

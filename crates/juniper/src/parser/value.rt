@@ -19,7 +19,9 @@ ghost use Rattle.juniper_values.specs.Scalar.{MeetsReading};
 use crate::parser::lists::push_item;
 use crate::parser::next::{expect_kind, next_is, take_closing, take_next};
 use juniper_tokens::text::same_text;
-use juniper_tokens::{Cursor, Kind, ParseError, ParseFailure, ParseResult, Parser, Span, Spanning, Token};
+use juniper_tokens::{
+    Cursor, Kind, ParseError, ParseFailure, ParseResult, Parser, Span, Spanning, Token,
+};
 use juniper_values::{InputValue, ReadFailure, ScalarValue};
 use std::alloc::{AllocError, Global};
 
@@ -79,22 +81,8 @@ pub(crate) fn parse_value<'a, S: ScalarValue>(
             let name = tokens.expect_name()?;
             Ok(value_of_name(tokens.allocator(), name)?)
         }
-        Kind::String
-        | Kind::BlockString
-        | Kind::Float
-        | Kind::Int
-        | Kind::ExclamationMark
-        | Kind::Dollar
-        | Kind::ParenOpen
-        | Kind::ParenClose
-        | Kind::BracketClose
-        | Kind::CurlyClose
-        | Kind::Ellipsis
-        | Kind::Colon
-        | Kind::Equals
-        | Kind::At
-        | Kind::Pipe
-        | Kind::EndOfFile => parse_scalar(tokens),
+        // a scalar token, or one that begins no value and is refused
+        _ => parse_scalar(tokens),
     }
 }
 

@@ -19,7 +19,9 @@ use juniper_values::{InputValue, ScalarValue};
 
 /// `("=" Value(const))?`
 #[tactic(auto, unfolding(graphql_grammar::specs::device::Productions::default))]
-fn parse_default<'a, S: ScalarValue>(tokens: &mut Cursor<'_, 'a>) -> OptionParseResult<InputValue<S>>
+fn parse_default<'a, S: ScalarValue>(
+    tokens: &mut Cursor<'_, 'a>,
+) -> OptionParseResult<InputValue<S>>
     ensures gives { Gives (option_map (view_value S.content)) result tokens.new (cursor (stated S.reading S.of_bool) default tokens.old) }
     ensures not_longer { OnOk result (length tokens.new ≤ length tokens.old) }
 {

@@ -7,7 +7,7 @@ ghost use Rattle.juniper_tokens.specs.device.Scans.{Finds, IsPlain};
 ghost use Rattle.juniper_tokens.specs.device.Walks.{is_in_float, first_class};
 
 use crate::byte_classes::ByteClass;
-use crate::lexer::machine::{punctuator_of, step_after_integer};
+use crate::lexer::machine::step_after_integer;
 use crate::lexer::run::{Run, run_over};
 use crate::lexer::scan::Found;
 use crate::lexer::text::{Border, text_from};
@@ -28,7 +28,7 @@ pub(crate) fn plain_token(class: ByteClass, text: &str) -> Option<Found>
             end: run_over(Run::Name, bytes),
         }),
         ByteClass::Punctuator => Some(Found {
-            kind: punctuator_of(bytes[0])?,
+            kind: Kind::punctuator(bytes[0])?,
             end: Border {
                 bytes: 1,
                 characters: 1,

@@ -6,8 +6,8 @@ ghost use Rattle.juniper_values.specs.Value.{object};
 ghost use Rattle.juniper_values.specs.View.{view, view_items, view_fields, text_of};
 
 use crate::input_value::InputValue;
-use crate::text::same_string;
 use juniper_tokens::Spanning;
+use juniper_tokens::text::same_string;
 
 impl<S: PartialEq> InputValue<S> {
     /// Whether the values are equal regardless of their places. Fields of objects may stand in any order.

@@ -6,7 +6,7 @@ ghost use Rattle.juniper_values.specs.Text.{same_text};
 ghost use Rattle.juniper_values.specs.View.{view, view_items, view_fields, text_of};
 
 use crate::input_value::InputValue;
-use crate::text::same_string;
+use juniper_tokens::text::same_string;
 use juniper_tokens::{Span, Spanning};
 
 /// Values are equal if their scalars, names and places are, fields in their order.

@@ -2,4 +2,4 @@ use Rattle.gqlcanon.proofs.OneReport.{one_report}
 use Rattle.gqlcanon.proofs.run.one_report.Goals as goal
 
 pub returns : goal.returns
-returns c = one_report c.one_end.ensures
+returns c = one_report c.one_cut_or_break.ensures

@@ -10,15 +10,15 @@ returns-in-NameStart-clause-finds c =
     name_found text _ c.utf8.text c.as_bytes-bytes.ensures.value (some_there text _ class (λ e. absurd (cc e)))
     (omega (arith, c.type_inv.text 0)) _ class c.run_over.ensures.runs
 
-pub returns-in_ok-punctuator_of-in-Punctuator-clause-finds : goal.returns-in_ok-punctuator_of-in-Punctuator-clause-finds
-returns-in_ok-punctuator_of-in-Punctuator-clause-finds c =
+pub returns-in_ok-punctuator-in-Punctuator-clause-finds : goal.returns-in_ok-punctuator-in-Punctuator-clause-finds
+returns-in_ok-punctuator-in-Punctuator-clause-finds c =
     let text = c.args.text.now in
     let same = c.as_bytes-bytes.ensures.value in
     let class = sym c.in-Punctuator.is ∙ (c.requires ∙ class_there text c.utf8.text) in
     mark_found text _ c.utf8.text same (some_there text _ class (λ e. absurd (cc e)))
     (omega (arith, c.type_inv.text 0)) _ class
     (ap (λ t. punctuator (get_or t 0 0)) (sym same)
-    ∙ (sym c.punctuator_of.ensures ∙ c.in_ok-punctuator_of-in-Punctuator.was))
+    ∙ (sym c.punctuator.ensures ∙ c.in_ok-punctuator-in-Punctuator.was))
 
 pub bounds-bytes-0 : goal.bounds-bytes-0
 bounds-bytes-0 c = subst (λ t. 0 < length t) (sym c.as_bytes-bytes.ensures.value)
