@@ -1,5 +1,5 @@
 -- What the steps of a cursor take.
-use Rattle.std.proofs.Common.{◌≡◌, ℕ, Bool, true, false, cond, List, [], ◌∷◌, drop, bytes_eq, Ok, Err, refl, ap, ◌∙◌}
+use Rattle.std.proofs.Common.{◌≡◌, ℕ, Bool, true, false, cond, List, [], ◌∷◌, bytes_eq, Ok, Err, refl, ap, ◌∙◌}
 use Rattle.std.specs.Cmp.{first_so}
 use Rattle.graphql_lexical.specs.declared.kind.Kind.TheVariants.{Name, EndOfFile}
 use Rattle.graphql_lexical.specs.Kinds.{same_kind}
@@ -8,7 +8,7 @@ use Rattle.graphql_lexical.specs.Cutting.{Lexeme}
 use Rattle.graphql_grammar.specs.device.Reading.{passes, word}
 use Rattle.graphql_grammar.proofs.Public.{of_kind}
 use Rattle.juniper_tokens.specs.Errors.{UnexpectedEndOfFile}
-use Rattle.juniper_tokens.specs.Cursor.{Read, ◌>>=◌, first_of, kind_at, next_at, next_if, EndsOnce}
+use Rattle.juniper_tokens.specs.Cursor.{Read, ◌>>=◌, first_of, kind_at, next_at, next_if}
 
 pub ok_is : {A : Type 0} (x y : A × List Lexeme) → ◌≡◌ {A = Read A} (Ok x) (Ok y) → x ≡ y
 ok_is x y e = cc
@@ -42,9 +42,3 @@ pub word_is_no_end : (w : List ℕ) (ts : List Lexeme) → passes (word w) (firs
     → same_kind (kind_at ts) EndOfFile ≡ false
 word_is_no_end w ts e =
     closing_is_no_end Name ts refl (first_so (same_kind (kind_at ts) Name) (bytes_eq (first_of ts).text w) e)
-
--- what is taken is the first
-pub next_is_first : (ts : List Lexeme) → EndsOnce ts → same_kind (kind_at ts) EndOfFile ≡ false
-    → next_at ts ≡ Ok (first_of ts, drop 1 ts)
-next_is_first [] ended e = absurd ended
-next_is_first (t ∷ ts) ended e = rw e refl

@@ -19,7 +19,7 @@ use juniper_values::Type;
 ///
 /// ```
 /// // of `[ID!] = 1`: the type is `[ID!]`, and `=` stands next
-/// let of_type = parse_type(&mut tokens)?;
+/// let of_type = parse_type(&mut parser)?;
 /// ```
 pub fn parse_type<'a>(parser: &mut Parser<'a>) -> ParseResult<Type<&'a str>>
     ensures answers { AnswersType view_spanned_type result parser.old parser.new }
