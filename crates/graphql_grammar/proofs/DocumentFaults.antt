@@ -186,8 +186,8 @@ module _ {C F : Type 0} (S : Scalars C F) where
     module _ (r : TellsFaults S true (symbol_at S n _ a_selection)) where
       set_tells : TellsFaults S true (reads S n selection_set)
       unfolding selection_set selections_inner
-      set_tells = span_tells S true _ (kind_tells S CurlyOpen refl _ (λ o.
-          map_tells S _ _ (one_or_more_tells S (of CurlyClose) _ n (no_value_by CurlyClose refl) r)))
+      set_tells = kind_tells S CurlyOpen refl _ (λ o.
+          map_tells S _ _ (one_or_more_tells S (of CurlyClose) _ n (no_value_by CurlyClose refl) r))
 
       field_tells_by : TellsFaults S true (reads S n field)
       unfolding field optional_set
@@ -199,17 +199,17 @@ module _ {C F : Type 0} (S : Scalars C F) where
       unfolding inline_parts
       parts_tell = seq_tells S true _ _ directives_tells (λ ds. map_tells S _ _ set_tells)
 
-      inline_tells : (p : Span) (w : Option Word) → TellsFaults S true (reads S n (inline p w))
+      inline_tells : (w : Option Word) → TellsFaults S true (reads S n (inline w))
       unfolding inline
-      inline_tells p w = map_tells S _ _ parts_tell
+      inline_tells w = map_tells S _ _ parts_tell
 
       spread_tells : TellsFaults S true (reads S n spread)
       unfolding spread typed named_spread
       spread_tells = span_tells S true _ (kind_tells S Ellipsis refl _ (λ e. on_tells S (word (codes "on")) _ _
           (no_value_by_word (codes "on"))
-          (λ o. kind_tells S Name refl _ (λ t. inline_tells e.span (Some (word_of t))))
+          (λ o. kind_tells S Name refl _ (λ t. inline_tells (Some (word_of t))))
           (on_tells S other_than_on _ _ no_value_by_other (λ t. map_tells S _ _ directives_tells)
-          (inline_tells e.span None))))
+          (inline_tells None))))
 
   selection_tells : (n : ℕ) → TellsFaults S true (symbol_at S n _ a_selection)
   unfolding symbol_at any_selection
@@ -221,15 +221,15 @@ module _ {C F : Type 0} (S : Scalars C F) where
     body_tells : TellsFaults S true (reads S n inline_parts)
     body_tells = parts_tell n (selection_tells n)
 
-    operation_tells : (o : OperationType) (p : Span) → TellsFaults S true (reads S n (operation o p))
+    operation_tells : (o : OperationType) → TellsFaults S true (reads S n (operation o))
     unfolding operation
-    operation_tells o p = seq_tells S true _ _ (look_tells S (of Name) _ _ (no_value_by Name refl)
+    operation_tells o = seq_tells S true _ _ (look_tells S (of Name) _ _ (no_value_by Name refl)
         (kind_tells S Name refl _ (λ t. done_tells S true _)) (done_tells S true _))
         (λ name. seq_tells S true _ _ (variables_tells n) (λ vars. map_tells S _ _ body_tells))
 
-    fragment_tells : (p : Span) → TellsFaults S true (reads S n (fragment p))
+    fragment_tells : TellsFaults S true (reads S n fragment)
     unfolding fragment
-    fragment_tells p = seq_tells S true _ _ (want_tells S other_than_on _ no_value_by_other (λ a. done_tells S true _))
+    fragment_tells = seq_tells S true _ _ (want_tells S other_than_on _ no_value_by_other (λ a. done_tells S true _))
         (λ name. seq_tells S true _ _ (want_tells S (word (codes "on")) _ (no_value_by_word (codes "on"))
         (λ o. kind_tells S Name refl _ (λ t. done_tells S true _)))
         (λ t. map_tells S _ _ body_tells))
@@ -237,8 +237,8 @@ module _ {C F : Type 0} (S : Scalars C F) where
     definition_tells : TellsFaults S true (reads S n definition)
     unfolding definition shorthand
     definition_tells = span_tells S true _
-        (on_tells S operation_word _ _ no_value_by_operation (λ w. operation_tells _ w.span)
-        (on_tells S (word (codes "fragment")) _ _ (no_value_by_word (codes "fragment")) (λ w. fragment_tells w.span)
+        (on_tells S operation_word _ _ no_value_by_operation (λ w. operation_tells _)
+        (on_tells S (word (codes "fragment")) _ _ (no_value_by_word (codes "fragment")) (λ w. fragment_tells)
         (map_tells S _ _ (set_tells n (selection_tells n)))))
 
     pub document_tells : TellsFaults S true (reads S n document)

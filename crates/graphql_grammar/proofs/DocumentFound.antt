@@ -4,13 +4,13 @@ use Rattle.graphql_lexical.specs.Place.{Span}
 use Rattle.graphql_lexical.specs.declared.kind.Kind.TheVariants.{Name, ExclamationMark, Dollar, ParenOpen, ParenClose, BracketOpen, BracketClose, Equals, At}
 use Rattle.graphql_lexical.specs.Cutting.{Lexeme}
 use Rattle.graphql_grammar.specs.Tokens.{Text, over, from_to, span_of}
-use Rattle.graphql_grammar.specs.device.Reading.{Test, passes, of, Took, Reader, seq, done, want, repeated, a_type}
+use Rattle.graphql_grammar.specs.device.Reading.{Test, passes, of, Took, Reader, seq, want, repeated, a_type}
 use Rattle.graphql_grammar.specs.device.Productions as productions
-use Rattle.graphql_grammar.specs.device.Productions.{named_type, list_type, nullable_type, non_null, argument, arguments_inner, arguments, directive, directives, all_directives, directives_of, default, variable_definition, variables_inner, variables, symbol_at, reads}
+use Rattle.graphql_grammar.specs.device.Productions.{named_type, list_type, nullable_type, non_null, argument, arguments_inner, arguments, directive, directives, directives_of, default, variable_definition, variables_inner, variables, symbol_at, reads}
 use Rattle.graphql_grammar.specs.Tree.{Scalars, Value, TypeRef, NamedType, ListType, NonNullType, Argument, Arguments, Directive, VariableDefinition, Variables, Directives}
 use Rattle.graphql_lexical.specs.Parts.{◌·◌}
 use Rattle.graphql_grammar.specs.Grammar.{Is, Each, Optional, IsType, IsVariable, IsArgument, IsArguments, IsDirective, IsDirectives, IsDefault, IsVariableDefinition, IsVariables}
-use Rattle.graphql_grammar.proofs.Sequences.{row, row_as, row_front, one_takes, last_joined, nothing_last, kind_is, is_takes, says_takes, front_takes, back_takes}
+use Rattle.graphql_grammar.proofs.Sequences.{row, row_as, one_takes, last_joined, nothing_last, kind_is, is_takes, says_takes, front_takes, back_takes}
 use Rattle.graphql_grammar.proofs.Finds.{located_front, between_found, on_found, only_before, Only, Any, NotAt, token, Finds, Before, StartsWith, is_starts, front_starts, word_starts, listed_starts, Rejects, starts_before, nothing_before, optional_before, both_before, before_as, front_before, any_before, at_most, fewer, found_as, found_if, found_is, map_found, on_apart, look_apart, look_found, none_found, seq_found, then_found, seq_past, want_found, word_found, done_found, is_then, span_found, maybe_found, listed_found}
 use Rattle.graphql_grammar.proofs.Found.{variable_tokens, value_finds}
 use Rattle.graphql_grammar.proofs.DocumentRules.{IsNullable, name_nullable, list_nullable, argument_takes, directive_takes, variable_takes}
@@ -265,24 +265,12 @@ module _ {C F : Type 0} (S : Scalars C F) (n : ℕ) where
       next [] = nothing_before (λ rest g. g.paren)
       next (x ∷ xs) = front_before (starts_before (of ParenOpen) (λ w. refl) (λ ts h. directive_starts S ts x h))
 
-  -- directives, and then the others, which are handed some that are the same without their span
-  pub directives_then : {A : Type 0} {Q After : List Lexeme → Type 0} {a : A}
-      (k : Option (List (Directive C) × Span) → Reader F A) (ds : Directives C) → Before Q After AfterDirectives
-      → ((x : Option (List (Directive C) × Span)) → directives_of x ≡ ds → Finds n (k x) Q After a)
-      → Finds n (seq (reads S n directives) k) (IsDirectives S ds · Q) After a
+  pub directives_found : (ds : Directives C) → Finds n (reads S n directives) (IsDirectives S ds) AfterDirectives ds
   unfolding directives
-  directives_then k None m q =
-      seq_found k (map_found all_directives (repeated_found n (le_refl n) [])) m (q None refl)
-  directives_then k (Some []) m q = record { at = λ ts rest le h g. absurd (h.first.1 refl) }
-  directives_then k (Some (d ∷ ds)) m q = found_as (row_front (λ us h. h.0)) (seq_found k
-      (map_found all_directives (repeated_found n (le_refl n) (d ∷ ds))) m (q (all_directives (d ∷ ds)) refl))
-
-  -- directives, and nothing after them
-  pub directives_last : {A : Type 0} (k : Directives C → A) (ds : Directives C)
-      → Finds n (seq (reads S n directives) (λ x. done (k (directives_of x)))) (IsDirectives S ds) AfterDirectives
-      (k ds)
-  directives_last k ds = found_as nothing_last (directives_then _ ds (nothing_before (λ rest g. g))
-      (λ x e. found_is (ap k e) done_found))
+  directives_found None = map_found directives_of (repeated_found n (le_refl n) [])
+  directives_found (Some []) = record { at = λ ts rest le h g. absurd (h.1 refl) }
+  directives_found (Some (d ∷ ds)) = found_as (λ us h. h.0)
+      (map_found directives_of (repeated_found n (le_refl n) (d ∷ ds)))
 
   -- ---- variable definitions
 
@@ -304,13 +292,13 @@ module _ {C F : Type 0} (S : Scalars C F) (n : ℕ) where
       (directives_before S (of ExclamationMark) v.directives (λ w. refl) (λ rest g. g.mark)))
       (seq_found _ (default_found v.default)
       (directives_before S (of Equals) v.directives (λ w. refl) (λ rest g. g.equals))
-      (found_if (λ rest g. record { paren = g.paren; at = g.at }) (directives_last (λ ds. record {
+      (found_if (λ rest g. record { paren = g.paren; at = g.at }) (map_found (λ ds. record {
         name = record { text = v.name.text; span = record { start = q.start; end = s.end } };
         of_type = v.of_type;
         type_span = v.type_span;
         default = v.default;
         directives = ds;
-      }) v.directives))))))
+      }) (directives_found v.directives)))))))
 
   pub variables_found : (a : Variables C) → Finds n (reads S n variables) (IsVariables S a) Any a
   unfolding variables variables_inner

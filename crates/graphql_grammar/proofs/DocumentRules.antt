@@ -7,7 +7,7 @@ use Rattle.graphql_lexical.specs.Cutting.{Lexeme}
 use Rattle.graphql_grammar.specs.Tokens.{Text, word_of, over, from_to, span_of}
 use Rattle.graphql_grammar.specs.Samples.{sample, sample_text}
 use Rattle.graphql_grammar.specs.device.Reading.{passes, of, a_value, a_type}
-use Rattle.graphql_grammar.specs.device.Productions.{named_type, list_type, nullable_type, non_null, type, argument, arguments_inner, arguments, optional_arguments, directive, all_directives, directives_of, directives, default, variable_definition, variables_inner, variables, optional_variables, symbol_at, reads}
+use Rattle.graphql_grammar.specs.device.Productions.{named_type, list_type, nullable_type, non_null, type, argument, arguments_inner, arguments, optional_arguments, directive, directives_of, directives, default, variable_definition, variables_inner, variables, optional_variables, symbol_at, reads}
 use Rattle.graphql_grammar.specs.Tree.{Scalars, TypeRef, NamedType, ListType, NonNullType, Argument, Directive, VariableDefinition}
 use Rattle.graphql_grammar.specs.Grammar.{IsValue, Optional, Listed, IsType, IsArgument, IsArguments, IsDirective, IsDirectives, IsDefault, IsVariableDefinition, IsVariables, Each}
 use Rattle.graphql_grammar.proofs.Rules.{less, Rule, Some_of, done_rule}
@@ -87,12 +87,6 @@ module _ {C F : Type 0} (S : Scalars C F) where
       (done_rule _ x y _ (rw append-nil h.0)))
 
 -- Directives
-module _ {C F : Type 0} (S : Scalars C F) where
-  -- directives, from the first one's start to the last one's end
-  abbrev pub AreDirectives : Option (List (Directive C) × Span) → List Lexeme → Type 0
-  AreDirectives o ts = IsDirectives S (directives_of o) ts
-      × ((ds : List (Directive C)) × (o ≡ all_directives ds) × Each (IsDirective S) ds ts)
-
 module _ {C F : Type 0} (S : Scalars C F) (n m : ℕ) (le : n ≤ m) where
   pub low1 : (us : List Lexeme) → less n us ≤ n
   low1 us = lower n n us (le_refl n)
@@ -135,11 +129,11 @@ module _ {C F : Type 0} (S : Scalars C F) (n m : ℕ) (le : n ≤ m) where
   unfolding arguments arguments_inner
   arguments_rule = span_rule n _ _ (IsArguments S) (want_step n (of ParenOpen) (sample ParenOpen) _ _ _ refl (inl refl)
       (λ o o' p.
-      step n _ _ _ _ _ (λ r us. ClosedSome (of ParenClose) (IsArgument S) r.0 us) _ (low1 (o ∷ []))
+      step n _ _ _ _ _ (ClosedSome (of ParenClose) (IsArgument S)) _ (low1 (o ∷ []))
       (one_or_more_rule (IsArgument S) argument_takes (of ParenClose) (sample ParenClose) refl (inl refl) _ _ n m le
       argument_rule) (λ us xs ys h.
-      done_rule _ (λ p. record { items = xs.0; span = p }) (λ p. record { items = ys.0; span = p }) _
-      (rw append-nil (listed ParenOpen ParenClose (IsArgument S) o us xs.0 p h, refl)))))
+      done_rule _ (λ p. record { items = xs; span = p }) (λ p. record { items = ys; span = p }) _
+      (rw append-nil (listed ParenOpen ParenClose (IsArgument S) o us xs p h, refl)))))
 
   pub optional_arguments_rule : Rule n (reads S n optional_arguments) (reads S m optional_arguments)
       (Optional (IsArguments S))
@@ -163,16 +157,15 @@ module _ {C F : Type 0} (S : Scalars C F) (n m : ℕ) (le : n ≤ m) where
   directive_takes ts d h = front_takes (is_takes At) ts h.0
 
   directives_are : (ts : List Lexeme) (ds : List (Directive C)) → Each (IsDirective S) ds ts
-      → IsDirectives S (directives_of (all_directives ds)) ts
+      → IsDirectives S (directives_of ds) ts
   directives_are ts [] h = h
   directives_are ts (d ∷ ds) h = (h, λ e. absurd (cc))
 
-  pub directives_rule : Rule n (reads S n directives) (reads S m directives) (AreDirectives S)
+  pub directives_rule : Rule n (reads S n directives) (reads S m directives) (IsDirectives S)
   unfolding directives
   directives_rule = step n n _ _ _ _ (Each (IsDirective S)) _ (le_refl n)
       (repeated_rule (IsDirective S) directive_takes (of At) _ _ n m n le (le_refl n) directive_rule) (λ us ds ds' h.
-      done_rule _ (all_directives ds) (all_directives ds') _
-      (rw append-nil (directives_are us ds h, (ds, refl, h))))
+      done_rule _ (directives_of ds) (directives_of ds') _ (rw append-nil (directives_are us ds h)))
 
   -- Variables
   pub default_rule : Rule n (reads S n default) (reads S m default) (Optional (IsDefault S))
@@ -195,25 +188,25 @@ module _ {C F : Type 0} (S : Scalars C F) (n m : ℕ) (le : n ≤ m) where
       step n _ _ _ _ _ IsSpannedType _ (low3 (d ∷ []) (t ∷ []) (c ∷ [])) (type_rule S n m le) (λ us x x' h.
       step n _ _ _ _ _ (Optional (IsDefault S)) _ (low4 (d ∷ []) (t ∷ []) (c ∷ []) us)
       default_rule (λ vs v v' k.
-      step n _ _ _ _ _ (AreDirectives S) _ (low5 (d ∷ []) (t ∷ []) (c ∷ []) us vs) directives_rule (λ ws ds ds' e.
+      step n _ _ _ _ _ (IsDirectives S) _ (low5 (d ∷ []) (t ∷ []) (c ∷ []) us vs) directives_rule (λ ws ds ds' e.
       done_rule _ (record {
         name = record { text = t.text; span = over d t };
         of_type = x.0;
         type_span = x.1;
         default = v;
-        directives = directives_of ds;
+        directives = ds;
       })
       (record {
         name = record { text = t'.text; span = over d' t' };
         of_type = x'.0;
         type_span = x'.1;
         default = v';
-        directives = directives_of ds';
+        directives = ds';
       }) _
       (rw append-nil (row (d ∷ t ∷ []) (c ∷ us ++ (vs ++ ws))
       (row (d ∷ []) (t ∷ []) (kind_is Dollar d (of_kind Dollar d p)) (says_is t.text t (of_kind Name t q) refl), refl)
       (row (c ∷ []) (us ++ (vs ++ ws)) (kind_is Colon c (of_kind Colon c r))
-      (row us (vs ++ ws) h (row vs ws k e.0)))))))))))
+      (row us (vs ++ ws) h (row vs ws k e)))))))))))
 
   pub variable_takes : (ts : List Lexeme) (d : VariableDefinition C) → IsVariableDefinition S d ts → 0 < length ts
   variable_takes ts d h = front_takes (λ us v. front_takes (is_takes Dollar) us v.0) ts h
@@ -222,11 +215,11 @@ module _ {C F : Type 0} (S : Scalars C F) (n m : ℕ) (le : n ≤ m) where
   unfolding variables variables_inner
   variables_rule = span_rule n _ _ (IsVariables S) (want_step n (of ParenOpen) (sample ParenOpen) _ _ _ refl (inl refl)
       (λ o o' p.
-      step n _ _ _ _ _ (λ r us. ClosedSome (of ParenClose) (IsVariableDefinition S) r.0 us) _ (low1 (o ∷ []))
+      step n _ _ _ _ _ (ClosedSome (of ParenClose) (IsVariableDefinition S)) _ (low1 (o ∷ []))
       (one_or_more_rule (IsVariableDefinition S) variable_takes (of ParenClose) (sample ParenClose) refl (inl refl)
       _ _ n m le variable_definition_rule) (λ us xs ys h.
-      done_rule _ (λ p. record { items = xs.0; span = p }) (λ p. record { items = ys.0; span = p }) _
-      (rw append-nil (listed ParenOpen ParenClose (IsVariableDefinition S) o us xs.0 p h, refl)))))
+      done_rule _ (λ p. record { items = xs; span = p }) (λ p. record { items = ys; span = p }) _
+      (rw append-nil (listed ParenOpen ParenClose (IsVariableDefinition S) o us xs p h, refl)))))
 
   pub optional_variables_rule : Rule n (reads S n optional_variables) (reads S m optional_variables)
       (Optional (IsVariables S))

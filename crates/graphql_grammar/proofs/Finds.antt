@@ -190,24 +190,13 @@ module _ {F A : Type 0} {n : ℕ} {f : Reader F A} {P After : List Lexeme → Ty
       cases ts rest le (inl h) g = p.at ts rest le h g
       cases ts rest le (inr h) g = q.at ts rest le h g
 
--- ---- a part whose span is told with it
-
-module _ {F A : Type 0} {n : ℕ} {f : Reader F A} {P After : List Lexeme → Type 0} {a : A} where
-  pub located : ((p : Span) → Finds n f (λ ts. P ts × (p ≡ span_of ts)) After a) → Finds n f P After a
-  located q = record { at = λ ts rest le h g. (q (span_of ts)).at ts rest le (h, refl) g }
-
-  module _ {Q : List Lexeme → Type 0} where
-    pub located_front : ((p : Span) → Finds n f ((λ ts. P ts × (p ≡ span_of ts)) · Q) After a)
-        → Finds n f (P · Q) After a
-    located_front q = record {
-      at = λ ts rest le h g. (q (span_of h.front)).at ts rest le (row_as h (h.first, refl) h.second) g;
-    }
-
-    pub located_back : ((p : Span) → Finds n f (P · (λ ts. Q ts × (p ≡ span_of ts))) After a)
-        → Finds n f (P · Q) After a
-    located_back q = record {
-      at = λ ts rest le h g. (q (span_of h.back)).at ts rest le (row_as h h.first (h.second, refl)) g;
-    }
+-- a part whose span is told with it
+module _ {F A : Type 0} {n : ℕ} {f : Reader F A} {P Q After : List Lexeme → Type 0} {a : A} where
+  pub located_front : ((p : Span) → Finds n f ((λ ts. P ts × (p ≡ span_of ts)) · Q) After a)
+      → Finds n f (P · Q) After a
+  located_front q = record {
+    at = λ ts rest le h g. (q (span_of h.front)).at ts rest le (row_as h (h.first, refl) h.second) g;
+  }
 
 pub none_found : {F A : Type 0} {f : Reader F A} {P After : List Lexeme → Type 0} {a : A}
     → ((ts : List Lexeme) → P ts → 0 < length ts) → Finds 1 f P After a
@@ -373,15 +362,15 @@ module _ {F A : Type 0} {n : ℕ} {f : Reader F A} {R : A → List Lexeme → Ty
         (map_found (k x) (fewer (many_found n (le_refl n) xs))))
 
     pub one_or_more_found : (x : A) (xs : List A)
-        → Finds n (one_or_more (of closing) f n) (Each R (x ∷ xs) · Only (token closing w p)) Any (x ∷ xs, p)
-    one_or_more_found = several_found (λ y r. (y ∷ r.0, r.1.span))
+        → Finds n (one_or_more (of closing) f n) (Each R (x ∷ xs) · Only (token closing w p)) Any (x ∷ xs)
+    one_or_more_found = several_found (λ y r. y ∷ r.0)
 
   pub listed_found : {B : Type 0} (opening : Kind) (k : List A → B) (xs : List A)
-      → Finds n (seq (want (of opening)) (λ o. seq (one_or_more (of closing) f n) (λ ys. done (k ys.0))))
+      → Finds n (seq (want (of opening)) (λ o. seq (one_or_more (of closing) f n) (λ ys. done (k ys))))
       (Listed opening closing R xs) Any (k xs)
   listed_found opening k [] = record { at = λ ts rest le h g. absurd (h.second.first.1 refl) }
   listed_found opening k (x ∷ xs) = found_as (row_back (row_front (λ us h. h.0)))
-      (is_then (closed_found (λ w p. map_found (λ ys. k ys.0) (one_or_more_found w p x xs))))
+      (is_then (closed_found (λ w p. map_found k (one_or_more_found w p x xs))))
 
 pub listed_starts : {A : Type 0} {opening : Kind} (closing : Kind) (R : A → List Lexeme → Type 0) (ts : List Lexeme)
     (xs : List A) → Listed opening closing R xs ts → StartsWith opening ts

@@ -2,7 +2,7 @@
 use Rattle.std.proofs.Common.{ℕ, zero, suc, Bool, true, false, ◌≡◌, ◌≤◌, ◌<◌, ◌∷◌, [], List, length, refl, sym, ap, ◌∙◌, arith, ◌⊎◌, inl, inr}
 use Rattle.graphql_lexical.specs.Place.{Span}
 use Rattle.graphql_lexical.specs.Cutting.{Lexeme}
-use Rattle.graphql_grammar.specs.device.Reading.{Test, passes, Read, Took, Refused, Out, Reader, after, seq, on, pick, many, look, choose, with_span, give_span, repeated, fully, Symbol, Steps, gives, gives_at, wants, takes, sees, part, symbol, spanned, scalar, closed, each, run}
+use Rattle.graphql_grammar.specs.device.Reading.{Test, passes, Read, Took, Refused, Out, Reader, after, seq, on, pick, many, look, choose, with_span, give_span, repeated, fully, Symbol, Steps, gives, wants, takes, sees, part, symbol, spanned, scalar, closed, each, run}
 use Rattle.graphql_grammar.specs.device.Productions.{steps_of, symbol_at, reads}
 use Rattle.graphql_grammar.specs.Tree.{Scalars}
 use Rattle.graphql_grammar.proofs.Rules.{Meets, Rule}
@@ -101,7 +101,6 @@ module _ {C F : Type 0} (S : Scalars C F) where
       → ((A : Type 0) (r : Symbol C A) → Under (f A r) (g A r)) → {A : Type 0} (p : Steps C A)
       → Under (run S f n p) (run S g m p)
   run_under f g n m le h (gives a) = under_refl _
-  run_under f g n m le h (gives_at p a) = under_refl _
   run_under f g n m le h (wants test k) = seq_under _ _ _ _ (under_refl _) (λ t. run_under f g n m le h (k t))
   run_under f g n m le h (takes test k p) =
       on_under test _ _ _ _ (λ t. run_under f g n m le h (k t)) (run_under f g n m le h p)

@@ -30,6 +30,5 @@ pub mod OneFault
 pub mod Errors
 pub mod Texts
 pub mod Depths
-pub mod Extents
 pub mod Answered
 pub mod Public

@@ -167,10 +167,9 @@ module _ {F A : Type 0} (R : A → List Lexeme → Type 0) (takes : (us : List L
 
     pub one_or_more_rule : (close : Test) (end : Lexeme) (closes : passes close end ≡ true) (ef : IsSample end)
         (f g : Reader F A) (n m : ℕ) → n ≤ m → Rule n f g R
-        → Rule n (one_or_more close f n) (one_or_more close g m) (λ r us. ClosedSome close R r.0 us)
+        → Rule n (one_or_more close f n) (one_or_more close g m) (ClosedSome close R)
     one_or_more_rule close end closes ef f g n m le r =
-        some_rule close end closes ef f g n m (λ x r. (x ∷ r.0, r.1.span)) (λ r us. ClosedSome close R r.0 us) le r
-        (λ us x r h. h)
+        some_rule close end closes ef f g n m (λ x r. x ∷ r.0) (ClosedSome close R) le r (λ us x r h. h)
 
     pub repeated_rule : (test : Test) (f g : Reader F A) (n m k : ℕ) → n ≤ m → n ≤ k → Rule k f g R
         → Rule n (repeated test f n) (repeated test g m) (Each R)

@@ -4,8 +4,8 @@ use Rattle.graphql_lexical.specs.Place.{Span}
 use Rattle.graphql_lexical.specs.declared.kind.Kind.TheVariants.{Name, ParenOpen, CurlyOpen, CurlyClose, Ellipsis, Colon, At, EndOfFile}
 use Rattle.graphql_lexical.specs.Cutting.{Lexeme}
 use Rattle.graphql_grammar.specs.Tokens.{Word, word_of, span_of}
-use Rattle.graphql_grammar.specs.device.Reading.{Test, passes, of, word, Took, Reader, seq, done, want, one_or_more, Steps, takes, a_selection}
-use Rattle.graphql_grammar.specs.device.Productions.{directives_of, optional_variables, selections_inner, selection_set, optional_set, optional_of, names, field, named_spread, inline_parts, inline, typed, other_than_on, spread, any_selection, operation_word, operation_of, optional_name, operation, fragment, shorthand, definition, document, symbol_at, reads}
+use Rattle.graphql_grammar.specs.device.Reading.{Test, passes, of, word, Took, Reader, seq, done, Steps, takes, a_selection}
+use Rattle.graphql_grammar.specs.device.Productions.{optional_variables, selections_inner, selection_set, optional_set, optional_of, names, field, named_spread, inline_parts, inline, typed, other_than_on, spread, any_selection, operation_word, operation_of, optional_name, operation, fragment, shorthand, definition_parts, definition, document, symbol_at, reads}
 use Rattle.graphql_grammar.specs.Tree.{Scalars, Arguments, Variables, Selection, Field, FragmentSpread, InlineFragment, Selections, no_selections, selection, Definition, Operation, Fragment, Directives, OptionalSelections, absent, present, operation_name, selections_of}
 use Rattle.graphql_grammar.specs.declared.operation.OperationType.{OperationType}
 use Rattle.graphql_grammar.specs.declared.operation.OperationType.TheVariants.{Query, Mutation, Subscription}
@@ -13,9 +13,9 @@ use Rattle.graphql_lexical.specs.Parts.{◌·◌}
 use Rattle.graphql_grammar.specs.Grammar.{Is, Says, Each, Optional, IsName, IsArguments, IsDirectives, IsVariables, IsAlias, IsTypeCondition, IsFragmentName, IsSelection, IsOptionalSelectionSet, IsSelectionSet, AreSelections, IsDefinition, IsDocument}
 use Rattle.graphql_grammar.proofs.Sequences.{row_front, row_back, row_right, row_left, back_takes, nothing_first, nothing_last}
 use Rattle.graphql_grammar.proofs.TokenTests.{text_other}
-use Rattle.graphql_grammar.proofs.Finds.{Any, NotAt, token, Finds, Before, StartsWith, is_starts, says_starts, front_starts, word_starts, Rejects, starts_before, only_before, nothing_before, both_before, front_before, any_before, before_as, found_as, found_if, found_is, map_found, on_apart, look_apart, look_found, given_found, either_found, seq_found, then_found, seq_past, want_found, word_found, done_found, is_found, says_found, closed_found, on_found, is_past, is_then, span_found, maybe_found, located, located_back, several_found, one_or_more_found}
+use Rattle.graphql_grammar.proofs.Finds.{Any, NotAt, token, Finds, Before, StartsWith, is_starts, says_starts, front_starts, word_starts, Rejects, starts_before, only_before, nothing_before, both_before, front_before, any_before, found_as, found_if, found_is, map_found, on_apart, look_apart, look_found, given_found, either_found, seq_found, then_found, seq_past, want_found, word_found, done_found, is_found, says_found, closed_found, on_found, is_past, is_then, span_found, maybe_found, several_found, one_or_more_found}
 use Rattle.graphql_grammar.proofs.SelectionRules.{selection_takes, definition_takes, word_takes}
-use Rattle.graphql_grammar.proofs.DocumentFound.{AfterDirectives, directives_before, directives_then, directives_last, optional_arguments, arguments_before, variables_found, variables_start, variables_before}
+use Rattle.graphql_grammar.proofs.DocumentFound.{AfterDirectives, directives_before, directives_found, optional_arguments, arguments_before, variables_found, variables_start, variables_before}
 
 -- ---- the words that operations begin with
 
@@ -118,28 +118,19 @@ module _ {C F : Type 0} (S : Scalars C F) where
 
   -- ---- the parts of selections
 
-  abbrev set_at : Selections C → Span → Selections C × Span
-  set_at ss p = (ss, p)
-
   module _ (n : ℕ)
       (ih : (s : Selection C) → Finds n (symbol_at S n (Selection C) a_selection)
       (IsSelection S s) AfterSelection s)
     where
-      braces_found : {After : List Lexeme → Type 0} (ss : Selections C)
-          → Finds n (seq (want (of CurlyOpen)) (λ o. seq (one_or_more (of CurlyClose)
-          (symbol_at S n (Selection C) a_selection) n) (λ r. done (set_at (selections_of r.0)))))
-          (IsSelectionSet S ss) After (set_at ss)
-      braces_found no_selections = record { at = λ ts rest le h g. absurd h }
-      braces_found (selection s ss) = found_is (ap (λ (z : Selections C). set_at (selection s z)) (selections_again ss))
+      set_found : {After : List Lexeme → Type 0} (ss : Selections C)
+          → Finds n (reads S n selection_set) (IsSelectionSet S ss) After ss
+      unfolding selection_set selections_inner
+      set_found no_selections = record { at = λ ts rest le h g. absurd h }
+      set_found (selection s ss) = found_is (ap (selection s) (selections_again ss))
           (found_as (row_back (λ us k. row_left us (row_back (row_front (each_selection ss)) us k)))
-          (is_then (closed_found (λ w p. map_found (λ r. set_at (selections_of r.0)) (found_if (λ rest g. tt)
+          (is_then (closed_found (λ w p. map_found selections_of (found_if (λ rest g. tt)
           (one_or_more_found CurlyClose (selection_takes S) ih selection_apart selection_before
           (λ w p rest. record { colon = refl; paren = refl; at = refl; curly = refl }) w p s (selections_in ss)))))))
-
-      set_found : {After : List Lexeme → Type 0} (ss : Selections C) (p : Span)
-          → Finds n (reads S n selection_set) (λ ts. IsSelectionSet S ss ts × (p ≡ span_of ts)) After (ss, p)
-      unfolding selection_set selections_inner
-      set_found ss p = span_found (set_at ss) p (braces_found ss)
 
       -- a selection set that may be absent, and nothing after it
       optional_set_last : {A : Type 0} (k : OptionalSelections C → A) (ss : OptionalSelections C)
@@ -148,8 +139,8 @@ module _ {C F : Type 0} (S : Scalars C F) where
       unfolding optional_set
       optional_set_last k absent = map_found (λ x. k (optional_of x))
           (look_apart (of CurlyOpen) _ (nothing_before (λ rest g. g)) done_found)
-      optional_set_last k (present ss) = located (λ p. map_found (λ x. k (optional_of x))
-          (look_found CurlyOpen _ (λ ts h. set_starts ts ss h.0) (map_found (λ a. Some a) (set_found ss p))))
+      optional_set_last k (present ss) = map_found (λ x. k (optional_of x))
+          (look_found CurlyOpen _ (λ ts h. set_starts ts ss h) (map_found (λ a. Some a) (set_found ss)))
 
       name_found : {m : ℕ} (alias : Option Word) (name : Word)
           → Finds m (reads S n names) (Optional (IsAlias S) alias · IsName name) (NotAt (of Colon))
@@ -159,18 +150,17 @@ module _ {C F : Type 0} (S : Scalars C F) where
       name_found (Some x) name = found_as row_right (then_found _ (word_found x)
           (is_found (λ w p. on_found (of Colon) (token Colon w p) _ _ refl (map_found _ (word_found name)))))
 
-      parts_found : {After : List Lexeme → Type 0} (ds : Directives C) (ss : Selections C) (p : Span)
-          → Finds n (reads S n inline_parts) (IsDirectives S ds · (λ ts. IsSelectionSet S ss ts × (p ≡ span_of ts)))
-          After (ds, (ss, p))
+      parts_found : {After : List Lexeme → Type 0} (ds : Directives C) (ss : Selections C)
+          → Finds n (reads S n inline_parts) (IsDirectives S ds · IsSelectionSet S ss) After (ds, ss)
       unfolding inline_parts
-      parts_found ds ss p = directives_then S n _ ds (before_as (λ ts h. h.0) (set_after_directives ss))
-          (λ x e. found_is (ap (λ z. (z, (ss, p))) e) (map_found (λ s. (directives_of x, s)) (set_found ss p)))
+      parts_found ds ss = seq_found _ (directives_found S n ds) (set_after_directives ss)
+          (map_found (λ s. (ds, s)) (set_found ss))
 
       body_found : {A : Type 0} {After : List Lexeme → Type 0} (k : Directives C → Selections C → A) (ds : Directives C)
           (ss : Selections C)
-          → Finds n (seq (reads S n inline_parts) (λ b. done (k b.0 b.1.0)))
+          → Finds n (seq (reads S n inline_parts) (λ b. done (k b.0 b.1)))
           (IsDirectives S ds · IsSelectionSet S ss) After (k ds ss)
-      body_found k ds ss = located_back (λ p. map_found (λ b. k b.0 b.1.0) (parts_found ds ss p))
+      body_found k ds ss = map_found (λ b. k b.0 b.1) (parts_found ds ss)
 
       spread_found : (name : Word) (ds : Directives C) (p : Span)
           → Finds (suc n) (reads S n spread)
@@ -182,7 +172,7 @@ module _ {C F : Type 0} (S : Scalars C F) where
           (on_found other_than_on (token Name name.text name.span) _ _
           (ap not (text_other name.text (codes "on") d))
           (found_if (λ rest g. record { paren = g.paren; at = g.at })
-          (directives_last S n (λ x q. FragmentSpread name x q) ds))))))
+          (map_found (λ x q. FragmentSpread name x q) (directives_found S n ds)))))))
 
       condition_found : (condition : Option Word) (ds : Directives C) (ss : Selections C) (p : Span)
           → Finds (suc n) (reads S n spread)
@@ -213,9 +203,8 @@ module _ {C F : Type 0} (S : Scalars C F) where
           (seq_found _ (optional_arguments S n args)
           (both_before (directives_before S (of ParenOpen) ds (λ w. refl) (λ rest g. g))
           (optional_set_before (of ParenOpen) ss (λ w. refl) (λ rest g. g.paren)))
-          (directives_then S n _ ds (optional_set_after_directives ss)
-          (λ x e. found_is (ap (λ z q. Field alias name args z ss q) e) (found_if (λ rest g. g.curly)
-          (optional_set_last (λ s q. Field alias name args (directives_of x) s q) ss)))))))
+          (seq_found _ (directives_found S n ds) (optional_set_after_directives ss) (found_if (λ rest g. g.curly)
+          (optional_set_last (λ s q. Field alias name args ds s q) ss))))))
 
   pub selection_found : (n : ℕ) (s : Selection C)
       → Finds n (symbol_at S n (Selection C) a_selection) (IsSelection S s) AfterSelection s
@@ -245,22 +234,17 @@ module _ {C F : Type 0} (S : Scalars C F) where
   definition_apart (Fragment name condition ds ss p) =
       starts_before (of EndOfFile) (λ w. refl) (λ ts h. front_starts says_starts ts h.0)
 
-  -- how a definition begins
-  abbrev words : Steps C (Span → Definition C)
-  words = takes operation_word (λ w. operation (operation_of w.text) w.span)
-      (takes (word (codes "fragment")) (λ w. fragment w.span) shorthand)
-
   module _ (n : ℕ) where
     short_found : (ss : Selections C)
-        → Finds n (reads S n words) (IsSelectionSet S ss) Any (λ p. Operation Query None None None ss p)
+        → Finds n (reads S n definition_parts) (IsSelectionSet S ss) Any (λ p. Operation Query None None None ss p)
     unfolding shorthand
     short_found ss = on_apart operation_word _ (set_before operation_word ss (λ w. refl))
         (on_apart (word (codes "fragment")) _ (set_before {After = Any} (word (codes "fragment")) ss (λ w. refl))
-        (located (λ p. map_found (λ s q. Operation Query None None None s.0 q) (set_found n (selection_found n) ss p))))
+        (map_found (λ s q. Operation Query None None None s q) (set_found n (selection_found n) ss)))
 
     bare_found : (type : OperationType) (name : Option Word) (vars : Option (Variables C)) (ds : Directives C)
         (ss : Selections C)
-        → Finds n (reads S n words)
+        → Finds n (reads S n definition_parts)
         (λ ts. IsSelectionSet S ss ts × (type ≡ Query) × (name ≡ None) × (vars ≡ None) × (ds ≡ None)) Any
         (λ p. Operation type name vars ds ss p)
     bare_found type name vars ds ss = record {
@@ -275,7 +259,7 @@ module _ {C F : Type 0} (S : Scalars C F) where
 
     operation_found : (type : OperationType) (name : Option Word) (vars : Option (Variables C)) (ds : Directives C)
         (ss : Selections C)
-        → Finds n (reads S n words)
+        → Finds n (reads S n definition_parts)
         (Says (operation_name type) · Optional IsName name · Optional (IsVariables S) vars
         · IsDirectives S ds · IsSelectionSet S ss) Any (λ p. Operation type name vars ds ss p)
     unfolding operation optional_variables
@@ -291,7 +275,7 @@ module _ {C F : Type 0} (S : Scalars C F) where
         (λ x s q. Operation (operation_of (operation_name type)) name vars x s q) ds ss)))))
 
     fragment_found : (name condition : Word) (ds : Directives C) (ss : Selections C)
-        → Finds n (reads S n words)
+        → Finds n (reads S n definition_parts)
         (Says (codes "fragment") · IsFragmentName S name · IsTypeCondition S condition
         · IsDirectives S ds · IsSelectionSet S ss) Any (λ p. Fragment name condition ds ss p)
     unfolding fragment

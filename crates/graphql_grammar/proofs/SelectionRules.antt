@@ -7,7 +7,7 @@ use Rattle.graphql_lexical.specs.Cutting.{Lexeme}
 use Rattle.graphql_grammar.specs.Tokens.{Text, word_of, Word, span_of}
 use Rattle.graphql_grammar.specs.Samples.{sample, token_of}
 use Rattle.graphql_grammar.specs.device.Reading.{passes, of, word, a_selection}
-use Rattle.graphql_grammar.specs.device.Productions.{selections_inner, selection_set, optional_set, optional_of, names, field, named_spread, inline_parts, inline, typed, spread, any_selection, optional_name, operation, type_condition, fragment_name, fragment, shorthand, definition, document, operation_word, operation_of, other_than_on, directives_of, symbol_at, reads}
+use Rattle.graphql_grammar.specs.device.Productions.{selections_inner, selection_set, optional_set, optional_of, names, field, named_spread, inline_parts, inline, typed, spread, any_selection, optional_name, operation, type_condition, fragment_name, fragment, shorthand, definition, document, operation_word, operation_of, other_than_on, symbol_at, reads}
 use Rattle.graphql_grammar.specs.Tree.{Scalars, Selection, Field, FragmentSpread, InlineFragment, Selections, no_selections, selection, Definition, Operation, Fragment, absent, operation_name, Directives, selections_of}
 use Rattle.graphql_grammar.specs.declared.operation.OperationType.TheVariants.{Query}
 use Rattle.graphql_lexical.specs.Parts.{◌·◌}
@@ -17,7 +17,7 @@ use Rattle.graphql_grammar.proofs.TokenRules.{on_rule, look_rule}
 use Rattle.graphql_grammar.proofs.PartRules.{span_rule, maybe_rule, some_rule, one_or_more_rule, step, want_step, lower, less_short, ClosedSome}
 use Rattle.graphql_grammar.proofs.Sequences.{row, row_back, row_right, enclosed, kind_is, word_is, says_is, one_takes, is_takes, says_takes, front_takes, back_takes}
 use Rattle.graphql_grammar.proofs.TokenTests.{of_kind, both, text_yes, says, other}
-use Rattle.graphql_grammar.proofs.DocumentRules.{low1, low2, low3, optional_arguments_rule, AreDirectives, directives_rule, optional_variables_rule}
+use Rattle.graphql_grammar.proofs.DocumentRules.{low1, low2, low3, optional_arguments_rule, directives_rule, optional_variables_rule}
 
 module _ {C F : Type 0} (S : Scalars C F) where
   pub word_takes : (ts : List Lexeme) (w : Word) → IsName w ts → 0 < length ts
@@ -71,41 +71,31 @@ module _ {C F : Type 0} (S : Scalars C F) where
       (word_is t (of_kind Name t r)))))
       (done_rule _ (None, word_of a) (None, word_of a') _ (row [] (a ∷ []) refl (word_is a (of_kind Name a p)))))
 
-  -- a selection set, and its span
-  abbrev pub IsSpannedSet : Selections C × Span → List Lexeme → Type 0
-  IsSpannedSet s ts = IsSelectionSet S s.0 ts × (s.1 ≡ span_of ts)
-
-  pub optional_is : (ts : List Lexeme) (o : Option (Selections C × Span)) → Optional IsSpannedSet o ts
+  pub optional_is : (ts : List Lexeme) (o : Option (Selections C)) → Optional (IsSelectionSet S) o ts
       → IsOptionalSelectionSet S (optional_of o) ts
   optional_is ts None h = h
-  optional_is ts (Some s) h = h.0
+  optional_is ts (Some s) h = h
 
   -- directives and a selection set
   abbrev pub IsBody : List Lexeme → Directives C → Selections C → Type 0
   IsBody ts ds ss = (IsDirectives S ds · IsSelectionSet S ss) ts
 
-  abbrev pub AreInlineParts : Directives C × (Selections C × Span) → List Lexeme → Type 0
-  AreInlineParts b ts = (IsDirectives S b.0 · IsSpannedSet b.1) ts
-
-  pub body_is : (ts : List Lexeme) (b : Directives C × (Selections C × Span)) → AreInlineParts b ts
-      → IsBody ts b.0 b.1.0
-  body_is ts b h = row_back (λ us s. s.0) ts h
+  abbrev pub AreInlineParts : Directives C × Selections C → List Lexeme → Type 0
+  AreInlineParts b ts = IsBody ts b.0 b.1
 
   module _ (n m : ℕ) (le : n ≤ m)
       (r : Rule n (symbol_at S n _ a_selection) (symbol_at S m _ a_selection) (IsSelection S)) where
-    set_by : Rule n (reads S n selection_set) (reads S m selection_set) IsSpannedSet
+    set_by : Rule n (reads S n selection_set) (reads S m selection_set) (IsSelectionSet S)
     unfolding selection_set selections_inner
-    set_by = span_rule n _ _ IsSpannedSet (want_step n (of CurlyOpen) (sample CurlyOpen) _ _ _ refl (inl refl)
-        (λ o o' p.
-        step n _ _ _ _ _ (λ x us. ClosedSome (of CurlyClose) (IsSelection S) x.0 us) _ (lower n n (o ∷ []) (le_refl n))
+    set_by = want_step n (of CurlyOpen) (sample CurlyOpen) _ _ _ refl (inl refl) (λ o o' p.
+        step n _ _ _ _ _ (ClosedSome (of CurlyClose) (IsSelection S)) _ (lower n n (o ∷ []) (le_refl n))
         (one_or_more_rule (IsSelection S) selection_takes (of CurlyClose) (sample CurlyClose) refl (inl refl) _ _ n
         m le r) (λ us xs ys h.
-        done_rule _ (λ p. (selections_of xs.0, p)) (λ p. (selections_of ys.0, p)) _
-        (rw append-nil (select_is o us xs.0 p h, refl)))))
+        done_rule _ (selections_of xs) (selections_of ys) _ (rw append-nil (select_is o us xs p h))))
 
-    optional_set_by : Rule n (reads S n optional_set) (reads S m optional_set) (Optional IsSpannedSet)
+    optional_set_by : Rule n (reads S n optional_set) (reads S m optional_set) (Optional (IsSelectionSet S))
     unfolding optional_set
-    optional_set_by = maybe_rule n (of CurlyOpen) _ _ IsSpannedSet set_by
+    optional_set_by = maybe_rule n (of CurlyOpen) _ _ (IsSelectionSet S) set_by
 
     field_by : Rule (suc n) (reads S n field) (reads S m field) (IsSelection S)
     unfolding field
@@ -114,31 +104,30 @@ module _ {C F : Type 0} (S : Scalars C F) where
         (λ us h h' a.
         step n (less (suc n) us) _ _ _ _ (Optional (IsArguments S)) _ (less_short n us (field_name_takes us h a))
         (optional_arguments_rule S n m le) (λ vs xs xs' b.
-        step n _ _ _ _ _ (AreDirectives S) _ (lower n _ vs (less_short n us (field_name_takes us h a)))
+        step n _ _ _ _ _ (IsDirectives S) _ (lower n _ vs (less_short n us (field_name_takes us h a)))
         (directives_rule S n m le) (λ ws ds ds' c.
-        step n _ _ _ _ _ (Optional IsSpannedSet) _
+        step n _ _ _ _ _ (Optional (IsSelectionSet S)) _
         (lower n _ ws (lower n _ vs (less_short n us (field_name_takes us h a)))) optional_set_by (λ zs ss ss' d.
-        done_rule _ (Field h.0 h.1 xs (directives_of ds) (optional_of ss))
-        (Field h'.0 h'.1 xs' (directives_of ds') (optional_of ss')) _
+        done_rule _ (Field h.0 h.1 xs ds (optional_of ss))
+        (Field h'.0 h'.1 xs' ds' (optional_of ss')) _
         (rw append-nil (
-          row_right _ (row us (vs ++ (ws ++ zs)) a (row vs (ws ++ zs) b (row ws zs c.0 (optional_is zs ss d)))),
+          row_right _ (row us (vs ++ (ws ++ zs)) a (row vs (ws ++ zs) b (row ws zs c (optional_is zs ss d)))),
           refl,
         )))))))
 
     inline_parts_by : Rule n (reads S n inline_parts) (reads S m inline_parts) AreInlineParts
     unfolding inline_parts
-    inline_parts_by = step n n _ _ _ _ (AreDirectives S) _ (le_refl n) (directives_rule S n m le)
+    inline_parts_by = step n n _ _ _ _ (IsDirectives S) _ (le_refl n) (directives_rule S n m le)
         (λ us ds ds' c.
-        step n _ _ _ _ _ IsSpannedSet _ (lower n n us (le_refl n)) set_by (λ vs ss ss' d.
-        done_rule _ (directives_of ds, ss) (directives_of ds', ss') _ (rw append-nil (row us vs c.0 d))))
+        step n _ _ _ _ _ (IsSelectionSet S) _ (lower n n us (le_refl n)) set_by (λ vs ss ss' d.
+        done_rule _ (ds, ss) (ds', ss') _ (rw append-nil (row us vs c d))))
 
-    inline_by : (k : ℕ) (p p' : Span) (w w' : Option Word) (G : (Span → Selection C) → List Lexeme → Type 0) → k ≤ n
+    inline_by : (k : ℕ) (w w' : Option Word) (G : (Span → Selection C) → List Lexeme → Type 0) → k ≤ n
         → ((us : List Lexeme) (ds : Directives C) (ss : Selections C) → IsBody us ds ss → G (InlineFragment w ds ss) us)
-        → Rule k (reads S n (inline p w)) (reads S m (inline p' w')) G
+        → Rule k (reads S n (inline w)) (reads S m (inline w')) G
     unfolding inline
-    inline_by k p p' w w' G lk h = step n k _ _ _ _ AreInlineParts _ lk inline_parts_by (λ us b b' c.
-        done_rule _ (InlineFragment w b.0 b.1.0) (InlineFragment w' b'.0 b'.1.0) _
-        (rw append-nil (h us b.0 b.1.0 (body_is us b c))))
+    inline_by k w w' G lk h = step n k _ _ _ _ AreInlineParts _ lk inline_parts_by (λ us b b' c.
+        done_rule _ (InlineFragment w b.0 b.1) (InlineFragment w' b'.0 b'.1) _ (rw append-nil (h us b.0 b.1 c)))
 
     spread_by : Rule (suc n) (reads S n spread) (reads S m spread) (IsSelection S)
     unfolding spread typed named_spread
@@ -146,7 +135,7 @@ module _ {C F : Type 0} (S : Scalars C F) where
         (want_step (suc n) (of Ellipsis) (sample Ellipsis) _ _ _ refl (inl refl) (λ e e' p.
         on_rule n (word (codes "on")) _ _ _ _ _
         (λ o o' q. want_step _ (of Name) (sample Name) _ _ _ refl (inl refl) (λ t t' x.
-        inline_by _ e.span e'.span (Some (word_of t)) (Some (word_of t')) _
+        inline_by _ (Some (word_of t)) (Some (word_of t')) _
         (lower n _ (t ∷ []) (lower n n (o ∷ []) (le_refl n)))
         (λ us ds ss b. (
           row (e ∷ []) (o ∷ t ∷ us) (dots e p)
@@ -154,14 +143,14 @@ module _ {C F : Type 0} (S : Scalars C F) where
           refl,
         ))))
         (on_rule n other_than_on _ _ _ _ _
-        (λ t t' q. step n _ _ _ _ _ (AreDirectives S) _ (lower n n (t ∷ []) (le_refl n))
+        (λ t t' q. step n _ _ _ _ _ (IsDirectives S) _ (lower n n (t ∷ []) (le_refl n))
         (directives_rule S n m le) (λ us ds ds' c.
-        done_rule _ (FragmentSpread (word_of t) (directives_of ds)) (FragmentSpread (word_of t') (directives_of ds')) _
+        done_rule _ (FragmentSpread (word_of t) ds) (FragmentSpread (word_of t') ds') _
         (rw append-nil (
-          row (e ∷ []) (t ∷ us) (dots e p) (row (t ∷ []) us (word_is t (other t q).0, (other t q).1) c.0),
+          row (e ∷ []) (t ∷ us) (dots e p) (row (t ∷ []) us (word_is t (other t q).0, (other t q).1) c),
           refl,
         ))))
-        (inline_by n e.span e'.span None None _ (le_refl n)
+        (inline_by n None None _ (le_refl n)
         (λ us ds ss b. (row (e ∷ []) us (dots e p) (row [] us refl b), refl))))))
       where
         dots : (e : Lexeme) → passes (of Ellipsis) e ≡ true → Is Ellipsis (e ∷ [])
@@ -221,45 +210,34 @@ module _ {C F : Type 0} (S : Scalars C F) where
 
   module _ (n m : ℕ) (le : n ≤ m) where
     -- selections and their parts, with as much fuel for each
-    pub set_rule : Rule n (reads S n selection_set) (reads S m selection_set) IsSpannedSet
+    pub set_rule : Rule n (reads S n selection_set) (reads S m selection_set) (IsSelectionSet S)
     set_rule = set_by n m le (selection_rule n m le)
-
-    pub optional_set_rule : Rule n (reads S n optional_set) (reads S m optional_set) (Optional IsSpannedSet)
-    optional_set_rule = optional_set_by n m le (selection_rule n m le)
 
     pub inline_parts_rule : Rule n (reads S n inline_parts) (reads S m inline_parts) AreInlineParts
     inline_parts_rule = inline_parts_by n m le (selection_rule n m le)
-
-    pub field_rule : Rule n (reads S n field) (reads S m field) (IsSelection S)
-    field_rule = weaken (suc n) n _ _ _ (IsSelection S) (omega arith) (λ us x h. h)
-        (field_by n m le (selection_rule n m le))
-
-    pub spread_rule : Rule n (reads S n spread) (reads S m spread) (IsSelection S)
-    spread_rule = weaken (suc n) n _ _ _ (IsSelection S) (omega arith) (λ us x h. h)
-        (spread_by n m le (selection_rule n m le))
 
     abbrev IsOperation : (Span → Definition C) → List Lexeme → Type 0
     IsOperation k us = IsDefinition S (k (span_of us)) us
 
     operation_rule : (t t' : Lexeme) → passes operation_word t ≡ true
-        → Rule (less n (t ∷ [])) (reads S n (operation (operation_of t.text) t.span))
-        (reads S m (operation (operation_of t'.text) t'.span)) (λ k us. IsOperation k (t ∷ us))
+        → Rule (less n (t ∷ [])) (reads S n (operation (operation_of t.text)))
+        (reads S m (operation (operation_of t'.text))) (λ k us. IsOperation k (t ∷ us))
     unfolding operation
     operation_rule t t' p = step n (less n (t ∷ [])) _ _ _ _ (Optional IsName) _ (low1 S n m le (t ∷ []))
         (optional_name_rule n n m) (λ us name name' a.
         step n _ _ _ _ _ (Optional (IsVariables S)) _ (low2 S n m le (t ∷ []) us)
         (optional_variables_rule S n m le) (λ vs vars vars' b.
         step n _ _ _ _ _ AreInlineParts _ (low3 S n m le (t ∷ []) us vs) inline_parts_rule (λ ws x x' c.
-        done_rule _ (Operation (operation_of t.text) name vars x.0 x.1.0)
-        (Operation (operation_of t'.text) name' vars' x'.0 x'.1.0) _
+        done_rule _ (Operation (operation_of t.text) name vars x.0 x.1)
+        (Operation (operation_of t'.text) name' vars' x'.0 x'.1) _
         (rw append-nil (
           inr (row (t ∷ []) (us ++ (vs ++ ws)) (operation_says t p)
-              (row us (vs ++ ws) a (row vs ws b (body_is ws x c)))),
+              (row us (vs ++ ws) a (row vs ws b c))),
           refl,
         )))))
 
     fragment_rule : (t t' : Lexeme) → passes (word (codes "fragment")) t ≡ true
-        → Rule (less n (t ∷ [])) (reads S n (fragment t.span)) (reads S m (fragment t'.span))
+        → Rule (less n (t ∷ [])) (reads S n fragment) (reads S m fragment)
         (λ k us. IsOperation k (t ∷ us))
     unfolding fragment
     fragment_rule t t' p = step n (less n (t ∷ [])) _ _ _ _ (IsFragmentName S) _ (low1 S n m le (t ∷ []))
@@ -267,9 +245,9 @@ module _ {C F : Type 0} (S : Scalars C F) where
         step n _ _ _ _ _ (IsTypeCondition S) _ (low2 S n m le (t ∷ []) us)
         (type_condition_rule n n m) (λ vs on on' b.
         step n _ _ _ _ _ AreInlineParts _ (low3 S n m le (t ∷ []) us vs) inline_parts_rule (λ ws x x' c.
-        done_rule _ (Fragment name on x.0 x.1.0) (Fragment name' on' x'.0 x'.1.0) _
+        done_rule _ (Fragment name on x.0 x.1) (Fragment name' on' x'.0 x'.1) _
         (rw append-nil (
-          row (t ∷ []) (us ++ (vs ++ ws)) (says _ t p) (row us (vs ++ ws) a (row vs ws b (body_is ws x c))),
+          row (t ∷ []) (us ++ (vs ++ ws)) (says _ t p) (row us (vs ++ ws) a (row vs ws b c)),
           refl,
         )))))
 
@@ -278,9 +256,9 @@ module _ {C F : Type 0} (S : Scalars C F) where
     definition_rule = span_rule n _ _ (IsDefinition S)
         (on_rule n operation_word _ _ _ _ _ (λ t t' p. operation_rule t t' p)
         (on_rule n (word (codes "fragment")) _ _ _ _ _ (λ t t' p. fragment_rule t t' p)
-        (step n n _ _ _ _ IsSpannedSet _ (le_refl n) set_rule (λ us ss ss' h.
-        done_rule _ (Operation Query None None None ss.0) (Operation Query None None None ss'.0) _
-        (rw append-nil (inl (h.0, refl, refl, refl, refl), refl))))))
+        (step n n _ _ _ _ (IsSelectionSet S) _ (le_refl n) set_rule (λ us ss ss' h.
+        done_rule _ (Operation Query None None None ss) (Operation Query None None None ss') _
+        (rw append-nil (inl (h, refl, refl, refl, refl), refl))))))
 
     document_is : (ts : List Lexeme) (ds : List (Definition C)) → ClosedSome (of EndOfFile) (IsDefinition S) ds ts
         → IsDocument S ds ts

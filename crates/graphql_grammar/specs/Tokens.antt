@@ -1,7 +1,7 @@
 -- Tokens, as the grammar sees them.
 use Rattle.std.specs.List.{last_or}
 use Rattle.std.specs.Option.{unwrap_or}
-use Rattle.std.specs.Prelude.{◌≡◌, ◌⊎◌, List, [], ◌∷◌, Option, Some, None}
+use Rattle.std.specs.Prelude.{◌≡◌, ◌⊎◌, List, [], ◌∷◌, None}
 use Rattle.graphql_lexical.specs.declared.kind.Kind.TheVariants.{EndOfFile}
 pub use Rattle.graphql_lexical.specs.Characters.{Text}
 use Rattle.graphql_lexical.specs.Place.{Span, place}
@@ -32,11 +32,6 @@ span_of (t ∷ ts) = record { start = t.span.start; end = (unwrap_or (last_or No
 -- from the start of one span to the end of another
 abbrev pub from_to : Span → Span → Span
 from_to a b = record { start = a.start; end = b.end }
-
--- to the end of a part that may follow
-abbrev pub to_end_of : Span → Option Span → Span
-to_end_of p None = p
-to_end_of p (Some q) = from_to p q
 
 -- Some text spells the token, or it is the end, which has no text.
 abbrev pub IsSpelled : Lexeme → Type 0

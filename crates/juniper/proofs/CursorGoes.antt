@@ -1,19 +1,18 @@
 -- The steps of a production, as readers of the grammar and as a cursor: what both answer.
-use Rattle.std.proofs.Common.{◌≡◌, ℕ, suc, length, arith, Bool, true, false, cond, List, [], ◌∷◌, Ok, Err, refl, sym, ap, ◌∙◌, subst, ◌⊎◌, inl, inr}
+use Rattle.std.proofs.Common.{◌≡◌, ℕ, suc, length, arith, Bool, true, false, cond, List, [], ◌∷◌, Ok, refl, sym, ap, ◌∙◌, subst, ◌⊎◌, inl, inr}
 use Rattle.graphql_lexical.specs.Place.{Span}
 use Rattle.graphql_lexical.specs.Cutting.{Lexeme}
 use Rattle.graphql_grammar.specs.Tokens.{span_of}
 use Rattle.graphql_grammar.specs.Tree.{Scalars, Value}
-use Rattle.graphql_grammar.specs.device.Reading.{Test, passes, Took, Refused, Out, Reader, after, seq, done, want, literal, on, pick, look, choose, with_span, front, many, repeated, fully, Symbol, Steps, gives, gives_at, wants, takes, sees, part, symbol, spanned, scalar, closed, each}
+use Rattle.graphql_grammar.specs.device.Reading.{Test, passes, Took, Refused, Out, Reader, after, seq, done, want, literal, on, pick, look, choose, with_span, front, many, repeated, fully, Symbol, Steps, gives, wants, takes, sees, part, symbol, spanned, scalar, closed, each}
 use Rattle.graphql_grammar.specs.device.Reading as reading
 use Rattle.graphql_grammar.specs.device.Productions.{symbol_at, reads}
-use Rattle.graphql_grammar.proofs.Public.{Answers, settled, Runs, runs_front}
+use Rattle.graphql_grammar.proofs.Public.{Answers, settled}
 use Rattle.juniper_tokens.specs.Errors.{Error}
-use Rattle.juniper_tokens.specs.Cursor.{Read, ◌>>=◌, nowhere, no_lexeme, first_of, next_at, next_if}
+use Rattle.juniper_tokens.specs.Cursor.{Read, ◌>>=◌, no_lexeme, first_of, next_at, next_if}
 use Rattle.juniper.specs.device.Seen.{seen}
-use Rattle.juniper.specs.device.Steps.{closed_by, symbol_read, scalar_read, closed_read, each_read, cursor, located}
-use Rattle.juniper.proofs.Stepping.{PassesNoEnd, bind_assoc, bind_same, bind_given, taken, seen_test, seen_span}
-use Rattle.juniper.proofs.Cursors.{ok_is, bind_ok, next_takes, if_takes}
+use Rattle.juniper.specs.device.Steps.{closed_by, symbol_read, scalar_read, closed_read, each_read, cursor}
+use Rattle.juniper.proofs.Stepping.{PassesNoEnd, bind_assoc, taken, seen_test, seen_span}
 use Rattle.juniper.proofs.ScalarTokens.{scalar_seen}
 
 -- the fuel ran out, or it is seen as s
@@ -63,108 +62,17 @@ pub enough : {A : Type 0} (f : ℕ → Reader Error A) → Answers f → (n : �
     → Shown (f n ts) (seen (fully f ts))
 enough f w n ts = elim ((settled f w n).at ts) [ inl e ↦ inl e | inr e ↦ inr (ap seen e) ]
 
-one_of : {A : Type 0} (b : Bool) (r s : Read A) (x : A × List Lexeme) → cond b r s ≡ Ok x → (r ≡ Ok x) ⊎ (s ≡ Ok x)
-one_of true r s x e = inl e
-one_of false r s x e = inr e
-
-cond_is : {A B : Type 0} (b : Bool) (r : Read A) (r' : Read B) (s : Read A) (s' : Read B)
-    (f : (A × List Lexeme) → Read B) → (r >>= f) ≡ r' → (s >>= f) ≡ s' → (cond b r s >>= f) ≡ cond b r' s'
-cond_is true r r' s s' f p q = p
-cond_is false r r' s s' f p q = q
-
-abbrev nowhere_told : {A : Type 0} → (A × List Lexeme) → Read (Span × A)
-nowhere_told x = Ok ((nowhere, x.0), x.1)
-
-abbrev no_span : {A : Type 0} → ((Span × A) × List Lexeme) → Read A
-no_span x = Ok (x.0.1, x.1)
-
-put_aside : {A : Type 0} (r : Read A) → ((r >>= nowhere_told) >>= no_span) ≡ r
-put_aside (Ok x) = refl
-put_aside (Err e) = refl
-
-put_aside_span : {A : Type 0} (r : Read (Span × (Span → A)))
-    → ((r >>= λ x. nowhere_told (x.0.1 x.0.0, x.1)) >>= no_span) ≡ (r >>= λ x. Ok (x.0.1 x.0.0, x.1))
-put_aside_span (Ok x) = refl
-put_aside_span (Err e) = refl
-
 module _ {C : Type 0} (S : Scalars C Error) where
-  -- From start on, up to what is left where a production ends, runs the span that its last step tells.
-  abbrev pub Located : List Lexeme → List Lexeme → {A : Type 0} → Steps C A → Type 0
-  Located start mid (gives a) = ⊥
-  Located start mid (gives_at p a) = Runs start mid p
-  Located start mid (wants test k) = (t : Lexeme) (rest : List Lexeme) → mid ≡ t ∷ rest → Located start rest (k t)
-  Located start mid (takes test k p) =
-      ((t : Lexeme) (rest : List Lexeme) → mid ≡ t ∷ rest → Located start rest (k t)) × Located start mid p
-  Located start mid (sees test p q) = Located start mid p × Located start mid q
-  Located start mid (part {B = B} p k) = (x : B) (rest : List Lexeme) → cursor S p mid ≡ Ok (x, rest)
-      → Located start rest (k x)
-  Located start mid (symbol r) = ⊥
-  Located start mid (spanned p) = ⊥
-  Located start mid (scalar k) = ⊥
-  Located start mid (closed close p k) = ⊥
-  Located start mid (each test p k) = ⊥
-
-  pub located_runs : (start mid : List Lexeme) {A : Type 0} (p : Steps C A) → Located start mid p
-      → (x : (Span × A) × List Lexeme) → located S p mid ≡ Ok x → Runs start x.1 x.0.0
-  located_runs start mid (gives a) h x e = absurd h
-  located_runs start mid {A} (gives_at p a) h x e =
-      subst (λ (z : (Span × A) × List Lexeme). Runs start z.1 z.0.0) (ok_is ((p, a), mid) x e) h
-  located_runs start mid (wants test k) h x e =
-      let t = bind_ok (next_if (passes test (first_of mid)) mid) (λ t. located S (k t.0) t.1) x e in
-      located_runs start t.0.1 (k t.0.0) (h t.0.0 t.0.1 (if_takes (passes test (first_of mid)) mid t.0 t.1)) x t.2
-  located_runs start mid (takes test k p) h x e = elim (one_of (passes test (first_of mid)) _ (located S p mid) x e) [
-    | inl q ↦ let t = bind_ok (next_at mid) (λ t. located S (k t.0) t.1) x q in
-        located_runs start t.0.1 (k t.0.0) (h.0 t.0.0 t.0.1 (next_takes mid t.0 t.1)) x t.2
-    | inr q ↦ located_runs start mid p h.1 x q
-  ]
-  located_runs start mid (sees test p q) h x e =
-      elim (one_of (passes test (first_of mid)) (located S p mid) (located S q mid) x e) [
-        | inl r ↦ located_runs start mid p h.0 x r
-        | inr r ↦ located_runs start mid q h.1 x r
-      ]
-  located_runs start mid (part p k) h x e =
-      let y = bind_ok (cursor S p mid) (λ y. located S (k y.0) y.1) x e in
-      located_runs start y.0.1 (k y.0.0) (h y.0.0 y.0.1 y.1) x y.2
-  located_runs start mid (symbol r) h x e = absurd h
-  located_runs start mid (spanned p) h x e = absurd h
-  located_runs start mid (scalar k) h x e = absurd h
-  located_runs start mid (closed close p k) h x e = absurd h
-  located_runs start mid (each test p k) h x e = absurd h
-
-  -- The span put aside, it is what the cursor gives.
-  pub located_is : {A : Type 0} (p : Steps C A) (ts : List Lexeme)
-      → (located S p ts >>= λ x. Ok (x.0.1, x.1)) ≡ cursor S p ts
-  located_is (gives a) ts = refl
-  located_is (gives_at p a) ts = refl
-  located_is (wants test k) ts = bind_assoc (next_if (passes test (first_of ts)) ts) _ _
-      ∙ bind_same (next_if (passes test (first_of ts)) ts) _ _ (λ t. located_is (k t.0) t.1)
-  located_is (takes test k p) ts = cond_is (passes test (first_of ts)) (next_at ts >>= λ t. located S (k t.0) t.1) _
-      (located S p ts) _ _ (bind_assoc (next_at ts) _ _ ∙ bind_same (next_at ts) _ _ (λ t. located_is (k t.0) t.1))
-      (located_is p ts)
-  located_is (sees test p q) ts =
-      cond_is (passes test (first_of ts)) (located S p ts) _ (located S q ts) _ _ (located_is p ts) (located_is q ts)
-  located_is (part p k) ts = bind_assoc (cursor S p ts) _ _
-      ∙ bind_same (cursor S p ts) _ _ (λ x. located_is (k x.0) x.1)
-  located_is (symbol r) ts = put_aside (symbol_read S r ts)
-  located_is (spanned p) ts = put_aside_span (located S p ts)
-  located_is (scalar k) ts = bind_assoc (scalar_read S ts) _ _
-      ∙ bind_same (scalar_read S ts) _ _ (λ v. located_is (k v.0) v.1)
-  located_is (closed close p k) ts = bind_assoc (closed_read S close p ts) _ _
-      ∙ bind_same (closed_read S close p ts) _ _ (λ r. located_is (k r.0.0 r.0.1) r.1)
-  located_is (each test p k) ts = bind_assoc (each_read S test p ts) _ _
-      ∙ bind_same (each_read S test p ts) _ _ (λ r. located_is (k r.0) r.1)
-
   -- What the steps of a production have to be, so that the cursor goes their way: no test passes the end or what
   -- stands at no place, spans are told rightly, and lists answer.
   abbrev pub Fits : {A : Type 0} → Steps C A → Type 0
   Fits (gives a) = Unit {0}
-  Fits (gives_at p a) = Unit {0}
   Fits (wants test k) = PassesNoEnd test × ((t : Lexeme) → Fits (k t))
   Fits (takes test k p) = PassesNoEnd test × (passes test no_lexeme ≡ false) × ((t : Lexeme) → Fits (k t)) × Fits p
   Fits (sees test p q) = (passes test no_lexeme ≡ false) × Fits p × Fits q
   Fits (part {B = B} p k) = Fits p × ((x : B) → Fits (k x))
   Fits (symbol r) = Unit {0}
-  Fits (spanned p) = Fits p × ((ts : List Lexeme) → Located ts ts p)
+  Fits (spanned p) = Fits p
   Fits (scalar k) = (v : Value C) → Fits (k v)
   Fits (closed {B = B} close p k) = Answers (λ n. many close (reads S n p) n) ×
       ((xs : List B) (q : Span) → Fits (k xs q))
@@ -175,16 +83,12 @@ module _ {C : Type 0} (S : Scalars C Error) where
       (symbol_read S r ts)
 
   spans_shown : {A : Type 0} (p : Steps C (Span → A)) (f : Reader Error (Span → A)) (ts : List Lexeme)
-      → Located ts ts p → Shown (f ts) (cursor S p ts)
-      → Shown (with_span f ts) (located S p ts >>= λ x. Ok (x.0.1 x.0.0, x.1))
+      → Shown (f ts) (cursor S p ts)
+      → Shown (with_span f ts) (cursor S p ts >>= λ x. Ok (x.0 (span_of (front ts x.1)), x.1))
   unfolding with_span
-  spans_shown p f ts h (inl e) = inl (ap (λ z. after z (reading.give_span ts)) e)
-  spans_shown {A} p f ts h (inr e) = inr (
-      seen_span f ts
-      ∙ ap (λ (z : Read (Span → A)). z >>= λ x. Ok (x.0 (span_of (front ts x.1)), x.1)) (e ∙ sym (located_is p ts))
-      ∙ bind_assoc (located S p ts) _ _
-      ∙ bind_given (located S p ts) _ _ (λ x q. ap (λ (s : Span). Ok (x.0.1 s, x.1))
-      (runs_front ts x.1 x.0.0 (located_runs ts ts p h x q))))
+  spans_shown p f ts (inl e) = inl (ap (λ z. after z (reading.give_span ts)) e)
+  spans_shown {A} p f ts (inr e) = inr (
+      seen_span f ts ∙ ap (λ (z : Read (Span → A)). z >>= λ x. Ok (x.0 (span_of (front ts x.1)), x.1)) e)
 
   closed_shown : {A : Type 0} (r : reading.Read Error (List A × Lexeme)) (s : Read (List A × Lexeme)) {B : Type 0}
       (k : (List A × Lexeme) → Reader Error B) (l : ((List A × Span) × List Lexeme) → Read B) → Shown r s
@@ -197,7 +101,6 @@ module _ {C : Type 0} (S : Scalars C Error) where
         → Shown (reads S n p ts) (cursor S p ts)
     unfolding done closed_read each_read seq
     shown (gives a) h n ts = inr refl
-    shown (gives_at p a) h n ts = inr refl
     shown (wants test k) h n ts = seq_shown (want test) (λ t. reads S n (k t)) ts
         (next_if (passes test (first_of ts)) ts)
         (λ t. cursor S (k t.0) t.1) (inr (seen_test test h.0 ts)) (λ x. shown (k x.0) (h.1 x.0) n x.1)
@@ -209,7 +112,7 @@ module _ {C : Type 0} (S : Scalars C Error) where
     shown (part p k) h n ts = seq_shown (reads S n p) (λ x. reads S n (k x)) ts (cursor S p ts)
         (λ x. cursor S (k x.0) x.1) (shown p h.0 n ts) (λ x. shown (k x.0) (h.1 x.0) n x.1)
     shown {A} (symbol r) h n ts = symbols A r n ts
-    shown (spanned p) h n ts = spans_shown p (reads S n p) ts (h.1 ts) (shown p h.0 n ts)
+    shown (spanned p) h n ts = spans_shown p (reads S n p) ts (shown p h n ts)
     shown (scalar k) h n ts = seq_shown (literal S) (λ v. reads S n (k v)) ts (scalar_read S ts)
         (λ v. cursor S (k v.0) v.1) (inr (scalar_seen S ts)) (λ x. shown (k x.0) (h x.0) n x.1)
     shown (closed close p k) h n ts =

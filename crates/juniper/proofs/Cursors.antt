@@ -13,25 +13,6 @@ use Rattle.juniper_tokens.specs.Cursor.{Read, ◌>>=◌, first_of, kind_at, next
 pub ok_is : {A : Type 0} (x y : A × List Lexeme) → ◌≡◌ {A = Read A} (Ok x) (Ok y) → x ≡ y
 ok_is x y e = cc
 
--- what both steps gave
-pub bind_ok : {A B : Type 0} (r : Read A) (f : (A × List Lexeme) → Read B) (y : B × List Lexeme) → (r >>= f) ≡ Ok y
-    → (x : A × List Lexeme) × (r ≡ Ok x) × (f x ≡ Ok y)
-bind_ok (Ok x) f y e = (x, refl, e)
-bind_ok (Err d) f y e = absurd (cc e)
-
-pub next_takes : (ts : List Lexeme) (x : Lexeme × List Lexeme) → next_at ts ≡ Ok x → ts ≡ x.0 ∷ x.1
-next_takes [] x e = absurd (cc e)
-next_takes (t ∷ ts) x e = by_end (same_kind t.kind EndOfFile) e
-  where
-    by_end : (b : Bool) → cond {A = Read Lexeme} b (Err (record { error = UnexpectedEndOfFile; span = t.span }, t ∷ ts))
-        (Ok (t, ts)) ≡ Ok x → t ∷ ts ≡ x.0 ∷ x.1
-    by_end true p = absurd (cc p)
-    by_end false p = ap (λ (y : Lexeme × List Lexeme). y.0 ∷ y.1) (ok_is (t, ts) x p)
-
-pub if_takes : (b : Bool) (ts : List Lexeme) (x : Lexeme × List Lexeme) → next_if b ts ≡ Ok x → ts ≡ x.0 ∷ x.1
-if_takes true ts x e = next_takes ts x e
-if_takes false ts x e = let h = bind_ok (next_at ts) _ x e in absurd (cc h.2)
-
 -- what is of a kind other than the end's is not the end
 pub closing_is_no_end : (k : Kind) (ts : List Lexeme) → same_kind k EndOfFile ≡ false → same_kind (kind_at ts) k ≡ true
     → same_kind (kind_at ts) EndOfFile ≡ false

@@ -10,7 +10,6 @@ use Rattle.graphql_lexical.specs.Cutting.{Lexeme, Cut, Breaks, BreaksFrom}
 use Rattle.graphql_lexical.proofs.Public.{one_cut_or_break, one_deep, crossed, IsWide, tokens_wide}
 use Rattle.graphql_lexical.specs.Nesting.{nesting, IsFirstDeeper, ended_by}
 use Rattle.graphql_grammar.specs.Tree.{Scalars, Definition}
-use Rattle.graphql_grammar.specs.Grammar.{IsDocument}
 use Rattle.graphql_grammar.specs.Tokens.{IsSpelled}
 use Rattle.graphql_grammar.specs.Faults.{EndsOnce, DocumentRefusedAt}
 use Rattle.graphql_grammar.specs.device.Faults.{Fault, told}

@@ -22,7 +22,7 @@ use Rattle.juniper_tokens.specs.Errors.{Error, UnexpectedEndOfFile, Fault, view_
 use Rattle.juniper_tokens.specs.Cursor.{Read, EndsOnce, Gives}
 use Rattle.juniper.specs.device.Seen.{error_of, seen}
 use Rattle.juniper.specs.device.Steps.{no_scalars, value_read, type_read}
-use Rattle.juniper.specs.Promise.{Refuses, AnswersValue, AnswersType, past, unexpected}
+use Rattle.juniper.specs.Promise.{Refuses, AnswersValue, AnswersType, unexpected}
 use Rattle.juniper.proofs.Stepping.{seen_took}
 
 -- The last token and no other is the end, as the cursor and as the grammar say it.

@@ -58,38 +58,6 @@ module _ {A : Type 0} {close : List Lexeme → Option Span × List Lexeme} {item
 
 -- ---- a closing token is looked for behind each item
 
--- one item or more, up to the closing token
-pub record RepeatsSome {A : Type 0} (close : List Lexeme → Option Span × List Lexeme) (item : List Lexeme → Read A)
-    (some : List Lexeme → Read (List A × Span)) : Type 0 where
-  pub more : List Lexeme → Read (List A × Span)
-  pub first : (ts : List Lexeme) → some ts ≡ (item ts >>= λ x. then_others x.0 (more x.1))
-  pub repeats : Repeats close item more
-
-module _ {A : Type 0} {close : List Lexeme → Option Span × List Lexeme} {item : List Lexeme → Read A}
-    {some : List Lexeme → Read (List A × Span)} (u : RepeatsSome close item some)
-    (front : List A) (p : List Lexeme) {total : Read (List A × Span)} (so_far : with_front front (some p) ≡ total) where
-  pub some_go_on : {a : A} {q r : List Lexeme} → item p ≡ Ok (a, q) → EndsOnce q → (None, r) ≡ close q
-      → with_front (front ++ a ∷ []) (some r) ≡ total
-  some_go_on {a} {q} {r} first ended opened =
-      let one : some p ≡ then_others a (u.more q) = u.first p ∙ rw first refl in
-      let others : u.more q ≡ some r = u.repeats.unfolds q ended ∙ rw (sym opened) refl ∙ sym (u.first r) in
-      sym (ap (with_front front) (one ∙ ap (then_others a) others) ∙ regroup front a (some r)) ∙ so_far
-
-  pub some_end : {a : A} {c : Span} {q r : List Lexeme} → item p ≡ Ok (a, q) → EndsOnce q → (Some c, r) ≡ close q
-      → total ≡ Ok ((front ++ a ∷ [], c), r)
-  some_end {a} {c} {q} {r} first ended closed =
-      let one : some p ≡ then_others a (u.more q) = u.first p ∙ rw first refl in
-      let none : u.more q ≡ Ok (([], c), r) = u.repeats.unfolds q ended ∙ rw (sym closed) refl in
-      sym so_far ∙ ap (with_front front) (one ∙ ap (then_others a) none)
-
-  pub some_item_fails : (e : ParseFailure) (left : List Lexeme) → Fails e left (item p) → Fails e left total
-  some_item_fails failures.Memory left fails = tt
-  some_item_fails (failures.Refused e) left fails =
-      let one : some p ≡ Err (view_fault e, left) = u.first p ∙ rw fails refl in
-      sym so_far ∙ ap (with_front front) one
-
--- ---- items as long as a token stands next
-
 -- these items, and then those that are read
 abbrev pub before_others : {A : Type 0} → List A → Read (List A) → Read (List A)
 before_others front r = r >>= λ x. Ok (front ++ x.0, x.1)
@@ -102,6 +70,57 @@ pub before_regroup : {A : Type 0} (front : List A) (a : A) (r : Read (List A))
     → before_others front (r >>= λ x. Ok (a ∷ x.0, x.1)) ≡ before_others (front ++ a ∷ []) r
 before_regroup front a (Ok x) = ap (λ (as' : List _). Ok (as', x.1)) (sym (append_assoc front (a ∷ []) x.0))
 before_regroup front a (Err e) = refl
+
+-- an item, and then the others, without the span of what closes them
+abbrev pub and_others : {A : Type 0} → A → Read (List A × Span) → Read (List A)
+and_others a r = r >>= λ x. Ok (a ∷ x.0.0, x.1)
+
+passed_on : {A : Type 0} (a : A) (item : Read A) (more : List Lexeme → Read (List A × Span))
+    → and_others a (item >>= λ x. then_others x.0 (more x.1))
+    ≡ ((item >>= λ x. and_others x.0 (more x.1)) >>= λ xs. Ok (a ∷ xs.0, xs.1))
+passed_on {A} a (Ok x) more = by_rest (more x.1)
+  where
+    by_rest : (r : Read (List A × Span))
+        → and_others a (then_others x.0 r) ≡ (and_others x.0 r >>= λ xs. Ok (a ∷ xs.0, xs.1))
+    by_rest (Ok y) = refl
+    by_rest (Err e) = refl
+passed_on a (Err e) more = refl
+
+-- one item or more, up to the closing token
+pub record RepeatsSome {A : Type 0} (close : List Lexeme → Option Span × List Lexeme) (item : List Lexeme → Read A)
+    (some : List Lexeme → Read (List A)) : Type 0 where
+  pub more : List Lexeme → Read (List A × Span)
+  pub first : (ts : List Lexeme) → some ts ≡ (item ts >>= λ x. and_others x.0 (more x.1))
+  pub repeats : Repeats close item more
+
+module _ {A : Type 0} {close : List Lexeme → Option Span × List Lexeme} {item : List Lexeme → Read A}
+    {some : List Lexeme → Read (List A)} (u : RepeatsSome close item some)
+    (front : List A) (p : List Lexeme) {total : Read (List A)} (so_far : before_others front (some p) ≡ total) where
+  pub some_go_on : {a : A} {q r : List Lexeme} → item p ≡ Ok (a, q) → EndsOnce q → (None, r) ≡ close q
+      → before_others (front ++ a ∷ []) (some r) ≡ total
+  some_go_on {a} {q} {r} first ended opened =
+      let one : some p ≡ and_others a (u.more q) = u.first p ∙ rw first refl in
+      let others : u.more q ≡ (item r >>= λ x. then_others x.0 (u.more x.1)) =
+      u.repeats.unfolds q ended ∙ rw (sym opened) refl in
+      let all : some p ≡ (some r >>= λ xs. Ok (a ∷ xs.0, xs.1)) =
+      one ∙ ap (and_others a) others ∙ passed_on a (item r) u.more
+      ∙ ap (λ (z : Read (List A)). z >>= λ xs. Ok (a ∷ xs.0, xs.1)) (sym (u.first r)) in
+      sym (ap (before_others front) all ∙ before_regroup front a (some r)) ∙ so_far
+
+  pub some_end : {a : A} {c : Span} {q r : List Lexeme} → item p ≡ Ok (a, q) → EndsOnce q → (Some c, r) ≡ close q
+      → total ≡ Ok (front ++ a ∷ [], r)
+  some_end {a} {c} {q} {r} first ended closed =
+      let one : some p ≡ and_others a (u.more q) = u.first p ∙ rw first refl in
+      let none : u.more q ≡ Ok (([], c), r) = u.repeats.unfolds q ended ∙ rw (sym closed) refl in
+      sym so_far ∙ ap (before_others front) (one ∙ ap (and_others a) none)
+
+  pub some_item_fails : (e : ParseFailure) (left : List Lexeme) → Fails e left (item p) → Fails e left total
+  some_item_fails failures.Memory left fails = tt
+  some_item_fails (failures.Refused e) left fails =
+      let one : some p ≡ Err (view_fault e, left) = u.first p ∙ rw fails refl in
+      sym so_far ∙ ap (before_others front) one
+
+-- ---- items as long as a token stands next
 
 -- items as long as the test holds
 pub record RepeatsWhile {A : Type 0} (test : List Lexeme → Bool) (item : List Lexeme → Read A)

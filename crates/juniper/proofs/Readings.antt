@@ -1,5 +1,5 @@
 -- What the code reads is what the grammar's readers read.
-use Rattle.std.proofs.Common.{◌≡◌, ℕ, suc, length, arith, Bool, true, false, cond, Some, None, List, [], ◌∷◌, ◌++◌, codes, Ok, refl, ap, ◌∙◌, inl, inr, le_refl}
+use Rattle.std.proofs.Common.{◌≡◌, ℕ, suc, length, arith, Bool, true, false, cond, Some, None, List, ◌++◌, codes, Ok, refl, ap, ◌∙◌, inl, inr, le_refl}
 use Rattle.graphql_lexical.specs.declared.kind.Kind.TheVariants.{At, BracketClose, CurlyClose, ParenClose, EndOfFile}
 use Rattle.graphql_lexical.specs.Kinds.{same_kind}
 use Rattle.graphql_lexical.specs.Cutting.{Lexeme}
@@ -7,18 +7,18 @@ use Rattle.graphql_grammar.specs.Tree.{Scalars, Definition}
 use Rattle.graphql_grammar.specs.Grammar.{IsValue, IsArgument, IsVariableDefinition, IsSelection, IsDirective, IsDefinition, IsDocument}
 use Rattle.graphql_grammar.specs.declared.operation.OperationType.{OperationType}
 use Rattle.graphql_grammar.specs.device.Reading.{of, word, passes, fully, a_value, a_type, a_selection, Symbol, symbol}
-use Rattle.graphql_grammar.specs.device.Productions.{steps_of, symbol_at, reads, value, type, any_selection, key_and_value, argument, arguments_inner, directive, variable_definition, variables_inner, selections_inner, operation_word, operation_of, definition, document, operation, fragment}
+use Rattle.graphql_grammar.specs.device.Productions.{steps_of, symbol_at, reads, value, type, any_selection, key_and_value, argument, arguments_inner, directive, variable_definition, variables_inner, selections_inner, operation_word, operation_of, definition_parts, definition, document, operation, fragment, shorthand}
 use Rattle.graphql_grammar.proofs.Public.{Answers, value_rule, value_takes, IsField, field_rule, field_takes, argument_rule, argument_takes, directive_rule, directive_takes, variable_definition_rule, variable_takes, selection_rule, selection_takes, definition_rule, definition_takes, document_rule, values_answer, types_answer, selections_answer, reads_answer, closed_answer}
 use Rattle.juniper_tokens.specs.Errors.{Error}
-use Rattle.juniper_tokens.specs.Cursor.{◌>>=◌, first_of, kind_at, next_at}
+use Rattle.juniper_tokens.specs.Cursor.{first_of, kind_at, next_at}
 use Rattle.juniper.specs.device.Seen.{seen}
-use Rattle.juniper.specs.device.Steps.{closing_at, no_scalars, value_read, type_read, selection_read, closed_read, cursor, whole, each_read}
+use Rattle.juniper.specs.device.Steps.{closing_at, no_scalars, value_read, type_read, selection_read, closed_read, cursor, each_read}
 use Rattle.juniper.proofs.Stepping.{seen_took}
 use Rattle.juniper.proofs.Loops.{Repeats, RepeatsSome, RepeatsWhile}
 use Rattle.juniper.proofs.CursorGoes.{Fits, shown, shown_fully}
 use Rattle.juniper.proofs.Symbols.{symbols_shown}
 use Rattle.juniper.proofs.CursorFits.{value_fits, type_fits, key_and_value_fits, argument_fits, directive_fits, variable_definition_fits, any_selection_fits, definition_fits, operation_no_end}
-use Rattle.juniper.proofs.Lists.{closed_repeats, several_repeats, closed_turn, each_unfolds}
+use Rattle.juniper.proofs.Lists.{closed_repeats, several_repeats, each_unfolds}
 
 module _ {C : Type 0} (S : Scalars C Error) where
   symbol_is : {A : Type 0} (r : Symbol C A) → Answers (λ n. symbol_at S n A r) → Fits S (steps_of S r) →
@@ -108,12 +108,10 @@ module _ {C : Type 0} (S : Scalars C Error) where
       let meets = rw took at ((definition_rule S n n (le_refl n)).at ts) in
       (meets.0, meets.1, meets.2)
 
-  pub rest_turn : (t : Lexeme) (ts : List Lexeme)
-      → closed_read S (of EndOfFile) definition (t ∷ ts) ≡ cond (same_kind t.kind EndOfFile) (Ok (([], t.span), ts))
-      (cursor S definition (t ∷ ts) >>= λ x. closed_read S (of EndOfFile) definition x.1 >>= λ r.
-      Ok ((x.0 ∷ r.0.0, r.0.1), r.1))
-  rest_turn = closed_turn S definition (definition_fits S) (IsDefinition S) (λ n. definition_rule S n n (le_refl n))
-      (definition_takes S) EndOfFile refl (inl refl)
+  pub definitions_repeat : RepeatsSome (closing_at EndOfFile) (cursor S definition) (cursor S document)
+  unfolding document
+  definitions_repeat = several_repeats S definition (definition_fits S) (IsDefinition S)
+      (λ n. definition_rule S n n (le_refl n)) (definition_takes S) EndOfFile refl (inl refl)
 
 -- ---- operations
 
@@ -130,23 +128,28 @@ operation_is_no_end ts o e =
     operation_no_end (first_of ts)
     (operation_says (passes operation_word (first_of ts)) (operation_of (first_of ts).text) o e).0
 
-pub operation_begins : {C : Type 0} (S : Scalars C Error) (ts : List Lexeme) (o : OperationType) (rest : List Lexeme)
-    → cond (passes operation_word (first_of ts)) (Some (operation_of (first_of ts).text)) None ≡ Some o
-    → next_at ts ≡ Ok (first_of ts, rest) → cursor S definition ts ≡ whole S (operation o (first_of ts).span) rest
-unfolding definition
-operation_begins S ts o rest e f =
-    let says = operation_says (passes operation_word (first_of ts)) (operation_of (first_of ts).text) o e in
-    rw (says.0, f) (ap (λ (x : OperationType). whole S (operation x (first_of ts).span) rest) says.1)
-
 begins_no_operation : (begins : Bool) (type : OperationType) → cond begins (Some type) None ≡ None → begins ≡ false
 begins_no_operation true type e = absurd (cc e)
 begins_no_operation false type e = refl
 
-pub fragment_begins : {C : Type 0} (S : Scalars C Error) (ts rest : List Lexeme)
-    → cond (passes operation_word (first_of ts)) (Some (operation_of (first_of ts).text)) None ≡ None
-    → passes (word (codes "fragment")) (first_of ts) ≡ true
-    → next_at ts ≡ Ok (first_of ts, rest) → cursor S definition ts ≡ whole S (fragment (first_of ts).span) rest
-unfolding definition
-fragment_begins S ts rest none says f =
-    let no = begins_no_operation (passes operation_word (first_of ts)) (operation_of (first_of ts).text) none in
-    rw (no, says, f) refl
+-- A definition is read by its first token.
+module _ {C : Type 0} (S : Scalars C Error) (ts : List Lexeme) where
+  pub operation_begins : (o : OperationType) (rest : List Lexeme)
+      → cond (passes operation_word (first_of ts)) (Some (operation_of (first_of ts).text)) None ≡ Some o
+      → next_at ts ≡ Ok (first_of ts, rest) → cursor S definition_parts ts ≡ cursor S (operation o) rest
+  operation_begins o rest e f =
+      let says = operation_says (passes operation_word (first_of ts)) (operation_of (first_of ts).text) o e in
+      rw (says.0, f) (ap (λ (x : OperationType). cursor S (operation x) rest) says.1)
+
+  module _ (none : cond (passes operation_word (first_of ts)) (Some (operation_of (first_of ts).text)) None ≡ None)
+    where
+      no : passes operation_word (first_of ts) ≡ false
+      no = begins_no_operation (passes operation_word (first_of ts)) (operation_of (first_of ts).text) none
+
+      pub fragment_begins : (rest : List Lexeme) → passes (word (codes "fragment")) (first_of ts) ≡ true
+          → next_at ts ≡ Ok (first_of ts, rest) → cursor S definition_parts ts ≡ cursor S fragment rest
+      fragment_begins rest says f = rw (no, says, f) refl
+
+      pub shorthand_begins : passes (word (codes "fragment")) (first_of ts) ≡ false
+          → cursor S definition_parts ts ≡ cursor S shorthand ts
+      shorthand_begins says = rw (no, says) refl

@@ -27,12 +27,6 @@ pub bind_same : {A B : Type 0} (r : Read A) (f g : (A × List Lexeme) → Read B
 bind_same (Ok x) f g h = h x
 bind_same (Err e) f g h = refl
 
--- the same, where the first step gave x
-pub bind_given : {A B : Type 0} (r : Read A) (f g : (A × List Lexeme) → Read B)
-    → ((x : A × List Lexeme) → r ≡ Ok x → f x ≡ g x) → (r >>= f) ≡ (r >>= g)
-bind_given (Ok x) f g h = h x refl
-bind_given (Err e) f g h = refl
-
 -- ---- readers in a row
 
 seen_after : {A B : Type 0} (r : reading.Read Error A) (k : A → Reader Error B)
@@ -108,10 +102,6 @@ pub seen_test : (test : Test) → PassesNoEnd test → (ts : List Lexeme)
 unfolding want on refuse
 seen_test test e [] = nothing_wanted (passes test (first_of []))
 seen_test test e (t ∷ ts) = wanted test t ts (passes test t) e refl
-
-pub seen_want : (k : Kind) → same_kind k EndOfFile ≡ false → (ts : List Lexeme)
-    → seen (want (of k) ts) ≡ next_if (same_kind (kind_at ts) k) ts
-seen_want k e ts = seen_test (of k) (kind_no_end k e) ts
 
 chosen : {A : Type 0} (b : Bool) (f g : Reader Error A) (t : Lexeme) (ts : List Lexeme)
     → seen (choose b f g (t ∷ ts)) ≡ cond b (seen (f (t ∷ ts))) (seen (g (t ∷ ts)))

@@ -6,7 +6,6 @@ pub(crate) mod items;
 pub(crate) mod lists;
 pub(crate) mod next;
 pub(crate) mod selection;
-pub(crate) mod spans;
 pub(crate) mod types;
 pub(crate) mod value;
 pub(crate) mod variables;

@@ -3,5 +3,6 @@ pub use Rattle.juniper_tokens.proofs.Borders.{ascii_first, byte_at_boundary, cha
 pub use Rattle.juniper_tokens.proofs.ByteRuns.{inner_high, inner_low, low_or_high, wide}
 pub use Rattle.juniper_tokens.proofs.Gathering.{Gathered, gathered_open, gathered_token}
 pub use Rattle.juniper_tokens.proofs.Lanes.{counted}
-pub use Rattle.juniper_tokens.proofs.Rests.{follows, further, none_taken, on_memory}
+pub use Rattle.juniper_tokens.proofs.Rests.{follows, on_memory}
+pub use Rattle.juniper_tokens.proofs.Taking.{goes_further, more_taken, rest_of, some_taken, stays}
 pub use Rattle.juniper_tokens.proofs.Texts.{pointwise-chars}

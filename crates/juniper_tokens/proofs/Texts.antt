@@ -1,5 +1,6 @@
-use Rattle.std.proofs.Common.{◌≡◌, ℕ, List, [], ◌∷◌, ◌++◌, sym, ap, ◌∙◌, append_assoc}
-use Rattle.std.specs.Prelude.{nat_eq, codes}
+use Rattle.std.proofs.Common.{◌≡◌, ℕ, true, List, [], ◌∷◌, ◌++◌, refl, sym, ap, ◌∙◌, append_assoc}
+use Rattle.std.specs.Prelude.{nat_eq, codes, Option, Some, None}
+use Rattle.std.specs.Option.{is_none, unwrap_or}
 use Rattle.std.proofs.lemmas.List.{flat_map_more}
 use Rattle.std.specs.Cmp.Lexicographic.{pointwise, bytes_decides}
 use Rattle.std.specs.Str.{chars, IsUtf8}
@@ -8,10 +9,13 @@ use Rattle.std.specs.String.{string_bytes}
 use Rattle.std.specs.declared.string.String.{String}
 use Rattle.std.proofs.lemmas.Bool.Decides.{same_from_decides}
 use lib.Utf8.{encode, encodes}
-use Rattle.graphql_lexical.specs.Kinds.{UnknownEscapeSequence}
+use Rattle.graphql_lexical.specs.declared.kind.Kind.{Kind}
+use Rattle.graphql_lexical.specs.Kinds.{UnknownEscapeSequence, spelling, fixed_text}
 use Rattle.graphql_lexical.specs.Tokens.{mark}
 use Rattle.graphql_lexical.specs.Display.{quoted, escape, escaped, error_text as lexical_text}
 use Rattle.juniper_tokens.specs.Errors.{error_text, UnexpectedToken}
+use Rattle.juniper_tokens.specs.Tokens.{kind_text}
+use Rattle.juniper_tokens.specs.Cursor.{has_text}
 
 -- texts of the same characters have the same bytes
 pub chars_injective : (xs ys : List ℕ) → IsUtf8 xs → IsUtf8 ys → chars xs ≡ chars ys → xs ≡ ys
@@ -64,3 +68,11 @@ marked-bytes cs = ap (λ l. mark ++ l) (sym (encodes-append cs mark))
 pub chars-from_bytes : {Z : Type 0} (s : String Z) (cs : List ℕ) → string_bytes s ≡ encodes cs
     → chars (string_bytes s) ≡ cs
 chars-from_bytes s cs e = encodes_same _ _ (encodes-chars _ (IsUtf8-string_bytes s) ∙ e)
+
+-- of a kind that leaves the text open
+pub open_text : (kind : Kind) (text : List ℕ) → has_text kind ≡ true → text ≡ kind_text kind text
+open_text kind text e = by_spelling (fixed_text (spelling kind)) e
+  where
+    by_spelling : (o : Option (List ℕ)) → is_none o ≡ true → text ≡ unwrap_or o text
+    by_spelling None p = refl
+    by_spelling (Some t) p = absurd (cc p)

@@ -5,6 +5,7 @@ pub mod Tokens
 pub mod Errors
 pub mod Escapes
 pub mod Cursor
+pub mod Taking
 pub mod Delimited
 pub mod Nesting
 pub mod DelimitedParts

@@ -6,12 +6,14 @@ ghost use Rattle.graphql_lexical.specs.Cutting.{Lexeme};
 ghost use Rattle.graphql_lexical.specs.declared.kind.Kind.TheVariants.{EndOfFile};
 ghost use Rattle.graphql_lexical.specs.Kinds.{same_kind};
 ghost use Rattle.juniper_tokens.specs.Cursor.{Gives, RefusesEnd, OnMemory, Unmoved, EndsOnce, first_of, kind_at, has_text, next_at, refused_at, expect_name_at};
-ghost use Rattle.juniper_tokens.specs.Delimited.{IsRest};
+ghost use Rattle.juniper_tokens.specs.Taking.{left, next_taken, last_end, GoesOn};
 ghost use Rattle.juniper_tokens.specs.Spans.{view_span};
 ghost use Rattle.juniper_tokens.specs.device.Ranges.{range_lexemes, AreLeft};
 ghost use Rattle.juniper_tokens.specs.Tokens.{view_token, view_name};
 
 use crate::error::{ParseError, ParseFailure, ParseResult};
+use crate::line_table::{KnownLine, LineTable};
+use crate::position::SourcePosition;
 use crate::span::{Span, Spanning};
 use crate::token::Token;
 use crate::token_range::TokenRange;
@@ -28,21 +30,24 @@ pub struct Cursor<'p, 'a> {
     alloc: Global,
     source: &'a str,
     ranges: &'p [TokenRange],
+    lines: &'p LineTable,
     // The number of tokens that have been taken.
     taken: usize,
+    // The line of the place that was found last. The next one is looked for there first.
+    line: KnownLine,
 }
 
 impl<'p, 'a> Model for Cursor<'p, 'a> {
-    ghost use Rattle.std.specs.Prelude.{List, drop};
     ghost use Rattle.std.specs.Str.{chars};
-    ghost use Rattle.graphql_lexical.specs.Cutting.{Lexeme};
+    ghost use Rattle.juniper_tokens.specs.Taking.{Taking};
+    ghost use Rattle.juniper_tokens.specs.device.LineSteps.{IsKnown};
     ghost use Rattle.juniper_tokens.specs.device.Ranges.{range_lexemes, AreLeft};
 
-    ghost Value = { List Lexeme };
+    ghost Value = { Taking };
 
-    ghost view = { λ c. range_lexemes (chars c.source.now) (drop c.taken c.ranges.now) };
+    ghost view = { λ c. record { tokens = range_lexemes (chars c.source.now) c.ranges.now; taken = c.taken } };
 
-    ghost invariant = { λ c. AreLeft (chars c.source.now) c.ranges.now c.taken };
+    ghost invariant = { λ c. AreLeft (chars c.source.now) c.ranges.now c.lines.now c.taken × IsKnown c.lines.now c.line };
 }
 
 impl<'p, 'a> Cursor<'p, 'a> {
@@ -51,16 +56,19 @@ impl<'p, 'a> Cursor<'p, 'a> {
         alloc: Global,
         source: &'a str,
         ranges: &'p [TokenRange],
+        lines: &'p LineTable,
         taken: usize,
     ) -> Self
-        requires { AreLeft (chars source.now) ranges.now taken }
-        ensures { result ≡ range_lexemes (chars source.now) (drop taken ranges.now) }
+        requires { AreLeft (chars source.now) ranges.now lines.now taken }
+        ensures { result ≡ record { tokens = range_lexemes (chars source.now) ranges.now; taken = taken } }
     {
         Cursor {
             alloc,
             source,
             ranges,
+            lines,
             taken,
+            line: KnownLine::none(),
         }
     }
 
@@ -73,7 +81,7 @@ impl<'p, 'a> Cursor<'p, 'a> {
 
     /// The number of tokens that are left, the end among them.
     pub fn count(&self) -> usize
-        ensures is { result ≡ length self.now }
+        ensures is { result ≡ length (left self.now) }
         ensures some { 0 < result }
     {
         self.ranges.len() - self.taken
@@ -82,8 +90,8 @@ impl<'p, 'a> Cursor<'p, 'a> {
     /// The kind of the next token, which is not taken.
     #[inline(always)]
     pub fn kind(&self) -> Kind
-        ensures is { result ≡ kind_at self.now }
-        ensures ended { EndsOnce self.now }
+        ensures is { result ≡ kind_at (left self.now) }
+        ensures ended { EndsOnce (left self.now) }
     {
         self.ranges[self.taken].kind
     }
@@ -91,56 +99,94 @@ impl<'p, 'a> Cursor<'p, 'a> {
     /// The text of the next token: of a String and of a block string what stands between its quotes, as it is written.
     /// Where the kind leaves no text open it is not said which text is returned.
     pub fn text(&self) -> &'a str
-        ensures { IsTrue (has_text (kind_at self.now)) → chars result.now ≡ (first_of self.now).text }
+        ensures { IsTrue (has_text (kind_at (left self.now))) → chars result.now ≡ (first_of (left self.now)).text }
     {
         self.ranges[self.taken].text(self.source)
     }
 
+    /// Where the next token begins. What begins with it has its span by `span_from`.
+    ///
+    /// ```
+    /// let start = cursor.mark();
+    /// let name = cursor.expect_name()?;
+    /// let span = cursor.span_from(start);
+    /// ```
+    #[inline(always)]
+    pub fn mark(&mut self) -> SourcePosition
+        ensures place { result ≡ (first_of (left self.old)).span.start }
+        ensures same { self.new ≡ self.old }
+    {
+        let start = self.ranges[self.taken].start;
+        self.lines.place_by(&mut self.line, start.characters)
+    }
+
+    /// From a place to the end of the token that was taken last.
+    #[inline(always)]
+    pub fn span_from(&mut self, start: SourcePosition) -> Span
+        requires { 0 < self.old.taken }
+        ensures span { view_span result ≡ record { start = start; end = last_end self.old } }
+        ensures within { self.old.taken < length self.old.tokens }
+        ensures same { self.new ≡ self.old }
+    {
+        let last = self.ranges[self.taken - 1].end;
+        let end = self.lines.place_by(&mut self.line, last.characters);
+        Span { start, end }
+    }
+
     /// Where the next token stands.
     #[inline(always)]
-    pub fn span(&self) -> Span
-        ensures { view_span result ≡ (first_of self.now).span }
+    pub fn span(&mut self) -> Span
+        ensures span { view_span result ≡ (first_of (left self.old)).span }
+        ensures same { self.new ≡ self.old }
     {
-        self.ranges[self.taken].span(self.source)
+        let start = self.mark();
+        Span {
+            start,
+            end: self.ranges[self.taken].end_position(self.source, start),
+        }
     }
 
     /// The next token, with its place.
-    pub fn token(&self) -> Spanning<Token<'a>>
-        ensures { view_token result ≡ first_of self.now }
+    pub fn token(&mut self) -> Spanning<Token<'a>>
+        ensures token { view_token result ≡ first_of (left self.old) }
+        ensures same { self.new ≡ self.old }
     {
-        self.ranges[self.taken].located(self.source)
+        let span = self.span();
+        self.ranges[self.taken].located_at(self.source, span)
     }
 
     /// Takes the next token, which must not be the end.
-    #[tactic(auto, using(crate::proofs::Rests::one_taken))]
     #[inline(always)]
     pub fn advance(&mut self)
-        requires { same_kind (kind_at self.old) EndOfFile ≡ false }
-        ensures left { self.new ≡ drop 1 self.old }
-        ensures takes { next_at self.old ≡ Ok (first_of self.old, self.new) }
-        ensures ended { EndsOnce self.old }
-        ensures shorter { length self.new < length self.old }
-        ensures rest { IsRest self.old self.new }
+        requires { same_kind (kind_at (left self.old)) EndOfFile ≡ false }
+        ensures taken { self.new ≡ next_taken self.old }
+        ensures left { left self.new ≡ drop 1 (left self.old) }
+        ensures takes { next_at (left self.old) ≡ Ok (first_of (left self.old), left self.new) }
+        ensures ended { EndsOnce (left self.old) }
+        ensures shorter { length (left self.new) < length (left self.old) }
+        ensures on { GoesOn self.old self.new }
     {
         self.taken += 1;
     }
 
     /// The error at the end, where nothing is taken.
+    #[tactic(auto, using(crate::proofs::Taking::stays))]
     #[cold]
-    pub(crate) fn refuse_end<T: Drop>(&self) -> Result<T, ParseFailure>
-        requires { same_kind (kind_at self.now) EndOfFile ≡ true }
-        ensures { RefusesEnd result self.now }
+    pub(crate) fn refuse_end<T: Drop>(&mut self) -> Result<T, ParseFailure>
+        requires { same_kind (kind_at (left self.old)) EndOfFile ≡ true }
+        ensures refused { RefusesEnd result (left self.old) }
+        ensures same { self.new ≡ self.old }
     {
         Err(ParseFailure::Refused(Spanning::new(self.span(), ParseError::UnexpectedEndOfFile)))
     }
 
     /// Takes the next token. At the end it returns `UnexpectedEndOfFile`, and nothing is taken. It takes no memory.
-    #[tactic(auto, using(crate::proofs::Rests::none_taken))]
+    #[tactic(auto, using(crate::proofs::Taking::stays))]
     pub fn next_token(&mut self) -> ParseResult<Token<'a>>
-        ensures gives { Gives view_token result self.new (next_at self.old) }
-        ensures shorter { OnOk result (length self.new < length self.old) }
+        ensures gives { Gives view_token result (left self.new) (next_at (left self.old)) }
+        ensures shorter { OnOk result (length (left self.new) < length (left self.old)) }
         ensures memory { OnMemory result ⊥ }
-        ensures rest { IsRest self.old self.new }
+        ensures on { GoesOn self.old self.new }
     {
         if self.kind() == Kind::EndOfFile {
             return self.refuse_end();
@@ -152,13 +198,13 @@ impl<'p, 'a> Cursor<'p, 'a> {
 
     /// Takes the next token, and returns the error that it is unexpected. At the end it returns `UnexpectedEndOfFile`, and
     /// nothing is taken. Where there is no memory for the text of the error, nothing changes.
-    #[tactic(auto, using(crate::proofs::Rests::none_taken))]
+    #[tactic(auto, using(crate::proofs::Taking::stays))]
     #[cold]
     pub fn refuse<T: Drop>(&mut self) -> Result<T, ParseFailure>
-        ensures gives { Gives (λ x. x) result self.new (refused_at self.old) }
+        ensures gives { Gives (λ x. x) result (left self.new) (refused_at (left self.old)) }
         ensures never { OnOk result ⊥ }
-        ensures memory { OnMemory result (Unmoved {A = Lexeme} self.old self.new (refused_at self.old)) }
-        ensures rest { IsRest self.old self.new }
+        ensures memory { OnMemory result (Unmoved {A = Lexeme} (left self.old) (left self.new) (refused_at (left self.old))) }
+        ensures on { GoesOn self.old self.new }
     {
         if self.kind() == Kind::EndOfFile {
             return self.refuse_end();
@@ -173,16 +219,17 @@ impl<'p, 'a> Cursor<'p, 'a> {
     /// those of `refuse`.
     #[tactic(auto, unfolding(crate::specs::Cursor::expect_name_at))]
     pub fn expect_name(&mut self) -> ParseResult<&'a str>
-        ensures gives { Gives view_name result self.new (expect_name_at self.old) }
-        ensures shorter { OnOk result (length self.new < length self.old) }
-        ensures memory { OnMemory result (Unmoved self.old self.new (expect_name_at self.old)) }
-        ensures rest { IsRest self.old self.new }
+        ensures gives { Gives view_name result (left self.new) (expect_name_at (left self.old)) }
+        ensures shorter { OnOk result (length (left self.new) < length (left self.old)) }
+        ensures memory { OnMemory result (Unmoved (left self.old) (left self.new) (expect_name_at (left self.old))) }
+        ensures on { GoesOn self.old self.new }
     {
         if self.kind() != Kind::Name {
             return self.refuse();
         }
-        let name = Spanning::new(self.span(), self.text());
+        let text = self.text();
+        let span = self.span();
         self.advance();
-        Ok(name)
+        Ok(Spanning::new(span, text))
     }
 }

@@ -1,21 +1,21 @@
 -- A device of the proofs, and no definition: how each production is read, one step after another, as the code takes them.
-use Rattle.std.specs.Prelude.{ℕ, zero, suc, Bool, true, false, ◌&&◌, ◌||◌, not, List, [], ◌∷◌, codes, bytes_eq, Option, Some, None, option_map, if◌then◌else◌}
+use Rattle.std.specs.Prelude.{ℕ, zero, suc, Bool, true, false, ◌&&◌, ◌||◌, not, List, [], ◌∷◌, codes, bytes_eq, Option, Some, None, if◌then◌else◌}
 use Rattle.graphql_lexical.specs.declared.kind.Kind.{Kind}
 use Rattle.graphql_lexical.specs.declared.kind.Kind.TheVariants.{ParenOpen, ParenClose, At, Ellipsis, Equals, Name, Dollar, BracketOpen, BracketClose, CurlyOpen, CurlyClose, Colon, ExclamationMark, EndOfFile}
-use Rattle.graphql_lexical.specs.Place.{Place, Span}
-use Rattle.graphql_grammar.specs.Tokens.{Text, Word, word_of, over, from_to, to_end_of}
+use Rattle.graphql_lexical.specs.Place.{Span}
+use Rattle.graphql_grammar.specs.Tokens.{Text, Word, word_of, over, from_to}
 use Rattle.graphql_grammar.specs.Tree.{Scalars, Value, Null, Scalar, Enum, Variable, ListOf, Object, items_of, fields_of, TypeRef, NamedType, ListType, NonNullType, Argument, Arguments, Directive, Directives, VariableDefinition, Variables, Selection, Field, FragmentSpread, InlineFragment, Selections, selections_of, OptionalSelections, absent, present, Definition, Operation, Fragment}
 use Rattle.graphql_grammar.specs.declared.operation.OperationType.{OperationType}
 use Rattle.graphql_grammar.specs.declared.operation.OperationType.TheVariants.{Query, Mutation, Subscription}
-use Rattle.graphql_grammar.specs.device.Reading.{Test, of, word, Reader, Out, Symbol, a_value, a_type, a_selection, Steps, gives, gives_at, wants, takes, sees, part, symbol, spanned, scalar, closed, each, run}
+use Rattle.graphql_grammar.specs.device.Reading.{Test, of, word, Reader, Out, Symbol, a_value, a_type, a_selection, Steps, gives, wants, takes, sees, part, symbol, spanned, scalar, closed, each, run}
 
 -- a part that begins with a token of this kind, if it stands there
 abbrev pub optional : {C A : Type 0} → Kind → Steps C A → Steps C (Option A)
 optional kind p = sees (of kind) (part p (λ a. gives (Some a))) (gives None)
 
--- one item or more up to a closing token, and where it stands
-abbrev pub several : {C A : Type 0} → Kind → Steps C A → Steps C (List A × Span)
-several kind p = part p (λ x. closed (of kind) p (λ xs q. gives (x ∷ xs, q)))
+-- one item or more up to a closing token
+abbrev pub several : {C A : Type 0} → Kind → Steps C A → Steps C (List A)
+several kind p = part p (λ x. closed (of kind) p (λ xs q. gives (x ∷ xs)))
 
 -- ---- values
 
@@ -27,15 +27,6 @@ by_name S w p = if bytes_eq w (codes "true") then Scalar (S.of_bool true) p
 
 abbrev pub variable_start : Bool → Test
 variable_start free kind text = free && of Dollar kind text
-
--- from a part that may stand before
-abbrev pub from_start_of : Option Span → Span → Span
-from_start_of None p = p
-from_start_of (Some q) p = from_to q p
-
--- an alias, if there is one, and the name
-abbrev pub names_span : Option Word × Word → Span
-names_span n = from_start_of (option_map (λ w. w.span) n.0) n.1.span
 
 -- a Name other than `on`
 abbrev pub other_than_on : Test
@@ -99,37 +90,35 @@ module _ {C : Type 0} where
   unfoldable pub argument : Steps C (Argument C)
   argument = wants (of Name) (λ k. wants (of Colon) (λ c. part (symbol (a_value true)) (λ v. gives (record { name = word_of k; value = v }))))
 
-  unfoldable pub arguments_inner : Steps C (List (Argument C) × Span)
+  unfoldable pub arguments_inner : Steps C (List (Argument C))
   arguments_inner = several ParenClose argument
 
   -- "(" (Name ":" Value(free))+ ")"
+  abbrev pub arguments_parts : Steps C (Span → Arguments C)
+  arguments_parts = wants (of ParenOpen) (λ o. part arguments_inner (λ xs. gives (λ p. record { items = xs; span = p })))
+
   unfoldable pub arguments : Steps C (Arguments C)
-  arguments = spanned (wants (of ParenOpen) (λ o. part arguments_inner (λ xs. gives_at (from_to o.span xs.1) (λ p. record { items = xs.0; span = p }))))
+  arguments = spanned arguments_parts
 
   unfoldable pub optional_arguments : Steps C (Option (Arguments C))
   optional_arguments = optional ParenOpen arguments
 
   -- "@" Name Arguments?
+  abbrev pub directive_parts : Steps C (Span → Directive C)
+  directive_parts = wants (of At) (λ a. wants (of Name) (λ w. part optional_arguments (λ xs.
+      gives (λ p. record { name = word_of w; arguments = xs; span = p }))))
+
   unfoldable pub directive : Steps C (Directive C)
-  directive = spanned (wants (of At) (λ a. wants (of Name) (λ w. part optional_arguments (λ xs.
-      gives_at (to_end_of (from_to a.span w.span) (option_map (λ x. x.span) xs)) (λ p. record { name = word_of w; arguments = xs; span = p })))))
+  directive = spanned directive_parts
 
-  abbrev pub last_end : Place → List (Directive C) → Place
-  last_end e [] = e
-  last_end e (d ∷ ds) = last_end d.span.end ds
-
-  -- directives from the first one's start to the last one's end; None where there is none
-  abbrev pub all_directives : List (Directive C) → Option (List (Directive C) × Span)
-  all_directives [] = None
-  all_directives (d ∷ ds) = Some (d ∷ ds, record { start = d.span.start; end = last_end d.span.end ds })
-
-  -- without their span
-  abbrev pub directives_of : Option (List (Directive C) × Span) → Directives C
-  directives_of o = option_map (λ x. x.0) o
+  -- None where there is none
+  abbrev pub directives_of : List (Directive C) → Directives C
+  directives_of [] = None
+  directives_of (d ∷ ds) = Some (d ∷ ds)
 
   -- Directive*
-  unfoldable pub directives : Steps C (Option (List (Directive C) × Span))
-  directives = each (of At) directive (λ ds. gives (all_directives ds))
+  unfoldable pub directives : Steps C (Directives C)
+  directives = each (of At) directive (λ ds. gives (directives_of ds))
 
   -- ---- variable definitions
 
@@ -140,66 +129,74 @@ module _ {C : Type 0} where
   -- "$" Name ":" Type ("=" Value(const))? Directive*
   unfoldable pub variable_definition : Steps C (VariableDefinition C)
   variable_definition = wants (of Dollar) (λ d. wants (of Name) (λ w. wants (of Colon) (λ c. part (symbol a_type) (λ x. part default (λ v. part directives (λ ds.
-      gives (record { name = record { text = w.text; span = over d w }; of_type = x.0; type_span = x.1; default = v; directives = directives_of ds })))))))
+      gives (record { name = record { text = w.text; span = over d w }; of_type = x.0; type_span = x.1; default = v; directives = ds })))))))
 
-  unfoldable pub variables_inner : Steps C (List (VariableDefinition C) × Span)
+  unfoldable pub variables_inner : Steps C (List (VariableDefinition C))
   variables_inner = several ParenClose variable_definition
 
   -- "(" VariableDefinition+ ")"
+  abbrev pub variables_parts : Steps C (Span → Variables C)
+  variables_parts = wants (of ParenOpen) (λ o. part variables_inner (λ xs. gives (λ p. record { items = xs; span = p })))
+
   unfoldable pub variables : Steps C (Variables C)
-  variables = spanned (wants (of ParenOpen) (λ o. part variables_inner (λ xs. gives_at (from_to o.span xs.1) (λ p. record { items = xs.0; span = p }))))
+  variables = spanned variables_parts
 
   unfoldable pub optional_variables : Steps C (Option (Variables C))
   optional_variables = optional ParenOpen variables
 
   -- ---- selections
 
-  unfoldable pub selections_inner : Steps C (List (Selection C) × Span)
+  unfoldable pub selections_inner : Steps C (List (Selection C))
   selections_inner = several CurlyClose (symbol a_selection)
 
-  -- "{" Selection+ "}", and its span
-  unfoldable pub selection_set : Steps C (Selections C × Span)
-  selection_set = spanned (wants (of CurlyOpen) (λ o. part selections_inner (λ ss. gives_at (from_to o.span ss.1) (λ p. (selections_of ss.0, p)))))
+  -- "{" Selection+ "}"
+  unfoldable pub selection_set : Steps C (Selections C)
+  selection_set = wants (of CurlyOpen) (λ o. part selections_inner (λ ss. gives (selections_of ss)))
 
-  unfoldable pub optional_set : Steps C (Option (Selections C × Span))
+  unfoldable pub optional_set : Steps C (Option (Selections C))
   optional_set = optional CurlyOpen selection_set
 
-  abbrev pub optional_of : Option (Selections C × Span) → OptionalSelections C
+  abbrev pub optional_of : Option (Selections C) → OptionalSelections C
   optional_of None = absent
-  optional_of (Some s) = present s.0
+  optional_of (Some s) = present s
 
   -- (Name ":")? Name
   abbrev pub names : Steps C (Option Word × Word)
   names = wants (of Name) (λ a. takes (of Colon) (λ c. wants (of Name) (λ t. gives (Some (word_of a), word_of t))) (gives (None, word_of a)))
 
   -- (Name ":")? Name Arguments? Directive* SelectionSet?
-  unfoldable pub field : Steps C (Selection C)
-  field = spanned (part names (λ n. part optional_arguments (λ xs. part directives (λ ds. part optional_set (λ ss.
-      gives_at (to_end_of (to_end_of (to_end_of (names_span n) (option_map (λ x. x.span) xs)) (option_map (λ x. x.1) ds)) (option_map (λ x. x.1) ss))
-      (Field n.0 n.1 xs (directives_of ds) (optional_of ss)))))))
+  abbrev pub field_parts : Steps C (Span → Selection C)
+  field_parts = part names (λ n. part optional_arguments (λ xs. part directives (λ ds. part optional_set (λ ss.
+      gives (Field n.0 n.1 xs ds (optional_of ss))))))
 
-  -- Directive*, after a FragmentName and three dots that stand at p
-  unfoldable pub named_spread : Span → Word → Steps C (Span → Selection C)
-  named_spread p w = part directives (λ ds. gives_at (to_end_of (from_to p w.span) (option_map (λ x. x.1) ds)) (FragmentSpread w (directives_of ds)))
+  unfoldable pub field : Steps C (Selection C)
+  field = spanned field_parts
+
+  -- Directive*, after three dots and a FragmentName
+  unfoldable pub named_spread : Word → Steps C (Span → Selection C)
+  named_spread w = part directives (λ ds. gives (FragmentSpread w ds))
 
   -- Directive* SelectionSet
-  unfoldable pub inline_parts : Steps C (Directives C × (Selections C × Span))
-  inline_parts = part directives (λ ds. part selection_set (λ ss. gives (directives_of ds, ss)))
+  unfoldable pub inline_parts : Steps C (Directives C × Selections C)
+  inline_parts = part directives (λ ds. part selection_set (λ ss. gives (ds, ss)))
 
-  -- Directive* SelectionSet, after three dots that stand at p
-  unfoldable pub inline : Span → Option Word → Steps C (Span → Selection C)
-  inline p w = part inline_parts (λ b. gives_at (from_to p b.1.1) (InlineFragment w b.0 b.1.0))
+  -- Directive* SelectionSet, after three dots
+  unfoldable pub inline : Option Word → Steps C (Span → Selection C)
+  inline w = part inline_parts (λ b. gives (InlineFragment w b.0 b.1))
 
-  -- Name Directive* SelectionSet, after `on` and three dots that stand at p
-  unfoldable pub typed : Span → Steps C (Span → Selection C)
-  typed p = wants (of Name) (λ t. inline p (Some (word_of t)))
+  -- Name Directive* SelectionSet, after three dots and `on`
+  unfoldable pub typed : Steps C (Span → Selection C)
+  typed = wants (of Name) (λ t. inline (Some (word_of t)))
 
   -- "..." FragmentName Directive* | "..." ("on" Name)? Directive* SelectionSet
+  abbrev pub spread_parts : Steps C (Span → Selection C)
+  spread_parts = wants (of Ellipsis) (λ e.
+      takes (word (codes "on")) (λ o. typed)
+      (takes other_than_on (λ t. named_spread (word_of t))
+      (inline None)))
+
   unfoldable pub spread : Steps C (Selection C)
-  spread = spanned (wants (of Ellipsis) (λ e.
-      takes (word (codes "on")) (λ o. typed e.span)
-      (takes other_than_on (λ t. named_spread e.span (word_of t))
-      (inline e.span None))))
+  spread = spanned spread_parts
 
   unfoldable pub any_selection : Steps C (Selection C)
   any_selection = sees (of Ellipsis) spread field
@@ -210,10 +207,9 @@ module _ {C : Type 0} where
   abbrev pub optional_name : Steps C (Option Word)
   optional_name = sees (of Name) (wants (of Name) (λ w. gives (Some (word_of w)))) (gives None)
 
-  -- Name? Variables? Directive* SelectionSet, after the word that stands at p
-  unfoldable pub operation : OperationType → Span → Steps C (Span → Definition C)
-  operation o p = part optional_name (λ n. part optional_variables (λ vs. part inline_parts (λ b.
-      gives_at (from_to p b.1.1) (Operation o n vs b.0 b.1.0))))
+  -- Name? Variables? Directive* SelectionSet, after the word
+  unfoldable pub operation : OperationType → Steps C (Span → Definition C)
+  operation o = part optional_name (λ n. part optional_variables (λ vs. part inline_parts (λ b. gives (Operation o n vs b.0 b.1))))
 
   -- "on" Name
   abbrev pub type_condition : Steps C Word
@@ -223,16 +219,19 @@ module _ {C : Type 0} where
   abbrev pub fragment_name : Steps C Word
   fragment_name = wants other_than_on (λ t. gives (word_of t))
 
-  -- FragmentName "on" Name Directive* SelectionSet, after the word that stands at p
-  unfoldable pub fragment : Span → Steps C (Span → Definition C)
-  fragment p = part fragment_name (λ n. part type_condition (λ t. part inline_parts (λ b. gives_at (from_to p b.1.1) (Fragment n t b.0 b.1.0))))
+  -- FragmentName "on" Name Directive* SelectionSet, after the word
+  unfoldable pub fragment : Steps C (Span → Definition C)
+  fragment = part fragment_name (λ n. part type_condition (λ t. part inline_parts (λ b. gives (Fragment n t b.0 b.1))))
 
   -- SelectionSet
   unfoldable pub shorthand : Steps C (Span → Definition C)
-  shorthand = part selection_set (λ s. gives_at s.1 (Operation Query None None None s.0))
+  shorthand = part selection_set (λ s. gives (Operation Query None None None s))
+
+  abbrev pub definition_parts : Steps C (Span → Definition C)
+  definition_parts = takes operation_word (λ w. operation (operation_of w.text)) (takes (word (codes "fragment")) (λ w. fragment) shorthand)
 
   unfoldable pub definition : Steps C (Definition C)
-  definition = spanned (takes operation_word (λ w. operation (operation_of w.text) w.span) (takes (word (codes "fragment")) (λ w. fragment w.span) shorthand))
+  definition = spanned definition_parts
 
   -- Definition+, and the end
   unfoldable pub document : Steps C (List (Definition C))

@@ -1,18 +1,18 @@
 -- A device: what a cursor returns where the steps of a production are read.
 use Rattle.std.specs.Prelude.{◌≡◌, List, [], ◌∷◌, ◌++◌, drop, Bool, Option, Some, None, Result, Ok, Err, if◌then◌else◌}
-use Rattle.graphql_lexical.specs.Place.{Span}
+use Rattle.graphql_lexical.specs.Place.{Place, Span}
 use Rattle.graphql_lexical.specs.declared.kind.Kind.{Kind}
 use Rattle.graphql_lexical.specs.Kinds.{same_kind}
 use Rattle.graphql_lexical.specs.Cutting.{Lexeme}
-use Rattle.graphql_grammar.specs.Tokens.{Text}
+use Rattle.graphql_grammar.specs.Tokens.{Text, span_of}
 use Rattle.graphql_grammar.specs.Tree.{Scalars, Value, Scalar, TypeRef, Selection}
-use Rattle.graphql_grammar.specs.device.Reading.{Test, passes, many, repeated, scalar_token, fully, Symbol, a_value, a_type, a_selection, Steps, gives, gives_at, wants, takes, sees, part, symbol, spanned, scalar, closed, each}
+use Rattle.graphql_grammar.specs.device.Reading.{Test, passes, many, repeated, scalar_token, fully, front, Symbol, a_value, a_type, a_selection, Steps, gives, wants, takes, sees, part, symbol, spanned, scalar, closed, each}
 use Rattle.graphql_grammar.specs.device.Productions.{symbol_at, reads}
 use Rattle.juniper_tokens.specs.Errors.{Error, unexpected}
 use Rattle.juniper_tokens.specs.declared.error.ParseFailure.{ParseFailure}
 use Rattle.juniper_tokens.specs.declared.span.Span as code
 use Rattle.juniper_tokens.specs.Spans.{view_span}
-use Rattle.juniper_tokens.specs.Cursor.{Read, Fails, ◌>>=◌, nowhere, first_of, kind_at, next_at, next_if}
+use Rattle.juniper_tokens.specs.Cursor.{Read, Fails, ◌>>=◌, first_of, kind_at, next_at, next_if}
 use Rattle.juniper.specs.device.Seen.{seen}
 
 -- a scalar token by the scalar type's reading; another token is reported as unexpected
@@ -69,34 +69,18 @@ module _ {C : Type 0} (S : Scalars C Error) where
   unfoldable pub each_read : {A : Type 0} → Test → Steps C A → List Lexeme → Read (List A)
   each_read test p ts = seen (fully (λ n. repeated test (reads S n p) n) ts)
 
-  abbrev mutual
-    pub cursor : {A : Type 0} → Steps C A → List Lexeme → Read A
-    cursor (gives a) ts = Ok (a, ts)
-    cursor (gives_at p a) ts = Ok (a, ts)
-    cursor (wants test k) ts = next_if (passes test (first_of ts)) ts >>= λ t. cursor (k t.0) t.1
-    cursor (takes test k p) ts = if passes test (first_of ts) then (next_at ts >>= λ t. cursor (k t.0) t.1) else cursor p ts
-    cursor (sees test p q) ts = if passes test (first_of ts) then cursor p ts else cursor q ts
-    cursor (part p k) ts = cursor p ts >>= λ x. cursor (k x.0) x.1
-    cursor (symbol r) ts = symbol_read r ts
-    cursor (spanned p) ts = located p ts >>= λ x. Ok (x.0.1 x.0.0, x.1)
-    cursor (scalar k) ts = scalar_read ts >>= λ v. cursor (k v.0) v.1
-    cursor (closed close p k) ts = closed_read close p ts >>= λ r. cursor (k r.0.0 r.0.1) r.1
-    cursor (each test p k) ts = each_read test p ts >>= λ r. cursor (k r.0) r.1
+  abbrev pub cursor : {A : Type 0} → Steps C A → List Lexeme → Read A
+  cursor (gives a) ts = Ok (a, ts)
+  cursor (wants test k) ts = next_if (passes test (first_of ts)) ts >>= λ t. cursor (k t.0) t.1
+  cursor (takes test k p) ts = if passes test (first_of ts) then (next_at ts >>= λ t. cursor (k t.0) t.1) else cursor p ts
+  cursor (sees test p q) ts = if passes test (first_of ts) then cursor p ts else cursor q ts
+  cursor (part p k) ts = cursor p ts >>= λ x. cursor (k x.0) x.1
+  cursor (symbol r) ts = symbol_read r ts
+  cursor (spanned p) ts = cursor p ts >>= λ x. Ok (x.0 (span_of (front ts x.1)), x.1)
+  cursor (scalar k) ts = scalar_read ts >>= λ v. cursor (k v.0) v.1
+  cursor (closed close p k) ts = closed_read close p ts >>= λ r. cursor (k r.0.0 r.0.1) r.1
+  cursor (each test p k) ts = each_read test p ts >>= λ r. cursor (k r.0) r.1
 
-    -- with the span that the last step gives
-    pub located : {A : Type 0} → Steps C A → List Lexeme → Read (Span × A)
-    located (gives a) ts = Ok ((nowhere, a), ts)
-    located (gives_at p a) ts = Ok ((p, a), ts)
-    located (wants test k) ts = next_if (passes test (first_of ts)) ts >>= λ t. located (k t.0) t.1
-    located (takes test k p) ts = if passes test (first_of ts) then (next_at ts >>= λ t. located (k t.0) t.1) else located p ts
-    located (sees test p q) ts = if passes test (first_of ts) then located p ts else located q ts
-    located (part p k) ts = cursor p ts >>= λ x. located (k x.0) x.1
-    located (symbol r) ts = symbol_read r ts >>= λ x. Ok ((nowhere, x.0), x.1)
-    located (spanned p) ts = located p ts >>= λ x. Ok ((nowhere, x.0.1 x.0.0), x.1)
-    located (scalar k) ts = scalar_read ts >>= λ v. located (k v.0) v.1
-    located (closed close p k) ts = closed_read close p ts >>= λ r. located (k r.0.0 r.0.1) r.1
-    located (each test p k) ts = each_read test p ts >>= λ r. located (k r.0) r.1
-
-  -- what is put together, with its span
-  abbrev pub whole : {A : Type 0} → Steps C (Span → A) → List Lexeme → Read A
-  whole p ts = located p ts >>= λ x. Ok (x.0.1 x.0.0, x.1)
+-- what lacks its span alone, with the span from one place to another
+abbrev pub at_span : {A : Type 0} → Place → Place → Read (Span → A) → Read A
+at_span start end r = r >>= λ x. Ok (x.0 (record { start = start; end = end }), x.1)

@@ -7,8 +7,8 @@ ghost use Rattle.juniper_tokens.specs.Tokens.{view_name};
 ghost use Rattle.juniper_tokens.specs.Cursor.{EndsOnce, Gives, first_of, refused_at};
 ghost use Rattle.juniper.specs.View.{view_word, view_definition};
 ghost use Rattle.juniper.specs.Scalars.{stated};
-ghost use Rattle.juniper_tokens.specs.Spans.{view_span};
-ghost use Rattle.juniper.specs.device.Steps.{no_scalars, cursor, whole};
+ghost use Rattle.juniper_tokens.specs.Taking.{left, last_end, GoesOn};
+ghost use Rattle.juniper.specs.device.Steps.{no_scalars, cursor, at_span};
 
 use crate::parser::next::{next_is, next_is_word, take_next};
 use crate::parser::selection::{parse_inline_parts, parse_selection_set};
@@ -16,7 +16,7 @@ use crate::parser::variables::parse_optional_variables;
 use crate::tree::ast::{Definition, Fragment, Operation};
 use graphql_grammar::OperationType;
 use juniper_tokens::{
-    Cursor, Kind, OptionParseResult, ParseResult, Span, Spanning, UnlocatedParseResult,
+    Cursor, Kind, OptionParseResult, ParseResult, SourcePosition, Spanning, UnlocatedParseResult,
 };
 use juniper_values::ScalarValue;
 
@@ -27,20 +27,22 @@ use juniper_values::ScalarValue;
 pub(crate) fn parse_definition<'a, S: ScalarValue>(
     tokens: &mut Cursor<'_, 'a>,
 ) -> UnlocatedParseResult<Definition<'a, S>>
-    ensures gives { Gives (view_definition S.content) result tokens.new (cursor (stated S.reading S.of_bool) definition tokens.old) }
-    ensures shorter { OnOk result (length tokens.new < length tokens.old) }
+    ensures gives { Gives (view_definition S.content) result (left tokens.new) (cursor (stated S.reading S.of_bool) definition (left tokens.old)) }
+    ensures shorter { OnOk result (length (left tokens.new) < length (left tokens.old)) }
+    ensures on { OnOk result (GoesOn tokens.old tokens.new) }
 {
+    let start = tokens.mark();
     match next_operation(tokens) {
         Some(operation_type) => {
-            let word = take_next(tokens);
-            parse_operation(tokens, operation_type, word)
+            take_next(tokens);
+            parse_operation(tokens, operation_type, start)
         }
         None => {
             if next_is_word(tokens, "fragment") {
-                let word = take_next(tokens);
-                parse_fragment(tokens, word)
+                take_next(tokens);
+                parse_fragment(tokens, start)
             } else {
-                parse_shorthand(tokens)
+                parse_shorthand(tokens, start)
             }
         }
     }
@@ -49,7 +51,7 @@ pub(crate) fn parse_definition<'a, S: ScalarValue>(
 /// The type of the operation that the next token begins, or None. The token is not taken.
 #[tactic(auto, using(crate::proofs::Names::query_is, crate::proofs::Names::mutation_is, crate::proofs::Names::subscription_is, crate::proofs::Names::operation_type_is))]
 fn next_operation(tokens: &Cursor<'_, '_>) -> Option<OperationType>
-    ensures { result ≡ (if passes operation_word (first_of tokens.now) then Some (operation_of (first_of tokens.now).text) else None) }
+    ensures { result ≡ (if passes operation_word (first_of (left tokens.now)) then Some (operation_of (first_of (left tokens.now)).text) else None) }
 {
     if next_is_word(tokens, "mutation") {
         Some(OperationType::Mutation)
@@ -62,59 +64,63 @@ fn next_operation(tokens: &Cursor<'_, '_>) -> Option<OperationType>
     }
 }
 
-/// `SelectionSet`
+/// `SelectionSet`, which stands at `start`.
 #[tactic(auto, unfolding(graphql_grammar::specs::device::Productions::shorthand))]
 fn parse_shorthand<'a, S: ScalarValue>(
     tokens: &mut Cursor<'_, 'a>,
+    start: SourcePosition,
 ) -> UnlocatedParseResult<Definition<'a, S>>
-    ensures gives { Gives (view_definition S.content) result tokens.new (whole (stated S.reading S.of_bool) shorthand tokens.old) }
-    ensures shorter { OnOk result (length tokens.new < length tokens.old) }
+    ensures gives { Gives (view_definition S.content) result (left tokens.new) (at_span start (last_end tokens.new) (cursor (stated S.reading S.of_bool) shorthand (left tokens.old))) }
+    ensures shorter { OnOk result (length (left tokens.new) < length (left tokens.old)) }
+    ensures on { OnOk result (GoesOn tokens.old tokens.new) }
+    ensures within { OnOk result (tokens.new.taken < length tokens.new.tokens) }
 {
-    let set = parse_selection_set(tokens)?;
+    let selection_set = parse_selection_set(tokens)?;
     Ok(Definition::Operation(Spanning::new(
-        set.span,
+        tokens.span_from(start),
         Operation {
             operation_type: OperationType::Query,
             name: None,
             variable_definitions: None,
             directives: None,
-            selection_set: set.item,
+            selection_set,
         },
     )))
 }
 
-/// `Name? Variables? Directive* SelectionSet`, after the word of this type.
+/// `Name? Variables? Directive* SelectionSet`, after the word of this type, which stands at `start`.
 #[tactic(auto, unfolding(graphql_grammar::specs::device::Productions::operation))]
 fn parse_operation<'a, S: ScalarValue>(
     tokens: &mut Cursor<'_, 'a>,
     operation_type: OperationType,
-    word: Span,
+    start: SourcePosition,
 ) -> UnlocatedParseResult<Definition<'a, S>>
-    ensures gives { Gives (view_definition S.content) result tokens.new (whole (stated S.reading S.of_bool) (operation operation_type (view_span word)) tokens.old) }
-    ensures shorter { OnOk result (length tokens.new < length tokens.old) }
+    ensures gives { Gives (view_definition S.content) result (left tokens.new) (at_span start (last_end tokens.new) (cursor (stated S.reading S.of_bool) (operation operation_type) (left tokens.old))) }
+    ensures shorter { OnOk result (length (left tokens.new) < length (left tokens.old)) }
+    ensures on { OnOk result (GoesOn tokens.old tokens.new) }
+    ensures within { OnOk result (tokens.new.taken < length tokens.new.tokens) }
 {
     let name = parse_optional_name(tokens)?;
     let variable_definitions = parse_optional_variables(tokens)?;
-    let (directives, set) = parse_inline_parts(tokens)?;
-    let end = set.span.end;
-    Ok(Definition::Operation(Spanning::start_end(
-        &word.start,
-        &end,
+    let (directives, selection_set) = parse_inline_parts(tokens)?;
+    Ok(Definition::Operation(Spanning::new(
+        tokens.span_from(start),
         Operation {
             operation_type,
             name,
             variable_definitions,
             directives,
-            selection_set: set.item,
+            selection_set,
         },
     )))
 }
 
 /// `Name?`
-#[tactic(auto, unfolding(juniper_tokens::specs::Cursor::expect_name_at))]
+#[tactic(auto, using(juniper_tokens::proofs::Public::stays), unfolding(juniper_tokens::specs::Cursor::expect_name_at))]
 fn parse_optional_name<'a>(tokens: &mut Cursor<'_, 'a>) -> OptionParseResult<&'a str>
-    ensures gives { Gives (option_map view_word) result tokens.new (cursor no_scalars optional_name tokens.old) }
-    ensures not_longer { OnOk result (length tokens.new ≤ length tokens.old) }
+    ensures gives { Gives (option_map view_word) result (left tokens.new) (cursor no_scalars optional_name (left tokens.old)) }
+    ensures not_longer { OnOk result (length (left tokens.new) ≤ length (left tokens.old)) }
+    ensures on { OnOk result (GoesOn tokens.old tokens.new) }
 {
     if next_is(tokens, Kind::Name) {
         Ok(Some(tokens.expect_name()?))
@@ -123,27 +129,27 @@ fn parse_optional_name<'a>(tokens: &mut Cursor<'_, 'a>) -> OptionParseResult<&'a
     }
 }
 
-/// `FragmentName "on" Name Directive* SelectionSet`, after the word `fragment`.
+/// `FragmentName "on" Name Directive* SelectionSet`, after the word `fragment`, which stands at `start`.
 #[tactic(auto, unfolding(graphql_grammar::specs::device::Productions::fragment))]
 fn parse_fragment<'a, S: ScalarValue>(
     tokens: &mut Cursor<'_, 'a>,
-    word: Span,
+    start: SourcePosition,
 ) -> UnlocatedParseResult<Definition<'a, S>>
-    ensures gives { Gives (view_definition S.content) result tokens.new (whole (stated S.reading S.of_bool) (fragment (view_span word)) tokens.old) }
-    ensures shorter { OnOk result (length tokens.new < length tokens.old) }
+    ensures gives { Gives (view_definition S.content) result (left tokens.new) (at_span start (last_end tokens.new) (cursor (stated S.reading S.of_bool) fragment (left tokens.old))) }
+    ensures shorter { OnOk result (length (left tokens.new) < length (left tokens.old)) }
+    ensures on { OnOk result (GoesOn tokens.old tokens.new) }
+    ensures within { OnOk result (tokens.new.taken < length tokens.new.tokens) }
 {
     let name = parse_fragment_name(tokens)?;
     let type_condition = parse_type_condition(tokens)?;
-    let (directives, set) = parse_inline_parts(tokens)?;
-    let end = set.span.end;
-    Ok(Definition::Fragment(Spanning::start_end(
-        &word.start,
-        &end,
+    let (directives, selection_set) = parse_inline_parts(tokens)?;
+    Ok(Definition::Fragment(Spanning::new(
+        tokens.span_from(start),
         Fragment {
             name,
             type_condition,
             directives,
-            selection_set: set.item,
+            selection_set,
         },
     )))
 }
@@ -151,8 +157,9 @@ fn parse_fragment<'a, S: ScalarValue>(
 /// `FragmentName = a Name other than "on"`
 #[tactic(auto, using(crate::proofs::Names::on_is), unfolding(juniper_tokens::specs::Cursor::expect_name_at))]
 fn parse_fragment_name<'a>(tokens: &mut Cursor<'_, 'a>) -> ParseResult<&'a str>
-    ensures gives { Gives view_word result tokens.new (cursor no_scalars fragment_name tokens.old) }
-    ensures shorter { OnOk result (length tokens.new < length tokens.old) }
+    ensures gives { Gives view_word result (left tokens.new) (cursor no_scalars fragment_name (left tokens.old)) }
+    ensures shorter { OnOk result (length (left tokens.new) < length (left tokens.old)) }
+    ensures on { OnOk result (GoesOn tokens.old tokens.new) }
 {
     if next_is_word(tokens, "on") {
         tokens.refuse()
@@ -162,10 +169,11 @@ fn parse_fragment_name<'a>(tokens: &mut Cursor<'_, 'a>) -> ParseResult<&'a str>
 }
 
 /// `"on" Name`
-#[tactic(auto, using(crate::proofs::Names::on_is, crate::proofs::Cursors::word_is_no_end), unfolding(juniper_tokens::specs::Cursor::expect_name_at))]
+#[tactic(auto, using(crate::proofs::Names::on_is, crate::proofs::Cursors::word_is_no_end, juniper_tokens::proofs::Public::goes_further), unfolding(juniper_tokens::specs::Cursor::expect_name_at))]
 fn parse_type_condition<'a>(tokens: &mut Cursor<'_, 'a>) -> ParseResult<&'a str>
-    ensures gives { Gives view_word result tokens.new (cursor no_scalars type_condition tokens.old) }
-    ensures shorter { OnOk result (length tokens.new < length tokens.old) }
+    ensures gives { Gives view_word result (left tokens.new) (cursor no_scalars type_condition (left tokens.old)) }
+    ensures shorter { OnOk result (length (left tokens.new) < length (left tokens.old)) }
+    ensures on { OnOk result (GoesOn tokens.old tokens.new) }
 {
     if next_is_word(tokens, "on") {
         take_next(tokens);

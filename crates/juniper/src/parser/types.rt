@@ -3,6 +3,7 @@ ghost use Rattle.std.specs.Prelude.{◌≡◌, ◌<◌, ◌≤◌, length, OnOk}
 ghost use Rattle.graphql_grammar.specs.device.Productions.{named_type, list_type, nullable_type, non_null};
 ghost use Rattle.juniper_tokens.specs.Cursor.{EndsOnce, Gives, OnMemory};
 ghost use Rattle.juniper_tokens.specs.Delimited.{IsRest};
+ghost use Rattle.juniper_tokens.specs.Taking.{left, GoesOn};
 ghost use Rattle.juniper.specs.Promise.{AnswersType};
 ghost use Rattle.juniper.specs.View.{view_spanned_type};
 ghost use Rattle.juniper.specs.device.Steps.{no_scalars, cursor, type_read};
@@ -34,11 +35,12 @@ pub fn parse_type<'a>(parser: &mut Parser<'a>) -> ParseResult<Type<&'a str>>
 
 /// `Type = Name "!"? | "[" Type "]" "!"?`
 #[cycle(types)]
+#[tactic(auto, using(juniper_tokens::proofs::Public::goes_further))]
 pub(crate) fn parse_any_type<'a>(tokens: &mut Cursor<'_, 'a>) -> ParseResult<Type<&'a str>>
-    ensures gives { Gives view_spanned_type result tokens.new (type_read tokens.old) }
-    ensures ended { EndsOnce tokens.old }
-    ensures shorter { OnOk result (length tokens.new < length tokens.old) }
-    ensures rest { IsRest tokens.old tokens.new }
+    ensures gives { Gives view_spanned_type result (left tokens.new) (type_read (left tokens.old)) }
+    ensures ended { EndsOnce (left tokens.old) }
+    ensures shorter { OnOk result (length (left tokens.new) < length (left tokens.old)) }
+    ensures on { GoesOn tokens.old tokens.new }
 {
     let inner = parse_nullable_type(tokens)?;
     parse_non_null(tokens, inner)
@@ -48,10 +50,10 @@ pub(crate) fn parse_any_type<'a>(tokens: &mut Cursor<'_, 'a>) -> ParseResult<Typ
 #[cycle(types)]
 #[tactic(auto, unfolding(graphql_grammar::specs::device::Productions::nullable_type))]
 fn parse_nullable_type<'a>(tokens: &mut Cursor<'_, 'a>) -> ParseResult<Type<&'a str>>
-    ensures gives { Gives view_spanned_type result tokens.new (cursor no_scalars nullable_type tokens.old) }
-    ensures ended { EndsOnce tokens.old }
-    ensures shorter { OnOk result (length tokens.new < length tokens.old) }
-    ensures rest { IsRest tokens.old tokens.new }
+    ensures gives { Gives view_spanned_type result (left tokens.new) (cursor no_scalars nullable_type (left tokens.old)) }
+    ensures ended { EndsOnce (left tokens.old) }
+    ensures shorter { OnOk result (length (left tokens.new) < length (left tokens.old)) }
+    ensures on { GoesOn tokens.old tokens.new }
 {
     if next_is(tokens, Kind::Name) {
         parse_named_type(tokens)
@@ -63,9 +65,9 @@ fn parse_nullable_type<'a>(tokens: &mut Cursor<'_, 'a>) -> ParseResult<Type<&'a 
 /// `Name`
 #[tactic(auto, unfolding(graphql_grammar::specs::device::Productions::named_type, juniper_tokens::specs::Cursor::expect_name_at))]
 fn parse_named_type<'a>(tokens: &mut Cursor<'_, 'a>) -> ParseResult<Type<&'a str>>
-    ensures gives { Gives view_spanned_type result tokens.new (cursor no_scalars named_type tokens.old) }
-    ensures shorter { OnOk result (length tokens.new < length tokens.old) }
-    ensures rest { IsRest tokens.old tokens.new }
+    ensures gives { Gives view_spanned_type result (left tokens.new) (cursor no_scalars named_type (left tokens.old)) }
+    ensures shorter { OnOk result (length (left tokens.new) < length (left tokens.old)) }
+    ensures on { GoesOn tokens.old tokens.new }
 {
     let name = tokens.expect_name()?;
     Ok(Spanning::new(name.span, Type::nullable(name.item)))
@@ -73,11 +75,11 @@ fn parse_named_type<'a>(tokens: &mut Cursor<'_, 'a>) -> ParseResult<Type<&'a str
 
 /// `"[" Type "]"`
 #[cycle(types)]
-#[tactic(auto, using(crate::proofs::Wrapping::wrapped_list), unfolding(graphql_grammar::specs::device::Productions::list_type))]
+#[tactic(auto, using(juniper_tokens::proofs::Public::goes_further, crate::proofs::Wrapping::wrapped_list), unfolding(graphql_grammar::specs::device::Productions::list_type))]
 fn parse_list_type<'a>(tokens: &mut Cursor<'_, 'a>) -> ParseResult<Type<&'a str>>
-    ensures gives { Gives view_spanned_type result tokens.new (cursor no_scalars list_type tokens.old) }
-    ensures shorter { OnOk result (length tokens.new < length tokens.old) }
-    ensures rest { IsRest tokens.old tokens.new }
+    ensures gives { Gives view_spanned_type result (left tokens.new) (cursor no_scalars list_type (left tokens.old)) }
+    ensures shorter { OnOk result (length (left tokens.new) < length (left tokens.old)) }
+    ensures on { GoesOn tokens.old tokens.new }
 {
     let opening = expect_kind(tokens, Kind::BracketOpen)?;
     let inner = parse_any_type(tokens)?;
@@ -94,9 +96,9 @@ fn parse_non_null<'a>(
     tokens: &mut Cursor<'_, 'a>,
     inner: Spanning<Type<&'a str>>,
 ) -> ParseResult<Type<&'a str>>
-    ensures gives { Gives view_spanned_type result tokens.new (cursor no_scalars (non_null (view_spanned_type inner.entry)) tokens.old) }
-    ensures not_longer { OnOk result (length tokens.new ≤ length tokens.old) }
-    ensures rest { IsRest tokens.old tokens.new }
+    ensures gives { Gives view_spanned_type result (left tokens.new) (cursor no_scalars (non_null (view_spanned_type inner.entry)) (left tokens.old)) }
+    ensures not_longer { OnOk result (length (left tokens.new) ≤ length (left tokens.old)) }
+    ensures on { GoesOn tokens.old tokens.new }
 {
     if !next_is(tokens, Kind::ExclamationMark) {
         return Ok(inner);

@@ -9,6 +9,7 @@ ghost use Rattle.juniper_tokens.specs.Tokens.{token_kind, token_text};
 ghost use Rattle.juniper_tokens.specs.Spans.{view_span};
 ghost use Rattle.juniper_tokens.specs.Cursor.{EndsOnce, Gives, OnMemory};
 ghost use Rattle.juniper_tokens.specs.Delimited.{IsRest};
+ghost use Rattle.juniper_tokens.specs.Taking.{left, GoesOn};
 ghost use Rattle.juniper.specs.Promise.{AnswersValue};
 ghost use Rattle.juniper.specs.View.{view_value, view_object_field};
 ghost use Rattle.juniper.specs.device.PartViews.{view_list};
@@ -59,10 +60,10 @@ pub(crate) fn parse_value<'a, S: ScalarValue>(
     tokens: &mut Cursor<'_, 'a>,
     is_const: bool,
 ) -> ParseResult<InputValue<S>>
-    ensures gives { Gives (view_value S.content) result tokens.new (value_read (stated S.reading S.of_bool) (not is_const) tokens.old) }
-    ensures ended { EndsOnce tokens.old }
-    ensures shorter { OnOk result (length tokens.new < length tokens.old) }
-    ensures rest { IsRest tokens.old tokens.new }
+    ensures gives { Gives (view_value S.content) result (left tokens.new) (value_read (stated S.reading S.of_bool) (not is_const) (left tokens.old)) }
+    ensures ended { EndsOnce (left tokens.old) }
+    ensures shorter { OnOk result (length (left tokens.new) < length (left tokens.old)) }
+    ensures on { GoesOn tokens.old tokens.new }
 {
     match tokens.kind() {
         Kind::BracketOpen => {
@@ -88,15 +89,15 @@ pub(crate) fn parse_value<'a, S: ScalarValue>(
 
 /// `Value(c)* "]"`, after the bracket that stands at `opening`.
 #[cycle(value)]
-#[tactic(auto, unfolding(graphql_grammar::specs::device::Productions::list))]
+#[tactic(auto, using(juniper_tokens::proofs::Public::goes_further), unfolding(graphql_grammar::specs::device::Productions::list))]
 fn parse_list<'a, S: ScalarValue>(
     tokens: &mut Cursor<'_, 'a>,
     is_const: bool,
     opening: Span,
 ) -> ParseResult<InputValue<S>>
-    ensures gives { Gives (view_value S.content) result tokens.new (cursor (stated S.reading S.of_bool) (list (not is_const) (view_span opening)) tokens.old) }
-    ensures shorter { OnOk result (length tokens.new < length tokens.old) }
-    ensures rest { IsRest tokens.old tokens.new }
+    ensures gives { Gives (view_value S.content) result (left tokens.new) (cursor (stated S.reading S.of_bool) (list (not is_const) (view_span opening)) (left tokens.old)) }
+    ensures shorter { OnOk result (length (left tokens.new) < length (left tokens.old)) }
+    ensures on { GoesOn tokens.old tokens.new }
 {
     let items = parse_items(tokens, is_const)?;
     let end = items.span.end;
@@ -105,13 +106,14 @@ fn parse_list<'a, S: ScalarValue>(
 
 /// `Value(c)* "]"`, with the place of the bracket.
 #[cycle(value)]
+#[tactic(auto, using(juniper_tokens::proofs::Public::goes_further))]
 fn parse_items<'a, S: ScalarValue>(
     tokens: &mut Cursor<'_, 'a>,
     is_const: bool,
 ) -> ParseResult<Vec<Spanning<InputValue<S>>>>
-    ensures gives { Gives (view_list (view_value S.content)) result tokens.new (closed_read (stated S.reading S.of_bool) (of BracketClose) (symbol (a_value (not is_const))) tokens.old) }
-    ensures shorter { OnOk result (length tokens.new < length tokens.old) }
-    ensures rest { IsRest tokens.old tokens.new }
+    ensures gives { Gives (view_list (view_value S.content)) result (left tokens.new) (closed_read (stated S.reading S.of_bool) (of BracketClose) (symbol (a_value (not is_const))) (left tokens.old)) }
+    ensures shorter { OnOk result (length (left tokens.new) < length (left tokens.old)) }
+    ensures on { GoesOn tokens.old tokens.new }
 {
     let mut items = Vec::new(tokens.allocator());
     loop {
@@ -126,15 +128,15 @@ fn parse_items<'a, S: ScalarValue>(
 
 /// `(Name ":" Value(c))* "}"`, after the brace that stands at `opening`.
 #[cycle(value)]
-#[tactic(auto, unfolding(graphql_grammar::specs::device::Productions::object))]
+#[tactic(auto, using(juniper_tokens::proofs::Public::goes_further), unfolding(graphql_grammar::specs::device::Productions::object))]
 fn parse_object<'a, S: ScalarValue>(
     tokens: &mut Cursor<'_, 'a>,
     is_const: bool,
     opening: Span,
 ) -> ParseResult<InputValue<S>>
-    ensures gives { Gives (view_value S.content) result tokens.new (cursor (stated S.reading S.of_bool) (object (not is_const) (view_span opening)) tokens.old) }
-    ensures shorter { OnOk result (length tokens.new < length tokens.old) }
-    ensures rest { IsRest tokens.old tokens.new }
+    ensures gives { Gives (view_value S.content) result (left tokens.new) (cursor (stated S.reading S.of_bool) (object (not is_const) (view_span opening)) (left tokens.old)) }
+    ensures shorter { OnOk result (length (left tokens.new) < length (left tokens.old)) }
+    ensures on { GoesOn tokens.old tokens.new }
 {
     let fields = parse_fields(tokens, is_const)?;
     let end = fields.span.end;
@@ -143,13 +145,14 @@ fn parse_object<'a, S: ScalarValue>(
 
 /// `(Name ":" Value(c))* "}"`, with the place of the brace.
 #[cycle(value)]
+#[tactic(auto, using(juniper_tokens::proofs::Public::goes_further))]
 fn parse_fields<'a, S: ScalarValue>(
     tokens: &mut Cursor<'_, 'a>,
     is_const: bool,
 ) -> ParseResult<Vec<(Spanning<String>, Spanning<InputValue<S>>)>>
-    ensures gives { Gives (view_list (view_object_field S.content)) result tokens.new (closed_read (stated S.reading S.of_bool) (of CurlyClose) (key_and_value (not is_const)) tokens.old) }
-    ensures shorter { OnOk result (length tokens.new < length tokens.old) }
-    ensures rest { IsRest tokens.old tokens.new }
+    ensures gives { Gives (view_list (view_object_field S.content)) result (left tokens.new) (closed_read (stated S.reading S.of_bool) (of CurlyClose) (key_and_value (not is_const)) (left tokens.old)) }
+    ensures shorter { OnOk result (length (left tokens.new) < length (left tokens.old)) }
+    ensures on { GoesOn tokens.old tokens.new }
 {
     let mut fields = Vec::new(tokens.allocator());
     loop {
@@ -164,14 +167,14 @@ fn parse_fields<'a, S: ScalarValue>(
 
 /// `Name ":" Value(c)`
 #[cycle(value)]
-#[tactic(auto, unfolding(graphql_grammar::specs::device::Productions::key_and_value, juniper_tokens::specs::Cursor::expect_name_at))]
+#[tactic(auto, using(juniper_tokens::proofs::Public::goes_further), unfolding(graphql_grammar::specs::device::Productions::key_and_value, juniper_tokens::specs::Cursor::expect_name_at))]
 fn parse_object_field<'a, S: ScalarValue>(
     tokens: &mut Cursor<'_, 'a>,
     is_const: bool,
 ) -> Result<(Spanning<String>, Spanning<InputValue<S>>), ParseFailure>
-    ensures gives { Gives (view_object_field S.content) result tokens.new (cursor (stated S.reading S.of_bool) (key_and_value (not is_const)) tokens.old) }
-    ensures shorter { OnOk result (length tokens.new < length tokens.old) }
-    ensures rest { IsRest tokens.old tokens.new }
+    ensures gives { Gives (view_object_field S.content) result (left tokens.new) (cursor (stated S.reading S.of_bool) (key_and_value (not is_const)) (left tokens.old)) }
+    ensures shorter { OnOk result (length (left tokens.new) < length (left tokens.old)) }
+    ensures on { GoesOn tokens.old tokens.new }
 {
     let key = tokens.expect_name()?;
     expect_kind(tokens, Kind::Colon)?;
@@ -186,9 +189,9 @@ fn parse_variable<'a, S: ScalarValue>(
     tokens: &mut Cursor<'_, 'a>,
     dollar: Span,
 ) -> ParseResult<InputValue<S>>
-    ensures gives { Gives (view_value S.content) result tokens.new (cursor (stated S.reading S.of_bool) (variable (view_span dollar)) tokens.old) }
-    ensures shorter { OnOk result (length tokens.new < length tokens.old) }
-    ensures rest { IsRest tokens.old tokens.new }
+    ensures gives { Gives (view_value S.content) result (left tokens.new) (cursor (stated S.reading S.of_bool) (variable (view_span dollar)) (left tokens.old)) }
+    ensures shorter { OnOk result (length (left tokens.new) < length (left tokens.old)) }
+    ensures on { GoesOn tokens.old tokens.new }
 {
     let name = tokens.expect_name()?;
     let text = String::from_str(tokens.allocator(), name.item)?;
@@ -198,9 +201,9 @@ fn parse_variable<'a, S: ScalarValue>(
 /// A scalar token. Another token is refused.
 #[tactic(auto, using(crate::proofs::ValueViews::view_of_scalar), unfolding(crate::specs::device::Steps::scalar_read))]
 fn parse_scalar<'a, S: ScalarValue>(tokens: &mut Cursor<'_, 'a>) -> ParseResult<InputValue<S>>
-    ensures gives { Gives (view_value S.content) result tokens.new (scalar_read (stated S.reading S.of_bool) tokens.old) }
-    ensures shorter { OnOk result (length tokens.new < length tokens.old) }
-    ensures rest { IsRest tokens.old tokens.new }
+    ensures gives { Gives (view_value S.content) result (left tokens.new) (scalar_read (stated S.reading S.of_bool) (left tokens.old)) }
+    ensures shorter { OnOk result (length (left tokens.new) < length (left tokens.old)) }
+    ensures on { GoesOn tokens.old tokens.new }
 {
     let token = tokens.next_token()?;
     match scalar_of(tokens.allocator(), token.item) {

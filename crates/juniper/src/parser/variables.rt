@@ -2,28 +2,31 @@
 ghost use Rattle.std.specs.Prelude.{◌≡◌, ◌<◌, ◌≤◌, length, option_map, OnOk};
 ghost use Rattle.graphql_grammar.specs.device.Productions.{default, variable_definition, variables_inner, variables, optional_variables};
 ghost use Rattle.juniper_tokens.specs.Cursor.{Gives};
+ghost use Rattle.juniper_tokens.specs.Taking.{left, GoesOn};
 ghost use Rattle.juniper.specs.View.{view_value, view_variable, view_variables};
 ghost use Rattle.juniper.specs.Scalars.{stated};
-ghost use Rattle.juniper.specs.device.PartViews.{view_list};
+ghost use Rattle.juniper.specs.device.PartViews.{view_items};
 ghost use Rattle.juniper.specs.device.Steps.{cursor};
 
 use crate::parser::directives::parse_directives;
 use crate::parser::lists::push_item;
-use crate::parser::next::{expect_kind, next_is, take_closing, take_next};
-use crate::parser::spans::item_of;
+use crate::parser::next::{expect_kind, next_is, take_if, take_next};
 use crate::parser::types::parse_any_type;
 use crate::parser::value::parse_value;
 use crate::tree::ast::{VariableDefinition, VariableDefinitions};
-use juniper_tokens::{Cursor, Kind, OptionParseResult, ParseFailure, ParseResult, Spanning};
+use juniper_tokens::{
+    Cursor, Kind, OptionParseResult, ParseFailure, ParseResult, Spanning, UnlocatedParseResult,
+};
 use juniper_values::{InputValue, ScalarValue};
 
 /// `("=" Value(const))?`
-#[tactic(auto, unfolding(graphql_grammar::specs::device::Productions::default))]
+#[tactic(auto, using(juniper_tokens::proofs::Public::goes_further, juniper_tokens::proofs::Public::stays), unfolding(graphql_grammar::specs::device::Productions::default))]
 fn parse_default<'a, S: ScalarValue>(
     tokens: &mut Cursor<'_, 'a>,
 ) -> OptionParseResult<InputValue<S>>
-    ensures gives { Gives (option_map (view_value S.content)) result tokens.new (cursor (stated S.reading S.of_bool) default tokens.old) }
-    ensures not_longer { OnOk result (length tokens.new ≤ length tokens.old) }
+    ensures gives { Gives (option_map (view_value S.content)) result (left tokens.new) (cursor (stated S.reading S.of_bool) default (left tokens.old)) }
+    ensures not_longer { OnOk result (length (left tokens.new) ≤ length (left tokens.old)) }
+    ensures on { OnOk result (GoesOn tokens.old tokens.new) }
 {
     if next_is(tokens, Kind::Equals) {
         take_next(tokens);
@@ -34,19 +37,20 @@ fn parse_default<'a, S: ScalarValue>(
 }
 
 /// `"$" Name ":" Type ("=" Value(const))? Directive*`
-#[tactic(auto, using(crate::proofs::PartViews::without_span), unfolding(graphql_grammar::specs::device::Productions::variable_definition, juniper_tokens::specs::Cursor::expect_name_at))]
+#[tactic(auto, using(juniper_tokens::proofs::Public::goes_further), unfolding(graphql_grammar::specs::device::Productions::variable_definition, juniper_tokens::specs::Cursor::expect_name_at))]
 fn parse_variable_definition<'a, S: ScalarValue>(
     tokens: &mut Cursor<'_, 'a>,
 ) -> Result<(Spanning<&'a str>, VariableDefinition<'a, S>), ParseFailure>
-    ensures gives { Gives (view_variable S.content) result tokens.new (cursor (stated S.reading S.of_bool) variable_definition tokens.old) }
-    ensures shorter { OnOk result (length tokens.new < length tokens.old) }
+    ensures gives { Gives (view_variable S.content) result (left tokens.new) (cursor (stated S.reading S.of_bool) variable_definition (left tokens.old)) }
+    ensures shorter { OnOk result (length (left tokens.new) < length (left tokens.old)) }
+    ensures on { OnOk result (GoesOn tokens.old tokens.new) }
 {
     let start = expect_kind(tokens, Kind::Dollar)?.start;
     let name = tokens.expect_name()?;
     expect_kind(tokens, Kind::Colon)?;
     let var_type = parse_any_type(tokens)?;
     let default_value = parse_default(tokens)?;
-    let directives = item_of(parse_directives(tokens)?);
+    let directives = parse_directives(tokens)?;
     let end = name.span.end;
     Ok((
         Spanning::start_end(&start, &end, name.item),
@@ -58,50 +62,50 @@ fn parse_variable_definition<'a, S: ScalarValue>(
     ))
 }
 
-/// `("$" Name ":" Type ("=" Value(const))? Directive*)+ ")"`, with the place of the parenthesis.
+/// `("$" Name ":" Type ("=" Value(const))? Directive*)+ ")"`
+#[tactic(auto, using(juniper_tokens::proofs::Public::goes_further, juniper_tokens::proofs::Public::stays))]
 fn parse_variable_list<'a, S: ScalarValue>(
     tokens: &mut Cursor<'_, 'a>,
-) -> ParseResult<Vec<(Spanning<&'a str>, VariableDefinition<'a, S>)>>
-    ensures gives { Gives (view_list (view_variable S.content)) result tokens.new (cursor (stated S.reading S.of_bool) variables_inner tokens.old) }
-    ensures shorter { OnOk result (length tokens.new < length tokens.old) }
+) -> UnlocatedParseResult<Vec<(Spanning<&'a str>, VariableDefinition<'a, S>)>>
+    ensures gives { Gives (view_items (view_variable S.content)) result (left tokens.new) (cursor (stated S.reading S.of_bool) variables_inner (left tokens.old)) }
+    ensures shorter { OnOk result (length (left tokens.new) < length (left tokens.old)) }
+    ensures on { OnOk result (GoesOn tokens.old tokens.new) }
 {
     let mut items = Vec::new(tokens.allocator());
     loop {
         let variable = parse_variable_definition(tokens)?;
         let is_last = next_is(tokens, Kind::ParenClose);
         push_item(&mut items, variable, is_last)?;
-        if let Some(closing) = take_closing(tokens, Kind::ParenClose) {
-            return Ok(Spanning::new(closing, items));
+        if take_if(tokens, Kind::ParenClose) {
+            return Ok(items);
         }
     }
 }
 
 /// `Variables = "(" ("$" Name ":" Type ("=" Value(const))? Directive*)+ ")"`
 #[inline(never)]
-#[tactic(auto, unfolding(graphql_grammar::specs::device::Productions::variables))]
+#[tactic(auto, using(juniper_tokens::proofs::Public::goes_further, juniper_tokens::proofs::Public::some_taken, crate::proofs::Marks::marked_on), unfolding(graphql_grammar::specs::device::Productions::variables))]
 fn parse_variables<'a, S: ScalarValue>(
     tokens: &mut Cursor<'_, 'a>,
 ) -> ParseResult<VariableDefinitions<'a, S>>
-    ensures gives { Gives (view_variables S.content) result tokens.new (cursor (stated S.reading S.of_bool) variables tokens.old) }
-    ensures shorter { OnOk result (length tokens.new < length tokens.old) }
+    ensures gives { Gives (view_variables S.content) result (left tokens.new) (cursor (stated S.reading S.of_bool) variables (left tokens.old)) }
+    ensures shorter { OnOk result (length (left tokens.new) < length (left tokens.old)) }
+    ensures on { OnOk result (GoesOn tokens.old tokens.new) }
 {
-    let opening = expect_kind(tokens, Kind::ParenOpen)?;
-    let list = parse_variable_list(tokens)?;
-    let end = list.span.end;
-    Ok(Spanning::start_end(
-        &opening.start,
-        &end,
-        VariableDefinitions { items: list.item },
-    ))
+    let start = tokens.mark();
+    expect_kind(tokens, Kind::ParenOpen)?;
+    let items = parse_variable_list(tokens)?;
+    Ok(Spanning::new(tokens.span_from(start), VariableDefinitions { items }))
 }
 
 /// `Variables?`
-#[tactic(auto, unfolding(graphql_grammar::specs::device::Productions::optional_variables))]
+#[tactic(auto, using(juniper_tokens::proofs::Public::stays), unfolding(graphql_grammar::specs::device::Productions::optional_variables))]
 pub(crate) fn parse_optional_variables<'a, S: ScalarValue>(
     tokens: &mut Cursor<'_, 'a>,
 ) -> OptionParseResult<VariableDefinitions<'a, S>>
-    ensures gives { Gives (option_map (view_variables S.content)) result tokens.new (cursor (stated S.reading S.of_bool) optional_variables tokens.old) }
-    ensures not_longer { OnOk result (length tokens.new ≤ length tokens.old) }
+    ensures gives { Gives (option_map (view_variables S.content)) result (left tokens.new) (cursor (stated S.reading S.of_bool) optional_variables (left tokens.old)) }
+    ensures not_longer { OnOk result (length (left tokens.new) ≤ length (left tokens.old)) }
+    ensures on { OnOk result (GoesOn tokens.old tokens.new) }
 {
     if next_is(tokens, Kind::ParenOpen) {
         Ok(Some(parse_variables(tokens)?))

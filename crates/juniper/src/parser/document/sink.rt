@@ -9,6 +9,7 @@ ghost use Rattle.juniper_values.specs.Scalar.{Content};
 ghost use Rattle.juniper.specs.View.{view_definition};
 ghost use Rattle.juniper.specs.Scalars.{stated};
 ghost use Rattle.graphql_grammar.specs.device.Productions.{document};
+ghost use Rattle.juniper_tokens.specs.Taking.{left};
 ghost use Rattle.juniper.specs.device.Steps.{cursor};
 ghost use Rattle.juniper.specs.Promise.{IsRefusal, IsRefusalInText};
 ghost use Rattle.juniper.specs.Within.{IfRefusedWithin, IfTooDeep, IfDecided, HasTooDeep, IsWithin};
@@ -90,8 +91,8 @@ fn give_definitions<S: ScalarValue, D: DefinitionSink<S>>(
     tokens: &mut Cursor<'_, '_>,
     definitions: &mut D,
 ) -> UnlocatedParseResult<()>
-    ensures answer { GivesAs D.holds definitions.old definitions.new result (cursor (stated S.reading S.of_bool) document tokens.old) }
-    ensures given { GainsBeforeEnd D.holds definitions.old definitions.new (stated S.reading S.of_bool) tokens.old }
+    ensures answer { GivesAs D.holds definitions.old definitions.new result (cursor (stated S.reading S.of_bool) document (left tokens.old)) }
+    ensures given { GainsBeforeEnd D.holds definitions.old definitions.new (stated S.reading S.of_bool) (left tokens.old) }
 {
     loop {
         definitions.take(parse_definition(tokens)?)?;

@@ -1,4 +1,5 @@
 use Rattle.std.proofs.Common.{◌≡◌, ◌+◌, ◌*◌, ◌<◌, [], ◌∷◌, ◌++◌, take, length, String, Global, sym, ap, ◌∙◌, subst, append_assoc, arith}
+use Rattle.std.proofs.lemmas.Grind.{common_steps}
 use Rattle.std.proofs.lemmas.List.{take_more}
 use Rattle.std.specs.List.{IsDistinct}
 use Rattle.std.specs.Map.{keys_of}
@@ -64,3 +65,9 @@ copy_items-loop-item-preserved g t c =
     (subst (CopiesItems R (take i xs ++ c.item-item.result ∷ [])) (sym c.in_ok-push.ensures.items)
     (all_zip_push (Copies R) (take i xs) c.loop-item.copies.items c.item-item.result c.in_ok-copy.field-0
     c.loop-item.invariant c.in_ok-copy.ensures))
+
+pub copy_items-returns : goal.copy_items-returns
+copy_items-returns g t c = grind (arith, common_steps)
+
+pub copy_object-returns : goal.copy_object-returns
+copy_object-returns g t c = grind (arith, common_steps)

@@ -1,4 +1,5 @@
 use Rattle.std.proofs.Common.{◌≡◌, ◌+◌, ◌*◌, ◌∷◌, rules, refl, sym, ap, subst, ◌∙◌, ◌++◌, [], drop, arith, append_assoc, String, Global, string_bytes}
+use Rattle.std.proofs.lemmas.Grind.{common_steps}
 use Rattle.std.specs.Prelude.{codes}
 use Rattle.std.specs.Str.{chars}
 use Rattle.std.specs.Fmt.{HasWritten}
@@ -111,3 +112,9 @@ write_value-returns-in_ok-write_fields-in-Object g t c p ok =
     (between g.W.Write.write_str_gives _ _ _ _ 123 125
     (joined (field_texts shown (fields_view (λ s. s) (pairs c.in-Object.object)))) (omega arith) (omega arith) first
     inner (c.write_str-in-Object-2.ensures.writes inner.plain ok))
+
+pub write_fields-returns : goal.write_fields-returns
+write_fields-returns g t c = grind (arith, common_steps)
+
+pub write_items-returns : goal.write_items-returns
+write_items-returns g t c = grind (arith, common_steps)

@@ -1,4 +1,5 @@
 use Rattle.std.proofs.Common.{◌≡◌, ◌+◌, ◌*◌, [], ◌∷◌, ◌++◌, String, Global, refl, sym, ap, ◌∙◌, subst, append_assoc, append-nil, arith}
+use Rattle.std.proofs.lemmas.Grind.{common_steps}
 use Rattle.std.specs.List.{IsDistinct}
 use Rattle.std.specs.Map.{keys_of}
 use Rattle.std.specs.String.{string_eq}
@@ -85,3 +86,6 @@ map_object-loop-key-preserved g t c =
           (subst (λ es. IsDistinct string_eq (keys_of es)) all c.into_iter-key-items.ensures.distinct) refl i.2
           c.in_ok-map_value.ensures),
     )
+
+pub map_object-returns : goal.map_object-returns
+map_object-returns g t c = grind (arith, common_steps)

@@ -1,33 +1,57 @@
-use Rattle.std.proofs.Common.{sym, ◌∙◌}
+use Rattle.std.proofs.Common.{sym, ◌∙◌, arith}
+use Rattle.graphql_grammar.specs.device.Productions.{definition, definition_parts}
 use Rattle.juniper_tokens.specs.Cursor.{first_of}
+use Rattle.juniper_tokens.specs.Taking.{left}
+use Rattle.juniper_tokens.proofs.Public.{goes_further}
 use Rattle.juniper.specs.Scalars.{stated}
+use Rattle.juniper.specs.View.{view_definition}
+use Rattle.juniper.specs.device.Steps.{cursor}
+use Rattle.juniper.proofs.Marks.{marked_result, on_ok}
 use Rattle.juniper.proofs.Names.{says_fragment}
-use Rattle.juniper.proofs.Readings.{operation_begins, operation_is_no_end, fragment_begins}
+use Rattle.juniper.proofs.Readings.{operation_begins, operation_is_no_end, fragment_begins, shorthand_begins}
 use Rattle.juniper.proofs.parser.definition.parse_definition.Goals as goal
 
-pub take_next-word-requires : goal.take_next-word-requires
-take_next-word-requires g c =
-    operation_is_no_end c.args.tokens.now c.in-Some.operation_type (sym c.next_operation.ensures ∙ c.in-Some.is)
+pub take_next-requires : goal.take_next-requires
+take_next-requires g c =
+    operation_is_no_end (left c.mark-start.new.self) c.in-Some.operation_type
+    (sym c.next_operation.ensures ∙ c.in-Some.is)
 
 pub returns-in-Some-clause-gives : goal.returns-in-Some-clause-gives
+unfolding definition
 returns-in-Some-clause-gives g c =
-    let scalars = stated g.S.ParseScalarValue.reading g.S.ScalarValue.of_bool in
-    let word = c.take_next-word in
-    rw (
-      operation_begins scalars c.args.tokens.now c.in-Some.operation_type word.new.tokens
-          (sym c.next_operation.ensures ∙ c.in-Some.is) word.ensures.takes,
-      ← word.ensures.place,
-    )
-    c.parse_operation.ensures.gives
+    let S = stated g.S.ParseScalarValue.reading g.S.ScalarValue.of_bool in
+    let read = c.parse_operation in
+    marked_result (view_definition g.S.ParseScalarValue.content) c.args.tokens.now c.mark-start.new.self read.new.tokens
+    c.mark-start.ensures.same (cursor S definition_parts) _ c.mark-start.ensures.place read.result
+    (on_ok read.result (λ h. goes_further _ _ _ c.take_next.ensures.on h) read.ensures.on)
+    (on_ok read.result (λ h. omega (arith, h, c.take_next.ensures.shorter)) read.ensures.shorter) read.ensures.within
+    (rw (operation_begins S (left c.mark-start.new.self) c.in-Some.operation_type (left c.take_next.new.tokens)
+    (sym c.next_operation.ensures ∙ c.in-Some.is) c.take_next.ensures.takes) read.ensures.gives)
 
 pub returns-then-next_is_word-clause-gives : goal.returns-then-next_is_word-clause-gives
+unfolding definition
 returns-then-next_is_word-clause-gives g c =
-    let scalars = stated g.S.ParseScalarValue.reading g.S.ScalarValue.of_bool in
-    let word = c.take_next-word-then-next_is_word in
-    let says = says_fragment (first_of c.args.tokens.now) _ _ c.next_is_word.ensures.is c.if-next_is_word.true in
-    rw (
-      fragment_begins scalars c.args.tokens.now word.new.tokens (sym c.next_operation.ensures ∙ c.in-None.is) says
-          word.ensures.takes,
-      ← word.ensures.place,
-    )
-    c.parse_fragment.ensures.gives
+    let S = stated g.S.ParseScalarValue.reading g.S.ScalarValue.of_bool in
+    let read = c.parse_fragment in
+    let took = c.take_next-then-next_is_word in
+    let says = says_fragment (first_of (left c.mark-start.new.self)) _ _ c.next_is_word.ensures.is
+    c.if-next_is_word.true in
+    marked_result (view_definition g.S.ParseScalarValue.content) c.args.tokens.now c.mark-start.new.self read.new.tokens
+    c.mark-start.ensures.same (cursor S definition_parts) _ c.mark-start.ensures.place read.result
+    (on_ok read.result (λ h. goes_further _ _ _ took.ensures.on h) read.ensures.on)
+    (on_ok read.result (λ h. omega (arith, h, took.ensures.shorter)) read.ensures.shorter) read.ensures.within
+    (rw (fragment_begins S (left c.mark-start.new.self) (sym c.next_operation.ensures ∙ c.in-None.is)
+    (left took.new.tokens) says took.ensures.takes) read.ensures.gives)
+
+pub returns-else-next_is_word-clause-gives : goal.returns-else-next_is_word-clause-gives
+unfolding definition
+returns-else-next_is_word-clause-gives g c =
+    let S = stated g.S.ParseScalarValue.reading g.S.ScalarValue.of_bool in
+    let read = c.parse_shorthand in
+    let says = says_fragment (first_of (left c.mark-start.new.self)) _ _ c.next_is_word.ensures.is
+    c.if-next_is_word.false in
+    marked_result (view_definition g.S.ParseScalarValue.content) c.args.tokens.now c.mark-start.new.self read.new.tokens
+    c.mark-start.ensures.same (cursor S definition_parts) _ c.mark-start.ensures.place read.result read.ensures.on
+    read.ensures.shorter read.ensures.within
+    (rw (shorthand_begins S (left c.mark-start.new.self) (sym c.next_operation.ensures ∙ c.in-None.is) says)
+    read.ensures.gives)

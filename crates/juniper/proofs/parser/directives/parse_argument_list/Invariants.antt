@@ -1,18 +1,20 @@
 use Rattle.std.proofs.Common.{◌≡◌, ◌≤◌, length, map}
 use Rattle.graphql_grammar.specs.device.Productions.{arguments_inner}
+use Rattle.juniper_tokens.specs.Taking.{left, GoesOn}
 use Rattle.juniper.specs.Scalars.{stated}
 use Rattle.juniper.specs.View.{view_argument}
 use Rattle.juniper.specs.device.Steps.{cursor}
-use Rattle.juniper.proofs.Loops.{with_front}
+use Rattle.juniper.proofs.Loops.{before_others}
 use Rattle.juniper.proofs.parser.directives.parse_argument_list.Given as goal
 
 abbrev pub invariant-loop-items : goal.invariant-loop-items
 invariant-loop-items g l =
     let read = cursor (stated g.S.ParseScalarValue.reading g.S.ScalarValue.of_bool) arguments_inner in record {
-      so_far : with_front (map (view_argument g.S.ParseScalarValue.content) l.items.items)
-          (read l.tokens) ≡ read l.fn.tokens;
-      not_longer : length l.tokens ≤ length l.fn.tokens;
+      so_far : before_others (map (view_argument g.S.ParseScalarValue.content) l.items.items)
+          (read (left l.tokens)) ≡ read (left l.fn.tokens);
+      not_longer : length (left l.tokens) ≤ length (left l.fn.tokens);
+      on : GoesOn l.fn.tokens l.tokens;
     }
 
 abbrev pub decreases-loop-items : goal.decreases-loop-items
-decreases-loop-items g l = length l.tokens
+decreases-loop-items g l = length (left l.tokens)

@@ -1,28 +1,41 @@
-use Rattle.std.proofs.Common.{refl, sym, ap, ◌∙◌, Ok}
+use Rattle.std.proofs.Common.{sym, ap, Ok, arith}
 use Rattle.std.specs.Prelude.{option_map}
 use Rattle.graphql_lexical.specs.Place.{Span}
-use Rattle.graphql_grammar.specs.Tokens.{from_to, to_end_of}
-use Rattle.juniper_tokens.specs.Spans.{view_span}
-use Rattle.juniper.specs.View.{view_word, view_arguments}
-use Rattle.graphql_grammar.specs.device.Productions.{directive}
+use Rattle.graphql_grammar.specs.device.Productions.{directive, directive_parts}
 use Rattle.juniper_tokens.specs.Cursor.{expect_name_at}
-use Rattle.juniper.proofs.PartViews.{end_of_part}
+use Rattle.juniper_tokens.specs.Taking.{left}
+use Rattle.juniper_tokens.proofs.Public.{goes_further, some_taken}
+use Rattle.juniper.specs.View.{view_word, view_arguments}
+use Rattle.juniper.specs.Scalars.{stated}
+use Rattle.juniper.specs.device.Steps.{cursor}
+use Rattle.juniper.proofs.Marks.{marked_on, marked_gives}
 use Rattle.juniper.proofs.parser.directives.parse_directive.Goals as goal
 
 pub returns-clause-gives : goal.returns-clause-gives
 unfolding directive expect_name_at
 returns-clause-gives g c =
-    let begun = c.in_ok-start.ensures.gives in
-    rw (begun.0, ← begun.1, c.in_ok-name.ensures.gives, c.in_ok-arguments.ensures.gives, c.new.ensures)
+    let on = goes_further _ _ _ c.in_ok-expect_kind.ensures.on
+    (goes_further _ _ _ c.in_ok-name.ensures.on c.in_ok-arguments.ensures.on) in
+    marked_gives _ _ _ _ c.mark-start.ensures.same c.span_from.ensures.same on
+    (cursor (stated g.S.ParseScalarValue.reading g.S.ScalarValue.of_bool) directive_parts) _ _
+    (omega (
+      arith,
+      c.in_ok-expect_kind.ensures.shorter,
+      c.in_ok-name.ensures.shorter,
+      c.in_ok-arguments.ensures.not_longer,
+    )) c.span_from.ensures.within c.mark-start.ensures.place
+    (rw (
+      c.in_ok-expect_kind.ensures.gives.0,
+      c.in_ok-name.ensures.gives,
+      c.in_ok-arguments.ensures.gives,
+      c.new.ensures,
+    )
     (ap (λ (p : Span). Ok (
       record {
         name = view_word c.in_ok-name.name;
         arguments = option_map (view_arguments g.S.ParseScalarValue.content) c.in_ok-arguments.arguments;
         span = p;
       },
-      c.parse_optional_arguments.new.tokens,
+      left c.parse_optional_arguments.new.tokens,
     ))
-    (sym (c.up_to-span.ensures ∙ rw (c.span_of.ensures, c.start_end.ensures)
-    (ap (to_end_of (from_to (view_span c.in_ok-start.field-0) (view_span c.in_ok-name.name.span)))
-    (end_of_part (view_arguments g.S.ParseScalarValue.content) (λ a. a.span) (λ s. refl)
-    c.in_ok-arguments.arguments)))))
+    (sym c.span_from.ensures.span)))

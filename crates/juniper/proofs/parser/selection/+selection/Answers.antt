@@ -1,17 +1,25 @@
-use Rattle.std.proofs.Common.{rules, refl, sym, ap, Ok, ◌∙◌}
+use Rattle.std.proofs.Common.{rules, refl, sym, ap, ◌∙◌, Ok, arith}
 use Rattle.std.proofs.lemmas.Result.{err_from_is_err_and}
 use Rattle.std.proofs.lemmas.List.{map-append}
-use Rattle.graphql_grammar.specs.Tokens.{from_to}
-use Rattle.graphql_grammar.specs.Tree.{Selection, Selections}
-use Rattle.juniper_tokens.specs.Spans.{view_span}
-use Rattle.juniper_values.specs.Scalar.{Content}
-use Rattle.graphql_grammar.specs.device.Productions.{selection_set, field, spread}
-use Rattle.juniper.proofs.Loops.{some_go_on, some_end, some_item_fails}
+use Rattle.std.specs.Prelude.{option_map}
+use Rattle.graphql_lexical.specs.Place.{Span}
+use Rattle.graphql_grammar.specs.Tree as tree
+use Rattle.graphql_grammar.specs.Tree.{Selection}
+use Rattle.graphql_grammar.specs.device.Productions.{selection_set, field, field_parts, spread, spread_parts, optional_of}
 use Rattle.juniper_tokens.specs.Cursor.{first_of, expect_name_at}
+use Rattle.juniper_tokens.specs.Taking.{left}
+use Rattle.juniper_tokens.proofs.Public.{goes_further, some_taken}
+use Rattle.juniper_values.specs.Scalar.{Content}
+use Rattle.juniper.specs.View.{view_word, view_arguments, view_directives, view_selection}
+use Rattle.juniper.specs.Scalars.{stated}
+use Rattle.juniper.specs.device.PartViews.{view_whole_set}
+use Rattle.juniper.specs.device.Steps.{cursor}
+use Rattle.juniper.proofs.Loops.{some_go_on, some_end, some_item_fails}
+use Rattle.juniper.proofs.Marks.{marked_on, marked_gives, marked_result, on_ok}
 use Rattle.juniper.proofs.Names.{says_on}
 use Rattle.juniper.proofs.CursorFits.{other_is_name}
 use Rattle.juniper.proofs.Readings.{selections_repeat}
-use Rattle.juniper.proofs.SelectionViews.{selections_are, view_of_field, field_view, whole_span}
+use Rattle.juniper.proofs.SelectionViews.{set_gives, field_view}
 use Rattle.juniper.proofs.parser.selection.+selection.Goals as goal
 
 pub parse_selection_list-returns-in_err-parse_selection-clause-gives : goal.parse_selection_list-returns-in_err-parse_selection-clause-gives
@@ -20,89 +28,139 @@ parse_selection_list-returns-in_err-parse_selection-clause-gives g t c =
     rw (p.1, p.2) (some_item_fails (selections_repeat _) _ _ c.loop-items.invariant.so_far
     c.in_err-parse_selection.field-0.0 _ c.in_err-parse_selection.ensures.appends)
 
-pub parse_selection_list-returns-in-Some-clause-gives : goal.parse_selection_list-returns-in-Some-clause-gives
-parse_selection_list-returns-in-Some-clause-gives g t c =
+pub parse_selection_list-returns-then-take_if-clause-gives : goal.parse_selection_list-returns-then-take_if-clause-gives
+parse_selection_list-returns-then-take_if-clause-gives g t c =
     let item = c.in_ok-parse_selection.ensures.appends in
     some_end (selections_repeat _) _ _ c.loop-items.invariant.so_far item.2
-    c.take_closing.ensures.ended (rw c.in-Some.is at c.take_closing.ensures.takes)
-    ∙ rw (c.new.ensures, item.1, map-append) refl
+    c.take_if.ensures.ended (rw c.if-take_if.true at c.take_if.ensures.takes)
+    ∙ rw (item.1, map-append) refl
 
 pub parse_selection_list-loop-items-preserved : goal.parse_selection_list-loop-items-preserved
 parse_selection_list-loop-items-preserved g t c =
     let item = c.in_ok-parse_selection.ensures.appends in record {
       so_far = rw (item.1, map-append)
           (some_go_on (selections_repeat _) _ _ c.loop-items.invariant.so_far item.2
-          c.take_closing.ensures.ended (rw c.in_default.is at c.take_closing.ensures.takes));
+          c.take_if.ensures.ended (rw c.if-take_if.false at c.take_if.ensures.takes));
       not_longer = search rules;
+      on = goes_further _ _ _ c.loop-items.invariant.on
+          (goes_further _ _ _ c.in_ok-parse_selection.ensures.on c.take_if.ensures.on);
     }
 
 pub parse_selection_set-returns-clause-gives : goal.parse_selection_set-returns-clause-gives
 unfolding selection_set
 parse_selection_set-returns-clause-gives g t c =
-    let opened = c.in_ok-opening.ensures.gives in
-    rw (opened.0, ← opened.1, c.in_ok-list.ensures.gives, c.start_end.ensures)
-    (ap (λ (ss : Selections Content). Ok (
-      (ss, from_to (view_span c.in_ok-opening.opening) (view_span c.in_ok-list.list.span)),
-      c.parse_selection_list.new.tokens,
+    rw c.in_ok-expect_kind.ensures.gives.0
+    (set_gives g.S.ParseScalarValue.content _ _ _ c.parse_selection_list.ensures.gives)
+
+pub parse_selection_set-returns-clause-on : goal.parse_selection_set-returns-clause-on
+parse_selection_set-returns-clause-on g t c =
+    on_ok c.parse_selection_list.result (goes_further _ _ _ c.in_ok-expect_kind.ensures.on)
+    c.parse_selection_list.ensures.on
+
+pub parse_field-span_from-requires : goal.parse_field-span_from-requires
+parse_field-span_from-requires g t c =
+    some_taken _ _ (goes_further _ _ _ c.in_ok-alias.ensures.on
+    (goes_further _ _ _ c.in_ok-arguments.ensures.on
+    (goes_further _ _ _ c.in_ok-directives.ensures.on c.in_ok-selection_set.ensures.on)))
+    (omega (
+      arith,
+      c.in_ok-alias.ensures.shorter,
+      c.in_ok-arguments.ensures.not_longer,
+      c.in_ok-directives.ensures.not_longer,
+      c.in_ok-selection_set.ensures.not_longer,
     ))
-    (selections_are g.S.ParseScalarValue.content c.in_ok-list.list.item.items))
 
 pub parse_field-returns-clause-appends : goal.parse_field-returns-clause-appends
 unfolding field
 parse_field-returns-clause-appends g t c =
-    let content = g.S.ParseScalarValue.content in (
+    let content = g.S.ParseScalarValue.content in
+    let on = goes_further _ _ _ c.in_ok-alias.ensures.on
+    (goes_further _ _ _ c.in_ok-arguments.ensures.on
+    (goes_further _ _ _ c.in_ok-directives.ensures.on c.in_ok-selection_set.ensures.on)) in (
       _,
       c.in_ok-push_item.ensures.items,
-      rw (
-        c.in_ok-alias.ensures.gives,
-        c.in_ok-arguments.ensures.gives,
-        c.in_ok-directives.ensures.gives,
-        c.in_ok-set.ensures.gives,
-        c.new.ensures,
-      )
-          (ap (λ (s : Selection Content). Ok (s, c.parse_optional_selection_set.new.tokens))
-          (field_view content c.in_ok-alias.alias c.in_ok-alias.name c.in_ok-arguments.arguments
-          c.in_ok-directives.directives c.in_ok-set.set c.item_of.result c.item_of-2.result c.up_to-span.result _
-          c.item_of.ensures c.item_of-2.ensures
-          (whole_span content c.in_ok-alias.alias c.in_ok-alias.name c.in_ok-arguments.arguments
-          c.in_ok-directives.directives c.in_ok-set.set c.span_of.result c.span_of-2.result c.span_of-3.result
-          c.span_of-4.result c.from_part-named.result c.up_to.result c.up_to-2.result c.up_to-span.result
-          c.span_of.ensures c.from_part-named.ensures c.span_of-2.ensures c.up_to.ensures c.span_of-3.ensures
-          c.up_to-2.ensures c.span_of-4.ensures c.up_to-span.ensures)
-          ∙ sym (view_of_field content (record {
+      marked_gives _ _ _ _ c.mark-start.ensures.same c.span_from.ensures.same on
+          (cursor (stated g.S.ParseScalarValue.reading g.S.ScalarValue.of_bool) field_parts) _ _
+          (omega (
+            arith,
+            c.in_ok-alias.ensures.shorter,
+            c.in_ok-arguments.ensures.not_longer,
+            c.in_ok-directives.ensures.not_longer,
+            c.in_ok-selection_set.ensures.not_longer,
+          ))
+          c.span_from.ensures.within c.mark-start.ensures.place
+          (rw (
+            c.in_ok-alias.ensures.gives,
+            c.in_ok-arguments.ensures.gives,
+            c.in_ok-directives.ensures.gives,
+            c.in_ok-selection_set.ensures.gives,
+            c.new-spanned.ensures,
+          )
+          (ap (λ (p : Span). Ok (
+            tree.Field (option_map view_word c.in_ok-alias.alias) (view_word c.in_ok-alias.name)
+                (option_map (view_arguments content) c.in_ok-arguments.arguments)
+                (view_directives content c.in_ok-directives.directives)
+                (optional_of (option_map (view_whole_set content) c.in_ok-selection_set.selection_set)) p,
+            left c.parse_optional_selection_set.new.tokens,
+          )) (sym c.span_from.ensures.span)
+          ∙ ap (λ (s : Selection Content). Ok (s, left c.parse_optional_selection_set.new.tokens))
+          (field_view content (record {
             item = record {
               alias = c.in_ok-alias.alias;
               name = c.in_ok-alias.name;
               arguments = c.in_ok-arguments.arguments;
-              directives = c.item_of.result;
-              selection_set = c.item_of-2.result;
+              directives = c.in_ok-directives.directives;
+              selection_set = c.in_ok-selection_set.selection_set;
             };
-            span = c.up_to-span.result;
+            span = c.span_from.result;
           })))),
     )
+
+pub parse_field-returns-clause-on : goal.parse_field-returns-clause-on
+parse_field-returns-clause-on g t c = marked_on _ _ _ _ c.mark-start.ensures.same c.span_from.ensures.same
+    (goes_further _ _ _ c.in_ok-alias.ensures.on
+    (goes_further _ _ _ c.in_ok-arguments.ensures.on
+    (goes_further _ _ _ c.in_ok-directives.ensures.on c.in_ok-selection_set.ensures.on)))
 
 pub parse_spread-returns-then-next_is_word-clause-gives : goal.parse_spread-returns-then-next_is_word-clause-gives
 unfolding spread
 parse_spread-returns-then-next_is_word-clause-gives g t c =
-    let dots = c.in_ok-dots.ensures.gives in
-    let on = says_on (first_of c.expect_kind.new.tokens) _ _ c.next_is_word.ensures.is c.if-next_is_word.true in
-    rw (dots.0, ← dots.1, on, c.take_next.ensures.takes) c.parse_typed_fragment.ensures.gives
+    let S = stated g.S.ParseScalarValue.reading g.S.ScalarValue.of_bool in
+    let dots = c.in_ok-expect_kind.ensures in
+    let read = c.parse_typed_fragment in
+    let on = says_on (first_of (left c.expect_kind.new.tokens)) _ _ c.next_is_word.ensures.is c.if-next_is_word.true in
+    marked_result (view_selection g.S.ParseScalarValue.content) c.args.tokens.now c.mark-start.new.self read.new.tokens
+    c.mark-start.ensures.same (cursor S spread_parts) _ c.mark-start.ensures.place read.result
+    (on_ok read.result (λ h. goes_further _ _ _ dots.on (goes_further _ _ _ c.take_next.ensures.on h)) read.ensures.on)
+    (on_ok read.result (λ h. omega (arith, h, dots.shorter, c.take_next.ensures.shorter)) read.ensures.shorter)
+    read.ensures.within (rw (dots.gives.0, on, c.take_next.ensures.takes) read.ensures.gives)
 
 pub parse_spread-returns-in_ok-name-clause-gives : goal.parse_spread-returns-in_ok-name-clause-gives
 unfolding spread expect_name_at
 parse_spread-returns-in_ok-name-clause-gives g t c =
-    let dots = c.in_ok-dots.ensures.gives in
-    let next = first_of c.expect_kind.new.tokens in
+    let S = stated g.S.ParseScalarValue.reading g.S.ScalarValue.of_bool in
+    let dots = c.in_ok-expect_kind.ensures in
+    let read = c.parse_named_spread in
+    let next = first_of (left c.expect_kind.new.tokens) in
     let on = says_on next _ _ c.next_is_word.ensures.is c.if-next_is_word.false in
     let name = sym c.next_is.ensures.is ∙ c.if-next_is.true in
-    rw (dots.0, ← dots.1, on, other_is_name next on ∙ name, rw name at c.in_ok-name.ensures.gives)
-    c.parse_named_spread.ensures.gives
+    marked_result (view_selection g.S.ParseScalarValue.content) c.args.tokens.now c.mark-start.new.self read.new.tokens
+    c.mark-start.ensures.same (cursor S spread_parts) _ c.mark-start.ensures.place read.result
+    (on_ok read.result (λ h. goes_further _ _ _ dots.on (goes_further _ _ _ c.in_ok-name.ensures.on h)) read.ensures.on)
+    (on_ok read.result (λ h. omega (arith, h, dots.shorter, c.in_ok-name.ensures.shorter)) read.ensures.not_longer)
+    read.ensures.within
+    (rw (dots.gives.0, on, other_is_name next on ∙ name, rw name at c.in_ok-name.ensures.gives) read.ensures.gives)
 
 pub parse_spread-returns-else-next_is-clause-gives : goal.parse_spread-returns-else-next_is-clause-gives
 unfolding spread
 parse_spread-returns-else-next_is-clause-gives g t c =
-    let dots = c.in_ok-dots.ensures.gives in
-    let next = first_of c.expect_kind.new.tokens in
+    let S = stated g.S.ParseScalarValue.reading g.S.ScalarValue.of_bool in
+    let dots = c.in_ok-expect_kind.ensures in
+    let read = c.parse_untyped_fragment in
+    let next = first_of (left c.expect_kind.new.tokens) in
     let on = says_on next _ _ c.next_is_word.ensures.is c.if-next_is_word.false in
-    rw (dots.0, ← dots.1, on, other_is_name next on ∙ sym c.next_is.ensures.is ∙ c.if-next_is.false)
-    c.parse_untyped_fragment.ensures.gives
+    marked_result (view_selection g.S.ParseScalarValue.content) c.args.tokens.now c.mark-start.new.self read.new.tokens
+    c.mark-start.ensures.same (cursor S spread_parts) _ c.mark-start.ensures.place read.result
+    (on_ok read.result (λ h. goes_further _ _ _ dots.on h) read.ensures.on)
+    (on_ok read.result (λ h. omega (arith, h, dots.shorter)) read.ensures.shorter) read.ensures.within
+    (rw (dots.gives.0, on, other_is_name next on ∙ sym c.next_is.ensures.is ∙ c.if-next_is.false) read.ensures.gives)

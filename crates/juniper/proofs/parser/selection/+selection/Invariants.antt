@@ -1,45 +1,47 @@
 use Rattle.std.proofs.Common.{◌≡◌, ◌≤◌, length, map, ◌+◌, ◌*◌}
 use Rattle.graphql_grammar.specs.device.Productions.{selections_inner}
+use Rattle.juniper_tokens.specs.Taking.{left, GoesOn}
 use Rattle.juniper.specs.Scalars.{stated}
 use Rattle.juniper.specs.View.{view_selection}
 use Rattle.juniper.specs.device.Steps.{cursor}
-use Rattle.juniper.proofs.Loops.{with_front}
+use Rattle.juniper.proofs.Loops.{before_others}
 use Rattle.juniper.proofs.parser.selection.+selection.Given as goal
 
 abbrev pub decreases-parse_selection_set : goal.decreases-parse_selection_set
-decreases-parse_selection_set g l = 5 * length l.tokens.now + 0
+decreases-parse_selection_set g l = 5 * length (left l.tokens.now) + 0
 
 abbrev pub decreases-parse_field : goal.decreases-parse_field
-decreases-parse_field g l = 5 * length l.tokens.now + 1
+decreases-parse_field g l = 5 * length (left l.tokens.now) + 1
 
 abbrev pub decreases-parse_optional_selection_set : goal.decreases-parse_optional_selection_set
-decreases-parse_optional_selection_set g l = 5 * length l.tokens.now + 1
+decreases-parse_optional_selection_set g l = 5 * length (left l.tokens.now) + 1
 
 abbrev pub decreases-parse_spread : goal.decreases-parse_spread
-decreases-parse_spread g l = 5 * length l.tokens.now + 2
+decreases-parse_spread g l = 5 * length (left l.tokens.now) + 2
 
 abbrev pub decreases-parse_typed_fragment : goal.decreases-parse_typed_fragment
-decreases-parse_typed_fragment g l = 5 * length l.tokens.now + 2
+decreases-parse_typed_fragment g l = 5 * length (left l.tokens.now) + 2
 
 abbrev pub decreases-parse_untyped_fragment : goal.decreases-parse_untyped_fragment
-decreases-parse_untyped_fragment g l = 5 * length l.tokens.now + 2
+decreases-parse_untyped_fragment g l = 5 * length (left l.tokens.now) + 2
 
 abbrev pub decreases-parse_selection : goal.decreases-parse_selection
-decreases-parse_selection g l = 5 * length l.tokens.now + 3
+decreases-parse_selection g l = 5 * length (left l.tokens.now) + 3
 
 abbrev pub decreases-parse_selection_list : goal.decreases-parse_selection_list
-decreases-parse_selection_list g l = 5 * length l.tokens.now + 4
+decreases-parse_selection_list g l = 5 * length (left l.tokens.now) + 4
 
 abbrev pub invariant-parse_selection_list-loop-items : goal.invariant-parse_selection_list-loop-items
 invariant-parse_selection_list-loop-items g l =
     let read = cursor (stated g.S.ParseScalarValue.reading g.S.ScalarValue.of_bool) selections_inner in record {
-      so_far : with_front (map (view_selection g.S.ParseScalarValue.content) l.items.items)
-          (read l.tokens) ≡ read l.fn.tokens;
-      not_longer : length l.tokens ≤ length l.fn.tokens;
+      so_far : before_others (map (view_selection g.S.ParseScalarValue.content) l.items.items)
+          (read (left l.tokens)) ≡ read (left l.fn.tokens);
+      not_longer : length (left l.tokens) ≤ length (left l.fn.tokens);
+      on : GoesOn l.fn.tokens l.tokens;
     }
 
 abbrev pub decreases-parse_selection_list-loop-items : goal.decreases-parse_selection_list-loop-items
-decreases-parse_selection_list-loop-items g l = length l.tokens
+decreases-parse_selection_list-loop-items g l = length (left l.tokens)
 
 abbrev pub decreases-parse_inline_parts : goal.decreases-parse_inline_parts
-decreases-parse_inline_parts g l = 5 * length l.tokens.now + 1
+decreases-parse_inline_parts g l = 5 * length (left l.tokens.now) + 1

@@ -6,8 +6,9 @@ use Rattle.juniper_tokens.specs.Spans.{view_span}
 use Rattle.juniper_values.specs.Scalar.{Content}
 use Rattle.graphql_grammar.specs.Tree.{Value}
 use Rattle.graphql_grammar.specs.device.Productions.{list, object}
+use Rattle.juniper_tokens.specs.Taking.{left}
 use Rattle.juniper.proofs.Loops.{goes_on, ends, item_fails}
-use Rattle.juniper_tokens.proofs.Public.{further}
+use Rattle.juniper_tokens.proofs.Public.{goes_further}
 use Rattle.juniper.proofs.Readings.{values_repeat, fields_repeat}
 use Rattle.juniper.proofs.ValueViews.{view_of_list, view_of_object}
 use Rattle.juniper.proofs.parser.value.+value.Goals as goal
@@ -31,8 +32,8 @@ parse_items-loop-closing-preserved g t c = record {
       (goes_on (values_repeat _ _) _ _ c.take_closing.ensures.ended c.loop-closing.invariant.so_far
       (rw c.in_default.is at c.take_closing.ensures.takes) c.in_ok-item.ensures.gives);
   not_longer = search rules;
-  rest = further _ _ _ c.loop-closing.invariant.rest
-      (further _ _ _ c.take_closing.ensures.rest c.in_ok-item.ensures.rest);
+  on = goes_further _ _ _ c.loop-closing.invariant.on
+      (goes_further _ _ _ c.take_closing.ensures.on c.in_ok-item.ensures.on);
 }
 
 pub parse_fields-returns-in-Some-clause-gives : goal.parse_fields-returns-in-Some-clause-gives
@@ -55,15 +56,15 @@ parse_fields-loop-closing-preserved g t c = record {
       (goes_on (fields_repeat _ _) _ _ c.take_closing.ensures.ended c.loop-closing.invariant.so_far
       (rw c.in_default.is at c.take_closing.ensures.takes) c.in_ok-field.ensures.gives);
   not_longer = search rules;
-  rest = further _ _ _ c.loop-closing.invariant.rest
-      (further _ _ _ c.take_closing.ensures.rest c.in_ok-field.ensures.rest);
+  on = goes_further _ _ _ c.loop-closing.invariant.on
+      (goes_further _ _ _ c.take_closing.ensures.on c.in_ok-field.ensures.on);
 }
 
 pub parse_list-returns-clause-gives : goal.parse_list-returns-clause-gives
 unfolding list
 parse_list-returns-clause-gives g t c =
     rw (c.in_ok-items.ensures.gives, c.start_end.ensures)
-    (ap (λ (v : Value Content). Ok (v, c.parse_items.new.tokens))
+    (ap (λ (v : Value Content). Ok (v, left c.parse_items.new.tokens))
     (sym (view_of_list g.S.ParseScalarValue.content c.in_ok-items.items.item
     (from_to (view_span c.args.opening) (view_span c.in_ok-items.items.span)))))
 
@@ -71,50 +72,6 @@ pub parse_object-returns-clause-gives : goal.parse_object-returns-clause-gives
 unfolding object
 parse_object-returns-clause-gives g t c =
     rw (c.in_ok-fields.ensures.gives, c.start_end.ensures)
-    (ap (λ (v : Value Content). Ok (v, c.parse_fields.new.tokens))
+    (ap (λ (v : Value Content). Ok (v, left c.parse_fields.new.tokens))
     (sym (view_of_object g.S.ParseScalarValue.content c.in_ok-fields.fields.item
     (from_to (view_span c.args.opening) (view_span c.in_ok-fields.fields.span)))))
-
-pub parse_items-returns-in-Some-clause-rest : goal.parse_items-returns-in-Some-clause-rest
-parse_items-returns-in-Some-clause-rest g t c = further _ _ _ c.loop-closing.invariant.rest c.take_closing.ensures.rest
-
-pub parse_items-returns-in_err-item-clause-rest : goal.parse_items-returns-in_err-item-clause-rest
-parse_items-returns-in_err-item-clause-rest g t c =
-    further _ _ _ c.loop-closing.invariant.rest
-    (further _ _ _ c.take_closing.ensures.rest c.in_err-item.ensures.rest)
-
-pub parse_items-returns-in_err-push_item-clause-rest : goal.parse_items-returns-in_err-push_item-clause-rest
-parse_items-returns-in_err-push_item-clause-rest g t c =
-    further _ _ _ c.loop-closing.invariant.rest
-    (further _ _ _ c.take_closing.ensures.rest c.in_ok-item.ensures.rest)
-
-pub parse_fields-returns-in-Some-clause-rest : goal.parse_fields-returns-in-Some-clause-rest
-parse_fields-returns-in-Some-clause-rest g t c = further _ _ _ c.loop-closing.invariant.rest c.take_closing.ensures.rest
-
-pub parse_fields-returns-in_err-field-clause-rest :
-    goal.parse_fields-returns-in_err-field-clause-rest
-parse_fields-returns-in_err-field-clause-rest g t c =
-    further _ _ _ c.loop-closing.invariant.rest
-    (further _ _ _ c.take_closing.ensures.rest c.in_err-field.ensures.rest)
-
-pub parse_fields-returns-in_err-push_item-clause-rest : goal.parse_fields-returns-in_err-push_item-clause-rest
-parse_fields-returns-in_err-push_item-clause-rest g t c =
-    further _ _ _ c.loop-closing.invariant.rest
-    (further _ _ _ c.take_closing.ensures.rest c.in_ok-field.ensures.rest)
-
-pub parse_object_field-returns-in_err-expect_kind-clause-rest :
-    goal.parse_object_field-returns-in_err-expect_kind-clause-rest
-parse_object_field-returns-in_err-expect_kind-clause-rest g t c =
-    further _ _ _ c.in_ok-key.ensures.rest c.in_err-expect_kind.ensures.rest
-
-pub parse_object_field-returns-in_err-value-clause-rest : goal.parse_object_field-returns-in_err-value-clause-rest
-parse_object_field-returns-in_err-value-clause-rest g t c =
-    further _ _ _ c.in_ok-key.ensures.rest (further _ _ _ c.in_ok-expect_kind.ensures.rest c.in_err-value.ensures.rest)
-
-pub parse_object_field-returns-in_err-text-clause-rest : goal.parse_object_field-returns-in_err-text-clause-rest
-parse_object_field-returns-in_err-text-clause-rest g t c =
-    further _ _ _ c.in_ok-key.ensures.rest (further _ _ _ c.in_ok-expect_kind.ensures.rest c.in_ok-value.ensures.rest)
-
-pub parse_object_field-returns-clause-rest : goal.parse_object_field-returns-clause-rest
-parse_object_field-returns-clause-rest g t c =
-    further _ _ _ c.in_ok-key.ensures.rest (further _ _ _ c.in_ok-expect_kind.ensures.rest c.in_ok-value.ensures.rest)

@@ -2,53 +2,53 @@ use Rattle.std.proofs.Common.{◌≡◌, ◌≤◌, length, not, map, ◌+◌, �
 use Rattle.graphql_lexical.specs.declared.kind.Kind.TheVariants.{BracketClose, CurlyClose}
 use Rattle.graphql_grammar.specs.device.Productions.{key_and_value}
 use Rattle.graphql_grammar.specs.device.Reading.{of, symbol, a_value}
+use Rattle.juniper_tokens.specs.Taking.{left, GoesOn}
 use Rattle.juniper.specs.Scalars.{stated}
 use Rattle.juniper.specs.View.{view_value, view_object_field}
 use Rattle.juniper.specs.device.Steps.{closed_read}
 use Rattle.juniper.proofs.Loops.{with_front}
-use Rattle.juniper_tokens.specs.Delimited.{IsRest}
 use Rattle.juniper.proofs.parser.value.+value.Given as goal
 
 abbrev pub decreases-parse_list : goal.decreases-parse_list
-decreases-parse_list g l = 4 * length l.tokens.now + 3
+decreases-parse_list g l = 4 * length (left l.tokens.now) + 3
 
 abbrev pub decreases-parse_object : goal.decreases-parse_object
-decreases-parse_object g l = 4 * length l.tokens.now + 2
+decreases-parse_object g l = 4 * length (left l.tokens.now) + 2
 
 abbrev pub decreases-parse_object_field : goal.decreases-parse_object_field
-decreases-parse_object_field g l = 4 * length l.tokens.now
+decreases-parse_object_field g l = 4 * length (left l.tokens.now)
 
 abbrev pub decreases-parse_value : goal.decreases-parse_value
-decreases-parse_value g l = 4 * length l.tokens.now + 1
+decreases-parse_value g l = 4 * length (left l.tokens.now) + 1
 
 abbrev pub decreases-parse_items : goal.decreases-parse_items
-decreases-parse_items g l = 4 * length l.tokens.now + 2
+decreases-parse_items g l = 4 * length (left l.tokens.now) + 2
 
 abbrev pub decreases-parse_fields : goal.decreases-parse_fields
-decreases-parse_fields g l = 4 * length l.tokens.now + 1
+decreases-parse_fields g l = 4 * length (left l.tokens.now) + 1
 
 abbrev pub invariant-parse_items-loop-closing : goal.invariant-parse_items-loop-closing
 invariant-parse_items-loop-closing g l =
     let S = stated g.S.ParseScalarValue.reading g.S.ScalarValue.of_bool in
     let read = closed_read S (of BracketClose) (symbol (a_value (not l.is_const))) in record {
       so_far : with_front (map (view_value g.S.ParseScalarValue.content) l.items.items)
-          (read l.tokens) ≡ read l.fn.tokens;
-      not_longer : length l.tokens ≤ length l.fn.tokens;
-      rest : IsRest l.fn.tokens l.tokens;
+          (read (left l.tokens)) ≡ read (left l.fn.tokens);
+      not_longer : length (left l.tokens) ≤ length (left l.fn.tokens);
+      on : GoesOn l.fn.tokens l.tokens;
     }
 
 abbrev pub decreases-parse_items-loop-closing : goal.decreases-parse_items-loop-closing
-decreases-parse_items-loop-closing g l = length l.tokens
+decreases-parse_items-loop-closing g l = length (left l.tokens)
 
 abbrev pub invariant-parse_fields-loop-closing : goal.invariant-parse_fields-loop-closing
 invariant-parse_fields-loop-closing g l =
     let S = stated g.S.ParseScalarValue.reading g.S.ScalarValue.of_bool in
     let read = closed_read S (of CurlyClose) (key_and_value (not l.is_const)) in record {
       so_far : with_front (map (view_object_field g.S.ParseScalarValue.content) l.fields.items)
-          (read l.tokens) ≡ read l.fn.tokens;
-      not_longer : length l.tokens ≤ length l.fn.tokens;
-      rest : IsRest l.fn.tokens l.tokens;
+          (read (left l.tokens)) ≡ read (left l.fn.tokens);
+      not_longer : length (left l.tokens) ≤ length (left l.fn.tokens);
+      on : GoesOn l.fn.tokens l.tokens;
     }
 
 abbrev pub decreases-parse_fields-loop-closing : goal.decreases-parse_fields-loop-closing
-decreases-parse_fields-loop-closing g l = length l.tokens
+decreases-parse_fields-loop-closing g l = length (left l.tokens)

@@ -3,7 +3,8 @@ use Rattle.std.specs.Prelude.{not}
 use Rattle.graphql_lexical.specs.Cutting.{Lexeme}
 use Rattle.juniper_tokens.specs.Cursor.{OnMemory}
 use Rattle.juniper_tokens.specs.Delimited.{IsRest}
-use Rattle.juniper_tokens.proofs.Public.{follows, on_memory}
+use Rattle.juniper_tokens.proofs.Public.{follows, on_memory, rest_of}
+use Rattle.juniper_tokens.specs.Taking.{left}
 use Rattle.juniper.specs.Promise.{AnswersValue}
 use Rattle.juniper.specs.Scalars.{stated}
 use Rattle.juniper.specs.View.{view_value}
@@ -16,13 +17,13 @@ returns-clause-answers g c =
     let view = view_value g.S.ParseScalarValue.content in
     let parsed = c.parse_value-result in
     follows (AnswersValue S (not c.args.is_const) view parsed.result) _ _ _ _ _ c.cursor-tokens.ensures
-    parsed.ensures.rest c.count-left.ensures.is c.take_until.ensures
-    (answers_value S (not c.args.is_const) view parsed.result c.cursor-tokens.result parsed.new.tokens
+    (rest_of _ _ parsed.ensures.on) c.count-left.ensures.is c.take_until.ensures
+    (answers_value S (not c.args.is_const) view parsed.result (left c.cursor-tokens.result) (left parsed.new.tokens)
     parsed.ensures.ended parsed.ensures.gives)
 
 pub returns-clause-memory : goal.returns-clause-memory
 returns-clause-memory g c =
     let parsed = c.parse_value-result in
     follows (λ (old new : List Lexeme). OnMemory parsed.result (IsRest old new)) _ _ _ _ _ c.cursor-tokens.ensures
-    parsed.ensures.rest c.count-left.ensures.is c.take_until.ensures
-    (on_memory parsed.result c.cursor-tokens.result parsed.new.tokens parsed.ensures.rest)
+    (rest_of _ _ parsed.ensures.on) c.count-left.ensures.is c.take_until.ensures
+    (on_memory parsed.result (left c.cursor-tokens.result) (left parsed.new.tokens) (rest_of _ _ parsed.ensures.on))

@@ -1,9 +1,26 @@
-use Rattle.std.proofs.Common.{refl}
-use Rattle.graphql_grammar.specs.device.Productions.{variables}
+use Rattle.std.proofs.Common.{map, sym, ap, Ok, arith}
+use Rattle.graphql_lexical.specs.Place.{Span}
+use Rattle.graphql_grammar.specs.device.Productions.{variables, variables_parts}
+use Rattle.juniper_tokens.specs.Taking.{left}
+use Rattle.juniper_tokens.proofs.Public.{goes_further, some_taken}
+use Rattle.juniper.specs.View.{view_variable}
+use Rattle.juniper.specs.Scalars.{stated}
+use Rattle.juniper.specs.device.Steps.{cursor}
+use Rattle.juniper.proofs.Marks.{marked_on, marked_gives}
 use Rattle.juniper.proofs.parser.variables.parse_variables.Goals as goal
 
 pub returns-clause-gives : goal.returns-clause-gives
 unfolding variables
 returns-clause-gives g c =
-    let opened = c.in_ok-opening.ensures.gives in
-    rw (opened.0, ← opened.1, c.in_ok-list.ensures.gives, c.start_end.ensures) refl
+    let on = goes_further _ _ _ c.in_ok-expect_kind.ensures.on c.in_ok-items.ensures.on in
+    let tokens = c.parse_variable_list.new.tokens in
+    marked_gives _ _ _ _ c.mark-start.ensures.same c.span_from.ensures.same on
+    (cursor (stated g.S.ParseScalarValue.reading g.S.ScalarValue.of_bool) variables_parts) _ _
+    (omega (arith, c.in_ok-expect_kind.ensures.shorter, c.in_ok-items.ensures.shorter)) c.span_from.ensures.within
+    c.mark-start.ensures.place
+    (rw (c.in_ok-expect_kind.ensures.gives.0, c.in_ok-items.ensures.gives, c.new.ensures)
+    (ap (λ (p : Span). Ok (
+      record { items = map (view_variable g.S.ParseScalarValue.content) c.in_ok-items.items.items; span = p },
+      left tokens,
+    ))
+    (sym c.span_from.ensures.span)))

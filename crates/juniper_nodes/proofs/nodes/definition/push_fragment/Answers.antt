@@ -1,5 +1,5 @@
 use Rattle.graphql_nodes.specs.Nodes.{definition_nodes}
-use Rattle.juniper_nodes.proofs.Growth.{grown, closed}
+use Rattle.juniper_nodes.proofs.Growth.{grown, closed, grown_on_error}
 use Rattle.juniper_nodes.proofs.nodes.definition.push_fragment.Goals as goal
 
 pub returns : goal.returns
@@ -8,3 +8,15 @@ returns g c =
     let content = g.S.ParseScalarValue.content in
     let parts = grown content c.in_ok-push_directives.ensures c.in_ok-push_selections.ensures in
     rw (← c.deref.ensures.value) (closed content c.in_ok-place.ensures.opened parts c.close.ensures)
+
+pub returns-in_err-push_directives : goal.returns-in_err-push_directives
+returns-in_err-push_directives g c =
+    let content = g.S.ParseScalarValue.content in
+    let before = c.in_ok-place.ensures.opened.1 in
+    grown_on_error content _ _ c.from_residual-in_err-push_directives.ensures.0 before c.in_err-push_directives.ensures
+
+pub returns-in_err-push_selections : goal.returns-in_err-push_selections
+returns-in_err-push_selections g c =
+    let content = g.S.ParseScalarValue.content in
+    let before = grown content c.in_ok-place.ensures.opened.1 c.in_ok-push_directives.ensures in
+    grown_on_error content _ _ c.from_residual-in_err-push_selections.ensures.0 before c.in_err-push_selections.ensures

@@ -1,6 +1,6 @@
 use Rattle.graphql_nodes.specs.Nodes.{definition_nodes}
 use Rattle.juniper_tokens.specs.Spans.{view_span}
-use Rattle.juniper_nodes.proofs.Growth.{grown, closed}
+use Rattle.juniper_nodes.proofs.Growth.{grown, closed, grown_on_error}
 use Rattle.juniper_nodes.proofs.nodes.definition.push_operation.Goals as goal
 
 pub returns : goal.returns
@@ -11,3 +11,21 @@ returns g c =
     let parts = grown content c.in_ok-push_directives.ensures c.in_ok-push_selections.ensures in
     rw (← c.kind_of-kind.ensures, ← c.label_of-name.ensures span, ← c.deref.ensures.value)
     (closed content c.in_ok-place.ensures.opened (grown content c.in_ok-push_optional_variables.ensures parts) c.close.ensures)
+
+pub returns-in_err-push_optional_variables : goal.returns-in_err-push_optional_variables
+returns-in_err-push_optional_variables g c =
+    let content = g.S.ParseScalarValue.content in
+    let before = c.in_ok-place.ensures.opened.1 in
+    grown_on_error content _ _ c.from_residual-in_err-push_optional_variables.ensures.0 before c.in_err-push_optional_variables.ensures
+
+pub returns-in_err-push_directives : goal.returns-in_err-push_directives
+returns-in_err-push_directives g c =
+    let content = g.S.ParseScalarValue.content in
+    let before = grown content c.in_ok-place.ensures.opened.1 c.in_ok-push_optional_variables.ensures in
+    grown_on_error content _ _ c.from_residual-in_err-push_directives.ensures.0 before c.in_err-push_directives.ensures
+
+pub returns-in_err-push_selections : goal.returns-in_err-push_selections
+returns-in_err-push_selections g c =
+    let content = g.S.ParseScalarValue.content in
+    let before = grown content c.in_ok-place.ensures.opened.1 (grown content c.in_ok-push_optional_variables.ensures c.in_ok-push_directives.ensures) in
+    grown_on_error content _ _ c.from_residual-in_err-push_selections.ensures.0 before c.in_err-push_selections.ensures

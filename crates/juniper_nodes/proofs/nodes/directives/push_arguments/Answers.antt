@@ -1,5 +1,5 @@
 use Rattle.graphql_nodes.specs.Nodes.{arguments_nodes}
-use Rattle.juniper_nodes.proofs.Growth.{closed}
+use Rattle.juniper_nodes.proofs.Growth.{closed, grown_on_error}
 use Rattle.juniper_nodes.proofs.nodes.directives.push_arguments.Goals as goal
 
 pub returns : goal.returns
@@ -7,3 +7,8 @@ unfolding arguments_nodes
 returns g c =
     rw (← c.deref.ensures.value)
     (closed g.S.ParseScalarValue.content c.in_ok-place.ensures.opened c.in_ok-push_each_argument.ensures c.close.ensures)
+
+pub returns-in_err-push_each_argument : goal.returns-in_err-push_each_argument
+returns-in_err-push_each_argument g c =
+    let content = g.S.ParseScalarValue.content in
+    grown_on_error content _ _ c.from_residual-in_err-push_each_argument.ensures.0 c.in_ok-place.ensures.opened.1 c.in_err-push_each_argument.ensures

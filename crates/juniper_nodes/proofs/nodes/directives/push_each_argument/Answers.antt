@@ -1,6 +1,7 @@
 use Rattle.std.proofs.Common.{arith}
 use Rattle.graphql_nodes.specs.Nodes.{argument_nodes}
 use Rattle.juniper.specs.View.{view_argument}
+use Rattle.juniper_nodes.proofs.Growth.{grown_on_error}
 use Rattle.juniper_nodes.proofs.Rows.{no_part_yet, next_part, no_part}
 use Rattle.juniper_nodes.proofs.nodes.directives.push_each_argument.Goals as goal
 
@@ -24,3 +25,8 @@ returns g c =
     let xs = c.args.arguments.now in
     let view = view_argument content in
     no_part content argument_nodes view c.args.nodes.now l.nodes xs l.argument-index (omega arith) l.invariant
+
+pub returns-in_err-push_argument : goal.returns-in_err-push_argument
+returns-in_err-push_argument g c =
+    let content = g.S.ParseScalarValue.content in
+    grown_on_error content _ _ c.from_residual.ensures.0 c.loop-argument.invariant c.in_err-push_argument.ensures

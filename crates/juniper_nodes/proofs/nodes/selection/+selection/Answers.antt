@@ -2,7 +2,7 @@ use Rattle.std.proofs.Common.{arith}
 use Rattle.graphql_nodes.specs.Nodes.{selection_nodes, selections_nodes, optional_nodes}
 use Rattle.juniper.specs.View.{view_selection}
 use Rattle.juniper_tokens.specs.Spans.{view_span}
-use Rattle.juniper_nodes.proofs.Growth.{grown, grown_none, closed}
+use Rattle.juniper_nodes.proofs.Growth.{grown, grown_none, closed, grown_on_error}
 use Rattle.juniper_nodes.proofs.Rows.{no_part_yet, next_part, no_part}
 use Rattle.juniper_nodes.proofs.SelectionNodes.{field_alone, field_above, selections_in_row}
 use Rattle.juniper_nodes.proofs.nodes.selection.+selection.Goals as goal
@@ -63,3 +63,44 @@ push_selections-returns g t c =
     let view = view_selection content in
     rw (selections_in_row content xs)
     (no_part content selection_nodes view c.args.nodes.now l.nodes xs l.selection-index (omega arith) l.invariant)
+
+pub push_field-returns-in_err-push_alias : goal.push_field-returns-in_err-push_alias
+push_field-returns-in_err-push_alias g t c =
+    let content = g.S.ParseScalarValue.content in
+    let before = c.in_ok-place.ensures.opened.1 in
+    grown_on_error content _ _ c.from_residual-in_err-push_alias.ensures.0 before c.in_err-push_alias.ensures
+
+pub push_field-returns-in_err-push_optional_arguments : goal.push_field-returns-in_err-push_optional_arguments
+push_field-returns-in_err-push_optional_arguments g t c =
+    let content = g.S.ParseScalarValue.content in
+    let before = grown content c.in_ok-place.ensures.opened.1 c.in_ok-push_alias.ensures in
+    grown_on_error content _ _ c.from_residual-in_err-push_optional_arguments.ensures.0 before c.in_err-push_optional_arguments.ensures
+
+pub push_field-returns-in_err-push_directives : goal.push_field-returns-in_err-push_directives
+push_field-returns-in_err-push_directives g t c =
+    let content = g.S.ParseScalarValue.content in
+    let before = grown content c.in_ok-place.ensures.opened.1 (grown content c.in_ok-push_alias.ensures c.in_ok-push_optional_arguments.ensures) in
+    grown_on_error content _ _ c.from_residual-in_err-push_directives.ensures.0 before c.in_err-push_directives.ensures
+
+pub push_field-returns-in_err-push_selections-in-Some : goal.push_field-returns-in_err-push_selections-in-Some
+push_field-returns-in_err-push_selections-in-Some g t c =
+    let content = g.S.ParseScalarValue.content in
+    let before = grown content c.in_ok-place.ensures.opened.1 (grown content c.in_ok-push_alias.ensures (grown content c.in_ok-push_optional_arguments.ensures c.in_ok-push_directives.ensures)) in
+    grown_on_error content _ _ c.from_residual-in_err-push_selections-in-Some.ensures.0 before c.in_err-push_selections-in-Some.ensures
+
+pub push_inline-returns-in_err-push_directives : goal.push_inline-returns-in_err-push_directives
+push_inline-returns-in_err-push_directives g t c =
+    let content = g.S.ParseScalarValue.content in
+    let before = c.in_ok-place.ensures.opened.1 in
+    grown_on_error content _ _ c.from_residual-in_err-push_directives.ensures.0 before c.in_err-push_directives.ensures
+
+pub push_inline-returns-in_err-push_selections : goal.push_inline-returns-in_err-push_selections
+push_inline-returns-in_err-push_selections g t c =
+    let content = g.S.ParseScalarValue.content in
+    let before = grown content c.in_ok-place.ensures.opened.1 c.in_ok-push_directives.ensures in
+    grown_on_error content _ _ c.from_residual-in_err-push_selections.ensures.0 before c.in_err-push_selections.ensures
+
+pub push_selections-returns-in_err-push_selection : goal.push_selections-returns-in_err-push_selection
+push_selections-returns-in_err-push_selection g t c =
+    let content = g.S.ParseScalarValue.content in
+    grown_on_error content _ _ c.from_residual.ensures.0 c.loop-selection.invariant c.in_err-push_selection.ensures

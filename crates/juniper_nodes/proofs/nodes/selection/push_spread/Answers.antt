@@ -1,8 +1,13 @@
 use Rattle.graphql_nodes.specs.Nodes.{selection_nodes, selections_nodes, optional_nodes}
-use Rattle.juniper_nodes.proofs.Growth.{closed}
+use Rattle.juniper_nodes.proofs.Growth.{closed, grown_on_error}
 use Rattle.juniper_nodes.proofs.nodes.selection.push_spread.Goals as goal
 
 pub returns : goal.returns
 unfolding selection_nodes selections_nodes optional_nodes
 returns g c =
     closed g.S.ParseScalarValue.content c.in_ok-place.ensures.opened c.in_ok-push_directives.ensures c.close.ensures
+
+pub returns-in_err-push_directives : goal.returns-in_err-push_directives
+returns-in_err-push_directives g c =
+    let content = g.S.ParseScalarValue.content in
+    grown_on_error content _ _ c.from_residual-in_err-push_directives.ensures.0 c.in_ok-place.ensures.opened.1 c.in_err-push_directives.ensures

@@ -1,7 +1,7 @@
 use Rattle.std.proofs.Common.{map, arith}
 use Rattle.graphql_nodes.specs.Nodes.{value_nodes}
 use Rattle.juniper.specs.View.{view_value, view_object_field}
-use Rattle.juniper_nodes.proofs.Growth.{closed}
+use Rattle.juniper_nodes.proofs.Growth.{closed, grown, grown_on_error}
 use Rattle.juniper_nodes.proofs.Rows.{no_part_yet, next_part, no_part}
 use Rattle.juniper_nodes.proofs.ValueNodes.{field_nodes, items_in_row, fields_in_row, null-nodes, scalar-nodes, enum-nodes, variable-nodes, list-nodes, object-nodes}
 use Rattle.juniper_nodes.proofs.nodes.value.+value.Goals as goal
@@ -91,3 +91,23 @@ push_fields-returns g t c =
     let view = view_object_field content in
     rw (fields_in_row (map view xs))
     (no_part content field_nodes view c.args.nodes.now l.nodes xs l.key-index (omega arith) l.invariant)
+
+pub push_value-returns-in_err-push_items-in-List : goal.push_value-returns-in_err-push_items-in-List
+push_value-returns-in_err-push_items-in-List g t c =
+    let content = g.S.ParseScalarValue.content in
+    grown_on_error content _ _ c.from_residual-in_err-push_items-in-List.ensures.0 c.in_ok-place-in-List.ensures.opened.1 c.in_err-push_items-in-List.ensures
+
+pub push_value-returns-in_err-push_fields-in-Object : goal.push_value-returns-in_err-push_fields-in-Object
+push_value-returns-in_err-push_fields-in-Object g t c =
+    let content = g.S.ParseScalarValue.content in
+    grown_on_error content _ _ c.from_residual-in_err-push_fields-in-Object.ensures.0 c.in_ok-place-in-Object.ensures.opened.1 c.in_err-push_fields-in-Object.ensures
+
+pub push_items-returns-in_err-push_value : goal.push_items-returns-in_err-push_value
+push_items-returns-in_err-push_value g t c =
+    let content = g.S.ParseScalarValue.content in
+    grown_on_error content _ _ c.from_residual.ensures.0 c.loop-item.invariant c.in_err-push_value.ensures
+
+pub push_fields-returns-in_err-push_value : goal.push_fields-returns-in_err-push_value
+push_fields-returns-in_err-push_value g t c =
+    let content = g.S.ParseScalarValue.content in
+    grown_on_error content _ _ c.from_residual-in_err-push_value.ensures.0 (grown content c.loop-key.invariant c.in_ok-place.ensures.opened.1) c.in_err-push_value.ensures

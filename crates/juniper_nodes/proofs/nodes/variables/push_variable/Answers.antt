@@ -1,5 +1,5 @@
 use Rattle.graphql_nodes.specs.Nodes.{variable_nodes}
-use Rattle.juniper_nodes.proofs.Growth.{grown, closed}
+use Rattle.juniper_nodes.proofs.Growth.{grown, closed, grown_on_error}
 use Rattle.juniper_nodes.proofs.nodes.variables.push_variable.Goals as goal
 
 pub returns : goal.returns
@@ -8,3 +8,21 @@ returns g c =
     let content = g.S.ParseScalarValue.content in
     let parts = grown content c.in_ok-push_default.ensures c.in_ok-push_directives.ensures in
     closed content c.in_ok-place.ensures.opened (grown content c.in_ok-push_leaf.ensures parts) c.close.ensures
+
+pub returns-in_err-push_leaf : goal.returns-in_err-push_leaf
+returns-in_err-push_leaf g c =
+    let content = g.S.ParseScalarValue.content in
+    let before = c.in_ok-place.ensures.opened.1 in
+    grown_on_error content _ _ c.from_residual-in_err-push_leaf.ensures.0 before c.in_err-push_leaf.ensures
+
+pub returns-in_err-push_default : goal.returns-in_err-push_default
+returns-in_err-push_default g c =
+    let content = g.S.ParseScalarValue.content in
+    let before = grown content c.in_ok-place.ensures.opened.1 c.in_ok-push_leaf.ensures in
+    grown_on_error content _ _ c.from_residual-in_err-push_default.ensures.0 before c.in_err-push_default.ensures
+
+pub returns-in_err-push_directives : goal.returns-in_err-push_directives
+returns-in_err-push_directives g c =
+    let content = g.S.ParseScalarValue.content in
+    let before = grown content c.in_ok-place.ensures.opened.1 (grown content c.in_ok-push_leaf.ensures c.in_ok-push_default.ensures) in
+    grown_on_error content _ _ c.from_residual-in_err-push_directives.ensures.0 before c.in_err-push_directives.ensures

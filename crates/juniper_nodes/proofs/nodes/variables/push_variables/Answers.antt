@@ -1,5 +1,5 @@
 use Rattle.graphql_nodes.specs.Nodes.{variables_nodes}
-use Rattle.juniper_nodes.proofs.Growth.{closed}
+use Rattle.juniper_nodes.proofs.Growth.{closed, grown, grown_on_error}
 use Rattle.juniper_nodes.proofs.nodes.variables.push_variables.Goals as goal
 
 pub returns : goal.returns
@@ -7,3 +7,9 @@ unfolding variables_nodes
 returns g c =
     rw (← c.deref.ensures.value)
     (closed g.S.ParseScalarValue.content c.in_ok-place.ensures.opened c.in_ok-push_each_variable.ensures c.close.ensures)
+
+pub returns-in_err-push_each_variable : goal.returns-in_err-push_each_variable
+returns-in_err-push_each_variable g c =
+    let content = g.S.ParseScalarValue.content in
+    let before = c.in_ok-place.ensures.opened.1 in
+    grown_on_error content _ _ c.from_residual-in_err-push_each_variable.ensures.0 before c.in_err-push_each_variable.ensures

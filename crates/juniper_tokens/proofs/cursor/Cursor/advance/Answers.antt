@@ -1,23 +1,40 @@
-use Rattle.std.proofs.Common.{◌∙◌, ap, subst, sym, drop, List, Ok}
+use Rattle.std.proofs.Common.{◌∙◌, ap, sym, subst, drop, Ok, List}
+use Rattle.std.proofs.lemmas.List.{drop-drop}
 use Rattle.std.specs.Str.{chars}
 use Rattle.graphql_lexical.specs.Cutting.{Lexeme}
-use Rattle.juniper_tokens.specs.Cursor.{EndsOnce, first_of}
-use Rattle.juniper_tokens.proofs.Rests.{one_taken}
-use Rattle.juniper_tokens.proofs.Steps.{drop_one_more, one_fewer, next_is_taken}
+use Rattle.juniper_tokens.specs.Cursor.{first_of}
+use Rattle.juniper_tokens.specs.Taking.{Taking, left, next_taken, GoesOn}
+use Rattle.juniper_tokens.specs.device.Ranges.{range_lexemes}
+use Rattle.juniper_tokens.proofs.Steps.{next_is_taken}
+use Rattle.juniper_tokens.proofs.Taking.{seen_ended, past_seen, goes_past}
 use Rattle.juniper_tokens.proofs.cursor.Cursor.advance.Goals as goal
 
 pub invariant_of-self : goal.invariant_of-self
 invariant_of-self c =
-    let here = c.self.inside in
-    one_fewer (chars here.source.now) here.ranges.now here.taken c.self.invariant c.args.self.now c.self.view_is c.requires
+    let here = c.self.inside in (
+      past_seen (chars here.source.now) here.ranges.now here.lines.now here.taken c.self.invariant.0 c.args.self.now
+          c.self.view_is c.requires,
+      c.self.invariant.1,
+    )
 
 pub returns-clause-left : goal.returns-clause-left
-returns-clause-left c = drop_one_more (chars c.self.inside.source.now) c.self.inside.ranges.now c.self.inside.taken
-    ∙ ap (drop 1) c.self.view_is
+returns-clause-left c =
+    let here = c.self.inside in
+    sym (drop-drop 1 here.taken (range_lexemes (chars here.source.now) here.ranges.now))
+    ∙ ap (λ (t : Taking). drop 1 (left t)) c.self.view_is
+
+pub returns-clause-ended : goal.returns-clause-ended
+returns-clause-ended c =
+    let here = c.self.inside in
+    seen_ended (chars here.source.now) here.ranges.now here.lines.now here.taken c.self.invariant.0 c.args.self.now c.self.view_is
 
 pub returns-clause-takes : goal.returns-clause-takes
-returns-clause-takes c = next_is_taken c.args.self.now (subst EndsOnce c.self.view_is c.self.invariant.ended) c.requires
-    ∙ ap (λ (ts : List Lexeme). Ok (first_of c.args.self.now, ts)) (sym (returns-clause-left c))
+returns-clause-takes c =
+    next_is_taken (left c.args.self.now) (returns-clause-ended c) c.requires
+    ∙ ap (λ (ts : List Lexeme). Ok (first_of (left c.args.self.now), ts)) (sym (returns-clause-left c))
 
-pub returns-clause-rest : goal.returns-clause-rest
-returns-clause-rest c = one_taken _ _ (returns-clause-left c)
+pub returns-clause-on : goal.returns-clause-on
+returns-clause-on c =
+    let old = c.args.self.now in
+    subst (λ (t : Taking). GoesOn old (next_taken t)) (sym c.self.view_is)
+    (goes_past old)

@@ -1,4 +1,5 @@
 use Rattle.std.proofs.Common.{rules, arith, refl}
+use Rattle.std.proofs.lemmas.Grind.{common_steps}
 use Rattle.juniper_values.specs.Variables.{variables, item_variables, field_variables}
 use Rattle.juniper_values.specs.View.{view, view_items, view_fields}
 use Rattle.juniper_values.proofs.Reading.{gathered, within_most}
@@ -29,3 +30,9 @@ note_item_variables-loop-item-preserved g t c =
     gathered (λ is. item_variables (view_items (λ s. s) is)) (λ x. variables (view (λ s. s) x.item)) (λ x xs. refl)
     c.deref-item-items.result.now c.loop-item.item-index c.item-item.result c.loop-item-test.true c.item-item.is _ _ _
     c.loop-item.invariant c.in_ok-note_variables.ensures
+
+pub note_item_variables-returns : goal.note_item_variables-returns
+note_item_variables-returns g t c = grind (arith, common_steps)
+
+pub note_field_variables-returns : goal.note_field_variables-returns
+note_field_variables-returns g t c = grind (arith, common_steps)

@@ -1,6 +1,7 @@
 use Rattle.std.proofs.Common.{◌∙◌, sym, [], ◌∷◌, ◌++◌, drop}
 use Rattle.graphql_grammar.specs.device.Productions.{document}
 use Rattle.std.proofs.lemmas.Result.{err_from_is_err_and}
+use Rattle.juniper_tokens.specs.Taking.{left}
 use Rattle.juniper.specs.Scalars.{stated}
 use Rattle.juniper.specs.View.{view_definition}
 use Rattle.juniper.specs.device.Steps.{cursor}
@@ -13,9 +14,9 @@ pub loop-tokens-init : goal.loop-tokens-init
 loop-tokens-init g c =
     let S = stated g.S.ParseScalarValue.reading g.S.ScalarValue.of_bool in record {
       front = [];
-      so_far = before_none (cursor S document c.args.tokens.now);
+      so_far = before_none (cursor S document (left c.args.tokens.now));
       gains = grown_none g.D.DefinitionSink.holds c.args.definitions.now;
-      were_read = none_read S c.args.tokens.now;
+      were_read = none_read S (left c.args.tokens.now);
     }
 
 pub loop-tokens-preserved : goal.loop-tokens-preserved
@@ -37,7 +38,7 @@ returns-in_err-parse_definition g c =
     let p = err_from_is_err_and c.from_residual.result c.from_residual.ensures.1 in
     let failed = c.in_err-parse_definition in record {
       answer = rw (p.1, p.2) (
-        c.parse_definition.new.tokens,
+        left c.parse_definition.new.tokens,
         fail _ _ _ l.invariant.so_far failed.field-0.0 _ failed.ensures.gives,
       );
       given = record {
@@ -66,7 +67,7 @@ returns-then-next_is g c =
     let gains = grown g.D.DefinitionSink.holds l.invariant.gains c.in_ok-take.ensures.taken in record {
       answer = (
         given,
-        drop 1 c.parse_definition.new.tokens,
+        drop 1 (left c.parse_definition.new.tokens),
         end _ _ _ l.invariant.so_far read.ensures.gives ended (sym c.next_is.ensures.is ∙ c.if-next_is.true),
         gains,
       );

@@ -3,6 +3,7 @@ use Rattle.std.proofs.Common.{◌≡◌, List, length}
 use Rattle.graphql_grammar.specs.Tree.{Definition}
 use Rattle.graphql_grammar.specs.device.Productions.{document}
 use Rattle.juniper_values.specs.Scalar.{Content}
+use Rattle.juniper_tokens.specs.Taking.{left}
 use Rattle.juniper.specs.Scalars.{stated}
 use Rattle.juniper.specs.Sinks.{Gains}
 use Rattle.juniper.specs.device.Steps.{cursor}
@@ -15,10 +16,10 @@ invariant-loop-tokens g l =
     let S = stated g.S.ParseScalarValue.reading g.S.ScalarValue.of_bool in
     let read = cursor S document in record {
       front : List (Definition Content);
-      so_far : before_others front (read l.tokens) ≡ read l.fn.tokens;
+      so_far : before_others front (read (left l.tokens)) ≡ read (left l.fn.tokens);
       gains : Gains g.D.DefinitionSink.holds l.initial.definitions l.definitions front;
-      were_read : WereRead S l.fn.tokens l.tokens front;
+      were_read : WereRead S (left l.fn.tokens) (left l.tokens) front;
     }
 
 abbrev pub decreases-loop-tokens : goal.decreases-loop-tokens
-decreases-loop-tokens g l = length l.tokens
+decreases-loop-tokens g l = length (left l.tokens)

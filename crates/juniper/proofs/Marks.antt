@@ -1,0 +1,109 @@
+-- The span from a mark on is that of the tokens that were taken since.
+use Rattle.std.proofs.Common.{◌≡◌, ℕ, zero, suc, ◌+◌, ◌-◌, ◌<◌, ◌≤◌, List, [], ◌∷◌, length, take, drop, Result, Ok, Err, refl, sym, ap, ◌∙◌, subst, arith, length-drop}
+use Rattle.std.specs.Prelude.{OnOk}
+use Rattle.std.proofs.lemmas.List.{drop-drop}
+use Rattle.graphql_lexical.specs.Place.{Place, Span}
+use Rattle.graphql_lexical.specs.Cutting.{Lexeme}
+use Rattle.graphql_grammar.specs.Tokens.{span_of}
+use Rattle.graphql_grammar.specs.device.Reading.{front}
+use Rattle.graphql_grammar.proofs.Public.{last_of, last_next}
+use Rattle.juniper_tokens.specs.declared.error.ParseFailure.{ParseFailure}
+use Rattle.juniper_tokens.specs.declared.error.ParseFailure.TheVariants as failures
+use Rattle.juniper_tokens.specs.Errors.{view_fault}
+use Rattle.juniper_tokens.specs.Cursor.{Read, Gives, ◌>>=◌, first_of}
+use Rattle.juniper_tokens.specs.Taking.{Taking, left, last_end, GoesOn}
+use Rattle.juniper_tokens.proofs.Public.{more_taken}
+use Rattle.juniper.specs.device.Steps.{at_span}
+use Rattle.juniper.proofs.Cursors.{ok_is}
+
+last_is : (n : ℕ) (t : Lexeme) (ts : List Lexeme) → n ≤ length ts → last_of t (take n ts) ≡ first_of (drop n (t ∷ ts))
+last_is zero t ts l = refl
+last_is (suc n) t [] l = absurd (omega (arith, l))
+last_is (suc n) t (u ∷ us) l = last_next t u (take n us) ∙ last_is n u us (omega (arith, l))
+
+-- what was read, with the span of the tokens that were taken for it
+abbrev spanning : {A : Type 0} → List Lexeme → Read (Span → A) → Read A
+spanning ts r = r >>= λ y. Ok (y.0 (span_of (front ts y.1)), y.1)
+
+abbrev between : Place → Place → Span
+between p q = record { start = p; end = q }
+
+-- one token more than n
+span_is : (n : ℕ) (ts : List Lexeme) → n < length ts
+    → between (first_of ts).span.start (first_of (drop n ts)).span.end ≡ span_of (take (suc n) ts)
+span_is n [] l = absurd (omega (arith, l))
+span_is n (t ∷ ts) l =
+    ap (λ (u : Lexeme). between t.span.start u.span.end) (sym (last_is n t ts (omega (arith, l))))
+
+module _ (old new : Taking) (on : GoesOn old new) (shorter : length (left new) < length (left old))
+    (within : new.taken < length new.tokens) where
+  taken_span : between (first_of (left old)).span.start (last_end new) ≡ span_of (front (left old) (left new))
+  taken_span =
+      let more = more_taken old new on shorter in
+      let n = (new.taken - old.taken) - 1 in
+      let whole : old.taken + n ≡ new.taken - 1 = omega (arith, more) in
+      let size : length (left old) - length (left new) ≡ suc n = omega (
+        arith,
+        more,
+        within,
+        ap length on.same,
+        ap length (ap (drop new.taken) on.same),
+        length-drop old.taken old.tokens,
+        length-drop new.taken old.tokens,
+      ) in
+      let room : n < length (left old) = omega (arith, size) in
+      let last : drop n (left old) ≡ drop (new.taken - 1) new.tokens =
+      drop-drop n old.taken old.tokens ∙ ap (λ k. drop k old.tokens) whole
+      ∙ ap (drop (new.taken - 1)) (sym on.same) in
+      ap (λ (ts : List Lexeme). between (first_of (left old)).span.start (first_of ts).span.end) (sym last)
+      ∙ span_is n (left old) room ∙ ap (λ k. span_of (take k (left old))) (sym size)
+
+  -- What was read with the span from a mark has the span of its tokens.
+  pub marked : {A : Type 0} (r : Read (Span → A)) (x : A) (start : Place)
+      → start ≡ (first_of (left old)).span.start → at_span start (last_end new) r ≡ Ok (x, left new)
+      → spanning (left old) r ≡ Ok (x, left new)
+  marked {A} (Ok y) x start e h =
+      let given : (y.0 (between start (last_end new)), y.1) ≡ (x, left new) = ok_is _ _ h in
+      let span : between start (last_end new) ≡ span_of (front (left old) y.1) =
+      ap (λ p. between p (last_end new)) e ∙ taken_span
+      ∙ ap (λ (z : A × List Lexeme). span_of (front (left old) z.1)) (sym given) in
+      ap (λ p. Ok (y.0 p, y.1)) (sym span) ∙ h
+  marked (Err y) x start e h = absurd (cc h)
+
+-- The mark was made at t0, and left t1, which is the same; what was read left u0, and its span u1, which is the same.
+module _ (t0 t1 u0 u1 : Taking) (at_mark : t1 ≡ t0) (at_span_is : u1 ≡ u0) (on : GoesOn t1 u0) where
+  pub marked_on : GoesOn t0 u1
+  marked_on = subst (λ t. GoesOn t u1) at_mark (subst (GoesOn t1) (sym at_span_is) on)
+
+  -- What was read from a mark on, with the span from it, is what the production gives.
+  pub marked_gives : {A : Type 0} (r : List Lexeme → Read (Span → A)) (x : A) (start : Place)
+      → length (left u0) < length (left t1) → u0.taken < length u0.tokens → start ≡ (first_of (left t0)).span.start
+      → at_span start (last_end u0) (r (left t1)) ≡ Ok (x, left u0)
+      → spanning (left t0) (r (left t0)) ≡ Ok (x, left u1)
+  marked_gives r x start shorter within place gives =
+      subst (λ t. spanning (left t) (r (left t)) ≡ Ok (x, left u1)) at_mark
+      (subst (λ t. spanning (left t1) (r (left t1)) ≡ Ok (x, left t))
+      (sym at_span_is) (marked t1 u0 on shorter within (r (left t1)) x start
+      (place ∙ ap (λ t. (first_of (left t)).span.start) (sym at_mark)) gives))
+
+pub on_ok : {X P Q : Type 0} (result : Result X ParseFailure) → (P → Q) → OnOk result P → OnOk result Q
+on_ok (Ok x) f h = f h
+on_ok (Err e) f h = h
+
+-- The same of what another function read from a mark at t0 on, and returns.
+module _ {X A : Type 0} (view : X → A) (t0 t1 u : Taking) (at_mark : t1 ≡ t0) (r : List Lexeme → Read (Span → A))
+    (start : Place) (place : start ≡ (first_of (left t0)).span.start) where
+  refused : (e : _) (x : Read (Span → A)) → at_span start (last_end u) x ≡ Err (view_fault e, left u)
+      → spanning (left t0) x ≡ Err (view_fault e, left u)
+  refused e (Ok y) h = absurd (cc h)
+  refused e (Err y) h = h
+
+  pub marked_result : (result : Result X ParseFailure) → OnOk result (GoesOn t1 u)
+      → OnOk result (length (left u) < length (left t1)) → OnOk result (u.taken < length u.tokens)
+      → Gives view result (left u) (at_span start (last_end u) (r (left t1)))
+      → Gives view result (left u) (spanning (left t0) (r (left t0)))
+  marked_result (Ok x) on shorter within gives =
+      marked_gives t0 t1 u u at_mark refl on r (view x) start shorter within place gives
+  marked_result (Err (failures.Refused e)) on shorter within gives =
+      refused e (r (left t0)) (subst (λ t. at_span start (last_end u) (r (left t)) ≡ Err (view_fault e, left u)) at_mark gives)
+  marked_result (Err failures.Memory) on shorter within gives = tt

@@ -1,0 +1,92 @@
+-- What a cursor has left of its tokens, once more of them are taken.
+use Rattle.std.proofs.Common.{◌≡◌, ℕ, ◌+◌, ◌-◌, ◌<◌, ◌≤◌, List, length, drop, get_or, refl, sym, ap, subst, le_refl, ◌∙◌, arith, length-drop, drop-cons, false}
+use Rattle.std.proofs.lemmas.List.{drop-drop, drop-map}
+use Rattle.std.proofs.lemmas.List.Elements.{All-get_or}
+use Rattle.graphql_lexical.specs.Place.{place}
+use Rattle.graphql_lexical.specs.Cutting.{Lexeme}
+use Rattle.graphql_lexical.specs.declared.kind.Kind.TheVariants.{EndOfFile}
+use Rattle.graphql_lexical.specs.Kinds.{same_kind}
+use Rattle.juniper_tokens.specs.declared.token_range.TokenRange.{TokenRange}
+use Rattle.juniper_tokens.specs.Cursor.{EndsOnce, first_of, kind_at}
+use Rattle.juniper_tokens.specs.Delimited.{IsRest}
+use Rattle.juniper_tokens.specs.LineTables.{Lines}
+use Rattle.juniper_tokens.specs.Taking.{Taking, left, next_taken, last_end, GoesOn}
+use Rattle.juniper_tokens.specs.device.Ranges.{range_lexeme, range_lexemes, IsRange, AreLeft}
+use Rattle.juniper_tokens.proofs.Rests.{no_longer}
+use Rattle.juniper_tokens.proofs.Steps.{some_ended, still_ended, left_within, one_fewer}
+
+pub within_tokens : (t : Taking) → EndsOnce (left t) → t.taken < length t.tokens
+within_tokens t h = omega (arith, some_ended _ h, length-drop t.taken t.tokens)
+
+pub stays : (t : Taking) → GoesOn t t
+stays t = record { same = refl; on = le_refl t.taken }
+
+pub goes_further : (a b c : Taking) → GoesOn a b → GoesOn b c → GoesOn a c
+goes_further a b c g h = record { same = h.same ∙ g.same; on = omega (arith, g.on, h.on) }
+
+-- a token is taken
+pub goes_past : (t : Taking) → GoesOn t (next_taken t)
+goes_past t = record { same = refl; on = omega arith }
+
+-- what is left is a rest of what was left
+pub rest_of : (old new : Taking) → GoesOn old new → IsRest (left old) (left new)
+rest_of old new g =
+    let sum : old.taken + (new.taken - old.taken) ≡ new.taken = omega (arith, g.on) in
+    record {
+      taken = new.taken - old.taken;
+      left =
+          ap (drop new.taken) g.same
+          ∙ (ap (λ k. drop k old.tokens) (sym sum) ∙ sym (drop-drop (new.taken - old.taken) old.taken old.tokens));
+    }
+
+pub not_longer : (old new : Taking) → GoesOn old new → length (left new) ≤ length (left old)
+not_longer old new g = no_longer _ _ (rest_of old new g)
+
+-- fewer are left, so some were taken
+pub more_taken : (old new : Taking) → GoesOn old new → length (left new) < length (left old) → old.taken < new.taken
+more_taken old new g shorter = omega (
+  arith,
+  shorter,
+  ap length (ap (drop new.taken) g.same),
+  length-drop old.taken old.tokens,
+  length-drop new.taken old.tokens,
+)
+
+pub some_taken : (old new : Taking) → GoesOn old new → length (left new) < length (left old) → 0 < new.taken
+some_taken old new g shorter = omega (arith, more_taken old new g shorter)
+
+-- A cursor over ranges of a source is seen as t.
+module _ (source : List ℕ) (ranges : List TokenRange) (lines : Lines) (taken : ℕ)
+    (here : AreLeft source ranges lines taken) (t : Taking)
+    (seen : ◌≡◌ {A = Taking} (record { tokens = range_lexemes source ranges; taken = taken }) t) where
+  pub seen_left : range_lexemes source (drop taken ranges) ≡ left t
+  seen_left = sym (drop-map (range_lexeme source) taken ranges) ∙ ap left seen
+
+  pub seen_ended : EndsOnce (left t)
+  seen_ended = subst EndsOnce seen_left here.ended
+
+  pub seen_first : (d : TokenRange) → range_lexeme source (get_or ranges taken d) ≡ first_of (left t)
+  seen_first d = sym (ap (λ rs. first_of (range_lexemes source rs))
+      (drop-cons ranges taken d (left_within source ranges taken here.ended)))
+      ∙ ap first_of seen_left
+
+  pub first_is_range : (d : TokenRange) → IsRange source (get_or ranges taken d)
+  first_is_range d = All-get_or (IsRange source) ranges taken d (left_within source ranges taken here.ended)
+      here.are_ranges
+
+  pub first_within : (d : TokenRange) → (get_or ranges taken d).start.characters ≤ length source
+  first_within d = omega (arith, (first_is_range d).forward, (first_is_range d).within)
+
+  before : taken - 1 < length ranges
+  before = omega (arith, left_within source ranges taken here.ended)
+
+  pub last_is_range : (d : TokenRange) → IsRange source (get_or ranges (taken - 1) d)
+  last_is_range d = All-get_or (IsRange source) ranges (taken - 1) d before here.are_ranges
+
+  pub seen_last : (d : TokenRange) → place source (get_or ranges (taken - 1) d).end.characters ≡ last_end t
+  seen_last d = ap (λ (x : Lexeme). x.span.end) (sym (ap first_of (drop-map (range_lexeme source) (taken - 1) ranges
+      ∙ ap (range_lexemes source) (drop-cons ranges (taken - 1) d before))))
+      ∙ ap last_end seen
+
+  pub past_seen : same_kind (kind_at (left t)) EndOfFile ≡ false → AreLeft source ranges lines (taken + 1)
+  past_seen more = one_fewer source ranges lines taken here (left t) seen_left more
