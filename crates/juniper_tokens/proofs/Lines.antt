@@ -8,7 +8,7 @@ use Rattle.graphql_lexical.specs.Place.{Place, place, past_character, next_line,
 use Rattle.juniper_tokens.specs.declared.lexer.run.Run.TheVariants as run
 use Rattle.juniper_tokens.specs.device.ByteRuns.{is_inner}
 use Rattle.juniper_tokens.specs.device.Walks.{run_test, each_machine}
-use Rattle.juniper_tokens.specs.device.LineSteps.{made_table, longer, one_line, past}
+use Rattle.juniper_tokens.specs.device.LineSteps.{no_lines, longer, one_line, past}
 use Rattle.juniper_tokens.specs.LineTables.{Lines, starts_after, lines_of, IsTable, place_within, AscendFrom, StartLines, IsOnLine}
 use Rattle.juniper_tokens.proofs.LineWalks.{no_feed_in_line, no_feed_past_ascii}
 use Rattle.juniper_tokens.proofs.Places.{place_fold}
@@ -126,6 +126,9 @@ pub record Narrowed (starts : List ℕ) (k low start high : ℕ) : Type 0 where
 
 -- ---- the lines after each character
 
+abbrev pub made_table : List ℕ → ℕ → Lines
+made_table starts count = record { starts = starts; count = count }
+
 pub no_longer : (t : Lines) → longer 0 t ≡ t
 no_longer t = ap (λ n. made_table t.starts n) (plus_none t.count)
 
@@ -142,11 +145,9 @@ pub past_other : (t : Lines) (b : ℕ) → is_inner b ≡ false → (b == 10) �
     → each_machine past (tt, t) b ≡ Some (tt, longer 1 t)
 past_other t b e f = rw (e, f) refl
 
--- the lines after more characters
-pub lines_on : (cs starts : List ℕ) (n : ℕ)
-    → fold past (made_table starts n) cs ≡ made_table (starts ++ starts_after n cs) (n + length cs)
-lines_on [] ss n = ap₂ made_table (sym (append-nil ss)) (sym (plus_none n))
-lines_on (c ∷ cs) ss n = by_feed (c == 10) ss cs n (λ ts. lines_on cs ts (n + 1))
+-- the lines of all characters
+pub lines_are : (cs : List ℕ) → fold past no_lines cs ≡ lines_of cs
+lines_are cs = go cs (0 ∷ []) 0 ∙ ap (made_table (0 ∷ starts_after 0 cs)) (none_plus (length cs))
   where
     longer_by : (n : ℕ) (cs : List ℕ) → (n + 1) + length cs ≡ n + suc (length cs)
     longer_by n cs = omega arith
@@ -160,3 +161,7 @@ lines_on (c ∷ cs) ss n = by_feed (c == 10) ss cs n (λ ts. lines_on cs ts (n +
         h (ss ++ (n + 1) ∷ [])
         ∙ ap₂ made_table (append_assoc ss ((n + 1) ∷ []) (starts_after (n + 1) rest)) (longer_by n rest)
     by_feed false ss rest n h = h ss ∙ ap (made_table (ss ++ starts_after (n + 1) rest)) (longer_by n rest)
+
+    go : (cs ss : List ℕ) (n : ℕ) → fold past (made_table ss n) cs ≡ made_table (ss ++ starts_after n cs) (n + length cs)
+    go [] ss n = ap₂ made_table (sym (append-nil ss)) (sym (plus_none n))
+    go (c ∷ cs) ss n = by_feed (c == 10) ss cs n (λ ts. go cs ts (n + 1))

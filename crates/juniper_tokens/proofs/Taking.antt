@@ -9,7 +9,6 @@ use Rattle.graphql_lexical.specs.Kinds.{same_kind}
 use Rattle.juniper_tokens.specs.declared.token_range.TokenRange.{TokenRange}
 use Rattle.juniper_tokens.specs.Cursor.{EndsOnce, first_of, kind_at}
 use Rattle.juniper_tokens.specs.Delimited.{IsRest}
-use Rattle.juniper_tokens.specs.LineTables.{Lines}
 use Rattle.juniper_tokens.specs.Taking.{Taking, left, next_taken, last_end, GoesOn}
 use Rattle.juniper_tokens.specs.device.Ranges.{range_lexeme, range_lexemes, IsRange, AreLeft}
 use Rattle.juniper_tokens.proofs.Rests.{no_longer}
@@ -56,8 +55,7 @@ pub some_taken : (old new : Taking) → GoesOn old new → length (left new) < l
 some_taken old new g shorter = omega (arith, more_taken old new g shorter)
 
 -- A cursor over ranges of a source is seen as t.
-module _ (source : List ℕ) (ranges : List TokenRange) (lines : Lines) (taken : ℕ)
-    (here : AreLeft source ranges lines taken) (t : Taking)
+module _ (source : List ℕ) (ranges : List TokenRange) (taken : ℕ) (here : AreLeft source ranges taken) (t : Taking)
     (seen : ◌≡◌ {A = Taking} (record { tokens = range_lexemes source ranges; taken = taken }) t) where
   pub seen_left : range_lexemes source (drop taken ranges) ≡ left t
   seen_left = sym (drop-map (range_lexeme source) taken ranges) ∙ ap left seen
@@ -74,9 +72,6 @@ module _ (source : List ℕ) (ranges : List TokenRange) (lines : Lines) (taken :
   first_is_range d = All-get_or (IsRange source) ranges taken d (left_within source ranges taken here.ended)
       here.are_ranges
 
-  pub first_within : (d : TokenRange) → (get_or ranges taken d).start.characters ≤ length source
-  first_within d = omega (arith, (first_is_range d).forward, (first_is_range d).within)
-
   before : taken - 1 < length ranges
   before = omega (arith, left_within source ranges taken here.ended)
 
@@ -88,5 +83,5 @@ module _ (source : List ℕ) (ranges : List TokenRange) (lines : Lines) (taken :
       ∙ ap (range_lexemes source) (drop-cons ranges (taken - 1) d before))))
       ∙ ap last_end seen
 
-  pub past_seen : same_kind (kind_at (left t)) EndOfFile ≡ false → AreLeft source ranges lines (taken + 1)
-  past_seen more = one_fewer source ranges lines taken here (left t) seen_left more
+  pub past_seen : same_kind (kind_at (left t)) EndOfFile ≡ false → AreLeft source ranges (taken + 1)
+  past_seen more = one_fewer source ranges taken here (left t) seen_left more

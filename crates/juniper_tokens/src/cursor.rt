@@ -12,7 +12,6 @@ ghost use Rattle.juniper_tokens.specs.device.Ranges.{range_lexemes, AreLeft};
 ghost use Rattle.juniper_tokens.specs.Tokens.{view_token, view_name};
 
 use crate::error::{ParseError, ParseFailure, ParseResult};
-use crate::line_table::{KnownLine, LineTable};
 use crate::position::SourcePosition;
 use crate::span::{Span, Spanning};
 use crate::token::Token;
@@ -30,24 +29,20 @@ pub struct Cursor<'p, 'a> {
     alloc: Global,
     source: &'a str,
     ranges: &'p [TokenRange],
-    lines: &'p LineTable,
     // The number of tokens that have been taken.
     taken: usize,
-    // The line of the place that was found last. The next one is looked for there first.
-    line: KnownLine,
 }
 
 impl<'p, 'a> Model for Cursor<'p, 'a> {
     ghost use Rattle.std.specs.Str.{chars};
     ghost use Rattle.juniper_tokens.specs.Taking.{Taking};
-    ghost use Rattle.juniper_tokens.specs.device.LineSteps.{IsKnown};
     ghost use Rattle.juniper_tokens.specs.device.Ranges.{range_lexemes, AreLeft};
 
     ghost Value = { Taking };
 
     ghost view = { λ c. record { tokens = range_lexemes (chars c.source.now) c.ranges.now; taken = c.taken } };
 
-    ghost invariant = { λ c. AreLeft (chars c.source.now) c.ranges.now c.lines.now c.taken × IsKnown c.lines.now c.line };
+    ghost invariant = { λ c. AreLeft (chars c.source.now) c.ranges.now c.taken };
 }
 
 impl<'p, 'a> Cursor<'p, 'a> {
@@ -56,19 +51,16 @@ impl<'p, 'a> Cursor<'p, 'a> {
         alloc: Global,
         source: &'a str,
         ranges: &'p [TokenRange],
-        lines: &'p LineTable,
         taken: usize,
     ) -> Self
-        requires { AreLeft (chars source.now) ranges.now lines.now taken }
+        requires { AreLeft (chars source.now) ranges.now taken }
         ensures { result ≡ record { tokens = range_lexemes (chars source.now) ranges.now; taken = taken } }
     {
         Cursor {
             alloc,
             source,
             ranges,
-            lines,
             taken,
-            line: KnownLine::none(),
         }
     }
 
@@ -116,8 +108,7 @@ impl<'p, 'a> Cursor<'p, 'a> {
         ensures place { result ≡ (first_of (left self.old)).span.start }
         ensures same { self.new ≡ self.old }
     {
-        let start = self.ranges[self.taken].start;
-        self.lines.place_by(&mut self.line, start.characters)
+        self.ranges[self.taken].start
     }
 
     /// From a place to the end of the token that was taken last.
@@ -128,9 +119,10 @@ impl<'p, 'a> Cursor<'p, 'a> {
         ensures within { self.old.taken < length self.old.tokens }
         ensures same { self.new ≡ self.old }
     {
-        let last = self.ranges[self.taken - 1].end;
-        let end = self.lines.place_by(&mut self.line, last.characters);
-        Span { start, end }
+        Span {
+            start,
+            end: self.ranges[self.taken - 1].end_position(self.source),
+        }
     }
 
     /// Where the next token stands.
@@ -139,11 +131,7 @@ impl<'p, 'a> Cursor<'p, 'a> {
         ensures span { view_span result ≡ (first_of (left self.old)).span }
         ensures same { self.new ≡ self.old }
     {
-        let start = self.mark();
-        Span {
-            start,
-            end: self.ranges[self.taken].end_position(self.source, start),
-        }
+        self.ranges[self.taken].span(self.source)
     }
 
     /// The next token, with its place.
@@ -151,8 +139,7 @@ impl<'p, 'a> Cursor<'p, 'a> {
         ensures token { view_token result ≡ first_of (left self.old) }
         ensures same { self.new ≡ self.old }
     {
-        let span = self.span();
-        self.ranges[self.taken].located_at(self.source, span)
+        self.ranges[self.taken].located(self.source)
     }
 
     /// Takes the next token, which must not be the end.

@@ -1,166 +1,22 @@
 //! Positions found by the beginnings of lines.
-ghost use Rattle.std.specs.Prelude.{◌≡◌, ◌+◌, ◌-◌, ◌<◌, ◌≤◌, ◌^◌, List, ℕ, length, IfOk, OnOk, MatchOption};
-ghost use Rattle.std.specs.List.{fold};
-ghost use Rattle.std.specs.Option.{IfSome};
+ghost use Rattle.std.specs.Prelude.{◌≡◌, ◌-◌, ◌≤◌, List, ℕ, length, IfOk, MatchOption};
 ghost use Rattle.std.specs.Str.{chars};
 ghost use Rattle.graphql_lexical.specs.Place.{place};
-ghost use Rattle.juniper_tokens.specs.LineTables.{Lines, lines_of, IsTable, place_within, StartLines, IsOnLine};
-ghost use Rattle.juniper_tokens.specs.device.Borders.{IsBorder};
-ghost use Rattle.juniper_tokens.specs.device.LexingByScan.{IsPlaced};
-ghost use Rattle.juniper_tokens.specs.device.LineSteps.{made_table, past, AreStarts, CountsLines, HasLines, IsKnown};
+ghost use Rattle.juniper_tokens.specs.LineTables.{lines_of, IsTable, place_within, StartLines, IsOnLine};
 
 use crate::byte_classes::{ByteClass, byte_class};
 use crate::lexer::run::{Run, run_over};
-use crate::lexer::text::{Border, text_before, text_from};
 use crate::position::SourcePosition;
 use std::alloc::{AllocError, Global};
 use std::marker::Model;
 
-/// Where the lines of a source begin, as far as it has been read.
-#[derive(Drop)]
-pub(crate) struct LineStarts {
-    // The index of the character at which each line begins.
-    starts: Vec<usize>,
-    // The offset up to which the characters were looked at. No line begins between it and what has been read.
-    at: Border,
-}
-
-impl LineStarts {
-    /// The beginning of the first line, where no character has been read.
-    pub(crate) fn new(alloc: Global) -> Result<Self, AllocError>
-        ensures { IfOk result (λ lines. (source : List ℕ) → HasLines source lines 0) }
-    {
-        let mut starts = Vec::new(alloc);
-        starts.push(0)?;
-        Ok(LineStarts {
-            starts,
-            at: Border::start(),
-        })
-    }
-
-    /// Reads on to a place of the source, before which `at` bytes stand.
-    #[inline(always)]
-    pub(crate) fn follow(
-        &mut self,
-        source: &str,
-        at: usize,
-        place: SourcePosition,
-    ) -> Result<(), AllocError>
-        requires placed { IsPlaced source.now at place }
-        requires counts { CountsLines (chars source.now) self.old }
-        requires before { self.old.at.characters ≤ place.index }
-        ensures { OnOk result (HasLines (chars source.now) self.new place.index) }
-    {
-        let line = place.line();
-        let count = self.starts.len();
-        if line < count {
-            return Ok(());
-        }
-        if line > count {
-            return self.add(source, at, place);
-        }
-        let here = place.index();
-        self.starts.push(here - place.column())?;
-        self.at = Border {
-            bytes: at,
-            characters: here,
-        };
-        Ok(())
-    }
-
-    // `follow`, where several lines begin.
-    #[inline(never)]
-    fn add(&mut self, source: &str, at: usize, place: SourcePosition) -> Result<(), AllocError>
-        requires placed { IsPlaced source.now at place }
-        requires counts { CountsLines (chars source.now) self.old }
-        requires before { self.old.at.characters ≤ place.index }
-        ensures { OnOk result (HasLines (chars source.now) self.new place.index) }
-    {
-        push_up_to(&mut self.starts, self.at, source, at, place)?;
-        self.at = Border {
-            bytes: at,
-            characters: place.index(),
-        };
-        Ok(())
-    }
-
-    /// The table of the source, which has been read up to this place, before which `at` bytes stand.
-    pub(crate) fn into_table(
-        self,
-        source: &str,
-        at: usize,
-        place: SourcePosition,
-    ) -> Result<LineTable, AllocError>
-        requires placed { IsPlaced source.now at place }
-        requires lines { HasLines (chars source.now) self place.index }
-        ensures { IfOk result (λ table. table ≡ lines_of (chars source.now)) }
-    {
-        let here = Border {
-            bytes: at,
-            characters: place.index(),
-        };
-        let mut lines = self;
-        let rest = text_from(source, here);
-        lines.at.characters = push_lines(&mut lines.starts, rest, here.characters)?;
-        Ok(LineTable { lines })
-    }
-}
-
-// Adds the beginnings of lines up to a place of the source, before which `at` bytes stand. Those up to `from` are there.
-fn push_up_to(
-    starts: &mut Vec<usize>,
-    from: Border,
-    source: &str,
-    at: usize,
-    place: SourcePosition,
-) -> Result<(), AllocError>
-    requires placed { IsPlaced source.now at place }
-    requires border { IsBorder from (chars source.now) }
-    requires counted { AreStarts starts.old.items (chars source.now) from.characters }
-    requires before { from.characters ≤ place.index }
-    ensures { OnOk result (AreStarts starts.new.items (chars source.now) place.index) }
-{
-    let rest = text_from(source, from);
-    let size = Border {
-        bytes: at - from.bytes,
-        characters: place.index() - from.characters,
-    };
-    push_lines(starts, text_before(rest, size), from.characters)?;
-    Ok(())
-}
-
-// Adds the beginnings of lines in a text, before which `count` characters stand. Returns how many stand after it.
-fn push_lines(starts: &mut Vec<usize>, text: &str, count: usize) -> Result<usize, AllocError>
-    requires { count + length text.now < 2 ^ 64 }
-    ensures { IfOk result (λ after. made_table starts.new.items after ≡ fold past (made_table starts.old.items count) (chars text.now)) }
-{
-    let bytes = text.as_bytes();
-    let first = run_over(Run::Line, bytes);
-    let mut after = count + first.characters;
-    let mut i = first.bytes;
-    while i < bytes.len() {
-        match byte_class(bytes[i]) {
-            ByteClass::LineFeed => {
-                starts.push(after + 1)?;
-                let line = run_over(Run::Line, &bytes[i + 1..]);
-                after += 1 + line.characters;
-                i += 1 + line.bytes;
-            }
-            ByteClass::Inner => i += 1,
-            _ => {
-                after += 1;
-                i += 1;
-            }
-        }
-    }
-    Ok(after)
-}
-
 /// A table of where the lines of a source begin. Positions are found by a binary search.
 #[derive(Drop)]
 pub struct LineTable {
-    // The lines of the whole source.
-    lines: LineStarts,
+    // The index of the character at which each line begins.
+    starts: Vec<usize>,
+    // The number of characters of the source.
+    count: usize,
 }
 
 impl Model for LineTable {
@@ -168,9 +24,9 @@ impl Model for LineTable {
 
     ghost Value = { Lines };
 
-    ghost view = { λ t. record { starts = t.lines.starts.items; count = t.lines.at.characters } };
+    ghost view = { λ t. record { starts = t.starts.items; count = t.count } };
 
-    ghost invariant = { λ t. IsTable (record { starts = t.lines.starts.items; count = t.lines.at.characters }) };
+    ghost invariant = { λ t. IsTable (record { starts = t.starts.items; count = t.count }) };
 }
 
 /// A line's number and the index of the character at which it begins.
@@ -191,27 +47,6 @@ impl Line {
     }
 }
 
-/// A line of a table, with its first and its last character, or none.
-#[derive(Clone, Copy)]
-pub(crate) struct KnownLine {
-    number: usize,
-    start: usize,
-    last: usize,
-}
-
-impl KnownLine {
-    /// No line.
-    pub(crate) fn none() -> Self
-        ensures { (table : Lines) → IsKnown table result }
-    {
-        KnownLine {
-            number: 0,
-            start: 1,
-            last: 0,
-        }
-    }
-}
-
 impl LineTable {
     /// The table of a source. A line ends at a line feed alone.
     ///
@@ -219,9 +54,28 @@ impl LineTable {
     pub fn new(alloc: Global, source: &str) -> Result<Self, AllocError>
         ensures { IfOk result (λ table. table ≡ lines_of (chars source.now)) }
     {
-        let mut lines = LineStarts::new(alloc)?;
-        lines.at.characters = push_lines(&mut lines.starts, source, 0)?;
-        Ok(LineTable { lines })
+        let bytes = source.as_bytes();
+        let mut starts = Vec::new(alloc);
+        starts.push(0)?;
+        let first = run_over(Run::Line, bytes);
+        let mut count = first.characters;
+        let mut i = first.bytes;
+        while i < bytes.len() {
+            match byte_class(bytes[i]) {
+                ByteClass::LineFeed => {
+                    starts.push(count + 1)?;
+                    let line = run_over(Run::Line, &bytes[i + 1..]);
+                    count += 1 + line.characters;
+                    i += 1 + line.bytes;
+                }
+                ByteClass::Inner => i += 1,
+                _ => {
+                    count += 1;
+                    i += 1;
+                }
+            }
+        }
+        Ok(LineTable { starts, count })
     }
 
     /// The place after `index` characters of the table's source, or None where it has fewer.
@@ -229,7 +83,7 @@ impl LineTable {
         ensures table { IsTable self.now }
         ensures place { (source : List ℕ) → self.now ≡ lines_of source → result ≡ place_within source index }
     {
-        if index > self.lines.at.characters {
+        if index > self.count {
             return None;
         }
         Some(self.place(index))
@@ -239,109 +93,8 @@ impl LineTable {
     pub(crate) fn place(&self, index: usize) -> SourcePosition
         ensures { (source : List ℕ) → self.now ≡ lines_of source → index ≤ length source → result ≡ place source index }
     {
-        line_of(&self.lines.starts, index).position(index)
+        line_of(&self.starts, index).position(index)
     }
-
-    /// The same. On the line that is known the place is found at once; then its own line is.
-    #[inline(always)]
-    pub(crate) fn place_by(&self, known: &mut KnownLine, index: usize) -> SourcePosition
-        requires { IsKnown self.now known.old }
-        ensures place { (source : List ℕ) → self.now ≡ lines_of source → index ≤ length source → result ≡ place source index }
-        ensures known { IsKnown self.now known.new }
-    {
-        if index < known.start || index > known.last {
-            *known = self.known_near(known.number, index);
-        }
-        position_on(&self.lines.starts, *known, index)
-    }
-
-    // The line on which a character stands.
-    #[inline(never)]
-    fn known_near(&self, near: usize, index: usize) -> KnownLine
-        ensures known { IsKnown self.now result }
-        ensures on { IsOnLine self.now.starts index result.number result.start }
-    {
-        let line = line_near(&self.lines.starts, near, index);
-        KnownLine {
-            number: line.number,
-            start: line.start,
-            last: last_on(&self.lines.starts, line, index),
-        }
-    }
-
-    /// The same. On the line `near` the place is found at once.
-    #[inline(always)]
-    pub(crate) fn place_near(&self, near: usize, index: usize) -> SourcePosition
-        ensures { (source : List ℕ) → self.now ≡ lines_of source → index ≤ length source → result ≡ place source index }
-    {
-        line_near(&self.lines.starts, near, index).position(index)
-    }
-}
-
-// The place after `index` characters, which is on this line.
-#[inline(always)]
-fn position_on(starts: &[usize], line: KnownLine, index: usize) -> SourcePosition
-    requires starts { StartLines starts.now }
-    requires on { IsOnLine starts.now index line.number line.start }
-    ensures { (source : List ℕ) → starts.now ≡ (lines_of source).starts → index ≤ length source → result ≡ place source index }
-{
-    SourcePosition::new(index, line.number, index - line.start)
-}
-
-// The last character on a line, on which the character `index` stands.
-fn last_on(starts: &[usize], line: Line, index: usize) -> usize
-    requires { IsOnLine starts.now index line.number line.start }
-    ensures { (k : ℕ) → line.start ≤ k → k ≤ result → IsOnLine starts.now k line.number line.start }
-{
-    let next = line.number + 1;
-    if next < starts.len() {
-        starts[next] - 1
-    } else {
-        usize::MAX
-    }
-}
-
-// The line on which a character stands. It may be the one of this number.
-#[inline(always)]
-fn line_near(starts: &[usize], near: usize, index: usize) -> Line
-    requires { StartLines starts.now }
-    ensures { IsOnLine starts.now index result.number result.start }
-{
-    match line_if(starts, near, index) {
-        Some(line) => line,
-        None => line_elsewhere(starts, near, index),
-    }
-}
-
-// The line on which a character stands. It may be the one after that of this number.
-#[inline(never)]
-fn line_elsewhere(starts: &[usize], near: usize, index: usize) -> Line
-    requires { StartLines starts.now }
-    ensures { IsOnLine starts.now index result.number result.start }
-{
-    match line_if(starts, near.wrapping_add(1), index) {
-        Some(line) => line,
-        None => line_of(starts, index),
-    }
-}
-
-// The line of this number, if the character stands on it.
-#[inline(always)]
-fn line_if(starts: &[usize], number: usize, index: usize) -> Option<Line>
-    ensures { IfSome result (λ line. IsOnLine starts.now index line.number line.start) }
-{
-    if number >= starts.len() {
-        return None;
-    }
-    let start = starts[number];
-    if index < start {
-        return None;
-    }
-    let next = number + 1;
-    if next < starts.len() && starts[next] <= index {
-        return None;
-    }
-    Some(Line { number, start })
 }
 
 // The line on which a character stands.

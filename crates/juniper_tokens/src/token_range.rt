@@ -3,7 +3,6 @@ ghost use Rattle.std.specs.Prelude.{◌≡◌, ◌-◌, ◌≤◌, drop};
 ghost use Rattle.std.specs.Str.{chars};
 ghost use Rattle.graphql_lexical.specs.Place.{place};
 ghost use Rattle.graphql_lexical.specs.device.Whole.{text_of};
-ghost use Rattle.juniper_tokens.specs.LineTables.{lines_of};
 ghost use Rattle.juniper_tokens.specs.Positions.{columns_on};
 ghost use Rattle.juniper_tokens.specs.Spans.{view_span};
 ghost use Rattle.juniper_tokens.specs.Tokens.{view_token};
@@ -13,18 +12,19 @@ ghost use Rattle.juniper_tokens.specs.device.Ranges.{IsRange, range_of, range_sl
 
 use crate::lexer::text::{Border, text_before, text_from, unquoted};
 use crate::lexer::{Found, walk_text};
-use crate::line_table::LineTable;
 use crate::position::SourcePosition;
 use crate::span::{Span, Spanning};
 use crate::token::Token;
 use graphql_lexical::Kind;
 
-/// A token's kind, and the two ends of the part of the source that it takes.
+/// A token's kind, and the part of the source that it takes.
 #[derive(Clone, Copy)]
 pub(crate) struct TokenRange {
     pub(crate) kind: Kind,
-    /// The offset of the first character.
-    pub(crate) start: Border,
+    /// The offset of the first character, in bytes.
+    pub(crate) at: usize,
+    /// The place before the first character.
+    pub(crate) start: SourcePosition,
     /// The offset after the last character.
     pub(crate) end: Border,
 }
@@ -39,10 +39,8 @@ impl TokenRange {
     {
         TokenRange {
             kind: found.kind,
-            start: Border {
-                bytes: at,
-                characters: start.index(),
-            },
+            at,
+            start,
             end: Border {
                 bytes: at + found.end.bytes,
                 characters: start.index() + found.end.characters,
@@ -50,66 +48,71 @@ impl TokenRange {
         }
     }
 
-    // The offset after the last character, from the first one.
-    fn size(&self) -> Border
-        requires bytes { self.now.start.bytes ≤ self.now.end.bytes }
-        requires characters { self.now.start.characters ≤ self.now.end.characters }
-        ensures { result ≡ record { bytes = self.now.end.bytes - self.now.start.bytes; characters = self.now.end.characters - self.now.start.characters } }
+    // The offset of the first character.
+    fn border(&self) -> Border
+        ensures { result ≡ record { bytes = self.now.at; characters = self.now.start.index } }
     {
         Border {
-            bytes: self.end.bytes - self.start.bytes,
-            characters: self.end.characters - self.start.characters,
+            bytes: self.at,
+            characters: self.start.index(),
         }
     }
 
-    /// The place after the last character, on the line of the first, which stands at the place `start`.
-    #[inline(always)]
-    pub(crate) fn end_on_line(&self, start: SourcePosition) -> SourcePosition
-        requires forward { self.now.start.characters ≤ self.now.end.characters }
-        requires start { start.index ≡ self.now.start.characters }
-        ensures { result ≡ columns_on (self.now.end.characters - self.now.start.characters) start }
+    // The offset after the last character, from the first one.
+    fn size(&self) -> Border
+        requires bytes { self.now.at ≤ self.now.end.bytes }
+        requires characters { self.now.start.index ≤ self.now.end.characters }
+        ensures { result ≡ record { bytes = self.now.end.bytes - self.now.at; characters = self.now.end.characters - self.now.start.index } }
     {
-        start.columns_on(self.end.characters - self.start.characters)
+        Border {
+            bytes: self.end.bytes - self.at,
+            characters: self.end.characters - self.start.index(),
+        }
     }
 
-    /// The place after the last character; the first stands at the place `start`. A block string alone may end on a
-    /// later line.
+    /// The place after the last character, on the line of the first.
     #[inline(always)]
-    pub(crate) fn end_position(&self, source: &str, start: SourcePosition) -> SourcePosition
-        requires range { IsRange (chars source.now) self.now }
-        requires start { start ≡ place (chars source.now) self.now.start.characters }
+    pub(crate) fn end_on_line(&self) -> SourcePosition
+        requires { self.now.start.index ≤ self.now.end.characters }
+        ensures { result ≡ columns_on (self.now.end.characters - self.now.start.index) self.now.start }
+    {
+        self.start
+            .columns_on(self.end.characters - self.start.index())
+    }
+
+    /// The place after the last character. A block string alone may end on a later line.
+    #[inline(always)]
+    pub(crate) fn end_position(&self, source: &str) -> SourcePosition
+        requires { IsRange (chars source.now) self.now }
         ensures { result ≡ place (chars source.now) self.now.end.characters }
     {
         if self.kind == Kind::BlockString {
-            self.end_by_walk(source, start)
+            self.end_by_walk(source)
         } else {
-            self.end_on_line(start)
+            self.end_on_line()
         }
     }
 
     // The place after the last character, on whichever line it is.
     #[inline(never)]
-    fn end_by_walk(&self, source: &str, start: SourcePosition) -> SourcePosition
-        requires range { IsRange (chars source.now) self.now }
-        requires start { start ≡ place (chars source.now) self.now.start.characters }
+    fn end_by_walk(&self, source: &str) -> SourcePosition
+        requires { IsRange (chars source.now) self.now }
         ensures { result ≡ place (chars source.now) self.now.end.characters }
     {
-        let rest = text_from(source, self.start);
+        let rest = text_from(source, self.border());
         let size = self.size();
-        walk_text(text_before(rest, size), start)
+        walk_text(text_before(rest, size), self.start)
     }
 
-    /// From the first character to the place after the last one. The first is looked for on the line `near` first.
+    /// From the first character to the place after the last one.
     #[inline(always)]
-    pub(crate) fn span(&self, source: &str, lines: &LineTable, near: usize) -> Span
-        requires range { IsRange (chars source.now) self.now }
-        requires lines { lines.now ≡ lines_of (chars source.now) }
+    pub(crate) fn span(&self, source: &str) -> Span
+        requires { IsRange (chars source.now) self.now }
         ensures { view_span result ≡ (range_lexeme (chars source.now) self.now).span }
     {
-        let start = lines.place_near(near, self.start.characters);
         Span {
-            start,
-            end: self.end_position(source, start),
+            start: self.start,
+            end: self.end_position(source),
         }
     }
 
@@ -118,7 +121,7 @@ impl TokenRange {
         requires { IsRange (chars source.now) self.now }
         ensures { chars result.now ≡ text_of self.now.kind (range_slice (chars source.now) self.now) }
     {
-        let rest = text_from(source, self.start);
+        let rest = text_from(source, self.border());
         let size = self.size();
         if self.kind == Kind::String {
             unquoted(rest, size, 1)
@@ -129,28 +132,22 @@ impl TokenRange {
         }
     }
 
-    /// The token with its places, which are known.
+    /// The token with its places, of which the end is known.
     #[inline(always)]
-    pub(crate) fn located_at<'a>(&self, source: &'a str, span: Span) -> Spanning<Token<'a>>
+    pub(crate) fn located_to<'a>(&self, source: &'a str, end: SourcePosition) -> Spanning<Token<'a>>
         requires range { IsRange (chars source.now) self.now }
-        requires span { view_span span ≡ (range_lexeme (chars source.now) self.now).span }
+        requires end { end ≡ place (chars source.now) self.now.end.characters }
         ensures { view_token result ≡ range_lexeme (chars source.now) self.now }
     {
-        Spanning::new(span, self.token(source))
+        Spanning::start_end(&self.start, &end, self.token(source))
     }
 
-    /// The token with its places. The first character is looked for on the line `near` first.
+    /// The token with its places.
     #[inline(never)]
-    pub(crate) fn located<'a>(
-        &self,
-        source: &'a str,
-        lines: &LineTable,
-        near: usize,
-    ) -> Spanning<Token<'a>>
-        requires range { IsRange (chars source.now) self.now }
-        requires lines { lines.now ≡ lines_of (chars source.now) }
+    pub(crate) fn located<'a>(&self, source: &'a str) -> Spanning<Token<'a>>
+        requires { IsRange (chars source.now) self.now }
         ensures { view_token result ≡ range_lexeme (chars source.now) self.now }
     {
-        self.located_at(source, self.span(source, lines, near))
+        self.located_to(source, self.end_position(source))
     }
 }

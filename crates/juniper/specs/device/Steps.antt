@@ -23,6 +23,11 @@ abbrev pub read_here : {C : Type 0} → Result C Error → Span → List Lexeme 
 read_here (Ok c) p ts = Ok (Scalar c p, ts)
 read_here (Err e) p ts = Err (record { error = e; span = p }, ts)
 
+-- The next token was taken.
+abbrev pub GivesNext : Result (Unit {0}) ParseFailure → List Lexeme → List Lexeme → Read Lexeme → Type 0
+GivesNext (Ok _) old new r = r ≡ Ok (first_of old, new)
+GivesNext (Err e) old new r = Fails e new r
+
 -- The next token was taken, and its place is returned.
 abbrev pub GivesPlace : Result code.Span ParseFailure → List Lexeme → List Lexeme → Read Lexeme → Type 0
 GivesPlace (Ok place) old new r = (r ≡ Ok (first_of old, new)) × (view_span place ≡ (first_of old).span)

@@ -1,4 +1,4 @@
-//! The next token. One that was looked at is taken by `take_next`, one that has to be there by `expect_kind`.
+//! The next token. One that was looked at is taken by `take_next`, one that has to be there by `expect_kind` or `expect_place`.
 ghost use Rattle.std.specs.Prelude.{◌≡◌, ◌<◌, ◌≤◌, length, drop, true, false, Some, None, option_map, Ok, OnOk, IfSome, if◌then◌else◌};
 ghost use Rattle.std.specs.Str.{chars};
 ghost use Rattle.graphql_lexical.specs.Kinds.{same_kind};
@@ -7,7 +7,7 @@ ghost use Rattle.juniper_tokens.specs.Cursor.{EndsOnce, first_of, kind_at, next_
 ghost use Rattle.graphql_grammar.specs.device.Reading.{passes, word};
 ghost use Rattle.juniper_tokens.specs.Taking.{left, GoesOn};
 ghost use Rattle.juniper_tokens.specs.Spans.{view_span};
-ghost use Rattle.juniper.specs.device.Steps.{closing_at, GivesPlace};
+ghost use Rattle.juniper.specs.device.Steps.{closing_at, GivesNext, GivesPlace};
 
 use juniper_tokens::text::same_text;
 use juniper_tokens::{Cursor, Kind, ParseFailure, Span};
@@ -80,12 +80,29 @@ pub(crate) fn take_if(tokens: &mut Cursor<'_, '_>, kind: Kind) -> bool
     is_next
 }
 
-/// Takes the next token if it is of this kind, and returns its span, else returns an error.
+/// Takes the next token if it is of this kind, else returns an error.
 ///
 /// Another token is taken too, and reported as unexpected. At the end nothing is taken.
 #[tactic(auto, using(crate::proofs::Cursors::closing_is_no_end))]
 #[inline(always)]
-pub(crate) fn expect_kind(tokens: &mut Cursor<'_, '_>, kind: Kind) -> Result<Span, ParseFailure>
+pub(crate) fn expect_kind(tokens: &mut Cursor<'_, '_>, kind: Kind) -> Result<(), ParseFailure>
+    requires { same_kind kind EndOfFile ≡ false }
+    ensures gives { GivesNext result (left tokens.old) (left tokens.new) (next_if (same_kind (kind_at (left tokens.old)) kind) (left tokens.old)) }
+    ensures shorter { OnOk result (length (left tokens.new) < length (left tokens.old)) }
+    ensures on { GoesOn tokens.old tokens.new }
+{
+    if next_is(tokens, kind) {
+        tokens.advance();
+        Ok(())
+    } else {
+        tokens.refuse()
+    }
+}
+
+/// Takes the next token if it is of this kind, and returns its span, else returns the error that `expect_kind` returns.
+#[tactic(auto, using(crate::proofs::Cursors::closing_is_no_end))]
+#[inline(always)]
+pub(crate) fn expect_place(tokens: &mut Cursor<'_, '_>, kind: Kind) -> Result<Span, ParseFailure>
     requires { same_kind kind EndOfFile ≡ false }
     ensures gives { GivesPlace result (left tokens.old) (left tokens.new) (next_if (same_kind (kind_at (left tokens.old)) kind) (left tokens.old)) }
     ensures shorter { OnOk result (length (left tokens.new) < length (left tokens.old)) }

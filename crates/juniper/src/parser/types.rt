@@ -8,7 +8,7 @@ ghost use Rattle.juniper.specs.Promise.{AnswersType};
 ghost use Rattle.juniper.specs.View.{view_spanned_type};
 ghost use Rattle.juniper.specs.device.Steps.{no_scalars, cursor, type_read};
 
-use crate::parser::next::{expect_kind, next_is, take_next};
+use crate::parser::next::{expect_place, next_is, take_next};
 use juniper_tokens::{Cursor, Kind, ParseFailure, ParseResult, Parser, Spanning};
 use juniper_values::Type;
 
@@ -81,9 +81,9 @@ fn parse_list_type<'a>(tokens: &mut Cursor<'_, 'a>) -> ParseResult<Type<&'a str>
     ensures shorter { OnOk result (length (left tokens.new) < length (left tokens.old)) }
     ensures on { GoesOn tokens.old tokens.new }
 {
-    let opening = expect_kind(tokens, Kind::BracketOpen)?;
+    let opening = expect_place(tokens, Kind::BracketOpen)?;
     let inner = parse_any_type(tokens)?;
-    let closing = expect_kind(tokens, Kind::BracketClose)?;
+    let closing = expect_place(tokens, Kind::BracketClose)?;
     match inner.item.wrap_list(tokens.allocator(), None) {
         Ok(list) => Ok(Spanning::start_end(&opening.start, &closing.end, list)),
         Err(_) => Err(ParseFailure::Memory),

@@ -10,7 +10,7 @@ ghost use Rattle.juniper.specs.device.Steps.{cursor};
 
 use crate::parser::directives::parse_directives;
 use crate::parser::lists::push_item;
-use crate::parser::next::{expect_kind, next_is, take_if, take_next};
+use crate::parser::next::{expect_kind, expect_place, next_is, take_if, take_next};
 use crate::parser::types::parse_any_type;
 use crate::parser::value::parse_value;
 use crate::tree::ast::{VariableDefinition, VariableDefinitions};
@@ -45,7 +45,7 @@ fn parse_variable_definition<'a, S: ScalarValue>(
     ensures shorter { OnOk result (length (left tokens.new) < length (left tokens.old)) }
     ensures on { OnOk result (GoesOn tokens.old tokens.new) }
 {
-    let start = expect_kind(tokens, Kind::Dollar)?.start;
+    let start = expect_place(tokens, Kind::Dollar)?.start;
     let name = tokens.expect_name()?;
     expect_kind(tokens, Kind::Colon)?;
     let var_type = parse_any_type(tokens)?;

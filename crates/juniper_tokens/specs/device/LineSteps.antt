@@ -1,13 +1,10 @@
 -- A device: a table of lines, character by character.
-use Rattle.std.specs.Prelude.{◌≡◌, ℕ, ◌+◌, ◌≤◌, ◌==◌, if◌then◌else◌, List, [], ◌∷◌, ◌++◌, take}
-use Rattle.juniper_tokens.specs.LineTables.{Lines, starts_after, IsOnLine}
-use Rattle.juniper_tokens.specs.declared.line_table.KnownLine.{KnownLine}
-use Rattle.juniper_tokens.specs.declared.line_table.LineStarts.{LineStarts}
-use Rattle.juniper_tokens.specs.device.Borders.{IsBorder}
+use Rattle.std.specs.Prelude.{ℕ, ◌+◌, ◌==◌, if◌then◌else◌, [], ◌∷◌, ◌++◌}
+use Rattle.juniper_tokens.specs.LineTables.{Lines}
 
--- a table of these beginnings and this many characters
-abbrev pub made_table : List ℕ → ℕ → Lines
-made_table starts count = record { starts = starts; count = count }
+-- no character read yet
+abbrev pub no_lines : Lines
+no_lines = record { starts = 0 ∷ []; count = 0 }
 
 -- this many characters more on the last line
 abbrev pub longer : ℕ → Lines → Lines
@@ -20,22 +17,3 @@ one_line t = record { starts = t.starts ++ (t.count + 1) ∷ []; count = t.count
 -- one character more
 abbrev pub past : Lines → ℕ → Lines
 past t c = if c == 10 then one_line t else longer 1 t
-
--- these are the beginnings of the lines of the first characters of a source
-abbrev pub AreStarts : List ℕ → List ℕ → ℕ → Type 0
-AreStarts starts source k = starts ≡ 0 ∷ starts_after 0 (take k source)
-
--- they are those up to an offset of the source
-pub record CountsLines (source : List ℕ) (lines : LineStarts) : Type 0 where
-  pub border : IsBorder lines.at source
-  pub counted : AreStarts lines.starts.items source lines.at.characters
-
--- they are as many up to character k
-pub record HasLines (source : List ℕ) (lines : LineStarts) (k : ℕ) : Type 0 where
-  pub counts : CountsLines source lines
-  pub before : lines.at.characters ≤ k
-  pub so_far : AreStarts lines.starts.items source k
-
--- the characters of this line of a table stand on it
-abbrev pub IsKnown : Lines → KnownLine → Type 0
-IsKnown table l = (k : ℕ) → l.start ≤ k → k ≤ l.last → IsOnLine table.starts k l.number l.start

@@ -8,5 +8,5 @@ unfolding argument expect_name_at
 returns-clause-appends g c = (
   _,
   c.in_ok-push_item.ensures.items,
-  rw (c.in_ok-name.ensures.gives, c.in_ok-expect_kind.ensures.gives.0, c.in_ok-value.ensures.gives) refl,
+  rw (c.in_ok-name.ensures.gives, c.in_ok-expect_kind.ensures.gives, c.in_ok-value.ensures.gives) refl,
 )

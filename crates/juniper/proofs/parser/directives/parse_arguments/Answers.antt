@@ -12,15 +12,15 @@ use Rattle.juniper.proofs.parser.directives.parse_arguments.Goals as goal
 pub returns-clause-gives : goal.returns-clause-gives
 unfolding arguments
 returns-clause-gives g c =
-    let on = goes_further _ _ _ c.in_ok-expect_kind.ensures.on c.in_ok-items.ensures.on in
+    let on = goes_further _ _ _ c.in_ok-expect_kind.ensures.on c.in_ok-list.ensures.on in
     let tokens = c.parse_argument_list.new.tokens in
     marked_gives _ _ _ _ c.mark-start.ensures.same c.span_from.ensures.same on
     (cursor (stated g.S.ParseScalarValue.reading g.S.ScalarValue.of_bool) arguments_parts) _ _
-    (omega (arith, c.in_ok-expect_kind.ensures.shorter, c.in_ok-items.ensures.shorter)) c.span_from.ensures.within
+    (omega (arith, c.in_ok-expect_kind.ensures.shorter, c.in_ok-list.ensures.shorter)) c.span_from.ensures.within
     c.mark-start.ensures.place
-    (rw (c.in_ok-expect_kind.ensures.gives.0, c.in_ok-items.ensures.gives, c.new.ensures)
+    (rw (c.in_ok-expect_kind.ensures.gives, c.in_ok-list.ensures.gives, c.new.ensures)
     (ap (λ (p : Span). Ok (
-      record { items = map (view_argument g.S.ParseScalarValue.content) c.in_ok-items.items.items; span = p },
+      record { items = map (view_argument g.S.ParseScalarValue.content) c.in_ok-list.list.item.items; span = p },
       left tokens,
     ))
     (sym c.span_from.ensures.span)))

@@ -25,7 +25,7 @@ returns-clause-gives g c =
       c.in_ok-arguments.ensures.not_longer,
     )) c.span_from.ensures.within c.mark-start.ensures.place
     (rw (
-      c.in_ok-expect_kind.ensures.gives.0,
+      c.in_ok-expect_kind.ensures.gives,
       c.in_ok-name.ensures.gives,
       c.in_ok-arguments.ensures.gives,
       c.new.ensures,

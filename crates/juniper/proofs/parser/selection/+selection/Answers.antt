@@ -49,7 +49,7 @@ parse_selection_list-loop-items-preserved g t c =
 pub parse_selection_set-returns-clause-gives : goal.parse_selection_set-returns-clause-gives
 unfolding selection_set
 parse_selection_set-returns-clause-gives g t c =
-    rw c.in_ok-expect_kind.ensures.gives.0
+    rw c.in_ok-expect_kind.ensures.gives
     (set_gives g.S.ParseScalarValue.content _ _ _ c.parse_selection_list.ensures.gives)
 
 pub parse_selection_set-returns-clause-on : goal.parse_selection_set-returns-clause-on
@@ -133,7 +133,7 @@ parse_spread-returns-then-next_is_word-clause-gives g t c =
     c.mark-start.ensures.same (cursor S spread_parts) _ c.mark-start.ensures.place read.result
     (on_ok read.result (λ h. goes_further _ _ _ dots.on (goes_further _ _ _ c.take_next.ensures.on h)) read.ensures.on)
     (on_ok read.result (λ h. omega (arith, h, dots.shorter, c.take_next.ensures.shorter)) read.ensures.shorter)
-    read.ensures.within (rw (dots.gives.0, on, c.take_next.ensures.takes) read.ensures.gives)
+    read.ensures.within (rw (dots.gives, on, c.take_next.ensures.takes) read.ensures.gives)
 
 pub parse_spread-returns-in_ok-name-clause-gives : goal.parse_spread-returns-in_ok-name-clause-gives
 unfolding spread expect_name_at
@@ -149,7 +149,7 @@ parse_spread-returns-in_ok-name-clause-gives g t c =
     (on_ok read.result (λ h. goes_further _ _ _ dots.on (goes_further _ _ _ c.in_ok-name.ensures.on h)) read.ensures.on)
     (on_ok read.result (λ h. omega (arith, h, dots.shorter, c.in_ok-name.ensures.shorter)) read.ensures.not_longer)
     read.ensures.within
-    (rw (dots.gives.0, on, other_is_name next on ∙ name, rw name at c.in_ok-name.ensures.gives) read.ensures.gives)
+    (rw (dots.gives, on, other_is_name next on ∙ name, rw name at c.in_ok-name.ensures.gives) read.ensures.gives)
 
 pub parse_spread-returns-else-next_is-clause-gives : goal.parse_spread-returns-else-next_is-clause-gives
 unfolding spread
@@ -163,4 +163,4 @@ parse_spread-returns-else-next_is-clause-gives g t c =
     c.mark-start.ensures.same (cursor S spread_parts) _ c.mark-start.ensures.place read.result
     (on_ok read.result (λ h. goes_further _ _ _ dots.on h) read.ensures.on)
     (on_ok read.result (λ h. omega (arith, h, dots.shorter)) read.ensures.shorter) read.ensures.within
-    (rw (dots.gives.0, on, other_is_name next on ∙ sym c.next_is.ensures.is ∙ c.if-next_is.false) read.ensures.gives)
+    (rw (dots.gives, on, other_is_name next on ∙ sym c.next_is.ensures.is ∙ c.if-next_is.false) read.ensures.gives)

@@ -18,7 +18,7 @@ returns-clause-gives g c =
     (cursor (stated g.S.ParseScalarValue.reading g.S.ScalarValue.of_bool) variables_parts) _ _
     (omega (arith, c.in_ok-expect_kind.ensures.shorter, c.in_ok-items.ensures.shorter)) c.span_from.ensures.within
     c.mark-start.ensures.place
-    (rw (c.in_ok-expect_kind.ensures.gives.0, c.in_ok-items.ensures.gives, c.new.ensures)
+    (rw (c.in_ok-expect_kind.ensures.gives, c.in_ok-items.ensures.gives, c.new.ensures)
     (ap (λ (p : Span). Ok (
       record { items = map (view_variable g.S.ParseScalarValue.content) c.in_ok-items.items.items; span = p },
       left tokens,

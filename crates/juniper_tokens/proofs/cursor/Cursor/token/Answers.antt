@@ -1,26 +1,10 @@
-use Rattle.std.proofs.Common.{ap, sym, ◌∙◌}
-use Rattle.graphql_lexical.specs.Cutting.{Lexeme}
-use Rattle.juniper_tokens.specs.Cursor.{first_of}
-use Rattle.juniper_tokens.specs.Taking.{Taking, left}
+use Rattle.std.proofs.Common.{◌∙◌}
 use Rattle.std.specs.Str.{chars}
-use Rattle.juniper_tokens.proofs.Taking.{first_is_range, seen_first}
+use Rattle.juniper_tokens.proofs.Taking.{seen_first}
 use Rattle.juniper_tokens.proofs.cursor.Cursor.token.Goals as goal
-
-pub located_at-requires-clause-range : goal.located_at-requires-clause-range
-located_at-requires-clause-range c =
-    let here = c.self.inside in
-    first_is_range (chars here.source.now) here.ranges.now here.lines.now here.taken c.self.invariant.0
-    c.span-span.new.self c.self.view_is _
-
-pub located_at-requires-clause-span : goal.located_at-requires-clause-span
-located_at-requires-clause-span c =
-    let here = c.self.inside in
-    c.span-span.ensures.span ∙ ap (λ (t : Taking). (first_of (left t)).span) (sym c.span-span.ensures.same)
-    ∙ ap (λ (t : Lexeme). t.span) (sym (seen_first (chars here.source.now) here.ranges.now here.lines.now here.taken
-    c.self.invariant.0 c.span-span.new.self c.self.view_is _))
 
 pub returns-clause-token : goal.returns-clause-token
 returns-clause-token c =
     let here = c.self.inside in
-    c.located_at.ensures ∙ seen_first (chars here.source.now) here.ranges.now here.lines.now here.taken c.self.invariant.0
-    c.span-span.new.self c.self.view_is _ ∙ ap (λ (t : Taking). first_of (left t)) c.span-span.ensures.same
+    c.located.ensures
+    ∙ seen_first (chars here.source.now) here.ranges.now here.taken c.self.invariant c.args.self.now c.self.view_is _

@@ -1,4 +1,4 @@
-use Rattle.std.proofs.Common.{sym, subst}
+use Rattle.std.proofs.Common.{sym, ap, subst, ◌∙◌, drop}
 use Rattle.std.specs.Str.{chars}
 use Rattle.juniper_tokens.specs.declared.lexer.text.Border.{Border}
 use Rattle.juniper_tokens.specs.device.Borders.{IsBorder}
@@ -10,5 +10,7 @@ size-size-requires-clause-bytes c = range_order (chars c.args.source.now) c.args
 
 pub text_before-requires : goal.text_before-requires
 text_before-requires c =
+    let rest = c.text_from-rest.ensures.characters
+    ∙ ap (λ (b : Border). drop b.characters (chars c.args.source.now)) c.border.ensures in
     subst (λ (b : Border). IsBorder b (chars c.text_from-rest.result.now)) (sym c.size-size.ensures)
-    (range_width (chars c.args.source.now) _ c.args.self.now c.requires c.text_from-rest.ensures.characters)
+    (range_width (chars c.args.source.now) _ c.args.self.now c.requires rest)
