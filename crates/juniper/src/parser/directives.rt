@@ -11,7 +11,7 @@ ghost use Rattle.juniper.specs.device.PartViews.{view_listed};
 ghost use Rattle.juniper.specs.device.Steps.{cursor, Appends};
 
 use crate::parser::lists::push_item;
-use crate::parser::next::{expect_kind, next_is, take_closing};
+use crate::parser::next::{expect_kind, next_is, refusal, take_closing, take_name};
 use crate::parser::value::parse_value;
 use crate::tree::ast::{Arguments, Directive};
 use juniper_tokens::{
@@ -29,8 +29,14 @@ fn parse_argument<'a, S: ScalarValue>(
     ensures shorter { OnOk result (length (left tokens.new) < length (left tokens.old)) }
     ensures on { OnOk result (GoesOn tokens.old tokens.new) }
 {
-    let name = tokens.expect_name()?;
-    expect_kind(tokens, Kind::Colon)?;
+    if !next_is(tokens, Kind::Name) {
+        return Err(refusal(tokens));
+    }
+    let name = take_name(tokens);
+    if !next_is(tokens, Kind::Colon) {
+        return Err(refusal(tokens));
+    }
+    tokens.advance();
     let value = parse_value(tokens, false)?;
     push_item(arguments, (name, value), next_is(tokens, Kind::ParenClose))?;
     Ok(())
@@ -95,7 +101,10 @@ fn parse_directive<'a, S: ScalarValue>(tokens: &mut Cursor<'_, 'a>) -> ParseResu
 {
     let start = tokens.mark();
     expect_kind(tokens, Kind::At)?;
-    let name = tokens.expect_name()?;
+    if !next_is(tokens, Kind::Name) {
+        return Err(refusal(tokens));
+    }
+    let name = take_name(tokens);
     let arguments = parse_optional_arguments(tokens)?;
     Ok(Spanning::new(tokens.span_from(start), Directive { name, arguments }))
 }

@@ -1,16 +1,20 @@
-//! The next token. One that was looked at is taken by `take_next`, one that has to be there by `expect_kind` or `expect_place`.
+//! The next token. One that was looked at is taken by `take_next` or `take_name`, one that has to be there by `expect_kind`
+//! or `expect_place`.
 ghost use Rattle.std.specs.Prelude.{◌≡◌, ◌<◌, ◌≤◌, length, drop, true, false, Some, None, option_map, Ok, OnOk, IfSome, if◌then◌else◌};
 ghost use Rattle.std.specs.Str.{chars};
 ghost use Rattle.graphql_lexical.specs.Kinds.{same_kind};
-ghost use Rattle.graphql_lexical.specs.declared.kind.Kind.TheVariants.{EndOfFile};
-ghost use Rattle.juniper_tokens.specs.Cursor.{EndsOnce, first_of, kind_at, next_at, next_if};
+ghost use Rattle.graphql_lexical.specs.declared.kind.Kind.TheVariants.{EndOfFile, Name};
+ghost use Rattle.juniper_tokens.specs.Cursor.{EndsOnce, Fails, first_of, kind_at, next_at, next_if, refused_at};
+ghost use Rattle.graphql_lexical.specs.Cutting.{Lexeme};
 ghost use Rattle.graphql_grammar.specs.device.Reading.{passes, word};
 ghost use Rattle.juniper_tokens.specs.Taking.{left, GoesOn};
 ghost use Rattle.juniper_tokens.specs.Spans.{view_span};
+ghost use Rattle.graphql_grammar.specs.Tokens.{word_of};
+ghost use Rattle.juniper.specs.View.{view_word};
 ghost use Rattle.juniper.specs.device.Steps.{closing_at, GivesNext, GivesPlace};
 
 use juniper_tokens::text::same_text;
-use juniper_tokens::{Cursor, Kind, ParseFailure, Span};
+use juniper_tokens::{Cursor, Kind, ParseFailure, Span, Spanning};
 
 /// Whether the next token is of this kind. It is not taken.
 pub(crate) fn next_is(tokens: &Cursor<'_, '_>, kind: Kind) -> bool
@@ -42,6 +46,32 @@ pub(crate) fn take_next(tokens: &mut Cursor<'_, '_>) -> Span
     let place = tokens.span();
     tokens.advance();
     place
+}
+
+/// Takes the next token, and returns the error that it is unexpected. What stands after it is what `Cursor::refuse` leaves.
+#[cold]
+pub(crate) fn refusal(tokens: &mut Cursor<'_, '_>) -> ParseFailure
+    ensures gives { Fails {Y = Lexeme} result (left tokens.new) (refused_at (left tokens.old)) }
+    ensures on { GoesOn tokens.old tokens.new }
+{
+    match tokens.refuse::<()>() {
+        Err(failure) => failure,
+        Ok(()) => unreachable!(),
+    }
+}
+
+/// Takes the next token, which must be a Name, and returns its text with its span.
+#[inline(always)]
+pub(crate) fn take_name<'a>(tokens: &mut Cursor<'_, 'a>) -> Spanning<&'a str>
+    requires { same_kind (kind_at (left tokens.old)) Name ≡ true }
+    ensures name { view_word result ≡ word_of (first_of (left tokens.old)) }
+    ensures takes { next_at (left tokens.old) ≡ Ok (first_of (left tokens.old), left tokens.new) }
+    ensures ended { EndsOnce (left tokens.old) }
+    ensures shorter { length (left tokens.new) < length (left tokens.old) }
+    ensures on { GoesOn tokens.old tokens.new }
+{
+    let text = tokens.text();
+    Spanning::new(take_next(tokens), text)
 }
 
 /// Takes the next token if it is of this kind, and returns its span, else returns None.

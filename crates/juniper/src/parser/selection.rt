@@ -10,7 +10,9 @@ ghost use Rattle.juniper.specs.device.PartViews.{view_items, view_names, view_wh
 
 use crate::parser::directives::{parse_directives, parse_optional_arguments};
 use crate::parser::lists::push_item;
-use crate::parser::next::{expect_kind, next_is, next_is_word, take_if, take_next};
+use crate::parser::next::{
+    expect_kind, next_is, next_is_word, refusal, take_if, take_name, take_next,
+};
 use crate::tree::ast::{Directive, Field, FragmentSpread, InlineFragment, Selection};
 use juniper_tokens::{Cursor, Kind, ParseFailure, SourcePosition, Spanning, UnlocatedParseResult};
 use juniper_values::ScalarValue;
@@ -128,10 +130,16 @@ fn parse_names<'a>(
     ensures shorter { OnOk result (length (left tokens.new) < length (left tokens.old)) }
     ensures on { OnOk result (GoesOn tokens.old tokens.new) }
 {
-    let first = tokens.expect_name()?;
+    if !next_is(tokens, Kind::Name) {
+        return Err(refusal(tokens));
+    }
+    let first = take_name(tokens);
     if next_is(tokens, Kind::Colon) {
         take_next(tokens);
-        let name = tokens.expect_name()?;
+        if !next_is(tokens, Kind::Name) {
+            return Err(refusal(tokens));
+        }
+        let name = take_name(tokens);
         Ok((Some(first), name))
     } else {
         Ok((None, first))
@@ -154,7 +162,7 @@ fn parse_spread<'a, S: ScalarValue>(
         take_next(tokens);
         parse_typed_fragment(tokens, start)
     } else if next_is(tokens, Kind::Name) {
-        let name = tokens.expect_name()?;
+        let name = take_name(tokens);
         parse_named_spread(tokens, start, name)
     } else {
         parse_untyped_fragment(tokens, start)

@@ -1,8 +1,7 @@
-use Rattle.std.proofs.Common.{sym, ap, Ok, arith}
+use Rattle.std.proofs.Common.{sym, ap, ◌∙◌, Ok, arith}
 use Rattle.std.specs.Prelude.{option_map}
 use Rattle.graphql_lexical.specs.Place.{Span}
 use Rattle.graphql_grammar.specs.device.Productions.{directive, directive_parts}
-use Rattle.juniper_tokens.specs.Cursor.{expect_name_at}
 use Rattle.juniper_tokens.specs.Taking.{left}
 use Rattle.juniper_tokens.proofs.Public.{goes_further, some_taken}
 use Rattle.juniper.specs.View.{view_word, view_arguments}
@@ -12,27 +11,29 @@ use Rattle.juniper.proofs.Marks.{marked_on, marked_gives}
 use Rattle.juniper.proofs.parser.directives.parse_directive.Goals as goal
 
 pub returns-clause-gives : goal.returns-clause-gives
-unfolding directive expect_name_at
+unfolding directive
 returns-clause-gives g c =
     let on = goes_further _ _ _ c.in_ok-expect_kind.ensures.on
-    (goes_further _ _ _ c.in_ok-name.ensures.on c.in_ok-arguments.ensures.on) in
+    (goes_further _ _ _ c.take_name-name.ensures.on c.in_ok-arguments.ensures.on) in
     marked_gives _ _ _ _ c.mark-start.ensures.same c.span_from.ensures.same on
     (cursor (stated g.S.ParseScalarValue.reading g.S.ScalarValue.of_bool) directive_parts) _ _
     (omega (
       arith,
       c.in_ok-expect_kind.ensures.shorter,
-      c.in_ok-name.ensures.shorter,
+      c.take_name-name.ensures.shorter,
       c.in_ok-arguments.ensures.not_longer,
     )) c.span_from.ensures.within c.mark-start.ensures.place
     (rw (
       c.in_ok-expect_kind.ensures.gives,
-      c.in_ok-name.ensures.gives,
+      sym c.next_is.ensures.is ∙ c.if-not-next_is.false,
+      c.take_name-name.ensures.takes,
       c.in_ok-arguments.ensures.gives,
       c.new.ensures,
+      ← c.take_name-name.ensures.name,
     )
     (ap (λ (p : Span). Ok (
       record {
-        name = view_word c.in_ok-name.name;
+        name = view_word c.take_name-name.result;
         arguments = option_map (view_arguments g.S.ParseScalarValue.content) c.in_ok-arguments.arguments;
         span = p;
       },

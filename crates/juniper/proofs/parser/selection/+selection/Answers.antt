@@ -6,7 +6,7 @@ use Rattle.graphql_lexical.specs.Place.{Span}
 use Rattle.graphql_grammar.specs.Tree as tree
 use Rattle.graphql_grammar.specs.Tree.{Selection}
 use Rattle.graphql_grammar.specs.device.Productions.{selection_set, field, field_parts, spread, spread_parts, optional_of}
-use Rattle.juniper_tokens.specs.Cursor.{first_of, expect_name_at}
+use Rattle.juniper_tokens.specs.Cursor.{first_of}
 use Rattle.juniper_tokens.specs.Taking.{left}
 use Rattle.juniper_tokens.proofs.Public.{goes_further, some_taken}
 use Rattle.juniper_values.specs.Scalar.{Content}
@@ -135,9 +135,9 @@ parse_spread-returns-then-next_is_word-clause-gives g t c =
     (on_ok read.result (λ h. omega (arith, h, dots.shorter, c.take_next.ensures.shorter)) read.ensures.shorter)
     read.ensures.within (rw (dots.gives, on, c.take_next.ensures.takes) read.ensures.gives)
 
-pub parse_spread-returns-in_ok-name-clause-gives : goal.parse_spread-returns-in_ok-name-clause-gives
-unfolding spread expect_name_at
-parse_spread-returns-in_ok-name-clause-gives g t c =
+pub parse_spread-returns-then-next_is-clause-gives : goal.parse_spread-returns-then-next_is-clause-gives
+unfolding spread
+parse_spread-returns-then-next_is-clause-gives g t c =
     let S = stated g.S.ParseScalarValue.reading g.S.ScalarValue.of_bool in
     let dots = c.in_ok-expect_kind.ensures in
     let read = c.parse_named_spread in
@@ -146,10 +146,11 @@ parse_spread-returns-in_ok-name-clause-gives g t c =
     let name = sym c.next_is.ensures.is ∙ c.if-next_is.true in
     marked_result (view_selection g.S.ParseScalarValue.content) c.args.tokens.now c.mark-start.new.self read.new.tokens
     c.mark-start.ensures.same (cursor S spread_parts) _ c.mark-start.ensures.place read.result
-    (on_ok read.result (λ h. goes_further _ _ _ dots.on (goes_further _ _ _ c.in_ok-name.ensures.on h)) read.ensures.on)
-    (on_ok read.result (λ h. omega (arith, h, dots.shorter, c.in_ok-name.ensures.shorter)) read.ensures.not_longer)
+    (on_ok read.result (λ h. goes_further _ _ _ dots.on (goes_further _ _ _ c.take_name-name.ensures.on h)) read.ensures.on)
+    (on_ok read.result (λ h. omega (arith, h, dots.shorter, c.take_name-name.ensures.shorter)) read.ensures.not_longer)
     read.ensures.within
-    (rw (dots.gives, on, other_is_name next on ∙ name, rw name at c.in_ok-name.ensures.gives) read.ensures.gives)
+    (rw (dots.gives, on, other_is_name next on ∙ name, c.take_name-name.ensures.takes)
+    (rw c.take_name-name.ensures.name at read.ensures.gives))
 
 pub parse_spread-returns-else-next_is-clause-gives : goal.parse_spread-returns-else-next_is-clause-gives
 unfolding spread
