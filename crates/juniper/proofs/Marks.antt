@@ -1,5 +1,5 @@
 -- The span from a mark on is that of the tokens that were taken since.
-use Rattle.std.proofs.Common.{◌≡◌, ℕ, zero, suc, ◌+◌, ◌-◌, ◌<◌, ◌≤◌, List, [], ◌∷◌, length, take, drop, Result, Ok, Err, refl, sym, ap, ◌∙◌, subst, arith, length-drop}
+use Rattle.std.proofs.Common.{◌≡◌, ℕ, zero, suc, ◌+◌, ◌-◌, ◌<◌, ◌≤◌, List, [], ◌∷◌, length, take, drop, Result, Ok, Err, refl, sym, ap, ◌∙◌, arith, length-drop}
 use Rattle.std.specs.Prelude.{OnOk}
 use Rattle.std.proofs.lemmas.List.{drop-drop}
 use Rattle.graphql_lexical.specs.Place.{Place, Span}
@@ -70,40 +70,22 @@ module _ (old new : Taking) (on : GoesOn old new) (shorter : length (left new) <
       ap (λ p. Ok (y.0 p, y.1)) (sym span) ∙ h
   marked (Err y) x start e h = absurd (cc h)
 
--- The mark was made at t0, and left t1, which is the same; what was read left u0, and its span u1, which is the same.
-module _ (t0 t1 u0 u1 : Taking) (at_mark : t1 ≡ t0) (at_span_is : u1 ≡ u0) (on : GoesOn t1 u0) where
-  pub marked_on : GoesOn t0 u1
-  marked_on = subst (λ t. GoesOn t u1) at_mark (subst (GoesOn t1) (sym at_span_is) on)
-
-  -- What was read from a mark on, with the span from it, is what the production gives.
-  pub marked_gives : {A : Type 0} (r : List Lexeme → Read (Span → A)) (x : A) (start : Place)
-      → length (left u0) < length (left t1) → u0.taken < length u0.tokens → start ≡ (first_of (left t0)).span.start
-      → at_span start (last_end u0) (r (left t1)) ≡ Ok (x, left u0)
-      → spanning (left t0) (r (left t0)) ≡ Ok (x, left u1)
-  marked_gives r x start shorter within place gives =
-      subst (λ t. spanning (left t) (r (left t)) ≡ Ok (x, left u1)) at_mark
-      (subst (λ t. spanning (left t1) (r (left t1)) ≡ Ok (x, left t))
-      (sym at_span_is) (marked t1 u0 on shorter within (r (left t1)) x start
-      (place ∙ ap (λ t. (first_of (left t)).span.start) (sym at_mark)) gives))
-
 pub on_ok : {X P Q : Type 0} (result : Result X ParseFailure) → (P → Q) → OnOk result P → OnOk result Q
 on_ok (Ok x) f h = f h
 on_ok (Err e) f h = h
 
--- The same of what another function read from a mark at t0 on, and returns.
-module _ {X A : Type 0} (view : X → A) (t0 t1 u : Taking) (at_mark : t1 ≡ t0) (r : List Lexeme → Read (Span → A))
-    (start : Place) (place : start ≡ (first_of (left t0)).span.start) where
-  refused : (e : _) (x : Read (Span → A)) → at_span start (last_end u) x ≡ Err (view_fault e, left u)
-      → spanning (left t0) x ≡ Err (view_fault e, left u)
+-- The same of what another function read from a mark on, and returns.
+module _ {X A : Type 0} (view : X → A) (old new : Taking) (start : Place)
+    (place : start ≡ (first_of (left old)).span.start) where
+  refused : (e : _) (r : Read (Span → A)) → at_span start (last_end new) r ≡ Err (view_fault e, left new)
+      → spanning (left old) r ≡ Err (view_fault e, left new)
   refused e (Ok y) h = absurd (cc h)
   refused e (Err y) h = h
 
-  pub marked_result : (result : Result X ParseFailure) → OnOk result (GoesOn t1 u)
-      → OnOk result (length (left u) < length (left t1)) → OnOk result (u.taken < length u.tokens)
-      → Gives view result (left u) (at_span start (last_end u) (r (left t1)))
-      → Gives view result (left u) (spanning (left t0) (r (left t0)))
-  marked_result (Ok x) on shorter within gives =
-      marked_gives t0 t1 u u at_mark refl on r (view x) start shorter within place gives
-  marked_result (Err (failures.Refused e)) on shorter within gives =
-      refused e (r (left t0)) (subst (λ t. at_span start (last_end u) (r (left t)) ≡ Err (view_fault e, left u)) at_mark gives)
-  marked_result (Err failures.Memory) on shorter within gives = tt
+  pub marked_result : (r : Read (Span → A)) (result : Result X ParseFailure) → OnOk result (GoesOn old new)
+      → OnOk result (length (left new) < length (left old)) → OnOk result (new.taken < length new.tokens)
+      → Gives view result (left new) (at_span start (last_end new) r)
+      → Gives view result (left new) (spanning (left old) r)
+  marked_result r (Ok x) on shorter within gives = marked old new on shorter within r (view x) start place gives
+  marked_result r (Err (failures.Refused e)) on shorter within gives = refused e r gives
+  marked_result r (Err failures.Memory) on shorter within gives = tt

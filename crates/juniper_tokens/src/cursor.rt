@@ -104,20 +104,18 @@ impl<'p, 'a> Cursor<'p, 'a> {
     /// let span = cursor.span_from(start);
     /// ```
     #[inline(always)]
-    pub fn mark(&mut self) -> SourcePosition
-        ensures place { result ≡ (first_of (left self.old)).span.start }
-        ensures same { self.new ≡ self.old }
+    pub fn mark(&self) -> SourcePosition
+        ensures { result ≡ (first_of (left self.now)).span.start }
     {
         self.ranges[self.taken].start
     }
 
     /// From a place to the end of the token that was taken last.
     #[inline(always)]
-    pub fn span_from(&mut self, start: SourcePosition) -> Span
-        requires { 0 < self.old.taken }
-        ensures span { view_span result ≡ record { start = start; end = last_end self.old } }
-        ensures within { self.old.taken < length self.old.tokens }
-        ensures same { self.new ≡ self.old }
+    pub fn span_from(&self, start: SourcePosition) -> Span
+        requires { 0 < self.now.taken }
+        ensures span { view_span result ≡ record { start = start; end = last_end self.now } }
+        ensures within { self.now.taken < length self.now.tokens }
     {
         Span {
             start,
@@ -127,17 +125,15 @@ impl<'p, 'a> Cursor<'p, 'a> {
 
     /// Where the next token stands.
     #[inline(always)]
-    pub fn span(&mut self) -> Span
-        ensures span { view_span result ≡ (first_of (left self.old)).span }
-        ensures same { self.new ≡ self.old }
+    pub fn span(&self) -> Span
+        ensures { view_span result ≡ (first_of (left self.now)).span }
     {
         self.ranges[self.taken].span(self.source)
     }
 
     /// The next token, with its place.
-    pub fn token(&mut self) -> Spanning<Token<'a>>
-        ensures token { view_token result ≡ first_of (left self.old) }
-        ensures same { self.new ≡ self.old }
+    pub fn token(&self) -> Spanning<Token<'a>>
+        ensures { view_token result ≡ first_of (left self.now) }
     {
         self.ranges[self.taken].located(self.source)
     }
@@ -157,12 +153,10 @@ impl<'p, 'a> Cursor<'p, 'a> {
     }
 
     /// The error at the end, where nothing is taken.
-    #[tactic(auto, using(crate::proofs::Taking::stays))]
     #[cold]
-    pub(crate) fn refuse_end<T: Drop>(&mut self) -> Result<T, ParseFailure>
-        requires { same_kind (kind_at (left self.old)) EndOfFile ≡ true }
-        ensures refused { RefusesEnd result (left self.old) }
-        ensures same { self.new ≡ self.old }
+    pub(crate) fn refuse_end<T: Drop>(&self) -> Result<T, ParseFailure>
+        requires { same_kind (kind_at (left self.now)) EndOfFile ≡ true }
+        ensures { RefusesEnd result (left self.now) }
     {
         Err(ParseFailure::Refused(Spanning::new(self.span(), ParseError::UnexpectedEndOfFile)))
     }

@@ -63,7 +63,7 @@ fn parse_argument_list<'a, S: ScalarValue>(
 
 /// `Arguments = "(" (Name ":" Value(free))+ ")"`
 #[inline(never)]
-#[tactic(auto, using(juniper_tokens::proofs::Public::goes_further, juniper_tokens::proofs::Public::some_taken, crate::proofs::Marks::marked_on), unfolding(graphql_grammar::specs::device::Productions::arguments))]
+#[tactic(auto, using(juniper_tokens::proofs::Public::goes_further, juniper_tokens::proofs::Public::some_taken), unfolding(graphql_grammar::specs::device::Productions::arguments))]
 fn parse_arguments<'a, S: ScalarValue>(tokens: &mut Cursor<'_, 'a>) -> ParseResult<Arguments<'a, S>>
     ensures gives { Gives (view_arguments S.content) result (left tokens.new) (cursor (stated S.reading S.of_bool) arguments (left tokens.old)) }
     ensures shorter { OnOk result (length (left tokens.new) < length (left tokens.old)) }
@@ -93,7 +93,7 @@ pub(crate) fn parse_optional_arguments<'a, S: ScalarValue>(
 }
 
 /// `Directive = "@" Name Arguments?`
-#[tactic(auto, using(juniper_tokens::proofs::Public::goes_further, juniper_tokens::proofs::Public::some_taken, crate::proofs::Marks::marked_on), unfolding(graphql_grammar::specs::device::Productions::directive, juniper_tokens::specs::Cursor::expect_name_at))]
+#[tactic(auto, using(juniper_tokens::proofs::Public::goes_further, juniper_tokens::proofs::Public::some_taken), unfolding(graphql_grammar::specs::device::Productions::directive, juniper_tokens::specs::Cursor::expect_name_at))]
 fn parse_directive<'a, S: ScalarValue>(tokens: &mut Cursor<'_, 'a>) -> ParseResult<Directive<'a, S>>
     ensures gives { Gives (view_directive S.content) result (left tokens.new) (cursor (stated S.reading S.of_bool) directive (left tokens.old)) }
     ensures shorter { OnOk result (length (left tokens.new) < length (left tokens.old)) }

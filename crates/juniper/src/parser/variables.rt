@@ -84,7 +84,7 @@ fn parse_variable_list<'a, S: ScalarValue>(
 
 /// `Variables = "(" ("$" Name ":" Type ("=" Value(const))? Directive*)+ ")"`
 #[inline(never)]
-#[tactic(auto, using(juniper_tokens::proofs::Public::goes_further, juniper_tokens::proofs::Public::some_taken, crate::proofs::Marks::marked_on), unfolding(graphql_grammar::specs::device::Productions::variables))]
+#[tactic(auto, using(juniper_tokens::proofs::Public::goes_further, juniper_tokens::proofs::Public::some_taken), unfolding(graphql_grammar::specs::device::Productions::variables))]
 fn parse_variables<'a, S: ScalarValue>(
     tokens: &mut Cursor<'_, 'a>,
 ) -> ParseResult<VariableDefinitions<'a, S>>

@@ -13,7 +13,7 @@ use Rattle.juniper.proofs.parser.definition.parse_definition.Goals as goal
 
 pub take_next-requires : goal.take_next-requires
 take_next-requires g c =
-    operation_is_no_end (left c.mark-start.new.self) c.in-Some.operation_type
+    operation_is_no_end (left c.args.tokens.now) c.in-Some.operation_type
     (sym c.next_operation.ensures ∙ c.in-Some.is)
 
 pub returns-in-Some-clause-gives : goal.returns-in-Some-clause-gives
@@ -21,11 +21,11 @@ unfolding definition
 returns-in-Some-clause-gives g c =
     let S = stated g.S.ParseScalarValue.reading g.S.ScalarValue.of_bool in
     let read = c.parse_operation in
-    marked_result (view_definition g.S.ParseScalarValue.content) c.args.tokens.now c.mark-start.new.self read.new.tokens
-    c.mark-start.ensures.same (cursor S definition_parts) _ c.mark-start.ensures.place read.result
+    marked_result (view_definition g.S.ParseScalarValue.content) c.args.tokens.now read.new.tokens _ c.mark-start.ensures
+    (cursor S definition_parts (left c.args.tokens.now)) read.result
     (on_ok read.result (λ h. goes_further _ _ _ c.take_next.ensures.on h) read.ensures.on)
     (on_ok read.result (λ h. omega (arith, h, c.take_next.ensures.shorter)) read.ensures.shorter) read.ensures.within
-    (rw (operation_begins S (left c.mark-start.new.self) c.in-Some.operation_type (left c.take_next.new.tokens)
+    (rw (operation_begins S (left c.args.tokens.now) c.in-Some.operation_type (left c.take_next.new.tokens)
     (sym c.next_operation.ensures ∙ c.in-Some.is) c.take_next.ensures.takes) read.ensures.gives)
 
 pub returns-then-next_is_word-clause-gives : goal.returns-then-next_is_word-clause-gives
@@ -34,13 +34,13 @@ returns-then-next_is_word-clause-gives g c =
     let S = stated g.S.ParseScalarValue.reading g.S.ScalarValue.of_bool in
     let read = c.parse_fragment in
     let took = c.take_next-then-next_is_word in
-    let says = says_fragment (first_of (left c.mark-start.new.self)) _ _ c.next_is_word.ensures.is
+    let says = says_fragment (first_of (left c.args.tokens.now)) _ _ c.next_is_word.ensures.is
     c.if-next_is_word.true in
-    marked_result (view_definition g.S.ParseScalarValue.content) c.args.tokens.now c.mark-start.new.self read.new.tokens
-    c.mark-start.ensures.same (cursor S definition_parts) _ c.mark-start.ensures.place read.result
+    marked_result (view_definition g.S.ParseScalarValue.content) c.args.tokens.now read.new.tokens _ c.mark-start.ensures
+    (cursor S definition_parts (left c.args.tokens.now)) read.result
     (on_ok read.result (λ h. goes_further _ _ _ took.ensures.on h) read.ensures.on)
     (on_ok read.result (λ h. omega (arith, h, took.ensures.shorter)) read.ensures.shorter) read.ensures.within
-    (rw (fragment_begins S (left c.mark-start.new.self) (sym c.next_operation.ensures ∙ c.in-None.is)
+    (rw (fragment_begins S (left c.args.tokens.now) (sym c.next_operation.ensures ∙ c.in-None.is)
     (left took.new.tokens) says took.ensures.takes) read.ensures.gives)
 
 pub returns-else-next_is_word-clause-gives : goal.returns-else-next_is_word-clause-gives
@@ -48,10 +48,10 @@ unfolding definition
 returns-else-next_is_word-clause-gives g c =
     let S = stated g.S.ParseScalarValue.reading g.S.ScalarValue.of_bool in
     let read = c.parse_shorthand in
-    let says = says_fragment (first_of (left c.mark-start.new.self)) _ _ c.next_is_word.ensures.is
+    let says = says_fragment (first_of (left c.args.tokens.now)) _ _ c.next_is_word.ensures.is
     c.if-next_is_word.false in
-    marked_result (view_definition g.S.ParseScalarValue.content) c.args.tokens.now c.mark-start.new.self read.new.tokens
-    c.mark-start.ensures.same (cursor S definition_parts) _ c.mark-start.ensures.place read.result read.ensures.on
+    marked_result (view_definition g.S.ParseScalarValue.content) c.args.tokens.now read.new.tokens _ c.mark-start.ensures
+    (cursor S definition_parts (left c.args.tokens.now)) read.result read.ensures.on
     read.ensures.shorter read.ensures.within
-    (rw (shorthand_begins S (left c.mark-start.new.self) (sym c.next_operation.ensures ∙ c.in-None.is) says)
+    (rw (shorthand_begins S (left c.args.tokens.now) (sym c.next_operation.ensures ∙ c.in-None.is) says)
     read.ensures.gives)

@@ -6,7 +6,7 @@ use Rattle.juniper_tokens.proofs.Public.{goes_further, some_taken}
 use Rattle.juniper.specs.View.{view_argument}
 use Rattle.juniper.specs.Scalars.{stated}
 use Rattle.juniper.specs.device.Steps.{cursor}
-use Rattle.juniper.proofs.Marks.{marked_on, marked_gives}
+use Rattle.juniper.proofs.Marks.{marked}
 use Rattle.juniper.proofs.parser.directives.parse_arguments.Goals as goal
 
 pub returns-clause-gives : goal.returns-clause-gives
@@ -14,10 +14,9 @@ unfolding arguments
 returns-clause-gives g c =
     let on = goes_further _ _ _ c.in_ok-expect_kind.ensures.on c.in_ok-list.ensures.on in
     let tokens = c.parse_argument_list.new.tokens in
-    marked_gives _ _ _ _ c.mark-start.ensures.same c.span_from.ensures.same on
-    (cursor (stated g.S.ParseScalarValue.reading g.S.ScalarValue.of_bool) arguments_parts) _ _
-    (omega (arith, c.in_ok-expect_kind.ensures.shorter, c.in_ok-list.ensures.shorter)) c.span_from.ensures.within
-    c.mark-start.ensures.place
+    marked _ _ on (omega (arith, c.in_ok-expect_kind.ensures.shorter, c.in_ok-list.ensures.shorter)) c.span_from.ensures.within
+    (cursor (stated g.S.ParseScalarValue.reading g.S.ScalarValue.of_bool) arguments_parts (left c.args.tokens.now))
+    _ _ c.mark-start.ensures
     (rw (c.in_ok-expect_kind.ensures.gives, c.in_ok-list.ensures.gives, c.new.ensures)
     (ap (λ (p : Span). Ok (
       record { items = map (view_argument g.S.ParseScalarValue.content) c.in_ok-list.list.item.items; span = p },

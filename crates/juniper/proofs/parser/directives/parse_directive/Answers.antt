@@ -7,7 +7,7 @@ use Rattle.juniper_tokens.proofs.Public.{goes_further, some_taken}
 use Rattle.juniper.specs.View.{view_word, view_arguments}
 use Rattle.juniper.specs.Scalars.{stated}
 use Rattle.juniper.specs.device.Steps.{cursor}
-use Rattle.juniper.proofs.Marks.{marked_on, marked_gives}
+use Rattle.juniper.proofs.Marks.{marked}
 use Rattle.juniper.proofs.parser.directives.parse_directive.Goals as goal
 
 pub returns-clause-gives : goal.returns-clause-gives
@@ -15,14 +15,15 @@ unfolding directive
 returns-clause-gives g c =
     let on = goes_further _ _ _ c.in_ok-expect_kind.ensures.on
     (goes_further _ _ _ c.take_name-name.ensures.on c.in_ok-arguments.ensures.on) in
-    marked_gives _ _ _ _ c.mark-start.ensures.same c.span_from.ensures.same on
-    (cursor (stated g.S.ParseScalarValue.reading g.S.ScalarValue.of_bool) directive_parts) _ _
+    marked _ _ on
     (omega (
       arith,
       c.in_ok-expect_kind.ensures.shorter,
       c.take_name-name.ensures.shorter,
       c.in_ok-arguments.ensures.not_longer,
-    )) c.span_from.ensures.within c.mark-start.ensures.place
+    )) c.span_from.ensures.within
+    (cursor (stated g.S.ParseScalarValue.reading g.S.ScalarValue.of_bool) directive_parts (left c.args.tokens.now))
+    _ _ c.mark-start.ensures
     (rw (
       c.in_ok-expect_kind.ensures.gives,
       sym c.next_is.ensures.is ∙ c.if-not-next_is.false,

@@ -15,7 +15,7 @@ use Rattle.juniper.specs.Scalars.{stated}
 use Rattle.juniper.specs.device.PartViews.{view_whole_set}
 use Rattle.juniper.specs.device.Steps.{cursor}
 use Rattle.juniper.proofs.Loops.{some_go_on, some_end, some_item_fails}
-use Rattle.juniper.proofs.Marks.{marked_on, marked_gives, marked_result, on_ok}
+use Rattle.juniper.proofs.Marks.{marked, marked_result, on_ok}
 use Rattle.juniper.proofs.Names.{says_on}
 use Rattle.juniper.proofs.CursorFits.{other_is_name}
 use Rattle.juniper.proofs.Readings.{selections_repeat}
@@ -79,8 +79,7 @@ parse_field-returns-clause-appends g t c =
     (goes_further _ _ _ c.in_ok-directives.ensures.on c.in_ok-selection_set.ensures.on)) in (
       _,
       c.in_ok-push_item.ensures.items,
-      marked_gives _ _ _ _ c.mark-start.ensures.same c.span_from.ensures.same on
-          (cursor (stated g.S.ParseScalarValue.reading g.S.ScalarValue.of_bool) field_parts) _ _
+      marked _ _ on
           (omega (
             arith,
             c.in_ok-alias.ensures.shorter,
@@ -88,7 +87,9 @@ parse_field-returns-clause-appends g t c =
             c.in_ok-directives.ensures.not_longer,
             c.in_ok-selection_set.ensures.not_longer,
           ))
-          c.span_from.ensures.within c.mark-start.ensures.place
+          c.span_from.ensures.within
+          (cursor (stated g.S.ParseScalarValue.reading g.S.ScalarValue.of_bool) field_parts (left c.args.tokens.now))
+          _ _ c.mark-start.ensures
           (rw (
             c.in_ok-alias.ensures.gives,
             c.in_ok-arguments.ensures.gives,
@@ -117,10 +118,10 @@ parse_field-returns-clause-appends g t c =
     )
 
 pub parse_field-returns-clause-on : goal.parse_field-returns-clause-on
-parse_field-returns-clause-on g t c = marked_on _ _ _ _ c.mark-start.ensures.same c.span_from.ensures.same
-    (goes_further _ _ _ c.in_ok-alias.ensures.on
+parse_field-returns-clause-on g t c =
+    goes_further _ _ _ c.in_ok-alias.ensures.on
     (goes_further _ _ _ c.in_ok-arguments.ensures.on
-    (goes_further _ _ _ c.in_ok-directives.ensures.on c.in_ok-selection_set.ensures.on)))
+    (goes_further _ _ _ c.in_ok-directives.ensures.on c.in_ok-selection_set.ensures.on))
 
 pub parse_spread-returns-then-next_is_word-clause-gives : goal.parse_spread-returns-then-next_is_word-clause-gives
 unfolding spread
@@ -129,8 +130,8 @@ parse_spread-returns-then-next_is_word-clause-gives g t c =
     let dots = c.in_ok-expect_kind.ensures in
     let read = c.parse_typed_fragment in
     let on = says_on (first_of (left c.expect_kind.new.tokens)) _ _ c.next_is_word.ensures.is c.if-next_is_word.true in
-    marked_result (view_selection g.S.ParseScalarValue.content) c.args.tokens.now c.mark-start.new.self read.new.tokens
-    c.mark-start.ensures.same (cursor S spread_parts) _ c.mark-start.ensures.place read.result
+    marked_result (view_selection g.S.ParseScalarValue.content) c.args.tokens.now read.new.tokens _ c.mark-start.ensures
+    (cursor S spread_parts (left c.args.tokens.now)) read.result
     (on_ok read.result (λ h. goes_further _ _ _ dots.on (goes_further _ _ _ c.take_next.ensures.on h)) read.ensures.on)
     (on_ok read.result (λ h. omega (arith, h, dots.shorter, c.take_next.ensures.shorter)) read.ensures.shorter)
     read.ensures.within (rw (dots.gives, on, c.take_next.ensures.takes) read.ensures.gives)
@@ -144,8 +145,8 @@ parse_spread-returns-then-next_is-clause-gives g t c =
     let next = first_of (left c.expect_kind.new.tokens) in
     let on = says_on next _ _ c.next_is_word.ensures.is c.if-next_is_word.false in
     let name = sym c.next_is.ensures.is ∙ c.if-next_is.true in
-    marked_result (view_selection g.S.ParseScalarValue.content) c.args.tokens.now c.mark-start.new.self read.new.tokens
-    c.mark-start.ensures.same (cursor S spread_parts) _ c.mark-start.ensures.place read.result
+    marked_result (view_selection g.S.ParseScalarValue.content) c.args.tokens.now read.new.tokens _ c.mark-start.ensures
+    (cursor S spread_parts (left c.args.tokens.now)) read.result
     (on_ok read.result (λ h. goes_further _ _ _ dots.on (goes_further _ _ _ c.take_name-name.ensures.on h)) read.ensures.on)
     (on_ok read.result (λ h. omega (arith, h, dots.shorter, c.take_name-name.ensures.shorter)) read.ensures.not_longer)
     read.ensures.within
@@ -160,8 +161,8 @@ parse_spread-returns-else-next_is-clause-gives g t c =
     let read = c.parse_untyped_fragment in
     let next = first_of (left c.expect_kind.new.tokens) in
     let on = says_on next _ _ c.next_is_word.ensures.is c.if-next_is_word.false in
-    marked_result (view_selection g.S.ParseScalarValue.content) c.args.tokens.now c.mark-start.new.self read.new.tokens
-    c.mark-start.ensures.same (cursor S spread_parts) _ c.mark-start.ensures.place read.result
+    marked_result (view_selection g.S.ParseScalarValue.content) c.args.tokens.now read.new.tokens _ c.mark-start.ensures
+    (cursor S spread_parts (left c.args.tokens.now)) read.result
     (on_ok read.result (λ h. goes_further _ _ _ dots.on h) read.ensures.on)
     (on_ok read.result (λ h. omega (arith, h, dots.shorter)) read.ensures.shorter) read.ensures.within
     (rw (dots.gives, on, other_is_name next on ∙ sym c.next_is.ensures.is ∙ c.if-next_is.false) read.ensures.gives)

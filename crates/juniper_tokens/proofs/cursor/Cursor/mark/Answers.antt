@@ -4,8 +4,8 @@ use Rattle.graphql_lexical.specs.Cutting.{Lexeme}
 use Rattle.juniper_tokens.proofs.Taking.{first_is_range, seen_first}
 use Rattle.juniper_tokens.proofs.cursor.Cursor.mark.Goals as goal
 
-pub returns-clause-place : goal.returns-clause-place
-returns-clause-place c =
+pub returns : goal.returns
+returns c =
     let here = c.self.inside in
     let source = chars here.source.now in
     (first_is_range source here.ranges.now here.taken c.self.invariant c.args.self.now c.self.view_is _).start_is

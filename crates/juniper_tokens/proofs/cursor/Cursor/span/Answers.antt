@@ -4,8 +4,8 @@ use Rattle.graphql_lexical.specs.Cutting.{Lexeme}
 use Rattle.juniper_tokens.proofs.Taking.{seen_first}
 use Rattle.juniper_tokens.proofs.cursor.Cursor.span.Goals as goal
 
-pub returns-clause-span : goal.returns-clause-span
-returns-clause-span c =
+pub returns : goal.returns
+returns c =
     let here = c.self.inside in
     c.span.ensures
     ∙ ap (λ (t : Lexeme). t.span) (seen_first (chars here.source.now) here.ranges.now here.taken c.self.invariant c.args.self.now
