@@ -150,12 +150,12 @@ middle_of P (u ∷ us) vs t h = middle_of P us vs t h.1
 
 module _ {C F : Type 0} (S : Scalars C F) where
   -- Of the tokens up to token i, which is t and opens a bracket, and then an end, u is refused.
-  -- Either that is the end, and then the tokens up to t begin a document. Or it is no end, and then they don't, and all
-  -- tokens are refused there too.
+  -- Either that is the end, and then the tokens up to t begin a document. Or it is one of these, and then they don't, and
+  -- all tokens are refused there too.
   abbrev pub TellsDepth : List Lexeme → ℕ → Lexeme → List Lexeme → Lexeme → Fault F → Type 0
   TellsDepth ts i t us u e =
       ((u ≡ end_behind t) × BeginsDocument S (take (suc i) ts))
-      ⊎ ((u.kind ≡ EndOfFile → ⊥) × (BeginsDocument S (take (suc i) ts) → ⊥) × DocumentFaultAt S ts us u e)
+      ⊎ (((rest : List Lexeme) × (take (suc i) ts ≡ us ++ u ∷ rest)) × (BeginsDocument S (take (suc i) ts) → ⊥) × DocumentFaultAt S ts us u e)
 
   pub document_balanced : (ts : List Lexeme) (ds : List (Definition C)) → IsDocument S ds ts → opened ts ≡ closed ts
   document_balanced = nested.document IsBalanced refl join plain around S (λ t c k e. scalar t k)
@@ -174,7 +174,7 @@ module _ {C F : Type 0} (S : Scalars C F) where
     front_length : length front ≡ suc i
     front_length = length-append d.before (t ∷ []) ∙ omega (arith, d.number)
 
-    t_goes_on : t.kind ≡ EndOfFile → ⊥
+    pub t_goes_on : t.kind ≡ EndOfFile → ⊥
     t_goes_on = opening_no_end t.kind (opens depth ts i t d)
 
     -- They are no document: a bracket is still open.
@@ -203,7 +203,7 @@ module _ {C F : Type 0} (S : Scalars C F) where
       short_ends =
           record { inner = front; end = end_behind t; whole = short_parts; no_end = front_no_end; is_end = refl }
 
-      front_is : front ≡ take (suc i) ts
+      pub front_is : front ≡ take (suc i) ts
       front_is =
           sym (ap (λ k. take k ts) (sym front_length) ∙ ap (take (length front)) whole_parts
           ∙ take-append_seam front d.after)
@@ -219,12 +219,10 @@ module _ {C F : Type 0} (S : Scalars C F) where
       before_end us u e h l =
           let shorter_by : length us < length front = omega (arith, l, front_length) in
           let inside = within front (end_behind t ∷ []) us h.0.after u h.0.whole shorter_by in
-          let goes_on : u.kind ≡ EndOfFile → ⊥ = middle_of (λ (x : Lexeme). x.kind ≡ EndOfFile → ⊥) us inside.0 u
-          (subst NoEnd inside.1 front_no_end) in
           let refused : DocumentFaultAt S ts us u e = subst (λ l. DocumentFaultAt S l us u e) (sym whole_parts)
           (refused_in_front IsSpelled (IsDocument S) front (end_behind t ∷ []) d.after us u shorter_by h.0, h.1) in
           inr (
-            goes_on,
+            (inside.0, sym front_is ∙ inside.1),
             (λ b. refused.0.ends (front_begins (λ n. reads S n document) (IsDocument S) (document_reads S) IsSpelled
                 sample_spelled (us ++ u ∷ []) inside.0 (subst (BeginsDocument S)
                 (sym front_is ∙ inside.1 ∙ sym (append_assoc us (u ∷ []) inside.0)) b))),

@@ -1,6 +1,6 @@
 -- What proofs of other crates may import of this crate's proofs, and all of it.
 pub use Rattle.graphql_grammar.proofs.Answered.{closed_answer, each_answer, many_law, reads_answer, repeats_law, selections_answer, types_answer, values_answer}
-pub use Rattle.graphql_grammar.proofs.Depths.{TellsDepth, middle_of, short_ends, short_no_document, short_spelled, short_tells}
+pub use Rattle.graphql_grammar.proofs.Depths.{TellsDepth, t_goes_on, front_is, middle_of, short_ends, short_no_document, short_spelled, short_tells}
 pub use Rattle.graphql_grammar.proofs.DocumentRules.{IsNullable, IsSpannedType, argument_rule, argument_takes, directive_rule, directive_takes, list_nullable, name_nullable, variable_definition_rule, variable_takes}
 pub use Rattle.graphql_grammar.proofs.Elements.{all_each}
 pub use Rattle.graphql_grammar.proofs.Faulty.{same_parts}

@@ -15,5 +15,5 @@ pub use Rattle.graphql_lexical.proofs.Slices.{front_read, place_index, slices_in
 pub use Rattle.graphql_lexical.proofs.Spacing.{goes_on_spaced}
 pub use Rattle.graphql_lexical.proofs.Spelled.{RunsAs, accepts, runs_as}
 pub use Rattle.graphql_lexical.proofs.Wholes.{spells_token, unquoted}
-pub use Rattle.graphql_lexical.proofs.Widths.{IsWide, tokens_wide}
+pub use Rattle.graphql_lexical.proofs.Widths.{IsWide, tokens_wide, tokens_in_order}
 pub use Rattle.graphql_lexical.proofs.Writing.{writes_nothing, writes_token, writes_white}

@@ -7,14 +7,14 @@ use Rattle.std.specs.List.{AllByRecursion}
 use Rattle.graphql_lexical.specs.Place.{Place, Span}
 use Rattle.graphql_lexical.specs.Kinds.{LexicalError}
 use Rattle.graphql_lexical.specs.Cutting.{Lexeme, Cut, Breaks, BreaksFrom}
-use Rattle.graphql_lexical.proofs.Public.{one_cut_or_break, one_deep, crossed, IsWide, tokens_wide}
+use Rattle.graphql_lexical.proofs.Public.{one_cut_or_break, one_deep, crossed, IsWide, tokens_wide, tokens_in_order}
 use Rattle.graphql_lexical.specs.Nesting.{nesting, IsFirstDeeper, ended_by}
 use Rattle.graphql_grammar.specs.Tree.{Scalars, Definition}
 use Rattle.graphql_grammar.specs.Tokens.{IsSpelled}
 use Rattle.graphql_grammar.specs.Faults.{EndsOnce, DocumentRefusedAt}
 use Rattle.graphql_grammar.specs.device.Faults.{Fault, told}
 use Rattle.graphql_grammar.specs.Depth.{BeginsDocument, IsTooDeep}
-use Rattle.graphql_grammar.proofs.Public.{same_parts, document_error, document_fault, document_or_fault, cut_spelled, cut_ends, short_spelled, short_ends, TellsDepth, short_no_document, short_tells, middle_of}
+use Rattle.graphql_grammar.proofs.Public.{same_parts, document_error, document_fault, document_or_fault, cut_spelled, cut_ends, short_spelled, short_ends, TellsDepth, t_goes_on, front_is, short_no_document, short_tells, middle_of}
 use Rattle.juniper_tokens.specs.declared.error.ParseError.{ParseError}
 use Rattle.juniper_tokens.specs.declared.error.ParseFailure.{ParseFailure}
 use Rattle.juniper_tokens.specs.declared.error.ParseFailure.TheVariants as failure
@@ -155,15 +155,24 @@ module _ {C : Type 0} (S : Scalars C Error) (depth : ℕ) (source : List ℕ) wh
             → Promised (answer_within (Some span) (Err (failure.Refused fault)))
         deep_fault span fault e h x is (inl (end, begins)) =
             let at_end = h.span ∙ ap (λ (x : Lexeme). x.span) end in
-            let from : fault.span.start.index ≡ t.span.end.index = ap (λ (p : Span). p.start.index) at_end in
-            let to : fault.span.end.index ≡ t.span.end.index = ap (λ (p : Span). p.end.index) at_end in
-            rw (same_number fault.span.start.index fault.span.end.index (from ∙ sym to))
+            let here : fault.span.start.index ≡ span.end.index = ap (λ (p : Span). p.start.index) at_end
+            ∙ ap (λ (p : Span). p.end.index) (sym e) in
+            rw (same_number fault.span.start.index span.end.index here)
             (deep_within span (begun_too_deep ts cut i t d begins (view_span span) e))
-        deep_fault span fault e h x is (inr (goes_on, none, refused)) =
-            let all_wide = subst (AllByRecursion IsWide) refused.0.whole (tokens_wide source ts cut) in
-            let wide = middle_of IsWide h.before refused.0.after h.token all_wide goes_on in
-            let some : fault.span.start.index < fault.span.end.index = subst (λ (p : Span). p.start.index < p.end.index)
-            (sym h.span) wide in
+        deep_fault span fault e h x is (inr (inside, none, refused)) =
+            let wide = middle_of IsWide d.before d.after t
+            (subst (AllByRecursion IsWide) d.whole (tokens_wide source ts cut)) (t_goes_on S depth ts i t d) in
+            let no_later = middle_of (λ (x : Lexeme). x.span.start.index ≤ t.span.start.index) h.before inside.0 h.token
+            (subst (AllByRecursion (λ (x : Lexeme). x.span.start.index ≤ t.span.start.index))
+            (front_is S depth ts i t d (cut_spelled source ts cut) (cut_ends source ts cut) ∙ inside.1)
+            (tokens_in_order source t d.after d.before (subst (Cut source) d.whole cut))) in
+            let before : fault.span.start.index < span.end.index = omega (
+              arith,
+              wide,
+              no_later,
+              ap (λ (p : Span). p.start.index) h.span,
+              ap (λ (p : Span). p.end.index) e,
+            ) in
             let at : IsRefusedAt S ts (view_fault fault) = record {
               before = h.before;
               token = h.token;
@@ -172,7 +181,7 @@ module _ {C : Type 0} (S : Scalars C Error) (depth : ℕ) (source : List ℕ) wh
                   (document_error UnexpectedEndOfFile unexpected S ts h.before h.token x refused);
               span = h.span;
             } in
-            rw (other_number fault.span.start.index fault.span.end.index some)
+            rw (other_number fault.span.start.index span.end.index before)
             (refusal_within fault (refusal_at S source ts cut (view_fault fault) at) (unbegun_within ts cut i t d none))
 
         spelled : AllByRecursion IsSpelled (ended_by d.before t)
@@ -250,7 +259,7 @@ module _ {C : Type 0} (S : Scalars C Error) (depth : ℕ) (source : List ℕ) wh
       told_has_one : (us : List Lexeme) (u : Lexeme) (e : Fault Error) → TellsDepth S ts i t us u e → SomeAnswer
       told_has_one us u e (inl (end, begins)) =
           inr (inr (t.span, begun_too_deep ts cut i t d begins t.span refl))
-      told_has_one us u e (inr (goes_on, none, refused)) =
+      told_has_one us u e (inr (inside, none, refused)) =
           inr (inl (
             unbegun_within ts cut i t d none,
             (

@@ -77,10 +77,10 @@ module _ {C : Type 0} (S : Scalars C Error) (depth : ℕ) (source : List ℕ) wh
     pub within : IfDecided result IsWithin
     pub too_deep : IfTooDeep result (λ span. HasTooDeep (view_span span))
 
--- A fault of tokens that were ended after a deep one, as it is reported: only the end has zero width.
+-- A fault of tokens that were ended after a deep one, as it is reported: where that one ends stands the end.
 abbrev pub told_within : Option spans.Span → ParseFailure → DepthFailure
 told_within None e = limited.Parse e
-told_within (Some span) (failure.Refused fault) = if fault.span.start.index == fault.span.end.index then limited.TooDeep span else limited.Parse (failure.Refused fault)
+told_within (Some span) (failure.Refused fault) = if fault.span.start.index == span.end.index then limited.TooDeep span else limited.Parse (failure.Refused fault)
 told_within (Some span) failure.Memory = limited.Parse failure.Memory
 
 abbrev pub answer_within : {X : Type 0} → Option spans.Span → Result X ParseFailure → Result X DepthFailure

@@ -73,8 +73,8 @@ fn parse_within<'a, S: ScalarValue>(
     }
 }
 
-/// The failure for tokens that were ended after one nested too deep: where they are refused at that end, they are too
-/// deep. No other token has an empty span.
+/// The failure for tokens that were ended after one nested too deep, which has this span: where they are refused at that
+/// end, they are too deep. No other token begins where that one ends.
 pub(crate) fn told(deep: Option<Span>, failure: ParseFailure) -> DepthFailure
     ensures { result ≡ told_within deep failure }
 {
@@ -82,7 +82,7 @@ pub(crate) fn told(deep: Option<Span>, failure: ParseFailure) -> DepthFailure
         None => DepthFailure::Parse(failure),
         Some(span) => match failure {
             ParseFailure::Refused(fault) => {
-                if fault.span.start.index() == fault.span.end.index() {
+                if fault.span.start.index() == span.end.index() {
                     DepthFailure::TooDeep(span)
                 } else {
                     DepthFailure::Parse(ParseFailure::Refused(fault))
