@@ -18,7 +18,7 @@ ghost use Rattle.juniper.specs.Scalars.{stated};
 ghost use Rattle.juniper_values.specs.Scalar.{MeetsReading};
 
 use crate::parser::lists::push_item;
-use crate::parser::next::{expect_kind, next_is, take_closing, take_next};
+use crate::parser::next::{next_is, refusal, take_closing, take_name, take_next};
 use juniper_tokens::text::same_text;
 use juniper_tokens::{
     Cursor, Kind, ParseError, ParseFailure, ParseResult, Parser, Span, Spanning, Token,
@@ -79,7 +79,7 @@ pub(crate) fn parse_value<'a, S: ScalarValue>(
             parse_variable(tokens, dollar)
         }
         Kind::Name => {
-            let name = tokens.expect_name()?;
+            let name = take_name(tokens);
             Ok(value_of_name(tokens.allocator(), name)?)
         }
         // a scalar token, or one that begins no value and is refused
@@ -167,7 +167,7 @@ fn parse_fields<'a, S: ScalarValue>(
 
 /// `Name ":" Value(c)`
 #[cycle(value)]
-#[tactic(auto, using(juniper_tokens::proofs::Public::goes_further), unfolding(graphql_grammar::specs::device::Productions::key_and_value, juniper_tokens::specs::Cursor::expect_name_at))]
+#[tactic(auto, using(juniper_tokens::proofs::Public::goes_further), unfolding(graphql_grammar::specs::device::Productions::key_and_value))]
 fn parse_object_field<'a, S: ScalarValue>(
     tokens: &mut Cursor<'_, 'a>,
     is_const: bool,
@@ -176,15 +176,21 @@ fn parse_object_field<'a, S: ScalarValue>(
     ensures shorter { OnOk result (length (left tokens.new) < length (left tokens.old)) }
     ensures on { GoesOn tokens.old tokens.new }
 {
-    let key = tokens.expect_name()?;
-    expect_kind(tokens, Kind::Colon)?;
+    if !next_is(tokens, Kind::Name) {
+        return Err(refusal(tokens));
+    }
+    let key = take_name(tokens);
+    if !next_is(tokens, Kind::Colon) {
+        return Err(refusal(tokens));
+    }
+    tokens.advance();
     let value = parse_value(tokens, is_const)?;
     let text = String::from_str(tokens.allocator(), key.item)?;
     Ok((Spanning::new(key.span, text), value))
 }
 
 /// `Name`, after the dollar that stands at `dollar`.
-#[tactic(auto, using(crate::proofs::ValueViews::view_of_variable), unfolding(graphql_grammar::specs::device::Productions::variable, juniper_tokens::specs::Cursor::expect_name_at))]
+#[tactic(auto, using(crate::proofs::ValueViews::view_of_variable), unfolding(graphql_grammar::specs::device::Productions::variable))]
 fn parse_variable<'a, S: ScalarValue>(
     tokens: &mut Cursor<'_, 'a>,
     dollar: Span,
@@ -193,7 +199,10 @@ fn parse_variable<'a, S: ScalarValue>(
     ensures shorter { OnOk result (length (left tokens.new) < length (left tokens.old)) }
     ensures on { GoesOn tokens.old tokens.new }
 {
-    let name = tokens.expect_name()?;
+    if !next_is(tokens, Kind::Name) {
+        return Err(refusal(tokens));
+    }
+    let name = take_name(tokens);
     let text = String::from_str(tokens.allocator(), name.item)?;
     Ok(Spanning::start_end(&dollar.start, &name.span.end, InputValue::Variable(text)))
 }
