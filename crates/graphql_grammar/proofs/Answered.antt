@@ -1,8 +1,8 @@
 -- With enough fuel, each production answers.
 use Rattle.std.proofs.Common.{ℕ, zero, suc, Bool, true, ◌≡◌, ◌<◌, [], ◌∷◌, List, length, refl, inl, arith, le_refl}
-use Rattle.graphql_lexical.specs.Place.{Span}
 use Rattle.graphql_lexical.specs.declared.kind.Kind.{Kind}
 use Rattle.graphql_lexical.specs.Cutting.{Lexeme}
+use Rattle.graphql_grammar.specs.Tokens.{Located}
 use Rattle.graphql_grammar.specs.Samples.{sample, IsSample}
 use Rattle.graphql_grammar.specs.device.Reading.{Test, of, passes, Reader, seq, done, on, look, many, repeated, fully, a_value, a_type, a_selection, Steps}
 use Rattle.graphql_grammar.specs.device.Productions.{symbol_at, reads}
@@ -20,8 +20,8 @@ module _ {C F : Type 0} (S : Scalars C F) where
   values_answer free = answers _ (IsValue S free) (λ n m le. symbol_under S n m le (Value C) (a_value free))
       (λ n. value_rule S free n n (le_refl n))
 
-  pub types_answer : Answers (λ n. symbol_at S n (TypeRef × Span) a_type)
-  types_answer = answers _ IsSpannedType (λ n m le. symbol_under S n m le (TypeRef × Span) a_type)
+  pub types_answer : Answers (λ n. symbol_at S n (Located TypeRef) a_type)
+  types_answer = answers _ IsSpannedType (λ n m le. symbol_under S n m le (Located TypeRef) a_type)
       (λ n. type_rule S n n (le_refl n))
 
   pub selections_answer : Answers (λ n. symbol_at S n (Selection C) a_selection)

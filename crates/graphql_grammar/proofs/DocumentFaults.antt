@@ -3,12 +3,11 @@ use Rattle.std.proofs.Common.{ℕ, zero, suc, Bool, true, false, ◌≡◌, ◌�
 use Rattle.graphql_lexical.specs.declared.kind.Kind.{Kind}
 use Rattle.graphql_lexical.specs.declared.kind.Kind.TheVariants.{Name, String, BlockString, Float, Int, ExclamationMark, Dollar, ParenOpen, ParenClose, BracketOpen, BracketClose, CurlyOpen, CurlyClose, Ellipsis, Colon, Equals, At, EndOfFile}
 use Rattle.graphql_lexical.specs.Cutting.{Lexeme}
-use Rattle.graphql_grammar.specs.Tokens.{Word, word_of}
+use Rattle.graphql_grammar.specs.Tokens.{Located, Word, word_of}
 use Rattle.graphql_grammar.specs.device.Reading.{passes, of, word, Reader, seq, done, fault_of, refuse, pick, on, literal, scalar_token, a_value, a_type, a_selection}
 use Rattle.graphql_grammar.specs.device.Productions as productions
 use Rattle.graphql_grammar.specs.device.Productions.{key_and_value, variable_start, named_type, list_type, nullable_type, non_null, other_than_on, argument, arguments_inner, arguments, optional_arguments, directive, directives, default, variable_definition, variables_inner, variables, optional_variables, selections_inner, selection_set, optional_set, names, field, named_spread, inline_parts, inline, typed, spread, any_selection, operation_word, operation, fragment, shorthand, definition, document, symbol_at, reads}
 use Rattle.graphql_grammar.specs.Tree.{Scalars, Value, TypeRef}
-use Rattle.graphql_lexical.specs.Place.{Span}
 use Rattle.graphql_grammar.specs.declared.operation.OperationType.{OperationType}
 use Rattle.graphql_grammar.specs.Grammar.{IsScalarKind}
 use Rattle.graphql_grammar.proofs.TokenRules.{on_failed}
@@ -129,7 +128,7 @@ module _ {C F : Type 0} (S : Scalars C F) where
               (λ x. kind_tells S BracketClose refl _ (λ c. done_tells S true _)));
         })))
 
-    non_null_tells : (n : ℕ) (x : TypeRef × Span) → TellsFaults S true (reads T n (non_null x))
+    non_null_tells : (n : ℕ) (x : Located TypeRef) → TellsFaults S true (reads T n (non_null x))
     unfolding non_null
     non_null_tells n x = on_tells S (of ExclamationMark) _ _ (no_value_by ExclamationMark refl)
         (λ u. done_tells S true _) (done_tells S true _)

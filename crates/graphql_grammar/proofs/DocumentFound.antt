@@ -3,7 +3,7 @@ use Rattle.std.proofs.Common.{ℕ, zero, suc, true, false, ◌≡◌, ◌≤◌,
 use Rattle.graphql_lexical.specs.Place.{Span}
 use Rattle.graphql_lexical.specs.declared.kind.Kind.TheVariants.{Name, ExclamationMark, Dollar, ParenOpen, ParenClose, BracketOpen, BracketClose, Equals, At}
 use Rattle.graphql_lexical.specs.Cutting.{Lexeme}
-use Rattle.graphql_grammar.specs.Tokens.{Text, over, from_to, span_of}
+use Rattle.graphql_grammar.specs.Tokens.{Text, Located, over, from_to, span_of}
 use Rattle.graphql_grammar.specs.device.Reading.{Test, passes, of, Took, Reader, seq, want, repeated, a_type}
 use Rattle.graphql_grammar.specs.device.Productions as productions
 use Rattle.graphql_grammar.specs.device.Productions.{named_type, list_type, nullable_type, non_null, argument, arguments_inner, arguments, directive, directives, directives_of, default, variable_definition, variables_inner, variables, symbol_at, reads}
@@ -23,6 +23,9 @@ type_starts ts (NamedType w) h = says_takes w ts h
 type_starts ts (ListType size x) h = front_takes (is_takes BracketOpen) ts h.0
 type_starts ts (NonNullType x) h = back_takes (is_takes ExclamationMark) ts h.0
 
+abbrev typed : TypeRef → Span → Located TypeRef
+typed x p = record { item = x; span = p }
+
 -- a type, and its span
 abbrev pub IsTypeAt : TypeRef → Span → List Lexeme → Type 0
 IsTypeAt x p ts = IsType x ts × (p ≡ span_of ts)
@@ -33,34 +36,34 @@ marked_span [] m l = absurd (omega arith)
 marked_span (t ∷ us) m l = ap (over t) (sym (last_joined t m us []))
 
 -- Where a front is a type, it is read, and an exclamation mark after it with it.
-abbrev pub Covers : {F : Type 0} → Reader F (TypeRef × Span) → List Lexeme → List Lexeme → Type 0
-Covers f us vs = (a : TypeRef × Span) × (more rest : List Lexeme) × (f (us ++ vs) ≡ Took a rest) × (vs ≡ more ++ rest)
+abbrev pub Covers : {F : Type 0} → Reader F (Located TypeRef) → List Lexeme → List Lexeme → Type 0
+Covers f us vs = (a : Located TypeRef) × (more rest : List Lexeme) × (f (us ++ vs) ≡ Took a rest) × (vs ≡ more ++ rest)
 
 module _ {C F : Type 0} (S : Scalars C F) where
   module _ (n : ℕ) (ih : (x : TypeRef) (p : Span)
-      → Finds (suc n) (symbol_at S n _ a_type) (IsTypeAt x p) (NotAt (of ExclamationMark)) (x, p)) where
+      → Finds (suc n) (symbol_at S n _ a_type) (IsTypeAt x p) (NotAt (of ExclamationMark)) (typed x p)) where
     one_name_found : {After : List Lexeme → Type 0} (w : Text) (q : Span)
-        → Finds (suc (suc n)) (reads S n nullable_type) (Only (token Name w q)) After (NamedType w, q)
+        → Finds (suc (suc n)) (reads S n nullable_type) (Only (token Name w q)) After (typed (NamedType w) q)
     unfolding nullable_type named_type
     one_name_found w q = look_found Name _ (λ us k. (w, q, [], k))
         (map_found _ (want_found (of Name) (token Name w q) refl))
 
     inner_found : {After : List Lexeme → Type 0} (x : TypeRef) (p : Span)
         → Finds (suc (suc n)) (reads S n nullable_type)
-        (λ ts. (Is BracketOpen · IsType x · Is BracketClose) ts × (p ≡ span_of ts)) After (ListType None x, p)
+        (λ ts. (Is BracketOpen · IsType x · Is BracketClose) ts × (p ≡ span_of ts)) After (typed (ListType None x) p)
     unfolding nullable_type list_type
     inner_found x p = look_apart (of Name) _
         (starts_before (of Name) (λ w. refl) (λ ts h. front_starts is_starts ts h.0))
-        (between_found (λ q. (ListType None x, q)) p (λ w y q r.
+        (between_found (λ q. typed (ListType None x) q) p (λ w y q r.
         seq_past _ (λ us h. one_takes us _ h) (want_found (of BracketOpen) (token BracketOpen w q) refl) any_before
         (located_front (λ m. seq_found _ (ih x m) (only_before (of ExclamationMark) refl)
         (map_found _ (want_found (of BracketClose) (token BracketClose y r) refl))))))
 
     plain_found : {After : List Lexeme → Type 0} (x : TypeRef) (p : Span) → IsNullable x
-        → Finds (suc (suc n)) (reads S n nullable_type) (IsTypeAt x p) After (x, p)
+        → Finds (suc (suc n)) (reads S n nullable_type) (IsTypeAt x p) After (typed x p)
     plain_found {After} (NamedType w) p d = record {
       at = λ ts rest le h g. (one_name_found {After = After} w h.0.0).at ts rest le h.0.1 g
-          ∙ ap (λ z. Took (NamedType w, z) rest) (sym (h.1 ∙ ap span_of h.0.1));
+          ∙ ap (λ z. Took (typed (NamedType w) z) rest) (sym (h.1 ∙ ap span_of h.0.1));
     }
     plain_found {After} (ListType size x) p d = record {
       at = λ ts rest le h g. rw h.0.1 ((inner_found {After = After} x p).at ts rest le (h.0.0, h.1) g);
@@ -68,14 +71,14 @@ module _ {C F : Type 0} (S : Scalars C F) where
     plain_found (NonNullType x) p d = absurd (d x refl)
 
     nullable_found : (x : TypeRef) (p : Span) → IsNullable x
-        → Finds (suc (suc n)) (symbol_at S (suc n) _ a_type) (IsTypeAt x p) (NotAt (of ExclamationMark)) (x, p)
+        → Finds (suc (suc n)) (symbol_at S (suc n) _ a_type) (IsTypeAt x p) (NotAt (of ExclamationMark)) (typed x p)
     unfolding symbol_at productions.type non_null
     nullable_found x p d = found_as nothing_last (then_found _ (plain_found x p d)
         (on_apart (of ExclamationMark) _ (nothing_before (λ rest g. g)) done_found))
 
     -- A type that ends in an exclamation mark is read, whatever follows.
     mark_found : {After : List Lexeme → Type 0} (x : TypeRef) (p : Span)
-        → Finds (suc (suc n)) (symbol_at S (suc n) _ a_type) (IsTypeAt (NonNullType x) p) After (NonNullType x, p)
+        → Finds (suc (suc n)) (symbol_at S (suc n) _ a_type) (IsTypeAt (NonNullType x) p) After (typed (NonNullType x) p)
     unfolding symbol_at productions.type non_null
     mark_found {After} x p = record {
       at = λ ts rest le h g.
@@ -84,23 +87,23 @@ module _ {C F : Type 0} (S : Scalars C F) where
           (then_found _ {After = After} (plain_found x q h.0.1)
           (found_as (nothing_last {P = Only m}) (on_found (of ExclamationMark) m _ _ refl done_found))).at ts rest le
           (row_as s (s.first, refl) s.second.2) g
-          ∙ ap (λ z. Took (NonNullType x, z) rest) (marked_span s.front m (type_starts s.front x s.first)
+          ∙ ap (λ z. Took (typed (NonNullType x) z) rest) (marked_span s.front m (type_starts s.front x s.first)
           ∙ ap span_of (sym (s.whole ∙ ap (λ us. s.front ++ us) s.second.2)) ∙ sym h.1);
     }
 
   pub type_finds : (n : ℕ) (x : TypeRef) (p : Span)
-      → Finds (suc n) (symbol_at S n _ a_type) (IsTypeAt x p) (NotAt (of ExclamationMark)) (x, p)
+      → Finds (suc n) (symbol_at S n _ a_type) (IsTypeAt x p) (NotAt (of ExclamationMark)) (typed x p)
   type_finds zero x p = none_found (λ ts h. type_starts ts x h.0)
   type_finds (suc n) (NamedType w) p = nullable_found n (type_finds n) (NamedType w) p (name_nullable w)
   type_finds (suc n) (ListType size x) p = nullable_found n (type_finds n) (ListType size x) p (list_nullable size x)
   type_finds (suc n) (NonNullType x) p = mark_found n (type_finds n) x p
 
   pub type_found : (n : ℕ) (ts rest : List Lexeme) (x : TypeRef) (p : Span) → length ts ≤ n → IsType x ts
-      → p ≡ span_of ts → NotAt (of ExclamationMark) rest → symbol_at S n _ a_type (ts ++ rest) ≡ Took (x, p) rest
+      → p ≡ span_of ts → NotAt (of ExclamationMark) rest → symbol_at S n _ a_type (ts ++ rest) ≡ Took (typed x p) rest
   type_found n ts rest x p le h e g = (type_finds n x p).at ts rest (omega arith) (h, e) g
 
   non_null_finds : (n : ℕ) (x : TypeRef) (p : Span)
-      → Finds (suc n) (symbol_at S n _ a_type) (IsTypeAt (NonNullType x) p) Any (NonNullType x, p)
+      → Finds (suc n) (symbol_at S n _ a_type) (IsTypeAt (NonNullType x) p) Any (typed (NonNullType x) p)
   non_null_finds zero x p = none_found (λ ts h. type_starts ts (NonNullType x) h.0)
   non_null_finds (suc n) x p = mark_found n (type_finds n) x p
 
@@ -114,7 +117,7 @@ module _ {C F : Type 0} (S : Scalars C F) where
       with_mark : (mark : Lexeme) (ws : List Lexeme) → vs ≡ mark ∷ ws → mark.kind ≡ ExclamationMark → (y : TypeRef)
           → IsNullable y → IsType y us → Covers (symbol_at S n _ a_type) us (mark ∷ ws)
       with_mark mark ws e k y p h = (
-        (NonNullType y, span_of (us ++ (mark ∷ []))),
+        typed (NonNullType y) (span_of (us ++ (mark ∷ []))),
         mark ∷ [],
         ws,
         ap (symbol_at S n _ a_type) (sym (append_assoc us (mark ∷ []) ws))
@@ -127,7 +130,7 @@ module _ {C F : Type 0} (S : Scalars C F) where
       marked : (mark : Lexeme) (ws : List Lexeme) → vs ≡ mark ∷ ws → mark.kind ≡ ExclamationMark → (y : TypeRef)
           → IsType y us → Covers (symbol_at S n _ a_type) us (mark ∷ ws)
       marked mark ws e k (NonNullType y) h = (
-        (NonNullType y, span_of us),
+        typed (NonNullType y) (span_of us),
         [],
         mark ∷ ws,
         (non_null_finds n y (span_of us)).at us (mark ∷ ws) (let l = room (mark ∷ ws) e in omega (arith, l)) (h, refl)
@@ -139,7 +142,7 @@ module _ {C F : Type 0} (S : Scalars C F) where
 
       plain : (ws : List Lexeme) → vs ≡ ws → NotAt (of ExclamationMark) ws → Covers (symbol_at S n _ a_type) us ws
       plain ws e g = (
-        (x, span_of us),
+        typed x (span_of us),
         [],
         ws,
         type_found n us ws x (span_of us) (let l = room ws e in omega (arith, l)) h refl g,
@@ -197,14 +200,14 @@ module _ {C F : Type 0} (S : Scalars C F) where
   argument_starts ts a h = front_starts (λ us w. word_starts us a.name w) ts h
 
   pub arguments_start : (ts : List Lexeme) (a : Arguments C) → IsArguments S a ts → StartsWith ParenOpen ts
-  arguments_start ts a h = listed_starts ParenClose (IsArgument S) ts a.items h.0
+  arguments_start ts a h = listed_starts ParenClose (IsArgument S) ts a.item h.0
 
   pub arguments_before : {After : List Lexeme → Type 0} (test : Test) (x : Option (Arguments C))
       → Rejects test ParenOpen → ((rest : List Lexeme) → After rest → NotAt test rest)
       → Before (Optional (IsArguments S) x) After (NotAt test)
   arguments_before test x d s = optional_before x (λ a. starts_before test d (λ ts h. arguments_start ts a h)) s
 
-  directive_starts : (ts : List Lexeme) (d : Directive C) → IsDirective S d ts → StartsWith At ts
+  directive_starts : (ts : List Lexeme) (d : Located (Directive C)) → IsDirective S d ts → StartsWith At ts
   directive_starts ts d h = front_starts is_starts ts h.0
 
   pub directives_before : {After : List Lexeme → Type 0} (test : Test) (ds : Directives C) → Rejects test At
@@ -221,7 +224,7 @@ module _ {C F : Type 0} (S : Scalars C F) where
   variable_starts ts v h = front_starts (λ us k. front_starts is_starts us k.0) ts h
 
   pub variables_start : (ts : List Lexeme) (a : Variables C) → IsVariables S a ts → StartsWith ParenOpen ts
-  variables_start ts a h = listed_starts ParenClose (IsVariableDefinition S) ts a.items h.0
+  variables_start ts a h = listed_starts ParenClose (IsVariableDefinition S) ts a.item h.0
 
   pub variables_before : {After : List Lexeme → Type 0} (test : Test) (x : Option (Variables C))
       → Rejects test ParenOpen → ((rest : List Lexeme) → After rest → NotAt test rest)
@@ -240,19 +243,19 @@ module _ {C F : Type 0} (S : Scalars C F) (n : ℕ) where
   unfolding arguments arguments_inner
   arguments_found a = span_found _ a.span (listed_found ParenClose (argument_takes S n n (le_refl n)) argument_found
       (λ x. starts_before (of ParenClose) (λ w. refl) (λ ts h. argument_starts S ts x h)) (λ x. any_before)
-      (λ w p rest. tt) ParenOpen (λ xs p. record { items = xs; span = p }) a.items)
+      (λ w p rest. tt) ParenOpen (λ xs p. record { item = xs; span = p }) a.item)
 
   pub optional_arguments : (x : Option (Arguments C))
       → Finds n (reads S n productions.optional_arguments) (Optional (IsArguments S) x) (NotAt (of ParenOpen)) x
   unfolding productions.optional_arguments
   optional_arguments x = maybe_found ParenOpen x (arguments_start S) arguments_found
 
-  directive_found : (d : Directive C) → Finds n (reads S n directive) (IsDirective S d) (NotAt (of ParenOpen)) d
+  directive_found : (d : Located (Directive C)) → Finds n (reads S n directive) (IsDirective S d) (NotAt (of ParenOpen)) d
   unfolding directive
-  directive_found d = span_found _ d.span (is_then (then_found _ (word_found d.name)
-      (map_found _ (optional_arguments d.arguments))))
+  directive_found d = span_found _ d.span (is_then (then_found _ (word_found d.item.name)
+      (map_found _ (optional_arguments d.item.arguments))))
 
-  repeated_found : (k : ℕ) → k ≤ n → (ds : List (Directive C))
+  repeated_found : (k : ℕ) → k ≤ n → (ds : List (Located (Directive C)))
       → Finds k (repeated (of At) (reads S n directive) k) (Each (IsDirective S) ds) AfterDirectives ds
   unfolding repeated
   repeated_found zero l ds = record { at = λ ts rest le h g. absurd (omega arith) }
@@ -261,7 +264,7 @@ module _ {C F : Type 0} (S : Scalars C F) (n : ℕ) where
       (seq_past _ (λ us h. directive_takes S n n (le_refl n) us d h) (at_most l (directive_found d)) (next ds)
       (map_found (λ xs. d ∷ xs) (repeated_found k (omega arith) ds)))
     where
-      next : (ds : List (Directive C)) → Before (Each (IsDirective S) ds) AfterDirectives (NotAt (of ParenOpen))
+      next : (ds : List (Located (Directive C))) → Before (Each (IsDirective S) ds) AfterDirectives (NotAt (of ParenOpen))
       next [] = nothing_before (λ rest g. g.paren)
       next (x ∷ xs) = front_before (starts_before (of ParenOpen) (λ w. refl) (λ ts h. directive_starts S ts x h))
 
@@ -284,18 +287,17 @@ module _ {C F : Type 0} (S : Scalars C F) (n : ℕ) where
   variable_found : (v : VariableDefinition C)
       → Finds n (reads S n variable_definition) (IsVariableDefinition S v) AfterVariable v
   unfolding variable_definition
-  variable_found v = dollar_then _ v.name.text v.name.span (λ x q s e.
-      found_is (ap (λ z. record v { name = record { text = v.name.text; span = z } }) (sym e))
-      (is_then (seq_found _ (fewer (type_finds S n v.of_type v.type_span))
+  variable_found v = dollar_then _ v.name.item v.name.span (λ x q s e.
+      found_is (ap (λ z. record v { name = record { item = v.name.item; span = z } }) (sym e))
+      (is_then (seq_found _ (fewer (type_finds S n v.of_type.item v.of_type.span))
       (both_before (optional_before v.default
       (λ x. starts_before (of ExclamationMark) (λ w. refl) (λ ts h. default_starts S ts x h)) (λ rest g. g))
       (directives_before S (of ExclamationMark) v.directives (λ w. refl) (λ rest g. g.mark)))
       (seq_found _ (default_found v.default)
       (directives_before S (of Equals) v.directives (λ w. refl) (λ rest g. g.equals))
       (found_if (λ rest g. record { paren = g.paren; at = g.at }) (map_found (λ ds. record {
-        name = record { text = v.name.text; span = record { start = q.start; end = s.end } };
+        name = record { item = v.name.item; span = record { start = q.start; end = s.end } };
         of_type = v.of_type;
-        type_span = v.type_span;
         default = v.default;
         directives = ds;
       }) (directives_found v.directives)))))))
@@ -309,4 +311,4 @@ module _ {C F : Type 0} (S : Scalars C F) (n : ℕ) where
             (record { mark = refl; equals = refl; at = refl; paren = refl });
       })
       (λ w p rest. record { mark = refl; equals = refl; at = refl; paren = refl })
-      ParenOpen (λ xs p. record { items = xs; span = p }) a.items)
+      ParenOpen (λ xs p. record { item = xs; span = p }) a.item)

@@ -4,7 +4,7 @@ use Rattle.graphql_lexical.specs.Place.{Span}
 use Rattle.graphql_lexical.specs.declared.kind.Kind.{Kind}
 use Rattle.graphql_lexical.specs.declared.kind.Kind.TheVariants.{Name, ExclamationMark, Dollar, ParenOpen, ParenClose, BracketOpen, BracketClose, Colon, Equals, At}
 use Rattle.graphql_lexical.specs.Cutting.{Lexeme}
-use Rattle.graphql_grammar.specs.Tokens.{Text, word_of, over, from_to, span_of}
+use Rattle.graphql_grammar.specs.Tokens.{Text, Located, word_of, over, from_to, span_of}
 use Rattle.graphql_grammar.specs.Samples.{sample, sample_text}
 use Rattle.graphql_grammar.specs.device.Reading.{passes, of, a_value, a_type}
 use Rattle.graphql_grammar.specs.device.Productions.{named_type, list_type, nullable_type, non_null, type, argument, arguments_inner, arguments, optional_arguments, directive, directives_of, directives, default, variable_definition, variables_inner, variables, optional_variables, symbol_at, reads}
@@ -29,11 +29,11 @@ name_nullable name inner e = absurd (cc)
 pub list_nullable : (size : Option ℕ) (type : TypeRef) → IsNullable (ListType size type)
 list_nullable size type inner e = absurd (cc)
 
-abbrev pub IsSpannedType : TypeRef × Span → List Lexeme → Type 0
-IsSpannedType x ts = IsType x.0 ts × (x.1 ≡ span_of ts)
+abbrev pub IsSpannedType : Located TypeRef → List Lexeme → Type 0
+IsSpannedType x ts = IsType x.item ts × (x.span ≡ span_of ts)
 
-abbrev IsNullableType : TypeRef × Span → List Lexeme → Type 0
-IsNullableType x ts = IsSpannedType x ts × IsNullable x.0
+abbrev IsNullableType : Located TypeRef → List Lexeme → Type 0
+IsNullableType x ts = IsSpannedType x ts × IsNullable x.item
 
 pub type_takes : (ts : List Lexeme) (type : TypeRef) → IsType type ts → 0 < length ts
 type_takes ts (NamedType name) h = says_takes name ts h
@@ -49,7 +49,7 @@ span_before (u ∷ us) t p h e = ap (λ (s : Span). from_to s t.span) e ∙ ap (
 some_type : Some_of IsSpannedType
 some_type = (
   sample Name ∷ [],
-  (NamedType (sample_text Name), span_of (sample Name ∷ [])),
+  record { item = NamedType (sample_text Name); span = span_of (sample Name ∷ []) },
   (says_is _ (sample Name) refl refl, refl),
   (inl refl, tt),
 )
@@ -60,17 +60,17 @@ module _ {C F : Type 0} (S : Scalars C F) where
   unfolding nullable_type named_type list_type
   nullable_rule n m r = look_rule (suc n) (of Name) _ _ _ _ IsNullableType
       (want_step (suc n) (of Name) (sample Name) _ _ IsNullableType refl (inl refl)
-      (λ t u p. done_rule n (NamedType t.text, t.span) (NamedType u.text, u.span) _
+      (λ t u p. done_rule n (record { item = NamedType t.text; span = t.span }) (record { item = NamedType u.text; span = u.span }) _
       ((says_is t.text t (of_kind Name t p) refl, refl), name_nullable t.text)))
       (want_step (suc n) (of BracketOpen) (sample BracketOpen) _ _ IsNullableType refl (inl refl)
       (λ o o' p. step n n _ _ _ _ IsSpannedType _ (le_refl n) r (λ us x y h.
       want_step (less n us) (of BracketClose) (sample BracketClose) _ _ _ refl (inl refl) (λ c c' q.
-      done_rule _ (ListType None x.0, from_to o.span c.span) (ListType None y.0, from_to o'.span c'.span) _ (
+      done_rule _ (record { item = ListType None x.item; span = over o c }) (record { item = ListType None y.item; span = over o' c' }) _ (
         (
           (enclosed BracketOpen BracketClose o c us (of_kind BracketOpen o p) (of_kind BracketClose c q) h.0, refl),
           over_enclosed o c us,
         ),
-        list_nullable None x.0,
+        list_nullable None x.item,
       )))))
 
   pub type_rule : (n m : ℕ) → n ≤ m → Rule n (symbol_at S n _ a_type) (symbol_at S m _ a_type) IsSpannedType
@@ -80,9 +80,9 @@ module _ {C F : Type 0} (S : Scalars C F) where
   type_rule (suc n) (suc m) le = step (suc n) (suc n) _ _ _ _ IsNullableType IsSpannedType
       (le_refl (suc n)) (nullable_rule n m (type_rule n m (omega arith))) (λ us x y h.
       on_rule (less (suc n) us) (of ExclamationMark) _ _ _ _ _
-      (λ b b' p. done_rule _ (NonNullType x.0, from_to x.1 b.span) (NonNullType y.0, from_to y.1 b'.span) _ (
+      (λ b b' p. done_rule _ (record { item = NonNullType x.item; span = from_to x.span b.span }) (record { item = NonNullType y.item; span = from_to y.span b'.span }) _ (
         (row us (b ∷ []) h.0.0 (kind_is ExclamationMark b (of_kind ExclamationMark b p)), h.1),
-        span_before us b x.1 (type_takes us x.0 h.0.0) h.0.1,
+        span_before us b x.span (type_takes us x.item h.0.0) h.0.1,
       ))
       (done_rule _ x y _ (rw append-nil h.0)))
 
@@ -132,7 +132,7 @@ module _ {C F : Type 0} (S : Scalars C F) (n m : ℕ) (le : n ≤ m) where
       step n _ _ _ _ _ (ClosedSome (of ParenClose) (IsArgument S)) _ (low1 (o ∷ []))
       (one_or_more_rule (IsArgument S) argument_takes (of ParenClose) (sample ParenClose) refl (inl refl) _ _ n m le
       argument_rule) (λ us xs ys h.
-      done_rule _ (λ p. record { items = xs; span = p }) (λ p. record { items = ys; span = p }) _
+      done_rule _ (λ p. record { item = xs; span = p }) (λ p. record { item = ys; span = p }) _
       (rw append-nil (listed ParenOpen ParenClose (IsArgument S) o us xs p h, refl)))))
 
   pub optional_arguments_rule : Rule n (reads S n optional_arguments) (reads S m optional_arguments)
@@ -145,18 +145,18 @@ module _ {C F : Type 0} (S : Scalars C F) (n m : ℕ) (le : n ≤ m) where
   directive_rule = span_rule n _ _ (IsDirective S) (want_step n (of At) (sample At) _ _ _ refl (inl refl)
       (λ a a' p. want_step _ (of Name) (sample Name) _ _ _ refl (inl refl) (λ t t' q.
       step n _ _ _ _ _ (Optional (IsArguments S)) _ (low2 (a ∷ []) (t ∷ [])) optional_arguments_rule (λ us xs ys h.
-      done_rule _ (λ p. record { name = word_of t; arguments = xs; span = p })
-      (λ p. record { name = word_of t'; arguments = ys; span = p }) _
+      done_rule _ (λ p. record { item = record { name = word_of t; arguments = xs }; span = p })
+      (λ p. record { item = record { name = word_of t'; arguments = ys }; span = p }) _
       (rw append-nil (
         row (a ∷ []) (t ∷ us) (kind_is At a (of_kind At a p))
             (row (t ∷ []) us (word_is t (of_kind Name t q)) h),
         refl,
       ))))))
 
-  pub directive_takes : (ts : List Lexeme) (d : Directive C) → IsDirective S d ts → 0 < length ts
+  pub directive_takes : (ts : List Lexeme) (d : Located (Directive C)) → IsDirective S d ts → 0 < length ts
   directive_takes ts d h = front_takes (is_takes At) ts h.0
 
-  directives_are : (ts : List Lexeme) (ds : List (Directive C)) → Each (IsDirective S) ds ts
+  directives_are : (ts : List Lexeme) (ds : List (Located (Directive C))) → Each (IsDirective S) ds ts
       → IsDirectives S (directives_of ds) ts
   directives_are ts [] h = h
   directives_are ts (d ∷ ds) h = (h, λ e. absurd (cc))
@@ -190,16 +190,14 @@ module _ {C F : Type 0} (S : Scalars C F) (n m : ℕ) (le : n ≤ m) where
       default_rule (λ vs v v' k.
       step n _ _ _ _ _ (IsDirectives S) _ (low5 (d ∷ []) (t ∷ []) (c ∷ []) us vs) directives_rule (λ ws ds ds' e.
       done_rule _ (record {
-        name = record { text = t.text; span = over d t };
-        of_type = x.0;
-        type_span = x.1;
+        name = record { item = t.text; span = over d t };
+        of_type = x;
         default = v;
         directives = ds;
       })
       (record {
-        name = record { text = t'.text; span = over d' t' };
-        of_type = x'.0;
-        type_span = x'.1;
+        name = record { item = t'.text; span = over d' t' };
+        of_type = x';
         default = v';
         directives = ds';
       }) _
@@ -218,7 +216,7 @@ module _ {C F : Type 0} (S : Scalars C F) (n m : ℕ) (le : n ≤ m) where
       step n _ _ _ _ _ (ClosedSome (of ParenClose) (IsVariableDefinition S)) _ (low1 (o ∷ []))
       (one_or_more_rule (IsVariableDefinition S) variable_takes (of ParenClose) (sample ParenClose) refl (inl refl)
       _ _ n m le variable_definition_rule) (λ us xs ys h.
-      done_rule _ (λ p. record { items = xs; span = p }) (λ p. record { items = ys; span = p }) _
+      done_rule _ (λ p. record { item = xs; span = p }) (λ p. record { item = ys; span = p }) _
       (rw append-nil (listed ParenOpen ParenClose (IsVariableDefinition S) o us xs p h, refl)))))
 
   pub optional_variables_rule : Rule n (reads S n optional_variables) (reads S m optional_variables)

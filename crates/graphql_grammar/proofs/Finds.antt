@@ -60,7 +60,7 @@ pub starts_takes : {k : Kind} (ts : List Lexeme) → StartsWith k ts → 0 < len
 starts_takes ts s = rw s.3 (omega arith)
 
 pub word_starts : (ts : List Lexeme) (w : Word) → IsName w ts → StartsWith Name ts
-word_starts ts w h = (w.text, w.span, [], h)
+word_starts ts w h = (w.item, w.span, [], h)
 
 pub says_starts : {w : Text} (ts : List Lexeme) → Says w ts → StartsWith Name ts
 says_starts {w} ts h = (w, h.0, [], h.1)
@@ -236,8 +236,8 @@ pub want_found : {F : Type 0} {n : ℕ} {After : List Lexeme → Type 0} (test :
 want_found test t e = record { at = λ ts rest le h g. rw h (want_passed test t rest e) }
 
 pub word_found : {F : Type 0} {n : ℕ} {After : List Lexeme → Type 0} (w : Word)
-    → Finds {F = F} n (want (of Name)) (IsName w) After (token Name w.text w.span)
-word_found w = want_found (of Name) (token Name w.text w.span) refl
+    → Finds {F = F} n (want (of Name)) (IsName w) After (token Name w.item w.span)
+word_found w = want_found (of Name) (token Name w.item w.span) refl
 
 pub done_found : {F A : Type 0} {n : ℕ} {After : List Lexeme → Type 0} {a : A}
     → Finds {F = F} n (done a) Nothing After a

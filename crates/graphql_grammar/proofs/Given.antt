@@ -142,10 +142,10 @@ type_error F t false e = (
 
 -- A type begins so, with its span or without.
 bare_begins : (ts : List Lexeme) → Begins AnyToken IsSpannedType ts → Begins AnyToken IsType ts
-bare_begins ts (front, more, x, a, h, al) = (front, more, x.0, a, h.0, al)
+bare_begins ts (front, more, x, a, h, al) = (front, more, x.item, a, h.0, al)
 
 spanned_begins : (ts : List Lexeme) → Begins AnyToken IsType ts → Begins AnyToken IsSpannedType ts
-spanned_begins ts (front, more, x, a, h, al) = (front, more, (x, span_of (front ++ more)), a, (h, refl), al)
+spanned_begins ts (front, more, x, a, h, al) = (front, more, record { item = x; span = span_of (front ++ more) }, a, (h, refl), al)
 
 bare_fault : (ts before : List Lexeme) (t : Lexeme) → AtFault AnyToken IsSpannedType ts before t
     → AtFault AnyToken IsType ts before t
@@ -179,4 +179,4 @@ module _ {C F : Type 0} (S : Scalars C F) where
   pub type_given : (ts : List Lexeme) → EndsOnce ts
       → GivesFront IsSpannedType (TypeFaultAt ts) ts (fully (λ n. symbol_at S n _ a_type) ts)
   type_given ts ends = front_given (λ n. symbol_at S n _ a_type) IsSpannedType (type_reads S) (TypeFaultAt ts) ts ends
-      (type_refused ts) (λ us x h. types us x.0 h.0) (λ us vs x h n le. type_covers S us vs x.0 h.0 n le)
+      (type_refused ts) (λ us x h. types us x.item h.0) (λ us vs x h n le. type_covers S us vs x.item h.0 n le)

@@ -4,7 +4,7 @@ use Rattle.std.specs.List.{AllByRecursion}
 use Rattle.graphql_lexical.specs.declared.kind.Kind.TheVariants.{ParenOpen, ParenClose}
 use Rattle.graphql_lexical.specs.Cutting.{Lexeme}
 use Rattle.graphql_lexical.specs.Place.{Span}
-use Rattle.graphql_grammar.specs.Tokens.{span_of}
+use Rattle.graphql_grammar.specs.Tokens.{Located, span_of}
 use Rattle.graphql_grammar.specs.Tree.{Scalars, Value, Null, Scalar, Enum, Variable, ListOf, Object, Items, no_items, item, ObjectFields, no_fields, object_field, Argument, Arguments, Directive, VariableDefinition, Variables, Selection, Field, FragmentSpread, InlineFragment, Selections, no_selections, selection, Definition, Operation, Fragment, Directives, OptionalSelections, absent, present}
 use Rattle.graphql_lexical.specs.Parts.{◌·◌}
 use Rattle.graphql_grammar.specs.Grammar.{AreItems, AreFields, IsValue, Each, Optional, Several, Listed, IsArgument, IsArguments, IsDirective, IsDirectives, IsDefault, IsVariableDefinition, IsVariables, IsSelection, IsOptionalSelectionSet, IsSelectionSet, AreSelections, IsDefinition, IsDocument}
@@ -77,7 +77,7 @@ module _ {C F : Type 0} (S T : Scalars C F) (truths : S.of_bool ≡ T.of_bool) w
 
     fields : (free : Bool) (fs : ObjectFields C) → Carries (AreFields S free fs) (AreFields T free fs)
     fields free no_fields ts a h = h
-    fields free (object_field w p v fs) ts a h = after (after (both (value free v) (fields free fs))) ts a h
+    fields free (object_field w v fs) ts a h = after (after (both (value free v) (fields free fs))) ts a h
 
   -- ---- arguments, directives and variable definitions
 
@@ -85,10 +85,10 @@ module _ {C F : Type 0} (S T : Scalars C F) (truths : S.of_bool ≡ T.of_bool) w
   argument x = after (after (value true x.value))
 
   arguments : (x : Arguments C) → Carries (IsArguments S x) (IsArguments T x)
-  arguments x = spanned (listed argument x.items)
+  arguments x = spanned (listed argument x.item)
 
-  directive : (d : Directive C) → Carries (IsDirective S d) (IsDirective T d)
-  directive d = spanned (after (after (optional arguments d.arguments)))
+  directive : (d : Located (Directive C)) → Carries (IsDirective S d) (IsDirective T d)
+  directive d = spanned (after (after (optional arguments d.item.arguments)))
 
   directives : (ds : Directives C) → Carries (IsDirectives S ds) (IsDirectives T ds)
   directives = optional (several directive)
@@ -100,7 +100,7 @@ module _ {C F : Type 0} (S T : Scalars C F) (truths : S.of_bool ≡ T.of_bool) w
   variable v = after (after (after (both (optional default v.default) (directives v.directives))))
 
   variables : (x : Variables C) → Carries (IsVariables S x) (IsVariables T x)
-  variables x = spanned (listed variable x.items)
+  variables x = spanned (listed variable x.item)
 
   -- ---- selections
 

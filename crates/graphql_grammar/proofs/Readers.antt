@@ -1,7 +1,7 @@
 -- The readers of values, types and documents read what the grammar says.
 use Rattle.std.proofs.Common.{ℕ, Bool, ◌≡◌, ◌+◌, [], List, ◌++◌, length, refl, sym, ap, ◌∙◌, arith, append-nil, le_refl, length-append, Ok}
 use Rattle.graphql_lexical.specs.Cutting.{Lexeme}
-use Rattle.graphql_grammar.specs.Tokens.{span_of}
+use Rattle.graphql_grammar.specs.Tokens.{Located, span_of}
 use Rattle.graphql_grammar.specs.Tree.{Scalars, Value, TypeRef, Definition}
 use Rattle.graphql_grammar.specs.Grammar.{IsValue, IsType, IsDocument}
 use Rattle.graphql_grammar.specs.device.Reading.{Read, Took, Refused, Out, a_value, a_type}
@@ -22,13 +22,13 @@ pub type_reads : {C F : Type 0} (S : Scalars C F) → Reads (λ n. symbol_at S n
 type_reads S = record {
   keeps = type_rule S;
   finds = λ n ts x le h. ap (symbol_at S n _ a_type) (sym (append-nil ts))
-      ∙ type_found S n ts [] x.0 x.1 (omega arith) h.0 h.1 tt;
+      ∙ type_found S n ts [] x.item x.span (omega arith) h.0 h.1 tt;
 }
 
 -- No list has two types.
 pub one_type : (ts : List Lexeme) (a b : TypeRef) → IsType a ts → IsType b ts → a ≡ b
-one_type ts a b h k = ap (λ x. x.0) (one_tree (λ n. symbol_at (every_scalar (Unit {0})) n _ a_type) IsSpannedType
-    (type_reads (every_scalar (Unit {0}))) ts (a, span_of ts) (b, span_of ts) (h, refl) (k, refl))
+one_type ts a b h k = ap (λ (x : Located TypeRef). x.item) (one_tree (λ n. symbol_at (every_scalar (Unit {0})) n _ a_type) IsSpannedType
+    (type_reads (every_scalar (Unit {0}))) ts (record { item = a; span = span_of ts }) (record { item = b; span = span_of ts }) (h, refl) (k, refl))
 
 module _ {C F : Type 0} (S : Scalars C F) where
   pub value_reads : (free : Bool) → Reads (λ n. symbol_at S n _ (a_value free)) (IsValue S free)

@@ -4,7 +4,7 @@ use Rattle.graphql_lexical.specs.Place.{Span}
 use Rattle.graphql_lexical.specs.declared.kind.Kind.TheVariants.{Name, ParenOpen, CurlyOpen, CurlyClose, Ellipsis, Colon, At, EndOfFile}
 use Rattle.graphql_lexical.specs.Cutting.{Lexeme}
 use Rattle.graphql_grammar.specs.Tokens.{Word, word_of, span_of}
-use Rattle.graphql_grammar.specs.device.Reading.{Test, passes, of, word, Took, Reader, seq, done, Steps, takes, a_selection}
+use Rattle.graphql_grammar.specs.device.Reading.{Test, passes, of, word, Took, Reader, seq, done, a_selection}
 use Rattle.graphql_grammar.specs.device.Productions.{optional_variables, selections_inner, selection_set, optional_set, optional_of, names, field, named_spread, inline_parts, inline, typed, other_than_on, spread, any_selection, operation_word, operation_of, optional_name, operation, fragment, shorthand, definition_parts, definition, document, symbol_at, reads}
 use Rattle.graphql_grammar.specs.Tree.{Scalars, Arguments, Variables, Selection, Field, FragmentSpread, InlineFragment, Selections, no_selections, selection, Definition, Operation, Fragment, Directives, OptionalSelections, absent, present, operation_name, selections_of}
 use Rattle.graphql_grammar.specs.declared.operation.OperationType.{OperationType}
@@ -32,7 +32,7 @@ operation_is Subscription = refl
 module _ {C F : Type 0} (S : Scalars C F) where
   -- a fragment's name, and then the others
   fragment_name_found : {A : Type 0} {n : ℕ} {f : Reader F A} {Q After : List Lexeme → Type 0} {a : A} (w : Word)
-      → ((w.text ≡ codes "on" → ⊥) → Finds n f (IsName w · Q) After a)
+      → ((w.item ≡ codes "on" → ⊥) → Finds n f (IsName w · Q) After a)
       → Finds n f (IsFragmentName S w · Q) After a
   fragment_name_found w q = found_as (λ ts h. (row_front (λ us k. k.0) ts h, h.first.1)) (given_found q)
 
@@ -168,9 +168,9 @@ module _ {C F : Type 0} (S : Scalars C F) where
           AfterSelection (FragmentSpread name ds p)
       unfolding spread typed inline named_spread
       spread_found name ds p = span_found (λ q. FragmentSpread name ds q) p (is_past (fragment_name_found name (λ d.
-          on_apart (word (codes "on")) _ (front_before (only_before _ (text_other name.text (codes "on") d)))
-          (on_found other_than_on (token Name name.text name.span) _ _
-          (ap not (text_other name.text (codes "on") d))
+          on_apart (word (codes "on")) _ (front_before (only_before _ (text_other name.item (codes "on") d)))
+          (on_found other_than_on (token Name name.item name.span) _ _
+          (ap not (text_other name.item (codes "on") d))
           (found_if (λ rest g. record { paren = g.paren; at = g.at })
           (map_found (λ x q. FragmentSpread name x q) (directives_found S n ds)))))))
 
@@ -283,7 +283,7 @@ module _ {C F : Type 0} (S : Scalars C F) where
         on_apart operation_word _ (front_before (only_before operation_word refl))
         (on_found (word (codes "fragment")) (token Name (codes "fragment") p) _ _ refl
         (fragment_name_found name (λ d. then_found _ (map_found word_of
-        (want_found other_than_on (token Name name.text name.span) (ap not (text_other name.text (codes "on") d))))
+        (want_found other_than_on (token Name name.item name.span) (ap not (text_other name.item (codes "on") d))))
         (then_found _ (says_found (λ q. then_found _ (want_found (word (codes "on")) (token Name (codes "on") q) refl)
         (map_found word_of (word_found condition))))
         (body_found n (selection_found n) (λ x s q. Fragment name condition x s q) ds ss))))))

@@ -12,7 +12,7 @@ use Rattle.graphql_grammar.specs.Tree.{Scalars, Selection, Field, FragmentSpread
 use Rattle.graphql_grammar.specs.declared.operation.OperationType.TheVariants.{Query}
 use Rattle.graphql_lexical.specs.Parts.{◌·◌}
 use Rattle.graphql_grammar.specs.Grammar.{Each, Optional, Is, IsName, Says, IsArguments, IsDirectives, IsVariables, IsAlias, IsTypeCondition, IsFragmentName, IsSelection, IsOptionalSelectionSet, IsSelectionSet, AreSelections, IsDefinition, IsDocument}
-use Rattle.graphql_grammar.proofs.Rules.{less, Rule, Some_of, done_rule, weaken}
+use Rattle.graphql_grammar.proofs.Rules.{less, Rule, Some_of, done_rule}
 use Rattle.graphql_grammar.proofs.TokenRules.{on_rule, look_rule}
 use Rattle.graphql_grammar.proofs.PartRules.{span_rule, maybe_rule, some_rule, one_or_more_rule, step, want_step, lower, less_short, ClosedSome}
 use Rattle.graphql_grammar.proofs.Sequences.{row, row_back, row_right, enclosed, kind_is, word_is, says_is, one_takes, is_takes, says_takes, front_takes, back_takes}

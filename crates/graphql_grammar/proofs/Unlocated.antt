@@ -7,7 +7,7 @@ use Rattle.graphql_lexical.specs.declared.kind.Kind.TheVariants.{Name, Exclamati
 use Rattle.graphql_lexical.specs.Place.{Span}
 use Rattle.graphql_lexical.specs.Cutting.{Lexeme}
 use Rattle.graphql_lexical.specs.laws.Alike.{Alike}
-use Rattle.graphql_grammar.specs.Tokens.{Text, Word, nowhere, span_of}
+use Rattle.graphql_grammar.specs.Tokens.{Text, Located, Word, nowhere, span_of}
 use Rattle.graphql_grammar.specs.Tree.{Scalars, Value, Null, Scalar, Enum, Variable, ListOf, Object, Items, no_items, item, ObjectFields, no_fields, object_field, TypeRef, NamedType, ListType, NonNullType, Argument, Arguments, Directive, Directives, VariableDefinition, Variables, Selection, Field, FragmentSpread, InlineFragment, Selections, no_selections, selection, OptionalSelections, absent, present, Definition, Operation, Fragment}
 use Rattle.graphql_lexical.specs.Parts.{◌·◌}
 use Rattle.graphql_grammar.specs.Grammar.{Token, Is, IsVariable, IsValue, AreItems, AreFields, Each, Optional, Several, IsName, Says, Listed, IsType, IsArgument, IsArguments, IsDirective, IsDirectives, IsDefault, IsVariableDefinition, IsVariables, IsAlias, IsTypeCondition, IsFragmentName, IsSelection, IsOptionalSelectionSet, IsSelectionSet, AreSelections, IsDefinition, IsDocument}
@@ -54,7 +54,7 @@ says : (text : Text) → Bares (Says text) (Says text)
 says text ts h = (nowhere, ap all_bare h.1)
 
 word : (w : Word) → Bares (IsName w) (IsName (unlocated_word w))
-word w = token Name w.text w.span
+word w = token Name w.item w.span
 
 both : {A B A' B' : List Lexeme → Type 0} → Bares A A' → Bares B B' → Bares (A · B) (A' · B')
 both f g ts h = record {
@@ -120,8 +120,8 @@ module _ {C F : Type 0} (S : Scalars C F) where
     fields : (free : Bool) (fs : ObjectFields C)
         → Bares (AreFields S free fs) (AreFields S free (unlocated_fields fs))
     fields free no_fields ts h = ap all_bare h
-    fields free (object_field w p v fs) ts h =
-        both (token Name w p) (both (is Colon) (both (value free v) (fields free fs))) ts h
+    fields free (object_field w v fs) ts h =
+        both (word w) (both (is Colon) (both (value free v) (fields free fs))) ts h
 
   pub value_bare : (free : Bool) (ts : List Lexeme) (v : Value C) → IsValue S free v ts
       → IsValue S free (unlocated_value v) (all_bare ts)
@@ -133,10 +133,10 @@ module _ {C F : Type 0} (S : Scalars C F) where
   argument a = both (word a.name) (both (is Colon) (value true a.value))
 
   arguments : (a : Arguments C) → Bares (IsArguments S a) (IsArguments S (unlocated_arguments a))
-  arguments a ts h = (listed unlocated_argument argument a.items ts h.0, sym (span_bare ts))
+  arguments a ts h = (listed unlocated_argument argument a.item ts h.0, sym (span_bare ts))
 
-  directive : (d : Directive C) → Bares (IsDirective S d) (IsDirective S (unlocated_directive d))
-  directive d = spanned (both (is At) (both (word d.name) (optional unlocated_arguments arguments d.arguments)))
+  directive : (d : Located (Directive C)) → Bares (IsDirective S d) (IsDirective S (unlocated_directive d))
+  directive d = spanned (both (is At) (both (word d.item.name) (optional unlocated_arguments arguments d.item.arguments)))
 
   directives : (ds : Directives C) → Bares (IsDirectives S ds) (IsDirectives S (unlocated_directives ds))
   directives = optional (map unlocated_directive) (several unlocated_directive directive)
@@ -146,12 +146,12 @@ module _ {C F : Type 0} (S : Scalars C F) where
 
   variable : (v : VariableDefinition C)
       → Bares (IsVariableDefinition S v) (IsVariableDefinition S (unlocated_variable v))
-  variable v = both (variable_name v.name.text v.name.span) (both (is Colon)
-      (both (λ ts h. (type v.of_type ts h.0, sym (span_bare ts)))
+  variable v = both (variable_name v.name.item v.name.span) (both (is Colon)
+      (both (λ ts h. (type v.of_type.item ts h.0, sym (span_bare ts)))
       (both (optional unlocated_value default v.default) (directives v.directives))))
 
   variables : (a : Variables C) → Bares (IsVariables S a) (IsVariables S (unlocated_variables a))
-  variables a ts h = (listed unlocated_variable variable a.items ts h.0, sym (span_bare ts))
+  variables a ts h = (listed unlocated_variable variable a.item ts h.0, sym (span_bare ts))
 
   -- ---- selections
 

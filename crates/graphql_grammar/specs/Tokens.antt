@@ -8,13 +8,17 @@ use Rattle.graphql_lexical.specs.Place.{Span, place}
 use Rattle.graphql_lexical.specs.Tokens.{Spells}
 use Rattle.graphql_lexical.specs.Cutting.{Lexeme}
 
--- the text of a Name, and where it stands
-pub record Word : Type 0 where
-  pub text : Text
+-- what stands from one place to another
+pub record Located (A : Type 0) : Type 0 where
+  pub item : A
   pub span : Span
 
+-- the text of a Name, and where it stands
+abbrev pub Word : Type 0
+Word = Located Text
+
 abbrev pub word_of : Lexeme → Word
-word_of t = record { text = t.text; span = t.span }
+word_of t = record { item = t.text; span = t.span }
 
 -- from the start of one token to the end of another
 abbrev pub over : Lexeme → Lexeme → Span

@@ -2,7 +2,7 @@
 use Rattle.std.specs.Prelude.{ℕ, Bool, List, [], ◌∷◌, Option, Result, codes}
 use Rattle.graphql_lexical.specs.declared.kind.Kind.{Kind}
 use Rattle.graphql_lexical.specs.Place.{Span}
-use Rattle.graphql_grammar.specs.Tokens.{Text, Word}
+use Rattle.graphql_grammar.specs.Tokens.{Text, Located, Word}
 use Rattle.graphql_grammar.specs.declared.operation.OperationType.{OperationType}
 use Rattle.graphql_grammar.specs.declared.operation.OperationType.TheVariants.{Query, Mutation, Subscription}
 
@@ -26,10 +26,10 @@ mutual
     no_items : Items C
     item : Value C → Items C → Items C
 
-  -- a key, its span, its value, and the fields after it
+  -- a key, its value, and the fields after it
   pub data ObjectFields (C : Type 0) : Type 0 where
     no_fields : ObjectFields C
-    object_field : Text → Span → Value C → ObjectFields C → ObjectFields C
+    object_field : Word → Value C → ObjectFields C → ObjectFields C
 
 abbrev pub items_of : {C : Type 0} → List (Value C) → Items C
 items_of [] = no_items
@@ -37,7 +37,7 @@ items_of (v ∷ vs) = item v (items_of vs)
 
 abbrev pub fields_of : {C : Type 0} → List (Word × Value C) → ObjectFields C
 fields_of [] = no_fields
-fields_of (x ∷ xs) = object_field x.0.text x.0.span x.1 (fields_of xs)
+fields_of (x ∷ xs) = object_field x.0 x.1 (fields_of xs)
 
 -- A list type can have a size, which no document writes.
 pub data TypeRef : Type 0 where
@@ -49,30 +49,26 @@ pub record Argument (C : Type 0) : Type 0 where
   pub name : Word
   pub value : Value C
 
-pub record Arguments (C : Type 0) : Type 0 where
-  pub items : List (Argument C)
-  pub span : Span
+abbrev pub Arguments : Type 0 → Type 0
+Arguments C = Located (List (Argument C))
 
 pub record Directive (C : Type 0) : Type 0 where
   pub name : Word
   pub arguments : Option (Arguments C)
-  pub span : Span
 
 -- where there is no directive, None
 abbrev pub Directives : Type 0 → Type 0
-Directives C = Option (List (Directive C))
+Directives C = Option (List (Located (Directive C)))
 
 -- The span of the name has the `$` in it.
 pub record VariableDefinition (C : Type 0) : Type 0 where
   pub name : Word
-  pub of_type : TypeRef
-  pub type_span : Span
+  pub of_type : Located TypeRef
   pub default : Option (Value C)
   pub directives : Directives C
 
-pub record Variables (C : Type 0) : Type 0 where
-  pub items : List (VariableDefinition C)
-  pub span : Span
+abbrev pub Variables : Type 0 → Type 0
+Variables C = Located (List (VariableDefinition C))
 
 mutual
   pub data Selection (C : Type 0) : Type 0 where

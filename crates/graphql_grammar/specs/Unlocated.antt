@@ -1,6 +1,6 @@
 -- Trees without their spans: in the place of each span stands the one that is nowhere.
 use Rattle.std.specs.Prelude.{◌≡◌, List, map, Option, Some, None}
-use Rattle.graphql_grammar.specs.Tokens.{Word, nowhere}
+use Rattle.graphql_grammar.specs.Tokens.{Located, Word, nowhere}
 use Rattle.graphql_grammar.specs.Tree.{Value, Null, Scalar, Enum, Variable, ListOf, Object, Items, no_items, item, ObjectFields, no_fields, object_field, Argument, Arguments, Directive, Directives, VariableDefinition, Variables, Selection, Field, FragmentSpread, InlineFragment, Selections, no_selections, selection, OptionalSelections, absent, present, Definition, Operation, Fragment}
 
 abbrev pub if_some : {A : Type 0} → (A → A) → Option A → Option A
@@ -8,7 +8,7 @@ if_some f None = None
 if_some f (Some x) = Some (f x)
 
 abbrev pub unlocated_word : Word → Word
-unlocated_word w = record { text = w.text; span = nowhere }
+unlocated_word w = record { item = w.item; span = nowhere }
 
 abbrev mutual
   pub unlocated_value : {C : Type 0} → Value C → Value C
@@ -25,17 +25,17 @@ abbrev mutual
 
   pub unlocated_fields : {C : Type 0} → ObjectFields C → ObjectFields C
   unlocated_fields no_fields = no_fields
-  unlocated_fields (object_field name span value fields) = object_field name nowhere (unlocated_value value) (unlocated_fields fields)
+  unlocated_fields (object_field name value fields) = object_field (unlocated_word name) (unlocated_value value) (unlocated_fields fields)
 
 module _ {C : Type 0} where
   abbrev pub unlocated_argument : Argument C → Argument C
   unlocated_argument a = record { name = unlocated_word a.name; value = unlocated_value a.value }
 
   abbrev pub unlocated_arguments : Arguments C → Arguments C
-  unlocated_arguments a = record { items = map unlocated_argument a.items; span = nowhere }
+  unlocated_arguments a = record { item = map unlocated_argument a.item; span = nowhere }
 
-  abbrev pub unlocated_directive : Directive C → Directive C
-  unlocated_directive d = record { name = unlocated_word d.name; arguments = if_some unlocated_arguments d.arguments; span = nowhere }
+  abbrev pub unlocated_directive : Located (Directive C) → Located (Directive C)
+  unlocated_directive d = record { item = record { name = unlocated_word d.item.name; arguments = if_some unlocated_arguments d.item.arguments }; span = nowhere }
 
   abbrev pub unlocated_directives : Directives C → Directives C
   unlocated_directives = if_some (map unlocated_directive)
@@ -43,14 +43,13 @@ module _ {C : Type 0} where
   abbrev pub unlocated_variable : VariableDefinition C → VariableDefinition C
   unlocated_variable v = record {
     name = unlocated_word v.name;
-    of_type = v.of_type;
-    type_span = nowhere;
+    of_type = record { item = v.of_type.item; span = nowhere };
     default = if_some unlocated_value v.default;
     directives = unlocated_directives v.directives;
   }
 
   abbrev pub unlocated_variables : Variables C → Variables C
-  unlocated_variables v = record { items = map unlocated_variable v.items; span = nowhere }
+  unlocated_variables v = record { item = map unlocated_variable v.item; span = nowhere }
 
   abbrev mutual
     pub unlocated_selection : Selection C → Selection C

@@ -116,5 +116,5 @@ pub fn value_is_read<C, F>()
 
 /// The reading of a type gives the longest prefix that is a type, with its span, or refuses where the definitions do.
 pub fn type_is_read<C, F>()
-    ensures { (S : Scalars C F) (ts : List Lexeme) → EndsOnce ts → GivesFront (λ x us. IsType x.0 us × (x.1 ≡ span_of us)) (TypeFaultAt ts) ts (fully (λ n. symbol_at S n _ a_type) ts) }
+    ensures { (S : Scalars C F) (ts : List Lexeme) → EndsOnce ts → GivesFront (λ x us. IsType x.item us × (x.span ≡ span_of us)) (TypeFaultAt ts) ts (fully (λ n. symbol_at S n _ a_type) ts) }
 {}

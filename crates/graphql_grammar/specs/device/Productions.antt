@@ -3,7 +3,7 @@ use Rattle.std.specs.Prelude.{ℕ, zero, suc, Bool, true, false, ◌&&◌, ◌||
 use Rattle.graphql_lexical.specs.declared.kind.Kind.{Kind}
 use Rattle.graphql_lexical.specs.declared.kind.Kind.TheVariants.{ParenOpen, ParenClose, At, Ellipsis, Equals, Name, Dollar, BracketOpen, BracketClose, CurlyOpen, CurlyClose, Colon, ExclamationMark, EndOfFile}
 use Rattle.graphql_lexical.specs.Place.{Span}
-use Rattle.graphql_grammar.specs.Tokens.{Text, Word, word_of, over, from_to}
+use Rattle.graphql_grammar.specs.Tokens.{Text, Located, Word, word_of, over, from_to}
 use Rattle.graphql_grammar.specs.Tree.{Scalars, Value, Null, Scalar, Enum, Variable, ListOf, Object, items_of, fields_of, TypeRef, NamedType, ListType, NonNullType, Argument, Arguments, Directive, Directives, VariableDefinition, Variables, Selection, Field, FragmentSpread, InlineFragment, Selections, selections_of, OptionalSelections, absent, present, Definition, Operation, Fragment}
 use Rattle.graphql_grammar.specs.declared.operation.OperationType.{OperationType}
 use Rattle.graphql_grammar.specs.declared.operation.OperationType.TheVariants.{Query, Mutation, Subscription}
@@ -67,21 +67,21 @@ module _ {C : Type 0} where
   -- ---- types
 
   -- Name
-  unfoldable pub named_type : Steps C (TypeRef × Span)
-  named_type = wants (of Name) (λ w. gives (NamedType w.text, w.span))
+  unfoldable pub named_type : Steps C (Located TypeRef)
+  named_type = wants (of Name) (λ w. gives (record { item = NamedType w.text; span = w.span }))
 
   -- "[" Type "]"
-  unfoldable pub list_type : Steps C (TypeRef × Span)
-  list_type = wants (of BracketOpen) (λ o. part (symbol a_type) (λ x. wants (of BracketClose) (λ c. gives (ListType None x.0, from_to o.span c.span))))
+  unfoldable pub list_type : Steps C (Located TypeRef)
+  list_type = wants (of BracketOpen) (λ o. part (symbol a_type) (λ x. wants (of BracketClose) (λ c. gives (record { item = ListType None x.item; span = over o c }))))
 
-  unfoldable pub nullable_type : Steps C (TypeRef × Span)
+  unfoldable pub nullable_type : Steps C (Located TypeRef)
   nullable_type = sees (of Name) named_type list_type
 
   -- "!"?, after a type
-  unfoldable pub non_null : TypeRef × Span → Steps C (TypeRef × Span)
-  non_null x = takes (of ExclamationMark) (λ m. gives (NonNullType x.0, from_to x.1 m.span)) (gives x)
+  unfoldable pub non_null : Located TypeRef → Steps C (Located TypeRef)
+  non_null x = takes (of ExclamationMark) (λ m. gives (record { item = NonNullType x.item; span = from_to x.span m.span })) (gives x)
 
-  unfoldable pub type : Steps C (TypeRef × Span)
+  unfoldable pub type : Steps C (Located TypeRef)
   type = part nullable_type (λ x. non_null x)
 
   -- ---- arguments and directives
@@ -95,7 +95,7 @@ module _ {C : Type 0} where
 
   -- "(" (Name ":" Value(free))+ ")"
   abbrev pub arguments_parts : Steps C (Span → Arguments C)
-  arguments_parts = wants (of ParenOpen) (λ o. part arguments_inner (λ xs. gives (λ p. record { items = xs; span = p })))
+  arguments_parts = wants (of ParenOpen) (λ o. part arguments_inner (λ xs. gives (λ p. record { item = xs; span = p })))
 
   unfoldable pub arguments : Steps C (Arguments C)
   arguments = spanned arguments_parts
@@ -104,15 +104,15 @@ module _ {C : Type 0} where
   optional_arguments = optional ParenOpen arguments
 
   -- "@" Name Arguments?
-  abbrev pub directive_parts : Steps C (Span → Directive C)
+  abbrev pub directive_parts : Steps C (Span → Located (Directive C))
   directive_parts = wants (of At) (λ a. wants (of Name) (λ w. part optional_arguments (λ xs.
-      gives (λ p. record { name = word_of w; arguments = xs; span = p }))))
+      gives (λ p. record { item = record { name = word_of w; arguments = xs }; span = p }))))
 
-  unfoldable pub directive : Steps C (Directive C)
+  unfoldable pub directive : Steps C (Located (Directive C))
   directive = spanned directive_parts
 
   -- None where there is none
-  abbrev pub directives_of : List (Directive C) → Directives C
+  abbrev pub directives_of : List (Located (Directive C)) → Directives C
   directives_of [] = None
   directives_of (d ∷ ds) = Some (d ∷ ds)
 
@@ -129,14 +129,14 @@ module _ {C : Type 0} where
   -- "$" Name ":" Type ("=" Value(const))? Directive*
   unfoldable pub variable_definition : Steps C (VariableDefinition C)
   variable_definition = wants (of Dollar) (λ d. wants (of Name) (λ w. wants (of Colon) (λ c. part (symbol a_type) (λ x. part default (λ v. part directives (λ ds.
-      gives (record { name = record { text = w.text; span = over d w }; of_type = x.0; type_span = x.1; default = v; directives = ds })))))))
+      gives (record { name = record { item = w.text; span = over d w }; of_type = x; default = v; directives = ds })))))))
 
   unfoldable pub variables_inner : Steps C (List (VariableDefinition C))
   variables_inner = several ParenClose variable_definition
 
   -- "(" VariableDefinition+ ")"
   abbrev pub variables_parts : Steps C (Span → Variables C)
-  variables_parts = wants (of ParenOpen) (λ o. part variables_inner (λ xs. gives (λ p. record { items = xs; span = p })))
+  variables_parts = wants (of ParenOpen) (λ o. part variables_inner (λ xs. gives (λ p. record { item = xs; span = p })))
 
   unfoldable pub variables : Steps C (Variables C)
   variables = spanned variables_parts
