@@ -21,7 +21,7 @@ module _ {C : Type 0} where
   FilledVariable v = FilledDirectives v.directives
 
   abbrev pub FilledVariables : Variables C → Type 0
-  FilledVariables v = AllByRecursion FilledVariable v.items
+  FilledVariables v = AllByRecursion FilledVariable v.item
 
   abbrev mutual
     pub FilledSelection : Selection C → Type 0
@@ -78,7 +78,7 @@ module _ {C F : Type 0} (S : Scalars C F) where
   variable_filled ts v h = let rest = h.second.second.second in directives_filled rest.back v.directives rest.second
 
   variables_filled : (ts : List Lexeme) (v : Variables C) → IsVariables S v ts → FilledVariables v
-  variables_filled ts v h = listed_filled _ _ (IsVariableDefinition S) FilledVariable variable_filled ts v.items h.0
+  variables_filled ts v h = listed_filled _ _ (IsVariableDefinition S) FilledVariable variable_filled ts v.item h.0
 
   mutual
     selection_filled : (ts : List Lexeme) (s : Selection C) → IsSelection S s ts → FilledSelection s

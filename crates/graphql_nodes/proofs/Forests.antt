@@ -1,7 +1,7 @@
 -- The nodes of every tree are a forest.
 use Rattle.std.proofs.Common.{◌≡◌, ◌≤◌, ◌∷◌, [], List, ◌++◌, length, Option, Some, None, refl, sym, ap, ap₂, ◌∙◌, append_assoc, append-nil, length-append, arith, ◌⊎◌, inl, inr}
 use Rattle.graphql_lexical.specs.Place.{Span}
-use Rattle.graphql_grammar.specs.Tokens.{Word}
+use Rattle.graphql_grammar.specs.Tokens.{Located, Word}
 use Rattle.graphql_grammar.specs.Tree as tree
 use Rattle.graphql_grammar.specs.Tree.{Value, Items, no_items, item, ObjectFields, no_fields, object_field, Argument, Arguments, Directive, Directives, VariableDefinition, Variables, Selection, Selections, no_selections, selection, OptionalSelections, absent, present, Definition}
 use Rattle.graphql_nodes.specs.declared.kind.NodeKind.{NodeKind}
@@ -52,7 +52,7 @@ module _ {C : Type 0} where
 
     fields_forest : (fs : ObjectFields C) → IsForest (fields_nodes fs)
     fields_forest no_fields = no_node
-    fields_forest (object_field w p v fs) =
+    fields_forest (object_field w v fs) =
         join _ (fields_nodes fs) (over_forest _ _ _ (value_nodes v) (value_forest v)) (fields_forest fs)
 
   argument_forest : (a : Argument C) → IsForest (argument_nodes a)
@@ -61,14 +61,14 @@ module _ {C : Type 0} where
 
   arguments_forest : (a : Arguments C) → IsForest (arguments_nodes a)
   unfolding arguments_nodes
-  arguments_forest a = over_forest _ _ _ (each argument_nodes a.items)
-      (each_forest argument_nodes argument_forest a.items)
+  arguments_forest a = over_forest _ _ _ (each argument_nodes a.item)
+      (each_forest argument_nodes argument_forest a.item)
 
-  directive_forest : (d : Directive C) → IsForest (directive_nodes d)
+  directive_forest : (d : Located (Directive C)) → IsForest (directive_nodes d)
   unfolding directive_nodes
   directive_forest d =
-      over_forest _ _ _ (if_present arguments_nodes d.arguments)
-      (if_present_forest arguments_nodes arguments_forest d.arguments)
+      over_forest _ _ _ (if_present arguments_nodes d.item.arguments)
+      (if_present_forest arguments_nodes arguments_forest d.item.arguments)
 
   directives_forest : (ds : Directives C) → IsForest (directives_nodes ds)
   unfolding directives_nodes
@@ -84,8 +84,8 @@ module _ {C : Type 0} where
 
   variables_forest : (v : Variables C) → IsForest (variables_nodes v)
   unfolding variables_nodes
-  variables_forest v = over_forest _ _ _ (each variable_nodes v.items)
-      (each_forest variable_nodes variable_forest v.items)
+  variables_forest v = over_forest _ _ _ (each variable_nodes v.item)
+      (each_forest variable_nodes variable_forest v.item)
 
   alias_forest : (w : Word) → IsForest {C = C} (alias_nodes w)
   unfolding alias_nodes

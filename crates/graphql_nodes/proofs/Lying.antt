@@ -1,5 +1,5 @@
 -- Each node of a document lies in the source in which its tokens lie.
-use Rattle.std.proofs.Common.{ℕ, Bool, true, false, ◌≡◌, ◌≤◌, ◌∷◌, [], List, ◌++◌, Option, Some, None, inl, inr, sym, ap, subst, refl, arith, zero-le, zero, suc, ◌+◌, length, take}
+use Rattle.std.proofs.Common.{ℕ, Bool, true, false, ◌≡◌, ◌∷◌, [], List, ◌++◌, Option, Some, None, inl, inr, sym, ap, subst, refl, arith, zero-le, zero, suc, ◌+◌, length, take}
 use Rattle.std.specs.List.{AllByRecursion}
 use Rattle.graphql_lexical.specs.declared.kind.Kind.{Kind}
 use Rattle.std.proofs.lemmas.List.{length-take}
@@ -8,14 +8,14 @@ use Rattle.graphql_lexical.specs.Place.{Place, Span, place, origin}
 use Rattle.graphql_lexical.specs.Cutting.{Lexeme, Cut, BreaksFrom, here, behind as past}
 use Rattle.graphql_lexical.specs.laws.Laws.{AreSlicesFrom}
 use Rattle.graphql_lexical.proofs.Public.{steps_by_characters, slices_in_order, place_after}
-use Rattle.graphql_grammar.specs.Tokens.{Text, Word, span_of}
+use Rattle.graphql_grammar.specs.Tokens.{Text, Located, Word, span_of}
 use Rattle.graphql_grammar.specs.Tree as tree
 use Rattle.graphql_grammar.specs.Tree.{Scalars, TypeRef, Value, Items, no_items, item, ObjectFields, no_fields, object_field, Argument, Arguments, Directive, Directives, VariableDefinition, Variables, Selection, Selections, no_selections, selection, OptionalSelections, absent, present, Definition}
 use Rattle.graphql_lexical.specs.Parts.{◌·◌}
-use Rattle.graphql_grammar.specs.Grammar.{Token, Is, IsValue, AreItems, AreFields, Each, Optional, Several, Listed, IsType, IsArgument, IsArguments, IsDirective, IsDirectives, IsDefault, IsVariableDefinition, IsVariables, IsAlias, IsSelection, IsOptionalSelectionSet, IsSelectionSet, AreSelections, IsDefinition, IsDocument}
+use Rattle.graphql_grammar.specs.Grammar.{Token, Is, IsValue, AreItems, AreFields, Each, Optional, Several, Listed, IsArgument, IsArguments, IsDirective, IsDirectives, IsDefault, IsVariableDefinition, IsVariables, IsAlias, IsSelection, IsOptionalSelectionSet, IsSelectionSet, AreSelections, IsDefinition, IsDocument}
 use Rattle.graphql_nodes.specs.declared.kind.NodeKind.{NodeKind}
 use Rattle.graphql_nodes.specs.declared.kind.NodeKind.TheVariants as kind
-use Rattle.graphql_nodes.specs.Nodes.{Node, Label, Unnamed, Typed, over, scalar_node, if_present, each, value_nodes, items_nodes, fields_nodes, argument_nodes, arguments_nodes, directive_nodes, directives_nodes, variable_nodes, variables_nodes, alias_nodes, selection_nodes, optional_nodes, selections_nodes, definition_nodes, document_nodes}
+use Rattle.graphql_nodes.specs.Nodes.{Node, Label, Typed, over, scalar_node, if_present, each, value_nodes, items_nodes, fields_nodes, argument_nodes, arguments_nodes, directive_nodes, directives_nodes, variable_nodes, variables_nodes, alias_nodes, selection_nodes, optional_nodes, selections_nodes, definition_nodes, document_nodes}
 use Rattle.graphql_nodes.specs.laws.SpanLaws.{IsPlaceOf, LiesIn, NodesLieIn}
 use Rattle.graphql_grammar.proofs.Public.{last_of, last_next}
 
@@ -188,28 +188,28 @@ module _ {C F : Type 0} (S : Scalars C F) (source : List ℕ) where
     fields_lie : (free : Bool) (ts : List Lexeme) (fs : ObjectFields C) → AreFields S free fs ts
         → Within ts (fields_nodes fs)
     fields_lie free ts no_fields h = none ts
-    fields_lie free ts (object_field w p v fs) h =
+    fields_lie free ts (object_field w v fs) h =
         let inner = behind ts h _ (λ q. behind h.back q _ (λ r. joined q.back r (value_nodes v) (fields_nodes fs)
         (value_lies free r.front v) (fields_lie free r.back fs))) in
-        record { lie = λ l. (token_lies source h.front p _ w h.first (front_lies source ts h l), inner.lie l) }
+        record { lie = λ l. (token_lies source h.front w.span _ w.item h.first (front_lies source ts h l), inner.lie l) }
 
   -- ---- arguments and directives
 
   argument_lies : (ts : List Lexeme) (a : Argument C) → IsArgument S a ts → Within ts (argument_nodes a)
   unfolding argument_nodes
   argument_lies ts a h =
-      above ts _ a.name.span _ (value_nodes a.value) (λ l. token_lies source h.front a.name.span _ a.name.text h.first
+      above ts _ a.name.span _ (value_nodes a.value) (λ l. token_lies source h.front a.name.span _ a.name.item h.first
       (front_lies source ts h l)) (behind ts h _ (λ q. behind h.back q _ (value_lies true q.back a.value)))
 
   arguments_lie : (ts : List Lexeme) (a : Arguments C) → IsArguments S a ts → Within ts (arguments_nodes a)
   unfolding arguments_nodes
   arguments_lie ts a h = above ts _ a.span _ _ (whole_lies source ts a.span h.1)
-      (listed_lie _ _ (IsArgument S) argument_nodes argument_lies ts a.items h.0)
+      (listed_lie _ _ (IsArgument S) argument_nodes argument_lies ts a.item h.0)
 
-  directive_lies : (ts : List Lexeme) (d : Directive C) → IsDirective S d ts → Within ts (directive_nodes d)
+  directive_lies : (ts : List Lexeme) (d : Located (Directive C)) → IsDirective S d ts → Within ts (directive_nodes d)
   unfolding directive_nodes
   directive_lies ts d h = above ts _ d.span _ _ (whole_lies source ts d.span h.1) (behind ts h.0 _ (λ q. behind h.0.back q _
-      (optional_lies (IsArguments S) arguments_nodes arguments_lie q.back d.arguments)))
+      (optional_lies (IsArguments S) arguments_nodes arguments_lie q.back d.item.arguments)))
 
   directives_lie : (ts : List Lexeme) (ds : Directives C) → IsDirectives S ds ts → Within ts (directives_nodes ds)
   unfolding directives_nodes
@@ -228,12 +228,12 @@ module _ {C F : Type 0} (S : Scalars C F) (source : List ℕ) where
       → Within ts (variable_nodes v)
   unfolding variable_nodes
   variable_lies ts v h =
-      let types = over kind.Type v.type_span (Typed v.of_type) [] in
+      let types = over kind.Type v.of_type.span (Typed v.of_type.item) [] in
       let others = if_present value_nodes v.default ++ directives_nodes v.directives in
       above ts _ v.name.span _ (types ++ others)
       (λ l. whole_lies source h.front v.name.span h.first.1 (front_lies source ts h l))
       (behind ts h _ (λ colon. behind h.back colon _ (λ type. joined colon.back type types others
-      (λ t. type_lies type.front v.of_type v.type_span t.1)
+      (λ t. type_lies type.front v.of_type.item v.of_type.span t.1)
       (λ rest. joined type.back rest _ _
       (optional_lies (IsDefault S) value_nodes default_lies rest.front v.default)
       (directives_lie rest.back v.directives)))))
@@ -241,13 +241,13 @@ module _ {C F : Type 0} (S : Scalars C F) (source : List ℕ) where
   variables_lie : (ts : List Lexeme) (v : Variables C) → IsVariables S v ts → Within ts (variables_nodes v)
   unfolding variables_nodes
   variables_lie ts v h = above ts _ v.span _ _ (whole_lies source ts v.span h.1)
-      (listed_lie _ _ (IsVariableDefinition S) variable_nodes variable_lies ts v.items h.0)
+      (listed_lie _ _ (IsVariableDefinition S) variable_nodes variable_lies ts v.item h.0)
 
   -- ---- selections
 
   alias_lies : (ts : List Lexeme) (w : Word) → IsAlias S w ts → Within ts (alias_nodes w)
   unfolding alias_nodes
-  alias_lies ts w h = above ts _ w.span _ [] (λ l. token_lies source h.front w.span _ w.text h.first
+  alias_lies ts w h = above ts _ w.span _ [] (λ l. token_lies source h.front w.span _ w.item h.first
       (front_lies source ts h l)) (none ts)
 
   mutual

@@ -7,7 +7,7 @@ use Rattle.graphql_lexical.specs.declared.kind.Kind.{Kind}
 use Rattle.graphql_lexical.specs.declared.kind.Kind.TheVariants.{Name, Dollar, At, CurlyOpen, Ellipsis, EndOfFile}
 use Rattle.graphql_lexical.specs.Place.{Span}
 use Rattle.graphql_lexical.specs.Cutting.{Lexeme}
-use Rattle.graphql_grammar.specs.Tokens.{Text, Word}
+use Rattle.graphql_grammar.specs.Tokens.{Text, Located, Word}
 use Rattle.graphql_grammar.specs.Tree as tree
 use Rattle.graphql_grammar.specs.Tree.{Scalars, TypeRef, Value, Items, no_items, item, ObjectFields, no_fields, object_field, Argument, Arguments, Directive, Directives, VariableDefinition, Variables, Selection, Selections, no_selections, selection, OptionalSelections, absent, present, Definition}
 use Rattle.graphql_lexical.specs.Parts.{◌·◌}
@@ -83,7 +83,7 @@ module _ {C F : Type 0} (S : Scalars C F) (measure : Node C → ℕ) (weight : L
   says_one text ts h = (name_in text ts h, h.1)
 
   word_one : (w : Word) → AreOne (λ ts. IsName w ts)
-  word_one w ts h = (record { kind = Name; text = w.text; span = w.span }, h)
+  word_one w ts h = (record { kind = Name; text = w.item; span = w.span }, h)
 
   one_token : (ts : List Lexeme) (t : Lexeme) (n : NodeKind) (p : Span) (l : Label) → IsUntyped l → ts ≡ t ∷ []
       → Within ts (over n p l [])
@@ -203,8 +203,8 @@ module _ {C F : Type 0} (S : Scalars C F) (measure : Node C → ℕ) (weight : L
     fields_within : (free : Bool) (ts : List Lexeme) (fs : ObjectFields C) → AreFields S free fs ts
         → Within ts (fields_nodes fs)
     fields_within free ts no_fields h = none ts
-    fields_within free ts (object_field w p v fs) h =
-        headed_before ts h (word_one _) kind.Key p _ (value_nodes v) (fields_nodes fs) tt
+    fields_within free ts (object_field w v fs) h =
+        headed_before ts h (word_one _) kind.Key w.span _ (value_nodes v) (fields_nodes fs) tt
         (λ q. behind h.back q _ (λ r. joined q.back r (value_nodes v) (fields_nodes fs) (value_within free r.front v)
         (fields_within free r.back fs)))
 
@@ -217,12 +217,12 @@ module _ {C F : Type 0} (S : Scalars C F) (measure : Node C → ℕ) (weight : L
 
   arguments_within : (ts : List Lexeme) (a : Arguments C) → IsArguments S a ts → Within ts (arguments_nodes a)
   unfolding arguments_nodes
-  arguments_within ts a h = listed_within _ _ (IsArgument S) argument_nodes argument_within _ _ ts a.items h.0
+  arguments_within ts a h = listed_within _ _ (IsArgument S) argument_nodes argument_within _ _ ts a.item h.0
 
-  directive_within : (ts : List Lexeme) (d : Directive C) → IsDirective S d ts → Within ts (directive_nodes d)
+  directive_within : (ts : List Lexeme) (d : Located (Directive C)) → IsDirective S d ts → Within ts (directive_nodes d)
   unfolding directive_nodes
   directive_within ts d h = headed ts h.0 (is_one At) _ _ _ _ tt (λ q. behind h.0.back q _
-      (optional_within (IsArguments S) arguments_nodes arguments_within q.back d.arguments))
+      (optional_within (IsArguments S) arguments_nodes arguments_within q.back d.item.arguments))
 
   directives_within : (ts : List Lexeme) (ds : Directives C) → IsDirectives S ds ts → Within ts (directives_nodes ds)
   unfolding directives_nodes
@@ -252,7 +252,7 @@ module _ {C F : Type 0} (S : Scalars C F) (measure : Node C → ℕ) (weight : L
   variable_within ts v h =
       let dollar = row_right ts (row_front (λ us k. k.0) ts h) in
       headed ts dollar (is_one Dollar) _ _ _ _ tt (λ name. behind dollar.back name _ (λ colon. behind name.back colon _
-      (λ type. joined colon.back type _ _ (λ t. type_within type.front v.of_type v.type_span t.0)
+      (λ type. joined colon.back type _ _ (λ t. type_within type.front v.of_type.item v.of_type.span t.0)
       (λ rest. joined type.back rest _ _
       (optional_within (IsDefault S) value_nodes default_within rest.front v.default)
       (directives_within rest.back v.directives)))))
@@ -260,7 +260,7 @@ module _ {C F : Type 0} (S : Scalars C F) (measure : Node C → ℕ) (weight : L
   variables_within : (ts : List Lexeme) (v : Variables C) → IsVariables S v ts → Within ts (variables_nodes v)
   unfolding variables_nodes
   variables_within ts v h =
-      listed_within _ _ (IsVariableDefinition S) variable_nodes variable_within _ _ ts v.items h.0
+      listed_within _ _ (IsVariableDefinition S) variable_nodes variable_within _ _ ts v.item h.0
 
   -- ---- selections
 

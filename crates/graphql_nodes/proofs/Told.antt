@@ -3,7 +3,7 @@ use Rattle.std.proofs.Common.{◌≡◌, ◌∷◌, [], List, ◌++◌, Option, 
 use Rattle.std.specs.List.{AllByRecursion}
 use Rattle.graphql_lexical.specs.Place.{Span}
 use Rattle.graphql_lexical.specs.Cutting.{Lexeme}
-use Rattle.graphql_grammar.specs.Tokens.{Word}
+use Rattle.graphql_grammar.specs.Tokens.{Located, Word}
 use Rattle.graphql_grammar.specs.Tree as tree
 use Rattle.graphql_grammar.specs.Tree.{Scalars, TypeRef, Value, Argument, Arguments, Directive, Directives, VariableDefinition, Variables, Selection, Selections, no_selections, selection, OptionalSelections, absent, present, Definition}
 use Rattle.graphql_grammar.specs.declared.operation.OperationType.{OperationType}
@@ -46,6 +46,9 @@ no_fragment operation.Query e = absurd (cc)
 no_fragment operation.Mutation e = absurd (cc)
 no_fragment operation.Subscription e = absurd (cc)
 
+same_place : {A : Type 0} (a b : Located A) → a.item ≡ b.item → a.span ≡ b.span → a ≡ b
+same_place a b x p = ap₂ (λ x p. record { item = x; span = p }) x p
+
 -- what asks for nothing
 abbrev Any : {A : Type 0} → A → Type 0
 Any x = Unit {0}
@@ -60,35 +63,14 @@ any_present (Some x) = tt
 module _ {C : Type 0} where
   -- ---- parts with the same parts
 
-  same_directive : (d f : Directive C) → d.name ≡ f.name → d.arguments ≡ f.arguments → d.span ≡ f.span → d ≡ f
-  same_directive d f n a p =
-      ap₂ (λ n a. record { name = n; arguments = a; span = d.span }) n a
-      ∙ ap (λ p. record { name = f.name; arguments = f.arguments; span = p }) p
+  same_directive : (d f : Directive C) → d.name ≡ f.name → d.arguments ≡ f.arguments → d ≡ f
+  same_directive d f n a = ap₂ (λ n a. record { name = n; arguments = a }) n a
 
-  same_variable : (v w : VariableDefinition C) → v.name ≡ w.name → v.of_type ≡ w.of_type → v.type_span ≡ w.type_span
-      → v.default ≡ w.default → v.directives ≡ w.directives → v ≡ w
-  same_variable v w n t p d ds =
-      ap₂ (λ n t. record {
-        name = n;
-        of_type = t;
-        type_span = v.type_span;
-        default = v.default;
-        directives = v.directives;
-      }) n t
-      ∙ ap₂ (λ p d. record {
-        name = w.name;
-        of_type = w.of_type;
-        type_span = p;
-        default = d;
-        directives = v.directives;
-      }) p d
-      ∙ ap (λ ds. record {
-        name = w.name;
-        of_type = w.of_type;
-        type_span = w.type_span;
-        default = w.default;
-        directives = ds;
-      }) ds
+  same_variable : (v w : VariableDefinition C) → v.name ≡ w.name → v.of_type ≡ w.of_type → v.default ≡ w.default
+      → v.directives ≡ w.directives → v ≡ w
+  same_variable v w n t d ds =
+      ap₂ (λ n t. record { name = n; of_type = t; default = v.default; directives = v.directives }) n t
+      ∙ ap₂ (λ d ds. record { name = w.name; of_type = w.of_type; default = d; directives = ds }) d ds
 
   same_field : (a b : Option Word) (n m : Word) (c d : Option (Arguments C)) (ds fs : Directives C)
       (ss us : OptionalSelections C) (p q : Span)
@@ -130,10 +112,10 @@ module _ {C : Type 0} where
       → arguments_nodes a ++ r ≡ arguments_nodes b ++ s → (a ≡ b) × (r ≡ s)
   unfolding arguments_nodes
   arguments_told a b h k r s e =
-      let t = shares _ _ _ _ _ _ (each argument_nodes a.items) (each argument_nodes b.items) r s e in
-      let items = all_told argument_nodes Any argument_told a.items b.items (all_any a.items) (all_any b.items)
+      let t = shares _ _ _ _ _ _ (each argument_nodes a.item) (each argument_nodes b.item) r s e in
+      let items = all_told argument_nodes Any argument_told a.item b.item (all_any a.item) (all_any b.item)
       (no_part argument_nodes _ argument_first) t.inner in
-      (ap₂ (λ i p. record { items = i; span = p }) items t.span, t.rest)
+      (same_place a b items t.span, t.rest)
 
   -- of a part that may have some
   if_arguments_told : (a b : Option (Arguments C)) (r s : List (Node C)) → Avoids kind.Arguments r
@@ -143,15 +125,15 @@ module _ {C : Type 0} where
       present_told arguments_nodes Any arguments_told a b (any_present a) (any_present b) r s
       (another_kind arguments_nodes _ arguments_first r h) (another_kind arguments_nodes _ arguments_first s k) e
 
-  directive_told : (d f : Directive C) → Any d → Any f → (r s : List (Node C))
+  directive_told : (d f : Located (Directive C)) → Any d → Any f → (r s : List (Node C))
       → directive_nodes d ++ r ≡ directive_nodes f ++ s → (d ≡ f) × (r ≡ s)
   unfolding directive_nodes
   directive_told d f h k r s e =
-      let t = shares _ _ _ _ _ _ (if_present arguments_nodes d.arguments) (if_present arguments_nodes f.arguments) r s
+      let t = shares _ _ _ _ _ _ (if_present arguments_nodes d.item.arguments) (if_present arguments_nodes f.item.arguments) r s
       e in
-      let arguments = (if_arguments_told d.arguments f.arguments [] [] (no_first kind.Arguments)
+      let arguments = (if_arguments_told d.item.arguments f.item.arguments [] [] (no_first kind.Arguments)
       (no_first kind.Arguments) (behind_nothing _ _ t.inner)).0 in
-      (same_directive d f (named_told d.name f.name t.label) arguments t.span, t.rest)
+      (same_place d f (same_directive d.item f.item (named_told d.item.name f.item.name t.label) arguments) t.span, t.rest)
 
   directives_told : (ds fs : Directives C) → FilledDirectives ds → FilledDirectives fs → (r s : List (Node C))
       → Avoids kind.Directive r → Avoids kind.Directive s
@@ -159,13 +141,13 @@ module _ {C : Type 0} where
   unfolding directives_nodes each
   directives_told ds fs h k r s none none' e = cases ds fs h k e
     where
-      rows : (ds fs : List (Directive C)) → each directive_nodes ds ++ r ≡ each directive_nodes fs ++ s
+      rows : (ds fs : List (Located (Directive C))) → each directive_nodes ds ++ r ≡ each directive_nodes fs ++ s
           → (ds ≡ fs) × (r ≡ s)
       rows ds fs e = each_told directive_nodes Any directive_told ds fs (all_any ds) (all_any fs) r s
           (another_kind directive_nodes _ directive_first r none)
           (another_kind directive_nodes _ directive_first s none') e
 
-      none_of : (d : Directive C) (ds : List (Directive C)) → [] ≡ d ∷ ds → ⊥
+      none_of : (d : Located (Directive C)) (ds : List (Located (Directive C))) → [] ≡ d ∷ ds → ⊥
       none_of d ds e = cc
 
       cases : (ds fs : Directives C) → FilledDirectives ds → FilledDirectives fs
@@ -204,14 +186,14 @@ module _ {C : Type 0} where
       → variable_nodes v ++ r ≡ variable_nodes w ++ s → (v ≡ w) × (r ≡ s)
   unfolding variable_nodes
   variable_told v w h k r s e =
-      let t = shares _ _ _ _ _ _ (over kind.Type v.type_span (Typed v.of_type) [] ++ behind_type v)
-      (over kind.Type w.type_span (Typed w.of_type) [] ++ behind_type w) r s e in
+      let t = shares _ _ _ _ _ _ (over kind.Type v.of_type.span (Typed v.of_type.item) [] ++ behind_type v)
+      (over kind.Type w.of_type.span (Typed w.of_type.item) [] ++ behind_type w) r s e in
       let type = shares _ _ _ _ _ _ [] [] (behind_type v) (behind_type w) t.inner in
       let default = present_told value_nodes Any value_any v.default w.default (any_present v.default)
       (any_present w.default) (directives_nodes v.directives) (directives_nodes w.directives)
       (no_default v.directives) (no_default w.directives) type.rest in
       let directives = lone_directives_told v.directives w.directives h k default.1 in (
-        same_variable v w (named_told v.name w.name t.label) (typed_told v.of_type w.of_type type.label) type.span
+        same_variable v w (named_told v.name w.name t.label) (same_place v.of_type w.of_type (typed_told v.of_type.item w.of_type.item type.label) type.span)
             default.0 directives,
         t.rest,
       )
@@ -220,10 +202,10 @@ module _ {C : Type 0} where
       → variables_nodes a ++ r ≡ variables_nodes b ++ s → (a ≡ b) × (r ≡ s)
   unfolding variables_nodes
   variables_told a b h k r s e =
-      let t = shares _ _ _ _ _ _ (each variable_nodes a.items) (each variable_nodes b.items) r s e in
-      let items = all_told variable_nodes FilledVariable variable_told a.items b.items h k
+      let t = shares _ _ _ _ _ _ (each variable_nodes a.item) (each variable_nodes b.item) r s e in
+      let items = all_told variable_nodes FilledVariable variable_told a.item b.item h k
       (no_part variable_nodes _ variable_first) t.inner in
-      (ap₂ (λ i p. record { items = i; span = p }) items t.span, t.rest)
+      (same_place a b items t.span, t.rest)
 
   -- ---- selections
 

@@ -4,15 +4,15 @@ use Rattle.graphql_lexical.specs.Place.{Span}
 use Rattle.graphql_grammar.specs.Tokens.{Text, Word}
 use Rattle.graphql_grammar.specs.Tree as tree
 use Rattle.graphql_grammar.specs.Tree.{Value, Items, no_items, item, ObjectFields, no_fields, object_field}
-use Rattle.graphql_nodes.specs.Nodes.{Node, named, scalar_node, value_nodes, items_nodes, fields_nodes}
+use Rattle.graphql_nodes.specs.Nodes.{Node, Named, named, scalar_node, value_nodes, items_nodes, fields_nodes}
 use Rattle.graphql_nodes.proofs.Splits.{shares}
 use Rattle.graphql_nodes.proofs.Heads.{first_kind, kind_of_value, value_first}
 
 abbrev word : Text → Span → Word
-word a p = record { text = a; span = p }
+word a p = record { item = a; span = p }
 
 name_told : (a b : Text) (p q : Span) → named a p ≡ named b q → a ≡ b
-name_told a b p q e = let h : word a p ≡ word b q = cc in ap (λ w. w.text) h
+name_told a b p q e = let h : word a p ≡ word b q = cc in ap (λ w. w.item) h
 
 module _ {C : Type 0} where
   -- no nodes are no value's
@@ -57,11 +57,12 @@ module _ {C : Type 0} where
 
     fields_told : (fs gs : ObjectFields C) → fields_nodes fs ≡ fields_nodes gs → fs ≡ gs
     fields_told no_fields no_fields e = refl
-    fields_told no_fields (object_field b q w gs) e = absurd (cc)
-    fields_told (object_field a p v fs) no_fields e = absurd (cc)
-    fields_told (object_field a p v fs) (object_field b q w gs) e =
+    fields_told no_fields (object_field b w gs) e = absurd (cc)
+    fields_told (object_field a v fs) no_fields e = absurd (cc)
+    fields_told (object_field a v fs) (object_field b w gs) e =
         let h = shares _ _ _ _ _ _ (value_nodes v) (value_nodes w) (fields_nodes fs) (fields_nodes gs) e in
-        let name = name_told a b p q h.label in
+        let label : Named a ≡ Named b = h.label in
+        let key : a ≡ b = cc in
         let value = (value_told v w [] [] (ap (λ l. l ++ []) h.inner)).0 in
         let others = fields_told fs gs h.rest in
-        ap₂ (λ n s. object_field n s v fs) name h.span ∙ ap₂ (λ x l. object_field b q x l) value others
+        ap (λ k. object_field k v fs) key ∙ ap₂ (λ x l. object_field b x l) value others

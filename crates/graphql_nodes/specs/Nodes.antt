@@ -2,7 +2,7 @@
 -- scalar's content.
 use Rattle.std.specs.Prelude.{ℕ, List, [], ◌∷◌, ◌++◌, length, Option, Some, None}
 use Rattle.graphql_lexical.specs.Place.{Span}
-use Rattle.graphql_grammar.specs.Tokens.{Text, Word}
+use Rattle.graphql_grammar.specs.Tokens.{Text, Located, Word}
 use Rattle.graphql_grammar.specs.Tree as tree
 use Rattle.graphql_grammar.specs.Tree.{Value, Items, no_items, item, ObjectFields, no_fields, object_field, TypeRef, Argument, Arguments, Directive, Directives, VariableDefinition, Variables, Selection, Selections, no_selections, selection, OptionalSelections, absent, present, Definition}
 use Rattle.graphql_grammar.specs.declared.operation.OperationType.{OperationType}
@@ -43,7 +43,7 @@ name_of (Some word) = Named word
 
 -- a name that is all of its node
 abbrev pub named : Text → Span → Label
-named name span = Named (record { text = name; span = span })
+named name span = Named (record { item = name; span = span })
 
 -- ---- the nodes of each part
 
@@ -72,7 +72,7 @@ unfoldable mutual
 
   pub fields_nodes : {C : Type 0} → ObjectFields C → List (Node C)
   fields_nodes no_fields = []
-  fields_nodes (object_field key span value fields) = over kind.Key span (named key span) (value_nodes value) ++ fields_nodes fields
+  fields_nodes (object_field key value fields) = over kind.Key key.span (Named key) (value_nodes value) ++ fields_nodes fields
 
 abbrev pub operation_kind : OperationType → NodeKind
 operation_kind operation.Query = kind.Query
@@ -84,20 +84,20 @@ module _ {C : Type 0} where
   argument_nodes a = over kind.Argument a.name.span (Named a.name) (value_nodes a.value)
 
   unfoldable pub arguments_nodes : Arguments C → List (Node C)
-  arguments_nodes a = over kind.Arguments a.span Unnamed (each argument_nodes a.items)
+  arguments_nodes a = over kind.Arguments a.span Unnamed (each argument_nodes a.item)
 
-  unfoldable pub directive_nodes : Directive C → List (Node C)
-  directive_nodes d = over kind.Directive d.span (Named d.name) (if_present arguments_nodes d.arguments)
+  unfoldable pub directive_nodes : Located (Directive C) → List (Node C)
+  directive_nodes d = over kind.Directive d.span (Named d.item.name) (if_present arguments_nodes d.item.arguments)
 
   unfoldable pub directives_nodes : Directives C → List (Node C)
   directives_nodes ds = if_present (each directive_nodes) ds
 
   unfoldable pub variable_nodes : VariableDefinition C → List (Node C)
   variable_nodes v = over kind.Variable v.name.span (Named v.name)
-      (over kind.Type v.type_span (Typed v.of_type) [] ++ (if_present value_nodes v.default ++ directives_nodes v.directives))
+      (over kind.Type v.of_type.span (Typed v.of_type.item) [] ++ (if_present value_nodes v.default ++ directives_nodes v.directives))
 
   unfoldable pub variables_nodes : Variables C → List (Node C)
-  variables_nodes v = over kind.Variables v.span Unnamed (each variable_nodes v.items)
+  variables_nodes v = over kind.Variables v.span Unnamed (each variable_nodes v.item)
 
   unfoldable pub alias_nodes : Word → List (Node C)
   alias_nodes alias = over kind.Alias alias.span (Named alias) []
