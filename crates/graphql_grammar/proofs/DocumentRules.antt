@@ -9,7 +9,7 @@ use Rattle.graphql_grammar.specs.Samples.{sample, sample_text}
 use Rattle.graphql_grammar.specs.device.Reading.{passes, of, a_value, a_type}
 use Rattle.graphql_grammar.specs.device.Productions.{named_type, list_type, nullable_type, non_null, type, argument, arguments_inner, arguments, optional_arguments, directive, directives_of, directives, default, variable_definition, variables_inner, variables, optional_variables, symbol_at, reads}
 use Rattle.graphql_grammar.specs.Tree.{Scalars, TypeRef, NamedType, ListType, NonNullType, Argument, Directive, VariableDefinition}
-use Rattle.graphql_grammar.specs.Grammar.{IsValue, Optional, Listed, IsType, IsArgument, IsArguments, IsDirective, IsDirectives, IsDefault, IsVariableDefinition, IsVariables, Each}
+use Rattle.graphql_grammar.specs.Grammar.{Over, IsValue, Optional, Listed, IsType, IsArgument, IsArguments, IsDirective, IsDirectives, IsDefault, IsVariableDefinition, IsVariables, Each}
 use Rattle.graphql_grammar.proofs.Rules.{less, Rule, Some_of, done_rule}
 use Rattle.graphql_grammar.proofs.TokenRules.{on_rule, look_rule}
 use Rattle.graphql_grammar.proofs.PartRules.{span_rule, maybe_rule, one_or_more_rule, repeated_rule, step, want_step, lower, ClosedSome}
@@ -30,7 +30,7 @@ pub list_nullable : (size : Option ℕ) (type : TypeRef) → IsNullable (ListTyp
 list_nullable size type inner e = absurd (cc)
 
 abbrev pub IsSpannedType : Located TypeRef → List Lexeme → Type 0
-IsSpannedType x ts = IsType x.item ts × (x.span ≡ span_of ts)
+IsSpannedType x = Over x.span (IsType x.item)
 
 abbrev IsNullableType : Located TypeRef → List Lexeme → Type 0
 IsNullableType x ts = IsSpannedType x ts × IsNullable x.item
