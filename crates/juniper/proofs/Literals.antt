@@ -5,7 +5,7 @@ use Rattle.graphql_lexical.specs.declared.kind.Kind.{Kind}
 use Rattle.graphql_lexical.specs.declared.kind.Kind.TheVariants.{EndOfFile}
 use Rattle.graphql_lexical.specs.Kinds.{same_kind}
 use Rattle.graphql_lexical.specs.Cutting.{Lexeme}
-use Rattle.graphql_grammar.specs.Tokens.{span_of}
+use Rattle.graphql_grammar.specs.Tokens.{Located, span_of}
 use Rattle.graphql_grammar.specs.Tree.{Scalars, Value, TypeRef}
 use Rattle.graphql_grammar.specs.Grammar.{IsValue}
 use Rattle.graphql_grammar.specs.Faults as grammar
@@ -99,10 +99,10 @@ module _ {C : Type 0} (S : Scalars C Error) (free : Bool) where
 
 -- ---- types
 
-abbrev type_at : ℕ → Reader Error (TypeRef × Span)
-type_at n = symbol_at no_scalars n (TypeRef × Span) a_type
+abbrev type_at : ℕ → Reader Error (Located TypeRef)
+type_at n = symbol_at no_scalars n (Located TypeRef) a_type
 
-pub answers_type : {X : Type 0} (view : X → TypeRef × Span) (result : Result X ParseFailure) (old left : List Lexeme)
+pub answers_type : {X : Type 0} (view : X → Located TypeRef) (result : Result X ParseFailure) (old left : List Lexeme)
     → EndsOnce old → Gives view result left (type_read old) → AnswersType view result old left
 unfolding type_read
 answers_type view (Ok x) old left ended h =
@@ -110,7 +110,7 @@ answers_type view (Ok x) old left ended h =
     (seen_took (fully type_at old) (view x) left h) (type_given no_scalars old (ends_once old ended)) in (
       record { taken = g.0; whole = g.1; means = g.2 },
       λ us vs y e k. (
-          let longest : length us ≤ length g.0 = g.3 us vs (y, span_of us) e (k, refl) in
+          let longest : length us ≤ length g.0 = g.3 us vs (record { item = y; span = span_of us }) e (k, refl) in
           let one = ap length e ∙ length-append us vs in
           let two = ap length g.1 ∙ length-append g.0 left in
           omega (arith, longest, one, two)),
@@ -120,7 +120,7 @@ answers_type view (Err (failure.Refused e)) old left ended h =
     (type_error UnexpectedEndOfFile unexpected) old left (view_fault e) (fully type_at old)
     (type_given no_scalars old (ends_once old ended)) h in
     record {
-      none = λ us vs y q k. r.none us vs (y, span_of us) q (k, refl);
+      none = λ us vs y q k. r.none us vs (record { item = y; span = span_of us }) q (k, refl);
       before = r.before;
       token = r.token;
       after = r.after;

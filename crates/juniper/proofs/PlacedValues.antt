@@ -5,13 +5,13 @@ use Rattle.graphql_grammar.specs.Tree.{Value, Null, Scalar, Enum, Variable, List
 use Rattle.juniper_tokens.specs.Spans.{view_span}
 use Rattle.juniper_tokens.specs.declared.span.Spanning.{Spanning}
 use Rattle.juniper_values.specs.Value as input
-use Rattle.juniper_values.specs.View.{view, items_of, fields_of, text_of}
+use Rattle.juniper_values.specs.View.{view, items_of, fields_of}
 use Rattle.juniper_values.specs.View as inputs
 use Rattle.juniper_values.specs.declared.input_value.InputValue.{InputValue, ind-InputValue, roll-InputValue, fold-roll-InputValue}
 use Rattle.juniper_values.specs.declared.input_value.InputValue.TheOpen.{InputValue-F}
 use Rattle.juniper_values.specs.declared.input_value.InputValue.TheFolds.{map-InputValue}
 use Rattle.juniper_values.proofs.Public.{at_item, at_value}
-use Rattle.juniper.specs.View.{items_by, fields_by, view_at, view_step}
+use Rattle.juniper.specs.View.{view_key, items_by, fields_by, view_at, view_step}
 
 abbrev mutual
   -- an input value that stands at a span, in the grammar's words
@@ -29,7 +29,7 @@ abbrev mutual
 
   pub placed_fields : {C : Type 0} → input.Fields C → ObjectFields C
   placed_fields input.no_fields = no_fields
-  placed_fields (input.field k s v t fs) = object_field k s (placed v t) (placed_fields fs)
+  placed_fields (input.field k s v t fs) = object_field (record { item = k; span = s }) (placed v t) (placed_fields fs)
 
 module _ {S C : Type 0} (content : S → C) where
   -- one level, where it holds of the values within
@@ -45,7 +45,7 @@ module _ {S C : Type 0} (content : S → C) where
         → fields_by (map (at_value a) (map (at_value part) xs))
         ≡ placed_fields (fields_of (map (at_value b) (map (at_value part) xs)))
     fields_placed [] = refl
-    fields_placed (x ∷ xs) = ap₂ (object_field (text_of x.0.item) (view_span x.0.span))
+    fields_placed (x ∷ xs) = ap₂ (object_field (view_key x.0))
         (within x.1.item (view_span x.1.span)) (fields_placed xs)
 
     level : (y : InputValue-F S E) (p : Span)

@@ -222,9 +222,9 @@ mutual
       let b = value_back v p.front h.1 p.first in
       let m = fields_back fs p.back h.2 p.second in
       record {
-        trees = object_field k key.0 b.tree m.trees;
+        trees = object_field (record { item = k; span = key.0 }) b.tree m.trees;
         means = row_as f key.1 (row_as g (mark Colon g.front g.first) (row_as p b.means m.means));
-        same = ap₂ (object_field k nowhere) (b.same ∙ unlocated_placed v nowhere q) m.same;
+        same = ap₂ (object_field (record { item = k; span = nowhere })) (b.same ∙ unlocated_placed v nowhere q) m.same;
       }
 
 -- the display of an input value, by the contents of its scalars

@@ -2,6 +2,7 @@
 use Rattle.std.proofs.Common.{◌≡◌, ℕ, zero, suc, Bool, true, false, List, [], ◌∷◌, refl, ap, ◌∙◌, inl, inr}
 use Rattle.graphql_lexical.specs.Place.{Span}
 use Rattle.graphql_lexical.specs.Cutting.{Lexeme}
+use Rattle.graphql_grammar.specs.Tokens.{Located}
 use Rattle.graphql_grammar.specs.Tree.{Scalars, TypeRef}
 use Rattle.graphql_grammar.specs.device.Reading.{Test, passes, Took, Refused, Out, Reader, after, seq, look, choose, a_value, a_type, a_selection}
 use Rattle.graphql_grammar.specs.device.Reading as reading
@@ -42,7 +43,7 @@ same : {F A : Type 0} (f : Reader F A) → Same f f
 same f ts = refl
 
 types_same : {C D F : Type 0} (S : Scalars C F) (T : Scalars D F) (n : ℕ)
-    → Same (symbol_at S n (TypeRef × Span) a_type) (symbol_at T n (TypeRef × Span) a_type)
+    → Same (symbol_at S n (Located TypeRef) a_type) (symbol_at T n (Located TypeRef) a_type)
 unfolding symbol_at type nullable_type named_type list_type non_null
 types_same S T zero ts = refl
 types_same S T (suc n) ts = seq_same _ _ _ _

@@ -6,7 +6,7 @@ use Rattle.std.specs.Global.{Vec}
 use Rattle.std.specs.Str.{chars}
 use Rattle.std.specs.declared.alloc.Global.{Global}
 use Rattle.graphql_lexical.specs.Place as places
-use Rattle.graphql_grammar.specs.Tokens.{Text, Word}
+use Rattle.graphql_grammar.specs.Tokens.{Text, Located, Word}
 use Rattle.graphql_grammar.specs.Tree as tree
 use Rattle.graphql_grammar.specs.Tree.{Value, Null, Scalar, Enum, Variable, ListOf, Object, Items, no_items, item, ObjectFields, no_fields, object_field, TypeRef, NamedType, ListType, NonNullType}
 use Rattle.juniper_tokens.specs.Spans.{view_span}
@@ -26,16 +26,19 @@ use Rattle.juniper.specs.declared.tree.ast.Selection as code
 use Rattle.juniper.specs.declared.tree.ast.Definition as definitions
 use Rattle.juniper.specs.declared.tree.ast.Definition.TheVariants as definition
 
+abbrev pub view_located : {X A : Type 0} → (X → A) → Spanning X → Located A
+view_located view x = record { item = view x.item; span = view_span x.span }
+
 -- ---- words
 
 abbrev pub view_word : Spanning (Bor (List ℕ)) → Word
-view_word name = record { text = chars name.item.now; span = view_span name.span }
+view_word = view_located (λ t. chars t.now)
 
 abbrev pub text_of : String Global → Text
 text_of s = chars (string_bytes s)
 
 abbrev pub view_key : Spanning (String Global) → Word
-view_key key = record { text = text_of key.item; span = view_span key.span }
+view_key = view_located text_of
 
 -- ---- values
 
@@ -46,7 +49,7 @@ module _ {C : Type 0} where
 
   abbrev pub fields_by : List (Spanning (String Global) × Spanning (places.Span → Value C)) → ObjectFields C
   fields_by [] = no_fields
-  fields_by (x ∷ xs) = object_field (text_of x.0.item) (view_span x.0.span) (x.1.item (view_span x.1.span)) (fields_by xs)
+  fields_by (x ∷ xs) = object_field (view_key x.0) (x.1.item (view_span x.1.span)) (fields_by xs)
 
 -- content says what a scalar is known by
 module _ {S C : Type 0} (content : S → C) where
@@ -79,8 +82,8 @@ wrapped type (modifier.List size ∷ ms) = wrapped (ListType size type) ms
 abbrev pub view_type : TypeShape (Bor (List ℕ)) → TypeRef
 view_type type = wrapped (NamedType (chars type.name.now)) type.modifiers
 
-abbrev pub view_spanned_type : Spanning (TypeShape (Bor (List ℕ))) → TypeRef × places.Span
-view_spanned_type t = (view_type t.item, view_span t.span)
+abbrev pub view_spanned_type : Spanning (TypeShape (Bor (List ℕ))) → Located TypeRef
+view_spanned_type = view_located view_type
 
 -- ---- arguments, directives and variable definitions
 
@@ -89,10 +92,10 @@ module _ {S C : Type 0} (content : S → C) where
   view_argument a = record { name = view_word a.0; value = view_value content a.1 }
 
   abbrev pub view_arguments : Spanning (Arguments S) → tree.Arguments C
-  view_arguments a = record { items = map view_argument a.item.items.items; span = view_span a.span }
+  view_arguments = view_located (λ a. map view_argument a.items.items)
 
-  abbrev pub view_directive : Spanning (Directive S) → tree.Directive C
-  view_directive d = record { name = view_word d.item.name; arguments = option_map view_arguments d.item.arguments; span = view_span d.span }
+  abbrev pub view_directive : Spanning (Directive S) → Located (tree.Directive C)
+  view_directive = view_located (λ d. record { name = view_word d.name; arguments = option_map view_arguments d.arguments })
 
   abbrev pub view_directives : Option (Vec (Spanning (Directive S))) → tree.Directives C
   view_directives ds = option_map (λ v. map view_directive v.items) ds
@@ -100,14 +103,13 @@ module _ {S C : Type 0} (content : S → C) where
   abbrev pub view_variable : Spanning (Bor (List ℕ)) × VariableDefinition S → tree.VariableDefinition C
   view_variable v = record {
     name = view_word v.0;
-    of_type = view_type v.1.var_type.item;
-    type_span = view_span v.1.var_type.span;
+    of_type = view_spanned_type v.1.var_type;
     default = option_map (view_value content) v.1.default_value;
     directives = view_directives v.1.directives;
   }
 
   abbrev pub view_variables : Spanning (VariableDefinitions S) → tree.Variables C
-  view_variables v = record { items = map view_variable v.item.items.items; span = view_span v.span }
+  view_variables = view_located (λ v. map view_variable v.items.items)
 
 -- ---- selections
 

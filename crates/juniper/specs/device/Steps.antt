@@ -4,7 +4,7 @@ use Rattle.graphql_lexical.specs.Place.{Place, Span}
 use Rattle.graphql_lexical.specs.declared.kind.Kind.{Kind}
 use Rattle.graphql_lexical.specs.Kinds.{same_kind}
 use Rattle.graphql_lexical.specs.Cutting.{Lexeme}
-use Rattle.graphql_grammar.specs.Tokens.{Text, span_of}
+use Rattle.graphql_grammar.specs.Tokens.{Text, Located, span_of}
 use Rattle.graphql_grammar.specs.Tree.{Scalars, Value, Scalar, TypeRef, Selection}
 use Rattle.graphql_grammar.specs.device.Reading.{Test, passes, many, repeated, scalar_token, fully, front, Symbol, a_value, a_type, a_selection, Steps, gives, wants, takes, sees, part, symbol, spanned, scalar, closed, each}
 use Rattle.graphql_grammar.specs.device.Productions.{symbol_at, reads}
@@ -50,8 +50,8 @@ closed_by r = r >>= λ x. Ok ((x.0.0, x.0.1.span), x.1)
 abbrev pub no_scalars : Scalars (Unit {0}) Error
 no_scalars = record { read = unexpected; of_bool = λ b. tt }
 
-unfoldable pub type_read : List Lexeme → Read (TypeRef × Span)
-type_read ts = seen (fully (λ n. symbol_at no_scalars n (TypeRef × Span) a_type) ts)
+unfoldable pub type_read : List Lexeme → Read (Located TypeRef)
+type_read ts = seen (fully (λ n. symbol_at no_scalars n (Located TypeRef) a_type) ts)
 
 module _ {C : Type 0} (S : Scalars C Error) where
   unfoldable pub value_read : Bool → List Lexeme → Read (Value C)

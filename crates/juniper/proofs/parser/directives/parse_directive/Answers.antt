@@ -34,8 +34,10 @@ returns-clause-gives g c =
     )
     (ap (λ (p : Span). Ok (
       record {
-        name = view_word c.take_name-name.result;
-        arguments = option_map (view_arguments g.S.ParseScalarValue.content) c.in_ok-arguments.arguments;
+        item = record {
+          name = view_word c.take_name-name.result;
+          arguments = option_map (view_arguments g.S.ParseScalarValue.content) c.in_ok-arguments.arguments;
+        };
         span = p;
       },
       left c.parse_optional_arguments.new.tokens,

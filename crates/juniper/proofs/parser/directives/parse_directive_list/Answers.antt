@@ -1,6 +1,7 @@
 use Rattle.std.proofs.Common.{rules, ◌∙◌, refl, sym, ap, Ok, List, map}
 use Rattle.std.proofs.lemmas.Result.{err_from_is_err_and}
 use Rattle.std.proofs.lemmas.List.{map-append}
+use Rattle.graphql_grammar.specs.Tokens.{Located}
 use Rattle.graphql_grammar.specs.Tree.{Directive, Directives}
 use Rattle.graphql_grammar.specs.device.Productions.{directives_of, directives}
 use Rattle.juniper_tokens.specs.Cursor.{Read, ◌>>=◌}
@@ -39,7 +40,7 @@ returns-then-is_last-clause-gives g c =
     let none = sym c.next_is-is_last.ensures.is ∙ c.if-is_last.true in
     let so_far = before_go_on (directives_repeat _) _ _ c.loop-items.invariant.ended c.loop-items.invariant.so_far
     c.loop-items.invariant.at c.in_ok-directive.ensures.gives in
-    ap (λ (r : Read (List (Directive Content))). r >>= λ ds. Ok (directives_of ds.0, ds.1))
+    ap (λ (r : Read (List (Located (Directive Content)))). r >>= λ ds. Ok (directives_of ds.0, ds.1))
     (before_end (directives_repeat _) _ _ c.next_is-is_last.ensures.ended so_far none)
     ∙ ap (λ (o : Directives Content). Ok (o, left c.parse_directive.new.tokens))
     (some_directives (map view c.loop-items.items.items) (view c.in_ok-directive.directive))

@@ -19,7 +19,7 @@ returns-clause-gives g c =
     _ _ c.mark-start.ensures
     (rw (c.in_ok-expect_kind.ensures.gives, c.in_ok-items.ensures.gives, c.new.ensures)
     (ap (λ (p : Span). Ok (
-      record { items = map (view_variable g.S.ParseScalarValue.content) c.in_ok-items.items.items; span = p },
+      record { item = map (view_variable g.S.ParseScalarValue.content) c.in_ok-items.items.items; span = p },
       left tokens,
     ))
     (sym c.span_from.ensures.span)))
