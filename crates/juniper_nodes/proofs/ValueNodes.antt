@@ -2,7 +2,7 @@
 use Rattle.std.proofs.Common.{◌≡◌, ◌∙◌, List, [], ◌∷◌, ◌++◌, map, String, Vec, Global, refl, ap}
 use Rattle.graphql_grammar.specs.Tokens.{Word}
 use Rattle.graphql_grammar.specs.Tree.{Value, items_of, fields_of}
-use Rattle.graphql_nodes.specs.Nodes.{Node, Unnamed, named, over, scalar_node, each, value_nodes, items_nodes, fields_nodes}
+use Rattle.graphql_nodes.specs.Nodes.{Node, Unnamed, Named, named, over, scalar_node, each, value_nodes, items_nodes, fields_nodes}
 use Rattle.graphql_nodes.specs.declared.kind.NodeKind.TheVariants as kind
 use Rattle.juniper_tokens.specs.Spans.{view_span}
 use Rattle.juniper_tokens.specs.declared.span.Spanning.{Spanning}
@@ -13,7 +13,7 @@ use Rattle.juniper.specs.laws.TreeLaws.{SeesValues}
 
 -- the nodes of an object's field
 abbrev pub field_nodes : {C : Type 0} → Word × Value C → List (Node C)
-field_nodes field = over kind.Key field.0.span (named field.0.text field.0.span) (value_nodes field.1)
+field_nodes field = over kind.Key field.0.span (Named field.0) (value_nodes field.1)
 
 pub items_in_row : {C : Type 0} (vs : List (Value C)) → items_nodes (items_of vs) ≡ each value_nodes vs
 unfolding value_nodes items_nodes fields_nodes each
