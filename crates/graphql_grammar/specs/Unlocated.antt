@@ -7,8 +7,11 @@ abbrev pub if_some : {A : Type 0} → (A → A) → Option A → Option A
 if_some f None = None
 if_some f (Some x) = Some (f x)
 
+abbrev pub unlocated : {A : Type 0} → (A → A) → Located A → Located A
+unlocated f x = record { item = f x.item; span = nowhere }
+
 abbrev pub unlocated_word : Word → Word
-unlocated_word w = record { item = w.item; span = nowhere }
+unlocated_word = unlocated (λ text. text)
 
 abbrev mutual
   pub unlocated_value : {C : Type 0} → Value C → Value C
@@ -32,10 +35,10 @@ module _ {C : Type 0} where
   unlocated_argument a = record { name = unlocated_word a.name; value = unlocated_value a.value }
 
   abbrev pub unlocated_arguments : Arguments C → Arguments C
-  unlocated_arguments a = record { item = map unlocated_argument a.item; span = nowhere }
+  unlocated_arguments = unlocated (map unlocated_argument)
 
   abbrev pub unlocated_directive : Located (Directive C) → Located (Directive C)
-  unlocated_directive d = record { item = record { name = unlocated_word d.item.name; arguments = if_some unlocated_arguments d.item.arguments }; span = nowhere }
+  unlocated_directive = unlocated (λ d. record { name = unlocated_word d.name; arguments = if_some unlocated_arguments d.arguments })
 
   abbrev pub unlocated_directives : Directives C → Directives C
   unlocated_directives = if_some (map unlocated_directive)
@@ -43,13 +46,13 @@ module _ {C : Type 0} where
   abbrev pub unlocated_variable : VariableDefinition C → VariableDefinition C
   unlocated_variable v = record {
     name = unlocated_word v.name;
-    of_type = record { item = v.of_type.item; span = nowhere };
+    of_type = unlocated (λ type. type) v.of_type;
     default = if_some unlocated_value v.default;
     directives = unlocated_directives v.directives;
   }
 
   abbrev pub unlocated_variables : Variables C → Variables C
-  unlocated_variables v = record { item = map unlocated_variable v.item; span = nowhere }
+  unlocated_variables = unlocated (map unlocated_variable)
 
   abbrev mutual
     pub unlocated_selection : Selection C → Selection C
