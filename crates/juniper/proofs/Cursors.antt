@@ -1,5 +1,5 @@
 -- What the steps of a cursor take.
-use Rattle.std.proofs.Common.{◌≡◌, ℕ, Bool, true, false, cond, List, [], ◌∷◌, bytes_eq, Ok, Err, refl, ap, ◌∙◌}
+use Rattle.std.proofs.Common.{◌≡◌, ℕ, true, false, List, bytes_eq, Ok, refl, ap, ◌∙◌}
 use Rattle.std.specs.Cmp.{first_so}
 use Rattle.graphql_lexical.specs.declared.kind.Kind.TheVariants.{Name, EndOfFile}
 use Rattle.graphql_lexical.specs.Kinds.{same_kind}
@@ -7,8 +7,7 @@ use Rattle.graphql_lexical.specs.declared.kind.Kind.{Kind}
 use Rattle.graphql_lexical.specs.Cutting.{Lexeme}
 use Rattle.graphql_grammar.specs.device.Reading.{passes, word}
 use Rattle.graphql_grammar.proofs.Public.{of_kind}
-use Rattle.juniper_tokens.specs.Errors.{UnexpectedEndOfFile}
-use Rattle.juniper_tokens.specs.Cursor.{Read, ◌>>=◌, first_of, kind_at, next_at, next_if}
+use Rattle.juniper_tokens.specs.Cursor.{Read, first_of, kind_at}
 
 pub ok_is : {A : Type 0} (x y : A × List Lexeme) → ◌≡◌ {A = Read A} (Ok x) (Ok y) → x ≡ y
 ok_is x y e = cc

@@ -12,7 +12,7 @@ use Rattle.graphql_grammar.specs.device.Reading.{Test, of, passes, Took, Refused
 use Rattle.graphql_grammar.specs.device.Reading as reading
 use Rattle.graphql_grammar.proofs.Public.{of_kind}
 use Rattle.juniper_tokens.specs.Errors.{Error, UnexpectedToken, UnexpectedEndOfFile}
-use Rattle.juniper_tokens.specs.Cursor.{Read, ◌>>=◌, EndsOnce, first_of, kind_at, next_at, refused_at, next_if}
+use Rattle.juniper_tokens.specs.Cursor.{Read, ◌>>=◌, EndsOnce, first_of, next_at, refused_at, next_if}
 use Rattle.juniper.specs.device.Seen.{error_of, seen}
 
 -- ---- steps in a row

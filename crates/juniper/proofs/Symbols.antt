@@ -1,6 +1,5 @@
 -- Values, types and selections, as readers of the grammar and as a cursor: what both answer.
 use Rattle.std.proofs.Common.{◌≡◌, ℕ, zero, suc, Bool, true, false, List, [], ◌∷◌, refl, ap, ◌∙◌, inl, inr}
-use Rattle.graphql_lexical.specs.Place.{Span}
 use Rattle.graphql_lexical.specs.Cutting.{Lexeme}
 use Rattle.graphql_grammar.specs.Tokens.{Located}
 use Rattle.graphql_grammar.specs.Tree.{Scalars, TypeRef}

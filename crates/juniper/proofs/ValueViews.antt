@@ -2,7 +2,6 @@
 use Rattle.std.proofs.Common.{◌≡◌, ◌∙◌, ap, refl, List, [], ◌∷◌, map, String, Global, Vec, rules}
 use Rattle.graphql_lexical.specs.Place.{Span}
 use Rattle.graphql_grammar.specs.Tree.{Value, Null, Scalar, Enum, Variable, ListOf, Object, Items, item, ObjectFields, object_field, items_of, fields_of}
-use Rattle.juniper_tokens.specs.Spans.{view_span}
 use Rattle.juniper_tokens.specs.declared.span.Spanning.{Spanning}
 use Rattle.juniper_values.specs.declared.input_value.InputValue.{InputValue, the_lemmas}
 use Rattle.juniper_values.specs.declared.input_value.InputValue.TheVariants as InputValue

@@ -1,6 +1,6 @@
 -- What is promised for a text, in the words of the grammar.
 use Rattle.std.specs.Prelude.{◌≡◌, ◌≤◌, ℕ, Bool, List, [], ◌∷◌, ◌++◌, length, Result, Ok, Err, if◌then◌else◌}
-use Rattle.graphql_lexical.specs.Place.{Place, Span}
+use Rattle.graphql_lexical.specs.Place.{Place}
 use Rattle.graphql_lexical.specs.declared.kind.Kind.{Kind}
 use Rattle.graphql_lexical.specs.declared.kind.Kind.TheVariants.{EndOfFile}
 use Rattle.graphql_lexical.specs.Kinds.{LexicalError, same_kind}

@@ -3,7 +3,7 @@ use Rattle.std.specs.Prelude.{option_map}
 use Rattle.graphql_lexical.specs.Place.{Span}
 use Rattle.graphql_grammar.specs.device.Productions.{directive, directive_parts}
 use Rattle.juniper_tokens.specs.Taking.{left}
-use Rattle.juniper_tokens.proofs.Public.{goes_further, some_taken}
+use Rattle.juniper_tokens.proofs.Public.{goes_further}
 use Rattle.juniper.specs.View.{view_word, view_arguments}
 use Rattle.juniper.specs.Scalars.{stated}
 use Rattle.juniper.specs.device.Steps.{cursor}

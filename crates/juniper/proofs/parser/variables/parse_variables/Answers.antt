@@ -2,7 +2,7 @@ use Rattle.std.proofs.Common.{map, sym, ap, Ok, arith}
 use Rattle.graphql_lexical.specs.Place.{Span}
 use Rattle.graphql_grammar.specs.device.Productions.{variables, variables_parts}
 use Rattle.juniper_tokens.specs.Taking.{left}
-use Rattle.juniper_tokens.proofs.Public.{goes_further, some_taken}
+use Rattle.juniper_tokens.proofs.Public.{goes_further}
 use Rattle.juniper.specs.View.{view_variable}
 use Rattle.juniper.specs.Scalars.{stated}
 use Rattle.juniper.specs.device.Steps.{cursor}
