@@ -26,13 +26,13 @@ noted old new name e = rw (e, map-append) refl
 module _ {S C : Type 0} (content : S → C) where
   -- a field alone
   pub field_alone : (f : Spanning (Field S)) → f.item.selection_set ≡ None
-      → fields_of (view_field content f) ≡ (view_word f.item.name).text ∷ []
+      → fields_of (view_field content f) ≡ (view_word f.item.name).item ∷ []
   unfolding fields_of fields_within fields_among
   field_alone f e = rw e refl
 
   -- a field above others
   pub field_above : (f : Spanning (Field S)) (v : Vec (Selection S) Global) → f.item.selection_set ≡ Some v
-      → fields_of (view_field content f) ≡ (view_word f.item.name).text ∷ fields_among (view_selections content v.items)
+      → fields_of (view_field content f) ≡ (view_word f.item.name).item ∷ fields_among (view_selections content v.items)
   unfolding fields_of fields_within fields_among
   field_above f v e = rw e refl
 

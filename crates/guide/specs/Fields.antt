@@ -12,7 +12,7 @@ texts names = map (λ name. chars name.now) names
 module _ {C : Type 0} where
   unfoldable mutual
     pub fields_of : Selection C → List Text
-    fields_of (Field alias name arguments directives inner span) = name.text ∷ fields_within inner
+    fields_of (Field alias name arguments directives inner span) = name.item ∷ fields_within inner
     fields_of (FragmentSpread name directives span) = []
     fields_of (InlineFragment condition directives inner span) = fields_among inner
 
