@@ -49,7 +49,7 @@ module _ {C : Type 0} where
 
   abbrev pub fields_by : List (Spanning (String Global) × Spanning (places.Span → Value C)) → ObjectFields C
   fields_by [] = no_fields
-  fields_by (x ∷ xs) = object_field (view_key x.0) (x.1.item (view_span x.1.span)) (fields_by xs)
+  fields_by (x ∷ xs) = object_field (view_located text_of x.0) (x.1.item (view_span x.1.span)) (fields_by xs)
 
 -- content says what a scalar is known by
 module _ {S C : Type 0} (content : S → C) where
@@ -103,7 +103,7 @@ module _ {S C : Type 0} (content : S → C) where
   abbrev pub view_variable : Spanning (Bor (List ℕ)) × VariableDefinition S → tree.VariableDefinition C
   view_variable v = record {
     name = view_word v.0;
-    of_type = view_spanned_type v.1.var_type;
+    of_type = view_located view_type v.1.var_type;
     default = option_map (view_value content) v.1.default_value;
     directives = view_directives v.1.directives;
   }

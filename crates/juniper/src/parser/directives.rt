@@ -92,21 +92,27 @@ pub(crate) fn parse_optional_arguments<'a, S: ScalarValue>(
     }
 }
 
-/// `Directive = "@" Name Arguments?`
-#[tactic(auto, using(juniper_tokens::proofs::Public::goes_further, juniper_tokens::proofs::Public::some_taken), unfolding(graphql_grammar::specs::device::Productions::directive, juniper_tokens::specs::Cursor::expect_name_at))]
-fn parse_directive<'a, S: ScalarValue>(tokens: &mut Cursor<'_, 'a>) -> ParseResult<Directive<'a, S>>
-    ensures gives { Gives (view_directive S.content) result (left tokens.new) (cursor (stated S.reading S.of_bool) directive (left tokens.old)) }
+/// `Directive = "@" Name Arguments?`, appended.
+#[tactic(auto, using(juniper_tokens::proofs::Public::goes_further, juniper_tokens::proofs::Public::some_taken, crate::proofs::Cursors::closing_is_no_end), unfolding(graphql_grammar::specs::device::Productions::directive, juniper_tokens::specs::Cursor::expect_name_at))]
+fn parse_directive<'a, S: ScalarValue>(
+    tokens: &mut Cursor<'_, 'a>,
+    directives: &mut Vec<Spanning<Directive<'a, S>>>,
+) -> UnlocatedParseResult<()>
+    requires { same_kind (kind_at (left tokens.old)) At ≡ true }
+    ensures appends { Appends (view_directive S.content) result directives.old.items directives.new.items (left tokens.new) (cursor (stated S.reading S.of_bool) directive (left tokens.old)) }
     ensures shorter { OnOk result (length (left tokens.new) < length (left tokens.old)) }
     ensures on { OnOk result (GoesOn tokens.old tokens.new) }
 {
     let start = tokens.mark();
-    expect_kind(tokens, Kind::At)?;
+    tokens.advance();
     if !next_is(tokens, Kind::Name) {
         return Err(refusal(tokens));
     }
     let name = take_name(tokens);
     let arguments = parse_optional_arguments(tokens)?;
-    Ok(Spanning::new(tokens.span_from(start), Directive { name, arguments }))
+    let directive = Spanning::new(tokens.span_from(start), Directive { name, arguments });
+    push_item(directives, directive, !next_is(tokens, Kind::At))?;
+    Ok(())
 }
 
 /// `Directive*`. Most parts have none, so that is found without a call.
@@ -140,10 +146,8 @@ fn parse_directive_list<'a, S: ScalarValue>(
 {
     let mut items = Vec::new(tokens.allocator());
     loop {
-        let directive = parse_directive(tokens)?;
-        let is_last = !next_is(tokens, Kind::At);
-        push_item(&mut items, directive, is_last)?;
-        if is_last {
+        parse_directive(tokens, &mut items)?;
+        if !next_is(tokens, Kind::At) {
             return Ok(Some(items));
         }
     }
