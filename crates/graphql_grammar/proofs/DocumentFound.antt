@@ -9,7 +9,7 @@ use Rattle.graphql_grammar.specs.device.Productions as productions
 use Rattle.graphql_grammar.specs.device.Productions.{named_type, list_type, nullable_type, non_null, argument, arguments_inner, arguments, directive, directives, directives_of, default, variable_definition, variables_inner, variables, symbol_at, reads}
 use Rattle.graphql_grammar.specs.Tree.{Scalars, Value, TypeRef, NamedType, ListType, NonNullType, Argument, Arguments, Directive, VariableDefinition, Variables, Directives}
 use Rattle.graphql_lexical.specs.Parts.{◌·◌}
-use Rattle.graphql_grammar.specs.Grammar.{Is, Each, Optional, IsType, IsVariable, IsArgument, IsArguments, IsDirective, IsDirectives, IsDefault, IsVariableDefinition, IsVariables}
+use Rattle.graphql_grammar.specs.Grammar.{IsLocated, Is, Each, Optional, IsType, IsVariable, IsArgument, IsArguments, IsDirective, IsDirectives, IsDefault, IsVariableDefinition, IsVariables}
 use Rattle.graphql_grammar.proofs.Sequences.{row, row_as, one_takes, last_joined, nothing_last, kind_is, is_takes, says_takes, front_takes, back_takes}
 use Rattle.graphql_grammar.proofs.Finds.{located_front, between_found, on_found, only_before, Only, Any, NotAt, token, Finds, Before, StartsWith, is_starts, front_starts, word_starts, listed_starts, Rejects, starts_before, nothing_before, optional_before, both_before, before_as, front_before, any_before, at_most, fewer, found_as, found_if, found_is, map_found, on_apart, look_apart, look_found, none_found, seq_found, then_found, seq_past, want_found, word_found, done_found, is_then, span_found, maybe_found, listed_found}
 use Rattle.graphql_grammar.proofs.Found.{variable_tokens, value_finds}
@@ -207,7 +207,7 @@ module _ {C F : Type 0} (S : Scalars C F) where
       → Before (Optional (IsArguments S) x) After (NotAt test)
   arguments_before test x d s = optional_before x (λ a. starts_before test d (λ ts h. arguments_start ts a h)) s
 
-  directive_starts : (ts : List Lexeme) (d : Located (Directive C)) → IsDirective S d ts → StartsWith At ts
+  directive_starts : (ts : List Lexeme) (d : Located (Directive C)) → IsLocated (IsDirective S) d ts → StartsWith At ts
   directive_starts ts d h = front_starts is_starts ts h.0
 
   pub directives_before : {After : List Lexeme → Type 0} (test : Test) (ds : Directives C) → Rejects test At
@@ -250,13 +250,13 @@ module _ {C F : Type 0} (S : Scalars C F) (n : ℕ) where
   unfolding productions.optional_arguments
   optional_arguments x = maybe_found ParenOpen x (arguments_start S) arguments_found
 
-  directive_found : (d : Located (Directive C)) → Finds n (reads S n directive) (IsDirective S d) (NotAt (of ParenOpen)) d
+  directive_found : (d : Located (Directive C)) → Finds n (reads S n directive) (IsLocated (IsDirective S) d) (NotAt (of ParenOpen)) d
   unfolding directive
   directive_found d = span_found _ d.span (is_then (then_found _ (word_found d.item.name)
       (map_found _ (optional_arguments d.item.arguments))))
 
   repeated_found : (k : ℕ) → k ≤ n → (ds : List (Located (Directive C)))
-      → Finds k (repeated (of At) (reads S n directive) k) (Each (IsDirective S) ds) AfterDirectives ds
+      → Finds k (repeated (of At) (reads S n directive) k) (Each (IsLocated (IsDirective S)) ds) AfterDirectives ds
   unfolding repeated
   repeated_found zero l ds = record { at = λ ts rest le h g. absurd (omega arith) }
   repeated_found (suc k) l [] = look_apart (of At) _ (nothing_before (λ rest g. g.at)) done_found
@@ -264,7 +264,7 @@ module _ {C F : Type 0} (S : Scalars C F) (n : ℕ) where
       (seq_past _ (λ us h. directive_takes S n n (le_refl n) us d h) (at_most l (directive_found d)) (next ds)
       (map_found (λ xs. d ∷ xs) (repeated_found k (omega arith) ds)))
     where
-      next : (ds : List (Located (Directive C))) → Before (Each (IsDirective S) ds) AfterDirectives (NotAt (of ParenOpen))
+      next : (ds : List (Located (Directive C))) → Before (Each (IsLocated (IsDirective S)) ds) AfterDirectives (NotAt (of ParenOpen))
       next [] = nothing_before (λ rest g. g.paren)
       next (x ∷ xs) = front_before (starts_before (of ParenOpen) (λ w. refl) (λ ts h. directive_starts S ts x h))
 

@@ -9,7 +9,7 @@ use Rattle.graphql_grammar.specs.Samples.{sample, sample_text}
 use Rattle.graphql_grammar.specs.device.Reading.{passes, of, a_value, a_type}
 use Rattle.graphql_grammar.specs.device.Productions.{named_type, list_type, nullable_type, non_null, type, argument, arguments_inner, arguments, optional_arguments, directive, directives_of, directives, default, variable_definition, variables_inner, variables, optional_variables, symbol_at, reads}
 use Rattle.graphql_grammar.specs.Tree.{Scalars, TypeRef, NamedType, ListType, NonNullType, Argument, Directive, VariableDefinition}
-use Rattle.graphql_grammar.specs.Grammar.{Over, IsValue, Optional, Listed, IsType, IsArgument, IsArguments, IsDirective, IsDirectives, IsDefault, IsVariableDefinition, IsVariables, Each}
+use Rattle.graphql_grammar.specs.Grammar.{IsLocated, Over, IsValue, Optional, Listed, IsType, IsArgument, IsArguments, IsDirective, IsDirectives, IsDefault, IsVariableDefinition, IsVariables, Each}
 use Rattle.graphql_grammar.proofs.Rules.{less, Rule, Some_of, done_rule}
 use Rattle.graphql_grammar.proofs.TokenRules.{on_rule, look_rule}
 use Rattle.graphql_grammar.proofs.PartRules.{span_rule, maybe_rule, one_or_more_rule, repeated_rule, step, want_step, lower, ClosedSome}
@@ -140,9 +140,9 @@ module _ {C F : Type 0} (S : Scalars C F) (n m : ℕ) (le : n ≤ m) where
   unfolding optional_arguments
   optional_arguments_rule = maybe_rule n (of ParenOpen) _ _ (IsArguments S) arguments_rule
 
-  pub directive_rule : Rule n (reads S n directive) (reads S m directive) (IsDirective S)
+  pub directive_rule : Rule n (reads S n directive) (reads S m directive) (IsLocated (IsDirective S))
   unfolding directive
-  directive_rule = span_rule n _ _ (IsDirective S) (want_step n (of At) (sample At) _ _ _ refl (inl refl)
+  directive_rule = span_rule n _ _ (IsLocated (IsDirective S)) (want_step n (of At) (sample At) _ _ _ refl (inl refl)
       (λ a a' p. want_step _ (of Name) (sample Name) _ _ _ refl (inl refl) (λ t t' q.
       step n _ _ _ _ _ (Optional (IsArguments S)) _ (low2 (a ∷ []) (t ∷ [])) optional_arguments_rule (λ us xs ys h.
       done_rule _ (λ p. record { item = record { name = word_of t; arguments = xs }; span = p })
@@ -153,18 +153,18 @@ module _ {C F : Type 0} (S : Scalars C F) (n m : ℕ) (le : n ≤ m) where
         refl,
       ))))))
 
-  pub directive_takes : (ts : List Lexeme) (d : Located (Directive C)) → IsDirective S d ts → 0 < length ts
+  pub directive_takes : (ts : List Lexeme) (d : Located (Directive C)) → IsLocated (IsDirective S) d ts → 0 < length ts
   directive_takes ts d h = front_takes (is_takes At) ts h.0
 
-  directives_are : (ts : List Lexeme) (ds : List (Located (Directive C))) → Each (IsDirective S) ds ts
+  directives_are : (ts : List Lexeme) (ds : List (Located (Directive C))) → Each (IsLocated (IsDirective S)) ds ts
       → IsDirectives S (directives_of ds) ts
   directives_are ts [] h = h
   directives_are ts (d ∷ ds) h = (h, λ e. absurd (cc))
 
   pub directives_rule : Rule n (reads S n directives) (reads S m directives) (IsDirectives S)
   unfolding directives
-  directives_rule = step n n _ _ _ _ (Each (IsDirective S)) _ (le_refl n)
-      (repeated_rule (IsDirective S) directive_takes (of At) _ _ n m n le (le_refl n) directive_rule) (λ us ds ds' h.
+  directives_rule = step n n _ _ _ _ (Each (IsLocated (IsDirective S))) _ (le_refl n)
+      (repeated_rule (IsLocated (IsDirective S)) directive_takes (of At) _ _ n m n le (le_refl n) directive_rule) (λ us ds ds' h.
       done_rule _ (directives_of ds) (directives_of ds') _ (rw append-nil (directives_are us ds h)))
 
   -- Variables

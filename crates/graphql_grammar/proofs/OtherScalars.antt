@@ -7,7 +7,7 @@ use Rattle.graphql_lexical.specs.Place.{Span}
 use Rattle.graphql_grammar.specs.Tokens.{Located, span_of}
 use Rattle.graphql_grammar.specs.Tree.{Scalars, Value, Null, Scalar, Enum, Variable, ListOf, Object, Items, no_items, item, ObjectFields, no_fields, object_field, Argument, Arguments, Directive, VariableDefinition, Variables, Selection, Field, FragmentSpread, InlineFragment, Selections, no_selections, selection, Definition, Operation, Fragment, Directives, OptionalSelections, absent, present}
 use Rattle.graphql_lexical.specs.Parts.{◌·◌}
-use Rattle.graphql_grammar.specs.Grammar.{AreItems, AreFields, IsValue, Each, Optional, Several, Listed, IsArgument, IsArguments, IsDirective, IsDirectives, IsDefault, IsVariableDefinition, IsVariables, IsSelection, IsOptionalSelectionSet, IsSelectionSet, AreSelections, IsDefinition, IsDocument}
+use Rattle.graphql_grammar.specs.Grammar.{IsLocated, AreItems, AreFields, IsValue, Each, Optional, Several, Listed, IsArgument, IsArguments, IsDirective, IsDirectives, IsDefault, IsVariableDefinition, IsVariables, IsSelection, IsOptionalSelectionSet, IsSelectionSet, AreSelections, IsDefinition, IsDocument}
 use Rattle.graphql_grammar.specs.ScalarTokens.{IsReadAlso}
 use Rattle.graphql_grammar.proofs.Elements.{all_front, all_back}
 
@@ -87,7 +87,7 @@ module _ {C F : Type 0} (S T : Scalars C F) (truths : S.of_bool ≡ T.of_bool) w
   arguments : (x : Arguments C) → Carries (IsArguments S x) (IsArguments T x)
   arguments x = spanned (listed argument x.item)
 
-  directive : (d : Located (Directive C)) → Carries (IsDirective S d) (IsDirective T d)
+  directive : (d : Located (Directive C)) → Carries (IsLocated (IsDirective S) d) (IsLocated (IsDirective T) d)
   directive d = spanned (after (after (optional arguments d.item.arguments)))
 
   directives : (ds : Directives C) → Carries (IsDirectives S ds) (IsDirectives T ds)

@@ -12,7 +12,7 @@ use Rattle.graphql_grammar.specs.Tokens.{Text, Located, Word, span_of}
 use Rattle.graphql_grammar.specs.Tree as tree
 use Rattle.graphql_grammar.specs.Tree.{Scalars, TypeRef, Value, Items, no_items, item, ObjectFields, no_fields, object_field, Argument, Arguments, Directive, Directives, VariableDefinition, Variables, Selection, Selections, no_selections, selection, OptionalSelections, absent, present, Definition}
 use Rattle.graphql_lexical.specs.Parts.{◌·◌}
-use Rattle.graphql_grammar.specs.Grammar.{Token, Is, IsValue, AreItems, AreFields, Each, Optional, Several, Listed, IsArgument, IsArguments, IsDirective, IsDirectives, IsDefault, IsVariableDefinition, IsVariables, IsAlias, IsSelection, IsOptionalSelectionSet, IsSelectionSet, AreSelections, IsDefinition, IsDocument}
+use Rattle.graphql_grammar.specs.Grammar.{IsLocated, Token, Is, IsValue, AreItems, AreFields, Each, Optional, Several, Listed, IsArgument, IsArguments, IsDirective, IsDirectives, IsDefault, IsVariableDefinition, IsVariables, IsAlias, IsSelection, IsOptionalSelectionSet, IsSelectionSet, AreSelections, IsDefinition, IsDocument}
 use Rattle.graphql_nodes.specs.declared.kind.NodeKind.{NodeKind}
 use Rattle.graphql_nodes.specs.declared.kind.NodeKind.TheVariants as kind
 use Rattle.graphql_nodes.specs.Nodes.{Node, Label, Typed, over, scalar_node, if_present, each, value_nodes, items_nodes, fields_nodes, argument_nodes, arguments_nodes, directive_nodes, directives_nodes, variable_nodes, variables_nodes, alias_nodes, selection_nodes, optional_nodes, selections_nodes, definition_nodes, document_nodes}
@@ -206,15 +206,15 @@ module _ {C F : Type 0} (S : Scalars C F) (source : List ℕ) where
   arguments_lie ts a h = above ts _ a.span _ _ (whole_lies source ts a.span h.1)
       (listed_lie _ _ (IsArgument S) argument_nodes argument_lies ts a.item h.0)
 
-  directive_lies : (ts : List Lexeme) (d : Located (Directive C)) → IsDirective S d ts → Within ts (directive_nodes d)
+  directive_lies : (ts : List Lexeme) (d : Located (Directive C)) → IsLocated (IsDirective S) d ts → Within ts (directive_nodes d)
   unfolding directive_nodes
   directive_lies ts d h = above ts _ d.span _ _ (whole_lies source ts d.span h.1) (behind ts h.0 _ (λ q. behind h.0.back q _
       (optional_lies (IsArguments S) arguments_nodes arguments_lie q.back d.item.arguments)))
 
   directives_lie : (ts : List Lexeme) (ds : Directives C) → IsDirectives S ds ts → Within ts (directives_nodes ds)
   unfolding directives_nodes
-  directives_lie = optional_lies (Several (IsDirective S)) (each directive_nodes)
-      (several_lie (IsDirective S) directive_nodes directive_lies)
+  directives_lie = optional_lies (Several (IsLocated (IsDirective S))) (each directive_nodes)
+      (several_lie (IsLocated (IsDirective S)) directive_nodes directive_lies)
 
   -- ---- variable definitions
 

@@ -11,7 +11,7 @@ use Rattle.graphql_grammar.specs.Tokens.{Text, Located, Word}
 use Rattle.graphql_grammar.specs.Tree as tree
 use Rattle.graphql_grammar.specs.Tree.{Scalars, TypeRef, Value, Items, no_items, item, ObjectFields, no_fields, object_field, Argument, Arguments, Directive, Directives, VariableDefinition, Variables, Selection, Selections, no_selections, selection, OptionalSelections, absent, present, Definition}
 use Rattle.graphql_lexical.specs.Parts.{◌·◌}
-use Rattle.graphql_grammar.specs.Grammar.{Token, Is, IsName, Says, IsScalarKind, IsValue, AreItems, AreFields, Each, Optional, Several, Listed, IsType, IsArgument, IsArguments, IsDirective, IsDirectives, IsDefault, IsVariableDefinition, IsVariables, IsAlias, IsSelection, IsOptionalSelectionSet, IsSelectionSet, AreSelections, IsDefinition, IsDocument}
+use Rattle.graphql_grammar.specs.Grammar.{IsLocated, Token, Is, IsName, Says, IsScalarKind, IsValue, AreItems, AreFields, Each, Optional, Several, Listed, IsType, IsArgument, IsArguments, IsDirective, IsDirectives, IsDefault, IsVariableDefinition, IsVariables, IsAlias, IsSelection, IsOptionalSelectionSet, IsSelectionSet, AreSelections, IsDefinition, IsDocument}
 use Rattle.graphql_grammar.proofs.Public.{token_in, name_in, row_front, row_right}
 use Rattle.graphql_nodes.specs.declared.kind.NodeKind.{NodeKind}
 use Rattle.graphql_nodes.specs.declared.kind.NodeKind.TheVariants as kind
@@ -219,15 +219,15 @@ module _ {C F : Type 0} (S : Scalars C F) (measure : Node C → ℕ) (weight : L
   unfolding arguments_nodes
   arguments_within ts a h = listed_within _ _ (IsArgument S) argument_nodes argument_within _ _ ts a.item h.0
 
-  directive_within : (ts : List Lexeme) (d : Located (Directive C)) → IsDirective S d ts → Within ts (directive_nodes d)
+  directive_within : (ts : List Lexeme) (d : Located (Directive C)) → IsLocated (IsDirective S) d ts → Within ts (directive_nodes d)
   unfolding directive_nodes
   directive_within ts d h = headed ts h.0 (is_one At) _ _ _ _ tt (λ q. behind h.0.back q _
       (optional_within (IsArguments S) arguments_nodes arguments_within q.back d.item.arguments))
 
   directives_within : (ts : List Lexeme) (ds : Directives C) → IsDirectives S ds ts → Within ts (directives_nodes ds)
   unfolding directives_nodes
-  directives_within = optional_within (Several (IsDirective S)) (each directive_nodes)
-      (several_within (IsDirective S) directive_nodes directive_within)
+  directives_within = optional_within (Several (IsLocated (IsDirective S))) (each directive_nodes)
+      (several_within (IsLocated (IsDirective S)) directive_nodes directive_within)
 
   -- ---- variable definitions
 

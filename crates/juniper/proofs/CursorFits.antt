@@ -7,7 +7,7 @@ use Rattle.graphql_lexical.specs.Kinds.{same_kind}
 use Rattle.graphql_lexical.specs.Cutting.{Lexeme}
 use Rattle.graphql_grammar.specs.Samples.{sample, IsSample}
 use Rattle.graphql_grammar.specs.Tree.{Scalars}
-use Rattle.graphql_grammar.specs.Grammar.{IsValue, IsArgument, IsDirective, IsVariableDefinition, IsSelection}
+use Rattle.graphql_grammar.specs.Grammar.{IsLocated, IsValue, IsArgument, IsDirective, IsVariableDefinition, IsSelection}
 use Rattle.graphql_grammar.specs.device.Reading.{of, word, passes, a_value, a_selection, Steps, symbol}
 use Rattle.graphql_grammar.specs.device.Productions.{reads, optional, several, variable_start, variable, list, key_and_value, object, value, named_type, list_type, nullable_type, non_null, type, argument, arguments_inner, arguments, optional_arguments, directive, directives, default, variable_definition, variables_inner, variables, optional_variables, selections_inner, selection_set, optional_set, names, field, named_spread, inline_parts, inline, typed, other_than_on, spread, any_selection, operation_word, optional_name, operation, fragment, shorthand, definition}
 use Rattle.graphql_grammar.proofs.Public.{Rule, value_rule, value_takes, IsField, field_rule, field_takes, argument_rule, argument_takes, directive_rule, directive_takes, variable_definition_rule, variable_takes, selection_rule, selection_takes, closed_answer, each_answer}
@@ -129,7 +129,7 @@ module _ {C : Type 0} (S : Scalars C Error) where
   directives_fits : Fits S directives
   unfolding directives
   directives_fits = (
-    each_answer S directive (IsDirective S) (λ n. directive_rule S n n (le_refl n))
+    each_answer S directive (IsLocated (IsDirective S)) (λ n. directive_rule S n n (le_refl n))
         (directive_takes S 0 0 (le_refl 0)) (of At),
     λ ds. tt,
   )

@@ -4,7 +4,7 @@ use Rattle.graphql_lexical.specs.declared.kind.Kind.TheVariants.{At, BracketClos
 use Rattle.graphql_lexical.specs.Kinds.{same_kind}
 use Rattle.graphql_lexical.specs.Cutting.{Lexeme}
 use Rattle.graphql_grammar.specs.Tree.{Scalars, Definition}
-use Rattle.graphql_grammar.specs.Grammar.{IsValue, IsArgument, IsVariableDefinition, IsSelection, IsDirective, IsDefinition, IsDocument}
+use Rattle.graphql_grammar.specs.Grammar.{IsLocated, IsValue, IsArgument, IsVariableDefinition, IsSelection, IsDirective, IsDefinition, IsDocument}
 use Rattle.graphql_grammar.specs.declared.operation.OperationType.{OperationType}
 use Rattle.graphql_grammar.specs.device.Reading.{of, word, passes, fully, a_value, a_type, a_selection, Symbol, symbol}
 use Rattle.graphql_grammar.specs.device.Productions.{steps_of, symbol_at, reads, value, type, any_selection, key_and_value, argument, arguments_inner, directive, variable_definition, variables_inner, selections_inner, operation_word, operation_of, definition_parts, definition, document, operation, fragment, shorthand}
@@ -63,7 +63,7 @@ module _ {C : Type 0} (S : Scalars C Error) where
   pub directives_repeat : RepeatsWhile (λ ts. same_kind (kind_at ts) At) (cursor S directive)
       (each_read S (of At) directive)
   directives_repeat = record {
-    unfolds = each_unfolds S directive (directive_fits S) (IsDirective S) (λ n. directive_rule S n n (le_refl n))
+    unfolds = each_unfolds S directive (directive_fits S) (IsLocated (IsDirective S)) (λ n. directive_rule S n n (le_refl n))
         (directive_takes S 0 0 (le_refl 0)) At;
   }
 
