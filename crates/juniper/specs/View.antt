@@ -53,7 +53,8 @@ module _ {C : Type 0} where
 
 -- content says what a scalar is known by
 module _ {S C : Type 0} (content : S → C) where
-  -- one level, with each value inside already seen as its tree at a span
+  -- One level, with each value inside already seen as its tree at a span. The law SeesValues says what this gives, a case a
+  -- line.
   abbrev pub view_step : InputValue-F S (places.Span → Value C) → places.Span → Value C
   view_step InputValue-F.Null p = Null p
   view_step (InputValue-F.Scalar s) p = Scalar (content s) p
@@ -115,6 +116,7 @@ module _ {S C : Type 0} (content : S → C) where
 
 -- Held-Field-selection_set and Row_of-Selection are what the checker makes of the optional list of selections in a
 -- selection: to view_held and view_row they are what an Option and a List are to view_set and view_selections.
+-- The law SeesSelections says what this gives, a case a line.
 module _ {S C : Type 0} (content : S → C) where
   abbrev mutual
     pub view_selection : code.Selection S → tree.Selection C

@@ -98,7 +98,7 @@ pub fn values_are_seen<S: ScalarValue>()
     ensures { SeesValues S.content }
 {}
 
-/// The views of a field and of an inline fragment among the selections.
+/// The view of a selection, variant by variant.
 pub fn selections_are_seen<S: ScalarValue>()
     ensures { SeesSelections S.content }
 {}

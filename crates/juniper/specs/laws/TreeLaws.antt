@@ -1,23 +1,26 @@
 -- What the laws of this crate say of views, of cuts and of lexical errors.
-use Rattle.std.specs.Prelude.{◌≡◌, ℕ, map, List, String, Vec, Err}
+use Rattle.std.specs.Prelude.{◌≡◌, ℕ, map, List, option_map, String, Vec, Err}
 use Rattle.std.specs.declared.alloc.Global.{Global}
 use Rattle.graphql_lexical.specs.Place.{Place, Span}
 use Rattle.graphql_lexical.specs.Kinds.{LexicalError}
 use Rattle.graphql_lexical.specs.Cutting.{Lexeme, Breaks}
+use Rattle.graphql_grammar.specs.Tree as tree
 use Rattle.graphql_grammar.specs.Tree.{Null, Scalar, Enum, Variable, ListOf, Object, items_of, fields_of}
 use Rattle.juniper_tokens.specs.declared.error.LexFailure.{LexFailure}
 use Rattle.juniper_tokens.specs.declared.error.ParseFailure.{ParseFailure}
 use Rattle.juniper_tokens.specs.declared.error.ParseFailure.TheVariants.{Refused, Memory}
 use Rattle.juniper_tokens.specs.declared.span.Spanning.{Spanning}
 use Rattle.juniper_tokens.specs.Errors.{view_fault, view_lexer_error}
+use Rattle.juniper_tokens.specs.Spans.{view_span}
 use Rattle.juniper_tokens.specs.Gathering.{IfFault}
 use Rattle.juniper_values.specs.declared.input_value.InputValue.{InputValue}
 use Rattle.juniper_values.specs.declared.input_value.InputValue.TheVariants as value
 use Rattle.juniper.specs.declared.tree.ast.Field.{Field}
+use Rattle.juniper.specs.declared.tree.ast.FragmentSpread.{FragmentSpread}
 use Rattle.juniper.specs.declared.tree.ast.InlineFragment.{InlineFragment}
 use Rattle.juniper.specs.declared.tree.ast.Selection.TheVariants as selection
 use Rattle.juniper.specs.Promise.{lexical_fault}
-use Rattle.juniper.specs.View.{text_of, view_at, view_value, view_object_field, view_selection, view_field, view_inline}
+use Rattle.juniper.specs.View.{text_of, view_at, view_value, view_object_field, view_selection, view_selections, view_set, view_word, view_arguments, view_directives}
 
 module _ {S C : Type 0} (content : S → C) where
   -- the view of a value in its place, variant by variant
@@ -26,15 +29,18 @@ module _ {S C : Type 0} (content : S → C) where
     pub scalar : (s : S) (place : Span) → view_at content (value.Scalar s) place ≡ Scalar (content s) place
     pub enum_value : (name : String Global) (place : Span) → view_at content (value.Enum name) place ≡ Enum (text_of name) place
     pub variable : (name : String Global) (place : Span) → view_at content (value.Variable name) place ≡ Variable (text_of name) place
-    pub list : (v : Vec (Spanning (InputValue S)) Global) (place : Span)
-        → view_at content (value.List v) place ≡ ListOf (items_of (map (view_value content) v.items)) place
+    pub list : (v : Vec (Spanning (InputValue S)) Global) (place : Span) → view_at content (value.List v) place ≡ ListOf (items_of (map (view_value content) v.items)) place
     pub object : (v : Vec (Spanning (String Global) × Spanning (InputValue S)) Global) (place : Span)
         → view_at content (value.Object v) place ≡ Object (fields_of (map (view_object_field content) v.items)) place
 
-  -- the view of a selection that holds selections
+  -- the view of a selection, variant by variant
   pub record SeesSelections : Type 0 where
-    pub field : (f : Spanning (Field S)) → view_selection content (selection.Field f) ≡ view_field content f
-    pub inline_fragment : (f : Spanning (InlineFragment S)) → view_selection content (selection.InlineFragment f) ≡ view_inline content f
+    pub field : (f : Spanning (Field S)) → view_selection content (selection.Field f) ≡ tree.Field (option_map view_word f.item.alias) (view_word f.item.name)
+        (option_map (view_arguments content) f.item.arguments) (view_directives content f.item.directives) (view_set content f.item.selection_set) (view_span f.span)
+    pub fragment_spread : (f : Spanning (FragmentSpread S)) → view_selection content (selection.FragmentSpread f)
+        ≡ tree.FragmentSpread (view_word f.item.name) (view_directives content f.item.directives) (view_span f.span)
+    pub inline_fragment : (f : Spanning (InlineFragment S)) → view_selection content (selection.InlineFragment f)
+        ≡ tree.InlineFragment (option_map view_word f.item.type_condition) (view_directives content f.item.directives) (view_selections content f.item.selection_set.items) (view_span f.span)
 
 -- The lexer failed where the source breaks, with its error and with zero width, or memory ran out.
 pub record FailsAtBreak (source : List ℕ) (failed : LexFailure) : Type 0 where
