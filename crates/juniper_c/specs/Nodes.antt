@@ -64,7 +64,7 @@ byte_count t = length (encode_utf8_all t)
 
 -- A name ends where its word does, and is as many bytes long as its text: the word of a variable begins with `$`.
 abbrev pub word_extent : List ℕ → Word → Extent
-word_extent source word = record { start = byte_behind source word.span.end.index - byte_count word.text; end = byte_behind source word.span.end.index }
+word_extent source word = record { start = byte_behind source word.span.end.index - byte_count word.item; end = byte_behind source word.span.end.index }
 
 abbrev pub span_extent : List ℕ → Span → Extent
 span_extent source span = record { start = byte_behind source span.start.index; end = byte_behind source span.end.index }
