@@ -11,7 +11,7 @@ use Rattle.juniper_values.specs.declared.input_value.InputValue.{InputValue, ind
 use Rattle.juniper_values.specs.declared.input_value.InputValue.TheOpen.{InputValue-F}
 use Rattle.juniper_values.specs.declared.input_value.InputValue.TheFolds.{map-InputValue}
 use Rattle.juniper_values.proofs.Public.{at_item, at_value}
-use Rattle.juniper.specs.View.{view_key, items_by, fields_by, view_at, view_step}
+use Rattle.juniper.specs.View.{view_located, text_of, items_by, fields_by, view_at, view_step}
 
 abbrev mutual
   -- an input value that stands at a span, in the grammar's words
@@ -45,7 +45,7 @@ module _ {S C : Type 0} (content : S → C) where
         → fields_by (map (at_value a) (map (at_value part) xs))
         ≡ placed_fields (fields_of (map (at_value b) (map (at_value part) xs)))
     fields_placed [] = refl
-    fields_placed (x ∷ xs) = ap₂ (object_field (view_key x.0))
+    fields_placed (x ∷ xs) = ap₂ (object_field (view_located text_of x.0))
         (within x.1.item (view_span x.1.span)) (fields_placed xs)
 
     level : (y : InputValue-F S E) (p : Span)

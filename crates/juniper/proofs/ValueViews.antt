@@ -5,7 +5,7 @@ use Rattle.graphql_grammar.specs.Tree.{Value, Null, Scalar, Enum, Variable, List
 use Rattle.juniper_tokens.specs.declared.span.Spanning.{Spanning}
 use Rattle.juniper_values.specs.declared.input_value.InputValue.{InputValue, the_lemmas}
 use Rattle.juniper_values.specs.declared.input_value.InputValue.TheVariants as InputValue
-use Rattle.juniper.specs.View.{text_of, view_key, items_by, fields_by, view_at, view_value, view_object_field}
+use Rattle.juniper.specs.View.{view_located, text_of, items_by, fields_by, view_at, view_value, view_object_field}
 
 module _ {S C : Type 0} (content : S → C) where
   abbrev seen_item : Spanning (InputValue S) → Spanning (Span → Value C)
@@ -22,7 +22,7 @@ module _ {S C : Type 0} (content : S → C) where
   fields : (xs : List (Spanning (String Global) × Spanning (InputValue S)))
       → fields_by (map seen_field xs) ≡ fields_of (map (view_object_field content) xs)
   fields [] = refl
-  fields (x ∷ xs) = ap (object_field (view_key x.0) (view_value content x.1)) (fields xs)
+  fields (x ∷ xs) = ap (object_field (view_located text_of x.0) (view_value content x.1)) (fields xs)
 
   list_seen : (v : Vec (Spanning (InputValue S)) Global) (p : Span)
       → view_at content (InputValue.List v) p ≡ ListOf (items_by (map seen_item v.items)) p

@@ -37,9 +37,6 @@ view_word = view_located (λ t. chars t.now)
 abbrev pub text_of : String Global → Text
 text_of s = chars (string_bytes s)
 
-abbrev pub view_key : Spanning (String Global) → Word
-view_key = view_located text_of
-
 -- ---- values
 
 module _ {C : Type 0} where
@@ -70,7 +67,7 @@ module _ {S C : Type 0} (content : S → C) where
   view_value x = view_at x.item (view_span x.span)
 
   abbrev pub view_object_field : Spanning (String Global) × Spanning (InputValue S) → Word × Value C
-  view_object_field x = (view_key x.0, view_value x.1)
+  view_object_field x = (view_located text_of x.0, view_value x.1)
 
 -- ---- types
 
