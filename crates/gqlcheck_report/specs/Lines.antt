@@ -15,8 +15,8 @@ place_text kind start end = kind_name kind ++ (32 ∷ (decimal start ++ (32 ∷ 
 -- the label of a node, after a space
 unfoldable pub label_text : Label → Text
 label_text Unnamed = []
-label_text (Named name) = 32 ∷ name.text
-label_text (OnType name condition) = 32 ∷ (name.text ++ (32 ∷ condition.text))
+label_text (Named name) = 32 ∷ name.item
+label_text (OnType name condition) = 32 ∷ (name.item ++ (32 ∷ condition.item))
 label_text (Typed type) = 32 ∷ type_text type
 
 module _ {C : Type 0} where
