@@ -7,7 +7,7 @@ ghost use Rattle.graphql_lexical.specs.Nesting.{opened, closed};
 ghost use Rattle.graphql_lexical.specs.declared.kind.Kind.{Kind};
 ghost use Rattle.graphql_grammar.specs.Tokens.{Text, IsSpelled};
 ghost use Rattle.graphql_grammar.specs.Tree.{Scalars, Value, TypeRef, Definition};
-ghost use Rattle.graphql_grammar.specs.Grammar.{Over, IsValue, IsType, IsDocument};
+ghost use Rattle.graphql_grammar.specs.Grammar.{IsLocated, IsValue, IsType, IsDocument};
 ghost use Rattle.graphql_grammar.specs.Faults.{EndsOnce, AtFault, DocumentRefusedAt};
 ghost use Rattle.graphql_grammar.specs.device.Faults.{DocumentFaultAt, ValueFaultAt, TypeFaultAt};
 ghost use Rattle.graphql_grammar.specs.ScalarTokens.{IsRead, IsReadAlso};
@@ -116,5 +116,5 @@ pub fn value_is_read<C, F>()
 
 /// The reading of a type gives the longest prefix that is a type, with its span, or refuses where the definitions do.
 pub fn type_is_read<C, F>()
-    ensures { (S : Scalars C F) (ts : List Lexeme) → EndsOnce ts → GivesFront (λ x. Over x.span (IsType x.item)) (TypeFaultAt ts) ts (fully (λ n. symbol_at S n _ a_type) ts) }
+    ensures { (S : Scalars C F) (ts : List Lexeme) → EndsOnce ts → GivesFront (IsLocated IsType) (TypeFaultAt ts) ts (fully (λ n. symbol_at S n _ a_type) ts) }
 {}

@@ -7,7 +7,7 @@ use Rattle.graphql_lexical.specs.Kinds.{LexicalError, same_kind}
 use Rattle.graphql_lexical.specs.Cutting.{Lexeme, Cut, Breaks}
 use Rattle.graphql_lexical.specs.Display.{shown}
 use Rattle.graphql_grammar.specs.Tree.{Scalars, Value, TypeRef, Definition}
-use Rattle.graphql_grammar.specs.Grammar.{Over, IsValue, IsType, IsDocument}
+use Rattle.graphql_grammar.specs.Grammar.{IsLocated, IsValue, IsType, IsDocument}
 use Rattle.graphql_grammar.specs.Faults.{DocumentRefusedAt, ValueRefusedAt, TypeRefusedAt}
 use Rattle.graphql_grammar.specs.Texts.{BeginsText}
 use Rattle.graphql_grammar.specs.Tokens.{Located}
@@ -99,6 +99,6 @@ AnswersValue S free view (Err failure.Memory) old left = Unit {0}
 
 -- The longest prefix that is a type was taken, or none is one.
 abbrev pub AnswersType : {X : Type 0} → (X → Located TypeRef) → Result X ParseFailure → List Lexeme → List Lexeme → Type 0
-AnswersType view (Ok x) old left = Takes (λ y. Over y.span (IsType y.item)) (view x) old left × ((us vs : List Lexeme) (y : TypeRef) → old ≡ us ++ vs → IsType y us → length left ≤ length vs)
+AnswersType view (Ok x) old left = Takes (IsLocated IsType) (view x) old left × ((us vs : List Lexeme) (y : TypeRef) → old ≡ us ++ vs → IsType y us → length left ≤ length vs)
 AnswersType view (Err (failure.Refused e)) old left = Refuses IsType (TypeRefusedAt UnexpectedEndOfFile unexpected) (view_fault e) old left
 AnswersType view (Err failure.Memory) old left = Unit {0}
