@@ -1,18 +1,13 @@
 //! Reads rows of the language from the files that its arguments name, and reports how many of each kind hold, and which
-//! don't. The module `rows` says what a row is, the modules of `kinds` what each kind of row returns.
+//! don't. `checked_calls` says what a row is, and what each kind of row returns.
 #![tactic(auto)]
 
-mod kinds;
-mod rows;
-mod tally;
-mod write;
-
-use rows::{Row, rows_of};
-use std::alloc::{AllocError, Global};
+use checked_calls::answer_of;
+use checked_calls::rows::{Row, rows_of};
+use checked_calls::tally::Tally;
 use std::process::ExitCode;
 use std::rt::{Env, Files};
 use std::{env, fs, io};
-use tally::Tally;
 
 fn main(rt: HostRuntime) -> ExitCode {
     match tell_all(&rt) {
@@ -89,11 +84,4 @@ fn tell_row<R: Print + AllocGlobal>(
     let number = row.number;
     let kind = row.kind;
     println!(rt; "{name}:{number}: {kind} is answered by\n{found}")
-}
-
-fn answer_of(alloc: Global, row: &Row<'_>, wanted: &str) -> Result<String, AllocError> {
-    let text = row.text(alloc)?;
-    let mut out = String::new(alloc);
-    kinds::write_answer(alloc, &mut out, row.kind, text.as_str(), wanted)?;
-    Ok(out)
 }
