@@ -7,8 +7,28 @@
 //! arguments; `not called` is reported where one of these is refused.
 #![tactic(auto)]
 
-use refused_calls::{Call, answer, documents};
+mod answers;
+mod converted;
+mod cursor;
+mod documents;
+mod lexing;
+mod lists;
+mod nodes;
+mod scalars;
+mod types;
+mod values;
+mod write;
+
+use std::alloc::{AllocError, Global};
 use std::{env, io};
+
+/// A call: its name, the word that says more of it, and the text.
+#[derive(Drop)]
+struct Call<'a> {
+    name: &'a str,
+    word: &'a str,
+    text: &'a str,
+}
 
 // The number of bytes that may be reported.
 const ROOM: usize = 65536;
@@ -39,5 +59,20 @@ fn text_of(word: &Option<String>) -> &str {
     match word {
         Some(word) => word.as_str(),
         None => "",
+    }
+}
+
+// Writes what a call returns, and what stands after it.
+fn answer(alloc: Global, out: &mut String, kind: &str, call: &Call<'_>) -> Result<(), AllocError> {
+    match kind {
+        "lexing" => lexing::answer(alloc, out, call.name, call.text),
+        "cursor" => cursor::answer(alloc, out, call.name, call.text),
+        "scalar" => scalars::answer(alloc, out, call),
+        "type" => types::answer(alloc, out, call),
+        "made" => values::answer_made(alloc, out, call.name, call.text),
+        "value" => values::answer(alloc, out, call),
+        "nodes" => nodes::answer(alloc, out, call.name, call.text),
+        "object" => answers::answer_object(alloc, out, call),
+        _ => answers::answer(alloc, out, call.name, call.text),
     }
 }
