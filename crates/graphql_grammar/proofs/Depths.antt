@@ -6,16 +6,17 @@ use Rattle.std.proofs.Math.Seq.{take-append_seam}
 use Rattle.std.proofs.lemmas.List.Sums.{sum_by-cons, sum_by-append}
 use Rattle.graphql_lexical.specs.declared.kind.Kind.{Kind}
 use Rattle.graphql_lexical.specs.declared.kind.Kind.TheVariants.{EndOfFile}
-use Rattle.graphql_lexical.specs.Cutting.{Lexeme}
+use Rattle.graphql_lexical.specs.Cutting.{Lexeme, EndsOnce}
 use Rattle.graphql_lexical.specs.Nesting.{is_opening, is_closing, opened, closed, IsFirstDeeper, end_behind, ended_by}
 use Rattle.graphql_lexical.proofs.Public.{opened_push, closed_push, deep_count, opens, opening_no_end}
 use Rattle.graphql_grammar.specs.Tokens.{IsSpelled}
 use Rattle.graphql_grammar.specs.Tree.{Scalars, Definition}
 use Rattle.graphql_grammar.specs.Grammar.{IsScalarKind, IsDocument}
-use Rattle.graphql_grammar.specs.Faults.{NoEnd, EndsOnce, AtFault}
+use Rattle.graphql_grammar.specs.Faults.{AtFault}
 use Rattle.graphql_grammar.specs.device.Faults.{Fault, DocumentFaultAt}
 use Rattle.graphql_grammar.specs.device.Productions.{document, reads}
 use Rattle.graphql_grammar.specs.Depth.{BeginsDocument}
+use Rattle.graphql_grammar.proofs.EndParts.{NoEnd, EndParts, end_parts, ends_once}
 use Rattle.graphql_grammar.proofs.Elements.{all_front, all_join}
 use Rattle.graphql_grammar.proofs.Nested as nested
 use Rattle.graphql_grammar.proofs.Nested.{is_plain, IsPair}
@@ -188,9 +189,12 @@ module _ {C F : Type 0} (S : Scalars C F) where
         absurd (omega (arith, b, c.0, c.1, still))
 
     module _ (spelled : AllByRecursion IsSpelled ts) (ends : EndsOnce ts) where
+      parts : EndParts ts
+      parts = end_parts ts ends
+
       front_no_end : NoEnd front
       front_no_end =
-          no_end_before ends.inner ends.end d.before t d.after ends.no_end (sym ends.whole ∙ d.whole) t_goes_on
+          no_end_before parts.inner parts.end d.before t d.after parts.no_end (sym parts.whole ∙ d.whole) t_goes_on
 
       pub short_spelled : AllByRecursion IsSpelled (ended_by d.before t)
       short_spelled =
@@ -201,7 +205,8 @@ module _ {C F : Type 0} (S : Scalars C F) where
 
       pub short_ends : EndsOnce (ended_by d.before t)
       short_ends =
-          record { inner = front; end = end_behind t; whole = short_parts; no_end = front_no_end; is_end = refl }
+          ends_once (ended_by d.before t)
+          (record { inner = front; end = end_behind t; whole = short_parts; no_end = front_no_end; is_end = refl })
 
       pub front_is : front ≡ take (suc i) ts
       front_is =

@@ -2,12 +2,12 @@
 use Rattle.std.proofs.Common.{Bool, ◌≡◌, List, refl, sym, ap, ap₂, ◌∙◌, subst, ◌⊎◌, inl, inr}
 use Rattle.std.specs.List.{AllByRecursion, AllZip}
 use Rattle.graphql_lexical.specs.declared.kind.Kind.{Kind}
-use Rattle.graphql_lexical.specs.Cutting.{Lexeme}
+use Rattle.graphql_lexical.specs.Cutting.{Lexeme, EndsOnce}
 use Rattle.graphql_lexical.specs.laws.Alike.{Alike}
 use Rattle.graphql_grammar.specs.Tokens.{Text, IsSpelled}
 use Rattle.graphql_grammar.specs.Tree.{Scalars, Definition}
 use Rattle.graphql_grammar.specs.Grammar.{IsValue, IsDocument}
-use Rattle.graphql_grammar.specs.Faults.{EndsOnce, AnyToken, NamedError, end, own, other, DocumentRefusedAt, ValueRefusedAt, TypeError, TypeRefusedAt}
+use Rattle.graphql_grammar.specs.Faults.{AnyToken, NamedError, end, own, other, DocumentRefusedAt, ValueRefusedAt, TypeError, TypeRefusedAt}
 use Rattle.graphql_grammar.specs.device.Faults.{Fault, UnexpectedEndOfFile, UnexpectedToken, ScalarError, told, NamesFault, DocumentFaultAt, ValueFaultAt, TypeFault, TypeFaultAt}
 use Rattle.graphql_grammar.proofs.OneFault.{document_or_fault, one_document_refusal, document_refusal_alike}
 

@@ -4,14 +4,15 @@ use Rattle.std.proofs.lemmas.List.{append_cancel_right}
 use Rattle.std.specs.List.{AllByRecursion}
 use Rattle.graphql_lexical.specs.declared.kind.Kind.{Kind}
 use Rattle.graphql_lexical.specs.declared.kind.Kind.TheVariants.{EndOfFile}
-use Rattle.graphql_lexical.specs.Cutting.{Lexeme}
+use Rattle.graphql_lexical.specs.Cutting.{Lexeme, EndsOnce}
 use Rattle.graphql_grammar.specs.Tokens.{IsSpelled, span_of}
 use Rattle.graphql_grammar.specs.Tree.{Scalars}
 use Rattle.graphql_grammar.specs.Grammar.{IsValue, IsType, IsDocument}
-use Rattle.graphql_grammar.specs.Faults.{AnyToken, NoEnd, EndsOnce, Begins, AtFault}
+use Rattle.graphql_grammar.specs.Faults.{AnyToken, Begins, AtFault}
 use Rattle.graphql_grammar.specs.device.Faults.{Fault, UnexpectedEndOfFile, UnexpectedToken, DocumentFaultAt, ValueFaultAt, TypeFaultAt, TypeFault}
 use Rattle.graphql_grammar.specs.device.Reading.{of, Read, Took, Refused, Out, Reader, fault_of, a_value, a_type, fully, GivesWhole, GivesFront}
 use Rattle.graphql_grammar.specs.device.Productions.{document, symbol_at, reads}
+use Rattle.graphql_grammar.proofs.EndParts.{NoEnd, EndParts, end_parts}
 use Rattle.graphql_grammar.proofs.Elements.{all_front, all_each}
 use Rattle.graphql_grammar.proofs.TokenTests.{of_kind}
 use Rattle.graphql_grammar.proofs.Rules.{Meets}
@@ -27,7 +28,7 @@ use Rattle.graphql_grammar.proofs.Spelling.{sample_spelled}
 use Rattle.graphql_grammar.proofs.DocumentFound.{type_covers}
 
 module _ {F A : Type 0} (f : ℕ → Reader F A) (R : A → List Lexeme → Type 0) (r : Reads f R)
-    (Refuses : List Lexeme → Lexeme → Fault F → Type 0) (ts : List Lexeme) (ends : EndsOnce ts)
+    (Refuses : List Lexeme → Lexeme → Fault F → Type 0) (ts : List Lexeme) (ends : EndParts ts)
     (refused : (rest : List Lexeme) (t : Lexeme) (e : Fault F) → f (suc (length ts)) ts ≡ Refused (t ∷ rest) e
     → (before : List Lexeme) × (ts ≡ before ++ (t ∷ rest)) × Refuses before t e) where
   n : ℕ
@@ -40,15 +41,15 @@ module _ {F A : Type 0} (f : ℕ → Reader F A) (R : A → List Lexeme → Type
   unfolding n
   never_out e = absurd (omega (arith, (meets Out e).0))
 
-  module _ (ended : (us : List Lexeme) (a : A) → R a us → EndsOnce us) where
+  module _ (ended : (us : List Lexeme) (a : A) → R a us → EndParts us) where
     by_whole : (z : Read F A) → f n ts ≡ z → Meets n R (f n) ts z → GivesWhole R Refuses ts z
     unfolding n
     by_whole (Took a rest) e (us, p, h, s) =
-        let none : rest ≡ [] = cut_front us rest (ended us a h) (subst EndsOnce p ends) in
+        let none : rest ≡ [] = cut_front us rest (ended us a h) (subst EndParts p ends) in
         (subst (λ l. R a l) (sym (p ∙ ap (λ l. us ++ l) none ∙ append-nil us)) h, none)
     by_whole (Refused [] x) e (us, p, (more, a, h, w), s, y) =
         let q : ts ≡ us = p ∙ append-nil us in
-        let m : more ≡ [] = cut_front us more (subst EndsOnce q ends) (ended _ a h) in
+        let m : more ≡ [] = cut_front us more (subst EndParts q ends) (ended _ a h) in
         let whole : R a ts = subst (λ l. R a l) (ap (λ l. us ++ l) m ∙ append-nil us ∙ sym q) h in
         let took = sym (r.finds n ts a (omega arith) whole) ∙ e in
         absurd (cc took)
@@ -109,14 +110,14 @@ module _ {C F : Type 0} (S : Scalars C F) where
   pub document_given : (ts : List Lexeme) → AllByRecursion IsSpelled ts → EndsOnce ts
       → GivesWhole (IsDocument S) (DocumentFaultAt S ts) ts (fully (λ n. reads S n document) ts)
   document_given ts spelled ends = whole_given (λ n. reads S n document) (IsDocument S) (document_reads S)
-      (DocumentFaultAt S ts) ts ends
+      (DocumentFaultAt S ts) ts (end_parts ts ends)
       (λ rest t e. refused_at S (λ n. reads S n document) (IsDocument S) (document_reads S) true (document_tells S)
       IsSpelled sample_spelled (suc (length ts)) ts rest t e spelled) (document_ends S)
 
   pub value_given : (free : Bool) (ts : List Lexeme) → EndsOnce ts
       → GivesFront (IsValue S free) (ValueFaultAt S free ts) ts (fully (λ n. symbol_at S n _ (a_value free)) ts)
   value_given free ts ends = front_given (λ n. symbol_at S n _ (a_value free)) (IsValue S free) (value_reads S free)
-      (ValueFaultAt S free ts) ts ends
+      (ValueFaultAt S free ts) ts (end_parts ts ends)
       (λ rest t e. refused_at S (λ n. symbol_at S n _ (a_value free)) (IsValue S free) (value_reads S free) true
       (value_tells S free) AnyToken (λ u h. tt) (suc (length ts)) ts rest t e (any_allowed ts))
       (values S free) (λ us vs v h m le. (
@@ -178,5 +179,5 @@ module _ {C F : Type 0} (S : Scalars C F) where
 
   pub type_given : (ts : List Lexeme) → EndsOnce ts
       → GivesFront IsSpannedType (TypeFaultAt ts) ts (fully (λ n. symbol_at S n _ a_type) ts)
-  type_given ts ends = front_given (λ n. symbol_at S n _ a_type) IsSpannedType (type_reads S) (TypeFaultAt ts) ts ends
+  type_given ts ends = front_given (λ n. symbol_at S n _ a_type) IsSpannedType (type_reads S) (TypeFaultAt ts) ts (end_parts ts ends)
       (type_refused ts) (λ us x h. types us x.item h.0) (λ us vs x h n le. type_covers S us vs x.item h.0 n le)

@@ -13,6 +13,7 @@ pub mod Found
 pub mod DocumentFound
 pub mod SelectionFound
 pub mod Nested
+pub mod EndParts
 pub mod Ends
 pub mod ReadScalars
 pub mod OtherScalars

@@ -15,6 +15,7 @@ pub use Rattle.graphql_grammar.proofs.Readers.{one_document}
 pub use Rattle.graphql_grammar.proofs.Rules.{Rule}
 pub use Rattle.graphql_grammar.proofs.SelectionRules.{definition_rule, definition_takes, document_rule, selection_rule, selection_takes}
 pub use Rattle.graphql_grammar.proofs.Sequences.{back_takes, front_takes, is_takes, last_next, last_of, name_in, row, row_as, row_back, row_front, row_map, row_right, says_takes, token_in, token_is}
+pub use Rattle.graphql_grammar.proofs.EndParts.{end_parts}
 pub use Rattle.graphql_grammar.proofs.Spelling.{cut_ends, cut_spelled}
 pub use Rattle.graphql_grammar.proofs.Texts.{fault_in_text}
 pub use Rattle.graphql_grammar.proofs.TokenTests.{of_kind}

@@ -11,8 +11,9 @@ use Rattle.graphql_lexical.proofs.Public.{goes_on_spaced}
 use Rattle.graphql_grammar.specs.Tokens.{Text, IsSpelled}
 use Rattle.graphql_grammar.specs.Tree.{Scalars}
 use Rattle.graphql_grammar.specs.Grammar.{IsDocument}
-use Rattle.graphql_grammar.specs.Faults.{NoEnd, Begins, AtFault}
+use Rattle.graphql_grammar.specs.Faults.{Begins, AtFault}
 use Rattle.graphql_grammar.specs.Texts.{BeginsText}
+use Rattle.graphql_grammar.proofs.EndParts.{NoEnd, end_parts}
 use Rattle.graphql_grammar.proofs.Elements.{all_front}
 use Rattle.graphql_grammar.proofs.Rules.{alike_refl}
 use Rattle.graphql_grammar.proofs.Alike.{alike_sym, alike_join}
@@ -74,7 +75,7 @@ module _ {C F : Type 0} (S : Scalars C F) where
   begins_text : (source : Text) (before : List Lexeme) (next : Lexeme) (after : List Lexeme)
       → Cut source (before ++ next ∷ after) → Begins IsSpelled (IsDocument S) before → BeginsText S source before
   begins_text source before next after cut (front, more, tree, alike, document, spelled) =
-      let once = cut_ends source (before ++ next ∷ after) cut in
+      let once = end_parts _ (cut_ends source (before ++ next ∷ after) cut) in
       let no_end : NoEnd before = no_end_before before next after once.inner once.end once.whole once.no_end in
       let ends = document_ends S (front ++ more) tree document in
       let b = behind front more ends.inner ends.end ends.whole (no_end_alike before front alike no_end) ends.is_end in

@@ -15,18 +15,6 @@ use Rattle.graphql_grammar.specs.Tokens.{Text, IsSpelled}
 use Rattle.graphql_grammar.specs.Tree.{Scalars}
 use Rattle.graphql_grammar.specs.Grammar.{Token, IsScalarKind, IsValue, IsType, IsDocument}
 
--- none of these tokens is the end
-abbrev pub NoEnd : List Lexeme → Type 0
-NoEnd = AllByRecursion (λ t. t.kind ≢ EndOfFile)
-
--- The last token and no other is the end.
-pub record EndsOnce (ts : List Lexeme) : Type 0 where
-  pub inner : List Lexeme
-  pub end : Lexeme
-  pub whole : ts ≡ inner ++ (end ∷ [])
-  pub no_end : NoEnd inner
-  pub is_end : end.kind ≡ EndOfFile
-
 abbrev pub AnyToken : Lexeme → Type 0
 AnyToken t = Unit {0}
 

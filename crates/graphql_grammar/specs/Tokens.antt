@@ -5,6 +5,7 @@ use Rattle.std.specs.Prelude.{◌≡◌, ◌⊎◌, List, [], ◌∷◌, None}
 use Rattle.graphql_lexical.specs.declared.kind.Kind.TheVariants.{EndOfFile}
 pub use Rattle.graphql_lexical.specs.Characters.{Text}
 use Rattle.graphql_lexical.specs.Place.{Span, place}
+pub use Rattle.graphql_lexical.specs.Place.{nowhere}
 use Rattle.graphql_lexical.specs.Tokens.{Spells}
 use Rattle.graphql_lexical.specs.Cutting.{Lexeme}
 
@@ -23,10 +24,6 @@ word_of t = record { item = t.text; span = t.span }
 -- from the start of one token to the end of another
 abbrev pub over : Lexeme → Lexeme → Span
 over first last = record { start = first.span.start; end = last.span.end }
-
--- where no token stands
-abbrev pub nowhere : Span
-nowhere = record { start = record { index = 0; line = 0; column = 0 }; end = record { index = 0; line = 0; column = 0 } }
 
 -- From the start of the first token to the end of the last. No node of a tree is an empty list of tokens.
 abbrev pub span_of : List Lexeme → Span

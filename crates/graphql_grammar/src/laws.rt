@@ -1,14 +1,14 @@
 //! Laws of the document grammar.
 ghost use Rattle.std.specs.Prelude.{◌≡◌, ◌<◌, ◌⊎◌, ◌++◌, ℕ, List, [], Bool, length, ◌∷◌};
 ghost use Rattle.std.specs.List.{AllByRecursion, AllZip};
-ghost use Rattle.graphql_lexical.specs.Cutting.{Lexeme, Cut};
+ghost use Rattle.graphql_lexical.specs.Cutting.{Lexeme, Cut, EndsOnce};
 ghost use Rattle.graphql_lexical.specs.laws.Alike.{Alike};
 ghost use Rattle.graphql_lexical.specs.Nesting.{opened, closed};
 ghost use Rattle.graphql_lexical.specs.declared.kind.Kind.{Kind};
 ghost use Rattle.graphql_grammar.specs.Tokens.{Text, IsSpelled};
 ghost use Rattle.graphql_grammar.specs.Tree.{Scalars, Value, TypeRef, Definition};
 ghost use Rattle.graphql_grammar.specs.Grammar.{IsLocated, IsValue, IsType, IsDocument};
-ghost use Rattle.graphql_grammar.specs.Faults.{EndsOnce, AtFault, DocumentRefusedAt};
+ghost use Rattle.graphql_grammar.specs.Faults.{AtFault, DocumentRefusedAt};
 ghost use Rattle.graphql_grammar.specs.device.Faults.{DocumentFaultAt, ValueFaultAt, TypeFaultAt};
 ghost use Rattle.graphql_grammar.specs.ScalarTokens.{IsRead, IsReadAlso};
 ghost use Rattle.graphql_grammar.specs.Texts.{BeginsText};

@@ -6,12 +6,12 @@ use Rattle.std.proofs.lemmas.Int.{by_lt_z}
 use Rattle.std.specs.List.{AllByRecursion}
 use Rattle.graphql_lexical.specs.Place.{Place, Span}
 use Rattle.graphql_lexical.specs.Kinds.{LexicalError}
-use Rattle.graphql_lexical.specs.Cutting.{Lexeme, Cut, Breaks, BreaksFrom}
+use Rattle.graphql_lexical.specs.Cutting.{Lexeme, Cut, Breaks, BreaksFrom, EndsOnce}
 use Rattle.graphql_lexical.proofs.Public.{one_cut_or_break, one_deep, crossed, IsWide, tokens_wide, tokens_in_order}
 use Rattle.graphql_lexical.specs.Nesting.{nesting, IsFirstDeeper, ended_by}
 use Rattle.graphql_grammar.specs.Tree.{Scalars, Definition}
 use Rattle.graphql_grammar.specs.Tokens.{IsSpelled}
-use Rattle.graphql_grammar.specs.Faults.{EndsOnce, DocumentRefusedAt}
+use Rattle.graphql_grammar.specs.Faults.{DocumentRefusedAt}
 use Rattle.graphql_grammar.specs.device.Faults.{Fault, told}
 use Rattle.graphql_grammar.specs.Depth.{BeginsDocument, IsTooDeep}
 use Rattle.graphql_grammar.proofs.Public.{same_parts, document_error, document_fault, document_or_fault, cut_spelled, cut_ends, short_spelled, short_ends, TellsDepth, t_goes_on, front_is, short_no_document, short_tells, middle_of}

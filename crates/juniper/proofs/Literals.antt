@@ -7,7 +7,6 @@ use Rattle.graphql_lexical.specs.Cutting.{Lexeme}
 use Rattle.graphql_grammar.specs.Tokens.{Located, span_of}
 use Rattle.graphql_grammar.specs.Tree.{Scalars, Value, TypeRef}
 use Rattle.graphql_grammar.specs.Grammar.{IsValue}
-use Rattle.graphql_grammar.specs.Faults as grammar
 use Rattle.graphql_grammar.specs.Faults.{ValueRefusedAt, TypeRefusedAt}
 use Rattle.graphql_grammar.specs.device.Faults as device
 use Rattle.graphql_grammar.specs.device.Faults.{ValueFaultAt, TypeFaultAt}
@@ -23,24 +22,6 @@ use Rattle.juniper.specs.device.Seen.{error_of, seen}
 use Rattle.juniper.specs.device.Steps.{no_scalars, value_read, type_read}
 use Rattle.juniper.specs.Promise.{Refuses, AnswersValue, AnswersType, unexpected}
 use Rattle.juniper.proofs.Stepping.{seen_took}
-
--- The last token and no other is the end, as the cursor and as the grammar say it.
-ends_once : (ts : List Lexeme) → EndsOnce ts → grammar.EndsOnce ts
-ends_once [] h = absurd h
-ends_once (t ∷ []) h = record { inner = []; end = t; whole = refl; no_end = tt; is_end = h }
-ends_once (t ∷ u ∷ ts) h =
-    let r = ends_once (u ∷ ts) h.1 in
-    record {
-      inner = t ∷ r.inner;
-      end = r.end;
-      whole = ap (λ (l : List Lexeme). t ∷ l) r.whole;
-      no_end = (
-        (λ k. let same : same_kind t.kind EndOfFile ≡ true = ap (λ (z : Kind). same_kind z EndOfFile) k in
-            absurd (cc (sym h.0 ∙ same))),
-        r.no_end,
-      );
-      is_end = r.is_end;
-    }
 
 fault_is : {A : Type 0} (a b : Fault) (p q : List Lexeme) → ◌≡◌ {A = Read A} (Err (a, p)) (Err (b, q))
     → (b ≡ a) × (q ≡ p)
@@ -82,7 +63,7 @@ module _ {C : Type 0} (S : Scalars C Error) (free : Bool) where
   answers_value view (Ok x) old left ended h =
       let took = seen_took (fully value_at old) (view x) left h in
       let g = subst (λ z. GivesFront (IsValue S free) (ValueFaultAt S free old) old z) took
-      (value_given S free old (ends_once old ended)) in (
+      (value_given S free old ended) in (
         record { taken = g.0; whole = g.1; means = g.2 },
         λ us vs y e k. (
             let both : Took y vs ≡ Took (view x) left = sym (ap (value_at (suc (length old))) e
@@ -93,7 +74,7 @@ module _ {C : Type 0} (S : Scalars C Error) (free : Bool) where
   answers_value view (Err (failure.Refused e)) old left ended h =
       refuses (IsValue S free) (ValueFaultAt S free) (ValueRefusedAt UnexpectedEndOfFile unexpected S free)
       (value_error UnexpectedEndOfFile unexpected S free) old left (view_fault e) (fully value_at old)
-      (value_given S free old (ends_once old ended)) h
+      (value_given S free old ended) h
   answers_value view (Err failure.Memory) old left ended h = tt
 
 -- ---- types
@@ -106,7 +87,7 @@ pub answers_type : {X : Type 0} (view : X → Located TypeRef) (result : Result 
 unfolding type_read
 answers_type view (Ok x) old left ended h =
     let g = subst (λ z. GivesFront IsSpannedType (TypeFaultAt old) old z)
-    (seen_took (fully type_at old) (view x) left h) (type_given no_scalars old (ends_once old ended)) in (
+    (seen_took (fully type_at old) (view x) left h) (type_given no_scalars old ended) in (
       record { taken = g.0; whole = g.1; means = g.2 },
       λ us vs y e k. (
           let longest : length us ≤ length g.0 = g.3 us vs (record { item = y; span = span_of us }) e (k, refl) in
@@ -117,7 +98,7 @@ answers_type view (Ok x) old left ended h =
 answers_type view (Err (failure.Refused e)) old left ended h =
     let r = refuses IsSpannedType TypeFaultAt (TypeRefusedAt UnexpectedEndOfFile unexpected)
     (type_error UnexpectedEndOfFile unexpected) old left (view_fault e) (fully type_at old)
-    (type_given no_scalars old (ends_once old ended)) h in
+    (type_given no_scalars old ended) h in
     record {
       none = λ us vs y q k. r.none us vs (record { item = y; span = span_of us }) q (k, refl);
       before = r.before;

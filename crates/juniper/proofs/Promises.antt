@@ -3,11 +3,11 @@ use Rattle.std.proofs.Common.{◌≡◌, ℕ, List, [], ◌∷◌, sym, ap, ap�
 use Rattle.std.specs.List.{AllByRecursion}
 use Rattle.graphql_lexical.specs.Place.{Place}
 use Rattle.graphql_lexical.specs.Kinds.{LexicalError}
-use Rattle.graphql_lexical.specs.Cutting.{Lexeme, CutFrom, BreaksFrom, Cut, Breaks}
+use Rattle.graphql_lexical.specs.Cutting.{Lexeme, CutFrom, BreaksFrom, Cut, Breaks, EndsOnce}
 use Rattle.graphql_lexical.proofs.Public.{one_cut_or_break}
 use Rattle.graphql_grammar.specs.Tree.{Scalars, Definition}
 use Rattle.graphql_grammar.specs.Grammar.{IsDocument}
-use Rattle.graphql_grammar.specs.Faults.{EndsOnce, DocumentRefusedAt}
+use Rattle.graphql_grammar.specs.Faults.{DocumentRefusedAt}
 use Rattle.graphql_grammar.specs.device.Faults.{DocumentFaultAt}
 use Rattle.graphql_grammar.specs.Tokens.{IsSpelled}
 use Rattle.graphql_grammar.specs.device.Reading.{Took, Refused, Out, GivesWhole, fully}

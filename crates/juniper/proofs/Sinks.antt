@@ -7,7 +7,7 @@ use Rattle.graphql_lexical.proofs.Public.{one_cut_or_break}
 use Rattle.graphql_grammar.specs.Tree.{Scalars, Definition}
 use Rattle.graphql_grammar.specs.Grammar.{Each, IsDefinition}
 use Rattle.graphql_grammar.specs.device.Productions.{definition}
-use Rattle.graphql_grammar.proofs.Public.{cut_ends}
+use Rattle.graphql_grammar.proofs.Public.{cut_ends, end_parts}
 use Rattle.juniper_tokens.specs.Cursor.{EndsOnce}
 use Rattle.juniper_tokens.specs.Errors.{Error}
 use Rattle.juniper_tokens.specs.Nesting.{EndsAtNesting}
@@ -111,7 +111,7 @@ module _ {C : Type 0} (S : Scalars C Error) where
       → ((inner : List Lexeme) (end : Lexeme) → left ≡ inner ++ end ∷ [] → StandInFront S inner ds)
       → StandInFront S ts ds
   stand_in_all depth source ts left None ds cut e h =
-      let ends = cut_ends source ts cut in
+      let ends = end_parts ts (cut_ends source ts cut) in
       subst (λ (xs : List Lexeme). StandInFront S xs ds) (sym ends.whole)
       (stand_before ends.inner (ends.end ∷ []) ds (h ends.inner ends.end (e.1 ∙ ends.whole)))
   stand_in_all depth source ts left (Some span) ds cut (i, t, d, at, is) h =

@@ -1,17 +1,18 @@
 -- The tree of the code, as the grammar sees it: no pointers and no capacities. No part of it is left unseen: None and
 -- Some of an empty list differ.
-use Rattle.std.specs.Prelude.{ℕ, List, [], ◌∷◌, map, Option, Some, None, option_map, String, string_bytes}
+use Rattle.std.specs.Prelude.{ℕ, List, [], ◌∷◌, map, Option, Some, None, option_map, String}
 use Rattle.std.specs.Borrow.{Bor}
 use Rattle.std.specs.Global.{Vec}
 use Rattle.std.specs.Str.{chars}
 use Rattle.std.specs.declared.alloc.Global.{Global}
 use Rattle.graphql_lexical.specs.Place as places
-use Rattle.graphql_grammar.specs.Tokens.{Text, Located, Word}
+use Rattle.graphql_grammar.specs.Tokens.{Located, Word}
 use Rattle.graphql_grammar.specs.Tree as tree
 use Rattle.graphql_grammar.specs.Tree.{Value, Null, Scalar, Enum, Variable, ListOf, Object, Items, no_items, item, ObjectFields, no_fields, object_field, TypeRef, NamedType, ListType, NonNullType}
 use Rattle.juniper_tokens.specs.Spans.{view_span}
 use Rattle.juniper_tokens.specs.declared.span.Spanning.{Spanning}
 use Rattle.juniper_values.specs.TypeLiteral.{TypeShape}
+pub use Rattle.juniper_values.specs.View.{text_of}
 use Rattle.juniper_values.specs.declared.input_value.InputValue.{InputValue, fold-InputValue}
 use Rattle.juniper_values.specs.declared.input_value.InputValue.TheOpen.{InputValue-F}
 use Rattle.juniper_values.specs.declared.type_literal.TypeModifier.{TypeModifier}
@@ -33,9 +34,6 @@ view_located view x = record { item = view x.item; span = view_span x.span }
 
 abbrev pub view_word : Spanning (Bor (List ℕ)) → Word
 view_word = view_located (λ t. chars t.now)
-
-abbrev pub text_of : String Global → Text
-text_of s = chars (string_bytes s)
 
 -- ---- values
 

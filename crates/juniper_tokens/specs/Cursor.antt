@@ -1,11 +1,13 @@
 -- The steps of a cursor on the lexemes that are left.
 use Rattle.std.specs.Prelude.{◌≡◌, ℕ, Bool, false, ◌&&◌, List, [], ◌∷◌, Result, Ok, Err, Option, Some, None, if◌then◌else◌}
 use Rattle.std.specs.Option.{is_none}
-use Rattle.graphql_lexical.specs.Place.{Span, origin}
+use Rattle.graphql_lexical.specs.Place.{Span}
+pub use Rattle.graphql_lexical.specs.Place.{nowhere}
 use Rattle.graphql_lexical.specs.declared.kind.Kind.{Kind}
 use Rattle.graphql_lexical.specs.declared.kind.Kind.TheVariants.{Name, At, EndOfFile}
 use Rattle.graphql_lexical.specs.Kinds.{same_kind, spelling, fixed_text}
 use Rattle.graphql_lexical.specs.Cutting.{Lexeme}
+pub use Rattle.graphql_lexical.specs.Cutting.{EndsOnce}
 use Rattle.graphql_lexical.specs.Display.{shown}
 use Rattle.juniper_tokens.specs.declared.token.Token.{Token}
 use Rattle.juniper_tokens.specs.declared.error.ParseFailure.{ParseFailure}
@@ -32,9 +34,6 @@ abbrev pub Gives : {X Y : Type 0} → (X → Y) → Result X ParseFailure → Li
 Gives view (Ok x) left read = read ≡ Ok (view x, left)
 Gives view (Err e) left read = Fails e left read
 
-abbrev pub nowhere : Span
-nowhere = record { start = origin; end = origin }
-
 -- What stands at no place: a list that ends in an end of file has a first lexeme.
 abbrev pub no_lexeme : Lexeme
 no_lexeme = record { kind = At; text = []; span = nowhere }
@@ -46,12 +45,6 @@ first_of (t ∷ ts) = t
 
 abbrev pub kind_at : List Lexeme → Kind
 kind_at ts = (first_of ts).kind
-
--- the last lexeme and no other is the end
-abbrev pub EndsOnce : List Lexeme → Type 0
-EndsOnce [] = ⊥
-EndsOnce (t ∷ []) = t.kind ≡ EndOfFile
-EndsOnce (t ∷ u ∷ ts) = (same_kind t.kind EndOfFile ≡ false) × EndsOnce (u ∷ ts)
 
 -- the kind leaves the text open
 abbrev pub has_text : Kind → Bool
