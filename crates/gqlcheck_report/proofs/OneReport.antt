@@ -9,7 +9,7 @@ use Rattle.juniper_tokens.specs.Errors.{Fault}
 use Rattle.juniper_values.specs.Scalar.{Content}
 use Rattle.juniper.specs.Scalars.{default_scalars}
 use Rattle.juniper.specs.Promise.{HasTree, IsRefusal}
-use Rattle.juniper.specs.Within.{HasTooDeep, HasTreeWithin, IsRefusedWithin, IsNestedTooDeep, HasOneAnswer}
+use Rattle.juniper.specs.Within.{HasTooDeep, HasTreeWithin, IsRefusedWithin, IsNestedTooDeep, HasOneResult}
 use Rattle.gqlcheck_report.specs.Lines.{document_lines}
 use Rattle.gqlcheck_report.specs.Report.{Report, OneReport, fault_line, deep_line, limit}
 use Rattle.gqlcheck_report.specs.declared.report.RunEnd.{RunEnd}
@@ -22,7 +22,7 @@ module _ (one_fault : (source : List ℕ) (f g : Fault) → IsRefusal default_sc
     → HasTree default_scalars source tree → IsRefusal default_scalars source fault → ⊥)
     (one_deep : (depth : ℕ) (source : List ℕ) (a b : Span) → HasTooDeep default_scalars depth source a
     → HasTooDeep default_scalars depth source b → a ≡ b)
-    (answers : (depth : ℕ) (source : List ℕ) → HasOneAnswer default_scalars depth source) where
+    (answers : (depth : ℕ) (source : List ℕ) → HasOneResult default_scalars depth source) where
   same_report : (bytes : List ℕ) (end other : RunEnd) (text another : List ℕ) → Report bytes end text
       → Report bytes other another → (end ≡ other) × (text ≡ another)
   same_report bytes Tree Tree s t a b = (

@@ -8,7 +8,7 @@ ghost use Rattle.graphql_nodes.specs.Forests.{IsForest};
 ghost use Rattle.graphql_nodes.specs.laws.SpanLaws.{NodesLieIn};
 
 /// Documents with the same nodes have the same tree, whatever their scalar types and tokens.
-pub fn nodes_tell_the_tree<C, F, G>()
+pub fn nodes_determine_the_tree<C, F, G>()
     ensures { (S : Scalars C F) (T : Scalars C G) (ts us : List Lexeme) (a b : List (Definition C)) → IsDocument S a ts → IsDocument T b us → document_nodes a ≡ document_nodes b → a ≡ b }
 {}
 

@@ -12,7 +12,7 @@ use Rattle.juniper_tokens.specs.declared.error.ParseFailure.TheVariants as failu
 use Rattle.juniper_tokens.specs.declared.error.LexFailure.{LexFailure}
 use Rattle.juniper_tokens.specs.Errors.{Error, UnexpectedEndOfFile, Fault, view_fault, failure_of}
 use Rattle.juniper.specs.laws.TreeLaws.{IsRefusedAtBreak}
-use Rattle.juniper.specs.Promise.{lexical_fault, unexpected, Refuses, IfRefused, AnswersValue}
+use Rattle.juniper.specs.Promise.{lexical_fault, unexpected, Refuses, IfRefused, ReturnsValue}
 use Rattle.guide.specs.Literals.{HasNoValue}
 
 module _ {C : Type 0} (S : Scalars C Error) (source : List ℕ) (ends : HasOneCutOrBreak source) where
@@ -28,7 +28,7 @@ module _ {C : Type 0} (S : Scalars C Error) (source : List ℕ) (ends : HasOneCu
 
     -- what is refused of the tokens is refused of the text
     pub no_value_begins : {X : Type 0} (view : X → Value C) (result : Result X ParseFailure)
-        → AnswersValue S true view result ts left → IfRefused result (λ fault. HasNoValue S source (view_fault fault))
+        → ReturnsValue S true view result ts left → IfRefused result (λ fault. HasNoValue S source (view_fault fault))
     no_value_begins view (Ok x) a = tt
     no_value_begins view (Err (failure.Refused fault)) a = refused (view_fault fault) a
     no_value_begins view (Err failure.Memory) a = tt

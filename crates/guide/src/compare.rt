@@ -7,7 +7,7 @@ ghost use Rattle.juniper.specs.Scalars.{stated};
 ghost use Rattle.juniper.specs.Promise.{IfRefused};
 ghost use Rattle.guide.specs.Literals.{BeginsWith, HasNoValue, FirstFault, AreCompared};
 
-use juniper::laws::{lexer_failures_are_told, one_cut_or_break};
+use juniper::laws::{lexer_failures_are_reported, one_cut_or_break};
 use juniper::{
     InputValue, Lexer, ParseFailure, ParseResult, Parser, ScalarValue, parse_value_literal,
 };
@@ -34,7 +34,7 @@ fn literal<S: ScalarValue>(alloc: Global, source: &str) -> ParseResult<InputValu
 {
     // The laws that the proof cites.
     one_cut_or_break();
-    lexer_failures_are_told();
+    lexer_failures_are_reported();
     let mut lexer = Lexer::new(alloc, source);
     let mut parser = Parser::new(&mut lexer)?;
     parse_value_literal(&mut parser, false)

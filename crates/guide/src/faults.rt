@@ -13,13 +13,13 @@ pub fn fault_line(alloc: Global, source: &str) -> Result<Option<String>, AllocEr
 {
     match parse_document_source::<DefaultScalarValue>(alloc, source) {
         Ok(_document) => Ok(None),
-        Err(ParseFailure::Refused(fault)) => Ok(Some(told(alloc, &fault)?)),
+        Err(ParseFailure::Refused(fault)) => Ok(Some(described(alloc, &fault)?)),
         Err(ParseFailure::Memory) => Err(AllocError),
     }
 }
 
 // Where a fault starts, and why.
-fn told(alloc: Global, fault: &Spanning<ParseError>) -> Result<String, AllocError>
+fn described(alloc: Global, fault: &Spanning<ParseError>) -> Result<String, AllocError>
     ensures { IfOk result (λ text. string_bytes text ≡ fault_text (view_fault fault.now)) }
 {
     let line = fault.span.start.line();

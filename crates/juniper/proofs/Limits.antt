@@ -29,11 +29,11 @@ use Rattle.juniper_tokens.specs.Gathering.{IfFault}
 use Rattle.juniper_tokens.specs.Nesting.{IsShallow, EndsAtNesting}
 use Rattle.juniper.specs.declared.parser.document.depth.DepthFailure.{DepthFailure}
 use Rattle.juniper.specs.declared.parser.document.depth.DepthFailure.TheVariants as limited
-use Rattle.juniper.specs.Promise.{HasTree, IsRefusedAt, IsRefusal, AnswersAs, lexical_fault, unexpected}
-use Rattle.juniper.specs.Within.{HasTooDeep, IsWithin, AnswersWithin, HasTreeWithin, IsRefusedWithin, IsNestedTooDeep, HasOneAnswer, answer_within}
+use Rattle.juniper.specs.Promise.{HasTree, IsRefusedAt, IsRefusal, ReturnsAs, lexical_fault, unexpected}
+use Rattle.juniper.specs.Within.{HasTooDeep, IsWithin, ReturnsWithin, HasTreeWithin, IsRefusedWithin, IsNestedTooDeep, HasOneResult, result_within}
 use Rattle.graphql_grammar.specs.device.Productions.{document}
 use Rattle.juniper.specs.device.Steps.{cursor}
-use Rattle.juniper.proofs.Promises.{document_is, refused_is, refusal_at, accepts, refuses, refusal_in_text, lexical, break_from_start, told_lexical}
+use Rattle.juniper.proofs.Promises.{document_is, refused_is, refusal_at, accepts, refuses, refusal_in_text, lexical, break_from_start, lexical_reported}
 use Rattle.juniper.proofs.Sources.{either, never_both, refusal_of}
 
 same_number : (a b : ℕ) → a ≡ b → (a == b) ≡ true
@@ -114,7 +114,7 @@ module _ {C : Type 0} (S : Scalars C Error) (depth : ℕ) (source : List ℕ) wh
     -- ---- what is promised, outcome by outcome
 
     abbrev pub Promised : Result X DepthFailure → Type 0
-    Promised = AnswersWithin S depth source view
+    Promised = ReturnsWithin S depth source view
 
     tree_within : (x : X) → HasTree S source (view x) → IsWithin S depth source → Promised (Ok x)
     tree_within x h w = record { accepted = h; refused = tt; in_characters = tt; within = w; too_deep = tt }
@@ -140,8 +140,8 @@ module _ {C : Type 0} (S : Scalars C Error) (depth : ℕ) (source : List ℕ) wh
 
     module _ (ts : List Lexeme) (cut : Cut source ts) where
       shallow_answer : (result : Result X ParseFailure) → IsShallow depth ts
-          → AnswersAs view result (cursor S document ts)
-          → Promised (answer_within None result)
+          → ReturnsAs view result (cursor S document ts)
+          → Promised (result_within None result)
       shallow_answer (Ok x) s a = tree_within x (accepts S source ts cut view (Ok x) a) (shallow_within ts cut s)
       shallow_answer (Err (failure.Refused fault)) s a =
           let refused = refuses S source ts cut {X = X} view (Err (failure.Refused fault)) a in
@@ -152,7 +152,7 @@ module _ {C : Type 0} (S : Scalars C Error) (depth : ℕ) (source : List ℕ) wh
         deep_fault : (span : spans.Span) (fault : Spanning ParseError) → view_span span ≡ t.span
             → (h : IsRefusedAt S (ended_by d.before t) (view_fault fault)) (e : Fault Error)
             → (view_fault fault).error ≡ told UnexpectedEndOfFile unexpected e → TellsDepth S ts i t h.before h.token e
-            → Promised (answer_within (Some span) (Err (failure.Refused fault)))
+            → Promised (result_within (Some span) (Err (failure.Refused fault)))
         deep_fault span fault e h x is (inl (end, begins)) =
             let at_end = h.span ∙ ap (λ (x : Lexeme). x.span) end in
             let here : fault.span.start.index ≡ span.end.index = ap (λ (p : Span). p.start.index) at_end
@@ -191,8 +191,8 @@ module _ {C : Type 0} (S : Scalars C Error) (depth : ℕ) (source : List ℕ) wh
         ends = short_ends S depth ts i t d (cut_spelled source ts cut) (cut_ends source ts cut)
 
         deep_answer : (span : spans.Span) (result : Result X ParseFailure) → view_span span ≡ t.span
-            → AnswersAs view result (cursor S document (ended_by d.before t))
-            → Promised (answer_within (Some span) result)
+            → ReturnsAs view result (cursor S document (ended_by d.before t))
+            → Promised (result_within (Some span) result)
         deep_answer span (Ok x) e a =
             let document = document_is S (ended_by d.before t) spelled ends (view x) a.0 a.1 in
             absurd (short_no_document S depth ts i t d (view x) document)
@@ -205,13 +205,13 @@ module _ {C : Type 0} (S : Scalars C Error) (depth : ℕ) (source : List ℕ) wh
         deep_answer span (Err failure.Memory) e a = memory_within
 
       pub answers_within : (deep : Option spans.Span) (left : List Lexeme) (result : Result X ParseFailure)
-          → EndsAtNesting depth ts deep left → AnswersAs view result (cursor S document left)
-          → Promised (answer_within deep result)
+          → EndsAtNesting depth ts deep left → ReturnsAs view result (cursor S document left)
+          → Promised (result_within deep result)
       answers_within None left result e a =
-          shallow_answer result e.0 (subst (λ (xs : List Lexeme). AnswersAs view result (cursor S document xs)) e.1 a)
+          shallow_answer result e.0 (subst (λ (xs : List Lexeme). ReturnsAs view result (cursor S document xs)) e.1 a)
       answers_within (Some span) left result (i, t, d, at, is) a =
           deep_answer i t d span result at
-          (subst (λ (xs : List Lexeme). AnswersAs view result (cursor S document xs)) is a)
+          (subst (λ (xs : List Lexeme). ReturnsAs view result (cursor S document xs)) is a)
 
     -- ---- a lexical fault
 
@@ -225,7 +225,7 @@ module _ {C : Type 0} (S : Scalars C Error) (depth : ℕ) (source : List ℕ) wh
         let uncut : IsWithin S depth source = record {
           none = λ span h. (one_cut_or_break source).never_both h.lexemes _ _ h.cut breaks;
         } in
-        refusal_within _ (lexical S source _ _ _ breaks (told_lexical fault z)) uncut
+        refusal_within _ (lexical S source _ _ _ breaks (lexical_reported fault z)) uncut
     lexical_within state lexing.Memory e b z = memory_within
 
   -- ---- a text has one such token at most
@@ -291,7 +291,7 @@ module _ {C : Type 0} (S : Scalars C Error) (depth : ℕ) (source : List ℕ) wh
     ))
   ]
 
-  pub one_answer : HasOneAnswer S depth source
+  pub one_answer : HasOneResult S depth source
   one_answer = record {
     some = some_answer;
     tree_or_refused = λ tree refused. never_both S source tree.1.0 refused.1.0 tree.1.1 refused.1.1;

@@ -20,7 +20,7 @@ use Rattle.juniper_tokens.specs.Errors.{Error, UnexpectedEndOfFile, Fault, view_
 use Rattle.juniper_tokens.specs.Cursor.{Read, EndsOnce, Gives}
 use Rattle.juniper.specs.device.Seen.{error_of, seen}
 use Rattle.juniper.specs.device.Steps.{no_scalars, value_read, type_read}
-use Rattle.juniper.specs.Promise.{Refuses, AnswersValue, AnswersType, unexpected}
+use Rattle.juniper.specs.Promise.{Refuses, ReturnsValue, ReturnsType, unexpected}
 use Rattle.juniper.proofs.Stepping.{seen_took}
 
 fault_is : {A : Type 0} (a b : Fault) (p q : List Lexeme) → ◌≡◌ {A = Read A} (Err (a, p)) (Err (b, q))
@@ -58,7 +58,7 @@ module _ {C : Type 0} (S : Scalars C Error) (free : Bool) where
   value_at n = symbol_at S n (Value C) (a_value free)
 
   pub answers_value : {X : Type 0} (view : X → Value C) (result : Result X ParseFailure) (old left : List Lexeme)
-      → EndsOnce old → Gives view result left (value_read S free old) → AnswersValue S free view result old left
+      → EndsOnce old → Gives view result left (value_read S free old) → ReturnsValue S free view result old left
   unfolding fully value_read
   answers_value view (Ok x) old left ended h =
       let took = seen_took (fully value_at old) (view x) left h in
@@ -83,7 +83,7 @@ abbrev type_at : ℕ → Reader Error (Located TypeRef)
 type_at n = symbol_at no_scalars n (Located TypeRef) a_type
 
 pub answers_type : {X : Type 0} (view : X → Located TypeRef) (result : Result X ParseFailure) (old left : List Lexeme)
-    → EndsOnce old → Gives view result left (type_read old) → AnswersType view result old left
+    → EndsOnce old → Gives view result left (type_read old) → ReturnsType view result old left
 unfolding type_read
 answers_type view (Ok x) old left ended h =
     let g = subst (λ z. GivesFront IsSpannedType (TypeFaultAt old) old z)

@@ -27,7 +27,7 @@ use Rattle.juniper_tokens.specs.Lexing.{LexerState, started}
 use Rattle.juniper_tokens.specs.Gathering.{IfFault}
 use Rattle.juniper.specs.device.Seen.{seen}
 use Rattle.juniper.specs.laws.TreeLaws.{FailsAtBreak, IsRefusedAtBreak}
-use Rattle.juniper.specs.Promise.{lexical_fault, unexpected, HasTree, IsRefusedAt, IsRefusal, IsRefusalInText, IfRefused, AnswersAs}
+use Rattle.juniper.specs.Promise.{lexical_fault, unexpected, HasTree, IsRefusedAt, IsRefusal, IsRefusalInText, IfRefused, ReturnsAs}
 use Rattle.juniper.specs.device.Steps.{cursor}
 use Rattle.juniper.proofs.Stepping.{seen_took}
 use Rattle.juniper.proofs.Readings.{document_seen}
@@ -95,13 +95,13 @@ module _ {C : Type 0} (S : Scalars C Error) (source : List ℕ) (ts : List Lexem
   }
 
   pub accepts : {X : Type 0} (view : X → List (Definition C)) (result : Result X ParseFailure)
-      → AnswersAs view result (cursor S document ts) → IfOk result (λ x. HasTree S source (view x))
+      → ReturnsAs view result (cursor S document ts) → IfOk result (λ x. HasTree S source (view x))
   accepts view (Ok x) a = tree_of (view x) (document_is S ts (cut_spelled source ts cut) (cut_ends source ts cut)
       (view x) a.0 a.1)
   accepts view (Err e) a = tt
 
   pub refuses : {X : Type 0} (view : X → List (Definition C)) (result : Result X ParseFailure)
-      → AnswersAs view result (cursor S document ts) → IfRefused result (λ fault. IsRefusal S source (view_fault fault))
+      → ReturnsAs view result (cursor S document ts) → IfRefused result (λ fault. IsRefusal S source (view_fault fault))
   refuses view (Ok x) a = tt
   refuses view (Err (failure.Refused fault)) a =
       refusal_at (view_fault fault) (refused_is S ts (cut_spelled source ts cut) (cut_ends source ts cut)
@@ -141,19 +141,19 @@ pub break_from_start : (state : LexerState) (source : List ℕ) (error : Lexical
 break_from_start state source error at e b = subst (λ (s : LexerState). BreaksFrom s.source s.index error at) e b
 
 -- a lexical fault, as the parser tells it
-pub told_lexical : (fault : Spanning LexerError) → fault.span.end ≡ fault.span.start
+pub lexical_reported : (fault : Spanning LexerError) → fault.span.end ≡ fault.span.start
     → view_fault (record { item = parse.LexerError fault.item; span = fault.span })
     ≡ lexical_fault (view_lexer_error fault.item) fault.span.start
-told_lexical fault e = ap (λ (end : Place). record {
+lexical_reported fault e = ap (λ (end : Place). record {
   error = Lexical (view_lexer_error fault.item);
   span = record { start = fault.span.start; end = end };
 }) e
 
-pub told_break : (source : List ℕ) (failed : LexFailure) → FailsAtBreak source failed
+pub break_reported : (source : List ℕ) (failed : LexFailure) → FailsAtBreak source failed
     → IsRefusedAtBreak source (failure_of failed)
-told_break source (lexing.Fault fault) f =
-    (view_lexer_error fault.item, fault.span.start, f.breaks, told_lexical fault f.zero_width)
-told_break source lexing.Memory f = tt
+break_reported source (lexing.Fault fault) f =
+    (view_lexer_error fault.item, fault.span.start, f.breaks, lexical_reported fault f.zero_width)
+break_reported source lexing.Memory f = tt
 
 -- What a lexer that was just made failed for is why its text is refused: P is what is promised of a fault.
 module _ {Y : Type 0} (X : Type 0) (source : List ℕ) (P : Fault → Type 0)
@@ -174,5 +174,5 @@ module _ {Y : Type 0} (X : Type 0) (source : List ℕ) (P : Fault → Type 0)
           fault.span.start)
           → IfFault {X = X} (Err f) (λ fault. fault.span.end ≡ fault.span.start)
           → IfRefused {X = Y} (Err (failure_of f)) (λ fault. P (view_fault fault))
-      by_failure (lexing.Fault fault) b z = broken _ _ _ (break_from_start state source _ _ e b) (told_lexical fault z)
+      by_failure (lexing.Fault fault) b z = broken _ _ _ (break_from_start state source _ _ e b) (lexical_reported fault z)
       by_failure lexing.Memory b z = tt

@@ -66,9 +66,9 @@ IfRefused (Err (failure.Refused fault)) P = P fault
 IfRefused _ P = Unit {0}
 
 -- The result is what the reading gives, unless memory ran out. Nothing is said of what it leaves.
-abbrev pub AnswersAs : {X Y : Type 0} → (X → Y) → Result X ParseFailure → Read Y → Type 0
-AnswersAs view (Ok x) read = (left : List Lexeme) × (read ≡ Ok (view x, left))
-AnswersAs view (Err e) read = (left : List Lexeme) × Fails e left read
+abbrev pub ReturnsAs : {X Y : Type 0} → (X → Y) → Result X ParseFailure → Read Y → Type 0
+ReturnsAs view (Ok x) read = (left : List Lexeme) × (read ≡ Ok (view x, left))
+ReturnsAs view (Err e) read = (left : List Lexeme) × Fails e left read
 
 -- ---- literals
 
@@ -92,13 +92,13 @@ module _ {A : Type 0} (R : A → List Lexeme → Type 0) where
     pub leaves : left ≡ past (token ∷ after)
 
 -- The one prefix that is a value was taken, or none is one.
-abbrev pub AnswersValue : {X C : Type 0} → Scalars C Error → Bool → (X → Value C) → Result X ParseFailure → List Lexeme → List Lexeme → Type 0
-AnswersValue {C = C} S free view (Ok x) old left = Takes (IsValue S free) (view x) old left × ((us vs : List Lexeme) (y : Value C) → old ≡ us ++ vs → IsValue S free y us → (vs ≡ left) × (y ≡ view x))
-AnswersValue S free view (Err (failure.Refused e)) old left = Refuses (IsValue S free) (ValueRefusedAt UnexpectedEndOfFile unexpected S free) (view_fault e) old left
-AnswersValue S free view (Err failure.Memory) old left = Unit {0}
+abbrev pub ReturnsValue : {X C : Type 0} → Scalars C Error → Bool → (X → Value C) → Result X ParseFailure → List Lexeme → List Lexeme → Type 0
+ReturnsValue {C = C} S free view (Ok x) old left = Takes (IsValue S free) (view x) old left × ((us vs : List Lexeme) (y : Value C) → old ≡ us ++ vs → IsValue S free y us → (vs ≡ left) × (y ≡ view x))
+ReturnsValue S free view (Err (failure.Refused e)) old left = Refuses (IsValue S free) (ValueRefusedAt UnexpectedEndOfFile unexpected S free) (view_fault e) old left
+ReturnsValue S free view (Err failure.Memory) old left = Unit {0}
 
 -- The longest prefix that is a type was taken, or none is one.
-abbrev pub AnswersType : {X : Type 0} → (X → Located TypeRef) → Result X ParseFailure → List Lexeme → List Lexeme → Type 0
-AnswersType view (Ok x) old left = Takes (IsLocated IsType) (view x) old left × ((us vs : List Lexeme) (y : TypeRef) → old ≡ us ++ vs → IsType y us → length left ≤ length vs)
-AnswersType view (Err (failure.Refused e)) old left = Refuses IsType (TypeRefusedAt UnexpectedEndOfFile unexpected) (view_fault e) old left
-AnswersType view (Err failure.Memory) old left = Unit {0}
+abbrev pub ReturnsType : {X : Type 0} → (X → Located TypeRef) → Result X ParseFailure → List Lexeme → List Lexeme → Type 0
+ReturnsType view (Ok x) old left = Takes (IsLocated IsType) (view x) old left × ((us vs : List Lexeme) (y : TypeRef) → old ≡ us ++ vs → IsType y us → length left ≤ length vs)
+ReturnsType view (Err (failure.Refused e)) old left = Refuses IsType (TypeRefusedAt UnexpectedEndOfFile unexpected) (view_fault e) old left
+ReturnsType view (Err failure.Memory) old left = Unit {0}

@@ -10,7 +10,7 @@ use Rattle.juniper_tokens.specs.Errors.{Error}
 use Rattle.juniper_tokens.specs.Cursor.{Read, Fails}
 use Rattle.juniper.specs.declared.parser.document.depth.DepthFailure.{DepthFailure}
 use Rattle.juniper.specs.Promise.{HasTree}
-use Rattle.juniper.specs.Within.{AnswersWithin}
+use Rattle.juniper.specs.Within.{ReturnsWithin}
 
 -- These definitions stand at the front of the tokens, in a row.
 pub record StandInFront {C : Type 0} (S : Scalars C Error) (lexemes : List Lexeme) (ds : List (Definition C)) : Type 0 where
@@ -53,5 +53,5 @@ module _ {D C : Type 0} (holds : List ℕ → D → List (Definition C) → Type
   -- The same within a limit on nesting, in the words of the grammar.
   pub record GivesWithin {X : Type 0} (S : Scalars C Error) (depth : ℕ) (source : List ℕ) (result : Result X DepthFailure) : Type 0 where
     pub tree : List (Definition C)
-    pub answers : AnswersWithin S depth source (λ x. tree) result
+    pub answers : ReturnsWithin S depth source (λ x. tree) result
     pub gains : OnOk result (Gains tree)

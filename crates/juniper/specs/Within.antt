@@ -63,14 +63,14 @@ module _ {C : Type 0} (S : Scalars C Error) (depth : ℕ) (source : List ℕ) wh
   IsNestedTooDeep = (span : Span) × HasTooDeep span
 
   -- Exactly one of these three holds of the text.
-  pub record HasOneAnswer : Type 0 where
+  pub record HasOneResult : Type 0 where
     pub some : HasTreeWithin ⊎ (IsRefusedWithin ⊎ IsNestedTooDeep)
     pub tree_or_refused : HasTreeWithin → IsRefusedWithin → ⊥
     pub tree_or_too_deep : HasTreeWithin → IsNestedTooDeep → ⊥
     pub refused_or_too_deep : IsRefusedWithin → IsNestedTooDeep → ⊥
 
   -- What is promised of a result, by outcome.
-  pub record AnswersWithin {X : Type 0} (view : X → List (Definition C)) (result : Result X DepthFailure) : Type 0 where
+  pub record ReturnsWithin {X : Type 0} (view : X → List (Definition C)) (result : Result X DepthFailure) : Type 0 where
     pub accepted : IfOk result (λ x. HasTree S source (view x))
     pub refused : IfRefusedWithin result (λ fault. IsRefusal S source (view_fault fault))
     pub in_characters : IfRefusedWithin result (λ fault. IsRefusalInText S source (view_fault fault))
@@ -78,11 +78,11 @@ module _ {C : Type 0} (S : Scalars C Error) (depth : ℕ) (source : List ℕ) wh
     pub too_deep : IfTooDeep result (λ span. HasTooDeep (view_span span))
 
 -- A fault of tokens that were ended after a deep one, as it is reported: where that one ends stands the end.
-abbrev pub told_within : Option spans.Span → ParseFailure → DepthFailure
-told_within None e = limited.Parse e
-told_within (Some span) (failure.Refused fault) = if fault.span.start.index == span.end.index then limited.TooDeep span else limited.Parse (failure.Refused fault)
-told_within (Some span) failure.Memory = limited.Parse failure.Memory
+abbrev pub failure_within : Option spans.Span → ParseFailure → DepthFailure
+failure_within None e = limited.Parse e
+failure_within (Some span) (failure.Refused fault) = if fault.span.start.index == span.end.index then limited.TooDeep span else limited.Parse (failure.Refused fault)
+failure_within (Some span) failure.Memory = limited.Parse failure.Memory
 
-abbrev pub answer_within : {X : Type 0} → Option spans.Span → Result X ParseFailure → Result X DepthFailure
-answer_within deep (Ok x) = Ok x
-answer_within deep (Err e) = Err (told_within deep e)
+abbrev pub result_within : {X : Type 0} → Option spans.Span → Result X ParseFailure → Result X DepthFailure
+result_within deep (Ok x) = Ok x
+result_within deep (Err e) = Err (failure_within deep e)

@@ -29,7 +29,7 @@ ghost use Rattle.juniper.specs.Promise.{HasTree, IsRefusal};
 ghost use Rattle.juniper.specs.laws.TreeLaws.{FailsAtBreak, IsRefusedAtBreak, SeesValues, SeesSelections};
 ghost use Rattle.juniper.specs.Scalars.{stated};
 ghost use Rattle.juniper.specs.Sources.{AreRefusedAlike};
-ghost use Rattle.juniper.specs.Within.{HasTooDeep, HasOneAnswer};
+ghost use Rattle.juniper.specs.Within.{HasTooDeep, HasOneResult};
 
 mod equality;
 
@@ -43,7 +43,7 @@ use juniper_values::ScalarValue;
 pub use juniper_values::laws as values;
 
 /// Where a lexer fails at its source's break, a parser returns the lexical error that stands there.
-pub fn lexer_failures_are_told()
+pub fn lexer_failures_are_reported()
     ensures { (source : List ℕ) (failed : LexFailure) → FailsAtBreak source failed → IsRefusedAtBreak source (failure_of failed) }
 {}
 
@@ -62,7 +62,7 @@ pub fn one_too_deep<S: ScalarValue>()
 /// Within a limit on nesting, a source text has a tree, is refused, or has a token that is nested too deep: exactly one
 /// of these.
 pub fn one_answer_within<S: ScalarValue>()
-    ensures { (depth : ℕ) (source : List ℕ) → HasOneAnswer (stated S.reading S.of_bool) depth source }
+    ensures { (depth : ℕ) (source : List ℕ) → HasOneResult (stated S.reading S.of_bool) depth source }
 {}
 
 /// Two source texts whose tokens are alike, in kinds and texts, are both documents, whose trees differ in spans alone,

@@ -7,7 +7,7 @@ ghost use Rattle.std.specs.declared.alloc.Global.{Global};
 ghost use Rattle.juniper_values.specs.laws.ValueLaws.{IsEqualityLike};
 ghost use Rattle.juniper_answers.specs.Copies.{Copies};
 ghost use Rattle.juniper_answers.specs.Input.{as_input};
-ghost use Rattle.juniper_answers.specs.laws.AnswerLaws.{IsOneName, IsPlainInput, ComparesParts, TellsKindsApart, ShowsAll};
+ghost use Rattle.juniper_answers.specs.laws.AnswerLaws.{IsOneName, IsPlainInput, ComparesParts, HasKindsApart, ShowsAll};
 ghost use Rattle.juniper_answers.specs.Names.{is_name};
 ghost use Rattle.juniper_answers.specs.NameTexts.{text_of_name};
 ghost use Rattle.juniper_answers.specs.Same.{same_entries};
@@ -40,7 +40,7 @@ pub fn objects_are_compared<S: Eq>()
 /// Values are equal if they are of one kind and hold equal parts, the fields of objects in any order.
 pub fn values_are_compared_by_parts<S: Eq>()
     ensures parts { ComparesParts S.eq ⟦<Value<S> as PartialEq>⟧.eq }
-    ensures kinds { TellsKindsApart ⟦<Value<S> as PartialEq>⟧.eq }
+    ensures kinds { HasKindsApart ⟦<Value<S> as PartialEq>⟧.eq }
 {}
 
 /// Objects are equal if they have the same keys, in any order, with equal values.

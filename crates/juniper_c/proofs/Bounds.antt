@@ -9,14 +9,14 @@ use Rattle.graphql_nodes.specs.Nodes.{document_nodes}
 use Rattle.graphql_nodes.proofs.Public.{few_nodes_of_source}
 use Rattle.juniper_tokens.proofs.Public.{chars_within}
 use Rattle.juniper_values.specs.Scalar.{Content}
-use Rattle.juniper_c.specs.Nodes.{byte_count, told_nodes}
+use Rattle.juniper_c.specs.Nodes.{byte_count, written_nodes}
 use Rattle.juniper_nodes.specs.NodeTexts.{text_of_node}
 use Rattle.juniper_c.specs.declared.flat.Flat.{Flat}
 use Rattle.juniper_c.specs.declared.flat.Stop.{Stop}
-use Rattle.juniper_c.specs.Answers.{AnswersFlat, HasDocument, scalars, nodes_of, texts_of}
+use Rattle.juniper_c.specs.Answers.{ReturnsFlat, HasDocument, scalars, nodes_of, texts_of}
 use Rattle.juniper_c.proofs.ShortScalars.{short_texts}
 
-told-length : (source : List ℕ) (at : ℕ) (ns : List (nodes.Node Content)) → length (told_nodes source at ns) ≡ length ns
+told-length : (source : List ℕ) (at : ℕ) (ns : List (nodes.Node Content)) → length (written_nodes source at ns) ≡ length ns
 told-length source at [] = refl
 told-length source at (n ∷ ns) = ap suc (told-length source (at + byte_count (text_of_node n)) ns)
 
@@ -29,7 +29,7 @@ within_source source depth tree h =
       omega (arith, short, ap length (encodes-chars source h.utf8)),
     )
 
-pub flat_within : (source : List ℕ) (depth : ℕ) (result : Result Flat Stop) → AnswersFlat source depth result
+pub flat_within : (source : List ℕ) (depth : ℕ) (result : Result Flat Stop) → ReturnsFlat source depth result
     → IfOk result (λ flat.
     (length flat.nodes.items ≤ length source) × (length (string_bytes flat.texts) ≤ length source))
 flat_within source depth (Ok flat) h =

@@ -9,7 +9,7 @@ use Rattle.graphql_lexical.specs.Cutting.{Lexeme, Breaks}
 use Rattle.graphql_lexical.proofs.Public.{has_canonical_sizes}
 use Rattle.juniper_tokens.proofs.Public.{chars_within}
 use Rattle.juniper_c.specs.Tokens.{HasTokens}
-use Rattle.juniper_c.specs.CanonicalTexts.{AnswersCanonical, IsToldRefusal}
+use Rattle.juniper_c.specs.CanonicalTexts.{ReturnsCanonical, IsReportedRefusal}
 use Rattle.juniper_c.specs.declared.canonical.Canonical.{Canonical}
 use Rattle.juniper_c.specs.declared.canonical.Canonical.TheVariants as answer
 use Rattle.juniper_c.proofs.Fitting.{broken_fits}
@@ -23,7 +23,7 @@ canonical_within source lexemes h =
 
 -- what is answered where it can't be cut
 pub canonical_refused : (text : List ℕ) (error : LexicalError) (at : Place) (result : Canonical) → length text < 2 ^ 32
-    → IsUtf8 text → Breaks (chars text) error at → IsToldRefusal (chars text) error at result → AnswersCanonical text result
+    → IsUtf8 text → Breaks (chars text) error at → IsReportedRefusal (chars text) error at result → ReturnsCanonical text result
 canonical_refused text error at (answer.Text written) l u b none = absurd none
 canonical_refused text error at (answer.Refused fault) l u b told =
     let few : length (chars text) < 2 ^ 32 = omega (arith, chars_within text u, l) in

@@ -26,7 +26,7 @@ use Rattle.juniper_c.specs.Nodes.{byte_count}
 use Rattle.juniper_c.specs.FlatWriters.{PlaceFits, SpanFits, NodesFit}
 use Rattle.juniper_c.specs.Answers.{scalars}
 use Rattle.juniper_c.proofs.ShortScalars.{short_texts}
-use Rattle.juniper_c.proofs.Told.{bytes-append}
+use Rattle.juniper_c.proofs.Written.{bytes-append}
 
 -- ---- places
 

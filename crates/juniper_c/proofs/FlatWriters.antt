@@ -7,11 +7,11 @@ use Rattle.juniper.specs.Sinks.{Gains}
 use Rattle.juniper_values.specs.Scalar.{Content}
 use Rattle.juniper_nodes.specs.NodeTexts.{node_texts}
 use Rattle.juniper_c.specs.ByteTables.{IsTableOf}
-use Rattle.juniper_c.specs.Nodes.{byte_count, told_nodes}
+use Rattle.juniper_c.specs.Nodes.{byte_count, written_nodes}
 use Rattle.juniper_c.specs.FlatWriters.{Holds, NodesFit}
 use Rattle.juniper_c.specs.declared.flat.Flat.{Flat}
 use Rattle.juniper_c.specs.declared.flat.FlatWriter.{FlatWriter}
-use Rattle.juniper_c.proofs.Told.{told-next, fits-append, texts-append, document-more}
+use Rattle.juniper_c.proofs.Written.{told-next, fits-append, texts-append, document-more}
 
 -- what holds in any case holds where there is an error
 pub holds_on_err : {X E P : Type 0} (result : Result X E) → P → OnErr result P
@@ -22,7 +22,7 @@ holds_on_err (Err e) p = p
 pub gains-definition : {X E : Type 0} (result : Result X E) (old : FlatWriter) (flat : Flat) (d : Definition Content)
     → ((source : List ℕ) → IsTableOf source old.table.now → NodesFit (length (string_bytes old.flat.texts)) (definition_nodes d)
     → OnOk result (flat.nodes.items
-    ≡ old.flat.nodes.items ++ told_nodes source (length (string_bytes old.flat.texts)) (definition_nodes d)))
+    ≡ old.flat.nodes.items ++ written_nodes source (length (string_bytes old.flat.texts)) (definition_nodes d)))
     → OnOk result (string_bytes flat.texts ≡ string_bytes old.flat.texts
     ++ encode_utf8_all (node_texts (definition_nodes d)))
     → OnOk result (Gains Holds old (record old { flat = flat }) (d ∷ []))
@@ -39,7 +39,7 @@ gains-definition (Ok x) old flat d nodes texts = record {
             omega (arith, ap length h.texts) in
             let behind = subst (λ (k : ℕ). NodesFit k ns) at fits.1 in
             told-next source done ns _ _ _ (h.nodes fits.0) h.texts (nodes source h.table behind)
-            ∙ ap (told_nodes source 0) all;
+            ∙ ap (written_nodes source 0) all;
         texts =
             texts ∙ (ap (λ bs. bs ++ encode_utf8_all (node_texts ns)) h.texts
             ∙ (texts-append done ns ∙ ap (λ ms. encode_utf8_all (node_texts ms)) all));

@@ -11,7 +11,7 @@ use Rattle.juniper_tokens.specs.Lexing.{LexerState, started, BreaksAt}
 use Rattle.juniper_tokens.proofs.Public.{chars_within, Gathered, gathered_open, gathered_token}
 use Rattle.juniper_c.specs.Answers.{Fills}
 use Rattle.juniper_c.specs.TokenCounts.{HasMore}
-use Rattle.juniper_c.specs.Tokens.{told_token, told_tokens, HasTokens, HasFaultBehind}
+use Rattle.juniper_c.specs.Tokens.{written_token, written_tokens, HasTokens, HasFaultBehind}
 use Rattle.juniper_c.specs.declared.token.Token.{Token}
 use Rattle.juniper_c.proofs.Rooms.{fills_none, fills_more}
 
@@ -30,7 +30,7 @@ pub record Held (source : List ℕ) (old : List Token) (lexer : LexerState) (roo
   pub leads : Leads source 0 tokens lexer.index
   pub same : lexer.source ≡ source
   pub going : lexer.ended ≡ false
-  pub fills : Fills (told_tokens source tokens) old room
+  pub fills : Fills (written_tokens source tokens) old room
   pub count_is : count ≡ length tokens
 
 pub held_first : (source : List ℕ) (old : List Token) → Held source old (started source) old 0
@@ -44,14 +44,14 @@ held_first source old = record {
 }
 
 fills_next : (source : List ℕ) (xs : List Lexeme) (x : Lexeme) (old room : List Token) (count : ℕ) (told : Token)
-    → Fills (told_tokens source xs) old room → count ≡ length xs → told ≡ told_token source x
-    → Fills (told_tokens source (xs ++ x ∷ [])) old (set room count told)
+    → Fills (written_tokens source xs) old room → count ≡ length xs → told ≡ written_token source x
+    → Fills (written_tokens source (xs ++ x ∷ [])) old (set room count told)
 fills_next source xs x old room count told f e is =
-    let ts = told_tokens source xs in
-    let at : count ≡ length ts = e ∙ sym (length-map xs (told_token source)) in
-    let more = fills_more ts old room (told_token source x) f in
-    subst (λ (ys : List Token). Fills ys old (set room count told)) (sym (map-append (told_token source) xs (x ∷ [])))
-    (subst (λ (new : List Token). Fills (ts ++ told_token source x ∷ []) old new)
+    let ts = written_tokens source xs in
+    let at : count ≡ length ts = e ∙ sym (length-map xs (written_token source)) in
+    let more = fills_more ts old room (written_token source x) f in
+    subst (λ (ys : List Token). Fills ys old (set room count told)) (sym (map-append (written_token source) xs (x ∷ [])))
+    (subst (λ (new : List Token). Fills (ts ++ written_token source x ∷ []) old new)
     (ap₂ (λ (n : ℕ) (t : Token). set room n t) (sym at) (sym is)) more)
 
 module _ (source : List ℕ) (old room : List Token) (s : LexerState) (count : ℕ) (h : Held source old s room count) where
@@ -64,14 +64,14 @@ module _ (source : List ℕ) (old room : List Token) (s : LexerState) (count : �
   breaks_here error at = subst (λ (text : List ℕ). BreaksAt text s.index error at) h.same
 
   -- one token more is put behind those
-  pub held_told : (new : List Token) (told : Token) (x : Lexeme) → told ≡ told_token source x → new ≡ set room count told
-      → Fills (told_tokens source (h.tokens ++ x ∷ [])) old new
-  held_told new told x is put = subst (Fills (told_tokens source (h.tokens ++ x ∷ [])) old) (sym put)
+  pub held_told : (new : List Token) (told : Token) (x : Lexeme) → told ≡ written_token source x → new ≡ set room count told
+      → Fills (written_tokens source (h.tokens ++ x ∷ [])) old new
+  held_told new told x is put = subst (Fills (written_tokens source (h.tokens ++ x ∷ [])) old) (sym put)
       (fills_next source h.tokens x old room count told h.fills h.count_is is)
 
   -- and it is not the end
   pub held_more : (t : LexerState) (new : List Token) (told : Token) (x : Lexeme) → Stands source s.index x t.index
-      → (x.kind ≡ EndOfFile → ⊥) → t.source ≡ s.source → t.ended ≡ false → told ≡ told_token source x
+      → (x.kind ≡ EndOfFile → ⊥) → t.source ≡ s.source → t.ended ≡ false → told ≡ written_token source x
       → new ≡ set room count told → Held source old t new (count + 1)
   held_more t new told x stands other same going is put = record {
     tokens = h.tokens ++ x ∷ [];
@@ -85,7 +85,7 @@ module _ (source : List ℕ) (old room : List Token) (s : LexerState) (count : �
   -- the token behind those is one too many
   pub held_many : (most : ℕ) (x : Lexeme) (next : ℕ) (span : Span) → count ≡ most → Stands source s.index x next
       → (x.kind ≡ EndOfFile → ⊥) → span ≡ x.span
-      → (more : HasMore source 0 most span) × Fills (told_tokens source more.front) old room
+      → (more : HasMore source 0 most span) × Fills (written_tokens source more.front) old room
   held_many most x next span e stands other at = (
     record {
       front = h.tokens;

@@ -1,5 +1,5 @@
 pub mod Bytes
-pub mod Told
+pub mod Written
 pub mod Scalars
 pub mod ShortScalars
 pub mod Bounds

@@ -5,7 +5,7 @@ use Rattle.graphql_lexical.specs.Place.{Span}
 use Rattle.graphql_lexical.specs.declared.kind.Kind.TheVariants.{EndOfFile}
 use Rattle.graphql_lexical.specs.Cutting.{Lexeme, Stands}
 use Rattle.juniper_c.specs.FlatWriters.{PlaceFits, SpanFits}
-use Rattle.juniper_c.specs.TokenCounts.{EndsAt, HasFew, HasMore, IsTooMany, AnswersCounted}
+use Rattle.juniper_c.specs.TokenCounts.{EndsAt, HasFew, HasMore, IsTooMany, ReturnsCounted}
 use Rattle.juniper_c.specs.declared.count.Counted.{Counted}
 use Rattle.juniper_c.specs.declared.count.Counted.TheVariants as counted
 use Rattle.juniper_c.proofs.Fitting.{any_place_fits}
@@ -62,7 +62,7 @@ few_here source k most e = record { tokens = []; next = k; leads = refl; ends = 
 -- what is answered where there are too many
 pub counted_many : (text : List ℕ) (most : ℕ) (span : Span) (result : Counted) → length text < 2 ^ 32 → IsUtf8 text
     → HasMore (chars text) 0 most span → SpanFits span → IsTooMany (chars text) span result
-    → AnswersCounted text most result
+    → ReturnsCounted text most result
 counted_many text most span counted.Few l u h f none = absurd none
 counted_many text most span (counted.Many fault) l u h f told = (l, u, (span, h, told f))
 counted_many text most span counted.NotUtf8 l u h f none = absurd none

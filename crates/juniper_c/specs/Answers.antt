@@ -11,9 +11,9 @@ use Rattle.juniper.specs.Scalars.{stated}
 use Rattle.juniper.specs.Promise.{HasTree, IsRefusal}
 use Rattle.juniper.specs.Within.{HasTooDeep, IsWithin}
 use Rattle.juniper_nodes.specs.NodeTexts.{node_texts}
-use Rattle.juniper_c.specs.Nodes.{told_nodes}
+use Rattle.juniper_c.specs.Nodes.{written_nodes}
 use Rattle.juniper_c.specs.Scalars.{scalar_reading}
-use Rattle.juniper_c.specs.Faults.{told_fault, deep_fault}
+use Rattle.juniper_c.specs.Faults.{written_fault, deep_fault}
 use Rattle.juniper_c.specs.declared.flat.Flat.{Flat}
 use Rattle.juniper_c.specs.declared.flat.Stop.{Stop}
 use Rattle.juniper_c.specs.declared.flat.Stop.TheVariants as stop
@@ -52,7 +52,7 @@ pub record HasDeepToken (source : List ℕ) (depth : ℕ) (span : Span) : Type 0
 
 -- the nodes of a tree
 abbrev pub nodes_of : List ℕ → List (Definition Content) → List Node
-nodes_of source tree = told_nodes (chars source) 0 (document_nodes tree)
+nodes_of source tree = written_nodes (chars source) 0 (document_nodes tree)
 
 -- the texts of its nodes, in UTF-8
 abbrev pub texts_of : List (Definition Content) → List ℕ
@@ -82,19 +82,19 @@ HasMessage source depth message =
 
 -- ---- before the buffers are looked at
 
-abbrev pub AnswersFlat : List ℕ → ℕ → Result Flat Stop → Type 0
-AnswersFlat source depth (Ok flat) = (length source < 2 ^ 32) × ((tree : List (Definition Content)) × HasDocument source depth tree
+abbrev pub ReturnsFlat : List ℕ → ℕ → Result Flat Stop → Type 0
+ReturnsFlat source depth (Ok flat) = (length source < 2 ^ 32) × ((tree : List (Definition Content)) × HasDocument source depth tree
     × (flat.nodes.items ≡ nodes_of source tree) × (string_bytes flat.texts ≡ texts_of tree))
-AnswersFlat source depth (Err (stop.Refused fault)) = (length source < 2 ^ 32) × ((found : errors.Fault) × HasRefusal source depth found × (fault ≡ told_fault (chars source) found))
-AnswersFlat source depth (Err (stop.TooDeep fault)) = (length source < 2 ^ 32) × ((span : Span) × HasDeepToken source depth span × (fault ≡ deep_fault (chars source) span))
-AnswersFlat source depth (Err stop.NotUtf8) = (length source < 2 ^ 32) × ¬ IsUtf8 source
-AnswersFlat source depth (Err stop.Memory) = length source < 2 ^ 32
-AnswersFlat source depth (Err stop.TooLong) = 2 ^ 32 ≤ length source
+ReturnsFlat source depth (Err (stop.Refused fault)) = (length source < 2 ^ 32) × ((found : errors.Fault) × HasRefusal source depth found × (fault ≡ written_fault (chars source) found))
+ReturnsFlat source depth (Err (stop.TooDeep fault)) = (length source < 2 ^ 32) × ((span : Span) × HasDeepToken source depth span × (fault ≡ deep_fault (chars source) span))
+ReturnsFlat source depth (Err stop.NotUtf8) = (length source < 2 ^ 32) × ¬ IsUtf8 source
+ReturnsFlat source depth (Err stop.Memory) = length source < 2 ^ 32
+ReturnsFlat source depth (Err stop.TooLong) = 2 ^ 32 ≤ length source
 
-abbrev pub AnswersSaid : List ℕ → ℕ → Said → Type 0
-AnswersSaid source depth said.Tree = (length source < 2 ^ 32) × ((tree : List (Definition Content)) × HasDocument source depth tree)
-AnswersSaid source depth (said.Refused message) = (length source < 2 ^ 32) × ((fault : errors.Fault) × HasRefusal source depth fault × (string_bytes message ≡ refusal_message fault))
-AnswersSaid source depth (said.TooDeep message) = (length source < 2 ^ 32) × ((span : Span) × HasDeepToken source depth span × (string_bytes message ≡ deep_message span))
-AnswersSaid source depth said.NotUtf8 = (length source < 2 ^ 32) × ¬ IsUtf8 source
-AnswersSaid source depth said.Memory = length source < 2 ^ 32
-AnswersSaid source depth said.TooLong = 2 ^ 32 ≤ length source
+abbrev pub ReturnsSaid : List ℕ → ℕ → Said → Type 0
+ReturnsSaid source depth said.Tree = (length source < 2 ^ 32) × ((tree : List (Definition Content)) × HasDocument source depth tree)
+ReturnsSaid source depth (said.Refused message) = (length source < 2 ^ 32) × ((fault : errors.Fault) × HasRefusal source depth fault × (string_bytes message ≡ refusal_message fault))
+ReturnsSaid source depth (said.TooDeep message) = (length source < 2 ^ 32) × ((span : Span) × HasDeepToken source depth span × (string_bytes message ≡ deep_message span))
+ReturnsSaid source depth said.NotUtf8 = (length source < 2 ^ 32) × ¬ IsUtf8 source
+ReturnsSaid source depth said.Memory = length source < 2 ^ 32
+ReturnsSaid source depth said.TooLong = 2 ^ 32 ≤ length source

@@ -4,7 +4,7 @@ use Rattle.graphql_lexical.specs.Place.{Span}
 use Rattle.graphql_lexical.specs.Kinds.{LexicalError, UnknownCharacter, UnexpectedCharacter, UnterminatedString, UnknownCharacterInString, UnknownEscapeSequence, UnexpectedEndOfFile, InvalidNumber}
 use Rattle.juniper_tokens.specs.Errors as errors
 use Rattle.juniper_tokens.specs.Errors.{Error}
-use Rattle.juniper_c.specs.Places.{told_place}
+use Rattle.juniper_c.specs.Places.{written_place}
 use Rattle.juniper_c.specs.declared.fault.Fault.{Fault}
 use Rattle.juniper_c.specs.declared.fault.Reason.{Reason}
 
@@ -38,13 +38,13 @@ fault_at source reason span = record {
   kind = reason.kind;
   detail = reason.detail;
   character = reason.character;
-  start = told_place source span.start;
-  end = told_place source span.end;
+  start = written_place source span.start;
+  end = written_place source span.end;
 }
 
 -- a refusal
-abbrev pub told_fault : List ℕ → errors.Fault → Fault
-told_fault source fault = fault_at source (error_reason fault.error) fault.span
+abbrev pub written_fault : List ℕ → errors.Fault → Fault
+written_fault source fault = fault_at source (error_reason fault.error) fault.span
 
 -- a token that is nested too deep
 abbrev pub deep_fault : List ℕ → Span → Fault

@@ -6,7 +6,7 @@ use Rattle.graphql_nodes.specs.Nodes.{Node, document_nodes}
 use Rattle.juniper_values.specs.Scalar.{Content}
 use Rattle.juniper_nodes.specs.NodeTexts.{text_of_node, node_texts}
 use Rattle.juniper_c.specs.ByteTables.{IsTableOf}
-use Rattle.juniper_c.specs.Nodes.{byte_count, told_nodes}
+use Rattle.juniper_c.specs.Nodes.{byte_count, written_nodes}
 use Rattle.juniper_c.specs.declared.flat.FlatWriter.{FlatWriter}
 
 -- ---- numbers of 32 bits, which those of a source of less than 4 GiB all are
@@ -33,5 +33,5 @@ NodesFit at (node ∷ others) = NodeFits at node × NodesFit (at + byte_count (t
 -- The nodes of these definitions of the source are reported, where their numbers fit, and their texts.
 pub record Holds (source : List ℕ) (it : FlatWriter) (ds : List (Definition Content)) : Type 0 where
   pub table : IsTableOf source it.table.now
-  pub nodes : NodesFit 0 (document_nodes ds) → it.flat.nodes.items ≡ told_nodes source 0 (document_nodes ds)
+  pub nodes : NodesFit 0 (document_nodes ds) → it.flat.nodes.items ≡ written_nodes source 0 (document_nodes ds)
   pub texts : string_bytes it.flat.texts ≡ encode_utf8_all (node_texts (document_nodes ds))

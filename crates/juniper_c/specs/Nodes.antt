@@ -11,7 +11,7 @@ use Rattle.juniper_values.specs.Default.{bool_in}
 use Rattle.juniper_values.specs.Scalar.{Content, integer, text, boolean, custom}
 use Rattle.juniper_nodes.specs.Literal.{int_in, str_in}
 use Rattle.juniper_nodes.specs.NodeTexts.{text_of_node}
-use Rattle.juniper_c.specs.Places.{byte_behind, told_place}
+use Rattle.juniper_c.specs.Places.{byte_behind, written_place}
 use Rattle.juniper_c.specs.declared.node.Node.{Node}
 use Rattle.juniper_c.specs.declared.node.Extent.{Extent}
 use Rattle.juniper_c.specs.declared.node.Value.{Value}
@@ -137,12 +137,12 @@ node_value source at content (Named word) = scalar_value at content
 -- ---- nodes
 
 -- a node whose text begins at this byte of the texts
-abbrev pub told_node : List ℕ → ℕ → nodes.Node Content → Node
-told_node source at node = record {
+abbrev pub written_node : List ℕ → ℕ → nodes.Node Content → Node
+written_node source at node = record {
   kind = node_number node.kind node.content;
   descendants = node.descendants;
-  start = told_place source node.span.start;
-  end = told_place source node.span.end;
+  start = written_place source node.span.start;
+  end = written_place source node.span.end;
   name_start = (node_extent source node.kind node.span node.label).start;
   name_end = (node_extent source node.kind node.span node.label).end;
   value = (node_value source at node.content node.label).number;
@@ -150,6 +150,6 @@ told_node source at node = record {
 }
 
 -- nodes whose texts begin at this byte of the texts
-abbrev pub told_nodes : List ℕ → ℕ → List (nodes.Node Content) → List Node
-told_nodes source at [] = []
-told_nodes source at (node ∷ others) = told_node source at node ∷ told_nodes source (at + byte_count (text_of_node node)) others
+abbrev pub written_nodes : List ℕ → ℕ → List (nodes.Node Content) → List Node
+written_nodes source at [] = []
+written_nodes source at (node ∷ others) = written_node source at node ∷ written_nodes source (at + byte_count (text_of_node node)) others

@@ -8,5 +8,5 @@ abbrev pub byte_behind : List ℕ → ℕ → ℕ
 byte_behind source index = length (encode_utf8_all (take index source))
 
 -- a place, in characters, and the byte of the source
-abbrev pub told_place : List ℕ → places.Place → Place
-told_place source p = record { index = p.index; line = p.line; column = p.column; byte = byte_behind source p.index }
+abbrev pub written_place : List ℕ → places.Place → Place
+written_place source p = record { index = p.index; line = p.line; column = p.column; byte = byte_behind source p.index }

@@ -51,10 +51,10 @@ IsTooMany source span counted.NotUtf8 = ⊥
 IsTooMany source span counted.Memory = Unit {0}
 IsTooMany source span counted.TooLong = ⊥
 
-abbrev pub AnswersCounted : List ℕ → ℕ → Counted → Type 0
-AnswersCounted source most counted.Few = (length source < 2 ^ 32) × IsUtf8 source × HasFew (chars source) 0 most
-AnswersCounted source most (counted.Many fault) = (length source < 2 ^ 32) × IsUtf8 source
+abbrev pub ReturnsCounted : List ℕ → ℕ → Counted → Type 0
+ReturnsCounted source most counted.Few = (length source < 2 ^ 32) × IsUtf8 source × HasFew (chars source) 0 most
+ReturnsCounted source most (counted.Many fault) = (length source < 2 ^ 32) × IsUtf8 source
     × ((span : Span) × HasMore (chars source) 0 most span × (fault ≡ many_fault (chars source) span))
-AnswersCounted source most counted.NotUtf8 = (length source < 2 ^ 32) × ¬ IsUtf8 source
-AnswersCounted source most counted.Memory = length source < 2 ^ 32
-AnswersCounted source most counted.TooLong = 2 ^ 32 ≤ length source
+ReturnsCounted source most counted.NotUtf8 = (length source < 2 ^ 32) × ¬ IsUtf8 source
+ReturnsCounted source most counted.Memory = length source < 2 ^ 32
+ReturnsCounted source most counted.TooLong = 2 ^ 32 ≤ length source

@@ -7,7 +7,7 @@ use Rattle.graphql_lexical.specs.declared.kind.Kind.TheVariants as kind
 use Rattle.graphql_lexical.specs.Tokens.{quotes}
 use Rattle.graphql_lexical.specs.Cutting.{Lexeme, Cut, Leads}
 use Rattle.juniper_tokens.specs.Lexing.{BreaksAt}
-use Rattle.juniper_c.specs.Places.{told_place}
+use Rattle.juniper_c.specs.Places.{written_place}
 use Rattle.juniper_c.specs.declared.token.Token.{Token}
 
 abbrev pub kind_number : Kind → ℕ
@@ -39,15 +39,15 @@ abbrev pub token_at : List ℕ → Kind → Span → Token
 token_at source kind span = record {
   kind = kind_number kind;
   quotes = quote_count kind;
-  start = told_place source span.start;
-  end = told_place source span.end;
+  start = written_place source span.start;
+  end = written_place source span.end;
 }
 
-abbrev pub told_token : List ℕ → Lexeme → Token
-told_token source x = token_at source x.kind x.span
+abbrev pub written_token : List ℕ → Lexeme → Token
+written_token source x = token_at source x.kind x.span
 
-abbrev pub told_tokens : List ℕ → List Lexeme → List Token
-told_tokens source xs = map (told_token source) xs
+abbrev pub written_tokens : List ℕ → List Lexeme → List Token
+written_tokens source xs = map (written_token source) xs
 
 -- ---- texts
 
@@ -57,7 +57,7 @@ text_bytes source token = take ((token.end.byte - token.start.byte) - 2 * token.
 
 -- a token is reported with the bytes of its text
 abbrev pub TellsText : List ℕ → Lexeme → Type 0
-TellsText source x = text_bytes source (told_token (chars source) x) ≡ encode_utf8_all x.text
+TellsText source x = text_bytes source (written_token (chars source) x) ≡ encode_utf8_all x.text
 
 -- ---- sources
 

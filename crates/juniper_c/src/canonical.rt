@@ -7,10 +7,10 @@ ghost use Rattle.graphql_lexical.specs.Canonical.{canonical};
 ghost use Rattle.graphql_lexical.specs.Cutting.{Lexeme, Breaks};
 ghost use Rattle.juniper.specs.Promise.{lexical_fault};
 ghost use Rattle.juniper_tokens.specs.Errors.{view_lexer_error};
-ghost use Rattle.juniper_c.specs.Faults.{told_fault};
+ghost use Rattle.juniper_c.specs.Faults.{written_fault};
 ghost use Rattle.juniper_c.specs.Answers.{Begins};
 ghost use Rattle.juniper_c.specs.Tokens.{HasTokens};
-ghost use Rattle.juniper_c.specs.CanonicalTexts.{IsCanonicalStatus, AnswersCanonical, IsToldRefusal};
+ghost use Rattle.juniper_c.specs.CanonicalTexts.{IsCanonicalStatus, ReturnsCanonical, IsReportedRefusal};
 
 use crate::byte_table::ByteTable;
 use crate::fault::{Fault, lexical_fault};
@@ -46,7 +46,7 @@ pub extern "C" fn firthnapkin_canonical(
     // So a buffer twice as long as the source is never too short.
     ensures bounds { needed.new ≤ 2 * length source.now }
     ensures refused { result ≡ REFUSED → IsUtf8 source.now × ((error : LexicalError) × (at : places.Place)
-        × Breaks (chars source.now) error at × (fault.new ≡ told_fault (chars source.now) (lexical_fault error at))) }
+        × Breaks (chars source.now) error at × (fault.new ≡ written_fault (chars source.now) (lexical_fault error at))) }
     ensures no_text { result ≡ NOT_UTF8 → ¬ IsUtf8 source.now }
     ensures too_long { result ≡ TOO_LONG ↔ 2 ^ 32 ≤ length source.now }
 
@@ -78,7 +78,7 @@ enum Canonical {
 }
 
 fn canonical_of(alloc: Global, source: &[u8]) -> Canonical
-    ensures { AnswersCanonical source.now result }
+    ensures { ReturnsCanonical source.now result }
 {
     match text_of(source) {
         Ok(text) => canonical_of_text(alloc, text),
@@ -89,7 +89,7 @@ fn canonical_of(alloc: Global, source: &[u8]) -> Canonical
 
 fn canonical_of_text(alloc: Global, text: &str) -> Canonical
     requires { length text.now < 2 ^ 32 }
-    ensures { AnswersCanonical text.now result }
+    ensures { ReturnsCanonical text.now result }
 {
     match canonical_text(alloc, text) {
         Ok(written) => Canonical::Text(written),
@@ -101,7 +101,7 @@ fn canonical_of_text(alloc: Global, text: &str) -> Canonical
 // A source that is refused for this error at this place.
 fn refused(alloc: Global, text: &str, error: &LexerError, at: SourcePosition) -> Canonical
     requires { length text.now < 2 ^ 32 }
-    ensures { IsToldRefusal (chars text.now) (view_lexer_error error.now) at result }
+    ensures { IsReportedRefusal (chars text.now) (view_lexer_error error.now) at result }
 {
     match ByteTable::new(alloc, text) {
         Ok(table) => Canonical::Refused(lexical_fault(&table, error, at)),

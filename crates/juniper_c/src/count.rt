@@ -4,7 +4,7 @@ ghost use Rattle.std.specs.Str.{chars};
 ghost use Rattle.graphql_lexical.specs.Place as places;
 ghost use Rattle.juniper_tokens.specs.Spans.{view_span};
 ghost use Rattle.juniper_c.specs.Faults.{many_fault};
-ghost use Rattle.juniper_c.specs.TokenCounts.{HasFew, HasMore, IsCountStatus, AnswersCounted, IsTooMany};
+ghost use Rattle.juniper_c.specs.TokenCounts.{HasFew, HasMore, IsCountStatus, ReturnsCounted, IsTooMany};
 
 use crate::byte_table::ByteTable;
 use crate::fault::{Fault, many_fault};
@@ -52,7 +52,7 @@ enum Counted {
 }
 
 fn count_of(alloc: Global, source: &[u8], most: u32) -> Counted
-    ensures { AnswersCounted source.now most result }
+    ensures { ReturnsCounted source.now most result }
 {
     match text_of(source) {
         Ok(text) => count_of_text(alloc, text, most),
@@ -63,7 +63,7 @@ fn count_of(alloc: Global, source: &[u8], most: u32) -> Counted
 
 fn count_of_text(alloc: Global, text: &str, most: u32) -> Counted
     requires { length text.now < 2 ^ 32 }
-    ensures { AnswersCounted text.now most result }
+    ensures { ReturnsCounted text.now most result }
 {
     let mut lexer = Lexer::new(alloc, text);
     let mut left = most;

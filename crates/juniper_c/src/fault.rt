@@ -5,7 +5,7 @@ ghost use Rattle.juniper_tokens.specs.Spans.{view_span};
 ghost use Rattle.juniper_c.specs.ByteTables.{IsTableOf};
 ghost use Rattle.juniper.specs.Promise.{lexical_fault};
 ghost use Rattle.juniper_c.specs.FlatWriters.{PlaceFits, SpanFits};
-ghost use Rattle.juniper_c.specs.Faults.{lexical_reason, error_reason, fault_at, told_fault, deep_fault, many_fault};
+ghost use Rattle.juniper_c.specs.Faults.{lexical_reason, error_reason, fault_at, written_fault, deep_fault, many_fault};
 
 use crate::byte_table::ByteTable;
 use crate::place::{Place, place_at};
@@ -35,8 +35,8 @@ struct Reason {
 }
 
 /// The fault of a source that is refused.
-pub(crate) fn told_fault(table: &ByteTable, fault: &Spanning<ParseError>) -> Fault
-    ensures { (source : List ℕ) → IsTableOf source table.now → SpanFits (view_fault fault.now).span → result ≡ told_fault source (view_fault fault.now) }
+pub(crate) fn written_fault(table: &ByteTable, fault: &Spanning<ParseError>) -> Fault
+    ensures { (source : List ℕ) → IsTableOf source table.now → SpanFits (view_fault fault.now).span → result ≡ written_fault source (view_fault fault.now) }
 {
     fault_at(table, error_reason(&fault.item), &fault.span)
 }
@@ -57,7 +57,7 @@ pub(crate) fn many_fault(table: &ByteTable, span: Span) -> Fault
 
 /// The fault of a source with this lexical error there.
 pub(crate) fn lexical_fault(table: &ByteTable, error: &LexerError, at: SourcePosition) -> Fault
-    ensures { (source : List ℕ) → IsTableOf source table.now → PlaceFits at → result ≡ told_fault source (lexical_fault (view_lexer_error error.now) at) }
+    ensures { (source : List ℕ) → IsTableOf source table.now → PlaceFits at → result ≡ written_fault source (lexical_fault (view_lexer_error error.now) at) }
 {
     fault_at(table, lexical_reason(error), &Span::zero_width(at))
 }

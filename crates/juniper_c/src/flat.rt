@@ -7,14 +7,14 @@ ghost use Rattle.juniper_nodes.specs.NodeTexts.{node_texts};
 ghost use Rattle.juniper_nodes.specs.NodeViews.{view_node};
 ghost use Rattle.juniper_c.specs.ByteTables.{IsTableOf};
 ghost use Rattle.juniper_c.specs.Scalars.{scalar_content};
-ghost use Rattle.juniper_c.specs.Nodes.{told_nodes};
+ghost use Rattle.juniper_c.specs.Nodes.{written_nodes};
 ghost use Rattle.juniper_c.specs.FlatWriters.{NodesFit};
-ghost use Rattle.juniper_c.specs.declared.node.Node.{Node as Told};
-ghost use Rattle.juniper_c.specs.Answers.{AnswersFlat};
+ghost use Rattle.juniper_c.specs.declared.node.Node.{Node as Written};
+ghost use Rattle.juniper_c.specs.Answers.{ReturnsFlat};
 
 use crate::byte_table::ByteTable;
-use crate::fault::{Fault, deep_fault, told_fault};
-use crate::node::{Node, told_node, write_node};
+use crate::fault::{Fault, deep_fault, written_fault};
+use crate::node::{Node, write_node, written_node};
 use crate::scalar::Scalar;
 use crate::source::{Unread, text_of};
 use juniper::{Definition, DefinitionSink, DepthFailure, ParseFailure, parse_document_source_into};
@@ -48,7 +48,7 @@ impl DefinitionSink<Scalar> for FlatWriter<'_> {
         ensures taken { OnOk result (Gains Holds self.old self.new (view_definition scalar_content definition.entry ∷ [])) }
         ensures kept { OnErr result (Gains Holds self.old self.new []) }
     {
-        tell_definition(self.alloc, &mut self.flat, self.table, &definition)
+        write_definition(self.alloc, &mut self.flat, self.table, &definition)
     }
 }
 
@@ -84,7 +84,7 @@ impl From<AllocError> for Stop {
 
 /// The nodes of a source.
 pub(crate) fn flat_of(alloc: Global, source: &[u8], depth: u32) -> Result<Flat, Stop>
-    ensures answer { AnswersFlat source.now depth result }
+    ensures answer { ReturnsFlat source.now depth result }
     ensures bounds { IfOk result (λ flat. (length flat.nodes.items ≤ length source.now) × (length (string_bytes flat.texts) ≤ length source.now)) }
 {
     match text_of(source) {
@@ -96,7 +96,7 @@ pub(crate) fn flat_of(alloc: Global, source: &[u8], depth: u32) -> Result<Flat, 
 
 fn flat_of_text(alloc: Global, text: &str, depth: u32) -> Result<Flat, Stop>
     requires { length text.now < 2 ^ 32 }
-    ensures { AnswersFlat text.now depth result }
+    ensures { ReturnsFlat text.now depth result }
 {
     let table = ByteTable::new(alloc, text)?;
     let mut writer = FlatWriter {
@@ -115,7 +115,7 @@ fn flat_of_text(alloc: Global, text: &str, depth: u32) -> Result<Flat, Stop>
     ) {
         Ok(()) => Ok(writer.flat),
         Err(DepthFailure::Parse(ParseFailure::Refused(found))) => {
-            Err(Stop::Refused(told_fault(&table, &found)))
+            Err(Stop::Refused(written_fault(&table, &found)))
         }
         Err(DepthFailure::TooDeep(span)) => Err(Stop::TooDeep(deep_fault(&table, span))),
         Err(DepthFailure::Parse(ParseFailure::Memory)) => Err(Stop::Memory),
@@ -134,13 +134,13 @@ fn room_for_nodes(alloc: Global, length: usize) -> Vec<Node>
 }
 
 // Appends the nodes of a definition, or none of them.
-fn tell_definition<'t, 'a>(
+fn write_definition<'t, 'a>(
     alloc: Global,
     flat: &mut Flat,
     table: &ByteTable,
     definition: &'t Definition<'a, Scalar>,
 ) -> Result<(), AllocError>
-    ensures nodes { (source : List ℕ) → IsTableOf source table.now → NodesFit (length (string_bytes flat.old.texts)) (definition_nodes (view_definition scalar_content definition.now)) → OnOk result (flat.new.nodes.items ≡ flat.old.nodes.items ++ told_nodes source (length (string_bytes flat.old.texts)) (definition_nodes (view_definition scalar_content definition.now))) }
+    ensures nodes { (source : List ℕ) → IsTableOf source table.now → NodesFit (length (string_bytes flat.old.texts)) (definition_nodes (view_definition scalar_content definition.now)) → OnOk result (flat.new.nodes.items ≡ flat.old.nodes.items ++ written_nodes source (length (string_bytes flat.old.texts)) (definition_nodes (view_definition scalar_content definition.now))) }
     ensures texts { OnOk result (string_bytes flat.new.texts ≡ string_bytes flat.old.texts ++ encode_utf8_all (node_texts (definition_nodes (view_definition scalar_content definition.now)))) }
     ensures same_nodes { OnErr result (flat.new.nodes.items ≡ flat.old.nodes.items) }
     ensures same_texts { OnErr result (string_bytes flat.new.texts ≡ string_bytes flat.old.texts) }
@@ -150,26 +150,26 @@ fn tell_definition<'t, 'a>(
         NODES_OF_A_DEFINITION,
     )?;
     push_definition(&mut nodes, definition)?;
-    let told = flat.nodes.len();
-    match tell(alloc, flat, table, &nodes) {
+    let before = flat.nodes.len();
+    match write_nodes(alloc, flat, table, &nodes) {
         Ok(()) => Ok(()),
         Err(error) => {
-            flat.nodes.truncate(told);
+            flat.nodes.truncate(before);
             Err(error)
         }
     }
 }
 
 // Appends these nodes. Where memory runs out, some may stand there, and none of their texts.
-fn tell(
+fn write_nodes(
     alloc: Global,
     flat: &mut Flat,
     table: &ByteTable,
     nodes: &[juniper_nodes::Node<'_, '_, Scalar>],
 ) -> Result<(), AllocError>
-    ensures nodes { (source : List ℕ) → IsTableOf source table.now → NodesFit (length (string_bytes flat.old.texts)) (map (view_node scalar_content) nodes.now) → OnOk result (flat.new.nodes.items ≡ flat.old.nodes.items ++ told_nodes source (length (string_bytes flat.old.texts)) (map (view_node scalar_content) nodes.now)) }
+    ensures nodes { (source : List ℕ) → IsTableOf source table.now → NodesFit (length (string_bytes flat.old.texts)) (map (view_node scalar_content) nodes.now) → OnOk result (flat.new.nodes.items ≡ flat.old.nodes.items ++ written_nodes source (length (string_bytes flat.old.texts)) (map (view_node scalar_content) nodes.now)) }
     ensures texts { OnOk result (string_bytes flat.new.texts ≡ string_bytes flat.old.texts ++ encode_utf8_all (node_texts (map (view_node scalar_content) nodes.now))) }
-    ensures more_nodes { OnErr result ((more : List Told) × (flat.new.nodes.items ≡ flat.old.nodes.items ++ more)) }
+    ensures more_nodes { OnErr result ((more : List Written) × (flat.new.nodes.items ≡ flat.old.nodes.items ++ more)) }
     ensures same_texts { OnErr result (string_bytes flat.new.texts ≡ string_bytes flat.old.texts) }
 {
     let from = flat.texts.len();
@@ -178,7 +178,8 @@ fn tell(
         let at = texts.len();
         write_node(&mut texts, node)?;
         let length = texts.len() - at;
-        flat.nodes.push(told_node(table, node, from + at, length))?;
+        flat.nodes
+            .push(written_node(table, node, from + at, length))?;
     }
     flat.texts.push_str(texts.as_str())
 }

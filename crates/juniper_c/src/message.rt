@@ -6,7 +6,7 @@ ghost use Rattle.juniper_tokens.specs.Errors as errors;
 ghost use Rattle.juniper_tokens.specs.Errors.{view_fault};
 ghost use Rattle.juniper_tokens.specs.Spans.{view_span};
 ghost use Rattle.juniper_values.specs.Scalar.{Content};
-ghost use Rattle.juniper_c.specs.Answers.{AnswersSaid, Begins, HasDocument, HasRefusal, HasDeepToken, HasMessage, IsStatus, refusal_message, deep_message};
+ghost use Rattle.juniper_c.specs.Answers.{ReturnsSaid, Begins, HasDocument, HasRefusal, HasDeepToken, HasMessage, IsStatus, refusal_message, deep_message};
 
 use crate::depth::{MOST_DEPTH, is_refused};
 use crate::room::fill;
@@ -68,7 +68,7 @@ enum Said {
 }
 
 fn message_of(alloc: Global, source: &[u8], depth: u32) -> Said
-    ensures { AnswersSaid source.now depth result }
+    ensures { ReturnsSaid source.now depth result }
 {
     match text_of(source) {
         Ok(text) => message_of_text(alloc, text, depth),
@@ -79,7 +79,7 @@ fn message_of(alloc: Global, source: &[u8], depth: u32) -> Said
 
 fn message_of_text(alloc: Global, text: &str, depth: u32) -> Said
     requires { length text.now < 2 ^ 32 }
-    ensures { AnswersSaid text.now depth result }
+    ensures { ReturnsSaid text.now depth result }
 {
     match parse_document_source_within::<Scalar>(alloc, text, depth as usize) {
         Ok(_) => Said::Tree,

@@ -10,7 +10,7 @@ ghost use Rattle.juniper_nodes.specs.NodeTexts.{text_of_node};
 ghost use Rattle.juniper_nodes.specs.NodeViews.{view_label, view_node};
 ghost use Rattle.juniper_c.specs.FlatWriters.{NodeFits};
 ghost use Rattle.juniper_c.specs.ByteTables.{IsTableOf};
-ghost use Rattle.juniper_c.specs.Nodes.{kind_number, node_number, content_number, byte_count, word_extent, span_extent, no_extent, unnamed_extent, node_extent, scalar_value, condition_value, node_value, told_node};
+ghost use Rattle.juniper_c.specs.Nodes.{kind_number, node_number, content_number, byte_count, word_extent, span_extent, no_extent, unnamed_extent, node_extent, scalar_value, condition_value, node_value, written_node};
 ghost use Rattle.juniper_c.specs.Scalars.{scalar_content};
 
 use crate::byte_table::ByteTable;
@@ -60,13 +60,13 @@ const NO_VALUE: Value = Value {
 };
 
 /// The node of a part whose text begins at the byte `at` of the texts and has `length` bytes.
-pub(crate) fn told_node(
+pub(crate) fn written_node(
     table: &ByteTable,
     node: &juniper_nodes::Node<'_, '_, Scalar>,
     at: usize,
     length: usize,
 ) -> Node
-    ensures { (source : List ℕ) → IsTableOf source table.now → NodeFits at (view_node scalar_content node.now) → length ≡ byte_count (text_of_node (view_node scalar_content node.now)) → result ≡ told_node source at (view_node scalar_content node.now) }
+    ensures { (source : List ℕ) → IsTableOf source table.now → NodeFits at (view_node scalar_content node.now) → length ≡ byte_count (text_of_node (view_node scalar_content node.now)) → result ≡ written_node source at (view_node scalar_content node.now) }
 {
     let name = extent_of(table, node);
     let value = value_of(table, node, at, length);

@@ -5,7 +5,7 @@ ghost use Rattle.graphql_lexical.specs.Place as places;
 ghost use Rattle.graphql_grammar.specs.Tree.{Definition};
 ghost use Rattle.juniper_tokens.specs.Errors as errors;
 ghost use Rattle.juniper_values.specs.Scalar.{Content};
-ghost use Rattle.juniper_c.specs.Faults.{told_fault, deep_fault};
+ghost use Rattle.juniper_c.specs.Faults.{written_fault, deep_fault};
 ghost use Rattle.juniper_c.specs.Answers.{HasDocument, HasRefusal, HasDeepToken, nodes_of, texts_of, Begins, IsStatus};
 
 use crate::depth::{MOST_DEPTH, is_refused};
@@ -41,7 +41,7 @@ pub extern "C" fn firthnapkin_parse(
 
     // So buffers as long as the source are never too short.
     ensures bounds { (nodes_needed.new ≤ length source.now) × (texts_needed.new ≤ length source.now) }
-    ensures refused { result ≡ REFUSED → (found : errors.Fault) × HasRefusal source.now depth found × (fault.new ≡ told_fault (chars source.now) found) }
+    ensures refused { result ≡ REFUSED → (found : errors.Fault) × HasRefusal source.now depth found × (fault.new ≡ written_fault (chars source.now) found) }
     ensures too_deep { result ≡ TOO_DEEP → (span : places.Span) × HasDeepToken source.now depth span × (fault.new ≡ deep_fault (chars source.now) span) }
     ensures no_text { result ≡ NOT_UTF8 → ¬ IsUtf8 source.now }
     ensures too_long { result ≡ TOO_LONG ↔ 2 ^ 32 ≤ length source.now }

@@ -1,6 +1,6 @@
 //! Places of a source, as C gets them.
 ghost use Rattle.std.specs.Prelude.{◌≡◌, ℕ, ◌<◌, ◌^◌, List};
-ghost use Rattle.juniper_c.specs.Places.{told_place};
+ghost use Rattle.juniper_c.specs.Places.{written_place};
 ghost use Rattle.juniper_c.specs.FlatWriters.{PlaceFits};
 ghost use Rattle.juniper_c.specs.ByteTables.{IsTableOf};
 
@@ -18,7 +18,7 @@ pub struct Place {
 }
 
 pub(crate) fn place_at(table: &ByteTable, position: SourcePosition) -> Place
-    ensures { (source : List ℕ) → IsTableOf source table.now → PlaceFits position → result ≡ told_place source position }
+    ensures { (source : List ℕ) → IsTableOf source table.now → PlaceFits position → result ≡ written_place source position }
 {
     Place {
         index: in_word(position.index()),

@@ -5,11 +5,11 @@ ghost use Rattle.graphql_lexical.specs.Place as places;
 ghost use Rattle.graphql_lexical.specs.Kinds.{LexicalError};
 ghost use Rattle.graphql_lexical.specs.Cutting.{Lexeme, Leads, Stands, Breaks};
 ghost use Rattle.juniper.specs.Promise.{lexical_fault};
-ghost use Rattle.juniper_c.specs.Faults.{told_fault, many_fault};
+ghost use Rattle.juniper_c.specs.Faults.{written_fault, many_fault};
 ghost use Rattle.juniper_c.specs.Answers.{Begins, Fills};
 ghost use Rattle.juniper_c.specs.TokenCounts.{HasMore};
-ghost use Rattle.juniper_c.specs.Tokens.{told_tokens, TellsText, HasTokens, HasFaultBehind, IsTokensStatus};
-ghost use Rattle.juniper_c.specs.CutTokens.{AnswersTokens};
+ghost use Rattle.juniper_c.specs.Tokens.{written_tokens, TellsText, HasTokens, HasFaultBehind, IsTokensStatus};
+ghost use Rattle.juniper_c.specs.CutTokens.{ReturnsTokens};
 
 use crate::byte_table::ByteTable;
 use crate::fault::{Fault, lexical_fault, many_fault};
@@ -36,27 +36,27 @@ pub extern "C" fn firthnapkin_tokens(
 
     // The buffer begins with the source's tokens, the last of them the end.
     ensures tokens { result ≡ TOKENS → (lexemes : List Lexeme) × HasTokens source.now lexemes × (length lexemes ≤ most + 1)
-        × Begins (told_tokens (chars source.now) lexemes) tokens.old tokens.new × (tokens_needed.new ≡ length lexemes) }
+        × Begins (written_tokens (chars source.now) lexemes) tokens.old tokens.new × (tokens_needed.new ≡ length lexemes) }
 
     // It is full of them, and too short for all.
     ensures room { result ≡ ROOM → (lexemes : List Lexeme) × HasTokens source.now lexemes × (length lexemes ≤ most + 1)
         × (length tokens.old < length lexemes)
-        × Fills (told_tokens (chars source.now) lexemes) tokens.old tokens.new × (tokens_needed.new ≡ length lexemes) }
+        × Fills (written_tokens (chars source.now) lexemes) tokens.old tokens.new × (tokens_needed.new ≡ length lexemes) }
 
     // It begins with the tokens before the source's first lexical error, as many as it has capacity for.
     ensures refused { result ≡ REFUSED → (before : List Lexeme) × (error : LexicalError) × (at : places.Place)
         × HasFaultBehind source.now before error at × (length before ≤ most)
-        × Fills (told_tokens (chars source.now) before) tokens.old tokens.new × (tokens_needed.new ≡ length before)
-        × Breaks (chars source.now) error at × (fault.new ≡ told_fault (chars source.now) (lexical_fault error at)) }
+        × Fills (written_tokens (chars source.now) before) tokens.old tokens.new × (tokens_needed.new ≡ length before)
+        × Breaks (chars source.now) error at × (fault.new ≡ written_fault (chars source.now) (lexical_fault error at)) }
 
     // It begins with the tokens before the first that is one too many, as many as it has capacity for.
     ensures many { result ≡ MANY → IsUtf8 source.now × ((span : places.Span) × (more : HasMore (chars source.now) 0 most span)
-        × Fills (told_tokens (chars source.now) more.front) tokens.old tokens.new × (tokens_needed.new ≡ most)
+        × Fills (written_tokens (chars source.now) more.front) tokens.old tokens.new × (tokens_needed.new ≡ most)
         × (fault.new ≡ many_fault (chars source.now) span)) }
 
     // It may begin with some of the source's first tokens.
     ensures memory { result ≡ MEMORY → IsUtf8 source.now × ((some : List Lexeme) × (next : ℕ)
-        × Leads (chars source.now) 0 some next × Fills (told_tokens (chars source.now) some) tokens.old tokens.new) }
+        × Leads (chars source.now) 0 some next × Fills (written_tokens (chars source.now) some) tokens.old tokens.new) }
     ensures no_text { result ≡ NOT_UTF8 → ¬ IsUtf8 source.now }
     ensures too_long { result ≡ TOO_LONG ↔ 2 ^ 32 ≤ length source.now }
 
@@ -74,29 +74,29 @@ pub extern "C" fn firthnapkin_tokens(
 {
     *tokens_needed = 0;
     match tokens_of(alloc, source, most, tokens) {
-        Told::Tokens(count) => {
+        Written::Tokens(count) => {
             *tokens_needed = count;
             if count <= tokens.len() { TOKENS } else { ROOM }
         }
-        Told::Refused(count, found) => {
+        Written::Refused(count, found) => {
             *tokens_needed = count;
             *fault = found;
             REFUSED
         }
-        Told::Many(found) => {
+        Written::Many(found) => {
             *tokens_needed = most as usize;
             *fault = found;
             MANY
         }
-        Told::NotUtf8 => NOT_UTF8,
-        Told::Memory => MEMORY,
-        Told::TooLong => TOO_LONG,
+        Written::NotUtf8 => NOT_UTF8,
+        Written::Memory => MEMORY,
+        Written::TooLong => TOO_LONG,
     }
 }
 
 // What has been put into the buffer: a number of tokens, the end among them, or those before an error.
 #[derive(Clone, Copy)]
-enum Told {
+enum Written {
     Tokens(usize),
     Refused(usize, Fault),
     Many(Fault),
@@ -105,22 +105,22 @@ enum Told {
     TooLong,
 }
 
-fn tokens_of(alloc: Global, source: &[u8], most: u32, room: &mut [Token]) -> Told
-    ensures { AnswersTokens source.now most room.old room.new result }
+fn tokens_of(alloc: Global, source: &[u8], most: u32, room: &mut [Token]) -> Written
+    ensures { ReturnsTokens source.now most room.old room.new result }
 {
     match text_of(source) {
         Ok(text) => tokens_of_text(alloc, text, most, room),
-        Err(Unread::NotUtf8) => Told::NotUtf8,
-        Err(Unread::TooLong) => Told::TooLong,
+        Err(Unread::NotUtf8) => Written::NotUtf8,
+        Err(Unread::TooLong) => Written::TooLong,
     }
 }
 
-fn tokens_of_text(alloc: Global, text: &str, most: u32, room: &mut [Token]) -> Told
+fn tokens_of_text(alloc: Global, text: &str, most: u32, room: &mut [Token]) -> Written
     requires { length text.now < 2 ^ 32 }
-    ensures { AnswersTokens text.now most room.old room.new result }
+    ensures { ReturnsTokens text.now most room.old room.new result }
 {
     let Ok(table) = ByteTable::new(alloc, text) else {
-        return Told::Memory;
+        return Written::Memory;
     };
     let mut lexer = Lexer::new(alloc, text);
     let mut count = 0;
@@ -128,20 +128,20 @@ fn tokens_of_text(alloc: Global, text: &str, most: u32, room: &mut [Token]) -> T
         match next_step(&mut lexer) {
             Step::Token(kind, span) => {
                 if count == most as usize {
-                    return Told::Many(many_fault(&table, span));
+                    return Written::Many(many_fault(&table, span));
                 }
                 put(room, count, token_at(&table, kind, &span));
                 count += 1;
             }
             Step::End(span) => {
                 put(room, count, token_at(&table, Kind::EndOfFile, &span));
-                return Told::Tokens(count + 1);
+                return Written::Tokens(count + 1);
             }
             Step::Fault(fault) => {
                 let found = lexical_fault(&table, &fault.item, fault.span.start);
-                return Told::Refused(count, found);
+                return Written::Refused(count, found);
             }
-            Step::Memory => return Told::Memory,
+            Step::Memory => return Written::Memory,
         }
     }
 }

@@ -9,7 +9,7 @@ use Rattle.std.proofs.lemmas.List.{drop_all}
 use Rattle.graphql_lexical.specs.Characters.{is_letter, is_digit}
 use Rattle.graphql_lexical.specs.Reading.{counted}
 use Rattle.juniper_tokens.specs.device.ByteRuns.{byte_at}
-use Rattle.juniper_tokens.proofs.Borders.{byte_at_on, chars_within, ascii_first}
+use Rattle.juniper_tokens.proofs.Offsets.{byte_at_on, chars_within, ascii_first}
 use Rattle.juniper_tokens.proofs.Runs.{rest_bytes, FirstByte, low, high, first_byte, first_low}
 
 abbrev is_counted : ℕ → Bool
@@ -50,12 +50,12 @@ byte_counted b l = agree_below_at is_ascii_alphanumeric is_counted 256 b refl l
 
 -- So many have been counted.
 pub record Counted (cs : List ℕ) (k : ℕ) : Type 0 where
-  pub border : k ≡ byte_at k cs
+  pub offset : k ≡ byte_at k cs
   pub left : counted cs ≡ k + counted_to (4 - k) (drop k cs)
   pub most : k ≤ 4
 
 pub none_yet : (cs : List ℕ) → Counted cs 0
-none_yet cs = record { border = refl; left = plus_none (counted cs); most = omega arith }
+none_yet cs = record { offset = refl; left = plus_none (counted cs); most = omega arith }
   where
     plus_none : (n : ℕ) → n ≡ 0 + n
     plus_none n = omega arith
@@ -81,7 +81,7 @@ module _ (text bytes : List ℕ) (k : ℕ) (u : IsUtf8 text) (same : bytes ≡ t
     first : FirstByte (drop k cs) b
     first =
         subst (FirstByte (drop k cs)) (get_or-drop k bytes 0 0 ∙ ap (λ i. get_or bytes i 0) (plus_none k))
-        (first_byte (drop k cs) (drop k bytes) (ap (drop k) same ∙ rest_bytes text k k u h.border)
+        (first_byte (drop k cs) (drop k bytes) (ap (drop k) same ∙ rest_bytes text k k u h.offset)
         (omega (arith, l, length-drop k bytes)))
       where
         plus_none : (n : ℕ) → n + 0 ≡ n
@@ -98,9 +98,9 @@ module _ (text bytes : List ℕ) (k : ℕ) (u : IsUtf8 text) (same : bytes ≡ t
         ap₂ counted_to (one_less k few) here ∙ (more_counted (4 - (k + 1)) b ds e
         ∙ ap (λ t. suc (counted_to (4 - (k + 1)) t)) (drop-drop 1 k cs)) in
         record {
-          border = omega (
+          offset = omega (
             arith,
-            h.border,
+            h.offset,
             byte_at_on k 1 cs,
             ap (byte_at 1) here ∙ ascii_first b 0 ds (low_counted b e),
           );

@@ -9,7 +9,7 @@ use Rattle.graphql_lexical.specs.Kinds.{UnterminatedString, UnknownEscapeSequenc
 use Rattle.graphql_lexical.specs.Reading.{counted}
 use Rattle.graphql_lexical.specs.device.Scan.{missed, after_backslash, after_u}
 use Rattle.graphql_lexical.proofs.Public.{counted_within, u_short}
-use Rattle.juniper_tokens.proofs.Borders.{chars_within}
+use Rattle.juniper_tokens.proofs.Offsets.{chars_within}
 
 pub backslash_mark : chars (92 ∷ []) ≡ 92 ∷ []
 unfolding chars

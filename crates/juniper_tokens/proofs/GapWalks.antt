@@ -16,13 +16,13 @@ use Rattle.juniper_tokens.specs.contracts.byte_classes.ByteClass.{the_type}
 use Rattle.juniper_tokens.specs.declared.byte_classes.ByteClass.{ByteClass}
 use Rattle.juniper_tokens.specs.declared.byte_classes.ByteClass.TheVariants.{White, LineFeed, Hash, Lead, Control}
 use Rattle.juniper_tokens.specs.declared.lexer.run.Run.TheVariants as run
-use Rattle.juniper_tokens.specs.declared.lexer.text.Border.{Border}
+use Rattle.juniper_tokens.specs.declared.lexer.text.Offset.{Offset}
 use Rattle.juniper_tokens.specs.ByteClasses.{class_of, gap_class}
 use Rattle.juniper_tokens.specs.device.ByteRuns.{byte_at}
 use Rattle.juniper_tokens.specs.device.LexingByScan.{begins_with_mark}
 use Rattle.juniper_tokens.specs.Positions.{columns_on}
 use Rattle.juniper_tokens.specs.device.Walks.{run_size, RunsTo, first_class, EndsGap}
-use Rattle.juniper_tokens.proofs.Borders.{ascii_first, byte_at_on, byte_at_within, chars_within}
+use Rattle.juniper_tokens.proofs.Offsets.{ascii_first, byte_at_on, byte_at_within, chars_within}
 use Rattle.juniper_tokens.proofs.ByteClasses.{gap_class_tests, low_class, low_class_tests, lead_class_tests, feed_class_tests, gap_none}
 use Rattle.juniper_tokens.proofs.Places.{OnLine, line_fold, one_column_more}
 use Rattle.juniper_tokens.proofs.Runs.{run_of, run_within, run_more, run_none, spaces_on_line, comment_on_line, rest_bytes, FirstByte, low, high, first_byte, first_low, index_on}
@@ -275,7 +275,7 @@ module _ (text bytes : List ℕ) (start p : Place) (i : ℕ) (u : IsUtf8 text) (
         (ap (λ k. sameb the_type k LineFeed) c ∙ feed_class_tests b small))
         (one_white b ds (step_is White c refl) ∙ ap suc (none_more (gap_size ds)))
 
-    pub feed_on : (q : Place) (r : Border) (tail : List ℕ) → LineFeed ≡ class_of b
+    pub feed_on : (q : Place) (r : Offset) (tail : List ℕ) → LineFeed ≡ class_of b
         → tail ≡ take (length bytes - (i + 1)) (drop (i + 1) bytes) → RunsTo run.Spaces tail r
         → q ≡ columns_on r.characters (next_line p) → InGap cs start (i + (1 + r.bytes)) q
     feed_on q r tail c e h f =
@@ -285,14 +285,14 @@ module _ (text bytes : List ℕ) (start p : Place) (i : ℕ) (u : IsUtf8 text) (
         let feed : past_character p b ≡ next_line p = ap (λ x. cond x (next_line p) (next_column p))
         (sym (ap (λ k. sameb the_type k LineFeed) c ∙ feed_class_tests b small)) in
         let line : OnLine (take n ds) = subst (λ k. OnLine (take k ds)) (sym spaces.characters) (spaces_on_line ds) in
-        over LineFeed c refl n r.bytes q within spaces.border
+        over LineFeed c refl n r.bytes q within spaces.offset
         (f ∙ (ap (λ k. columns_on k (next_line p)) (sym (length-take-le n ds within))
         ∙ (sym (line_fold (next_line p) (take n ds) line)
         ∙ ap (λ x. fold past_character x (take n ds)) (sym feed))))
         (one_white b ds (step_is LineFeed c refl)
         ∙ ap suc (subst (λ k. gap_size ds ≡ k + gap_size (drop k ds)) (sym spaces.characters) (spaces_gap ds)))
 
-    pub comment_on : (q : Place) (r : Border) (tail : List ℕ) → Hash ≡ class_of b
+    pub comment_on : (q : Place) (r : Offset) (tail : List ℕ) → Hash ≡ class_of b
         → tail ≡ take (length bytes - (i + 1)) (drop (i + 1) bytes) → RunsTo run.Comment tail r
         → q ≡ columns_on (1 + r.characters) p → InGap cs start (i + (1 + r.bytes)) q
     comment_on q r tail c e h f =
@@ -302,7 +302,7 @@ module _ (text bytes : List ℕ) (start p : Place) (i : ℕ) (u : IsUtf8 text) (
         let column : past_character p b ≡ next_column p = ap (λ x. cond x (next_line p) (next_column p))
         (sym (ap (λ k. sameb the_type k LineFeed) c ∙ feed_class_tests b small)) in
         let line : OnLine (take n ds) = subst (λ k. OnLine (take k ds)) (sym comment.characters) (comment_on_line ds) in
-        over Hash c refl n r.bytes q within comment.border
+        over Hash c refl n r.bytes q within comment.offset
         (f ∙ (ap (λ k. columns_on k p) (sym (suc_one n))
         ∙ (sym (one_column_more n p) ∙ (ap (λ k. columns_on k (next_column p)) (sym (length-take-le n ds within))
         ∙ (sym (line_fold (next_column p) (take n ds) line)

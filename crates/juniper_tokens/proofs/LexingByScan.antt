@@ -25,7 +25,7 @@ use Rattle.juniper_tokens.specs.device.Scans as scans
 use Rattle.juniper_tokens.specs.Lexing.{LexerState, BreaksAt, GivesFault, WantsMemory}
 use Rattle.juniper_tokens.specs.device.LexingByScan.{IsPlaced, past_gap}
 use Rattle.juniper_tokens.specs.device.Ranges.{FailsThere}
-use Rattle.juniper_tokens.proofs.Borders.{byte_at_within, byte_at_on}
+use Rattle.juniper_tokens.proofs.Offsets.{byte_at_within, byte_at_on}
 use Rattle.juniper_tokens.proofs.Places.{place_on}
 
 -- from one place to the next

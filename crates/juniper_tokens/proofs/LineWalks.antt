@@ -6,7 +6,7 @@ use Rattle.std.proofs.lemmas.List.{take_all}
 use Rattle.std.proofs.lemmas.Str.{encodes-chars}
 use Rattle.graphql_lexical.specs.device.Machines.{reach}
 use Rattle.juniper_tokens.specs.declared.lexer.run.Run.TheVariants as run
-use Rattle.juniper_tokens.specs.declared.lexer.text.Border.{Border}
+use Rattle.juniper_tokens.specs.declared.lexer.text.Offset.{Offset}
 use Rattle.juniper_tokens.specs.device.ByteRuns.{is_inner, with_value, on, Walked}
 use Rattle.juniper_tokens.specs.device.Walks.{run_test, RunsTo, each_machine}
 use Rattle.juniper_tokens.proofs.ByteRuns.{reach_bytes, reach_with_value, same_with_value, in_bytes, walked_on}
@@ -36,7 +36,7 @@ none_plus k = omega arith
 module _ {X : Type 0} (f : X → ℕ → X) (along : ℕ → X → X) (along_none : (x : X) → along 0 x ≡ x)
     (along_more : (x : X) (k c : ℕ) → run_test run.Line c ≡ true → f (along k x) c ≡ along (k + 1) x) where
   -- a run that ends no line
-  pub walked_line : (start x : X) (bytes tail : List ℕ) (i : ℕ) (b : Border)
+  pub walked_line : (start x : X) (bytes tail : List ℕ) (i : ℕ) (b : Offset)
       → tail ≡ take (length bytes - i) (drop i bytes) → RunsTo run.Line tail b → b.bytes ≤ length tail
       → Walked (each_machine f) (tt, start) bytes i (tt, x)
       → Walked (each_machine f) (tt, start) bytes (i + b.bytes) (tt, along b.characters x)
@@ -48,7 +48,7 @@ module _ {X : Type 0} (f : X → ℕ → X) (along : ℕ → X → X) (along_non
       (goes_over always f run.Line tt (λ k. along k x) (λ c e. refl) (λ k c e. along_more x k c e) tail b h)) w
 
   -- the first line
-  pub walked_first : (start : X) (bytes : List ℕ) (b : Border) → RunsTo run.Line bytes b → b.bytes ≤ length bytes
+  pub walked_first : (start : X) (bytes : List ℕ) (b : Offset) → RunsTo run.Line bytes b → b.bytes ≤ length bytes
       → Walked (each_machine f) (tt, start) bytes b.bytes (tt, along b.characters start)
   walked_first start bytes b h s =
       same_place (each_machine f) (tt, start) (tt, along b.characters start) bytes (0 + b.bytes) b.bytes
@@ -57,7 +57,7 @@ module _ {X : Type 0} (f : X → ℕ → X) (along : ℕ → X → X) (along_non
       (walked_none (each_machine f) (tt, start) bytes))
 
   -- a line feed, and a run behind it
-  pub walked_feed : (start x : X) (bytes tail : List ℕ) (i : ℕ) (b : Border) → i < length bytes
+  pub walked_feed : (start x : X) (bytes tail : List ℕ) (i : ℕ) (b : Offset) → i < length bytes
       → get_or bytes i 0 ≡ 10
       → tail ≡ take (length bytes - (i + 1)) (drop (i + 1) bytes) → RunsTo run.Line tail b → b.bytes ≤ length tail
       → Walked (each_machine f) (tt, start) bytes i (tt, x)

@@ -7,7 +7,7 @@ use Rattle.graphql_lexical.specs.device.Machines.{reach}
 use Rattle.graphql_lexical.specs.Place.{Place, past_character, next_line, next_column}
 use Rattle.juniper_tokens.specs.declared.lexer.run.Run.TheVariants as run
 use Rattle.juniper_tokens.specs.Positions.{columns_on}
-use Rattle.juniper_tokens.specs.device.Borders.{IsBorderBehind}
+use Rattle.juniper_tokens.specs.device.Offsets.{IsOffsetBehind}
 use Rattle.juniper_tokens.specs.device.ByteRuns.{is_inner, byte_at}
 use Rattle.juniper_tokens.specs.device.Walks.{run_test, place_machine, count_to, count_machine}
 use Rattle.juniper_tokens.proofs.ByteRuns.{reach_bytes, in_bytes, step_once}
@@ -72,10 +72,10 @@ counted_to count n l (c ∷ cs) = elim (cases_eq n count) [
       ],
     )
 
-pub border_reached : (text bytes : List ℕ) (count i n : ℕ) → IsUtf8 text → bytes ≡ text
+pub offset_reached : (text bytes : List ℕ) (count i n : ℕ) → IsUtf8 text → bytes ≡ text
     → reach (count_machine count) 0 bytes ≡ (i, n)
-    → IsBorderBehind count (chars text) (record { bytes = i; characters = n })
-border_reached text bytes count i n u same h =
+    → IsOffsetBehind count (chars text) (record { bytes = i; characters = n })
+offset_reached text bytes count i n u same h =
     let cs = chars text in
     let r = reach (count_to count) 0 cs in
     let both : (i, n) ≡ in_bytes cs r =
@@ -84,7 +84,7 @@ border_reached text bytes count i n u same h =
     let facts = counted_to count 0 (omega arith) cs in
     let size : n ≡ r.0 = omega (arith, ap (λ (x : ℕ × ℕ). x.1) both, facts.0) in
     record {
-      border = ap (λ (x : ℕ × ℕ). x.0) both ∙ ap (λ k. byte_at k cs) (sym size);
+      offset = ap (λ (x : ℕ × ℕ). x.0) both ∙ ap (λ k. byte_at k cs) (sym size);
       front = elim facts.2 [
         | inl e ↦ ap (λ k. take k cs) (omega (arith, size, e))
         | inr e ↦ take_all n cs (omega (arith, size, e.0)) ∙ sym (take_all count cs (omega (arith, e.1)))

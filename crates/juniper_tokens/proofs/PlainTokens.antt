@@ -22,13 +22,13 @@ use Rattle.juniper_tokens.specs.declared.byte_classes.ByteClass.{ByteClass}
 use Rattle.juniper_tokens.specs.declared.byte_classes.ByteClass.TheVariants as classes
 use Rattle.juniper_tokens.specs.declared.lexer.run.Run.{Run}
 use Rattle.juniper_tokens.specs.declared.lexer.run.Run.TheVariants as run
-use Rattle.juniper_tokens.specs.declared.lexer.text.Border.{Border}
+use Rattle.juniper_tokens.specs.declared.lexer.text.Offset.{Offset}
 use Rattle.juniper_tokens.specs.ByteClasses.{class_of, name_class, digit_class, first_state}
-use Rattle.juniper_tokens.specs.device.Borders.{IsBorder}
+use Rattle.juniper_tokens.specs.device.Offsets.{IsOffset}
 use Rattle.juniper_tokens.specs.device.ByteRuns.{byte_at}
 use Rattle.juniper_tokens.specs.device.Scans.{Finds}
 use Rattle.juniper_tokens.specs.device.Walks.{run_test, run_step, run_size, RunsTo, is_in_float, first_class}
-use Rattle.juniper_tokens.proofs.Borders.{ascii_first, byte_at_on}
+use Rattle.juniper_tokens.proofs.Offsets.{ascii_first, byte_at_on}
 use Rattle.juniper_tokens.proofs.ByteClasses.{name_class_tests, digit_class_tests, first_state_tests, low_class, low_class_tests, quote_class_tests}
 use Rattle.juniper_tokens.proofs.Runs.{run_of, run_more, run_none, rest_bytes, FirstByte, first_byte, first_low}
 
@@ -166,7 +166,7 @@ module _ (text bytes : List ℕ) (u : IsUtf8 text) (same : bytes ≡ text) (some
   -- a token whose characters are a run, in one state
   of_run : (kind : Kind) (q : State) (r : Run) → ((c : ℕ) → run_test r c ≡ true → step q c ≡ Some q)
       → (class : ByteClass) → class ≡ class_of b → low_class class ≡ true
-      → first_state class b ≡ Some q → run_test r b ≡ true → (e : Border) → RunsTo r bytes e
+      → first_state class b ≡ Some q → run_test r b ≡ true → (e : Offset) → RunsTo r bytes e
       → reach step q (drop (run_size r cs) cs) ≡ (0, q)
       → answer q e.characters cs ≡ scans.found e.characters kind cs → Finds cs (record { kind = kind; end = e })
   of_run kind q r stays class c low first is e h ends a =
@@ -175,19 +175,19 @@ module _ (text bytes : List ℕ) (u : IsUtf8 text) (same : bytes ≡ text) (some
       let begins : reach step Start cs ≡ reach step q cs = ap (reach step Start) f
       ∙ (begins_in q b (drop 1 cs) (starts class c low ∙ first) (stays b is) ∙ sym (ap (reach step q) f)) in
       ended_token cs kind q e.bytes e.characters
-      (begins ∙ (over_run r q stays cs ends ∙ ap (λ k. (k, q)) (sym over.characters))) a over.border
+      (begins ∙ (over_run r q stays cs ends ∙ ap (λ k. (k, q)) (sym over.characters))) a over.offset
 
-  pub name_found : (r : Border) → classes.NameStart ≡ class_of b → RunsTo run.Name bytes r
+  pub name_found : (r : Offset) → classes.NameStart ≡ class_of b → RunsTo run.Name bytes r
       → Finds cs (record { kind = kinds.Name; end = r })
   name_found r c h =
       of_run kinds.Name InName run.Name name_stays classes.NameStart c refl refl
       (sym (name_class_tests b small) ∙ ap name_class (sym c)) r h
       (name_ends _ _ (reach_is (run_step run.Name) tt cs).stops) refl
 
-  pub digits_border : (r : Border) → RunsTo run.Digits bytes r → IsBorder r cs
-  digits_border r h = (run_of run.Digits cs bytes r whole h).border
+  pub digits_offset : (r : Offset) → RunsTo run.Digits bytes r → IsOffset r cs
+  digits_offset r h = (run_of run.Digits cs bytes r whole h).offset
 
-  pub int_found : (r : Border) → classes.Digit ≡ class_of b → (b == 48) ≡ false → RunsTo run.Digits bytes r
+  pub int_found : (r : Offset) → classes.Digit ≡ class_of b → (b == 48) ≡ false → RunsTo run.Digits bytes r
       → is_in_float (drop r.characters cs) ≡ false
       → Finds cs (record { kind = kinds.Int; end = r })
   int_found r c z h more =
@@ -206,7 +206,7 @@ module _ (text bytes : List ℕ) (u : IsUtf8 text) (same : bytes ≡ text) (some
       (sym (ap (byte_at 1) f ∙ ascii_first b 0 (drop 1 cs) (below classes.Punctuator c refl)))
 
   -- at a quote behind the run
-  pub string_found : (r : Border) (tail : List ℕ) → classes.Quote ≡ class_of b
+  pub string_found : (r : Offset) (tail : List ℕ) → classes.Quote ≡ class_of b
       → tail ≡ take (length bytes - 1) (drop 1 bytes) → RunsTo run.Plain tail r
       → 0 < r.characters → 1 + r.bytes < length bytes → get_or bytes (1 + r.bytes) 0 ≡ 34
       → Finds cs (record {
@@ -223,13 +223,13 @@ module _ (text bytes : List ℕ) (u : IsUtf8 text) (same : bytes ≡ text) (some
       ∙ ap (λ k. sameb the_type k classes.Quote) (sym c)) in
       let units = run_of run.Plain ds tail r (behind classes.Quote c refl tail t) h in
       let f = front classes.Quote c refl in
-      let border : 1 + r.bytes ≡ byte_at (suc n) cs = omega (
+      let offset : 1 + r.bytes ≡ byte_at (suc n) cs = omega (
         arith,
-        units.border,
+        units.offset,
         ap (byte_at (suc n)) f ∙ ascii_first b n ds (below classes.Quote c refl),
       ) in
       let rest : drop (1 + r.bytes) bytes ≡ encodes (drop n ds) = ap (drop (1 + r.bytes)) same
-      ∙ (rest_bytes text (1 + r.bytes) (suc n) u border ∙ ap encodes (ap (drop (suc n)) f)) in
+      ∙ (rest_bytes text (1 + r.bytes) (suc n) u offset ∙ ap encodes (ap (drop (suc n)) f)) in
       let last : drop n ds ≡ 34 ∷ drop 1 (drop n ds) =
       first_low (drop n ds) 34 (subst (λ x. FirstByte (drop n ds) x)
       (get_or-drop (1 + r.bytes) bytes 0 0 ∙ (ap (λ k. get_or bytes k 0) (plus_none (1 + r.bytes)) ∙ e))
@@ -242,7 +242,7 @@ module _ (text bytes : List ℕ) (u : IsUtf8 text) (same : bytes ≡ text) (some
       ∙ ap (λ k. (k, Done kinds.String)) (omega (arith, units.characters))) in
       let two : 2 + n ≡ suc n + 1 = omega arith in
       let ends : (1 + r.bytes) + 1 ≡ byte_at (2 + n) cs =
-      ap₂ (λ x y. x + y) border (sym (ap (byte_at 1) (ap (drop (suc n)) f ∙ last)
+      ap₂ (λ x y. x + y) offset (sym (ap (byte_at 1) (ap (drop (suc n)) f ∙ last)
       ∙ ascii_first 34 0 (drop 1 (drop n ds)) (omega arith)))
       ∙ (byte_at_on (suc n) 1 cs ∙ ap (λ k. byte_at k cs) (sym two)) in
       ended_token cs kinds.String (Done kinds.String) ((1 + r.bytes) + 1) (2 + n) reached refl ends

@@ -7,7 +7,7 @@ use lib.Utf8.{encodes}
 use Rattle.graphql_lexical.specs.device.Whole.{between}
 use Rattle.graphql_lexical.proofs.Public.{unquoted}
 use Rattle.juniper_tokens.specs.device.ByteRuns.{byte_at}
-use Rattle.juniper_tokens.specs.device.Borders.{EndsQuoted, quotes}
+use Rattle.juniper_tokens.specs.device.Offsets.{EndsQuoted, quotes}
 
 quotes_length : (n : ℕ) → length (quotes n) ≡ n
 quotes_length zero = refl

@@ -25,13 +25,13 @@ use Rattle.juniper_tokens.specs.declared.error.LexFailure.{LexFailure}
 use Rattle.juniper_tokens.specs.declared.error.LexFailure.TheVariants as failures
 use Rattle.juniper_tokens.specs.Tokens.{kind_text, view_token}
 use Rattle.juniper_tokens.specs.device.ByteRuns.{byte_at}
-use Rattle.juniper_tokens.specs.device.Borders.{EndsQuoted, quotes}
+use Rattle.juniper_tokens.specs.device.Offsets.{EndsQuoted, quotes}
 use Rattle.juniper_tokens.specs.Positions.{columns_on}
 use Rattle.juniper_tokens.specs.device.Scans.{Finds}
 use Rattle.juniper_tokens.specs.Lexing.{LexerState, GivesItem, GivesToken}
 use Rattle.juniper_tokens.specs.device.LexingByScan.{past_gap, IsPlaced}
 use Rattle.juniper_tokens.specs.device.Ranges.{range_of, range_slice, range_lexeme, IsRange, TakesRange, TakesItem, MayTake, GivesRange, GivesRangeItem, range_steps}
-use Rattle.juniper_tokens.proofs.Borders.{byte_at_within, byte_at_on}
+use Rattle.juniper_tokens.proofs.Offsets.{byte_at_within, byte_at_on}
 use Rattle.juniper_tokens.proofs.LexingByScan.{same_end, fault_by_scan, memory_by_scan}
 use Rattle.juniper_tokens.proofs.Places.{place_on, line_end}
 
@@ -129,7 +129,7 @@ found_range source at p f h s =
       whole = whole;
       some = some;
       within = within;
-      border = s.1;
+      offset = s.1;
     })) in
     record {
       at_is = h.byte_is;

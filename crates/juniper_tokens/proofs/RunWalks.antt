@@ -4,7 +4,7 @@ use Rattle.std.proofs.lemmas.List.{take_all}
 use Rattle.graphql_lexical.specs.device.Machines.{reach}
 use Rattle.graphql_lexical.specs.device.Scan.{step}
 use Rattle.juniper_tokens.specs.declared.lexer.run.Run.{Run}
-use Rattle.juniper_tokens.specs.declared.lexer.text.Border.{Border}
+use Rattle.juniper_tokens.specs.declared.lexer.text.Offset.{Offset}
 use Rattle.juniper_tokens.specs.device.ByteRuns.{is_inner, byte_step, with_value, on, Walked}
 use Rattle.juniper_tokens.specs.device.Walks.{run_test, run_machine, RunsTo}
 use Rattle.juniper_tokens.proofs.ByteRuns.{on_next, on_none, step_once}
@@ -57,7 +57,7 @@ module _ {S X : Type 0} (step : S → ℕ → Option S) (f : X → ℕ → X) (r
       by_tests false true e g h m = one_more k (k + 1) b bs (at_run k b false true e g) (at_test k b e g) m
       by_tests false false e g h m = no_more k b bs (at_run k b false false e g)
 
-  pub goes_over : (bs : List ℕ) (b : Border) → RunsTo r bs b
+  pub goes_over : (bs : List ℕ) (b : Offset) → RunsTo r bs b
       → reach machine (q, v 0) bs ≡ on b.bytes (reach machine (q, v b.characters) (drop b.bytes bs))
   goes_over bs b h = subst (Goes 0 bs) h (goes bs 0)
 

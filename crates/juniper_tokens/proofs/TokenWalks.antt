@@ -13,11 +13,11 @@ use Rattle.graphql_lexical.specs.device.Scan.{step}
 use Rattle.graphql_lexical.proofs.Public.{reach_is}
 use Rattle.juniper_tokens.specs.declared.lexer.run.Run.{Run}
 use Rattle.juniper_tokens.specs.declared.lexer.run.Run.TheVariants as run
-use Rattle.juniper_tokens.specs.declared.lexer.text.Border.{Border}
+use Rattle.juniper_tokens.specs.declared.lexer.text.Offset.{Offset}
 use Rattle.juniper_tokens.specs.device.ByteRuns.{is_inner, byte_at, with_value, count_one, on}
 use Rattle.juniper_tokens.specs.device.Walks.{run_test, RunsTo, token_machine, WalkedToken, StaysOver, is_in_float}
 use Rattle.juniper_tokens.proofs.ByteRuns.{reach_bytes, reach_with_value, same_with_value, in_bytes, on_none, walked_on}
-use Rattle.juniper_tokens.proofs.Borders.{chars_within}
+use Rattle.juniper_tokens.proofs.Offsets.{chars_within}
 use Rattle.juniper_tokens.proofs.Runs.{counted_by_ones, FirstByte, low, high, first_byte}
 use Rattle.juniper_tokens.proofs.RunWalks.{goes_over, walked_further, same_place, plus_none, plus_plus}
 use Rattle.juniper_tokens.proofs.PastAscii.{step_same}
@@ -31,17 +31,17 @@ block_stays c e = grind (arith, e)
 one_counted : (n k c : ℕ) → count_one (n + k) c ≡ n + (k + 1)
 one_counted n k c = omega arith
 
-stays_over : (r : Run) (q : State) → ((c : ℕ) → run_test r c ≡ true → step q c ≡ Some q) → (bytes : List ℕ) (b : Border)
+stays_over : (r : Run) (q : State) → ((c : ℕ) → run_test r c ≡ true → step q c ≡ Some q) → (bytes : List ℕ) (b : Offset)
     → RunsTo r bytes b → StaysOver q bytes b
 stays_over r q stays bytes b h n =
     subst (λ k. reach token_machine (q, k) bytes ≡ on b.bytes
     (reach token_machine (q, n + b.characters) (drop b.bytes bytes)))
     (plus_none n) (goes_over step count_one r q (λ k. n + k) stays (λ k c e. one_counted n k c) bytes b h)
 
-pub string_over : (bytes : List ℕ) (b : Border) → RunsTo run.Plain bytes b → StaysOver InString bytes b
+pub string_over : (bytes : List ℕ) (b : Offset) → RunsTo run.Plain bytes b → StaysOver InString bytes b
 string_over = stays_over run.Plain InString string_stays
 
-pub block_over : (bytes : List ℕ) (b : Border) → RunsTo run.Block bytes b → StaysOver (InBlock Inside) bytes b
+pub block_over : (bytes : List ℕ) (b : Offset) → RunsTo run.Block bytes b → StaysOver (InBlock Inside) bytes b
 block_over = stays_over run.Block (InBlock Inside) block_stays
 
 pub none_over : (q : State) (bytes : List ℕ) → StaysOver q bytes (record { bytes = 0; characters = 0 })
@@ -59,7 +59,7 @@ pub token_none : (q : State) (n b : ℕ) → is_inner b ≡ false → step q b �
 token_none q n b e g = rw (e, g) refl
 
 -- a step, and a run behind it
-pub walked_next : (bytes tail : List ℕ) (i n : ℕ) (q p : State) (b : Border) → i < length bytes
+pub walked_next : (bytes tail : List ℕ) (i n : ℕ) (q p : State) (b : Offset) → i < length bytes
     → is_inner (get_or bytes i 0) ≡ false → step q (get_or bytes i 0) ≡ Some p
     → tail ≡ take (length bytes - (i + 1)) (drop (i + 1) bytes) → StaysOver p tail b → b.bytes ≤ length tail
     → WalkedToken bytes i q n → WalkedToken bytes (i + (1 + b.bytes)) p (n + (1 + b.characters))

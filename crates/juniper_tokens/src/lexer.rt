@@ -21,7 +21,7 @@ use crate::byte_classes::ByteClass;
 use crate::error::LexFailure;
 use crate::lexer::plain::plain_token;
 use crate::lexer::scan::{Missed, scan_token};
-use crate::lexer::text::{Border, text_from};
+use crate::lexer::text::{Offset, text_from};
 use crate::lexer::walk::walk_gap;
 use crate::position::SourcePosition;
 use crate::span::Spanning;
@@ -116,7 +116,7 @@ impl<'a> Lexer<'a> {
         ensures passes { self.new ≡ past_gap self.old }
         ensures class { result ≡ first_class (drop self.new.index self.new.source) }
     {
-        let here = Border {
+        let here = Offset {
             bytes: self.at,
             characters: self.position.index(),
         };
@@ -182,7 +182,7 @@ impl<'a> Lexer<'a> {
         ensures ended { self.old.ended ≡ false → self.new.ended ≡ false }
     {
         let class = self.skip_gap();
-        let here = Border {
+        let here = Offset {
             bytes: self.at,
             characters: self.position.index(),
         };
@@ -230,7 +230,7 @@ impl<'a> Lexer<'a> {
         ensures source { self.new.source ≡ self.old.source }
         ensures takes { TakesItem self.old result self.new }
     {
-        let here = Border {
+        let here = Offset {
             bytes: self.at,
             characters: self.position.index(),
         };

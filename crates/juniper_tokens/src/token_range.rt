@@ -10,7 +10,7 @@ ghost use Rattle.juniper_tokens.specs.device.LexingByScan.{IsPlaced};
 ghost use Rattle.juniper_tokens.specs.device.Scans.{Finds};
 ghost use Rattle.juniper_tokens.specs.device.Ranges.{IsRange, range_of, range_slice, range_lexeme};
 
-use crate::lexer::text::{Border, text_before, text_from, unquoted};
+use crate::lexer::text::{Offset, text_before, text_from, unquoted};
 use crate::lexer::{Found, walk_text};
 use crate::position::SourcePosition;
 use crate::span::{Span, Spanning};
@@ -26,7 +26,7 @@ pub(crate) struct TokenRange {
     /// The place before the first character.
     pub(crate) start: SourcePosition,
     /// The offset after the last character.
-    pub(crate) end: Border,
+    pub(crate) end: Offset,
 }
 
 impl TokenRange {
@@ -41,7 +41,7 @@ impl TokenRange {
             kind: found.kind,
             at,
             start,
-            end: Border {
+            end: Offset {
                 bytes: at + found.end.bytes,
                 characters: start.index() + found.end.characters,
             },
@@ -49,22 +49,22 @@ impl TokenRange {
     }
 
     // The offset of the first character.
-    fn border(&self) -> Border
+    fn offset(&self) -> Offset
         ensures { result ≡ record { bytes = self.now.at; characters = self.now.start.index } }
     {
-        Border {
+        Offset {
             bytes: self.at,
             characters: self.start.index(),
         }
     }
 
     // The offset after the last character, from the first one.
-    fn size(&self) -> Border
+    fn size(&self) -> Offset
         requires bytes { self.now.at ≤ self.now.end.bytes }
         requires characters { self.now.start.index ≤ self.now.end.characters }
         ensures { result ≡ record { bytes = self.now.end.bytes - self.now.at; characters = self.now.end.characters - self.now.start.index } }
     {
-        Border {
+        Offset {
             bytes: self.end.bytes - self.at,
             characters: self.end.characters - self.start.index(),
         }
@@ -99,7 +99,7 @@ impl TokenRange {
         requires { IsRange (chars source.now) self.now }
         ensures { result ≡ place (chars source.now) self.now.end.characters }
     {
-        let rest = text_from(source, self.border());
+        let rest = text_from(source, self.offset());
         let size = self.size();
         walk_text(text_before(rest, size), self.start)
     }
@@ -121,7 +121,7 @@ impl TokenRange {
         requires { IsRange (chars source.now) self.now }
         ensures { chars result.now ≡ text_of self.now.kind (range_slice (chars source.now) self.now) }
     {
-        let rest = text_from(source, self.border());
+        let rest = text_from(source, self.offset());
         let size = self.size();
         if self.kind == Kind::String {
             unquoted(rest, size, 1)

@@ -84,9 +84,9 @@ run_bytes (c ∷ cs) = by_size (low_or_high c) (ends_run c) refl (run_bytes cs)
         ∙ sym (length-append (encode c) (encodes (take (run_length cs) cs)))
         ∙ ap (λ n. byte_at n (c ∷ cs)) (sym (run_more c cs (goes_on_high c l)))
 
-pub run_border : (text : List ℕ) (n : ℕ) → IsUtf8 text → n ≡ run_length text
+pub run_offset : (text : List ℕ) (n : ℕ) → IsUtf8 text → n ≡ run_length text
     → n ≡ byte_at (run_length (chars text)) (chars text)
-run_border text n utf8 e = e ∙ ap run_length (sym (encodes-chars text utf8)) ∙ run_bytes (chars text)
+run_offset text n utf8 e = e ∙ ap run_length (sym (encodes-chars text utf8)) ∙ run_bytes (chars text)
 
 -- ---- the bytes of a run, compared
 

@@ -56,9 +56,9 @@ module _ (bs : List ℕ) (utf8 : IsUtf8 bs) where
       let rest = drop cut.1 bs in
       let at = cut.2.1 in
       let inside : i < length bs = omega (arith, at.ends, cut.5, cut.7) in
-      let border = IsCharBoundary-before_ascii bs i inside (omega (arith, at.byte (omega arith))) in
-      let text = IsUtf8-take bs i utf8 border in
-      let behind = chars_past_char (drop i bs) rest 92 (IsUtf8-drop bs i utf8 border) at.split in
+      let offset = IsCharBoundary-before_ascii bs i inside (omega (arith, at.byte (omega arith))) in
+      let text = IsUtf8-take bs i utf8 offset in
+      let behind = chars_past_char (drop i bs) rest 92 (IsUtf8-drop bs i utf8 offset) at.split in
       let is : chars bs ≡ chars before ++ 92 ∷ chars rest =
       ap chars (sym (take-append-drop i bs)) ∙ chars-append before (drop i bs) text
       ∙ ap (λ t. chars before ++ t) behind in

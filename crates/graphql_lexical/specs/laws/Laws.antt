@@ -34,8 +34,8 @@ pub record IsOnlyFault (rest : List ℕ) (n : ℕ) (error : LexicalError) : Type
   pub no_reading : (m : ℕ) (k : Kind) (t : List ℕ) → Reads rest m k t → ⊥
 
 -- a rest has exactly one of both
-abbrev pub HasOneAnswer : List ℕ → Type 0
-HasOneAnswer rest = ((n : ℕ) × (kind : Kind) × (text : List ℕ) × IsOnlyReading rest n kind text) ⊎ ((n : ℕ) × (error : LexicalError) × IsOnlyFault rest n error)
+abbrev pub HasOneResult : List ℕ → Type 0
+HasOneResult rest = ((n : ℕ) × (kind : Kind) × (text : List ℕ) × IsOnlyReading rest n kind text) ⊎ ((n : ℕ) × (error : LexicalError) × IsOnlyFault rest n error)
 
 -- no token but a block string begins with a triple quote
 abbrev pub BeginsBlockString : List ℕ → Type 0

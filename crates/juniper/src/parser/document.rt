@@ -7,7 +7,7 @@ ghost use Rattle.juniper.specs.Scalars.{stated};
 ghost use Rattle.graphql_grammar.specs.device.Productions.{document};
 ghost use Rattle.juniper_tokens.specs.Taking.{left};
 ghost use Rattle.juniper.specs.device.Steps.{cursor};
-ghost use Rattle.juniper.specs.Promise.{HasTree, IsRefusal, IsRefusalInText, IfRefused, AnswersAs};
+ghost use Rattle.juniper.specs.Promise.{HasTree, IsRefusal, IsRefusalInText, IfRefused, ReturnsAs};
 
 pub(crate) mod depth;
 pub(crate) mod sink;
@@ -56,7 +56,7 @@ pub fn parse_document_source<'a, S: ScalarValue>(
 pub(crate) fn parse_definitions<'a, S: ScalarValue>(
     tokens: &mut Cursor<'_, 'a>,
 ) -> UnlocatedParseResult<OwnedDocument<'a, S>>
-    ensures { AnswersAs (view_document S.content) result (cursor (stated S.reading S.of_bool) document (left tokens.old)) }
+    ensures { ReturnsAs (view_document S.content) result (cursor (stated S.reading S.of_bool) document (left tokens.old)) }
 {
     let mut definitions = Vec::new(tokens.allocator());
     loop {

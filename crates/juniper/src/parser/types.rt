@@ -4,7 +4,7 @@ ghost use Rattle.graphql_grammar.specs.device.Productions.{named_type, list_type
 ghost use Rattle.juniper_tokens.specs.Cursor.{EndsOnce, Gives, OnMemory};
 ghost use Rattle.juniper_tokens.specs.Delimited.{IsRest};
 ghost use Rattle.juniper_tokens.specs.Taking.{left, GoesOn};
-ghost use Rattle.juniper.specs.Promise.{AnswersType};
+ghost use Rattle.juniper.specs.Promise.{ReturnsType};
 ghost use Rattle.juniper.specs.View.{view_spanned_type};
 ghost use Rattle.juniper.specs.device.Steps.{no_scalars, cursor, type_read};
 
@@ -23,7 +23,7 @@ use juniper_values::Type;
 /// let of_type = parse_type(&mut parser)?;
 /// ```
 pub fn parse_type<'a>(parser: &mut Parser<'a>) -> ParseResult<Type<&'a str>>
-    ensures answers { AnswersType view_spanned_type result parser.old parser.new }
+    ensures answers { ReturnsType view_spanned_type result parser.old parser.new }
     ensures memory { OnMemory result (IsRest parser.old parser.new) }
 {
     let mut tokens = parser.cursor();

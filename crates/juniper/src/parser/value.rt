@@ -10,7 +10,7 @@ ghost use Rattle.juniper_tokens.specs.Spans.{view_span};
 ghost use Rattle.juniper_tokens.specs.Cursor.{EndsOnce, Gives, OnMemory};
 ghost use Rattle.juniper_tokens.specs.Delimited.{IsRest};
 ghost use Rattle.juniper_tokens.specs.Taking.{left, GoesOn};
-ghost use Rattle.juniper.specs.Promise.{AnswersValue};
+ghost use Rattle.juniper.specs.Promise.{ReturnsValue};
 ghost use Rattle.juniper.specs.View.{view_value, view_object_field};
 ghost use Rattle.juniper.specs.device.PartViews.{view_list};
 ghost use Rattle.juniper.specs.device.Steps.{cursor, value_read, scalar_read, closed_read, literal_here};
@@ -42,7 +42,7 @@ pub fn parse_value_literal<'a, S: ScalarValue>(
     parser: &mut Parser<'a>,
     is_const: bool,
 ) -> ParseResult<InputValue<S>>
-    ensures answers { AnswersValue (stated S.reading S.of_bool) (not is_const) (view_value S.content) result parser.old parser.new }
+    ensures answers { ReturnsValue (stated S.reading S.of_bool) (not is_const) (view_value S.content) result parser.old parser.new }
     ensures memory { OnMemory result (IsRest parser.old parser.new) }
 {
     let mut tokens = parser.cursor();

@@ -54,7 +54,7 @@ pub record ComparesParts {S : Type 0} (eq : S → S → Bool) (value_eq : Value 
   pub objects : (a b : Object S) → value_eq (V.Object a) (V.Object b) ≡ same_entries value_eq (pairs a) (pairs b)
 
 -- Values of different kinds are not equal.
-pub record TellsKindsApart {S : Type 0} (value_eq : Value S → Value S → Bool) : Type 0 where
+pub record HasKindsApart {S : Type 0} (value_eq : Value S → Value S → Bool) : Type 0 where
   pub null_scalar : (s : S) → value_eq V.Null (V.Scalar s) ≡ false
   pub null_list : (a : Vec (Value S) Global) → value_eq V.Null (V.List a) ≡ false
   pub null_object : (o : Object S) → value_eq V.Null (V.Object o) ≡ false

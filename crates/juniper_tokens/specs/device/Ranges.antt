@@ -11,13 +11,13 @@ use Rattle.juniper_tokens.specs.declared.span.Spanning.{Spanning}
 use Rattle.juniper_tokens.specs.declared.token.Token.{Token}
 use Rattle.juniper_tokens.specs.declared.token_range.TokenRange.{TokenRange}
 use Rattle.juniper_tokens.specs.declared.lexer.scan.Found.{Found}
-use Rattle.juniper_tokens.specs.declared.lexer.text.Border.{Border}
+use Rattle.juniper_tokens.specs.declared.lexer.text.Offset.{Offset}
 use Rattle.juniper_tokens.specs.declared.error.LexerError.{LexerError}
 use Rattle.juniper_tokens.specs.declared.error.LexFailure.{LexFailure}
 use Rattle.juniper_tokens.specs.declared.error.LexFailure.TheVariants as failure
 use Rattle.juniper_tokens.specs.Tokens.{kind_text, view_token}
 use Rattle.juniper_tokens.specs.Errors.{view_lexer_error}
-use Rattle.juniper_tokens.specs.device.Borders.{IsBorder, EndsQuoted}
+use Rattle.juniper_tokens.specs.device.Offsets.{IsOffset, EndsQuoted}
 use Rattle.juniper_tokens.specs.device.ByteRuns.{byte_at}
 use Rattle.juniper_tokens.specs.Positions.{columns_on}
 use Rattle.juniper_tokens.specs.device.Scans.{MissesEscape}
@@ -45,7 +45,7 @@ range_lexemes source = map (range_lexeme source)
 pub record IsRange (source : List ℕ) (r : TokenRange) : Type 0 where
   pub at_is : r.at ≡ byte_at r.start.index source
   pub start_is : r.start ≡ place source r.start.index
-  pub end : IsBorder r.end source
+  pub end : IsOffset r.end source
   pub forward : r.start.index ≤ r.end.characters
   pub within : r.end.characters ≤ length source
   pub quoted : r.kind ≡ kinds.String → EndsQuoted 1 (drop r.start.index source) (r.end.bytes - r.at) (r.end.characters - r.start.index)
@@ -110,8 +110,8 @@ MayTake s (Some range) t = TakesRange (past_gap s) range t
 -- ---- cursors
 
 -- the end of a source as a range, at this offset and place
-abbrev pub end_at : Border → Place → TokenRange
-end_at border place = record { kind = kinds.EndOfFile; at = border.bytes; start = place; end = border }
+abbrev pub end_at : Offset → Place → TokenRange
+end_at offset place = record { kind = kinds.EndOfFile; at = offset.bytes; start = place; end = offset }
 
 -- This many of these ranges of a source have been taken. Of those that are left the last one, and no other, is the end.
 pub record AreLeft (source : List ℕ) (ranges : List TokenRange) (taken : ℕ) : Type 0 where

@@ -8,7 +8,7 @@ use Rattle.juniper_tokens.specs.Errors.{view_lexer_error}
 use Rattle.juniper_tokens.specs.declared.lexer.scan.Found.{Found}
 use Rattle.juniper_tokens.specs.declared.lexer.scan.Missed.{Missed}
 use Rattle.juniper_tokens.specs.declared.lexer.scan.Missed.TheVariants as missed
-use Rattle.juniper_tokens.specs.device.Borders.{IsBorder}
+use Rattle.juniper_tokens.specs.device.Offsets.{IsOffset}
 
 -- the one error whose text takes memory
 abbrev pub IsEscape : LexicalError → Type 0
@@ -25,7 +25,7 @@ Misses missed.Memory s = MissesEscape s
 
 -- what the scan of a text gives: a token and the offset at which it ends, or why there is none
 abbrev pub MeetsScan : Result Found Missed → List ℕ → Result scans.Found scans.Missed → Type 0
-MeetsScan (Ok f) cs s = (s ≡ scans.found f.end.characters f.kind cs) × IsBorder f.end cs
+MeetsScan (Ok f) cs s = (s ≡ scans.found f.end.characters f.kind cs) × IsOffset f.end cs
 MeetsScan (Err m) cs s = Misses m s
 
 -- This token stands at the front of the text.

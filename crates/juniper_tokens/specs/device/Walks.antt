@@ -10,7 +10,7 @@ use Rattle.graphql_lexical.specs.declared.state.State.TheVariants.{Start, Zero}
 use Rattle.graphql_lexical.specs.device.Scan.{gap_size, step}
 use Rattle.juniper_tokens.specs.declared.lexer.run.Run.{Run}
 use Rattle.juniper_tokens.specs.declared.lexer.run.Run.TheVariants as run
-use Rattle.juniper_tokens.specs.declared.lexer.text.Border.{Border}
+use Rattle.juniper_tokens.specs.declared.lexer.text.Offset.{Offset}
 use Rattle.juniper_tokens.specs.declared.byte_classes.ByteClass.{ByteClass}
 use Rattle.juniper_tokens.specs.ByteClasses.{class_of}
 use Rattle.juniper_tokens.specs.device.ByteRuns.{byte_at, byte_step, with_value, count_one, on, Walked}
@@ -37,7 +37,7 @@ abbrev pub run_machine : Run → Unit {0} × ℕ → ℕ → Option (Unit {0} ×
 run_machine run = byte_step (with_value (run_step run) count_one)
 
 -- this many bytes and characters
-abbrev pub RunsTo : Run → List ℕ → Border → Type 0
+abbrev pub RunsTo : Run → List ℕ → Offset → Type 0
 RunsTo run bytes b = reach (run_machine run) (tt, 0) bytes ≡ (b.bytes, (tt, b.characters))
 
 -- the steps of a token over bytes, with the number of characters
@@ -49,7 +49,7 @@ abbrev pub WalkedToken : List ℕ → ℕ → State → ℕ → Type 0
 WalkedToken bytes i q n = Walked token_machine (Start, 0) bytes i (q, n)
 
 -- From this state the steps of a token go over this many bytes and characters, and stay.
-abbrev pub StaysOver : State → List ℕ → Border → Type 0
+abbrev pub StaysOver : State → List ℕ → Offset → Type 0
 StaysOver q bytes b = (n : ℕ) → reach token_machine (q, n) bytes ≡ on b.bytes (reach token_machine (q, n + b.characters) (drop b.bytes bytes))
 
 -- this many characters, counted

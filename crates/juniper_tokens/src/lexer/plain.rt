@@ -10,7 +10,7 @@ use crate::byte_classes::ByteClass;
 use crate::lexer::machine::step_after_integer;
 use crate::lexer::run::{Run, run_over};
 use crate::lexer::scan::Found;
-use crate::lexer::text::{Border, text_from};
+use crate::lexer::text::{Offset, text_from};
 use graphql_lexical::Kind;
 
 /// The token at the front of a text, if it is a Name, an Int that does not begin with `-` or `0`, a punctuator of one
@@ -29,7 +29,7 @@ pub(crate) fn plain_token(class: ByteClass, text: &str) -> Option<Found>
         }),
         ByteClass::Punctuator => Some(Found {
             kind: Kind::punctuator(bytes[0])?,
-            end: Border {
+            end: Offset {
                 bytes: 1,
                 characters: 1,
             },
@@ -82,7 +82,7 @@ fn plain_string(text: &str) -> Option<Found>
     if units.characters == 0 || last >= bytes.len() || bytes[last] != b'"' {
         return None;
     }
-    let end = Border {
+    let end = Offset {
         bytes: last + 1,
         characters: 2 + units.characters,
     };

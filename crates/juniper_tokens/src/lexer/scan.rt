@@ -4,12 +4,12 @@ ghost use Rattle.std.specs.Str.{chars};
 ghost use Rattle.graphql_lexical.specs.Kinds.{UnknownEscapeSequence};
 ghost use Rattle.graphql_lexical.specs.declared.state.State.TheVariants.{Start};
 ghost use Rattle.graphql_lexical.specs.device.Scan.{missed, stopped, after_dots, after_units, after_block, after_backslash, after_u, after_zero, answer, answer_in_block, scan};
-ghost use Rattle.juniper_tokens.specs.device.Borders.{IsBorder};
+ghost use Rattle.juniper_tokens.specs.device.Offsets.{IsOffset};
 ghost use Rattle.juniper_tokens.specs.device.Scans.{MeetsScan, Misses};
 
 use crate::error::LexerError;
 use crate::lexer::text::{
-    Border, count_alphanumerics, first_character, first_characters, joined, text_behind, text_from,
+    Offset, count_alphanumerics, first_character, first_characters, joined, text_behind, text_from,
 };
 use crate::lexer::walk::{Reached, walk_token};
 use graphql_lexical::{Block, Kind, State};
@@ -20,7 +20,7 @@ use std::alloc::Global;
 pub(crate) struct Found {
     pub(crate) kind: Kind,
     /// The offset of the end, from where the token begins.
-    pub(crate) end: Border,
+    pub(crate) end: Offset,
 }
 
 /// Why there is no token.
@@ -124,15 +124,15 @@ fn digits_fault(alloc: Global, text: &str, end: usize, digits: usize) -> Missed
 }
 
 // The token of this kind that ends there.
-fn token_of(kind: Kind, end: Border) -> Result<Found, Missed>
+fn token_of(kind: Kind, end: Offset) -> Result<Found, Missed>
     ensures { result ≡ Ok (record { kind = kind; end = end }) }
 {
     Ok(Found { kind, end })
 }
 
 // After `0` or `-0`, which no digit may follow.
-fn scan_zero(text: &str, end: Border) -> Result<Found, Missed>
-    requires { IsBorder end (chars text.now) }
+fn scan_zero(text: &str, end: Offset) -> Result<Found, Missed>
+    requires { IsOffset end (chars text.now) }
     ensures { MeetsScan result (chars text.now) (after_zero end.characters (chars text.now) (drop end.characters (chars text.now))) }
 {
     let bytes = text_from(text, end).as_bytes();
@@ -151,14 +151,14 @@ fn scan_unknown(text: &str) -> Result<Found, Missed>
         Some(c) => Err(Missed::Fault(LexerError::UnknownCharacter(c), 0)),
         None => Ok(Found {
             kind: Kind::EndOfFile,
-            end: Border::start(),
+            end: Offset::start(),
         }),
     }
 }
 
 // The token or the lexical error where the steps have stopped.
 fn scan_reached(alloc: Global, text: &str, reached: Reached) -> Result<Found, Missed>
-    requires border { IsBorder reached.end (chars text.now) }
+    requires offset { IsOffset reached.end (chars text.now) }
     requires within { reached.end.characters ≤ length text.now }
     ensures { MeetsScan result (chars text.now) (answer reached.state reached.end.characters (chars text.now)) }
 {
@@ -190,8 +190,8 @@ fn scan_reached(alloc: Global, text: &str, reached: Reached) -> Result<Found, Mi
 }
 
 // The same, where they have stopped in a block string or after it.
-fn scan_block(text: &str, part: Block, end: Border) -> Result<Found, Missed>
-    requires { IsBorder end (chars text.now) }
+fn scan_block(text: &str, part: Block, end: Offset) -> Result<Found, Missed>
+    requires { IsOffset end (chars text.now) }
     ensures { MeetsScan result (chars text.now) (answer_in_block part end.characters (chars text.now)) }
 {
     match part {

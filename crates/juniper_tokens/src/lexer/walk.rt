@@ -6,7 +6,7 @@ ghost use Rattle.graphql_lexical.specs.declared.state.State.TheVariants.{Start};
 ghost use Rattle.graphql_lexical.specs.device.Machines.{reach};
 ghost use Rattle.graphql_lexical.specs.Place.{past_character};
 ghost use Rattle.graphql_lexical.specs.device.Scan.{step as next_state};
-ghost use Rattle.juniper_tokens.specs.device.Borders.{IsBorder};
+ghost use Rattle.juniper_tokens.specs.device.Offsets.{IsOffset};
 ghost use Rattle.juniper_tokens.specs.device.ByteRuns.{byte_at};
 ghost use Rattle.juniper_tokens.specs.device.LexingByScan.{begins_with_mark};
 ghost use Rattle.juniper_tokens.specs.device.Walks.{EndsGap, StaysOver};
@@ -14,7 +14,7 @@ ghost use Rattle.juniper_tokens.specs.device.Walks.{EndsGap, StaysOver};
 use crate::byte_classes::{ByteClass, byte_class};
 use crate::lexer::machine::step;
 use crate::lexer::run::{Run, run_over};
-use crate::lexer::text::{Border, begins_with_mark, first_characters, text_from};
+use crate::lexer::text::{Offset, begins_with_mark, first_characters, text_from};
 use crate::position::SourcePosition;
 use graphql_lexical::{Block, State};
 
@@ -31,7 +31,7 @@ pub(crate) struct GapEnd {
 #[derive(Clone, Copy)]
 pub(crate) struct Reached {
     pub(crate) state: State,
-    pub(crate) end: Border,
+    pub(crate) end: Offset,
 }
 
 /// Skips the ignored tokens at the front of a text.
@@ -94,12 +94,12 @@ fn is_mark_at(text: &str, bytes: usize, characters: usize) -> bool
     requires { bytes ≡ byte_at characters (chars text.now) }
     ensures { result ≡ begins_with_mark (drop characters (chars text.now)) }
 {
-    begins_with_mark(text_from(text, Border { bytes, characters }))
+    begins_with_mark(text_from(text, Offset { bytes, characters }))
 }
 
 // The offset after the characters that stand for themselves in a string or in a block string.
 #[inline(always)]
-fn walk_run(state: State, bytes: &[u8]) -> Border
+fn walk_run(state: State, bytes: &[u8]) -> Offset
     ensures stays { StaysOver state bytes.now result }
     ensures within { result.bytes ≤ length bytes.now }
     ensures fewer { result.characters ≤ result.bytes }
@@ -108,16 +108,16 @@ fn walk_run(state: State, bytes: &[u8]) -> Border
         State::InString => run_over(Run::Plain, bytes),
         State::InBlock(part) => match part {
             Block::Inside => run_over(Run::Block, bytes),
-            _ => Border::start(),
+            _ => Offset::start(),
         },
-        _ => Border::start(),
+        _ => Offset::start(),
     }
 }
 
 /// Follows the steps of a token as far as they go.
 pub(crate) fn walk_token(text: &str) -> Reached
     ensures reached { reach next_state Start (chars text.now) ≡ (result.end.characters, result.state) }
-    ensures border { IsBorder result.end (chars text.now) }
+    ensures offset { IsOffset result.end (chars text.now) }
     ensures within { result.end.characters ≤ length text.now }
 {
     let bytes = text.as_bytes();
@@ -139,7 +139,7 @@ pub(crate) fn walk_token(text: &str) -> Reached
             None => {
                 return Reached {
                     state,
-                    end: Border {
+                    end: Offset {
                         bytes: i,
                         characters,
                     },
@@ -149,7 +149,7 @@ pub(crate) fn walk_token(text: &str) -> Reached
     }
     Reached {
         state,
-        end: Border {
+        end: Offset {
             bytes: i,
             characters,
         },

@@ -22,11 +22,11 @@ pub returns-in_err-parser-clause-refused : goal.returns-in_err-parser-clause-ref
 returns-in_err-parser-clause-refused g c =
     let source = chars c.args.source.now in
     let failed = c.in_err-parser.field-0.0 in
-    let told = c.lexer_failures_are_told.ensures source failed (record {
+    let reported = c.lexer_failures_are_reported.ensures source failed (record {
       breaks = subst (λ (s : LexerState). IfFault {X = List Lexeme} (Err failed)
           (λ fault. BreaksFrom s.source s.index (view_lexer_error fault.item) fault.span.start)) c.new-lexer.ensures
           c.in_err-parser.ensures.fault;
       zero_width = c.in_err-parser.ensures.zero_width;
     }) in
     refused_by_lexer (stated g.S.ParseScalarValue.reading g.S.ScalarValue.of_bool) source
-    (c.one_cut_or_break.ensures source) _ failed c.from_residual.ensures.1 told
+    (c.one_cut_or_break.ensures source) _ failed c.from_residual.ensures.1 reported

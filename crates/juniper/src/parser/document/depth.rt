@@ -7,7 +7,7 @@ ghost use Rattle.juniper_tokens.specs.Spans.{view_span};
 ghost use Rattle.juniper.specs.View.{view_document};
 ghost use Rattle.juniper.specs.Scalars.{stated};
 ghost use Rattle.juniper.specs.Promise.{HasTree, IsRefusal, IsRefusalInText};
-ghost use Rattle.juniper.specs.Within.{IfRefusedWithin, IfTooDeep, IfDecided, HasTooDeep, IsWithin, AnswersWithin, told_within};
+ghost use Rattle.juniper.specs.Within.{IfRefusedWithin, IfTooDeep, IfDecided, HasTooDeep, IsWithin, ReturnsWithin, failure_within};
 
 use crate::parser::document::parse_definitions;
 use crate::tree::ast::OwnedDocument;
@@ -64,19 +64,19 @@ fn parse_within<'a, S: ScalarValue>(
     parser: &mut Parser<'a>,
     depth: usize,
 ) -> Result<OwnedDocument<'a, S>, DepthFailure>
-    ensures { (source : List ℕ) → Cut source parser.old → AnswersWithin (stated S.reading S.of_bool) depth source (view_document S.content) result }
+    ensures { (source : List ℕ) → Cut source parser.old → ReturnsWithin (stated S.reading S.of_bool) depth source (view_document S.content) result }
 {
     let deep = parser.end_at_nesting(depth);
     match parse_definitions(&mut parser.cursor()) {
         Ok(tree) => Ok(tree),
-        Err(failure) => Err(told(deep, failure)),
+        Err(failure) => Err(depth_failure(deep, failure)),
     }
 }
 
 /// The failure for tokens that were ended after one nested too deep, which has this span: where they are refused at that
 /// end, they are too deep. No other token begins where that one ends.
-pub(crate) fn told(deep: Option<Span>, failure: ParseFailure) -> DepthFailure
-    ensures { result ≡ told_within deep failure }
+pub(crate) fn depth_failure(deep: Option<Span>, failure: ParseFailure) -> DepthFailure
+    ensures { result ≡ failure_within deep failure }
 {
     match deep {
         None => DepthFailure::Parse(failure),

@@ -16,7 +16,7 @@ ghost use Rattle.juniper.specs.Within.{IfRefusedWithin, IfTooDeep, IfDecided, Ha
 ghost use Rattle.juniper.specs.Sinks.{Gains, GainsTree, GainsFront, GainsBeforeEnd, GivesAs, GivesWithin};
 
 use crate::parser::definition::parse_definition;
-use crate::parser::document::depth::{DepthFailure, told};
+use crate::parser::document::depth::{DepthFailure, depth_failure};
 use crate::parser::next::next_is;
 use crate::tree::ast::Definition;
 use juniper_tokens::{Cursor, Kind, Lexer, ParseFailure, Parser, UnlocatedParseResult};
@@ -82,7 +82,7 @@ fn give_within<S: ScalarValue, D: DefinitionSink<S>>(
     let deep = parser.end_at_nesting(depth);
     match give_definitions(&mut parser.cursor(), definitions) {
         Ok(()) => Ok(()),
-        Err(failure) => Err(told(deep, failure)),
+        Err(failure) => Err(depth_failure(deep, failure)),
     }
 }
 

@@ -35,7 +35,7 @@ returns-in-Err-Parse-Refused c =
       (
         _,
         record { utf8 = c.utf8.text; refusal = given.refused; within = given.within },
-        c.told_fault.ensures (chars text) c.in_ok-table.ensures fits,
+        c.written_fault.ensures (chars text) c.in_ok-table.ensures fits,
       ),
     )
 

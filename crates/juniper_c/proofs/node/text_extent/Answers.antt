@@ -1,5 +1,5 @@
 use Rattle.std.proofs.Common.{rules}
-use Rattle.juniper_c.proofs.Told.{before_end}
+use Rattle.juniper_c.proofs.Written.{before_end}
 use Rattle.juniper_c.proofs.node.text_extent.Goals as goal
 
 pub returns : goal.returns

@@ -2,7 +2,7 @@ use Rattle.std.proofs.Common.{◌≡◌, ◌∙◌, ◌++◌, ◌∷◌, [], sym
 use Rattle.std.specs.Str.{chars}
 use Rattle.juniper_tokens.specs.Errors.{view_lexer_error}
 use Rattle.juniper_tokens.specs.Spans.{view_span}
-use Rattle.juniper_c.specs.Tokens.{token_at, told_token, HasFaultBehind}
+use Rattle.juniper_c.specs.Tokens.{token_at, written_token, HasFaultBehind}
 use Rattle.juniper_c.proofs.Fitting.{few_characters, broken_fits}
 use Rattle.juniper_c.proofs.TokenCounts.{token_fits}
 use Rattle.juniper_c.proofs.HeldTokens.{stands_here, breaks_here, held_more, held_many, held_all, held_told, fault_behind}
@@ -34,7 +34,7 @@ loop-kind-preserved c =
     let span = view_span c.in-Token.span in
     let few = few_characters c.args.text.now c.utf8.text c.requires in
     let fits = token_fits text l.lexer.index next step.0 stands span step.4 few in
-    let told : c.token_at.result ≡ told_token text step.0 =
+    let told : c.token_at.result ≡ written_token text step.0 =
     c.token_at.ensures text c.in-Ok.ensures fits ∙ ap₂ (token_at text) step.3 step.4 in record {
       held = held_more text _ _ l.lexer l.count held c.next_step.new.lexer c.put.new.room c.token_at.result step.0 stands
           step.2 step.5 step.6 told c.put.ensures;
@@ -52,7 +52,7 @@ returns-in-End c =
     let span = view_span c.in-End.span in
     let few = few_characters c.args.text.now c.utf8.text c.requires in
     let fits = token_fits text l.lexer.index next step.0 stands span step.3 few in
-    let told : c.token_at-in-End.result ≡ told_token text step.0 =
+    let told : c.token_at-in-End.result ≡ written_token text step.0 =
     c.token_at-in-End.ensures text c.in-Ok.ensures fits ∙ ap₂ (token_at text) (sym step.2) step.3 in
     let more = length-append held.tokens (step.0 ∷ []) in (
       c.requires,

@@ -4,7 +4,7 @@ use Rattle.juniper_tokens.specs.Cursor.{OnMemory}
 use Rattle.juniper_tokens.specs.Delimited.{IsRest}
 use Rattle.juniper_tokens.proofs.Public.{follows, on_memory, rest_of}
 use Rattle.juniper_tokens.specs.Taking.{left}
-use Rattle.juniper.specs.Promise.{AnswersType}
+use Rattle.juniper.specs.Promise.{ReturnsType}
 use Rattle.juniper.specs.View.{view_spanned_type}
 use Rattle.juniper.proofs.Literals.{answers_type}
 use Rattle.juniper.proofs.parser.types.parse_type.Goals as goal
@@ -12,7 +12,7 @@ use Rattle.juniper.proofs.parser.types.parse_type.Goals as goal
 pub returns-clause-answers : goal.returns-clause-answers
 returns-clause-answers c =
     let parsed = c.parse_any_type-result in
-    follows (AnswersType view_spanned_type parsed.result) _ _ _ _ _ c.cursor-tokens.ensures (rest_of _ _ parsed.ensures.on)
+    follows (ReturnsType view_spanned_type parsed.result) _ _ _ _ _ c.cursor-tokens.ensures (rest_of _ _ parsed.ensures.on)
     c.count-left.ensures.is c.take_until.ensures
     (answers_type view_spanned_type parsed.result (left c.cursor-tokens.result) (left parsed.new.tokens) parsed.ensures.ended
     parsed.ensures.gives)

@@ -5,7 +5,7 @@ use Rattle.juniper_tokens.specs.Cursor.{OnMemory}
 use Rattle.juniper_tokens.specs.Delimited.{IsRest}
 use Rattle.juniper_tokens.proofs.Public.{follows, on_memory, rest_of}
 use Rattle.juniper_tokens.specs.Taking.{left}
-use Rattle.juniper.specs.Promise.{AnswersValue}
+use Rattle.juniper.specs.Promise.{ReturnsValue}
 use Rattle.juniper.specs.Scalars.{stated}
 use Rattle.juniper.specs.View.{view_value}
 use Rattle.juniper.proofs.Literals.{answers_value}
@@ -16,7 +16,7 @@ returns-clause-answers g c =
     let S = stated g.S.ParseScalarValue.reading g.S.ScalarValue.of_bool in
     let view = view_value g.S.ParseScalarValue.content in
     let parsed = c.parse_value-result in
-    follows (AnswersValue S (not c.args.is_const) view parsed.result) _ _ _ _ _ c.cursor-tokens.ensures
+    follows (ReturnsValue S (not c.args.is_const) view parsed.result) _ _ _ _ _ c.cursor-tokens.ensures
     (rest_of _ _ parsed.ensures.on) c.count-left.ensures.is c.take_until.ensures
     (answers_value S (not c.args.is_const) view parsed.result (left c.cursor-tokens.result) (left parsed.new.tokens)
     parsed.ensures.ended parsed.ensures.gives)

@@ -5,8 +5,8 @@ use Rattle.juniper_c.proofs.flat.FlatWriterDefinitionSinkScalar.take.Goals as go
 
 pub returns : goal.returns
 returns c =
-    let told = c.tell_definition in
+    let written = c.write_definition in
     let d = view_definition scalar_content c.args.definition in record {
-      taken = gains-definition told.result c.args.self.now told.new.flat d told.ensures.nodes told.ensures.texts;
-      kept = gains-none told.result c.args.self.now told.new.flat told.ensures.same_nodes told.ensures.same_texts;
+      taken = gains-definition written.result c.args.self.now written.new.flat d written.ensures.nodes written.ensures.texts;
+      kept = gains-none written.result c.args.self.now written.new.flat written.ensures.same_nodes written.ensures.same_texts;
     }

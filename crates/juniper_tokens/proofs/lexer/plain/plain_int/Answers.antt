@@ -1,13 +1,13 @@
 use Rattle.std.proofs.Common.{sym, ap, ◌∙◌, arith}
 use Rattle.juniper_tokens.specs.declared.byte_classes.ByteClass.TheVariants.{Digit}
 use Rattle.juniper_tokens.specs.device.Walks.{is_in_float}
-use Rattle.juniper_tokens.proofs.PlainTokens.{some_there, digits_border, int_found}
+use Rattle.juniper_tokens.proofs.PlainTokens.{some_there, digits_offset, int_found}
 use Rattle.juniper_tokens.proofs.lexer.plain.plain_int.Goals as goal
 
 pub text_from-requires : goal.text_from-requires
 text_from-requires c =
     let text = c.args.text.now in
-    digits_border text _ c.utf8.text c.as_bytes.ensures.value
+    digits_offset text _ c.utf8.text c.as_bytes.ensures.value
     (some_there text Digit (sym c.requires.digit) (λ e. absurd (cc e)))
     (omega (arith, c.type_inv.text 0)) _ c.run_over-end.ensures.runs
 

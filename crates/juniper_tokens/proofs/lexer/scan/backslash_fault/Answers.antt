@@ -2,7 +2,7 @@ use Rattle.std.proofs.Common.{get_or, ap, sym, subst, ◌∙◌}
 use Rattle.std.specs.Str.{chars}
 use Rattle.graphql_lexical.specs.device.Scan.{after_backslash}
 use Rattle.juniper_tokens.specs.device.Scans.{Misses}
-use Rattle.juniper_tokens.proofs.Borders.{take_first}
+use Rattle.juniper_tokens.proofs.Offsets.{take_first}
 use Rattle.juniper_tokens.proofs.EscapeFaults.{backslash_mark, backslash_missed}
 use Rattle.juniper_tokens.proofs.Stops.{nothing_stands, something_stands}
 use Rattle.juniper_tokens.proofs.lexer.scan.backslash_fault.Goals as goal

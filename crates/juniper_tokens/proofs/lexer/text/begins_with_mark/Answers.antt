@@ -1,4 +1,4 @@
-use Rattle.juniper_tokens.proofs.Borders.{mark_first}
+use Rattle.juniper_tokens.proofs.Offsets.{mark_first}
 use Rattle.juniper_tokens.proofs.lexer.text.begins_with_mark.Goals as goal
 
 pub returns : goal.returns

@@ -1,5 +1,5 @@
 use Rattle.std.proofs.Common.{ap, ◌∙◌, ◌++◌}
-use Rattle.juniper_tokens.proofs.Borders.{chars_joined}
+use Rattle.juniper_tokens.proofs.Offsets.{chars_joined}
 use Rattle.juniper_tokens.proofs.lexer.text.joined.Goals as goal
 
 pub returns : goal.returns

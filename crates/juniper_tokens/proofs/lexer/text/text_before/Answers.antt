@@ -1,6 +1,6 @@
 use Rattle.std.proofs.Common.{ap, ◌∙◌, rules}
 use Rattle.std.specs.Str.{chars}
-use Rattle.juniper_tokens.proofs.Borders.{byte_at_boundary, chars_take}
+use Rattle.juniper_tokens.proofs.Offsets.{byte_at_boundary, chars_take}
 use Rattle.juniper_tokens.proofs.lexer.text.text_before.Goals as goal
 
 pub range-requires-clause-end_boundary : goal.range-requires-clause-end_boundary

@@ -1,6 +1,6 @@
 use Rattle.std.proofs.Common.{ap, ◌∙◌}
 use Rattle.std.specs.Str.{chars}
-use Rattle.juniper_tokens.proofs.Borders.{byte_at_boundary, chars_drop}
+use Rattle.juniper_tokens.proofs.Offsets.{byte_at_boundary, chars_drop}
 use Rattle.juniper_tokens.proofs.lexer.text.text_from.Goals as goal
 
 pub range_from-requires : goal.range_from-requires

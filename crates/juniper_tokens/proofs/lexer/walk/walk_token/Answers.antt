@@ -32,8 +32,8 @@ returns-in-None-clause-reached c =
     (token_none c.loop-i.state c.loop-i.characters b begins
     (sym c.step.ensures ∙ c.in-None.is)) c.loop-i.invariant.0)).0
 
-pub returns-in-None-clause-border : goal.returns-in-None-clause-border
-returns-in-None-clause-border c =
+pub returns-in-None-clause-offset : goal.returns-in-None-clause-offset
+returns-in-None-clause-offset c =
     let bytes = c.as_bytes-bytes.result.now in
     let b = get_or bytes c.loop-i.i 0 in
     let begins : is_inner b ≡ false = outer b c.byte_class.result false
@@ -54,8 +54,8 @@ returns-clause-reached c =
     (walked_end token_machine (Start, 0) (c.loop-i.state, c.loop-i.characters) bytes c.loop-i.i end
     c.loop-i.invariant.0)).0
 
-pub returns-clause-border : goal.returns-clause-border
-returns-clause-border c =
+pub returns-clause-offset : goal.returns-clause-offset
+returns-clause-offset c =
     let bytes = c.as_bytes-bytes.result.now in
     let end : length bytes ≤ c.loop-i.i = omega (arith, c.loop-i-test.false) in
     (token_reached c.args.text.now bytes c.loop-i.i c.loop-i.characters c.loop-i.state c.utf8.text

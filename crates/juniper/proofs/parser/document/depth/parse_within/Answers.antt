@@ -1,7 +1,7 @@
 use Rattle.std.proofs.Common.{sym, subst, Ok, Err}
 use Rattle.juniper.specs.View.{view_document}
 use Rattle.juniper.specs.Scalars.{stated}
-use Rattle.juniper.specs.Within.{AnswersWithin}
+use Rattle.juniper.specs.Within.{ReturnsWithin}
 use Rattle.juniper.specs.declared.parser.document.depth.DepthFailure.{DepthFailure}
 use Rattle.juniper.proofs.Limits.{answers_within}
 use Rattle.juniper.proofs.parser.document.depth.parse_within.Goals as goal
@@ -19,6 +19,6 @@ returns-in-Err g c = λ source cut.
     let S = stated g.S.ParseScalarValue.reading g.S.ScalarValue.of_bool in
     let view = view_document g.S.ParseScalarValue.content in
     let deep = c.end_at_nesting-deep in
-    subst (λ (e : DepthFailure). AnswersWithin S c.args.depth source view (Err e)) (sym c.told.ensures)
+    subst (λ (e : DepthFailure). ReturnsWithin S c.args.depth source view (Err e)) (sym c.depth_failure.ensures)
     (answers_within S c.args.depth source view c.args.parser.now cut deep.result deep.new.self (Err c.in-Err.failure)
     deep.ensures (rw c.cursor.ensures at c.in-Err.ensures))

@@ -2,7 +2,7 @@ use Rattle.std.proofs.Common.{sym, subst, List, [], Ok, Err}
 use Rattle.graphql_grammar.specs.Tree.{Definition}
 use Rattle.juniper_values.specs.Scalar.{Content}
 use Rattle.juniper.specs.Scalars.{stated}
-use Rattle.juniper.specs.Within.{AnswersWithin}
+use Rattle.juniper.specs.Within.{ReturnsWithin}
 use Rattle.juniper.specs.declared.parser.document.depth.DepthFailure.{DepthFailure}
 use Rattle.juniper.proofs.Limits.{answers_within}
 use Rattle.juniper.proofs.Sinks.{given_of_text}
@@ -36,7 +36,7 @@ returns-in-Err-clause-answer g c = λ source cut.
     let answers = answers_within S c.args.depth source view c.args.parser.now cut deep.result deep.new.self
     (Err failed.failure) deep.ensures (rw c.cursor.ensures at failed.ensures.answer) in record {
       tree = [];
-      answers = subst (λ (e : DepthFailure). AnswersWithin S c.args.depth source view (Err e)) (sym c.told.ensures)
+      answers = subst (λ (e : DepthFailure). ReturnsWithin S c.args.depth source view (Err e)) (sym c.depth_failure.ensures)
           answers;
       gains = tt;
     }

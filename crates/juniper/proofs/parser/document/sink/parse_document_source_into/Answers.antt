@@ -4,7 +4,7 @@ use Rattle.graphql_grammar.specs.Tree.{Definition}
 use Rattle.juniper_tokens.specs.declared.error.ParseFailure.{ParseFailure}
 use Rattle.juniper_values.specs.Scalar.{Content}
 use Rattle.juniper.specs.Scalars.{stated}
-use Rattle.juniper.specs.Within.{AnswersWithin}
+use Rattle.juniper.specs.Within.{ReturnsWithin}
 use Rattle.juniper.specs.declared.parser.document.depth.DepthFailure.TheVariants.{Parse}
 use Rattle.juniper.proofs.Promises.{cut_from_start}
 use Rattle.juniper.proofs.Limits.{lexical_within}
@@ -36,10 +36,10 @@ returns-in-Err g c =
     let source = chars c.args.s.now in
     let view : Unit {0} → List (Definition Content) = λ x. [] in
     let failed = c.in-Err in
-    let told = lexical_within S c.args.depth source view c.new-lexer.result failed.failure c.new-lexer.ensures
+    let lexical = lexical_within S c.args.depth source view c.new-lexer.result failed.failure c.new-lexer.ensures
     failed.ensures.fault failed.ensures.zero_width in
-    let p = subst (λ (e : ParseFailure). AnswersWithin S c.args.depth source view (Err (Parse e))) (sym c.from.ensures)
-    told in
+    let p = subst (λ (e : ParseFailure). ReturnsWithin S c.args.depth source view (Err (Parse e))) (sym c.from.ensures)
+    lexical in
     record {
       accepted = p.accepted;
       refused = p.refused;

@@ -3,8 +3,8 @@ use Rattle.juniper_tokens.specs.device.ByteRuns.{is_inner}
 use Rattle.juniper_tokens.specs.device.Walks.{count_machine}
 use Rattle.juniper_tokens.proofs.ByteRuns.{walked_on, walked_stop, walked_end}
 use Rattle.juniper_tokens.proofs.ByteClasses.{outer}
-use Rattle.juniper_tokens.proofs.PlaceWalks.{count_on, count_stops, border_reached}
-use Rattle.juniper_tokens.proofs.lexer.text.border_behind.Goals as goal
+use Rattle.juniper_tokens.proofs.PlaceWalks.{count_on, count_stops, offset_reached}
+use Rattle.juniper_tokens.proofs.lexer.text.offset_behind.Goals as goal
 
 pub returns-then-characters-count : goal.returns-then-characters-count
 returns-then-characters-count c =
@@ -13,7 +13,7 @@ returns-then-characters-count c =
     let begins : is_inner b ≡ false = outer b c.byte_class.result false
     (omega (arith, c.type_inv.text c.loop-i.i, ap (λ t. get_or t c.loop-i.i 0) c.as_bytes-bytes.ensures.value))
     c.byte_class.ensures (sym c.if-is_inner.false ∙ c.is_inner.ensures) in
-    border_reached c.args.text.now bytes c.args.count c.loop-i.i c.loop-i.characters c.utf8.text
+    offset_reached c.args.text.now bytes c.args.count c.loop-i.i c.loop-i.characters c.utf8.text
     c.as_bytes-bytes.ensures.value
     (walked_stop (count_machine c.args.count) 0 c.loop-i.characters bytes c.loop-i.i c.loop-i-test.true
     (count_stops c.args.count c.loop-i.characters b begins c.if-characters-count.true) c.loop-i.invariant.0)
@@ -34,6 +34,6 @@ pub returns : goal.returns
 returns c =
     let bytes = c.as_bytes-bytes.result.now in
     let end : length bytes ≤ c.loop-i.i = omega (arith, c.loop-i-test.false) in
-    border_reached c.args.text.now bytes c.args.count c.loop-i.i c.loop-i.characters c.utf8.text
+    offset_reached c.args.text.now bytes c.args.count c.loop-i.i c.loop-i.characters c.utf8.text
     c.as_bytes-bytes.ensures.value
     (walked_end (count_machine c.args.count) 0 c.loop-i.characters bytes c.loop-i.i end c.loop-i.invariant.0)

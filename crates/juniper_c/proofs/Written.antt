@@ -10,7 +10,7 @@ use Rattle.graphql_nodes.specs.Nodes.{each, definition_nodes, document_nodes}
 use Rattle.juniper_values.specs.Scalar.{Content}
 use Rattle.juniper_nodes.specs.NodeTexts.{text_of_node, node_texts}
 use Rattle.juniper_c.specs.FlatWriters.{NodesFit}
-use Rattle.juniper_c.specs.Nodes.{byte_count, told_node, told_nodes}
+use Rattle.juniper_c.specs.Nodes.{byte_count, written_node, written_nodes}
 use Rattle.juniper_c.specs.declared.node.Node.{Node}
 
 -- a text before the end of the source, as long as its bytes are
@@ -19,14 +19,14 @@ before_end end text u = ap (λ bs. end - length bs) (sym (encodes-chars text u))
 
 pub next_told : (source : List ℕ) (at next : ℕ) (ns rest : List (nodes.Node Content)) (n : nodes.Node Content)
     → (all told new : List Node) (t : Node)
-    → all ≡ told ++ told_nodes source at ns → ns ≡ n ∷ rest → new ≡ told ++ t ∷ [] → t ≡ told_node source at n
+    → all ≡ told ++ written_nodes source at ns → ns ≡ n ∷ rest → new ≡ told ++ t ∷ [] → t ≡ written_node source at n
     → next ≡ at + byte_count (text_of_node n)
-    → all ≡ new ++ told_nodes source next rest
+    → all ≡ new ++ written_nodes source next rest
 next_told source at next ns rest n all told new t h here grown is on =
-    h ∙ (ap (λ ms. told ++ told_nodes source at ms) here
-    ∙ (ap₂ (λ (x : Node) (k : ℕ). told ++ x ∷ told_nodes source k rest) (sym is) (sym on)
-    ∙ (sym (append_assoc told (t ∷ []) (told_nodes source next rest))
-    ∙ ap (λ xs. xs ++ told_nodes source next rest) (sym grown))))
+    h ∙ (ap (λ ms. told ++ written_nodes source at ms) here
+    ∙ (ap₂ (λ (x : Node) (k : ℕ). told ++ x ∷ written_nodes source k rest) (sym is) (sym on)
+    ∙ (sym (append_assoc told (t ∷ []) (written_nodes source next rest))
+    ∙ ap (λ xs. xs ++ written_nodes source next rest) (sym grown))))
 
 pub next_texts : (ns rest : List (nodes.Node Content)) (n : nodes.Node Content) (all bytes new : List ℕ)
     → all ≡ bytes ++ encode_utf8_all (node_texts ns) → ns ≡ n ∷ rest → new ≡ bytes ++ encode_utf8_all (text_of_node n)
@@ -42,14 +42,14 @@ bytes-append t u = ap length (encodes-append t u) ∙ length-append (encode_utf8
 
 -- some nodes, and then others
 pub told-append : (source : List ℕ) (at : ℕ) (ns ms : List (nodes.Node Content))
-    → told_nodes source at ns ++ told_nodes source (at + byte_count (node_texts ns)) ms
-    ≡ told_nodes source at (ns ++ ms)
-told-append source at [] ms = ap (λ k. told_nodes source k ms) (omega arith)
+    → written_nodes source at ns ++ written_nodes source (at + byte_count (node_texts ns)) ms
+    ≡ written_nodes source at (ns ++ ms)
+told-append source at [] ms = ap (λ k. written_nodes source k ms) (omega arith)
 told-append source at (n ∷ ns) ms =
     let next = at + byte_count (text_of_node n) in
     let same : at + byte_count (node_texts (n ∷ ns)) ≡ next + byte_count (node_texts ns) =
     omega (arith, bytes-append (text_of_node n) (node_texts ns)) in
-    ap (λ ts. told_node source at n ∷ ts) (ap (λ k. told_nodes source next ns ++ told_nodes source k ms) same
+    ap (λ ts. written_node source at n ∷ ts) (ap (λ k. written_nodes source next ns ++ written_nodes source k ms) same
     ∙ told-append source next ns ms)
 
 pub texts-append : (ns ms : List (nodes.Node Content))
@@ -70,11 +70,11 @@ fits-append at (n ∷ ns) ms h =
 
 -- behind the nodes of some definitions, those of one more
 pub told-next : (source : List ℕ) (done ns : List (nodes.Node Content)) (told new : List Node) (bytes : List ℕ)
-    → told ≡ told_nodes source 0 done → bytes ≡ encode_utf8_all (node_texts done)
-    → new ≡ told ++ told_nodes source (length bytes) ns → new ≡ told_nodes source 0 (done ++ ns)
+    → told ≡ written_nodes source 0 done → bytes ≡ encode_utf8_all (node_texts done)
+    → new ≡ told ++ written_nodes source (length bytes) ns → new ≡ written_nodes source 0 (done ++ ns)
 told-next source done ns told new bytes a b e =
     let at : length bytes ≡ 0 + byte_count (node_texts done) = omega (arith, ap length b) in
-    e ∙ (ap₂ (λ ts k. ts ++ told_nodes source k ns) a at ∙ told-append source 0 done ns)
+    e ∙ (ap₂ (λ ts k. ts ++ written_nodes source k ns) a at ∙ told-append source 0 done ns)
 
 pub document-more : (ds : List (Definition Content)) (d : Definition Content)
     → document_nodes (ds ++ d ∷ []) ≡ document_nodes ds ++ definition_nodes d

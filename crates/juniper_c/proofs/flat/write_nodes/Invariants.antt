@@ -6,10 +6,10 @@ use Rattle.juniper_c.specs.Scalars.{scalar_content}
 use Rattle.juniper_nodes.specs.NodeTexts.{node_texts}
 use Rattle.juniper_nodes.specs.NodeViews.{view_node}
 use Rattle.juniper_c.specs.ByteTables.{IsTableOf}
-use Rattle.juniper_c.specs.Nodes.{told_nodes}
+use Rattle.juniper_c.specs.Nodes.{written_nodes}
 use Rattle.juniper_c.specs.FlatWriters.{NodesFit}
 use Rattle.juniper_c.specs.declared.node.Node.{Node}
-use Rattle.juniper_c.proofs.flat.tell.Given as goal
+use Rattle.juniper_c.proofs.flat.write_nodes.Given as goal
 
 abbrev pub invariant-loop-node : goal.invariant-loop-node
 invariant-loop-node l =
@@ -20,8 +20,8 @@ invariant-loop-node l =
       from : l.from ≡ length first;
       told : (source : List ℕ) → IsTableOf source l.table → NodesFit (length first) seen
           → NodesFit (length first + length (string_bytes l.texts)) left
-          × (before ++ told_nodes source (length first) seen
-          ≡ l.flat.nodes.items ++ told_nodes source (length first + length (string_bytes l.texts)) left);
+          × (before ++ written_nodes source (length first) seen
+          ≡ l.flat.nodes.items ++ written_nodes source (length first + length (string_bytes l.texts)) left);
       texts : encode_utf8_all (node_texts seen) ≡ string_bytes l.texts ++ encode_utf8_all (node_texts left);
       more : (told : List Node) × (l.flat.nodes.items ≡ before ++ told);
       same_texts : string_bytes l.flat.texts ≡ first;

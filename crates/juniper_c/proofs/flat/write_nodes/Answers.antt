@@ -3,12 +3,12 @@ use Rattle.std.proofs.lemmas.List.{drop_more}
 use Rattle.juniper_c.specs.Scalars.{scalar_content}
 use Rattle.juniper_nodes.specs.NodeTexts.{text_of_node, node_texts}
 use Rattle.juniper_nodes.specs.NodeViews.{view_node}
-use Rattle.juniper_c.specs.Nodes.{byte_count, told_node, told_nodes}
+use Rattle.juniper_c.specs.Nodes.{byte_count, written_node, written_nodes}
 use Rattle.juniper_c.specs.FlatWriters.{NodeFits, NodesFit}
 use Rattle.juniper_c.specs.declared.node.Node.{Node}
-use Rattle.juniper_c.proofs.Told.{next_told, next_texts, added}
+use Rattle.juniper_c.proofs.Written.{next_told, next_texts, added}
 use Rattle.juniper_c.proofs.FlatWriters.{holds_on_err}
-use Rattle.juniper_c.proofs.flat.tell.Goals as goal
+use Rattle.juniper_c.proofs.flat.write_nodes.Goals as goal
 
 pub loop-node-init : goal.loop-node-init
 loop-node-init c =
@@ -19,7 +19,7 @@ loop-node-init c =
     let next : first ≡ first + length (string_bytes c.new-texts.result) = omega (arith, ap length empty) in record {
       from = c.len-from.ensures ∙ flat.texts.bytes.ok.0;
       told = λ source table fit.
-          (subst (λ (k : ℕ). NodesFit k seen) next fit, ap (λ k. flat.nodes.items ++ told_nodes source k seen) next);
+          (subst (λ (k : ℕ). NodesFit k seen) next fit, ap (λ k. flat.nodes.items ++ written_nodes source k seen) next);
       texts = ap (λ bs. bs ++ encode_utf8_all (node_texts seen)) (sym empty);
       more = ([], sym (append-nil flat.nodes.items));
       same_texts = refl;
@@ -47,8 +47,8 @@ loop-node-preserved c =
           let fits = subst (NodesFit behind) here so_far.0 in
           let size = c.write_node.new.texts.bytes.ok.0 in
           let node_fits = subst (λ (k : ℕ). NodeFits k seen) (sym place) fits.0 in
-          let node = c.told_node.ensures source table node_fits (omega (arith, on, at, c.len.ensures, size)) in
-          let told = node ∙ ap (λ k. told_node source k seen) place in
+          let node = c.written_node.ensures source table node_fits (omega (arith, on, at, c.len.ensures, size)) in
+          let told = node ∙ ap (λ k. written_node source k seen) place in
           let next : first + length (string_bytes c.write_node.new.texts) ≡ behind + byte_count (text_of_node seen) =
           omega (arith, on) in
           let rest = map (view_node scalar_content) (drop (l.node-index + 1) xs) in (
@@ -57,9 +57,9 @@ loop-node-preserved c =
           );
       texts = next_texts _ _ _ _ _ _ l.invariant.texts here grown;
       more = (
-        l.invariant.more.0 ++ c.told_node.result ∷ [],
-        c.in_ok-push.ensures.items ∙ ap (λ (told : List Node). told ++ c.told_node.result ∷ []) l.invariant.more.1
-            ∙ append_assoc _ l.invariant.more.0 (c.told_node.result ∷ []),
+        l.invariant.more.0 ++ c.written_node.result ∷ [],
+        c.in_ok-push.ensures.items ∙ ap (λ (told : List Node). told ++ c.written_node.result ∷ []) l.invariant.more.1
+            ∙ append_assoc _ l.invariant.more.0 (c.written_node.result ∷ []),
       );
       same_texts = l.invariant.same_texts;
     }

@@ -59,8 +59,8 @@ chars_drop k n t u e =
     ∙ drop-append_seam a (encodes (drop k (chars t)))))
     ∙ chars-encodes (drop k (chars t)) (scalars_drop k (chars t) (scalars-chars t u))
 
-pub first_border : (n c : ℕ) (cs ds : List ℕ) → n ≡ length (encode c) → cs ≡ c ∷ ds → n ≡ byte_at 1 cs
-first_border n c cs ds e h = e ∙ (sym (ap length (append-nil (encode c))) ∙ ap (byte_at 1) (sym h))
+pub first_offset : (n c : ℕ) (cs ds : List ℕ) → n ≡ length (encode c) → cs ≡ c ∷ ds → n ≡ byte_at 1 cs
+first_offset n c cs ds e h = e ∙ (sym (ap length (append-nil (encode c))) ∙ ap (byte_at 1) (sym h))
 
 pub take_first : (c : ℕ) (cs ds : List ℕ) → cs ≡ c ∷ ds → take 1 cs ≡ c ∷ []
 take_first c cs ds h = ap (take 1) h
@@ -79,12 +79,12 @@ byte_at_on j g cs =
     ∙ length-append (encodes (take j cs)) (encodes (take g (drop j cs)))))
 
 -- the border behind one more character
-pub border_on : (text : List ℕ) (i b c n : ℕ) → IsUtf8 text → i < length (chars text) → c ≡ get_or (chars text) i c
+pub offset_on : (text : List ℕ) (i b c n : ℕ) → IsUtf8 text → i < length (chars text) → c ≡ get_or (chars text) i c
     → b ≡ byte_at i (chars text) → n ≡ len_utf8 c
     → (b + n ≡ byte_at (i + 1) (chars text)) × (b + n ≤ length text) × (i + 1 ≤ length text)
-border_on text i b c n u l here e size =
+offset_on text i b c n u l here e size =
     let cs = chars text in
-    let first : n ≡ byte_at 1 (drop i cs) = first_border n c (drop i cs) (drop (suc i) cs)
+    let first : n ≡ byte_at 1 (drop i cs) = first_offset n c (drop i cs) (drop (suc i) cs)
     (size ∙ sym (length-encode c)) (drop-cons cs i c l ∙ ap (λ x. x ∷ drop (suc i) cs) (sym here)) in
     let next : b + n ≡ byte_at (i + 1) cs = ap₂ (λ x y. x + y) e first ∙ byte_at_on i 1 cs in
     let within : b + n ≤ length text = byte_at_within (i + 1) (b + n) text u next in
