@@ -8,7 +8,7 @@ use Rattle.graphql_lexical.specs.Place.{Place, place, past_character, next_line,
 use Rattle.juniper_tokens.specs.declared.lexer.run.Run.TheVariants as run
 use Rattle.juniper_tokens.specs.device.ByteRuns.{is_inner}
 use Rattle.juniper_tokens.specs.device.Walks.{run_test, each_machine}
-use Rattle.juniper_tokens.specs.device.LineSteps.{no_lines, longer, one_line, past}
+use Rattle.juniper_tokens.specs.device.LineSteps.{made_table, longer, one_line, past}
 use Rattle.juniper_tokens.specs.LineTables.{Lines, starts_after, lines_of, IsTable, place_within, AscendFrom, StartLines, IsOnLine}
 use Rattle.juniper_tokens.proofs.LineWalks.{no_feed_in_line, no_feed_past_ascii}
 use Rattle.juniper_tokens.proofs.Places.{place_fold}
@@ -46,6 +46,10 @@ ascend_above : (k : ℕ) (ss : List ℕ) (l s : ℕ) → AscendFrom k ss → sli
 ascend_above k [] l s h e = absurd (none-some s e)
 ascend_above k (x ∷ ss) zero s h e = omega (arith, h.0, get_or_from_slice_get (x ∷ ss) 0 s 0 e)
 ascend_above k (x ∷ ss) (suc l) s h e = omega (arith, h.0, ascend_above x ss l s h.1 e)
+
+-- the first line that begins after these characters
+pub first_after : (k : ℕ) (cs : List ℕ) (s : ℕ) → slice_get (starts_after k cs) 0 ≡ Some s → k < s
+first_after k cs s e = omega (arith, ascend_above k (starts_after k cs) 0 s (after_ascend k cs) e)
 
 pub number_below : (starts : List ℕ) (l s : ℕ) → StartLines starts → slice_get starts l ≡ Some s → l ≤ s
 number_below [] l s h e = absurd h
@@ -126,9 +130,6 @@ pub record Narrowed (starts : List ℕ) (k low start high : ℕ) : Type 0 where
 
 -- ---- the lines after each character
 
-abbrev pub made_table : List ℕ → ℕ → Lines
-made_table starts count = record { starts = starts; count = count }
-
 pub no_longer : (t : Lines) → longer 0 t ≡ t
 no_longer t = ap (λ n. made_table t.starts n) (plus_none t.count)
 
@@ -145,9 +146,11 @@ pub past_other : (t : Lines) (b : ℕ) → is_inner b ≡ false → (b == 10) �
     → each_machine past (tt, t) b ≡ Some (tt, longer 1 t)
 past_other t b e f = rw (e, f) refl
 
--- the lines of all characters
-pub lines_are : (cs : List ℕ) → fold past no_lines cs ≡ lines_of cs
-lines_are cs = go cs (0 ∷ []) 0 ∙ ap (made_table (0 ∷ starts_after 0 cs)) (none_plus (length cs))
+-- the lines after more characters
+pub lines_on : (cs starts : List ℕ) (n : ℕ)
+    → fold past (made_table starts n) cs ≡ made_table (starts ++ starts_after n cs) (n + length cs)
+lines_on [] ss n = ap₂ made_table (sym (append-nil ss)) (sym (plus_none n))
+lines_on (c ∷ cs) ss n = by_feed (c == 10) ss cs n (λ ts. lines_on cs ts (n + 1))
   where
     longer_by : (n : ℕ) (cs : List ℕ) → (n + 1) + length cs ≡ n + suc (length cs)
     longer_by n cs = omega arith
@@ -161,7 +164,3 @@ lines_are cs = go cs (0 ∷ []) 0 ∙ ap (made_table (0 ∷ starts_after 0 cs)) 
         h (ss ++ (n + 1) ∷ [])
         ∙ ap₂ made_table (append_assoc ss ((n + 1) ∷ []) (starts_after (n + 1) rest)) (longer_by n rest)
     by_feed false ss rest n h = h ss ∙ ap (made_table (ss ++ starts_after (n + 1) rest)) (longer_by n rest)
-
-    go : (cs ss : List ℕ) (n : ℕ) → fold past (made_table ss n) cs ≡ made_table (ss ++ starts_after n cs) (n + length cs)
-    go [] ss n = ap₂ made_table (sym (append-nil ss)) (sym (plus_none n))
-    go (c ∷ cs) ss n = by_feed (c == 10) ss cs n (λ ts. go cs ts (n + 1))

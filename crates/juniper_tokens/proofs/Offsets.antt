@@ -1,5 +1,5 @@
 -- Where a character begins in a text.
-use Rattle.std.proofs.Common.{◌≡◌, ℕ, zero, suc, ◌+◌, ◌≤◌, ◌<◌, Bool, true, false, ◌&&◌, append-nil, get_or, drop-cons, List, [], ◌∷◌, ◌++◌, length, take, drop, refl, sym, ap, ap₂, subst, ◌∙◌, MatchBool, None, ◌==◌, arith, length-append, take-append-drop, take-add}
+use Rattle.std.proofs.Common.{◌≡◌, ℕ, zero, suc, ◌+◌, ◌-◌, ◌^◌, ◌≤◌, ◌<◌, Bool, true, false, ◌&&◌, append-nil, get_or, drop-cons, List, [], ◌∷◌, ◌++◌, length, take, drop, refl, sym, ap, ap₂, subst, ◌∙◌, MatchBool, None, ◌==◌, arith, length-append, take-append-drop, take-add}
 use Rattle.std.specs.Char.{len_utf8}
 use Rattle.std.specs.Str.{chars, IsUtf8, IsCharBoundary}
 use Rattle.std.specs.Str.Pattern.{HasPrefixMatch, FindsTextPrefix}
@@ -77,6 +77,21 @@ pub byte_at_on : (j g : ℕ) (cs : List ℕ) → byte_at j cs + byte_at g (drop 
 byte_at_on j g cs =
     sym (ap (λ t. length (encodes t)) (take-add j g cs) ∙ (ap length (encodes-append (take j cs) (take g (drop j cs)))
     ∙ length-append (encodes (take j cs)) (encodes (take g (drop j cs)))))
+
+-- so many bytes on from the one is the other
+pub bytes_between : (cs : List ℕ) (j k m n : ℕ) → m ≡ byte_at j cs → n ≡ byte_at k cs → j ≤ k
+    → m + byte_at (k - j) (drop j cs) ≡ n
+bytes_between cs j k m n e f l =
+    let sum : j + (k - j) ≡ k = omega (arith, l) in
+    ap (λ b. b + byte_at (k - j) (drop j cs)) e
+    ∙ (byte_at_on j (k - j) cs ∙ (ap (λ i. byte_at i cs) sum ∙ sym f))
+
+-- what is left from there on is no longer than the text
+pub room_from : (text rest : List ℕ) (k n : ℕ) → n ≡ byte_at k (chars text) → k ≤ length (chars text)
+    → n + length rest ≡ length text → length text < 2 ^ 64 → k + length rest < 2 ^ 64
+room_from text rest k n e w l room =
+    let before : length (take k (chars text)) ≡ k = length-take-le k (chars text) w in
+    omega (arith, e, l, room, length-le-encodes (take k (chars text)), before)
 
 -- the border behind one more character
 pub offset_on : (text : List ℕ) (i b c n : ℕ) → IsUtf8 text → i < length (chars text) → c ≡ get_or (chars text) i c

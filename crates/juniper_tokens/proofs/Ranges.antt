@@ -4,7 +4,6 @@ use Rattle.std.specs.Prelude.{Result, Ok, Err, Some, None, ◌↔◌}
 use Rattle.std.specs.Option.{unwrap_or}
 use Rattle.std.specs.Result.{IsErrAnd}
 use Rattle.std.specs.List.{fold}
-use Rattle.std.proofs.lemmas.List.{length-take-le}
 use Rattle.std.proofs.lemmas.Str.{length-le-encodes, encodes-chars}
 use Rattle.std.specs.Str.{chars, IsUtf8}
 use Rattle.graphql_lexical.specs.Place.{Place, place, past_character}
@@ -27,11 +26,14 @@ use Rattle.juniper_tokens.specs.Tokens.{kind_text, view_token}
 use Rattle.juniper_tokens.specs.device.ByteRuns.{byte_at}
 use Rattle.juniper_tokens.specs.device.Offsets.{EndsQuoted, quotes}
 use Rattle.juniper_tokens.specs.Positions.{columns_on}
+use Rattle.juniper_tokens.specs.LineTables.{starts_after}
+use Rattle.juniper_tokens.specs.device.LineSteps.{line_number, IsLineOf}
 use Rattle.juniper_tokens.specs.device.Scans.{Finds}
 use Rattle.juniper_tokens.specs.Lexing.{LexerState, GivesItem, GivesToken}
 use Rattle.juniper_tokens.specs.device.LexingByScan.{past_gap, IsPlaced}
 use Rattle.juniper_tokens.specs.device.Ranges.{range_of, range_slice, range_lexeme, IsRange, TakesRange, TakesItem, MayTake, GivesRange, GivesRangeItem, range_steps}
-use Rattle.juniper_tokens.proofs.Offsets.{byte_at_within, byte_at_on}
+use Rattle.juniper_tokens.proofs.Offsets.{byte_at_within, byte_at_on, bytes_between, room_from}
+use Rattle.juniper_tokens.proofs.LinesSoFar.{line_of_place}
 use Rattle.juniper_tokens.proofs.LexingByScan.{same_end, fault_by_scan, memory_by_scan}
 use Rattle.juniper_tokens.proofs.Places.{place_on, line_end}
 
@@ -39,46 +41,55 @@ use Rattle.juniper_tokens.proofs.Places.{place_on, line_end}
 
 -- so many bytes on from the start is the end
 range_bytes : (source : List ℕ) (r : TokenRange) → IsRange source r
-    → r.at + byte_at (r.end.characters - r.start.index) (drop r.start.index source) ≡ r.end.bytes
-range_bytes source r h =
-    let j = r.start.index in
-    let g = r.end.characters - r.start.index in
-    let sum : j + g ≡ r.end.characters = omega (arith, h.forward) in
-    ap (λ b. b + byte_at g (drop j source)) h.at_is
-    ∙ (byte_at_on j g source ∙ (ap (λ k. byte_at k source) sum ∙ sym h.end))
+    → r.start.bytes + byte_at (r.end.characters - r.start.characters) (drop r.start.characters source) ≡ r.end.bytes
+range_bytes source r h = bytes_between source r.start.characters r.end.characters r.start.bytes r.end.bytes h.start h.end
+    h.forward
 
-pub range_order : (source : List ℕ) (r : TokenRange) → IsRange source r → r.at ≤ r.end.bytes
+pub range_order : (source : List ℕ) (r : TokenRange) → IsRange source r → r.start.bytes ≤ r.end.bytes
 range_order source r h = omega (arith, range_bytes source r h)
 
-pub range_width : (source rest : List ℕ) (r : TokenRange) → IsRange source r → rest ≡ drop r.start.index source
-    → r.end.bytes - r.at ≡ byte_at (r.end.characters - r.start.index) rest
+pub range_width : (source rest : List ℕ) (r : TokenRange) → IsRange source r → rest ≡ drop r.start.characters source
+    → r.end.bytes - r.start.bytes ≡ byte_at (r.end.characters - r.start.characters) rest
 range_width source rest r h e =
-    let width : r.end.bytes - r.at ≡ byte_at (r.end.characters - r.start.index) (drop r.start.index source) =
+    let width : r.end.bytes - r.start.bytes ≡ byte_at (r.end.characters - r.start.characters) (drop r.start.characters source) =
     omega (arith, range_bytes source r h) in
-    width ∙ ap (byte_at (r.end.characters - r.start.index)) (sym e)
+    width ∙ ap (byte_at (r.end.characters - r.start.characters)) (sym e)
 
 -- what is left from its start on is no longer than the source
-pub range_room : (source rest : List ℕ) (r : TokenRange) → IsRange (chars source) r → r.at + length rest ≡ length source
+pub range_room : (source rest : List ℕ) (r : TokenRange) → IsRange (chars source) r → r.start.bytes + length rest ≡ length source
     → length source < 2 ^ 64
-    → r.start.index + length rest < 2 ^ 64
-range_room source rest r h e l =
-    let before : length (take r.start.index (chars source)) ≡ r.start.index =
-    length-take-le r.start.index (chars source) (omega (arith, h.forward, h.within)) in
-    omega (arith, e, l, h.at_is, length-le-encodes (take r.start.index (chars source)), before)
+    → r.start.characters + length rest < 2 ^ 64
+range_room source rest r h e l = room_from source rest r.start.characters r.start.bytes h.start
+    (omega (arith, h.forward, h.within)) e l
+
+-- the place of its start
+pub start_index : (source : List ℕ) (r : TokenRange) (p : Place) → IsRange source r → p ≡ place source r.start.characters
+    → p.index ≡ r.start.characters
+start_index source r p h e = ap (λ (x : Place). x.index) e
+    ∙ place_index source r.start.characters (omega (arith, h.forward, h.within))
 
 -- the place behind it
-pub range_end : (source rest : List ℕ) (r : TokenRange) → IsRange source r → rest ≡ drop r.start.index source
-    → fold past_character r.start (take (r.end.characters - r.start.index) rest) ≡ place source r.end.characters
-range_end source rest r h e =
-    let sum : r.start.index + (r.end.characters - r.start.index) ≡ r.end.characters = omega (arith, h.forward) in
-    ap₂ (λ s t. fold past_character s (take (r.end.characters - r.start.index) t)) h.start_is e
-    ∙ (place_on source r.start.index (r.end.characters - r.start.index) ∙ ap (place source) sum)
+pub range_end : (source rest : List ℕ) (r : TokenRange) (p : Place) → IsRange source r → p ≡ place source r.start.characters
+    → rest ≡ drop r.start.characters source
+    → fold past_character p (take (r.end.characters - r.start.characters) rest) ≡ place source r.end.characters
+range_end source rest r p h at e =
+    let sum : r.start.characters + (r.end.characters - r.start.characters) ≡ r.end.characters = omega (arith, h.forward) in
+    ap₂ (λ s t. fold past_character s (take (r.end.characters - r.start.characters) t)) at e
+    ∙ (place_on source r.start.characters (r.end.characters - r.start.characters) ∙ ap (place source) sum)
 
 -- a token that is no block string ends on its line
-pub ends_on_line : (source : List ℕ) (r : TokenRange) → IsRange source r → same_kind r.kind kinds.BlockString ≡ false
-    → columns_on (r.end.characters - r.start.index) r.start ≡ place source r.end.characters
-ends_on_line source r h e =
-    h.lined (λ b. absurd (cc (e, ap (λ (k : Kind). same_kind k kinds.BlockString) b)))
+pub ends_on_line : (source : List ℕ) (r : TokenRange) (p : Place) → IsRange source r → p ≡ place source r.start.characters
+    → same_kind r.kind kinds.BlockString ≡ false
+    → columns_on (r.end.characters - r.start.characters) p ≡ place source r.end.characters
+ends_on_line source r p h at e =
+    ap (columns_on (r.end.characters - r.start.characters)) at ∙ h.lined (λ b. absurd (cc (e, ap (λ (k : Kind). same_kind k kinds.BlockString) b)))
+
+-- a token that is no block string ends on the line on which it begins
+pub last_line_of : (source starts : List ℕ) (r : TokenRange) → IsRange source r → starts ≡ 0 ∷ starts_after 0 source
+    → same_kind r.kind kinds.BlockString ≡ false → IsLineOf starts r.line r.end.characters
+last_line_of source starts r h table e =
+    line_of_place source starts r.end.characters r.line table h.within
+    (h.line_is ∙ ap (λ (x : Place). line_number x.line) (ends_on_line source r _ h refl e))
 
 -- where a lexer stands behind it
 pub placed_behind : (source : List ℕ) (at : ℕ) (p q : Place) (r : TokenRange) → IsPlaced source at p
@@ -132,8 +143,8 @@ found_range source at p f h s =
       offset = s.1;
     })) in
     record {
-      at_is = h.byte_is;
-      start_is = h.place_is;
+      line_is = ap (λ (x : Place). line_number x.line) h.place_is;
+      start = h.byte_is;
       end = ap₂ (λ a b. a + b) h.byte_is s.1 ∙ byte_at_on j n text;
       forward = omega arith;
       within = omega (arith, within, h.within, length-drop j text);
@@ -142,7 +153,7 @@ found_range source at p f h s =
       marked = λ k. let units = read_spelled rest n f.kind kinds.BlockString _ reads k (λ e. absurd (cc e)) in
           quoted_by 3 units.0 units.1 (omega arith);
       lined = λ k.
-          ap (λ m. columns_on m p) size ∙ (line_end p rest _ s.0 k
+          ap (columns_on ((j + n) - j)) (sym h.place_is) ∙ ap (λ m. columns_on m p) size ∙ (line_end p rest _ s.0 k
           ∙ (ap (λ x. fold past_character x (take n rest)) h.place_is ∙ place_on text j n));
     }
 

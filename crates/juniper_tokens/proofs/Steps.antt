@@ -46,14 +46,16 @@ drop_one_more source (x ∷ xs) (suc i) =
     rw add-one (sym (ap (λ k. range_lexemes source (drop k xs)) (add-one i)) ∙ drop_one_more source xs i)
 
 -- what is left past a token that is not the end
-pub one_fewer : (source : List ℕ) (ranges : List TokenRange) (taken : ℕ) → AreLeft source ranges taken
+pub one_fewer : (source : List ℕ) (ranges : List TokenRange) (starts : List ℕ) (taken : ℕ)
+    → AreLeft source ranges starts taken
     → (left : List Lexeme) → range_lexemes source (drop taken ranges) ≡ left → same_kind (kind_at left) EndOfFile ≡ false
-    → AreLeft source ranges (taken + 1)
-one_fewer source ranges taken here left seen more = record {
+    → AreLeft source ranges starts (taken + 1)
+one_fewer source ranges starts taken here left seen more = record {
   are_ranges = here.are_ranges;
   ended =
       subst EndsOnce (sym (drop_one_more source ranges taken))
       (still_ended _ here.ended (ap (λ ts. same_kind (kind_at ts) EndOfFile) seen ∙ more));
+  lines_are = here.lines_are;
 }
 
 pub next_is_taken : (ts : List Lexeme) → EndsOnce ts → same_kind (kind_at ts) EndOfFile ≡ false
@@ -73,7 +75,7 @@ pub left_within : (source : List ℕ) (ranges : List TokenRange) (i : ℕ) → E
 left_within source ranges i h = omega (arith, some_left source (drop i ranges) h, length-drop i ranges)
 
 -- r is the range that comes next.
-module _ (source : List ℕ) (ranges : List TokenRange) (taken : ℕ) (here : AreLeft source ranges taken)
+module _ (source : List ℕ) (ranges : List TokenRange) (starts : List ℕ) (taken : ℕ) (here : AreLeft source ranges starts taken)
     (r : TokenRange) (next : r ≡ get_or ranges taken r) where
   pub next_is_range : IsRange source r
   next_is_range = subst (IsRange source) (sym next)
@@ -83,11 +85,11 @@ module _ (source : List ℕ) (ranges : List TokenRange) (taken : ℕ) (here : Ar
   next_is = first_left source ranges taken r (left_within source ranges taken here.ended) (sym next)
 
   pub next_held : (token : Spanning Token) → view_token token ≡ range_lexeme source r
-      → IsCursor source ranges taken token
+      → IsCursor source ranges starts taken token
   next_held token e = record { left = here; first = e ∙ sym next_is }
 
 -- Tokens are taken until so many are left.
-module _ (source : List ℕ) (ranges : List TokenRange) (taken : ℕ) (here : AreLeft source ranges taken)
+module _ (source : List ℕ) (ranges : List TokenRange) (starts : List ℕ) (taken : ℕ) (here : AreLeft source ranges starts taken)
     (old : List Lexeme) (seen : range_lexemes source (drop taken ranges) ≡ old) (left : ℕ) (some : 0 < left)
     (fewer : left ≤ length old) (all : ℕ) (all_are : all ≡ length ranges) where
   pub left_many : range_lexemes source (drop (all - left) ranges) ≡ drop (length old - left) old
@@ -101,12 +103,13 @@ module _ (source : List ℕ) (ranges : List TokenRange) (taken : ℕ) (here : Ar
       ∙ sym (drop-map (range_lexeme source) (length old - left) (drop taken ranges))
       ∙ ap (drop (length old - left)) seen
 
-  pub so_many_left : AreLeft source ranges (all - left)
+  pub so_many_left : AreLeft source ranges starts (all - left)
   so_many_left = record {
     are_ranges = here.are_ranges;
     ended =
         subst EndsOnce (sym left_many)
         (ended_after (length old - left) old (subst EndsOnce seen here.ended) (omega (arith, some, fewer)));
+    lines_are = here.lines_are;
   }
 
 -- ---- the wanted token

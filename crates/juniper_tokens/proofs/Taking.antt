@@ -12,7 +12,7 @@ use Rattle.juniper_tokens.specs.Delimited.{IsRest}
 use Rattle.juniper_tokens.specs.Taking.{Taking, left, next_taken, last_end, GoesOn}
 use Rattle.juniper_tokens.specs.device.Ranges.{range_lexeme, range_lexemes, IsRange, AreLeft}
 use Rattle.juniper_tokens.proofs.Rests.{no_longer}
-use Rattle.juniper_tokens.proofs.Steps.{some_ended, still_ended, left_within, one_fewer}
+use Rattle.juniper_tokens.proofs.Steps.{some_ended, left_within, one_fewer}
 
 pub within_tokens : (t : Taking) → EndsOnce (left t) → t.taken < length t.tokens
 within_tokens t h = omega (arith, some_ended _ h, length-drop t.taken t.tokens)
@@ -55,7 +55,8 @@ pub some_taken : (old new : Taking) → GoesOn old new → length (left new) < l
 some_taken old new g shorter = omega (arith, more_taken old new g shorter)
 
 -- A cursor over ranges of a source is seen as t.
-module _ (source : List ℕ) (ranges : List TokenRange) (taken : ℕ) (here : AreLeft source ranges taken) (t : Taking)
+module _ (source : List ℕ) (ranges : List TokenRange) (starts : List ℕ) (taken : ℕ)
+    (here : AreLeft source ranges starts taken) (t : Taking)
     (seen : ◌≡◌ {A = Taking} (record { tokens = range_lexemes source ranges; taken = taken }) t) where
   pub seen_left : range_lexemes source (drop taken ranges) ≡ left t
   seen_left = sym (drop-map (range_lexeme source) taken ranges) ∙ ap left seen
@@ -83,5 +84,5 @@ module _ (source : List ℕ) (ranges : List TokenRange) (taken : ℕ) (here : Ar
       ∙ ap (range_lexemes source) (drop-cons ranges (taken - 1) d before))))
       ∙ ap last_end seen
 
-  pub past_seen : same_kind (kind_at (left t)) EndOfFile ≡ false → AreLeft source ranges (taken + 1)
-  past_seen more = one_fewer source ranges taken here (left t) seen_left more
+  pub past_seen : same_kind (kind_at (left t)) EndOfFile ≡ false → AreLeft source ranges starts (taken + 1)
+  past_seen more = one_fewer source ranges starts taken here (left t) seen_left more

@@ -29,6 +29,8 @@ pub struct Cursor<'p, 'a> {
     alloc: Global,
     source: &'a str,
     ranges: &'p [TokenRange],
+    // The characters at which the lines of the source begin.
+    starts: &'p [usize],
     // The number of tokens that have been taken.
     taken: usize,
 }
@@ -42,24 +44,27 @@ impl<'p, 'a> Model for Cursor<'p, 'a> {
 
     ghost view = { λ c. record { tokens = range_lexemes (chars c.source.now) c.ranges.now; taken = c.taken } };
 
-    ghost invariant = { λ c. AreLeft (chars c.source.now) c.ranges.now c.taken };
+    ghost invariant = { λ c. AreLeft (chars c.source.now) c.ranges.now c.starts.now c.taken };
 }
 
 impl<'p, 'a> Cursor<'p, 'a> {
-    // A cursor over what is left of these ranges once so many have been taken.
+    // A cursor over what is left of these ranges once so many have been taken. `starts` has the characters at which the
+    // source's lines begin.
     pub(crate) fn from_ranges(
         alloc: Global,
         source: &'a str,
         ranges: &'p [TokenRange],
+        starts: &'p [usize],
         taken: usize,
     ) -> Self
-        requires { AreLeft (chars source.now) ranges.now taken }
+        requires { AreLeft (chars source.now) ranges.now starts.now taken }
         ensures { result ≡ record { tokens = range_lexemes (chars source.now) ranges.now; taken = taken } }
     {
         Cursor {
             alloc,
             source,
             ranges,
+            starts,
             taken,
         }
     }
@@ -107,7 +112,7 @@ impl<'p, 'a> Cursor<'p, 'a> {
     pub fn mark(&self) -> SourcePosition
         ensures { result ≡ (first_of (left self.now)).span.start }
     {
-        self.ranges[self.taken].start
+        self.ranges[self.taken].start_in(self.source, self.starts)
     }
 
     /// From a place to the end of the token that was taken last.
@@ -119,7 +124,7 @@ impl<'p, 'a> Cursor<'p, 'a> {
     {
         Span {
             start,
-            end: self.ranges[self.taken - 1].end_position(self.source),
+            end: self.ranges[self.taken - 1].end_in(self.source, self.starts),
         }
     }
 
@@ -128,14 +133,14 @@ impl<'p, 'a> Cursor<'p, 'a> {
     pub fn span(&self) -> Span
         ensures { view_span result ≡ (first_of (left self.now)).span }
     {
-        self.ranges[self.taken].span(self.source)
+        self.ranges[self.taken].span(self.source, self.starts)
     }
 
     /// The next token, with its place.
     pub fn token(&self) -> Spanning<Token<'a>>
         ensures { view_token result ≡ first_of (left self.now) }
     {
-        self.ranges[self.taken].located(self.source)
+        self.ranges[self.taken].located(self.source, self.starts)
     }
 
     /// Takes the next token, which must not be the end.
@@ -199,6 +204,7 @@ impl<'p, 'a> Cursor<'p, 'a> {
     /// Takes the next token if it is a Name, and returns its text and its span, else returns an error. The errors are
     /// those of `refuse`.
     #[tactic(auto, unfolding(crate::specs::Cursor::expect_name_at))]
+    #[inline(always)]
     pub fn expect_name(&mut self) -> ParseResult<&'a str>
         ensures gives { Gives view_name result (left self.new) (expect_name_at (left self.old)) }
         ensures shorter { OnOk result (length (left self.new) < length (left self.old)) }

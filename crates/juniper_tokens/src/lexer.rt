@@ -1,10 +1,13 @@
 //! The lexer.
-ghost use Rattle.std.specs.Prelude.{◌≡◌, false, drop};
+ghost use Rattle.std.specs.Prelude.{◌≡◌, ◌≤◌, false, drop, IfOk, OnOk};
 ghost use Rattle.std.specs.Global.{Global as Allocator};
 ghost use Rattle.std.specs.Str.{chars};
+ghost use Rattle.graphql_lexical.specs.Place.{place};
 ghost use Rattle.juniper_tokens.specs.Lexing.{LexerState, started, GivesItem};
+ghost use Rattle.juniper_tokens.specs.LineTables.{lines_of};
 ghost use Rattle.juniper_tokens.specs.device.LexingByScan.{past_gap};
-ghost use Rattle.juniper_tokens.specs.device.Ranges.{TakesRange, TakesItem, MayTake, IsRange, range_lexeme};
+ghost use Rattle.juniper_tokens.specs.device.LineSteps.{CountsLines, HasLines};
+ghost use Rattle.juniper_tokens.specs.device.Ranges.{TakesRange, TakesItem, TakesPlain, MayTake, IsRange, range_lexeme};
 ghost use Rattle.juniper_tokens.specs.device.Scans.{Finds, IsPlain};
 ghost use Rattle.juniper_tokens.specs.device.Walks.{first_class};
 ghost use Rattle.juniper_tokens.specs.Tokens.{view_token};
@@ -23,13 +26,14 @@ use crate::lexer::plain::plain_token;
 use crate::lexer::scan::{Missed, scan_token};
 use crate::lexer::text::{Offset, text_from};
 use crate::lexer::walk::walk_gap;
+use crate::line_table::{LineStarts, LineTable};
 use crate::position::SourcePosition;
-use crate::span::Spanning;
+use crate::span::{Span, Spanning};
 use crate::token::Token;
 use crate::token_range::TokenRange;
 use graphql_lexical::Kind;
 pub(crate) use scan::Found;
-use std::alloc::Global;
+use std::alloc::{AllocError, Global};
 use std::marker::Model;
 use walk::walk_characters;
 pub(crate) use walk::walk_text;
@@ -55,6 +59,7 @@ pub struct Lexer<'a> {
 
 impl<'a> Model for Lexer<'a> {
     ghost use Rattle.std.specs.Str.{chars};
+    ghost use Rattle.graphql_lexical.specs.Place.{place};
     ghost use Rattle.juniper_tokens.specs.Lexing.{LexerState};
     ghost use Rattle.juniper_tokens.specs.device.LexingByScan.{IsPlaced};
 
@@ -132,9 +137,10 @@ impl<'a> Lexer<'a> {
         ensures source { self.new.source ≡ self.old.source }
         ensures takes { TakesRange self.old result self.new }
     {
-        let range = TokenRange::from_found(found, self.source, self.at, self.position);
+        let start = self.position;
+        let range = TokenRange::from_found(found, self.source, self.at, start);
         self.at = range.end.bytes;
-        self.position = range.end_position(self.source);
+        self.position = range.end_position(self.source, start);
         self.ended = range.kind == Kind::EndOfFile;
         range
     }
@@ -148,11 +154,30 @@ impl<'a> Lexer<'a> {
         ensures takes { TakesRange self.old result self.new }
         ensures goes_on { self.new.ended ≡ false }
     {
-        let range = TokenRange::from_found(found, self.source, self.at, self.position);
+        let start = self.position;
+        let range = TokenRange::from_found(found, self.source, self.at, start);
         self.at = range.end.bytes;
-        self.position = range.end_on_line();
+        self.position = range.end_on_line(start);
         self.ended = false;
         range
+    }
+
+    /// Reads the beginnings of lines up to where the lexer stands.
+    #[inline(always)]
+    pub(crate) fn count_lines(&self, lines: &mut LineStarts) -> Result<(), AllocError>
+        requires counts { CountsLines self.now.source lines.old }
+        requires before { lines.old.at.characters ≤ self.now.index }
+        ensures { OnOk result (HasLines self.now.source lines.new self.now.index) }
+    {
+        lines.follow(self.source, self.at, self.position)
+    }
+
+    /// The table of the source's lines, of which those up to where the lexer stands have been read.
+    pub(crate) fn line_table(&self, lines: LineStarts) -> Result<LineTable, AllocError>
+        requires { HasLines self.now.source lines self.now.index }
+        ensures { IfOk result (λ table. table ≡ lines_of self.now.source) }
+    {
+        lines.into_table(self.source, self.at, self.position)
     }
 
     /// A copy of this lexer.
@@ -182,6 +207,17 @@ impl<'a> Lexer<'a> {
         ensures ended { self.old.ended ≡ false → self.new.ended ≡ false }
     {
         let class = self.skip_gap();
+        self.take_if_plain(class)
+    }
+
+    // Takes the token that stands here, where a byte of this class does, if it is a plain one.
+    #[inline(always)]
+    fn take_if_plain(&mut self, class: ByteClass) -> Option<TokenRange>
+        requires { class ≡ first_class (drop self.old.index self.old.source) }
+        ensures source { self.new.source ≡ self.old.source }
+        ensures takes { TakesPlain self.old result self.new }
+        ensures ended { self.old.ended ≡ false → self.new.ended ≡ false }
+    {
         let here = Offset {
             bytes: self.at,
             characters: self.position.index(),
@@ -220,8 +256,9 @@ impl<'a> Lexer<'a> {
         ensures source { self.new.source ≡ self.old.source }
         ensures gives { (before : LexerState) → self.old ≡ past_gap before → GivesItem before result self.new }
     {
+        let start = self.position;
         let range = self.scan_next()?;
-        Ok(self.token(range))
+        Ok(self.token(range, start))
     }
 
     // `next_other`, out of line.
@@ -249,14 +286,19 @@ impl<'a> Lexer<'a> {
         }
     }
 
-    // The token of the range at whose end the lexer stands.
+    // The token of the range that begins at the place `start`, and at whose end the lexer stands.
     #[inline(always)]
-    fn token(&self, range: TokenRange) -> Spanning<Token<'a>>
+    fn token(&self, range: TokenRange, start: SourcePosition) -> Spanning<Token<'a>>
         requires range { IsRange self.now.source range }
+        requires start { start ≡ place self.now.source range.start.characters }
         requires end { self.now.index ≡ range.end.characters }
         ensures { view_token result ≡ range_lexeme self.now.source range }
     {
-        range.located_to(self.source, self.position)
+        let span = Span {
+            start,
+            end: self.position,
+        };
+        range.located_at(self.source, span)
     }
 }
 
@@ -277,8 +319,10 @@ impl<'a> Iterator for Lexer<'a> {
         if self.has_ended() {
             return None;
         }
-        match self.next_plain() {
-            Some(range) => Some(Ok(self.token(range))),
+        let class = self.skip_gap();
+        let start = self.position;
+        match self.take_if_plain(class) {
+            Some(range) => Some(Ok(self.token(range, start))),
             None => Some(self.next_other_token()),
         }
     }

@@ -1,22 +1,175 @@
 //! Positions found by the beginnings of lines.
-ghost use Rattle.std.specs.Prelude.{◌≡◌, ◌-◌, ◌≤◌, List, ℕ, length, IfOk, MatchOption};
+ghost use Rattle.std.specs.Prelude.{◌≡◌, ◌+◌, ◌-◌, ◌<◌, ◌≤◌, ◌^◌, [], List, ℕ, length, IfOk, OnOk, MatchOption};
+ghost use Rattle.std.specs.List.{fold};
 ghost use Rattle.std.specs.Str.{chars};
 ghost use Rattle.graphql_lexical.specs.Place.{place};
-ghost use Rattle.juniper_tokens.specs.LineTables.{lines_of, IsTable, place_within, StartLines, IsOnLine};
+ghost use Rattle.juniper_tokens.specs.LineTables.{Lines, lines_of, IsTable, place_within, StartLines, IsOnLine};
+ghost use Rattle.juniper_tokens.specs.device.Offsets.{IsOffset};
+ghost use Rattle.juniper_tokens.specs.device.LexingByScan.{IsPlaced};
+ghost use Rattle.juniper_tokens.specs.device.LineSteps.{made_table, past, AreStarts, CountsLines, HasLines, IsLineOf, line_number};
 
 use crate::byte_classes::{ByteClass, byte_class};
 use crate::lexer::run::{Run, run_over};
+use crate::lexer::text::{Offset, text_before, text_from};
 use crate::position::SourcePosition;
 use std::alloc::{AllocError, Global};
 use std::marker::Model;
 
+/// Where the lines of a source begin, as far as it has been read.
+#[derive(Drop)]
+pub(crate) struct LineStarts {
+    // The index of the character at which each line begins.
+    starts: Vec<usize>,
+    // The offset up to which the characters were looked at. No line begins between it and what has been read.
+    at: Offset,
+}
+
+impl LineStarts {
+    /// The beginning of the first line, where no character of a text has been read.
+    pub(crate) fn new(alloc: Global, text: &str) -> Result<Self, AllocError>
+        ensures { IfOk result (λ lines. (source : List ℕ) → HasLines source lines 0) }
+    {
+        let mut starts = room_for_lines(alloc, text);
+        starts.push(0)?;
+        Ok(LineStarts {
+            starts,
+            at: Offset::start(),
+        })
+    }
+
+    /// Reads on to a place of the source, before which `at` bytes stand.
+    #[inline(always)]
+    pub(crate) fn follow(
+        &mut self,
+        source: &str,
+        at: usize,
+        place: SourcePosition,
+    ) -> Result<(), AllocError>
+        requires placed { IsPlaced source.now at place }
+        requires counts { CountsLines (chars source.now) self.old }
+        requires before { self.old.at.characters ≤ place.index }
+        ensures { OnOk result (HasLines (chars source.now) self.new place.index) }
+    {
+        let line = place.line();
+        let count = self.starts.len();
+        if line < count {
+            return Ok(());
+        }
+        if line > count {
+            return self.add(source, at, place);
+        }
+        let here = place.index();
+        self.starts.push(here - place.column())?;
+        self.at = Offset {
+            bytes: at,
+            characters: here,
+        };
+        Ok(())
+    }
+
+    // `follow`, where several lines begin.
+    #[inline(never)]
+    fn add(&mut self, source: &str, at: usize, place: SourcePosition) -> Result<(), AllocError>
+        requires placed { IsPlaced source.now at place }
+        requires counts { CountsLines (chars source.now) self.old }
+        requires before { self.old.at.characters ≤ place.index }
+        ensures { OnOk result (HasLines (chars source.now) self.new place.index) }
+    {
+        push_up_to(&mut self.starts, self.at, source, at, place)?;
+        self.at = Offset {
+            bytes: at,
+            characters: place.index(),
+        };
+        Ok(())
+    }
+
+    /// The table of the source, which has been read up to this place, before which `at` bytes stand.
+    pub(crate) fn into_table(
+        self,
+        source: &str,
+        at: usize,
+        place: SourcePosition,
+    ) -> Result<LineTable, AllocError>
+        requires placed { IsPlaced source.now at place }
+        requires lines { HasLines (chars source.now) self place.index }
+        ensures { IfOk result (λ table. table ≡ lines_of (chars source.now)) }
+    {
+        let here = Offset {
+            bytes: at,
+            characters: place.index(),
+        };
+        let mut lines = self;
+        let rest = text_from(source, here);
+        lines.at.characters = push_lines(&mut lines.starts, rest, here.characters)?;
+        Ok(LineTable { lines })
+    }
+}
+
+// A list with capacity for a line every eight bytes of a text, if there is as much memory. Most texts have fewer.
+fn room_for_lines(alloc: Global, text: &str) -> Vec<usize>
+    ensures { result.items ≡ [] }
+{
+    match Vec::with_capacity(alloc, text.len() / 8 + 1) {
+        Ok(room) => room,
+        Err(_) => Vec::new(alloc),
+    }
+}
+
+// Adds the beginnings of lines up to a place of the source, before which `at` bytes stand. Those up to `from` are there.
+fn push_up_to(
+    starts: &mut Vec<usize>,
+    from: Offset,
+    source: &str,
+    at: usize,
+    place: SourcePosition,
+) -> Result<(), AllocError>
+    requires placed { IsPlaced source.now at place }
+    requires offset { IsOffset from (chars source.now) }
+    requires counted { AreStarts starts.old.items (chars source.now) from.characters }
+    requires before { from.characters ≤ place.index }
+    ensures { OnOk result (AreStarts starts.new.items (chars source.now) place.index) }
+{
+    let rest = text_from(source, from);
+    let size = Offset {
+        bytes: at - from.bytes,
+        characters: place.index() - from.characters,
+    };
+    push_lines(starts, text_before(rest, size), from.characters)?;
+    Ok(())
+}
+
+// Adds the beginnings of lines in a text, before which `count` characters stand. Returns how many stand after it.
+fn push_lines(starts: &mut Vec<usize>, text: &str, count: usize) -> Result<usize, AllocError>
+    requires { count + length text.now < 2 ^ 64 }
+    ensures { IfOk result (λ after. made_table starts.new.items after ≡ fold past (made_table starts.old.items count) (chars text.now)) }
+{
+    let bytes = text.as_bytes();
+    let first = run_over(Run::Line, bytes);
+    let mut after = count + first.characters;
+    let mut i = first.bytes;
+    while i < bytes.len() {
+        match byte_class(bytes[i]) {
+            ByteClass::LineFeed => {
+                starts.push(after + 1)?;
+                let line = run_over(Run::Line, &bytes[i + 1..]);
+                after += 1 + line.characters;
+                i += 1 + line.bytes;
+            }
+            ByteClass::Inner => i += 1,
+            _ => {
+                after += 1;
+                i += 1;
+            }
+        }
+    }
+    Ok(after)
+}
+
 /// A table of where the lines of a source begin. Positions are found by a binary search.
 #[derive(Drop)]
 pub struct LineTable {
-    // The index of the character at which each line begins.
-    starts: Vec<usize>,
-    // The number of characters of the source.
-    count: usize,
+    // The lines of the whole source.
+    lines: LineStarts,
 }
 
 impl Model for LineTable {
@@ -24,21 +177,22 @@ impl Model for LineTable {
 
     ghost Value = { Lines };
 
-    ghost view = { λ t. record { starts = t.starts.items; count = t.count } };
+    ghost view = { λ t. record { starts = t.lines.starts.items; count = t.lines.at.characters } };
 
-    ghost invariant = { λ t. IsTable (record { starts = t.starts.items; count = t.count }) };
+    ghost invariant = { λ t. IsTable (record { starts = t.lines.starts.items; count = t.lines.at.characters }) };
 }
 
 /// A line's number and the index of the character at which it begins.
 #[derive(Clone, Copy)]
-struct Line {
+pub(crate) struct Line {
     number: usize,
     start: usize,
 }
 
 impl Line {
-    // The place after `index` characters of the source, on this line.
-    fn position(self, index: usize) -> SourcePosition
+    /// The place after `index` characters of the source, on this line.
+    #[inline(always)]
+    pub(crate) fn position(self, index: usize) -> SourcePosition
         requires before { self.start ≤ index }
         requires below { self.number ≤ self.start }
         ensures { result ≡ record { index = index; line = self.number; column = index - self.start } }
@@ -54,28 +208,9 @@ impl LineTable {
     pub fn new(alloc: Global, source: &str) -> Result<Self, AllocError>
         ensures { IfOk result (λ table. table ≡ lines_of (chars source.now)) }
     {
-        let bytes = source.as_bytes();
-        let mut starts = Vec::new(alloc);
-        starts.push(0)?;
-        let first = run_over(Run::Line, bytes);
-        let mut count = first.characters;
-        let mut i = first.bytes;
-        while i < bytes.len() {
-            match byte_class(bytes[i]) {
-                ByteClass::LineFeed => {
-                    starts.push(count + 1)?;
-                    let line = run_over(Run::Line, &bytes[i + 1..]);
-                    count += 1 + line.characters;
-                    i += 1 + line.bytes;
-                }
-                ByteClass::Inner => i += 1,
-                _ => {
-                    count += 1;
-                    i += 1;
-                }
-            }
-        }
-        Ok(LineTable { starts, count })
+        let mut lines = LineStarts::new(alloc, source)?;
+        lines.at.characters = push_lines(&mut lines.starts, source, 0)?;
+        Ok(LineTable { lines })
     }
 
     /// The place after `index` characters of the table's source, or None where it has fewer.
@@ -83,7 +218,7 @@ impl LineTable {
         ensures table { IsTable self.now }
         ensures place { (source : List ℕ) → self.now ≡ lines_of source → result ≡ place_within source index }
     {
-        if index > self.count {
+        if index > self.lines.at.characters {
             return None;
         }
         Some(self.place(index))
@@ -93,12 +228,58 @@ impl LineTable {
     pub(crate) fn place(&self, index: usize) -> SourcePosition
         ensures { (source : List ℕ) → self.now ≡ lines_of source → index ≤ length source → result ≡ place source index }
     {
-        line_of(&self.starts, index).position(index)
+        line_of(&self.lines.starts, index).position(index)
+    }
+
+    /// The characters at which the lines begin.
+    pub(crate) fn starts(&self) -> &[usize]
+        ensures { result.now ≡ self.now.starts }
+    {
+        &self.lines.starts
     }
 }
 
-// The line on which a character stands.
-fn line_of(starts: &[usize], index: usize) -> Line
+/// What a token's record keeps of a line's number: its lowest 32 bits.
+#[inline(always)]
+pub(crate) fn line_number(line: usize) -> u32
+    ensures { result ≡ line_number line }
+{
+    (line % 4294967296) as u32
+}
+
+/// The place after `index` characters of a source, on the line of this number. `starts` has the characters at which the
+/// source's lines begin.
+#[inline(always)]
+pub(crate) fn place_on(starts: &[usize], number: u32, index: usize) -> SourcePosition
+    requires starts { StartLines starts.now }
+    requires line { IsLineOf starts.now number index }
+    ensures { (source : List ℕ) → starts.now ≡ (lines_of source).starts → index ≤ length source → result ≡ place source index }
+{
+    line_on(starts, number, index).position(index)
+}
+
+/// The line on which a character stands, by the lowest 32 bits of its number. Where there are 2^31 lines or more it is
+/// searched for.
+#[inline(always)]
+pub(crate) fn line_on(starts: &[usize], number: u32, index: usize) -> Line
+    requires starts { StartLines starts.now }
+    requires line { IsLineOf starts.now number index }
+    ensures { IsOnLine starts.now index result.number result.start }
+{
+    if starts.len() >= 2147483648 {
+        return line_of(starts, index);
+    }
+    let number = number as usize;
+    Line {
+        number,
+        start: starts[number],
+    }
+}
+
+/// The line on which a character stands, which is searched for.
+#[cold]
+#[inline(never)]
+pub(crate) fn line_of(starts: &[usize], index: usize) -> Line
     requires { StartLines starts.now }
     ensures { IsOnLine starts.now index result.number result.start }
 {

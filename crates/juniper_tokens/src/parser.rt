@@ -1,5 +1,5 @@
 //! The cursor over the tokens of a source.
-ghost use Rattle.std.specs.Prelude.{◌≡◌, ◌-◌, ◌<◌, ◌≤◌, [], ◌∷◌, drop, false, true, length, option_map, OnOk, IfOk};
+ghost use Rattle.std.specs.Prelude.{◌≡◌, ◌-◌, ◌<◌, ◌≤◌, [], ◌∷◌, drop, false, true, length, option_map, OnOk, IfOk, IfErr};
 ghost use Rattle.std.specs.List.{All};
 ghost use Rattle.std.specs.Global.{Global as Allocator};
 ghost use Rattle.std.specs.Str.{chars};
@@ -8,6 +8,9 @@ ghost use Rattle.graphql_lexical.specs.Kinds.{same_kind};
 ghost use Rattle.graphql_lexical.specs.Cutting.{Lexeme, CutFrom, BreaksFrom};
 ghost use Rattle.juniper_tokens.specs.Errors.{view_lexer_error};
 ghost use Rattle.juniper_tokens.specs.Gathering.{IfFault, IfMemory, StandsLaterOrEnded};
+ghost use Rattle.juniper_tokens.specs.LineTables.{lines_of};
+ghost use Rattle.juniper_tokens.specs.declared.error.LexFailure.TheVariants.{Memory};
+ghost use Rattle.juniper_tokens.specs.device.LineSteps.{HasLines};
 ghost use Rattle.juniper_tokens.specs.device.Ranges.{IsRange, range_lexemes};
 ghost use Rattle.juniper_tokens.specs.Tokens.{token_kind, token_text, view_token, view_name};
 ghost use Rattle.juniper_tokens.specs.Nesting.{EndsAtNesting};
@@ -18,6 +21,7 @@ ghost use Rattle.juniper_tokens.specs.Cursor.{Gives, RefusesEnd, OnMemory, Unmov
 use crate::cursor::Cursor;
 use crate::error::{LexFailure, OptionParseResult, ParseFailure, ParseResult};
 use crate::lexer::Lexer;
+use crate::line_table::{LineStarts, LineTable, line_number};
 use crate::nesting::{end_behind, first_deeper};
 use crate::span::{Span, Spanning};
 use crate::text::same_text;
@@ -34,8 +38,9 @@ use std::marker::Model;
 pub struct Parser<'a> {
     alloc: Global,
     source: &'a str,
-    // All tokens that the lexer had left. A token's text is found when it comes next.
+    // All tokens that the lexer had left. A token's text and places are found when it comes next.
     ranges: Vec<TokenRange>,
+    lines: LineTable,
     // The number of tokens that have been taken.
     taken: usize,
     // The next token.
@@ -52,15 +57,15 @@ impl<'a> Model for Parser<'a> {
 
     ghost view = { λ p. range_lexemes (chars p.source.now) (drop p.taken p.ranges.items) };
 
-    ghost invariant = { λ p. IsCursor (chars p.source.now) p.ranges.items p.taken p.current };
+    ghost invariant = { λ p. IsCursor (chars p.source.now) p.ranges.items p.lines.starts p.taken p.current };
 }
 
 impl<'a> Parser<'a> {
     /// A cursor at the first of the tokens that a lexer has left, of which all are taken first.
     ///
     /// So the lexer's first lexical error is returned, whatever tokens stand before it. `Memory` is returned where the
-    /// list of tokens could not grow, or the text of an error could not be made. Unless memory ran out the lexer has
-    /// ended. The cursor keeps the lexer's allocator.
+    /// list of tokens or the table of lines could not grow, or the text of an error could not be made. Unless memory ran
+    /// out the lexer has ended. The cursor keeps the lexer's allocator.
     ///
     /// ```
     /// let mut lexer = Lexer::new(alloc, "{ a }");
@@ -80,20 +85,28 @@ impl<'a> Parser<'a> {
         let mut rest = lexer.duplicate();
         let gathered = gather(&mut rest);
         *lexer = rest;
-        Ok(Parser::from_ranges(alloc, source, gathered?))
+        let (ranges, lines) = gathered?;
+        Ok(Parser::from_ranges(alloc, source, ranges, lines))
     }
 
-    // A cursor at the first of these tokens.
-    fn from_ranges(alloc: Global, source: &'a str, ranges: Vec<TokenRange>) -> Self
+    // A cursor at the first of these tokens of a source, whose lines are in the table.
+    fn from_ranges(
+        alloc: Global,
+        source: &'a str,
+        ranges: Vec<TokenRange>,
+        lines: LineTable,
+    ) -> Self
         requires ranges { All (IsRange (chars source.now)) ranges.items }
+        requires lines { lines ≡ lines_of (chars source.now) }
         requires ends { EndsOnce (range_lexemes (chars source.now) ranges.items) }
         ensures { result ≡ range_lexemes (chars source.now) ranges.items }
     {
-        let current = ranges[0].located(source);
+        let current = ranges[0].located(source, lines.starts());
         Parser {
             alloc,
             source,
             ranges,
+            lines,
             taken: 0,
             current,
         }
@@ -115,8 +128,9 @@ impl<'a> Parser<'a> {
     {
         let last = self.taken + first_deeper(&self.ranges[self.taken..], depth)?;
         let range = self.ranges[last];
-        let span = range.located(self.source).span;
-        end_behind(&mut self.ranges, last, range.end, span.end);
+        let span = range.span(self.source, self.lines.starts());
+        let line = line_number(span.end.line());
+        end_behind(&mut self.ranges, last, range.end, line);
         Some(span)
     }
 
@@ -125,7 +139,13 @@ impl<'a> Parser<'a> {
     pub fn cursor(&self) -> Cursor<'_, 'a>
         ensures { left result ≡ self.now }
     {
-        Cursor::from_ranges(self.alloc, self.source, &self.ranges, self.taken)
+        Cursor::from_ranges(
+            self.alloc,
+            self.source,
+            &self.ranges,
+            self.lines.starts(),
+            self.taken,
+        )
     }
 
     /// Takes tokens until `left` of them are left, the end among them.
@@ -142,7 +162,7 @@ impl<'a> Parser<'a> {
         ensures { self.new ≡ drop (length self.old - left) self.old }
     {
         self.taken = self.ranges.len() - left;
-        self.current = self.ranges[self.taken].located(self.source);
+        self.current = self.ranges[self.taken].located(self.source, self.lines.starts());
     }
 
     /// The next token, which is not taken.
@@ -174,7 +194,7 @@ impl<'a> Parser<'a> {
         ensures { self.new ≡ drop 1 self.old }
     {
         self.taken += 1;
-        self.current = self.ranges[self.taken].located(self.source);
+        self.current = self.ranges[self.taken].located(self.source, self.lines.starts());
     }
 
     // Takes the next token, which is not the end.
@@ -298,28 +318,52 @@ impl<'a> Parser<'a> {
     }
 }
 
-// The ranges of all tokens that a lexer has left.
+// The ranges of all tokens that a lexer has left, and the lines of its source.
 #[inline(always)]
-fn gather(lexer: &mut Lexer<'_>) -> Result<Vec<TokenRange>, LexFailure>
+fn gather(lexer: &mut Lexer<'_>) -> Result<(Vec<TokenRange>, LineTable), LexFailure>
     requires { lexer.old.ended ≡ false }
-    ensures ranges { IfOk result (λ ranges. All (IsRange lexer.old.source) ranges.items) }
-    ensures tokens { IfOk result (λ ranges. CutFrom lexer.old.source lexer.old.index (range_lexemes lexer.old.source ranges.items)) }
+    ensures ranges { IfOk result (λ given. All (IsRange lexer.old.source) given.0.items) }
+    ensures tokens { IfOk result (λ given. CutFrom lexer.old.source lexer.old.index (range_lexemes lexer.old.source given.0.items)) }
+    ensures lines { IfOk result (λ given. given.1 ≡ lines_of lexer.old.source) }
     ensures fault { IfFault result (λ fault. BreaksFrom lexer.old.source lexer.old.index (view_lexer_error fault.item) fault.span.start) }
     ensures zero_width { IfFault result (λ fault. fault.span.end ≡ fault.span.start) }
     ensures source { lexer.new.source ≡ lexer.old.source }
     ensures lexer { IfMemory result (StandsLaterOrEnded lexer.old lexer.new) (lexer.new.ended ≡ true) }
 {
     let mut ranges = room_for_ranges(lexer.allocator(), lexer.source());
+    let start = lexer.duplicate();
+    let mut lines = first_lines(&start)?;
     while !lexer.has_ended() {
         let pushed = match lexer.next_plain() {
             Some(range) => ranges.push(range),
             None => ranges.push(lexer.next_other()?),
         };
-        if pushed.is_err() {
+        if pushed.is_err() || lexer.count_lines(&mut lines).is_err() {
             return Err(LexFailure::Memory);
         }
     }
-    Ok(ranges)
+    let end = lexer.duplicate();
+    match end.line_table(lines) {
+        Ok(table) => Ok((ranges, table)),
+        Err(_) => Err(LexFailure::Memory),
+    }
+}
+
+// The beginnings of lines up to where a lexer stands.
+fn first_lines(lexer: &Lexer<'_>) -> Result<LineStarts, LexFailure>
+    ensures lines { IfOk result (λ lines. HasLines lexer.now.source lines lexer.now.index) }
+    ensures memory { IfErr result (λ e. e ≡ Memory) }
+{
+    match LineStarts::new(lexer.allocator(), lexer.source()) {
+        Ok(lines) => {
+            let mut lines = lines;
+            match lexer.count_lines(&mut lines) {
+                Ok(()) => Ok(lines),
+                Err(_) => Err(LexFailure::Memory),
+            }
+        }
+        Err(_) => Err(LexFailure::Memory),
+    }
 }
 
 // A list with capacity for a token every four bytes of a source, if there is as much memory. Few sources have more

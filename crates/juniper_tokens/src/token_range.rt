@@ -3,6 +3,7 @@ ghost use Rattle.std.specs.Prelude.{◌≡◌, ◌-◌, ◌≤◌, drop};
 ghost use Rattle.std.specs.Str.{chars};
 ghost use Rattle.graphql_lexical.specs.Place.{place};
 ghost use Rattle.graphql_lexical.specs.device.Whole.{text_of};
+ghost use Rattle.juniper_tokens.specs.LineTables.{lines_of, IsOnLine};
 ghost use Rattle.juniper_tokens.specs.Positions.{columns_on};
 ghost use Rattle.juniper_tokens.specs.Spans.{view_span};
 ghost use Rattle.juniper_tokens.specs.Tokens.{view_token};
@@ -12,19 +13,20 @@ ghost use Rattle.juniper_tokens.specs.device.Ranges.{IsRange, range_of, range_sl
 
 use crate::lexer::text::{Offset, text_before, text_from, unquoted};
 use crate::lexer::{Found, walk_text};
+use crate::line_table::{Line, line_number, line_of, line_on, place_on};
 use crate::position::SourcePosition;
 use crate::span::{Span, Spanning};
 use crate::token::Token;
 use graphql_lexical::Kind;
 
-/// A token's kind, and the part of the source that it takes.
+/// A token's kind, the line on which it begins, and the two ends of the part of the source that it takes.
 #[derive(Clone, Copy)]
 pub(crate) struct TokenRange {
     pub(crate) kind: Kind,
-    /// The offset of the first character, in bytes.
-    pub(crate) at: usize,
-    /// The place before the first character.
-    pub(crate) start: SourcePosition,
+    /// The number of the line on which it begins: its lowest 32 bits.
+    pub(crate) line: u32,
+    /// The offset of the first character.
+    pub(crate) start: Offset,
     /// The offset after the last character.
     pub(crate) end: Offset,
 }
@@ -39,8 +41,11 @@ impl TokenRange {
     {
         TokenRange {
             kind: found.kind,
-            at,
-            start,
+            line: line_number(start.line()),
+            start: Offset {
+                bytes: at,
+                characters: start.index(),
+            },
             end: Offset {
                 bytes: at + found.end.bytes,
                 characters: start.index() + found.end.characters,
@@ -48,71 +53,100 @@ impl TokenRange {
         }
     }
 
-    // The offset of the first character.
-    fn offset(&self) -> Offset
-        ensures { result ≡ record { bytes = self.now.at; characters = self.now.start.index } }
-    {
-        Offset {
-            bytes: self.at,
-            characters: self.start.index(),
-        }
-    }
-
     // The offset after the last character, from the first one.
     fn size(&self) -> Offset
-        requires bytes { self.now.at ≤ self.now.end.bytes }
-        requires characters { self.now.start.index ≤ self.now.end.characters }
-        ensures { result ≡ record { bytes = self.now.end.bytes - self.now.at; characters = self.now.end.characters - self.now.start.index } }
+        requires bytes { self.now.start.bytes ≤ self.now.end.bytes }
+        requires characters { self.now.start.characters ≤ self.now.end.characters }
+        ensures { result ≡ record { bytes = self.now.end.bytes - self.now.start.bytes; characters = self.now.end.characters - self.now.start.characters } }
     {
         Offset {
-            bytes: self.end.bytes - self.at,
-            characters: self.end.characters - self.start.index(),
+            bytes: self.end.bytes - self.start.bytes,
+            characters: self.end.characters - self.start.characters,
         }
     }
 
-    /// The place after the last character, on the line of the first.
+    /// The place after the last character, on the line of the first, which stands at the place `start`.
     #[inline(always)]
-    pub(crate) fn end_on_line(&self) -> SourcePosition
-        requires { self.now.start.index ≤ self.now.end.characters }
-        ensures { result ≡ columns_on (self.now.end.characters - self.now.start.index) self.now.start }
+    pub(crate) fn end_on_line(&self, start: SourcePosition) -> SourcePosition
+        requires forward { self.now.start.characters ≤ self.now.end.characters }
+        requires start { start.index ≡ self.now.start.characters }
+        ensures { result ≡ columns_on (self.now.end.characters - self.now.start.characters) start }
     {
-        self.start
-            .columns_on(self.end.characters - self.start.index())
+        start.columns_on(self.end.characters - self.start.characters)
     }
 
-    /// The place after the last character. A block string alone may end on a later line.
+    /// The place after the last character; the first stands at the place `start`. A block string alone may end on a
+    /// later line.
     #[inline(always)]
-    pub(crate) fn end_position(&self, source: &str) -> SourcePosition
-        requires { IsRange (chars source.now) self.now }
+    pub(crate) fn end_position(&self, source: &str, start: SourcePosition) -> SourcePosition
+        requires range { IsRange (chars source.now) self.now }
+        requires start { start ≡ place (chars source.now) self.now.start.characters }
         ensures { result ≡ place (chars source.now) self.now.end.characters }
     {
         if self.kind == Kind::BlockString {
-            self.end_by_walk(source)
+            self.end_by_walk(source, start)
         } else {
-            self.end_on_line()
+            self.end_on_line(start)
         }
     }
 
     // The place after the last character, on whichever line it is.
     #[inline(never)]
-    fn end_by_walk(&self, source: &str) -> SourcePosition
-        requires { IsRange (chars source.now) self.now }
+    fn end_by_walk(&self, source: &str, start: SourcePosition) -> SourcePosition
+        requires range { IsRange (chars source.now) self.now }
+        requires start { start ≡ place (chars source.now) self.now.start.characters }
         ensures { result ≡ place (chars source.now) self.now.end.characters }
     {
-        let rest = text_from(source, self.offset());
+        let rest = text_from(source, self.start);
         let size = self.size();
-        walk_text(text_before(rest, size), self.start)
+        walk_text(text_before(rest, size), start)
     }
 
-    /// From the first character to the place after the last one.
+    /// The place before the first character. `starts` has the characters at which the source's lines begin.
     #[inline(always)]
-    pub(crate) fn span(&self, source: &str) -> Span
-        requires { IsRange (chars source.now) self.now }
+    pub(crate) fn start_in(&self, source: &str, starts: &[usize]) -> SourcePosition
+        requires range { IsRange (chars source.now) self.now }
+        requires lines { starts.now ≡ (lines_of (chars source.now)).starts }
+        ensures { result ≡ place (chars source.now) self.now.start.characters }
+    {
+        place_on(starts, self.line, self.start.characters)
+    }
+
+    // The line on which it ends. That of a block string is searched for.
+    #[inline(always)]
+    fn last_line(&self, source: &str, starts: &[usize]) -> Line
+        requires range { IsRange (chars source.now) self.now }
+        requires lines { starts.now ≡ (lines_of (chars source.now)).starts }
+        ensures { IsOnLine starts.now self.now.end.characters result.number result.start }
+    {
+        if self.kind == Kind::BlockString {
+            line_of(starts, self.end.characters)
+        } else {
+            line_on(starts, self.line, self.end.characters)
+        }
+    }
+
+    /// The place after the last character. `starts` has the characters at which the source's lines begin.
+    #[inline(always)]
+    pub(crate) fn end_in(&self, source: &str, starts: &[usize]) -> SourcePosition
+        requires range { IsRange (chars source.now) self.now }
+        requires lines { starts.now ≡ (lines_of (chars source.now)).starts }
+        ensures { result ≡ place (chars source.now) self.now.end.characters }
+    {
+        self.last_line(source, starts).position(self.end.characters)
+    }
+
+    /// From the first character to the place after the last one. `starts` has the characters at which the source's lines
+    /// begin.
+    #[inline(always)]
+    pub(crate) fn span(&self, source: &str, starts: &[usize]) -> Span
+        requires range { IsRange (chars source.now) self.now }
+        requires lines { starts.now ≡ (lines_of (chars source.now)).starts }
         ensures { view_span result ≡ (range_lexeme (chars source.now) self.now).span }
     {
         Span {
-            start: self.start,
-            end: self.end_position(source),
+            start: self.start_in(source, starts),
+            end: self.end_in(source, starts),
         }
     }
 
@@ -121,7 +155,7 @@ impl TokenRange {
         requires { IsRange (chars source.now) self.now }
         ensures { chars result.now ≡ text_of self.now.kind (range_slice (chars source.now) self.now) }
     {
-        let rest = text_from(source, self.offset());
+        let rest = text_from(source, self.start);
         let size = self.size();
         if self.kind == Kind::String {
             unquoted(rest, size, 1)
@@ -132,22 +166,23 @@ impl TokenRange {
         }
     }
 
-    /// The token with its places, of which the end is known.
+    /// The token with its places, which are known.
     #[inline(always)]
-    pub(crate) fn located_to<'a>(&self, source: &'a str, end: SourcePosition) -> Spanning<Token<'a>>
+    pub(crate) fn located_at<'a>(&self, source: &'a str, span: Span) -> Spanning<Token<'a>>
         requires range { IsRange (chars source.now) self.now }
-        requires end { end ≡ place (chars source.now) self.now.end.characters }
+        requires span { view_span span ≡ (range_lexeme (chars source.now) self.now).span }
         ensures { view_token result ≡ range_lexeme (chars source.now) self.now }
     {
-        Spanning::start_end(&self.start, &end, self.token(source))
+        Spanning::new(span, self.token(source))
     }
 
-    /// The token with its places.
+    /// The token with its places. `starts` has the characters at which the source's lines begin.
     #[inline(never)]
-    pub(crate) fn located<'a>(&self, source: &'a str) -> Spanning<Token<'a>>
-        requires { IsRange (chars source.now) self.now }
+    pub(crate) fn located<'a>(&self, source: &'a str, starts: &[usize]) -> Spanning<Token<'a>>
+        requires range { IsRange (chars source.now) self.now }
+        requires lines { starts.now ≡ (lines_of (chars source.now)).starts }
         ensures { view_token result ≡ range_lexeme (chars source.now) self.now }
     {
-        self.located_to(source, self.end_position(source))
+        self.located_at(source, self.span(source, starts))
     }
 }

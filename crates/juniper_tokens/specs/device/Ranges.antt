@@ -18,23 +18,24 @@ use Rattle.juniper_tokens.specs.declared.error.LexFailure.TheVariants as failure
 use Rattle.juniper_tokens.specs.Tokens.{kind_text, view_token}
 use Rattle.juniper_tokens.specs.Errors.{view_lexer_error}
 use Rattle.juniper_tokens.specs.device.Offsets.{IsOffset, EndsQuoted}
-use Rattle.juniper_tokens.specs.device.ByteRuns.{byte_at}
 use Rattle.juniper_tokens.specs.Positions.{columns_on}
 use Rattle.juniper_tokens.specs.device.Scans.{MissesEscape}
+use Rattle.juniper_tokens.specs.LineTables.{lines_of}
+use Rattle.juniper_tokens.specs.device.LineSteps.{line_number}
 use Rattle.juniper_tokens.specs.Lexing.{LexerState, GivesFault, WantsMemory}
 use Rattle.juniper_tokens.specs.device.LexingByScan.{past_gap}
 use Rattle.juniper_tokens.specs.Cursor.{EndsOnce, first_of}
 
 -- the characters of a range
 abbrev pub range_slice : List ℕ → TokenRange → List ℕ
-range_slice source r = take (r.end.characters - r.start.index) (drop r.start.index source)
+range_slice source r = take (r.end.characters - r.start.characters) (drop r.start.characters source)
 
 -- the token that a range of a source is
 abbrev pub range_lexeme : List ℕ → TokenRange → Lexeme
 range_lexeme source r = record {
   kind = r.kind;
   text = kind_text r.kind (text_of r.kind (range_slice source r));
-  span = record { start = place source r.start.index; end = place source r.end.characters };
+  span = record { start = place source r.start.characters; end = place source r.end.characters };
 }
 
 abbrev pub range_lexemes : List ℕ → List TokenRange → List Lexeme
@@ -43,14 +44,14 @@ range_lexemes source = map (range_lexeme source)
 -- Both ends are offsets within the source, the start not after the end; a String has its quotes, and a block string its
 -- triple quotes; any other token than a block string ends on its line.
 pub record IsRange (source : List ℕ) (r : TokenRange) : Type 0 where
-  pub at_is : r.at ≡ byte_at r.start.index source
-  pub start_is : r.start ≡ place source r.start.index
+  pub line_is : r.line ≡ line_number (place source r.start.characters).line
+  pub start : IsOffset r.start source
   pub end : IsOffset r.end source
-  pub forward : r.start.index ≤ r.end.characters
+  pub forward : r.start.characters ≤ r.end.characters
   pub within : r.end.characters ≤ length source
-  pub quoted : r.kind ≡ kinds.String → EndsQuoted 1 (drop r.start.index source) (r.end.bytes - r.at) (r.end.characters - r.start.index)
-  pub marked : r.kind ≡ kinds.BlockString → EndsQuoted 3 (drop r.start.index source) (r.end.bytes - r.at) (r.end.characters - r.start.index)
-  pub lined : (r.kind ≡ kinds.BlockString → ⊥) → columns_on (r.end.characters - r.start.index) r.start ≡ place source r.end.characters
+  pub quoted : r.kind ≡ kinds.String → EndsQuoted 1 (drop r.start.characters source) (r.end.bytes - r.start.bytes) (r.end.characters - r.start.characters)
+  pub marked : r.kind ≡ kinds.BlockString → EndsQuoted 3 (drop r.start.characters source) (r.end.bytes - r.start.bytes) (r.end.characters - r.start.characters)
+  pub lined : (r.kind ≡ kinds.BlockString → ⊥) → columns_on (r.end.characters - r.start.characters) (place source r.start.characters) ≡ place source r.end.characters
 
 -- A token of this range stands where the lexer did, which is then after it, and has ended where the token is the end.
 pub record GivesRange (s : LexerState) (r : TokenRange) (t : LexerState) : Type 0 where
@@ -74,8 +75,8 @@ range_steps s (Some item) t = (s.ended ≡ false) × (t.source ≡ s.source) × 
 abbrev pub range_of : Found → ℕ → Place → TokenRange
 range_of found at start = record {
   kind = found.kind;
-  at = at;
-  start = start;
+  line = line_number start.line;
+  start = record { bytes = at; characters = start.index };
   end = record { bytes = at + found.end.bytes; characters = start.index + found.end.characters };
 }
 
@@ -83,7 +84,7 @@ range_of found at start = record {
 -- ended where the token is the end.
 pub record TakesRange (s : LexerState) (r : TokenRange) (t : LexerState) : Type 0 where
   pub scanned : scans.scan (drop s.index s.source) ≡ scans.found (r.end.characters - s.index) r.kind (drop s.index s.source)
-  pub from : r.start.index ≡ s.index
+  pub from : r.start.characters ≡ s.index
   pub to : t.index ≡ r.end.characters
   pub is_range : IsRange s.source r
   pub ends : t.ended ≡ same_kind r.kind kinds.EndOfFile
@@ -102,23 +103,29 @@ TakesItem s (Ok range) t = TakesRange s range t
 TakesItem s (Err (failure.Fault fault)) t = FailsThere s fault t
 TakesItem s (Err failure.Memory) t = MissesEscape (scans.scan (drop s.index s.source)) × (t.ended ≡ true)
 
+-- The lexer, which stood where a token may begin, went over this one or no further.
+abbrev pub TakesPlain : LexerState → Option TokenRange → LexerState → Type 0
+TakesPlain s None t = t ≡ s
+TakesPlain s (Some range) t = TakesRange s range t
+
 -- The lexer went over a gap, and over the token after it or no further.
 abbrev pub MayTake : LexerState → Option TokenRange → LexerState → Type 0
-MayTake s None t = t ≡ past_gap s
-MayTake s (Some range) t = TakesRange (past_gap s) range t
+MayTake s range t = TakesPlain (past_gap s) range t
 
 -- ---- cursors
 
--- the end of a source as a range, at this offset and place
-abbrev pub end_at : Offset → Place → TokenRange
-end_at offset place = record { kind = kinds.EndOfFile; at = offset.bytes; start = place; end = offset }
+-- the end of a source as a range, at this offset and on the line of this number
+abbrev pub end_at : Offset → ℕ → TokenRange
+end_at offset line = record { kind = kinds.EndOfFile; line = line; start = offset; end = offset }
 
 -- This many of these ranges of a source have been taken. Of those that are left the last one, and no other, is the end.
-pub record AreLeft (source : List ℕ) (ranges : List TokenRange) (taken : ℕ) : Type 0 where
+-- The source's lines begin at these characters.
+pub record AreLeft (source : List ℕ) (ranges : List TokenRange) (starts : List ℕ) (taken : ℕ) : Type 0 where
   pub are_ranges : All (IsRange source) ranges
   pub ended : EndsOnce (range_lexemes source (drop taken ranges))
+  pub lines_are : starts ≡ (lines_of source).starts
 
 -- the same, of which the next one is held as a token
-pub record IsCursor (source : List ℕ) (ranges : List TokenRange) (taken : ℕ) (current : Spanning Token) : Type 0 where
-  pub left : AreLeft source ranges taken
+pub record IsCursor (source : List ℕ) (ranges : List TokenRange) (starts : List ℕ) (taken : ℕ) (current : Spanning Token) : Type 0 where
+  pub left : AreLeft source ranges starts taken
   pub first : view_token current ≡ first_of (range_lexemes source (drop taken ranges))

@@ -12,7 +12,8 @@ use Rattle.juniper_tokens.proofs.cursor.Cursor.advance.Goals as goal
 pub invariant_of-self : goal.invariant_of-self
 invariant_of-self c =
     let here = c.self.inside in
-    past_seen (chars here.source.now) here.ranges.now here.taken c.self.invariant c.args.self.now c.self.view_is c.requires
+    past_seen (chars here.source.now) here.ranges.now here.starts.now here.taken c.self.invariant c.args.self.now
+    c.self.view_is c.requires
 
 pub returns-clause-left : goal.returns-clause-left
 returns-clause-left c =
@@ -23,7 +24,7 @@ returns-clause-left c =
 pub returns-clause-ended : goal.returns-clause-ended
 returns-clause-ended c =
     let here = c.self.inside in
-    seen_ended (chars here.source.now) here.ranges.now here.taken c.self.invariant c.args.self.now c.self.view_is
+    seen_ended (chars here.source.now) here.ranges.now here.starts.now here.taken c.self.invariant c.args.self.now c.self.view_is
 
 pub returns-clause-takes : goal.returns-clause-takes
 returns-clause-takes c =

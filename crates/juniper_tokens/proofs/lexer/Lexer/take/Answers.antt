@@ -15,12 +15,17 @@ pub from_found-range-requires-clause-found : goal.from_found-range-requires-clau
 from_found-range-requires-clause-found c =
     subst (λ (w : LexerState). Finds (drop w.index w.source) c.args.found) (sym c.self.view_is) c.requires
 
-pub end_position-self-inside-requires : goal.end_position-self-inside-requires
-end_position-self-inside-requires c =
+pub end_position-self-inside-requires-clause-range : goal.end_position-self-inside-requires-clause-range
+end_position-self-inside-requires-clause-range c =
     let finds = subst (λ (w : LexerState). Finds (drop w.index w.source) c.args.found) (sym c.self.view_is)
     c.requires in
     subst (IsRange (chars c.self.inside.source.now)) (sym c.from_found-range.ensures)
     (found_range _ _ _ _ c.self.invariant finds)
+
+pub end_position-self-inside-requires-clause-start : goal.end_position-self-inside-requires-clause-start
+end_position-self-inside-requires-clause-start c =
+    c.self.invariant.place_is
+    ∙ ap (λ (r : TokenRange). place (chars c.self.inside.source.now) r.start.characters) (sym c.from_found-range.ensures)
 
 pub invariant_of-self : goal.invariant_of-self
 invariant_of-self c =

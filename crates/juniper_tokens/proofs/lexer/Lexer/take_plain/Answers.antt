@@ -15,8 +15,12 @@ pub from_found-range-requires-clause-found : goal.from_found-range-requires-clau
 from_found-range-requires-clause-found c =
     subst (λ (w : LexerState). Finds (drop w.index w.source) c.args.found) (sym c.self.view_is) c.requires.finds
 
-pub end_on_line-self-inside-requires : goal.end_on_line-self-inside-requires
-end_on_line-self-inside-requires c =
+pub end_on_line-self-inside-requires-clause-start : goal.end_on_line-self-inside-requires-clause-start
+end_on_line-self-inside-requires-clause-start c = ap (λ (r : TokenRange). r.start.characters)
+    (sym c.from_found-range.ensures)
+
+pub end_on_line-self-inside-requires-clause-forward : goal.end_on_line-self-inside-requires-clause-forward
+end_on_line-self-inside-requires-clause-forward c =
     let finds = subst (λ (w : LexerState). Finds (drop w.index w.source) c.args.found) (sym c.self.view_is)
     c.requires.finds in
     (subst (IsRange (chars c.self.inside.source.now)) (sym c.from_found-range.ensures)
@@ -31,7 +35,9 @@ invariant_of-self c =
     let made = subst (IsRange source) (sym c.from_found-range.ensures) range in
     let on_line = ap (λ (r : TokenRange). same_kind r.kind BlockString) c.from_found-range.ensures
     ∙ c.requires.plain.on_line in
-    let place = c.end_on_line-self-inside.ensures ∙ (ends_on_line source c.from_found-range.result made on_line
+    let start = c.self.invariant.place_is
+    ∙ ap (λ (r : TokenRange). place source r.start.characters) (sym c.from_found-range.ensures) in
+    let place = c.end_on_line-self-inside.ensures ∙ (ends_on_line source c.from_found-range.result _ made start on_line
     ∙ ap (λ (r : TokenRange). place source r.end.characters) c.from_found-range.ensures) in
     subst (λ b. IsPlaced c.self.inside.source.now b c.end_on_line-self-inside.result)
     (sym (ap (λ (r : TokenRange). r.end.bytes) c.from_found-range.ensures))
@@ -46,7 +52,9 @@ returns-clause-takes c =
     let made = subst (IsRange source) (sym c.from_found-range.ensures) range in
     let on_line = ap (λ (r : TokenRange). same_kind r.kind BlockString) c.from_found-range.ensures
     ∙ c.requires.plain.on_line in
-    let place = c.end_on_line-self-inside.ensures ∙ (ends_on_line source c.from_found-range.result made on_line
+    let start = c.self.invariant.place_is
+    ∙ ap (λ (r : TokenRange). place source r.start.characters) (sym c.from_found-range.ensures) in
+    let place = c.end_on_line-self-inside.ensures ∙ (ends_on_line source c.from_found-range.result _ made start on_line
     ∙ ap (λ (r : TokenRange). place source r.end.characters) c.from_found-range.ensures) in
     let new : LexerState = record { source = source; index = c.end_on_line-self-inside.result.index; ended = false } in
     let taken = found_taken _ _ _ c.end_on_line-self-inside.result c.args.found false

@@ -1,27 +1,38 @@
-use Rattle.std.proofs.Common.{Ok, ap, sym, ◌∙◌, rules}
-use Rattle.juniper_tokens.specs.device.Ranges.{range_lexeme}
+use Rattle.std.proofs.Common.{Ok, ap, ap₂, subst, sym, ◌∙◌, rules}
+use Rattle.graphql_lexical.specs.Place.{place}
+use Rattle.juniper_tokens.specs.Lexing.{LexerState}
+use Rattle.juniper_tokens.specs.device.Ranges.{TakesRange, range_lexeme}
 use Rattle.juniper_tokens.proofs.Lexing.{items_fewer}
 use Rattle.juniper_tokens.proofs.Ranges.{token_given}
 use Rattle.juniper_tokens.proofs.lexer.LexerIterator.next.Goals as goal
 
+pub token-requires-clause-start : goal.token-requires-clause-start
+token-requires-clause-start c =
+    c.self.invariant.place_is ∙ ap (λ (s : LexerState). place s.source s.index) c.self.view_is
+    ∙ ap₂ place (sym c.in-Some.ensures.source) (sym c.in-Some.ensures.takes.from)
+
 pub returns-in-Some-clause-steps : goal.returns-in-Some-clause-steps
-returns-in-Some-clause-steps c = (
-  sym c.has_ended.ensures ∙ c.if-has_ended.false,
-  c.in-Some.ensures.source,
-  token_given c.args.self.now c.in-Some.range c.token.result c.next_plain.new.self c.in-Some.ensures.takes
-      (c.token.ensures ∙ ap (λ t. range_lexeme t c.in-Some.range) c.in-Some.ensures.source),
-)
+returns-in-Some-clause-steps c =
+    let same = c.in-Some.ensures.source ∙ ap (λ (s : LexerState). s.source) c.skip_gap-class.ensures.passes in (
+      sym c.has_ended.ensures ∙ c.if-has_ended.false,
+      same,
+      token_given c.args.self.now c.in-Some.range c.token.result c.take_if_plain.new.self
+          (subst (λ (s : LexerState). TakesRange s c.in-Some.range c.take_if_plain.new.self) c.skip_gap-class.ensures.passes
+          c.in-Some.ensures.takes)
+          (c.token.ensures ∙ ap (λ t. range_lexeme t c.in-Some.range) same),
+    )
 
 pub returns-in-Some-clause-goes : goal.returns-in-Some-clause-goes
 returns-in-Some-clause-goes c =
-    let less = items_fewer c.args.self.now (Ok c.token.result) c.next_plain.new.self (returns-in-Some-clause-steps c) in
+    let less = items_fewer c.args.self.now (Ok c.token.result) c.take_if_plain.new.self (returns-in-Some-clause-steps c) in
     record { on = λ _. search (rules, less); keeps = search rules; rests = λ _. search rules }
 
 pub returns-in-None-clause-goes : goal.returns-in-None-clause-goes
 returns-in-None-clause-goes c =
     let less = items_fewer c.args.self.now c.next_other_token.result c.next_other_token.new.self (
       sym c.has_ended.ensures ∙ c.if-has_ended.false,
-      c.next_other_token.ensures.source ∙ c.in-None.ensures.source,
-      c.next_other_token.ensures.gives c.args.self.now c.in-None.ensures.takes,
+      c.next_other_token.ensures.source ∙ (c.in-None.ensures.source
+          ∙ ap (λ (s : LexerState). s.source) c.skip_gap-class.ensures.passes),
+      c.next_other_token.ensures.gives c.args.self.now (c.in-None.ensures.takes ∙ c.skip_gap-class.ensures.passes),
     ) in
     record { on = λ _. search (rules, less); keeps = search rules; rests = λ _. search rules }

@@ -1,96 +1,14 @@
-use Rattle.std.proofs.Common.{◌≡◌, ◌≤◌, ◌<◌, ◌+◌, [], ◌∷◌, ◌++◌, List, ℕ, true, length, get_or, refl, sym, ap, ap₂, subst, ◌∙◌, arith}
+use Rattle.std.proofs.Common.{arith}
 use Rattle.std.specs.Str.{chars}
-use Rattle.juniper_tokens.specs.LineTables.{Lines}
-use Rattle.juniper_tokens.specs.ByteClasses.{inner_class}
-use Rattle.juniper_tokens.specs.device.ByteRuns.{Walked}
-use Rattle.juniper_tokens.specs.device.Walks.{each_machine}
-use Rattle.juniper_tokens.specs.device.LineSteps.{no_lines, longer, past}
-use Rattle.juniper_tokens.proofs.ByteRuns.{walked_on, walked_end}
-use Rattle.juniper_tokens.proofs.ByteClasses.{outer, not_inner, feed_byte, no_feed_byte}
-use Rattle.juniper_tokens.proofs.LineWalks.{walked_first, walked_feed, at_inner, reached}
-use Rattle.juniper_tokens.proofs.Lines.{made_table, no_longer, longer_more, past_alike, past_other, lines_are}
+use Rattle.juniper_tokens.specs.device.LineSteps.{made_table}
+use Rattle.juniper_tokens.proofs.LinesSoFar.{all_lines}
 use Rattle.juniper_tokens.proofs.line_table.LineTable.new.Goals as goal
-
-pub loop-i-init : goal.loop-i-init
-loop-i-init c = (
-  subst (λ (t : Lines). Walked (each_machine past) (tt, no_lines) c.as_bytes-bytes.result.now
-      c.run_over-first.result.bytes (tt, t))
-      (sym (ap₂ made_table (c.in_ok-push.ensures.items ∙ ap (λ (l : List ℕ). l ++ 0 ∷ []) c.new-starts.ensures.items)
-      (from_none c.run_over-first.result.characters)))
-      (walked_first past longer no_longer longer_more no_lines c.as_bytes-bytes.result.now c.run_over-first.result
-      c.run_over-first.ensures.runs c.run_over-first.ensures.within),
-  c.run_over-first.ensures.fewer,
-)
-  where
-    from_none : (k : ℕ) → k ≡ 0 + k
-    from_none k = omega arith
-
-pub loop-i-preserved-in-LineFeed : goal.loop-i-preserved-in-LineFeed
-loop-i-preserved-in-LineFeed c =
-    let bytes = c.as_bytes-bytes.result.now in
-    let b = get_or bytes c.loop-i.i 0 in
-    let small : b < 256 = omega (arith, c.type_inv.bytes c.loop-i.i) in
-    let table = made_table c.loop-i.starts.items c.loop-i.count in (
-      subst (λ (t : Lines). Walked (each_machine past) (tt, no_lines) bytes
-          (c.loop-i.i + (1 + c.run_over-line.result.bytes)) (tt, t))
-          (sym (ap₂ made_table c.in_ok-push-in-LineFeed.ensures.items
-          (regrouped c.loop-i.count c.run_over-line.result.characters)))
-          (walked_feed past longer no_longer longer_more no_lines table bytes _ c.loop-i.i c.run_over-line.result
-          c.loop-i-test.true
-          (feed_byte b c.byte_class.result small c.byte_class.ensures c.in-LineFeed.is) refl
-          c.run_over-line.ensures.runs c.run_over-line.ensures.within c.loop-i.invariant.0),
-      omega (arith, c.run_over-line.ensures.fewer, c.loop-i.invariant.1),
-    )
-  where
-    regrouped : (n k : ℕ) → n + (1 + k) ≡ (n + 1) + k
-    regrouped n k = omega arith
-
-pub loop-i-preserved-in-Inner : goal.loop-i-preserved-in-Inner
-loop-i-preserved-in-Inner c =
-    let bytes = c.as_bytes-bytes.result.now in
-    let b = get_or bytes c.loop-i.i 0 in
-    let small : b < 256 = omega (arith, c.type_inv.bytes c.loop-i.i) in
-    let table = made_table c.loop-i.starts.items c.loop-i.count in (
-      walked_on (each_machine past) (tt, no_lines) (tt, table) (tt, table) bytes c.loop-i.i c.loop-i-test.true
-          (at_inner past longer no_longer longer_more table b (outer b c.byte_class.result true small
-          c.byte_class.ensures (sym (ap inner_class c.in-Inner.is))))
-          c.loop-i.invariant.0,
-      omega (arith, c.loop-i.invariant.1),
-    )
-
-pub loop-i-preserved : goal.loop-i-preserved
-loop-i-preserved c =
-    let bytes = c.as_bytes-bytes.result.now in
-    let b = get_or bytes c.loop-i.i 0 in
-    let small : b < 256 = omega (arith, c.type_inv.bytes c.loop-i.i) in
-    let table = made_table c.loop-i.starts.items c.loop-i.count in (
-      walked_on (each_machine past) (tt, no_lines) (tt, table) (tt, longer 1 table) bytes c.loop-i.i c.loop-i-test.true
-          (past_other table b (not_inner b c.byte_class.result small c.byte_class.ensures c.in_default.not-Inner)
-          (no_feed_byte b c.byte_class.result small c.byte_class.ensures c.in_default.not-LineFeed))
-          c.loop-i.invariant.0,
-      omega (arith, c.loop-i.invariant.1),
-    )
-
-pub invariant_of-result : goal.invariant_of-result
-invariant_of-result c =
-    let bytes = c.as_bytes-bytes.result.now in
-    let end : length bytes ≤ c.loop-i.i = omega (arith, c.loop-i-test.false) in
-    let table = made_table c.loop-i.starts.items c.loop-i.count in
-    record {
-      source = chars c.args.source.now;
-      is =
-          reached past longer no_longer longer_more past_alike c.args.source.now bytes c.loop-i.i no_lines table
-          c.utf8.source c.as_bytes-bytes.ensures.value
-          (walked_end (each_machine past) (tt, no_lines) (tt, table) bytes c.loop-i.i end c.loop-i.invariant.0)
-          ∙ lines_are (chars c.args.source.now);
-    }
 
 pub returns : goal.returns
 returns c =
-    let bytes = c.as_bytes-bytes.result.now in
-    let end : length bytes ≤ c.loop-i.i = omega (arith, c.loop-i-test.false) in
-    let table = made_table c.loop-i.starts.items c.loop-i.count in
-    reached past longer no_longer longer_more past_alike c.args.source.now bytes c.loop-i.i no_lines table
-    c.utf8.source c.as_bytes-bytes.ensures.value
-    (walked_end (each_machine past) (tt, no_lines) (tt, table) bytes c.loop-i.i end c.loop-i.invariant.0)
-    ∙ lines_are (chars c.args.source.now)
+    let source = chars c.args.source.now in
+    all_lines source c.in_ok-lines.lines.starts.items 0 (omega arith) (c.in_ok-lines.ensures source).so_far
+    (made_table c.push_lines.new.starts.items c.in_ok-lines-2.field-0) c.in_ok-lines-2.ensures
+
+pub invariant_of-result : goal.invariant_of-result
+invariant_of-result c = record { source = chars c.args.source.now; is = returns c }

@@ -7,25 +7,25 @@ pub index-requires : goal.index-requires
 index-requires c =
     let here = c.self.inside in
     let source = chars here.source.now in
-    let left = one_fewer source here.ranges.items here.taken c.self.invariant.left c.args.self.now c.self.view_is
+    let left = one_fewer source here.ranges.items here.lines.starts here.taken c.self.invariant.left c.args.self.now c.self.view_is
     c.requires in
     omega (arith, left_within source here.ranges.items (here.taken + 1) left.ended, here.ranges.ok.0)
 
-pub located-self-inside-requires : goal.located-self-inside-requires
-located-self-inside-requires c =
+pub located-self-inside-requires-clause-range : goal.located-self-inside-requires-clause-range
+located-self-inside-requires-clause-range c =
     let here = c.self.inside in
     let source = chars here.source.now in
-    let left = one_fewer source here.ranges.items here.taken c.self.invariant.left c.args.self.now c.self.view_is
+    let left = one_fewer source here.ranges.items here.lines.starts here.taken c.self.invariant.left c.args.self.now c.self.view_is
     c.requires in
-    next_is_range source here.ranges.items (here.taken + 1) left c.index.result.now c.index.ensures
+    next_is_range source here.ranges.items here.lines.starts (here.taken + 1) left c.index.result.now c.index.ensures
 
 pub invariant_of-self : goal.invariant_of-self
 invariant_of-self c =
     let here = c.self.inside in
     let source = chars here.source.now in
-    let left = one_fewer source here.ranges.items here.taken c.self.invariant.left c.args.self.now c.self.view_is
+    let left = one_fewer source here.ranges.items here.lines.starts here.taken c.self.invariant.left c.args.self.now c.self.view_is
     c.requires in
-    next_held source here.ranges.items (here.taken + 1) left c.index.result.now c.index.ensures
+    next_held source here.ranges.items here.lines.starts (here.taken + 1) left c.index.result.now c.index.ensures
     c.located-self-inside.result c.located-self-inside.ensures
 
 pub returns : goal.returns

@@ -7,6 +7,6 @@ use Rattle.juniper_tokens.proofs.parser.Parser.new.Goals as goal
 
 pub from_ranges-requires-clause-ends : goal.from_ranges-requires-clause-ends
 from_ranges-requires-clause-ends c =
-    subst (λ (source : List ℕ). EndsOnce (range_lexemes source c.in_ok-gathered.field-0.items))
+    subst (λ (source : List ℕ). EndsOnce (range_lexemes source c.in_ok-ranges.ranges.items))
     (ap (λ (s : LexerState). s.source) c.duplicate-rest.ensures ∙ sym c.source-source.ensures)
-    (cut_ends_once _ _ _ c.in_ok-gathered.ensures.tokens)
+    (cut_ends_once _ _ _ c.in_ok-ranges.ensures.tokens)

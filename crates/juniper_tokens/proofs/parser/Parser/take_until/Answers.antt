@@ -8,8 +8,8 @@ invariant_of-self c =
     let here = c.self.inside in
     let source = chars here.source.now in
     let all : c.len.result ≡ length here.ranges.items = search rules in
-    next_held source here.ranges.items _
-    (so_many_left source here.ranges.items here.taken c.self.invariant.left c.args.self.now c.self.view_is c.args.left
+    next_held source here.ranges.items here.lines.starts _
+    (so_many_left source here.ranges.items here.lines.starts here.taken c.self.invariant.left c.args.self.now c.self.view_is c.args.left
     c.requires.some c.requires.fewer c.len.result all) c.index.result.now c.index.ensures
     c.located-self-inside.result c.located-self-inside.ensures
 
@@ -17,5 +17,5 @@ pub returns : goal.returns
 returns c =
     let here = c.self.inside in
     let all : c.len.result ≡ length here.ranges.items = search rules in
-    left_many (chars here.source.now) here.ranges.items here.taken c.self.invariant.left c.args.self.now c.self.view_is
+    left_many (chars here.source.now) here.ranges.items here.lines.starts here.taken c.self.invariant.left c.args.self.now c.self.view_is
     c.args.left c.requires.some c.requires.fewer c.len.result all

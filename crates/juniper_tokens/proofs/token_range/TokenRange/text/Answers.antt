@@ -1,4 +1,4 @@
-use Rattle.std.proofs.Common.{sym, ap, subst, ◌∙◌, drop}
+use Rattle.std.proofs.Common.{sym, subst}
 use Rattle.std.specs.Str.{chars}
 use Rattle.juniper_tokens.specs.declared.lexer.text.Offset.{Offset}
 use Rattle.juniper_tokens.specs.device.Offsets.{IsOffset}
@@ -10,7 +10,5 @@ size-size-requires-clause-bytes c = range_order (chars c.args.source.now) c.args
 
 pub text_before-requires : goal.text_before-requires
 text_before-requires c =
-    let rest = c.text_from-rest.ensures.characters
-    ∙ ap (λ (b : Offset). drop b.characters (chars c.args.source.now)) c.offset.ensures in
     subst (λ (b : Offset). IsOffset b (chars c.text_from-rest.result.now)) (sym c.size-size.ensures)
-    (range_width (chars c.args.source.now) _ c.args.self.now c.requires rest)
+    (range_width (chars c.args.source.now) _ c.args.self.now c.requires c.text_from-rest.ensures.characters)
