@@ -3,7 +3,7 @@ use Rattle.std.proofs.Common.{ℕ, Bool, ◌≡◌, ◌+◌, [], List, ◌++◌,
 use Rattle.graphql_lexical.specs.Cutting.{Lexeme}
 use Rattle.graphql_grammar.specs.Tokens.{Located, span_of}
 use Rattle.graphql_grammar.specs.Tree.{Scalars, Value, TypeRef, Definition}
-use Rattle.graphql_grammar.specs.Grammar.{IsValue, IsType, IsDocument}
+use Rattle.graphql_grammar.specs.Grammar.{IsValue, IsType, IsDocument, IsLocated}
 use Rattle.graphql_grammar.specs.device.Reading.{Read, Took, Refused, Out, a_value, a_type}
 use Rattle.graphql_grammar.specs.device.Productions.{document, symbol_at, reads}
 use Rattle.graphql_grammar.proofs.Values.{value_rule}
@@ -31,7 +31,7 @@ one_type ts a b h k = ap (λ (x : Located TypeRef). x.item) (one_tree (λ n. sym
     (type_reads (every_scalar (Unit {0}))) ts (record { item = a; span = span_of ts }) (record { item = b; span = span_of ts }) (h, refl) (k, refl))
 
 module _ {C F : Type 0} (S : Scalars C F) where
-  pub value_reads : (free : Bool) → Reads (λ n. symbol_at S n _ (a_value free)) (IsValue S free)
+  pub value_reads : (free : Bool) → Reads (λ n. symbol_at S n _ (a_value free)) (IsLocated (IsValue S free))
   value_reads free = record {
     keeps = value_rule S free;
     finds = λ n ts v le h. ap (symbol_at S n _ (a_value free)) (sym (append-nil ts))
@@ -45,8 +45,8 @@ module _ {C F : Type 0} (S : Scalars C F) where
   pub one_document : (ts : List Lexeme) (a b : List (Definition C)) → IsDocument S a ts → IsDocument S b ts → a ≡ b
   one_document = one_tree (λ n. reads S n document) (IsDocument S) document_reads
 
-  pub one_value : (free : Bool) (ts : List Lexeme) (a b : Value C) → IsValue S free a ts → IsValue S free b ts → a ≡ b
-  one_value free = one_tree (λ n. symbol_at S n _ (a_value free)) (IsValue S free) (value_reads free)
+  pub one_value : (free : Bool) (ts : List Lexeme) (a b : Located (Value C)) → IsLocated (IsValue S free) a ts → IsLocated (IsValue S free) b ts → a ≡ b
+  one_value free = one_tree (λ n. symbol_at S n _ (a_value free)) (IsLocated (IsValue S free)) (value_reads free)
 
   took_rest : {A : Type 0} → List Lexeme → Read F A → List Lexeme
   took_rest d (Took a rest) = rest
@@ -54,8 +54,8 @@ module _ {C F : Type 0} (S : Scalars C F) where
   took_rest d Out = d
 
   -- No value's tokens are a proper front of another's.
-  pub value_front : (free : Bool) (us vs : List Lexeme) (v w : Value C) → IsValue S free v us
-      → IsValue S free w (us ++ vs) → vs ≡ []
+  pub value_front : (free : Bool) (us vs : List Lexeme) (v w : Located (Value C)) → IsLocated (IsValue S free) v us
+      → IsLocated (IsValue S free) w (us ++ vs) → vs ≡ []
   unfolding took_rest
   value_front free us vs v w h k =
       let n : ℕ = length us + length vs in
