@@ -6,7 +6,7 @@ use Rattle.graphql_grammar.specs.Tree.{Scalars, Value, TypeRef, Definition}
 use Rattle.graphql_grammar.specs.Grammar.{IsValue, IsType, IsDocument, IsLocated}
 use Rattle.graphql_grammar.specs.device.Reading.{Read, Took, Refused, Out, a_value, a_type}
 use Rattle.graphql_grammar.specs.device.Productions.{document, symbol_at, reads}
-use Rattle.graphql_grammar.proofs.Values.{value_rule}
+use Rattle.graphql_grammar.proofs.Values.{value_rule, placed}
 use Rattle.graphql_grammar.proofs.Found.{value_found}
 use Rattle.graphql_grammar.proofs.DocumentRules.{IsSpannedType, type_rule}
 use Rattle.graphql_grammar.proofs.DocumentFound.{type_found}
@@ -45,8 +45,10 @@ module _ {C F : Type 0} (S : Scalars C F) where
   pub one_document : (ts : List Lexeme) (a b : List (Definition C)) → IsDocument S a ts → IsDocument S b ts → a ≡ b
   one_document = one_tree (λ n. reads S n document) (IsDocument S) document_reads
 
-  pub one_value : (free : Bool) (ts : List Lexeme) (a b : Located (Value C)) → IsLocated (IsValue S free) a ts → IsLocated (IsValue S free) b ts → a ≡ b
-  one_value free = one_tree (λ n. symbol_at S n _ (a_value free)) (IsLocated (IsValue S free)) (value_reads free)
+  pub one_value : (free : Bool) (ts : List Lexeme) (a b : Value C) → IsValue S free a ts → IsValue S free b ts → a ≡ b
+  one_value free ts a b h k = ap (λ (x : Located (Value C)). x.item)
+      (one_tree (λ n. symbol_at S n _ (a_value free)) (IsLocated (IsValue S free)) (value_reads free) ts
+      (placed a (span_of ts)) (placed b (span_of ts)) (h, refl) (k, refl))
 
   took_rest : {A : Type 0} → List Lexeme → Read F A → List Lexeme
   took_rest d (Took a rest) = rest
@@ -54,11 +56,12 @@ module _ {C F : Type 0} (S : Scalars C F) where
   took_rest d Out = d
 
   -- No value's tokens are a proper front of another's.
-  pub value_front : (free : Bool) (us vs : List Lexeme) (v w : Located (Value C)) → IsLocated (IsValue S free) v us
-      → IsLocated (IsValue S free) w (us ++ vs) → vs ≡ []
+  pub value_front : (free : Bool) (us vs : List Lexeme) (v w : Value C) → IsValue S free v us
+      → IsValue S free w (us ++ vs) → vs ≡ []
   unfolding took_rest
   value_front free us vs v w h k =
       let n : ℕ = length us + length vs in
-      ap (took_rest []) (sym (value_found S free n us vs v (omega arith) h)
+      ap (took_rest []) (sym (value_found S free n us vs (placed v (span_of us)) (omega arith) (h, refl))
       ∙ ap (symbol_at S n _ (a_value free)) (sym (append-nil (us ++ vs)))
-      ∙ value_found S free n (us ++ vs) [] w (rw (length-append us vs) (le_refl n)) k)
+      ∙ value_found S free n (us ++ vs) [] (placed w (span_of (us ++ vs)))
+      (rw (length-append us vs) (le_refl n)) (k, refl))

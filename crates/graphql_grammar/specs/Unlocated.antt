@@ -80,5 +80,5 @@ module _ {C : Type 0} where
   abbrev pub SameDocument : List (Definition C) → List (Definition C) → Type 0
   SameDocument a b = map unlocated_definition a ≡ map unlocated_definition b
 
-  abbrev pub SameValue : Located (Value C) → Located (Value C) → Type 0
-  SameValue a b = unlocated unlocated_value a ≡ unlocated unlocated_value b
+  abbrev pub SameValue : Value C → Value C → Type 0
+  SameValue a b = unlocated_value a ≡ unlocated_value b

@@ -5,7 +5,7 @@ ghost use Rattle.graphql_lexical.specs.Cutting.{Lexeme, Cut, EndsOnce};
 ghost use Rattle.graphql_lexical.specs.laws.Alike.{Alike};
 ghost use Rattle.graphql_lexical.specs.Nesting.{opened, closed};
 ghost use Rattle.graphql_lexical.specs.declared.kind.Kind.{Kind};
-ghost use Rattle.graphql_grammar.specs.Tokens.{Text, IsSpelled, Located};
+ghost use Rattle.graphql_grammar.specs.Tokens.{Text, IsSpelled};
 ghost use Rattle.graphql_grammar.specs.Tree.{Scalars, Value, TypeRef, Definition};
 ghost use Rattle.graphql_grammar.specs.Grammar.{IsLocated, IsValue, IsType, IsDocument};
 ghost use Rattle.graphql_grammar.specs.Faults.{AtFault, DocumentRefusedAt};
@@ -24,7 +24,7 @@ pub fn one_document<C, F>()
 
 /// No list of tokens is two values.
 pub fn one_value<C, F>()
-    ensures { (S : Scalars C F) (free : Bool) (ts : List Lexeme) (a b : Located (Value C)) → IsLocated (IsValue S free) a ts → IsLocated (IsValue S free) b ts → a ≡ b }
+    ensures { (S : Scalars C F) (free : Bool) (ts : List Lexeme) (a b : Value C) → IsValue S free a ts → IsValue S free b ts → a ≡ b }
 {}
 
 /// No list of tokens is two types.
@@ -34,7 +34,7 @@ pub fn one_type()
 
 /// No value's list of tokens is a proper prefix of another's.
 pub fn value_front<C, F>()
-    ensures { (S : Scalars C F) (free : Bool) (us vs : List Lexeme) (v w : Located (Value C)) → IsLocated (IsValue S free) v us → IsLocated (IsValue S free) w (us ++ vs) → vs ≡ [] }
+    ensures { (S : Scalars C F) (free : Bool) (us vs : List Lexeme) (v w : Value C) → IsValue S free v us → IsValue S free w (us ++ vs) → vs ≡ [] }
 {}
 
 /// Tokens that a text spells, with one end, the last, are a document or are refused at one place, and never both.
@@ -79,7 +79,7 @@ pub fn alike_documents<C, F>()
 
 /// Lists that are alike are both values, which differ in spans alone, or neither is one.
 pub fn alike_values<C, F>()
-    ensures { (S : Scalars C F) (free : Bool) (ts us : List Lexeme) (a : Located (Value C)) → AllZip Alike ts us → IsLocated (IsValue S free) a ts → (b : Located (Value C)) × IsLocated (IsValue S free) b us × SameValue a b }
+    ensures { (S : Scalars C F) (free : Bool) (ts us : List Lexeme) (a : Value C) → AllZip Alike ts us → IsValue S free a ts → (b : Value C) × IsValue S free b us × SameValue a b }
 {}
 
 /// Each scalar token of a document is one that the scalar type reads.
