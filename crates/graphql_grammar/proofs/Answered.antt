@@ -7,7 +7,7 @@ use Rattle.graphql_grammar.specs.Samples.{sample, IsSample}
 use Rattle.graphql_grammar.specs.device.Reading.{Test, of, passes, Reader, seq, done, on, look, many, repeated, fully, a_value, a_type, a_selection, Steps}
 use Rattle.graphql_grammar.specs.device.Productions.{symbol_at, reads}
 use Rattle.graphql_grammar.specs.Tree.{Scalars, Value, TypeRef, Selection}
-use Rattle.graphql_grammar.specs.Grammar.{IsValue, IsSelection, Each}
+use Rattle.graphql_grammar.specs.Grammar.{IsValue, IsSelection, Each, IsLocated}
 use Rattle.graphql_grammar.proofs.Rules.{Rule}
 use Rattle.graphql_grammar.proofs.PartRules.{Closed, many_rule, repeated_rule}
 use Rattle.graphql_grammar.proofs.Values.{value_rule}
@@ -16,8 +16,8 @@ use Rattle.graphql_grammar.proofs.SelectionRules.{selection_rule}
 use Rattle.graphql_grammar.proofs.Fuel.{Under, under_refl, under_trans, seq_under, on_under, look_under, many_under, repeated_under, symbol_under, reads_under, Answers, answers, settled, steps}
 
 module _ {C F : Type 0} (S : Scalars C F) where
-  pub values_answer : (free : Bool) → Answers (λ n. symbol_at S n (Value C) (a_value free))
-  values_answer free = answers _ (IsValue S free) (λ n m le. symbol_under S n m le (Value C) (a_value free))
+  pub values_answer : (free : Bool) → Answers (λ n. symbol_at S n (Located (Value C)) (a_value free))
+  values_answer free = answers _ (IsLocated (IsValue S free)) (λ n m le. symbol_under S n m le (Located (Value C)) (a_value free))
       (λ n. value_rule S free n n (le_refl n))
 
   pub types_answer : Answers (λ n. symbol_at S n (Located TypeRef) a_type)

@@ -19,7 +19,7 @@ use Rattle.graphql_grammar.proofs.ScalarFaults.{TellsFault, TellsFaults, same_te
 
 module _ {C F : Type 0} (S : Scalars C F) where
   -- values
-  literal_tell : (h : Reader F (Value C)) (t : Lexeme) (ts : List Lexeme) (z : Result C F)
+  literal_tell : (h : Reader F (Located (Value C))) (t : Lexeme) (ts : List Lexeme) (z : Result C F)
       → passes scalar_token t ≡ true → S.read t.kind t.text ≡ z → ((us : List Lexeme) → h (t ∷ us) ≡ literal S (t ∷
       us))
       → TellsFault S true h (t ∷ ts) (h (t ∷ ts))

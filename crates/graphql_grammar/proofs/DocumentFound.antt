@@ -9,7 +9,7 @@ use Rattle.graphql_grammar.specs.device.Productions as productions
 use Rattle.graphql_grammar.specs.device.Productions.{named_type, list_type, nullable_type, non_null, argument, arguments_inner, arguments, directive, directives, directives_of, default, variable_definition, variables_inner, variables, symbol_at, reads}
 use Rattle.graphql_grammar.specs.Tree.{Scalars, Value, TypeRef, NamedType, ListType, NonNullType, Argument, Arguments, Directive, VariableDefinition, Variables, Directives}
 use Rattle.graphql_lexical.specs.Parts.{◌·◌}
-use Rattle.graphql_grammar.specs.Grammar.{IsLocated, Is, Each, Optional, IsType, IsVariable, IsArgument, IsArguments, IsDirective, IsDirectives, IsDefault, IsVariableDefinition, IsVariables}
+use Rattle.graphql_grammar.specs.Grammar.{IsLocated, Is, Each, Optional, IsType, IsVariable, IsArgument, IsArguments, IsDirective, IsDirectives, IsDefault, IsVariableDefinition, IsVariables, Over}
 use Rattle.graphql_grammar.proofs.Sequences.{row, row_as, one_takes, last_joined, nothing_last, kind_is, is_takes, says_takes, front_takes, back_takes}
 use Rattle.graphql_grammar.proofs.Finds.{located_front, between_found, on_found, only_before, Only, Any, NotAt, token, Finds, Before, StartsWith, is_starts, front_starts, word_starts, listed_starts, Rejects, starts_before, nothing_before, optional_before, both_before, before_as, front_before, any_before, at_most, fewer, found_as, found_if, found_is, map_found, on_apart, look_apart, look_found, none_found, seq_found, then_found, seq_past, want_found, word_found, done_found, is_then, span_found, maybe_found, listed_found}
 use Rattle.graphql_grammar.proofs.Found.{variable_tokens, value_finds}
@@ -164,7 +164,7 @@ dollar_then : {F A : Type 0} {n : ℕ} {Q After : List Lexeme → Type 0} {a : A
     (w : Text) (p : Span)
     → ((x : Text) (q s : Span) → p ≡ record { start = q.start; end = s.end }
     → Finds n (k (token Dollar x q) (token Name w s)) Q After a)
-    → Finds n (seq (want (of Dollar)) (λ d. seq (want (of Name)) (k d))) (IsVariable w p · Q) After a
+    → Finds n (seq (want (of Dollar)) (λ d. seq (want (of Name)) (k d))) (Over p (IsVariable w) · Q) After a
 dollar_then k w p found = record {
   at = λ ts rest le h g.
       let (x, q, s, pair, span) = variable_tokens h.front w p h.first in
@@ -217,7 +217,7 @@ module _ {C F : Type 0} (S : Scalars C F) where
   directives_before test (Some (x ∷ ds)) d s =
       before_as (λ ts h. h.0) (front_before (starts_before test d (λ ts h. directive_starts ts x h)))
 
-  default_starts : (ts : List Lexeme) (v : Value C) → IsDefault S v ts → StartsWith Equals ts
+  default_starts : (ts : List Lexeme) (v : Located (Value C)) → IsDefault S v ts → StartsWith Equals ts
   default_starts ts v h = front_starts is_starts ts h
 
   variable_starts : (ts : List Lexeme) (v : VariableDefinition C) → IsVariableDefinition S v ts → StartsWith Dollar ts
@@ -277,7 +277,7 @@ module _ {C F : Type 0} (S : Scalars C F) (n : ℕ) where
 
   -- ---- variable definitions
 
-  default_found : (v : Option (Value C))
+  default_found : (v : Option (Located (Value C)))
       → Finds n (reads S n default) (Optional (IsDefault S) v) (NotAt (of Equals)) v
   unfolding default
   default_found None = look_apart (of Equals) _ (nothing_before (λ rest g. g)) done_found

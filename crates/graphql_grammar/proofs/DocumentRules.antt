@@ -108,7 +108,7 @@ module _ {C F : Type 0} (S : Scalars C F) (n m : ℕ) (le : n ≤ m) where
   unfolding argument
   argument_rule = want_step n (of Name) (sample Name) _ _ _ refl (inl refl)
       (λ k k' p. want_step _ (of Colon) (sample Colon) _ _ _ refl (inl refl) (λ c c' q.
-      step n _ (symbol_at S n _ (a_value true)) (symbol_at S m _ (a_value true)) _ _ (IsValue S true) _
+      step n _ (symbol_at S n _ (a_value true)) (symbol_at S m _ (a_value true)) _ _ (IsLocated (IsValue S true)) _
       (low2 (k ∷ []) (c ∷ [])) (value_rule S true n m le) (λ us v w h.
       done_rule _ (record { name = word_of k; value = v }) (record { name = word_of k'; value = w }) _
       (rw append-nil (row (k ∷ []) (c ∷ us) (word_is k (of_kind Name k p))
@@ -172,7 +172,7 @@ module _ {C F : Type 0} (S : Scalars C F) (n m : ℕ) (le : n ≤ m) where
   unfolding default
   default_rule = look_rule n (of Equals) _ _ _ _ (Optional (IsDefault S))
       (want_step n (of Equals) (sample Equals) _ _ _ refl (inl refl) (λ e e' p.
-      step n _ (symbol_at S n _ (a_value false)) (symbol_at S m _ (a_value false)) _ _ (IsValue S false) _
+      step n _ (symbol_at S n _ (a_value false)) (symbol_at S m _ (a_value false)) _ _ (IsLocated (IsValue S false)) _
       (low1 (e ∷ [])) (value_rule S false n m le) (λ us v w h.
       done_rule _ (Some v) (Some w) _
       (rw append-nil (row (e ∷ []) us (kind_is Equals e (of_kind Equals e p)) h)))))

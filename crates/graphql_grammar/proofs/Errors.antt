@@ -6,7 +6,7 @@ use Rattle.graphql_lexical.specs.Cutting.{Lexeme, EndsOnce}
 use Rattle.graphql_lexical.specs.laws.Alike.{Alike}
 use Rattle.graphql_grammar.specs.Tokens.{Text, IsSpelled}
 use Rattle.graphql_grammar.specs.Tree.{Scalars, Definition}
-use Rattle.graphql_grammar.specs.Grammar.{IsValue, IsDocument}
+use Rattle.graphql_grammar.specs.Grammar.{IsValue, IsDocument, IsLocated}
 use Rattle.graphql_grammar.specs.Faults.{AnyToken, NamedError, end, own, other, DocumentRefusedAt, ValueRefusedAt, TypeError, TypeRefusedAt}
 use Rattle.graphql_grammar.specs.device.Faults.{Fault, UnexpectedEndOfFile, UnexpectedToken, ScalarError, told, NamesFault, DocumentFaultAt, ValueFaultAt, TypeFault, TypeFaultAt}
 use Rattle.graphql_grammar.proofs.OneFault.{document_or_fault, one_document_refusal, document_refusal_alike}
@@ -42,7 +42,7 @@ module _ {F : Type 0} (at_end : F) (unexpected : Kind → Text → F) where
   module _ {C : Type 0} (S : Scalars C F) where
     pub value_error : (free : Bool) (ts before : List Lexeme) (t : Lexeme) (e : Fault F)
         → ValueFaultAt S free ts before t e → ValueRefusedAt at_end unexpected S free ts before t (error e)
-    value_error free ts before t e h = (h.0, named AnyToken S (IsValue S free) before t e h.1)
+    value_error free ts before t e h = (h.0, named AnyToken S (IsLocated (IsValue S free)) before t e h.1)
 
     pub document_error : (ts before : List Lexeme) (t : Lexeme) (e : Fault F) → DocumentFaultAt S ts before t e
         → DocumentRefusedAt at_end unexpected S ts before t (error e)

@@ -62,27 +62,27 @@ module _ {C F : Type 0} (S T : Scalars C F) (truths : S.of_bool ≡ T.of_bool) w
 
   mutual
     value : (free : Bool) (v : Value C) → Carries (IsValue S free v) (IsValue T free v)
-    value free (Null p) ts a h = h
-    value free (Scalar c p) ts a (inl (k, w, h, s, e)) = inl (k, w, h, s, (subst Also h a).0 c s e)
-    value free (Scalar c p) ts a (inr (inl h)) = inr (inl (h.0, h.1 ∙ ap (λ (f : Bool → C). f true) truths))
-    value free (Scalar c p) ts a (inr (inr h)) = inr (inr (h.0, h.1 ∙ ap (λ (f : Bool → C). f false) truths))
-    value free (Enum w p) ts a h = h
-    value free (Variable w p) ts a h = h
-    value free (ListOf vs p) ts a h = spanned (after (before (items free vs))) ts a h
-    value free (Object fs p) ts a h = spanned (after (before (fields free fs))) ts a h
+    value free Null ts a h = h
+    value free (Scalar c) ts a (inl (k, w, p, h, s, e)) = inl (k, w, p, h, s, (subst Also h a).0 c s e)
+    value free (Scalar c) ts a (inr (inl h)) = inr (inl (h.0, h.1 ∙ ap (λ (f : Bool → C). f true) truths))
+    value free (Scalar c) ts a (inr (inr h)) = inr (inr (h.0, h.1 ∙ ap (λ (f : Bool → C). f false) truths))
+    value free (Enum w) ts a h = h
+    value free (Variable w) ts a h = h
+    value free (ListOf vs) ts a h = after (before (items free vs)) ts a h
+    value free (Object fs) ts a h = after (before (fields free fs)) ts a h
 
     items : (free : Bool) (vs : Items C) → Carries (AreItems S free vs) (AreItems T free vs)
     items free no_items ts a h = h
-    items free (item v vs) ts a h = both (value free v) (items free vs) ts a h
+    items free (item v p vs) ts a h = both (spanned (value free v)) (items free vs) ts a h
 
     fields : (free : Bool) (fs : ObjectFields C) → Carries (AreFields S free fs) (AreFields T free fs)
     fields free no_fields ts a h = h
-    fields free (object_field w v fs) ts a h = after (after (both (value free v) (fields free fs))) ts a h
+    fields free (object_field w v p fs) ts a h = after (after (both (spanned (value free v)) (fields free fs))) ts a h
 
   -- ---- arguments, directives and variable definitions
 
   argument : (x : Argument C) → Carries (IsArgument S x) (IsArgument T x)
-  argument x = after (after (value true x.value))
+  argument x = after (after (spanned (value true x.value.item)))
 
   arguments : (x : Arguments C) → Carries (IsArguments S x) (IsArguments T x)
   arguments x = spanned (listed argument x.item)
@@ -93,8 +93,8 @@ module _ {C F : Type 0} (S T : Scalars C F) (truths : S.of_bool ≡ T.of_bool) w
   directives : (ds : Directives C) → Carries (IsDirectives S ds) (IsDirectives T ds)
   directives = optional (several directive)
 
-  default : (v : Value C) → Carries (IsDefault S v) (IsDefault T v)
-  default v = after (value false v)
+  default : (v : Located (Value C)) → Carries (IsDefault S v) (IsDefault T v)
+  default v = after (spanned (value false v.item))
 
   variable : (v : VariableDefinition C) → Carries (IsVariableDefinition S v) (IsVariableDefinition T v)
   variable v = after (after (after (both (optional default v.default) (directives v.directives))))

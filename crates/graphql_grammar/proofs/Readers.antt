@@ -3,10 +3,10 @@ use Rattle.std.proofs.Common.{ℕ, Bool, ◌≡◌, ◌+◌, [], List, ◌++◌,
 use Rattle.graphql_lexical.specs.Cutting.{Lexeme}
 use Rattle.graphql_grammar.specs.Tokens.{Located, span_of}
 use Rattle.graphql_grammar.specs.Tree.{Scalars, Value, TypeRef, Definition}
-use Rattle.graphql_grammar.specs.Grammar.{IsValue, IsType, IsDocument}
+use Rattle.graphql_grammar.specs.Grammar.{IsValue, IsType, IsDocument, IsLocated}
 use Rattle.graphql_grammar.specs.device.Reading.{Read, Took, Refused, Out, a_value, a_type}
 use Rattle.graphql_grammar.specs.device.Productions.{document, symbol_at, reads}
-use Rattle.graphql_grammar.proofs.Values.{value_rule}
+use Rattle.graphql_grammar.proofs.Values.{value_rule, placed}
 use Rattle.graphql_grammar.proofs.Found.{value_found}
 use Rattle.graphql_grammar.proofs.DocumentRules.{IsSpannedType, type_rule}
 use Rattle.graphql_grammar.proofs.DocumentFound.{type_found}
@@ -31,7 +31,7 @@ one_type ts a b h k = ap (λ (x : Located TypeRef). x.item) (one_tree (λ n. sym
     (type_reads (every_scalar (Unit {0}))) ts (record { item = a; span = span_of ts }) (record { item = b; span = span_of ts }) (h, refl) (k, refl))
 
 module _ {C F : Type 0} (S : Scalars C F) where
-  pub value_reads : (free : Bool) → Reads (λ n. symbol_at S n _ (a_value free)) (IsValue S free)
+  pub value_reads : (free : Bool) → Reads (λ n. symbol_at S n _ (a_value free)) (IsLocated (IsValue S free))
   value_reads free = record {
     keeps = value_rule S free;
     finds = λ n ts v le h. ap (symbol_at S n _ (a_value free)) (sym (append-nil ts))
@@ -46,7 +46,9 @@ module _ {C F : Type 0} (S : Scalars C F) where
   one_document = one_tree (λ n. reads S n document) (IsDocument S) document_reads
 
   pub one_value : (free : Bool) (ts : List Lexeme) (a b : Value C) → IsValue S free a ts → IsValue S free b ts → a ≡ b
-  one_value free = one_tree (λ n. symbol_at S n _ (a_value free)) (IsValue S free) (value_reads free)
+  one_value free ts a b h k = ap (λ (x : Located (Value C)). x.item)
+      (one_tree (λ n. symbol_at S n _ (a_value free)) (IsLocated (IsValue S free)) (value_reads free) ts
+      (placed a (span_of ts)) (placed b (span_of ts)) (h, refl) (k, refl))
 
   took_rest : {A : Type 0} → List Lexeme → Read F A → List Lexeme
   took_rest d (Took a rest) = rest
@@ -59,6 +61,7 @@ module _ {C F : Type 0} (S : Scalars C F) where
   unfolding took_rest
   value_front free us vs v w h k =
       let n : ℕ = length us + length vs in
-      ap (took_rest []) (sym (value_found S free n us vs v (omega arith) h)
+      ap (took_rest []) (sym (value_found S free n us vs (placed v (span_of us)) (omega arith) (h, refl))
       ∙ ap (symbol_at S n _ (a_value free)) (sym (append-nil (us ++ vs)))
-      ∙ value_found S free n (us ++ vs) [] w (rw (length-append us vs) (le_refl n)) k)
+      ∙ value_found S free n (us ++ vs) [] (placed w (span_of (us ++ vs)))
+      (rw (length-append us vs) (le_refl n)) (k, refl))

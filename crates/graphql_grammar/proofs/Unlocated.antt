@@ -10,8 +10,8 @@ use Rattle.graphql_lexical.specs.laws.Alike.{Alike}
 use Rattle.graphql_grammar.specs.Tokens.{Text, Located, Word, nowhere, span_of}
 use Rattle.graphql_grammar.specs.Tree.{Scalars, Value, Null, Scalar, Enum, Variable, ListOf, Object, Items, no_items, item, ObjectFields, no_fields, object_field, TypeRef, NamedType, ListType, NonNullType, Argument, Arguments, Directive, Directives, VariableDefinition, Variables, Selection, Field, FragmentSpread, InlineFragment, Selections, no_selections, selection, OptionalSelections, absent, present, Definition, Operation, Fragment}
 use Rattle.graphql_lexical.specs.Parts.{◌·◌}
-use Rattle.graphql_grammar.specs.Grammar.{IsLocated, Token, Is, IsVariable, IsValue, AreItems, AreFields, Each, Optional, Several, IsName, Says, Listed, IsType, IsArgument, IsArguments, IsDirective, IsDirectives, IsDefault, IsVariableDefinition, IsVariables, IsAlias, IsTypeCondition, IsFragmentName, IsSelection, IsOptionalSelectionSet, IsSelectionSet, AreSelections, IsDefinition, IsDocument}
-use Rattle.graphql_grammar.specs.Unlocated.{if_some, unlocated_word, unlocated_value, unlocated_items, unlocated_fields, unlocated_argument, unlocated_arguments, unlocated_directive, unlocated_directives, unlocated_variable, unlocated_variables, unlocated_selection, unlocated_selections, unlocated_optional, unlocated_definition}
+use Rattle.graphql_grammar.specs.Grammar.{IsLocated, Token, Is, IsVariable, IsValue, AreItems, AreFields, Each, Optional, Several, IsName, Says, Listed, IsType, IsArgument, IsArguments, IsDirective, IsDirectives, IsDefault, IsVariableDefinition, IsVariables, IsAlias, IsTypeCondition, IsFragmentName, IsSelection, IsOptionalSelectionSet, IsSelectionSet, AreSelections, IsDefinition, IsDocument, Over}
+use Rattle.graphql_grammar.specs.Unlocated.{if_some, unlocated_word, unlocated_value, unlocated_items, unlocated_fields, unlocated_argument, unlocated_arguments, unlocated_directive, unlocated_directives, unlocated_variable, unlocated_variables, unlocated_selection, unlocated_selections, unlocated_optional, unlocated_definition, unlocated}
 use Rattle.graphql_grammar.proofs.Sequences.{last_of, last_next}
 
 -- a token without its span
@@ -69,6 +69,10 @@ spanned : {A B A' B' : List Lexeme → Type 0} {p : Span} → Bares (A · B) (A'
     → Bares (λ ts. (A · B) ts × (p ≡ span_of ts)) (λ ts. (A' · B') ts × (nowhere ≡ span_of ts))
 spanned f ts h = (f ts h.0, sym (span_bare ts))
 
+located : {A : List Lexeme → Type 0} {p : Span} (B : List Lexeme → Type 0) → Bares A B
+    → Bares (Over p A) (Over nowhere B)
+located B f ts h = (f ts h.0, sym (span_bare ts))
+
 enclosed : {A B : List Lexeme → Type 0} (opening closing : Kind) → Bares A B
     → Bares (Is opening · A · Is closing) (Is opening · B · Is closing)
 enclosed opening closing f = both (is opening) (both f (is closing))
@@ -99,38 +103,36 @@ type (NonNullType x) ts h = (both (type x) (is ExclamationMark) ts h.0, h.1)
 module _ {C F : Type 0} (S : Scalars C F) where
   -- ---- values
 
-  variable_name : (w : Text) (p : Span) → Bares (λ ts. IsVariable w p ts) (λ ts. IsVariable w nowhere ts)
-  variable_name w p = spanned (both (is Dollar) (says w))
+  variable_name : (w : Text) → Bares (IsVariable w) (IsVariable w)
+  variable_name w = both (is Dollar) (says w)
 
   mutual
-    value : (free : Bool) (v : Value C) → Bares (IsValue S free v) (IsValue S free (unlocated_value v))
-    value free (Null p) ts h = token Name _ p ts h
-    value free (Scalar c p) ts (inl (k, w, h, s, e)) = inl (k, w, token k w p ts h, s, e)
-    value free (Scalar c p) ts (inr (inl h)) = inr (inl (token Name _ p ts h.0, h.1))
-    value free (Scalar c p) ts (inr (inr h)) = inr (inr (token Name _ p ts h.0, h.1))
-    value free (Enum w p) ts h = (token Name w p ts h.0, h.1)
-    value free (Variable w p) ts h = (h.0, variable_name w p ts h.1)
-    value free (ListOf vs p) ts h = spanned (enclosed BracketOpen BracketClose (items free vs)) ts h
-    value free (Object fs p) ts h = spanned (enclosed CurlyOpen CurlyClose (fields free fs)) ts h
+    pub value_bare : (free : Bool) (v : Value C) → Bares (IsValue S free v) (IsValue S free (unlocated_value v))
+    value_bare free Null ts h = says _ ts h
+    value_bare free (Scalar c) ts (inl (k, w, p, h, s, e)) = inl (k, w, nowhere, token k w p ts h, s, e)
+    value_bare free (Scalar c) ts (inr (inl h)) = inr (inl (says _ ts h.0, h.1))
+    value_bare free (Scalar c) ts (inr (inr h)) = inr (inr (says _ ts h.0, h.1))
+    value_bare free (Enum w) ts h = (says w ts h.0, h.1)
+    value_bare free (Variable w) ts h = (h.0, variable_name w ts h.1)
+    value_bare free (ListOf vs) ts h = enclosed BracketOpen BracketClose (items free vs) ts h
+    value_bare free (Object fs) ts h = enclosed CurlyOpen CurlyClose (fields free fs) ts h
 
     items : (free : Bool) (vs : Items C) → Bares (AreItems S free vs) (AreItems S free (unlocated_items vs))
     items free no_items ts h = ap all_bare h
-    items free (item v vs) ts h = both (value free v) (items free vs) ts h
+    items free (item v p vs) ts h =
+        both (located (IsValue S free (unlocated_value v)) (value_bare free v)) (items free vs) ts h
 
     fields : (free : Bool) (fs : ObjectFields C)
         → Bares (AreFields S free fs) (AreFields S free (unlocated_fields fs))
     fields free no_fields ts h = ap all_bare h
-    fields free (object_field w v fs) ts h =
-        both (word w) (both (is Colon) (both (value free v) (fields free fs))) ts h
-
-  pub value_bare : (free : Bool) (ts : List Lexeme) (v : Value C) → IsValue S free v ts
-      → IsValue S free (unlocated_value v) (all_bare ts)
-  value_bare free ts v = value free v ts
+    fields free (object_field w v p fs) ts h =
+        both (word w) (both (is Colon) (both (located (IsValue S free (unlocated_value v)) (value_bare free v))
+        (fields free fs))) ts h
 
   -- ---- arguments, directives and variable definitions
 
   argument : (a : Argument C) → Bares (IsArgument S a) (IsArgument S (unlocated_argument a))
-  argument a = both (word a.name) (both (is Colon) (value true a.value))
+  argument a = both (word a.name) (both (is Colon) (located (IsValue S true (unlocated_value a.value.item)) (value_bare true a.value.item)))
 
   arguments : (a : Arguments C) → Bares (IsArguments S a) (IsArguments S (unlocated_arguments a))
   arguments a ts h = (listed unlocated_argument argument a.item ts h.0, sym (span_bare ts))
@@ -141,14 +143,14 @@ module _ {C F : Type 0} (S : Scalars C F) where
   directives : (ds : Directives C) → Bares (IsDirectives S ds) (IsDirectives S (unlocated_directives ds))
   directives = optional (map unlocated_directive) (several unlocated_directive directive)
 
-  default : (v : Value C) → Bares (IsDefault S v) (IsDefault S (unlocated_value v))
-  default v = both (is Equals) (value false v)
+  default : (v : Located (Value C)) → Bares (IsDefault S v) (IsDefault S (unlocated unlocated_value v))
+  default v = both (is Equals) (located (IsValue S false (unlocated_value v.item)) (value_bare false v.item))
 
   variable : (v : VariableDefinition C)
       → Bares (IsVariableDefinition S v) (IsVariableDefinition S (unlocated_variable v))
-  variable v = both (variable_name v.name.item v.name.span) (both (is Colon)
+  variable v = both (spanned (variable_name v.name.item)) (both (is Colon)
       (both (λ ts h. (type v.of_type.item ts h.0, sym (span_bare ts)))
-      (both (optional unlocated_value default v.default) (directives v.directives))))
+      (both (optional (unlocated unlocated_value) default v.default) (directives v.directives))))
 
   variables : (a : Variables C) → Bares (IsVariables S a) (IsVariables S (unlocated_variables a))
   variables a ts h = (listed unlocated_variable variable a.item ts h.0, sym (span_bare ts))

@@ -3,24 +3,29 @@ use Rattle.std.proofs.Common.{ℕ, zero, suc, Bool, true, false, ◌≡◌, ◌�
 use Rattle.graphql_lexical.specs.declared.kind.Kind.TheVariants.{Name, Dollar, BracketOpen, BracketClose, CurlyOpen, CurlyClose, Colon}
 use Rattle.graphql_lexical.specs.Cutting.{Lexeme}
 use Rattle.graphql_lexical.specs.laws.Alike.{Alike}
-use Rattle.graphql_grammar.specs.Tokens.{Word, word_of, Text, over}
+use Rattle.graphql_grammar.specs.Tokens.{Word, word_of, Text, over, Located}
 use Rattle.graphql_grammar.specs.Samples.{sample, token_of}
 use Rattle.graphql_grammar.specs.device.Reading.{passes, of, Took, Refused, refuse, want, literal, read_as, scalar_token, a_value}
 use Rattle.graphql_grammar.specs.device.Productions.{by_name, variable_start, variable, list, key_and_value, object, value, symbol_at, reads}
 use Rattle.graphql_grammar.specs.Tree.{Scalars, Value, Null, Scalar, Enum, Variable, ListOf, Object, no_items, no_fields, items_of, fields_of}
 use Rattle.graphql_lexical.specs.Parts.{◌·◌}
-use Rattle.graphql_grammar.specs.Grammar.{IsScalarKind, Token, Is, IsName, IsValue, AreItems, AreFields, Each}
-use Rattle.graphql_grammar.proofs.Sequences.{row, row_back, row_right, enclosed, over_enclosed, kind_is, token_is, word_is, says_is, one_takes, is_takes, front_takes}
+use Rattle.graphql_grammar.specs.Grammar.{IsScalarKind, Is, IsName, IsValue, AreItems, AreFields, Each, IsLocated, Says}
+use Rattle.graphql_grammar.proofs.Sequences.{row, row_back, row_right, enclosed, over_enclosed, kind_is, word_is, says_is, one_takes, is_takes, front_takes}
 use Rattle.graphql_grammar.specs.device.Faults.{ScalarError}
 use Rattle.graphql_grammar.proofs.Rules.{SameHead, less, Agrees, Fails, Meets, Rule, Some_of, done_rule, seq_rule, turn, weaken, less_below, IsOpener, More}
 use Rattle.graphql_grammar.proofs.TokenRules.{refuse_rule, want_rule, on_rule}
 use Rattle.graphql_grammar.proofs.PartRules.{many_rule, step, Closed}
 use Rattle.graphql_grammar.proofs.TokenTests.{of_kind, both, is_scalar_kind, text_yes, text_no}
+use Rattle.graphql_lexical.specs.Place.{Span}
+
+-- an item from one place to another
+abbrev pub placed : {A : Type 0} → A → Span → Located A
+placed x p = record { item = x; span = p }
 
 -- a literal
 module _ {C F : Type 0} (S : Scalars C F) where
   pub literal_ok : (t : Lexeme) (ts : List Lexeme) (c : C) → passes scalar_token t ≡ true → S.read t.kind t.text ≡ Ok c
-      → literal S (t ∷ ts) ≡ Took (Scalar c t.span) ts
+      → literal S (t ∷ ts) ≡ Took (placed (Scalar c) t.span) ts
   unfolding literal
   literal_ok t ts c e h = ap₂ (λ b z. cond b (read_as t ts z) (refuse (t ∷ ts))) e h
 
@@ -54,7 +59,7 @@ module _ {C F : Type 0} (S : Scalars C F) where
       → Agrees (t ∷ []) ts (literal S)
   ok_agrees t ts c e h [] rest' p q = absurd p
   ok_agrees t ts c e h (u ∷ []) rest' p q =
-      (Scalar c u.span, literal_ok u rest' c (pass_alike t u p.0 ∙ e) (read_alike t u p.0 ∙ h))
+      (placed (Scalar c) u.span, literal_ok u rest' c (pass_alike t u p.0 ∙ e) (read_alike t u p.0 ∙ h))
   ok_agrees t ts c e h (u ∷ v ∷ us) rest' p q = absurd p.1
 
   bad_fails : (t : Lexeme) (ts : List Lexeme) (x : F) → passes scalar_token t ≡ true → S.read t.kind t.text ≡ Err x
@@ -63,9 +68,9 @@ module _ {C F : Type 0} (S : Scalars C F) where
   bad_fails t ts x e h [] (u ∷ rest') p q = literal_bad u rest' x (pass_alike t u q ∙ e) (read_alike t u q ∙ h)
   bad_fails t ts x e h (u ∷ us) rest' p q = absurd p
 
-  module _ (n : ℕ) (Q : Value C → List Lexeme → Type 0) (some : Some_of Q)
+  module _ (n : ℕ) (Q : Located (Value C) → List Lexeme → Type 0) (some : Some_of Q)
       (openers : (w : Lexeme) → IsOpener w → More Q [] w)
-      (h : (t : Lexeme) (c : C) → IsScalarKind t.kind → S.read t.kind t.text ≡ Ok c → Q (Scalar c t.span) (t ∷ []))
+      (h : (t : Lexeme) (c : C) → IsScalarKind t.kind → S.read t.kind t.text ≡ Ok c → Q (placed (Scalar c) t.span) (t ∷ []))
     where
       literal_read : (t : Lexeme) (ts : List Lexeme) → passes scalar_token t ≡ true → (z : Result C F)
           → S.read t.kind t.text ≡ z → Meets n Q (literal S) (t ∷ ts) (literal S (t ∷ ts))
@@ -91,40 +96,47 @@ module _ {C F : Type 0} (S : Scalars C F) where
 
 -- Values
 module _ {C F : Type 0} (S : Scalars C F) (free : Bool) where
-  pub value_takes : (ts : List Lexeme) (v : Value C) → IsValue S free v ts → 0 < length ts
-  value_takes ts (Null p) h = one_takes ts _ h
-  value_takes ts (Scalar c p) (inl h) = one_takes ts _ h.2
-  value_takes ts (Scalar c p) (inr (inl h)) = one_takes ts _ h.0
-  value_takes ts (Scalar c p) (inr (inr h)) = one_takes ts _ h.0
-  value_takes ts (Enum w p) h = one_takes ts _ h.0
-  value_takes ts (Variable w p) h = front_takes (is_takes Dollar) ts h.1.0
-  value_takes ts (ListOf vs p) h = front_takes (is_takes BracketOpen) ts h.0
-  value_takes ts (Object fs p) h = front_takes (is_takes CurlyOpen) ts h.0
+  item_takes : (ts : List Lexeme) (v : Value C) → IsValue S free v ts → 0 < length ts
+  item_takes ts Null h = one_takes ts _ h.1
+  item_takes ts (Scalar c) (inl h) = one_takes ts _ h.3
+  item_takes ts (Scalar c) (inr (inl h)) = one_takes ts _ h.0.1
+  item_takes ts (Scalar c) (inr (inr h)) = one_takes ts _ h.0.1
+  item_takes ts (Enum w) h = one_takes ts _ h.0.1
+  item_takes ts (Variable w) h = front_takes (is_takes Dollar) ts h.1
+  item_takes ts (ListOf vs) h = front_takes (is_takes BracketOpen) ts h
+  item_takes ts (Object fs) h = front_takes (is_takes CurlyOpen) ts h
+
+  pub value_takes : (ts : List Lexeme) (v : Located (Value C)) → IsLocated (IsValue S free) v ts → 0 < length ts
+  value_takes ts v h = item_takes ts v.item h.0
 
   -- one field of an object, as it is read
-  abbrev pub IsField : Word × Value C → List Lexeme → Type 0
-  IsField x ts = (IsName x.0 · Is Colon · IsValue S free x.1) ts
+  abbrev pub IsField : Word × Located (Value C) → List Lexeme → Type 0
+  IsField x ts = (IsName x.0 · Is Colon · IsLocated (IsValue S free) x.1) ts
 
-  items_are : (ts : List Lexeme) (vs : List (Value C)) → Each (IsValue S free) vs ts → AreItems S free (items_of vs) ts
+  items_are : (ts : List Lexeme) (vs : List (Located (Value C))) → Each (IsLocated (IsValue S free)) vs ts
+      → AreItems S free (items_of vs) ts
   items_are ts [] h = h
   items_are ts (v ∷ vs) h = row_back (λ us k. items_are us vs k) ts h
 
-  fields_are : (ts : List Lexeme) (xs : List (Word × Value C)) → Each IsField xs ts → AreFields S free (fields_of xs) ts
+  fields_are : (ts : List Lexeme) (xs : List (Word × Located (Value C))) → Each IsField xs ts
+      → AreFields S free (fields_of xs) ts
   fields_are ts [] h = h
   fields_are ts (x ∷ xs) h =
       row_back row_right ts (row_right ts (row_back (λ us k. fields_are us xs k) ts h))
 
-  list_is : (t : Lexeme) (us : List Lexeme) (r : List (Value C) × Lexeme) → passes (of BracketOpen) t ≡ true
-      → Closed (of BracketClose) (IsValue S free) r us → IsValue S free (ListOf (items_of r.0) (over t r.1)) (t ∷ us)
-  list_is t us r p c = subst (λ l. IsValue S free (ListOf (items_of r.0) (over t r.1)) (t ∷ l)) (sym c.whole) (
+  list_is : (t : Lexeme) (us : List Lexeme) (r : List (Located (Value C)) × Lexeme) → passes (of BracketOpen) t ≡ true
+      → Closed (of BracketClose) (IsLocated (IsValue S free)) r us
+      → IsLocated (IsValue S free) (placed (ListOf (items_of r.0)) (over t r.1)) (t ∷ us)
+  list_is t us r p c = subst (λ l. IsLocated (IsValue S free) (placed (ListOf (items_of r.0)) (over t r.1)) (t ∷ l)) (sym c.whole) (
     enclosed BracketOpen BracketClose t r.1 c.inner (of_kind BracketOpen t p) (of_kind BracketClose r.1 c.closes)
         (items_are c.inner r.0 c.each),
     over_enclosed t r.1 c.inner,
   )
 
-  object_is : (t : Lexeme) (us : List Lexeme) (r : List (Word × Value C) × Lexeme) → passes (of CurlyOpen) t ≡ true
-      → Closed (of CurlyClose) IsField r us → IsValue S free (Object (fields_of r.0) (over t r.1)) (t ∷ us)
-  object_is t us r p c = subst (λ l. IsValue S free (Object (fields_of r.0) (over t r.1)) (t ∷ l)) (sym c.whole) (
+  object_is : (t : Lexeme) (us : List Lexeme) (r : List (Word × Located (Value C)) × Lexeme) → passes (of CurlyOpen) t ≡ true
+      → Closed (of CurlyClose) IsField r us
+      → IsLocated (IsValue S free) (placed (Object (fields_of r.0)) (over t r.1)) (t ∷ us)
+  object_is t us r p c = subst (λ l. IsLocated (IsValue S free) (placed (Object (fields_of r.0)) (over t r.1)) (t ∷ l)) (sym c.whole) (
     enclosed CurlyOpen CurlyClose t r.1 c.inner (of_kind CurlyOpen t p) (of_kind CurlyClose r.1 c.closes)
         (fields_are c.inner r.0 c.each),
     over_enclosed t r.1 c.inner,
@@ -133,42 +145,46 @@ module _ {C F : Type 0} (S : Scalars C F) (free : Bool) where
   null_token : Lexeme
   null_token = token_of Name (codes "null")
 
-  some_value : Some_of (IsValue S free)
+  some_value : Some_of (IsLocated (IsValue S free))
   unfolding null_token
-  some_value = (null_token ∷ [], Null (null_token.span), refl, (inr (inl (refl, refl)), tt))
+  some_value = (null_token ∷ [], placed Null null_token.span, ((null_token.span, refl), refl), (inr (inl (refl, refl)), tt))
 
-  value_opens : (w : Lexeme) → IsOpener w → More (IsValue S free) [] w
+  value_opens : (w : Lexeme) → IsOpener w → More (IsLocated (IsValue S free)) [] w
   value_opens w (inl e) = (
     sample BracketClose ∷ [],
-    ListOf no_items (over w (sample BracketClose)),
+    placed (ListOf no_items) (over w (sample BracketClose)),
     (enclosed BracketOpen BracketClose w (sample BracketClose) [] e refl refl, refl),
     (inl refl, tt),
   )
   value_opens w (inr (inl e)) = (
     sample CurlyClose ∷ [],
-    Object no_fields (over w (sample CurlyClose)),
+    placed (Object no_fields) (over w (sample CurlyClose)),
     (enclosed CurlyOpen CurlyClose w (sample CurlyClose) [] e refl refl, refl),
     (inl refl, tt),
   )
-  value_opens w (inr (inr e)) = ([], Null w.span, token_is Name (codes "null") w e.0 e.1, tt)
+  value_opens w (inr (inr e)) = ([], placed Null w.span, (says_is (codes "null") w e.0 e.1, refl), tt)
 
-  name_is : (t : Lexeme) → passes (of Name) t ≡ true → IsValue S free (by_name S t.text t.span) (t ∷ [])
-  name_is t p = cases (bytes_eq t.text (codes "true")) (bytes_eq t.text (codes "false"))
-      (bytes_eq t.text (codes "null")) refl refl refl
+  name_is : (t : Lexeme) → passes (of Name) t ≡ true
+      → IsLocated (IsValue S free) (placed (by_name S t.text) t.span) (t ∷ [])
+  name_is t p = (
+    cases (bytes_eq t.text (codes "true")) (bytes_eq t.text (codes "false"))
+        (bytes_eq t.text (codes "null")) refl refl refl,
+    refl,
+  )
     where
-      token : (w : Text) → t.text ≡ w → Token Name w t.span (t ∷ [])
-      token w e = token_is Name w t (of_kind Name t p) e
+      token : (w : Text) → t.text ≡ w → Says w (t ∷ [])
+      token w e = says_is w t (of_kind Name t p) e
 
       cases : (a b c : Bool) → bytes_eq t.text (codes "true") ≡ a → bytes_eq t.text (codes "false") ≡ b
           → bytes_eq t.text (codes "null") ≡ c
-          → IsValue S free (if a then Scalar (S.of_bool true) t.span else if b
-          then Scalar (S.of_bool false) t.span else if c then Null t.span else Enum t.text t.span) (t ∷ [])
+          → IsValue S free (if a then Scalar (S.of_bool true) else if b
+          then Scalar (S.of_bool false) else if c then Null else Enum t.text) (t ∷ [])
       cases true b c x y z = inr (inl (token _ (text_yes _ _ x), refl))
       cases false true c x y z = inr (inr (token _ (text_yes _ _ y), refl))
       cases false false true x y z = token _ (text_yes _ _ z)
       cases false false false x y z = (token _ refl, (text_no _ _ x, text_no _ _ y, text_no _ _ z))
 
-  field_by : (n m : ℕ) → Rule n (symbol_at S n _ (a_value free)) (symbol_at S m _ (a_value free)) (IsValue S free)
+  field_by : (n m : ℕ) → Rule n (symbol_at S n _ (a_value free)) (symbol_at S m _ (a_value free)) (IsLocated (IsValue S free))
       → Rule n (reads S n (key_and_value free)) (reads S m (key_and_value free)) IsField
   unfolding key_and_value
   field_by n m r =
@@ -177,54 +193,48 @@ module _ {C F : Type 0} (S : Scalars C F) (free : Bool) where
       seq_rule (less n (k ∷ [])) (want (of Colon)) (want (of Colon)) _ _ _
       (want_rule F (less n (k ∷ [])) (of Colon) _ (sample Colon) refl (inl refl) (λ c q c'.
       seq_rule _ (symbol_at S n _ (a_value free)) (symbol_at S m _ (a_value free)) _ _ _
-      (weaken n _ _ _ (IsValue S free) _ (omega
+      (weaken n _ _ _ (IsLocated (IsValue S free)) _ (omega
       (arith, less_below n (k ∷ []), less_below (less n (k ∷ [])) (c ∷ []))) (λ us v h v'.
       done_rule _ (word_of k, v) (word_of k', v') _
       (rw append-nil (row (k ∷ []) (c ∷ us) (word_is k (of_kind Name k p))
       (row (c ∷ []) us (kind_is Colon c (of_kind Colon c q)) h)))) r)))))
 
-  pub field_takes : (ts : List Lexeme) (x : Word × Value C) → IsField x ts → 0 < length ts
+  pub field_takes : (ts : List Lexeme) (x : Word × Located (Value C)) → IsField x ts → 0 < length ts
   field_takes ts x h = front_takes (λ us w. one_takes us _ w) ts h
 
   pub value_rule : (n m : ℕ) → n ≤ m
-      → Rule n (symbol_at S n _ (a_value free)) (symbol_at S m _ (a_value free)) (IsValue S free)
+      → Rule n (symbol_at S n _ (a_value free)) (symbol_at S m _ (a_value free)) (IsLocated (IsValue S free))
   unfolding symbol_at value list object variable
   value_rule zero m le = record { at = λ ts. (zero-le, [], ts, refl, some_value) }
   value_rule (suc n) zero le = absurd (omega arith)
   value_rule (suc n) (suc m) le =
-      on_rule (suc n) (of BracketOpen) _ _ _ _ (IsValue S free)
+      on_rule (suc n) (of BracketOpen) _ _ _ _ (IsLocated (IsValue S free))
       (λ t u p. seq_rule n _ _ _ _ _ (weaken n n _ _ _ _ (le_refl n)
-      (λ us r h r'. done_rule _ (ListOf (items_of r.0) (over t r.1)) (ListOf (items_of r'.0) (over u r'.1)) _
+      (λ us r h r'. done_rule _ (placed (ListOf (items_of r.0)) (over t r.1)) (placed (ListOf (items_of r'.0)) (over u r'.1)) _
       (rw append-nil (list_is t us r p h)))
-      (many_rule (of BracketClose) (sample BracketClose) refl (inl refl) (IsValue S free) value_takes _ _ n m n
+      (many_rule (of BracketClose) (sample BracketClose) refl (inl refl) (IsLocated (IsValue S free)) value_takes _ _ n m n
       (omega arith) (le_refl n) (value_rule n m (omega arith)))))
-      (on_rule (suc n) (of CurlyOpen) _ _ _ _ (IsValue S free)
+      (on_rule (suc n) (of CurlyOpen) _ _ _ _ (IsLocated (IsValue S free))
       (λ t u p. seq_rule n _ _ _ _ _ (weaken n n _ _ _ _ (le_refl n)
-      (λ us r h r'. done_rule _ (Object (fields_of r.0) (over t r.1)) (Object (fields_of r'.0) (over u r'.1)) _
+      (λ us r h r'. done_rule _ (placed (Object (fields_of r.0)) (over t r.1)) (placed (Object (fields_of r'.0)) (over u r'.1)) _
       (rw append-nil (object_is t us r p h)))
       (many_rule (of CurlyClose) (sample CurlyClose) refl (inl refl) IsField field_takes _ _ n m n (omega arith)
       (le_refl n) (field_by n m (value_rule n m (omega arith))))))
-      (on_rule (suc n) (variable_start free) _ _ _ _ (IsValue S free)
+      (on_rule (suc n) (variable_start free) _ _ _ _ (IsLocated (IsValue S free))
       (λ t u p. seq_rule n _ _ _ _ _ (want_rule F n (of Name) _ (sample Name) refl (inl refl)
-      (λ w q w'. done_rule _ (Variable w.text (over t w)) (Variable w'.text (over u w')) _ (
-        (both _ _ p).0,
+      (λ w q w'. done_rule _ (placed (Variable w.text) (over t w)) (placed (Variable w'.text) (over u w')) _ (
         (
+          (both _ _ p).0,
           row (t ∷ []) (w ∷ []) (kind_is Dollar t (of_kind Dollar t (both _ _ p).1))
               (says_is w.text w (of_kind Name w q) refl),
-          refl,
         ),
-      ))))
-      (on_rule (suc n) (of Name) _ _ _ _ (IsValue S free)
-      (λ t u p. done_rule _ (by_name S t.text t.span) (by_name S u.text u.span) _ (name_is t p))
-      (step (suc n) (suc n) _ _ _ _ (IsValue S free) _ (le_refl (suc n))
-      (literal_rule S (suc n) (IsValue S free) some_value value_opens
-      (λ t c k h. inl (
-        t.kind,
-        t.text,
         refl,
-        k,
-        h,
-      )))
+      ))))
+      (on_rule (suc n) (of Name) _ _ _ _ (IsLocated (IsValue S free))
+      (λ t u p. done_rule _ (placed (by_name S t.text) t.span) (placed (by_name S u.text) u.span) _ (name_is t p))
+      (step (suc n) (suc n) _ _ _ _ (IsLocated (IsValue S free)) _ (le_refl (suc n))
+      (literal_rule S (suc n) (IsLocated (IsValue S free)) some_value value_opens
+      (λ t c k h. (inl (t.kind, t.text, t.span, refl, k, h), refl)))
       (λ us v w h. done_rule _ v w _ (rw append-nil h))))))
 
   pub field_rule : (n m : ℕ) → n ≤ m → Rule n (reads S n (key_and_value free)) (reads S m (key_and_value free)) IsField

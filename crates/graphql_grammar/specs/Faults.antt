@@ -13,7 +13,7 @@ use Rattle.graphql_lexical.specs.Cutting.{Lexeme}
 use Rattle.graphql_lexical.specs.laws.Alike.{Alike}
 use Rattle.graphql_grammar.specs.Tokens.{Text, IsSpelled}
 use Rattle.graphql_grammar.specs.Tree.{Scalars}
-use Rattle.graphql_grammar.specs.Grammar.{Token, IsScalarKind, IsValue, IsType, IsDocument}
+use Rattle.graphql_grammar.specs.Grammar.{Token, IsScalarKind, IsValue, IsType, IsDocument, IsLocated}
 
 abbrev pub AnyToken : Lexeme → Type 0
 AnyToken t = Unit {0}
@@ -52,7 +52,7 @@ module _ {F : Type 0} (at_end : F) (unexpected : Kind → Text → F) where
   DocumentRefusedAt S ts before t e = AtFault IsSpelled (IsDocument S) ts before t × NamedError IsSpelled S (IsDocument S) before t e
 
   abbrev pub ValueRefusedAt : {C : Type 0} → Scalars C F → Bool → List Lexeme → List Lexeme → Lexeme → F → Type 0
-  ValueRefusedAt S free ts before t e = AtFault AnyToken (IsValue S free) ts before t × NamedError AnyToken S (IsValue S free) before t e
+  ValueRefusedAt S free ts before t e = AtFault AnyToken (IsLocated (IsValue S free)) ts before t × NamedError AnyToken S (IsLocated (IsValue S free)) before t e
 
   -- The error of a token that no type has there.
   abbrev pub TypeError : Lexeme → F → Type 0

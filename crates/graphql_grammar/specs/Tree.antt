@@ -12,32 +12,33 @@ pub record Scalars (C F : Type 0) : Type 0 where
   pub read : Kind → Text → Result C F
   pub of_bool : Bool → C
 
--- Each value ends in its span. The fields of an object are in their order, repeated keys kept.
+-- An input value, without a place of its own. The fields of an object are in their order, repeated keys kept.
 mutual
   pub data Value (C : Type 0) : Type 0 where
-    Null : Span → Value C
-    Scalar : C → Span → Value C
-    Enum : Text → Span → Value C
-    Variable : Text → Span → Value C
-    ListOf : Items C → Span → Value C
-    Object : ObjectFields C → Span → Value C
+    Null : Value C
+    Scalar : C → Value C
+    Enum : Text → Value C
+    Variable : Text → Value C
+    ListOf : Items C → Value C
+    Object : ObjectFields C → Value C
 
+  -- a value, its span, and the items after it
   pub data Items (C : Type 0) : Type 0 where
     no_items : Items C
-    item : Value C → Items C → Items C
+    item : Value C → Span → Items C → Items C
 
-  -- a key, its value, and the fields after it
+  -- a key, its value, the value's span, and the fields after it
   pub data ObjectFields (C : Type 0) : Type 0 where
     no_fields : ObjectFields C
-    object_field : Word → Value C → ObjectFields C → ObjectFields C
+    object_field : Word → Value C → Span → ObjectFields C → ObjectFields C
 
-abbrev pub items_of : {C : Type 0} → List (Value C) → Items C
+abbrev pub items_of : {C : Type 0} → List (Located (Value C)) → Items C
 items_of [] = no_items
-items_of (v ∷ vs) = item v (items_of vs)
+items_of (v ∷ vs) = item v.item v.span (items_of vs)
 
-abbrev pub fields_of : {C : Type 0} → List (Word × Value C) → ObjectFields C
+abbrev pub fields_of : {C : Type 0} → List (Word × Located (Value C)) → ObjectFields C
 fields_of [] = no_fields
-fields_of (x ∷ xs) = object_field x.0 x.1 (fields_of xs)
+fields_of (x ∷ xs) = object_field x.0 x.1.item x.1.span (fields_of xs)
 
 -- A list type can have a size, which no document writes.
 pub data TypeRef : Type 0 where
@@ -47,7 +48,7 @@ pub data TypeRef : Type 0 where
 
 pub record Argument (C : Type 0) : Type 0 where
   pub name : Word
-  pub value : Value C
+  pub value : Located (Value C)
 
 abbrev pub Arguments : Type 0 → Type 0
 Arguments C = Located (List (Argument C))
@@ -64,7 +65,7 @@ Directives C = Option (List (Located (Directive C)))
 pub record VariableDefinition (C : Type 0) : Type 0 where
   pub name : Word
   pub of_type : Located TypeRef
-  pub default : Option (Value C)
+  pub default : Option (Located (Value C))
   pub directives : Directives C
 
 abbrev pub Variables : Type 0 → Type 0

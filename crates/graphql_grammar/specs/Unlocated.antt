@@ -15,24 +15,24 @@ unlocated_word = unlocated (λ text. text)
 
 abbrev mutual
   pub unlocated_value : {C : Type 0} → Value C → Value C
-  unlocated_value (Null span) = Null nowhere
-  unlocated_value (Scalar content span) = Scalar content nowhere
-  unlocated_value (Enum name span) = Enum name nowhere
-  unlocated_value (Variable name span) = Variable name nowhere
-  unlocated_value (ListOf values span) = ListOf (unlocated_items values) nowhere
-  unlocated_value (Object fields span) = Object (unlocated_fields fields) nowhere
+  unlocated_value Null = Null
+  unlocated_value (Scalar content) = Scalar content
+  unlocated_value (Enum name) = Enum name
+  unlocated_value (Variable name) = Variable name
+  unlocated_value (ListOf values) = ListOf (unlocated_items values)
+  unlocated_value (Object fields) = Object (unlocated_fields fields)
 
   pub unlocated_items : {C : Type 0} → Items C → Items C
   unlocated_items no_items = no_items
-  unlocated_items (item value values) = item (unlocated_value value) (unlocated_items values)
+  unlocated_items (item value span values) = item (unlocated_value value) nowhere (unlocated_items values)
 
   pub unlocated_fields : {C : Type 0} → ObjectFields C → ObjectFields C
   unlocated_fields no_fields = no_fields
-  unlocated_fields (object_field name value fields) = object_field (unlocated_word name) (unlocated_value value) (unlocated_fields fields)
+  unlocated_fields (object_field name value span fields) = object_field (unlocated_word name) (unlocated_value value) nowhere (unlocated_fields fields)
 
 module _ {C : Type 0} where
   abbrev pub unlocated_argument : Argument C → Argument C
-  unlocated_argument a = record { name = unlocated_word a.name; value = unlocated_value a.value }
+  unlocated_argument a = record { name = unlocated_word a.name; value = unlocated unlocated_value a.value }
 
   abbrev pub unlocated_arguments : Arguments C → Arguments C
   unlocated_arguments = unlocated (map unlocated_argument)
@@ -47,7 +47,7 @@ module _ {C : Type 0} where
   unlocated_variable v = record {
     name = unlocated_word v.name;
     of_type = unlocated (λ type. type) v.of_type;
-    default = if_some unlocated_value v.default;
+    default = if_some (unlocated unlocated_value) v.default;
     directives = unlocated_directives v.directives;
   }
 

@@ -111,7 +111,7 @@ pub fn document_is_read<C, F>()
 
 /// The reading of a value gives the one prefix that is a value, or refuses where the definitions do.
 pub fn value_is_read<C, F>()
-    ensures { (S : Scalars C F) (free : Bool) (ts : List Lexeme) → EndsOnce ts → GivesFront (IsValue S free) (ValueFaultAt S free ts) ts (fully (λ n. symbol_at S n _ (a_value free)) ts) }
+    ensures { (S : Scalars C F) (free : Bool) (ts : List Lexeme) → EndsOnce ts → GivesFront (IsLocated (IsValue S free)) (ValueFaultAt S free ts) ts (fully (λ n. symbol_at S n _ (a_value free)) ts) }
 {}
 
 /// The reading of a type gives the longest prefix that is a type, with its span, or refuses where the definitions do.

@@ -5,7 +5,7 @@ use Rattle.graphql_grammar.specs.Tokens.{Located, Word}
 use Rattle.graphql_grammar.specs.Tree as tree
 use Rattle.graphql_grammar.specs.Tree.{Value, Items, no_items, item, ObjectFields, no_fields, object_field, Argument, Arguments, Directive, Directives, VariableDefinition, Variables, Selection, Selections, no_selections, selection, OptionalSelections, absent, present, Definition}
 use Rattle.graphql_nodes.specs.declared.kind.NodeKind.{NodeKind}
-use Rattle.graphql_nodes.specs.Nodes.{Node, Label, over, if_present, each, value_nodes, items_nodes, fields_nodes, argument_nodes, arguments_nodes, directive_nodes, directives_nodes, variable_nodes, variables_nodes, alias_nodes, selection_nodes, optional_nodes, selections_nodes, definition_nodes, document_nodes}
+use Rattle.graphql_nodes.specs.Nodes.{Node, Label, over, if_present, each, value_nodes, items_nodes, fields_nodes, argument_nodes, arguments_nodes, directive_nodes, directives_nodes, variable_nodes, variables_nodes, alias_nodes, selection_nodes, optional_nodes, selections_nodes, definition_nodes, document_nodes, nodes_at}
 use Rattle.graphql_nodes.proofs.Splits.{node_over}
 use Rattle.graphql_nodes.specs.Forests.{IsForest, no_node, node_first}
 
@@ -36,24 +36,27 @@ module _ {C : Type 0} where
   each_forest nodes f (x ∷ xs) = join (nodes x) (each nodes xs) (f x) (each_forest nodes f xs)
 
   mutual
-    unfolding value_nodes
+    unfolding nodes_at
 
-    value_forest : (v : Value C) → IsForest (value_nodes v)
-    value_forest (tree.Null p) = over_forest _ _ _ [] no_node
-    value_forest (tree.Scalar c p) = node_first _ [] [] refl refl no_node no_node
-    value_forest (tree.Enum w p) = over_forest _ _ _ [] no_node
-    value_forest (tree.Variable w p) = over_forest _ _ _ [] no_node
-    value_forest (tree.ListOf vs p) = over_forest _ _ _ (items_nodes vs) (items_forest vs)
-    value_forest (tree.Object fs p) = over_forest _ _ _ (fields_nodes fs) (fields_forest fs)
+    forest_at : (v : Value C) (p : Span) → IsForest (nodes_at v p)
+    forest_at tree.Null p = over_forest _ _ _ [] no_node
+    forest_at (tree.Scalar c) p = node_first _ [] [] refl refl no_node no_node
+    forest_at (tree.Enum w) p = over_forest _ _ _ [] no_node
+    forest_at (tree.Variable w) p = over_forest _ _ _ [] no_node
+    forest_at (tree.ListOf vs) p = over_forest _ _ _ (items_nodes vs) (items_forest vs)
+    forest_at (tree.Object fs) p = over_forest _ _ _ (fields_nodes fs) (fields_forest fs)
 
     items_forest : (vs : Items C) → IsForest (items_nodes vs)
     items_forest no_items = no_node
-    items_forest (item v vs) = join (value_nodes v) (items_nodes vs) (value_forest v) (items_forest vs)
+    items_forest (item v p vs) = join (nodes_at v p) (items_nodes vs) (forest_at v p) (items_forest vs)
 
     fields_forest : (fs : ObjectFields C) → IsForest (fields_nodes fs)
     fields_forest no_fields = no_node
-    fields_forest (object_field w v fs) =
-        join _ (fields_nodes fs) (over_forest _ _ _ (value_nodes v) (value_forest v)) (fields_forest fs)
+    fields_forest (object_field w v p fs) =
+        join _ (fields_nodes fs) (over_forest _ _ _ (nodes_at v p) (forest_at v p)) (fields_forest fs)
+
+  value_forest : (v : Located (Value C)) → IsForest (value_nodes v)
+  value_forest v = forest_at v.item v.span
 
   argument_forest : (a : Argument C) → IsForest (argument_nodes a)
   unfolding argument_nodes

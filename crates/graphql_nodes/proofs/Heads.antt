@@ -4,7 +4,8 @@ use Rattle.graphql_grammar.specs.Tree as tree
 use Rattle.graphql_grammar.specs.Tree.{Value, Argument, Arguments, Directive, Directives, Variables, Selection, Selections, no_selections, selection, OptionalSelections, absent, present, Definition}
 use Rattle.graphql_nodes.specs.declared.kind.NodeKind.{NodeKind}
 use Rattle.graphql_nodes.specs.declared.kind.NodeKind.TheVariants as kind
-use Rattle.graphql_nodes.specs.Nodes.{Node, if_present, each, value_nodes, argument_nodes, arguments_nodes, directive_nodes, directives_nodes, variable_nodes, variables_nodes, alias_nodes, selection_nodes, optional_nodes, selections_nodes, definition_nodes, operation_kind}
+use Rattle.graphql_nodes.specs.Nodes.{Node, if_present, each, argument_nodes, arguments_nodes, directive_nodes, directives_nodes, variable_nodes, variables_nodes, alias_nodes, selection_nodes, optional_nodes, selections_nodes, definition_nodes, operation_kind, nodes_at}
+use Rattle.graphql_lexical.specs.Place.{Span}
 
 -- the two kinds are not the same
 abbrev pub Differ : NodeKind → NodeKind → Type 0
@@ -44,29 +45,30 @@ module _ {C : Type 0} where
   -- ---- the kinds of parts
 
   abbrev pub kind_of_value : Value C → NodeKind
-  kind_of_value (tree.Null p) = kind.Null
-  kind_of_value (tree.Scalar c p) = kind.Scalar
-  kind_of_value (tree.Enum w p) = kind.Enum
-  kind_of_value (tree.Variable w p) = kind.Reference
-  kind_of_value (tree.ListOf vs p) = kind.List
-  kind_of_value (tree.Object fs p) = kind.Object
+  kind_of_value tree.Null = kind.Null
+  kind_of_value (tree.Scalar c) = kind.Scalar
+  kind_of_value (tree.Enum w) = kind.Enum
+  kind_of_value (tree.Variable w) = kind.Reference
+  kind_of_value (tree.ListOf vs) = kind.List
+  kind_of_value (tree.Object fs) = kind.Object
 
-  pub value_first : BeginsWith value_nodes kind_of_value
-  unfolding value_nodes
-  value_first (tree.Null p) r = refl
-  value_first (tree.Scalar c p) r = refl
-  value_first (tree.Enum w p) r = refl
-  value_first (tree.Variable w p) r = refl
-  value_first (tree.ListOf vs p) r = refl
-  value_first (tree.Object fs p) r = refl
+  pub value_first : (v : Value C) (p : Span) (r : List (Node C))
+      → first_kind (nodes_at v p ++ r) ≡ Some (kind_of_value v)
+  unfolding nodes_at
+  value_first tree.Null p r = refl
+  value_first (tree.Scalar c) p r = refl
+  value_first (tree.Enum w) p r = refl
+  value_first (tree.Variable w) p r = refl
+  value_first (tree.ListOf vs) p r = refl
+  value_first (tree.Object fs) p r = refl
 
   pub value_no_directive : (v : Value C) → Differ (kind_of_value v) kind.Directive
-  value_no_directive (tree.Null p) e = absurd (cc)
-  value_no_directive (tree.Scalar c p) e = absurd (cc)
-  value_no_directive (tree.Enum w p) e = absurd (cc)
-  value_no_directive (tree.Variable w p) e = absurd (cc)
-  value_no_directive (tree.ListOf vs p) e = absurd (cc)
-  value_no_directive (tree.Object fs p) e = absurd (cc)
+  value_no_directive tree.Null e = absurd (cc)
+  value_no_directive (tree.Scalar c) e = absurd (cc)
+  value_no_directive (tree.Enum w) e = absurd (cc)
+  value_no_directive (tree.Variable w) e = absurd (cc)
+  value_no_directive (tree.ListOf vs) e = absurd (cc)
+  value_no_directive (tree.Object fs) e = absurd (cc)
 
   pub argument_first : BeginsWith argument_nodes (λ a. kind.Argument)
   unfolding argument_nodes

@@ -12,10 +12,10 @@ use Rattle.graphql_grammar.specs.Tokens.{Text, Located, Word, span_of}
 use Rattle.graphql_grammar.specs.Tree as tree
 use Rattle.graphql_grammar.specs.Tree.{Scalars, TypeRef, Value, Items, no_items, item, ObjectFields, no_fields, object_field, Argument, Arguments, Directive, Directives, VariableDefinition, Variables, Selection, Selections, no_selections, selection, OptionalSelections, absent, present, Definition}
 use Rattle.graphql_lexical.specs.Parts.{◌·◌}
-use Rattle.graphql_grammar.specs.Grammar.{IsLocated, Token, Is, IsValue, AreItems, AreFields, Each, Optional, Several, Listed, IsArgument, IsArguments, IsDirective, IsDirectives, IsDefault, IsVariableDefinition, IsVariables, IsAlias, IsSelection, IsOptionalSelectionSet, IsSelectionSet, AreSelections, IsDefinition, IsDocument}
+use Rattle.graphql_grammar.specs.Grammar.{IsLocated, Token, Is, IsValue, AreItems, AreFields, Each, Optional, Several, Listed, IsArgument, IsArguments, IsDirective, IsDirectives, IsDefault, IsVariableDefinition, IsVariables, IsAlias, IsSelection, IsOptionalSelectionSet, IsSelectionSet, AreSelections, IsDefinition, IsDocument, Over}
 use Rattle.graphql_nodes.specs.declared.kind.NodeKind.{NodeKind}
 use Rattle.graphql_nodes.specs.declared.kind.NodeKind.TheVariants as kind
-use Rattle.graphql_nodes.specs.Nodes.{Node, Label, Typed, over, scalar_node, if_present, each, value_nodes, items_nodes, fields_nodes, argument_nodes, arguments_nodes, directive_nodes, directives_nodes, variable_nodes, variables_nodes, alias_nodes, selection_nodes, optional_nodes, selections_nodes, definition_nodes, document_nodes}
+use Rattle.graphql_nodes.specs.Nodes.{Node, Label, Typed, over, if_present, each, value_nodes, items_nodes, fields_nodes, argument_nodes, arguments_nodes, directive_nodes, directives_nodes, variable_nodes, variables_nodes, alias_nodes, selection_nodes, optional_nodes, selections_nodes, definition_nodes, document_nodes, nodes_at}
 use Rattle.graphql_nodes.specs.laws.SpanLaws.{IsPlaceOf, LiesIn, NodesLieIn}
 use Rattle.graphql_grammar.proofs.Public.{last_of, last_next}
 
@@ -157,41 +157,40 @@ module _ {C F : Type 0} (S : Scalars C F) (source : List ℕ) where
 
   -- ---- values
 
-  scalar_lies : (ts : List Lexeme) (k : Kind) (w : Text) (c : C) (p : Span) → Token k w p ts
-      → Within ts (scalar_node c p ∷ [])
-  scalar_lies ts k w c p h = record { lie = λ l. (token_lies source ts p k w h l, tt) }
-
-  token_node : (ts : List Lexeme) (k : Kind) (w : Text) (n : NodeKind) (p : Span) (l : Label) → Token k w p ts
-      → Within ts (over n p l [])
-  token_node ts k w n p l h = above ts n p l [] (token_lies source ts p k w h) (none ts)
+  -- a node over no other
+  leaf : (ts : List Lexeme) (k : NodeKind) (p : Span) (l : Label) → p ≡ span_of ts → Within ts (over k p l [])
+  leaf ts k p l e = above ts k p l [] (whole_lies source ts p e) (none ts)
 
   mutual
-    unfolding value_nodes
+    unfolding nodes_at
 
-    value_lies : (free : Bool) (ts : List Lexeme) (v : Value C) → IsValue S free v ts → Within ts (value_nodes v)
-    value_lies free ts (tree.Null p) h = token_node ts _ _ _ p _ h
-    value_lies free ts (tree.Scalar c p) (inl (k, w, h, s, e)) = scalar_lies ts k w c p h
-    value_lies free ts (tree.Scalar c p) (inr (inl h)) = scalar_lies ts _ _ c p h.0
-    value_lies free ts (tree.Scalar c p) (inr (inr h)) = scalar_lies ts _ _ c p h.0
-    value_lies free ts (tree.Enum w p) h = token_node ts _ _ _ p _ h.0
-    value_lies free ts (tree.Variable w p) h = above ts _ p _ [] (whole_lies source ts p h.1.1) (none ts)
-    value_lies free ts (tree.ListOf vs p) h = above ts _ p _ (items_nodes vs) (whole_lies source ts p h.1)
+    lies_at : (free : Bool) (ts : List Lexeme) (v : Value C) (p : Span) → Over p (IsValue S free v) ts
+        → Within ts (nodes_at v p)
+    lies_at free ts tree.Null p h = leaf ts _ p _ h.1
+    lies_at free ts (tree.Scalar c) p h = record { lie = λ l. (whole_lies source ts p h.1 l, tt) }
+    lies_at free ts (tree.Enum w) p h = leaf ts _ p _ h.1
+    lies_at free ts (tree.Variable w) p h = leaf ts _ p _ h.1
+    lies_at free ts (tree.ListOf vs) p h = above ts _ p _ (items_nodes vs) (whole_lies source ts p h.1)
         (bracketed _ _ ts (items_nodes vs) (λ us. items_lie free us vs) h.0)
-    value_lies free ts (tree.Object fs p) h = above ts _ p _ (fields_nodes fs) (whole_lies source ts p h.1)
+    lies_at free ts (tree.Object fs) p h = above ts _ p _ (fields_nodes fs) (whole_lies source ts p h.1)
         (bracketed _ _ ts (fields_nodes fs) (λ us. fields_lie free us fs) h.0)
 
     items_lie : (free : Bool) (ts : List Lexeme) (vs : Items C) → AreItems S free vs ts → Within ts (items_nodes vs)
     items_lie free ts no_items h = none ts
-    items_lie free ts (item v vs) h =
-        joined ts h (value_nodes v) (items_nodes vs) (value_lies free h.front v) (items_lie free h.back vs)
+    items_lie free ts (item v p vs) h =
+        joined ts h (nodes_at v p) (items_nodes vs) (lies_at free h.front v p) (items_lie free h.back vs)
 
     fields_lie : (free : Bool) (ts : List Lexeme) (fs : ObjectFields C) → AreFields S free fs ts
         → Within ts (fields_nodes fs)
     fields_lie free ts no_fields h = none ts
-    fields_lie free ts (object_field w v fs) h =
-        let inner = behind ts h _ (λ q. behind h.back q _ (λ r. joined q.back r (value_nodes v) (fields_nodes fs)
-        (value_lies free r.front v) (fields_lie free r.back fs))) in
+    fields_lie free ts (object_field w v p fs) h =
+        let inner = behind ts h _ (λ q. behind h.back q _ (λ r. joined q.back r (nodes_at v p) (fields_nodes fs)
+        (lies_at free r.front v p) (fields_lie free r.back fs))) in
         record { lie = λ l. (token_lies source h.front w.span _ w.item h.first (front_lies source ts h l), inner.lie l) }
+
+  value_lies : (free : Bool) (ts : List Lexeme) (v : Located (Value C)) → IsLocated (IsValue S free) v ts
+      → Within ts (value_nodes v)
+  value_lies free ts v h = lies_at free ts v.item v.span h
 
   -- ---- arguments and directives
 
@@ -218,11 +217,8 @@ module _ {C F : Type 0} (S : Scalars C F) (source : List ℕ) where
 
   -- ---- variable definitions
 
-  default_lies : (ts : List Lexeme) (v : Value C) → IsDefault S v ts → Within ts (value_nodes v)
+  default_lies : (ts : List Lexeme) (v : Located (Value C)) → IsDefault S v ts → Within ts (value_nodes v)
   default_lies ts v h = behind ts h (value_nodes v) (value_lies false h.back v)
-
-  type_lies : (ts : List Lexeme) (type : TypeRef) (p : Span) → p ≡ span_of ts → Within ts (over kind.Type p (Typed type) [])
-  type_lies ts type p e = above ts kind.Type p (Typed type) [] (whole_lies source ts p e) (none ts)
 
   variable_lies : (ts : List Lexeme) (v : VariableDefinition C) → IsVariableDefinition S v ts
       → Within ts (variable_nodes v)
@@ -233,7 +229,7 @@ module _ {C F : Type 0} (S : Scalars C F) (source : List ℕ) where
       above ts _ v.name.span _ (types ++ others)
       (λ l. whole_lies source h.front v.name.span h.first.1 (front_lies source ts h l))
       (behind ts h _ (λ colon. behind h.back colon _ (λ type. joined colon.back type types others
-      (λ t. type_lies type.front v.of_type.item v.of_type.span t.1)
+      (λ t. leaf type.front kind.Type v.of_type.span (Typed v.of_type.item) t.1)
       (λ rest. joined type.back rest _ _
       (optional_lies (IsDefault S) value_nodes default_lies rest.front v.default)
       (directives_lie rest.back v.directives)))))

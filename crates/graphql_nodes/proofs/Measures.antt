@@ -15,7 +15,7 @@ use Rattle.graphql_grammar.specs.Grammar.{IsLocated, Token, Is, IsName, Says, Is
 use Rattle.graphql_grammar.proofs.Public.{token_in, name_in, row_front, row_right}
 use Rattle.graphql_nodes.specs.declared.kind.NodeKind.{NodeKind}
 use Rattle.graphql_nodes.specs.declared.kind.NodeKind.TheVariants as kind
-use Rattle.graphql_nodes.specs.Nodes.{Node, Label, Unnamed, Named, OnType, Typed, name_of, over, scalar_node, if_present, each, value_nodes, items_nodes, fields_nodes, argument_nodes, arguments_nodes, directive_nodes, directives_nodes, variable_nodes, variables_nodes, alias_nodes, selection_nodes, optional_nodes, selections_nodes, definition_nodes, document_nodes}
+use Rattle.graphql_nodes.specs.Nodes.{Node, Label, Unnamed, Named, OnType, Typed, name_of, over, scalar_node, if_present, each, value_nodes, items_nodes, fields_nodes, argument_nodes, arguments_nodes, directive_nodes, directives_nodes, variable_nodes, variables_nodes, alias_nodes, selection_nodes, optional_nodes, selections_nodes, definition_nodes, document_nodes, nodes_at}
 use Rattle.graphql_nodes.proofs.Splits.{node_over}
 
 abbrev pub IsUntyped : Label → Type 0
@@ -173,40 +173,45 @@ module _ {C F : Type 0} (S : Scalars C F) (measure : Node C → ℕ) (weight : L
   truth_within ts t b c p h e = subst (λ ts. Within ts (scalar_node c p ∷ [])) (sym h)
       (scalar_within t c p (subst (λ c. measure (scalar_node c p) ≤ weight t) (sym e) (weighs.truths t b p)))
 
-  read_within : (ts : List Lexeme) (k : Kind) (w : Text) (c : C) (p : Span) → Token k w p ts → IsScalarKind k
+  read_within : (ts : List Lexeme) (k : Kind) (w : Text) (c : C) (p q : Span) → Token k w q ts → IsScalarKind k
       → S.read k w ≡ Ok c
       → Within ts (scalar_node c p ∷ [])
-  read_within ts k w c p h s e = let t : Lexeme = record { kind = k; text = w; span = p } in
+  read_within ts k w c p q h s e = let t : Lexeme = record { kind = k; text = w; span = q } in
       subst (λ ts. Within ts (scalar_node c p ∷ [])) (sym h) (scalar_within t c p (weighs.scalars t c p s e))
 
   mutual
-    unfolding value_nodes
+    unfolding nodes_at
 
-    value_within : (free : Bool) (ts : List Lexeme) (v : Value C) → IsValue S free v ts → Within ts (value_nodes v)
-    value_within free ts (tree.Null p) h = one_token ts _ _ p _ tt h
-    value_within free ts (tree.Scalar c p) (inl (k, w, h, s, e)) = read_within ts k w c p h s e
-    value_within free ts (tree.Scalar c p) (inr (inl h)) = truth_within ts _ true c p h.0 h.1
-    value_within free ts (tree.Scalar c p) (inr (inr h)) = truth_within ts _ false c p h.0 h.1
-    value_within free ts (tree.Enum w p) h = one_token ts _ _ p _ tt h.0
-    value_within free ts (tree.Variable w p) h =
-        headed ts h.1.0 (is_one Dollar) _ _ _ [] tt (λ q. none h.1.0.back)
-    value_within free ts (tree.ListOf vs p) h =
-        bracketed _ _ ts _ p (items_nodes vs) (λ us. items_within free us vs) h.0
-    value_within free ts (tree.Object fs p) h =
-        bracketed _ _ ts _ p (fields_nodes fs) (λ us. fields_within free us fs) h.0
+    within_at : (free : Bool) (ts : List Lexeme) (v : Value C) (p : Span) → IsValue S free v ts
+        → Within ts (nodes_at v p)
+    within_at free ts tree.Null p h = one_token ts _ _ p _ tt h.1
+    within_at free ts (tree.Scalar c) p (inl (k, w, q, h, s, e)) = read_within ts k w c p q h s e
+    within_at free ts (tree.Scalar c) p (inr (inl h)) = truth_within ts _ true c p h.0.1 h.1
+    within_at free ts (tree.Scalar c) p (inr (inr h)) = truth_within ts _ false c p h.0.1 h.1
+    within_at free ts (tree.Enum w) p h = one_token ts _ _ p _ tt h.0.1
+    within_at free ts (tree.Variable w) p h =
+        headed ts h.1 (is_one Dollar) _ _ _ [] tt (λ q. none h.1.back)
+    within_at free ts (tree.ListOf vs) p h =
+        bracketed _ _ ts _ p (items_nodes vs) (λ us. items_within free us vs) h
+    within_at free ts (tree.Object fs) p h =
+        bracketed _ _ ts _ p (fields_nodes fs) (λ us. fields_within free us fs) h
 
     items_within : (free : Bool) (ts : List Lexeme) (vs : Items C) → AreItems S free vs ts → Within ts (items_nodes vs)
     items_within free ts no_items h = none ts
-    items_within free ts (item v vs) h =
-        joined ts h (value_nodes v) (items_nodes vs) (value_within free h.front v) (items_within free h.back vs)
+    items_within free ts (item v p vs) h = joined ts h (nodes_at v p) (items_nodes vs)
+        (λ k. within_at free h.front v p k.0) (items_within free h.back vs)
 
     fields_within : (free : Bool) (ts : List Lexeme) (fs : ObjectFields C) → AreFields S free fs ts
         → Within ts (fields_nodes fs)
     fields_within free ts no_fields h = none ts
-    fields_within free ts (object_field w v fs) h =
-        headed_before ts h (word_one _) kind.Key w.span _ (value_nodes v) (fields_nodes fs) tt
-        (λ q. behind h.back q _ (λ r. joined q.back r (value_nodes v) (fields_nodes fs) (value_within free r.front v)
-        (fields_within free r.back fs)))
+    fields_within free ts (object_field w v p fs) h =
+        headed_before ts h (word_one _) kind.Key w.span _ (nodes_at v p) (fields_nodes fs) tt
+        (λ q. behind h.back q _ (λ r. joined q.back r (nodes_at v p) (fields_nodes fs)
+        (λ k. within_at free r.front v p k.0) (fields_within free r.back fs)))
+
+  value_within : (free : Bool) (ts : List Lexeme) (v : Located (Value C)) → IsLocated (IsValue S free) v ts
+      → Within ts (value_nodes v)
+  value_within free ts v h = within_at free ts v.item v.span h.0
 
   -- ---- arguments and directives
 
@@ -243,7 +248,7 @@ module _ {C F : Type 0} (S : Scalars C F) (measure : Node C → ℕ) (weight : L
     );
   }
 
-  default_within : (ts : List Lexeme) (v : Value C) → IsDefault S v ts → Within ts (value_nodes v)
+  default_within : (ts : List Lexeme) (v : Located (Value C)) → IsDefault S v ts → Within ts (value_nodes v)
   default_within ts v h = behind ts h (value_nodes v) (value_within false h.back v)
 
   variable_within : (ts : List Lexeme) (v : VariableDefinition C) → IsVariableDefinition S v ts

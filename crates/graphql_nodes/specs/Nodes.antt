@@ -58,21 +58,25 @@ each nodes [] = []
 each nodes (part ∷ parts) = nodes part ++ each nodes parts
 
 unfoldable mutual
-  pub value_nodes : {C : Type 0} → Value C → List (Node C)
-  value_nodes (tree.Null span) = over kind.Null span Unnamed []
-  value_nodes (tree.Scalar content span) = scalar_node content span ∷ []
-  value_nodes (tree.Enum name span) = over kind.Enum span (named name span) []
-  value_nodes (tree.Variable name span) = over kind.Reference span (named name span) []
-  value_nodes (tree.ListOf items span) = over kind.List span Unnamed (items_nodes items)
-  value_nodes (tree.Object fields span) = over kind.Object span Unnamed (fields_nodes fields)
+  -- of a value that stands there
+  pub nodes_at : {C : Type 0} → Value C → Span → List (Node C)
+  nodes_at tree.Null span = over kind.Null span Unnamed []
+  nodes_at (tree.Scalar content) span = scalar_node content span ∷ []
+  nodes_at (tree.Enum name) span = over kind.Enum span (named name span) []
+  nodes_at (tree.Variable name) span = over kind.Reference span (named name span) []
+  nodes_at (tree.ListOf items) span = over kind.List span Unnamed (items_nodes items)
+  nodes_at (tree.Object fields) span = over kind.Object span Unnamed (fields_nodes fields)
 
   pub items_nodes : {C : Type 0} → Items C → List (Node C)
   items_nodes no_items = []
-  items_nodes (item value items) = value_nodes value ++ items_nodes items
+  items_nodes (item value span items) = nodes_at value span ++ items_nodes items
 
   pub fields_nodes : {C : Type 0} → ObjectFields C → List (Node C)
   fields_nodes no_fields = []
-  fields_nodes (object_field key value fields) = over kind.Key key.span (Named key) (value_nodes value) ++ fields_nodes fields
+  fields_nodes (object_field key value span fields) = over kind.Key key.span (Named key) (nodes_at value span) ++ fields_nodes fields
+
+abbrev pub value_nodes : {C : Type 0} → Located (Value C) → List (Node C)
+value_nodes value = nodes_at value.item value.span
 
 abbrev pub operation_kind : OperationType → NodeKind
 operation_kind operation.Query = kind.Query

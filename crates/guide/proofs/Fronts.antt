@@ -4,8 +4,9 @@ use Rattle.graphql_lexical.specs.Place.{Place}
 use Rattle.graphql_lexical.specs.Kinds.{LexicalError}
 use Rattle.graphql_lexical.specs.Cutting.{Lexeme, Cut, Breaks}
 use Rattle.graphql_lexical.specs.laws.Laws.{HasOneCutOrBreak}
+use Rattle.graphql_grammar.specs.Tokens.{Located}
 use Rattle.graphql_grammar.specs.Tree.{Scalars, Value}
-use Rattle.graphql_grammar.specs.Grammar.{IsValue}
+use Rattle.graphql_grammar.specs.Grammar.{IsLocated, IsValue}
 use Rattle.graphql_grammar.specs.Faults.{ValueRefusedAt}
 use Rattle.juniper_tokens.specs.declared.error.ParseFailure.{ParseFailure}
 use Rattle.juniper_tokens.specs.declared.error.ParseFailure.TheVariants as failure
@@ -17,17 +18,17 @@ use Rattle.guide.specs.Literals.{HasNoValue}
 
 module _ {C : Type 0} (S : Scalars C Error) (source : List ℕ) (ends : HasOneCutOrBreak source) where
   module _ (ts left : List Lexeme) (cut : Cut source ts) where
-    refused : (fault : Fault) → Refuses (IsValue S true) (ValueRefusedAt UnexpectedEndOfFile unexpected S true) fault ts left
+    refused : (fault : Fault) → Refuses (IsLocated (IsValue S true)) (ValueRefusedAt UnexpectedEndOfFile unexpected S true) fault ts left
         → HasNoValue S source fault
     refused fault r = record {
       none = λ value b. r.none b.front b.left value (ends.one_cut ts b.lexemes cut b.cut ∙ b.whole) b.means;
       lexical = λ error at b. absurd (ends.never_both ts error at cut b);
       grammatical = λ others d. subst (λ (xs : List Lexeme). (rest : List Lexeme)
-          × Refuses (IsValue S true) (ValueRefusedAt UnexpectedEndOfFile unexpected S true) fault xs rest) (ends.one_cut ts others cut d) (left, r);
+          × Refuses (IsLocated (IsValue S true)) (ValueRefusedAt UnexpectedEndOfFile unexpected S true) fault xs rest) (ends.one_cut ts others cut d) (left, r);
     }
 
     -- what is refused of the tokens is refused of the text
-    pub no_value_begins : {X : Type 0} (view : X → Value C) (result : Result X ParseFailure)
+    pub no_value_begins : {X : Type 0} (view : X → Located (Value C)) (result : Result X ParseFailure)
         → ReturnsValue S true view result ts left → IfRefused result (λ fault. HasNoValue S source (view_fault fault))
     no_value_begins view (Ok x) a = tt
     no_value_begins view (Err (failure.Refused fault)) a = refused (view_fault fault) a

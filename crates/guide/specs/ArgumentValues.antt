@@ -1,7 +1,7 @@
 -- The value of an argument, its variables replaced.
 use Rattle.std.specs.Prelude.{ℕ, List, Option, Some, None}
+use Rattle.graphql_grammar.specs.Tree.{Value}
 use Rattle.juniper_tokens.specs.declared.span.Spanning.{Spanning}
-use Rattle.juniper_values.specs.Value.{Value}
 use Rattle.juniper_values.specs.Resolve.{Values, resolve}
 use Rattle.juniper_values.specs.View.{view}
 use Rattle.juniper_values.specs.declared.input_value.InputValue.{InputValue}

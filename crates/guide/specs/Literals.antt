@@ -3,8 +3,9 @@ use Rattle.std.specs.Prelude.{◌≡◌, ◌⊎◌, ℕ, Bool, true, List, ◌++
 use Rattle.graphql_lexical.specs.Place.{Place}
 use Rattle.graphql_lexical.specs.Kinds.{LexicalError}
 use Rattle.graphql_lexical.specs.Cutting.{Lexeme, Cut, Breaks}
+use Rattle.graphql_grammar.specs.Tokens.{Located}
 use Rattle.graphql_grammar.specs.Tree.{Scalars, Value}
-use Rattle.graphql_grammar.specs.Grammar.{IsValue}
+use Rattle.graphql_grammar.specs.Grammar.{IsLocated, IsValue}
 use Rattle.graphql_grammar.specs.Faults.{ValueRefusedAt}
 use Rattle.juniper_tokens.specs.declared.span.Spanning.{Spanning}
 use Rattle.juniper_tokens.specs.Errors.{Error, UnexpectedEndOfFile, Fault}
@@ -16,24 +17,24 @@ use Rattle.juniper.specs.View.{view_value}
 
 module _ {C : Type 0} (scalars : Scalars C Error) where
   -- The text can be cut into tokens, and a front of them is this value, with or without variables.
-  pub record BeginsWith (source : List ℕ) (value : Value C) : Type 0 where
+  pub record BeginsWith (source : List ℕ) (value : Located (Value C)) : Type 0 where
     pub lexemes : List Lexeme
     pub cut : Cut source lexemes
     pub front : List Lexeme
     pub left : List Lexeme
     pub whole : lexemes ≡ front ++ left
-    pub means : IsValue scalars true value front
+    pub means : IsLocated (IsValue scalars true) value front
 
   -- The text begins with no value. Where it can't be cut into tokens, the fault is its first lexical error. Where it
   -- can, the fault is at the first token that cannot continue a value.
   pub record HasNoValue (source : List ℕ) (fault : Fault) : Type 0 where
-    pub none : (value : Value C) → BeginsWith source value → ⊥
+    pub none : (value : Located (Value C)) → BeginsWith source value → ⊥
     pub lexical : (error : LexicalError) (at : Place) → Breaks source error at → fault ≡ lexical_fault error at
-    pub grammatical : (lexemes : List Lexeme) → Cut source lexemes → (left : List Lexeme) × Refuses (IsValue scalars true) (ValueRefusedAt UnexpectedEndOfFile unexpected scalars true) fault lexemes left
+    pub grammatical : (lexemes : List Lexeme) → Cut source lexemes → (left : List Lexeme) × Refuses (IsLocated (IsValue scalars true)) (ValueRefusedAt UnexpectedEndOfFile unexpected scalars true) fault lexemes left
 
   -- The fault is that of the first of two texts that begins with no value.
   abbrev pub FirstFault : List ℕ → List ℕ → Fault → Type 0
-  FirstFault one other fault = HasNoValue one fault ⊎ (((value : Value C) × BeginsWith one value) × HasNoValue other fault)
+  FirstFault one other fault = HasNoValue one fault ⊎ (((value : Located (Value C)) × BeginsWith one value) × HasNoValue other fault)
 
   -- Both texts begin with values, which are equal regardless of their places, or are not, as the result says.
   pub record AreCompared {S : Type 0} (content : S → C) (equal : S → S → Bool) (one other : List ℕ) (answer : Bool) : Type 0 where

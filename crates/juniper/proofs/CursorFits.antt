@@ -71,7 +71,7 @@ module _ {C : Type 0} (S : Scalars C Error) where
     kind_no_end BracketOpen refl,
     refl,
     (λ o. (
-      closed_answer S (symbol (a_value free)) (IsValue S free) (λ n. value_rule S free n n (le_refl n))
+      closed_answer S (symbol (a_value free)) (IsLocated (IsValue S free)) (λ n. value_rule S free n n (le_refl n))
           (value_takes S free) BracketClose refl (inl refl),
       λ vs q. tt,
     )),

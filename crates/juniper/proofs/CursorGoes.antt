@@ -2,7 +2,7 @@
 use Rattle.std.proofs.Common.{◌≡◌, ℕ, suc, length, arith, Bool, true, false, cond, List, [], ◌∷◌, Ok, refl, sym, ap, ◌∙◌, subst, ◌⊎◌, inl, inr}
 use Rattle.graphql_lexical.specs.Place.{Span}
 use Rattle.graphql_lexical.specs.Cutting.{Lexeme}
-use Rattle.graphql_grammar.specs.Tokens.{span_of}
+use Rattle.graphql_grammar.specs.Tokens.{span_of, Located}
 use Rattle.graphql_grammar.specs.Tree.{Scalars, Value}
 use Rattle.graphql_grammar.specs.device.Reading.{Test, passes, Took, Refused, Out, Reader, after, seq, done, want, literal, on, pick, look, choose, with_span, front, many, repeated, fully, Symbol, Steps, gives, wants, takes, sees, part, symbol, spanned, scalar, closed, each}
 use Rattle.graphql_grammar.specs.device.Reading as reading
@@ -73,7 +73,7 @@ module _ {C : Type 0} (S : Scalars C Error) where
   Fits (part {B = B} p k) = Fits p × ((x : B) → Fits (k x))
   Fits (symbol r) = Unit {0}
   Fits (spanned p) = Fits p
-  Fits (scalar k) = (v : Value C) → Fits (k v)
+  Fits (scalar k) = (v : Located (Value C)) → Fits (k v)
   Fits (closed {B = B} close p k) = Answers (λ n. many close (reads S n p) n) ×
       ((xs : List B) (q : Span) → Fits (k xs q))
   Fits (each {B = B} test p k) = Answers (λ n. repeated test (reads S n p) n) × ((xs : List B) → Fits (k xs))

@@ -6,7 +6,7 @@ use Rattle.graphql_lexical.specs.Kinds.{same_kind}
 use Rattle.graphql_lexical.specs.Cutting.{Lexeme}
 use Rattle.graphql_grammar.specs.Tokens.{Located, span_of}
 use Rattle.graphql_grammar.specs.Tree.{Scalars, Value, TypeRef}
-use Rattle.graphql_grammar.specs.Grammar.{IsValue}
+use Rattle.graphql_grammar.specs.Grammar.{IsValue, IsLocated}
 use Rattle.graphql_grammar.specs.Faults.{ValueRefusedAt, TypeRefusedAt}
 use Rattle.graphql_grammar.specs.device.Faults as device
 use Rattle.graphql_grammar.specs.device.Faults.{ValueFaultAt, TypeFaultAt}
@@ -54,15 +54,15 @@ module _ {A : Type 0} (R : A → List Lexeme → Type 0)
   refuses fault Out g q = absurd g
 
 module _ {C : Type 0} (S : Scalars C Error) (free : Bool) where
-  abbrev value_at : ℕ → Reader Error (Value C)
-  value_at n = symbol_at S n (Value C) (a_value free)
+  abbrev value_at : ℕ → Reader Error (Located (Value C))
+  value_at n = symbol_at S n (Located (Value C)) (a_value free)
 
-  pub answers_value : {X : Type 0} (view : X → Value C) (result : Result X ParseFailure) (old left : List Lexeme)
+  pub answers_value : {X : Type 0} (view : X → Located (Value C)) (result : Result X ParseFailure) (old left : List Lexeme)
       → EndsOnce old → Gives view result left (value_read S free old) → ReturnsValue S free view result old left
   unfolding fully value_read
   answers_value view (Ok x) old left ended h =
       let took = seen_took (fully value_at old) (view x) left h in
-      let g = subst (λ z. GivesFront (IsValue S free) (ValueFaultAt S free old) old z) took
+      let g = subst (λ z. GivesFront (IsLocated (IsValue S free)) (ValueFaultAt S free old) old z) took
       (value_given S free old ended) in (
         record { taken = g.0; whole = g.1; means = g.2 },
         λ us vs y e k. (
@@ -72,7 +72,7 @@ module _ {C : Type 0} (S : Scalars C Error) (free : Bool) where
             (cc both, cc both)),
       )
   answers_value view (Err (failure.Refused e)) old left ended h =
-      refuses (IsValue S free) (ValueFaultAt S free) (ValueRefusedAt UnexpectedEndOfFile unexpected S free)
+      refuses (IsLocated (IsValue S free)) (ValueFaultAt S free) (ValueRefusedAt UnexpectedEndOfFile unexpected S free)
       (value_error UnexpectedEndOfFile unexpected S free) old left (view_fault e) (fully value_at old)
       (value_given S free old ended) h
   answers_value view (Err failure.Memory) old left ended h = tt

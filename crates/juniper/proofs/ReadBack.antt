@@ -13,7 +13,6 @@ use Rattle.graphql_lexical.specs.Parts.{◌·◌}
 use Rattle.graphql_grammar.specs.Grammar.{Token, Is, IsValue, AreItems, AreFields, IsType}
 use Rattle.graphql_grammar.specs.Unlocated.{unlocated_value, unlocated_items, unlocated_fields}
 use Rattle.graphql_grammar.proofs.Public.{IsNullable, name_nullable, list_nullable, row, row_as, row_map, row_front, row_back, token_is}
-use Rattle.juniper_values.specs.Value as input
 use Rattle.juniper_values.specs.Scalar.{Content, integer, text, boolean, custom}
 use Rattle.juniper_values.specs.Default.{default_content, default_shown, plain_shown, text_in}
 use Rattle.juniper_values.specs.ScalarDisplay.{scalar_display}
@@ -29,7 +28,6 @@ use Rattle.juniper_values.specs.declared.type_literal.TypeModifier.TheVariants.{
 use Rattle.juniper.specs.View.{wrapped}
 use Rattle.juniper.specs.Scalars.{default_scalars}
 use Rattle.juniper.specs.ReadBack.{BeginsUnmarked, AreWritable, IsReadAsType, type_of, IsReadBack}
-use Rattle.juniper.proofs.PlacedValues.{placed, placed_items, placed_fields, placed_view}
 
 -- ---- parts of a list of tokens
 
@@ -119,112 +117,86 @@ inside : {O P R P' : List Lexeme → Type 0} {ts : List Lexeme} (h : (O · P · 
     → P' h.second.front → (O · P' · R) ts
 inside h p = row_as h h.first (row_as h.second p h.second.second)
 
-record IsBack (ts : List Lexeme) (v : input.Value Content) : Type 0 where
+record IsBack (ts : List Lexeme) (v : Value Content) : Type 0 where
   tree : Value Content
   means : IsValue default_scalars true tree ts
-  same : unlocated_value tree ≡ unlocated_value (placed v nowhere)
+  same : unlocated_value tree ≡ unlocated_value v
 
-record AreItemsBack (ts : List Lexeme) (xs : input.Items Content) : Type 0 where
+record AreItemsBack (ts : List Lexeme) (xs : Items Content) : Type 0 where
   trees : Items Content
   means : AreItems default_scalars true trees ts
-  same : unlocated_items trees ≡ unlocated_items (placed_items xs)
+  same : unlocated_items trees ≡ unlocated_items xs
 
-record AreFieldsBack (ts : List Lexeme) (fs : input.Fields Content) : Type 0 where
+record AreFieldsBack (ts : List Lexeme) (fs : ObjectFields Content) : Type 0 where
   trees : ObjectFields Content
   means : AreFields default_scalars true trees ts
-  same : unlocated_fields trees ≡ unlocated_fields (placed_fields fs)
+  same : unlocated_fields trees ≡ unlocated_fields fs
 
 scalar_back : (ts : List Lexeme) (s : Content) → IsPlainScalar s → AreOf ts (scalar_token s ∷ [])
-    → IsBack ts (input.scalar s)
-scalar_back ts (integer n) h a = let o = one (scalar_token (integer n)) ts a in record {
-  tree = Scalar (integer n) o.0;
-  means = inl (Int, _, o.1, inr (inr (inr refl)), integer_read_back n h);
-  same = refl;
-}
-scalar_back ts (text t) h a = let o = one (scalar_token (text t)) ts a in record {
-  tree = Scalar (text t) o.0;
-  means = inl (String, t, o.1, inl refl, rw (plain_unescaped t h) refl);
-  same = refl;
-}
-scalar_back ts (boolean true) h a = let o = one (scalar_token (boolean true)) ts a in
-    record { tree = Scalar (boolean true) o.0; means = inr (inl (o.1, refl)); same = refl }
-scalar_back ts (boolean false) h a = let o = one (scalar_token (boolean false)) ts a in
-    record { tree = Scalar (boolean false) o.0; means = inr (inr (o.1, refl)); same = refl }
+    → IsValue default_scalars true (Scalar s) ts
+scalar_back ts (integer n) h a = let o = one (scalar_token (integer n)) ts a in
+    inl (Int, _, o.0, o.1, inr (inr (inr refl)), integer_read_back n h)
+scalar_back ts (text t) h a = let o = one (scalar_token (text t)) ts a in
+    inl (String, t, o.0, o.1, inl refl, rw (plain_unescaped t h) refl)
+scalar_back ts (boolean true) h a = inr (inl (one (scalar_token (boolean true)) ts a, refl))
+scalar_back ts (boolean false) h a = inr (inr (one (scalar_token (boolean false)) ts a, refl))
 scalar_back ts (custom ns) h a = absurd h
 
--- spans differ alone
-unlocated_placed : (v : input.Value Content) (p q : _) → unlocated_value (placed v p) ≡ unlocated_value (placed v q)
-unlocated_placed input.null p q = refl
-unlocated_placed (input.scalar s) p q = refl
-unlocated_placed (input.enum_value t) p q = refl
-unlocated_placed (input.variable t) p q = refl
-unlocated_placed (input.list xs) p q = refl
-unlocated_placed (input.object fs) p q = refl
-
 mutual
-  value_back : (v : input.Value Content) (ts : List Lexeme) → IsPlain v → AreOf ts (value_tokens v) → IsBack ts v
-  value_back input.null ts h a = let o = one (token Name (codes "null")) ts a in
-      record { tree = Null o.0; means = o.1; same = refl }
-  value_back (input.scalar s) ts h a = scalar_back ts s h a
-  value_back (input.enum_value t) ts h a = let o = one (token Name t) ts a in
-      record { tree = Enum t o.0; means = (o.1, (h.not_true, h.not_false, h.not_null)); same = refl }
-  value_back (input.variable t) ts h a = record {
-    tree = Variable t (span_of ts);
+  value_back : (v : Value Content) (ts : List Lexeme) → IsPlain v → AreOf ts (value_tokens v) → IsBack ts v
+  value_back Null ts h a = record { tree = Null; means = one (token Name (codes "null")) ts a; same = refl }
+  value_back (Scalar s) ts h a = record { tree = Scalar s; means = scalar_back ts s h a; same = refl }
+  value_back (Enum t) ts h a = record {
+    tree = Enum t;
+    means = (one (token Name t) ts a, (h.not_true, h.not_false, h.not_null));
+    same = refl;
+  }
+  value_back (Variable t) ts h a = record {
+    tree = Variable t;
     means = (
       refl,
-      (
-        row_map (mark Dollar) (one (token Name t)) ts (parted (punctuation Dollar ∷ []) (token Name t ∷ []) ts a),
-        refl,
-      ),
+      row_map (mark Dollar) (one (token Name t)) ts (parted (punctuation Dollar ∷ []) (token Name t ∷ []) ts a),
     );
     same = refl;
   }
-  value_back (input.list xs) ts h a =
+  value_back (ListOf xs) ts h a =
       let e = between BracketOpen BracketClose (items_tokens xs) ts a in
       let b = items_back xs e.second.front h e.second.first in
-      record {
-        tree = ListOf b.trees (span_of ts);
-        means = (inside e b.means, refl);
-        same = ap (λ (ys : Items Content). ListOf ys nowhere) b.same;
-      }
-  value_back (input.object fs) ts h a =
+      record { tree = ListOf b.trees; means = inside e b.means; same = ap ListOf b.same }
+  value_back (Object fs) ts h a =
       let e = between CurlyOpen CurlyClose (fields_tokens fs) ts a in
       let b = fields_back fs e.second.front h e.second.first in
-      record {
-        tree = Object b.trees (span_of ts);
-        means = (inside e b.means, refl);
-        same = ap (λ (gs : ObjectFields Content). Object gs nowhere) b.same;
-      }
+      record { tree = Object b.trees; means = inside e b.means; same = ap Object b.same }
 
-  items_back : (xs : input.Items Content) (ts : List Lexeme) → ArePlainItems xs → AreOf ts (items_tokens xs)
+  items_back : (xs : Items Content) (ts : List Lexeme) → ArePlainItems xs → AreOf ts (items_tokens xs)
       → AreItemsBack ts xs
-  items_back input.no_items [] h a = record { trees = no_items; means = refl; same = refl }
-  items_back input.no_items (t ∷ ts) h a = absurd a
-  items_back (input.item v s xs) ts h a =
+  items_back no_items [] h a = record { trees = no_items; means = refl; same = refl }
+  items_back no_items (t ∷ ts) h a = absurd a
+  items_back (item v s xs) ts h a =
       let p = parted (value_tokens v) (items_tokens xs) ts a in
       let b = value_back v p.front h.0 p.first in
       let m = items_back xs p.back h.1 p.second in
       record {
-        trees = item b.tree m.trees;
-        means = row_as p b.means m.means;
-        same = ap₂ item (b.same ∙ unlocated_placed v nowhere s) m.same;
+        trees = item b.tree (span_of p.front) m.trees;
+        means = row_as p (b.means, refl) m.means;
+        same = ap₂ (λ x xs. item x nowhere xs) b.same m.same;
       }
 
-  fields_back : (fs : input.Fields Content) (ts : List Lexeme) → ArePlainFields fs → AreOf ts (fields_tokens fs)
+  fields_back : (fs : ObjectFields Content) (ts : List Lexeme) → ArePlainFields fs → AreOf ts (fields_tokens fs)
       → AreFieldsBack ts fs
-  fields_back input.no_fields [] h a = record { trees = no_fields; means = refl; same = refl }
-  fields_back input.no_fields (t ∷ ts) h a = absurd a
-  fields_back (input.field k s v q fs) ts h a =
-      let f = parted (token Name k ∷ []) (punctuation Colon ∷ (value_tokens v ++ fields_tokens fs)) ts a in
+  fields_back no_fields [] h a = record { trees = no_fields; means = refl; same = refl }
+  fields_back no_fields (t ∷ ts) h a = absurd a
+  fields_back (object_field k v s fs) ts h a =
+      let f = parted (token Name k.item ∷ []) (punctuation Colon ∷ (value_tokens v ++ fields_tokens fs)) ts a in
       let g = parted (punctuation Colon ∷ []) (value_tokens v ++ fields_tokens fs) f.back f.second in
       let p = parted (value_tokens v) (fields_tokens fs) g.back g.second in
-      let key = one (token Name k) f.front f.first in
+      let key = one (token Name k.item) f.front f.first in
       let b = value_back v p.front h.1 p.first in
       let m = fields_back fs p.back h.2 p.second in
       record {
-        trees = object_field (record { item = k; span = key.0 }) b.tree m.trees;
-        means = row_as f key.1 (row_as g (mark Colon g.front g.first) (row_as p b.means m.means));
-        same = ap₂ (object_field (record { item = k; span = nowhere })) (b.same ∙ unlocated_placed v nowhere q) m.same;
+        trees = object_field (record { item = k.item; span = key.0 }) b.tree (span_of p.front) m.trees;
+        means = row_as f key.1 (row_as g (mark Colon g.front g.first) (row_as p (b.means, refl) m.means));
+        same = ap₂ (λ x fs. object_field (record { item = k.item; span = nowhere }) x nowhere fs) b.same m.same;
       }
 
 -- the display of an input value, by the contents of its scalars
@@ -236,7 +208,7 @@ shown_by_content v = ap (value_text plain_shown) (view-replaced default_content 
 
 pub value_read_back : (v : InputValue DefaultScalarValue) → IsPlain (view default_content v) → IsReadBack v
 value_read_back v h =
-    let seen : input.Value Content = view default_content v in
+    let seen : Value Content = view default_content v in
     let c = value_is_cut seen h in
     let b = value_back seen c.lexemes h c.are in
     record {
@@ -245,5 +217,5 @@ value_read_back v h =
       tree = b.tree;
       cut = subst (λ (t : Text). Cut t (c.lexemes ++ c.end ∷ [])) (shown_by_content v) c.cut;
       means = b.means;
-      same = b.same ∙ ap unlocated_value (sym (placed_view default_content v nowhere));
+      same = b.same;
     }

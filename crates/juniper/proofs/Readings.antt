@@ -47,7 +47,7 @@ type_is = symbol_is no_scalars a_type (types_answer no_scalars) (type_fits no_sc
 module _ {C : Type 0} (S : Scalars C Error) where
   pub values_repeat : (free : Bool)
       → Repeats (closing_at BracketClose) (value_read S free) (closed_read S (of BracketClose) (symbol (a_value free)))
-  values_repeat free = closed_repeats S (symbol (a_value free)) tt (IsValue S free)
+  values_repeat free = closed_repeats S (symbol (a_value free)) tt (IsLocated (IsValue S free))
       (λ n. value_rule S free n n (le_refl n)) (value_takes S free) BracketClose refl (inl refl)
 
   pub fields_repeat : (free : Bool) → Repeats (closing_at CurlyClose) (cursor S (key_and_value free))

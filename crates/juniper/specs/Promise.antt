@@ -92,9 +92,9 @@ module _ {A : Type 0} (R : A → List Lexeme → Type 0) where
     pub leaves : left ≡ past (token ∷ after)
 
 -- The one prefix that is a value was taken, or none is one.
-abbrev pub ReturnsValue : {X C : Type 0} → Scalars C Error → Bool → (X → Value C) → Result X ParseFailure → List Lexeme → List Lexeme → Type 0
-ReturnsValue {C = C} S free view (Ok x) old left = Takes (IsValue S free) (view x) old left × ((us vs : List Lexeme) (y : Value C) → old ≡ us ++ vs → IsValue S free y us → (vs ≡ left) × (y ≡ view x))
-ReturnsValue S free view (Err (failure.Refused e)) old left = Refuses (IsValue S free) (ValueRefusedAt UnexpectedEndOfFile unexpected S free) (view_fault e) old left
+abbrev pub ReturnsValue : {X C : Type 0} → Scalars C Error → Bool → (X → Located (Value C)) → Result X ParseFailure → List Lexeme → List Lexeme → Type 0
+ReturnsValue {C = C} S free view (Ok x) old left = Takes (IsLocated (IsValue S free)) (view x) old left × ((us vs : List Lexeme) (y : Located (Value C)) → old ≡ us ++ vs → IsLocated (IsValue S free) y us → (vs ≡ left) × (y ≡ view x))
+ReturnsValue S free view (Err (failure.Refused e)) old left = Refuses (IsLocated (IsValue S free)) (ValueRefusedAt UnexpectedEndOfFile unexpected S free) (view_fault e) old left
 ReturnsValue S free view (Err failure.Memory) old left = Unit {0}
 
 -- The longest prefix that is a type was taken, or none is one.

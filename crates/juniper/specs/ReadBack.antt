@@ -14,7 +14,7 @@ use Rattle.juniper_values.specs.declared.default_scalar.DefaultScalarValue.{Defa
 use Rattle.juniper_values.specs.declared.input_value.InputValue.{InputValue}
 use Rattle.juniper_values.specs.declared.type_literal.TypeModifier.{TypeModifier}
 use Rattle.juniper_values.specs.declared.type_literal.TypeModifier.TheVariants.{NonNull, List as ListModifier}
-use Rattle.juniper.specs.View.{wrapped, view_at}
+use Rattle.juniper.specs.View.{wrapped}
 use Rattle.juniper.specs.Scalars.{default_scalars}
 
 -- ---- types
@@ -56,4 +56,4 @@ pub record IsReadAsValue (text : Text) (value : Value Content) : Type 0 where
 
 -- the display of an input value is read as its tree
 abbrev pub IsReadBack : InputValue DefaultScalarValue → Type 0
-IsReadBack v = IsReadAsValue (value_text (scalar_display default_content text_in default_shown) (view (λ s. s) v)) (view_at default_content v nowhere)
+IsReadBack v = IsReadAsValue (value_text (scalar_display default_content text_in default_shown) (view (λ s. s) v)) (view default_content v)

@@ -5,16 +5,15 @@ use Rattle.std.specs.Borrow.{Bor}
 use Rattle.std.specs.Global.{Vec}
 use Rattle.std.specs.Str.{chars}
 use Rattle.std.specs.declared.alloc.Global.{Global}
-use Rattle.graphql_lexical.specs.Place as places
 use Rattle.graphql_grammar.specs.Tokens.{Located, Word}
 use Rattle.graphql_grammar.specs.Tree as tree
-use Rattle.graphql_grammar.specs.Tree.{Value, Null, Scalar, Enum, Variable, ListOf, Object, Items, no_items, item, ObjectFields, no_fields, object_field, TypeRef, NamedType, ListType, NonNullType}
+use Rattle.graphql_grammar.specs.Tree.{Value, TypeRef, NamedType, ListType, NonNullType}
 use Rattle.juniper_tokens.specs.Spans.{view_span}
 use Rattle.juniper_tokens.specs.declared.span.Spanning.{Spanning}
 use Rattle.juniper_values.specs.TypeLiteral.{TypeShape}
-pub use Rattle.juniper_values.specs.View.{text_of}
-use Rattle.juniper_values.specs.declared.input_value.InputValue.{InputValue, fold-InputValue}
-use Rattle.juniper_values.specs.declared.input_value.InputValue.TheOpen.{InputValue-F}
+pub use Rattle.juniper_values.specs.View.{text_of, view_located}
+use Rattle.juniper_values.specs.View.{view}
+use Rattle.juniper_values.specs.declared.input_value.InputValue.{InputValue}
 use Rattle.juniper_values.specs.declared.type_literal.TypeModifier.{TypeModifier}
 use Rattle.juniper_values.specs.declared.type_literal.TypeModifier.TheVariants as modifier
 use Rattle.juniper.specs.declared.tree.ast.Arguments.{Arguments}
@@ -27,9 +26,6 @@ use Rattle.juniper.specs.declared.tree.ast.Selection as code
 use Rattle.juniper.specs.declared.tree.ast.Definition as definitions
 use Rattle.juniper.specs.declared.tree.ast.Definition.TheVariants as definition
 
-abbrev pub view_located : {X A : Type 0} → (X → A) → Spanning X → Located A
-view_located view x = record { item = view x.item; span = view_span x.span }
-
 -- ---- words
 
 abbrev pub view_word : Spanning (Bor (List ℕ)) → Word
@@ -37,34 +33,13 @@ view_word = view_located (λ t. chars t.now)
 
 -- ---- values
 
-module _ {C : Type 0} where
-  abbrev pub items_by : List (Spanning (places.Span → Value C)) → Items C
-  items_by [] = no_items
-  items_by (x ∷ xs) = item (x.item (view_span x.span)) (items_by xs)
-
-  abbrev pub fields_by : List (Spanning (String Global) × Spanning (places.Span → Value C)) → ObjectFields C
-  fields_by [] = no_fields
-  fields_by (x ∷ xs) = object_field (view_located text_of x.0) (x.1.item (view_span x.1.span)) (fields_by xs)
-
 -- content says what a scalar is known by
 module _ {S C : Type 0} (content : S → C) where
-  -- One level, with each value inside already seen as its tree at a span. The law SeesValues says what this gives, a case a
-  -- line.
-  abbrev pub view_step : InputValue-F S (places.Span → Value C) → places.Span → Value C
-  view_step InputValue-F.Null p = Null p
-  view_step (InputValue-F.Scalar s) p = Scalar (content s) p
-  view_step (InputValue-F.Enum t) p = Enum (text_of t) p
-  view_step (InputValue-F.Variable t) p = Variable (text_of t) p
-  view_step (InputValue-F.List v) p = ListOf (items_by v.items) p
-  view_step (InputValue-F.Object v) p = Object (fields_by v.items) p
+  -- The law SeesValues says what this gives, a case a line.
+  abbrev pub view_value : Spanning (InputValue S) → Located (Value C)
+  view_value = view_located (view content)
 
-  abbrev pub view_at : InputValue S → places.Span → Value C
-  view_at = fold-InputValue S (places.Span → Value C) view_step
-
-  abbrev pub view_value : Spanning (InputValue S) → Value C
-  view_value x = view_at x.item (view_span x.span)
-
-  abbrev pub view_object_field : Spanning (String Global) × Spanning (InputValue S) → Word × Value C
+  abbrev pub view_object_field : Spanning (String Global) × Spanning (InputValue S) → Word × Located (Value C)
   view_object_field x = (view_located text_of x.0, view_value x.1)
 
 -- ---- types

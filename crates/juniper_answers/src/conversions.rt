@@ -2,7 +2,7 @@
 ghost use Rattle.std.specs.Prelude.{◌≡◌, IfOk, MatchOption, string_bytes};
 ghost use Rattle.std.specs.Cow.{cow_str_bytes};
 ghost use Rattle.std.specs.Str.{chars};
-ghost use Rattle.juniper_values.specs.Value.{null as input_null, scalar as input_scalar};
+ghost use Rattle.graphql_grammar.specs.Tree.{Null as input_null, Scalar as input_scalar};
 ghost use Rattle.juniper_values.specs.View.{view as input_view};
 ghost use Rattle.juniper_values.specs.declared.input_value.InputValue.{InputValue};
 ghost use Rattle.juniper_answers.specs.Data.{null, scalar};

@@ -12,8 +12,8 @@ use Rattle.juniper_values.specs.laws.EqualityLaws.{same_span-equiv}
 use Rattle.juniper_values.proofs.Alike.{same_key, text_equal}
 use Rattle.juniper_tokens.specs.declared.span.Spanning.{Spanning}
 use Rattle.juniper_tokens.specs.Spans.{view_span}
-use Rattle.juniper_values.specs.View.{view, view_step, items_of, fields_of, text_of}
-use Rattle.juniper_values.specs.Value.{Value, null, scalar, enum_value, variable, list, object, Items, no_items, item, Fields, no_fields, field}
+use Rattle.juniper_values.specs.View.{view, view_step, items_of, fields_of, text_of, view_located}
+use Rattle.graphql_grammar.specs.Tree.{Value, Null, Scalar, Enum, Variable, ListOf, Object, Items, no_items, item, ObjectFields, no_fields, object_field}
 use Rattle.juniper_values.specs.declared.input_value.InputValue.{InputValue, ind-InputValue, roll-InputValue, fold-roll-InputValue}
 use Rattle.juniper_values.specs.declared.input_value.InputValue.TheOpen.{InputValue-F}
 use Rattle.juniper_values.specs.declared.input_value.InputValue.TheFolds.{map-InputValue}
@@ -29,20 +29,20 @@ at_value f x = (x.0, at_item f x.1)
 module _ {S C : Type 0} (f : S → C) where
   abbrev mutual
     pub replaced : Value S → Value C
-    replaced null = null
-    replaced (scalar s) = scalar (f s)
-    replaced (enum_value t) = enum_value t
-    replaced (variable t) = variable t
-    replaced (list xs) = list (replaced_items xs)
-    replaced (object fs) = object (replaced_fields fs)
+    replaced Null = Null
+    replaced (Scalar s) = Scalar (f s)
+    replaced (Enum t) = Enum t
+    replaced (Variable t) = Variable t
+    replaced (ListOf xs) = ListOf (replaced_items xs)
+    replaced (Object fs) = Object (replaced_fields fs)
 
     pub replaced_items : Items S → Items C
     replaced_items no_items = no_items
     replaced_items (item v s xs) = item (replaced v) s (replaced_items xs)
 
-    pub replaced_fields : Fields S → Fields C
+    pub replaced_fields : ObjectFields S → ObjectFields C
     replaced_fields no_fields = no_fields
-    replaced_fields (field k s v t fs) = field k s (replaced v) t (replaced_fields fs)
+    replaced_fields (object_field k v t fs) = object_field k (replaced v) t (replaced_fields fs)
 
   -- one level, where it holds of the values within
   module _ {V E : Type 0} (part : E → V) (a : V → Value C) (b : V → Value S)
@@ -57,7 +57,7 @@ module _ {S C : Type 0} (f : S → C) where
         → fields_of (map (at_value a) (map (at_value part) xs))
         ≡ replaced_fields (fields_of (map (at_value b) (map (at_value part) xs)))
     fields_replaced [] = refl
-    fields_replaced (x ∷ xs) = λ i. field (text_of x.0.item) (view_span x.0.span) (within x.1.item i)
+    fields_replaced (x ∷ xs) = λ i. object_field (view_located text_of x.0) (within x.1.item i)
         (view_span x.1.span) (fields_replaced xs i)
 
     level : (y : InputValue-F S E)
@@ -67,8 +67,8 @@ module _ {S C : Type 0} (f : S → C) where
     level (InputValue-F.Scalar s) = refl
     level (InputValue-F.Enum t) = refl
     level (InputValue-F.Variable t) = refl
-    level (InputValue-F.List v) = ap list (items_replaced v.items)
-    level (InputValue-F.Object v) = ap object (fields_replaced v.items)
+    level (InputValue-F.List v) = ap ListOf (items_replaced v.items)
+    level (InputValue-F.Object v) = ap Object (fields_replaced v.items)
 
   pub view-replaced : (v : InputValue S) → view f v ≡ replaced (view (λ s. s) v)
   view-replaced v = ind-InputValue S (λ v. view f v ≡ replaced (view (λ s. s) v)) (λ x y e.
@@ -82,23 +82,23 @@ module _ {S C : Type 0} (f : S → C) where
 module _ {S C : Type 0} (f : S → C) (shown : C → Text) where
   mutual
     pub text_replaced : (v : Value S) → value_text shown (replaced f v) ≡ value_text (λ s. shown (f s)) v
-    text_replaced null = refl
-    text_replaced (scalar s) = refl
-    text_replaced (enum_value t) = refl
-    text_replaced (variable t) = refl
-    text_replaced (list xs) = ap (λ (ts : List Text). codes "[" ++ (joined ts ++ codes "]")) (items_text_replaced xs)
-    text_replaced (object fs) = ap (λ (ts : List Text). codes "{" ++ (joined ts ++ codes "}")) (fields_text_replaced fs)
+    text_replaced Null = refl
+    text_replaced (Scalar s) = refl
+    text_replaced (Enum t) = refl
+    text_replaced (Variable t) = refl
+    text_replaced (ListOf xs) = ap (λ (ts : List Text). codes "[" ++ (joined ts ++ codes "]")) (items_text_replaced xs)
+    text_replaced (Object fs) = ap (λ (ts : List Text). codes "{" ++ (joined ts ++ codes "}")) (fields_text_replaced fs)
 
     items_text_replaced : (xs : Items S) → item_texts shown (replaced_items f xs) ≡ item_texts (λ s. shown (f s)) xs
     items_text_replaced no_items = refl
     items_text_replaced (item v s xs) = ap₂ (λ (t : Text) (ts : List Text). t ∷ ts) (text_replaced v)
         (items_text_replaced xs)
 
-    fields_text_replaced : (fs : Fields S) → field_texts shown (replaced_fields f fs)
+    fields_text_replaced : (fs : ObjectFields S) → field_texts shown (replaced_fields f fs)
         ≡ field_texts (λ s. shown (f s)) fs
     fields_text_replaced no_fields = refl
-    fields_text_replaced (field k s v t fs) =
-        ap₂ (λ (u : Text) (ts : List Text). (k ++ (codes ": " ++ u)) ∷ ts) (text_replaced v) (fields_text_replaced fs)
+    fields_text_replaced (object_field k v t fs) =
+        ap₂ (λ (u : Text) (ts : List Text). (k.item ++ (codes ": " ++ u)) ∷ ts) (text_replaced v) (fields_text_replaced fs)
 
 -- ---- values whose scalars have the same contents are equal
 
@@ -108,18 +108,18 @@ span_equal s t e = sym (ap (same_span s) e) ∙ same_span-equiv.refl s
 module _ {S C : Type 0} (f : S → C) (eq : S → S → Bool) (same : (a b : S) → f a ≡ f b → eq a b ≡ true) where
   mutual
     equal : (v w : Value S) → replaced f v ≡ replaced f w → same_value eq v w ≡ true
-    equal null null e = refl
-    equal null w e = absurd (cc)
-    equal (scalar a) (scalar b) e = same a b (cc)
-    equal (scalar a) w e = absurd (cc)
-    equal (enum_value a) (enum_value b) e = text_equal a b (cc)
-    equal (enum_value a) w e = absurd (cc)
-    equal (variable a) (variable b) e = text_equal a b (cc)
-    equal (variable a) w e = absurd (cc)
-    equal (list xs) (list ys) e = items_equal xs ys (cc)
-    equal (list xs) w e = absurd (cc)
-    equal (object fs) (object gs) e = fields_equal fs gs (cc)
-    equal (object fs) w e = absurd (cc)
+    equal Null Null e = refl
+    equal Null w e = absurd (cc)
+    equal (Scalar a) (Scalar b) e = same a b (cc)
+    equal (Scalar a) w e = absurd (cc)
+    equal (Enum a) (Enum b) e = text_equal a b (cc)
+    equal (Enum a) w e = absurd (cc)
+    equal (Variable a) (Variable b) e = text_equal a b (cc)
+    equal (Variable a) w e = absurd (cc)
+    equal (ListOf xs) (ListOf ys) e = items_equal xs ys (cc)
+    equal (ListOf xs) w e = absurd (cc)
+    equal (Object fs) (Object gs) e = fields_equal fs gs (cc)
+    equal (Object fs) w e = absurd (cc)
 
     items_equal : (xs ys : Items S) → replaced_items f xs ≡ replaced_items f ys → same_items eq xs ys ≡ true
     items_equal no_items no_items e = refl
@@ -129,16 +129,16 @@ module _ {S C : Type 0} (f : S → C) (eq : S → S → Bool) (same : (a b : S) 
         (and_from (same_value eq v w) _ (equal v w (cc)) (span_equal s t (cc))) (items_equal xs ys (cc))
     items_equal (item v s xs) ys e = absurd (cc)
 
-    fields_equal : (fs gs : Fields S) → replaced_fields f fs ≡ replaced_fields f gs → same_fields eq fs gs ≡ true
+    fields_equal : (fs gs : ObjectFields S) → replaced_fields f fs ≡ replaced_fields f gs → same_fields eq fs gs ≡ true
     fields_equal no_fields no_fields e = refl
     fields_equal no_fields gs e = absurd (cc)
-    fields_equal (field k a v s fs) (field l b w t gs) e =
-        and_from ((same_text k l && same_span a b) && (same_value eq v w && same_span s t)) _
-        (and_from (same_text k l && same_span a b) _
-        (and_from (same_text k l) _ (text_equal k l (cc)) (span_equal a b (cc)))
+    fields_equal (object_field k v s fs) (object_field l w t gs) e =
+        and_from ((same_text k.item l.item && same_span k.span l.span) && (same_value eq v w && same_span s t)) _
+        (and_from (same_text k.item l.item && same_span k.span l.span) _
+        (and_from (same_text k.item l.item) _ (text_equal k.item l.item (cc)) (span_equal k.span l.span (cc)))
         (and_from (same_value eq v w) _ (equal v w (cc)) (span_equal s t (cc))))
         (fields_equal fs gs (cc))
-    fields_equal (field k a v s fs) gs e = absurd (cc)
+    fields_equal (object_field k v s fs) gs e = absurd (cc)
 
   pub copies_equal : (a b : InputValue S) → view f a ≡ view f b
       → same_value eq (view (λ s. s) a) (view (λ s. s) b) ≡ true
@@ -166,18 +166,18 @@ span_is s t e =
 module _ {S C : Type 0} (f : S → C) (eq : S → S → Bool) (told : (a b : S) → eq a b ≡ true → f a ≡ f b) where
   mutual
     pub same_contents : (v w : Value S) → same_value eq v w ≡ true → replaced f v ≡ replaced f w
-    same_contents null null e = refl
-    same_contents null w e = absurd (true≢false (sym e))
-    same_contents (scalar a) (scalar b) e = ap scalar (told a b e)
-    same_contents (scalar a) w e = absurd (true≢false (sym e))
-    same_contents (enum_value a) (enum_value b) e = ap enum_value (same_key a b e)
-    same_contents (enum_value a) w e = absurd (true≢false (sym e))
-    same_contents (variable a) (variable b) e = ap variable (same_key a b e)
-    same_contents (variable a) w e = absurd (true≢false (sym e))
-    same_contents (list xs) (list ys) e = ap list (same_item_contents xs ys e)
-    same_contents (list xs) w e = absurd (true≢false (sym e))
-    same_contents (object fs) (object gs) e = ap object (same_field_contents fs gs e)
-    same_contents (object fs) w e = absurd (true≢false (sym e))
+    same_contents Null Null e = refl
+    same_contents Null w e = absurd (true≢false (sym e))
+    same_contents (Scalar a) (Scalar b) e = ap Scalar (told a b e)
+    same_contents (Scalar a) w e = absurd (true≢false (sym e))
+    same_contents (Enum a) (Enum b) e = ap Enum (same_key a b e)
+    same_contents (Enum a) w e = absurd (true≢false (sym e))
+    same_contents (Variable a) (Variable b) e = ap Variable (same_key a b e)
+    same_contents (Variable a) w e = absurd (true≢false (sym e))
+    same_contents (ListOf xs) (ListOf ys) e = ap ListOf (same_item_contents xs ys e)
+    same_contents (ListOf xs) w e = absurd (true≢false (sym e))
+    same_contents (Object fs) (Object gs) e = ap Object (same_field_contents fs gs e)
+    same_contents (Object fs) w e = absurd (true≢false (sym e))
 
     same_item_contents : (xs ys : Items S) → same_items eq xs ys ≡ true → replaced_items f xs ≡ replaced_items f ys
     same_item_contents no_items no_items e = refl
@@ -190,21 +190,21 @@ module _ {S C : Type 0} (f : S → C) (eq : S → S → Bool) (told : (a b : S) 
         λ i. item (value i) (span i) (rest i)
     same_item_contents (item v s xs) ys e = absurd (true≢false (sym e))
 
-    same_field_contents : (fs gs : Fields S) → same_fields eq fs gs ≡ true → replaced_fields f fs ≡ replaced_fields f gs
+    same_field_contents : (fs gs : ObjectFields S) → same_fields eq fs gs ≡ true → replaced_fields f fs ≡ replaced_fields f gs
     same_field_contents no_fields no_fields e = refl
     same_field_contents no_fields gs e = absurd (true≢false (sym e))
-    same_field_contents (field k a v s fs) (field l b w t gs) e =
-        let here = first_so ((same_text k l && same_span a b) && (same_value eq v w && same_span s t)) _ e in
-        let names = first_so (same_text k l && same_span a b) _ here in
-        let values = second_so (same_text k l && same_span a b) _ here in
-        let key = same_key k l (first_so _ _ names) in
-        let key_span = span_is a b (second_so (same_text k l) _ names) in
+    same_field_contents (object_field k v s fs) (object_field l w t gs) e =
+        let here = first_so ((same_text k.item l.item && same_span k.span l.span) && (same_value eq v w && same_span s t)) _ e in
+        let names = first_so (same_text k.item l.item && same_span k.span l.span) _ here in
+        let values = second_so (same_text k.item l.item && same_span k.span l.span) _ here in
+        let key = same_key k.item l.item (first_so _ _ names) in
+        let key_span = span_is k.span l.span (second_so (same_text k.item l.item) _ names) in
         let value = same_contents v w (first_so _ _ values) in
         let span = span_is s t (second_so (same_value eq v w) _ values) in
-        let rest = same_field_contents fs gs (second_so ((same_text k l && same_span a b)
+        let rest = same_field_contents fs gs (second_so ((same_text k.item l.item && same_span k.span l.span)
         && (same_value eq v w && same_span s t)) _ e) in
-        λ i. field (key i) (key_span i) (value i) (span i) (rest i)
-    same_field_contents (field k a v s fs) gs e = absurd (true≢false (sym e))
+        λ i. object_field (record { item = key i; span = key_span i }) (value i) (span i) (rest i)
+    same_field_contents (object_field k v s fs) gs e = absurd (true≢false (sym e))
 
   pub equal_contents : (a b : InputValue S) → same_value eq (view (λ s. s) a) (view (λ s. s) b) ≡ true
       → view f a ≡ view f b

@@ -6,12 +6,13 @@ use Rattle.std.specs.Str.{chars, IsUtf8}
 use Rattle.indexmap.specs.IndexMap.{insert_entry}
 use Rattle.juniper_values.specs.Text.{Text}
 use Rattle.juniper_values.specs.Maps.{put, put_all}
-use Rattle.juniper_values.specs.Value.{Value, Fields, field}
+use Rattle.graphql_grammar.specs.Tree.{Value, ObjectFields, object_field}
 use Rattle.juniper_values.specs.Make.{unlocated_fields}
 use Rattle.juniper_values.specs.View.{view, text_of}
 use Rattle.juniper_values.specs.declared.input_value.InputValue.{InputValue}
 use Rattle.graphql_lexical.specs.Place.{Span}
 use Rattle.juniper_tokens.proofs.Public.{pointwise-chars}
+use Rattle.graphql_grammar.specs.Tokens.{Word}
 
 pub map_last : {A B : Type 0} (f : A → B) (xs : List A) (x : A) → map f (xs ++ x ∷ []) ≡ map f xs ++ f x ∷ []
 map_last f [] x = refl
@@ -58,12 +59,12 @@ module _ {V C : Type 0} (f : V → Value C) (new es : List (Bor (List ℕ) × V)
   pub still_texts : AreTexts f new
   still_texts = subst (AreTexts f) (sym is) (texts-insert f es k v texts text)
 
-  pub put_more : (key : Text) (s r : Span) (rest : Fields C) (all : List (Text × Value C)) → chars k.now ≡ key
-      → put_all (map (seen f) es) (field key s (f v) r rest) ≡ all → put_all (map (seen f) new) rest ≡ all
-  put_more key s r rest all e so_far =
+  pub put_more : (key : Word) (r : Span) (rest : ObjectFields C) (all : List (Text × Value C)) → chars k.now ≡ key.item
+      → put_all (map (seen f) es) (object_field key (f v) r rest) ≡ all → put_all (map (seen f) new) rest ≡ all
+  put_more key r rest all e so_far =
       ap (λ ps. put_all ps rest) (ap (map (seen f)) is ∙ seen-insert f es k v texts text
       ∙ ap (λ t. put (map (seen f) es) t (f v)) e) ∙ so_far
 
 -- the fields that are made of pairs
-abbrev pub placed : {S : Type 0} → List (String Global × InputValue S) → Fields S
+abbrev pub placed : {S : Type 0} → List (String Global × InputValue S) → ObjectFields S
 placed es = unlocated_fields (map (λ e. (text_of e.0, view (λ s. s) e.1)) es)

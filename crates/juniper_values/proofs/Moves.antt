@@ -8,12 +8,13 @@ use Rattle.juniper_tokens.specs.Spans.{view_span}
 use Rattle.juniper_values.specs.Text.{Text}
 use Rattle.juniper_values.specs.Equality.{same_value}
 use Rattle.juniper_values.specs.Resolve.{Values, resolve, resolve_items, resolve_fields, or_null, field_if, Becomes, ItemsBecome, FieldsBecome}
-use Rattle.juniper_values.specs.Value.{Value, null, scalar, enum_value, variable, list, object, Items, no_items, item, Fields, no_fields, field}
+use Rattle.graphql_grammar.specs.Tree.{Value, Null, Scalar, Enum, Variable, ListOf, Object, Items, no_items, item, ObjectFields, no_fields, object_field}
 use Rattle.juniper_values.specs.View.{view, view_items, view_fields, values_in}
 use Rattle.juniper_values.specs.declared.input_value.InputValue.{InputValue}
 use Rattle.juniper_values.specs.declared.input_value.InputValue.TheVariants as InputValue
 use Rattle.juniper_values.proofs.Copies.{replaced, replaced_items, replaced_fields, view-replaced, same_contents}
 use Rattle.juniper_values.proofs.Trees.{put_item, put_field, view-List, view-Object, view_or_null}
+use Rattle.graphql_grammar.specs.Tokens.{Word}
 
 -- ---- as the code makes it
 
@@ -60,7 +61,7 @@ module _ {S : Type 0} (eq : S → S → Bool) (m : Values S) where
 
   -- one field more in front
   pub field_becomes : (xs left : List (Entry S)) (x : Entry S) (y : Item S)
-      (o : Option (InputValue S)) (v : InputValue S) (rest : Fields S) → xs ≡ x ∷ left
+      (o : Option (InputValue S)) (v : InputValue S) (rest : ObjectFields S) → xs ≡ x ∷ left
       → y ≡ record { item = v; span = x.1.span }
       → o ≡ Some v → Becomes eq m (view (λ s. s) x.1.item) (option_map (view (λ s. s)) o)
       → FieldsBecome eq m (view_fields (λ s. s) left) rest
@@ -74,7 +75,7 @@ module _ {S : Type 0} (eq : S → S → Bool) (m : Values S) where
 
   -- a field whose value became nothing is left out
   pub field_goes : (xs left : List (Entry S)) (x : Entry S)
-      (o : Option (InputValue S)) (rest : Fields S) → xs ≡ x ∷ left
+      (o : Option (InputValue S)) (rest : ObjectFields S) → xs ≡ x ∷ left
       → o ≡ None → Becomes eq m (view (λ s. s) x.1.item) (option_map (view (λ s. s)) o)
       → FieldsBecome eq m (view_fields (λ s. s) left) rest → FieldsBecome eq m (view_fields (λ s. s) xs) rest
   field_goes xs left x o rest is none b h =
@@ -101,22 +102,22 @@ module _ {S C : Type 0} (f : S → C) (eq : S → S → Bool) (told : (a b : S) 
     null_replaced None = refl
     null_replaced (Some v) = refl
 
-    field_replaced : (k : Text) (s : Span) (o : Option (Value S)) (t : Span) (rest : Fields S)
-        → replaced_fields f (field_if k s o t rest)
-        ≡ field_if k s (option_map (replaced f) o) t (replaced_fields f rest)
-    field_replaced k s None t rest = refl
-    field_replaced k s (Some v) t rest = refl
+    field_replaced : (k : Word) (o : Option (Value S)) (t : Span) (rest : ObjectFields S)
+        → replaced_fields f (field_if k o t rest)
+        ≡ field_if k (option_map (replaced f) o) t (replaced_fields f rest)
+    field_replaced k None t rest = refl
+    field_replaced k (Some v) t rest = refl
 
     mutual
       resolved : (v : Value S) (o : Option (Value S)) → Becomes eq m v o
           → option_map (replaced f) o ≡ resolve contents (replaced f v)
-      resolved null o b = ap (option_map (replaced f)) b
-      resolved (scalar s) o b = ap (option_map (replaced f)) b
-      resolved (enum_value t) o b = ap (option_map (replaced f)) b
-      resolved (variable t) o b = copied (m t) o b
-      resolved (list xs) o b = ap (option_map (replaced f)) b.1 ∙ ap (λ ys. Some (list ys)) (items_resolved xs b.0 b.2)
-      resolved (object fs) o b = ap (option_map (replaced f)) b.1
-          ∙ ap (λ gs. Some (object gs)) (fields_resolved fs b.0 b.2)
+      resolved Null o b = ap (option_map (replaced f)) b
+      resolved (Scalar s) o b = ap (option_map (replaced f)) b
+      resolved (Enum t) o b = ap (option_map (replaced f)) b
+      resolved (Variable t) o b = copied (m t) o b
+      resolved (ListOf xs) o b = ap (option_map (replaced f)) b.1 ∙ ap (λ ys. Some (ListOf ys)) (items_resolved xs b.0 b.2)
+      resolved (Object fs) o b = ap (option_map (replaced f)) b.1
+          ∙ ap (λ gs. Some (Object gs)) (fields_resolved fs b.0 b.2)
 
       items_resolved : (xs ys : Items S) → ItemsBecome eq m xs ys
           → replaced_items f ys ≡ resolve_items contents (replaced_items f xs)
@@ -125,12 +126,12 @@ module _ {S C : Type 0} (f : S → C) (eq : S → S → Bool) (told : (a b : S) 
           ap (replaced_items f) b.2 ∙ (λ i. item ((null_replaced b.0 ∙ ap or_null (resolved v b.0 b.3)) i) s
           (items_resolved xs b.1 b.4 i))
 
-      fields_resolved : (fs gs : Fields S) → FieldsBecome eq m fs gs
+      fields_resolved : (fs gs : ObjectFields S) → FieldsBecome eq m fs gs
           → replaced_fields f gs ≡ resolve_fields contents (replaced_fields f fs)
       fields_resolved no_fields gs b = ap (replaced_fields f) b
-      fields_resolved (field k s v t fs) gs b =
-          ap (replaced_fields f) b.2 ∙ field_replaced k s b.0 t b.1
-          ∙ (λ i. field_if k s (resolved v b.0 b.3 i) t (fields_resolved fs b.1 b.4 i))
+      fields_resolved (object_field k v t fs) gs b =
+          ap (replaced_fields f) b.2 ∙ field_replaced k b.0 t b.1
+          ∙ (λ i. field_if k (resolved v b.0 b.3 i) t (fields_resolved fs b.1 b.4 i))
 
 -- what a value becomes scalar by scalar it becomes by their contents
 pub resolved_by_content : {S C H : Type 0} (f : S → C) (eq : S → S → Bool)

@@ -2,10 +2,11 @@
 use Rattle.std.proofs.Common.{◌≡◌, List, [], ◌∷◌, ◌++◌, Option, Some, None, refl}
 use Rattle.graphql_lexical.specs.Place.{Span}
 use Rattle.juniper_values.specs.Text.{Text}
-use Rattle.juniper_values.specs.Value.{Value, null, scalar, enum_value, variable, list, object, Items, no_items, item, Fields, no_fields, field}
+use Rattle.graphql_grammar.specs.Tree.{Value, Null, Scalar, Enum, Variable, ListOf, Object, Items, no_items, item, ObjectFields, no_fields, object_field}
 use Rattle.juniper_values.specs.Variables.{variables, item_variables, field_variables, here, in_list, in_object, ItemRefers, first_item, later_item, FieldRefers, first_field, later_field, HasNoVariable}
 use Rattle.juniper_values.specs.Resolve.{Values, resolve, resolve_items, resolve_fields, or_null, field_if}
 use Rattle.juniper_values.specs.laws.ValueLaws.{HaveNoVariables, LeavesNoVariable, RemovesVariables, IsEmptyWithoutVariables}
+use Rattle.graphql_grammar.specs.Tokens.{Word}
 
 left_empty : {A : Type 0} (xs ys : List A) → xs ++ ys ≡ [] → xs ≡ []
 left_empty [] ys e = refl
@@ -19,24 +20,24 @@ module _ {C : Type 0} where
   abbrev ItemsHaveNone : Items C → Type 0
   ItemsHaveNone xs = (t : Text) → ¬ (ItemRefers xs t)
 
-  abbrev FieldsHaveNone : Fields C → Type 0
+  abbrev FieldsHaveNone : ObjectFields C → Type 0
   FieldsHaveNone fs = (t : Text) → ¬ (FieldRefers fs t)
 
   -- ---- the whole has what its parts have
 
-  none_in_null : HasNoVariable {C = C} null
+  none_in_null : HasNoVariable {C = C} Null
   none_in_null t r = elim r [ ]
 
-  none_in_scalar : (s : C) → HasNoVariable (scalar s)
+  none_in_scalar : (s : C) → HasNoVariable (Scalar s)
   none_in_scalar s t r = elim r [ ]
 
-  none_in_enum : (n : Text) → HasNoVariable {C = C} (enum_value n)
+  none_in_enum : (n : Text) → HasNoVariable {C = C} (Enum n)
   none_in_enum n t r = elim r [ ]
 
-  none_in_list : (xs : Items C) → ItemsHaveNone xs → HasNoVariable (list xs)
+  none_in_list : (xs : Items C) → ItemsHaveNone xs → HasNoVariable (ListOf xs)
   none_in_list xs p t (in_list _ _ r) = p t r
 
-  none_in_object : (fs : Fields C) → FieldsHaveNone fs → HasNoVariable (object fs)
+  none_in_object : (fs : ObjectFields C) → FieldsHaveNone fs → HasNoVariable (Object fs)
   none_in_object fs p t (in_object _ _ r) = p t r
 
   none_in_no_items : ItemsHaveNone no_items
@@ -50,49 +51,49 @@ module _ {C : Type 0} where
   none_in_no_fields : FieldsHaveNone no_fields
   none_in_no_fields t r = elim r [ ]
 
-  none_in_fields : (k : Text) (s : Span) (v : Value C) (r : Span) (fs : Fields C) → HasNoVariable v → FieldsHaveNone fs
-      → FieldsHaveNone (field k s v r fs)
-  none_in_fields k s v r fs p q t (first_field _ _ _ _ _ _ h) = p t h
-  none_in_fields k s v r fs p q t (later_field _ _ _ _ _ _ h) = q t h
+  none_in_fields : (k : Word) (v : Value C) (r : Span) (fs : ObjectFields C) → HasNoVariable v → FieldsHaveNone fs
+      → FieldsHaveNone (object_field k v r fs)
+  none_in_fields k v r fs p q t (first_field _ _ _ _ _ h) = p t h
+  none_in_fields k v r fs p q t (later_field _ _ _ _ _ h) = q t h
 
   -- ---- the names of the variables
 
   mutual
     no_names : (v : Value C) → HasNoVariable v → variables v ≡ []
-    no_names null p = refl
-    no_names (scalar s) p = refl
-    no_names (enum_value n) p = refl
-    no_names (variable n) p = absurd (p n (here n))
-    no_names (list xs) p = no_item_names xs (λ t r. p t (in_list xs t r))
-    no_names (object fs) p = no_field_names fs (λ t r. p t (in_object fs t r))
+    no_names Null p = refl
+    no_names (Scalar s) p = refl
+    no_names (Enum n) p = refl
+    no_names (Variable n) p = absurd (p n (here n))
+    no_names (ListOf xs) p = no_item_names xs (λ t r. p t (in_list xs t r))
+    no_names (Object fs) p = no_field_names fs (λ t r. p t (in_object fs t r))
 
     no_item_names : (xs : Items C) → ItemsHaveNone xs → item_variables xs ≡ []
     no_item_names no_items p = refl
     no_item_names (item v s xs) p = λ i. no_names v (λ t r. p t (first_item v s xs t r)) i
         ++ no_item_names xs (λ t r. p t (later_item v s xs t r)) i
 
-    no_field_names : (fs : Fields C) → FieldsHaveNone fs → field_variables fs ≡ []
+    no_field_names : (fs : ObjectFields C) → FieldsHaveNone fs → field_variables fs ≡ []
     no_field_names no_fields p = refl
-    no_field_names (field k s v r fs) p = λ i. no_names v (λ t h. p t (first_field k s v r fs t h)) i
-        ++ no_field_names fs (λ t h. p t (later_field k s v r fs t h)) i
+    no_field_names (object_field k v r fs) p = λ i. no_names v (λ t h. p t (first_field k v r fs t h)) i
+        ++ no_field_names fs (λ t h. p t (later_field k v r fs t h)) i
 
   mutual
     none : (v : Value C) → variables v ≡ [] → HasNoVariable v
-    none null e = none_in_null
-    none (scalar s) e = none_in_scalar s
-    none (enum_value n) e = none_in_enum n
-    none (variable n) e = absurd (cc)
-    none (list xs) e = none_in_list xs (items_none xs e)
-    none (object fs) e = none_in_object fs (fields_none fs e)
+    none Null e = none_in_null
+    none (Scalar s) e = none_in_scalar s
+    none (Enum n) e = none_in_enum n
+    none (Variable n) e = absurd (cc)
+    none (ListOf xs) e = none_in_list xs (items_none xs e)
+    none (Object fs) e = none_in_object fs (fields_none fs e)
 
     items_none : (xs : Items C) → item_variables xs ≡ [] → ItemsHaveNone xs
     items_none no_items e = none_in_no_items
     items_none (item v s xs) e = none_in_items v s xs (none v (left_empty (variables v) _ e))
         (items_none xs (right_empty (variables v) _ e))
 
-    fields_none : (fs : Fields C) → field_variables fs ≡ [] → FieldsHaveNone fs
+    fields_none : (fs : ObjectFields C) → field_variables fs ≡ [] → FieldsHaveNone fs
     fields_none no_fields e = none_in_no_fields
-    fields_none (field k s v r fs) e = none_in_fields k s v r fs (none v (left_empty (variables v) _ e))
+    fields_none (object_field k v r fs) e = none_in_fields k v r fs (none v (left_empty (variables v) _ e))
         (fields_none fs (right_empty (variables v) _ e))
 
   pub empty_without_variables : (v : Value C) → IsEmptyWithoutVariables v
@@ -103,26 +104,26 @@ module _ {C : Type 0} where
   module _ (m : Values C) where
     mutual
       kept : (v : Value C) → HasNoVariable v → resolve m v ≡ Some v
-      kept null p = refl
-      kept (scalar s) p = refl
-      kept (enum_value n) p = refl
-      kept (variable n) p = absurd (p n (here n))
-      kept (list xs) p = λ i. Some (list (items_kept xs (λ t r. p t (in_list xs t r)) i))
-      kept (object fs) p = λ i. Some (object (fields_kept fs (λ t r. p t (in_object fs t r)) i))
+      kept Null p = refl
+      kept (Scalar s) p = refl
+      kept (Enum n) p = refl
+      kept (Variable n) p = absurd (p n (here n))
+      kept (ListOf xs) p = λ i. Some (ListOf (items_kept xs (λ t r. p t (in_list xs t r)) i))
+      kept (Object fs) p = λ i. Some (Object (fields_kept fs (λ t r. p t (in_object fs t r)) i))
 
       items_kept : (xs : Items C) → ItemsHaveNone xs → resolve_items m xs ≡ xs
       items_kept no_items p = refl
       items_kept (item v s xs) p = λ i. item (or_null (kept v (λ t r. p t (first_item v s xs t r)) i)) s
           (items_kept xs (λ t r. p t (later_item v s xs t r)) i)
 
-      fields_kept : (fs : Fields C) → FieldsHaveNone fs → resolve_fields m fs ≡ fs
+      fields_kept : (fs : ObjectFields C) → FieldsHaveNone fs → resolve_fields m fs ≡ fs
       fields_kept no_fields p = refl
-      fields_kept (field k s v r fs) p = λ i.
-          field_if k s (kept v (λ t h. p t (first_field k s v r fs t h)) i) r
-          (fields_kept fs (λ t h. p t (later_field k s v r fs t h)) i)
+      fields_kept (object_field k v r fs) p = λ i.
+          field_if k (kept v (λ t h. p t (first_field k v r fs t h)) i) r
+          (fields_kept fs (λ t h. p t (later_field k v r fs t h)) i)
 
     module _ (closed : HaveNoVariables m) where
-      at_variable : (n : Text) (o : Option (Value C)) → m n ≡ o → LeavesNoVariable m (variable n) o
+      at_variable : (n : Text) (o : Option (Value C)) → m n ≡ o → LeavesNoVariable m (Variable n) o
       at_variable n None e = (n, refl, e)
       at_variable n (Some w) e = closed n w e
 
@@ -130,28 +131,28 @@ module _ {C : Type 0} where
       at_item v None p = none_in_null
       at_item v (Some w) p = p
 
-      at_field : (k : Text) (s : Span) (v : Value C) (r : Span) (fs : Fields C) (o : Option (Value C))
-          → LeavesNoVariable m v o → FieldsHaveNone fs → FieldsHaveNone (field_if k s o r fs)
-      at_field k s v r fs None p q = q
-      at_field k s v r fs (Some w) p q = none_in_fields k s w r fs p q
+      at_field : (k : Word) (v : Value C) (r : Span) (fs : ObjectFields C) (o : Option (Value C))
+          → LeavesNoVariable m v o → FieldsHaveNone fs → FieldsHaveNone (field_if k o r fs)
+      at_field k v r fs None p q = q
+      at_field k v r fs (Some w) p q = none_in_fields k w r fs p q
 
       mutual
         removed : (v : Value C) → RemovesVariables m v
-        removed null = none_in_null
-        removed (scalar s) = none_in_scalar s
-        removed (enum_value n) = none_in_enum n
-        removed (variable n) = at_variable n (m n) refl
-        removed (list xs) = none_in_list (resolve_items m xs) (items_removed xs)
-        removed (object fs) = none_in_object (resolve_fields m fs) (fields_removed fs)
+        removed Null = none_in_null
+        removed (Scalar s) = none_in_scalar s
+        removed (Enum n) = none_in_enum n
+        removed (Variable n) = at_variable n (m n) refl
+        removed (ListOf xs) = none_in_list (resolve_items m xs) (items_removed xs)
+        removed (Object fs) = none_in_object (resolve_fields m fs) (fields_removed fs)
 
         items_removed : (xs : Items C) → ItemsHaveNone (resolve_items m xs)
         items_removed no_items = none_in_no_items
         items_removed (item v s xs) = none_in_items (or_null (resolve m v)) s (resolve_items m xs)
             (at_item v (resolve m v) (removed v)) (items_removed xs)
 
-        fields_removed : (fs : Fields C) → FieldsHaveNone (resolve_fields m fs)
+        fields_removed : (fs : ObjectFields C) → FieldsHaveNone (resolve_fields m fs)
         fields_removed no_fields = none_in_no_fields
-        fields_removed (field k s v r fs) = at_field k s v r (resolve_fields m fs) (resolve m v) (removed v)
+        fields_removed (object_field k v r fs) = at_field k v r (resolve_fields m fs) (resolve m v) (removed v)
             (fields_removed fs)
 
   pub resolving_keeps : (m : Values C) (v : Value C) → HasNoVariable v → resolve m v ≡ Some v

@@ -1,7 +1,7 @@
 -- How an input value is shown.
 use Rattle.std.specs.Prelude.{Bool, true, false, List, [], ◌∷◌, ◌++◌, codes}
 use Rattle.juniper_values.specs.Text.{Text}
-use Rattle.juniper_values.specs.Value.{Value, null, scalar, enum_value, variable, list, object, Items, no_items, item, Fields, no_fields, field}
+use Rattle.graphql_grammar.specs.Tree.{Value, Null, Scalar, Enum, Variable, ListOf, Object, Items, no_items, item, ObjectFields, no_fields, object_field}
 
 -- what stands before a text, unless it is the first
 abbrev pub separator : Bool → Text
@@ -22,17 +22,17 @@ joined (t ∷ ts) = t ++ after_commas ts
 module _ {C : Type 0} (shown : C → Text) where
   abbrev mutual
     pub value_text : Value C → Text
-    value_text null = codes "null"
-    value_text (scalar s) = shown s
-    value_text (enum_value t) = t
-    value_text (variable t) = codes "$" ++ t
-    value_text (list xs) = codes "[" ++ (joined (item_texts xs) ++ codes "]")
-    value_text (object fs) = codes "{" ++ (joined (field_texts fs) ++ codes "}")
+    value_text Null = codes "null"
+    value_text (Scalar s) = shown s
+    value_text (Enum t) = t
+    value_text (Variable t) = codes "$" ++ t
+    value_text (ListOf xs) = codes "[" ++ (joined (item_texts xs) ++ codes "]")
+    value_text (Object fs) = codes "{" ++ (joined (field_texts fs) ++ codes "}")
 
     pub item_texts : Items C → List Text
     item_texts no_items = []
     item_texts (item v s xs) = value_text v ∷ item_texts xs
 
-    pub field_texts : Fields C → List Text
+    pub field_texts : ObjectFields C → List Text
     field_texts no_fields = []
-    field_texts (field k s v t fs) = (k ++ (codes ": " ++ value_text v)) ∷ field_texts fs
+    field_texts (object_field k v t fs) = (k.item ++ (codes ": " ++ value_text v)) ∷ field_texts fs

@@ -2,7 +2,7 @@
 use Rattle.std.specs.Prelude.{Bool, true, false, ◌&&◌, ◌==◌}
 use Rattle.graphql_lexical.specs.Place.{Place, Span}
 use Rattle.juniper_values.specs.Text.{same_text}
-use Rattle.juniper_values.specs.Value.{Value, null, scalar, enum_value, variable, list, object, Items, no_items, item, Fields, no_fields, field}
+use Rattle.graphql_grammar.specs.Tree.{Value, Null, Scalar, Enum, Variable, ListOf, Object, Items, no_items, item, ObjectFields, no_fields, object_field}
 
 abbrev pub same_place : Place → Place → Bool
 same_place p q = p.index == q.index && (p.line == q.line && p.column == q.column)
@@ -14,12 +14,12 @@ same_span s t = same_place s.start t.start && same_place s.end t.end
 module _ {C : Type 0} (eq : C → C → Bool) where
   abbrev mutual
     pub same_value : Value C → Value C → Bool
-    same_value null null = true
-    same_value (scalar a) (scalar b) = eq a b
-    same_value (enum_value a) (enum_value b) = same_text a b
-    same_value (variable a) (variable b) = same_text a b
-    same_value (list xs) (list ys) = same_items xs ys
-    same_value (object fs) (object gs) = same_fields fs gs
+    same_value Null Null = true
+    same_value (Scalar a) (Scalar b) = eq a b
+    same_value (Enum a) (Enum b) = same_text a b
+    same_value (Variable a) (Variable b) = same_text a b
+    same_value (ListOf xs) (ListOf ys) = same_items xs ys
+    same_value (Object fs) (Object gs) = same_fields fs gs
     same_value v w = false
 
     pub same_items : Items C → Items C → Bool
@@ -27,8 +27,8 @@ module _ {C : Type 0} (eq : C → C → Bool) where
     same_items (item v s xs) (item w t ys) = (same_value v w && same_span s t) && same_items xs ys
     same_items xs ys = false
 
-    pub same_fields : Fields C → Fields C → Bool
+    pub same_fields : ObjectFields C → ObjectFields C → Bool
     same_fields no_fields no_fields = true
-    same_fields (field k a v s fs) (field l b w t gs) =
-        ((same_text k l && same_span a b) && (same_value v w && same_span s t)) && same_fields fs gs
+    same_fields (object_field k v s fs) (object_field l w t gs) =
+        ((same_text k.item l.item && same_span k.span l.span) && (same_value v w && same_span s t)) && same_fields fs gs
     same_fields fs gs = false

@@ -7,7 +7,6 @@ pub mod device
 pub mod Integers
 pub mod Default
 pub mod TypeLiteral
-pub mod Value
 pub mod View
 pub mod Display
 pub mod Kinds

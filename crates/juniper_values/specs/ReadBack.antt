@@ -11,9 +11,9 @@ use Rattle.juniper_tokens.specs.Tokens.{kind_text}
 use Rattle.juniper_values.specs.Text.{Text}
 use Rattle.juniper_values.specs.Scalar.{Content, integer, text, boolean, custom}
 use Rattle.juniper_values.specs.Integers.{is_i32}
-use Rattle.juniper_values.specs.Value.{Value, null, scalar, enum_value, variable, list, object, Items, no_items, item, Fields, no_fields, field}
+use Rattle.graphql_grammar.specs.Tree.{Value, Null, Scalar, Enum, Variable, ListOf, Object, Items, no_items, item, ObjectFields, no_fields, object_field}
 use Rattle.juniper_values.specs.declared.type_literal.TypeModifier.{TypeModifier}
-use Rattle.juniper_values.specs.declared.type_literal.TypeModifier.TheVariants.{NonNull, List as ListOf}
+use Rattle.juniper_values.specs.declared.type_literal.TypeModifier.TheVariants.{NonNull, List as ListModifier}
 
 abbrev pub token : Kind → Text → Bare
 token kind t = record { kind = kind; text = t }
@@ -26,11 +26,11 @@ punctuation kind = token kind (kind_text kind [])
 
 abbrev pub opening_tokens : TypeModifier → List Bare
 opening_tokens NonNull = []
-opening_tokens (ListOf size) = punctuation BracketOpen ∷ []
+opening_tokens (ListModifier size) = punctuation BracketOpen ∷ []
 
 abbrev pub closing_tokens : TypeModifier → List Bare
 closing_tokens NonNull = punctuation ExclamationMark ∷ []
-closing_tokens (ListOf size) = punctuation BracketClose ∷ []
+closing_tokens (ListModifier size) = punctuation BracketClose ∷ []
 
 -- these modifiers, the innermost first, around the tokens of a type
 abbrev pub wrapped_tokens : List Bare → List TypeModifier → List Bare
@@ -52,20 +52,20 @@ scalar_token (custom ns) = token Name []
 abbrev mutual
   -- the tokens of a value's text
   pub value_tokens : Value Content → List Bare
-  value_tokens null = token Name (codes "null") ∷ []
-  value_tokens (scalar s) = scalar_token s ∷ []
-  value_tokens (enum_value t) = token Name t ∷ []
-  value_tokens (variable t) = punctuation Dollar ∷ token Name t ∷ []
-  value_tokens (list xs) = punctuation BracketOpen ∷ (items_tokens xs ++ punctuation BracketClose ∷ [])
-  value_tokens (object fs) = punctuation CurlyOpen ∷ (fields_tokens fs ++ punctuation CurlyClose ∷ [])
+  value_tokens Null = token Name (codes "null") ∷ []
+  value_tokens (Scalar s) = scalar_token s ∷ []
+  value_tokens (Enum t) = token Name t ∷ []
+  value_tokens (Variable t) = punctuation Dollar ∷ token Name t ∷ []
+  value_tokens (ListOf xs) = punctuation BracketOpen ∷ (items_tokens xs ++ punctuation BracketClose ∷ [])
+  value_tokens (Object fs) = punctuation CurlyOpen ∷ (fields_tokens fs ++ punctuation CurlyClose ∷ [])
 
   pub items_tokens : Items Content → List Bare
   items_tokens no_items = []
   items_tokens (item v s xs) = value_tokens v ++ items_tokens xs
 
-  pub fields_tokens : Fields Content → List Bare
+  pub fields_tokens : ObjectFields Content → List Bare
   fields_tokens no_fields = []
-  fields_tokens (field k s v t fs) = token Name k ∷ punctuation Colon ∷ (value_tokens v ++ fields_tokens fs)
+  fields_tokens (object_field k v t fs) = token Name k.item ∷ punctuation Colon ∷ (value_tokens v ++ fields_tokens fs)
 
 -- a Name that isn't one of the names of other values
 pub record IsEnumName (t : Text) : Type 0 where
@@ -85,17 +85,17 @@ IsPlainScalar (custom ns) = ⊥
 abbrev mutual
   -- its scalars are plain, and its variables, keys and enums have names that a source can have
   pub IsPlain : Value Content → Type 0
-  IsPlain null = Unit {0}
-  IsPlain (scalar s) = IsPlainScalar s
-  IsPlain (enum_value t) = IsEnumName t
-  IsPlain (variable t) = IsName t
-  IsPlain (list xs) = ArePlainItems xs
-  IsPlain (object fs) = ArePlainFields fs
+  IsPlain Null = Unit {0}
+  IsPlain (Scalar s) = IsPlainScalar s
+  IsPlain (Enum t) = IsEnumName t
+  IsPlain (Variable t) = IsName t
+  IsPlain (ListOf xs) = ArePlainItems xs
+  IsPlain (Object fs) = ArePlainFields fs
 
   pub ArePlainItems : Items Content → Type 0
   ArePlainItems no_items = Unit {0}
   ArePlainItems (item v s xs) = IsPlain v × ArePlainItems xs
 
-  pub ArePlainFields : Fields Content → Type 0
+  pub ArePlainFields : ObjectFields Content → Type 0
   ArePlainFields no_fields = Unit {0}
-  ArePlainFields (field k s v t fs) = IsName k × IsPlain v × ArePlainFields fs
+  ArePlainFields (object_field k v t fs) = IsName k.item × IsPlain v × ArePlainFields fs

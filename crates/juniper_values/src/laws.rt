@@ -15,7 +15,7 @@ ghost use Rattle.juniper_values.specs.Display.{value_text};
 ghost use Rattle.juniper_values.specs.Scalar.{Content};
 ghost use Rattle.juniper_values.specs.TypeLiteral.{TypeShape, same_type, type_text};
 ghost use Rattle.juniper_values.specs.Units.{StandsFor};
-ghost use Rattle.juniper_values.specs.Value.{Value, Fields, object};
+ghost use Rattle.graphql_grammar.specs.Tree.{Value, ObjectFields, Object};
 ghost use Rattle.juniper_values.specs.Variables.{HasNoVariable};
 ghost use Rattle.juniper_values.specs.View.{view};
 ghost use Rattle.juniper_values.specs.declared.input_value.InputValue.{InputValue};
@@ -104,7 +104,7 @@ pub fn equal_values_are_so_whatever_their_places<S: Eq>()
 /// Two objects are equal regardless of their places exactly if they have the same number of fields, and each field of
 /// either has in the other one with its key and an equal value.
 pub fn objects_are_compared_both_ways<S: Eq>()
-    ensures { (fs gs : Fields S) → (same_but_place S.eq (object fs) (object gs) ≡ true) ↔ AreSameFields S.eq fs gs }
+    ensures { (fs gs : ObjectFields S) → (same_but_place S.eq (Object fs) (Object gs) ≡ true) ↔ AreSameFields S.eq fs gs }
 {}
 
 /// The effect of wrapping a type once more.

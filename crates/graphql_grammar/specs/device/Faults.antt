@@ -5,7 +5,7 @@ use Rattle.graphql_lexical.specs.declared.kind.Kind.TheVariants.{EndOfFile}
 use Rattle.graphql_lexical.specs.Cutting.{Lexeme}
 use Rattle.graphql_grammar.specs.Tokens.{Text, IsSpelled}
 use Rattle.graphql_grammar.specs.Tree.{Scalars}
-use Rattle.graphql_grammar.specs.Grammar.{IsScalarKind, IsValue, IsType, IsDocument}
+use Rattle.graphql_grammar.specs.Grammar.{IsScalarKind, IsValue, IsType, IsDocument, IsLocated}
 use Rattle.graphql_grammar.specs.Faults.{AnyToken, AtFault, ValueMayStand}
 
 -- The last is the error of the scalar type's own reading.
@@ -32,7 +32,7 @@ abbrev pub DocumentFaultAt : {C F : Type 0} → Scalars C F → List Lexeme → 
 DocumentFaultAt S ts before t e = AtFault IsSpelled (IsDocument S) ts before t × NamesFault IsSpelled S (IsDocument S) before t e
 
 abbrev pub ValueFaultAt : {C F : Type 0} → Scalars C F → Bool → List Lexeme → List Lexeme → Lexeme → Fault F → Type 0
-ValueFaultAt S free ts before t e = AtFault AnyToken (IsValue S free) ts before t × NamesFault AnyToken S (IsValue S free) before t e
+ValueFaultAt S free ts before t e = AtFault AnyToken (IsLocated (IsValue S free)) ts before t × NamesFault AnyToken S (IsLocated (IsValue S free)) before t e
 
 abbrev pub TypeFault : {F : Type 0} → Lexeme → Fault F → Type 0
 TypeFault t UnexpectedEndOfFile = t.kind ≡ EndOfFile

@@ -19,11 +19,11 @@ several kind p = part p (λ x. closed (of kind) p (λ xs q. gives (x ∷ xs)))
 
 -- ---- values
 
-abbrev pub by_name : {C F : Type 0} → Scalars C F → Text → Span → Value C
-by_name S w p = if bytes_eq w (codes "true") then Scalar (S.of_bool true) p
-    else if bytes_eq w (codes "false") then Scalar (S.of_bool false) p
-    else if bytes_eq w (codes "null") then Null p
-    else Enum w p
+abbrev pub by_name : {C F : Type 0} → Scalars C F → Text → Value C
+by_name S w = if bytes_eq w (codes "true") then Scalar (S.of_bool true)
+    else if bytes_eq w (codes "false") then Scalar (S.of_bool false)
+    else if bytes_eq w (codes "null") then Null
+    else Enum w
 
 abbrev pub variable_start : Bool → Test
 variable_start free kind text = free && of Dollar kind text
@@ -41,27 +41,27 @@ operation_of text = if bytes_eq text (codes "mutation") then Mutation else (if b
 
 module _ {C : Type 0} where
   -- "$" Name, from the dollar's p on
-  unfoldable pub variable : Span → Steps C (Value C)
-  variable p = wants (of Name) (λ w. gives (Variable w.text (from_to p w.span)))
+  unfoldable pub variable : Span → Steps C (Located (Value C))
+  variable p = wants (of Name) (λ w. gives (record { item = Variable w.text; span = from_to p w.span }))
 
   -- Value(c)* "]", from the bracket's p on
-  unfoldable pub list : Bool → Span → Steps C (Value C)
-  list free p = closed (of BracketClose) (symbol (a_value free)) (λ vs q. gives (ListOf (items_of vs) (from_to p q)))
+  unfoldable pub list : Bool → Span → Steps C (Located (Value C))
+  list free p = closed (of BracketClose) (symbol (a_value free)) (λ vs q. gives (record { item = ListOf (items_of vs); span = from_to p q }))
 
   -- Name ":" Value(c)
-  unfoldable pub key_and_value : Bool → Steps C (Word × Value C)
+  unfoldable pub key_and_value : Bool → Steps C (Word × Located (Value C))
   key_and_value free = wants (of Name) (λ k. wants (of Colon) (λ c. part (symbol (a_value free)) (λ v. gives (word_of k, v))))
 
   -- (Name ":" Value(c))* "}", from the brace's p on
-  unfoldable pub object : Bool → Span → Steps C (Value C)
-  object free p = closed (of CurlyClose) (key_and_value free) (λ fs q. gives (Object (fields_of fs) (from_to p q)))
+  unfoldable pub object : Bool → Span → Steps C (Located (Value C))
+  object free p = closed (of CurlyClose) (key_and_value free) (λ fs q. gives (record { item = Object (fields_of fs); span = from_to p q }))
 
-  unfoldable pub value : {F : Type 0} → Scalars C F → Bool → Steps C (Value C)
+  unfoldable pub value : {F : Type 0} → Scalars C F → Bool → Steps C (Located (Value C))
   value S free =
       takes (of BracketOpen) (λ o. list free o.span)
       (takes (of CurlyOpen) (λ o. object free o.span)
       (takes (variable_start free) (λ d. variable d.span)
-      (takes (of Name) (λ t. gives (by_name S t.text t.span))
+      (takes (of Name) (λ t. gives (record { item = by_name S t.text; span = t.span }))
       (scalar gives))))
 
   -- ---- types
@@ -123,7 +123,7 @@ module _ {C : Type 0} where
   -- ---- variable definitions
 
   -- ("=" Value(const))?
-  unfoldable pub default : Steps C (Option (Value C))
+  unfoldable pub default : Steps C (Option (Located (Value C)))
   default = sees (of Equals) (wants (of Equals) (λ e. part (symbol (a_value false)) (λ v. gives (Some v)))) (gives None)
 
   -- "$" Name ":" Type ("=" Value(const))? Directive*

@@ -19,8 +19,8 @@ use Rattle.juniper.specs.device.Seen.{seen}
 abbrev pub literal_here : {C : Type 0} → (Kind → Text → Result C Error) → Kind → Text → Result C Error
 literal_here read kind text = if scalar_token kind text then read kind text else unexpected kind text
 
-abbrev pub read_here : {C : Type 0} → Result C Error → Span → List Lexeme → Read (Value C)
-read_here (Ok c) p ts = Ok (Scalar c p, ts)
+abbrev pub read_here : {C : Type 0} → Result C Error → Span → List Lexeme → Read (Located (Value C))
+read_here (Ok c) p ts = Ok (record { item = Scalar c; span = p }, ts)
 read_here (Err e) p ts = Err (record { error = e; span = p }, ts)
 
 -- The next token was taken.
@@ -54,8 +54,8 @@ unfoldable pub type_read : List Lexeme → Read (Located TypeRef)
 type_read ts = seen (fully (λ n. symbol_at no_scalars n (Located TypeRef) a_type) ts)
 
 module _ {C : Type 0} (S : Scalars C Error) where
-  unfoldable pub value_read : Bool → List Lexeme → Read (Value C)
-  value_read free ts = seen (fully (λ n. symbol_at S n (Value C) (a_value free)) ts)
+  unfoldable pub value_read : Bool → List Lexeme → Read (Located (Value C))
+  value_read free ts = seen (fully (λ n. symbol_at S n (Located (Value C)) (a_value free)) ts)
 
   unfoldable pub selection_read : List Lexeme → Read (Selection C)
   selection_read ts = seen (fully (λ n. symbol_at S n (Selection C) a_selection) ts)
@@ -65,7 +65,7 @@ module _ {C : Type 0} (S : Scalars C Error) where
   symbol_read a_type ts = type_read ts
   symbol_read a_selection ts = selection_read ts
 
-  unfoldable pub scalar_read : List Lexeme → Read (Value C)
+  unfoldable pub scalar_read : List Lexeme → Read (Located (Value C))
   scalar_read ts = next_at ts >>= λ t. read_here (literal_here S.read t.0.kind t.0.text) t.0.span t.1
 
   unfoldable pub closed_read : {A : Type 0} → Test → Steps C A → List Lexeme → Read (List A × Span)

@@ -1,7 +1,7 @@
 -- What the laws of this crate say of views, of cuts and of lexical errors.
 use Rattle.std.specs.Prelude.{◌≡◌, ℕ, map, List, option_map, String, Vec, Err}
 use Rattle.std.specs.declared.alloc.Global.{Global}
-use Rattle.graphql_lexical.specs.Place.{Place, Span}
+use Rattle.graphql_lexical.specs.Place.{Place}
 use Rattle.graphql_lexical.specs.Kinds.{LexicalError}
 use Rattle.graphql_lexical.specs.Cutting.{Lexeme, Breaks}
 use Rattle.graphql_grammar.specs.Tree as tree
@@ -13,6 +13,7 @@ use Rattle.juniper_tokens.specs.declared.span.Spanning.{Spanning}
 use Rattle.juniper_tokens.specs.Errors.{view_fault, view_lexer_error}
 use Rattle.juniper_tokens.specs.Spans.{view_span}
 use Rattle.juniper_tokens.specs.Gathering.{IfFault}
+use Rattle.juniper_values.specs.View.{view}
 use Rattle.juniper_values.specs.declared.input_value.InputValue.{InputValue}
 use Rattle.juniper_values.specs.declared.input_value.InputValue.TheVariants as value
 use Rattle.juniper.specs.declared.tree.ast.Field.{Field}
@@ -20,18 +21,18 @@ use Rattle.juniper.specs.declared.tree.ast.FragmentSpread.{FragmentSpread}
 use Rattle.juniper.specs.declared.tree.ast.InlineFragment.{InlineFragment}
 use Rattle.juniper.specs.declared.tree.ast.Selection.TheVariants as selection
 use Rattle.juniper.specs.Promise.{lexical_fault}
-use Rattle.juniper.specs.View.{text_of, view_at, view_value, view_object_field, view_selection, view_selections, view_set, view_word, view_arguments, view_directives}
+use Rattle.juniper.specs.View.{text_of, view_value, view_object_field, view_selection, view_selections, view_set, view_word, view_arguments, view_directives}
 
 module _ {S C : Type 0} (content : S → C) where
-  -- the view of a value in its place, variant by variant
+  -- the view of a value, variant by variant
   pub record SeesValues : Type 0 where
-    pub null : (place : Span) → view_at content value.Null place ≡ Null place
-    pub scalar : (s : S) (place : Span) → view_at content (value.Scalar s) place ≡ Scalar (content s) place
-    pub enum_value : (name : String Global) (place : Span) → view_at content (value.Enum name) place ≡ Enum (text_of name) place
-    pub variable : (name : String Global) (place : Span) → view_at content (value.Variable name) place ≡ Variable (text_of name) place
-    pub list : (v : Vec (Spanning (InputValue S)) Global) (place : Span) → view_at content (value.List v) place ≡ ListOf (items_of (map (view_value content) v.items)) place
-    pub object : (v : Vec (Spanning (String Global) × Spanning (InputValue S)) Global) (place : Span)
-        → view_at content (value.Object v) place ≡ Object (fields_of (map (view_object_field content) v.items)) place
+    pub null : view content value.Null ≡ Null
+    pub scalar : (s : S) → view content (value.Scalar s) ≡ Scalar (content s)
+    pub enum_value : (name : String Global) → view content (value.Enum name) ≡ Enum (text_of name)
+    pub variable : (name : String Global) → view content (value.Variable name) ≡ Variable (text_of name)
+    pub list : (v : Vec (Spanning (InputValue S)) Global) → view content (value.List v) ≡ ListOf (items_of (map (view_value content) v.items))
+    pub object : (v : Vec (Spanning (String Global) × Spanning (InputValue S)) Global)
+        → view content (value.Object v) ≡ Object (fields_of (map (view_object_field content) v.items))
 
   -- the view of a selection, variant by variant
   pub record SeesSelections : Type 0 where

@@ -239,7 +239,7 @@ fn value_of_name<'a, S: ScalarValue>(
     alloc: Global,
     name: Spanning<&'a str>,
 ) -> Result<Spanning<InputValue<S>>, AllocError>
-    ensures { IfOk result (λ v. view_value S.content v ≡ by_name (stated S.reading S.of_bool) (chars name.entry.item.now) (view_span name.entry.span)) }
+    ensures { IfOk result (λ v. view_value S.content v ≡ record { item = by_name (stated S.reading S.of_bool) (chars name.entry.item.now); span = view_span name.entry.span }) }
 {
     if same_text(name.item, "true") {
         Ok(Spanning::new(name.span, InputValue::Scalar(S::from_bool(true))))

@@ -5,8 +5,8 @@ use Rattle.std.specs.Iterator.{Drains, Count, IsFinite, size}
 use Rattle.std.specs.declared.alloc.Global.{Global}
 use Rattle.graphql_lexical.specs.declared.kind.Kind.TheVariants.{Name, EndOfFile}
 use Rattle.graphql_lexical.specs.Cutting.{Lexeme, Cut}
+use Rattle.graphql_grammar.specs.Tree as input
 use Rattle.juniper_values.specs.Make.{unlocated}
-use Rattle.juniper_values.specs.Value as input
 use Rattle.juniper_answers.specs.Same.{same_entries}
 use Rattle.juniper_answers.specs.View.{pairs}
 use Rattle.juniper_answers.specs.declared.value.Object.{Object}
@@ -29,20 +29,20 @@ pub record IsOneName (text : List ℕ) : Type 0 where
 -- no enum, no variable, and unlocated spans only
 abbrev mutual
   pub IsPlainInput : {C : Type 0} → input.Value C → Type 0
-  IsPlainInput input.null = Unit {0}
-  IsPlainInput (input.scalar s) = Unit {0}
-  IsPlainInput (input.enum_value t) = ⊥
-  IsPlainInput (input.variable t) = ⊥
-  IsPlainInput (input.list xs) = ArePlainItems xs
-  IsPlainInput (input.object fs) = ArePlainFields fs
+  IsPlainInput input.Null = Unit {0}
+  IsPlainInput (input.Scalar s) = Unit {0}
+  IsPlainInput (input.Enum t) = ⊥
+  IsPlainInput (input.Variable t) = ⊥
+  IsPlainInput (input.ListOf xs) = ArePlainItems xs
+  IsPlainInput (input.Object fs) = ArePlainFields fs
 
   pub ArePlainItems : {C : Type 0} → input.Items C → Type 0
   ArePlainItems input.no_items = Unit {0}
   ArePlainItems (input.item v s xs) = IsPlainInput v × (s ≡ unlocated) × ArePlainItems xs
 
-  pub ArePlainFields : {C : Type 0} → input.Fields C → Type 0
+  pub ArePlainFields : {C : Type 0} → input.ObjectFields C → Type 0
   ArePlainFields input.no_fields = Unit {0}
-  ArePlainFields (input.field k s v t fs) = (s ≡ unlocated) × IsPlainInput v × (t ≡ unlocated) × ArePlainFields fs
+  ArePlainFields (input.object_field k v t fs) = (k.span ≡ unlocated) × IsPlainInput v × (t ≡ unlocated) × ArePlainFields fs
 
 -- ---- equality
 

@@ -6,7 +6,7 @@ use Rattle.std.proofs.lemmas.Bool.{and_from}
 use Rattle.std.proofs.lemmas.Cmp.{nat_eq_equiv, nat_list_eq_equiv}
 use Rattle.graphql_lexical.specs.Place.{Span}
 use Rattle.juniper_values.specs.Text.{Text, same_text}
-use Rattle.juniper_values.specs.Value.{Value, null, scalar, enum_value, variable, list, object, Items, no_items, item, Fields, no_fields, field}
+use Rattle.graphql_grammar.specs.Tree.{Value, Null, Scalar, Enum, Variable, ListOf, Object, Items, no_items, item, ObjectFields, no_fields, object_field}
 use Rattle.juniper_values.specs.Equality.{same_place, same_span, same_value, same_items, same_fields}
 use Rattle.juniper_values.specs.View.{view}
 use Rattle.juniper_values.specs.declared.input_value.InputValue.{InputValue}
@@ -26,12 +26,12 @@ span_along a b c e f = same_span-equiv.congr a b c e ∙ f
 module _ {C : Type 0} {eq : C → C → Bool} (laws : IsPartialEquivalence eq) where
   mutual
     back : (v w : Value C) → same_value eq v w ≡ same_value eq w v
-    back null null = refl
-    back (scalar a) (scalar b) = laws.symm a b
-    back (enum_value a) (enum_value b) = nat_list_eq_equiv.symm a b
-    back (variable a) (variable b) = nat_list_eq_equiv.symm a b
-    back (list xs) (list ys) = items_back xs ys
-    back (object fs) (object gs) = fields_back fs gs
+    back Null Null = refl
+    back (Scalar a) (Scalar b) = laws.symm a b
+    back (Enum a) (Enum b) = nat_list_eq_equiv.symm a b
+    back (Variable a) (Variable b) = nat_list_eq_equiv.symm a b
+    back (ListOf xs) (ListOf ys) = items_back xs ys
+    back (Object fs) (Object gs) = fields_back fs gs
     back v w = refl
 
     items_back : (xs ys : Items C) → same_items eq xs ys ≡ same_items eq ys xs
@@ -39,32 +39,32 @@ module _ {C : Type 0} {eq : C → C → Bool} (laws : IsPartialEquivalence eq) w
     items_back (item v s xs) (item w t ys) = λ i. (back v w i && same_span-equiv.symm s t i) && items_back xs ys i
     items_back xs ys = refl
 
-    fields_back : (fs gs : Fields C) → same_fields eq fs gs ≡ same_fields eq gs fs
+    fields_back : (fs gs : ObjectFields C) → same_fields eq fs gs ≡ same_fields eq gs fs
     fields_back no_fields no_fields = refl
-    fields_back (field k a v s fs) (field l b w t gs) = λ i.
-        ((nat_list_eq_equiv.symm k l i && same_span-equiv.symm a b i) && (back v w i && same_span-equiv.symm s t i)) && fields_back fs gs i
+    fields_back (object_field k v s fs) (object_field l w t gs) = λ i.
+        ((nat_list_eq_equiv.symm k.item l.item i && same_span-equiv.symm k.span l.span i) && (back v w i && same_span-equiv.symm s t i)) && fields_back fs gs i
     fields_back fs gs = refl
 
   mutual
     along : (u v w : Value C) → same_value eq u v ≡ true → same_value eq v w ≡ true → same_value eq u w ≡ true
-    along null null null e f = refl
-    along null null w e f = absurd (true≢false (sym f))
-    along null v w e f = absurd (true≢false (sym e))
-    along (scalar a) (scalar b) (scalar c) e f = laws.trans a b c e f
-    along (scalar a) (scalar b) w e f = absurd (true≢false (sym f))
-    along (scalar a) v w e f = absurd (true≢false (sym e))
-    along (enum_value a) (enum_value b) (enum_value c) e f = text_along a b c e f
-    along (enum_value a) (enum_value b) w e f = absurd (true≢false (sym f))
-    along (enum_value a) v w e f = absurd (true≢false (sym e))
-    along (variable a) (variable b) (variable c) e f = text_along a b c e f
-    along (variable a) (variable b) w e f = absurd (true≢false (sym f))
-    along (variable a) v w e f = absurd (true≢false (sym e))
-    along (list xs) (list ys) (list zs) e f = items_along xs ys zs e f
-    along (list xs) (list ys) w e f = absurd (true≢false (sym f))
-    along (list xs) v w e f = absurd (true≢false (sym e))
-    along (object fs) (object gs) (object hs) e f = fields_along fs gs hs e f
-    along (object fs) (object gs) w e f = absurd (true≢false (sym f))
-    along (object fs) v w e f = absurd (true≢false (sym e))
+    along Null Null Null e f = refl
+    along Null Null w e f = absurd (true≢false (sym f))
+    along Null v w e f = absurd (true≢false (sym e))
+    along (Scalar a) (Scalar b) (Scalar c) e f = laws.trans a b c e f
+    along (Scalar a) (Scalar b) w e f = absurd (true≢false (sym f))
+    along (Scalar a) v w e f = absurd (true≢false (sym e))
+    along (Enum a) (Enum b) (Enum c) e f = text_along a b c e f
+    along (Enum a) (Enum b) w e f = absurd (true≢false (sym f))
+    along (Enum a) v w e f = absurd (true≢false (sym e))
+    along (Variable a) (Variable b) (Variable c) e f = text_along a b c e f
+    along (Variable a) (Variable b) w e f = absurd (true≢false (sym f))
+    along (Variable a) v w e f = absurd (true≢false (sym e))
+    along (ListOf xs) (ListOf ys) (ListOf zs) e f = items_along xs ys zs e f
+    along (ListOf xs) (ListOf ys) w e f = absurd (true≢false (sym f))
+    along (ListOf xs) v w e f = absurd (true≢false (sym e))
+    along (Object fs) (Object gs) (Object hs) e f = fields_along fs gs hs e f
+    along (Object fs) (Object gs) w e f = absurd (true≢false (sym f))
+    along (Object fs) v w e f = absurd (true≢false (sym e))
 
     items_along : (xs ys zs : Items C) → same_items eq xs ys ≡ true → same_items eq ys zs ≡ true → same_items eq xs zs ≡ true
     items_along no_items no_items no_items e f = refl
@@ -80,46 +80,46 @@ module _ {C : Type 0} {eq : C → C → Bool} (laws : IsPartialEquivalence eq) w
     items_along (item u r xs) (item v s ys) zs e f = absurd (true≢false (sym f))
     items_along (item u r xs) ys zs e f = absurd (true≢false (sym e))
 
-    fields_along : (fs gs hs : Fields C) → same_fields eq fs gs ≡ true → same_fields eq gs hs ≡ true → same_fields eq fs hs ≡ true
+    fields_along : (fs gs hs : ObjectFields C) → same_fields eq fs gs ≡ true → same_fields eq gs hs ≡ true → same_fields eq fs hs ≡ true
     fields_along no_fields no_fields no_fields e f = refl
     fields_along no_fields no_fields hs e f = absurd (true≢false (sym f))
     fields_along no_fields gs hs e f = absurd (true≢false (sym e))
-    fields_along (field k a u r fs) (field l b v s gs) (field m d w t hs) e f =
-        let p = first_so ((same_text k l && same_span a b) && (same_value eq u v && same_span r s)) _ e in
-        let q = first_so ((same_text l m && same_span b d) && (same_value eq v w && same_span s t)) _ f in
-        let i = first_so (same_text k l && same_span a b) _ p in
-        let j = first_so (same_text l m && same_span b d) _ q in
-        let x = second_so (same_text k l && same_span a b) _ p in
-        let y = second_so (same_text l m && same_span b d) _ q in
-        and_from ((same_text k m && same_span a d) && (same_value eq u w && same_span r t)) (same_fields eq fs hs)
-        (and_from (same_text k m && same_span a d) (same_value eq u w && same_span r t)
-        (and_from (same_text k m) (same_span a d) (text_along k l m (first_so (same_text k l) _ i) (first_so (same_text l m) _ j))
-        (span_along a b d (second_so (same_text k l) _ i) (second_so (same_text l m) _ j)))
+    fields_along (object_field k u r fs) (object_field l v s gs) (object_field m w t hs) e f =
+        let p = first_so ((same_text k.item l.item && same_span k.span l.span) && (same_value eq u v && same_span r s)) _ e in
+        let q = first_so ((same_text l.item m.item && same_span l.span m.span) && (same_value eq v w && same_span s t)) _ f in
+        let i = first_so (same_text k.item l.item && same_span k.span l.span) _ p in
+        let j = first_so (same_text l.item m.item && same_span l.span m.span) _ q in
+        let x = second_so (same_text k.item l.item && same_span k.span l.span) _ p in
+        let y = second_so (same_text l.item m.item && same_span l.span m.span) _ q in
+        and_from ((same_text k.item m.item && same_span k.span m.span) && (same_value eq u w && same_span r t)) (same_fields eq fs hs)
+        (and_from (same_text k.item m.item && same_span k.span m.span) (same_value eq u w && same_span r t)
+        (and_from (same_text k.item m.item) (same_span k.span m.span) (text_along k.item l.item m.item (first_so (same_text k.item l.item) _ i) (first_so (same_text l.item m.item) _ j))
+        (span_along k.span l.span m.span (second_so (same_text k.item l.item) _ i) (second_so (same_text l.item m.item) _ j)))
         (and_from (same_value eq u w) (same_span r t) (along u v w (first_so (same_value eq u v) _ x) (first_so (same_value eq v w) _ y))
         (span_along r s t (second_so (same_value eq u v) _ x) (second_so (same_value eq v w) _ y))))
-        (fields_along fs gs hs (second_so ((same_text k l && same_span a b) && (same_value eq u v && same_span r s)) _ e)
-        (second_so ((same_text l m && same_span b d) && (same_value eq v w && same_span s t)) _ f))
-    fields_along (field k a u r fs) (field l b v s gs) hs e f = absurd (true≢false (sym f))
-    fields_along (field k a u r fs) gs hs e f = absurd (true≢false (sym e))
+        (fields_along fs gs hs (second_so ((same_text k.item l.item && same_span k.span l.span) && (same_value eq u v && same_span r s)) _ e)
+        (second_so ((same_text l.item m.item && same_span l.span m.span) && (same_value eq v w && same_span s t)) _ f))
+    fields_along (object_field k u r fs) (object_field l v s gs) hs e f = absurd (true≢false (sym f))
+    fields_along (object_field k u r fs) gs hs e f = absurd (true≢false (sym e))
 
 module _ {C : Type 0} (eq : C → C → Bool) (itself : (c : C) → eq c c ≡ true) where
   mutual
     same : (v : Value C) → same_value eq v v ≡ true
-    same null = refl
-    same (scalar a) = itself a
-    same (enum_value t) = nat_list_eq_equiv.refl t
-    same (variable t) = nat_list_eq_equiv.refl t
-    same (list xs) = items_same xs
-    same (object fs) = fields_same fs
+    same Null = refl
+    same (Scalar a) = itself a
+    same (Enum t) = nat_list_eq_equiv.refl t
+    same (Variable t) = nat_list_eq_equiv.refl t
+    same (ListOf xs) = items_same xs
+    same (Object fs) = fields_same fs
 
     items_same : (xs : Items C) → same_items eq xs xs ≡ true
     items_same no_items = refl
     items_same (item v s xs) = λ i. (same v i && same_span-equiv.refl s i) && items_same xs i
 
-    fields_same : (fs : Fields C) → same_fields eq fs fs ≡ true
+    fields_same : (fs : ObjectFields C) → same_fields eq fs fs ≡ true
     fields_same no_fields = refl
-    fields_same (field k a v s fs) = λ i.
-        ((nat_list_eq_equiv.refl k i && same_span-equiv.refl a i) && (same v i && same_span-equiv.refl s i)) && fields_same fs i
+    fields_same (object_field k v s fs) = λ i.
+        ((nat_list_eq_equiv.refl k.item i && same_span-equiv.refl k.span i) && (same v i && same_span-equiv.refl s i)) && fields_same fs i
 
 -- on values
 pub values_alike : {C : Type 0} {eq : C → C → Bool} → IsPartialEquivalence eq → IsPartialEquivalence (same_value eq)

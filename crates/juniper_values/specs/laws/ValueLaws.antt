@@ -3,7 +3,7 @@ use Rattle.std.specs.Prelude.{◌≡◌, ◌↔◌, ◌⊎◌, ◌∷◌, ◌++�
 use Rattle.juniper_values.specs.Text.{Text}
 use Rattle.juniper_values.specs.Escapes.{unescape}
 use Rattle.juniper_values.specs.Units.{StandsFor}
-use Rattle.juniper_values.specs.Value.{Value, variable, Fields, no_fields, field}
+use Rattle.graphql_grammar.specs.Tree.{Value, Variable, ObjectFields, no_fields, object_field}
 use Rattle.juniper_values.specs.Variables.{variables, HasNoVariable}
 use Rattle.juniper_values.specs.Resolve.{Values, resolve}
 use Rattle.juniper_values.specs.Same.{same_but_place, field_count}
@@ -24,7 +24,7 @@ HaveNoVariables {C} m = (t : Text) (w : Value C) → m t ≡ Some w → HasNoVar
 
 -- nothing is left only of a variable that has no value, and what is left has no variable
 abbrev pub LeavesNoVariable : {C : Type 0} → Values C → Value C → Option (Value C) → Type 0
-LeavesNoVariable m v left = MatchOption left ((t : Text) × (v ≡ variable t) × (m t ≡ None)) HasNoVariable
+LeavesNoVariable m v left = MatchOption left ((t : Text) × (v ≡ Variable t) × (m t ≡ None)) HasNoVariable
 
 abbrev pub RemovesVariables : {C : Type 0} → Values C → Value C → Type 0
 RemovesVariables m v = LeavesNoVariable m v (resolve m v)
@@ -41,16 +41,16 @@ pub record IsEqualityLike {A : Type 0} (eq : A → A → Bool) : Type 0 where
   pub transitive : (a b c : A) → eq a b ≡ true → eq b c ≡ true → eq a c ≡ true
 
 -- among the fields is one with this key and this value
-abbrev pub HasField : {C : Type 0} → Fields C → Text → Value C → Type 0
+abbrev pub HasField : {C : Type 0} → ObjectFields C → Text → Value C → Type 0
 HasField no_fields k v = ⊥
-HasField (field l s w t fs) k v = ((k ≡ l) × (v ≡ w)) ⊎ HasField fs k v
+HasField (object_field l w t fs) k v = ((k ≡ l.item) × (v ≡ w)) ⊎ HasField fs k v
 
 -- each field of the first has in the second one with its key, and with a value that is so
-abbrev pub AreAmong : {C : Type 0} → (Value C → Value C → Type 0) → Fields C → Fields C → Type 0
+abbrev pub AreAmong : {C : Type 0} → (Value C → Value C → Type 0) → ObjectFields C → ObjectFields C → Type 0
 AreAmong {C} R fs gs = (k : Text) (v : Value C) → HasField fs k v → (w : Value C) × HasField gs k w × R v w
 
 -- two objects are so regardless of their places
-pub record AreSameFields {C : Type 0} (eq : C → C → Bool) (fs gs : Fields C) : Type 0 where
+pub record AreSameFields {C : Type 0} (eq : C → C → Bool) (fs gs : ObjectFields C) : Type 0 where
   pub count : field_count fs ≡ field_count gs
   pub forth : AreAmong (λ v w. same_but_place eq v w ≡ true) fs gs
   pub back : AreAmong (λ w v. same_but_place eq v w ≡ true) gs fs

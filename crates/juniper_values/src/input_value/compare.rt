@@ -2,7 +2,7 @@
 ghost use Rattle.std.specs.Prelude.{◌≡◌, ◌<◌, length, drop, true};
 ghost use Rattle.juniper_values.specs.Same.{same_but_place, same_items_but_place, wanted, is_found, is_wanted, all_found, all_wanted};
 ghost use Rattle.juniper_values.specs.device.Keys.{has_key, keys_differ, found_at, wanted_at};
-ghost use Rattle.juniper_values.specs.Value.{object};
+ghost use Rattle.graphql_grammar.specs.Tree.{Object};
 ghost use Rattle.juniper_values.specs.View.{view, view_items, view_fields, text_of};
 
 use crate::input_value::InputValue;
@@ -69,7 +69,7 @@ fn same_object<S: PartialEq>(
     b: &Vec<(Spanning<String>, Spanning<InputValue<S>>)>,
 ) -> bool
     ensures { result
-        ≡ same_but_place S.eq (object (view_fields (λ s. s) a.now.items)) (object (view_fields (λ s. s) b.now.items)) }
+        ≡ same_but_place S.eq (Object (view_fields (λ s. s) a.now.items)) (Object (view_fields (λ s. s) b.now.items)) }
 {
     if b.len() != a.len() {
         return false;

@@ -1,6 +1,6 @@
 //! Conversions of input values.
 ghost use Rattle.std.specs.Prelude.{◌≡◌, Result};
-ghost use Rattle.juniper_values.specs.Value.{Value, null};
+ghost use Rattle.graphql_grammar.specs.Tree.{Value, Null};
 ghost use Rattle.juniper_values.specs.View.{view};
 
 use crate::input_value::InputValue;
@@ -30,7 +30,7 @@ pub trait FromInputValue<S: Drop>: Sized {
     }
 
     // The result for `null` may stand for a value that is not given.
-    ghost null_serves: { (r : Result Self Self.Error) → answers null r → implicit r };
+    ghost null_serves: { (r : Result Self Self.Error) → answers Null r → implicit r };
 }
 
 impl<S: Drop> InputValue<S> {

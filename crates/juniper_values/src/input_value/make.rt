@@ -3,7 +3,7 @@ ghost use Rattle.std.specs.Prelude.{◌≡◌, ◌≤◌, [], IfOk, MatchResult,
 ghost use Rattle.indexmap.specs.IndexMap.{index_map_len};
 ghost use Rattle.std.specs.Str.{chars};
 ghost use Rattle.juniper_values.specs.Make.{unlocated_items, unlocated_fields};
-ghost use Rattle.juniper_values.specs.Value.{enum_value, variable, list, object};
+ghost use Rattle.graphql_grammar.specs.Tree.{Enum, Variable, ListOf, Object};
 ghost use Rattle.juniper_values.specs.View.{view, view_items, view_fields, text_of};
 
 use crate::input_value::InputValue;
@@ -42,14 +42,14 @@ impl<S> InputValue<S> {
 
     /// The enum value of this name, which is copied. Returns `AllocError` where memory ran out.
     pub fn enum_value(alloc: Global, name: &str) -> Result<Self, AllocError>
-        ensures { IfOk result (λ v. view (λ s. s) v ≡ enum_value (chars name.now)) }
+        ensures { IfOk result (λ v. view (λ s. s) v ≡ Enum (chars name.now)) }
     {
         Ok(InputValue::Enum(String::from_str(alloc, name)?))
     }
 
     /// The variable of this name, which is given without its `$` and copied. Returns `AllocError` where memory ran out.
     pub fn variable(alloc: Global, name: &str) -> Result<Self, AllocError>
-        ensures { IfOk result (λ v. view (λ s. s) v ≡ variable (chars name.now)) }
+        ensures { IfOk result (λ v. view (λ s. s) v ≡ Variable (chars name.now)) }
     {
         Ok(InputValue::Variable(String::from_str(alloc, name)?))
     }
@@ -61,7 +61,7 @@ impl<S: Drop> InputValue<S> {
     /// Where memory ran out, returns the items.
     pub fn list(alloc: Global, items: Vec<Self>) -> Result<Self, Vec<Self>>
         ensures { MatchResult result
-            (λ v. view (λ s. s) v ≡ list (unlocated_items (map (view (λ s. s)) items.items)))
+            (λ v. view (λ s. s) v ≡ ListOf (unlocated_items (map (view (λ s. s)) items.items)))
             (λ back. back ≡ items) }
     {
         match Vec::with_capacity(alloc, items.len()) {
@@ -78,7 +78,7 @@ impl<S: Drop> InputValue<S> {
         fields: IndexMap<String, Self>,
     ) -> Result<Self, IndexMap<String, Self>>
         ensures { MatchResult result
-            (λ v. view (λ s. s) v ≡ object (unlocated_fields (map (λ e. (text_of e.0, view (λ s. s) e.1)) fields.entries)))
+            (λ v. view (λ s. s) v ≡ Object (unlocated_fields (map (λ e. (text_of e.0, view (λ s. s) e.1)) fields.entries)))
             (λ back. back ≡ fields) }
     {
         match Vec::with_capacity(alloc, fields.len()) {

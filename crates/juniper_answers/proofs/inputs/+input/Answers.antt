@@ -1,6 +1,6 @@
 use Rattle.std.proofs.Common.{◌≡◌, ◌+◌, ◌*◌, [], ◌∷◌, ◌++◌, arith, refl, ◌∙◌, ap, sym, append_assoc, String, Global}
 use Rattle.std.proofs.lemmas.List.{at_drop_all}
-use Rattle.juniper_values.specs.Value as input
+use Rattle.graphql_grammar.specs.Tree as input
 use Rattle.juniper_values.proofs.Public.{drop_read, prepend, turn, put_item, put_field, view_items-prepend, view_fields-prepend, view-Object as input-Object}
 use Rattle.juniper_answers.specs.Input.{as_input, items_as_input, fields_as_input}
 use Rattle.juniper_answers.specs.View.{view, items_view, fields_view, pairs}
@@ -14,7 +14,7 @@ use Rattle.juniper_answers.proofs.inputs.+input.Goals as goal
 pub input_of-returns-in_ok-input_fields-in-Object : goal.input_of-returns-in_ok-input_fields-in-Object
 input_of-returns-in_ok-input_fields-in-Object g t c =
     let content = g.S.ParseScalarValue.content in
-    input-Object content c.in_ok-input_fields-in-Object.field-0 ∙ ap input.object c.in_ok-input_fields-in-Object.ensures
+    input-Object content c.in_ok-input_fields-in-Object.field-0 ∙ ap input.Object c.in_ok-input_fields-in-Object.ensures
     ∙ ap as_input (sym (ap (view content) c.in-Object.is ∙ view-Object content c.in-Object.object))
 
 pub input_items-loop-item-preserved : goal.input_items-loop-item-preserved

@@ -3,7 +3,7 @@ use Rattle.std.specs.Vec.Iter.{into_iter_items}
 use Rattle.juniper_tokens.specs.declared.span.Spanning.{Spanning}
 use Rattle.juniper_values.specs.declared.input_value.InputValue.{InputValue}
 use Rattle.juniper_values.specs.Resolve.{ItemsBecome, FieldsBecome}
-use Rattle.juniper_values.specs.Value.{no_items, no_fields}
+use Rattle.graphql_grammar.specs.Tree.{no_items, no_fields}
 use Rattle.juniper_values.specs.View.{view_items, view_fields, values_in}
 use Rattle.juniper_values.specs.declared.input_value.InputValue.TheShapes.{weighed-InputValue-Object-0-at-4}
 use Rattle.juniper_values.proofs.Moves.{list_becomes, object_becomes, item_becomes, field_becomes, field_goes}

@@ -2,7 +2,7 @@
 use Rattle.std.proofs.Common.{◌≡◌, ◌++◌}
 use Rattle.std.specs.Vec.Iter.{into_iter_items}
 use Rattle.juniper_values.specs.Resolve.{ItemsBecome, FieldsBecome}
-use Rattle.juniper_values.specs.Value.{Items, Fields}
+use Rattle.graphql_grammar.specs.Tree.{Items, ObjectFields}
 use Rattle.juniper_values.specs.View.{view_items, view_fields, values_in}
 use Rattle.juniper_values.proofs.Reading.{prepend}
 use Rattle.juniper_values.proofs.Trees.{put_item, put_field}
@@ -19,6 +19,6 @@ invariant-constant_fields-loop-field g l =
     let Becoming = FieldsBecome g.S.PartialEq.eq (values_in (λ s. s) l.values) in
     record {
       split : l.fn.fields.items ≡ l.yielded ++ into_iter_items l.field-iterator;
-      made : (rest : Fields g.row.S.Denot) → Becoming (view_fields (λ s. s) (into_iter_items l.field-iterator)) rest
+      made : (rest : ObjectFields g.row.S.Denot) → Becoming (view_fields (λ s. s) (into_iter_items l.field-iterator)) rest
           → Becoming (view_fields (λ s. s) l.fn.fields.items) (prepend (put_field (λ s. s)) l.done.items rest);
     }
