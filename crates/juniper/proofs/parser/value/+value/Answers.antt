@@ -64,18 +64,24 @@ pub parse_list-returns-clause-gives : goal.parse_list-returns-clause-gives
 unfolding list
 parse_list-returns-clause-gives g t c =
     rw (c.in_ok-items.ensures.gives, c.start_end.ensures)
-    (ap (λ (v : Value Content). Ok (record {
-      item = v;
-      span = from_to (view_span c.args.opening) (view_span c.in_ok-items.items.span);
-    }, left c.parse_items.new.tokens))
+    (ap (λ (v : Value Content). Ok (
+      record {
+        item = v;
+        span = from_to (view_span c.args.opening) (view_span c.in_ok-items.items.span);
+      },
+      left c.parse_items.new.tokens,
+    ))
     (sym (view_of_list g.S.ParseScalarValue.content c.in_ok-items.items.item)))
 
 pub parse_object-returns-clause-gives : goal.parse_object-returns-clause-gives
 unfolding object
 parse_object-returns-clause-gives g t c =
     rw (c.in_ok-fields.ensures.gives, c.start_end.ensures)
-    (ap (λ (v : Value Content). Ok (record {
-      item = v;
-      span = from_to (view_span c.args.opening) (view_span c.in_ok-fields.fields.span);
-    }, left c.parse_fields.new.tokens))
+    (ap (λ (v : Value Content). Ok (
+      record {
+        item = v;
+        span = from_to (view_span c.args.opening) (view_span c.in_ok-fields.fields.span);
+      },
+      left c.parse_fields.new.tokens,
+    ))
     (sym (view_of_object g.S.ParseScalarValue.content c.in_ok-fields.fields.item)))
