@@ -9,4 +9,5 @@ pub mod Rows
 pub mod SelectionNodes
 pub mod ValueNodes
 pub mod TypeTexts
+pub mod Places
 pub mod Public

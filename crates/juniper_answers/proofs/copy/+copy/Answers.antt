@@ -10,6 +10,7 @@ use Rattle.juniper_answers.specs.declared.value.Value.{Value, size-Value}
 use Rattle.juniper_answers.specs.declared.value.Object.{size-Object}
 use Rattle.juniper_answers.proofs.Sizes.{below_object}
 use Rattle.juniper_answers.proofs.Copies.{all_zip_push, most_within, Copies-List, Copies-Object, put_last}
+use Rattle.juniper_answers.proofs.Views.{view-Scalar}
 use Rattle.juniper_answers.proofs.copy.+copy.Goals as goal
 
 pub copy-returns-in_ok-copy_items-in-List : goal.copy-returns-in_ok-copy_items-in-List
@@ -71,3 +72,8 @@ copy_items-returns g t c = grind (arith, common_steps)
 
 pub copy_object-returns : goal.copy_object-returns
 copy_object-returns g t c = grind (arith, common_steps)
+
+pub copy-returns-in_ok-try_clone-in-Scalar : goal.copy-returns-in_ok-try_clone-in-Scalar
+copy-returns-in_ok-try_clone-in-Scalar g t c =
+    let made = c.in_ok-try_clone-in-Scalar in
+    rw (c.in-Scalar.is, view-Scalar (λ s. s) c.in-Scalar.scalar, view-Scalar (λ s. s) made.field-0) made.ensures

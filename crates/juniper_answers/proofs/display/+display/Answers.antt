@@ -15,7 +15,7 @@ use Rattle.juniper_answers.specs.declared.value.Object.{size-Object}
 use Rattle.juniper_answers.specs.declared.value.Value.{Value, size-Value}
 use Rattle.juniper_answers.proofs.Copies.{most_within}
 use Rattle.juniper_answers.proofs.Sizes.{below_object}
-use Rattle.juniper_answers.proofs.Views.{view-List, view-Object}
+use Rattle.juniper_answers.proofs.Views.{view-Scalar, view-List, view-Object}
 use Rattle.juniper_answers.proofs.display.+display.Goals as goal
 
 pub write_items-loop-item-init : goal.write_items-loop-item-init
@@ -118,3 +118,9 @@ write_fields-returns g t c = grind (arith, common_steps)
 
 pub write_items-returns : goal.write_items-returns
 write_items-returns g t c = grind (arith, common_steps)
+
+pub write_value-returns-in-Scalar : goal.write_value-returns-in-Scalar
+write_value-returns-in-Scalar g t c p ok =
+    let shown = scalar_display g.S.ParseScalarValue.content g.S.ScalarValue.str_in g.S.ScalarValue.shown in
+    let seen = ap shape c.in-Scalar.is ∙ view-Scalar (λ s. s) c.in-Scalar.scalar in
+    has_written_of_eq _ _ _ _ _ (ap (λ v. encodes (data_text shown v)) (sym seen)) (c.write_scalar.ensures p ok)

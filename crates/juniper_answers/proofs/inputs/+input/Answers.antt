@@ -1,6 +1,9 @@
-use Rattle.std.proofs.Common.{◌≡◌, ◌+◌, ◌*◌, [], ◌∷◌, ◌++◌, arith, refl, ◌∙◌, ap, sym, append_assoc, String, Global}
+use Rattle.std.proofs.Common.{rules, ◌≡◌, ◌+◌, ◌*◌, [], ◌∷◌, ◌++◌, arith, refl, ◌∙◌, ap, sym, append_assoc, String, Global}
 use Rattle.std.proofs.lemmas.List.{at_drop_all}
 use Rattle.graphql_grammar.specs.Tree as input
+use Rattle.juniper_values.specs.View.{view as input_view, view_items}
+use Rattle.juniper_values.specs.declared.input_value.InputValue.{the_lemmas}
+use Rattle.juniper_values.specs.declared.input_value.InputValue.TheVariants as InputValue
 use Rattle.juniper_values.proofs.Public.{drop_read, prepend, turn, put_item, put_field, view_items-prepend, view_fields-prepend, view-Object as input-Object}
 use Rattle.juniper_answers.specs.Input.{as_input, items_as_input, fields_as_input}
 use Rattle.juniper_answers.specs.View.{view, items_view, fields_view, pairs}
@@ -8,7 +11,7 @@ use Rattle.juniper_answers.specs.declared.value.Object.{size-Object}
 use Rattle.juniper_answers.specs.declared.value.Value.{Value, size-Value}
 use Rattle.juniper_answers.proofs.Copies.{most_within}
 use Rattle.juniper_answers.proofs.Sizes.{below_object}
-use Rattle.juniper_answers.proofs.Views.{view-Object}
+use Rattle.juniper_answers.proofs.Views.{view-List, view-Object}
 use Rattle.juniper_answers.proofs.inputs.+input.Goals as goal
 
 pub input_of-returns-in_ok-input_fields-in-Object : goal.input_of-returns-in_ok-input_fields-in-Object
@@ -85,3 +88,12 @@ input_fields-returns g t c =
     ∙ ap (λ es. prepend (put_field content) c.loop-key.made.items (fields_as_input (fields_view content es)))
     (sym c.in-None.ensures.steps.0)
     ∙ c.loop-key.invariant.made
+
+pub input_of-returns-in_ok-input_items-in-List : goal.input_of-returns-in_ok-input_items-in-List
+input_of-returns-in_ok-input_items-in-List g t c =
+    let content = g.S.ParseScalarValue.content in
+    let items = c.in_ok-input_items-in-List.field-0 in
+    let made : input_view content (InputValue.List items) ≡ input.ListOf (view_items content items.items) =
+    search (rules, the_lemmas) in
+    made ∙ ap input.ListOf c.in_ok-input_items-in-List.ensures
+    ∙ ap as_input (sym (ap (view content) c.in-List.is ∙ view-List content c.in-List.items))

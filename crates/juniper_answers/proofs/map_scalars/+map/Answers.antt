@@ -11,6 +11,7 @@ use Rattle.juniper_answers.specs.declared.value.Object.{size-Object}
 use Rattle.juniper_answers.specs.declared.value.Value.{Value, size-Value}
 use Rattle.juniper_answers.proofs.Sizes.{below_object}
 use Rattle.juniper_answers.proofs.Copies.{all_zip_push, most_within, Copies-List, Copies-Object, put_last}
+use Rattle.juniper_answers.proofs.Views.{view-Scalar}
 use Rattle.juniper_answers.proofs.map_scalars.+map.Goals as goal
 
 pub map_value-returns-in_ok-map_items-in-List : goal.map_value-returns-in_ok-map_items-in-List
@@ -89,3 +90,8 @@ map_object-loop-key-preserved g t c =
 
 pub map_object-returns : goal.map_object-returns
 map_object-returns g t c = grind (arith, common_steps)
+
+pub map_value-returns-in_ok-into_another-in-Scalar : goal.map_value-returns-in_ok-into_another-in-Scalar
+map_value-returns-in_ok-into_another-in-Scalar g t c =
+    let made = c.in_ok-into_another-in-Scalar in
+    rw (c.in-Scalar.is, view-Scalar (λ s. s) c.in-Scalar.scalar, view-Scalar (λ s. s) made.field-0) made.ensures

@@ -3,6 +3,7 @@ use Rattle.graphql_nodes.specs.Nodes.{selection_nodes, selections_nodes, optiona
 use Rattle.juniper.specs.View.{view_selection}
 use Rattle.juniper_tokens.specs.Spans.{view_span}
 use Rattle.juniper_nodes.proofs.Growth.{grown, grown_none, closed, grown_on_error}
+use Rattle.juniper_nodes.proofs.Places.{place_held, kept_on_error}
 use Rattle.juniper_nodes.proofs.Rows.{no_part_yet, next_part, no_part}
 use Rattle.juniper_nodes.proofs.SelectionNodes.{field_alone, field_above, selections_in_row}
 use Rattle.juniper_nodes.proofs.nodes.selection.+selection.Goals as goal
@@ -104,3 +105,29 @@ pub push_selections-returns-in_err-push_selection : goal.push_selections-returns
 push_selections-returns-in_err-push_selection g t c =
     let content = g.S.ParseScalarValue.content in
     grown_on_error content _ _ c.from_residual.ensures.0 c.loop-selection.invariant c.in_err-push_selection.ensures
+
+pub push_field-close-requires : goal.push_field-close-requires
+push_field-close-requires g t c =
+    let content = g.S.ParseScalarValue.content in
+    let parts = grown content c.in_ok-push_optional_arguments.ensures c.in_ok-push_directives.ensures in
+    place_held content c.in_ok-place.ensures.opened (grown content c.in_ok-push_alias.ensures parts)
+
+pub push_field-close-requires-in-Some : goal.push_field-close-requires-in-Some
+push_field-close-requires-in-Some g t c =
+    let content = g.S.ParseScalarValue.content in
+    let parts = grown content c.in_ok-push_directives.ensures c.in_ok-push_selections-in-Some.ensures in
+    let all = grown content c.in_ok-push_alias.ensures (grown content c.in_ok-push_optional_arguments.ensures parts) in
+    place_held content c.in_ok-place.ensures.opened all
+
+pub push_field-returns-in_err-place : goal.push_field-returns-in_err-place
+push_field-returns-in_err-place g t c =
+    kept_on_error g.S.ParseScalarValue.content _ _ c.from_residual.ensures.0 c.in_err-place.ensures.kept
+
+pub push_inline-close-requires : goal.push_inline-close-requires
+push_inline-close-requires g t c =
+    let content = g.S.ParseScalarValue.content in
+    place_held content c.in_ok-place.ensures.opened (grown content c.in_ok-push_directives.ensures c.in_ok-push_selections.ensures)
+
+pub push_inline-returns-in_err-place : goal.push_inline-returns-in_err-place
+push_inline-returns-in_err-place g t c =
+    kept_on_error g.S.ParseScalarValue.content _ _ c.from_residual.ensures.0 c.in_err-place.ensures.kept

@@ -2,6 +2,7 @@ use Rattle.std.proofs.Common.{map, arith}
 use Rattle.graphql_nodes.specs.Nodes.{value_nodes}
 use Rattle.juniper.specs.View.{view_value, view_object_field}
 use Rattle.juniper_nodes.proofs.Growth.{closed, grown, grown_on_error}
+use Rattle.juniper_nodes.proofs.Places.{place_held, kept_on_error}
 use Rattle.juniper_nodes.proofs.Rows.{no_part_yet, next_part, no_part}
 use Rattle.juniper_nodes.proofs.ValueNodes.{field_nodes, items_in_row, fields_in_row, null-nodes, scalar-nodes, enum-nodes, variable-nodes, list-nodes, object-nodes}
 use Rattle.juniper_nodes.proofs.nodes.value.+value.Goals as goal
@@ -111,3 +112,28 @@ pub push_fields-returns-in_err-push_value : goal.push_fields-returns-in_err-push
 push_fields-returns-in_err-push_value g t c =
     let content = g.S.ParseScalarValue.content in
     grown_on_error content _ _ c.from_residual-in_err-push_value.ensures.0 (grown content c.loop-key.invariant c.in_ok-place.ensures.opened.1) c.in_err-push_value.ensures
+
+pub push_value-close-requires : goal.push_value-close-requires
+push_value-close-requires g t c =
+    place_held g.S.ParseScalarValue.content c.in_ok-place-in-List.ensures.opened c.in_ok-push_items-in-List.ensures
+
+pub push_value-close-requires-in-Object : goal.push_value-close-requires-in-Object
+push_value-close-requires-in-Object g t c =
+    place_held g.S.ParseScalarValue.content c.in_ok-place-in-Object.ensures.opened c.in_ok-push_fields-in-Object.ensures
+
+pub push_fields-close-requires : goal.push_fields-close-requires
+push_fields-close-requires g t c =
+    place_held g.S.ParseScalarValue.content c.in_ok-place.ensures.opened c.in_ok-push_value.ensures
+
+pub push_value-returns-in_err-place-in-List : goal.push_value-returns-in_err-place-in-List
+push_value-returns-in_err-place-in-List g t c =
+    kept_on_error g.S.ParseScalarValue.content _ _ c.from_residual.ensures.0 c.in_err-place-in-List.ensures.kept
+
+pub push_value-returns-in_err-place-in-Object : goal.push_value-returns-in_err-place-in-Object
+push_value-returns-in_err-place-in-Object g t c =
+    kept_on_error g.S.ParseScalarValue.content _ _ c.from_residual-in_err-place-in-Object.ensures.0 c.in_err-place-in-Object.ensures.kept
+
+pub push_fields-returns-in_err-place : goal.push_fields-returns-in_err-place
+push_fields-returns-in_err-place g t c =
+    let content = g.S.ParseScalarValue.content in
+    grown_on_error content _ _ c.from_residual.ensures.0 c.loop-key.invariant c.in_err-place.ensures.kept

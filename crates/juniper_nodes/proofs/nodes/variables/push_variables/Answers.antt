@@ -1,5 +1,6 @@
 use Rattle.graphql_nodes.specs.Nodes.{variables_nodes}
 use Rattle.juniper_nodes.proofs.Growth.{closed, grown, grown_on_error}
+use Rattle.juniper_nodes.proofs.Places.{place_held, kept_on_error}
 use Rattle.juniper_nodes.proofs.nodes.variables.push_variables.Goals as goal
 
 pub returns : goal.returns
@@ -13,3 +14,11 @@ returns-in_err-push_each_variable g c =
     let content = g.S.ParseScalarValue.content in
     let before = c.in_ok-place.ensures.opened.1 in
     grown_on_error content _ _ c.from_residual-in_err-push_each_variable.ensures.0 before c.in_err-push_each_variable.ensures
+
+pub close-requires : goal.close-requires
+close-requires g c =
+    place_held g.S.ParseScalarValue.content c.in_ok-place.ensures.opened c.in_ok-push_each_variable.ensures
+
+pub returns-in_err-place : goal.returns-in_err-place
+returns-in_err-place g c =
+    kept_on_error g.S.ParseScalarValue.content _ _ c.from_residual.ensures.0 c.in_err-place.ensures.kept

@@ -1,8 +1,11 @@
-use Rattle.std.proofs.Common.{rules, arith, refl, ◌∙◌, ap, sym}
-use Rattle.juniper_values.specs.View.{view_items, view_fields}
+use Rattle.std.proofs.Common.{rules, arith, refl, ◌≡◌, ◌∙◌, ap, sym}
+use Rattle.graphql_grammar.specs.Tree.{Scalar, ListOf, Object}
+use Rattle.juniper_values.specs.View.{view, view_items, view_fields}
+use Rattle.juniper_values.specs.declared.input_value.InputValue.{the_lemmas}
+use Rattle.juniper_values.specs.declared.input_value.InputValue.TheVariants as InputValue
 use Rattle.std.proofs.lemmas.List.{at_drop_all}
 use Rattle.juniper_values.proofs.Reading.{drop_read, within_most, prepend, turn}
-use Rattle.juniper_values.proofs.Trees.{put_item, put_field, view_items-prepend, view_fields-prepend}
+use Rattle.juniper_values.proofs.Trees.{put_item, put_field, view-List, view-Object, view_items-prepend, view_fields-prepend}
 use Rattle.juniper_values.proofs.input_value.copies.+copy.Goals as goal
 use Rattle.juniper_values.proofs.input_value.InputValue.TheLaws.{the_size}
 use Rattle.juniper_values.specs.declared.input_value.InputValue.TheShapes.{weighed-InputValue-Object-0-at-4}
@@ -53,3 +56,23 @@ copy_fields-returns g t c =
     (sym (at_drop_all (view_fields content) c.deref-field-items.result.now c.loop-field.field-index
     c.loop-field-test.false))
     ∙ c.loop-field.invariant ∙ ap (view_fields content) c.deref-field-items.ensures.value
+
+pub copy-returns-in_ok-try_clone-in-Scalar : goal.copy-returns-in_ok-try_clone-in-Scalar
+copy-returns-in_ok-try_clone-in-Scalar g t c =
+    let content = g.S.ParseScalarValue.content in
+    let new = c.in_ok-try_clone-in-Scalar.field-0 in
+    let made : view content (InputValue.Scalar new) ≡ Scalar (content new) = search (rules, the_lemmas) in
+    let seen : view content c.args.value.now ≡ Scalar (content c.in-Scalar.scalar) = search (rules, the_lemmas, c.in-Scalar.is) in
+    made ∙ ap Scalar c.in_ok-try_clone-in-Scalar.ensures ∙ sym seen
+
+pub copy-returns-in_ok-copy_items-in-List : goal.copy-returns-in_ok-copy_items-in-List
+copy-returns-in_ok-copy_items-in-List g t c =
+    let content = g.S.ParseScalarValue.content in
+    view-List content c.in_ok-copy_items-in-List.field-0 ∙ ap ListOf c.in_ok-copy_items-in-List.ensures
+    ∙ sym (ap (view content) c.in-List.is ∙ view-List content c.in-List.items)
+
+pub copy-returns-in_ok-copy_fields-in-Object : goal.copy-returns-in_ok-copy_fields-in-Object
+copy-returns-in_ok-copy_fields-in-Object g t c =
+    let content = g.S.ParseScalarValue.content in
+    view-Object content c.in_ok-copy_fields-in-Object.field-0 ∙ ap Object c.in_ok-copy_fields-in-Object.ensures
+    ∙ sym (ap (view content) c.in-Object.is ∙ view-Object content c.in-Object.fields)

@@ -1,15 +1,19 @@
-use Rattle.std.proofs.Common.{rules, refl, sym, ap, subst, ◌∙◌, ◌+◌, ◌++◌, [], drop, arith, append_assoc}
+use Rattle.std.proofs.Common.{rules, ◌≡◌, refl, sym, ap, subst, ◌∙◌, ◌+◌, ◌++◌, [], drop, arith, append_assoc}
 use Rattle.std.specs.Prelude.{codes}
 use Rattle.std.proofs.Output.{has_written_of_eq}
 use lib.Utf8.{encodes}
 use Rattle.std.proofs.lemmas.Grind.{common_steps}
 use Rattle.juniper_values.specs.Display.{value_text, item_texts, field_texts, joined}
 use Rattle.juniper_values.specs.ScalarDisplay.{scalar_display}
+use Rattle.graphql_grammar.specs.Tree.{Scalar, Enum}
 use Rattle.juniper_values.specs.View.{view, view_items, view_fields, text_of}
 use Rattle.juniper_values.proofs.Displays.{IsWritten, left, two, one_more, between}
-use Rattle.juniper_values.proofs.Reading.{drop_read}
+use Rattle.juniper_values.proofs.Reading.{drop_read, within_most}
 use Rattle.juniper_values.proofs.Trees.{view-List, view-Object}
 use Rattle.juniper_values.proofs.input_value.display.+display.Goals as goal
+use Rattle.juniper_values.proofs.input_value.InputValue.TheLaws.{the_size}
+use Rattle.juniper_values.specs.declared.input_value.InputValue.{the_lemmas}
+use Rattle.juniper_values.specs.declared.input_value.InputValue.TheShapes.{weighed-InputValue-Object-0-at-4}
 
 pub write_items-loop-item-init : goal.write_items-loop-item-init
 write_items-loop-item-init g t c p = record { done = []; wrote = search rules; left_is = refl }
@@ -80,3 +84,24 @@ write_fields-returns g t c = grind (arith, common_steps)
 
 pub write_items-returns : goal.write_items-returns
 write_items-returns g t c = grind (arith, common_steps)
+
+pub write_fields-write_value-requires : goal.write_fields-write_value-requires
+write_fields-write_value-requires g t c κs within =
+    let h = within_most ((weighed-InputValue-Object-0-at-4 g.row.S.Denot).weight _ (the_size g.row.S g.S.laws))
+    c.args.fields.now.items c.loop-field.field-index c.field-item.result
+    (rw c.deref-field-items.ensures.value at c.loop-field-test.true)
+    (rw c.deref-field-items.ensures.value at c.field-item.is) in
+    let d = c.decreases in
+    (omega (arith, h, d), search rules)
+
+pub write_value-returns-in-Scalar : goal.write_value-returns-in-Scalar
+write_value-returns-in-Scalar g t c p ok =
+    let shown = scalar_display g.S.ParseScalarValue.content g.S.ScalarValue.str_in g.S.ScalarValue.shown in
+    let seen : view (λ s. s) c.args.value.now ≡ Scalar c.in-Scalar.scalar = search (rules, the_lemmas, c.in-Scalar.is) in
+    has_written_of_eq _ _ _ _ _ (ap (λ v. encodes (value_text shown v)) (sym seen)) (c.write_scalar.ensures p ok)
+
+pub write_value-returns-in-Enum : goal.write_value-returns-in-Enum
+write_value-returns-in-Enum g t c p ok =
+    let shown = scalar_display g.S.ParseScalarValue.content g.S.ScalarValue.str_in g.S.ScalarValue.shown in
+    let seen : view (λ s. s) c.args.value.now ≡ Enum (text_of c.in-Enum.name) = search (rules, the_lemmas, c.in-Enum.is) in
+    rw (seen, ← c.as_str.ensures.value) (c.write_text.ensures p ok)
