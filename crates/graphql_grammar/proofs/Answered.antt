@@ -17,7 +17,8 @@ use Rattle.graphql_grammar.proofs.Fuel.{Under, under_refl, under_trans, seq_unde
 
 module _ {C F : Type 0} (S : Scalars C F) where
   pub values_answer : (free : Bool) → Answers (λ n. symbol_at S n (Located (Value C)) (a_value free))
-  values_answer free = answers _ (IsLocated (IsValue S free)) (λ n m le. symbol_under S n m le (Located (Value C)) (a_value free))
+  values_answer free = answers _ (IsLocated (IsValue S free))
+      (λ n m le. symbol_under S n m le (Located (Value C)) (a_value free))
       (λ n. value_rule S free n n (le_refl n))
 
   pub types_answer : Answers (λ n. symbol_at S n (Located TypeRef) a_type)

@@ -115,11 +115,13 @@ module _ {C F : Type 0} (S : Scalars C F) where
       IsSpelled sample_spelled (suc (length ts)) ts rest t e spelled) (document_ends S)
 
   pub value_given : (free : Bool) (ts : List Lexeme) → EndsOnce ts
-      → GivesFront (IsLocated (IsValue S free)) (ValueFaultAt S free ts) ts (fully (λ n. symbol_at S n _ (a_value free)) ts)
-  value_given free ts ends = front_given (λ n. symbol_at S n _ (a_value free)) (IsLocated (IsValue S free)) (value_reads S free)
+      → GivesFront (IsLocated (IsValue S free)) (ValueFaultAt S free ts) ts
+      (fully (λ n. symbol_at S n _ (a_value free)) ts)
+  value_given free ts ends =
+      front_given (λ n. symbol_at S n _ (a_value free)) (IsLocated (IsValue S free)) (value_reads S free)
       (ValueFaultAt S free ts) ts (end_parts ts ends)
-      (λ rest t e. refused_at S (λ n. symbol_at S n _ (a_value free)) (IsLocated (IsValue S free)) (value_reads S free) true
-      (value_tells S free) AnyToken (λ u h. tt) (suc (length ts)) ts rest t e (any_allowed ts))
+      (λ rest t e. refused_at S (λ n. symbol_at S n _ (a_value free)) (IsLocated (IsValue S free)) (value_reads S free)
+      true (value_tells S free) AnyToken (λ u h. tt) (suc (length ts)) ts rest t e (any_allowed ts))
       (values S free) (λ us vs v h m le. (
         v,
         [],

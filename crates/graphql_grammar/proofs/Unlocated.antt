@@ -132,7 +132,8 @@ module _ {C F : Type 0} (S : Scalars C F) where
   -- ---- arguments, directives and variable definitions
 
   argument : (a : Argument C) → Bares (IsArgument S a) (IsArgument S (unlocated_argument a))
-  argument a = both (word a.name) (both (is Colon) (located (IsValue S true (unlocated_value a.value.item)) (value_bare true a.value.item)))
+  argument a = both (word a.name) (both (is Colon)
+      (located (IsValue S true (unlocated_value a.value.item)) (value_bare true a.value.item)))
 
   arguments : (a : Arguments C) → Bares (IsArguments S a) (IsArguments S (unlocated_arguments a))
   arguments a ts h = (listed unlocated_argument argument a.item ts h.0, sym (span_bare ts))

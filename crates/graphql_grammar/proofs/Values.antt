@@ -70,7 +70,8 @@ module _ {C F : Type 0} (S : Scalars C F) where
 
   module _ (n : ℕ) (Q : Located (Value C) → List Lexeme → Type 0) (some : Some_of Q)
       (openers : (w : Lexeme) → IsOpener w → More Q [] w)
-      (h : (t : Lexeme) (c : C) → IsScalarKind t.kind → S.read t.kind t.text ≡ Ok c → Q (placed (Scalar c) t.span) (t ∷ []))
+      (h : (t : Lexeme) (c : C) → IsScalarKind t.kind → S.read t.kind t.text ≡ Ok c
+      → Q (placed (Scalar c) t.span) (t ∷ []))
     where
       literal_read : (t : Lexeme) (ts : List Lexeme) → passes scalar_token t ≡ true → (z : Result C F)
           → S.read t.kind t.text ≡ z → Meets n Q (literal S) (t ∷ ts) (literal S (t ∷ ts))
@@ -127,27 +128,30 @@ module _ {C F : Type 0} (S : Scalars C F) (free : Bool) where
   list_is : (t : Lexeme) (us : List Lexeme) (r : List (Located (Value C)) × Lexeme) → passes (of BracketOpen) t ≡ true
       → Closed (of BracketClose) (IsLocated (IsValue S free)) r us
       → IsLocated (IsValue S free) (placed (ListOf (items_of r.0)) (over t r.1)) (t ∷ us)
-  list_is t us r p c = subst (λ l. IsLocated (IsValue S free) (placed (ListOf (items_of r.0)) (over t r.1)) (t ∷ l)) (sym c.whole) (
-    enclosed BracketOpen BracketClose t r.1 c.inner (of_kind BracketOpen t p) (of_kind BracketClose r.1 c.closes)
-        (items_are c.inner r.0 c.each),
-    over_enclosed t r.1 c.inner,
-  )
+  list_is t us r p c =
+      subst (λ l. IsLocated (IsValue S free) (placed (ListOf (items_of r.0)) (over t r.1)) (t ∷ l)) (sym c.whole) (
+        enclosed BracketOpen BracketClose t r.1 c.inner (of_kind BracketOpen t p) (of_kind BracketClose r.1 c.closes)
+            (items_are c.inner r.0 c.each),
+        over_enclosed t r.1 c.inner,
+      )
 
-  object_is : (t : Lexeme) (us : List Lexeme) (r : List (Word × Located (Value C)) × Lexeme) → passes (of CurlyOpen) t ≡ true
-      → Closed (of CurlyClose) IsField r us
+  object_is : (t : Lexeme) (us : List Lexeme) (r : List (Word × Located (Value C)) × Lexeme)
+      → passes (of CurlyOpen) t ≡ true → Closed (of CurlyClose) IsField r us
       → IsLocated (IsValue S free) (placed (Object (fields_of r.0)) (over t r.1)) (t ∷ us)
-  object_is t us r p c = subst (λ l. IsLocated (IsValue S free) (placed (Object (fields_of r.0)) (over t r.1)) (t ∷ l)) (sym c.whole) (
-    enclosed CurlyOpen CurlyClose t r.1 c.inner (of_kind CurlyOpen t p) (of_kind CurlyClose r.1 c.closes)
-        (fields_are c.inner r.0 c.each),
-    over_enclosed t r.1 c.inner,
-  )
+  object_is t us r p c =
+      subst (λ l. IsLocated (IsValue S free) (placed (Object (fields_of r.0)) (over t r.1)) (t ∷ l)) (sym c.whole) (
+        enclosed CurlyOpen CurlyClose t r.1 c.inner (of_kind CurlyOpen t p) (of_kind CurlyClose r.1 c.closes)
+            (fields_are c.inner r.0 c.each),
+        over_enclosed t r.1 c.inner,
+      )
 
   null_token : Lexeme
   null_token = token_of Name (codes "null")
 
   some_value : Some_of (IsLocated (IsValue S free))
   unfolding null_token
-  some_value = (null_token ∷ [], placed Null null_token.span, ((null_token.span, refl), refl), (inr (inl (refl, refl)), tt))
+  some_value =
+      (null_token ∷ [], placed Null null_token.span, ((null_token.span, refl), refl), (inr (inl (refl, refl)), tt))
 
   value_opens : (w : Lexeme) → IsOpener w → More (IsLocated (IsValue S free)) [] w
   value_opens w (inl e) = (
@@ -184,7 +188,8 @@ module _ {C F : Type 0} (S : Scalars C F) (free : Bool) where
       cases false false true x y z = token _ (text_yes _ _ z)
       cases false false false x y z = (token _ refl, (text_no _ _ x, text_no _ _ y, text_no _ _ z))
 
-  field_by : (n m : ℕ) → Rule n (symbol_at S n _ (a_value free)) (symbol_at S m _ (a_value free)) (IsLocated (IsValue S free))
+  field_by : (n m : ℕ)
+      → Rule n (symbol_at S n _ (a_value free)) (symbol_at S m _ (a_value free)) (IsLocated (IsValue S free))
       → Rule n (reads S n (key_and_value free)) (reads S m (key_and_value free)) IsField
   unfolding key_and_value
   field_by n m r =
@@ -210,13 +215,15 @@ module _ {C F : Type 0} (S : Scalars C F) (free : Bool) where
   value_rule (suc n) (suc m) le =
       on_rule (suc n) (of BracketOpen) _ _ _ _ (IsLocated (IsValue S free))
       (λ t u p. seq_rule n _ _ _ _ _ (weaken n n _ _ _ _ (le_refl n)
-      (λ us r h r'. done_rule _ (placed (ListOf (items_of r.0)) (over t r.1)) (placed (ListOf (items_of r'.0)) (over u r'.1)) _
+      (λ us r h r'. done_rule _ (placed (ListOf (items_of r.0)) (over t r.1))
+      (placed (ListOf (items_of r'.0)) (over u r'.1)) _
       (rw append-nil (list_is t us r p h)))
-      (many_rule (of BracketClose) (sample BracketClose) refl (inl refl) (IsLocated (IsValue S free)) value_takes _ _ n m n
-      (omega arith) (le_refl n) (value_rule n m (omega arith)))))
+      (many_rule (of BracketClose) (sample BracketClose) refl (inl refl) (IsLocated (IsValue S free)) value_takes _ _
+      n m n (omega arith) (le_refl n) (value_rule n m (omega arith)))))
       (on_rule (suc n) (of CurlyOpen) _ _ _ _ (IsLocated (IsValue S free))
       (λ t u p. seq_rule n _ _ _ _ _ (weaken n n _ _ _ _ (le_refl n)
-      (λ us r h r'. done_rule _ (placed (Object (fields_of r.0)) (over t r.1)) (placed (Object (fields_of r'.0)) (over u r'.1)) _
+      (λ us r h r'. done_rule _ (placed (Object (fields_of r.0)) (over t r.1))
+      (placed (Object (fields_of r'.0)) (over u r'.1)) _
       (rw append-nil (object_is t us r p h)))
       (many_rule (of CurlyClose) (sample CurlyClose) refl (inl refl) IsField field_takes _ _ n m n (omega arith)
       (le_refl n) (field_by n m (value_rule n m (omega arith))))))

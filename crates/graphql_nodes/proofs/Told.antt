@@ -168,13 +168,14 @@ module _ {C : Type 0} where
 
   -- ---- variable definitions
 
-  value_any : (v w : Located (Value C)) → Any v → Any w → (r s : List (Node C)) → value_nodes v ++ r ≡ value_nodes w ++ s
-      → (v ≡ w) × (r ≡ s)
+  value_any : (v w : Located (Value C)) → Any v → Any w → (r s : List (Node C))
+      → value_nodes v ++ r ≡ value_nodes w ++ s → (v ≡ w) × (r ≡ s)
   value_any v w h k = value_told v w
 
   no_default : (ds : Directives C) → Apart value_nodes (directives_nodes ds)
   no_default ds v us e =
-      directives_avoid (kind_of_value v.item) (λ k. value_no_directive v.item (sym k)) ds [] (no_first (kind_of_value v.item))
+      directives_avoid (kind_of_value v.item) (λ k. value_no_directive v.item (sym k)) ds []
+      (no_first (kind_of_value v.item))
       (ap (λ l. first_kind (l ++ [])) (sym e) ∙ ap first_kind (append_assoc (value_nodes v) us [])
       ∙ value_first v.item v.span (us ++ []))
 

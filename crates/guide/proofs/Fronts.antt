@@ -18,13 +18,15 @@ use Rattle.guide.specs.Literals.{HasNoValue}
 
 module _ {C : Type 0} (S : Scalars C Error) (source : List ℕ) (ends : HasOneCutOrBreak source) where
   module _ (ts left : List Lexeme) (cut : Cut source ts) where
-    refused : (fault : Fault) → Refuses (IsLocated (IsValue S true)) (ValueRefusedAt UnexpectedEndOfFile unexpected S true) fault ts left
+    refused : (fault : Fault)
+        → Refuses (IsLocated (IsValue S true)) (ValueRefusedAt UnexpectedEndOfFile unexpected S true) fault ts left
         → HasNoValue S source fault
     refused fault r = record {
       none = λ value b. r.none b.front b.left value (ends.one_cut ts b.lexemes cut b.cut ∙ b.whole) b.means;
       lexical = λ error at b. absurd (ends.never_both ts error at cut b);
       grammatical = λ others d. subst (λ (xs : List Lexeme). (rest : List Lexeme)
-          × Refuses (IsLocated (IsValue S true)) (ValueRefusedAt UnexpectedEndOfFile unexpected S true) fault xs rest) (ends.one_cut ts others cut d) (left, r);
+          × Refuses (IsLocated (IsValue S true)) (ValueRefusedAt UnexpectedEndOfFile unexpected S true) fault xs rest)
+          (ends.one_cut ts others cut d) (left, r);
     }
 
     -- what is refused of the tokens is refused of the text

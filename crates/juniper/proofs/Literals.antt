@@ -57,8 +57,9 @@ module _ {C : Type 0} (S : Scalars C Error) (free : Bool) where
   abbrev value_at : ℕ → Reader Error (Located (Value C))
   value_at n = symbol_at S n (Located (Value C)) (a_value free)
 
-  pub answers_value : {X : Type 0} (view : X → Located (Value C)) (result : Result X ParseFailure) (old left : List Lexeme)
-      → EndsOnce old → Gives view result left (value_read S free old) → ReturnsValue S free view result old left
+  pub answers_value : {X : Type 0} (view : X → Located (Value C)) (result : Result X ParseFailure)
+      (old left : List Lexeme) → EndsOnce old → Gives view result left (value_read S free old)
+      → ReturnsValue S free view result old left
   unfolding fully value_read
   answers_value view (Ok x) old left ended h =
       let took = seen_took (fully value_at old) (view x) left h in

@@ -24,7 +24,8 @@ module _ {S C : Type 0} (content : S → C) where
   fields : (xs : List (Spanning (String Global) × Spanning (InputValue S)))
       → view_fields content xs ≡ fields_of (map (view_object_field content) xs)
   fields [] = refl
-  fields (x ∷ xs) = ap (object_field (view_located text_of x.0) (view content x.1.item) (view_span x.1.span)) (fields xs)
+  fields (x ∷ xs) =
+      ap (object_field (view_located text_of x.0) (view content x.1.item) (view_span x.1.span)) (fields xs)
 
   pub view_of_null : view content InputValue.Null ≡ Null
   view_of_null = search (rules, the_lemmas)

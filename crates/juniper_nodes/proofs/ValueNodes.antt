@@ -21,7 +21,8 @@ unfolding nodes_at items_nodes fields_nodes each
 items_in_row [] = refl
 items_in_row (v ∷ vs) = ap (λ ns. value_nodes v ++ ns) (items_in_row vs)
 
-pub fields_in_row : {C : Type 0} (fs : List (Word × Located (Value C))) → fields_nodes (fields_of fs) ≡ each field_nodes fs
+pub fields_in_row : {C : Type 0} (fs : List (Word × Located (Value C)))
+    → fields_nodes (fields_of fs) ≡ each field_nodes fs
 unfolding nodes_at items_nodes fields_nodes each
 fields_in_row [] = refl
 fields_in_row (f ∷ fs) = ap (λ ns. field_nodes f ++ ns) (fields_in_row fs)

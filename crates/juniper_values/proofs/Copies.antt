@@ -7,7 +7,7 @@ use Rattle.std.proofs.lemmas.Bool.Decides.{Decides-eqb}
 use Rattle.graphql_lexical.specs.Place.{Place, Span}
 use Rattle.juniper_values.specs.Text.{Text, same_text}
 use Rattle.juniper_values.specs.Display.{joined, value_text, item_texts, field_texts}
-use Rattle.juniper_values.specs.Equality.{same_place, same_span, same_value, same_items, same_fields}
+use Rattle.juniper_values.specs.Equality.{same_place, same_span, same_value, same_items, same_fields, same_word}
 use Rattle.juniper_values.specs.laws.EqualityLaws.{same_span-equiv}
 use Rattle.juniper_values.proofs.Alike.{same_key, text_equal}
 use Rattle.juniper_tokens.specs.declared.span.Spanning.{Spanning}
@@ -98,7 +98,8 @@ module _ {S C : Type 0} (f : S → C) (shown : C → Text) where
         ≡ field_texts (λ s. shown (f s)) fs
     fields_text_replaced no_fields = refl
     fields_text_replaced (object_field k v t fs) =
-        ap₂ (λ (u : Text) (ts : List Text). (k.item ++ (codes ": " ++ u)) ∷ ts) (text_replaced v) (fields_text_replaced fs)
+        ap₂ (λ (u : Text) (ts : List Text). (k.item ++ (codes ": " ++ u)) ∷ ts) (text_replaced v)
+        (fields_text_replaced fs)
 
 -- ---- values whose scalars have the same contents are equal
 
@@ -133,8 +134,8 @@ module _ {S C : Type 0} (f : S → C) (eq : S → S → Bool) (same : (a b : S) 
     fields_equal no_fields no_fields e = refl
     fields_equal no_fields gs e = absurd (cc)
     fields_equal (object_field k v s fs) (object_field l w t gs) e =
-        and_from ((same_text k.item l.item && same_span k.span l.span) && (same_value eq v w && same_span s t)) _
-        (and_from (same_text k.item l.item && same_span k.span l.span) _
+        and_from (same_word k l && (same_value eq v w && same_span s t)) _
+        (and_from (same_word k l) _
         (and_from (same_text k.item l.item) _ (text_equal k.item l.item (cc)) (span_equal k.span l.span (cc)))
         (and_from (same_value eq v w) _ (equal v w (cc)) (span_equal s t (cc))))
         (fields_equal fs gs (cc))
@@ -190,19 +191,20 @@ module _ {S C : Type 0} (f : S → C) (eq : S → S → Bool) (told : (a b : S) 
         λ i. item (value i) (span i) (rest i)
     same_item_contents (item v s xs) ys e = absurd (true≢false (sym e))
 
-    same_field_contents : (fs gs : ObjectFields S) → same_fields eq fs gs ≡ true → replaced_fields f fs ≡ replaced_fields f gs
+    same_field_contents : (fs gs : ObjectFields S) → same_fields eq fs gs ≡ true
+        → replaced_fields f fs ≡ replaced_fields f gs
     same_field_contents no_fields no_fields e = refl
     same_field_contents no_fields gs e = absurd (true≢false (sym e))
     same_field_contents (object_field k v s fs) (object_field l w t gs) e =
-        let here = first_so ((same_text k.item l.item && same_span k.span l.span) && (same_value eq v w && same_span s t)) _ e in
-        let names = first_so (same_text k.item l.item && same_span k.span l.span) _ here in
-        let values = second_so (same_text k.item l.item && same_span k.span l.span) _ here in
+        let here = first_so (same_word k l && (same_value eq v w && same_span s t)) _ e in
+        let names = first_so (same_word k l) _ here in
+        let values = second_so (same_word k l) _ here in
         let key = same_key k.item l.item (first_so _ _ names) in
         let key_span = span_is k.span l.span (second_so (same_text k.item l.item) _ names) in
         let value = same_contents v w (first_so _ _ values) in
         let span = span_is s t (second_so (same_value eq v w) _ values) in
-        let rest = same_field_contents fs gs (second_so ((same_text k.item l.item && same_span k.span l.span)
-        && (same_value eq v w && same_span s t)) _ e) in
+        let rest = same_field_contents fs gs
+        (second_so (same_word k l && (same_value eq v w && same_span s t)) _ e) in
         λ i. object_field (record { item = key i; span = key_span i }) (value i) (span i) (rest i)
     same_field_contents (object_field k v s fs) gs e = absurd (true≢false (sym e))
 

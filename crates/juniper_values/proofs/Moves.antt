@@ -115,7 +115,8 @@ module _ {S C : Type 0} (f : S → C) (eq : S → S → Bool) (told : (a b : S) 
       resolved (Scalar s) o b = ap (option_map (replaced f)) b
       resolved (Enum t) o b = ap (option_map (replaced f)) b
       resolved (Variable t) o b = copied (m t) o b
-      resolved (ListOf xs) o b = ap (option_map (replaced f)) b.1 ∙ ap (λ ys. Some (ListOf ys)) (items_resolved xs b.0 b.2)
+      resolved (ListOf xs) o b = ap (option_map (replaced f)) b.1
+          ∙ ap (λ ys. Some (ListOf ys)) (items_resolved xs b.0 b.2)
       resolved (Object fs) o b = ap (option_map (replaced f)) b.1
           ∙ ap (λ gs. Some (Object gs)) (fields_resolved fs b.0 b.2)
 

@@ -3,12 +3,17 @@ use Rattle.std.specs.Prelude.{Bool, true, false, ◌&&◌, ◌==◌}
 use Rattle.graphql_lexical.specs.Place.{Place, Span}
 use Rattle.juniper_values.specs.Text.{same_text}
 use Rattle.graphql_grammar.specs.Tree.{Value, Null, Scalar, Enum, Variable, ListOf, Object, Items, no_items, item, ObjectFields, no_fields, object_field}
+use Rattle.graphql_grammar.specs.Tokens.{Word}
 
 abbrev pub same_place : Place → Place → Bool
 same_place p q = p.index == q.index && (p.line == q.line && p.column == q.column)
 
 abbrev pub same_span : Span → Span → Bool
 same_span s t = same_place s.start t.start && same_place s.end t.end
+
+-- the text and the place
+abbrev pub same_word : Word → Word → Bool
+same_word a b = same_text a.item b.item && same_span a.span b.span
 
 -- `eq` compares scalars.
 module _ {C : Type 0} (eq : C → C → Bool) where
@@ -30,5 +35,5 @@ module _ {C : Type 0} (eq : C → C → Bool) where
     pub same_fields : ObjectFields C → ObjectFields C → Bool
     same_fields no_fields no_fields = true
     same_fields (object_field k v s fs) (object_field l w t gs) =
-        ((same_text k.item l.item && same_span k.span l.span) && (same_value v w && same_span s t)) && same_fields fs gs
+        (same_word k l && (same_value v w && same_span s t)) && same_fields fs gs
     same_fields fs gs = false

@@ -7,7 +7,7 @@ use Rattle.std.proofs.lemmas.Cmp.{nat_eq_equiv, nat_list_eq_equiv}
 use Rattle.graphql_lexical.specs.Place.{Span}
 use Rattle.juniper_values.specs.Text.{Text, same_text}
 use Rattle.graphql_grammar.specs.Tree.{Value, Null, Scalar, Enum, Variable, ListOf, Object, Items, no_items, item, ObjectFields, no_fields, object_field}
-use Rattle.juniper_values.specs.Equality.{same_place, same_span, same_value, same_items, same_fields}
+use Rattle.juniper_values.specs.Equality.{same_place, same_span, same_value, same_items, same_fields, same_word}
 use Rattle.juniper_values.specs.View.{view}
 use Rattle.juniper_values.specs.declared.input_value.InputValue.{InputValue}
 
@@ -85,20 +85,20 @@ module _ {C : Type 0} {eq : C → C → Bool} (laws : IsPartialEquivalence eq) w
     fields_along no_fields no_fields hs e f = absurd (true≢false (sym f))
     fields_along no_fields gs hs e f = absurd (true≢false (sym e))
     fields_along (object_field k u r fs) (object_field l v s gs) (object_field m w t hs) e f =
-        let p = first_so ((same_text k.item l.item && same_span k.span l.span) && (same_value eq u v && same_span r s)) _ e in
-        let q = first_so ((same_text l.item m.item && same_span l.span m.span) && (same_value eq v w && same_span s t)) _ f in
-        let i = first_so (same_text k.item l.item && same_span k.span l.span) _ p in
-        let j = first_so (same_text l.item m.item && same_span l.span m.span) _ q in
-        let x = second_so (same_text k.item l.item && same_span k.span l.span) _ p in
-        let y = second_so (same_text l.item m.item && same_span l.span m.span) _ q in
-        and_from ((same_text k.item m.item && same_span k.span m.span) && (same_value eq u w && same_span r t)) (same_fields eq fs hs)
-        (and_from (same_text k.item m.item && same_span k.span m.span) (same_value eq u w && same_span r t)
+        let p = first_so (same_word k l && (same_value eq u v && same_span r s)) _ e in
+        let q = first_so (same_word l m && (same_value eq v w && same_span s t)) _ f in
+        let i = first_so (same_word k l) _ p in
+        let j = first_so (same_word l m) _ q in
+        let x = second_so (same_word k l) _ p in
+        let y = second_so (same_word l m) _ q in
+        and_from (same_word k m && (same_value eq u w && same_span r t)) (same_fields eq fs hs)
+        (and_from (same_word k m) (same_value eq u w && same_span r t)
         (and_from (same_text k.item m.item) (same_span k.span m.span) (text_along k.item l.item m.item (first_so (same_text k.item l.item) _ i) (first_so (same_text l.item m.item) _ j))
         (span_along k.span l.span m.span (second_so (same_text k.item l.item) _ i) (second_so (same_text l.item m.item) _ j)))
         (and_from (same_value eq u w) (same_span r t) (along u v w (first_so (same_value eq u v) _ x) (first_so (same_value eq v w) _ y))
         (span_along r s t (second_so (same_value eq u v) _ x) (second_so (same_value eq v w) _ y))))
-        (fields_along fs gs hs (second_so ((same_text k.item l.item && same_span k.span l.span) && (same_value eq u v && same_span r s)) _ e)
-        (second_so ((same_text l.item m.item && same_span l.span m.span) && (same_value eq v w && same_span s t)) _ f))
+        (fields_along fs gs hs (second_so (same_word k l && (same_value eq u v && same_span r s)) _ e)
+        (second_so (same_word l m && (same_value eq v w && same_span s t)) _ f))
     fields_along (object_field k u r fs) (object_field l v s gs) hs e f = absurd (true≢false (sym f))
     fields_along (object_field k u r fs) gs hs e f = absurd (true≢false (sym e))
 

@@ -19,6 +19,7 @@ invariant-constant_fields-loop-field g l =
     let Becoming = FieldsBecome g.S.PartialEq.eq (values_in (λ s. s) l.values) in
     record {
       split : l.fn.fields.items ≡ l.yielded ++ into_iter_items l.field-iterator;
-      made : (rest : ObjectFields g.row.S.Denot) → Becoming (view_fields (λ s. s) (into_iter_items l.field-iterator)) rest
+      made : (rest : ObjectFields g.row.S.Denot)
+          → Becoming (view_fields (λ s. s) (into_iter_items l.field-iterator)) rest
           → Becoming (view_fields (λ s. s) l.fn.fields.items) (prepend (put_field (λ s. s)) l.done.items rest);
     }
