@@ -5,7 +5,7 @@ use Rattle.std.specs.Prelude.{IfOk, Some, option_map}
 use Rattle.juniper_values.specs.declared.input_value.InputValue.{InputValue, the_lemmas}
 use Rattle.juniper_values.specs.declared.input_value.InputValue.TheVariants as InputValue
 use Rattle.juniper_values.specs.Resolve.{Becomes, ItemsBecome, FieldsBecome}
-use Rattle.graphql_grammar.specs.Tree.{Value, Scalar, Enum, Variable, no_items, no_fields}
+use Rattle.graphql_grammar.specs.Tree.{Value, Enum, Variable, no_items, no_fields}
 use Rattle.juniper_values.specs.View.{view, view_items, view_fields, values_in, text_of}
 use Rattle.juniper_values.specs.declared.input_value.InputValue.TheShapes.{weighed-InputValue-Object-0-at-4}
 use Rattle.juniper_values.proofs.Moves.{list_becomes, object_becomes, item_becomes, field_becomes, field_goes}
@@ -95,13 +95,6 @@ constant_fields-returns g t c =
     (c.loop-field.invariant.made no_fields
     (subst (λ (xs : List (Spanning (String Global) × Spanning (InputValue g.row.S.Denot))). Becoming
     (view_fields (λ s. s) xs) no_fields) (sym nothing) refl))
-
-pub constant-returns-in-Scalar : goal.constant-returns-in-Scalar
-constant-returns-in-Scalar g t c =
-    let new : view (λ s. s) (InputValue.Scalar c.in-Scalar.scalar) ≡ Scalar c.in-Scalar.scalar = search (rules, the_lemmas) in
-    subst (λ (w : Value g.row.S.Denot). Becomes g.S.PartialEq.eq (values_in (λ s. s) c.args.values.now) w
-    (Some (view (λ s. s) (InputValue.Scalar c.in-Scalar.scalar))))
-    (sym (ap (view (λ s. s)) c.in-Scalar.is ∙ new)) (ap Some new)
 
 pub constant-returns-in-Enum : goal.constant-returns-in-Enum
 constant-returns-in-Enum g t c =
