@@ -12,6 +12,7 @@ use Rattle.juniper_tokens.specs.Cursor.{Read, Fails, EndsOnce, first_of, kind_at
 use Rattle.juniper.specs.device.Steps.{cursor}
 use Rattle.juniper.proofs.Loops.{before_others, some_go_on, some_end, some_item_fails}
 use Rattle.juniper.proofs.Readings.{definitions_repeat}
+use Rattle.juniper.proofs.Stopping.{fails_on}
 
 abbrev at_end : List Lexeme → Bool → Option Span × List Lexeme
 at_end ts b = cond b (Some (first_of ts).span, drop 1 ts) (None, ts)
@@ -28,4 +29,4 @@ module _ {C : Type 0} (S : Scalars C Error) (front : List (Definition C)) (p : L
   end {a} {q} first ended e = some_end (definitions_repeat S) front p so_far first ended (ap (at_end q) (sym e))
 
   pub fail : (e : ParseFailure) (left : List Lexeme) → Fails e left (cursor S definition p) → Fails e left total
-  fail = some_item_fails (definitions_repeat S) front p so_far
+  fail e left = fails_on e left _ _ (some_item_fails (definitions_repeat S) front p so_far)

@@ -3,10 +3,8 @@ use Rattle.std.proofs.Common.{◌≡◌, Bool, true, false, cond, List, [], ◌�
 use Rattle.std.proofs.lemmas.List.{append-nil}
 use Rattle.graphql_lexical.specs.Place.{Span}
 use Rattle.graphql_lexical.specs.Cutting.{Lexeme}
-use Rattle.juniper_tokens.specs.declared.error.ParseFailure.{ParseFailure}
-use Rattle.juniper_tokens.specs.declared.error.ParseFailure.TheVariants as failures
-use Rattle.juniper_tokens.specs.Errors.{view_fault}
-use Rattle.juniper_tokens.specs.Cursor.{Read, Fails, ◌>>=◌, EndsOnce}
+use Rattle.juniper_tokens.specs.Cursor.{Read, ◌>>=◌, EndsOnce}
+use Rattle.juniper.proofs.Stopping.{Passes}
 
 -- one item, and then others
 abbrev pub then_others : {A B : Type 0} → A → Read (List A × B) → Read (List A × B)
@@ -49,11 +47,9 @@ module _ {A : Type 0} {close : List Lexeme → Option Span × List Lexeme} {item
       let one : more p ≡ Ok (([], c), q) = u.unfolds p ended ∙ rw (sym closed) refl in
       sym so_far ∙ ap (with_front front) one ∙ ap (λ (as' : List A). Ok ((as', c), q)) (append-nil front)
 
-  pub item_fails : (e : ParseFailure) (left : List Lexeme) {q : List Lexeme} → (None, q) ≡ close p
-      → Fails e left (item q) → Fails e left total
-  item_fails failures.Memory left opened fails = tt
-  item_fails (failures.Refused e) left opened fails =
-      let one : more p ≡ Err (view_fault e, left) = u.unfolds p ended ∙ rw (sym opened, fails) refl in
+  pub item_fails : {q : List Lexeme} → (None, q) ≡ close p → Passes (item q) total
+  item_fails opened f fails =
+      let one : more p ≡ Err f = u.unfolds p ended ∙ rw (sym opened, fails) refl in
       sym so_far ∙ ap (with_front front) one
 
 -- ---- a closing token is looked for behind each item
@@ -114,10 +110,9 @@ module _ {A : Type 0} {close : List Lexeme → Option Span × List Lexeme} {item
       let none : u.more q ≡ Ok (([], c), r) = u.repeats.unfolds q ended ∙ rw (sym closed) refl in
       sym so_far ∙ ap (before_others front) (one ∙ ap (and_others a) none)
 
-  pub some_item_fails : (e : ParseFailure) (left : List Lexeme) → Fails e left (item p) → Fails e left total
-  some_item_fails failures.Memory left fails = tt
-  some_item_fails (failures.Refused e) left fails =
-      let one : some p ≡ Err (view_fault e, left) = u.first p ∙ rw fails refl in
+  pub some_item_fails : Passes (item p) total
+  some_item_fails f fails =
+      let one : some p ≡ Err f = u.first p ∙ rw fails refl in
       sym so_far ∙ ap (before_others front) one
 
 -- ---- items as long as a token stands next
@@ -142,15 +137,7 @@ module _ {A : Type 0} {test : List Lexeme → Bool} {item : List Lexeme → Read
       let one : each p ≡ Ok ([], p) = u.unfolds p ended ∙ rw fails refl in
       sym so_far ∙ ap (before_others front) one ∙ ap (λ (as' : List A). Ok (as', p)) (append-nil front)
 
-  pub before_fail : test p ≡ true → (e : ParseFailure) (left : List Lexeme) → Fails e left (item p)
-      → Fails e left total
-  before_fail holds failures.Memory left fails = tt
-  before_fail holds (failures.Refused e) left fails =
-      let one : each p ≡ Err (view_fault e, left) = u.unfolds p ended ∙ rw (holds, fails) refl in
+  pub before_fail : test p ≡ true → Passes (item p) total
+  before_fail holds f fails =
+      let one : each p ≡ Err f = u.unfolds p ended ∙ rw (holds, fails) refl in
       sym so_far ∙ ap (before_others front) one
-
--- what fails first fails in all
-pub after_fails : {A B : Type 0} (e : ParseFailure) (left : List Lexeme) (r : Read A) (f : (A × List Lexeme) → Read B)
-    → Fails e left r → Fails e left (r >>= f)
-after_fails failures.Memory left r f fails = tt
-after_fails (failures.Refused e) left r f fails = rw fails refl

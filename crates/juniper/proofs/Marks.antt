@@ -7,14 +7,16 @@ use Rattle.graphql_lexical.specs.Cutting.{Lexeme}
 use Rattle.graphql_grammar.specs.Tokens.{span_of}
 use Rattle.graphql_grammar.specs.device.Reading.{front}
 use Rattle.graphql_grammar.proofs.Public.{last_of, last_next}
-use Rattle.juniper_tokens.specs.declared.error.ParseFailure.{ParseFailure}
-use Rattle.juniper_tokens.specs.declared.error.ParseFailure.TheVariants as failures
-use Rattle.juniper_tokens.specs.Errors.{view_fault}
-use Rattle.juniper_tokens.specs.Cursor.{Read, Gives, ◌>>=◌, first_of}
+use Rattle.graphql_grammar.specs.Tree.{Scalars}
+use Rattle.juniper_tokens.specs.Errors.{Error}
+use Rattle.juniper_tokens.specs.Cursor.{Read, ◌>>=◌, first_of}
 use Rattle.juniper_tokens.specs.Taking.{Taking, left, last_end, GoesOn}
 use Rattle.juniper_tokens.proofs.Public.{more_taken}
 use Rattle.juniper.specs.device.Steps.{at_span}
+use Rattle.juniper.specs.device.Stops.{Parses}
+use Rattle.juniper.specs.declared.parser.stop.Stop.{Stop}
 use Rattle.juniper.proofs.Cursors.{ok_is}
+use Rattle.juniper.proofs.Stopping.{Passes, stops_on}
 
 last_is : (n : ℕ) (t : Lexeme) (ts : List Lexeme) → n ≤ length ts → last_of t (take n ts) ≡ first_of (drop n (t ∷ ts))
 last_is zero t ts l = refl
@@ -70,22 +72,20 @@ module _ (old new : Taking) (on : GoesOn old new) (shorter : length (left new) <
       ap (λ p. Ok (y.0 p, y.1)) (sym span) ∙ h
   marked (Err y) x start e h = absurd (cc h)
 
-pub on_ok : {X P Q : Type 0} (result : Result X ParseFailure) → (P → Q) → OnOk result P → OnOk result Q
+pub on_ok : {X E P Q : Type 0} (result : Result X E) → (P → Q) → OnOk result P → OnOk result Q
 on_ok (Ok x) f h = f h
 on_ok (Err e) f h = h
 
 -- The same of what another function read from a mark on, and returns.
-module _ {X A : Type 0} (view : X → A) (old new : Taking) (start : Place)
+module _ {X A C : Type 0} (S : Scalars C Error) (view : X → A) (old new : Taking) (start : Place)
     (place : start ≡ (first_of (left old)).span.start) where
-  refused : (e : _) (r : Read (Span → A)) → at_span start (last_end new) r ≡ Err (view_fault e, left new)
-      → spanning (left old) r ≡ Err (view_fault e, left new)
-  refused e (Ok y) h = absurd (cc h)
-  refused e (Err y) h = h
+  unmarked : (r : Read (Span → A)) → Passes (at_span start (last_end new) r) (spanning (left old) r)
+  unmarked (Ok y) f h = absurd (cc h)
+  unmarked (Err y) f h = h
 
-  pub marked_result : (r : Read (Span → A)) (result : Result X ParseFailure) → OnOk result (GoesOn old new)
+  pub marked_result : (r : Read (Span → A)) (result : Result X Stop) → OnOk result (GoesOn old new)
       → OnOk result (length (left new) < length (left old)) → OnOk result (new.taken < length new.tokens)
-      → Gives view result (left new) (at_span start (last_end new) r)
-      → Gives view result (left new) (spanning (left old) r)
+      → Parses S view result (left new) (at_span start (last_end new) r)
+      → Parses S view result (left new) (spanning (left old) r)
   marked_result r (Ok x) on shorter within gives = marked old new on shorter within r (view x) start place gives
-  marked_result r (Err (failures.Refused e)) on shorter within gives = refused e r gives
-  marked_result r (Err failures.Memory) on shorter within gives = tt
+  marked_result r (Err e) on shorter within gives = stops_on S e (left new) _ _ (unmarked r) gives

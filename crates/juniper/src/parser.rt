@@ -6,6 +6,7 @@ pub(crate) mod items;
 pub(crate) mod lists;
 pub(crate) mod next;
 pub(crate) mod selection;
+pub(crate) mod stop;
 pub(crate) mod types;
 pub(crate) mod value;
 pub(crate) mod variables;

@@ -9,10 +9,7 @@ use Rattle.graphql_grammar.specs.Tree.{Scalars, Value, Scalar, TypeRef, Selectio
 use Rattle.graphql_grammar.specs.device.Reading.{Test, passes, many, repeated, scalar_token, fully, front, Symbol, a_value, a_type, a_selection, Steps, gives, wants, takes, sees, part, symbol, spanned, scalar, closed, each}
 use Rattle.graphql_grammar.specs.device.Productions.{symbol_at, reads}
 use Rattle.juniper_tokens.specs.Errors.{Error, unexpected}
-use Rattle.juniper_tokens.specs.declared.error.ParseFailure.{ParseFailure}
-use Rattle.juniper_tokens.specs.declared.span.Span as code
-use Rattle.juniper_tokens.specs.Spans.{view_span}
-use Rattle.juniper_tokens.specs.Cursor.{Read, Fails, ◌>>=◌, first_of, kind_at, next_at, next_if}
+use Rattle.juniper_tokens.specs.Cursor.{Read, ◌>>=◌, first_of, kind_at, next_at, next_if}
 use Rattle.juniper.specs.device.Seen.{seen}
 
 -- a scalar token by the scalar type's reading; another token is reported as unexpected
@@ -22,21 +19,6 @@ literal_here read kind text = if scalar_token kind text then read kind text else
 abbrev pub read_here : {C : Type 0} → Result C Error → Span → List Lexeme → Read (Value C)
 read_here (Ok c) p ts = Ok (Scalar c p, ts)
 read_here (Err e) p ts = Err (record { error = e; span = p }, ts)
-
--- The next token was taken.
-abbrev pub GivesNext : Result (Unit {0}) ParseFailure → List Lexeme → List Lexeme → Read Lexeme → Type 0
-GivesNext (Ok _) old new r = r ≡ Ok (first_of old, new)
-GivesNext (Err e) old new r = Fails e new r
-
--- The next token was taken, and its place is returned.
-abbrev pub GivesPlace : Result code.Span ParseFailure → List Lexeme → List Lexeme → Read Lexeme → Type 0
-GivesPlace (Ok place) old new r = (r ≡ Ok (first_of old, new)) × (view_span place ≡ (first_of old).span)
-GivesPlace (Err e) old new r = Fails e new r
-
--- An item was appended to a list, and those lexemes were left: that is what the step gives, unless memory ran out.
-abbrev pub Appends : {X A : Type 0} → (X → A) → Result (Unit {0}) ParseFailure → List X → List X → List Lexeme → Read A → Type 0
-Appends {X} view (Ok _) before after left read = (x : X) × (after ≡ before ++ x ∷ []) × (read ≡ Ok (view x, left))
-Appends view (Err e) before after left read = Fails e left read
 
 -- a token of the kind k is taken, and its span returned
 abbrev pub closing_at : Kind → List Lexeme → Option Span × List Lexeme

@@ -1,5 +1,5 @@
 //! Operations and fragments (GraphQL specification, October 2021, sections 2.2, 2.3 and 2.8).
-ghost use Rattle.std.specs.Prelude.{◌≡◌, ◌<◌, ◌≤◌, length, Some, None, option_map, OnOk, codes, if◌then◌else◌};
+ghost use Rattle.std.specs.Prelude.{◌≡◌, ◌<◌, ◌≤◌, length, Some, None, option_map, Ok, OnOk, codes, if◌then◌else◌};
 ghost use Rattle.std.specs.Str.{chars};
 ghost use Rattle.graphql_grammar.specs.device.Reading.{passes};
 ghost use Rattle.graphql_grammar.specs.device.Productions.{optional_name, fragment_name, type_condition, operation, fragment, shorthand, operation_word, operation_of, definition};
@@ -9,25 +9,23 @@ ghost use Rattle.juniper.specs.View.{view_word, view_definition};
 ghost use Rattle.juniper.specs.Scalars.{stated};
 ghost use Rattle.juniper_tokens.specs.Taking.{left, last_end, GoesOn};
 ghost use Rattle.juniper.specs.device.Steps.{no_scalars, cursor, at_span};
+ghost use Rattle.juniper.specs.device.Stops.{Parses, ParsesPlain};
 
-use crate::parser::next::{next_is, next_is_word, take_next};
+use crate::parser::next::{expect_name, next_is, next_is_word, take_name, take_next, unexpected};
 use crate::parser::selection::{parse_inline_parts, parse_selection_set};
+use crate::parser::stop::{Parsed, failure_of};
 use crate::parser::variables::parse_optional_variables;
 use crate::tree::ast::{Definition, Fragment, Operation};
 use graphql_grammar::OperationType;
-use juniper_tokens::{
-    Cursor, Kind, OptionParseResult, ParseResult, SourcePosition, Spanning, UnlocatedParseResult,
-};
+use juniper_tokens::{Cursor, Kind, SourcePosition, Spanning, UnlocatedParseResult};
 use juniper_values::ScalarValue;
 
 /// `Definition = SelectionSet
 ///            | ("query" | "mutation" | "subscription") Name? Variables? Directive* SelectionSet
 ///            | "fragment" FragmentName "on" Name Directive* SelectionSet`
 #[tactic(auto, using(crate::proofs::Names::fragment_is, crate::proofs::Cursors::word_is_no_end), unfolding(graphql_grammar::specs::device::Productions::definition))]
-pub(crate) fn parse_definition<'a, S: ScalarValue>(
-    tokens: &mut Cursor<'_, 'a>,
-) -> UnlocatedParseResult<Definition<'a, S>>
-    ensures gives { Gives (view_definition S.content) result (left tokens.new) (cursor (stated S.reading S.of_bool) definition (left tokens.old)) }
+fn parse_definition<'a, S: ScalarValue>(tokens: &mut Cursor<'_, 'a>) -> Parsed<Definition<'a, S>>
+    ensures gives { Parses (stated S.reading S.of_bool) (view_definition S.content) result (left tokens.new) (cursor (stated S.reading S.of_bool) definition (left tokens.old)) }
     ensures shorter { OnOk result (length (left tokens.new) < length (left tokens.old)) }
     ensures on { OnOk result (GoesOn tokens.old tokens.new) }
 {
@@ -45,6 +43,19 @@ pub(crate) fn parse_definition<'a, S: ScalarValue>(
                 parse_shorthand(tokens, start)
             }
         }
+    }
+}
+
+/// `Definition`, or the error at the first token that cannot continue one.
+pub(crate) fn definition_or_failure<'a, S: ScalarValue>(
+    tokens: &mut Cursor<'_, 'a>,
+) -> UnlocatedParseResult<Definition<'a, S>>
+    ensures gives { Gives (view_definition S.content) result (left tokens.new) (cursor (stated S.reading S.of_bool) definition (left tokens.old)) }
+    ensures shorter { OnOk result (length (left tokens.new) < length (left tokens.old)) }
+{
+    match parse_definition(tokens) {
+        Ok(definition) => Ok(definition),
+        Err(stop) => Err(failure_of::<S>(tokens, stop)),
     }
 }
 
@@ -69,8 +80,8 @@ fn next_operation(tokens: &Cursor<'_, '_>) -> Option<OperationType>
 fn parse_shorthand<'a, S: ScalarValue>(
     tokens: &mut Cursor<'_, 'a>,
     start: SourcePosition,
-) -> UnlocatedParseResult<Definition<'a, S>>
-    ensures gives { Gives (view_definition S.content) result (left tokens.new) (at_span start (last_end tokens.new) (cursor (stated S.reading S.of_bool) shorthand (left tokens.old))) }
+) -> Parsed<Definition<'a, S>>
+    ensures gives { Parses (stated S.reading S.of_bool) (view_definition S.content) result (left tokens.new) (at_span start (last_end tokens.new) (cursor (stated S.reading S.of_bool) shorthand (left tokens.old))) }
     ensures shorter { OnOk result (length (left tokens.new) < length (left tokens.old)) }
     ensures on { OnOk result (GoesOn tokens.old tokens.new) }
     ensures within { OnOk result (tokens.new.taken < length tokens.new.tokens) }
@@ -94,13 +105,13 @@ fn parse_operation<'a, S: ScalarValue>(
     tokens: &mut Cursor<'_, 'a>,
     operation_type: OperationType,
     start: SourcePosition,
-) -> UnlocatedParseResult<Definition<'a, S>>
-    ensures gives { Gives (view_definition S.content) result (left tokens.new) (at_span start (last_end tokens.new) (cursor (stated S.reading S.of_bool) (operation operation_type) (left tokens.old))) }
+) -> Parsed<Definition<'a, S>>
+    ensures gives { Parses (stated S.reading S.of_bool) (view_definition S.content) result (left tokens.new) (at_span start (last_end tokens.new) (cursor (stated S.reading S.of_bool) (operation operation_type) (left tokens.old))) }
     ensures shorter { OnOk result (length (left tokens.new) < length (left tokens.old)) }
     ensures on { OnOk result (GoesOn tokens.old tokens.new) }
     ensures within { OnOk result (tokens.new.taken < length tokens.new.tokens) }
 {
-    let name = parse_optional_name(tokens)?;
+    let name = take_optional_name(tokens);
     let variable_definitions = parse_optional_variables(tokens)?;
     let (directives, selection_set) = parse_inline_parts(tokens)?;
     Ok(Definition::Operation(Spanning::new(
@@ -116,16 +127,16 @@ fn parse_operation<'a, S: ScalarValue>(
 }
 
 /// `Name?`
-#[tactic(auto, using(juniper_tokens::proofs::Public::stays), unfolding(juniper_tokens::specs::Cursor::expect_name_at))]
-fn parse_optional_name<'a>(tokens: &mut Cursor<'_, 'a>) -> OptionParseResult<&'a str>
-    ensures gives { Gives (option_map view_word) result (left tokens.new) (cursor no_scalars optional_name (left tokens.old)) }
-    ensures not_longer { OnOk result (length (left tokens.new) ≤ length (left tokens.old)) }
-    ensures on { OnOk result (GoesOn tokens.old tokens.new) }
+#[tactic(auto, using(juniper_tokens::proofs::Public::stays))]
+fn take_optional_name<'a>(tokens: &mut Cursor<'_, 'a>) -> Option<Spanning<&'a str>>
+    ensures gives { cursor no_scalars optional_name (left tokens.old) ≡ Ok (option_map view_word result, left tokens.new) }
+    ensures not_longer { length (left tokens.new) ≤ length (left tokens.old) }
+    ensures on { GoesOn tokens.old tokens.new }
 {
     if next_is(tokens, Kind::Name) {
-        Ok(Some(tokens.expect_name()?))
+        Some(take_name(tokens))
     } else {
-        Ok(None)
+        None
     }
 }
 
@@ -134,14 +145,20 @@ fn parse_optional_name<'a>(tokens: &mut Cursor<'_, 'a>) -> OptionParseResult<&'a
 fn parse_fragment<'a, S: ScalarValue>(
     tokens: &mut Cursor<'_, 'a>,
     start: SourcePosition,
-) -> UnlocatedParseResult<Definition<'a, S>>
-    ensures gives { Gives (view_definition S.content) result (left tokens.new) (at_span start (last_end tokens.new) (cursor (stated S.reading S.of_bool) fragment (left tokens.old))) }
+) -> Parsed<Definition<'a, S>>
+    ensures gives { Parses (stated S.reading S.of_bool) (view_definition S.content) result (left tokens.new) (at_span start (last_end tokens.new) (cursor (stated S.reading S.of_bool) fragment (left tokens.old))) }
     ensures shorter { OnOk result (length (left tokens.new) < length (left tokens.old)) }
     ensures on { OnOk result (GoesOn tokens.old tokens.new) }
     ensures within { OnOk result (tokens.new.taken < length tokens.new.tokens) }
 {
-    let name = parse_fragment_name(tokens)?;
-    let type_condition = parse_type_condition(tokens)?;
+    let name = match parse_fragment_name(tokens) {
+        Ok(name) => name,
+        Err(stop) => return Err(stop),
+    };
+    let type_condition = match parse_type_condition(tokens) {
+        Ok(type_condition) => type_condition,
+        Err(stop) => return Err(stop),
+    };
     let (directives, selection_set) = parse_inline_parts(tokens)?;
     Ok(Definition::Fragment(Spanning::new(
         tokens.span_from(start),
@@ -156,29 +173,29 @@ fn parse_fragment<'a, S: ScalarValue>(
 
 /// `FragmentName = a Name other than "on"`
 #[tactic(auto, using(crate::proofs::Names::on_is), unfolding(juniper_tokens::specs::Cursor::expect_name_at))]
-fn parse_fragment_name<'a>(tokens: &mut Cursor<'_, 'a>) -> ParseResult<&'a str>
-    ensures gives { Gives view_word result (left tokens.new) (cursor no_scalars fragment_name (left tokens.old)) }
+fn parse_fragment_name<'a>(tokens: &mut Cursor<'_, 'a>) -> Parsed<Spanning<&'a str>>
+    ensures gives { ParsesPlain view_word result (left tokens.new) (cursor no_scalars fragment_name (left tokens.old)) }
     ensures shorter { OnOk result (length (left tokens.new) < length (left tokens.old)) }
     ensures on { OnOk result (GoesOn tokens.old tokens.new) }
 {
     if next_is_word(tokens, "on") {
-        tokens.refuse()
+        Err(unexpected(tokens))
     } else {
-        tokens.expect_name()
+        expect_name(tokens)
     }
 }
 
 /// `"on" Name`
 #[tactic(auto, using(crate::proofs::Names::on_is, crate::proofs::Cursors::word_is_no_end, juniper_tokens::proofs::Public::goes_further), unfolding(juniper_tokens::specs::Cursor::expect_name_at))]
-fn parse_type_condition<'a>(tokens: &mut Cursor<'_, 'a>) -> ParseResult<&'a str>
-    ensures gives { Gives view_word result (left tokens.new) (cursor no_scalars type_condition (left tokens.old)) }
+fn parse_type_condition<'a>(tokens: &mut Cursor<'_, 'a>) -> Parsed<Spanning<&'a str>>
+    ensures gives { ParsesPlain view_word result (left tokens.new) (cursor no_scalars type_condition (left tokens.old)) }
     ensures shorter { OnOk result (length (left tokens.new) < length (left tokens.old)) }
     ensures on { OnOk result (GoesOn tokens.old tokens.new) }
 {
     if next_is_word(tokens, "on") {
         take_next(tokens);
-        tokens.expect_name()
+        expect_name(tokens)
     } else {
-        tokens.refuse()
+        Err(unexpected(tokens))
     }
 }

@@ -3,20 +3,20 @@ ghost use Rattle.std.specs.Prelude.{◌≡◌, ◌<◌, ◌≤◌, true, length,
 ghost use Rattle.graphql_lexical.specs.Kinds.{same_kind};
 ghost use Rattle.graphql_lexical.specs.declared.kind.Kind.TheVariants.{At};
 ghost use Rattle.graphql_grammar.specs.device.Productions.{argument, arguments_inner, arguments, optional_arguments, directive, directives};
-ghost use Rattle.juniper_tokens.specs.Cursor.{EndsOnce, Gives, kind_at};
+ghost use Rattle.juniper_tokens.specs.Cursor.{EndsOnce, kind_at};
 ghost use Rattle.juniper_tokens.specs.Taking.{left, GoesOn};
 ghost use Rattle.juniper.specs.View.{view_argument, view_arguments, view_directive, view_directives};
 ghost use Rattle.juniper.specs.Scalars.{stated};
 ghost use Rattle.juniper.specs.device.PartViews.{view_listed};
-ghost use Rattle.juniper.specs.device.Steps.{cursor, Appends};
+ghost use Rattle.juniper.specs.device.Steps.{cursor};
+ghost use Rattle.juniper.specs.device.Stops.{Appends, Parses};
 
 use crate::parser::lists::push_item;
-use crate::parser::next::{expect_kind, next_is, refusal, take_closing, take_name};
+use crate::parser::next::{expect_kind, next_is, take_closing, take_name, unexpected};
+use crate::parser::stop::Parsed;
 use crate::parser::value::parse_value;
 use crate::tree::ast::{Arguments, Directive};
-use juniper_tokens::{
-    Cursor, Kind, OptionParseResult, ParseResult, Spanning, UnlocatedParseResult,
-};
+use juniper_tokens::{Cursor, Kind, Spanning};
 use juniper_values::{InputValue, ScalarValue};
 
 /// `Name ":" Value(free)`, appended.
@@ -24,17 +24,17 @@ use juniper_values::{InputValue, ScalarValue};
 fn parse_argument<'a, S: ScalarValue>(
     tokens: &mut Cursor<'_, 'a>,
     arguments: &mut Vec<(Spanning<&'a str>, Spanning<InputValue<S>>)>,
-) -> UnlocatedParseResult<()>
-    ensures appends { Appends (view_argument S.content) result arguments.old.items arguments.new.items (left tokens.new) (cursor (stated S.reading S.of_bool) argument (left tokens.old)) }
+) -> Parsed<()>
+    ensures appends { Appends (stated S.reading S.of_bool) (view_argument S.content) result arguments.old.items arguments.new.items (left tokens.new) (cursor (stated S.reading S.of_bool) argument (left tokens.old)) }
     ensures shorter { OnOk result (length (left tokens.new) < length (left tokens.old)) }
     ensures on { OnOk result (GoesOn tokens.old tokens.new) }
 {
     if !next_is(tokens, Kind::Name) {
-        return Err(refusal(tokens));
+        return Err(unexpected(tokens));
     }
     let name = take_name(tokens);
     if !next_is(tokens, Kind::Colon) {
-        return Err(refusal(tokens));
+        return Err(unexpected(tokens));
     }
     tokens.advance();
     let value = parse_value(tokens, false)?;
@@ -47,8 +47,8 @@ fn parse_argument<'a, S: ScalarValue>(
 #[tactic(auto, using(juniper_tokens::proofs::Public::goes_further, juniper_tokens::proofs::Public::stays))]
 fn parse_argument_list<'a, S: ScalarValue>(
     tokens: &mut Cursor<'_, 'a>,
-) -> ParseResult<Vec<(Spanning<&'a str>, Spanning<InputValue<S>>)>>
-    ensures gives { Gives (view_listed (view_argument S.content)) result (left tokens.new) (cursor (stated S.reading S.of_bool) arguments_inner (left tokens.old)) }
+) -> Parsed<Spanning<Vec<(Spanning<&'a str>, Spanning<InputValue<S>>)>>>
+    ensures gives { Parses (stated S.reading S.of_bool) (view_listed (view_argument S.content)) result (left tokens.new) (cursor (stated S.reading S.of_bool) arguments_inner (left tokens.old)) }
     ensures shorter { OnOk result (length (left tokens.new) < length (left tokens.old)) }
     ensures on { OnOk result (GoesOn tokens.old tokens.new) }
 {
@@ -64,8 +64,10 @@ fn parse_argument_list<'a, S: ScalarValue>(
 /// `Arguments = "(" (Name ":" Value(free))+ ")"`
 #[inline(never)]
 #[tactic(auto, using(juniper_tokens::proofs::Public::goes_further, juniper_tokens::proofs::Public::some_taken), unfolding(graphql_grammar::specs::device::Productions::arguments))]
-fn parse_arguments<'a, S: ScalarValue>(tokens: &mut Cursor<'_, 'a>) -> ParseResult<Arguments<'a, S>>
-    ensures gives { Gives (view_arguments S.content) result (left tokens.new) (cursor (stated S.reading S.of_bool) arguments (left tokens.old)) }
+fn parse_arguments<'a, S: ScalarValue>(
+    tokens: &mut Cursor<'_, 'a>,
+) -> Parsed<Spanning<Arguments<'a, S>>>
+    ensures gives { Parses (stated S.reading S.of_bool) (view_arguments S.content) result (left tokens.new) (cursor (stated S.reading S.of_bool) arguments (left tokens.old)) }
     ensures shorter { OnOk result (length (left tokens.new) < length (left tokens.old)) }
     ensures on { OnOk result (GoesOn tokens.old tokens.new) }
 {
@@ -80,8 +82,8 @@ fn parse_arguments<'a, S: ScalarValue>(tokens: &mut Cursor<'_, 'a>) -> ParseResu
 #[tactic(auto, using(juniper_tokens::proofs::Public::stays), unfolding(graphql_grammar::specs::device::Productions::optional_arguments))]
 pub(crate) fn parse_optional_arguments<'a, S: ScalarValue>(
     tokens: &mut Cursor<'_, 'a>,
-) -> OptionParseResult<Arguments<'a, S>>
-    ensures gives { Gives (option_map (view_arguments S.content)) result (left tokens.new) (cursor (stated S.reading S.of_bool) optional_arguments (left tokens.old)) }
+) -> Parsed<Option<Spanning<Arguments<'a, S>>>>
+    ensures gives { Parses (stated S.reading S.of_bool) (option_map (view_arguments S.content)) result (left tokens.new) (cursor (stated S.reading S.of_bool) optional_arguments (left tokens.old)) }
     ensures not_longer { OnOk result (length (left tokens.new) ≤ length (left tokens.old)) }
     ensures on { OnOk result (GoesOn tokens.old tokens.new) }
 {
@@ -97,16 +99,16 @@ pub(crate) fn parse_optional_arguments<'a, S: ScalarValue>(
 fn parse_directive<'a, S: ScalarValue>(
     tokens: &mut Cursor<'_, 'a>,
     directives: &mut Vec<Spanning<Directive<'a, S>>>,
-) -> UnlocatedParseResult<()>
+) -> Parsed<()>
     requires { same_kind (kind_at (left tokens.old)) At ≡ true }
-    ensures appends { Appends (view_directive S.content) result directives.old.items directives.new.items (left tokens.new) (cursor (stated S.reading S.of_bool) directive (left tokens.old)) }
+    ensures appends { Appends (stated S.reading S.of_bool) (view_directive S.content) result directives.old.items directives.new.items (left tokens.new) (cursor (stated S.reading S.of_bool) directive (left tokens.old)) }
     ensures shorter { OnOk result (length (left tokens.new) < length (left tokens.old)) }
     ensures on { OnOk result (GoesOn tokens.old tokens.new) }
 {
     let start = tokens.mark();
     tokens.advance();
     if !next_is(tokens, Kind::Name) {
-        return Err(refusal(tokens));
+        return Err(unexpected(tokens));
     }
     let name = take_name(tokens);
     let arguments = parse_optional_arguments(tokens)?;
@@ -120,8 +122,8 @@ fn parse_directive<'a, S: ScalarValue>(
 #[inline(always)]
 pub(crate) fn parse_directives<'a, S: ScalarValue>(
     tokens: &mut Cursor<'_, 'a>,
-) -> UnlocatedParseResult<Option<Vec<Spanning<Directive<'a, S>>>>>
-    ensures gives { Gives (view_directives S.content) result (left tokens.new) (cursor (stated S.reading S.of_bool) directives (left tokens.old)) }
+) -> Parsed<Option<Vec<Spanning<Directive<'a, S>>>>>
+    ensures gives { Parses (stated S.reading S.of_bool) (view_directives S.content) result (left tokens.new) (cursor (stated S.reading S.of_bool) directives (left tokens.old)) }
     ensures not_longer { OnOk result (length (left tokens.new) ≤ length (left tokens.old)) }
     ensures on { OnOk result (GoesOn tokens.old tokens.new) }
 {
@@ -137,10 +139,10 @@ pub(crate) fn parse_directives<'a, S: ScalarValue>(
 #[inline(never)]
 fn parse_directive_list<'a, S: ScalarValue>(
     tokens: &mut Cursor<'_, 'a>,
-) -> UnlocatedParseResult<Option<Vec<Spanning<Directive<'a, S>>>>>
+) -> Parsed<Option<Vec<Spanning<Directive<'a, S>>>>>
     requires at { same_kind (kind_at (left tokens.old)) At ≡ true }
     requires ended { EndsOnce (left tokens.old) }
-    ensures gives { Gives (view_directives S.content) result (left tokens.new) (cursor (stated S.reading S.of_bool) directives (left tokens.old)) }
+    ensures gives { Parses (stated S.reading S.of_bool) (view_directives S.content) result (left tokens.new) (cursor (stated S.reading S.of_bool) directives (left tokens.old)) }
     ensures shorter { OnOk result (length (left tokens.new) < length (left tokens.old)) }
     ensures on { OnOk result (GoesOn tokens.old tokens.new) }
 {

@@ -12,7 +12,7 @@ ghost use Rattle.juniper.specs.Promise.{HasTree, IsRefusal, IsRefusalInText, IfR
 pub(crate) mod depth;
 pub(crate) mod sink;
 
-use crate::parser::definition::parse_definition;
+use crate::parser::definition::definition_or_failure;
 use crate::parser::lists::push_item;
 use crate::parser::next::next_is;
 use crate::tree::ast::OwnedDocument;
@@ -60,7 +60,7 @@ pub(crate) fn parse_definitions<'a, S: ScalarValue>(
 {
     let mut definitions = Vec::new(tokens.allocator());
     loop {
-        let definition = parse_definition(tokens)?;
+        let definition = definition_or_failure(tokens)?;
         let is_last = next_is(tokens, Kind::EndOfFile);
         push_item(&mut definitions, definition, is_last)?;
         if is_last {

@@ -1,18 +1,21 @@
-//! The next token. One that was looked at is taken by `take_next` or `take_name`, one that has to be there by `expect_kind`
-//! or `expect_place`.
+//! The next token. One that was looked at is taken by `take_next` or `take_name`, one that has to be there by `expect_kind`,
+//! `expect_place` or `expect_name`.
 ghost use Rattle.std.specs.Prelude.{◌≡◌, ◌<◌, ◌≤◌, length, drop, true, false, Some, None, option_map, Ok, OnOk, IfSome, if◌then◌else◌};
 ghost use Rattle.std.specs.Str.{chars};
 ghost use Rattle.graphql_lexical.specs.Kinds.{same_kind};
 ghost use Rattle.graphql_lexical.specs.declared.kind.Kind.TheVariants.{EndOfFile, Name};
-ghost use Rattle.juniper_tokens.specs.Cursor.{EndsOnce, Fails, first_of, kind_at, next_at, next_if, refused_at};
+ghost use Rattle.juniper_tokens.specs.Cursor.{EndsOnce, expect_name_at, first_of, kind_at, next_at, next_if, refused_at};
 ghost use Rattle.graphql_lexical.specs.Cutting.{Lexeme};
 ghost use Rattle.graphql_grammar.specs.device.Reading.{passes, word};
 ghost use Rattle.juniper_tokens.specs.Taking.{left, GoesOn};
 ghost use Rattle.juniper_tokens.specs.Spans.{view_span};
 ghost use Rattle.graphql_grammar.specs.Tokens.{word_of};
 ghost use Rattle.juniper.specs.View.{view_word};
-ghost use Rattle.juniper.specs.device.Steps.{closing_at, GivesNext, GivesPlace};
+ghost use Rattle.juniper_tokens.specs.Tokens.{view_name};
+ghost use Rattle.juniper.specs.device.Steps.{closing_at};
+ghost use Rattle.juniper.specs.device.Stops.{Explained, GivesNext, GivesPlace, ParsesPlain, StopsPlain, refusal_at};
 
+use crate::parser::stop::{Parsed, Stop};
 use juniper_tokens::text::same_text;
 use juniper_tokens::{Cursor, Kind, ParseFailure, Span, Spanning};
 
@@ -48,10 +51,20 @@ pub(crate) fn take_next(tokens: &mut Cursor<'_, '_>) -> Span
     place
 }
 
+/// Why a parse function stops where the next token is unexpected. The token is not taken.
+#[tactic(auto, using(crate::proofs::Stopping::refused_is))]
+#[inline(always)]
+pub(crate) fn unexpected(tokens: &Cursor<'_, '_>) -> Stop
+    ensures { StopsPlain {Y = Lexeme} result (left tokens.now) (refused_at (left tokens.now)) }
+{
+    Stop::Unexpected
+}
+
 /// Takes the next token, and returns the error that it is unexpected. What stands after it is what `Cursor::refuse` leaves.
+#[tactic(auto, using(crate::proofs::Stopping::at_next))]
 #[cold]
 pub(crate) fn refusal(tokens: &mut Cursor<'_, '_>) -> ParseFailure
-    ensures gives { Fails {Y = Lexeme} result (left tokens.new) (refused_at (left tokens.old)) }
+    ensures gives { Explained result (left tokens.new) (refusal_at (left tokens.old)) }
     ensures on { GoesOn tokens.old tokens.new }
 {
     match tokens.refuse::<()>() {
@@ -110,12 +123,10 @@ pub(crate) fn take_if(tokens: &mut Cursor<'_, '_>, kind: Kind) -> bool
     is_next
 }
 
-/// Takes the next token if it is of this kind, else returns an error.
-///
-/// Another token is taken too, and reported as unexpected. At the end nothing is taken.
+/// Takes the next token if it is of this kind, else stops there.
 #[tactic(auto, using(crate::proofs::Cursors::closing_is_no_end))]
 #[inline(always)]
-pub(crate) fn expect_kind(tokens: &mut Cursor<'_, '_>, kind: Kind) -> Result<(), ParseFailure>
+pub(crate) fn expect_kind(tokens: &mut Cursor<'_, '_>, kind: Kind) -> Parsed<()>
     requires { same_kind kind EndOfFile ≡ false }
     ensures gives { GivesNext result (left tokens.old) (left tokens.new) (next_if (same_kind (kind_at (left tokens.old)) kind) (left tokens.old)) }
     ensures shorter { OnOk result (length (left tokens.new) < length (left tokens.old)) }
@@ -125,14 +136,14 @@ pub(crate) fn expect_kind(tokens: &mut Cursor<'_, '_>, kind: Kind) -> Result<(),
         tokens.advance();
         Ok(())
     } else {
-        tokens.refuse()
+        Err(unexpected(tokens))
     }
 }
 
-/// Takes the next token if it is of this kind, and returns its span, else returns the error that `expect_kind` returns.
+/// Takes the next token if it is of this kind, and returns its span, else stops there.
 #[tactic(auto, using(crate::proofs::Cursors::closing_is_no_end))]
 #[inline(always)]
-pub(crate) fn expect_place(tokens: &mut Cursor<'_, '_>, kind: Kind) -> Result<Span, ParseFailure>
+pub(crate) fn expect_place(tokens: &mut Cursor<'_, '_>, kind: Kind) -> Parsed<Span>
     requires { same_kind kind EndOfFile ≡ false }
     ensures gives { GivesPlace result (left tokens.old) (left tokens.new) (next_if (same_kind (kind_at (left tokens.old)) kind) (left tokens.old)) }
     ensures shorter { OnOk result (length (left tokens.new) < length (left tokens.old)) }
@@ -141,6 +152,21 @@ pub(crate) fn expect_place(tokens: &mut Cursor<'_, '_>, kind: Kind) -> Result<Sp
     if next_is(tokens, kind) {
         Ok(take_next(tokens))
     } else {
-        tokens.refuse()
+        Err(unexpected(tokens))
+    }
+}
+
+/// Takes the next token if it is a Name, and returns its text with its span, else stops there.
+#[tactic(auto, unfolding(juniper_tokens::specs::Cursor::expect_name_at))]
+#[inline(always)]
+pub(crate) fn expect_name<'a>(tokens: &mut Cursor<'_, 'a>) -> Parsed<Spanning<&'a str>>
+    ensures gives { ParsesPlain view_name result (left tokens.new) (expect_name_at (left tokens.old)) }
+    ensures shorter { OnOk result (length (left tokens.new) < length (left tokens.old)) }
+    ensures on { GoesOn tokens.old tokens.new }
+{
+    if next_is(tokens, Kind::Name) {
+        Ok(take_name(tokens))
+    } else {
+        Err(unexpected(tokens))
     }
 }

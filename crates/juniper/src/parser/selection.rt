@@ -1,20 +1,21 @@
 //! Selection sets, fields and fragments (GraphQL specification, October 2021, sections 2.4, 2.5 and 2.8).
 ghost use Rattle.std.specs.Prelude.{◌≡◌, ◌<◌, ◌≤◌, length, option_map, None, OnOk};
 ghost use Rattle.graphql_grammar.specs.device.Productions.{selections_inner, selection_set, optional_set, names, field, named_spread, inline_parts, inline, typed, spread};
-ghost use Rattle.juniper_tokens.specs.Cursor.{Gives};
 ghost use Rattle.juniper_tokens.specs.Taking.{left, last_end, GoesOn};
 ghost use Rattle.juniper.specs.View.{view_word, view_selection};
 ghost use Rattle.juniper.specs.Scalars.{stated};
-ghost use Rattle.juniper.specs.device.Steps.{no_scalars, cursor, at_span, selection_read, Appends};
+ghost use Rattle.juniper.specs.device.Steps.{no_scalars, cursor, at_span, selection_read};
+ghost use Rattle.juniper.specs.device.Stops.{Appends, Parses, ParsesPlain};
 ghost use Rattle.juniper.specs.device.PartViews.{view_items, view_names, view_whole_set, view_inline_parts};
 
 use crate::parser::directives::{parse_directives, parse_optional_arguments};
 use crate::parser::lists::push_item;
 use crate::parser::next::{
-    expect_kind, next_is, next_is_word, refusal, take_if, take_name, take_next,
+    expect_kind, expect_name, next_is, next_is_word, take_if, take_name, take_next, unexpected,
 };
+use crate::parser::stop::Parsed;
 use crate::tree::ast::{Directive, Field, FragmentSpread, InlineFragment, Selection};
-use juniper_tokens::{Cursor, Kind, ParseFailure, SourcePosition, Spanning, UnlocatedParseResult};
+use juniper_tokens::{Cursor, Kind, SourcePosition, Spanning};
 use juniper_values::ScalarValue;
 
 /// `SelectionSet = "{" Selection+ "}"`
@@ -23,8 +24,8 @@ use juniper_values::ScalarValue;
 #[tactic(auto, using(juniper_tokens::proofs::Public::goes_further), unfolding(graphql_grammar::specs::device::Productions::selection_set))]
 pub(crate) fn parse_selection_set<'a, S: ScalarValue>(
     tokens: &mut Cursor<'_, 'a>,
-) -> UnlocatedParseResult<Vec<Selection<'a, S>>>
-    ensures gives { Gives (view_whole_set S.content) result (left tokens.new) (cursor (stated S.reading S.of_bool) selection_set (left tokens.old)) }
+) -> Parsed<Vec<Selection<'a, S>>>
+    ensures gives { Parses (stated S.reading S.of_bool) (view_whole_set S.content) result (left tokens.new) (cursor (stated S.reading S.of_bool) selection_set (left tokens.old)) }
     ensures shorter { OnOk result (length (left tokens.new) < length (left tokens.old)) }
     ensures on { OnOk result (GoesOn tokens.old tokens.new) }
 {
@@ -37,8 +38,8 @@ pub(crate) fn parse_selection_set<'a, S: ScalarValue>(
 #[tactic(auto, using(juniper_tokens::proofs::Public::goes_further, juniper_tokens::proofs::Public::stays))]
 fn parse_selection_list<'a, S: ScalarValue>(
     tokens: &mut Cursor<'_, 'a>,
-) -> UnlocatedParseResult<Vec<Selection<'a, S>>>
-    ensures gives { Gives (view_items (view_selection S.content)) result (left tokens.new) (cursor (stated S.reading S.of_bool) selections_inner (left tokens.old)) }
+) -> Parsed<Vec<Selection<'a, S>>>
+    ensures gives { Parses (stated S.reading S.of_bool) (view_items (view_selection S.content)) result (left tokens.new) (cursor (stated S.reading S.of_bool) selections_inner (left tokens.old)) }
     ensures shorter { OnOk result (length (left tokens.new) < length (left tokens.old)) }
     ensures on { OnOk result (GoesOn tokens.old tokens.new) }
 {
@@ -57,8 +58,8 @@ fn parse_selection_list<'a, S: ScalarValue>(
 #[tactic(auto, using(juniper_tokens::proofs::Public::stays), unfolding(graphql_grammar::specs::device::Productions::optional_set))]
 fn parse_optional_selection_set<'a, S: ScalarValue>(
     tokens: &mut Cursor<'_, 'a>,
-) -> UnlocatedParseResult<Option<Vec<Selection<'a, S>>>>
-    ensures gives { Gives (option_map (view_whole_set S.content)) result (left tokens.new) (cursor (stated S.reading S.of_bool) optional_set (left tokens.old)) }
+) -> Parsed<Option<Vec<Selection<'a, S>>>>
+    ensures gives { Parses (stated S.reading S.of_bool) (option_map (view_whole_set S.content)) result (left tokens.new) (cursor (stated S.reading S.of_bool) optional_set (left tokens.old)) }
     ensures not_longer { OnOk result (length (left tokens.new) ≤ length (left tokens.old)) }
     ensures on { OnOk result (GoesOn tokens.old tokens.new) }
 {
@@ -75,8 +76,8 @@ fn parse_optional_selection_set<'a, S: ScalarValue>(
 fn parse_selection<'a, S: ScalarValue>(
     tokens: &mut Cursor<'_, 'a>,
     selections: &mut Vec<Selection<'a, S>>,
-) -> UnlocatedParseResult<()>
-    ensures appends { Appends (view_selection S.content) result selections.old.items selections.new.items (left tokens.new) (selection_read (stated S.reading S.of_bool) (left tokens.old)) }
+) -> Parsed<()>
+    ensures appends { Appends (stated S.reading S.of_bool) (view_selection S.content) result selections.old.items selections.new.items (left tokens.new) (selection_read (stated S.reading S.of_bool) (left tokens.old)) }
     ensures shorter { OnOk result (length (left tokens.new) < length (left tokens.old)) }
     ensures on { OnOk result (GoesOn tokens.old tokens.new) }
 {
@@ -95,13 +96,16 @@ fn parse_selection<'a, S: ScalarValue>(
 fn parse_field<'a, S: ScalarValue>(
     tokens: &mut Cursor<'_, 'a>,
     selections: &mut Vec<Selection<'a, S>>,
-) -> UnlocatedParseResult<()>
-    ensures appends { Appends (view_selection S.content) result selections.old.items selections.new.items (left tokens.new) (cursor (stated S.reading S.of_bool) field (left tokens.old)) }
+) -> Parsed<()>
+    ensures appends { Appends (stated S.reading S.of_bool) (view_selection S.content) result selections.old.items selections.new.items (left tokens.new) (cursor (stated S.reading S.of_bool) field (left tokens.old)) }
     ensures shorter { OnOk result (length (left tokens.new) < length (left tokens.old)) }
     ensures on { OnOk result (GoesOn tokens.old tokens.new) }
 {
     let start = tokens.mark();
-    let (alias, name) = parse_names(tokens)?;
+    let (alias, name) = match parse_names(tokens) {
+        Ok(names) => names,
+        Err(stop) => return Err(stop),
+    };
     let arguments = parse_optional_arguments(tokens)?;
     let directives = parse_directives(tokens)?;
     let selection_set = parse_optional_selection_set(tokens)?;
@@ -125,19 +129,19 @@ fn parse_field<'a, S: ScalarValue>(
 #[tactic(auto, using(juniper_tokens::proofs::Public::goes_further), unfolding(juniper_tokens::specs::Cursor::expect_name_at))]
 fn parse_names<'a>(
     tokens: &mut Cursor<'_, 'a>,
-) -> Result<(Option<Spanning<&'a str>>, Spanning<&'a str>), ParseFailure>
-    ensures gives { Gives view_names result (left tokens.new) (cursor no_scalars names (left tokens.old)) }
+) -> Parsed<(Option<Spanning<&'a str>>, Spanning<&'a str>)>
+    ensures gives { ParsesPlain view_names result (left tokens.new) (cursor no_scalars names (left tokens.old)) }
     ensures shorter { OnOk result (length (left tokens.new) < length (left tokens.old)) }
     ensures on { OnOk result (GoesOn tokens.old tokens.new) }
 {
     if !next_is(tokens, Kind::Name) {
-        return Err(refusal(tokens));
+        return Err(unexpected(tokens));
     }
     let first = take_name(tokens);
     if next_is(tokens, Kind::Colon) {
         take_next(tokens);
         if !next_is(tokens, Kind::Name) {
-            return Err(refusal(tokens));
+            return Err(unexpected(tokens));
         }
         let name = take_name(tokens);
         Ok((Some(first), name))
@@ -149,10 +153,8 @@ fn parse_names<'a>(
 /// `"..." FragmentName Directive* | "..." ("on" Name)? Directive* SelectionSet`
 #[cycle(selection)]
 #[tactic(auto, using(crate::proofs::Names::on_is, crate::proofs::Cursors::word_is_no_end, crate::proofs::CursorFits::other_is_name), unfolding(graphql_grammar::specs::device::Productions::spread, juniper_tokens::specs::Cursor::expect_name_at))]
-fn parse_spread<'a, S: ScalarValue>(
-    tokens: &mut Cursor<'_, 'a>,
-) -> UnlocatedParseResult<Selection<'a, S>>
-    ensures gives { Gives (view_selection S.content) result (left tokens.new) (cursor (stated S.reading S.of_bool) spread (left tokens.old)) }
+fn parse_spread<'a, S: ScalarValue>(tokens: &mut Cursor<'_, 'a>) -> Parsed<Selection<'a, S>>
+    ensures gives { Parses (stated S.reading S.of_bool) (view_selection S.content) result (left tokens.new) (cursor (stated S.reading S.of_bool) spread (left tokens.old)) }
     ensures shorter { OnOk result (length (left tokens.new) < length (left tokens.old)) }
     ensures on { OnOk result (GoesOn tokens.old tokens.new) }
 {
@@ -175,9 +177,9 @@ fn parse_named_spread<'a, S: ScalarValue>(
     tokens: &mut Cursor<'_, 'a>,
     start: SourcePosition,
     name: Spanning<&'a str>,
-) -> UnlocatedParseResult<Selection<'a, S>>
+) -> Parsed<Selection<'a, S>>
     requires { 0 < tokens.old.taken }
-    ensures gives { Gives (view_selection S.content) result (left tokens.new) (at_span start (last_end tokens.new) (cursor (stated S.reading S.of_bool) (named_spread (view_word name.entry)) (left tokens.old))) }
+    ensures gives { Parses (stated S.reading S.of_bool) (view_selection S.content) result (left tokens.new) (at_span start (last_end tokens.new) (cursor (stated S.reading S.of_bool) (named_spread (view_word name.entry)) (left tokens.old))) }
     ensures not_longer { OnOk result (length (left tokens.new) ≤ length (left tokens.old)) }
     ensures on { OnOk result (GoesOn tokens.old tokens.new) }
     ensures within { OnOk result (tokens.new.taken < length tokens.new.tokens) }
@@ -198,13 +200,16 @@ fn parse_named_spread<'a, S: ScalarValue>(
 fn parse_typed_fragment<'a, S: ScalarValue>(
     tokens: &mut Cursor<'_, 'a>,
     start: SourcePosition,
-) -> UnlocatedParseResult<Selection<'a, S>>
-    ensures gives { Gives (view_selection S.content) result (left tokens.new) (at_span start (last_end tokens.new) (cursor (stated S.reading S.of_bool) typed (left tokens.old))) }
+) -> Parsed<Selection<'a, S>>
+    ensures gives { Parses (stated S.reading S.of_bool) (view_selection S.content) result (left tokens.new) (at_span start (last_end tokens.new) (cursor (stated S.reading S.of_bool) typed (left tokens.old))) }
     ensures shorter { OnOk result (length (left tokens.new) < length (left tokens.old)) }
     ensures on { OnOk result (GoesOn tokens.old tokens.new) }
     ensures within { OnOk result (tokens.new.taken < length tokens.new.tokens) }
 {
-    let name = tokens.expect_name()?;
+    let name = match expect_name(tokens) {
+        Ok(name) => name,
+        Err(stop) => return Err(stop),
+    };
     let (directives, selection_set) = parse_inline_parts(tokens)?;
     Ok(Selection::InlineFragment(Spanning::new(
         tokens.span_from(start),
@@ -222,8 +227,8 @@ fn parse_typed_fragment<'a, S: ScalarValue>(
 fn parse_untyped_fragment<'a, S: ScalarValue>(
     tokens: &mut Cursor<'_, 'a>,
     start: SourcePosition,
-) -> UnlocatedParseResult<Selection<'a, S>>
-    ensures gives { Gives (view_selection S.content) result (left tokens.new) (at_span start (last_end tokens.new) (cursor (stated S.reading S.of_bool) (inline None) (left tokens.old))) }
+) -> Parsed<Selection<'a, S>>
+    ensures gives { Parses (stated S.reading S.of_bool) (view_selection S.content) result (left tokens.new) (at_span start (last_end tokens.new) (cursor (stated S.reading S.of_bool) (inline None) (left tokens.old))) }
     ensures shorter { OnOk result (length (left tokens.new) < length (left tokens.old)) }
     ensures on { OnOk result (GoesOn tokens.old tokens.new) }
     ensures within { OnOk result (tokens.new.taken < length tokens.new.tokens) }
@@ -244,14 +249,13 @@ fn parse_untyped_fragment<'a, S: ScalarValue>(
 #[tactic(auto, using(juniper_tokens::proofs::Public::goes_further), unfolding(graphql_grammar::specs::device::Productions::inline_parts))]
 pub(crate) fn parse_inline_parts<'a, S: ScalarValue>(
     tokens: &mut Cursor<'_, 'a>,
-) -> Result<
+) -> Parsed<
     (
         Option<Vec<Spanning<Directive<'a, S>>>>,
         Vec<Selection<'a, S>>,
     ),
-    ParseFailure,
 >
-    ensures gives { Gives (view_inline_parts S.content) result (left tokens.new) (cursor (stated S.reading S.of_bool) inline_parts (left tokens.old)) }
+    ensures gives { Parses (stated S.reading S.of_bool) (view_inline_parts S.content) result (left tokens.new) (cursor (stated S.reading S.of_bool) inline_parts (left tokens.old)) }
     ensures shorter { OnOk result (length (left tokens.new) < length (left tokens.old)) }
     ensures on { OnOk result (GoesOn tokens.old tokens.new) }
 {

@@ -7,9 +7,11 @@ ghost use Rattle.juniper_tokens.specs.Taking.{left, GoesOn};
 ghost use Rattle.juniper.specs.Promise.{ReturnsType};
 ghost use Rattle.juniper.specs.View.{view_spanned_type};
 ghost use Rattle.juniper.specs.device.Steps.{no_scalars, cursor, type_read};
+ghost use Rattle.juniper.specs.device.Stops.{ParsesPlain};
 
-use crate::parser::next::{expect_place, next_is, take_next};
-use juniper_tokens::{Cursor, Kind, ParseFailure, ParseResult, Parser, Spanning};
+use crate::parser::next::{expect_name, expect_place, next_is, take_next};
+use crate::parser::stop::{Parsed, Stop, plain_failure};
+use juniper_tokens::{Cursor, Kind, ParseResult, Parser, Spanning};
 use juniper_values::Type;
 
 /// Parses the longest prefix of the tokens that is a type (GraphQL specification, October 2021, section 2.11).
@@ -27,17 +29,29 @@ pub fn parse_type<'a>(parser: &mut Parser<'a>) -> ParseResult<Type<&'a str>>
     ensures memory { OnMemory result (IsRest parser.old parser.new) }
 {
     let mut tokens = parser.cursor();
-    let result = parse_any_type(&mut tokens);
+    let result = type_or_failure(&mut tokens);
     let left = tokens.count();
     parser.take_until(left);
     result
 }
 
+/// `Type`, or the error at the first token that cannot continue one.
+fn type_or_failure<'a>(tokens: &mut Cursor<'_, 'a>) -> ParseResult<Type<&'a str>>
+    ensures gives { Gives view_spanned_type result (left tokens.new) (type_read (left tokens.old)) }
+    ensures ended { EndsOnce (left tokens.old) }
+    ensures on { GoesOn tokens.old tokens.new }
+{
+    match parse_any_type(tokens) {
+        Ok(of_type) => Ok(of_type),
+        Err(stop) => Err(plain_failure(tokens, stop)),
+    }
+}
+
 /// `Type = Name "!"? | "[" Type "]" "!"?`
 #[cycle(types)]
 #[tactic(auto, using(juniper_tokens::proofs::Public::goes_further))]
-pub(crate) fn parse_any_type<'a>(tokens: &mut Cursor<'_, 'a>) -> ParseResult<Type<&'a str>>
-    ensures gives { Gives view_spanned_type result (left tokens.new) (type_read (left tokens.old)) }
+pub(crate) fn parse_any_type<'a>(tokens: &mut Cursor<'_, 'a>) -> Parsed<Spanning<Type<&'a str>>>
+    ensures gives { ParsesPlain view_spanned_type result (left tokens.new) (type_read (left tokens.old)) }
     ensures ended { EndsOnce (left tokens.old) }
     ensures shorter { OnOk result (length (left tokens.new) < length (left tokens.old)) }
     ensures on { GoesOn tokens.old tokens.new }
@@ -49,8 +63,8 @@ pub(crate) fn parse_any_type<'a>(tokens: &mut Cursor<'_, 'a>) -> ParseResult<Typ
 /// `Name | "[" Type "]"`
 #[cycle(types)]
 #[tactic(auto, unfolding(graphql_grammar::specs::device::Productions::nullable_type))]
-fn parse_nullable_type<'a>(tokens: &mut Cursor<'_, 'a>) -> ParseResult<Type<&'a str>>
-    ensures gives { Gives view_spanned_type result (left tokens.new) (cursor no_scalars nullable_type (left tokens.old)) }
+fn parse_nullable_type<'a>(tokens: &mut Cursor<'_, 'a>) -> Parsed<Spanning<Type<&'a str>>>
+    ensures gives { ParsesPlain view_spanned_type result (left tokens.new) (cursor no_scalars nullable_type (left tokens.old)) }
     ensures ended { EndsOnce (left tokens.old) }
     ensures shorter { OnOk result (length (left tokens.new) < length (left tokens.old)) }
     ensures on { GoesOn tokens.old tokens.new }
@@ -64,20 +78,23 @@ fn parse_nullable_type<'a>(tokens: &mut Cursor<'_, 'a>) -> ParseResult<Type<&'a 
 
 /// `Name`
 #[tactic(auto, unfolding(graphql_grammar::specs::device::Productions::named_type, juniper_tokens::specs::Cursor::expect_name_at))]
-fn parse_named_type<'a>(tokens: &mut Cursor<'_, 'a>) -> ParseResult<Type<&'a str>>
-    ensures gives { Gives view_spanned_type result (left tokens.new) (cursor no_scalars named_type (left tokens.old)) }
+fn parse_named_type<'a>(tokens: &mut Cursor<'_, 'a>) -> Parsed<Spanning<Type<&'a str>>>
+    ensures gives { ParsesPlain view_spanned_type result (left tokens.new) (cursor no_scalars named_type (left tokens.old)) }
     ensures shorter { OnOk result (length (left tokens.new) < length (left tokens.old)) }
     ensures on { GoesOn tokens.old tokens.new }
 {
-    let name = tokens.expect_name()?;
+    let name = match expect_name(tokens) {
+        Ok(name) => name,
+        Err(stop) => return Err(stop),
+    };
     Ok(Spanning::new(name.span, Type::nullable(name.item)))
 }
 
 /// `"[" Type "]"`
 #[cycle(types)]
 #[tactic(auto, using(juniper_tokens::proofs::Public::goes_further, crate::proofs::Wrapping::wrapped_list), unfolding(graphql_grammar::specs::device::Productions::list_type))]
-fn parse_list_type<'a>(tokens: &mut Cursor<'_, 'a>) -> ParseResult<Type<&'a str>>
-    ensures gives { Gives view_spanned_type result (left tokens.new) (cursor no_scalars list_type (left tokens.old)) }
+fn parse_list_type<'a>(tokens: &mut Cursor<'_, 'a>) -> Parsed<Spanning<Type<&'a str>>>
+    ensures gives { ParsesPlain view_spanned_type result (left tokens.new) (cursor no_scalars list_type (left tokens.old)) }
     ensures shorter { OnOk result (length (left tokens.new) < length (left tokens.old)) }
     ensures on { GoesOn tokens.old tokens.new }
 {
@@ -86,7 +103,7 @@ fn parse_list_type<'a>(tokens: &mut Cursor<'_, 'a>) -> ParseResult<Type<&'a str>
     let closing = expect_place(tokens, Kind::BracketClose)?;
     match inner.item.wrap_list(tokens.allocator(), None) {
         Ok(list) => Ok(Spanning::start_end(&opening.start, &closing.end, list)),
-        Err(_) => Err(ParseFailure::Memory),
+        Err(_) => Err(Stop::Memory),
     }
 }
 
@@ -95,8 +112,8 @@ fn parse_list_type<'a>(tokens: &mut Cursor<'_, 'a>) -> ParseResult<Type<&'a str>
 fn parse_non_null<'a>(
     tokens: &mut Cursor<'_, 'a>,
     inner: Spanning<Type<&'a str>>,
-) -> ParseResult<Type<&'a str>>
-    ensures gives { Gives view_spanned_type result (left tokens.new) (cursor no_scalars (non_null (view_spanned_type inner.entry)) (left tokens.old)) }
+) -> Parsed<Spanning<Type<&'a str>>>
+    ensures gives { ParsesPlain view_spanned_type result (left tokens.new) (cursor no_scalars (non_null (view_spanned_type inner.entry)) (left tokens.old)) }
     ensures not_longer { OnOk result (length (left tokens.new) ≤ length (left tokens.old)) }
     ensures on { GoesOn tokens.old tokens.new }
 {
@@ -107,6 +124,6 @@ fn parse_non_null<'a>(
     let mark = take_next(tokens);
     match inner.item.wrap_non_null(tokens.allocator()) {
         Ok(of_type) => Ok(Spanning::start_end(&start, &mark.end, of_type)),
-        Err(_) => Err(ParseFailure::Memory),
+        Err(_) => Err(Stop::Memory),
     }
 }

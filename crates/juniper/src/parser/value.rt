@@ -14,15 +14,15 @@ ghost use Rattle.juniper.specs.Promise.{ReturnsValue};
 ghost use Rattle.juniper.specs.View.{view_value, view_object_field};
 ghost use Rattle.juniper.specs.device.PartViews.{view_list};
 ghost use Rattle.juniper.specs.device.Steps.{cursor, value_read, scalar_read, closed_read, literal_here};
+ghost use Rattle.juniper.specs.device.Stops.{Parses};
 ghost use Rattle.juniper.specs.Scalars.{stated};
 ghost use Rattle.juniper_values.specs.Scalar.{MeetsReading};
 
 use crate::parser::lists::push_item;
-use crate::parser::next::{next_is, refusal, take_closing, take_name, take_next};
+use crate::parser::next::{next_is, take_closing, take_name, take_next, unexpected};
+use crate::parser::stop::{Parsed, Stop, failure_of};
 use juniper_tokens::text::same_text;
-use juniper_tokens::{
-    Cursor, Kind, ParseError, ParseFailure, ParseResult, Parser, Span, Spanning, Token,
-};
+use juniper_tokens::{Cursor, Kind, ParseError, ParseResult, Parser, Span, Spanning, Token};
 use juniper_values::{InputValue, ReadFailure, ScalarValue};
 use std::alloc::{AllocError, Global};
 
@@ -46,10 +46,25 @@ pub fn parse_value_literal<'a, S: ScalarValue>(
     ensures memory { OnMemory result (IsRest parser.old parser.new) }
 {
     let mut tokens = parser.cursor();
-    let result = parse_value(&mut tokens, is_const);
+    let result = value_or_failure(&mut tokens, is_const);
     let left = tokens.count();
     parser.take_until(left);
     result
+}
+
+/// `Value(c)`, or the error at the first token that cannot continue one.
+fn value_or_failure<S: ScalarValue>(
+    tokens: &mut Cursor<'_, '_>,
+    is_const: bool,
+) -> ParseResult<InputValue<S>>
+    ensures gives { Gives (view_value S.content) result (left tokens.new) (value_read (stated S.reading S.of_bool) (not is_const) (left tokens.old)) }
+    ensures ended { EndsOnce (left tokens.old) }
+    ensures on { GoesOn tokens.old tokens.new }
+{
+    match parse_value(tokens, is_const) {
+        Ok(value) => Ok(value),
+        Err(stop) => Err(failure_of::<S>(tokens, stop)),
+    }
 }
 
 /// `Value(c) = a scalar token that the scalar type reads | Name | "$" Name where c is free
@@ -59,8 +74,8 @@ pub fn parse_value_literal<'a, S: ScalarValue>(
 pub(crate) fn parse_value<'a, S: ScalarValue>(
     tokens: &mut Cursor<'_, 'a>,
     is_const: bool,
-) -> ParseResult<InputValue<S>>
-    ensures gives { Gives (view_value S.content) result (left tokens.new) (value_read (stated S.reading S.of_bool) (not is_const) (left tokens.old)) }
+) -> Parsed<Spanning<InputValue<S>>>
+    ensures gives { Parses (stated S.reading S.of_bool) (view_value S.content) result (left tokens.new) (value_read (stated S.reading S.of_bool) (not is_const) (left tokens.old)) }
     ensures ended { EndsOnce (left tokens.old) }
     ensures shorter { OnOk result (length (left tokens.new) < length (left tokens.old)) }
     ensures on { GoesOn tokens.old tokens.new }
@@ -94,8 +109,8 @@ fn parse_list<'a, S: ScalarValue>(
     tokens: &mut Cursor<'_, 'a>,
     is_const: bool,
     opening: Span,
-) -> ParseResult<InputValue<S>>
-    ensures gives { Gives (view_value S.content) result (left tokens.new) (cursor (stated S.reading S.of_bool) (list (not is_const) (view_span opening)) (left tokens.old)) }
+) -> Parsed<Spanning<InputValue<S>>>
+    ensures gives { Parses (stated S.reading S.of_bool) (view_value S.content) result (left tokens.new) (cursor (stated S.reading S.of_bool) (list (not is_const) (view_span opening)) (left tokens.old)) }
     ensures shorter { OnOk result (length (left tokens.new) < length (left tokens.old)) }
     ensures on { GoesOn tokens.old tokens.new }
 {
@@ -110,8 +125,8 @@ fn parse_list<'a, S: ScalarValue>(
 fn parse_items<'a, S: ScalarValue>(
     tokens: &mut Cursor<'_, 'a>,
     is_const: bool,
-) -> ParseResult<Vec<Spanning<InputValue<S>>>>
-    ensures gives { Gives (view_list (view_value S.content)) result (left tokens.new) (closed_read (stated S.reading S.of_bool) (of BracketClose) (symbol (a_value (not is_const))) (left tokens.old)) }
+) -> Parsed<Spanning<Vec<Spanning<InputValue<S>>>>>
+    ensures gives { Parses (stated S.reading S.of_bool) (view_list (view_value S.content)) result (left tokens.new) (closed_read (stated S.reading S.of_bool) (of BracketClose) (symbol (a_value (not is_const))) (left tokens.old)) }
     ensures shorter { OnOk result (length (left tokens.new) < length (left tokens.old)) }
     ensures on { GoesOn tokens.old tokens.new }
 {
@@ -133,8 +148,8 @@ fn parse_object<'a, S: ScalarValue>(
     tokens: &mut Cursor<'_, 'a>,
     is_const: bool,
     opening: Span,
-) -> ParseResult<InputValue<S>>
-    ensures gives { Gives (view_value S.content) result (left tokens.new) (cursor (stated S.reading S.of_bool) (object (not is_const) (view_span opening)) (left tokens.old)) }
+) -> Parsed<Spanning<InputValue<S>>>
+    ensures gives { Parses (stated S.reading S.of_bool) (view_value S.content) result (left tokens.new) (cursor (stated S.reading S.of_bool) (object (not is_const) (view_span opening)) (left tokens.old)) }
     ensures shorter { OnOk result (length (left tokens.new) < length (left tokens.old)) }
     ensures on { GoesOn tokens.old tokens.new }
 {
@@ -149,8 +164,8 @@ fn parse_object<'a, S: ScalarValue>(
 fn parse_fields<'a, S: ScalarValue>(
     tokens: &mut Cursor<'_, 'a>,
     is_const: bool,
-) -> ParseResult<Vec<(Spanning<String>, Spanning<InputValue<S>>)>>
-    ensures gives { Gives (view_list (view_object_field S.content)) result (left tokens.new) (closed_read (stated S.reading S.of_bool) (of CurlyClose) (key_and_value (not is_const)) (left tokens.old)) }
+) -> Parsed<Spanning<Vec<(Spanning<String>, Spanning<InputValue<S>>)>>>
+    ensures gives { Parses (stated S.reading S.of_bool) (view_list (view_object_field S.content)) result (left tokens.new) (closed_read (stated S.reading S.of_bool) (of CurlyClose) (key_and_value (not is_const)) (left tokens.old)) }
     ensures shorter { OnOk result (length (left tokens.new) < length (left tokens.old)) }
     ensures on { GoesOn tokens.old tokens.new }
 {
@@ -171,17 +186,17 @@ fn parse_fields<'a, S: ScalarValue>(
 fn parse_object_field<'a, S: ScalarValue>(
     tokens: &mut Cursor<'_, 'a>,
     is_const: bool,
-) -> Result<(Spanning<String>, Spanning<InputValue<S>>), ParseFailure>
-    ensures gives { Gives (view_object_field S.content) result (left tokens.new) (cursor (stated S.reading S.of_bool) (key_and_value (not is_const)) (left tokens.old)) }
+) -> Parsed<(Spanning<String>, Spanning<InputValue<S>>)>
+    ensures gives { Parses (stated S.reading S.of_bool) (view_object_field S.content) result (left tokens.new) (cursor (stated S.reading S.of_bool) (key_and_value (not is_const)) (left tokens.old)) }
     ensures shorter { OnOk result (length (left tokens.new) < length (left tokens.old)) }
     ensures on { GoesOn tokens.old tokens.new }
 {
     if !next_is(tokens, Kind::Name) {
-        return Err(refusal(tokens));
+        return Err(unexpected(tokens));
     }
     let key = take_name(tokens);
     if !next_is(tokens, Kind::Colon) {
-        return Err(refusal(tokens));
+        return Err(unexpected(tokens));
     }
     tokens.advance();
     let value = parse_value(tokens, is_const)?;
@@ -194,38 +209,42 @@ fn parse_object_field<'a, S: ScalarValue>(
 fn parse_variable<'a, S: ScalarValue>(
     tokens: &mut Cursor<'_, 'a>,
     dollar: Span,
-) -> ParseResult<InputValue<S>>
-    ensures gives { Gives (view_value S.content) result (left tokens.new) (cursor (stated S.reading S.of_bool) (variable (view_span dollar)) (left tokens.old)) }
+) -> Parsed<Spanning<InputValue<S>>>
+    ensures gives { Parses (stated S.reading S.of_bool) (view_value S.content) result (left tokens.new) (cursor (stated S.reading S.of_bool) (variable (view_span dollar)) (left tokens.old)) }
     ensures shorter { OnOk result (length (left tokens.new) < length (left tokens.old)) }
     ensures on { GoesOn tokens.old tokens.new }
 {
     if !next_is(tokens, Kind::Name) {
-        return Err(refusal(tokens));
+        return Err(unexpected(tokens));
     }
     let name = take_name(tokens);
     let text = String::from_str(tokens.allocator(), name.item)?;
     Ok(Spanning::start_end(&dollar.start, &name.span.end, InputValue::Variable(text)))
 }
 
-/// A scalar token. Another token is refused.
-#[tactic(auto, using(crate::proofs::ValueViews::view_of_scalar), unfolding(crate::specs::device::Steps::scalar_read))]
-fn parse_scalar<'a, S: ScalarValue>(tokens: &mut Cursor<'_, 'a>) -> ParseResult<InputValue<S>>
-    ensures gives { Gives (view_value S.content) result (left tokens.new) (scalar_read (stated S.reading S.of_bool) (left tokens.old)) }
+/// A scalar token that the scalar type reads.
+#[tactic(auto, using(crate::proofs::ValueViews::view_of_scalar))]
+fn parse_scalar<'a, S: ScalarValue>(tokens: &mut Cursor<'_, 'a>) -> Parsed<Spanning<InputValue<S>>>
+    ensures gives { Parses (stated S.reading S.of_bool) (view_value S.content) result (left tokens.new) (scalar_read (stated S.reading S.of_bool) (left tokens.old)) }
     ensures shorter { OnOk result (length (left tokens.new) < length (left tokens.old)) }
     ensures on { GoesOn tokens.old tokens.new }
 {
-    let token = tokens.next_token()?;
-    match scalar_of(tokens.allocator(), token.item) {
-        Ok(scalar) => Ok(Spanning::new(token.span, InputValue::Scalar(scalar))),
-        Err(ReadFailure::Refused(error)) => {
-            Err(ParseFailure::Refused(Spanning::new(token.span, error)))
+    let token = tokens.token();
+    let Token::Scalar(literal) = token.item else {
+        return Err(unexpected(tokens));
+    };
+    match S::from_str(tokens.allocator(), literal) {
+        Ok(scalar) => {
+            tokens.advance();
+            Ok(Spanning::new(token.span, InputValue::Scalar(scalar)))
         }
-        Err(ReadFailure::Memory) => Err(ParseFailure::Memory),
+        Err(ReadFailure::Refused(_)) => Err(Stop::Literal),
+        Err(ReadFailure::Memory) => Err(Stop::Memory),
     }
 }
 
 /// The scalar of a scalar token. Another token is refused as unexpected.
-fn scalar_of<S: ScalarValue>(alloc: Global, token: Token<'_>) -> Result<S, ReadFailure>
+pub(crate) fn scalar_of<S: ScalarValue>(alloc: Global, token: Token<'_>) -> Result<S, ReadFailure>
     ensures { MeetsReading S.content (literal_here S.reading (token_kind token.entry) (token_text token.entry)) result }
 {
     match token {

@@ -15,7 +15,7 @@ ghost use Rattle.juniper.specs.Promise.{IsRefusal, IsRefusalInText};
 ghost use Rattle.juniper.specs.Within.{IfRefusedWithin, IfTooDeep, IfDecided, HasTooDeep, IsWithin};
 ghost use Rattle.juniper.specs.Sinks.{Gains, GainsTree, GainsFront, GainsBeforeEnd, GivesAs, GivesWithin};
 
-use crate::parser::definition::parse_definition;
+use crate::parser::definition::definition_or_failure;
 use crate::parser::document::depth::{DepthFailure, depth_failure};
 use crate::parser::next::next_is;
 use crate::tree::ast::Definition;
@@ -95,7 +95,7 @@ fn give_definitions<S: ScalarValue, D: DefinitionSink<S>>(
     ensures given { GainsBeforeEnd D.holds definitions.old definitions.new (stated S.reading S.of_bool) (left tokens.old) }
 {
     loop {
-        definitions.take(parse_definition(tokens)?)?;
+        definitions.take(definition_or_failure(tokens)?)?;
         if next_is(tokens, Kind::EndOfFile) {
             return Ok(());
         }

@@ -10,7 +10,8 @@ use Rattle.juniper_tokens.proofs.Public.{goes_further}
 use Rattle.juniper_values.specs.Scalar.{Content}
 use Rattle.juniper.specs.View.{view_directive}
 use Rattle.juniper.proofs.Directives.{some_directives}
-use Rattle.juniper.proofs.Loops.{before_go_on, before_end, before_fail, after_fails}
+use Rattle.juniper.proofs.Loops.{before_go_on, before_end, before_fail}
+use Rattle.juniper.proofs.Stopping.{stops_on}
 use Rattle.juniper.proofs.Readings.{directives_repeat}
 use Rattle.juniper.proofs.parser.directives.parse_directive_list.Goals as goal
 
@@ -18,9 +19,9 @@ pub returns-in_err-parse_directive-clause-gives : goal.returns-in_err-parse_dire
 unfolding directives
 returns-in_err-parse_directive-clause-gives g c =
     let p = err_from_is_err_and c.from_residual.result c.from_residual.ensures.1 in
-    rw (p.1, p.2) (after_fails c.in_err-parse_directive.field-0.0 _ _ _
-    (before_fail (directives_repeat _) _ _ c.loop-items.invariant.ended c.loop-items.invariant.so_far
-    c.loop-items.invariant.at c.in_err-parse_directive.field-0.0 _ c.in_err-parse_directive.ensures.appends))
+    rw (p.1, p.2) (stops_on _ c.in_err-parse_directive.field-0.0 _ _ _ (λ f fails. rw (before_fail (directives_repeat _) _ _
+    c.loop-items.invariant.ended c.loop-items.invariant.so_far c.loop-items.invariant.at f fails) refl)
+    c.in_err-parse_directive.ensures.appends)
 
 pub loop-items-preserved : goal.loop-items-preserved
 loop-items-preserved g c =

@@ -15,6 +15,7 @@ use Rattle.juniper.specs.Scalars.{stated}
 use Rattle.juniper.specs.device.PartViews.{view_whole_set}
 use Rattle.juniper.specs.device.Steps.{cursor}
 use Rattle.juniper.proofs.Loops.{some_go_on, some_end, some_item_fails}
+use Rattle.juniper.proofs.Stopping.{stops_on}
 use Rattle.juniper.proofs.Marks.{marked, marked_result, on_ok}
 use Rattle.juniper.proofs.Names.{says_on}
 use Rattle.juniper.proofs.CursorFits.{other_is_name}
@@ -25,8 +26,8 @@ use Rattle.juniper.proofs.parser.selection.+selection.Goals as goal
 pub parse_selection_list-returns-in_err-parse_selection-clause-gives : goal.parse_selection_list-returns-in_err-parse_selection-clause-gives
 parse_selection_list-returns-in_err-parse_selection-clause-gives g t c =
     let p = err_from_is_err_and c.from_residual.result c.from_residual.ensures.1 in
-    rw (p.1, p.2) (some_item_fails (selections_repeat _) _ _ c.loop-items.invariant.so_far
-    c.in_err-parse_selection.field-0.0 _ c.in_err-parse_selection.ensures.appends)
+    rw (p.1, p.2) (stops_on _ c.in_err-parse_selection.field-0.0 _ _ _
+    (some_item_fails (selections_repeat _) _ _ c.loop-items.invariant.so_far) c.in_err-parse_selection.ensures.appends)
 
 pub parse_selection_list-returns-then-take_if-clause-gives : goal.parse_selection_list-returns-then-take_if-clause-gives
 parse_selection_list-returns-then-take_if-clause-gives g t c =
@@ -50,7 +51,7 @@ pub parse_selection_set-returns-clause-gives : goal.parse_selection_set-returns-
 unfolding selection_set
 parse_selection_set-returns-clause-gives g t c =
     rw c.in_ok-expect_kind.ensures.gives
-    (set_gives g.S.ParseScalarValue.content _ _ _ c.parse_selection_list.ensures.gives)
+    (set_gives g.S.ParseScalarValue.content _ _ _ _ c.parse_selection_list.ensures.gives)
 
 pub parse_selection_set-returns-clause-on : goal.parse_selection_set-returns-clause-on
 parse_selection_set-returns-clause-on g t c =
@@ -59,12 +60,12 @@ parse_selection_set-returns-clause-on g t c =
 
 pub parse_field-span_from-requires : goal.parse_field-span_from-requires
 parse_field-span_from-requires g t c =
-    some_taken _ _ (goes_further _ _ _ c.in_ok-alias.ensures.on
+    some_taken _ _ (goes_further _ _ _ c.in-Ok.ensures.on
     (goes_further _ _ _ c.in_ok-arguments.ensures.on
     (goes_further _ _ _ c.in_ok-directives.ensures.on c.in_ok-selection_set.ensures.on)))
     (omega (
       arith,
-      c.in_ok-alias.ensures.shorter,
+      c.in-Ok.ensures.shorter,
       c.in_ok-arguments.ensures.not_longer,
       c.in_ok-directives.ensures.not_longer,
       c.in_ok-selection_set.ensures.not_longer,
@@ -74,7 +75,7 @@ pub parse_field-returns-clause-appends : goal.parse_field-returns-clause-appends
 unfolding field
 parse_field-returns-clause-appends g t c =
     let content = g.S.ParseScalarValue.content in
-    let on = goes_further _ _ _ c.in_ok-alias.ensures.on
+    let on = goes_further _ _ _ c.in-Ok.ensures.on
     (goes_further _ _ _ c.in_ok-arguments.ensures.on
     (goes_further _ _ _ c.in_ok-directives.ensures.on c.in_ok-selection_set.ensures.on)) in (
       _,
@@ -82,7 +83,7 @@ parse_field-returns-clause-appends g t c =
       marked _ _ on
           (omega (
             arith,
-            c.in_ok-alias.ensures.shorter,
+            c.in-Ok.ensures.shorter,
             c.in_ok-arguments.ensures.not_longer,
             c.in_ok-directives.ensures.not_longer,
             c.in_ok-selection_set.ensures.not_longer,
@@ -91,14 +92,14 @@ parse_field-returns-clause-appends g t c =
           (cursor (stated g.S.ParseScalarValue.reading g.S.ScalarValue.of_bool) field_parts (left c.args.tokens.now))
           _ _ c.mark-start.ensures
           (rw (
-            c.in_ok-alias.ensures.gives,
+            c.in-Ok.ensures.gives,
             c.in_ok-arguments.ensures.gives,
             c.in_ok-directives.ensures.gives,
             c.in_ok-selection_set.ensures.gives,
             c.new-spanned.ensures,
           )
           (ap (λ (p : Span). Ok (
-            tree.Field (option_map view_word c.in_ok-alias.alias) (view_word c.in_ok-alias.name)
+            tree.Field (option_map view_word c.in-Ok.names.0) (view_word c.in-Ok.names.1)
                 (option_map (view_arguments content) c.in_ok-arguments.arguments)
                 (view_directives content c.in_ok-directives.directives)
                 (optional_of (option_map (view_whole_set content) c.in_ok-selection_set.selection_set)) p,
@@ -107,8 +108,8 @@ parse_field-returns-clause-appends g t c =
           ∙ ap (λ (s : Selection Content). Ok (s, left c.parse_optional_selection_set.new.tokens))
           (field_view content (record {
             item = record {
-              alias = c.in_ok-alias.alias;
-              name = c.in_ok-alias.name;
+              alias = c.in-Ok.names.0;
+              name = c.in-Ok.names.1;
               arguments = c.in_ok-arguments.arguments;
               directives = c.in_ok-directives.directives;
               selection_set = c.in_ok-selection_set.selection_set;
@@ -119,7 +120,7 @@ parse_field-returns-clause-appends g t c =
 
 pub parse_field-returns-clause-on : goal.parse_field-returns-clause-on
 parse_field-returns-clause-on g t c =
-    goes_further _ _ _ c.in_ok-alias.ensures.on
+    goes_further _ _ _ c.in-Ok.ensures.on
     (goes_further _ _ _ c.in_ok-arguments.ensures.on
     (goes_further _ _ _ c.in_ok-directives.ensures.on c.in_ok-selection_set.ensures.on))
 
@@ -130,7 +131,7 @@ parse_spread-returns-then-next_is_word-clause-gives g t c =
     let dots = c.in_ok-expect_kind.ensures in
     let read = c.parse_typed_fragment in
     let on = says_on (first_of (left c.expect_kind.new.tokens)) _ _ c.next_is_word.ensures.is c.if-next_is_word.true in
-    marked_result (view_selection g.S.ParseScalarValue.content) c.args.tokens.now read.new.tokens _ c.mark-start.ensures
+    marked_result S (view_selection g.S.ParseScalarValue.content) c.args.tokens.now read.new.tokens _ c.mark-start.ensures
     (cursor S spread_parts (left c.args.tokens.now)) read.result
     (on_ok read.result (λ h. goes_further _ _ _ dots.on (goes_further _ _ _ c.take_next.ensures.on h)) read.ensures.on)
     (on_ok read.result (λ h. omega (arith, h, dots.shorter, c.take_next.ensures.shorter)) read.ensures.shorter)
@@ -145,7 +146,7 @@ parse_spread-returns-then-next_is-clause-gives g t c =
     let next = first_of (left c.expect_kind.new.tokens) in
     let on = says_on next _ _ c.next_is_word.ensures.is c.if-next_is_word.false in
     let name = sym c.next_is.ensures.is ∙ c.if-next_is.true in
-    marked_result (view_selection g.S.ParseScalarValue.content) c.args.tokens.now read.new.tokens _ c.mark-start.ensures
+    marked_result S (view_selection g.S.ParseScalarValue.content) c.args.tokens.now read.new.tokens _ c.mark-start.ensures
     (cursor S spread_parts (left c.args.tokens.now)) read.result
     (on_ok read.result (λ h. goes_further _ _ _ dots.on (goes_further _ _ _ c.take_name-name.ensures.on h)) read.ensures.on)
     (on_ok read.result (λ h. omega (arith, h, dots.shorter, c.take_name-name.ensures.shorter)) read.ensures.not_longer)
@@ -161,7 +162,7 @@ parse_spread-returns-else-next_is-clause-gives g t c =
     let read = c.parse_untyped_fragment in
     let next = first_of (left c.expect_kind.new.tokens) in
     let on = says_on next _ _ c.next_is_word.ensures.is c.if-next_is_word.false in
-    marked_result (view_selection g.S.ParseScalarValue.content) c.args.tokens.now read.new.tokens _ c.mark-start.ensures
+    marked_result S (view_selection g.S.ParseScalarValue.content) c.args.tokens.now read.new.tokens _ c.mark-start.ensures
     (cursor S spread_parts (left c.args.tokens.now)) read.result
     (on_ok read.result (λ h. goes_further _ _ _ dots.on h) read.ensures.on)
     (on_ok read.result (λ h. omega (arith, h, dots.shorter)) read.ensures.shorter) read.ensures.within

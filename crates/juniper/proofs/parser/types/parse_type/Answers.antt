@@ -11,7 +11,7 @@ use Rattle.juniper.proofs.parser.types.parse_type.Goals as goal
 
 pub returns-clause-answers : goal.returns-clause-answers
 returns-clause-answers c =
-    let parsed = c.parse_any_type-result in
+    let parsed = c.type_or_failure-result in
     follows (ReturnsType view_spanned_type parsed.result) _ _ _ _ _ c.cursor-tokens.ensures (rest_of _ _ parsed.ensures.on)
     c.count-left.ensures.is c.take_until.ensures
     (answers_type view_spanned_type parsed.result (left c.cursor-tokens.result) (left parsed.new.tokens) parsed.ensures.ended
@@ -19,7 +19,7 @@ returns-clause-answers c =
 
 pub returns-clause-memory : goal.returns-clause-memory
 returns-clause-memory c =
-    let parsed = c.parse_any_type-result in
+    let parsed = c.type_or_failure-result in
     follows (λ (old new : List Lexeme). OnMemory parsed.result (IsRest old new)) _ _ _ _ _ c.cursor-tokens.ensures
     (rest_of _ _ parsed.ensures.on) c.count-left.ensures.is c.take_until.ensures
     (on_memory parsed.result (left c.cursor-tokens.result) (left parsed.new.tokens) (rest_of _ _ parsed.ensures.on))

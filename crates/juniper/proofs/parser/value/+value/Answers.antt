@@ -8,6 +8,7 @@ use Rattle.graphql_grammar.specs.Tree.{Value}
 use Rattle.graphql_grammar.specs.device.Productions.{list, object}
 use Rattle.juniper_tokens.specs.Taking.{left}
 use Rattle.juniper.proofs.Loops.{goes_on, ends, item_fails}
+use Rattle.juniper.proofs.Stopping.{stops_on}
 use Rattle.juniper_tokens.proofs.Public.{goes_further}
 use Rattle.juniper.proofs.Readings.{values_repeat, fields_repeat}
 use Rattle.juniper.proofs.ValueViews.{view_of_list, view_of_object}
@@ -22,9 +23,9 @@ parse_items-returns-in-Some-clause-gives g t c =
 pub parse_items-returns-in_err-item-clause-gives : goal.parse_items-returns-in_err-item-clause-gives
 parse_items-returns-in_err-item-clause-gives g t c =
     let p = err_from_is_err_and c.from_residual.result c.from_residual.ensures.1 in
-    rw (p.1, p.2) (item_fails (values_repeat _ _) _ _ c.take_closing.ensures.ended
-    c.loop-closing.invariant.so_far c.in_err-item.field-0.0 _
-    (rw c.in_default.is at c.take_closing.ensures.takes) c.in_err-item.ensures.gives)
+    rw (p.1, p.2) (stops_on _ c.in_err-item.field-0.0 _ _ _
+    (item_fails (values_repeat _ _) _ _ c.take_closing.ensures.ended c.loop-closing.invariant.so_far
+    (rw c.in_default.is at c.take_closing.ensures.takes)) c.in_err-item.ensures.gives)
 
 pub parse_items-loop-closing-preserved : goal.parse_items-loop-closing-preserved
 parse_items-loop-closing-preserved g t c = record {
@@ -46,9 +47,9 @@ pub parse_fields-returns-in_err-field-clause-gives :
     goal.parse_fields-returns-in_err-field-clause-gives
 parse_fields-returns-in_err-field-clause-gives g t c =
     let p = err_from_is_err_and c.from_residual.result c.from_residual.ensures.1 in
-    rw (p.1, p.2) (item_fails (fields_repeat _ _) _ _ c.take_closing.ensures.ended c.loop-closing.invariant.so_far
-    c.in_err-field.field-0.0 _ (rw c.in_default.is at c.take_closing.ensures.takes)
-    c.in_err-field.ensures.gives)
+    rw (p.1, p.2) (stops_on _ c.in_err-field.field-0.0 _ _ _
+    (item_fails (fields_repeat _ _) _ _ c.take_closing.ensures.ended c.loop-closing.invariant.so_far
+    (rw c.in_default.is at c.take_closing.ensures.takes)) c.in_err-field.ensures.gives)
 
 pub parse_fields-loop-closing-preserved : goal.parse_fields-loop-closing-preserved
 parse_fields-loop-closing-preserved g t c = record {

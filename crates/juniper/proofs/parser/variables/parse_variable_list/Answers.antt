@@ -3,14 +3,15 @@ use Rattle.std.proofs.lemmas.Result.{err_from_is_err_and}
 use Rattle.std.proofs.lemmas.List.{map-append}
 use Rattle.juniper_tokens.proofs.Public.{goes_further}
 use Rattle.juniper.proofs.Loops.{some_go_on, some_end, some_item_fails}
+use Rattle.juniper.proofs.Stopping.{stops_on}
 use Rattle.juniper.proofs.Readings.{variables_repeat}
 use Rattle.juniper.proofs.parser.variables.parse_variable_list.Goals as goal
 
 pub returns-in_err-variable-clause-gives : goal.returns-in_err-variable-clause-gives
 returns-in_err-variable-clause-gives g c =
     let p = err_from_is_err_and c.from_residual.result c.from_residual.ensures.1 in
-    rw (p.1, p.2) (some_item_fails (variables_repeat _) _ _ c.loop-items.invariant.so_far
-    c.in_err-variable.field-0.0 _ c.in_err-variable.ensures.gives)
+    rw (p.1, p.2) (stops_on _ c.in_err-variable.field-0.0 _ _ _
+    (some_item_fails (variables_repeat _) _ _ c.loop-items.invariant.so_far) c.in_err-variable.ensures.gives)
 
 pub returns-then-take_if-clause-gives : goal.returns-then-take_if-clause-gives
 returns-then-take_if-clause-gives g c =
