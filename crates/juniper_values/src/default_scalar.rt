@@ -73,6 +73,7 @@ impl ParseScalarValue<DefaultScalarValue> for DefaultScalarValue {
 
     ghost reading = { default_reading };
 
+    #[inline(always)]
     fn from_str(alloc: Global, token: ScalarToken<'_>) -> ParseScalarResult<DefaultScalarValue> {
         match token {
             ScalarToken::String(text) => read_string(alloc, text),

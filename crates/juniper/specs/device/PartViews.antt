@@ -15,10 +15,6 @@ use Rattle.juniper.specs.View.{view_word, view_directives, view_selections}
 abbrev pub view_list : {X A : Type 0} → (X → A) → Spanning (Vec X) → List A × Span
 view_list view s = (map view s.item.items, view_span s.span)
 
--- items, whatever the place of their closing token
-abbrev pub view_listed : {X A : Type 0} → (X → A) → Spanning (Vec X) → List A
-view_listed view s = map view s.item.items
-
 abbrev pub view_items : {X A : Type 0} → (X → A) → Vec X → List A
 view_items view v = map view v.items
 

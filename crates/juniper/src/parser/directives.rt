@@ -7,12 +7,12 @@ ghost use Rattle.juniper_tokens.specs.Cursor.{EndsOnce, kind_at};
 ghost use Rattle.juniper_tokens.specs.Taking.{left, GoesOn};
 ghost use Rattle.juniper.specs.View.{view_argument, view_arguments, view_directive, view_directives};
 ghost use Rattle.juniper.specs.Scalars.{stated};
-ghost use Rattle.juniper.specs.device.PartViews.{view_listed};
+ghost use Rattle.juniper.specs.device.PartViews.{view_items};
 ghost use Rattle.juniper.specs.device.Steps.{cursor};
 ghost use Rattle.juniper.specs.device.Stops.{Appends, Parses};
 
 use crate::parser::lists::push_item;
-use crate::parser::next::{expect_kind, next_is, take_closing, take_name, unexpected};
+use crate::parser::next::{expect_kind, next_is, take_if, take_name, unexpected};
 use crate::parser::stop::Parsed;
 use crate::parser::value::parse_value;
 use crate::tree::ast::{Arguments, Directive};
@@ -42,21 +42,20 @@ fn parse_argument<'a, S: ScalarValue>(
     Ok(())
 }
 
-/// `(Name ":" Value(free))+ ")"`, with the place of the parenthesis. Nobody asks for it; a result without a place makes each
-/// turn of the loop a half longer.
+/// `(Name ":" Value(free))+ ")"`
 #[tactic(auto, using(juniper_tokens::proofs::Public::goes_further, juniper_tokens::proofs::Public::stays))]
 fn parse_argument_list<'a, S: ScalarValue>(
     tokens: &mut Cursor<'_, 'a>,
-) -> Parsed<Spanning<Vec<(Spanning<&'a str>, Spanning<InputValue<S>>)>>>
-    ensures gives { Parses (stated S.reading S.of_bool) (view_listed (view_argument S.content)) result (left tokens.new) (cursor (stated S.reading S.of_bool) arguments_inner (left tokens.old)) }
+) -> Parsed<Vec<(Spanning<&'a str>, Spanning<InputValue<S>>)>>
+    ensures gives { Parses (stated S.reading S.of_bool) (view_items (view_argument S.content)) result (left tokens.new) (cursor (stated S.reading S.of_bool) arguments_inner (left tokens.old)) }
     ensures shorter { OnOk result (length (left tokens.new) < length (left tokens.old)) }
     ensures on { OnOk result (GoesOn tokens.old tokens.new) }
 {
     let mut items = Vec::new(tokens.allocator());
     loop {
         parse_argument(tokens, &mut items)?;
-        if let Some(closing) = take_closing(tokens, Kind::ParenClose) {
-            return Ok(Spanning::new(closing, items));
+        if take_if(tokens, Kind::ParenClose) {
+            return Ok(items);
         }
     }
 }
@@ -73,8 +72,8 @@ fn parse_arguments<'a, S: ScalarValue>(
 {
     let start = tokens.mark();
     expect_kind(tokens, Kind::ParenOpen)?;
-    let list = parse_argument_list(tokens)?;
-    Ok(Spanning::new(tokens.span_from(start), Arguments { items: list.item }))
+    let items = parse_argument_list(tokens)?;
+    Ok(Spanning::new(tokens.span_from(start), Arguments { items }))
 }
 
 /// `Arguments?`

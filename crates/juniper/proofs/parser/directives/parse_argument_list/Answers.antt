@@ -13,20 +13,20 @@ returns-in_err-parse_argument-clause-gives g c =
     rw (p.1, p.2) (stops_on _ c.in_err-parse_argument.field-0.0 _ _ _
     (some_item_fails (arguments_repeat _) _ _ c.loop-items.invariant.so_far) c.in_err-parse_argument.ensures.appends)
 
-pub returns-in-Some-clause-gives : goal.returns-in-Some-clause-gives
-returns-in-Some-clause-gives g c =
+pub returns-then-take_if-clause-gives : goal.returns-then-take_if-clause-gives
+returns-then-take_if-clause-gives g c =
     let item = c.in_ok-parse_argument.ensures.appends in
     some_end (arguments_repeat _) _ _ c.loop-items.invariant.so_far item.2
-    c.take_closing.ensures.ended (rw c.in-Some.is at c.take_closing.ensures.takes)
-    ∙ rw (c.new.ensures, item.1, map-append) refl
+    c.take_if.ensures.ended (rw c.if-take_if.true at c.take_if.ensures.takes)
+    ∙ rw (item.1, map-append) refl
 
 pub loop-items-preserved : goal.loop-items-preserved
 loop-items-preserved g c =
     let item = c.in_ok-parse_argument.ensures.appends in record {
       so_far = rw (item.1, map-append)
           (some_go_on (arguments_repeat _) _ _ c.loop-items.invariant.so_far item.2
-          c.take_closing.ensures.ended (rw c.in_default.is at c.take_closing.ensures.takes));
+          c.take_if.ensures.ended (rw c.if-take_if.false at c.take_if.ensures.takes));
       not_longer = search rules;
       on = goes_further _ _ _ c.loop-items.invariant.on
-          (goes_further _ _ _ c.in_ok-parse_argument.ensures.on c.take_closing.ensures.on);
+          (goes_further _ _ _ c.in_ok-parse_argument.ensures.on c.take_if.ensures.on);
     }
