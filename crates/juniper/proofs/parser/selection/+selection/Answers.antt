@@ -71,7 +71,7 @@ parse_field-returns-clause-appends g t c =
           (lt_of_le_of_lt (le_trans c.in_ok-selection_set.ensures.not_longer
           (le_trans c.in_ok-directives.ensures.not_longer c.in_ok-arguments.ensures.not_longer))
           c.in_ok-alias.ensures.shorter)
-          c.span_from.ensures.within
+          c.span_from-span.ensures.within
           (cursor (stated g.S.ParseScalarValue.reading g.S.ScalarValue.of_bool) field_parts (left c.args.tokens.now))
           _ _ c.mark-start.ensures
           (rw (
@@ -87,7 +87,7 @@ parse_field-returns-clause-appends g t c =
                 (view_directives content c.in_ok-directives.directives)
                 (optional_of (option_map (view_whole_set content) c.in_ok-selection_set.selection_set)) p,
             left c.parse_optional_selection_set.new.tokens,
-          )) (sym c.span_from.ensures.span)
+          )) (sym c.span_from-span.ensures.span)
           ∙ ap (λ (s : Selection Content). Ok (s, left c.parse_optional_selection_set.new.tokens))
           (field_view content (record {
             item = record {
@@ -97,12 +97,12 @@ parse_field-returns-clause-appends g t c =
               directives = c.in_ok-directives.directives;
               selection_set = c.in_ok-selection_set.selection_set;
             };
-            span = c.span_from.result;
+            span = c.span_from-span.result;
           })))),
     )
 
-pub parse_field-span_from-requires : goal.parse_field-span_from-requires
-parse_field-span_from-requires g t c =
+pub parse_field-span_from-span-requires : goal.parse_field-span_from-span-requires
+parse_field-span_from-span-requires g t c =
     some_taken _ _ (goes_further _ _ _ c.in_ok-alias.ensures.on
     (goes_further _ _ _ c.in_ok-arguments.ensures.on
     (goes_further _ _ _ c.in_ok-directives.ensures.on c.in_ok-selection_set.ensures.on)))
