@@ -112,7 +112,8 @@ fn parse_field<'a, S: ScalarValue>(
         directives,
         selection_set,
     };
-    let spanned = Spanning::new(tokens.span_from(start), field);
+    let span = tokens.span_from(start);
+    let spanned = Spanning::new(span, field);
     push_item(
         selections,
         Selection::Field(spanned),
