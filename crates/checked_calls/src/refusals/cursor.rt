@@ -1,11 +1,11 @@
 //! Calls on a parser, and the tokens that are left after them.
 
-use crate::parsing::{names, some_names, some_texts};
+use crate::parsing::{Input, names, some_names, some_texts};
 use crate::refusals::write::{write_answer, write_failure, write_items};
 use crate::write::Written;
 use juniper::{
-    DefaultScalarValue, InputValue, Lexer, OptionParseResult, ParseResult, Parser, Spanning, Token,
-    Type, parse_type, parse_value_literal,
+    Lexer, OptionParseResult, ParseResult, Parser, Spanning, Token, Type, parse_type,
+    parse_value_literal,
 };
 use std::alloc::{AllocError, Global};
 use std::fmt;
@@ -59,10 +59,7 @@ fn write_names<T: fmt::Display + Drop>(out: &mut String, list: &ParseResult<Vec<
 }
 
 /// The value literal that the tokens begin with.
-pub fn value_in(
-    parser: &mut Parser<'_>,
-    is_const: bool,
-) -> ParseResult<InputValue<DefaultScalarValue>> {
+pub fn value_in(parser: &mut Parser<'_>, is_const: bool) -> ParseResult<Input> {
     parse_value_literal(parser, is_const)
 }
 
