@@ -1,87 +1,26 @@
-//! Reads rows of the language from the files that its arguments name, and reports how many of each kind hold, and which
-//! don't. `checked_calls` says what a row is, and what each kind of row returns.
+//! Makes calls of the library, and reports what they return. `checked_calls` has what it does.
+//!
+//! `check_calls rows FILE ..` reports which rows of the files hold. `check_calls refusal KIND CALL WORD` makes one call on
+//! the text of standard input. `check_calls speed ROUNDS COUNT STAGE` measures how fast this text is read.
 #![tactic(auto)]
 
-use checked_calls::answer_of;
-use checked_calls::rows::{Row, rows_of};
-use checked_calls::tally::Tally;
+use checked_calls::{files, refusals, speed};
 use std::process::ExitCode;
-use std::rt::{Env, Files};
-use std::{env, fs, io};
+use std::{env, io};
 
-fn main(rt: HostRuntime) -> ExitCode {
-    match tell_all(&rt) {
-        Ok(true) => ExitCode::SUCCESS,
-        Ok(false) => ExitCode::from(1),
-        Err(error) => {
-            // Where standard error fails too, nothing is left to report to.
-            let _ = eprintln!(rt; "check_calls: {error}");
-            ExitCode::from(2)
+const FORMS: &str = "rows FILE .. | refusal KIND CALL WORD | speed ROUNDS COUNT STAGE";
+
+fn main(rt: HostRuntime) -> io::Result<ExitCode> {
+    let form = env::args(&rt)?.nth(1);
+    match form.as_deref() {
+        Some("rows") => return Ok(files::tell(&rt)),
+        Some("refusal") => refusals::tell(&rt, rt.stdin())?,
+        Some("speed") => speed::tell(&rt, rt.stdin())?,
+        Some(_) | None => {
+            // Where standard error fails, nothing is left to report to.
+            let _ = eprintln!(rt; "check_calls: {FORMS}");
+            return Ok(ExitCode::from(2));
         }
     }
-}
-
-// Reports on the rows of all files, and returns whether each of them holds.
-fn tell_all<R: Files + Env + Print + AllocGlobal>(rt: &R) -> io::Result<bool> {
-    let mut tally = Tally::new(rt.alloc());
-    tell_files(rt, &mut tally)?;
-    tell_counts(rt, &tally)?;
-    Ok(tally.all_held())
-}
-
-fn tell_files<R: Files + Env + Print + AllocGlobal>(rt: &R, tally: &mut Tally) -> io::Result<()> {
-    for name in env::args(rt)?.skip(1) {
-        tell_file(rt, name.as_str(), tally)?;
-    }
-    Ok(())
-}
-
-// How many rows of each kind hold.
-fn tell_counts<R: Print>(rt: &R, tally: &Tally) -> io::Result<()> {
-    for (kind, counts) in tally.counts() {
-        let held = counts.held;
-        let all = counts.all;
-        println!(rt; "{kind}: {held} of {all} hold")?;
-    }
-    Ok(())
-}
-
-fn tell_file<R: Files + Print + AllocGlobal>(
-    rt: &R,
-    name: &str,
-    tally: &mut Tally,
-) -> io::Result<()> {
-    let text = fs::read_to_string(rt, name)?;
-    tell_rows(rt, name, text.as_str(), tally)
-}
-
-// Tries the rows of one file, and reports those that don't hold.
-fn tell_rows<R: Print + AllocGlobal>(
-    rt: &R,
-    name: &str,
-    text: &str,
-    tally: &mut Tally,
-) -> io::Result<()> {
-    for row in rows_of(rt.alloc(), text)? {
-        tell_row(rt, name, &row, tally)?;
-    }
-    Ok(())
-}
-
-fn tell_row<R: Print + AllocGlobal>(
-    rt: &R,
-    name: &str,
-    row: &Row<'_>,
-    tally: &mut Tally,
-) -> io::Result<()> {
-    let wanted = row.wanted(rt.alloc())?;
-    let found = answer_of(rt.alloc(), row, &wanted)?;
-    let holds = found.as_str() == wanted.as_str();
-    tally.count(rt.alloc(), row.kind, holds)?;
-    if holds {
-        return Ok(());
-    }
-    let number = row.number;
-    let kind = row.kind;
-    println!(rt; "{name}:{number}: {kind} is answered by\n{found}")
+    Ok(ExitCode::SUCCESS)
 }

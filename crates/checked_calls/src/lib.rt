@@ -1,9 +1,16 @@
-//! The rows of calls: `rows` reads them, `kinds` makes the calls of each kind of row and writes what they return, and
-//! `tally` counts which rows hold. The program `check_calls` reads the files.
+//! What the program `check_calls` does: `files` tells which rows of files hold, `refusals` makes one call that takes
+//! memory, and `speed` measures how fast a text is read.
+//!
+//! Of the rows, `rows` reads them, `kinds` makes the calls of each kind of row and writes what they return, and `tally`
+//! counts which hold.
 #![tactic(auto)]
 
+pub mod files;
 pub mod kinds;
+mod parsing;
+pub mod refusals;
 pub mod rows;
+pub mod speed;
 pub mod tally;
 mod write;
 

@@ -1,7 +1,7 @@
 //! Rows of answer values, objects and names.
 
-use crate::kinds::input_values::{Input, literal};
 use crate::kinds::{call_of, word_of};
+use crate::parsing::{Input, literal};
 use crate::write::{Written, write_separator, write_truth};
 use juniper::{
     DefaultScalarValue, InputValue, IntoValue, Name, NameFailure, Object, Span, Spanning,

@@ -1,11 +1,10 @@
 //! Rows of the cursor.
-ghost use Rattle.juniper_tokens.specs.Delimited.{Leaves};
 
 use crate::kinds::{call_of, word_of};
+use crate::parsing::{names, some_names, some_texts};
 use crate::write::{Written, write_failure, write_refusal, write_span, write_token};
 use juniper::{
     Lexer, LexerResult, OptionParseResult, ParseFailure, ParseResult, Parser, Spanning, Token,
-    UnlocatedParseResult,
 };
 use std::alloc::Global;
 
@@ -126,50 +125,6 @@ fn answer_between(
         }
         _ => out.push_str("no such call"),
     }
-}
-
-// The Name that stands next.
-fn next_name<'a>(parser: &mut Parser<'a>) -> ParseResult<&'a str>
-    ensures { Leaves result parser.old parser.new }
-{
-    match parser.expect_name() {
-        Ok(name) => Ok(name),
-        Err(failure) => Err(failure),
-    }
-}
-
-fn names<'a>(
-    parser: &mut Parser<'a>,
-    opening: &Token<'_>,
-    closing: &Token<'_>,
-) -> ParseResult<Vec<Spanning<&'a str>>> {
-    parser.delimited_list(opening, next_name, closing)
-}
-
-fn some_names<'a>(
-    parser: &mut Parser<'a>,
-    opening: &Token<'_>,
-    closing: &Token<'_>,
-) -> ParseResult<Vec<Spanning<&'a str>>> {
-    parser.delimited_nonempty_list(opening, next_name, closing)
-}
-
-// The text of the Name that stands next.
-fn name_text<'a>(parser: &mut Parser<'a>) -> UnlocatedParseResult<&'a str>
-    ensures { Leaves result parser.old parser.new }
-{
-    match parser.expect_name() {
-        Ok(name) => Ok(name.item),
-        Err(failure) => Err(failure),
-    }
-}
-
-fn some_texts<'a>(
-    parser: &mut Parser<'a>,
-    opening: &Token<'_>,
-    closing: &Token<'_>,
-) -> ParseResult<Vec<&'a str>> {
-    parser.unlocated_delimited_nonempty_list(opening, name_text, closing)
 }
 
 fn write_names(out: &mut String, list: &ParseResult<Vec<Spanning<&str>>>) -> Written {

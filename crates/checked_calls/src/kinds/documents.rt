@@ -1,8 +1,8 @@
 //! Rows of documents, their equality, and arguments.
 
-use crate::kinds::input_values::{Input, literal};
 use crate::kinds::tree::{write_document, write_value};
 use crate::kinds::{call_of, word_of};
+use crate::parsing::{Input, literal};
 use crate::write::{Written, write_refusal, write_separator, write_span};
 use juniper::{
     Arguments, DefaultScalarValue, DepthFailure, InputValue, OwnedDocument, ParseFailure, Spanning,

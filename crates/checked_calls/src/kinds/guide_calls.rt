@@ -1,7 +1,8 @@
 //! Rows of the functions of the guide.
 
-use crate::kinds::input_values::{Input, literal, variables_of};
+use crate::kinds::input_values::variables_of;
 use crate::kinds::word_of;
+use crate::parsing::{Input, literal};
 use crate::write::{
     Written, write_failure, write_optional_text, write_separator, write_span, write_truth,
 };

@@ -1,29 +1,15 @@
 //! Rows of input values.
 
 use crate::kinds::word_of;
+use crate::parsing::{Input, literal};
 use crate::write::{Written, write_optional_text, write_separator, write_truth};
 use indexmap::IndexMap;
 use juniper::{
-    DefaultScalarValue, InputValue, IntoInputValue, Lexer, Parser, Span, Spanning, Variables,
-    input_value_from_str, parse_value_literal,
+    DefaultScalarValue, InputValue, IntoInputValue, Span, Spanning, Variables, input_value_from_str,
 };
 use std::alloc::{AllocError, Global};
 use std::borrow::CowStr;
 use std::collections::HashMap;
-
-pub(crate) type Input = InputValue<DefaultScalarValue>;
-
-/// The value literal that a text begins with.
-pub(crate) fn literal(alloc: Global, text: &str) -> Result<Option<Input>, AllocError> {
-    let mut lexer = Lexer::new(alloc, text);
-    match Parser::new(&mut lexer) {
-        Ok(mut parser) => match parse_value_literal(&mut parser, false) {
-            Ok(value) => Ok(Some(value.item)),
-            Err(_) => Ok(None),
-        },
-        Err(_) => Ok(None),
-    }
-}
 
 /// `input_value`: a call on the value literal that the text begins with, `into_const` on a copy.
 pub fn answer(alloc: Global, out: &mut String, text: &str, call: &str) -> Written {

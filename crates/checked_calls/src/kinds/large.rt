@@ -2,9 +2,10 @@
 //! is, and which calls on its value return what is expected.
 
 use crate::kinds::answers::answer_of;
-use crate::kinds::input_values::{Input, literal, made_anew};
+use crate::kinds::input_values::made_anew;
 use crate::kinds::scalars::is_converted;
 use crate::kinds::word_of;
+use crate::parsing::{Input, literal};
 use crate::write::{Written, write_separator};
 use std::alloc::{AllocError, Global};
 use std::collections::HashMap;

@@ -1,11 +1,12 @@
 //! Calls on type literals.
 
-use crate::Call;
+use crate::refusals::Call;
+use crate::write::Written;
 use juniper::Type;
 use std::alloc::{AllocError, Global};
 
 /// `wrap_list` and `wrap_non_null`, on the type of this name that was wrapped as often as the word says.
-pub fn answer(alloc: Global, out: &mut String, call: &Call<'_>) -> Result<(), AllocError> {
+pub fn answer(alloc: Global, out: &mut String, call: &Call<'_>) -> Written {
     let literal = wrapped(alloc, call.text, call.word.parse::<usize>().unwrap_or(0))?;
     let answer = match call.name {
         "wrap_list" => literal.wrap_list(alloc, Some(3)),

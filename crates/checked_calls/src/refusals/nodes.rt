@@ -1,6 +1,7 @@
 //! The nodes of values and of documents.
 
-use crate::cursor::value_in;
+use crate::refusals::cursor::value_in;
+use crate::write::Written;
 use juniper::{
     DefaultScalarValue, Definition, Lexer, OwnedDocument, Parser, parse_document_source,
 };
@@ -11,14 +12,14 @@ type Nodes<'t, 'a> = Vec<Node<'t, 'a, DefaultScalarValue>>;
 
 /// `value_nodes`: how many nodes the value literal has that is the text. Any other word: how many there are after each
 /// definition of the document was appended by `push_definition`.
-pub fn answer(alloc: Global, out: &mut String, call: &str, text: &str) -> Result<(), AllocError> {
+pub fn answer(alloc: Global, out: &mut String, call: &str, text: &str) -> Written {
     match call {
         "value_nodes" => write_of_value(alloc, out, text),
         _ => write_pushed(alloc, out, document_of(alloc, text)?.as_slice()),
     }
 }
 
-fn write_of_value(alloc: Global, out: &mut String, text: &str) -> Result<(), AllocError> {
+fn write_of_value(alloc: Global, out: &mut String, text: &str) -> Written {
     let mut lexer = Lexer::new(alloc, text);
     let Ok(mut parser) = Parser::new(&mut lexer) else {
         return Err(AllocError);
@@ -29,10 +30,7 @@ fn write_of_value(alloc: Global, out: &mut String, text: &str) -> Result<(), All
     }
 }
 
-fn write_count(
-    out: &mut String,
-    nodes: &Result<Nodes<'_, '_>, AllocError>,
-) -> Result<(), AllocError> {
+fn write_count(out: &mut String, nodes: &Result<Nodes<'_, '_>, AllocError>) -> Written {
     match nodes {
         Ok(nodes) => {
             let count = nodes.len();
@@ -57,7 +55,7 @@ fn write_pushed<'t, 'a>(
     alloc: Global,
     out: &mut String,
     document: &'t [Definition<'a, DefaultScalarValue>],
-) -> Result<(), AllocError> {
+) -> Written {
     let mut nodes: Nodes<'t, 'a> = Vec::new(alloc);
     for definition in document {
         let is_pushed = push_definition(&mut nodes, definition).is_ok();

@@ -1,22 +1,26 @@
-//! Lexes and parses standard input over and over, and reports on standard error the speed of each stage's best round.
+//! The speed of reading a text over and over: of each stage its best round.
 //!
-//! The arguments are the number of rounds, how often a round reads the text, and the one stage that is measured, by its
-//! name. Where they aren't there, each is 1, and every stage is measured.
-#![tactic(auto)]
+//! The words are the number of rounds, how often a round reads the text, and the one stage that is measured, by its name.
+//! Where they aren't there, each number is 1, and every stage is measured.
 
 mod measured;
 
 use measured::{Speed, Stage, speed_of};
 use std::alloc::Global;
+use std::io::Read;
 use std::rt::{Clock, Env};
 use std::time::Instant;
 use std::{env, io};
 
-fn main(rt: HostRuntime) -> io::Result<()> {
-    let source = io::read_to_string(rt.alloc(), rt.stdin())?;
-    let rounds = number_at(&rt, 1)?;
-    let inner = number_at(&rt, 2)?;
-    let only = env::args(&rt)?.nth(3);
+/// Measures as the arguments from the second on say, on the text of a reader, and reports on standard error.
+pub fn tell<R: Clock + Env + Eprint + AllocGlobal, T: Read + Drop>(
+    rt: &R,
+    reader: T,
+) -> io::Result<()> {
+    let source = io::read_to_string(rt.alloc(), reader)?;
+    let rounds = number_at(rt, 2)?;
+    let inner = number_at(rt, 3)?;
+    let only = env::args(rt)?.nth(4);
     for stage in Stage::ALL {
         let is_wanted = match &only {
             Some(name) => name.as_str() == stage.name(),
@@ -24,7 +28,7 @@ fn main(rt: HostRuntime) -> io::Result<()> {
         };
         if is_wanted {
             let word = stage.word();
-            let best = best_of(&rt, stage, source.as_str(), rounds, inner)?;
+            let best = best_of(rt, stage, source.as_str(), rounds, inner)?;
             eprintln!(rt; "{word} {best} MB/s")?;
         }
     }

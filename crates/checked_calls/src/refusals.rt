@@ -1,25 +1,25 @@
-//! Makes one call that takes memory, on the text of standard input, and reports what it returns and what stands after
-//! it.
+//! One call that takes memory, on a text: what it returns, and what stands after it.
 //!
-//! The arguments name the kind of the call, the call, and what it is given beside the text. The first line that is
-//! written says that the call comes now: an allocator that refuses requests counts them from there on. What is reported
-//! then goes into a buffer that was taken before. So the requests are those of the call, and before them those of its
+//! The words say the kind of the call, the call, and what it is given beside the text. The first line that is written
+//! says that the call comes now: an allocator that refuses requests counts them from there on. What is reported then
+//! goes into a buffer that was taken before. So the requests are those of the call, and before them those of its
 //! arguments; `not called` is reported where one of these is refused.
-#![tactic(auto)]
 
 mod answers;
 mod converted;
 mod cursor;
 mod documents;
 mod lexing;
-mod lists;
 mod nodes;
 mod scalars;
 mod types;
 mod values;
 mod write;
 
-use std::alloc::{AllocError, Global};
+use crate::write::Written;
+use std::alloc::Global;
+use std::io::Read;
+use std::rt::Env;
 use std::{env, io};
 
 /// A call: its name, the word that says more of it, and the text.
@@ -33,9 +33,10 @@ struct Call<'a> {
 // The number of bytes that may be reported.
 const ROOM: usize = 65536;
 
-fn main(rt: HostRuntime) -> io::Result<()> {
-    let text = io::read_to_string(rt.alloc(), rt.stdin())?;
-    let mut words = env::args(&rt)?.skip(1);
+/// Makes the call that the arguments from the second on name, on the text of a reader.
+pub fn tell<R: Env + Print + AllocGlobal, T: Read + Drop>(rt: &R, reader: T) -> io::Result<()> {
+    let text = io::read_to_string(rt.alloc(), reader)?;
+    let mut words = env::args(rt)?.skip(2);
     let (kind, name, word) = (words.next(), words.next(), words.next());
     let kind = text_of(&kind);
     let call = Call {
@@ -44,7 +45,7 @@ fn main(rt: HostRuntime) -> io::Result<()> {
         text: text.as_str(),
     };
     if kind == "document" {
-        return documents::tell(&rt, call.name, call.text);
+        return documents::tell(rt, call.name, call.text);
     }
     let mut out = String::with_capacity(rt.alloc(), ROOM)?;
     println!(rt; "calling")?;
@@ -63,7 +64,7 @@ fn text_of(word: &Option<String>) -> &str {
 }
 
 // Writes what a call returns, and what stands after it.
-fn answer(alloc: Global, out: &mut String, kind: &str, call: &Call<'_>) -> Result<(), AllocError> {
+fn answer(alloc: Global, out: &mut String, kind: &str, call: &Call<'_>) -> Written {
     match kind {
         "lexing" => lexing::answer(alloc, out, call.name, call.text),
         "cursor" => cursor::answer(alloc, out, call.name, call.text),

@@ -1,6 +1,7 @@
 //! A type of a caller's own, which is made from input values.
 
-use crate::write::write_made;
+use crate::refusals::write::write_made;
+use crate::write::Written;
 use juniper::{DefaultScalarValue, FromInputValue, InputValue};
 use std::alloc::{AllocError, Global};
 use std::fmt;
@@ -40,7 +41,7 @@ pub fn answer(
     out: &mut String,
     call: &str,
     value: &InputValue<DefaultScalarValue>,
-) -> Result<(), AllocError> {
+) -> Written {
     match call {
         "convert" => write_made(out, &value.convert::<Shown>(alloc)),
         _ => write_made(out, &Shown::from_implicit_null(alloc)),

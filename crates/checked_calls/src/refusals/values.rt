@@ -1,25 +1,17 @@
 //! Calls that make input values, and calls on them.
 
-use crate::cursor::value_in;
-use crate::write::{write_items, write_made, write_optional, write_pair};
-use crate::{Call, converted};
+use crate::parsing::{Input, literal};
+use crate::refusals::write::{write_items, write_made, write_optional, write_pair};
+use crate::refusals::{Call, converted};
+use crate::write::Written;
 use indexmap::IndexMap;
-use juniper::{
-    DefaultScalarValue, InputValue, IntoInputValue, Lexer, Parser, Variables, input_value_from_str,
-};
+use juniper::{DefaultScalarValue, InputValue, IntoInputValue, Variables, input_value_from_str};
 use std::alloc::{AllocError, Global};
 use std::borrow::CowStr;
 use std::collections::HashMap;
 
-type Input = InputValue<DefaultScalarValue>;
-
 /// A value that is made of a text.
-pub fn answer_made(
-    alloc: Global,
-    out: &mut String,
-    call: &str,
-    text: &str,
-) -> Result<(), AllocError> {
+pub fn answer_made(alloc: Global, out: &mut String, call: &str, text: &str) -> Written {
     write_made(out, &made(alloc, call, text))
 }
 
@@ -32,20 +24,17 @@ fn made(alloc: Global, call: &str, text: &str) -> Result<Input, AllocError> {
     }
 }
 
-fn literal(alloc: Global, text: &str) -> Result<Input, AllocError> {
-    let mut lexer = Lexer::new(alloc, text);
-    let Ok(mut parser) = Parser::new(&mut lexer) else {
-        return Err(AllocError);
-    };
-    match value_in(&mut parser, false) {
-        Ok(value) => Ok(value.item),
-        Err(_) => Err(AllocError),
+// The value literal that the text begins with.
+fn value_of(alloc: Global, text: &str) -> Result<Input, AllocError> {
+    match literal(alloc, text)? {
+        Some(value) => Ok(value),
+        None => Err(AllocError),
     }
 }
 
 /// A call on the value literal that is the text.
-pub fn answer(alloc: Global, out: &mut String, call: &Call<'_>) -> Result<(), AllocError> {
-    let value = literal(alloc, call.text)?;
+pub fn answer(alloc: Global, out: &mut String, call: &Call<'_>) -> Written {
+    let value = value_of(alloc, call.text)?;
     match call.name {
         "try_clone" => write_made(out, &value.try_clone(alloc)),
         "into_const" => {
@@ -58,13 +47,13 @@ pub fn answer(alloc: Global, out: &mut String, call: &Call<'_>) -> Result<(), Al
         "to_object_value" => write_fields(alloc, out, &value),
         "referenced_variables" => write_variables(alloc, out, &value),
         "convert" | "from_implicit_null" => converted::answer(alloc, out, call.name, &value),
-        "unlocated_eq" => write_same(out, &value, &literal(alloc, call.text)?),
+        "unlocated_eq" => write_same(out, &value, &value_of(alloc, call.text)?),
         "list" => write_list(out, &InputValue::list(alloc, items_of(alloc, value)?)),
         _ => write_object(out, &InputValue::object(alloc, fields_of(alloc, value)?)),
     }
 }
 
-fn write_same(out: &mut String, value: &Input, other: &Input) -> Result<(), AllocError> {
+fn write_same(out: &mut String, value: &Input, other: &Input) -> Written {
     let is_same = value.unlocated_eq(other);
     writeln!(out, "{is_same}")
 }
@@ -72,11 +61,11 @@ fn write_same(out: &mut String, value: &Input, other: &Input) -> Result<(), Allo
 // The variable `a`, with the value that is written.
 fn variables_of(alloc: Global, written: &str) -> Result<Variables<DefaultScalarValue>, AllocError> {
     let mut variables = HashMap::new(alloc);
-    variables.insert(String::from_str(alloc, "a")?, literal(alloc, written)?)?;
+    variables.insert(String::from_str(alloc, "a")?, value_of(alloc, written)?)?;
     Ok(variables)
 }
 
-fn write_parts(alloc: Global, out: &mut String, value: &Input) -> Result<(), AllocError> {
+fn write_parts(alloc: Global, out: &mut String, value: &Input) -> Written {
     match value.to_list_value(alloc) {
         Ok(Some(items)) => write_items(out, &items),
         Ok(None) => out.push_str("None\n"),
@@ -84,7 +73,7 @@ fn write_parts(alloc: Global, out: &mut String, value: &Input) -> Result<(), All
     }
 }
 
-fn write_fields(alloc: Global, out: &mut String, value: &Input) -> Result<(), AllocError> {
+fn write_fields(alloc: Global, out: &mut String, value: &Input) -> Written {
     match &value.to_object_value(alloc) {
         Ok(Some(fields)) => write_map(out, fields),
         Ok(None) => out.push_str("None\n"),
@@ -92,14 +81,14 @@ fn write_fields(alloc: Global, out: &mut String, value: &Input) -> Result<(), Al
     }
 }
 
-fn write_map(out: &mut String, fields: &IndexMap<&str, &Input>) -> Result<(), AllocError> {
+fn write_map(out: &mut String, fields: &IndexMap<&str, &Input>) -> Written {
     for (key, value) in fields.iter() {
         write_pair(out, key, value)?;
     }
     Ok(())
 }
 
-fn write_variables(alloc: Global, out: &mut String, value: &Input) -> Result<(), AllocError> {
+fn write_variables(alloc: Global, out: &mut String, value: &Input) -> Written {
     match value.referenced_variables(alloc) {
         Ok(names) => write_items(out, &names),
         Err(_) => out.push_str("Memory\n"),
@@ -115,7 +104,7 @@ fn items_of(alloc: Global, value: Input) -> Result<Vec<Input>, AllocError> {
 }
 
 // Writes a list, or the items that were returned.
-fn write_list(out: &mut String, list: &Result<Input, Vec<Input>>) -> Result<(), AllocError> {
+fn write_list(out: &mut String, list: &Result<Input, Vec<Input>>) -> Written {
     match list {
         Ok(list) => writeln!(out, "{list}"),
         Err(items) => {
@@ -134,17 +123,14 @@ fn fields_of(alloc: Global, value: Input) -> Result<IndexMap<String, Input>, All
 }
 
 // Writes an object, or the fields that were returned.
-fn write_object(
-    out: &mut String,
-    object: &Result<Input, IndexMap<String, Input>>,
-) -> Result<(), AllocError> {
+fn write_object(out: &mut String, object: &Result<Input, IndexMap<String, Input>>) -> Written {
     match object {
         Ok(object) => writeln!(out, "{object}"),
         Err(fields) => write_back(out, fields),
     }
 }
 
-fn write_back(out: &mut String, fields: &IndexMap<String, Input>) -> Result<(), AllocError> {
+fn write_back(out: &mut String, fields: &IndexMap<String, Input>) -> Written {
     out.push_str("Memory\n")?;
     for (key, value) in fields.iter() {
         write_pair(out, key, value)?;

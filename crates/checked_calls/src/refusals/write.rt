@@ -1,11 +1,12 @@
 //! How results are written: each on a line, and `Memory` where memory ran out.
 
+use crate::write::Written;
 use juniper::{ParseFailure, ParseResult};
 use std::alloc::AllocError;
 use std::fmt;
 
 /// Writes why a parser returned nothing.
-pub fn write_failure(out: &mut String, failure: &ParseFailure) -> Result<(), AllocError> {
+pub fn write_failure(out: &mut String, failure: &ParseFailure) -> Written {
     match failure {
         ParseFailure::Refused(fault) => writeln!(out, "{fault}"),
         ParseFailure::Memory => out.push_str("Memory\n"),
@@ -13,10 +14,7 @@ pub fn write_failure(out: &mut String, failure: &ParseFailure) -> Result<(), All
 }
 
 /// Writes what a parser returned, or why it returned nothing.
-pub fn write_answer<T: fmt::Display + Drop>(
-    out: &mut String,
-    answer: &ParseResult<T>,
-) -> Result<(), AllocError> {
+pub fn write_answer<T: fmt::Display + Drop>(out: &mut String, answer: &ParseResult<T>) -> Written {
     match answer {
         Ok(answer) => writeln!(out, "{answer}"),
         Err(failure) => write_failure(out, failure),
@@ -27,7 +25,7 @@ pub fn write_answer<T: fmt::Display + Drop>(
 pub fn write_made<T: fmt::Display + Drop>(
     out: &mut String,
     made: &Result<T, AllocError>,
-) -> Result<(), AllocError> {
+) -> Written {
     match made {
         Ok(made) => writeln!(out, "{made}"),
         Err(_) => out.push_str("Memory\n"),
@@ -38,7 +36,7 @@ pub fn write_made<T: fmt::Display + Drop>(
 pub fn write_optional<T: fmt::Display + Drop>(
     out: &mut String,
     made: &Result<Option<T>, AllocError>,
-) -> Result<(), AllocError> {
+) -> Written {
     match made {
         Ok(Some(made)) => writeln!(out, "{made}"),
         Ok(None) => out.push_str("None\n"),
@@ -51,13 +49,13 @@ pub fn write_pair<K: fmt::Display, V: fmt::Display>(
     out: &mut String,
     key: &K,
     value: &V,
-) -> Result<(), AllocError> {
+) -> Written {
     writeln!(out, "{key}")?;
     writeln!(out, "{value}")
 }
 
 /// Writes each item.
-pub fn write_items<T: fmt::Display>(out: &mut String, items: &[T]) -> Result<(), AllocError> {
+pub fn write_items<T: fmt::Display>(out: &mut String, items: &[T]) -> Written {
     for item in items {
         writeln!(out, "{item}")?;
     }

@@ -1,7 +1,8 @@
 //! Calls on scalars, of the type that a word names.
 
-use crate::Call;
-use crate::write::{write_made, write_optional};
+use crate::refusals::Call;
+use crate::refusals::write::{write_made, write_optional};
+use crate::write::Written;
 use juniper::{
     DefaultScalarValue, ParseScalarResult, ReadFailure, ScalarToken, ScalarValue, ToScalarValue,
     scalar_from_str,
@@ -12,7 +13,7 @@ use std::alloc::{AllocError, Global};
 
 /// `from_str`, `from_int`, `from_float` and `from_block`: what a String, an Int, a Float or a block string of the text is
 /// read as. Any other word: a call on the scalar of the text. The type is the default one where the word names none.
-pub fn answer(alloc: Global, out: &mut String, call: &Call<'_>) -> Result<(), AllocError> {
+pub fn answer(alloc: Global, out: &mut String, call: &Call<'_>) -> Written {
     match call.word {
         "Literal" => answer_at::<Literal>(alloc, out, call.name, call.text),
         "Thousandths" => answer_at::<Thousandths>(alloc, out, call.name, call.text),
@@ -22,12 +23,7 @@ pub fn answer(alloc: Global, out: &mut String, call: &Call<'_>) -> Result<(), Al
     }
 }
 
-fn answer_at<S: ScalarValue>(
-    alloc: Global,
-    out: &mut String,
-    call: &str,
-    text: &str,
-) -> Result<(), AllocError> {
+fn answer_at<S: ScalarValue>(alloc: Global, out: &mut String, call: &str, text: &str) -> Written {
     match call {
         "from_str" => write_read::<S>(out, &S::from_str(alloc, ScalarToken::String(text))),
         "from_int" => write_read::<S>(out, &S::from_str(alloc, ScalarToken::Int(text))),
@@ -39,10 +35,7 @@ fn answer_at<S: ScalarValue>(
     }
 }
 
-fn write_read<S: ScalarValue>(
-    out: &mut String,
-    scalar: &ParseScalarResult<S>,
-) -> Result<(), AllocError> {
+fn write_read<S: ScalarValue>(out: &mut String, scalar: &ParseScalarResult<S>) -> Written {
     match scalar {
         Ok(scalar) => writeln!(out, "{scalar}"),
         Err(ReadFailure::Refused(error)) => writeln!(out, "{error}"),
@@ -72,12 +65,7 @@ fn token_of(text: &str) -> ScalarToken<'_> {
     }
 }
 
-fn write_call<S: ScalarValue>(
-    alloc: Global,
-    out: &mut String,
-    scalar: S,
-    call: &str,
-) -> Result<(), AllocError> {
+fn write_call<S: ScalarValue>(alloc: Global, out: &mut String, scalar: S, call: &str) -> Written {
     match call {
         "try_to_string" => write_optional(out, &scalar.try_to_string(alloc)),
         "try_into_string" => write_optional(out, &scalar.try_into_string(alloc)),
@@ -91,11 +79,7 @@ fn another<S: ScalarValue>(alloc: Global, scalar: S) -> Result<DefaultScalarValu
 }
 
 // The scalar of a text that is borrowed.
-fn write_copied<S: ScalarValue>(
-    alloc: Global,
-    out: &mut String,
-    text: &str,
-) -> Result<(), AllocError> {
+fn write_copied<S: ScalarValue>(alloc: Global, out: &mut String, text: &str) -> Written {
     let text = String::from_str(alloc, text)?;
     let copied: Result<S, AllocError> = text.to_scalar_value(alloc);
     write_made(out, &copied)

@@ -1,7 +1,8 @@
 //! Calls that make answer values, objects and names, and calls on them.
 
-use crate::Call;
-use crate::write::{write_made, write_pair};
+use crate::refusals::Call;
+use crate::refusals::write::{write_made, write_pair};
+use crate::write::Written;
 use juniper::{
     DefaultScalarValue, IntoValue, Name, NameFailure, Object, ToInputValue, Value, value_from_str,
 };
@@ -11,7 +12,7 @@ type Answer = Value<DefaultScalarValue>;
 
 /// `value_from_str`, `into_value` and `name`: what is made of the text. Any other word: a call on the object of the
 /// text.
-pub fn answer(alloc: Global, out: &mut String, call: &str, text: &str) -> Result<(), AllocError> {
+pub fn answer(alloc: Global, out: &mut String, call: &str, text: &str) -> Written {
     match call {
         "value_from_str" => write_made(out, &made(alloc, text)),
         "into_value" => write_lent(alloc, out, text),
@@ -25,13 +26,13 @@ fn made(alloc: Global, text: &str) -> Result<Answer, AllocError> {
 }
 
 // The answer value of a text that is borrowed.
-fn write_lent(alloc: Global, out: &mut String, text: &str) -> Result<(), AllocError> {
+fn write_lent(alloc: Global, out: &mut String, text: &str) -> Written {
     let owned = String::from_str(alloc, text)?;
     let lent: Result<Answer, AllocError> = Some(&owned).into_value(alloc);
     write_made(out, &lent)
 }
 
-fn write_name(alloc: Global, out: &mut String, text: &str) -> Result<(), AllocError> {
+fn write_name(alloc: Global, out: &mut String, text: &str) -> Written {
     match Name::new(alloc, text) {
         Ok(name) => {
             let text = name.as_str();
@@ -42,12 +43,7 @@ fn write_name(alloc: Global, out: &mut String, text: &str) -> Result<(), AllocEr
     }
 }
 
-fn write_call(
-    alloc: Global,
-    out: &mut String,
-    call: &str,
-    value: Answer,
-) -> Result<(), AllocError> {
+fn write_call(alloc: Global, out: &mut String, call: &str, value: Answer) -> Written {
     match call {
         "try_clone" => write_made(out, &value.try_clone(alloc)),
         "to_input_value" => write_made(out, &value.to_input_value(alloc)),
@@ -87,7 +83,7 @@ fn object_of(alloc: Global, text: &str) -> Result<Object<DefaultScalarValue>, Al
 
 /// `with_capacity` of a number of fields; `from_iter` of the text's pairs; `add_field` of the pair of a word to the
 /// object of the text, and the object after it.
-pub fn answer_object(alloc: Global, out: &mut String, call: &Call<'_>) -> Result<(), AllocError> {
+pub fn answer_object(alloc: Global, out: &mut String, call: &Call<'_>) -> Written {
     match call.name {
         "with_capacity" => write_whole(out, Object::with_capacity(alloc, number_of(call.word))),
         "from_iter" => write_whole(
@@ -105,7 +101,7 @@ fn number_of(word: &str) -> usize {
 fn write_whole(
     out: &mut String,
     object: Result<Object<DefaultScalarValue>, AllocError>,
-) -> Result<(), AllocError> {
+) -> Written {
     match object {
         Ok(object) => {
             let object = Value::object(object);
@@ -120,17 +116,14 @@ fn write_added(
     out: &mut String,
     mut object: Object<DefaultScalarValue>,
     word: &str,
-) -> Result<(), AllocError> {
+) -> Written {
     let pair = pair_of(alloc, word)?;
     write_old(out, &object.add_field(pair.0, pair.1))?;
     write_whole(out, Ok(object))
 }
 
 // Writes the value that was replaced, or the pair that was returned.
-fn write_old(
-    out: &mut String,
-    old: &Result<Option<Answer>, (String, Answer)>,
-) -> Result<(), AllocError> {
+fn write_old(out: &mut String, old: &Result<Option<Answer>, (String, Answer)>) -> Written {
     match old {
         Ok(Some(old)) => writeln!(out, "{old}"),
         Ok(None) => out.push_str("None\n"),
