@@ -1,5 +1,5 @@
 //! Byte offsets of characters.
-ghost use Rattle.std.specs.Prelude.{◌≡◌, ◌+◌, ◌<◌, ◌≤◌, ◌^◌, not, length, IfOk, IsTrue};
+ghost use Rattle.std.specs.Prelude.{◌≡◌, ◌+◌, ◌<◌, ◌≤◌, ◌^◌, ◌↔◌, not, length, IfOk, IsTrue};
 ghost use Rattle.std.specs.Str.{chars};
 ghost use Rattle.juniper_tokens.specs.device.ByteRuns.{is_inner};
 ghost use Rattle.juniper_c.specs.ByteTables.{byte_in, IsTableOf, AreAscii, HasStarts};
@@ -62,6 +62,7 @@ fn push_stretches(starts: &mut Vec<u32>, bytes: &[u8]) -> usize
     requires short { length bytes.now < 2 ^ 32 }
     requires begun { HasStarts bytes.now 0 starts.old }
     ensures within { result ≤ length bytes.now }
+    ensures rest { length bytes.now < result + STRETCH }
     ensures begun { HasStarts bytes.now result starts.new }
 {
     let mut at = 0;
@@ -80,7 +81,7 @@ fn push_stretches(starts: &mut Vec<u32>, bytes: &[u8]) -> usize
 #[inline(always)]
 fn are_ascii(bytes: &[u8], at: usize) -> bool
     requires { at + STRETCH ≤ length bytes.now }
-    ensures { IsTrue result → AreAscii bytes.now at (at + STRETCH) }
+    ensures { IsTrue result ↔ AreAscii bytes.now at (at + STRETCH) }
 {
     let high = u8x16::from_slice(&bytes[at..]).simd_ge(u8x16::splat(0x80));
     high.to_bitmask() == 0
