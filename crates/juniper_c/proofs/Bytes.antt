@@ -10,6 +10,7 @@ use Rattle.std.proofs.lemmas.Option.{unwrap_or-slice_get}
 use Rattle.std.proofs.lemmas.Str.{chars-IsAscii, encodes-IsAscii, encodes-chars, encode_ascii, IsAscii-take}
 use Rattle.juniper_tokens.specs.device.ByteRuns.{is_inner}
 use Rattle.juniper_tokens.proofs.Public.{wide, inner_low, inner_high, low_or_high}
+use Rattle.juniper_c.specs.ByteTables.{starts_in}
 use Rattle.juniper_c.specs.Places.{byte_behind}
 
 -- of a text that is ASCII
@@ -20,11 +21,6 @@ ascii_bytes bs a k =
     ∙ ap (λ cs. length (encode_utf8_all (take k cs))) (sym (chars-IsAscii bs a)))
 
 -- ---- a text of other characters
-
--- where the characters of these bytes begin, the first byte being at a place
-abbrev pub starts_in : ℕ → List ℕ → List ℕ
-starts_in at [] = []
-starts_in at (b ∷ bs) = if is_inner b then starts_in (suc at) bs else at ∷ starts_in (suc at) bs
 
 -- one byte more
 by_byte : (i : Bool) (at : ℕ) (both front last : List ℕ) → both ≡ front ++ last
@@ -132,3 +128,7 @@ pub same_starts : (bytes starts : List ℕ) (at d : ℕ) → at < length bytes
 same_starts bytes starts at d l e inner =
     sym (append-nil starts) ∙ (ap₂ (λ xs ys. xs ++ ys) e (none (is_inner (get_or bytes at d)) at inner)
     ∙ starts_to bytes at d l)
+
+-- an ASCII byte begins one
+pub low_begins : (b : ℕ) → b < 128 → not (is_inner b) ≡ true
+low_begins b low = ap not (inner_low b low)

@@ -55,8 +55,8 @@ impl DefinitionSink<Scalar> for FlatWriter<'_> {
 // About how many bytes of a source there are for a node: more nodes need more memory.
 const BYTES_OF_A_NODE: usize = 8;
 
-// About how many nodes a definition has.
-const NODES_OF_A_DEFINITION: usize = 64;
+// About how many characters of a definition there are for a node: more nodes need more memory.
+const CHARACTERS_OF_A_NODE: usize = 4;
 
 /// Why there are no nodes.
 #[derive(Clone, Copy)]
@@ -133,6 +133,15 @@ fn room_for_nodes(alloc: Global, length: usize) -> Vec<Node>
     }
 }
 
+// The number of characters from a definition's first to its last.
+fn length_of(definition: &Definition<'_, Scalar>) -> usize {
+    let span = match definition {
+        Definition::Operation(operation) => operation.span,
+        Definition::Fragment(fragment) => fragment.span,
+    };
+    span.end.index().saturating_sub(span.start.index())
+}
+
 // Appends the nodes of a definition, or none of them.
 fn write_definition<'t, 'a>(
     alloc: Global,
@@ -147,7 +156,7 @@ fn write_definition<'t, 'a>(
 {
     let mut nodes: Vec<juniper_nodes::Node<'t, 'a, Scalar>> = Vec::with_capacity(
         alloc,
-        NODES_OF_A_DEFINITION,
+        length_of(definition) / CHARACTERS_OF_A_NODE + 1,
     )?;
     push_definition(&mut nodes, definition)?;
     let before = flat.nodes.len();

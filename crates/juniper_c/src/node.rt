@@ -2,6 +2,7 @@
 ghost use Rattle.std.specs.Prelude.{◌≡◌, ◌-◌, ◌+◌, ◌^◌, ◌<◌, ◌++◌, ℕ, List, [], length, pos, option_map, option_and_then, OnOk, string_bytes, encode_utf8_all};
 ghost use Rattle.std.specs.Option.{unwrap_or};
 ghost use Rattle.std.specs.Str.{chars};
+ghost use Rattle.graphql_lexical.specs.Place as places;
 ghost use Rattle.graphql_nodes.specs.Types.{type_text};
 ghost use Rattle.juniper_tokens.specs.Spans.{view_span};
 ghost use Rattle.juniper.specs.View.{view_type, view_word};
@@ -10,6 +11,7 @@ ghost use Rattle.juniper_nodes.specs.NodeTexts.{text_of_node};
 ghost use Rattle.juniper_nodes.specs.NodeViews.{view_label, view_node};
 ghost use Rattle.juniper_c.specs.FlatWriters.{NodeFits};
 ghost use Rattle.juniper_c.specs.ByteTables.{IsTableOf};
+ghost use Rattle.juniper_c.specs.Places.{byte_behind};
 ghost use Rattle.juniper_c.specs.Nodes.{kind_number, node_number, content_number, byte_count, word_extent, span_extent, no_extent, unnamed_extent, node_extent, scalar_value, condition_value, node_value, written_node};
 ghost use Rattle.juniper_c.specs.Scalars.{scalar_content};
 
@@ -68,13 +70,22 @@ pub(crate) fn written_node(
 ) -> Node
     ensures { (source : List ℕ) → IsTableOf source table.now → NodeFits at (view_node scalar_content node.now) → length ≡ byte_count (text_of_node (view_node scalar_content node.now)) → result ≡ written_node source at (view_node scalar_content node.now) }
 {
-    let name = extent_of(table, node);
+    let start = place_at(table, node.span.start);
+    let end = place_at(table, node.span.end);
+    let name = extent_of(
+        table,
+        node,
+        Extent {
+            start: start.byte,
+            end: end.byte,
+        },
+    );
     let value = value_of(table, node, at, length);
     Node {
         kind: node_number(node.kind, node.scalar),
         descendants: in_word(node.descendants),
-        start: place_at(table, node.span.start),
-        end: place_at(table, node.span.end),
+        start,
+        end,
         name_start: name.start,
         name_end: name.end,
         value: value.number,
@@ -151,23 +162,28 @@ fn scalar_number(scalar: &Scalar) -> u32
 
 // ---- names
 
-fn extent_of(table: &ByteTable, node: &juniper_nodes::Node<'_, '_, Scalar>) -> Extent
-    ensures { (source : List ℕ) → IsTableOf source table.now → result ≡ node_extent source node.now.kind (view_span node.now.span.now) (view_label (view_span node.now.span.now) node.now.label) }
+// `whole` has the bytes from the node's first to its last.
+fn extent_of(
+    table: &ByteTable,
+    node: &juniper_nodes::Node<'_, '_, Scalar>,
+    whole: Extent,
+) -> Extent
+    ensures { (source : List ℕ) → IsTableOf source table.now → whole ≡ span_extent source (view_span node.now.span.now) → result ≡ node_extent source node.now.kind (view_span node.now.span.now) (view_label (view_span node.now.span.now) node.now.label) }
 {
     match node.label {
-        Label::Unnamed => unnamed_extent(table, node.kind, node.span),
+        Label::Unnamed => unnamed_extent(node.kind, whole),
         Label::Name(name) => word_extent(table, name),
-        Label::Text(text) => text_extent(table.byte(node.span.end.index()), text),
+        Label::Text(text) => text_extent(whole.end, text),
         Label::Fragment(name, _) => word_extent(table, name),
-        Label::Type(_) => span_extent(table, node.span),
+        Label::Type(_) => whole,
     }
 }
 
-fn unnamed_extent(table: &ByteTable, kind: NodeKind, span: &Span) -> Extent
-    ensures { (source : List ℕ) → IsTableOf source table.now → result ≡ unnamed_extent kind source (view_span span.now) }
+fn unnamed_extent(kind: NodeKind, whole: Extent) -> Extent
+    ensures { (source : List ℕ) (span : places.Span) → whole ≡ span_extent source span → result ≡ unnamed_extent kind source span }
 {
     match kind {
-        NodeKind::Scalar | NodeKind::Null => span_extent(table, span),
+        NodeKind::Scalar | NodeKind::Null => whole,
         NodeKind::Query
         | NodeKind::Mutation
         | NodeKind::Subscription
@@ -186,23 +202,13 @@ fn unnamed_extent(table: &ByteTable, kind: NodeKind, span: &Span) -> Extent
         | NodeKind::Reference
         | NodeKind::List
         | NodeKind::Object
-        | NodeKind::Key => no_extent(table, span),
+        | NodeKind::Key => no_extent(whole.start),
     }
 }
 
-fn span_extent(table: &ByteTable, span: &Span) -> Extent
-    ensures { (source : List ℕ) → IsTableOf source table.now → result ≡ span_extent source (view_span span.now) }
+fn no_extent(start: u32) -> Extent
+    ensures { (source : List ℕ) (span : places.Span) → start ≡ byte_behind source span.start.index → result ≡ no_extent source span }
 {
-    Extent {
-        start: table.byte(span.start.index()),
-        end: table.byte(span.end.index()),
-    }
-}
-
-fn no_extent(table: &ByteTable, span: &Span) -> Extent
-    ensures { (source : List ℕ) → IsTableOf source table.now → result ≡ no_extent source (view_span span.now) }
-{
-    let start = table.byte(span.start.index());
     Extent { start, end: start }
 }
 

@@ -28,13 +28,9 @@ pub(crate) fn place_at(table: &ByteTable, position: SourcePosition) -> Place
     }
 }
 
-/// A number in 32 bits. No number of a source of less than 4 GiB is larger; the largest of 32 bits stands for one that is.
+/// The lowest 32 bits of a number. No number of a source of less than 4 GiB is larger.
 pub(crate) fn in_word(number: usize) -> u32
     ensures { number < 2 ^ 32 → result ≡ number }
 {
-    if number <= u32::MAX as usize {
-        number as u32
-    } else {
-        u32::MAX
-    }
+    (number % 4294967296) as u32
 }
