@@ -120,14 +120,15 @@ static void each(answer (*call)(const char *), const char *source) {
     check(requests == 0 || memory > 0, "want of memory is answered, for %s", source);
 }
 
-/* The capacity for nodes that is requested before the first token is a hint: where it is refused, the result stays. */
+/* The capacity for nodes that is requested before the first token is a hint: where it is refused, the result stays. That for
+   a definition's nodes is one, too, and may be of the same size. */
 static void room_is_a_hint(const char *source) {
     answer ample = with_refused(parse, source, 0, 0);
     refused_size = strlen(source) / 8 * sizeof(firthnapkin_node);
     refused_sizes = 0;
     answer a = with_refused(parse, source, 0, 0);
     refused_size = 0;
-    check(refused_sizes == 1, "%ld requests for the first room are refused, of %s", refused_sizes, source);
+    check(refused_sizes > 0, "%ld requests for the first room are refused, of %s", refused_sizes, source);
     check(a.status == ample.status && a.nodes_needed == ample.nodes_needed && a.texts_needed == ample.texts_needed,
           "the answer for %s where the first room for nodes is refused: %u", source, a.status);
 }

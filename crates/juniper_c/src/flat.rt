@@ -103,7 +103,7 @@ fn flat_of_text(alloc: Global, text: &str, depth: u32) -> Result<Flat, Stop>
         alloc,
         table: &table,
         flat: Flat {
-            nodes: room_for_nodes(alloc, text.len()),
+            nodes: room_for(alloc, text.len() / BYTES_OF_A_NODE),
             texts: String::new(alloc),
         },
     };
@@ -122,12 +122,11 @@ fn flat_of_text(alloc: Global, text: &str, depth: u32) -> Result<Flat, Stop>
     }
 }
 
-// A list with capacity for about as many nodes as a source of this length has, if there is as much memory; otherwise
-// the list grows as it must.
-fn room_for_nodes(alloc: Global, length: usize) -> Vec<Node>
+// A list with capacity for so many items, if there is as much memory; otherwise the list grows as it must.
+fn room_for<T: Drop>(alloc: Global, count: usize) -> Vec<T>
     ensures { result.items ≡ [] }
 {
-    match Vec::with_capacity(alloc, length / BYTES_OF_A_NODE) {
+    match Vec::with_capacity(alloc, count) {
         Ok(room) => room,
         Err(_) => Vec::new(alloc),
     }
@@ -154,10 +153,10 @@ fn write_definition<'t, 'a>(
     ensures same_nodes { OnErr result (flat.new.nodes.items ≡ flat.old.nodes.items) }
     ensures same_texts { OnErr result (string_bytes flat.new.texts ≡ string_bytes flat.old.texts) }
 {
-    let mut nodes: Vec<juniper_nodes::Node<'t, 'a, Scalar>> = Vec::with_capacity(
+    let mut nodes: Vec<juniper_nodes::Node<'t, 'a, Scalar>> = room_for(
         alloc,
         length_of(definition) / CHARACTERS_OF_A_NODE + 1,
-    )?;
+    );
     push_definition(&mut nodes, definition)?;
     let before = flat.nodes.len();
     match write_nodes(alloc, flat, table, &nodes) {

@@ -163,11 +163,7 @@ fn scalar_number(scalar: &Scalar) -> u32
 // ---- names
 
 // `whole` has the bytes from the node's first to its last.
-fn extent_of(
-    table: &ByteTable,
-    node: &juniper_nodes::Node<'_, '_, Scalar>,
-    whole: Extent,
-) -> Extent
+fn extent_of(table: &ByteTable, node: &juniper_nodes::Node<'_, '_, Scalar>, whole: Extent) -> Extent
     ensures { (source : List ℕ) → IsTableOf source table.now → whole ≡ span_extent source (view_span node.now.span.now) → result ≡ node_extent source node.now.kind (view_span node.now.span.now) (view_label (view_span node.now.span.now) node.now.label) }
 {
     match node.label {

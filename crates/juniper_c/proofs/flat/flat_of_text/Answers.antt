@@ -13,7 +13,7 @@ returns-in-Ok c =
     let told = tree.gains.definitions source []
     record {
       table = c.in_ok-table.ensures;
-      nodes = λ fit. c.room_for_nodes.ensures;
+      nodes = λ fit. c.room_for.ensures;
       texts = c.new-2.ensures.bytes;
     } in (
       c.requires,
