@@ -1,5 +1,5 @@
-//! What the program `check_calls` does: `files` tells which rows of files hold, `refusals` makes one call that takes
-//! memory, and `speed` measures how fast a text is read.
+//! What the programs for tests do. For `check_calls`, `files` tells which rows of files hold, and `refusals` makes one call
+//! that takes memory. For `check_speed`, `speed` measures how fast a text is read.
 //!
 //! Of the rows, `rows` reads them, `kinds` makes the calls of each kind of row and writes what they return, and `tally`
 //! counts which hold.

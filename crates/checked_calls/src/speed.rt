@@ -12,15 +12,15 @@ use std::rt::{Clock, Env};
 use std::time::Instant;
 use std::{env, io};
 
-/// Measures as the arguments from the second on say, on the text of a reader, and reports on standard error.
+/// Measures as the arguments say, on the text of a reader, and reports on standard error.
 pub fn tell<R: Clock + Env + Eprint + AllocGlobal, T: Read + Drop>(
     rt: &R,
     reader: T,
 ) -> io::Result<()> {
     let source = io::read_to_string(rt.alloc(), reader)?;
-    let rounds = number_at(rt, 2)?;
-    let inner = number_at(rt, 3)?;
-    let only = env::args(rt)?.nth(4);
+    let rounds = number_at(rt, 1)?;
+    let inner = number_at(rt, 2)?;
+    let only = env::args(rt)?.nth(3);
     for stage in Stage::ALL {
         let is_wanted = match &only {
             Some(name) => name.as_str() == stage.name(),
