@@ -1,9 +1,7 @@
 -- The view of a selection, by its variant.
-use Rattle.std.proofs.Common.{◌≡◌, ℕ, List, [], ◌∷◌, map, Option, Some, None, Result, Ok, Err, refl, sym, ap, ◌∙◌}
+use Rattle.std.proofs.Common.{◌≡◌, List, [], ◌∷◌, map, Option, Some, None, Result, Ok, Err, refl, sym, ap, ◌∙◌}
 use Rattle.std.specs.Prelude.{option_map}
-use Rattle.std.specs.Borrow.{Bor}
 use Rattle.std.specs.Global.{Vec}
-use Rattle.graphql_lexical.specs.Place.{Span}
 use Rattle.graphql_grammar.specs.Tree as tree
 use Rattle.graphql_grammar.specs.Tree.{selections_of}
 use Rattle.graphql_grammar.specs.device.Productions.{optional_of}
@@ -12,12 +10,10 @@ use Rattle.juniper_tokens.specs.declared.error.ParseFailure.{ParseFailure}
 use Rattle.juniper_tokens.specs.declared.error.ParseFailure.TheVariants as failures
 use Rattle.juniper_tokens.specs.Cursor.{Read, Gives, ◌>>=◌}
 use Rattle.juniper_tokens.specs.Spans.{view_span}
-use Rattle.juniper_tokens.specs.declared.span.Span as code
 use Rattle.juniper_tokens.specs.declared.span.Spanning.{Spanning}
 use Rattle.juniper.specs.declared.tree.ast.Selection.{Selection, Row_of-Selection, end_of-Selection, more_of-Selection, items-the_row-Selection, items_hidden-the_row-Selection-0, back-Field-selection_set}
 use Rattle.juniper.specs.declared.tree.ast.Selection.TheBlock.{hidden-the_row-Selection-0}
 use Rattle.juniper.specs.declared.tree.ast.Selection.TheVariants.{Field, InlineFragment}
-use Rattle.juniper.specs.declared.tree.ast.Directive.{Directive}
 use Rattle.juniper.specs.declared.tree.ast.Field.{Field as FieldOf}
 use Rattle.juniper.specs.declared.tree.ast.InlineFragment.{InlineFragment as InlineOf}
 use Rattle.juniper.specs.View.{view_word, view_arguments, view_directives, view_selection, view_held, view_row, view_selections, view_set, view_field, view_inline}
@@ -78,19 +74,3 @@ module _ {S C : Type 0} (content : S → C) where
   set_gives (Err (failures.Refused e)) left r h =
       ap (λ (z : Read (List (tree.Selection C))). z >>= λ ss. Ok (selections_of ss.0, ss.1)) h
   set_gives (Err failures.Memory) left r h = tt
-
-  -- an inline fragment of these parts
-  pub inline_view : {f : Spanning (InlineOf S)} {condition : Option (Spanning (Bor (List ℕ)))}
-      {directives : Option (Vec (Spanning (Directive S)))} {set : Vec (Selection S)} {span : code.Span} {p : Span}
-      → f ≡ record {
-        item = record { type_condition = condition; directives = directives; selection_set = set };
-        span = span;
-      }
-      → view_span span ≡ p
-      → tree.InlineFragment (option_map view_word condition) (view_directives content directives)
-      (view_whole_set content set) p
-      ≡ view_selection content (InlineFragment f)
-  inline_view {f} {condition} {directives} {set} e q =
-      ap (tree.InlineFragment (option_map view_word condition) (view_directives content directives)
-      (view_whole_set content set)) (sym q)
-      ∙ ap (view_inline content) (sym e) ∙ sym (view_of_inline f)
