@@ -123,6 +123,7 @@ fn parse_field<'a, S: ScalarValue>(
 }
 
 /// `(Name ":")? Name`
+#[inline(always)]
 #[tactic(auto, using(juniper_tokens::proofs::Public::goes_further), unfolding(juniper_tokens::specs::Cursor::expect_name_at))]
 fn parse_names<'a>(
     tokens: &mut Cursor<'_, 'a>,

@@ -57,19 +57,6 @@ parse_selection_set-returns-clause-on g t c =
     on_ok c.parse_selection_list.result (goes_further _ _ _ c.in_ok-expect_kind.ensures.on)
     c.parse_selection_list.ensures.on
 
-pub parse_field-span_from-span-requires : goal.parse_field-span_from-span-requires
-parse_field-span_from-span-requires g t c =
-    some_taken _ _ (goes_further _ _ _ c.in_ok-alias.ensures.on
-    (goes_further _ _ _ c.in_ok-arguments.ensures.on
-    (goes_further _ _ _ c.in_ok-directives.ensures.on c.in_ok-selection_set.ensures.on)))
-    (omega (
-      arith,
-      c.in_ok-alias.ensures.shorter,
-      c.in_ok-arguments.ensures.not_longer,
-      c.in_ok-directives.ensures.not_longer,
-      c.in_ok-selection_set.ensures.not_longer,
-    ))
-
 pub parse_field-returns-clause-appends : goal.parse_field-returns-clause-appends
 unfolding field
 parse_field-returns-clause-appends g t c =
@@ -116,6 +103,19 @@ parse_field-returns-clause-appends g t c =
             span = c.span_from-span.result;
           })))),
     )
+
+pub parse_field-span_from-span-requires : goal.parse_field-span_from-span-requires
+parse_field-span_from-span-requires g t c =
+    some_taken _ _ (goes_further _ _ _ c.in_ok-alias.ensures.on
+    (goes_further _ _ _ c.in_ok-arguments.ensures.on
+    (goes_further _ _ _ c.in_ok-directives.ensures.on c.in_ok-selection_set.ensures.on)))
+    (omega (
+      arith,
+      c.in_ok-alias.ensures.shorter,
+      c.in_ok-arguments.ensures.not_longer,
+      c.in_ok-directives.ensures.not_longer,
+      c.in_ok-selection_set.ensures.not_longer,
+    ))
 
 pub parse_field-returns-clause-on : goal.parse_field-returns-clause-on
 parse_field-returns-clause-on g t c =
