@@ -366,12 +366,12 @@ fn first_lines(lexer: &Lexer<'_>) -> Result<LineStarts, LexFailure>
     }
 }
 
-// A list with capacity for a token every four bytes of a source, if there is as much memory. Few sources have more
-// tokens.
+// A list with capacity for a token every four bytes of a source and some more, if there is as much memory. Few sources
+// have more tokens.
 fn room_for_ranges(alloc: Global, source: &str) -> Vec<TokenRange>
     ensures { result.items ≡ [] }
 {
-    match Vec::with_capacity(alloc, source.len() / 4) {
+    match Vec::with_capacity(alloc, source.len() / 4 + 16) {
         Ok(room) => room,
         Err(_) => Vec::new(alloc),
     }

@@ -136,6 +136,21 @@ impl TokenRange {
         self.last_line(source, starts).position(self.end.characters)
     }
 
+    // `end_in`, where the place `start` of the first character is known: only a block string's line is looked up again.
+    #[inline(always)]
+    fn end_from(&self, source: &str, starts: &[usize], start: SourcePosition) -> SourcePosition
+        requires range { IsRange (chars source.now) self.now }
+        requires lines { starts.now ≡ (lines_of (chars source.now)).starts }
+        requires start { start ≡ place (chars source.now) self.now.start.characters }
+        ensures { result ≡ place (chars source.now) self.now.end.characters }
+    {
+        if self.kind == Kind::BlockString {
+            self.end_in(source, starts)
+        } else {
+            self.end_on_line(start)
+        }
+    }
+
     /// From the first character to the place after the last one. `starts` has the characters at which the source's lines
     /// begin.
     #[inline(always)]
@@ -144,9 +159,10 @@ impl TokenRange {
         requires lines { starts.now ≡ (lines_of (chars source.now)).starts }
         ensures { view_span result ≡ (range_lexeme (chars source.now) self.now).span }
     {
+        let start = self.start_in(source, starts);
         Span {
-            start: self.start_in(source, starts),
-            end: self.end_in(source, starts),
+            start,
+            end: self.end_from(source, starts, start),
         }
     }
 

@@ -1,8 +1,8 @@
 -- A device: the parts of a tree that one parse function passes to another, as the readers give them.
-use Rattle.std.specs.Prelude.{ℕ, List, map, Option, option_map}
+use Rattle.std.specs.Prelude.{ℕ, List, map, Option, Some, None, option_map}
 use Rattle.std.specs.Borrow.{Bor}
 use Rattle.std.specs.Global.{Vec}
-use Rattle.graphql_lexical.specs.Place.{Span}
+use Rattle.graphql_lexical.specs.Place.{Place, Span}
 use Rattle.graphql_grammar.specs.Tokens.{Word}
 use Rattle.graphql_grammar.specs.Tree.{Directives, Selections}
 use Rattle.juniper_tokens.specs.Spans.{view_span}
@@ -25,6 +25,11 @@ view_items view v = map view v.items
 -- an alias, if there is one, and the name
 abbrev pub view_names : Option (Spanning (Bor (List ℕ))) × Spanning (Bor (List ℕ)) → Option Word × Word
 view_names n = (option_map view_word n.0, view_word n.1)
+
+-- where a field of these names begins
+abbrev pub names_start : Option (Spanning (Bor (List ℕ))) × Spanning (Bor (List ℕ)) → Place
+names_start (Some alias, name) = alias.span.start
+names_start (None, name) = name.span.start
 
 module _ {S C : Type 0} (content : S → C) where
   abbrev pub view_whole_set : Vec (Selection S) → Selections C

@@ -1,5 +1,5 @@
 -- A device: what a cursor returns where the steps of a production are read.
-use Rattle.std.specs.Prelude.{◌≡◌, List, [], ◌∷◌, ◌++◌, drop, Bool, Option, Some, None, Result, Ok, Err, if◌then◌else◌}
+use Rattle.std.specs.Prelude.{◌≡◌, List, [], ◌∷◌, ◌++◌, drop, Bool, true, Option, Some, None, Result, Ok, Err, if◌then◌else◌}
 use Rattle.graphql_lexical.specs.Place.{Place, Span}
 use Rattle.graphql_lexical.specs.declared.kind.Kind.{Kind}
 use Rattle.graphql_lexical.specs.Kinds.{same_kind}
@@ -12,12 +12,20 @@ use Rattle.juniper_tokens.specs.Errors.{Error, unexpected}
 use Rattle.juniper_tokens.specs.declared.error.ParseFailure.{ParseFailure}
 use Rattle.juniper_tokens.specs.declared.span.Span as code
 use Rattle.juniper_tokens.specs.Spans.{view_span}
+use Rattle.juniper_tokens.specs.declared.token.ScalarToken.{ScalarToken}
+use Rattle.juniper_tokens.specs.Tokens.{scalar_kind, scalar_text}
 use Rattle.juniper_tokens.specs.Cursor.{Read, Fails, ◌>>=◌, first_of, kind_at, next_at, next_if}
 use Rattle.juniper.specs.device.Seen.{seen}
 
 -- a scalar token by the scalar type's reading; another token is reported as unexpected
 abbrev pub literal_here : {C : Type 0} → (Kind → Text → Result C Error) → Kind → Text → Result C Error
 literal_here read kind text = if scalar_token kind text then read kind text else unexpected kind text
+
+-- The lexeme is this scalar token.
+pub record IsScalarAt (t : Lexeme) (token : ScalarToken) : Type 0 where
+  pub kind : t.kind ≡ scalar_kind token
+  pub text : t.text ≡ scalar_text token
+  pub passes : scalar_token t.kind t.text ≡ true
 
 abbrev pub read_here : {C : Type 0} → Result C Error → Span → List Lexeme → Read (Located (Value C))
 read_here (Ok c) p ts = Ok (record { item = Scalar c; span = p }, ts)

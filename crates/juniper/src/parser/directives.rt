@@ -1,5 +1,6 @@
 //! Arguments and directives (GraphQL specification, October 2021, sections 2.6 and 2.12).
-ghost use Rattle.std.specs.Prelude.{◌≡◌, ◌<◌, ◌≤◌, true, length, map, option_map, OnOk};
+ghost use Rattle.std.specs.Prelude.{◌≡◌, ◌<◌, ◌≤◌, true, length, map, option_map, Some, OnOk};
+ghost use Rattle.graphql_grammar.specs.device.Reading.{part, gives};
 ghost use Rattle.graphql_lexical.specs.Kinds.{same_kind};
 ghost use Rattle.graphql_lexical.specs.declared.kind.Kind.TheVariants.{At};
 ghost use Rattle.graphql_grammar.specs.device.Productions.{argument, arguments_inner, arguments, optional_arguments, directive, directives};
@@ -11,7 +12,7 @@ ghost use Rattle.juniper.specs.device.PartViews.{view_listed};
 ghost use Rattle.juniper.specs.device.Steps.{cursor, Appends};
 
 use crate::parser::lists::push_item;
-use crate::parser::next::{expect_kind, next_is, refusal, take_closing, take_name};
+use crate::parser::next::{expect_kind, next_is, refused, take_closing, take_name};
 use crate::parser::value::parse_value;
 use crate::tree::ast::{Arguments, Directive};
 use juniper_tokens::{
@@ -30,11 +31,11 @@ fn parse_argument<'a, S: ScalarValue>(
     ensures on { OnOk result (GoesOn tokens.old tokens.new) }
 {
     if !next_is(tokens, Kind::Name) {
-        return Err(refusal(tokens));
+        return refused(tokens);
     }
     let name = take_name(tokens);
     if !next_is(tokens, Kind::Colon) {
-        return Err(refusal(tokens));
+        return refused(tokens);
     }
     tokens.advance();
     let value = parse_value(tokens, false)?;
@@ -86,10 +87,22 @@ pub(crate) fn parse_optional_arguments<'a, S: ScalarValue>(
     ensures on { OnOk result (GoesOn tokens.old tokens.new) }
 {
     if next_is(tokens, Kind::ParenOpen) {
-        Ok(Some(parse_arguments(tokens)?))
+        parse_some_arguments(tokens)
     } else {
         Ok(None)
     }
+}
+
+// `Arguments`. The room for the result is made where this is called, and so only where there are arguments.
+#[inline(always)]
+fn parse_some_arguments<'a, S: ScalarValue>(
+    tokens: &mut Cursor<'_, 'a>,
+) -> OptionParseResult<Arguments<'a, S>>
+    ensures gives { Gives (option_map (view_arguments S.content)) result (left tokens.new) (cursor (stated S.reading S.of_bool) (part arguments (λ a. gives (Some a))) (left tokens.old)) }
+    ensures shorter { OnOk result (length (left tokens.new) < length (left tokens.old)) }
+    ensures on { OnOk result (GoesOn tokens.old tokens.new) }
+{
+    Ok(Some(parse_arguments(tokens)?))
 }
 
 /// `Directive = "@" Name Arguments?`, appended.
@@ -106,7 +119,7 @@ fn parse_directive<'a, S: ScalarValue>(
     let start = tokens.mark();
     tokens.advance();
     if !next_is(tokens, Kind::Name) {
-        return Err(refusal(tokens));
+        return refused(tokens);
     }
     let name = take_name(tokens);
     let arguments = parse_optional_arguments(tokens)?;
@@ -126,10 +139,24 @@ pub(crate) fn parse_directives<'a, S: ScalarValue>(
     ensures on { OnOk result (GoesOn tokens.old tokens.new) }
 {
     if next_is(tokens, Kind::At) {
-        parse_directive_list(tokens)
+        parse_some_directives(tokens)
     } else {
         Ok(None)
     }
+}
+
+// `Directive+`. The room for the result is made where this is called, and so only where there are directives.
+#[inline(always)]
+fn parse_some_directives<'a, S: ScalarValue>(
+    tokens: &mut Cursor<'_, 'a>,
+) -> UnlocatedParseResult<Option<Vec<Spanning<Directive<'a, S>>>>>
+    requires at { same_kind (kind_at (left tokens.old)) At ≡ true }
+    requires ended { EndsOnce (left tokens.old) }
+    ensures gives { Gives (view_directives S.content) result (left tokens.new) (cursor (stated S.reading S.of_bool) directives (left tokens.old)) }
+    ensures shorter { OnOk result (length (left tokens.new) < length (left tokens.old)) }
+    ensures on { OnOk result (GoesOn tokens.old tokens.new) }
+{
+    parse_directive_list(tokens)
 }
 
 /// `Directive+`

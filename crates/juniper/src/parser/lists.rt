@@ -16,8 +16,20 @@ pub(crate) fn push_item<T: Drop>(
 ) -> Result<(), AllocError>
     ensures items { OnOk result (items.new.items ≡ items.old.items ++ item ∷ []) }
 {
+    push_expecting(items, item, if is_last { 1 } else { FEW })
+}
+
+/// Appends an item. The first one of a list requests capacity for as many as are expected.
+#[inline(always)]
+pub(crate) fn push_expecting<T: Drop>(
+    items: &mut Vec<T>,
+    item: T,
+    expected: usize,
+) -> Result<(), AllocError>
+    ensures items { OnOk result (items.new.items ≡ items.old.items ++ item ∷ []) }
+{
     if items.is_empty() {
-        items.reserve_exact(if is_last { 1 } else { FEW })?;
+        items.reserve_exact(expected)?;
     }
     items.push(item)?;
     Ok(())

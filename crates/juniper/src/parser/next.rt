@@ -4,7 +4,7 @@ ghost use Rattle.std.specs.Prelude.{◌≡◌, ◌<◌, ◌≤◌, length, drop,
 ghost use Rattle.std.specs.Str.{chars};
 ghost use Rattle.graphql_lexical.specs.Kinds.{same_kind};
 ghost use Rattle.graphql_lexical.specs.declared.kind.Kind.TheVariants.{EndOfFile, Name};
-ghost use Rattle.juniper_tokens.specs.Cursor.{EndsOnce, Fails, first_of, kind_at, next_at, next_if, refused_at};
+ghost use Rattle.juniper_tokens.specs.Cursor.{EndsOnce, Fails, Gives, first_of, kind_at, next_at, next_if, refused_at};
 ghost use Rattle.graphql_lexical.specs.Cutting.{Lexeme};
 ghost use Rattle.graphql_grammar.specs.device.Reading.{passes, word};
 ghost use Rattle.juniper_tokens.specs.Taking.{left, GoesOn};
@@ -58,6 +58,17 @@ pub(crate) fn refusal(tokens: &mut Cursor<'_, '_>) -> ParseFailure
         Err(failure) => failure,
         Ok(()) => unreachable!(),
     }
+}
+
+/// Takes the next token, and returns the error that it is unexpected, as `refusal` does. The room for it is made where this
+/// is called, and not at the beginning of the calling function.
+#[inline(always)]
+pub(crate) fn refused<T: Drop>(tokens: &mut Cursor<'_, '_>) -> Result<T, ParseFailure>
+    ensures gives { Gives (λ x. x) result (left tokens.new) (refused_at (left tokens.old)) }
+    ensures never { OnOk result ⊥ }
+    ensures on { GoesOn tokens.old tokens.new }
+{
+    Err(refusal(tokens))
 }
 
 /// Takes the next token, which must be a Name, and returns its text with its span.
@@ -125,7 +136,7 @@ pub(crate) fn expect_kind(tokens: &mut Cursor<'_, '_>, kind: Kind) -> Result<(),
         tokens.advance();
         Ok(())
     } else {
-        tokens.refuse()
+        refused(tokens)
     }
 }
 
@@ -141,6 +152,6 @@ pub(crate) fn expect_place(tokens: &mut Cursor<'_, '_>, kind: Kind) -> Result<Sp
     if next_is(tokens, kind) {
         Ok(take_next(tokens))
     } else {
-        tokens.refuse()
+        refused(tokens)
     }
 }

@@ -1,21 +1,25 @@
 //! Selection sets, fields and fragments (GraphQL specification, October 2021, sections 2.4, 2.5 and 2.8).
-ghost use Rattle.std.specs.Prelude.{◌≡◌, ◌<◌, ◌≤◌, length, option_map, None, OnOk};
+ghost use Rattle.std.specs.Prelude.{◌≡◌, ◌<◌, ◌≤◌, length, option_map, Some, None, IfOk, OnOk};
+ghost use Rattle.graphql_grammar.specs.device.Reading.{part, gives};
 ghost use Rattle.graphql_grammar.specs.device.Productions.{selections_inner, selection_set, optional_set, names, field, named_spread, inline_parts, inline, typed, spread};
-ghost use Rattle.juniper_tokens.specs.Cursor.{Gives};
+ghost use Rattle.juniper_tokens.specs.Cursor.{Gives, first_of, refused_at};
 ghost use Rattle.juniper_tokens.specs.Taking.{left, last_end, GoesOn};
 ghost use Rattle.juniper.specs.View.{view_word, view_selection};
 ghost use Rattle.juniper.specs.Scalars.{stated};
 ghost use Rattle.juniper.specs.device.Steps.{no_scalars, cursor, at_span, selection_read, Appends};
-ghost use Rattle.juniper.specs.device.PartViews.{view_items, view_names, view_whole_set, view_inline_parts};
+ghost use Rattle.juniper.specs.device.PartViews.{view_items, view_names, names_start, view_whole_set, view_inline_parts};
 
 use crate::parser::directives::{parse_directives, parse_optional_arguments};
-use crate::parser::lists::push_item;
+use crate::parser::lists::push_expecting;
 use crate::parser::next::{
     expect_kind, next_is, next_is_word, refusal, take_if, take_name, take_next,
 };
 use crate::tree::ast::{Directive, Field, FragmentSpread, InlineFragment, Selection};
 use juniper_tokens::{Cursor, Kind, ParseFailure, SourcePosition, Spanning, UnlocatedParseResult};
 use juniper_values::ScalarValue;
+
+// So many tokens are left in a document that is not short.
+const MANY_TOKENS: usize = 128;
 
 /// `SelectionSet = "{" Selection+ "}"`
 #[cycle(selection)]
@@ -63,10 +67,23 @@ fn parse_optional_selection_set<'a, S: ScalarValue>(
     ensures on { OnOk result (GoesOn tokens.old tokens.new) }
 {
     if next_is(tokens, Kind::CurlyOpen) {
-        Ok(Some(parse_selection_set(tokens)?))
+        parse_some_selection_set(tokens)
     } else {
         Ok(None)
     }
+}
+
+// `SelectionSet`. The room for the result is made where this is called, and so only where there is a set.
+#[cycle(selection)]
+#[inline(always)]
+fn parse_some_selection_set<'a, S: ScalarValue>(
+    tokens: &mut Cursor<'_, 'a>,
+) -> UnlocatedParseResult<Option<Vec<Selection<'a, S>>>>
+    ensures gives { Gives (option_map (view_whole_set S.content)) result (left tokens.new) (cursor (stated S.reading S.of_bool) (part selection_set (λ s. gives (Some s))) (left tokens.old)) }
+    ensures shorter { OnOk result (length (left tokens.new) < length (left tokens.old)) }
+    ensures on { OnOk result (GoesOn tokens.old tokens.new) }
+{
+    Ok(Some(parse_selection_set(tokens)?))
 }
 
 /// `Selection = Field | "..." FragmentName Directive* | "..." ("on" Name)? Directive* SelectionSet`, appended.
@@ -81,12 +98,27 @@ fn parse_selection<'a, S: ScalarValue>(
     ensures on { OnOk result (GoesOn tokens.old tokens.new) }
 {
     if next_is(tokens, Kind::Ellipsis) {
-        let spread = parse_spread(tokens)?;
-        push_item(selections, spread, next_is(tokens, Kind::CurlyClose))?;
-        Ok(())
+        push_spread(tokens, selections)
     } else {
         parse_field(tokens, selections)
     }
+}
+
+/// `"..." FragmentName Directive* | "..." ("on" Name)? Directive* SelectionSet`, appended. The room for it is made where
+/// this is called, and so not for a field.
+#[cycle(selection)]
+#[inline(always)]
+fn push_spread<'a, S: ScalarValue>(
+    tokens: &mut Cursor<'_, 'a>,
+    selections: &mut Vec<Selection<'a, S>>,
+) -> UnlocatedParseResult<()>
+    ensures appends { Appends (view_selection S.content) result selections.old.items selections.new.items (left tokens.new) (cursor (stated S.reading S.of_bool) spread (left tokens.old)) }
+    ensures shorter { OnOk result (length (left tokens.new) < length (left tokens.old)) }
+    ensures on { OnOk result (GoesOn tokens.old tokens.new) }
+{
+    let spread = parse_spread(tokens)?;
+    push_expecting(selections, spread, expected_here(tokens))?;
+    Ok(())
 }
 
 /// `Field = (Name ":")? Name Arguments? Directive* SelectionSet?`, appended.
@@ -100,11 +132,12 @@ fn parse_field<'a, S: ScalarValue>(
     ensures shorter { OnOk result (length (left tokens.new) < length (left tokens.old)) }
     ensures on { OnOk result (GoesOn tokens.old tokens.new) }
 {
-    let start = tokens.mark();
     let (alias, name) = parse_names(tokens)?;
     let arguments = parse_optional_arguments(tokens)?;
     let directives = parse_directives(tokens)?;
     let selection_set = parse_optional_selection_set(tokens)?;
+    let start = start_of(&alias, &name);
+    let span = tokens.span_from(start);
     let field = Field {
         alias,
         name,
@@ -112,14 +145,22 @@ fn parse_field<'a, S: ScalarValue>(
         directives,
         selection_set,
     };
-    let span = tokens.span_from(start);
     let spanned = Spanning::new(span, field);
-    push_item(
-        selections,
-        Selection::Field(spanned),
-        next_is(tokens, Kind::CurlyClose),
-    )?;
+    push_expecting(selections, Selection::Field(spanned), expected_here(tokens))?;
     Ok(())
+}
+
+/// How many selections are expected in a set, behind whose first one the tokens stand. In a short document each request
+/// for less memory is quicker.
+#[inline(always)]
+fn expected_here(tokens: &Cursor<'_, '_>) -> usize {
+    if next_is(tokens, Kind::CurlyClose) {
+        1
+    } else if tokens.count() < MANY_TOKENS {
+        3
+    } else {
+        6
+    }
 }
 
 /// `(Name ":")? Name`
@@ -129,22 +170,46 @@ fn parse_names<'a>(
     tokens: &mut Cursor<'_, 'a>,
 ) -> Result<(Option<Spanning<&'a str>>, Spanning<&'a str>), ParseFailure>
     ensures gives { Gives view_names result (left tokens.new) (cursor no_scalars names (left tokens.old)) }
+    ensures start { IfOk result (λ found. names_start found ≡ (first_of (left tokens.old)).span.start) }
     ensures shorter { OnOk result (length (left tokens.new) < length (left tokens.old)) }
     ensures on { OnOk result (GoesOn tokens.old tokens.new) }
 {
     if !next_is(tokens, Kind::Name) {
-        return Err(refusal(tokens));
+        return refused_names(tokens);
     }
     let first = take_name(tokens);
     if next_is(tokens, Kind::Colon) {
         take_next(tokens);
         if !next_is(tokens, Kind::Name) {
-            return Err(refusal(tokens));
+            return refused_names(tokens);
         }
         let name = take_name(tokens);
         Ok((Some(first), name))
     } else {
         Ok((None, first))
+    }
+}
+
+/// `refused`, in place of names.
+#[inline(always)]
+fn refused_names<'a>(
+    tokens: &mut Cursor<'_, 'a>,
+) -> Result<(Option<Spanning<&'a str>>, Spanning<&'a str>), ParseFailure>
+    ensures gives { Gives view_names result (left tokens.new) (refused_at (left tokens.old)) }
+    ensures never { OnOk result ⊥ }
+    ensures on { GoesOn tokens.old tokens.new }
+{
+    Err(refusal(tokens))
+}
+
+/// Where a field of these names begins.
+#[inline(always)]
+fn start_of(alias: &Option<Spanning<&str>>, name: &Spanning<&str>) -> SourcePosition
+    ensures { result ≡ names_start (alias.now, name.now) }
+{
+    match alias {
+        Some(alias) => alias.span.start,
+        None => name.span.start,
     }
 }
 

@@ -1,27 +1,25 @@
 //! Value literals (GraphQL specification, October 2021, section 2.9).
-ghost use Rattle.std.specs.Prelude.{◌≡◌, ◌<◌, length, OnOk, IfOk, not};
+ghost use Rattle.std.specs.Prelude.{◌≡◌, ◌<◌, length, false, MatchOption, OnOk, IfOk, not};
 ghost use Rattle.std.specs.Str.{chars};
 ghost use Rattle.graphql_lexical.specs.Kinds.{same_kind};
 ghost use Rattle.graphql_lexical.specs.declared.kind.Kind.TheVariants.{BracketClose, CurlyClose};
-ghost use Rattle.graphql_grammar.specs.device.Reading.{of, symbol, a_value};
+ghost use Rattle.graphql_grammar.specs.device.Reading.{of, symbol, a_value, passes, scalar_token};
 ghost use Rattle.graphql_grammar.specs.device.Productions.{by_name, list, key_and_value, object, variable};
-ghost use Rattle.juniper_tokens.specs.Tokens.{token_kind, token_text};
 ghost use Rattle.juniper_tokens.specs.Spans.{view_span};
-ghost use Rattle.juniper_tokens.specs.Cursor.{EndsOnce, Gives, OnMemory};
+ghost use Rattle.juniper_tokens.specs.Cursor.{EndsOnce, Gives, OnMemory, first_of};
 ghost use Rattle.juniper_tokens.specs.Delimited.{IsRest};
 ghost use Rattle.juniper_tokens.specs.Taking.{left, GoesOn};
 ghost use Rattle.juniper.specs.Promise.{ReturnsValue};
 ghost use Rattle.juniper.specs.View.{view_value, view_object_field};
 ghost use Rattle.juniper.specs.device.PartViews.{view_list};
-ghost use Rattle.juniper.specs.device.Steps.{cursor, value_read, scalar_read, closed_read, literal_here};
+ghost use Rattle.juniper.specs.device.Steps.{cursor, value_read, scalar_read, closed_read, IsScalarAt};
 ghost use Rattle.juniper.specs.Scalars.{stated};
-ghost use Rattle.juniper_values.specs.Scalar.{MeetsReading};
 
 use crate::parser::lists::push_item;
-use crate::parser::next::{next_is, refusal, take_closing, take_name, take_next};
+use crate::parser::next::{next_is, refused, take_closing, take_name, take_next};
 use juniper_tokens::text::same_text;
 use juniper_tokens::{
-    Cursor, Kind, ParseError, ParseFailure, ParseResult, Parser, Span, Spanning, Token,
+    Cursor, Kind, ParseFailure, ParseResult, Parser, ScalarToken, Span, Spanning,
 };
 use juniper_values::{InputValue, ReadFailure, ScalarValue};
 use std::alloc::{AllocError, Global};
@@ -177,11 +175,11 @@ fn parse_object_field<'a, S: ScalarValue>(
     ensures on { GoesOn tokens.old tokens.new }
 {
     if !next_is(tokens, Kind::Name) {
-        return Err(refusal(tokens));
+        return refused(tokens);
     }
     let key = take_name(tokens);
     if !next_is(tokens, Kind::Colon) {
-        return Err(refusal(tokens));
+        return refused(tokens);
     }
     tokens.advance();
     let value = parse_value(tokens, is_const)?;
@@ -200,7 +198,7 @@ fn parse_variable<'a, S: ScalarValue>(
     ensures on { GoesOn tokens.old tokens.new }
 {
     if !next_is(tokens, Kind::Name) {
-        return Err(refusal(tokens));
+        return refused(tokens);
     }
     let name = take_name(tokens);
     let text = String::from_str(tokens.allocator(), name.item)?;
@@ -214,23 +212,31 @@ fn parse_scalar<'a, S: ScalarValue>(tokens: &mut Cursor<'_, 'a>) -> ParseResult<
     ensures shorter { OnOk result (length (left tokens.new) < length (left tokens.old)) }
     ensures on { GoesOn tokens.old tokens.new }
 {
-    let token = tokens.next_token()?;
-    match scalar_of(tokens.allocator(), token.item) {
-        Ok(scalar) => Ok(Spanning::new(token.span, InputValue::Scalar(scalar))),
+    let Some(token) = next_scalar(tokens) else {
+        return refused(tokens);
+    };
+    let span = take_next(tokens);
+    match S::from_str(tokens.allocator(), token) {
+        Ok(scalar) => Ok(Spanning::new(span, InputValue::Scalar(scalar))),
         Err(ReadFailure::Refused(error)) => {
-            Err(ParseFailure::Refused(Spanning::new(token.span, error)))
+            Err(ParseFailure::Refused(Spanning::new(span, error)))
         }
         Err(ReadFailure::Memory) => Err(ParseFailure::Memory),
     }
 }
 
-/// The scalar of a scalar token. Another token is refused as unexpected.
-fn scalar_of<S: ScalarValue>(alloc: Global, token: Token<'_>) -> Result<S, ReadFailure>
-    ensures { MeetsReading S.content (literal_here S.reading (token_kind token.entry) (token_text token.entry)) result }
+/// The next token, if it is a scalar one. It is not taken.
+#[inline(always)]
+fn next_scalar<'a>(tokens: &Cursor<'_, 'a>) -> Option<ScalarToken<'a>>
+    ensures is { MatchOption result (passes scalar_token (first_of (left tokens.now)) ≡ false) (IsScalarAt (first_of (left tokens.now))) }
+    ensures ended { EndsOnce (left tokens.now) }
 {
-    match token {
-        Token::Scalar(scalar) => S::from_str(alloc, scalar),
-        other => Err(ReadFailure::Refused(ParseError::unexpected_token(alloc, other)?)),
+    match tokens.kind() {
+        Kind::String => Some(ScalarToken::String(tokens.text())),
+        Kind::BlockString => Some(ScalarToken::BlockString(tokens.text())),
+        Kind::Float => Some(ScalarToken::Float(tokens.text())),
+        Kind::Int => Some(ScalarToken::Int(tokens.text())),
+        _ => None,
     }
 }
 

@@ -65,7 +65,7 @@ parse_field-returns-clause-appends g t c =
     (goes_further _ _ _ c.in_ok-arguments.ensures.on
     (goes_further _ _ _ c.in_ok-directives.ensures.on c.in_ok-selection_set.ensures.on)) in (
       _,
-      c.in_ok-push_item.ensures.items,
+      c.in_ok-push_expecting.ensures.items,
       marked _ _ on
           (omega (
             arith,
@@ -76,7 +76,7 @@ parse_field-returns-clause-appends g t c =
           ))
           c.span_from-span.ensures.within
           (cursor (stated g.S.ParseScalarValue.reading g.S.ScalarValue.of_bool) field_parts (left c.args.tokens.now))
-          _ _ c.mark-start.ensures
+          _ _ (c.start_of-start.ensures ∙ c.in_ok-alias.ensures.start)
           (rw (
             c.in_ok-alias.ensures.gives,
             c.in_ok-arguments.ensures.gives,

@@ -8,28 +8,34 @@ use Rattle.juniper.proofs.Loops.{before_others}
 use Rattle.juniper.proofs.parser.selection.+selection.Given as goal
 
 abbrev pub decreases-parse_selection_set : goal.decreases-parse_selection_set
-decreases-parse_selection_set g l = 5 * length (left l.tokens.now) + 0
+decreases-parse_selection_set g l = 6 * length (left l.tokens.now) + 0
 
 abbrev pub decreases-parse_field : goal.decreases-parse_field
-decreases-parse_field g l = 5 * length (left l.tokens.now) + 1
+decreases-parse_field g l = 6 * length (left l.tokens.now) + 1
 
 abbrev pub decreases-parse_optional_selection_set : goal.decreases-parse_optional_selection_set
-decreases-parse_optional_selection_set g l = 5 * length (left l.tokens.now) + 1
+decreases-parse_optional_selection_set g l = 6 * length (left l.tokens.now) + 2
+
+abbrev pub decreases-parse_some_selection_set : goal.decreases-parse_some_selection_set
+decreases-parse_some_selection_set g l = 6 * length (left l.tokens.now) + 1
+
+abbrev pub decreases-push_spread : goal.decreases-push_spread
+decreases-push_spread g l = 6 * length (left l.tokens.now) + 3
 
 abbrev pub decreases-parse_spread : goal.decreases-parse_spread
-decreases-parse_spread g l = 5 * length (left l.tokens.now) + 2
+decreases-parse_spread g l = 6 * length (left l.tokens.now) + 2
 
 abbrev pub decreases-parse_typed_fragment : goal.decreases-parse_typed_fragment
-decreases-parse_typed_fragment g l = 5 * length (left l.tokens.now) + 2
+decreases-parse_typed_fragment g l = 6 * length (left l.tokens.now) + 2
 
 abbrev pub decreases-parse_untyped_fragment : goal.decreases-parse_untyped_fragment
-decreases-parse_untyped_fragment g l = 5 * length (left l.tokens.now) + 2
+decreases-parse_untyped_fragment g l = 6 * length (left l.tokens.now) + 2
 
 abbrev pub decreases-parse_selection : goal.decreases-parse_selection
-decreases-parse_selection g l = 5 * length (left l.tokens.now) + 3
+decreases-parse_selection g l = 6 * length (left l.tokens.now) + 4
 
 abbrev pub decreases-parse_selection_list : goal.decreases-parse_selection_list
-decreases-parse_selection_list g l = 5 * length (left l.tokens.now) + 4
+decreases-parse_selection_list g l = 6 * length (left l.tokens.now) + 5
 
 abbrev pub invariant-parse_selection_list-loop-items : goal.invariant-parse_selection_list-loop-items
 invariant-parse_selection_list-loop-items g l =
@@ -44,4 +50,4 @@ abbrev pub decreases-parse_selection_list-loop-items : goal.decreases-parse_sele
 decreases-parse_selection_list-loop-items g l = length (left l.tokens)
 
 abbrev pub decreases-parse_inline_parts : goal.decreases-parse_inline_parts
-decreases-parse_inline_parts g l = 5 * length (left l.tokens.now) + 1
+decreases-parse_inline_parts g l = 6 * length (left l.tokens.now) + 1
