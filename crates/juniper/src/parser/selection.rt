@@ -18,7 +18,7 @@ use crate::tree::ast::{Directive, Field, FragmentSpread, InlineFragment, Selecti
 use juniper_tokens::{Cursor, Kind, ParseFailure, SourcePosition, Spanning, UnlocatedParseResult};
 use juniper_values::ScalarValue;
 
-// So many tokens are left in a document that is not short.
+// What is left of a document is short where it has fewer tokens.
 const MANY_TOKENS: usize = 128;
 
 /// `SelectionSet = "{" Selection+ "}"`
@@ -150,7 +150,7 @@ fn parse_field<'a, S: ScalarValue>(
     Ok(())
 }
 
-/// How many selections are expected in a set, behind whose first one the tokens stand. In a short document each request
+/// How many selections a set is expected to have, of which the first has just been taken. In a short document a request
 /// for less memory is quicker.
 #[inline(always)]
 fn expected_here(tokens: &Cursor<'_, '_>) -> usize {
