@@ -1,25 +1,20 @@
 //! A source's canonical text, in the caller's memory.
-ghost use Rattle.std.specs.Prelude.{◌≡◌, ◌≢◌, ◌<◌, ◌≤◌, ◌*◌, ◌^◌, ◌⊎◌, ◌↔◌, ℕ, List, length, IsUtf8, encode_utf8_all};
+ghost use Rattle.std.specs.Prelude.{◌≡◌, ◌≢◌, ◌<◌, ◌≤◌, ◌*◌, ◌^◌, ◌↔◌, List, length, IsUtf8, encode_utf8_all};
 ghost use Rattle.std.specs.Str.{chars};
 ghost use Rattle.graphql_lexical.specs.Place as places;
 ghost use Rattle.graphql_lexical.specs.Kinds.{LexicalError};
 ghost use Rattle.graphql_lexical.specs.Canonical.{canonical};
 ghost use Rattle.graphql_lexical.specs.Cutting.{Lexeme, Breaks};
 ghost use Rattle.juniper.specs.Promise.{lexical_fault};
-ghost use Rattle.juniper_tokens.specs.Errors.{view_lexer_error};
-ghost use Rattle.juniper_c.specs.Faults.{written_fault};
-ghost use Rattle.juniper_c.specs.Answers.{Begins};
-ghost use Rattle.juniper_c.specs.Tokens.{HasTokens};
-ghost use Rattle.juniper_c.specs.CanonicalTexts.{IsCanonicalStatus, ReturnsCanonical, IsReportedRefusal};
+ghost use Rattle.juniper_flat.specs.Faults.{written_fault};
+ghost use Rattle.juniper_flat.specs.Answers.{Begins};
+ghost use Rattle.juniper_flat.specs.Tokens.{HasTokens};
+ghost use Rattle.juniper_flat.specs.CanonicalTexts.{IsCanonicalStatus};
 
-use crate::byte_table::ByteTable;
-use crate::fault::{Fault, lexical_fault};
-use crate::room::fill;
-use crate::source::{Unread, text_of};
-use crate::status::{CANONICAL, MEMORY, NOT_UTF8, REFUSED, ROOM, TOO_LONG};
-use juniper::{LexerError, SourcePosition};
-use juniper_canonical::canonical_text;
-use juniper_tokens::LexFailure;
+use juniper_flat::canonical::{Canonical, canonical_of};
+use juniper_flat::fault::Fault;
+use juniper_flat::room::fill;
+use juniper_flat::status::{CANONICAL, MEMORY, NOT_UTF8, REFUSED, ROOM, TOO_LONG};
 use std::alloc::Global;
 
 /// Writes the canonical text of a source into the caller's buffer, or its first lexical error.
@@ -65,46 +60,5 @@ pub extern "C" fn firthnapkin_canonical(
         Canonical::NotUtf8 => NOT_UTF8,
         Canonical::Memory => MEMORY,
         Canonical::TooLong => TOO_LONG,
-    }
-}
-
-#[derive(Drop)]
-enum Canonical {
-    Text(String),
-    Refused(Fault),
-    NotUtf8,
-    Memory,
-    TooLong,
-}
-
-fn canonical_of(alloc: Global, source: &[u8]) -> Canonical
-    ensures { ReturnsCanonical source.now result }
-{
-    match text_of(source) {
-        Ok(text) => canonical_of_text(alloc, text),
-        Err(Unread::NotUtf8) => Canonical::NotUtf8,
-        Err(Unread::TooLong) => Canonical::TooLong,
-    }
-}
-
-fn canonical_of_text(alloc: Global, text: &str) -> Canonical
-    requires { length text.now < 2 ^ 32 }
-    ensures { ReturnsCanonical text.now result }
-{
-    match canonical_text(alloc, text) {
-        Ok(written) => Canonical::Text(written),
-        Err(LexFailure::Fault(fault)) => refused(alloc, text, &fault.item, fault.span.start),
-        Err(LexFailure::Memory) => Canonical::Memory,
-    }
-}
-
-// A source that is refused for this error at this place.
-fn refused(alloc: Global, text: &str, error: &LexerError, at: SourcePosition) -> Canonical
-    requires { length text.now < 2 ^ 32 }
-    ensures { IsReportedRefusal (chars text.now) (view_lexer_error error.now) at result }
-{
-    match ByteTable::new(alloc, text) {
-        Ok(table) => Canonical::Refused(lexical_fault(&table, error, at)),
-        Err(_) => Canonical::Memory,
     }
 }

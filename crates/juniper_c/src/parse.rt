@@ -1,18 +1,19 @@
 //! A source's nodes, in the caller's memory.
-ghost use Rattle.std.specs.Prelude.{◌≡◌, ◌≢◌, ◌<◌, ◌≤◌, ◌^◌, ◌⊎◌, ◌↔◌, ◌++◌, ℕ, List, length, drop, true, false, IsUtf8};
+ghost use Rattle.std.specs.Prelude.{◌≡◌, ◌≢◌, ◌<◌, ◌≤◌, ◌^◌, ◌⊎◌, ◌↔◌, List, length, IsUtf8};
 ghost use Rattle.std.specs.Str.{chars};
 ghost use Rattle.graphql_lexical.specs.Place as places;
 ghost use Rattle.graphql_grammar.specs.Tree.{Definition};
 ghost use Rattle.juniper_tokens.specs.Errors as errors;
 ghost use Rattle.juniper_values.specs.Scalar.{Content};
-ghost use Rattle.juniper_c.specs.Faults.{written_fault, deep_fault};
-ghost use Rattle.juniper_c.specs.Answers.{HasDocument, HasRefusal, HasDeepToken, nodes_of, texts_of, Begins, IsStatus};
+ghost use Rattle.juniper_flat.specs.Faults.{written_fault, deep_fault};
+ghost use Rattle.juniper_flat.specs.Answers.{HasDocument, HasRefusal, HasDeepToken, nodes_of, texts_of, Begins, IsStatus};
 
-use crate::depth::{MOST_DEPTH, is_refused};
-use crate::fault::Fault;
-use crate::flat::{Stop, flat_of};
-use crate::node::Node;
-use crate::status::{DEPTH, MEMORY, NOT_UTF8, REFUSED, ROOM, TOO_DEEP, TOO_LONG, TREE};
+use juniper_flat::depth::{MOST_DEPTH, is_refused};
+use juniper_flat::fault::Fault;
+use juniper_flat::flat::{Stop, flat_of};
+use juniper_flat::node::Node;
+use juniper_flat::room::fill_both;
+use juniper_flat::status::{DEPTH, MEMORY, NOT_UTF8, REFUSED, ROOM, TOO_DEEP, TOO_LONG, TREE};
 use std::alloc::Global;
 
 /// Writes the nodes of a source's tree and their texts into the caller's buffers, or its fault.
@@ -61,7 +62,7 @@ pub extern "C" fn firthnapkin_parse(
         Ok(flat) => {
             *nodes_needed = flat.nodes.len();
             *texts_needed = flat.texts.len();
-            if fill(nodes, texts, &flat.nodes, flat.texts.as_bytes()) {
+            if fill_both(nodes, texts, &flat.nodes, flat.texts.as_bytes()) {
                 TREE
             } else {
                 ROOM
@@ -79,17 +80,4 @@ pub extern "C" fn firthnapkin_parse(
         Err(Stop::Memory) => MEMORY,
         Err(Stop::TooLong) => TOO_LONG,
     }
-}
-
-// Copies both to the beginnings of their buffers, if both are long enough, and returns whether they are.
-fn fill(nodes: &mut [Node], texts: &mut [u8], told: &[Node], bytes: &[u8]) -> bool
-    ensures filled { result ≡ true → Begins told.now nodes.old nodes.new × Begins bytes.now texts.old texts.new }
-    ensures short { result ≡ false → ((length nodes.old < length told.now) ⊎ (length texts.old < length bytes.now)) × (nodes.new ≡ nodes.old) × (texts.new ≡ texts.old) }
-{
-    if nodes.len() < told.len() || texts.len() < bytes.len() {
-        return false;
-    }
-    nodes[..told.len()].copy_from_slice(told);
-    texts[..bytes.len()].copy_from_slice(bytes);
-    true
 }

@@ -5,20 +5,15 @@ ghost use Rattle.graphql_lexical.specs.Place as places;
 ghost use Rattle.graphql_lexical.specs.Kinds.{LexicalError};
 ghost use Rattle.graphql_lexical.specs.Cutting.{Lexeme, Leads, Stands, Breaks};
 ghost use Rattle.juniper.specs.Promise.{lexical_fault};
-ghost use Rattle.juniper_c.specs.Faults.{written_fault, many_fault};
-ghost use Rattle.juniper_c.specs.Answers.{Begins, Fills};
-ghost use Rattle.juniper_c.specs.TokenCounts.{HasMore};
-ghost use Rattle.juniper_c.specs.Tokens.{written_tokens, TellsText, HasTokens, HasFaultBehind, IsTokensStatus};
-ghost use Rattle.juniper_c.specs.CutTokens.{ReturnsTokens};
+ghost use Rattle.juniper_flat.specs.Faults.{written_fault, many_fault};
+ghost use Rattle.juniper_flat.specs.Answers.{Begins, Fills};
+ghost use Rattle.juniper_flat.specs.TokenCounts.{HasMore};
+ghost use Rattle.juniper_flat.specs.Tokens.{written_tokens, TellsText, HasTokens, HasFaultBehind, IsTokensStatus};
 
-use crate::byte_table::ByteTable;
-use crate::fault::{Fault, lexical_fault, many_fault};
-use crate::room::put;
-use crate::source::{Unread, text_of};
-use crate::status::{MANY, MEMORY, NOT_UTF8, REFUSED, ROOM, TOKENS, TOO_LONG};
-use crate::step::{Step, next_step};
-use crate::token::{Token, token_at};
-use juniper_tokens::{Kind, Lexer};
+use juniper_flat::fault::Fault;
+use juniper_flat::status::{MANY, MEMORY, NOT_UTF8, REFUSED, ROOM, TOKENS, TOO_LONG};
+use juniper_flat::token::Token;
+use juniper_flat::tokens::{Written, tokens_of};
 use std::alloc::Global;
 
 /// Writes the tokens of a source into the caller's buffer, its end among them, or where it has a lexical error or more
@@ -91,57 +86,5 @@ pub extern "C" fn firthnapkin_tokens(
         Written::NotUtf8 => NOT_UTF8,
         Written::Memory => MEMORY,
         Written::TooLong => TOO_LONG,
-    }
-}
-
-// What has been put into the buffer: a number of tokens, the end among them, or those before an error.
-#[derive(Clone, Copy)]
-enum Written {
-    Tokens(usize),
-    Refused(usize, Fault),
-    Many(Fault),
-    NotUtf8,
-    Memory,
-    TooLong,
-}
-
-fn tokens_of(alloc: Global, source: &[u8], most: u32, room: &mut [Token]) -> Written
-    ensures { ReturnsTokens source.now most room.old room.new result }
-{
-    match text_of(source) {
-        Ok(text) => tokens_of_text(alloc, text, most, room),
-        Err(Unread::NotUtf8) => Written::NotUtf8,
-        Err(Unread::TooLong) => Written::TooLong,
-    }
-}
-
-fn tokens_of_text(alloc: Global, text: &str, most: u32, room: &mut [Token]) -> Written
-    requires { length text.now < 2 ^ 32 }
-    ensures { ReturnsTokens text.now most room.old room.new result }
-{
-    let Ok(table) = ByteTable::new(alloc, text) else {
-        return Written::Memory;
-    };
-    let mut lexer = Lexer::new(alloc, text);
-    let mut count = 0;
-    loop {
-        match next_step(&mut lexer) {
-            Step::Token(kind, span) => {
-                if count == most as usize {
-                    return Written::Many(many_fault(&table, span));
-                }
-                put(room, count, token_at(&table, kind, &span));
-                count += 1;
-            }
-            Step::End(span) => {
-                put(room, count, token_at(&table, Kind::EndOfFile, &span));
-                return Written::Tokens(count + 1);
-            }
-            Step::Fault(fault) => {
-                let found = lexical_fault(&table, &fault.item, fault.span.start);
-                return Written::Refused(count, found);
-            }
-            Step::Memory => return Written::Memory,
-        }
     }
 }

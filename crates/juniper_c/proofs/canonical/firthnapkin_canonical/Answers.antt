@@ -1,5 +1,5 @@
 use Rattle.std.proofs.Common.{ap, arith, length}
-use Rattle.juniper_c.proofs.CanonicalTexts.{canonical_within}
+use Rattle.juniper_flat.proofs.Public.{canonical_within}
 use Rattle.juniper_c.proofs.canonical.firthnapkin_canonical.Goals as goal
 
 pub returns-in-Text-clause-bounds : goal.returns-in-Text-clause-bounds

@@ -1,6 +1,5 @@
 use Rattle.std.proofs.Common.{arith}
-use Rattle.juniper_c.proofs.HeldTokens.{few_tokens, few_before, few_in_limit, fault_behind}
-use Rattle.juniper_c.proofs.TokenTexts.{tells_text}
+use Rattle.juniper_flat.proofs.Public.{few_tokens, few_before, few_in_limit, fault_behind, tells_text}
 use Rattle.juniper_c.proofs.tokens.firthnapkin_tokens.Goals as goal
 
 pub returns-then-count-tokens-clause-bounds : goal.returns-then-count-tokens-clause-bounds

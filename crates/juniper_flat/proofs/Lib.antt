@@ -1,0 +1,13 @@
+pub mod Bytes
+pub mod Written
+pub mod Scalars
+pub mod ShortScalars
+pub mod Bounds
+pub mod FlatWriters
+pub mod Fitting
+pub mod TokenCounts
+pub mod Rooms
+pub mod TokenTexts
+pub mod HeldTokens
+pub mod CanonicalTexts
+pub mod Public

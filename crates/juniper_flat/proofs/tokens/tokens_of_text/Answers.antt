@@ -1,0 +1,95 @@
+use Rattle.std.proofs.Common.{◌≡◌, ◌∙◌, ◌++◌, ◌∷◌, [], sym, ap₂, arith, length-append}
+use Rattle.std.specs.Str.{chars}
+use Rattle.juniper_tokens.specs.Errors.{view_lexer_error}
+use Rattle.juniper_tokens.specs.Spans.{view_span}
+use Rattle.juniper_flat.specs.Tokens.{token_at, written_token, HasFaultBehind}
+use Rattle.juniper_flat.proofs.Fitting.{few_characters, broken_fits}
+use Rattle.juniper_flat.proofs.TokenCounts.{token_fits}
+use Rattle.juniper_flat.proofs.HeldTokens.{stands_here, breaks_here, held_more, held_many, held_all, held_told, fault_behind}
+use Rattle.juniper_flat.proofs.tokens.tokens_of_text.Goals as goal
+
+pub returns-then-count-most : goal.returns-then-count-most
+returns-then-count-most c =
+    let l = c.loop-kind in
+    let text = chars c.args.text.now in
+    let held = l.invariant.held in
+    let step = c.in-Token.ensures in
+    let next = c.next_step.new.lexer.index in
+    let stands = stands_here text _ _ l.lexer l.count held step.0 next step.1 in
+    let span = view_span c.in-Token.span in
+    let few = few_characters c.args.text.now c.utf8.text c.requires in
+    let fits = token_fits text l.lexer.index next step.0 stands span step.4 few in
+    let more = held_many text _ _ l.lexer l.count held c.args.most step.0 next span (omega (arith, c.if-count-most.true)) stands
+    step.2 step.4 in
+    (c.requires, c.utf8.text, (span, more.0, more.1, c.many_fault.ensures text c.in-Ok.ensures fits))
+
+pub loop-kind-preserved : goal.loop-kind-preserved
+loop-kind-preserved c =
+    let l = c.loop-kind in
+    let text = chars c.args.text.now in
+    let held = l.invariant.held in
+    let step = c.in-Token.ensures in
+    let next = c.next_step.new.lexer.index in
+    let stands = stands_here text _ _ l.lexer l.count held step.0 next step.1 in
+    let span = view_span c.in-Token.span in
+    let few = few_characters c.args.text.now c.utf8.text c.requires in
+    let fits = token_fits text l.lexer.index next step.0 stands span step.4 few in
+    let told : c.token_at.result ≡ written_token text step.0 =
+    c.token_at.ensures text c.in-Ok.ensures fits ∙ ap₂ (token_at text) step.3 step.4 in record {
+      held = held_more text _ _ l.lexer l.count held c.next_step.new.lexer c.put.new.room c.token_at.result step.0 stands
+          step.2 step.5 step.6 told c.put.ensures;
+      few = omega (arith, l.invariant.few, c.if-count-most.false);
+    }
+
+pub returns-in-End : goal.returns-in-End
+returns-in-End c =
+    let l = c.loop-kind in
+    let text = chars c.args.text.now in
+    let held = l.invariant.held in
+    let step = c.in-End.ensures in
+    let next = c.next_step.new.lexer.index in
+    let stands = stands_here text _ _ l.lexer l.count held step.0 next step.1 in
+    let span = view_span c.in-End.span in
+    let few = few_characters c.args.text.now c.utf8.text c.requires in
+    let fits = token_fits text l.lexer.index next step.0 stands span step.3 few in
+    let told : c.token_at-in-End.result ≡ written_token text step.0 =
+    c.token_at-in-End.ensures text c.in-Ok.ensures fits ∙ ap₂ (token_at text) (sym step.2) step.3 in
+    let more = length-append held.tokens (step.0 ∷ []) in (
+      c.requires,
+      (
+        held.tokens ++ step.0 ∷ [],
+        record { utf8 = c.utf8.text; cut = held_all text _ _ l.lexer l.count held step.0 next stands step.2 },
+        omega (arith, more, held.count_is, l.invariant.few),
+        held_told text _ _ l.lexer l.count held c.put-in-End.new.room c.token_at-in-End.result step.0 told
+            c.put-in-End.ensures,
+        omega (arith, more, held.count_is),
+      ),
+    )
+
+pub returns-in-Fault : goal.returns-in-Fault
+returns-in-Fault c =
+    let l = c.loop-kind in
+    let text = chars c.args.text.now in
+    let held = l.invariant.held in
+    let error = view_lexer_error c.in-Fault.fault.item in
+    let at = c.in-Fault.fault.span.start in
+    let behind : HasFaultBehind c.args.text.now held.tokens error at = record {
+      utf8 = c.utf8.text;
+      next = l.lexer.index;
+      leads = held.leads;
+      breaks = breaks_here text _ _ l.lexer l.count held error at c.in-Fault.ensures;
+    } in
+    let few = few_characters c.args.text.now c.utf8.text c.requires in
+    let fits = broken_fits text error at few (fault_behind c.args.text.now held.tokens error at behind) in (
+      c.requires,
+      (
+        held.tokens,
+        error,
+        at,
+        behind,
+        omega (arith, held.count_is, l.invariant.few),
+        held.fills,
+        held.count_is,
+        c.lexical_fault-found.ensures text c.in-Ok.ensures fits,
+      ),
+    )

@@ -1,0 +1,55 @@
+-- Why a source has no tree, as C gets it.
+use Rattle.std.specs.Prelude.{ℕ, List}
+use Rattle.graphql_lexical.specs.Place.{Span}
+use Rattle.graphql_lexical.specs.Kinds.{LexicalError, UnknownCharacter, UnexpectedCharacter, UnterminatedString, UnknownCharacterInString, UnknownEscapeSequence, UnexpectedEndOfFile, InvalidNumber}
+use Rattle.juniper_tokens.specs.Errors as errors
+use Rattle.juniper_tokens.specs.Errors.{Error}
+use Rattle.juniper_flat.specs.Places.{written_place}
+use Rattle.juniper_flat.specs.declared.fault.Fault.{Fault}
+use Rattle.juniper_flat.specs.declared.fault.Reason.{Reason}
+
+abbrev pub because : ℕ → ℕ → ℕ → Reason
+because kind detail character = record { kind = kind; detail = detail; character = character }
+
+-- why there is no token, and the character that the error names
+abbrev pub lexical_reason : LexicalError → Reason
+lexical_reason (UnknownCharacter c) = because 2 1 c
+lexical_reason (UnexpectedCharacter c) = because 2 2 c
+lexical_reason UnterminatedString = because 2 3 0
+lexical_reason (UnknownCharacterInString c) = because 2 4 c
+lexical_reason (UnknownEscapeSequence t) = because 2 5 0
+lexical_reason UnexpectedEndOfFile = because 2 6 0
+lexical_reason InvalidNumber = because 2 7 0
+
+abbrev pub error_reason : Error → Reason
+error_reason (errors.UnexpectedToken t) = because 0 0 0
+error_reason errors.UnexpectedEndOfFile = because 1 0 0
+error_reason (errors.Lexical e) = lexical_reason e
+error_reason (errors.ExpectedScalar t) = because 3 0 0
+
+abbrev pub deep_reason : Reason
+deep_reason = because 4 0 0
+
+abbrev pub many_reason : Reason
+many_reason = because 5 0 0
+
+abbrev pub fault_at : List ℕ → Reason → Span → Fault
+fault_at source reason span = record {
+  kind = reason.kind;
+  detail = reason.detail;
+  character = reason.character;
+  start = written_place source span.start;
+  end = written_place source span.end;
+}
+
+-- a refusal
+abbrev pub written_fault : List ℕ → errors.Fault → Fault
+written_fault source fault = fault_at source (error_reason fault.error) fault.span
+
+-- a token that is nested too deep
+abbrev pub deep_fault : List ℕ → Span → Fault
+deep_fault source span = fault_at source deep_reason span
+
+-- a token that is one too many
+abbrev pub many_fault : List ℕ → Span → Fault
+many_fault source span = fault_at source many_reason span

@@ -1,0 +1,60 @@
+-- How many tokens a source has.
+use Rattle.std.specs.Prelude.{◌≡◌, ◌<◌, ◌≤◌, ◌^◌, ◌⊎◌, ℕ, List, length, IsUtf8, chars}
+use Rattle.graphql_lexical.specs.Place.{Span}
+use Rattle.graphql_lexical.specs.Place as places
+use Rattle.graphql_lexical.specs.declared.kind.Kind.TheVariants.{EndOfFile}
+use Rattle.graphql_lexical.specs.Kinds.{LexicalError}
+use Rattle.graphql_lexical.specs.Cutting.{Lexeme, Stands, Leads}
+use Rattle.juniper_tokens.specs.Lexing.{BreaksAt}
+use Rattle.juniper_flat.specs.Faults.{many_fault}
+use Rattle.juniper_flat.specs.FlatWriters.{SpanFits}
+use Rattle.juniper_flat.specs.declared.count.Counted.{Counted}
+use Rattle.juniper_flat.specs.declared.count.Counted.TheVariants as counted
+
+-- After a gap from place k on the source ends, or a rest stands there that begins with no token.
+abbrev pub EndsAt : List ℕ → ℕ → Type 0
+EndsAt source k =
+    ((token : Lexeme) × (next : ℕ) × Stands source k token next × (token.kind ≡ EndOfFile))
+    ⊎ ((error : LexicalError) × (at : places.Place) × BreaksAt source k error at)
+
+-- From place k on stand no more than this many tokens before the end, or before the first lexical error.
+pub record HasFew (source : List ℕ) (k most : ℕ) : Type 0 where
+  pub tokens : List Lexeme
+  pub next : ℕ
+  pub leads : Leads source k tokens next
+  pub ends : EndsAt source next
+  pub few : length tokens ≤ most
+
+-- From place k on stand this many tokens, none of them the end, and after them one more, which has this span.
+pub record HasMore (source : List ℕ) (k most : ℕ) (span : Span) : Type 0 where
+  pub front : List Lexeme
+  pub middle : ℕ
+  pub leads : Leads source k front middle
+  pub count : length front ≡ most
+  pub token : Lexeme
+  pub next : ℕ
+  pub stands : Stands source middle token next
+  pub other : token.kind ≡ EndOfFile → ⊥
+  pub at : span ≡ token.span
+
+-- the statuses of `firthnapkin_count`
+abbrev pub IsCountStatus : ℕ → Type 0
+IsCountStatus n = (n ≡ 0) ⊎ ((n ≡ 2) ⊎ ((n ≡ 4) ⊎ ((n ≡ 7) ⊎ (n ≡ 9))))
+
+-- ---- what private contracts say
+
+-- The fault reports a token whose numbers fit.
+abbrev pub IsTooMany : List ℕ → Span → Counted → Type 0
+IsTooMany source span counted.Few = ⊥
+IsTooMany source span (counted.Many fault) = SpanFits span → fault ≡ many_fault source span
+IsTooMany source span counted.NotUtf8 = ⊥
+IsTooMany source span counted.Memory = Unit {0}
+IsTooMany source span counted.TooLong = ⊥
+
+abbrev pub ReturnsCounted : List ℕ → ℕ → Counted → Type 0
+ReturnsCounted source most counted.Few = (length source < 2 ^ 32) × IsUtf8 source × HasFew (chars source) 0 most
+ReturnsCounted source most (counted.Many fault) = (length source < 2 ^ 32) × IsUtf8 source
+    × ((span : Span) × HasMore (chars source) 0 most span × (fault ≡ many_fault (chars source) span))
+ReturnsCounted source most counted.NotUtf8 = (length source < 2 ^ 32) × ¬ IsUtf8 source
+ReturnsCounted source most counted.Memory = length source < 2 ^ 32
+ReturnsCounted source most counted.TooLong = 2 ^ 32 ≤ length source

@@ -1,0 +1,193 @@
+//! What is known of a source before the caller's buffers are looked at.
+ghost use Rattle.std.specs.Prelude.{◌≡◌, ◌<◌, ◌≤◌, ◌^◌, ◌++◌, ℕ, List, [], length, map, IfOk, OnOk, OnErr, string_bytes, encode_utf8_all};
+ghost use Rattle.std.specs.Str.{chars};
+ghost use Rattle.graphql_nodes.specs.Nodes.{definition_nodes};
+ghost use Rattle.juniper.specs.View.{view_definition};
+ghost use Rattle.juniper_nodes.specs.NodeTexts.{node_texts};
+ghost use Rattle.juniper_nodes.specs.NodeViews.{view_node};
+ghost use Rattle.juniper_flat.specs.ByteTables.{IsTableOf};
+ghost use Rattle.juniper_flat.specs.Scalars.{scalar_content};
+ghost use Rattle.juniper_flat.specs.Nodes.{written_nodes};
+ghost use Rattle.juniper_flat.specs.FlatWriters.{NodesFit};
+ghost use Rattle.juniper_flat.specs.declared.node.Node.{Node as Written};
+ghost use Rattle.juniper_flat.specs.Answers.{ReturnsFlat};
+
+use crate::byte_table::ByteTable;
+use crate::fault::{Fault, deep_fault, written_fault};
+use crate::node::{Node, write_node, written_node};
+use crate::scalar::Scalar;
+use crate::source::{Unread, text_of};
+use juniper::{Definition, DefinitionSink, DepthFailure, ParseFailure, parse_document_source_into};
+use juniper_nodes::push_definition;
+use std::alloc::{AllocError, Global};
+
+/// The nodes of a document, and their texts one after another.
+#[derive(Drop)]
+pub struct Flat {
+    pub nodes: Vec<Node>,
+    pub texts: String,
+}
+
+// A sink that takes the definitions of a source and keeps what C gets of them, so that no tree is larger than a
+// definition.
+#[derive(Drop)]
+struct FlatWriter<'b> {
+    alloc: Global,
+    table: &'b ByteTable,
+    flat: Flat,
+}
+
+impl DefinitionSink<Scalar> for FlatWriter<'_> {
+    ghost use Rattle.std.specs.Prelude.{◌∷◌, []};
+    ghost use Rattle.juniper.specs.Sinks.{Gains};
+    ghost use Rattle.juniper_flat.specs.FlatWriters.{Holds};
+
+    ghost holds = { Holds };
+
+    fn take(&mut self, definition: Definition<'_, Scalar>) -> Result<(), AllocError>
+        ensures taken { OnOk result (Gains Holds self.old self.new (view_definition scalar_content definition.entry ∷ [])) }
+        ensures kept { OnErr result (Gains Holds self.old self.new []) }
+    {
+        write_definition(self.alloc, &mut self.flat, self.table, &definition)
+    }
+}
+
+// About how many bytes of a source there are for a node: more nodes need more memory.
+const BYTES_OF_A_NODE: usize = 8;
+
+// About how many characters of a definition there are for a node: more nodes need more memory.
+const CHARACTERS_OF_A_NODE: usize = 4;
+
+/// Why there are no nodes.
+#[derive(Clone, Copy)]
+pub enum Stop {
+    /// The source is no document.
+    Refused(Fault),
+    /// A token is nested too deep, and those up to it begin a document.
+    TooDeep(Fault),
+    /// The bytes are no text.
+    NotUtf8,
+    Memory,
+    /// The source has 4 GiB or more.
+    TooLong,
+}
+
+impl From<AllocError> for Stop {
+    ghost use Rattle.juniper_flat.specs.declared.flat.Stop.TheVariants.{Memory};
+
+    ghost from_gives = { λ _ e. e ≡ Memory };
+
+    fn from(_error: AllocError) -> Stop {
+        Stop::Memory
+    }
+}
+
+/// The nodes of a source, or why it has none.
+pub fn flat_of(alloc: Global, source: &[u8], depth: u32) -> Result<Flat, Stop>
+    ensures answer { ReturnsFlat source.now depth result }
+    ensures bounds { IfOk result (λ flat. (length flat.nodes.items ≤ length source.now) × (length (string_bytes flat.texts) ≤ length source.now)) }
+{
+    match text_of(source) {
+        Ok(text) => flat_of_text(alloc, text, depth),
+        Err(Unread::NotUtf8) => Err(Stop::NotUtf8),
+        Err(Unread::TooLong) => Err(Stop::TooLong),
+    }
+}
+
+fn flat_of_text(alloc: Global, text: &str, depth: u32) -> Result<Flat, Stop>
+    requires { length text.now < 2 ^ 32 }
+    ensures { ReturnsFlat text.now depth result }
+{
+    let table = ByteTable::new(alloc, text)?;
+    let mut writer = FlatWriter {
+        alloc,
+        table: &table,
+        flat: Flat {
+            nodes: room_for(alloc, text.len() / BYTES_OF_A_NODE),
+            texts: String::new(alloc),
+        },
+    };
+    match parse_document_source_into::<Scalar, FlatWriter<'_>>(
+        alloc,
+        text,
+        depth as usize,
+        &mut writer,
+    ) {
+        Ok(()) => Ok(writer.flat),
+        Err(DepthFailure::Parse(ParseFailure::Refused(found))) => {
+            Err(Stop::Refused(written_fault(&table, &found)))
+        }
+        Err(DepthFailure::TooDeep(span)) => Err(Stop::TooDeep(deep_fault(&table, span))),
+        Err(DepthFailure::Parse(ParseFailure::Memory)) => Err(Stop::Memory),
+    }
+}
+
+// A list with capacity for so many items, if there is as much memory; otherwise the list grows as it must.
+fn room_for<T: Drop>(alloc: Global, count: usize) -> Vec<T>
+    ensures { result.items ≡ [] }
+{
+    match Vec::with_capacity(alloc, count) {
+        Ok(room) => room,
+        Err(_) => Vec::new(alloc),
+    }
+}
+
+// The number of characters from a definition's first to its last.
+fn length_of(definition: &Definition<'_, Scalar>) -> usize {
+    let span = match definition {
+        Definition::Operation(operation) => operation.span,
+        Definition::Fragment(fragment) => fragment.span,
+    };
+    span.end.index().saturating_sub(span.start.index())
+}
+
+// Appends the nodes of a definition, or none of them.
+fn write_definition<'t, 'a>(
+    alloc: Global,
+    flat: &mut Flat,
+    table: &ByteTable,
+    definition: &'t Definition<'a, Scalar>,
+) -> Result<(), AllocError>
+    ensures nodes { (source : List ℕ) → IsTableOf source table.now → NodesFit (length (string_bytes flat.old.texts)) (definition_nodes (view_definition scalar_content definition.now)) → OnOk result (flat.new.nodes.items ≡ flat.old.nodes.items ++ written_nodes source (length (string_bytes flat.old.texts)) (definition_nodes (view_definition scalar_content definition.now))) }
+    ensures texts { OnOk result (string_bytes flat.new.texts ≡ string_bytes flat.old.texts ++ encode_utf8_all (node_texts (definition_nodes (view_definition scalar_content definition.now)))) }
+    ensures same_nodes { OnErr result (flat.new.nodes.items ≡ flat.old.nodes.items) }
+    ensures same_texts { OnErr result (string_bytes flat.new.texts ≡ string_bytes flat.old.texts) }
+{
+    let mut nodes: Vec<juniper_nodes::Node<'t, 'a, Scalar>> = room_for(
+        alloc,
+        length_of(definition) / CHARACTERS_OF_A_NODE + 1,
+    );
+    push_definition(&mut nodes, definition)?;
+    let before = flat.nodes.len();
+    match write_nodes(alloc, flat, table, &nodes) {
+        Ok(()) => Ok(()),
+        Err(error) => {
+            flat.nodes.truncate(before);
+            Err(error)
+        }
+    }
+}
+
+// Appends these nodes. Where memory runs out, some may stand there, and none of their texts.
+fn write_nodes(
+    alloc: Global,
+    flat: &mut Flat,
+    table: &ByteTable,
+    nodes: &[juniper_nodes::Node<'_, '_, Scalar>],
+) -> Result<(), AllocError>
+    ensures nodes { (source : List ℕ) → IsTableOf source table.now → NodesFit (length (string_bytes flat.old.texts)) (map (view_node scalar_content) nodes.now) → OnOk result (flat.new.nodes.items ≡ flat.old.nodes.items ++ written_nodes source (length (string_bytes flat.old.texts)) (map (view_node scalar_content) nodes.now)) }
+    ensures texts { OnOk result (string_bytes flat.new.texts ≡ string_bytes flat.old.texts ++ encode_utf8_all (node_texts (map (view_node scalar_content) nodes.now))) }
+    ensures more_nodes { OnErr result ((more : List Written) × (flat.new.nodes.items ≡ flat.old.nodes.items ++ more)) }
+    ensures same_texts { OnErr result (string_bytes flat.new.texts ≡ string_bytes flat.old.texts) }
+{
+    let from = flat.texts.len();
+    let mut texts = String::new(alloc);
+    for node in nodes {
+        let at = texts.len();
+        write_node(&mut texts, node)?;
+        let length = texts.len() - at;
+        flat.nodes
+            .push(written_node(table, node, from + at, length))?;
+    }
+    flat.texts.push_str(texts.as_str())
+}

@@ -1,0 +1,21 @@
+//! The nodes of a source, its tokens, its canonical text or its error, as C gets them.
+//!
+//! `juniper_c` has the calls from C, which look at what these functions return and fill the caller's buffers.
+#![tactic(auto)]
+
+mod byte_table;
+pub mod canonical;
+pub mod count;
+pub mod depth;
+pub mod fault;
+pub mod flat;
+pub mod message;
+pub mod node;
+pub mod place;
+pub mod room;
+mod scalar;
+mod source;
+pub mod status;
+mod step;
+pub mod token;
+pub mod tokens;

@@ -1,0 +1,67 @@
+//! Why a source has no tree, in words.
+ghost use Rattle.std.specs.Prelude.{◌≡◌, ◌<◌, ◌^◌, length, IfOk, string_bytes};
+ghost use Rattle.juniper_tokens.specs.Errors.{view_fault};
+ghost use Rattle.juniper_tokens.specs.Spans.{view_span};
+ghost use Rattle.juniper_flat.specs.Answers.{ReturnsSaid, refusal_message, deep_message};
+
+use crate::scalar::Scalar;
+use crate::source::{Unread, text_of};
+use juniper::{
+    DepthFailure, ParseError, ParseFailure, Span, Spanning, parse_document_source_within,
+};
+use std::alloc::{AllocError, Global};
+
+/// Whether a source has a tree, and where it has none why, in words.
+#[derive(Drop)]
+pub enum Said {
+    Tree,
+    Refused(String),
+    TooDeep(String),
+    NotUtf8,
+    Memory,
+    TooLong,
+}
+
+/// Why a source has no tree, in words, or that it has one.
+pub fn message_of(alloc: Global, source: &[u8], depth: u32) -> Said
+    ensures { ReturnsSaid source.now depth result }
+{
+    match text_of(source) {
+        Ok(text) => message_of_text(alloc, text, depth),
+        Err(Unread::NotUtf8) => Said::NotUtf8,
+        Err(Unread::TooLong) => Said::TooLong,
+    }
+}
+
+fn message_of_text(alloc: Global, text: &str, depth: u32) -> Said
+    requires { length text.now < 2 ^ 32 }
+    ensures { ReturnsSaid text.now depth result }
+{
+    match parse_document_source_within::<Scalar>(alloc, text, depth as usize) {
+        Ok(_) => Said::Tree,
+        Err(DepthFailure::Parse(ParseFailure::Refused(fault))) => {
+            match refusal_message(alloc, &fault) {
+                Ok(message) => Said::Refused(message),
+                Err(_) => Said::Memory,
+            }
+        }
+        Err(DepthFailure::TooDeep(span)) => match deep_message(alloc, span) {
+            Ok(message) => Said::TooDeep(message),
+            Err(_) => Said::Memory,
+        },
+        Err(DepthFailure::Parse(ParseFailure::Memory)) => Said::Memory,
+    }
+}
+
+fn refusal_message(alloc: Global, fault: &Spanning<ParseError>) -> Result<String, AllocError>
+    ensures { IfOk result (λ message. string_bytes message ≡ refusal_message (view_fault fault.now)) }
+{
+    format!(in alloc; "{fault}")
+}
+
+fn deep_message(alloc: Global, span: Span) -> Result<String, AllocError>
+    ensures { IfOk result (λ message. string_bytes message ≡ deep_message (view_span span)) }
+{
+    let start = span.start;
+    format!(in alloc; "Too deeply nested. At {start}")
+}

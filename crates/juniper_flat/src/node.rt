@@ -1,0 +1,296 @@
+//! Nodes, as C gets them.
+ghost use Rattle.std.specs.Prelude.{◌≡◌, ◌-◌, ◌+◌, ◌^◌, ◌<◌, ◌++◌, ℕ, List, [], length, pos, option_map, option_and_then, OnOk, string_bytes, encode_utf8_all};
+ghost use Rattle.std.specs.Option.{unwrap_or};
+ghost use Rattle.std.specs.Str.{chars};
+ghost use Rattle.graphql_lexical.specs.Place as places;
+ghost use Rattle.graphql_nodes.specs.Types.{type_text};
+ghost use Rattle.juniper_tokens.specs.Spans.{view_span};
+ghost use Rattle.juniper.specs.View.{view_type, view_word};
+ghost use Rattle.juniper_nodes.specs.Literal.{str_in};
+ghost use Rattle.juniper_nodes.specs.NodeTexts.{text_of_node};
+ghost use Rattle.juniper_nodes.specs.NodeViews.{view_label, view_node};
+ghost use Rattle.juniper_flat.specs.FlatWriters.{NodeFits};
+ghost use Rattle.juniper_flat.specs.ByteTables.{IsTableOf};
+ghost use Rattle.juniper_flat.specs.Places.{byte_behind};
+ghost use Rattle.juniper_flat.specs.Nodes.{kind_number, node_number, content_number, byte_count, word_extent, span_extent, no_extent, unnamed_extent, node_extent, scalar_value, condition_value, node_value, written_node};
+ghost use Rattle.juniper_flat.specs.Scalars.{scalar_content};
+
+use crate::byte_table::ByteTable;
+use crate::place::{Place, in_word, place_at};
+use crate::scalar::Scalar;
+use juniper::{DefaultScalarValue, ScalarValue, Span, Spanning, Type};
+use juniper_nodes::{Label, NodeKind};
+use juniper_tokens::text::push_text;
+use std::alloc::AllocError;
+
+/// A part of a document.
+#[repr(C)]
+#[derive(Clone, Copy)]
+pub struct Node {
+    /// What it stands for: a number for each `NodeKind` in their order, for a scalar one for each kind of literal.
+    pub kind: u32,
+    /// The number of the nodes after it that are of parts in it.
+    pub descendants: u32,
+    pub start: Place,
+    pub end: Place,
+    /// The first byte of the source that names it, and the one after the last.
+    pub name_start: u32,
+    pub name_end: u32,
+    /// An Int's number, a Boolean's 0 or 1, the byte of the texts where a string's meaning or a type begins, the byte of
+    /// the source where a fragment's type condition begins.
+    pub value: i64,
+    /// The number of bytes of the text or the type condition.
+    pub value_length: u32,
+}
+
+// Two offsets in bytes.
+#[derive(Clone, Copy)]
+struct Extent {
+    start: u32,
+    end: u32,
+}
+
+#[derive(Clone, Copy)]
+struct Value {
+    number: i64,
+    length: u32,
+}
+
+const NO_VALUE: Value = Value {
+    number: 0,
+    length: 0,
+};
+
+/// The node of a part whose text begins at the byte `at` of the texts and has `length` bytes.
+pub(crate) fn written_node(
+    table: &ByteTable,
+    node: &juniper_nodes::Node<'_, '_, Scalar>,
+    at: usize,
+    length: usize,
+) -> Node
+    ensures { (source : List ℕ) → IsTableOf source table.now → NodeFits at (view_node scalar_content node.now) → length ≡ byte_count (text_of_node (view_node scalar_content node.now)) → result ≡ written_node source at (view_node scalar_content node.now) }
+{
+    let start = place_at(table, node.span.start);
+    let end = place_at(table, node.span.end);
+    let name = extent_of(
+        table,
+        node,
+        Extent {
+            start: start.byte,
+            end: end.byte,
+        },
+    );
+    let value = value_of(table, node, at, length);
+    Node {
+        kind: node_number(node.kind, node.scalar),
+        descendants: in_word(node.descendants),
+        start,
+        end,
+        name_start: name.start,
+        name_end: name.end,
+        value: value.number,
+        value_length: value.length,
+    }
+}
+
+/// Appends what the node has in the texts.
+pub(crate) fn write_node(
+    texts: &mut String,
+    node: &juniper_nodes::Node<'_, '_, Scalar>,
+) -> Result<(), AllocError>
+    ensures { OnOk result (string_bytes texts.new ≡ string_bytes texts.old ++ encode_utf8_all (text_of_node (view_node scalar_content node.now))) }
+{
+    match node.label {
+        Label::Type(literal) => write_type(texts, literal),
+        Label::Unnamed | Label::Name(_) | Label::Text(_) | Label::Fragment(..) => {
+            write_scalar(texts, node.scalar)
+        }
+    }
+}
+
+// ---- kinds
+
+fn node_number(kind: NodeKind, scalar: Option<&Scalar>) -> u32
+    ensures { result ≡ node_number kind (option_map (λ scalar. scalar_content scalar.now) scalar.entry) }
+{
+    match scalar {
+        None => kind_number(kind),
+        Some(scalar) => scalar_number(scalar),
+    }
+}
+
+fn kind_number(kind: NodeKind) -> u32
+    ensures { result ≡ kind_number kind }
+{
+    match kind {
+        NodeKind::Query => 0,
+        NodeKind::Mutation => 1,
+        NodeKind::Subscription => 2,
+        NodeKind::Fragment => 3,
+        NodeKind::Variables => 4,
+        NodeKind::Variable => 5,
+        NodeKind::Type => 6,
+        NodeKind::Field => 7,
+        NodeKind::Alias => 8,
+        NodeKind::Spread => 9,
+        NodeKind::Inline => 10,
+        NodeKind::Directive => 11,
+        NodeKind::Arguments => 12,
+        NodeKind::Argument => 13,
+        NodeKind::Null => 14,
+        NodeKind::Scalar => 15,
+        NodeKind::Enum => 16,
+        NodeKind::Reference => 17,
+        NodeKind::List => 18,
+        NodeKind::Object => 19,
+        NodeKind::Key => 20,
+    }
+}
+
+fn scalar_number(scalar: &Scalar) -> u32
+    ensures { result ≡ content_number (scalar_content scalar.now) }
+{
+    match scalar {
+        Scalar::Default(DefaultScalarValue::Int(_)) => 21,
+        Scalar::LargeInt => 22,
+        Scalar::Float => 23,
+        Scalar::Default(DefaultScalarValue::String(_)) => 24,
+        Scalar::BlockString(_) => 25,
+        Scalar::Default(DefaultScalarValue::Boolean(_)) => 26,
+    }
+}
+
+// ---- names
+
+// `whole` has the bytes from the node's first to its last.
+fn extent_of(table: &ByteTable, node: &juniper_nodes::Node<'_, '_, Scalar>, whole: Extent) -> Extent
+    ensures { (source : List ℕ) → IsTableOf source table.now → whole ≡ span_extent source (view_span node.now.span.now) → result ≡ node_extent source node.now.kind (view_span node.now.span.now) (view_label (view_span node.now.span.now) node.now.label) }
+{
+    match node.label {
+        Label::Unnamed => unnamed_extent(node.kind, whole),
+        Label::Name(name) => word_extent(table, name),
+        Label::Text(text) => text_extent(whole.end, text),
+        Label::Fragment(name, _) => word_extent(table, name),
+        Label::Type(_) => whole,
+    }
+}
+
+fn unnamed_extent(kind: NodeKind, whole: Extent) -> Extent
+    ensures { (source : List ℕ) (span : places.Span) → whole ≡ span_extent source span → result ≡ unnamed_extent kind source span }
+{
+    match kind {
+        NodeKind::Scalar | NodeKind::Null => whole,
+        NodeKind::Query
+        | NodeKind::Mutation
+        | NodeKind::Subscription
+        | NodeKind::Fragment
+        | NodeKind::Variables
+        | NodeKind::Variable
+        | NodeKind::Type
+        | NodeKind::Field
+        | NodeKind::Alias
+        | NodeKind::Spread
+        | NodeKind::Inline
+        | NodeKind::Directive
+        | NodeKind::Arguments
+        | NodeKind::Argument
+        | NodeKind::Enum
+        | NodeKind::Reference
+        | NodeKind::List
+        | NodeKind::Object
+        | NodeKind::Key => no_extent(whole.start),
+    }
+}
+
+fn no_extent(start: u32) -> Extent
+    ensures { (source : List ℕ) (span : places.Span) → start ≡ byte_behind source span.start.index → result ≡ no_extent source span }
+{
+    Extent { start, end: start }
+}
+
+fn word_extent(table: &ByteTable, word: &Spanning<&str>) -> Extent
+    ensures { (source : List ℕ) → IsTableOf source table.now → result ≡ word_extent source (view_word word.now) }
+{
+    text_extent(table.byte(word.span.end.index()), word.item)
+}
+
+// The bytes of a text that ends there.
+fn text_extent(end: u32, text: &str) -> Extent
+    ensures { result ≡ record { start = end - byte_count (chars text.now); end = end } }
+{
+    Extent {
+        start: (end as usize).saturating_sub(text.len()) as u32,
+        end,
+    }
+}
+
+// ---- values
+
+fn value_of(
+    table: &ByteTable,
+    node: &juniper_nodes::Node<'_, '_, Scalar>,
+    at: usize,
+    length: usize,
+) -> Value
+    ensures { (source : List ℕ) → IsTableOf source table.now → let seen = view_node scalar_content node.now in at + length < 2 ^ 32 → length ≡ byte_count (text_of_node seen) → result ≡ node_value source at seen.content seen.label }
+{
+    match node.label {
+        Label::Fragment(_, condition) => condition_value(word_extent(table, condition)),
+        Label::Type(_) => text_value(at, length),
+        Label::Unnamed | Label::Name(_) | Label::Text(_) => scalar_value(node.scalar, at, length),
+    }
+}
+
+fn scalar_value(scalar: Option<&Scalar>, at: usize, length: usize) -> Value
+    ensures { let content = option_map (λ scalar. scalar_content scalar.now) scalar.entry in at + length < 2 ^ 32 → length ≡ byte_count (unwrap_or (option_and_then str_in content) []) → result ≡ scalar_value at content }
+{
+    match scalar {
+        Some(Scalar::Default(DefaultScalarValue::Int(number))) => Value {
+            number: i64::from(*number),
+            length: 0,
+        },
+        Some(Scalar::Default(DefaultScalarValue::Boolean(truth))) => Value {
+            number: if *truth { 1 } else { 0 },
+            length: 0,
+        },
+        Some(Scalar::Default(DefaultScalarValue::String(_)) | Scalar::BlockString(_)) => {
+            text_value(at, length)
+        }
+        Some(Scalar::LargeInt | Scalar::Float) | None => NO_VALUE,
+    }
+}
+
+fn condition_value(extent: Extent) -> Value
+    ensures { result ≡ condition_value extent }
+{
+    Value {
+        number: i64::from(extent.start),
+        length: extent.end.saturating_sub(extent.start),
+    }
+}
+
+fn text_value(at: usize, length: usize) -> Value
+    ensures { at + length < 2 ^ 32 → result ≡ record { number = pos at; length = length } }
+{
+    Value {
+        number: i64::from(in_word(at)),
+        length: in_word(length),
+    }
+}
+
+// ---- texts
+
+fn write_scalar(texts: &mut String, scalar: Option<&Scalar>) -> Result<(), AllocError>
+    ensures { let content = option_map (λ scalar. scalar_content scalar.now) scalar.entry in OnOk result (string_bytes texts.new ≡ string_bytes texts.old ++ encode_utf8_all (unwrap_or (option_and_then str_in content) [])) }
+{
+    match scalar.and_then(|scalar| scalar.try_as_str()) {
+        Some(text) => push_text(texts, text),
+        None => Ok(()),
+    }
+}
+
+fn write_type(texts: &mut String, literal: &Type<&str>) -> Result<(), AllocError>
+    ensures { OnOk result (string_bytes texts.new ≡ string_bytes texts.old ++ encode_utf8_all (type_text (view_type literal.now))) }
+{
+    write!(texts, "{literal}")
+}

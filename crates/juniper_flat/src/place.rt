@@ -1,0 +1,36 @@
+//! Places of a source, as C gets them.
+ghost use Rattle.std.specs.Prelude.{◌≡◌, ℕ, ◌<◌, ◌^◌, List};
+ghost use Rattle.juniper_flat.specs.Places.{written_place};
+ghost use Rattle.juniper_flat.specs.FlatWriters.{PlaceFits};
+ghost use Rattle.juniper_flat.specs.ByteTables.{IsTableOf};
+
+use crate::byte_table::ByteTable;
+use juniper_tokens::SourcePosition;
+
+/// A place of the source: the number of characters, line feeds, characters of its line and bytes before it.
+#[repr(C)]
+#[derive(Clone, Copy)]
+pub struct Place {
+    pub index: u32,
+    pub line: u32,
+    pub column: u32,
+    pub byte: u32,
+}
+
+pub(crate) fn place_at(table: &ByteTable, position: SourcePosition) -> Place
+    ensures { (source : List ℕ) → IsTableOf source table.now → PlaceFits position → result ≡ written_place source position }
+{
+    Place {
+        index: in_word(position.index()),
+        line: in_word(position.line()),
+        column: in_word(position.column()),
+        byte: table.byte(position.index()),
+    }
+}
+
+/// The lowest 32 bits of a number. No number of a source of less than 4 GiB is larger.
+pub(crate) fn in_word(number: usize) -> u32
+    ensures { number < 2 ^ 32 → result ≡ number }
+{
+    (number % 4294967296) as u32
+}

@@ -1,0 +1,214 @@
+//! A scalar type that keeps what a token means, and not how it is written.
+ghost use Rattle.std.specs.Prelude.{◌≡◌, [], Ok, Some, IfOk};
+ghost use Rattle.std.specs.Fmt.{DisplaysOnOk};
+ghost use Rattle.std.specs.Str.{chars, encode_utf8_all};
+ghost use Rattle.graphql_lexical.specs.declared.kind.Kind.TheVariants.{Int, BlockString as Block};
+ghost use Rattle.juniper_values.specs.Default.{default_reading};
+ghost use Rattle.juniper_values.specs.Scalar.{MeetsReading, same_content};
+ghost use Rattle.juniper_values.specs.View.{text_of};
+ghost use Rattle.juniper_nodes.specs.Literal.{literal_shown, string_reading, of_block};
+ghost use Rattle.juniper_flat.specs.Scalars.{scalar_content, int_reading};
+
+use juniper::{DefaultScalarValue, ParseScalarResult, ParseScalarValue, ScalarToken, ScalarValue};
+use juniper_tokens::text::{copied, same_text, write_text};
+use std::alloc::{AllocError, Global};
+use std::fmt;
+
+/// A scalar as C gets it: what it means; of a number beyond the default type, its kind alone, since its text stands in
+/// the source.
+#[derive(Debug, Drop)]
+pub(crate) enum Scalar {
+    /// What the default type reads, except block strings.
+    Default(DefaultScalarValue),
+    /// An Int beyond 32 bits.
+    LargeInt,
+    /// A Float.
+    Float,
+    /// What a block string means.
+    BlockString(String),
+}
+
+impl PartialEq for Scalar {
+    ghost use Rattle.juniper_values.specs.laws.ScalarLaws.{partial_by_content};
+
+    ghost eq = { λ a b. same_content (scalar_content a) (scalar_content b) };
+
+    ghost laws = { partial_by_content scalar_content };
+
+    #[tactic(auto, using(juniper_nodes::proofs::Public::no_custom, juniper_nodes::proofs::Public::custom_no))]
+    fn eq(&self, other: &Scalar) -> bool {
+        match (self, other) {
+            (Scalar::Default(a), Scalar::Default(b)) => a == b,
+            (Scalar::LargeInt, Scalar::LargeInt) | (Scalar::Float, Scalar::Float) => true,
+            (Scalar::BlockString(a), Scalar::BlockString(b)) => same_block(a.as_str(), b.as_str()),
+            _ => false,
+        }
+    }
+}
+
+// Whether two block strings mean the same.
+fn same_block(a: &str, b: &str) -> bool
+    ensures { result ≡ same_content (of_block [] (chars a.now)) (of_block [] (chars b.now)) }
+{
+    same_text(a, b)
+}
+
+impl Eq for Scalar {
+    ghost use Rattle.juniper_values.specs.laws.ScalarLaws.{by_content};
+
+    ghost laws = { by_content scalar_content };
+}
+
+/// Displays what the scalar means; nothing of a number beyond the default type.
+impl fmt::Display for Scalar {
+    ghost output = { λ s. Some (encode_utf8_all (literal_shown (scalar_content s))) };
+
+    #[tactic(auto, using(juniper_nodes::proofs::Public::shown_back))]
+    fn fmt<W: fmt::Write>(&self, f: &mut fmt::Formatter<W>) -> fmt::Result {
+        match self {
+            Scalar::Default(scalar) => scalar.fmt(f),
+            Scalar::LargeInt | Scalar::Float => Ok(()),
+            Scalar::BlockString(text) => write_text(f, text.as_str()),
+        }
+    }
+}
+
+/// A number beyond the default type takes no memory.
+impl ParseScalarValue<Scalar> for Scalar {
+    ghost use Rattle.juniper_flat.specs.Scalars.{scalar_reading};
+
+    ghost content = { scalar_content };
+
+    ghost reading = { scalar_reading };
+
+    fn from_str(alloc: Global, token: ScalarToken<'_>) -> ParseScalarResult<Scalar> {
+        match token {
+            ScalarToken::Float(_) => Ok(Scalar::Float),
+            ScalarToken::Int(text) => Ok(read_int(text)),
+            ScalarToken::String(text) => Ok(Scalar::Default(DefaultScalarValue::from_str(
+                alloc,
+                ScalarToken::String(text),
+            )?)),
+            ScalarToken::BlockString(text) => read_block(alloc, text),
+        }
+    }
+}
+
+fn read_int(text: &str) -> Scalar
+    ensures { int_reading (default_reading Int (chars text.now)) ≡ Ok (scalar_content result) }
+{
+    match text.parse::<i32>() {
+        Ok(value) => Scalar::Default(DefaultScalarValue::Int(value)),
+        Err(_) => Scalar::LargeInt,
+    }
+}
+
+fn read_block(alloc: Global, text: &str) -> ParseScalarResult<Scalar>
+    ensures { let reading = string_reading (of_block []) (default_reading Block (chars text.now)) in
+        MeetsReading scalar_content reading result }
+{
+    match DefaultScalarValue::from_str(alloc, ScalarToken::BlockString(text))? {
+        DefaultScalarValue::String(value) => Ok(Scalar::BlockString(value)),
+        scalar => Ok(Scalar::Default(scalar)),
+    }
+}
+
+impl ScalarValue for Scalar {
+    ghost use Rattle.std.specs.Prelude.{refl};
+    ghost use Rattle.juniper_values.specs.Scalar.{boolean, integer, text};
+    ghost use Rattle.juniper_values.specs.Default.{bool_in};
+    ghost use Rattle.juniper_values.specs.laws.ScalarLaws.{same_content-Decides};
+    ghost use Rattle.juniper_nodes.specs.Literal.{int_in, str_in, string_in};
+    ghost use Rattle.juniper_nodes.specs.laws.LiteralLaws.{lent-is_string};
+    ghost use Rattle.juniper_flat.specs.laws.ScalarLaws.{scalar-has_form};
+
+    ghost of_bool = { boolean };
+
+    ghost of_int = { integer };
+
+    ghost of_text = { text };
+
+    ghost bool_in = { bool_in };
+
+    ghost int_in = { int_in };
+
+    ghost str_in = { str_in };
+
+    ghost string_in = { string_in };
+
+    ghost own_string_in = { string_in };
+
+    ghost shown = { literal_shown };
+
+    ghost equal_by_content = { λ a b. same_content-Decides (scalar_content a) (scalar_content b) };
+
+    ghost has_form = { scalar-has_form };
+
+    ghost shows_itself = { λ a. refl };
+
+    ghost lent_is_copied = { λ a t e. lent-is_string (scalar_content a) t e };
+
+    ghost lent_is_handed_out = { λ a t e. lent-is_string (scalar_content a) t e };
+
+    fn from_bool(value: bool) -> Self {
+        Scalar::Default(DefaultScalarValue::from_bool(value))
+    }
+
+    fn from_int(value: i32) -> Self {
+        Scalar::Default(DefaultScalarValue::from_int(value))
+    }
+
+    fn from_string(value: String) -> Self {
+        Scalar::Default(DefaultScalarValue::from_string(value))
+    }
+
+    fn try_to_bool(&self) -> Option<bool> {
+        match self {
+            Scalar::Default(scalar) => scalar.try_to_bool(),
+            _ => None,
+        }
+    }
+
+    fn try_to_int(&self) -> Option<i32> {
+        match self {
+            Scalar::Default(scalar) => scalar.try_to_int(),
+            _ => None,
+        }
+    }
+
+    #[tactic(auto, using(juniper_nodes::proofs::Public::shown_back))]
+    fn try_as_str(&self) -> Option<&str> {
+        match self {
+            Scalar::Default(scalar) => scalar.try_as_str(),
+            Scalar::BlockString(text) => Some(text.as_str()),
+            Scalar::LargeInt | Scalar::Float => None,
+        }
+    }
+
+    #[tactic(auto, using(crate::proofs::Scalars::texts))]
+    fn try_to_string(&self, alloc: Global) -> Result<Option<String>, AllocError> {
+        match self {
+            Scalar::Default(scalar) => scalar.try_to_string(alloc),
+            Scalar::LargeInt | Scalar::Float => Ok(Some(String::new(alloc))),
+            Scalar::BlockString(text) => Ok(Some(copied(alloc, text)?)),
+        }
+    }
+
+    #[tactic(auto, using(crate::proofs::Scalars::texts))]
+    fn try_into_string(self, alloc: Global) -> Result<Option<String>, AllocError> {
+        match self {
+            Scalar::Default(scalar) => scalar.try_into_string(alloc),
+            Scalar::LargeInt | Scalar::Float => Ok(Some(String::new(alloc))),
+            Scalar::BlockString(text) => Ok(Some(text)),
+        }
+    }
+
+    fn try_clone(&self, alloc: Global) -> Result<Self, AllocError> {
+        match self {
+            Scalar::Default(scalar) => Ok(Scalar::Default(scalar.try_clone(alloc)?)),
+            Scalar::LargeInt => Ok(Scalar::LargeInt),
+            Scalar::Float => Ok(Scalar::Float),
+            Scalar::BlockString(text) => Ok(Scalar::BlockString(copied(alloc, text)?)),
+        }
+    }
+}

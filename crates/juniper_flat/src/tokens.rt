@@ -1,0 +1,66 @@
+//! A source's tokens, in a buffer.
+ghost use Rattle.std.specs.Prelude.{◌<◌, ◌^◌, length};
+ghost use Rattle.juniper_flat.specs.CutTokens.{ReturnsTokens};
+
+use crate::byte_table::ByteTable;
+use crate::fault::{Fault, lexical_fault, many_fault};
+use crate::room::put;
+use crate::source::{Unread, text_of};
+use crate::step::{Step, next_step};
+use crate::token::{Token, token_at};
+use juniper_tokens::{Kind, Lexer};
+use std::alloc::Global;
+
+/// What has been put into the buffer: a number of tokens, the end among them, or those before an error.
+#[derive(Clone, Copy)]
+pub enum Written {
+    Tokens(usize),
+    Refused(usize, Fault),
+    Many(Fault),
+    NotUtf8,
+    Memory,
+    TooLong,
+}
+
+/// Puts the tokens of a source into a buffer, as many as it has capacity for, and counts them. The call stops at a lexical
+/// error, and at the first token that is more than the limit.
+pub fn tokens_of(alloc: Global, source: &[u8], most: u32, room: &mut [Token]) -> Written
+    ensures { ReturnsTokens source.now most room.old room.new result }
+{
+    match text_of(source) {
+        Ok(text) => tokens_of_text(alloc, text, most, room),
+        Err(Unread::NotUtf8) => Written::NotUtf8,
+        Err(Unread::TooLong) => Written::TooLong,
+    }
+}
+
+fn tokens_of_text(alloc: Global, text: &str, most: u32, room: &mut [Token]) -> Written
+    requires { length text.now < 2 ^ 32 }
+    ensures { ReturnsTokens text.now most room.old room.new result }
+{
+    let Ok(table) = ByteTable::new(alloc, text) else {
+        return Written::Memory;
+    };
+    let mut lexer = Lexer::new(alloc, text);
+    let mut count = 0;
+    loop {
+        match next_step(&mut lexer) {
+            Step::Token(kind, span) => {
+                if count == most as usize {
+                    return Written::Many(many_fault(&table, span));
+                }
+                put(room, count, token_at(&table, kind, &span));
+                count += 1;
+            }
+            Step::End(span) => {
+                put(room, count, token_at(&table, Kind::EndOfFile, &span));
+                return Written::Tokens(count + 1);
+            }
+            Step::Fault(fault) => {
+                let found = lexical_fault(&table, &fault.item, fault.span.start);
+                return Written::Refused(count, found);
+            }
+            Step::Memory => return Written::Memory,
+        }
+    }
+}
