@@ -1,7 +1,7 @@
 #!/usr/bin/env python3
-"""Compares include/firthnapkin.h, as it is written and as a C compiler lays it out, with the sources of the crate juniper_c:
-the fields of each type, their types, offsets and sizes, the calls' parameters, the numbers of statuses, of kinds of nodes and
-of tokens, of refusals and details, and the version. The last line is 'N passed, M failed'.
+"""Compares include/firthnapkin.h, as it is written and as a C compiler lays it out, with the sources of the crates
+juniper_flat and juniper_c. Those of the first have the fields of each type, their types, offsets and sizes, the numbers of
+statuses, of kinds of nodes and of tokens, of refusals and details. Those of the second have the calls' parameters and the version. The last line is 'N passed, M failed'.
 
     tests/check_header.py LAYOUT    a file with the output of the program of tests/c/layout.c
 """
@@ -15,8 +15,8 @@ checks = Checks()
 check = checks.check
 
 
-def source(name):
-    return read(f"crates/juniper_c/src/{name}.rt")
+def source(name, crate="juniper_flat"):
+    return read(f"crates/{crate}/src/{name}.rt")
 
 
 # ---- types
@@ -78,7 +78,7 @@ check("the number of a scalar, which no node has", kinds.pop("SCALAR"), 15)
 scalars = {upper(w): int(n) for w, n in re.findall(r"Scalar(?:Value)?::(\w+)(?:\(_\)+)? => (\d+),", source("node"))}
 check("kinds", enum("firthnapkin_kind"), {**kinds, **scalars})
 
-tokens = {upper(w): int(n) for w, n in re.findall(r"^kind_number kind\.(\w+) = (\d+)$", read("crates/juniper_c/specs/Tokens.antt"), re.M)}
+tokens = {upper(w): int(n) for w, n in re.findall(r"^kind_number kind\.(\w+) = (\d+)$", read("crates/juniper_flat/specs/Tokens.antt"), re.M)}
 named = re.findall(r"^    (\w+),$", re.search(r"pub enum Kind \{(.*?)\n\}", read("crates/graphql_lexical/src/kind.rt"), re.S)[1], re.M)
 check("the order of kinds of tokens", list(tokens), [upper(name) for name in named])
 check("kinds of tokens", enum("firthnapkin_token_kind"), {f"TOKEN_{word}": number for number, word in enumerate(tokens)})
@@ -111,7 +111,7 @@ first, second, third = map(int, version.split("."))
 number = str(10000 * first + 100 * second + third)
 check("the version of the header", defined("FIRTHNAPKIN_VERSION"), number)
 check("the version of the header, as a text", defined("FIRTHNAPKIN_VERSION_TEXT"), f'"{version}"')
-check("the version of the library", re.search(r"const VERSION: u32 = (\d+);", source("version"))[1], number)
+check("the version of the library", re.search(r"const VERSION: u32 = (\d+);", source("version", "juniper_c"))[1], number)
 check("the version of CHANGELOG.md", re.search(r"^## (\S+)", read("CHANGELOG.md"), re.M)[1], version)
 
 # ---- calls
@@ -134,7 +134,7 @@ C_TYPES = {
 }
 exported = 0
 for name in ("parse", "message", "count", "tokens", "canonical", "version"):
-    text = source(name)
+    text = source(name, "juniper_c")
     for call, parameters, result in re.findall(r'pub extern "C" fn (\w+)\((.*?)\) -> (\w+)', text, re.S):
         exported += 1
         wanted = [c for p in re.split(r",\s*", parameters.strip(" ,\n")) if p for c in C_TYPES[p.strip()]]
