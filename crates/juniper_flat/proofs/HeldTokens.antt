@@ -1,5 +1,5 @@
 -- What a room holds of a source's tokens while a lexer goes over it.
-use Rattle.std.proofs.Common.{◌≡◌, ◌∙◌, ℕ, suc, ◌+◌, ◌-◌, ◌<◌, ◌≤◌, ◌^◌, false, List, [], ◌∷◌, ◌++◌, length, set, map, inl, inr, refl, sym, ap, ap₂, subst, arith, length-append, zero-le}
+use Rattle.std.proofs.Common.{◌≡◌, ◌∙◌, ℕ, ◌+◌, ◌≤◌, false, List, [], ◌∷◌, ◌++◌, length, set, inl, inr, refl, sym, ap, ap₂, subst, arith, length-append, zero-le}
 use Rattle.std.specs.Prelude.{IsUtf8, chars}
 use Rattle.std.proofs.lemmas.List.{length-map, map-append}
 use Rattle.graphql_lexical.specs.declared.kind.Kind.TheVariants.{EndOfFile}
@@ -8,7 +8,7 @@ use Rattle.graphql_lexical.specs.Kinds.{LexicalError}
 use Rattle.graphql_lexical.specs.Cutting.{Lexeme, Stands, Leads, CutFrom, Cut, BreaksFrom, Breaks, here}
 use Rattle.graphql_lexical.proofs.Public.{stands_size, leads_size, front_cut, front_breaks}
 use Rattle.juniper_tokens.specs.Lexing.{LexerState, started, BreaksAt}
-use Rattle.juniper_tokens.proofs.Public.{chars_within, Gathered, gathered_open, gathered_token}
+use Rattle.juniper_tokens.proofs.Public.{chars_within, gathered_open, gathered_token}
 use Rattle.juniper_flat.specs.Answers.{Fills}
 use Rattle.juniper_flat.specs.TokenCounts.{HasMore}
 use Rattle.juniper_flat.specs.Tokens.{written_token, written_tokens, HasTokens, HasFaultBehind}

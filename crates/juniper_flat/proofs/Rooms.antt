@@ -1,5 +1,5 @@
 -- Rooms that are filled from their beginning on.
-use Rattle.std.proofs.Common.{◌≡◌, ◌∙◌, suc, ◌≤◌, List, [], ◌∷◌, ◌++◌, length, take, drop, set, refl, sym, ap}
+use Rattle.std.proofs.Common.{◌∙◌, suc, ◌≤◌, List, [], ◌∷◌, ◌++◌, length, take, drop, set, refl, sym, ap}
 use Rattle.std.proofs.lemmas.List.{take_all}
 use Rattle.std.proofs.Math.Seq.{take-nil}
 use Rattle.juniper_flat.specs.Answers.{Begins, Fills}

@@ -7,11 +7,11 @@ use Rattle.std.proofs.Math.Seq.{take-append_seam, drop-append_seam, drop-append-
 use lib.Utf8.{encode}
 use Rattle.graphql_lexical.specs.Place.{Place}
 use Rattle.graphql_lexical.specs.Kinds.{Spelling, Names, Strings, BlockStrings, Floats, Ints, Fixed, NoText, spelling}
-use Rattle.graphql_lexical.specs.Tokens.{mark, quotes, around, written}
+use Rattle.graphql_lexical.specs.Tokens.{mark, quotes, around}
 use Rattle.graphql_lexical.specs.Cutting.{Lexeme, Stands}
 use Rattle.graphql_lexical.proofs.Public.{front_read, place_index}
 use Rattle.juniper_flat.specs.Places.{byte_behind}
-use Rattle.juniper_flat.specs.Tokens.{quote_count, TellsText}
+use Rattle.juniper_flat.specs.Tokens.{TellsText}
 
 one_quote : encode_utf8_all (34 ∷ []) ≡ 34 ∷ []
 unfolding encode

@@ -82,6 +82,7 @@ HasMessage source depth message =
 
 -- ---- before the buffers are looked at
 
+-- the nodes of a source, or why it has none
 abbrev pub ReturnsFlat : List ℕ → ℕ → Result Flat Stop → Type 0
 ReturnsFlat source depth (Ok flat) = (length source < 2 ^ 32) × ((tree : List (Definition Content)) × HasDocument source depth tree
     × (flat.nodes.items ≡ nodes_of source tree) × (string_bytes flat.texts ≡ texts_of tree))
@@ -91,6 +92,7 @@ ReturnsFlat source depth (Err stop.NotUtf8) = (length source < 2 ^ 32) × ¬ IsU
 ReturnsFlat source depth (Err stop.Memory) = length source < 2 ^ 32
 ReturnsFlat source depth (Err stop.TooLong) = 2 ^ 32 ≤ length source
 
+-- in words, why a source has no tree
 abbrev pub ReturnsSaid : List ℕ → ℕ → Said → Type 0
 ReturnsSaid source depth said.Tree = (length source < 2 ^ 32) × ((tree : List (Definition Content)) × HasDocument source depth tree)
 ReturnsSaid source depth (said.Refused message) = (length source < 2 ^ 32) × ((fault : errors.Fault) × HasRefusal source depth fault × (string_bytes message ≡ refusal_message fault))

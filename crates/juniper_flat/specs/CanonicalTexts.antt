@@ -15,6 +15,18 @@ use Rattle.juniper_flat.specs.declared.canonical.Canonical.TheVariants as answer
 abbrev pub IsCanonicalStatus : ℕ → Type 0
 IsCanonicalStatus n = (n ≤ 2) ⊎ ((n ≡ 4) ⊎ ((n ≡ 6) ⊎ (n ≡ 7)))
 
+-- ---- before the buffer is looked at
+
+-- the canonical text of a source, or why there is none
+abbrev pub ReturnsCanonical : List ℕ → Canonical → Type 0
+ReturnsCanonical source (answer.Text text) = (length source < 2 ^ 32) × ((lexemes : List Lexeme) × HasTokens source lexemes
+    × (string_bytes text ≡ encode_utf8_all (canonical lexemes)))
+ReturnsCanonical source (answer.Refused fault) = (length source < 2 ^ 32) × IsUtf8 source × ((error : LexicalError) × (at : Place)
+    × Breaks (chars source) error at × (fault ≡ written_fault (chars source) (lexical_fault error at)))
+ReturnsCanonical source answer.NotUtf8 = (length source < 2 ^ 32) × ¬ IsUtf8 source
+ReturnsCanonical source answer.Memory = length source < 2 ^ 32
+ReturnsCanonical source answer.TooLong = 2 ^ 32 ≤ length source
+
 -- ---- what private contracts say
 
 -- The fault reports an error whose place fits.
@@ -24,12 +36,3 @@ IsReportedRefusal source error at (answer.Refused fault) = PlaceFits at → faul
 IsReportedRefusal source error at answer.NotUtf8 = ⊥
 IsReportedRefusal source error at answer.Memory = Unit {0}
 IsReportedRefusal source error at answer.TooLong = ⊥
-
-abbrev pub ReturnsCanonical : List ℕ → Canonical → Type 0
-ReturnsCanonical source (answer.Text text) = (length source < 2 ^ 32) × ((lexemes : List Lexeme) × HasTokens source lexemes
-    × (string_bytes text ≡ encode_utf8_all (canonical lexemes)))
-ReturnsCanonical source (answer.Refused fault) = (length source < 2 ^ 32) × IsUtf8 source × ((error : LexicalError) × (at : Place)
-    × Breaks (chars source) error at × (fault ≡ written_fault (chars source) (lexical_fault error at)))
-ReturnsCanonical source answer.NotUtf8 = (length source < 2 ^ 32) × ¬ IsUtf8 source
-ReturnsCanonical source answer.Memory = length source < 2 ^ 32
-ReturnsCanonical source answer.TooLong = 2 ^ 32 ≤ length source

@@ -1,4 +1,4 @@
--- What private contracts say of a source's tokens.
+-- What is returned for a source's tokens, and what is put into a buffer.
 use Rattle.std.specs.Prelude.{◌≡◌, ◌<◌, ◌≤◌, ◌+◌, ◌^◌, ℕ, List, length, IsUtf8, chars}
 use Rattle.graphql_lexical.specs.Place.{Place, Span}
 use Rattle.graphql_lexical.specs.Kinds.{LexicalError}
@@ -12,7 +12,7 @@ use Rattle.juniper_flat.specs.declared.token.Token.{Token}
 use Rattle.juniper_flat.specs.declared.tokens.Written.{Written}
 use Rattle.juniper_flat.specs.declared.tokens.Written.TheVariants as told
 
--- What a source with a limit on its tokens gives, and what it makes of a buffer.
+-- For a source and a limit on its tokens: the buffer before, the buffer then, and what is returned.
 abbrev pub ReturnsTokens : List ℕ → ℕ → List Token → List Token → Written → Type 0
 ReturnsTokens source most old new (told.Tokens count) = (length source < 2 ^ 32) × ((lexemes : List Lexeme) × HasTokens source lexemes
     × (length lexemes ≤ most + 1) × Fills (written_tokens (chars source) lexemes) old new × (count ≡ length lexemes))

@@ -41,6 +41,15 @@ pub record HasMore (source : List ℕ) (k most : ℕ) (span : Span) : Type 0 whe
 abbrev pub IsCountStatus : ℕ → Type 0
 IsCountStatus n = (n ≡ 0) ⊎ ((n ≡ 2) ⊎ ((n ≡ 4) ⊎ ((n ≡ 7) ⊎ (n ≡ 9))))
 
+-- whether a source has more tokens than this, or why that is not known
+abbrev pub ReturnsCounted : List ℕ → ℕ → Counted → Type 0
+ReturnsCounted source most counted.Few = (length source < 2 ^ 32) × IsUtf8 source × HasFew (chars source) 0 most
+ReturnsCounted source most (counted.Many fault) = (length source < 2 ^ 32) × IsUtf8 source
+    × ((span : Span) × HasMore (chars source) 0 most span × (fault ≡ many_fault (chars source) span))
+ReturnsCounted source most counted.NotUtf8 = (length source < 2 ^ 32) × ¬ IsUtf8 source
+ReturnsCounted source most counted.Memory = length source < 2 ^ 32
+ReturnsCounted source most counted.TooLong = 2 ^ 32 ≤ length source
+
 -- ---- what private contracts say
 
 -- The fault reports a token whose numbers fit.
@@ -50,11 +59,3 @@ IsTooMany source span (counted.Many fault) = SpanFits span → fault ≡ many_fa
 IsTooMany source span counted.NotUtf8 = ⊥
 IsTooMany source span counted.Memory = Unit {0}
 IsTooMany source span counted.TooLong = ⊥
-
-abbrev pub ReturnsCounted : List ℕ → ℕ → Counted → Type 0
-ReturnsCounted source most counted.Few = (length source < 2 ^ 32) × IsUtf8 source × HasFew (chars source) 0 most
-ReturnsCounted source most (counted.Many fault) = (length source < 2 ^ 32) × IsUtf8 source
-    × ((span : Span) × HasMore (chars source) 0 most span × (fault ≡ many_fault (chars source) span))
-ReturnsCounted source most counted.NotUtf8 = (length source < 2 ^ 32) × ¬ IsUtf8 source
-ReturnsCounted source most counted.Memory = length source < 2 ^ 32
-ReturnsCounted source most counted.TooLong = 2 ^ 32 ≤ length source

@@ -12,17 +12,23 @@ use juniper_canonical::canonical_text;
 use juniper_tokens::LexFailure;
 use std::alloc::Global;
 
-/// What a source has: a canonical text, or why there is none.
+/// A source's canonical text, or why there is none.
 #[derive(Drop)]
 pub enum Canonical {
+    /// The source's tokens as they are written, with the spaces that keep them apart.
     Text(String),
+    /// The source has a lexical error, and this is the first.
     Refused(Fault),
+    /// The bytes are no text.
     NotUtf8,
+    /// Memory ran out.
     Memory,
+    /// The source has 4 GiB or more.
     TooLong,
 }
 
-/// The canonical text of a source, or why there is none.
+/// Returns the canonical text of a source. There is none where the bytes are no text or are 4 GiB or more, where a
+/// lexical error stands in them, and where memory runs out.
 pub fn canonical_of(alloc: Global, source: &[u8]) -> Canonical
     ensures { ReturnsCanonical source.now result }
 {

@@ -15,14 +15,21 @@ use std::alloc::Global;
 /// Whether a source has more tokens than a limit, or why that is not known.
 #[derive(Clone, Copy)]
 pub enum Counted {
+    /// No more than the limit stand before the source's end, or before its first lexical error.
     Few,
+    /// There are more, and the fault is at the first that is one too many.
     Many(Fault),
+    /// The bytes are no text.
     NotUtf8,
+    /// Memory ran out.
     Memory,
+    /// The source has 4 GiB or more.
     TooLong,
 }
 
-/// Whether a source has more tokens than the limit, besides its end.
+/// Returns whether a source has more tokens than the limit, besides its end. It is read up to the first that is one too
+/// many, or to its first lexical error. Nothing is known where the bytes are no text or are 4 GiB or more, and where
+/// memory runs out.
 pub fn count_of(alloc: Global, source: &[u8], most: u32) -> Counted
     ensures { ReturnsCounted source.now most result }
 {

@@ -6,7 +6,8 @@ use crate::status::TOO_LONG_FROM;
 /// The largest depth that a call takes: a text nested that deep takes some 2 MB of the machine's stack.
 pub const MOST_DEPTH: u32 = 1000;
 
-/// Whether a call refuses its depth. A source that is too long is reported before.
+/// Returns whether a call refuses its depth, which is more than `MOST_DEPTH`. A source that is too long is reported before
+/// that, so then it returns false.
 pub fn is_refused(source: &[u8], depth: u32) -> bool
     ensures refused { result ≡ true → (MOST_DEPTH < depth) × (length source.now < 2 ^ 32) }
     ensures taken { result ≡ false → length source.now < 2 ^ 32 → depth ≤ MOST_DEPTH }

@@ -21,7 +21,7 @@ use juniper::{Definition, DefinitionSink, DepthFailure, ParseFailure, parse_docu
 use juniper_nodes::push_definition;
 use std::alloc::{AllocError, Global};
 
-/// The nodes of a document, and their texts one after another.
+/// The nodes of a document, each before those of the parts in it, and their texts one after another.
 #[derive(Drop)]
 pub struct Flat {
     pub nodes: Vec<Node>,
@@ -67,6 +67,7 @@ pub enum Stop {
     TooDeep(Fault),
     /// The bytes are no text.
     NotUtf8,
+    /// Memory ran out.
     Memory,
     /// The source has 4 GiB or more.
     TooLong,
@@ -82,7 +83,9 @@ impl From<AllocError> for Stop {
     }
 }
 
-/// The nodes of a source, or why it has none.
+/// Returns the nodes of a source's tree and their texts. It fails where the source is no document, where a token is nested
+/// deeper than the limit, where the bytes are no text or are 4 GiB or more, and where memory runs out. A limit above
+/// `MOST_DEPTH` may need more stack than there is.
 pub fn flat_of(alloc: Global, source: &[u8], depth: u32) -> Result<Flat, Stop>
     ensures answer { ReturnsFlat source.now depth result }
     ensures bounds { IfOk result (λ flat. (length flat.nodes.items ≤ length source.now) × (length (string_bytes flat.texts) ≤ length source.now)) }

@@ -1,6 +1,7 @@
 //! The nodes of a source, its tokens, its canonical text or its error, as C gets them.
 //!
-//! `juniper_c` has the calls from C, which look at what these functions return and fill the caller's buffers.
+//! `juniper_c` has the calls from C. Each of them makes one call here, fills the caller's buffers with what it returns,
+//! and returns its status.
 #![tactic(auto)]
 
 mod byte_table;

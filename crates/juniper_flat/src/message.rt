@@ -14,15 +14,23 @@ use std::alloc::{AllocError, Global};
 /// Whether a source has a tree, and where it has none why, in words.
 #[derive(Drop)]
 pub enum Said {
+    /// The source is a document, and no token is nested deeper than the limit.
     Tree,
+    /// The source is no document: its error, with the line and the column.
     Refused(String),
+    /// A token is nested too deep, and those up to it begin a document: its line and its column.
     TooDeep(String),
+    /// The bytes are no text.
     NotUtf8,
+    /// Memory ran out.
     Memory,
+    /// The source has 4 GiB or more.
     TooLong,
 }
 
-/// Why a source has no tree, in words, or that it has one.
+/// Returns why a source has no tree within a limit on the nesting of brackets, in words, or that it has one. There are
+/// no words where the bytes are no text or are 4 GiB or more, and where memory runs out. A limit above `MOST_DEPTH` may
+/// need more stack than there is.
 pub fn message_of(alloc: Global, source: &[u8], depth: u32) -> Said
     ensures { ReturnsSaid source.now depth result }
 {

@@ -6,8 +6,8 @@ use crate::node::Node;
 use crate::status::ROOM;
 use crate::token::Token;
 
-/// Copies these bytes to the buffer's beginning and returns the status, if the buffer is long enough, else returns that
-/// it is too short.
+/// Copies these bytes to the buffer's beginning and returns the status, if the buffer is long enough. Otherwise it leaves
+/// the buffer as it is and returns `ROOM`. In `needed` it puts how many bytes there are.
 pub fn fill(room: &mut [u8], needed: &mut usize, bytes: &[u8], status: u32) -> u32
     ensures count { needed.new ≡ length bytes.now }
     ensures filled { length bytes.now ≤ length room.old → (result ≡ status) × Begins bytes.now room.old room.new }
@@ -21,7 +21,8 @@ pub fn fill(room: &mut [u8], needed: &mut usize, bytes: &[u8], status: u32) -> u
     status
 }
 
-/// Copies both to the beginnings of their buffers, if both are long enough, and returns whether they are.
+/// Copies both to the beginnings of their buffers, if both are long enough, and returns whether they are. Otherwise it
+/// leaves both buffers as they are.
 pub fn fill_both(nodes: &mut [Node], texts: &mut [u8], told: &[Node], bytes: &[u8]) -> bool
     ensures filled { result ≡ true → Begins told.now nodes.old nodes.new × Begins bytes.now texts.old texts.new }
     ensures short { result ≡ false → ((length nodes.old < length told.now) ⊎ (length texts.old < length bytes.now)) × (nodes.new ≡ nodes.old) × (texts.new ≡ texts.old) }

@@ -11,19 +11,26 @@ use crate::token::{Token, token_at};
 use juniper_tokens::{Kind, Lexer};
 use std::alloc::Global;
 
-/// What has been put into the buffer: a number of tokens, the end among them, or those before an error.
+/// Which tokens of a source have been put into a buffer, as far as it has capacity for them.
 #[derive(Clone, Copy)]
 pub enum Written {
+    /// All of them, the end among them: so many.
     Tokens(usize),
+    /// Those before the first lexical error, so many, and the error.
     Refused(usize, Fault),
+    /// As many as the limit, and the fault is at the first that is one too many.
     Many(Fault),
+    /// None, since the bytes are no text.
     NotUtf8,
+    /// Some of the first, or none, before memory ran out.
     Memory,
+    /// None, since the source has 4 GiB or more.
     TooLong,
 }
 
-/// Puts the tokens of a source into a buffer, as many as it has capacity for, and counts them. The call stops at a lexical
-/// error, and at the first token that is more than the limit.
+/// Puts the tokens of a source into a buffer, as many as it has capacity for, and returns how many there are. The call
+/// stops at a lexical error, and at the first token that is more than the limit. The buffer stays as it is where the bytes
+/// are no text or are 4 GiB or more. Where memory runs out, some tokens may stand in it.
 pub fn tokens_of(alloc: Global, source: &[u8], most: u32, room: &mut [Token]) -> Written
     ensures { ReturnsTokens source.now most room.old room.new result }
 {
