@@ -1,6 +1,5 @@
 //! What is known of a source before the caller's buffers are looked at.
 ghost use Rattle.std.specs.Prelude.{◌≡◌, ◌<◌, ◌≤◌, ◌^◌, ◌++◌, ℕ, List, [], length, map, IfOk, OnOk, OnErr, string_bytes, encode_utf8_all};
-ghost use Rattle.std.specs.Str.{chars};
 ghost use Rattle.graphql_nodes.specs.Nodes.{definition_nodes};
 ghost use Rattle.juniper.specs.View.{view_definition};
 ghost use Rattle.juniper_nodes.specs.NodeTexts.{node_texts};

@@ -1,5 +1,5 @@
 //! The caller's buffers.
-ghost use Rattle.std.specs.Prelude.{◌≡◌, ◌<◌, ◌≤◌, ◌⊎◌, ◌++◌, length, drop, slice_set, true, false};
+ghost use Rattle.std.specs.Prelude.{◌≡◌, ◌<◌, ◌≤◌, ◌⊎◌, length, slice_set, true, false};
 ghost use Rattle.juniper_flat.specs.Answers.{Begins};
 
 use crate::node::Node;

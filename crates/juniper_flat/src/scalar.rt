@@ -1,11 +1,9 @@
 //! A scalar type that keeps what a token means, and not how it is written.
-ghost use Rattle.std.specs.Prelude.{◌≡◌, [], Ok, Some, IfOk};
-ghost use Rattle.std.specs.Fmt.{DisplaysOnOk};
+ghost use Rattle.std.specs.Prelude.{◌≡◌, [], Ok, Some};
 ghost use Rattle.std.specs.Str.{chars, encode_utf8_all};
 ghost use Rattle.graphql_lexical.specs.declared.kind.Kind.TheVariants.{Int, BlockString as Block};
 ghost use Rattle.juniper_values.specs.Default.{default_reading};
 ghost use Rattle.juniper_values.specs.Scalar.{MeetsReading, same_content};
-ghost use Rattle.juniper_values.specs.View.{text_of};
 ghost use Rattle.juniper_nodes.specs.Literal.{literal_shown, string_reading, of_block};
 ghost use Rattle.juniper_flat.specs.Scalars.{scalar_content, int_reading};
 
