@@ -2,10 +2,11 @@
 //! that takes memory. For `check_speed`, `speed` measures how fast a text is read.
 //!
 //! Of the rows, `rows` reads them, `kinds` makes the calls of each kind of row and writes what they return, and `tally`
-//! counts which hold.
+//! counts which hold. `guide` is the code of docs/GUIDE.md, which rows call.
 #![tactic(auto)]
 
 pub mod files;
+pub mod guide;
 pub mod kinds;
 mod parsing;
 pub mod refusals;
