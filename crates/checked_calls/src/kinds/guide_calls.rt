@@ -1,4 +1,4 @@
-//! Rows of the functions of the guide.
+//! The functions of the guide.
 
 use crate::guide::{
     argument_value, fault_line, field_names, is_document, is_document_within, kept_up_to,

@@ -1,7 +1,7 @@
 //! A type of a caller's own, which is made from input values.
 
-use crate::refusals::write::write_made;
-use crate::write::Written;
+use crate::parsing::Input;
+use crate::write::{Written, write_made};
 use juniper::{DefaultScalarValue, FromInputValue, InputValue};
 use std::alloc::{AllocError, Global};
 use std::fmt;
@@ -36,12 +36,7 @@ impl fmt::Display for Shown {
 }
 
 /// `convert`: what that type makes of the value. Any other word: what it makes of a value that is not given.
-pub fn answer(
-    alloc: Global,
-    out: &mut String,
-    call: &str,
-    value: &InputValue<DefaultScalarValue>,
-) -> Written {
+pub fn answer(alloc: Global, out: &mut String, call: &str, value: &Input) -> Written {
     match call {
         "convert" => write_made(out, &value.convert::<Shown>(alloc)),
         _ => write_made(out, &Shown::from_implicit_null(alloc)),

@@ -1,4 +1,4 @@
-//! Documents.
+//! A parse of a document, reported as it comes.
 
 use juniper::{
     DefaultScalarValue, Definition, DefinitionSink, DepthFailure, OwnedDocument, ParseFailure,
