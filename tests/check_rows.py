@@ -1,4 +1,4 @@
-"""Tests the programs gqlcheck and gqlcanon on the rows of tests/rows.
+"""Tests the programs gqlcheck, gqlcanon and check_calls on the rows of tests/rows.
 
     gqlcheck TEXT     the output of a run on the text, and the word of its end
     built WORD N      the same for a large text: how long it is, how the run ends, how many lines there are with that word, the
@@ -9,6 +9,14 @@
                       whether these tokens are the same in it, places included
     canonical TEXT    the output of a run of gqlcanon on the text, and the word of its end
 
+The kinds of the rows of tests/rows/calls are those of check_calls; crates/checked_calls/src/kinds.rt says which there are. The
+answer is the output of a run on the text. A kind that makes calls is given them, and its answer has a line for each: the call,
+` -> ` and what it returns. One kind is made of others:
+
+    large WORD N      a large literal: how long it is, and which calls on its value return what is expected. `string` is a
+                      String of N escapes, `block_string` a block string of N lines after its first, `name` an enum value of N
+                      characters after its first, `list` a list of N numbers after its first
+
 For each text of kind `gqlcheck` that can be cut into tokens, the canonical text has to be these tokens, joined here. It has to
 be its own canonical text, and to have the same tree, except for places, or to be refused alike.
 
@@ -16,7 +24,7 @@ For each text of kind `gqlcheck` that is refused and can be cut into tokens, a c
 decides whether the text can be cut, and which tokens go on. A run of gqlcheck shows that the completed text is a document.
 Tokens are cut by `cutting`.
 
-    check_rows.py GQLCHECK GQLCANON     the last line is 'N passed, M failed'
+    check_rows.py GQLCHECK GQLCANON CHECK_CALLS     the last line is 'N passed, M failed'
 """
 
 import ctypes
@@ -38,6 +46,12 @@ LIBRARY = ROOT / "out/libfirthnapkin.so.0"
 COMPLETION = "completion of a refused text"
 SAME = "canonical text of a row"
 COUNTS = {"gqlcheck": 2127, "built": 4, "completed": 8, "canonical": 29, COMPLETION: 462, SAME: 636}
+COUNTS.update(lexer=73, line_table=1, type=5, value=34, const=1, document=44, within=14, equal=25, large=4, odd_document=25)
+
+# Of the kinds of check_calls those whose rows make calls, with the number of their rows.
+CALLS = {"cursor": 14, "arguments": 2, "answer": 17, "devices": 2, "input_value": 22, "scalar": 24, "odd_scalar": 42,
+         "type_literal": 4, "name": 11, "into": 4, "guide": 18}  # fmt: skip
+COUNTS.update(CALLS)
 
 # The word of a run's end, by the program's exit status. Where gqlcheck ends in a tree gqlcanon ends in a text.
 ENDS = ("Tree", "Refused", "NotUtf8", "Device", "Memory", "TooDeep")
@@ -55,6 +69,15 @@ BUILT = {
     "deep": lambda n: "{a" * n + "}" * n,
     "wide": lambda n: "{\n" + "someField\n" * n + "}",
     "mixed": lambda n: MIXED * n,
+}
+
+
+# Of each large literal what it begins with, what is repeated in it and what it ends with, and then how its value displays.
+LARGE = {
+    "string": ('"', r"\u0041b", '"', '"', "Ab", '"'),
+    "block_string": ('"""b', "\n  b", '"""', '"b', "\nb", '"'),
+    "name": ("n", "n", "", "n", "n", ""),
+    "list": ("[1", " 1", "]", "[1", ", 1", "]"),
 }
 
 
@@ -98,6 +121,46 @@ def refusal_of(text: str, told: str) -> Optional[Refusal]:
     tokens = [token for token in tokens if token[0] < fault]
     end = tokens[-1][0] + len(tokens[-1][1]) if tokens else 0
     return Refusal(tokens, text[:end])
+
+
+def called(calls: str, kind: str, source: bytes, *lines: str) -> str:
+    """What check_calls returns for these calls on a text. Its first line says that the calls come now."""
+    command = [calls, "calls", kind, *lines]
+    try:
+        ran = subprocess.run(command, input=source, stdout=subprocess.PIPE, stderr=subprocess.STDOUT, timeout=SECONDS)
+    except subprocess.TimeoutExpired:
+        return f"no end within {SECONDS} seconds\n"
+    told = ran.stdout.decode("utf-8", "backslashreplace")
+    if ran.returncode or not told.startswith("calling\n"):
+        return f"status {ran.returncode}: {told}\n"
+    return told[len("calling\n") :]
+
+
+def answer_of_calls(calls: str, row: Row, wanted: List[str]) -> str:
+    """The answer of a row of check_calls. What is expected says which calls are made."""
+    if row.kind == "large":
+        return answer_of_large(calls, row.text.decode())
+    lines = [line.partition(" -> ")[0] for line in wanted] if row.kind in CALLS else []
+    return called(calls, row.kind, row.text, *lines)
+
+
+def answer_of_large(calls: str, text: str) -> str:
+    word, _, number = text.partition(" ")
+    begin, part, end, *shown = LARGE[word]
+    source = (begin + part * int(number) + end).encode()
+    shown = shown[0] + shown[1] * int(number) + shown[2]
+    # An answer value has no enum values, and has a text instead.
+    answered = f'"{shown}"' if word == "name" else shown
+    wanted = [
+        ("shown", "input_value", source, "display", shown),
+        ("copied", "input_value", source, "try_clone", "true"),
+        ("resolved", "input_value", source, "into_const {}", shown),
+        ("made anew", "input_value", source, "made_anew", f"{shown}, the same but for places, unlocated"),
+        ("converted", "into", shown.encode(), "values", f'"{shown}" "{shown}"'),
+        ("answered", "answer", source, "display", answered),
+    ]
+    held = [name for name, kind, given, call, told in wanted if called(calls, kind, given, call) == f"{call} -> {told}\n"]
+    return f"{len(source)} bytes\n{', '.join(held)}\n"
 
 
 def answer_of_built(program: str, text: str) -> str:
@@ -200,7 +263,7 @@ def fault_of_canonical(program: str, canon: str, text: str, told: Run) -> Option
     return None if placeless[0] == placeless[1] and told.end == again.end else f"the canonical text is told otherwise: {again.told()}"
 
 
-def try_row(program: str, canon: str, library: Optional[Library], name: str, row: Row) -> List[Tuple[str, Optional[str]]]:
+def try_row(program: str, canon: str, calls: str, library: Optional[Library], name: str, row: Row) -> List[Tuple[str, Optional[str]]]:
     """For each check of a row its kind, and what is wrong; None where nothing is wrong."""
     wanted = [plain(line).decode() for line in row.wanted]
     if row.kind == "gqlcheck":
@@ -213,7 +276,7 @@ def try_row(program: str, canon: str, library: Optional[Library], name: str, row
     elif row.kind == "completed":
         found = answer_of_completed(program, row.text.decode(), wanted)
     else:
-        found = "no such kind\n"
+        found = answer_of_calls(calls, row, wanted)
     where = f"{name}:{row.number}"
     holds = found == "".join(line + "\n" for line in wanted)
     shown = [(row.kind, None if holds else f"{where}: {row.kind} is answered by\n{found}")]
@@ -234,14 +297,16 @@ def is_cut(library: Optional[Library], source: bytes, ran: Run) -> bool:
 
 
 def main() -> int:
-    program, canon = sys.argv[1:]
+    program, canon, calls = sys.argv[1:]
     library = Library() if LIBRARY.exists() else None
     if library is None:
         print(f"check_rows: skipped: completions of refused texts, since {LIBRARY.relative_to(ROOT)} is not built")
-    work = [(path.name, row) for path in sorted((ROOT / "tests/rows").glob("*.rows")) for row in rows(path.name)]
+    folder = ROOT / "tests/rows"
+    names = [str(path.relative_to(folder)) for path in sorted(folder.rglob("*.rows"))]
+    work = [(name, row) for name in names for row in rows(name)]
     held, tried = dict.fromkeys(COUNTS, 0), dict.fromkeys(COUNTS, 0)
     with ThreadPoolExecutor(os.cpu_count()) as pool:
-        for shown in pool.map(lambda it: try_row(program, canon, library, *it), work):
+        for shown in pool.map(lambda it: try_row(program, canon, calls, library, *it), work):
             for kind, wrong in shown:
                 tried[kind] = tried.get(kind, 0) + 1
                 held[kind] = held.get(kind, 0) + (wrong is None)

@@ -4,7 +4,7 @@
 A row is a line of a kind's word, a space and a text, and below it the lines of its answer, each after two spaces. Lines that
 are empty or begin with `#` are ignored. In texts and answers `\\n`, `\\r`, `\\t` and `\\\\` stand for a line feed, a carriage
 return, a tab and a backslash, `\\u{F}` for the character of that number in hexadecimal digits, and `\\x{F}` for the byte. A
-backslash before anything else stands for itself. The program check_calls reads the same, but for `\\x{F}`.
+backslash before anything else stands for itself.
 
     tests/rows.py    writes a line for each row of gqlcheck that has the same result with every scalar type: its text, and the
                      expected lines, each as hexadecimal digits of its bytes. `-` stands for no bytes. For a text that is no
@@ -16,7 +16,7 @@ import re
 from typing import Iterator, List, NamedTuple
 
 ROOT = os.path.join(os.path.dirname(os.path.abspath(__file__)), "..")
-FOLDERS = (os.path.join(ROOT, "tests", "rows"), os.path.join(ROOT, "crates", "check_calls", "data"))
+FOLDERS = (os.path.join(ROOT, "tests", "rows"), os.path.join(ROOT, "tests", "rows", "calls"))
 ESCAPE = re.compile(rb"\\(n|r|t|\\|u\{[0-9A-Fa-f]+\}|x\{[0-9A-Fa-f]+\})")
 
 

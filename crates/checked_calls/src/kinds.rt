@@ -1,13 +1,17 @@
-//! The results of each kind of row.
+//! The results of calls of each kind.
+//!
+//! Where a request of a call is refused, `Memory` is written, and then what was handed back, if anything. So the error
+//! that memory ran out is returned only where a request was refused that came before the call, for what it is made on.
 
 mod answers;
 mod conversions;
+mod converted;
 mod cursor;
 mod devices;
 mod documents;
 mod guide_calls;
+mod handed_back;
 mod input_values;
-mod large;
 mod lexing;
 mod literals;
 mod odd;
@@ -19,13 +23,13 @@ use crate::write::Written;
 use juniper::DefaultScalarValue;
 use std::alloc::Global;
 
-/// Writes what stands below a row of this kind and text, if it holds. The expected lines say which calls are made.
+/// Writes what calls of this kind on the text return. A kind that has several is given those that are made, a line each.
 pub fn write_answer(
     alloc: Global,
     out: &mut String,
     kind: &str,
     text: &str,
-    wanted: &str,
+    calls: &str,
 ) -> Written {
     match kind {
         "lexer" => lexing::write_items(alloc, out, text),
@@ -36,19 +40,19 @@ pub fn write_answer(
         "document" => documents::write_tree(alloc, out, text),
         "within" => documents::write_tree_within(alloc, out, text),
         "equal" => documents::write_equal(alloc, out, text),
-        "large" => large::write_large(alloc, out, text),
         "odd_document" => odd::write_arguments_of(alloc, out, text),
-        "cursor" => cursor::write_calls(alloc, out, text, wanted),
-        "arguments" => documents::write_calls(alloc, out, text, wanted),
-        "answer" => answers::write_calls(alloc, out, text, wanted),
-        _ => write_calls(alloc, out, kind, text, wanted),
+        "pushed" => documents::write_counts(alloc, out, text),
+        "parser" => cursor::write_tokens(alloc, out, text),
+        "cursor" => cursor::write_calls(alloc, out, text, calls),
+        "arguments" => documents::write_calls(alloc, out, text, calls),
+        "answer" => answers::write_calls(alloc, out, text, calls),
+        _ => write_calls(alloc, out, kind, text, calls),
     }
 }
 
 // The results of calls, each of which begins with the text anew.
-fn write_calls(alloc: Global, out: &mut String, kind: &str, text: &str, wanted: &str) -> Written {
-    for line in wanted.lines() {
-        let call = call_of(line);
+fn write_calls(alloc: Global, out: &mut String, kind: &str, text: &str, calls: &str) -> Written {
+    for call in calls.lines() {
         write!(out, "{call} -> ")?;
         answer_call(alloc, out, kind, text, call)?;
         out.push('\n')?;
@@ -63,18 +67,11 @@ fn answer_call(alloc: Global, out: &mut String, kind: &str, text: &str, call: &s
         "scalar" => scalars::answer::<DefaultScalarValue>(alloc, out, text, call),
         "odd_scalar" => odd::answer(alloc, out, text, call),
         "type_literal" => types::answer(alloc, out, text, call),
+        "object" => answers::answer_made(alloc, out, text, call),
         "name" => answers::answer_name(alloc, out, text, call),
         "into" => conversions::answer(alloc, out, text, call),
         "guide" => guide_calls::answer(alloc, out, text, call),
         _ => out.push_str("no such kind"),
-    }
-}
-
-/// The call and the rest of a line of calls: up to ` -> `.
-pub(crate) fn call_of(line: &str) -> &str {
-    match line.split_once(" -> ") {
-        Some((call, _answer)) => call,
-        None => line,
     }
 }
 

@@ -1,24 +1,31 @@
-//! What is read by a parser for rows and for refused requests alike: value literals, and delimited lists of Names.
+//! What is read by a parser: value literals, and delimited lists of Names.
 ghost use Rattle.juniper_tokens.specs.Delimited.{Leaves};
 
 use juniper::{
-    DefaultScalarValue, InputValue, Lexer, ParseResult, Parser, Spanning, Token,
-    UnlocatedParseResult, parse_value_literal,
+    DefaultScalarValue, InputValue, LexFailure, Lexer, ParseFailure, ParseResult, Parser, Spanning,
+    Token, UnlocatedParseResult, parse_value_literal,
 };
 use std::alloc::{AllocError, Global};
 
 pub type Input = InputValue<DefaultScalarValue>;
 
-/// The value literal that a text begins with.
+/// The value literal that a text begins with, if any.
 pub fn literal(alloc: Global, text: &str) -> Result<Option<Input>, AllocError> {
     let mut lexer = Lexer::new(alloc, text);
     match Parser::new(&mut lexer) {
-        Ok(mut parser) => match parse_value_literal(&mut parser, false) {
+        Ok(mut parser) => match value_in(&mut parser, false) {
             Ok(value) => Ok(Some(value.item)),
-            Err(_) => Ok(None),
+            Err(ParseFailure::Memory) => Err(AllocError),
+            Err(ParseFailure::Refused(_)) => Ok(None),
         },
-        Err(_) => Ok(None),
+        Err(LexFailure::Memory) => Err(AllocError),
+        Err(LexFailure::Fault(_)) => Ok(None),
     }
+}
+
+/// The value literal that the tokens begin with.
+pub fn value_in(parser: &mut Parser<'_>, is_const: bool) -> ParseResult<Input> {
+    parse_value_literal(parser, is_const)
 }
 
 // The Name that stands next.

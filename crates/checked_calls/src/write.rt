@@ -1,7 +1,8 @@
-//! How places, tokens and errors are written in a row's result.
+//! How places, tokens, errors and what calls make are written in a row's result.
 
 use juniper::{LexerError, ParseError, ParseFailure, SourcePosition, Span, Spanning, Token};
 use std::alloc::AllocError;
+use std::fmt;
 
 /// The result of writing.
 pub type Written = Result<(), AllocError>;
@@ -72,6 +73,39 @@ pub fn write_failure(out: &mut String, failure: &ParseFailure) -> Written {
         }
         ParseFailure::Memory => out.push_str("Memory"),
     }
+}
+
+/// Writes what was made, or `Memory`.
+pub fn write_made<T: fmt::Display + Drop>(
+    out: &mut String,
+    made: &Result<T, AllocError>,
+) -> Written {
+    match made {
+        Ok(made) => write!(out, "{made}"),
+        Err(_) => out.push_str("Memory"),
+    }
+}
+
+/// Writes what was made, `None` where nothing was, or `Memory`.
+pub fn write_found<T: fmt::Display + Drop>(
+    out: &mut String,
+    made: &Result<Option<T>, AllocError>,
+) -> Written {
+    match made {
+        Ok(Some(made)) => write!(out, "{made}"),
+        Ok(None) => out.push_str("None"),
+        Err(_) => out.push_str("Memory"),
+    }
+}
+
+/// Writes items with commas between them.
+pub fn write_items<T: fmt::Display>(out: &mut String, items: &[T]) -> Written {
+    let before = out.len();
+    for item in items {
+        write_separator(out, before)?;
+        write!(out, "{item}")?;
+    }
+    Ok(())
 }
 
 /// Writes a comma and a space, unless nothing was written after this many bytes.

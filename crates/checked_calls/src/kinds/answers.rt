@@ -1,25 +1,24 @@
-//! Rows of answer values, objects and names.
+//! Answer values, objects and names.
 
-use crate::kinds::{call_of, word_of};
+use crate::kinds::word_of;
 use crate::parsing::{Input, literal};
-use crate::write::{Written, write_separator, write_truth};
+use crate::write::{Written, write_made, write_separator, write_truth};
 use juniper::{
-    DefaultScalarValue, InputValue, IntoValue, Name, NameFailure, Object, Span, Spanning,
-    ToInputValue, Value, value_from_str,
+    DefaultScalarValue, InputValue, IntoValue, Name, NameFailure, Object, ParseError, Span,
+    Spanning, ToInputValue, Token, Value, value_from_str,
 };
 use std::alloc::{AllocError, Global};
 use std::borrow::CowStr;
 
-pub(crate) type Answer = Value<DefaultScalarValue>;
+type Answer = Value<DefaultScalarValue>;
 
 /// `answer`: calls, one after another, on the answer value that is made of the text, a value literal: of an enum its
 /// text, of a variable null.
-pub fn write_calls(alloc: Global, out: &mut String, text: &str, wanted: &str) -> Written {
+pub fn write_calls(alloc: Global, out: &mut String, text: &str, calls: &str) -> Written {
     let Some(mut value) = answer_in(alloc, text)? else {
         return out.push_str("no value\n");
     };
-    for line in wanted.lines() {
-        let call = call_of(line);
+    for call in calls.lines() {
         write!(out, "{call} -> ")?;
         answer_call(alloc, out, &mut value, call)?;
         out.push('\n')?;
@@ -34,9 +33,9 @@ fn answer_in(alloc: Global, text: &str) -> Result<Option<Answer>, AllocError> {
     }
 }
 
-/// An answer value made by constructors and conversions.
+// An answer value made by constructors and conversions.
 #[cycle(answers)]
-pub(crate) fn answer_of(alloc: Global, value: &Input) -> Result<Answer, AllocError> {
+fn answer_of(alloc: Global, value: &Input) -> Result<Answer, AllocError> {
     match value {
         InputValue::Null => Ok(Value::null()),
         InputValue::Scalar(scalar) => scalar_of(alloc, scalar),
@@ -69,15 +68,47 @@ fn object_of(
     alloc: Global,
     fields: &[(Spanning<String>, Spanning<Input>)],
 ) -> Result<Answer, AllocError> {
+    object_from(alloc, pairs_of(alloc, fields)?)
+}
+
+#[cycle(answers)]
+fn pairs_of(
+    alloc: Global,
+    fields: &[(Spanning<String>, Spanning<Input>)],
+) -> Result<Vec<(String, Answer)>, AllocError> {
     let mut pairs = Vec::new(alloc);
     for (key, value) in fields {
         pairs.push((key.item.clone()?, answer_of(alloc, &value.item)?))?;
     }
-    object_from(alloc, pairs)
+    Ok(pairs)
 }
 
 fn object_from(alloc: Global, pairs: Vec<(String, Answer)>) -> Result<Answer, AllocError> {
     let object: Object<DefaultScalarValue> = Object::from_iter(alloc, pairs.into_iter())?;
+    Ok(Value::object(object))
+}
+
+/// `object`: a call that makes an object: `with_capacity` of a number of fields, or `from_iter` of the fields of the value
+/// literal that is the text.
+pub fn answer_made(alloc: Global, out: &mut String, text: &str, call: &str) -> Written {
+    match word_of(call) {
+        ("with_capacity", number) => write_made(out, &empty(alloc, number)),
+        ("from_iter", _) => match literal(alloc, text)? {
+            Some(InputValue::Object(fields)) => {
+                write_made(out, &object_from(alloc, pairs_of(alloc, &fields)?))
+            }
+            _ => out.push_str("no object"),
+        },
+        _ => out.push_str("no such call"),
+    }
+}
+
+// An object with room for a number of fields.
+fn empty(alloc: Global, number: &str) -> Result<Answer, AllocError> {
+    let object: Object<DefaultScalarValue> = Object::with_capacity(
+        alloc,
+        number.parse::<usize>().unwrap_or(0),
+    )?;
     Ok(Value::object(object))
 }
 
@@ -100,7 +131,7 @@ fn answer_whole(
     rest: &str,
 ) -> Written {
     match word {
-        "try_clone" => write_copied(alloc, out, value),
+        "try_clone" => write_made(out, &is_copied(alloc, value)),
         "into_object" => write_taken_apart(out, value.try_clone(alloc)?),
         "map_scalar_value" => write_mapped(alloc, out, value),
         "==" => write_compared(alloc, out, value, rest),
@@ -121,14 +152,22 @@ fn answer_part(
     }
 }
 
-fn write_copied(alloc: Global, out: &mut String, value: &Answer) -> Written {
-    write_truth(out, value.try_clone(alloc)? == *value)
+fn is_copied(alloc: Global, value: &Answer) -> Result<bool, AllocError> {
+    Ok(value.try_clone(alloc)? == *value)
 }
 
 fn write_mapped(alloc: Global, out: &mut String, value: &Answer) -> Written {
-    let mapped: Answer = value.try_clone(alloc)?.map_scalar_value(alloc)?;
-    let is_equal = mapped == *value;
-    write!(out, "{mapped} {is_equal}")
+    match mapped(alloc, value.try_clone(alloc)?) {
+        Ok(mapped) => {
+            let is_equal = mapped == *value;
+            write!(out, "{mapped} {is_equal}")
+        }
+        Err(_) => out.push_str("Memory"),
+    }
+}
+
+fn mapped(alloc: Global, value: Answer) -> Result<Answer, AllocError> {
+    value.map_scalar_value(alloc)
 }
 
 // Whether an answer value equals the one that is written, and the other way round.
@@ -145,7 +184,10 @@ fn write_both(out: &mut String, there: bool, back: bool) -> Written {
 
 // The input value of an answer value, and whether it has no place.
 fn write_input(alloc: Global, out: &mut String, value: &Answer) -> Written {
-    write_unlocated(out, &value.to_input_value(alloc)?)
+    match value.to_input_value(alloc) {
+        Ok(input) => write_unlocated(out, &input),
+        Err(_) => out.push_str("Memory"),
+    }
 }
 
 fn write_unlocated(out: &mut String, input: &Input) -> Written {
@@ -234,20 +276,17 @@ fn write_added(
     text: &str,
 ) -> Written {
     match answer_in(alloc, text)? {
-        Some(value) => write_optional(out, added(alloc, object, key, value)?.as_ref()),
+        Some(value) => write_old(out, &object.add_field(String::from_str(alloc, key)?, value)),
         None => out.push_str("no value"),
     }
 }
 
-// Adds a pair, and returns the value that was there.
-fn added(
-    alloc: Global,
-    object: &mut Object<DefaultScalarValue>,
-    key: &str,
-    value: Answer,
-) -> Result<Option<Answer>, AllocError> {
-    let key = String::from_str(alloc, key)?;
-    object.add_field(key, value).map_err(|_pair| AllocError)
+// Writes the value that was there, or after `Memory` the pair that was handed back.
+fn write_old(out: &mut String, old: &Result<Option<Answer>, (String, Answer)>) -> Written {
+    match old {
+        Ok(old) => write_optional(out, old.as_ref()),
+        Err((key, value)) => write!(out, "Memory {key}: {value}"),
+    }
 }
 
 fn write_optional(out: &mut String, value: Option<&Answer>) -> Written {
@@ -294,8 +333,11 @@ pub fn answer_name(alloc: Global, out: &mut String, text: &str, call: &str) -> W
         "new" => match Name::new(alloc, text) {
             Ok(name) => out.push_str(name.as_str()),
             Err(NameFailure::Invalid(error)) => write!(out, "Invalid {error}"),
-            Err(NameFailure::Memory) => Err(AllocError),
+            Err(NameFailure::Memory) => out.push_str("Memory"),
         },
+        "unexpected_token" => {
+            write_made(out, &ParseError::unexpected_token(alloc, Token::Name(text)))
+        }
         _ => out.push_str("no such call"),
     }
 }

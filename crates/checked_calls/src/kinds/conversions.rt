@@ -1,13 +1,16 @@
-//! Rows of what texts, booleans and values themselves become.
+//! What texts, booleans and values themselves become.
 
-use crate::write::Written;
+use crate::parsing::Input;
+use crate::write::{Written, write_made};
 use juniper::{
-    DefaultScalarValue, IntoInputValue, IntoValue, input_value_from_str, value_from_str,
+    DefaultScalarValue, InputValue, IntoInputValue, IntoValue, Value, input_value_from_str,
+    value_from_str,
 };
 use std::alloc::{AllocError, Global};
 use std::borrow::CowStr;
 
-/// `into`: the answer value and the input value that something becomes which is made of the text.
+/// `into`: the answer value and the input value that something becomes which is made of the text; or what a single call
+/// makes of the text.
 pub fn answer(alloc: Global, out: &mut String, text: &str, call: &str) -> Written {
     match call {
         "bool" => write_truths(alloc, out, text == "true"),
@@ -15,7 +18,29 @@ pub fn answer(alloc: Global, out: &mut String, text: &str, call: &str) -> Writte
         "borrowed" => write_borrowed(alloc, out, text),
         "owned" => write_owned(alloc, out, text),
         "values" => write_values(alloc, out, text),
+        "value_from_str" => write_made(out, &value_from_str::<DefaultScalarValue>(alloc, text)),
+        "into_value" => write_lent(alloc, out, text),
+        "enum_value" | "variable" | "input_value_from_str" | "into_input_value" => {
+            write_made(out, &input_of(alloc, text, call))
+        }
         _ => out.push_str("no such call"),
+    }
+}
+
+// The answer value of a text that is borrowed.
+fn write_lent(alloc: Global, out: &mut String, text: &str) -> Written {
+    let owned = String::from_str(alloc, text)?;
+    let lent: Result<Value<DefaultScalarValue>, AllocError> = Some(&owned).into_value(alloc);
+    write_made(out, &lent)
+}
+
+// The input value that a call makes of the text.
+fn input_of(alloc: Global, text: &str, call: &str) -> Result<Input, AllocError> {
+    match call {
+        "enum_value" => InputValue::enum_value(alloc, text),
+        "variable" => InputValue::variable(alloc, text),
+        "input_value_from_str" => input_value_from_str(alloc, text),
+        _ => Some(CowStr::Borrowed(text)).into_input_value(alloc),
     }
 }
 

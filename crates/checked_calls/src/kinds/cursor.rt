@@ -1,26 +1,45 @@
-//! Rows of the cursor.
+//! The cursor.
 
-use crate::kinds::{call_of, word_of};
-use crate::parsing::{names, some_names, some_texts};
+use crate::kinds::lexing::write_left;
+use crate::kinds::word_of;
+use crate::parsing::{names, some_names, some_texts, value_in};
 use crate::write::{Written, write_failure, write_refusal, write_span, write_token};
 use juniper::{
-    Lexer, LexerResult, OptionParseResult, ParseFailure, ParseResult, Parser, Spanning, Token,
+    LexFailure, Lexer, LexerResult, OptionParseResult, ParseFailure, ParseResult, Parser, Spanning,
+    Token, Type, parse_type,
 };
-use std::alloc::Global;
+use std::alloc::{AllocError, Global};
+use std::fmt;
+
+/// `parser`: the tokens of a parser of the text, or why there is none and the items that are left to the lexer then.
+pub fn write_tokens(alloc: Global, out: &mut String, text: &str) -> Written {
+    let mut lexer = Lexer::new(alloc, text);
+    match Parser::new(&mut lexer) {
+        Ok(mut parser) => {
+            write_rest(out, &mut parser)?;
+            out.push('\n')
+        }
+        Err(failure) => {
+            write_refusal(out, &ParseFailure::from(failure))?;
+            write_left(out, &mut lexer, text.len())
+        }
+    }
+}
 
 /// `cursor`: calls on a parser of the text, one after another. `expect` and `skip` take the token that is written after
 /// them, the end where nothing is; the lists take their opening and their closing token, and their items are Names.
-pub fn write_calls(alloc: Global, out: &mut String, text: &str, wanted: &str) -> Written {
+/// `rest` takes all tokens that are left, by calls of `next_token`.
+pub fn write_calls(alloc: Global, out: &mut String, text: &str, calls: &str) -> Written {
     let mut lexer = Lexer::new(alloc, text);
     match Parser::new(&mut lexer) {
-        Ok(mut parser) => answer_calls(out, &mut parser, wanted),
+        Ok(mut parser) => answer_calls(out, &mut parser, calls),
+        Err(LexFailure::Memory) => Err(AllocError),
         Err(failure) => write_refusal(out, &ParseFailure::from(failure)),
     }
 }
 
-fn answer_calls(out: &mut String, parser: &mut Parser<'_>, wanted: &str) -> Written {
-    for line in wanted.lines() {
-        let call = call_of(line);
+fn answer_calls(out: &mut String, parser: &mut Parser<'_>, calls: &str) -> Written {
+    for call in calls.lines() {
         write!(out, "{call} -> ")?;
         answer_call(out, parser, call)?;
         out.push('\n')?;
@@ -33,11 +52,39 @@ fn answer_call(out: &mut String, parser: &mut Parser<'_>, call: &str) -> Written
     match word {
         "peek" => write_token(out, parser.peek()),
         "next_token" => write_taken(out, &parser.next_token()),
-        "expect_name" => write_name(out, &parser.expect_name()),
+        "expect_name" => write_read(out, &parser.expect_name()),
         "expect" => expect(out, parser, rest),
         "skip" => skip(out, parser, rest),
+        "rest" => write_rest(out, parser),
+        _ => answer_read(out, parser, call),
+    }
+}
+
+// A call that reads more than one token.
+fn answer_read(out: &mut String, parser: &mut Parser<'_>, call: &str) -> Written {
+    match call {
+        "parse_type" => write_read(out, &type_in(parser)),
+        "parse_value_literal" => write_read(out, &value_in(parser, false)),
+        "parse_value_literal_const" => write_read(out, &value_in(parser, true)),
         _ => answer_list(out, parser, call),
     }
+}
+
+fn type_in<'a>(parser: &mut Parser<'a>) -> ParseResult<Type<&'a str>> {
+    parse_type(parser)
+}
+
+// Writes the texts of the tokens that are left.
+fn write_rest(out: &mut String, parser: &mut Parser<'_>) -> Written {
+    for _ in 0..usize::MAX {
+        let token = parser.peek().item;
+        write!(out, "{token}")?;
+        if parser.next_token().is_err() {
+            break;
+        }
+        out.push(' ')?;
+    }
+    Ok(())
 }
 
 fn expect(out: &mut String, parser: &mut Parser<'_>, wanted: &str) -> Written {
@@ -75,17 +122,17 @@ fn write_skipped(out: &mut String, taken: &OptionParseResult<Token<'_>>) -> Writ
     }
 }
 
-fn write_name(out: &mut String, taken: &ParseResult<&str>) -> Written {
-    match taken {
-        Ok(name) => write_spanned(out, name),
+fn write_read<T: fmt::Display + Drop>(out: &mut String, read: &ParseResult<T>) -> Written {
+    match read {
+        Ok(read) => write_spanned(out, read),
         Err(failure) => write_failure(out, failure),
     }
 }
 
-fn write_spanned(out: &mut String, name: &Spanning<&str>) -> Written {
-    write_span(out, &name.span)?;
-    let text = name.item;
-    write!(out, " {text}")
+fn write_spanned<T: fmt::Display>(out: &mut String, read: &Spanning<T>) -> Written {
+    write_span(out, &read.span)?;
+    let item = &read.item;
+    write!(out, " {item}")
 }
 
 fn answer_list(out: &mut String, parser: &mut Parser<'_>, call: &str) -> Written {

@@ -1,4 +1,4 @@
-//! Rows of runs over readers and writers that give or take few bytes a call, or fail.
+//! Runs over readers and writers that give or take few bytes a call, or fail.
 
 use crate::write::Written;
 use gqlcheck_report::{RunEnd, Watched, run};

@@ -1,7 +1,7 @@
-//! Rows of documents, their equality, and arguments.
+//! Documents, their equality, and arguments.
 
-use crate::kinds::tree::{write_document, write_value};
-use crate::kinds::{call_of, word_of};
+use crate::kinds::tree::{write_document, write_pushed, write_value};
+use crate::kinds::word_of;
 use crate::parsing::{Input, literal};
 use crate::write::{Written, write_refusal, write_separator, write_span};
 use juniper::{
@@ -20,6 +20,15 @@ fn document(alloc: Global, source: &str) -> Result<Document<'_>, ParseFailure> {
 pub fn write_tree(alloc: Global, out: &mut String, text: &str) -> Written {
     match &document(alloc, text) {
         Ok(document) => write_document(alloc, out, document),
+        Err(failure) => write_refusal(out, failure),
+    }
+}
+
+/// `pushed`: how many nodes there are after each definition of the document was appended by `push_definition`.
+pub fn write_counts(alloc: Global, out: &mut String, text: &str) -> Written {
+    match &document(alloc, text) {
+        Ok(document) => write_pushed(alloc, out, document),
+        Err(ParseFailure::Memory) => Err(AllocError),
         Err(failure) => write_refusal(out, failure),
     }
 }
@@ -66,9 +75,9 @@ fn compared(alloc: Global, one: &str, other: &str) -> Result<(bool, bool), Parse
 type Given<'a> = Arguments<'a, DefaultScalarValue>;
 
 /// `arguments`: calls on the arguments that are written as the fields of an object.
-pub fn write_calls(alloc: Global, out: &mut String, text: &str, wanted: &str) -> Written {
+pub fn write_calls(alloc: Global, out: &mut String, text: &str, calls: &str) -> Written {
     match literal(alloc, text)? {
-        Some(InputValue::Object(fields)) => answer_calls(alloc, out, &fields, wanted),
+        Some(InputValue::Object(fields)) => answer_calls(alloc, out, &fields, calls),
         _ => out.push_str("no object\n"),
     }
 }
@@ -77,11 +86,10 @@ fn answer_calls(
     alloc: Global,
     out: &mut String,
     fields: &[(Spanning<String>, Spanning<Input>)],
-    wanted: &str,
+    calls: &str,
 ) -> Written {
     let mut given = given_of(alloc, fields)?;
-    for line in wanted.lines() {
-        let call = call_of(line);
+    for call in calls.lines() {
         write!(out, "{call} -> ")?;
         answer_call(alloc, out, &mut given, call)?;
         out.push('\n')?;

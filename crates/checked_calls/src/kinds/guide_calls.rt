@@ -1,14 +1,14 @@
-//! Rows of the functions of the guide.
+//! The functions of the guide.
 
+use crate::guide::{
+    argument_value, fault_line, field_names, is_document, is_document_within, kept_up_to,
+    same_literal,
+};
 use crate::kinds::input_values::variables_of;
 use crate::kinds::word_of;
 use crate::parsing::{Input, literal};
 use crate::write::{
     Written, write_failure, write_optional_text, write_separator, write_span, write_truth,
-};
-use guide::{
-    argument_value, fault_line, field_names, is_document, is_document_within, kept_up_to,
-    same_literal,
 };
 use juniper::{
     DefaultScalarValue, Definition, Field, OwnedDocument, ParseFailure, Selection, Span,

@@ -1,8 +1,11 @@
-//! Rows of input values.
+//! Input values.
 
-use crate::kinds::word_of;
+use crate::kinds::{converted, handed_back, word_of};
 use crate::parsing::{Input, literal};
-use crate::write::{Written, write_optional_text, write_separator, write_truth};
+use crate::write::{
+    Written, write_found, write_items, write_made, write_optional_text, write_separator,
+    write_truth,
+};
 use indexmap::IndexMap;
 use juniper::{
     DefaultScalarValue, InputValue, IntoInputValue, Span, Spanning, Variables, input_value_from_str,
@@ -10,8 +13,10 @@ use juniper::{
 use std::alloc::{AllocError, Global};
 use std::borrow::CowStr;
 use std::collections::HashMap;
+use std::fmt;
+use std::hash::Hash;
 
-/// `input_value`: a call on the value literal that the text begins with, `into_const` on a copy.
+/// `input_value`: a call on the value literal that the text begins with; `into_const`, `list` and `object` on a copy.
 pub fn answer(alloc: Global, out: &mut String, text: &str, call: &str) -> Written {
     match literal(alloc, text)? {
         Some(value) => answer_call(alloc, out, &value, call),
@@ -45,7 +50,11 @@ fn answer_parts(alloc: Global, out: &mut String, value: &Input, word: &str, rest
 fn answer_whole(alloc: Global, out: &mut String, value: &Input, word: &str, rest: &str) -> Written {
     match word {
         "made_anew" => write_made_anew(alloc, out, value),
-        "try_clone" => write_copied(alloc, out, value),
+        "try_clone" => write_made(out, &is_copied(alloc, value)),
+        "list" => handed_back::write_list(alloc, out, value),
+        "object" => handed_back::write_object(alloc, out, value),
+        "convert" | "from_implicit_null" => converted::answer(alloc, out, word, value),
+        "unlocated_eq" if rest.is_empty() => write_both_ways(out, value, value),
         _ => answer_two(alloc, out, value, word, rest),
     }
 }
@@ -57,8 +66,8 @@ fn write_scalar(out: &mut String, value: &Input) -> Written {
     }
 }
 
-fn write_copied(alloc: Global, out: &mut String, value: &Input) -> Written {
-    write_truth(out, value.try_clone(alloc)? == *value)
+fn is_copied(alloc: Global, value: &Input) -> Result<bool, AllocError> {
+    Ok(value.try_clone(alloc)? == *value)
 }
 
 // A call on the value and another literal.
@@ -86,32 +95,30 @@ fn write_resolved(
     value: &Input,
     variables: &Variables<DefaultScalarValue>,
 ) -> Written {
-    match value.try_clone(alloc)?.into_const(alloc, variables)? {
-        Some(left) => write!(out, "{left}"),
-        None => out.push_str("None"),
-    }
+    write_found(out, &value.try_clone(alloc)?.into_const(alloc, variables))
 }
 
 fn write_list(alloc: Global, out: &mut String, value: &Input) -> Written {
-    let Some(items) = value.to_list_value(alloc)? else {
-        return out.push_str("None");
-    };
-    let before = out.len();
-    for item in items {
-        write_separator(out, before)?;
-        write!(out, "{item}")?;
+    match value.to_list_value(alloc) {
+        Ok(Some(items)) => write_items(out, &items),
+        Ok(None) => out.push_str("None"),
+        Err(_) => out.push_str("Memory"),
     }
-    Ok(())
 }
 
 fn write_object(alloc: Global, out: &mut String, value: &Input) -> Written {
-    match value.to_object_value(alloc)? {
-        Some(map) => write_map(out, &map),
-        None => out.push_str("None"),
+    match value.to_object_value(alloc) {
+        Ok(Some(map)) => write_map(out, &map),
+        Ok(None) => out.push_str("None"),
+        Err(_) => out.push_str("Memory"),
     }
 }
 
-fn write_map(out: &mut String, map: &IndexMap<&str, &Input>) -> Written {
+/// Writes keys and their values, with commas between them.
+pub(crate) fn write_map<K: fmt::Display + Eq + Hash, V: fmt::Display>(
+    out: &mut String,
+    map: &IndexMap<K, V>,
+) -> Written {
     let before = out.len();
     for (key, value) in map.iter() {
         write_separator(out, before)?;
@@ -121,12 +128,10 @@ fn write_map(out: &mut String, map: &IndexMap<&str, &Input>) -> Written {
 }
 
 fn write_variables(alloc: Global, out: &mut String, value: &Input) -> Written {
-    let before = out.len();
-    for name in value.referenced_variables(alloc)? {
-        write_separator(out, before)?;
-        write!(out, "{name}")?;
+    match value.referenced_variables(alloc) {
+        Ok(names) => write_items(out, &names),
+        Err(_) => out.push_str("Memory"),
     }
-    Ok(())
 }
 
 /// The fields of an object as a map of variables; no variables for another value.
@@ -156,9 +161,9 @@ fn write_made_anew(alloc: Global, out: &mut String, value: &Input) -> Written {
     Ok(())
 }
 
-/// The same value without places, made by constructors and conversions.
+// The same value without places, made by constructors and conversions.
 #[cycle(made)]
-pub(crate) fn made_anew(alloc: Global, value: &Input) -> Result<Input, AllocError> {
+fn made_anew(alloc: Global, value: &Input) -> Result<Input, AllocError> {
     match value {
         InputValue::Null => None::<i32>.into_input_value(alloc),
         InputValue::Scalar(scalar) => made_scalar(alloc, scalar),

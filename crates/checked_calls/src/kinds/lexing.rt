@@ -1,4 +1,4 @@
-//! Rows of the lexer, and of the table of lines.
+//! The lexer, and the table of lines.
 
 use crate::write::{Written, write_fault, write_span, write_token};
 use juniper::{LexFailure, Lexer, LexerResult, LineTable, Span};
@@ -6,8 +6,12 @@ use std::alloc::Global;
 
 /// `lexer`: a line for each item: a token or a lexical error, and `None` after the last one.
 pub fn write_items(alloc: Global, out: &mut String, text: &str) -> Written {
-    let mut lexer = Lexer::new(alloc, text);
-    for _ in 0..text.len().saturating_add(3) {
+    write_left(out, &mut Lexer::new(alloc, text), text.len())
+}
+
+/// Writes a line for each item that a lexer of a text of so many bytes has left, and `None` after the last one.
+pub fn write_left(out: &mut String, lexer: &mut Lexer<'_>, len: usize) -> Written {
+    for _ in 0..len.saturating_add(3) {
         let Some(item) = lexer.next() else {
             return out.push_str("None\n");
         };
@@ -27,7 +31,9 @@ fn write_item(out: &mut String, item: &LexerResult<'_>) -> Written {
 
 /// `line_table`: a line for each index up to the first that has no place.
 pub fn write_places(alloc: Global, out: &mut String, text: &str) -> Written {
-    let table = LineTable::new(alloc, text)?;
+    let Ok(table) = LineTable::new(alloc, text) else {
+        return out.push_str("Memory\n");
+    };
     for index in 0..text.len().saturating_add(2) {
         let Some(place) = table.position(index) else {
             return out.push_str("None\n");

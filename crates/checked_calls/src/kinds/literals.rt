@@ -1,4 +1,4 @@
-//! Rows of type literals and value literals: the lines of what is read, or the refusal, and what `peek` shows then.
+//! Type literals and value literals: the lines of what is read, or the refusal, and what `peek` shows then.
 
 use crate::kinds::tree::{write_type, write_value};
 use crate::write::{Written, write_refusal, write_token};

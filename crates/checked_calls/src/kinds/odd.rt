@@ -1,4 +1,4 @@
-//! Rows of a scalar type by choice: a row's text begins with its name.
+//! A scalar type by choice: the text begins with its name.
 
 use crate::kinds::{scalars, word_of};
 use crate::write::{Written, write_refusal};

@@ -1,22 +1,44 @@
-//! Rows of scalars.
+//! Scalars.
 
 use crate::kinds::input_values::converted;
 use crate::kinds::word_of;
-use crate::write::{Written, write_error, write_optional_text, write_truth};
+use crate::write::{
+    Written, write_error, write_found, write_made, write_optional_text, write_truth,
+};
 use juniper::{
     DefaultScalarValue, InputValue, ParseError, ParseScalarResult, ParseScalarValue, ReadFailure,
     Scalar, ScalarToken, ScalarValue, ToScalarValue, WrongInputScalarTypeError, scalar_from_str,
 };
 use std::alloc::{AllocError, Global};
 
-/// `scalar`: a call on the scalar that a token is read as. The row's text is the token's kind, a space and its text.
+/// `scalar`: a call on the scalar that a token is read as. The row's text is the token's kind, a space and its text. After
+/// `text` a text stands that is no token: the call is on it, or on the scalar that is made of it.
 pub fn answer<S: ScalarValue>(alloc: Global, out: &mut String, text: &str, call: &str) -> Written {
-    let scalar: ParseScalarResult<S> = read(alloc, text);
+    let (kind, text) = word_of(text);
+    if kind == "text" {
+        return answer_text::<S>(alloc, out, text, call);
+    }
+    let scalar: ParseScalarResult<S> = read(alloc, kind, text);
     match &scalar {
         Ok(scalar) => answer_call(alloc, out, scalar, call),
         Err(ReadFailure::Refused(error)) => write_refused(out, error, call),
+        Err(ReadFailure::Memory) if call == "from_str" => out.push_str("Memory"),
         Err(ReadFailure::Memory) => Err(AllocError),
     }
+}
+
+fn answer_text<S: ScalarValue>(alloc: Global, out: &mut String, text: &str, call: &str) -> Written {
+    match call {
+        "scalar_from_str" => write_made(out, &scalar_from_str::<S>(alloc, text)),
+        "to_scalar_value" => {
+            write_made(out, &scalar_of::<S>(alloc, &String::from_str(alloc, text)?))
+        }
+        _ => answer_call(alloc, out, &scalar_from_str::<S>(alloc, text)?, call),
+    }
+}
+
+fn scalar_of<S: ScalarValue>(alloc: Global, text: &String) -> Result<S, AllocError> {
+    text.to_scalar_value(alloc)
 }
 
 // Why a token is refused: what the error displays, or its variant.
@@ -28,8 +50,7 @@ fn write_refused(out: &mut String, error: &ParseError, call: &str) -> Written {
     write_error(out, error)
 }
 
-fn read<S: ScalarValue>(alloc: Global, text: &str) -> ParseScalarResult<S> {
-    let (kind, text) = word_of(text);
+fn read<S: ScalarValue>(alloc: Global, kind: &str, text: &str) -> ParseScalarResult<S> {
     let token = match kind {
         "Int" => ScalarToken::Int(text),
         "Float" => ScalarToken::Float(text),
@@ -61,25 +82,21 @@ fn answer_owned<S: ScalarValue>(
     rest: &str,
 ) -> Written {
     match word {
-        "try_to_string" => write_owned(out, &scalar.try_to_string(alloc)?),
-        "try_into_string" => write_owned(out, &text_of(alloc, scalar)?),
-        "try_clone" => write_truth(out, is_copied(alloc, scalar)?),
-        "into_another" => write_made_of(out, &another(alloc, scalar)?),
-        "made" => write_made(alloc, out, rest),
+        "try_to_string" => write_found(out, &scalar.try_to_string(alloc)),
+        "try_into_string" => write_found(out, &scalar.try_clone(alloc)?.try_into_string(alloc)),
+        "try_clone" => write_made(out, &is_copied(alloc, scalar)),
+        "into_another" => write_made(out, &another(alloc, scalar.try_clone(alloc)?)),
+        "made" => write_all_made(alloc, out, rest),
         _ => out.push_str("no such call"),
     }
-}
-
-fn text_of<S: ScalarValue>(alloc: Global, scalar: &S) -> Result<Option<String>, AllocError> {
-    scalar.try_clone(alloc)?.try_into_string(alloc)
 }
 
 fn is_copied<S: ScalarValue>(alloc: Global, scalar: &S) -> Result<bool, AllocError> {
     Ok(scalar.try_clone(alloc)? == *scalar)
 }
 
-fn another<S: ScalarValue>(alloc: Global, scalar: &S) -> Result<DefaultScalarValue, AllocError> {
-    scalar.try_clone(alloc)?.into_another(alloc)
+fn another<S: ScalarValue>(alloc: Global, scalar: S) -> Result<DefaultScalarValue, AllocError> {
+    scalar.into_another(alloc)
 }
 
 fn write_int(out: &mut String, number: Option<i32>) -> Written {
@@ -104,17 +121,6 @@ fn write_wrong_type<S: ScalarValue>(out: &mut String, scalar: &S, type_name: &st
     write!(out, "{error}")
 }
 
-fn write_made_of(out: &mut String, scalar: &DefaultScalarValue) -> Written {
-    write!(out, "{scalar}")
-}
-
-fn write_owned(out: &mut String, text: &Option<String>) -> Written {
-    match text {
-        Some(text) => out.push_str(text.as_str()),
-        None => out.push_str("None"),
-    }
-}
-
 // What the scalar is as a reference, and as a `Scalar`, which shows a text between quotes.
 fn write_lent<S: ScalarValue>(out: &mut String, scalar: &S) -> Written {
     match scalar.try_to::<&S>() {
@@ -128,21 +134,18 @@ fn write_lent<S: ScalarValue>(out: &mut String, scalar: &S) -> Written {
 }
 
 // The scalars that are made of a text, of an integer and of a boolean, and the input values of a text.
-fn write_made(alloc: Global, out: &mut String, text: &str) -> Written {
-    write_made_of(out, &scalar_from_str(alloc, text)?)?;
+fn write_all_made(alloc: Global, out: &mut String, text: &str) -> Written {
+    write_made(out, &scalar_from_str::<DefaultScalarValue>(alloc, text))?;
     out.push(' ')?;
-    write_made_of(out, &owned(alloc, text)?)?;
+    let owned = String::from_str(alloc, text)?;
+    write_made(out, &scalar_of::<DefaultScalarValue>(alloc, &owned))?;
     out.push(' ')?;
     write_constants(alloc, out)?;
     write_truth(out, is_converted(alloc, text)?)
 }
 
-fn owned(alloc: Global, text: &str) -> Result<DefaultScalarValue, AllocError> {
-    String::from_str(alloc, text)?.to_scalar_value(alloc)
-}
-
-/// Whether the input values of a text are the one of its scalar.
-pub(crate) fn is_converted(alloc: Global, text: &str) -> Result<bool, AllocError> {
+// Whether the input values of a text are the one of its scalar.
+fn is_converted(alloc: Global, text: &str) -> Result<bool, AllocError> {
     let (one, other) = converted(alloc, text)?;
     Ok(one == other && one == InputValue::scalar(scalar_from_str(alloc, text)?))
 }

@@ -2,7 +2,7 @@
 
 use crate::write::{Written, write_span};
 use juniper::{DefaultScalarValue, Definition, InputValue, Span, Spanning, Type};
-use juniper_nodes::{Label, Node, document_nodes, value_nodes};
+use juniper_nodes::{Label, Node, document_nodes, push_definition, value_nodes};
 use std::alloc::Global;
 
 type Scalars = DefaultScalarValue;
@@ -22,7 +22,28 @@ pub fn write_value(
     out: &mut String,
     value: &Spanning<InputValue<Scalars>>,
 ) -> Written {
-    write_nodes(out, &value_nodes(alloc, value)?)
+    match value_nodes(alloc, value) {
+        Ok(nodes) => write_nodes(out, &nodes),
+        Err(_) => out.push_str("Memory\n"),
+    }
+}
+
+/// Writes how many nodes there are after each definition was appended, up to the first for which memory ran out.
+pub fn write_pushed<'t, 'a>(
+    alloc: Global,
+    out: &mut String,
+    document: &'t [Definition<'a, Scalars>],
+) -> Written {
+    let mut nodes: Vec<Node<'t, 'a, Scalars>> = Vec::new(alloc);
+    for definition in document {
+        let is_pushed = push_definition(&mut nodes, definition).is_ok();
+        let count = nodes.len();
+        writeln!(out, "{count} nodes")?;
+        if !is_pushed {
+            return out.push_str("Memory\n");
+        }
+    }
+    Ok(())
 }
 
 fn write_nodes(out: &mut String, nodes: &[Node<'_, '_, Scalars>]) -> Written {

@@ -1,4 +1,4 @@
-//! Rows of type literals that are made by their calls.
+//! Type literals that are made by their calls.
 
 use crate::kinds::word_of;
 use crate::write::{Written, write_optional_text};
@@ -45,7 +45,17 @@ pub fn answer(alloc: Global, out: &mut String, text: &str, call: &str) -> Writte
             let is_equal = literal == made(alloc, rest)?;
             write!(out, "{is_equal}")
         }
+        "wrap_list" => write_wrapped(out, &literal.wrap_list(alloc, Some(3))),
+        "wrap_non_null" => write_wrapped(out, &literal.wrap_non_null(alloc)),
         _ => out.push_str("no such call"),
+    }
+}
+
+// Writes the type, or after `Memory` the one that was handed back.
+fn write_wrapped(out: &mut String, wrapped: &Result<Type<String>, Type<String>>) -> Written {
+    match wrapped {
+        Ok(literal) => write!(out, "{literal}"),
+        Err(literal) => write!(out, "Memory {literal}"),
     }
 }
 

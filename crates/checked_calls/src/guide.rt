@@ -1,0 +1,17 @@
+//! The code of docs/GUIDE.md: what a caller does with a text, as functions that are proved. Rows call each of them.
+
+mod arguments;
+mod compare;
+mod documents;
+mod faults;
+mod kept;
+mod limits;
+mod walk;
+
+pub use arguments::argument_value;
+pub use compare::same_literal;
+pub use documents::is_document;
+pub use faults::fault_line;
+pub use kept::kept_up_to;
+pub use limits::is_document_within;
+pub use walk::field_names;

@@ -1,0 +1,97 @@
+//! A parse of a document, reported as it comes.
+
+use juniper::{
+    DefaultScalarValue, Definition, DefinitionSink, DepthFailure, OwnedDocument, ParseFailure,
+    parse_document_source, parse_document_source_into, parse_document_source_within,
+};
+use std::alloc::{AllocError, Global};
+use std::io;
+
+type Document<'a> = OwnedDocument<'a, DefaultScalarValue>;
+
+// The number of definitions that were given.
+#[derive(Drop)]
+struct Given(usize);
+
+impl DefinitionSink<DefaultScalarValue> for Given {
+    ghost use Rattle.std.specs.Prelude.{OnOk, OnErr, ◌∷◌, []};
+    ghost use Rattle.juniper.specs.Sinks.{Gains};
+    ghost use Rattle.juniper.specs.View.{view_definition};
+    ghost use Rattle.juniper_values.specs.Default.{default_content};
+    ghost use Rattle.juniper_values.specs.Scalar.{Content};
+
+    // Nothing is said of what it was given.
+    ghost holds = { λ _ _ _. Unit {0} };
+
+    fn take(&mut self, definition: Definition<'_, DefaultScalarValue>) -> Result<(), AllocError>
+        ensures taken { OnOk result (Gains (λ _ _ _. Unit {0}) self.old self.new (view_definition default_content definition.entry ∷ [])) }
+        ensures kept { OnErr result (Gains {C = Content} (λ _ _ _. Unit {0}) self.old self.new []) }
+    {
+        self.0 = self.0.saturating_add(1);
+        Ok(())
+    }
+}
+
+// The tree of a text, within a limit on nesting where the word is a number.
+fn parsed<'a>(alloc: Global, word: &str, text: &'a str) -> Result<Document<'a>, DepthFailure> {
+    match word.parse::<usize>() {
+        Ok(depth) => parse_document_source_within(alloc, text, depth),
+        Err(_) => match parse_document_source(alloc, text) {
+            Ok(document) => Ok(document),
+            Err(failure) => Err(DepthFailure::Parse(failure)),
+        },
+    }
+}
+
+// Whether another parse gives the same tree.
+fn is_same<'a>(alloc: Global, word: &str, text: &'a str, document: Document<'a>) -> bool {
+    match parsed(alloc, word, text) {
+        Ok(other) => document == other,
+        Err(_) => false,
+    }
+}
+
+/// Writes whether the text has a tree, and then whether another parse gives the same one. The second line that is
+/// written says that the first parse is over. With the word `into` it writes how many definitions were given, after the
+/// fault where there is one.
+pub fn tell<R: Print + AllocGlobal>(rt: &R, word: &str, text: &str) -> io::Result<()> {
+    println!(rt; "calling")?;
+    if word == "into" {
+        return tell_given(rt, text);
+    }
+    match parsed(rt.alloc(), word, text) {
+        Ok(document) => {
+            let count = document.len();
+            println!(rt; "{count} definitions")?;
+            let is_same = is_same(rt.alloc(), word, text, document);
+            println!(rt; "the same tree again: {is_same}")
+        }
+        Err(failure) => tell_failure(rt, &failure),
+    }
+}
+
+fn tell_given<R: Print + AllocGlobal>(rt: &R, text: &str) -> io::Result<()> {
+    let mut given = Given(0);
+    let answer = parse_document_source_into::<DefaultScalarValue, Given>(
+        rt.alloc(),
+        text,
+        200,
+        &mut given,
+    );
+    if let Err(failure) = &answer {
+        tell_failure(rt, failure)?;
+    }
+    let count = given.0;
+    println!(rt; "{count} definitions")
+}
+
+fn tell_failure<R: Print + AllocGlobal>(rt: &R, failure: &DepthFailure) -> io::Result<()> {
+    match failure {
+        DepthFailure::Parse(ParseFailure::Refused(fault)) => println!(rt; "{fault}"),
+        DepthFailure::Parse(ParseFailure::Memory) => println!(rt; "Memory"),
+        DepthFailure::TooDeep(span) => {
+            let start = span.start;
+            println!(rt; "Too deeply nested. At {start}")
+        }
+    }
+}
