@@ -1,7 +1,7 @@
 //! The results of calls of each kind.
 //!
-//! Where a request of a call is refused, `Memory` is written, and then what was handed back, if anything. So the error
-//! that memory ran out is returned only where a request was refused that came before the call, for what it is made on.
+//! Where memory ran out in a call, `Memory` is written, and then what was handed back, if anything. The error that memory ran
+//! out is returned where what the call is made on could not be made.
 
 mod answers;
 mod conversions;
