@@ -40,7 +40,10 @@ has_kit() {
     fi
 }
 
-# prove_crates WHO LOG NAME ..: proves these crates, each as soon as those that it depends on are proved, and reports each when
+# waits_for NAME: crates that this one waits for, beside those that it depends on. A script may say other ones.
+waits_for() { :; }
+
+# prove_crates WHO LOG NAME ..: proves these crates, each as soon as those that it waits for are proved, and reports each when
 # its proof begins. The kit skips a crate that was proved before and is not older than its sources. False where one fails.
 prove_crates() {
     local who=$1 log=$2 begin=$SECONDS number=0 name marks
@@ -57,11 +60,11 @@ prove_crates() {
     [ "$proved" = $# ]
 }
 
-# Proves one of them. It waits for those that it depends on, and does nothing where one of these has failed.
+# Proves one of them. It does nothing where one that it waits for has failed.
 prove_after_others() {
     local who=$1 log=$2 name=$3 number=$4 begin=$5 marks=$6 below
     shift 6
-    for below in $(needed_by "$name"); do
+    for below in $(needed_by "$name") $(waits_for "$name"); do
         case " $* " in *" $below "*) ;; *) continue ;; esac
         until [ -e "$marks/$below.proved" ]; do
             [ ! -e "$marks/failed" ] || return
