@@ -32,26 +32,11 @@ is_older() {
         -newer "$file" -print -quit)" ]
 }
 
-# has_kit WHO: sets $kit to the kit's folder. Where the kit's command is missing it ends with a line on standard error, and
-# status 127.
+# has_kit WHO: ends with a line on standard error, and status 127, where the kit's command is missing.
 has_kit() {
-    local rt
-    if ! rt=$(command -v rt); then
+    if ! command -v rt > /dev/null; then
         echo "$1: the command rt of the Rattle kit is not on this machine's PATH" >&2
         exit 127
-    fi
-    kit=$(cd "$(dirname "$(readlink -f "$rt")")/.." && pwd)
-}
-
-# made_of NAME: what is built of a crate: a program, a static library or a library.
-made_of() {
-    local out=$root/crates/$1/out
-    if [ -e "$root/crates/$1/src/main.rt" ]; then
-        echo "$out/$1"
-    elif grep -q "^$1 staticlib:" "$root/crates.txt"; then
-        echo "$out/lib$1.a"
-    else
-        echo "$out/rlib/$1.rlib"
     fi
 }
 
@@ -59,7 +44,7 @@ made_of() {
 waits_for() { :; }
 
 # prove_crates WHO LOG NAME ..: proves these crates, each as soon as those that it waits for are proved, and reports each when
-# its proof begins. One that was proved before, and is no older than its sources, is left as it is. False where one fails.
+# its proof begins. The kit skips a crate that was proved before and is not older than its sources. False where one fails.
 prove_crates() {
     local who=$1 log=$2 begin=$SECONDS number=0 name marks
     shift 2
@@ -87,10 +72,6 @@ prove_after_others() {
         done
     done
     [ ! -e "$marks/failed" ] || return
-    if ! is_older "$(made_of "$name")" $(crates_below "$name"); then
-        touch "$marks/$name.proved"
-        return
-    fi
     echo "$who: proving $name, $number, after $(((SECONDS - begin) / 60)) minutes" >&2
     if prove_crate "$name" >> "$log.$name" 2>&1; then
         touch "$marks/$name.proved"
@@ -100,59 +81,14 @@ prove_after_others() {
     fi
 }
 
-# words_over NAME: what the kit's compiler is told of a crate, a word a line: its source, and the libraries that it uses.
-words_over() {
-    local source=src/lib.rt name
-    if [ -e "$root/crates/$1/src/main.rt" ]; then source=src/main.rt; fi
-    printf '%s\n' --crate-name "$1" "$source" --extern "std=$kit/rlibs/std.rlib" -L "dependency=$kit/rlibs"
-    for name in $(sed -n "s/^$1\( staticlib\)\{0,1\}://p" "$root/crates.txt"); do
-        if [ -d "$root/crates/$name" ]; then
-            printf '%s\n' --extern "$name=$(made_of "$name")"
-        else
-            printf '%s\n' --extern "$name=$kit/rlibs/$name.rlib"
-        fi
-    done
-    for name in $(crates_below "$1"); do printf '%s\n' -L "dependency=$root/crates/$name/out/rlib"; done
-    printf '%s\n' --antt-project "$kit/rattle/logic/antt-project.json" --logic-built "$kit/logic_built"
-}
-
-# job_count: how many modules of a crate are proved at a time: one for each processor and two gigabytes of memory, four at most.
-job_count() {
-    local processors kilobytes count
-    processors=$(nproc)
-    kilobytes=$(sed -n 's/^MemAvailable: *\([0-9]*\) kB$/\1/p' /proc/meminfo)
-    count=$((kilobytes / 2000000))
-    if [ $count -gt "$processors" ]; then count=$processors; fi
-    if [ $count -gt 4 ]; then count=4; fi
-    echo $((count < 1 ? 1 : count))
-}
-
-# prove_crate NAME: proves a crate and builds it. The kit's own command keeps work for a later check as it goes, and then uses
-# one processor for much of the time. Where the proof is killed, most likely for memory, it is tried once more with one job.
+# A program is proved by running it, a library by building it.
 prove_crate() {
-    local made words count status=0
-    made=$(made_of "$1")
-    mkdir -p "$(dirname "$made")" && cd "$root/crates/$1" && rm -f out/rlib/stamp || return 1
-    mapfile -t words < <(words_over "$1")
-    case $made in
-        *.rlib) words+=(--statements -o "$made") ;;
-        *.a) words+=(--crate-type staticlib --toolchain "$kit/toolchain" -o "$made") ;;
-        *) words+=(--toolchain "$kit/toolchain" -o "$made.o") ;;
-    esac
-    for count in $(job_count) 1; do
-        "$kit/bin/rattle" build --jobs "$count" "${words[@]}"
-        status=$?
-        if [ $status != 137 ]; then break; fi
-    done
-    if [ $status != 0 ]; then return $status; fi
-    case $made in *.rlib | *.a) ;; *) link "$made" || return 1 ;; esac
-    touch "$made"
-}
-
-# link PROGRAM: links a program that is proved and compiled.
-link() {
-    "$kit/bin/rattle-link" --target x86_64-unknown-linux-gnu --toolchain "$kit/toolchain" -o "$1" "$1.o" "$kit/c/libos_c.a" \
-        "$kit/c/liblibc_c.a"
+    cd "$root/crates/$1" || return 1
+    if [ -e src/main.rt ]; then
+        echo '{ a }' | rt run && touch "out/$1"
+    else
+        rt lib
+    fi
 }
 
 # The longest text of a checked run, in bytes. Much shorter ones already get no result in time.
