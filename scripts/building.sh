@@ -1,18 +1,21 @@
-# The functions that ./gqlcheck, ./gqlcanon, ./prove and ./c-library share: which crates a crate depends on, whether a built
-# file is older than a source, how crates are proved in parallel, and how a program is run. It is sourced, with the
+# The functions that ./gqlcheck, ./gqlcanon, ./prove, ./c-library and ./test share: which crates a crate depends on, which
+# sources a built file was made of, how crates are proved in parallel, and how a program is run. It is sourced, with the
 # repository's folder in $root.
 
 # crates_below NAME ..: these crates and the crates of this repository that they depend on, the lowest first, each once.
 crates_below() {
-    crates_in_turn "$@" | awk '!seen[$0]++'
-}
-
-crates_in_turn() {
-    local name below
-    for name in "$@"; do
-        for below in $(needed_by "$name"); do crates_in_turn "$below"; done
-        echo "$name"
-    done
+    awk -v names="$*" '
+        function visit(name,    words, count, i) {
+            if (!(name in needs) || name in seen) return
+            seen[name]
+            count = split(needs[name], words, " ")
+            for (i = 1; i <= count; i++) visit(words[i])
+            print name
+        }
+        { sub(/#.*/, "") }
+        match($0, /:/) { split($0, words, " |:"); needs[words[1]] = substr($0, RSTART + 1) }
+        END { count = split(names, wanted, " "); for (i = 1; i <= count; i++) visit(wanted[i]) }
+    ' "$root/crates.txt"
 }
 
 # needed_by NAME: the crates of this repository that its line in crates.txt names.
@@ -23,13 +26,79 @@ needed_by() {
     done
 }
 
-# is_older FILE NAME ..: whether a file that these crates are made of is newer than this one, or this one is missing.
-is_older() {
-    local file=$1
+# product_of NAME: the file that shows what a proof of this crate built: the program, the static library, or the file of a
+# library that holds the sum of its other files.
+product_of() {
+    local out=$root/crates/$1/out
+    if [ -e "$root/crates/$1/src/main.rt" ]; then
+        echo "$out/$1"
+    elif grep -q "^$1 staticlib:" "$root/crates.txt"; then
+        echo "$out/lib$1.a"
+    else
+        echo "$out/rlib/$1.rlib/format"
+    fi
+}
+
+# list_beside FILE: where the list of the sources is kept that this file was built of. A library's is in the folder that the
+# kit moves with the library.
+list_beside() {
+    case $1 in
+        */out/rlib/*) echo "${1%%/out/rlib/*}/out/rlib/sources" ;;
+        *) echo "$1.sources" ;;
+    esac
+}
+
+# sources_of NAME ..: the names of the sources of these crates, and of crates.txt, each ended by a zero.
+sources_of() {
+    find crates.txt "${@/#/crates/}" \( -name out -o -name must-fail \) -prune -o \
+        \( -name '*.rt' -o -name '*.antt' -o -name crates.txt \) -print0 | LC_ALL=C sort -z
+}
+
+# sums_of NAME ..: the sum and the name of each of these sources. False where one can't be read.
+sums_of() {
+    (cd "$root" && sources_of "$@" | xargs -0 sha256sum 2>&1)
+}
+
+# is_current NAME: whether what a proof of this crate built is there, as it was built, and of the sources that are there now.
+is_current() {
+    local product list
+    product=$(product_of "$1")
+    list=$(list_beside "$product")
+    [ -e "$product" ] && [ -e "$list" ] && { sums_of $(crates_below "$1") && sha256sum < "$product"; } | cmp -s - "$list"
+}
+
+# note_sources FOLDER NAME: notes the sources that this crate is about to be built of, with their sums, and when each was changed.
+note_sources() {
+    sums_of $(crates_below "$2") > "$1/$2.sums"
+    times_of "$2" > "$1/$2.times"
+}
+
+times_of() {
+    (cd "$root" && sources_of $(crates_below "$1") | xargs -0 stat -c '%n %.9Z' 2>&1)
+}
+
+# keep_list FOLDER NAME: keeps beside this crate's product the list of the sources that were noted before it was built. Where
+# one was changed since, the product may be of either text, so it gets no list.
+keep_list() {
+    local product list
+    product=$(product_of "$2")
+    list=$(list_beside "$product")
+    rm -f "$list"
+    if [ -e "$product" ] && times_of "$2" | cmp -s - "$1/$2.times"; then
+        { cat "$1/$2.sums" && sha256sum < "$product"; } > "$list"
+    fi
+}
+
+# can_write WHO FOLDER ..: ends with a line on standard error, and status 125, where no file can be written in one of these
+# folders.
+can_write() {
+    local who=$1 folder probe
     shift
-    [ ! -e "$file" ] || [ -n "$(cd "$root/crates" && find "$@" ../crates.txt -path '*/out' -prune -o \
-        -path '*/must-fail' -prune -o \( -name '*.rt' -o -name '*.antt' -o -name crates.txt \) \
-        -newer "$file" -print -quit)" ]
+    for folder in "$@"; do
+        if ! probe=$(mktemp "$folder/writing.XXXXXX" 2> /dev/null) || ! echo 2> /dev/null > "$probe" || ! rm "$probe"; then
+            ends_with "$who: no file can be written in $folder" 125
+        fi
+    done
 }
 
 # has_kit WHO: ends with a line on standard error, and status 127, where the kit's command is missing.
@@ -73,7 +142,7 @@ prove_after_others() {
     done
     [ ! -e "$marks/failed" ] || return
     echo "$who: proving $name, $number, after $(((SECONDS - begin) / 60)) minutes" >&2
-    if prove_crate "$name" >> "$log.$name" 2>&1; then
+    if prove_crate "$name" "$marks" >> "$log.$name" 2>&1; then
         touch "$marks/$name.proved"
     else
         touch "$marks/failed"
@@ -81,29 +150,26 @@ prove_after_others() {
     fi
 }
 
-# A program is proved by running it, a library by building it.
+# prove_crate NAME FOLDER: a program is proved by running it, a library by building it. The folder is for notes.
 prove_crate() {
+    note_sources "$2" "$1"
     cd "$root/crates/$1" || return 1
-    if [ -e src/main.rt ]; then
-        echo '{ a }' | rt run && touch "out/$1"
-    else
-        rt lib
-    fi
+    if [ -e src/main.rt ]; then echo '{ a }' | rt run; else rt lib; fi && keep_list "$2" "$1"
 }
 
 # The longest text of a checked run, in bytes. Much shorter ones already get no result in time.
 longest=$((1 << 24))
 
-# run_program NAME WORD ..: runs the program of this crate on standard input, where it is no older than its sources. Otherwise
-# it makes the kit's checked run, which proves nothing and checks every access as it runs. A line on standard error says so.
+# run_program NAME WORD ..: runs the program of this crate on standard input, where it was built of the sources that are there.
+# Otherwise it makes the kit's checked run, which proves nothing and checks every access as it runs. A line on standard error says so.
 # The statuses are the program's. The status 125 says that the checked run gave no result, and 127 that the kit is missing.
 run_program() {
     local name=$1 program=$root/crates/$1/out/$1
     shift
-    if ! is_older "$program" $(crates_below "$name"); then exec "$program" "$@"; fi
+    if is_current "$name"; then exec "$program" "$@"; fi
     has_kit "$name"
     echo "$name: this run is checked, not proved; ./prove proves and builds the program" >&2
-    folder=$(mktemp -d)
+    folder=$(mktemp -d 2> /dev/null) || ends_with "$name: no folder for temporary files can be made" 125
     trap 'rm -rf "$folder"' EXIT
     head -c $((longest + 1)) > "$folder/text" 2> /dev/null || ends_with "$name: input or output failed" 3
     if [ "$(stat -c %s "$folder/text")" -gt $longest ]; then

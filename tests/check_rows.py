@@ -24,7 +24,7 @@ For each text of kind `gqlcheck` that is refused and can be cut into tokens, a c
 decides whether the text can be cut, and which tokens go on. A run of gqlcheck shows that the completed text is a document.
 Tokens are cut by `cutting`.
 
-    check_rows.py GQLCHECK GQLCANON CHECK_CALLS     the last line is 'N passed, M failed'
+    check_rows.py GQLCHECK GQLCANON CHECK_CALLS     the last line is 'N passed, M failed, K skipped'
 """
 
 import ctypes
@@ -318,7 +318,7 @@ def main() -> int:
         if number != COUNTS.get(kind) and (library or kind != COMPLETION):
             failed += 1
             print(f"FAILED {kind}: there are {number}, not {COUNTS.get(kind, 0)}")
-    print(f"{sum(held.values())} passed, {failed} failed")
+    print(f"{sum(held.values())} passed, {failed} failed, {int(library is None)} skipped")
     return 1 if failed else 0
 
 

@@ -1,0 +1,76 @@
+# The functions by which ./test and the scripts of tests/ count what passed, what failed, and what was skipped. It is sourced,
+# with a folder for temporary files in $folder. A script that counts ends with the line 'N passed, M failed', or 'N passed, M failed, K skipped'.
+passed=0
+failed=0
+skipped=0
+
+passes() {
+    passed=$((passed + 1))
+}
+
+# fails WHAT
+fails() {
+    echo "FAILED $1"
+    failed=$((failed + 1))
+}
+
+# skip WHY: a part that can't be tested on this machine.
+skip() {
+    echo "${0##*/}: skipped: $1"
+    skipped=$((skipped + 1))
+}
+
+# finish: ends with the numbers, and with the status that says whether something failed.
+finish() {
+    echo "$passed passed, $failed failed, $skipped skipped"
+    [ "$failed" = 0 ]
+    exit
+}
+
+# add_numbers FILE STATUS NAME: adds the numbers of the last line that a command wrote to this file. It fails where there is no
+# such line, where no case was tried and none was skipped, where the command ended with another status than 0 though it
+# counted no failure, and where a sanitizer reported something.
+add_numbers() {
+    local last
+    last=$(tail -n 1 "$1")
+    if [[ ! $last =~ ^([0-9]+)\ passed,\ ([0-9]+)\ failed(,\ ([0-9]+)\ skipped)?$ ]]; then
+        fails "$3 ended without its numbers"
+        return
+    fi
+    local good=${BASH_REMATCH[1]} bad=${BASH_REMATCH[2]} left=${BASH_REMATCH[4]:-0}
+    passed=$((passed + good))
+    failed=$((failed + bad))
+    skipped=$((skipped + left))
+    [ $((good + bad + left)) != 0 ] || fails "$3 tested nothing"
+    [ "$2" = 0 ] || [ "$bad" != 0 ] || fails "$3 ended with status $2"
+    ! grep -qE ': runtime error: |==ERROR: [A-Za-z]+Sanitizer: ' "$1" || fails "$3: a sanitizer reported something"
+}
+
+# counted COMMAND ..: runs it, adds the numbers of its last line, and sets $status to its exit status. What it wrote is shown
+# where something failed.
+counted() {
+    local failed_before=$failed
+    "$@" > "$folder/told" 2>&1
+    status=$?
+    add_numbers "$folder/told" "$status" "$*"
+    [ "$failed" = "$failed_before" ] || cat "$folder/told"
+}
+
+# tested NAME PASSED FAILED COMMAND ..: runs it, and counts the lines of each pattern, without those of tests that were skipped.
+# Where the command fails that is reported, and where it has no line of the first pattern, though there is one.
+SKIPPED='^ *--- SKIP|^test .*\.\.\. ignored|^ok .* # (SKIP|TODO)'
+tested() {
+    local name=$1 good=$2 bad=$3 status good_count bad_count
+    shift 3
+    "$@" > "$folder/told" 2>&1
+    status=$?
+    good_count=$(grep -vE "$SKIPPED" "$folder/told" | grep -cE "$good")
+    bad_count=$(grep -cE "$bad" "$folder/told")
+    [ -n "$good" ] || good_count=$((status == 0))
+    passed=$((passed + good_count))
+    skipped=$((skipped + $(grep -cE "$SKIPPED" "$folder/told")))
+    if [ "$status" != 0 ] || [ "$bad_count" != 0 ] || [ "$good_count" = 0 ]; then
+        cat "$folder/told"
+        fails "$name, status $status, $good_count of its parts passed, $bad_count failed"
+    fi
+}
