@@ -2,9 +2,10 @@
  *
  * It counts the requests for memory that a program makes between the first and the second line that it writes to
  * standard output or, where REFUSALS_FROM_START is set, all of them. It refuses the request of number REFUSED_REQUEST,
- * counted from 1, and where REFUSED_ONWARDS is set each counted one after it. At the end it writes four numbers to the file
- * that REFUSALS_TOLD names: the requests that were counted, those that were refused, the blocks that were not freed, and how
- * many more bytes the program held at most while requests were counted than it held before.
+ * counted from 1, and where REFUSED_ONWARDS is set each counted one after it. At the end it writes five numbers to the file
+ * that REFUSALS_TOLD names: the requests that were counted, those that were refused, the blocks that were not freed, how
+ * many more bytes the program held at most while requests were counted than it held before, and how many bytes the counted
+ * requests asked for, the whole block where one is resized.
  */
 #define _GNU_SOURCE
 #include <errno.h>
@@ -23,7 +24,7 @@ extern void *__libc_memalign(size_t, size_t);
 extern void __libc_free(void *);
 
 static int is_from_start, is_onwards;
-static unsigned long refused_request, requests, refusals, lines;
+static unsigned long refused_request, requests, refusals, lines, requested;
 static long blocks, held, most_held;
 
 __attribute__((constructor)) static void begin(void) {
@@ -38,10 +39,11 @@ static int is_counting(void) {
     return is_from_start || lines == 1;
 }
 
-/* Counts a request, and returns whether it is refused. */
-static int is_refused(void) {
+/* Counts a request for so many bytes, and returns whether it is refused. */
+static int is_refused(size_t size) {
     if (!is_counting()) return 0;
     requests++;
+    if (__builtin_add_overflow(requested, size, &requested)) requested = (unsigned long)-1;
     if (refused_request == 0 || requests < refused_request) return 0;
     if (requests > refused_request && !is_onwards) return 0;
     refusals++;
@@ -64,15 +66,17 @@ static void *given(void *block) {
 }
 
 void *malloc(size_t size) {
-    return is_refused() ? NULL : given(__libc_malloc(size));
+    return is_refused(size) ? NULL : given(__libc_malloc(size));
 }
 
 void *calloc(size_t count, size_t size) {
-    return is_refused() ? NULL : given(__libc_calloc(count, size));
+    size_t bytes;
+    if (__builtin_mul_overflow(count, size, &bytes)) bytes = (size_t)-1;
+    return is_refused(bytes) ? NULL : given(__libc_calloc(count, size));
 }
 
 void *realloc(void *block, size_t size) {
-    if (is_refused()) return NULL;
+    if (is_refused(size)) return NULL;
     if (block == NULL) return given(__libc_realloc(block, size));
     hold(block, -1);
     void *other = __libc_realloc(block, size);
@@ -85,7 +89,7 @@ void *realloc(void *block, size_t size) {
 }
 
 void *memalign(size_t border, size_t size) {
-    return is_refused() ? NULL : given(__libc_memalign(border, size));
+    return is_refused(size) ? NULL : given(__libc_memalign(border, size));
 }
 
 void *aligned_alloc(size_t border, size_t size) {
@@ -120,8 +124,8 @@ ssize_t __write(int file, const void *bytes, size_t count) {
 
 __attribute__((destructor)) static void end(void) {
     const char *name = getenv("REFUSALS_TOLD");
-    char line[96];
-    int length = snprintf(line, sizeof line, "%lu %lu %ld %ld\n", requests, refusals, blocks, most_held);
+    char line[120];
+    int length = snprintf(line, sizeof line, "%lu %lu %ld %ld %lu\n", requests, refusals, blocks, most_held, requested);
     int file = name == NULL ? -1 : open(name, O_WRONLY | O_CREAT | O_TRUNC, 0600);
     if (file < 0) return;
     syscall(SYS_write, file, line, length);

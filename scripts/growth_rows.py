@@ -1,0 +1,162 @@
+"""What scripts/growth calls: the texts and the values, by their size in bytes, and the calls on them."""
+
+# How many times as much an input of twice the size may take.
+LINEAR = 2.3
+SQUARE = 4.6
+
+# ---- texts of about n bytes
+
+
+def times(n, part):
+    """A part over and over. A `№` in it is replaced by its number."""
+    count = max(1, n // len(part.encode()))
+    return part * count if "№" not in part else "".join(part.replace("№", f"{i:06}") for i in range(count))
+
+
+def nested(n, opening, inner, closing, depth=198):
+    return times(n, opening * depth + inner + closing * depth + " ")
+
+
+TEXTS = {
+    "fields": lambda n: "{" + times(n, "a ") + "}",
+    "fields in fields": lambda n: "{" + nested(n, "a{", "a", "}") + "}",
+    "inline fragments in each other": lambda n: "{" + nested(n, "...{", "a", "}") + "}",
+    "definitions": lambda n: times(n, "query Q {a} "),
+    "fragments": lambda n: times(n, "fragment F№ on T {...F№} "),
+    "a long name": lambda n: "{" + times(n, "a") + "}",
+    "long names": lambda n: "{" + times(n, "a" * 500 + " ") + "}",
+    "a long string": lambda n: '{a(b:"' + times(n, "x") + '")}',
+    "strings": lambda n: "{a(b:[" + times(n, '"x y" ') + "])}",
+    "escapes": lambda n: '{a(b:"' + times(n, r"\u00e9\n") + '")}',
+    "strings of escapes": lambda n: "{a(b:[" + times(n, r'"\\" ') + "])}",
+    "a block string of many lines": lambda n: '{a(b:"""' + times(n, "\n  line") + '""")}',
+    "a block string of empty lines": lambda n: '{a(b:"""a' + times(n, "\n") + 'b""")}',
+    "a block string, deep indents": lambda n: '{a(b:"""' + times(n, "\n" + " " * 500 + "a") + '""")}',
+    "a block string, one deep indent": lambda n: '{a(b:"""\n' + times(n, " ") + 'a""")}',
+    "a block string of carriage returns": lambda n: '{a(b:"""' + times(n, "\r\na") + '""")}',
+    "a block string of quotes": lambda n: '{a(b:"""' + times(n, '\\"""') + '""")}',
+    "block strings": lambda n: "{a(b:[" + times(n, '"""x""" ') + "])}",
+    "a long comment": lambda n: "#" + times(n, "c") + "\n{a}",
+    "comments": lambda n: "{a" + times(n, "#\n") + "}",
+    "spaces": lambda n: "{a" + times(n, " ") + "}",
+    "line feeds": lambda n: "{a" + times(n, "\n") + "}",
+    "byte order marks": lambda n: "{a" + times(n, "\ufeff") + "}",
+    "commas": lambda n: "{a" + times(n, ",\r\n\t") + "}",
+    "variables": lambda n: "query(" + times(n, "$v№: T = 1 ") + "){a}",
+    "types in types": lambda n: "query(" + nested(n, "$a:" + "[" * 197, "T", "]" * 197 + "!", 1) + "){a}",
+    "arguments": lambda n: "{a(" + times(n, "b№: 1 ") + ")}",
+    "a list": lambda n: "{a(b:[" + times(n, "1 ") + "])}",
+    "lists in lists": lambda n: "{a(b:[" + nested(n, "[", "", "]", 190) + "])}",
+    "an object of many fields": lambda n: "{a(b:{" + times(n, "k№: E ") + "})}",
+    "objects in objects": lambda n: "{a(b:[" + nested(n, "{k:", "1", "}", 190) + "])}",
+    "directives": lambda n: "{a " + times(n, "@d(x: $v) ") + "}",
+    "aliases": lambda n: "{" + times(n, "a: b ") + "}",
+    "spreads": lambda n: "{" + times(n, "...F ") + "}",
+    "a long Int": lambda n: "{a(b:" + times(n, "1") + ")}",
+    "a long Float": lambda n: "{a(b:1." + times(n, "1") + ")}",
+    "a long exponent": lambda n: "{a(b:1e" + times(n, "1") + ")}",
+    "text past ASCII": lambda n: "#" + times(n, "мир, ") + '\n{a(b:"' + times(n, "𝄞é") + '")}',
+    "tokens past text past ASCII": lambda n: "#é\n{" + times(n, "a(b:1)\n") + "}",
+    "a fault at the end": lambda n: "{" + times(n, "a ") + ")",
+    "an end that comes too soon": lambda n: "{" + times(n, "a "),
+    "a lexical fault at the end": lambda n: "{" + times(n, "a ") + "?",
+    "a string without an end": lambda n: '{a(b:"' + times(n, "x"),
+    "a block string without an end": lambda n: '{a(b:"""' + times(n, "x"),
+    "an escape that is none, at the end": lambda n: '{a(b:"' + times(n, "x") + r'\q")}',
+    "a long token that is refused": lambda n: '{ "' + times(n, "x\\\\") + '" }',
+    "too deep at the end": lambda n: "{" + times(n, "a ") + "a{" * 201,
+    "brackets without an end": lambda n: times(n, "{a"),
+    "lists without an end": lambda n: "{a(b:" + times(n, "["),
+    "keys without an end": lambda n: "{a(b:" + times(n, "{k:"),
+}
+
+# The texts that each program reads in a bounded run. C's call reads all of them.
+SOME = {"fields", "fields in fields", "definitions", "types in types", "a long string", "an object of many fields", "a fault at the end"}
+
+# A value in a value, and so on, deeper for a larger size. The second has two fields of one key on each level.
+CHAIN = lambda n: "{k:" * (n // 200) + "1" + "}" * (n // 200)
+DOUBLED = lambda n: "{k:1 k:" * (n // 200) + "1" + "}" * (n // 200)
+# The same with a list on each level, a hundred levels deep in ten thousand bytes. The shorter list comes first.
+LISTED = lambda n: "{k:[1 1 1] k:[1 " * (n // 100) + "1" + "]}" * (n // 100)
+LISTS = lambda part: lambda n: "[" + times(n, part) + "]"
+OBJECT = lambda part: lambda n: "{" + times(n, part) + "}"
+WORDS = lambda part: lambda n: times(n, part)
+TOKEN = lambda kind, part: lambda n: kind + " " + times(n, part)
+
+# The calls of `check_calls calls`: the kind, the call if the kind has any, its input, and how many times as much twice the
+# size may take. `unlocated_eq` compares the value with itself.
+VALUES = [
+    (call, name, text, LINEAR)
+    for call in ("try_clone", "convert", "list", "object", "into_const {a: 1}", "referenced_variables")
+    for name, text in (
+        ("scalars", LISTS("1 ")),
+        ("texts", LISTS('"x" ')),
+        ("objects in objects", lambda n: "[" + nested(n, "{k:", "1", "}", 100) + "]"),
+        ("variables", LISTS("$a ")),
+        ("distinct keys", OBJECT("k№: $a ")),
+    )
+] + [
+    ("to_list_value", "scalars", LISTS("1 "), LINEAR),
+    ("to_object_value", "distinct keys", OBJECT("k№: 1 "), LINEAR),
+    ("to_object_value", "one key", OBJECT("k: 1 "), LINEAR),
+    ("unlocated_eq", "scalars", LISTS("1 "), LINEAR),
+    ("unlocated_eq", "texts", LISTS('"x" '), LINEAR),
+    ("unlocated_eq", "distinct keys", OBJECT("k№: 1 "), SQUARE),
+    ("unlocated_eq", "a chain of objects", CHAIN, LINEAR),
+    ("unlocated_eq", "a chain of doubled keys", DOUBLED, SQUARE),
+    ("unlocated_eq", "lists under doubled keys", LISTED, SQUARE),
+]
+CALLS = [(("input_value", call), name, text, most) for call, name, text, most in VALUES] + [
+    (("arguments", "get v"), "objects in a list", lambda n: "{v: [" + times(n, "{k: [1]} ") + "]}", LINEAR),
+    (("pushed",), "definitions", TEXTS["definitions"], LINEAR),
+    (("cursor", "rest"), "punctuators", LISTS("a "), LINEAR),
+    (("cursor", "delimited_list [ ]"), "names", LISTS("a "), LINEAR),
+    (("cursor", "delimited_nonempty_list [ ]"), "names", LISTS("a "), LINEAR),
+    (("cursor", "unlocated_delimited_nonempty_list [ ]"), "names", LISTS("a "), LINEAR),
+    (("cursor", "parse_value_literal"), "a list", LISTS("1 "), LINEAR),
+    (("cursor", "parse_value_literal"), "an object", OBJECT("k№: 1 "), LINEAR),
+    (("line_table",), "line feeds", WORDS("a\n"), LINEAR),
+    (("line_table",), "text past ASCII", WORDS("é\n"), LINEAR),
+    (("name", "unexpected_token"), "a name", WORDS("a"), LINEAR),
+    (("name", "new"), "a long name", WORDS("a"), LINEAR),
+    (("scalar", "from_str"), "escapes", TOKEN("String", r"\u00e9\n"), LINEAR),
+    (("scalar", "from_str"), "lines", TOKEN("BlockString", "\n  line"), LINEAR),
+    (("scalar", "from_str"), "digits", TOKEN("Int", "1"), LINEAR),
+    (("odd_scalar", "from_str"), "digits of Literal", TOKEN("Literal Int", "1"), LINEAR),
+    (("odd_scalar", "from_str"), "a fraction of Literal", lambda n: "Literal Float 1." + times(n, "1"), LINEAR),
+    (("odd_scalar", "from_str"), "a fraction of Thousandths", lambda n: "Thousandths Float " + times(n, "1") + ".5", LINEAR),
+    (("odd_scalar", "try_clone"), "escapes of Literal", TOKEN("Literal String", r"\u00e9\n"), LINEAR),
+    (("object", "from_iter"), "distinct keys", OBJECT('k№: ["k" null] '), LINEAR),
+    (("object", "from_iter"), "one key", OBJECT('k: ["k" null] '), LINEAR),
+    (("answer", "try_clone"), "distinct keys", OBJECT('k№: ["k" null] '), LINEAR),
+    (("answer", "map_scalar_value"), "distinct keys", OBJECT('k№: ["k" null] '), LINEAR),
+    (("answer", "to_input_value"), "distinct keys", OBJECT('k№: ["k" null] '), LINEAR),
+    (("parse", "into"), "definitions", TEXTS["definitions"], LINEAR),
+    (("parse", "200"), "definitions", TEXTS["definitions"], LINEAR),
+]
+
+# The inputs of which it is measured how many bytes each call requests. Lists and selection sets have two and seven parts, since
+# short ones have capacity at once by their length.
+REQUESTING = {
+    "lists of two": lambda n: "{a(b:[" + times(n, "[1 1] ") + "])}",
+    "lists of seven": lambda n: "{a(b:[" + times(n, "[1 1 1 1 1 1 1] ") + "])}",
+    "sets of two": lambda n: "{" + times(n, "a{b c} ") + "}",
+    "sets of seven": lambda n: "{" + times(n, "a{b c d e f g h} ") + "}",
+    "objects of two fields": lambda n: "{a(b:[" + times(n, "{k: 1 l: 1} ") + "])}",
+    **{
+        name: TEXTS[name]
+        for name in ("an object of many fields", "a block string of many lines", "a block string of quotes", "line feeds", "definitions")
+    },
+    **{name: TEXTS[name] for name in ("a long name", "escapes", "text past ASCII", "a fault at the end", "a lexical fault at the end")},
+}
+
+# The texts on which the system calls of each program are counted: one is long when read, the other when written, too.
+SPREAD = ("spaces", "fields")
+
+# For calls on a hundred thousand definitions of twelve bytes: the least and the most bytes that they may hold for each byte
+# of the source. A call that builds the whole tree holds more than is allowed to one that passes on each definition.
+HELD = [
+    (["check_calls", "calls", "parse", "into"], 1, 60),
+    (["c", "parse"], 1, 70),
+    (["check_calls", "calls", "parse", "200"], 80, 130),
+]
