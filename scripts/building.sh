@@ -113,7 +113,7 @@ has_kit() {
 waits_for() { :; }
 
 # prove_crates WHO LOG NAME ..: proves these crates, each as soon as those that it waits for are proved, and reports each when
-# its proof begins. The kit skips a crate that was proved before and is not older than its sources. False where one fails.
+# its proof begins. The kit skips a crate that was proved before, of the same sources. False where one fails.
 prove_crates() {
     local who=$1 log=$2 begin=$SECONDS number=0 name marks
     shift 2
