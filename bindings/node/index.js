@@ -183,6 +183,8 @@ class Node {
   }
 
   [inspect.custom]() {
+    // The class's prototype is no node.
+    if (!Object.keys(this).includes("index")) return this;
     const { kind, name, start, end, children } = this;
     return Object.assign(new Shown(), { kind, name, value: valueOrText(this), start, end, children });
   }

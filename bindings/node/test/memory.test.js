@@ -56,7 +56,7 @@ const LIMITED = `
 const LITTLE = `${LIMITED}
   const source = "{a}".repeat(1 << 15);
   const results = new Set();
-  for (let megabytes = 60; megabytes >= 4; megabytes -= 2) {
+  for (let megabytes = 60; megabytes >= 3; megabytes -= 3) {
     limit(megabytes << 20);
     for (const text of [source, source + ")"]) {
       try {

@@ -5,7 +5,7 @@ const assert = require("assert");
 const { test } = require("node:test");
 const { inspect } = require("util");
 
-const { parse } = require("..");
+const { parse, Node } = require("..");
 
 const place = (index, line, column) => ({ index, line, column, byte: index });
 
@@ -53,4 +53,5 @@ test("what console.log shows of a node", () => {
   assert.match(inspect(document.node(4)), /value: 99999999999n/);
   assert.match(inspect(document.node(6)), /value: '1e400'/);
   assert.match(inspect([document.node(7)], { depth: 0 }), /^\[ \[Node\] \]$/);
+  assert.match(inspect(Node, { showHidden: true }), /\[class Node\]/);
 });
