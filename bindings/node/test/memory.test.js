@@ -99,6 +99,20 @@ test("memory that JavaScript can't allocate", () => {
   assert.strictEqual(told, `${JSON.stringify(new Array(9).fill("Error: memory ran out"))} 2`);
 });
 
+test("the addon takes no other arguments", () => {
+  const addon = require("../firthnapkin.node");
+  const allocate = (size) => new ArrayBuffer(size);
+  const source = Buffer.from("{ a }");
+  assert.strictEqual(addon.parse(source, 5, 5, allocate).nodes.byteLength, 128);
+  for (const words of [[], [source], [source, 5, 5], ["{ a }", 5, 5, allocate], [source, "5", 5, allocate], [source, 5, 5n, allocate]])
+    assert.throws(() => addon.parse(...words), { message: /^parse takes a buffer, a depth, a number of tokens and a function$/ });
+  for (const other of [5, () => 5, () => new ArrayBuffer(0), (size) => new ArrayBuffer(size + 1), (size) => Buffer.alloc(size)])
+    assert.throws(() => addon.parse(source, 5, 5, other), { message: "the result was not made" });
+  // A depth that is none of the range is refused by the library, and a number of tokens beyond it is no limit.
+  for (const depth of [-1, NaN, Infinity, 1001, 2 ** 32, 1e300]) assert.strictEqual(addon.parse(source, depth, 5, allocate).status, 8);
+  for (const tokens of [-1, NaN, Infinity, 2 ** 32, 1e300]) assert.strictEqual(addon.parse(source, 5, tokens, allocate).status, 0);
+});
+
 test("a small heap", () => {
   const program = `
     const source = "{a(b:\\"" + "\\u{1d11e}".repeat(1 << 21) + "\\") }";

@@ -122,7 +122,9 @@ test("faults, with their places", () => {
     ["#𝄞\n{a(b:\"𝄞\") ) }", "unexpectedToken", null, null, [15, 1, 11, 19], [16, 1, 12, 20], 'Unexpected ")". At 1:10'],
     ['{\n"é\ud800"}', "surrogate", null, null, [4, 1, 2, 5], [5, 1, 3, 8], "Lone surrogate U+D800. At 1:2"],
     ["\udc00", "surrogate", null, null, [0, 0, 0, 0], [1, 0, 1, 3], "Lone surrogate U+DC00. At 0:0"],
-    // A character of two units: at it, after it, and after two of them.
+    // A character of two units: at it, at the next character, and after two of them.
+    ["#𝄞", "unexpectedEnd", null, null, [3, 0, 3, 5], [3, 0, 3, 5], "Unexpected end of input. At 0:2"],
+    ['{a(b:"𝄞', "lexical", "unterminatedString", null, [8, 0, 8, 10], [8, 0, 8, 10], "Unterminated string literal. At 0:7"],
     ["{ 𝄞 }", "lexical", "unknownCharacter", "𝄞", [2, 0, 2, 2], [2, 0, 2, 2], 'Unknown character "𝄞". At 0:2'],
     ["#𝄞\n𝄞", "lexical", "unknownCharacter", "𝄞", [4, 1, 0, 6], [4, 1, 0, 6], 'Unknown character "𝄞". At 1:0'],
     ['{a(b:"𝄞"𝄞', "lexical", "unknownCharacter", "𝄞", [9, 0, 9, 11], [9, 0, 9, 11], 'Unknown character "𝄞". At 0:8'],
