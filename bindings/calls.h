@@ -63,21 +63,22 @@ static inline void run_thread(size_t bytes, stack_call *call) {
     pthread_attr_destroy(&attributes);
 }
 
-/* Makes the call in a thread of its own. False where no thread can be made. A thread's stack also has its thread-local
- * variables, and only the thread knows how much they leave. So one that has too little ends, and another has a larger margin.
- * Memory that is not written to costs nothing. */
-static inline int run_in_thread(stack_call call) {
+/* Makes the call in a thread of its own, if one can be made. A thread's stack also has its thread-local variables, and only the
+ * thread knows how much they leave. So one that has too little ends, and another has a larger margin. Memory that is not written
+ * to costs nothing. */
+static inline void run_in_thread(stack_call call) {
     enum { PAGE = 1 << 12, LEAST_MARGIN = 1 << 16, MOST_MARGIN = 1 << 28 };
     for (size_t margin = LEAST_MARGIN; margin <= MOST_MARGIN && !call.has_run; margin *= 16)
         run_thread((call.size + margin) / PAGE * PAGE, &call);
-    return call.has_run;
 }
 
-/* Runs it on this thread's stack where enough is left. */
-static inline int run_on_stack(size_t size, void (*run)(void *), void *argument) {
-    if (stack_left() < size) return run_in_thread((stack_call){run, argument, size, 0});
-    run(argument);
-    return 1;
+/* Makes a call that takes at most so many bytes of stack: on this thread's where enough is left, otherwise in a thread of its
+ * own. Where none can be made, the call isn't either. */
+static inline void run_on_stack(size_t size, void (*run)(void *), void *argument) {
+    if (stack_left() >= size)
+        run(argument);
+    else
+        run_in_thread((stack_call){run, argument, size, 0});
 }
 
 /* The stack that a call takes; one that refuses its depth takes next to nothing. */

@@ -42,7 +42,8 @@ static struct {
     int in_threads, with_signals, narrow;
 } seen;
 
-static int is_refused_thread;
+/* Whether a thread can't be made, and whether none can be asked for its stack. */
+static int is_refused_thread, is_refused_look;
 
 static int all_are_blocked(void) {
     sigset_t mask;
@@ -115,6 +116,10 @@ static int create_thread(pthread_t *thread, const pthread_attr_t *attributes, vo
     return is_refused_thread ? EAGAIN : pthread_create(thread, attributes, run, argument);
 }
 
+static int get_attributes(pthread_t thread, pthread_attr_t *attributes) {
+    return is_refused_look ? ENOMEM : pthread_getattr_np(thread, attributes);
+}
+
 /* The headers make their calls by these. */
 #define firthnapkin_parse seen_parse
 #define firthnapkin_message seen_message
@@ -122,6 +127,7 @@ static int create_thread(pthread_t *thread, const pthread_attr_t *attributes, vo
 #define firthnapkin_tokens seen_tokens
 #define firthnapkin_canonical seen_canonical
 #define pthread_create create_thread
+#define pthread_getattr_np get_attributes
 #include "../../bindings/whole.h"
 
 /* ---- The sources, and how many calls of the library each takes */
@@ -329,28 +335,31 @@ static void on_stack_of_program(void) {
     free(stack);
 }
 
-/* ---- Where no thread can be made */
+/* ---- Where no thread can be made, or its stack isn't known */
+
+static int never_made;
 
 static void never(void *argument) {
     (void)argument;
-    check(0, "a call is made, on too little stack");
+    never_made++;
 }
 
-static void rows_without_threads(const depth_of_stack *d) {
+static void no_calls(const depth_of_stack *d) {
     sigset_t before;
     pthread_sigmask(SIG_SETMASK, NULL, &before);
     for (size_t i = 0; i < sizeof PARSES / sizeof *PARSES; i++) {
         begin();
         whole w = parse_whole((const uint8_t *)PARSES[i].source, strlen(PARSES[i].source), PARSES[i].depth, PARSES[i].tokens);
-        check(w.status == FIRTHNAPKIN_MEMORY && w.nodes_count == 0 && w.texts_count == 0, "%u is returned without a thread", w.status);
-        check_seen("no thread", PARSES[i].source, d->wanted, &before);
+        check(w.status == FIRTHNAPKIN_MEMORY && w.nodes_count == 0 && w.texts_count == 0, "%u is returned without a stack", w.status);
+        check(seen.parses + seen.counts == 0, "a call is made without a stack, for %.20s", PARSES[i].source);
+        check_seen("no stack", PARSES[i].source, d->wanted, &before);
         give_back(&w);
     }
     whole w = cut_whole((const uint8_t *)"{a}", 3, UINT32_MAX);
-    check(w.status == FIRTHNAPKIN_MEMORY && w.tokens_count == 0, "%u is returned without a thread, by a cut", w.status);
+    check(w.status == FIRTHNAPKIN_MEMORY && w.tokens_count == 0, "%u is returned without a stack, by a cut", w.status);
     give_back(&w);
     w = canonical_whole((const uint8_t *)"{a}", 3);
-    check(w.status == FIRTHNAPKIN_MEMORY && w.texts_count == 0, "%u is returned without a thread, by a canonical text", w.status);
+    check(w.status == FIRTHNAPKIN_MEMORY && w.texts_count == 0, "%u is returned without a stack, by a canonical text", w.status);
     give_back(&w);
 }
 
@@ -358,9 +367,20 @@ static void *without_threads(void *argument) {
     const depth_of_stack d = {16000, NONE};
     (void)argument;
     is_refused_thread = 1;
-    descend(d.left, rows_without_threads, &d);
+    descend(d.left, no_calls, &d);
     is_refused_thread = 0;
-    check(!run_on_stack((size_t)1 << 60, never, NULL), "a stack of 2^60 bytes");
+    run_on_stack((size_t)1 << 60, never, NULL);
+    check(never_made == 0, "a call is made on a stack of 2^60 bytes");
+    return NULL;
+}
+
+static void *without_looks(void *argument) {
+    const depth_of_stack d = {0, NONE};
+    (void)argument;
+    is_refused_look = 1;
+    no_calls(&d);
+    is_refused_look = 0;
+    all_rows("a thread whose stack wasn't known before", NONE);
     return NULL;
 }
 
@@ -370,5 +390,6 @@ int main(void) {
     deep_in_stacks();
     on_stack_of_program();
     in_thread(without_threads, NULL);
+    in_thread(without_looks, NULL);
     return counted();
 }
