@@ -28,40 +28,57 @@ static inline size_t stack_left(void) {
     return lowest < &here && &here < highest ? (size_t)(&here - lowest) : 0;
 }
 
+/* A call that takes at most so many bytes of stack. */
 typedef struct {
     void (*run)(void *);
     void *argument;
+    size_t size;
+    int has_run;
 } stack_call;
 
-static inline void *stack_begin(void *call) {
-    ((stack_call *)call)->run(((stack_call *)call)->argument);
+/* The beginning of a thread: makes the call if the stack suffices. */
+static inline void *stack_begin(void *argument) {
+    stack_call *call = argument;
+    if (stack_left() >= call->size) {
+        call->run(call->argument);
+        call->has_run = 1;
+    }
     return NULL;
 }
 
-/* Runs a call that takes at most so many bytes of stack in a thread of its own, which gets no signals. False where no thread
- * can be made. */
-static inline int run_in_thread(size_t size, stack_call call) {
-    enum { MARGIN = 1 << 16, PAGE = 1 << 12 };
+/* Runs a thread with a stack of so many bytes, and waits for its end. It gets no signals, since their handlers may take any
+ * stack. */
+static inline void run_thread(size_t bytes, stack_call *call) {
     pthread_attr_t attributes;
     pthread_t thread;
     sigset_t all, before;
-    if (pthread_attr_init(&attributes) != 0) return 0;
-    int is_made = pthread_attr_setstacksize(&attributes, (size + MARGIN) / PAGE * PAGE) == 0;
-    if (is_made) {
+    if (pthread_attr_init(&attributes) != 0) return;
+    if (pthread_attr_setstacksize(&attributes, bytes) == 0) {
         sigfillset(&all);
         pthread_sigmask(SIG_SETMASK, &all, &before);
-        is_made = pthread_create(&thread, &attributes, stack_begin, &call) == 0;
+        int is_made = pthread_create(&thread, &attributes, stack_begin, call) == 0;
         pthread_sigmask(SIG_SETMASK, &before, NULL);
+        if (is_made) pthread_join(thread, NULL);
     }
     pthread_attr_destroy(&attributes);
-    return is_made && pthread_join(thread, NULL) == 0;
 }
 
-/* Runs it on this thread's stack where enough is left. */
-static inline int run_on_stack(size_t size, void (*run)(void *), void *argument) {
-    if (stack_left() < size) return run_in_thread(size, (stack_call){run, argument});
-    run(argument);
-    return 1;
+/* Makes the call in a thread of its own, if one can be made. A thread's stack also has its thread-local variables, and only the
+ * thread knows how much they leave. So one that has too little ends, and another has a larger margin. Memory that is not written
+ * to costs nothing. */
+static inline void run_in_thread(stack_call call) {
+    enum { PAGE = 1 << 12, LEAST_MARGIN = 1 << 16, MOST_MARGIN = 1 << 28 };
+    for (size_t margin = LEAST_MARGIN; margin <= MOST_MARGIN && !call.has_run; margin *= 16)
+        run_thread((call.size + margin) / PAGE * PAGE, &call);
+}
+
+/* Makes a call that takes at most so many bytes of stack: on this thread's where enough is left, otherwise in a thread of its
+ * own. Where none can be made, the call isn't either. */
+static inline void run_on_stack(size_t size, void (*run)(void *), void *argument) {
+    if (stack_left() >= size)
+        run(argument);
+    else
+        run_in_thread((stack_call){run, argument, size, 0});
 }
 
 /* The stack that a call takes; one that refuses its depth takes next to nothing. */
@@ -95,6 +112,11 @@ static inline void run_message(void *call) {
     c->status = firthnapkin_message(c->source, c->length, c->depth, c->texts, c->texts_room, c->texts_needed);
 }
 
+static inline void run_count(void *call) {
+    whole_call *c = call;
+    c->status = firthnapkin_count(c->source, c->length, c->most, c->fault);
+}
+
 static inline void run_tokens(void *call) {
     whole_call *c = call;
     c->status = firthnapkin_tokens(c->source, c->length, c->most, c->tokens, c->tokens_room, c->tokens_needed, c->fault);
@@ -124,6 +146,13 @@ static inline uint32_t message_on_stack(const uint8_t *source, size_t length, ui
                        .texts = room, .texts_room = room_length, .texts_needed = needed};
     *needed = 0;
     run_on_stack(stack_for(depth), run_message, &call);
+    return call.status;
+}
+
+/* firthnapkin_count, in the same way. */
+static inline uint32_t count_on_stack(const uint8_t *source, size_t length, uint32_t most, firthnapkin_fault *fault) {
+    whole_call call = {.source = source, .length = length, .most = most, .status = FIRTHNAPKIN_MEMORY, .fault = fault};
+    run_on_stack(stack_for(0), run_count, &call);
     return call.status;
 }
 

@@ -59,7 +59,7 @@ static inline size_t at_first(size_t length) {
 static inline whole parse_whole(const uint8_t *source, size_t length, uint32_t depth, uint32_t tokens) {
     whole w = {.status = FIRTHNAPKIN_MEMORY};
     if (tokens != UINT32_MAX) {
-        w.status = firthnapkin_count(source, length, tokens, &w.fault);
+        w.status = count_on_stack(source, length, tokens, &w.fault);
         if (w.status != FIRTHNAPKIN_FEW) return w;
     }
     size_t nodes = at_first(length) + 16, texts = at_first(length) + 64;

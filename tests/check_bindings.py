@@ -1,7 +1,7 @@
 #!/usr/bin/env python3
 """Compares what the bindings repeat with include/firthnapkin.h: the numbers of kinds, reasons, details and statuses, the
-fields of nodes, tokens and faults, the depths, the stack that a call takes, and the version, which the file VERSION says. The last
-line is 'N passed, M failed'.
+fields of nodes, tokens and faults, the depths, the stack that a call takes, and the version, which the file VERSION says. It
+compares the default limits, too. The last line is 'N passed, M failed'.
 
     tests/check_bindings.py
 """
@@ -131,5 +131,13 @@ for path, pattern in (
     ("node/index.js", r"\{ depth = (\d+), "),
 ):
     check(f"the default depth of {path}", re.search(pattern, read(f"bindings/{path}"))[1], "200")
+check("the default depth that Node's types name", re.search(r"from 0 to MOST_DEPTH; (\d+) where it isn't given", types)[1], "200")
+for path, pattern, wanted in (
+    ("go/parse.go", r"return ParseWithin\(source, DefaultDepth, (\w+)\)", "AnyTokens"),
+    ("go/parse.go", r"const AnyTokens = (.*)", "1<<32 - 1"),
+    ("rust/src/lib.rs", r"Limits \{ depth: DEFAULT_DEPTH, tokens: ([\w:]+) \}", "u32::MAX"),
+    ("node/index.js", r"\{ depth = 200, maxTokens = ([\w.]+) \}", "Number.MAX_SAFE_INTEGER"),
+):
+    check(f"the default number of tokens of {path}", re.search(pattern, read(f"bindings/{path}"))[1], wanted)
 
 checks.end()

@@ -33,10 +33,10 @@ def defined(word):
 
 
 class Checks:
-    """Counts the checks that hold, and prints those that don't."""
+    """Counts the checks that hold, prints those that don't, and prints and counts what is skipped."""
 
     def __init__(self):
-        self.passed = self.failed = 0
+        self.passed = self.failed = self.skipped = 0
 
     def check(self, name, found, wanted):
         if found == wanted:
@@ -45,6 +45,10 @@ class Checks:
             self.failed += 1
             print(f"FAILED {name}: {found} was found, {wanted} is wanted")
 
+    def skip(self, why):
+        self.skipped += 1
+        print(f"skipped: {why}")
+
     def end(self):
-        print(f"{self.passed} passed, {self.failed} failed")
+        print(f"{self.passed} passed, {self.failed} failed" + (f", {self.skipped} skipped" if self.skipped else ""))
         sys.exit(1 if self.failed else 0)

@@ -31,7 +31,7 @@ static uint32_t parse(const char *source, size_t length, uint32_t depth, void *n
 }
 
 static uint32_t count(const char *source, size_t length, uint32_t most, told *t) {
-	return firthnapkin_count((const uint8_t *)source, length, most, &t->fault);
+	return count_on_stack((const uint8_t *)source, length, most, &t->fault);
 }
 
 static uint32_t message(const char *source, size_t length, uint32_t depth, char *room, size_t room_length, told *t) {

@@ -6,13 +6,9 @@ import (
 	"errors"
 	"fmt"
 	"os"
-	"os/exec"
 	"reflect"
 	"strings"
-	"sync"
-	"syscall"
 	"testing"
-	"unsafe"
 )
 
 // parsed returns a source's document, and fails where it has none.
@@ -173,6 +169,19 @@ func TestSyntaxErrors(t *testing.T) {
 		{"{a(b:-", Lexical, UnexpectedEndInToken, 0, Place{6, 0, 6, 6}, Place{6, 0, 6, 6}, "Unexpected end of input. At 0:6"},
 		{strings.Repeat("{a", 201), Nested, NoDetail, 0, Place{400, 0, 400, 400}, Place{401, 0, 401, 401},
 			"Too deeply nested. At 0:400"},
+		// A token may be written like the end of a message.
+		{`{ "a. At b" }`, UnexpectedToken, NoDetail, 0, Place{2, 0, 2, 2}, Place{11, 0, 11, 11}, `Unexpected ""a. At b"". At 0:2`},
+		{`{ "a. At 1:1" }`, UnexpectedToken, NoDetail, 0, Place{2, 0, 2, 2}, Place{13, 0, 13, 13},
+			`Unexpected ""a. At 1:1"". At 0:2`},
+		// Characters of two, three and four bytes.
+		{"{ ж }", Lexical, UnknownCharacter, 'ж', Place{2, 0, 2, 2}, Place{2, 0, 2, 2}, `Unknown character "ж". At 0:2`},
+		{"{ \uffff }", Lexical, UnknownCharacter, '\uffff', Place{2, 0, 2, 2}, Place{2, 0, 2, 2}, "Unknown character \"\uffff\". At 0:2"},
+		{"{𝄞", Lexical, UnknownCharacter, '𝄞', Place{1, 0, 1, 1}, Place{1, 0, 1, 1}, `Unknown character "𝄞". At 0:1`},
+		{"{a(b:-\U0010ffff", Lexical, UnexpectedCharacter, '\U0010ffff', Place{6, 0, 6, 6}, Place{6, 0, 6, 6},
+			"Unexpected character \"\U0010ffff\". At 0:6"},
+		// Indexes, lines, columns and bytes that 16 bits don't hold.
+		{"#é" + strings.Repeat("\n", 70000) + strings.Repeat(" ", 70001) + ")", UnexpectedToken, NoDetail, 0,
+			Place{140003, 70000, 70001, 140004}, Place{140004, 70000, 70002, 140005}, `Unexpected ")". At 70000:70001`},
 	} {
 		fault := refused(t, row.source, DefaultDepth)
 		same(t, row.source, *fault, SyntaxError{fault.Message, row.reason, row.detail, row.character, row.start, row.end})
@@ -182,59 +191,6 @@ func TestSyntaxErrors(t *testing.T) {
 	for _, length := range []int{1, 200, 242, 243, 244, 255, 256, 257, 5000} {
 		name := strings.Repeat("n", length)
 		same(t, "a long name", refused(t, "query a "+name, 9).Error(), `Unexpected "`+name+`". At 0:8`)
-	}
-}
-
-func TestDepths(t *testing.T) {
-	deep := strings.Repeat("{a", 200000)
-	for _, depth := range []int{-1, -1 << 63, MostDepth + 1, 1<<31 - 1, 1<<32 - 1, 1 << 32, 1<<32 + 5, 1<<63 - 1} {
-		for _, source := range []string{deep, "{a}", "", "\xff"} {
-			if _, err := ParseWithin(source, depth, AnyTokens); !errors.Is(err, ErrDepth) {
-				t.Errorf("the depth %d: %v", depth, err)
-			}
-		}
-	}
-	for _, depth := range []int{0, 1, 2, 199, 200, MostDepth} {
-		if d, err := ParseWithin(strings.Repeat("{a", depth)+strings.Repeat("}", depth), depth, AnyTokens); depth > 0 &&
-			(err != nil || len(d.Nodes) != depth+1) {
-			t.Errorf("a text %d deep: %v", depth, err)
-		}
-		fault := refused(t, strings.Repeat("{a", depth+1), depth)
-		same(t, "too deep", []any{fault.Reason, int(fault.Start.Byte)}, []any{Nested, 2 * depth})
-	}
-	same(t, "the default depth", len(parsed(t, strings.Repeat("{a", 200)+strings.Repeat("}", 200)).Nodes), 201)
-}
-
-func TestTokens(t *testing.T) {
-	source := "{ a(b: \"é\") ...F }"
-	starts := []uint32{0, 2, 3, 4, 5, 7, 10, 12, 15, 17}
-	for _, tokens := range []int{len(starts), len(starts) + 1, AnyTokens - 1, AnyTokens, 1 << 40, 1<<63 - 1} {
-		if _, err := ParseWithin(source, 5, tokens); err != nil {
-			t.Errorf("%d tokens: %v", tokens, err)
-		}
-	}
-	for tokens, start := range starts {
-		_, err := ParseWithin(source, 5, tokens)
-		var fault *SyntaxError
-		if !errors.As(err, &fault) {
-			t.Fatalf("%d tokens: %v", tokens, err)
-		}
-		same(t, "too many tokens", []any{fault.Reason, fault.Message, fault.Start.Index}, []any{TooMany, "Too many tokens", start})
-		same(t, "their error", fault.Error(), fmt.Sprintf("Too many tokens. At 0:%d", start))
-	}
-	// Nothing after the first token too many is read, and no deep text is parsed.
-	for _, source := range []string{strings.Repeat("{a", 1<<20), "{ a ) } \"", "{ a \"\x00"} {
-		_, err := ParseWithin(source, 5, 2)
-		var fault *SyntaxError
-		same(t, source[:5], errors.As(err, &fault) && fault.Reason == TooMany, source != "{ a \"\x00")
-	}
-	for _, tokens := range []int{-1, -1 << 63} {
-		if _, err := ParseWithin(source, 5, tokens); !errors.Is(err, ErrTokens) {
-			t.Errorf("%d tokens: %v", tokens, err)
-		}
-	}
-	if _, err := ParseWithin("{\xff", 5, 0); !errors.Is(err, ErrNotUTF8) {
-		t.Errorf("what is no text: %v", err)
 	}
 }
 
@@ -258,61 +214,16 @@ func TestSources(t *testing.T) {
 func TestStatuses(t *testing.T) {
 	same(t, "the errors of statuses", []error{errorOf(2), errorOf(4), errorOf(7), errorOf(8)},
 		[]error{ErrNotUTF8, ErrMemory, ErrTooLong, ErrDepth})
+	for err, told := range map[error]string{
+		ErrNotUTF8: "the source is not UTF-8",
+		ErrMemory:  "memory ran out",
+		ErrTooLong: "the source has 4 GiB or more",
+		ErrDepth:   "the depth is not from 0 to 1000",
+		ErrTokens:  "the number of tokens is below 0",
+	} {
+		same(t, "the words of an error", err.Error(), "firthnapkin: "+told)
+	}
 	same(t, "the error of another", errorOf(3).Error(), "firthnapkin: the parser returned 3")
-}
-
-// A source that is too long is not read: there is no memory behind this one.
-func TestTooLong(t *testing.T) {
-	bytes, err := syscall.Mmap(-1, 0, 1<<32, syscall.PROT_READ, syscall.MAP_PRIVATE|syscall.MAP_ANON|syscall.MAP_NORESERVE)
-	if err != nil {
-		t.Skip("no address space for 4 GiB")
-	}
-	defer syscall.Munmap(bytes)
-	source := *(*string)(unsafe.Pointer(&bytes))
-	for _, tokens := range []int{5, AnyTokens} {
-		if _, err := ParseWithin(source, 5, tokens); !errors.Is(err, ErrTooLong) {
-			t.Errorf("4 GiB: %v", err)
-		}
-	}
-}
-
-func TestGoroutines(t *testing.T) {
-	source := "query Q { " + strings.Repeat(`user(id: 4, b: {c: [1.5, "x"]}) { id name } `, 500) + "}"
-	wanted := lines(source)
-	var wait sync.WaitGroup
-	for i := 0; i < 8; i++ {
-		wait.Add(1)
-		go func() {
-			defer wait.Done()
-			for round := 0; round < 20; round++ {
-				if lines(source) != wanted {
-					t.Error("another answer")
-				}
-			}
-		}()
-	}
-	wait.Wait()
-}
-
-// A process whose threads have stacks of 256 KiB.
-func TestSmallStacks(t *testing.T) {
-	if os.Getenv("FIRTHNAPKIN_SMALL_STACK") != "" {
-		for _, part := range []string{"{...", "{a", "{a(x:{k:", "query($a:["} {
-			refused(t, strings.Repeat(part, 5000), DefaultDepth)
-			refused(t, strings.Repeat(part, 5000), MostDepth)
-		}
-		same(t, "nodes", len(parsed(t, strings.Repeat("{...", 199)+"{a}"+strings.Repeat("}", 199)).Nodes), 201)
-		return
-	}
-	shell, err := exec.LookPath("bash")
-	if err != nil {
-		t.Skip("no shell that sets the size of a stack")
-	}
-	command := exec.Command(shell, "-c", `ulimit -s 256 && exec "$0" -test.run '^TestSmallStacks$'`, os.Args[0])
-	command.Env = append(os.Environ(), "FIRTHNAPKIN_SMALL_STACK=yes")
-	if told, err := command.CombinedOutput(); err != nil {
-		t.Errorf("%v: %s", err, told)
-	}
 }
 
 func ExampleParse() {

@@ -1,5 +1,6 @@
-/* The library's calls for index.js, which checks the types of arguments: parse(buffer, depth, tokens) returns { status,
- * nodes, texts }, an ArrayBuffer of the nodes or of the fault, and a Buffer of the texts or of the fault's words. */
+/* The library's calls for index.js, which checks the types of arguments: parse(buffer, depth, tokens, allocate) returns
+ * { status, nodes, texts }, an ArrayBuffer of the nodes or of the fault, and one of the texts or of the fault's words. `allocate`
+ * makes an ArrayBuffer of so many bytes. */
 #define _GNU_SOURCE
 #include "whole.h"
 
@@ -17,36 +18,51 @@ static int has(napi_env env, napi_value object, const char *name, napi_status ma
     return made == napi_ok && napi_set_named_property(env, object, name, *value) == napi_ok;
 }
 
-static napi_value told(napi_env env, const whole *w) {
+/* Copies bytes into an ArrayBuffer that JavaScript allocates: it throws where memory is short, where napi_create_arraybuffer ends
+ * the process. */
+static napi_status copied(napi_env env, napi_value allocate, const void *from, size_t size, napi_value *result) {
+    napi_value receiver, argument;
+    void *bytes;
+    size_t length;
+    if (napi_get_undefined(env, &receiver) != napi_ok || napi_create_double(env, (double)size, &argument) != napi_ok
+        || napi_call_function(env, receiver, allocate, 1, &argument, result) != napi_ok
+        || napi_get_arraybuffer_info(env, *result, &bytes, &length) != napi_ok || length != size)
+        return napi_generic_failure;
+    if (size != 0) memcpy(bytes, from, size);
+    return napi_ok;
+}
+
+static napi_value told(napi_env env, const whole *w, napi_value allocate) {
     int is_fault = w->status == FIRTHNAPKIN_REFUSED || w->status == FIRTHNAPKIN_TOO_DEEP || w->status == FIRTHNAPKIN_MANY;
     size_t size = is_fault ? sizeof w->fault : w->nodes_count * sizeof *w->nodes;
     const void *from = is_fault ? (const void *)&w->fault : (const void *)w->nodes;
     napi_value result, value;
-    void *kept;
     if (napi_create_object(env, &result) != napi_ok
         || !has(env, result, "status", napi_create_uint32(env, w->status, &value), &value)
-        || !has(env, result, "texts", napi_create_buffer_copy(env, w->texts_count, w->texts, &kept, &value), &value)
-        || !has(env, result, "nodes", napi_create_arraybuffer(env, size, &kept, &value), &value))
-        return failed(env, "the answer was not made");
-    if (size != 0) memcpy(kept, from, size);
+        || !has(env, result, "texts", copied(env, allocate, w->texts, w->texts_count, &value), &value)
+        || !has(env, result, "nodes", copied(env, allocate, from, size, &value), &value))
+        return failed(env, "the result was not made");
     return result;
 }
 
+/* How many arguments parse takes. */
+enum { ARGUMENTS = 4 };
+
 static napi_value parse(napi_env env, napi_callback_info info) {
-    size_t count = 3, length;
-    napi_value arguments[3];
+    size_t count = ARGUMENTS, length;
+    napi_value arguments[ARGUMENTS];
     void *source;
     double depth, tokens;
-    if (napi_get_cb_info(env, info, &count, arguments, NULL, NULL) != napi_ok || count < 3
+    if (napi_get_cb_info(env, info, &count, arguments, NULL, NULL) != napi_ok || count < ARGUMENTS
         || napi_get_buffer_info(env, arguments[0], &source, &length) != napi_ok
         || napi_get_value_double(env, arguments[1], &depth) != napi_ok
         || napi_get_value_double(env, arguments[2], &tokens) != napi_ok)
-        return failed(env, "parse takes a buffer, a depth and a number of tokens");
+        return failed(env, "parse takes a buffer, a depth, a number of tokens and a function");
     /* NaN is neither less than 0 nor more. */
     uint32_t limit = depth >= 0 && depth <= FIRTHNAPKIN_MOST_DEPTH ? (uint32_t)depth : UINT32_MAX;
     uint32_t most = tokens >= 0 && tokens < UINT32_MAX ? (uint32_t)tokens : UINT32_MAX;
     whole w = parse_whole(source, length, limit, most);
-    napi_value result = w.status == FIRTHNAPKIN_MEMORY ? failed(env, "memory ran out") : told(env, &w);
+    napi_value result = w.status == FIRTHNAPKIN_MEMORY ? failed(env, "memory ran out") : told(env, &w, arguments[3]);
     give_back(&w);
     return result;
 }

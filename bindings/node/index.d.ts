@@ -65,6 +65,19 @@ export interface Node {
   readonly children: Node[];
   /** The node of the part that this one is in; null of a definition. */
   readonly parent: Node | null;
+  /** What JSON.stringify writes: the parts that console.log shows, too. */
+  toJSON(): NodeParts;
+}
+
+/** A node and the parts in it, as JSON has them. */
+export interface NodeParts {
+  readonly kind: Kind;
+  readonly name: string | null;
+  /** The node's value. Of a `largeInt`, and of a Float beyond the largest number, the text. */
+  readonly value: null | boolean | number | string;
+  readonly start: Place;
+  readonly end: Place;
+  readonly children: NodeParts[];
 }
 
 /** A document's nodes, each part before the parts in it. A node is made each time that one is read. */
@@ -75,6 +88,13 @@ export interface Document extends Iterable<Node> {
   readonly definitions: Node[];
   /** The node of this index; throws a RangeError where there is none. */
   node(index: number): Node;
+  /** What JSON.stringify writes. */
+  toJSON(): DocumentParts;
+}
+
+/** A document's parts, as JSON has them. */
+export interface DocumentParts {
+  readonly definitions: NodeParts[];
 }
 
 /** Why there is no token. */
@@ -110,8 +130,8 @@ export interface Options {
 
 /**
  * The document that a source is. Throws a Fault where it is none, a bracket is nested deeper, or a token is one too many,
- * before anything is built; a TypeError where the source is no string or a limit no number; a RangeError where a limit
- * is no integer of its range; an Error where memory ran out.
+ * before anything is built; a TypeError where the source is no string, a limit no number, or the options are no object or
+ * have a name that `Options` lacks; a RangeError where a limit is no integer of its range; an Error where memory ran out.
  */
 export function parse(source: string, options?: Options): Document;
 

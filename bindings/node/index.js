@@ -4,6 +4,8 @@
 //     for (const node of parse("{ user(id: 4) { name } }")) console.log(node.kind, node.name, node.value, node.text);
 "use strict";
 
+const { inspect } = require("util");
+
 const addon = require("./firthnapkin.node");
 
 const TREE = 0;
@@ -38,18 +40,24 @@ const NAME = 10;
 const VALUE = 12;
 const LENGTH = 14;
 
+// The indexes in characters of a source's characters that take two units. The array may be large, so it is no part of the
+// JavaScript heap.
+function pairsOf(source) {
+  const isFirst = (index) => (source.charCodeAt(index) & 0xfc00) === 0xd800;
+  let count = 0;
+  // A source without them needs no loop.
+  const length = /[\ud800-\udbff]/.test(source) ? source.length : 0;
+  for (let index = 0; index < length; index++) if (isFirst(index)) count++;
+  const pairs = allocated(() => new Uint32Array(count));
+  count = 0;
+  for (let index = 0; index < length; index++) if (isFirst(index)) pairs[count] = index - count++;
+  return pairs;
+}
+
 // Counts a source's characters in UTF-16 units.
 class Units {
   constructor(source) {
-    // The indexes in characters of the characters that take two units.
-    this.pairs = [];
-    let index = 0;
-    // A source without them needs no loop.
-    if (!/[\ud800-\udbff]/.test(source)) return;
-    for (const character of source) {
-      if (character.length === 2) this.pairs.push(index);
-      index += 1;
-    }
+    this.pairs = pairsOf(source);
   }
 
   // How many units come before the character of this index.
@@ -165,6 +173,29 @@ class Node {
     const parent = this.#document.parents[this.index];
     return parent < 0 ? null : this.#document.node(parent);
   }
+
+  toJSON() {
+    const { kind, name, start, end } = this;
+    const value = valueOrText(this);
+    const children = this.children.map((child) => child.toJSON());
+    // JSON has no such numbers.
+    return { kind, name, value: typeof value === "bigint" ? String(value) : value, start, end, children };
+  }
+
+  [inspect.custom]() {
+    // The class's prototype is no node.
+    if (!Object.keys(this).includes("index")) return this;
+    const { kind, name, start, end, children } = this;
+    return Object.assign(new Shown(), { kind, name, value: valueOrText(this), start, end, children });
+  }
+}
+
+// What inspect shows of a node, under the same name.
+const Shown = { Node: class {} }.Node;
+
+// A node's value; of a Float that has none, the text.
+function valueOrText(node) {
+  return node.kind === "float" && !Number.isFinite(Number(node.text)) ? node.text : node.value;
 }
 
 function finite(text) {
@@ -230,11 +261,20 @@ class Document {
   *[Symbol.iterator]() {
     for (let index = 0; index < this.length; index++) yield this.node(index);
   }
+
+  toJSON() {
+    return { definitions: this.definitions.map((definition) => definition.toJSON()) };
+  }
+}
+
+function typeOf(value) {
+  if (value === null) return "null";
+  return Array.isArray(value) ? "array" : typeof value;
 }
 
 // A number that is an integer from 0 to this.
 function integer(name, value, most) {
-  if (typeof value !== "number") throw new TypeError(`${name} must be a number, not ${value === null ? "null" : typeof value}`);
+  if (typeof value !== "number") throw new TypeError(`${name} must be a number, not ${typeOf(value)}`);
   if (!Number.isInteger(value) || value < 0 || value > most)
     throw new RangeError(`${name} must be an integer from 0 to ${most}`);
   return value;
@@ -271,17 +311,38 @@ function fault(source, nodes, texts) {
   });
 }
 
+const OPTIONS = ["depth", "maxTokens"];
+
+// The limits that options are: those that aren't given are the default ones.
+function limitsOf(options) {
+  if (typeOf(options) !== "object") throw new TypeError(`options must be an object, not ${typeOf(options)}`);
+  for (const name of Reflect.ownKeys(options)) {
+    if (!OPTIONS.includes(name)) throw new TypeError(`there is no option ${String(name)}, only ${OPTIONS.join(" and ")}`);
+  }
+  const { depth = 200, maxTokens = Number.MAX_SAFE_INTEGER } = options;
+  return [integer("depth", depth, addon.MOST_DEPTH), integer("maxTokens", maxTokens, Number.MAX_SAFE_INTEGER)];
+}
+
+// What a function returns that allocates: V8 throws a RangeError where memory is short.
+function allocated(allocate) {
+  try {
+    return allocate();
+  } catch (error) {
+    throw error instanceof RangeError ? new Error("memory ran out") : error;
+  }
+}
+
 /** The document that a source is; index.d.ts says what is thrown. */
-function parse(source, { depth = 200, maxTokens = Number.MAX_SAFE_INTEGER } = {}) {
-  if (typeof source !== "string") throw new TypeError(`source must be a string, not ${source === null ? "null" : typeof source}`);
-  const limit = integer("depth", depth, addon.MOST_DEPTH);
-  const most = integer("maxTokens", maxTokens, Number.MAX_SAFE_INTEGER);
+function parse(source, options = {}) {
+  if (typeof source !== "string") throw new TypeError(`source must be a string, not ${typeOf(source)}`);
+  const [depth, most] = limitsOf(options);
   const alone = source.isWellFormed?.() ? -1 : source.search(/\p{Surrogate}/u);
   if (alone >= 0) throw surrogate(source, alone);
-  const bytes = Buffer.from(source);
-  const { status, nodes, texts } = addon.parse(bytes, limit, most);
-  if (status === TREE) return new Document(source, bytes, nodes, texts);
-  if (status === REFUSED || status === TOO_DEEP || status === MANY) throw fault(source, nodes, texts);
+  const bytes = allocated(() => Buffer.from(source));
+  const allocate = (size) => allocated(() => new ArrayBuffer(size));
+  const { status, nodes, texts } = addon.parse(bytes, depth, most, allocate);
+  if (status === TREE) return new Document(source, bytes, nodes, Buffer.from(texts));
+  if (status === REFUSED || status === TOO_DEEP || status === MANY) throw fault(source, nodes, Buffer.from(texts));
   // No string has 4 GiB.
   throw new Error(`the parser returned ${status}`);
 }

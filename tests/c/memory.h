@@ -27,11 +27,11 @@ static int are_canaries(const void *room, size_t length) {
 
 static const size_t FOUR_GIB = (size_t)1 << 32;
 
-/* A source of 4 GiB of which no byte can be read; NULL, and a line that says so, where there is no address space for it. */
+/* A source of 4 GiB of which no byte can be read; NULL, and skipped, where there is no address space for it. */
 static void *too_long_source(void) {
     void *source = mmap(NULL, FOUR_GIB, PROT_NONE, MAP_PRIVATE | MAP_ANONYMOUS | MAP_NORESERVE, -1, 0);
     if (source != MAP_FAILED) return source;
-    printf("no address space for 4 GiB, so status %d was not tried\n", FIRTHNAPKIN_TOO_LONG);
+    skip("no address space for 4 GiB, so status %d is not tried", FIRTHNAPKIN_TOO_LONG);
     return NULL;
 }
 

@@ -1,6 +1,8 @@
-/* Refuses each request for memory of each call in turn: that one alone, or it and all after it. The call reports that memory
- * ran out, or returns what it returns where memory is ample, and frees what it was given. Linked with --wrap. */
-#include "../../include/firthnapkin.h"
+/* Refuses each request for memory of each call in turn, and of each call of bindings/whole.h: that one alone, or it and all
+ * after it. The call reports that memory ran out, or returns what it returns where memory is ample, and frees what it was given.
+ * Linked with --wrap. */
+#define _GNU_SOURCE
+#include "../../bindings/whole.h"
 #include "checks.h"
 #include <stdlib.h>
 #include <string.h>
@@ -89,6 +91,33 @@ static answer canonical(const char *source) {
     return a;
 }
 
+/* What a call of bindings/whole.h returned. The counts of one for which memory ran out say nothing. */
+static answer answer_of(whole w, size_t count) {
+    int is_there = w.status != FIRTHNAPKIN_MEMORY;
+    answer a = {w.status, is_there ? count : 0, is_there ? w.texts_count : 0};
+    give_back(&w);
+    return a;
+}
+
+static answer whole_parse(const char *source) {
+    whole w = parse_whole((const uint8_t *)source, strlen(source), 200, UINT32_MAX);
+    return answer_of(w, w.nodes_count);
+}
+
+static answer whole_parse_of_few(const char *source) {
+    whole w = parse_whole((const uint8_t *)source, strlen(source), 200, 20);
+    return answer_of(w, w.nodes_count);
+}
+
+static answer whole_tokens(const char *source) {
+    whole w = cut_whole((const uint8_t *)source, strlen(source), UINT32_MAX);
+    return answer_of(w, w.tokens_count);
+}
+
+static answer whole_canonical(const char *source) {
+    return answer_of(canonical_whole((const uint8_t *)source, strlen(source)), 0);
+}
+
 /* The call with this request refused, and whether it freed all. */
 static answer with_refused(answer (*call)(const char *), const char *source, long number, int onwards) {
     asked = live = 0;
@@ -133,6 +162,9 @@ static void room_is_a_hint(const char *source) {
           "the answer for %s where the first room for nodes is refused: %u", source, a.status);
 }
 
+#define TEN(text) text text text text text text text text text text
+#define LONG_FAULT "query a " TEN(TEN("nnn"))
+
 int main(void) {
     static const char *const sources[] = {
         "{a}",
@@ -143,6 +175,11 @@ int main(void) {
         "# \xc3\xa9\n{",
         "# \xc3\xa9\n{ a(b: \"\\q\") }",
         "a \xc3\xa9",
+        /* More nodes, longer texts and longer words than are allocated at first. */
+        "{a a a a a a a a a a a a a a a a a a a a a a a a a a a a a a a a a a a a a a a a a a}",
+        "{a(b:\"ccccccccccccccccccccccccccccccccccccccccccccccccccccccccccccccccccccccccccccccccccccccccccccccccccccccccccccc\")}",
+        "1a\"\"2b\"\"3c",
+        LONG_FAULT,
     };
     for (size_t i = 0; i < sizeof sources / sizeof *sources; i++) {
         each(parse, sources[i]);
@@ -150,6 +187,10 @@ int main(void) {
         each(count, sources[i]);
         each(tokens, sources[i]);
         each(canonical, sources[i]);
+        each(whole_parse, sources[i]);
+        each(whole_parse_of_few, sources[i]);
+        each(whole_tokens, sources[i]);
+        each(whole_canonical, sources[i]);
     }
     room_is_a_hint(sources[1]);
     room_is_a_hint(sources[2]);

@@ -122,6 +122,19 @@ test("faults, with their places", () => {
     ["#𝄞\n{a(b:\"𝄞\") ) }", "unexpectedToken", null, null, [15, 1, 11, 19], [16, 1, 12, 20], 'Unexpected ")". At 1:10'],
     ['{\n"é\ud800"}', "surrogate", null, null, [4, 1, 2, 5], [5, 1, 3, 8], "Lone surrogate U+D800. At 1:2"],
     ["\udc00", "surrogate", null, null, [0, 0, 0, 0], [1, 0, 1, 3], "Lone surrogate U+DC00. At 0:0"],
+    // A character of two units: at it, at the next character, and after two of them.
+    ["#𝄞", "unexpectedEnd", null, null, [3, 0, 3, 5], [3, 0, 3, 5], "Unexpected end of input. At 0:2"],
+    ['{a(b:"𝄞', "lexical", "unterminatedString", null, [8, 0, 8, 10], [8, 0, 8, 10], "Unterminated string literal. At 0:7"],
+    ["{ 𝄞 }", "lexical", "unknownCharacter", "𝄞", [2, 0, 2, 2], [2, 0, 2, 2], 'Unknown character "𝄞". At 0:2'],
+    ["#𝄞\n𝄞", "lexical", "unknownCharacter", "𝄞", [4, 1, 0, 6], [4, 1, 0, 6], 'Unknown character "𝄞". At 1:0'],
+    ['{a(b:"𝄞"𝄞', "lexical", "unknownCharacter", "𝄞", [9, 0, 9, 11], [9, 0, 9, 11], 'Unknown character "𝄞". At 0:8'],
+    ['{a(b:"𝄞𝄞" \u{10ffff}', "lexical", "unknownCharacter", "\u{10ffff}", [12, 0, 12, 16], [12, 0, 12, 16],
+      'Unknown character "\u{10ffff}". At 0:10'],
+    ["{a(b:-𝄞", "lexical", "unexpectedCharacter", "𝄞", [6, 0, 6, 6], [6, 0, 6, 6], 'Unexpected character "𝄞". At 0:6'],
+    ["{ \uffff }", "lexical", "unknownCharacter", "\uffff", [2, 0, 2, 2], [2, 0, 2, 2], 'Unknown character "\uffff". At 0:2'],
+    // A token may be written like the end of a message.
+    ['{ "a. At b" }', "unexpectedToken", null, null, [2, 0, 2, 2], [11, 0, 11, 11], 'Unexpected ""a. At b"". At 0:2'],
+    ['{ "a. At 1:1" }', "unexpectedToken", null, null, [2, 0, 2, 2], [13, 0, 13, 13], 'Unexpected ""a. At 1:1"". At 0:2'],
   ]) {
     const fault = faultOf(source);
     const place = ([index, line, column, byte]) => ({ index, line, column, byte });
@@ -134,6 +147,37 @@ test("faults, with their places", () => {
     const name = "n".repeat(length);
     assert.strictEqual(faultOf(`query a ${name}`).message, `Unexpected "${name}". At 0:8`);
   }
+});
+
+// Indexes, lines, columns, bytes, parents and tokens that 16 bits don't hold.
+test("large places, and a document of 70,001 nodes", () => {
+  const fault = faultOf(`#é${"\n".repeat(70000)}${" ".repeat(70001)})`);
+  assert.deepStrictEqual(fault.start, { index: 140003, line: 70000, column: 70001, byte: 140004 });
+  assert.deepStrictEqual(fault.end, { index: 140004, line: 70000, column: 70002, byte: 140005 });
+  const document = parse(`{${"a{b}".repeat(35000)}}`);
+  assert.strictEqual(document.length, 70001);
+  for (const index of [2, 128, 130, 256, 258, 32768, 32770, 65536, 65538, 70000])
+    assert.strictEqual(document.node(index).parent.index, index - 1);
+  for (const index of [1, 129, 257, 32769, 65537, 69999]) assert.strictEqual(document.node(index).parent.index, 0);
+  assert.strictEqual(document.node(0).children.length, 35000);
+  assert.strictEqual(document.node(0).descendants, 70000);
+});
+
+test("options", () => {
+  for (const options of [null, 5, 5n, "5", "", true, [], [5], () => 5, Symbol("depth")])
+    assert.throws(() => parse("{a}", options), { name: "TypeError", message: /^options must be an object, not / });
+  for (const options of [{ dept: 5 }, { depth: 5, maxToken: 5 }, { Depth: 5 }, { [Symbol("depth")]: 5 }, { 0: 5 }, new Map(), ["a"]]) {
+    if (options instanceof Map) assert.strictEqual(parse("{a}", options).length, 2);
+    else assert.throws(() => parse("{a}", options), TypeError);
+  }
+  assert.throws(() => parse("{a}", { dept: 5 }), { name: "TypeError", message: "there is no option dept, only depth and maxTokens" });
+  assert.throws(() => ["{a}"].map(parse), TypeError);
+  for (const options of [undefined, {}, { depth: 1 }, { maxTokens: 3 }, { depth: undefined, maxTokens: undefined }, Object.create(null)])
+    assert.strictEqual(parse("{a}", options).length, 2);
+  class Limits {
+    depth = 0;
+  }
+  assert.throws(() => parse("{a}", new Limits()), Fault);
 });
 
 test("depths", () => {
@@ -168,6 +212,10 @@ test("tokens", () => {
   assert.strictEqual(faultOf('{ a ) } "', { maxTokens: 4 }).reason, "lexical");
   assert.strictEqual(faultOf("{a".repeat(1000), { maxTokens: 1999 }).reason, "tooMany");
   assert.strictEqual(faultOf("{a".repeat(1000), { maxTokens: 2000 }).reason, "nested");
+  const many = `{${"a ".repeat(1000001)}`;
+  for (const maxTokens of [65535, 65536, 65537, 999999, 1000000, 1000001])
+    assert.deepStrictEqual(faultOf(many, { maxTokens }).start.index, 2 * maxTokens - 1);
+  assert.strictEqual(faultOf(many, { maxTokens: 1000002 }).reason, "unexpectedEnd");
   for (const maxTokens of [-1, 0.5, NaN, Infinity, -Infinity, 2 ** 53, 1e300])
     assert.throws(() => parse(source, { maxTokens }), RangeError);
   for (const maxTokens of [null, "5", [], {}, true, 5n]) assert.throws(() => parse(source, { maxTokens }), TypeError);
@@ -180,7 +228,8 @@ test("sources", () => {
   assert.strictEqual(parse("\ufeff{a}").node(1).start.byte, 4);
   const large = parse(`{${" ".repeat(2 ** 26 - 3)}a}`);
   assert.strictEqual(large.node(1).start.index, 2 ** 26 - 2);
-  assert.strictEqual(parse(`{${"a ".repeat(2 ** 18)}}`).length, 2 ** 18 + 1);
+  // Any number of tokens, where no limit is given.
+  assert.strictEqual(parse(`{${"a ".repeat(2 ** 20)}}`).length, 2 ** 20 + 1);
   assert.strictEqual(faultOf(`{${"a".repeat(2 ** 26)}`).start.byte, 2 ** 26 + 1);
   const strings = parse(`{a(b:[${'"\\n0123456789" '.repeat(5000)}])}`);
   assert.strictEqual(strings.node(strings.length - 1).value, "\n0123456789");

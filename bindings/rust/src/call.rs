@@ -59,17 +59,20 @@ pub fn parse_within(source: &str, limits: Limits) -> Result<Document<'_>, Error>
     if limits.depth > MOST_DEPTH {
         return Err(Error::Depth);
     }
-    count(source, limits.tokens)?;
-    stack::with(limits.depth, || parse_here(source, limits.depth)).unwrap_or(Err(Error::Memory))
+    let parse = || {
+        count(source, limits.tokens)?;
+        parse_here(source, limits.depth)
+    };
+    stack::with(limits.depth, parse).unwrap_or(Err(Error::Memory))
 }
 
-/// An error where there are more tokens than that. No source has more than the largest number.
+/// An error where there are more tokens than that, on this thread's stack. No source has more than the largest number.
 fn count(source: &str, tokens: u32) -> Result<(), Error> {
     if tokens == u32::MAX {
         return Ok(());
     }
     let mut fault = RawFault::default();
-    // SAFETY: the source has as many bytes as its length says.
+    // SAFETY: the source has as many bytes as its length says, and the stack is enough.
     let status = unsafe { firthnapkin_count(source.as_ptr(), source.len(), tokens, &mut fault) };
     match status {
         FEW => Ok(()),

@@ -147,7 +147,41 @@ impl fmt::Debug for Document<'_> {
     }
 }
 
-/// A part of a document.
+/// A part of a document. Its names and texts borrow from the source, and so may be kept after the document is dropped:
+///
+/// ```
+/// let source = "{ user { name } }".to_string();
+/// let text = firthnapkin::parse(&source)?.node(2).unwrap().text();
+/// assert_eq!(text, "name");
+/// # Ok::<(), firthnapkin::Error>(())
+/// ```
+///
+/// They may not be kept after the source:
+///
+/// ```compile_fail,E0597
+/// let text = {
+///     let source = "{ user { name } }".to_string();
+///     let document = firthnapkin::parse(&source).unwrap();
+///     document.node(2).unwrap().text()
+/// };
+/// println!("{text}");
+/// ```
+///
+/// A node borrows from the document, and so does what a string means:
+///
+/// ```compile_fail,E0505
+/// let document = firthnapkin::parse("{ user }").unwrap();
+/// let node = document.node(1).unwrap();
+/// drop(document);
+/// println!("{node:?}");
+/// ```
+///
+/// ```compile_fail,E0505
+/// let document = firthnapkin::parse("{ user(name: \"a\") }").unwrap();
+/// let value = document.node(4).unwrap().value();
+/// drop(document);
+/// println!("{value:?}");
+/// ```
 #[derive(Clone, Copy)]
 pub struct Node<'d, 'a> {
     document: &'d Document<'a>,

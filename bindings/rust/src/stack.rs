@@ -9,26 +9,48 @@ const fn needed(depth: u32) -> usize {
 
 const OWN: usize = 1 << 14;
 
+/// How much larger a thread's stack is than what the call needs: first, and at most. It has the thread's own variables, too, and
+/// only the thread knows how much they leave. Memory that is not written to costs nothing.
+const MARGINS: (usize, usize) = (1 << 16, 1 << 28);
+
 /// Runs a call with this depth on this thread's stack, or, where less is left or it isn't known, in a thread of its own.
 /// An error where no thread can be made.
 pub(crate) fn with<R: Send>(depth: u32, call: impl FnOnce() -> R + Send) -> io::Result<R> {
-    if left() >= needed(depth) {
+    let needed = needed(depth);
+    if left().is_some_and(|left| left >= needed) {
         return Ok(call());
     }
+    let mut call = Some(call);
+    let mut margin = MARGINS.0;
+    while margin <= MARGINS.1 {
+        if let Some(result) = in_thread(needed, margin, &mut call)? {
+            return Ok(result);
+        }
+        margin *= 16;
+    }
+    Err(io::ErrorKind::OutOfMemory.into())
+}
+
+/// The result of the call in a thread of its own; nothing where the thread's stack is too small, and the call is left.
+fn in_thread<R: Send>(
+    needed: usize,
+    margin: usize,
+    call: &mut Option<impl FnOnce() -> R + Send>,
+) -> io::Result<Option<R>> {
     thread::scope(|scope| {
-        let thread = thread::Builder::new().stack_size(needed(depth) + OWN).spawn_scoped(scope, call)?;
+        let run = || if left().map_or(true, |left| left >= needed) { call.take().map(|call| call()) } else { None };
+        let thread = thread::Builder::new().stack_size(needed + margin).spawn_scoped(scope, run)?;
         thread.join().map_err(|panic| panic::resume_unwind(panic))
     })
 }
 
-/// How many bytes of this thread's stack are left; 0 where that isn't known.
-fn left() -> usize {
+/// How many bytes of this thread's stack are left, if that is known.
+fn left() -> Option<usize> {
     let here = 0u8;
     let here = std::ptr::addr_of!(here) as usize;
-    match bounds::of_this_thread() {
-        Some((lowest, highest)) if lowest < here && here < highest => here - lowest,
-        _ => 0,
-    }
+    bounds::of_this_thread()
+        .filter(|&(lowest, highest)| lowest < here && here < highest)
+        .map(|(lowest, _)| here - lowest)
 }
 
 #[cfg(all(target_os = "linux", target_env = "gnu"))]

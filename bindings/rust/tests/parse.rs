@@ -46,11 +46,9 @@ fn bytes_of(digits: &str) -> Vec<u8> {
 
 /// The rows of the language: `tests/rows.py` writes them to the file that `FIRTHNAPKIN_ROWS` names.
 #[test]
+#[ignore = "it takes a file of rows: cargo test -- --include-ignored"]
 fn rows() {
-    let Ok(path) = std::env::var("FIRTHNAPKIN_ROWS") else {
-        println!("FIRTHNAPKIN_ROWS names no file of rows");
-        return;
-    };
+    let path = std::env::var("FIRTHNAPKIN_ROWS").expect("FIRTHNAPKIN_ROWS names a file of rows");
     let mut count = 0;
     for row in std::fs::read_to_string(path).unwrap().lines() {
         let (source, wanted) = row.split_once(' ').unwrap();
@@ -107,16 +105,46 @@ fn documents() {
     assert_eq!((last.start(), last.end()), (place(75, 2, 23, 79), place(79, 2, 27, 87)));
     assert_eq!((document.len(), document.nodes().len(), document.is_empty()), (16, 16, false));
     assert_eq!(document.node(16), None);
-    // Names borrow from the source, not from the document.
-    let name = document.node(4).unwrap().name();
+    // Names, texts and the source borrow from the source, not from the document.
+    let node = document.node(4).unwrap();
+    let (name, text, whole) = (node.name(), node.text(), document.source());
     drop(document);
-    assert_eq!(name, Some("a"));
+    assert_eq!((name, text, whole), (Some("a"), "x: a(b: $v) { c }", source.as_str()));
+}
+
+/// A node is equal to itself, and to no other node of its document or of another one, though both are alike.
+#[test]
+fn equal_nodes() {
+    let source = "{ a a }";
+    let (first, second) = (parse(source).unwrap(), parse(source).unwrap());
+    let copy = first.clone();
+    for (i, node) in first.nodes().enumerate() {
+        for (k, other) in first.nodes().enumerate() {
+            assert_eq!(node == other, i == k);
+            assert_eq!(node != other, i != k);
+        }
+        assert!([&second, &copy].iter().all(|document| document.nodes().all(|other| node != other)));
+    }
+}
+
+#[test]
+fn many_nodes() {
+    let source = format!("{{{}}}", "a{b}".repeat(35_000));
+    let document = parse(&source).unwrap();
+    let query = document.node(0).unwrap();
+    assert_eq!((document.len(), query.descendants(), query.children().count()), (70_001, 70_000, 35_000));
+    for i in [1, 127, 129, 255, 257, 32_767, 32_769, 65_535, 65_537, 69_999] {
+        let node = document.node(i).unwrap();
+        assert_eq!((node.index(), node.text(), node.name()), (i, "a{b}", Some("a")));
+        assert_eq!(node.children().map(|child| (child.index(), child.text())).collect::<Vec<_>>(), [(i + 1, "b")]);
+    }
 }
 
 #[test]
 fn faults() {
     use Reason::*;
     let deep = "{a".repeat(201);
+    let far = format!("#é{}{})", "\n".repeat(70_000), " ".repeat(70_001));
     for (source, reason, detail, start, end, told) in [
         ("{\n  a )\n}", UnexpectedToken, None, (6, 1, 4, 6), (7, 1, 5, 7), "Unexpected \")\". At 1:4"),
         ("", UnexpectedEnd, None, (0, 0, 0, 0), (0, 0, 0, 0), "Unexpected end of input. At 0:0"),
@@ -170,6 +198,25 @@ fn faults() {
             "Unexpected end of input. At 0:6",
         ),
         (&deep, Nested, None, (400, 0, 400, 400), (401, 0, 401, 401), "Too deeply nested. At 0:400"),
+        // A token may be written like the end of a message.
+        ("{ \"a. At b\" }", UnexpectedToken, None, (2, 0, 2, 2), (11, 0, 11, 11), "Unexpected \"\"a. At b\"\". At 0:2"),
+        (
+            "{ \"a. At 1:1\" }",
+            UnexpectedToken,
+            None,
+            (2, 0, 2, 2),
+            (13, 0, 13, 13),
+            "Unexpected \"\"a. At 1:1\"\". At 0:2",
+        ),
+        // Indexes, lines, columns and bytes that 16 bits don't hold.
+        (
+            &far,
+            UnexpectedToken,
+            None,
+            (140_003, 70_000, 70_001, 140_004),
+            (140_004, 70_000, 70_002, 140_005),
+            "Unexpected \")\". At 70000:70001",
+        ),
     ] {
         let fault = fault(source, 200);
         assert_eq!((fault.reason, fault.detail), (reason, detail), "{source}");
@@ -183,6 +230,27 @@ fn faults() {
         let name = "n".repeat(length);
         assert_eq!(fault(&format!("query a {name}"), 9).to_string(), format!("Unexpected \"{name}\". At 0:8"));
     }
+}
+
+/// Characters of one to four bytes.
+#[test]
+fn characters_of_faults() {
+    for character in ['?', 'é', 'ж', '\u{ff}', '\u{100}', '\u{ffff}', '\u{10000}', '𝄞', '\u{10ffff}'] {
+        let unknown = fault(&format!("{{ {character} }}"), 9);
+        assert_eq!(unknown.detail, Some(Detail::UnknownCharacter(character)));
+        assert_eq!(unknown.to_string(), format!("Unknown character \"{character}\". At 0:2"));
+        let unexpected = fault(&format!("{{a(b:-{character}"), 9);
+        assert_eq!(unexpected.detail, Some(Detail::UnexpectedCharacter(character)));
+        assert_eq!(unexpected.to_string(), format!("Unexpected character \"{character}\". At 0:6"));
+    }
+}
+
+#[test]
+fn words_of_errors() {
+    assert_eq!(Error::Memory.to_string(), "memory ran out");
+    assert_eq!(Error::TooLong.to_string(), "the source has 4 GiB or more");
+    assert_eq!(Error::Depth.to_string(), "the depth is above 1000");
+    assert_eq!(Error::Fault(fault("{", 9)).to_string(), "Unexpected end of input. At 0:1");
 }
 
 fn deep(depth: usize) -> String {
@@ -225,6 +293,14 @@ fn tokens() {
             other => panic!("{tokens} tokens: {other:?}"),
         }
     }
+    let many = format!("{{{}", "a ".repeat(1_000_001));
+    for tokens in [65_535, 65_536, 65_537, 999_999, 1_000_000, 1_000_001, 1_000_002] {
+        let reason = if tokens == 1_000_002 { Reason::UnexpectedEnd } else { Reason::TooMany };
+        match firthnapkin::parse_within(&many, Limits { depth: 5, tokens }) {
+            Err(Error::Fault(fault)) => assert_eq!((fault.reason, fault.start.byte), (reason, 2 * tokens - 1)),
+            other => panic!("{tokens} tokens: {:?}", other.map(|document| document.len())),
+        }
+    }
     // Nothing after the first token too many is read, and there is no token after a lexical error.
     let reason = |source, tokens| match within(source, tokens) {
         Err(Error::Fault(fault)) => fault.reason,
@@ -248,31 +324,6 @@ fn sources() {
     assert_eq!(fault(&format!("{{{}", "a".repeat(1 << 26)), 9).start.byte, (1 << 26) + 1);
     let strings = format!("{{a(b:[{}])}}", "\"\\n0123456789\" ".repeat(5000));
     assert_eq!(parse(&strings).unwrap().nodes().next_back().unwrap().value(), Value::Text("\n0123456789"));
-}
-
-#[test]
-fn threads_and_stacks() {
-    let source = format!("query Q {{ {} }}", "user(id: 4, b: {c: [1.5, \"x\"]}) { id name } ".repeat(500));
-    let wanted = lines(&source);
-    std::thread::scope(|scope| {
-        for size in [1 << 18, 1 << 18, 1 << 19, 1 << 21] {
-            let (source, wanted) = (&source, &wanted);
-            std::thread::Builder::new()
-                .stack_size(size)
-                .spawn_scoped(scope, move || {
-                    for part in ["{...", "{a", "{a(x:{k:", "query($a:["] {
-                        fault(&part.repeat(5000), 200);
-                        fault(&part.repeat(5000), MOST_DEPTH);
-                    }
-                    let tree = "{...".repeat(199) + "{a}" + &"}".repeat(199);
-                    assert_eq!(parse(&tree).unwrap().len(), 201);
-                    for _ in 0..20 {
-                        assert_eq!(&lines(source), wanted);
-                    }
-                })
-                .unwrap();
-        }
-    });
 }
 
 #[test]

@@ -1,0 +1,158 @@
+package firthnapkin
+
+import (
+	"errors"
+	"fmt"
+	"os"
+	"os/exec"
+	"strings"
+	"sync"
+	"syscall"
+	"testing"
+	"unsafe"
+)
+
+func TestManyNodes(t *testing.T) {
+	d := parsed(t, "{"+strings.Repeat("a{b}", 35000)+"}")
+	same(t, "nodes", []int{len(d.Nodes), d.Next(0), len(d.Children(0))}, []int{70001, 70001, 35000})
+	for _, i := range []int{1, 127, 129, 255, 257, 32767, 32769, 65535, 65537, 69999} {
+		same(t, fmt.Sprintf("the children and the name of node %d", i), []any{d.Children(i), d.Name(i), d.Text(i), d.Name(i + 1)},
+			[]any{[]int{i + 1}, "a", "a{b}", "b"})
+	}
+}
+
+// The arrays for a document of as many nodes as a request has are allocated once. For more nodes, and for longer texts, they
+// are allocated twice, with what the call returned.
+func TestAllocations(t *testing.T) {
+	allocations := func(source string) int { return int(testing.AllocsPerRun(10, func() { parsed(t, source) })) }
+	request := "query Q($id: ID!) {\n  userOf(id: $id, first: 10) {\n    id\n    fullName\n  }\n}\n"
+	once := allocations("{ a }")
+	// The texts are an allocation, too.
+	same(t, "of a request", allocations(request)-once, 1)
+	same(t, "of a hundred requests", allocations(strings.Repeat(request, 100))-once, 1)
+	for _, source := range []string{"{" + strings.Repeat("a ", 1000) + "}", "{a(b:\"" + strings.Repeat("c", 1000) + "\")}"} {
+		if found := allocations(source); found < once+3 {
+			t.Errorf("%d allocations where two calls are needed, %d where one is", found, once)
+		}
+	}
+}
+
+func TestDepths(t *testing.T) {
+	deep := strings.Repeat("{a", 200000)
+	for _, depth := range []int{-1, -1 << 63, MostDepth + 1, 1<<31 - 1, 1<<32 - 1, 1 << 32, 1<<32 + 5, 1<<63 - 1} {
+		for _, source := range []string{deep, "{a}", "", "\xff"} {
+			if _, err := ParseWithin(source, depth, AnyTokens); !errors.Is(err, ErrDepth) {
+				t.Errorf("the depth %d: %v", depth, err)
+			}
+		}
+	}
+	for _, depth := range []int{0, 1, 2, 199, 200, MostDepth} {
+		if d, err := ParseWithin(strings.Repeat("{a", depth)+strings.Repeat("}", depth), depth, AnyTokens); depth > 0 &&
+			(err != nil || len(d.Nodes) != depth+1) {
+			t.Errorf("a text %d deep: %v", depth, err)
+		}
+		fault := refused(t, strings.Repeat("{a", depth+1), depth)
+		same(t, "too deep", []any{fault.Reason, int(fault.Start.Byte)}, []any{Nested, 2 * depth})
+	}
+	same(t, "the default depth", len(parsed(t, strings.Repeat("{a", 200)+strings.Repeat("}", 200)).Nodes), 201)
+}
+
+func TestTokens(t *testing.T) {
+	source := "{ a(b: \"é\") ...F }"
+	starts := []uint32{0, 2, 3, 4, 5, 7, 10, 12, 15, 17}
+	for _, tokens := range []int{len(starts), len(starts) + 1, AnyTokens - 1, AnyTokens, 1 << 40, 1<<63 - 1} {
+		if _, err := ParseWithin(source, 5, tokens); err != nil {
+			t.Errorf("%d tokens: %v", tokens, err)
+		}
+	}
+	for tokens, start := range starts {
+		_, err := ParseWithin(source, 5, tokens)
+		var fault *SyntaxError
+		if !errors.As(err, &fault) {
+			t.Fatalf("%d tokens: %v", tokens, err)
+		}
+		same(t, "too many tokens", []any{fault.Reason, fault.Message, fault.Start.Index}, []any{TooMany, "Too many tokens", start})
+		same(t, "their error", fault.Error(), fmt.Sprintf("Too many tokens. At 0:%d", start))
+	}
+	// Nothing after the first token too many is read, and no deep text is parsed.
+	for _, source := range []string{strings.Repeat("{a", 1<<20), "{ a ) } \"", "{ a \"\x00"} {
+		_, err := ParseWithin(source, 5, 2)
+		var fault *SyntaxError
+		same(t, source[:5], errors.As(err, &fault) && fault.Reason == TooMany, source != "{ a \"\x00")
+	}
+	many := "{" + strings.Repeat("a ", 1000001)
+	for _, tokens := range []int{65535, 65536, 65537, 999999, 1000000, 1000001, 1000002} {
+		_, err := ParseWithin(many, 5, tokens)
+		var fault *SyntaxError
+		if !errors.As(err, &fault) {
+			t.Fatalf("%d tokens: %v", tokens, err)
+		}
+		wanted := []any{TooMany, 2*tokens - 1}
+		if tokens == 1000002 {
+			wanted = []any{UnexpectedEnd, 2*tokens - 1}
+		}
+		same(t, "a limit on many tokens", []any{fault.Reason, int(fault.Start.Byte)}, wanted)
+	}
+	for _, tokens := range []int{-1, -1 << 63} {
+		if _, err := ParseWithin(source, 5, tokens); !errors.Is(err, ErrTokens) {
+			t.Errorf("%d tokens: %v", tokens, err)
+		}
+	}
+	if _, err := ParseWithin("{\xff", 5, 0); !errors.Is(err, ErrNotUTF8) {
+		t.Errorf("what is no text: %v", err)
+	}
+}
+
+// A source that is too long is not read: there is no memory behind this one.
+func TestTooLong(t *testing.T) {
+	bytes, err := syscall.Mmap(-1, 0, 1<<32, syscall.PROT_READ, syscall.MAP_PRIVATE|syscall.MAP_ANON|syscall.MAP_NORESERVE)
+	if err != nil {
+		t.Skip("no address space for 4 GiB")
+	}
+	defer syscall.Munmap(bytes)
+	source := *(*string)(unsafe.Pointer(&bytes))
+	for _, tokens := range []int{5, AnyTokens} {
+		if _, err := ParseWithin(source, 5, tokens); !errors.Is(err, ErrTooLong) {
+			t.Errorf("4 GiB: %v", err)
+		}
+	}
+}
+
+func TestGoroutines(t *testing.T) {
+	source := "query Q { " + strings.Repeat(`user(id: 4, b: {c: [1.5, "x"]}) { id name } `, 500) + "}"
+	wanted := lines(source)
+	var wait sync.WaitGroup
+	for i := 0; i < 8; i++ {
+		wait.Add(1)
+		go func() {
+			defer wait.Done()
+			for round := 0; round < 20; round++ {
+				if lines(source) != wanted {
+					t.Error("another answer")
+				}
+			}
+		}()
+	}
+	wait.Wait()
+}
+
+// A process whose threads have stacks of 256 KiB.
+func TestSmallStacks(t *testing.T) {
+	if os.Getenv("FIRTHNAPKIN_SMALL_STACK") != "" {
+		for _, part := range []string{"{...", "{a", "{a(x:{k:", "query($a:["} {
+			refused(t, strings.Repeat(part, 5000), DefaultDepth)
+			refused(t, strings.Repeat(part, 5000), MostDepth)
+		}
+		same(t, "nodes", len(parsed(t, strings.Repeat("{...", 199)+"{a}"+strings.Repeat("}", 199)).Nodes), 201)
+		return
+	}
+	shell, err := exec.LookPath("bash")
+	if err != nil {
+		t.Skip("no shell that sets the size of a stack")
+	}
+	command := exec.Command(shell, "-c", `ulimit -s 256 && exec "$0" -test.run '^TestSmallStacks$'`, os.Args[0])
+	command.Env = append(os.Environ(), "FIRTHNAPKIN_SMALL_STACK=yes")
+	if told, err := command.CombinedOutput(); err != nil {
+		t.Errorf("%v: %s", err, told)
+	}
+}

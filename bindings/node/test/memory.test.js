@@ -1,0 +1,124 @@
+// What becomes of memory: nothing is kept after a call, and a process where it is short goes on.
+"use strict";
+
+const assert = require("assert");
+const { execFileSync, spawnSync } = require("child_process");
+const { test } = require("node:test");
+const path = require("path");
+
+const MAIN = JSON.stringify(path.join(__dirname, ".."));
+
+/** Runs a program in a process of its own, with these words for Node, and returns what it writes. */
+function written(program, ...words) {
+  return execFileSync(process.execPath, [...words, "-e", `const { parse, Fault } = require(${MAIN});\n${program}`], {
+    encoding: "utf8",
+    // A block of memory that is freed goes back to the system.
+    env: { ...process.env, MALLOC_MMAP_THRESHOLD_: "65536", MALLOC_TRIM_THRESHOLD_: "65536" },
+    stdio: ["ignore", "pipe", "pipe"],
+  });
+}
+
+// A call that keeps its nodes, its texts or a fault's words keeps half a megabyte or more here, each time.
+const GROWTH = `
+  const sources = [
+    "{a}".repeat(4000),
+    '{a(b: "' + "c".repeat(1 << 19) + '")}',
+    "query a " + "n".repeat(1 << 19),
+    "{a}".repeat(4000) + ")",
+  ];
+  const grown = sources.map((source) => {
+    const round = () => { try { parse(source); } catch (error) { if (!(error instanceof Fault)) throw error; } };
+    for (let i = 0; i < 10; i++) round();
+    gc();
+    const before = process.memoryUsage().rss;
+    for (let i = 0; i < 80; i++) { round(); if (i % 10 === 9) gc(); }
+    gc();
+    return Math.round((process.memoryUsage().rss - before) / 2 ** 20);
+  });
+  console.log(JSON.stringify(grown));
+`;
+
+test("nothing is kept after a call", () => {
+  const grown = JSON.parse(written(GROWTH, "--expose-gc"));
+  assert.strictEqual(grown.length, 4);
+  for (const megabytes of grown) assert.ok(megabytes < 20, `the process grew by ${grown} megabytes`);
+});
+
+// Leaves the process so much more address space than it has.
+const LIMITED = `
+  const size = () => 1024 * /VmSize:\\s+(\\d+)/.exec(require("fs").readFileSync("/proc/self/status", "latin1"))[1];
+  function limit(bytes) {
+    require("child_process").execFileSync("prlimit", ["--pid", process.pid, "--as=" + (size() + bytes) + ":"]);
+  }
+`;
+
+// What a source's result may be, however little memory there is.
+const LITTLE = `${LIMITED}
+  const source = "{a}".repeat(1 << 15);
+  const results = new Set();
+  for (let megabytes = 60; megabytes >= 3; megabytes -= 3) {
+    limit(megabytes << 20);
+    for (const text of [source, source + ")"]) {
+      try {
+        results.add("nodes: " + parse(text).length);
+      } catch (error) {
+        results.add(error.name + ": " + error.message);
+      }
+      gc();
+    }
+  }
+  limit(2 ** 33);
+  console.log(JSON.stringify([...results].sort()), parse("{ a }").length);
+`;
+
+const hasLimits = process.platform === "linux" && spawnSync("prlimit", ["--version"]).status === 0;
+
+test("a process with little memory", { skip: hasLimits ? false : "no prlimit, so memory is not limited" }, () => {
+  const wanted = ["Error: memory ran out", 'Fault: Unexpected ")". At 0:98304', "nodes: 65536"];
+  assert.strictEqual(written(LITTLE, "--expose-gc").trim(), `${JSON.stringify(wanted)} 2`);
+});
+
+test("memory that JavaScript can't allocate", () => {
+  const program = `
+    const results = [];
+    for (const [object, name] of [[globalThis, "ArrayBuffer"], [Buffer, "from"], [globalThis, "Uint32Array"]]) {
+      const own = object[name];
+      object[name] = function (...words) {
+        // A view of what is there allocates nothing.
+        if (typeof words[0] !== "object") throw new RangeError("Array buffer allocation failed");
+        return new.target ? new own(...words) : own(...words);
+      };
+      for (const source of ["{ a }", "{ ) }", "{ \u{1d11e} }"]) {
+        try { parse(source).node(1).start; } catch (error) { results.push(error.name + ": " + error.message); }
+      }
+      object[name] = own;
+    }
+    console.log(JSON.stringify(results), parse("{ a }").length);
+  `;
+  const told = written(program).trim();
+  assert.strictEqual(told, `${JSON.stringify(new Array(9).fill("Error: memory ran out"))} 2`);
+});
+
+test("the addon takes no other arguments", () => {
+  const addon = require("../firthnapkin.node");
+  const allocate = (size) => new ArrayBuffer(size);
+  const source = Buffer.from("{ a }");
+  assert.strictEqual(addon.parse(source, 5, 5, allocate).nodes.byteLength, 128);
+  for (const words of [[], [source], [source, 5, 5], ["{ a }", 5, 5, allocate], [source, "5", 5, allocate], [source, 5, 5n, allocate]])
+    assert.throws(() => addon.parse(...words), { message: /^parse takes a buffer, a depth, a number of tokens and a function$/ });
+  for (const other of [5, () => 5, () => new ArrayBuffer(0), (size) => new ArrayBuffer(size + 1), (size) => Buffer.alloc(size)])
+    assert.throws(() => addon.parse(source, 5, 5, other), { message: "the result was not made" });
+  // A depth that is none of the range is refused by the library, and a number of tokens beyond it is no limit.
+  for (const depth of [-1, NaN, Infinity, 1001, 2 ** 32, 1e300]) assert.strictEqual(addon.parse(source, depth, 5, allocate).status, 8);
+  for (const tokens of [-1, NaN, Infinity, 2 ** 32, 1e300]) assert.strictEqual(addon.parse(source, 5, tokens, allocate).status, 0);
+});
+
+test("a small heap", () => {
+  const program = `
+    const source = "{a(b:\\"" + "\\u{1d11e}".repeat(1 << 21) + "\\") }";
+    const document = parse(source);
+    const end = document.node(document.length - 1).end.index;
+    console.log(end === source.length - 3, document.parents === undefined);
+  `;
+  assert.strictEqual(written(program, "--max-old-space-size=24").trim(), "true false");
+});

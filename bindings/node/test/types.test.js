@@ -1,0 +1,167 @@
+// Compares index.d.ts with what the package returns: names, types, and each alternative of a type, over samples of each kind.
+"use strict";
+
+const assert = require("assert");
+const fs = require("fs");
+const { test } = require("node:test");
+const path = require("path");
+
+const firthnapkin = require("..");
+
+const { parse, Fault } = firthnapkin;
+
+// What a program may find at run time and has no use for.
+const INTERNAL = { Document: ["units", "parents", "between"] };
+
+const text = fs.readFileSync(path.join(__dirname, "..", "index.d.ts"), "utf8").replace(/\/\*[^]*?\*\//g, "");
+
+/** The members of a type between braces: for each name its type and the names of its parameters, where it has some. */
+function membersOf(body) {
+  const members = new Map();
+  // A semicolon between braces ends no member of this type.
+  for (const line of body.match(/(?:\{[^{}]*\}|[^;])+/g)) {
+    const member = /^(?:readonly )?(\w+)(\?)?(?:\((.*)\))?: ([^]*)$/.exec(line.trim());
+    if (member) members.set(member[1], { isOptional: member[2] !== undefined, parameters: member[3], type: member[4] });
+    else assert.match(line.trim(), /^(private constructor\(\))?$/, "a member of another form");
+  }
+  return members;
+}
+
+const unions = new Map(Array.from(text.matchAll(/^export type (\w+) =([^;]*);/gm), ([, name, type]) => [name, type]));
+const objects = new Map(
+  Array.from(text.matchAll(/^export (?:interface|class) (\w+)[^{]*\{\n([^]*?)^\}/gm), ([, name, body]) => [name, membersOf(body)]),
+);
+const functions = new Map(
+  Array.from(text.matchAll(/^export function (\w+)\((.*)\): (\w+);/gm), ([, name, parameters, type]) => [name, { parameters, type }]),
+);
+const constants = new Map(Array.from(text.matchAll(/^export const (\w+): (\w+);/gm), ([, name, type]) => [name, type]));
+const classes = Array.from(text.matchAll(/^export class (\w+)/gm), ([, name]) => name);
+
+/** The alternatives of a type, each without spaces around. */
+function alternativesOf(type) {
+  const parts = [];
+  let depth = 0;
+  for (const piece of type.split(/([|<>{}])/)) {
+    if (piece === "|" && depth === 0) parts.push("");
+    else parts.push((parts.pop() ?? "") + piece);
+    depth += ["<", "{"].includes(piece) ? 1 : [">", "}"].includes(piece) ? -1 : 0;
+  }
+  return parts.map((part) => part.trim()).filter((part) => part !== "");
+}
+
+// The alternatives that a value was of, each after where its type is written.
+const seen = new Set();
+
+function isOf(alternative, value, where) {
+  const array = /^ReadonlyArray<(.*)>$/.exec(alternative) ?? /^(\w+)\[\]$/.exec(alternative);
+  if (array) return Array.isArray(value) && value.every((item) => has(array[1], item, where));
+  if (alternative === "null") return value === null;
+  if (alternative.startsWith('"')) return value === JSON.parse(alternative);
+  if (alternative.startsWith("{")) return hasMembers(membersOf(alternative.slice(1, -1)), value, where);
+  if (unions.has(alternative)) return has(unions.get(alternative), value, alternative);
+  // Those that contain others are compared one by one, below.
+  if (["Node", "Document", "Fault"].includes(alternative)) return value instanceof firthnapkin[alternative];
+  if (objects.has(alternative)) return hasMembers(objects.get(alternative), value, alternative);
+  assert.ok(["boolean", "number", "bigint", "string"].includes(alternative), `${alternative} is no type that is known here`);
+  return typeof value === alternative;
+}
+
+/** Whether a value is of a type; the alternative is noted. */
+function has(type, value, where) {
+  const found = alternativesOf(type).find((alternative) => isOf(alternative, value, where));
+  if (found !== undefined) seen.add(`${where}: ${found}`);
+  return found !== undefined;
+}
+
+function hasMembers(members, value, where) {
+  const names = Array.from(members.keys());
+  return (
+    typeof value === "object" && value !== null
+    && Object.keys(value).sort().join() === names.sort().join()
+    && names.every((name) => has(members.get(name).type, value[name], `${where}.${name}`))
+  );
+}
+
+/** The names that an object has itself or from its class, without Object's and Error's. */
+function namesOf(object) {
+  const names = Object.keys(object);
+  for (let at = Object.getPrototypeOf(object); ![Object.prototype, Error.prototype].includes(at); at = Object.getPrototypeOf(at))
+    names.push(...Object.getOwnPropertyNames(at));
+  return names.filter((name) => name !== "constructor");
+}
+
+/** An object of a class: it has the members that its type has, and no others. */
+function compared(type, object) {
+  const internal = INTERNAL[type] ?? [];
+  const declared = objects.get(type);
+  assert.deepStrictEqual(namesOf(object).sort(), [...declared.keys(), ...internal].sort(), type);
+  for (const [name, member] of declared) {
+    const isCall = member.parameters !== undefined;
+    if (isCall) assert.strictEqual(object[name].length, member.parameters.split(",").filter((word) => word !== "").length, name);
+    const value = isCall ? object[name](0) : object[name];
+    assert.ok(has(member.type, value, `${type}.${name}`), `${type}.${name} is no ${member.type}: ${String(value)}`);
+  }
+}
+
+const DOCUMENTS = [
+  'query Q($v: [T!]! = [1] @d) { x: a(b: {c: -1.5, d: 99999999999, e: E, f: $v, g: true, h: null, i: "s", j: """t"""}) ...F }',
+  "mutation { m } subscription S { ... on T { s } ... { u } } fragment F on T { f }",
+];
+const FAULTS = [
+  ["{ a ) }"], ["{"], ["{ \u00e9 }"], ["{a(b: 01)}"], ['{a(b: "'], ['{a(b: "\0")}'], ['{a(b: "\\q")}'], ["{a(b: -"], ["\ud800"],
+  ["{a{b}}", { depth: 1 }], ["{a}", { maxTokens: 1 }],
+];
+
+test("documents and nodes are what index.d.ts says", () => {
+  for (const source of DOCUMENTS) {
+    const document = parse(source);
+    compared("Document", document);
+    for (const node of document) compared("Node", node);
+  }
+  const beyond = parse("{ a(b: 1e400) }").node(4).toJSON();
+  assert.ok(has("NodeParts", beyond, "NodeParts"), "a Float beyond the largest number, as JSON");
+});
+
+test("faults are what index.d.ts says", () => {
+  for (const words of FAULTS) {
+    assert.throws(() => parse(...words), (fault) => {
+      assert.ok(fault instanceof Fault && fault instanceof Error);
+      compared("Fault", fault);
+      return true;
+    });
+  }
+});
+
+test("what is exported is what index.d.ts says", () => {
+  for (const [name, type] of constants) assert.ok(has(type, firthnapkin[name], name), name);
+  for (const [name, { parameters, type }] of functions) {
+    const required = parameters.split(",").filter((word) => !word.includes("?"));
+    assert.strictEqual(firthnapkin[name].length, required.length, name);
+    assert.ok(has(type, firthnapkin[name]("{ a }"), name), name);
+  }
+  assert.deepStrictEqual(classes, ["Fault"]);
+  // The classes of what is returned are there for `instanceof`.
+  const names = [...functions.keys(), ...constants.keys(), ...classes, "Node", "Document"];
+  assert.deepStrictEqual(Object.keys(firthnapkin).sort(), names.sort());
+});
+
+test("the options are those of index.d.ts", () => {
+  const options = objects.get("Options");
+  assert.deepStrictEqual(Array.from(options.keys()).sort(), ["depth", "maxTokens"]);
+  for (const [name, { isOptional, type }] of options) {
+    assert.ok(isOptional, name);
+    for (const value of [5, 5n, "5", true, null, undefined]) {
+      const call = () => parse("{ a }", { [name]: value });
+      if (value === undefined || has(type, value, `Options.${name}`)) call();
+      else assert.throws(call, TypeError);
+    }
+  }
+});
+
+test("each alternative of a type of index.d.ts is of some value", () => {
+  const wanted = Array.from(unions, ([name, type]) => [name, type]);
+  for (const [type, members] of objects)
+    for (const [name, member] of members) wanted.push([`${type}.${name}`, member.type]);
+  for (const [where, type] of wanted)
+    for (const alternative of alternativesOf(type)) assert.ok(seen.has(`${where}: ${alternative}`), `${where}: never ${alternative}`);
+});

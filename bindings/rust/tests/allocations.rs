@@ -1,0 +1,50 @@
+//! How much a call allocates: an array for the nodes and one for the texts, as often as the library is called.
+
+use firthnapkin::parse;
+use std::alloc::{GlobalAlloc, Layout, System};
+use std::cell::Cell;
+
+struct Counting;
+
+thread_local! {
+    static COUNT: Cell<usize> = const { Cell::new(0) };
+}
+
+// SAFETY: each call is the system allocator's.
+unsafe impl GlobalAlloc for Counting {
+    unsafe fn alloc(&self, layout: Layout) -> *mut u8 {
+        COUNT.set(COUNT.get() + 1);
+        unsafe { System.alloc(layout) }
+    }
+
+    unsafe fn dealloc(&self, block: *mut u8, layout: Layout) {
+        unsafe { System.dealloc(block, layout) }
+    }
+}
+
+#[global_allocator]
+static ALLOCATOR: Counting = Counting;
+
+fn allocations(source: &str) -> usize {
+    let before = COUNT.get();
+    let document = parse(source).unwrap();
+    let count = COUNT.get() - before;
+    drop(document);
+    count
+}
+
+#[test]
+fn one_call_for_a_document_of_as_many_nodes_as_a_request_has() {
+    let request =
+        "query Q($v: [T! ]! = [1, \"b\"] @d) { x: a(v: {k: 1.5, l: 99999999999, m: E, n: $v, o: true}) { id name } } ";
+    for source in ["{ a }", request, &request.repeat(100)] {
+        assert_eq!(allocations(source), 2, "{source:.40}");
+    }
+}
+
+#[test]
+fn two_calls_for_more_nodes_or_longer_texts() {
+    // It has no texts, so the second call needs one array.
+    assert_eq!(allocations(&format!("{{{}}}", "a ".repeat(1000))), 3);
+    assert_eq!(allocations(&format!("{{a(b:\"{}\")}}", "c".repeat(1000))), 4);
+}

@@ -1,0 +1,104 @@
+//! Calls in threads of any stack, each with a megabyte of variables of its own.
+
+use firthnapkin::{parse, parse_within, Error, Limits, Reason, MOST_DEPTH};
+use std::cell::Cell;
+use std::hint::black_box;
+
+const OWN: usize = 1 << 20;
+
+thread_local! {
+    static OWN_BYTES: Cell<[u8; OWN]> = const { Cell::new([0; OWN]) };
+}
+
+/// Uses this thread's own variables, so that each thread has them.
+fn use_own_bytes() {
+    OWN_BYTES.with(|bytes| black_box(bytes.as_ptr()));
+}
+
+fn in_thread(stack: usize, run: impl FnOnce() + Send) {
+    std::thread::scope(|scope| {
+        std::thread::Builder::new().stack_size(stack).spawn_scoped(scope, run).unwrap();
+    });
+}
+
+fn reason(source: &str, limits: Limits) -> Reason {
+    match parse_within(source, limits) {
+        Err(Error::Fault(fault)) => fault.reason,
+        other => panic!("{source:.40}: {other:?}"),
+    }
+}
+
+/// What begins a text, what is nested in it, what is in the middle, and what ends each part and the text. The beginning and the
+/// middle are so many levels deep.
+const NESTED: [(&str, &str, &str, &str, &str, u32); 5] = [
+    ("", "{...", "{a}", "}", "", 1),
+    ("", "{a", "{a}", "}", "", 1),
+    ("{a(x:", "[", "1", "]", ")}", 2),
+    ("{a(x:", "{k:", "1", "}", ")}", 2),
+    ("query($a:", "[", "T", "]", "){a}", 1),
+];
+
+/// Documents as deep as the limits, and deeper texts.
+fn parse_deep_texts() {
+    use_own_bytes();
+    for (head, part, middle, end, tail, levels) in NESTED {
+        for depth in [0, 1, 2, 200, MOST_DEPTH] {
+            let limits = Limits { depth, tokens: u32::MAX };
+            let deeper = head.to_string() + &part.repeat(5000);
+            assert_eq!(reason(&deeper, limits), Reason::Nested);
+            assert_eq!(reason(&deeper, Limits { tokens: 1, ..limits }), Reason::TooMany);
+            if depth >= levels {
+                let count = (depth - levels) as usize;
+                let source = head.to_string() + &part.repeat(count) + middle + &end.repeat(count) + tail;
+                assert_eq!(parse_within(&source, limits).unwrap().node(0).unwrap().text(), source);
+            }
+        }
+    }
+}
+
+#[test]
+fn stacks_of_many_sizes() {
+    for size in [OWN + (1 << 16), OWN + (1 << 18), OWN + (1 << 19), OWN + (1 << 21), OWN + (1 << 22)] {
+        in_thread(size, parse_deep_texts);
+    }
+}
+
+fn address() -> usize {
+    let here = 0u8;
+    black_box(std::ptr::addr_of!(here)) as usize
+}
+
+/// Calls where so many bytes of the stack are taken since an address.
+fn deeper(begin: usize, taken: usize, call: &dyn Fn()) {
+    let frame = [0u8; 1024];
+    black_box(&frame);
+    if begin - address() < taken {
+        deeper(begin, taken, call);
+    } else {
+        call();
+    }
+    black_box(&frame);
+}
+
+#[test]
+fn deep_in_a_stack() {
+    const STACK: usize = 3 << 20;
+    for left in [24, 40, 60, 100, 300, 600, 2400, 2600].map(|kilobytes| kilobytes << 10) {
+        in_thread(OWN + STACK, move || deeper(address(), STACK - left, &parse_deep_texts));
+    }
+}
+
+#[test]
+fn threads() {
+    let source = format!("query Q {{ {} }}", "user(id: 4, b: {c: [1.5, \"x\"]}) { id name } ".repeat(500));
+    let wanted = format!("{:?}", parse(&source).unwrap());
+    std::thread::scope(|scope| {
+        for _ in 0..4 {
+            scope.spawn(|| {
+                for _ in 0..20 {
+                    assert_eq!(format!("{:?}", parse(&source).unwrap()), wanted);
+                }
+            });
+        }
+    });
+}

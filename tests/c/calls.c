@@ -1,0 +1,395 @@
+/* What bindings/calls.h and bindings/whole.h do around the library's calls: which stack each call gets, what becomes of the
+ * thread's signals, how many calls are made, and what is returned where no thread can be made.
+ *
+ * THREAD_LOCAL is how many bytes each thread has of its own. */
+#define _GNU_SOURCE
+#include "../../include/firthnapkin.h"
+#include "checks.h"
+#include <errno.h>
+#include <pthread.h>
+#include <signal.h>
+#include <stdlib.h>
+#include <string.h>
+#include <ucontext.h>
+
+#ifndef THREAD_LOCAL
+#define THREAD_LOCAL 1
+#endif
+
+/* The frames of this program between a look at the stack and the next. */
+enum { FRAMES = 4096 };
+
+static __thread volatile char own[THREAD_LOCAL];
+
+/* How many bytes of this thread's stack are left, found anew each time; 0 on a stack that the program made itself. */
+static size_t left_here(void) {
+    pthread_attr_t attributes;
+    void *start;
+    size_t size;
+    char here;
+    if (pthread_getattr_np(pthread_self(), &attributes) != 0 || pthread_attr_getstack(&attributes, &start, &size) != 0) abort();
+    pthread_attr_destroy(&attributes);
+    char *lowest = start;
+    return lowest < &here && &here < lowest + size ? (size_t)(&here - lowest) : 0;
+}
+
+/* ---- What is seen at the library's calls */
+
+static struct {
+    pthread_t caller;
+    int parses, messages, counts, cuts, canonicals;
+    /* Calls in another thread, those of them that got signals, and calls with too little stack. */
+    int in_threads, with_signals, narrow;
+} seen;
+
+/* Whether a thread can't be made, and whether none can be asked for its stack. */
+static int is_refused_thread, is_refused_look;
+
+static int all_are_blocked(void) {
+    sigset_t mask;
+    pthread_sigmask(SIG_SETMASK, NULL, &mask);
+    for (int number = 1; number <= SIGRTMAX; number++) {
+        /* The first two can't be blocked, and those before SIGRTMIN are the C library's own. */
+        int is_free = number == SIGKILL || number == SIGSTOP || (number >= 32 && number < SIGRTMIN);
+        if (!is_free && sigismember(&mask, number) != 1) return 0;
+    }
+    return 1;
+}
+
+/* Writes to as much of the stack as a call may take, from its top. */
+static void use_stack(size_t size) {
+    volatile char block[size];
+    for (size_t i = size; i > 0; i -= i < 1024 ? i : 1024) block[i - 1] = 1;
+    (void)block[0];
+}
+
+/* A call with a depth that is refused takes next to nothing. */
+static void look(uint32_t depth) {
+    size_t size = FIRTHNAPKIN_STACK(depth <= FIRTHNAPKIN_MOST_DEPTH ? depth : 0);
+    if (!pthread_equal(pthread_self(), seen.caller)) {
+        seen.in_threads++;
+        own[THREAD_LOCAL - 1] = 1;
+        if (!all_are_blocked()) seen.with_signals++;
+    }
+    if (left_here() + FRAMES < size)
+        seen.narrow++;
+    else
+        use_stack(size - FRAMES);
+}
+
+static uint32_t seen_parse(const uint8_t *source, size_t length, uint32_t depth, firthnapkin_node *nodes, size_t nodes_room,
+                           size_t *nodes_needed, uint8_t *texts, size_t texts_room, size_t *texts_needed,
+                           firthnapkin_fault *fault) {
+    seen.parses++;
+    look(depth);
+    return firthnapkin_parse(source, length, depth, nodes, nodes_room, nodes_needed, texts, texts_room, texts_needed, fault);
+}
+
+static uint32_t seen_message(const uint8_t *source, size_t length, uint32_t depth, uint8_t *room, size_t room_length,
+                             size_t *needed) {
+    seen.messages++;
+    look(depth);
+    return firthnapkin_message(source, length, depth, room, room_length, needed);
+}
+
+static uint32_t seen_count(const uint8_t *source, size_t length, uint32_t most, firthnapkin_fault *fault) {
+    seen.counts++;
+    look(0);
+    return firthnapkin_count(source, length, most, fault);
+}
+
+static uint32_t seen_tokens(const uint8_t *source, size_t length, uint32_t most, firthnapkin_token *tokens, size_t tokens_room,
+                            size_t *tokens_needed, firthnapkin_fault *fault) {
+    seen.cuts++;
+    look(0);
+    return firthnapkin_tokens(source, length, most, tokens, tokens_room, tokens_needed, fault);
+}
+
+static uint32_t seen_canonical(const uint8_t *source, size_t length, uint8_t *room, size_t room_length, size_t *needed,
+                               firthnapkin_fault *fault) {
+    seen.canonicals++;
+    look(0);
+    return firthnapkin_canonical(source, length, room, room_length, needed, fault);
+}
+
+static int create_thread(pthread_t *thread, const pthread_attr_t *attributes, void *(*run)(void *), void *argument) {
+    return is_refused_thread ? EAGAIN : pthread_create(thread, attributes, run, argument);
+}
+
+static int get_attributes(pthread_t thread, pthread_attr_t *attributes) {
+    return is_refused_look ? ENOMEM : pthread_getattr_np(thread, attributes);
+}
+
+/* The headers make their calls by these. */
+#define firthnapkin_parse seen_parse
+#define firthnapkin_message seen_message
+#define firthnapkin_count seen_count
+#define firthnapkin_tokens seen_tokens
+#define firthnapkin_canonical seen_canonical
+#define pthread_create create_thread
+#define pthread_getattr_np get_attributes
+#include "../../bindings/whole.h"
+
+/* ---- The sources, and how many calls of the library each takes */
+
+typedef struct {
+    const char *source;
+    uint32_t depth, tokens, status;
+    int parses, messages, counts;
+} parse_row;
+
+/* Names of seven letters: with more than one node for four bytes a second call is needed. */
+#define DEEPER "{abcdefg"
+#define CLOSING "}"
+#define TEN(text) text text text text text text text text text text
+#define THOUSAND(text) TEN(TEN(TEN(text)))
+
+static const parse_row PARSES[] = {
+    {"{a}", 200, UINT32_MAX, FIRTHNAPKIN_TREE, 1, 0, 0},
+    {"{a}", 200, 3, FIRTHNAPKIN_TREE, 1, 0, 1},
+    {"{a}", 200, 2, FIRTHNAPKIN_MANY, 0, 0, 1},
+    {"{a}", 200, 0, FIRTHNAPKIN_MANY, 0, 0, 1},
+    {"{ a ) }", 200, UINT32_MAX, FIRTHNAPKIN_REFUSED, 1, 1, 0},
+    {"{a{b}}", 1, UINT32_MAX, FIRTHNAPKIN_TOO_DEEP, 1, 1, 0},
+    {"{\xff}", 200, UINT32_MAX, FIRTHNAPKIN_NOT_UTF8, 1, 0, 0},
+    {"{a}", 1001, UINT32_MAX, FIRTHNAPKIN_DEPTH, 1, 0, 0},
+    /* As many nodes as a request of its length has: 25. */
+    {"query Q($v: [T! ]! = [1, \"\\u00e9b\"] @d) { x: a(v: {k: 1.5, l: 99999999999, m: E, n: $v, o: true, p: null}) }", 200,
+     UINT32_MAX, FIRTHNAPKIN_TREE, 1, 0, 0},
+    /* A node for two bytes, texts as long as the source, and words of more than 256 bytes. */
+    {"{" THOUSAND("a ") "}", 200, UINT32_MAX, FIRTHNAPKIN_TREE, 2, 0, 0},
+    {"{a(b:\"" THOUSAND("c") "\")}", 200, UINT32_MAX, FIRTHNAPKIN_TREE, 2, 0, 0},
+    {"query a " THOUSAND("b"), 200, UINT32_MAX, FIRTHNAPKIN_REFUSED, 1, 2, 0},
+    {THOUSAND(DEEPER) THOUSAND(CLOSING), 1000, UINT32_MAX, FIRTHNAPKIN_TREE, 1, 0, 0},
+    {THOUSAND(DEEPER) "{b", 1000, UINT32_MAX, FIRTHNAPKIN_TOO_DEEP, 1, 1, 0},
+};
+
+typedef struct {
+    const char *source;
+    uint32_t status;
+    size_t count;
+    int calls, messages;
+} text_row;
+
+/* The last token is the source's end. */
+static const text_row CUTS[] = {
+    {"{a}", FIRTHNAPKIN_TOKENS, 4, 1, 0},
+    {"{" THOUSAND("abc ") "}", FIRTHNAPKIN_TOKENS, 1003, 1, 0},
+    {"{" THOUSAND("a ") "}", FIRTHNAPKIN_TOKENS, 1003, 2, 0},
+    {"{a ?", FIRTHNAPKIN_REFUSED, 2, 1, 1},
+};
+
+static const text_row CANONICALS[] = {
+    {"{ a }", FIRTHNAPKIN_CANONICAL, 3, 1, 0},
+    /* Longer than the source, by a space at each seam. */
+    {"1a\"\"2b", FIRTHNAPKIN_CANONICAL, 10, 2, 0},
+    {"{ a ?", FIRTHNAPKIN_REFUSED, 20, 1, 1},
+};
+
+/* ---- Each of them, with as much stack as there is */
+
+typedef enum { SOME, NONE, ALL } threads;
+
+static int same_mask(const sigset_t *a, const sigset_t *b) {
+    for (int number = 1; number <= SIGRTMAX; number++)
+        if (sigismember(a, number) != sigismember(b, number)) return 0;
+    return 1;
+}
+
+static void begin(void) {
+    memset(&seen, 0, sizeof seen);
+    seen.caller = pthread_self();
+}
+
+/* What holds after each call, whatever it was. */
+static void check_seen(const char *where, const char *source, threads wanted, const sigset_t *before) {
+    sigset_t after;
+    pthread_sigmask(SIG_SETMASK, NULL, &after);
+    int calls = seen.parses + seen.messages + seen.counts + seen.cuts + seen.canonicals;
+    check(seen.narrow == 0, "%s: %d calls with too little stack, for %.20s", where, seen.narrow, source);
+    check(seen.with_signals == 0, "%s: %d calls with signals, for %.20s", where, seen.with_signals, source);
+    check(wanted == SOME || seen.in_threads == (wanted == ALL ? calls : 0), "%s: %d of %d calls in threads, for %.20s", where,
+          seen.in_threads, calls, source);
+    check(same_mask(before, &after), "%s: the signals that are blocked after a call, for %.20s", where, source);
+}
+
+static void parse_rows(const char *where, threads wanted, const sigset_t *mask) {
+    for (size_t i = 0; i < sizeof PARSES / sizeof *PARSES; i++) {
+        parse_row row = PARSES[i];
+        begin();
+        whole w = parse_whole((const uint8_t *)row.source, strlen(row.source), row.depth, row.tokens);
+        check(w.status == row.status, "%s: %u is returned for %.20s", where, w.status, row.source);
+        check(seen.parses == row.parses && seen.messages == row.messages && seen.counts == row.counts,
+              "%s: %d parses, %d messages and %d counts, for %.20s", where, seen.parses, seen.messages, seen.counts, row.source);
+        check_seen(where, row.source, wanted, mask);
+        give_back(&w);
+    }
+}
+
+static void text_rows(const char *where, threads wanted, const sigset_t *mask) {
+    for (size_t i = 0; i < sizeof CUTS / sizeof *CUTS; i++) {
+        text_row row = CUTS[i];
+        begin();
+        whole w = cut_whole((const uint8_t *)row.source, strlen(row.source), UINT32_MAX);
+        check(w.status == row.status && w.tokens_count == row.count && seen.cuts == row.calls && seen.messages == row.messages,
+              "%s: %u, %zu tokens by %d calls, for %.20s", where, w.status, w.tokens_count, seen.cuts, row.source);
+        check_seen(where, row.source, wanted, mask);
+        give_back(&w);
+    }
+    for (size_t i = 0; i < sizeof CANONICALS / sizeof *CANONICALS; i++) {
+        text_row row = CANONICALS[i];
+        begin();
+        whole w = canonical_whole((const uint8_t *)row.source, strlen(row.source));
+        check(w.status == row.status && (row.messages != 0 || w.texts_count == row.count) && seen.canonicals == row.calls
+                  && seen.messages == row.messages,
+              "%s: %u, %zu bytes by %d calls, for %.20s", where, w.status, w.texts_count, seen.canonicals, row.source);
+        check_seen(where, row.source, wanted, mask);
+        give_back(&w);
+    }
+}
+
+static void all_rows(const char *where, threads wanted) {
+    sigset_t mask;
+    pthread_sigmask(SIG_SETMASK, NULL, &mask);
+    parse_rows(where, wanted, &mask);
+    text_rows(where, wanted, &mask);
+}
+
+/* ---- Where they are made */
+
+/* Deep in a thread's stack, of which so many bytes are left. */
+typedef struct {
+    size_t left;
+    threads wanted;
+} depth_of_stack;
+
+/* Calls where so many bytes of this thread's stack are left. */
+static void descend(size_t left, void (*run)(const depth_of_stack *), const depth_of_stack *argument) {
+    volatile char taken[left_here() - left];
+    taken[0] = 0;
+    run(argument);
+    /* What is used after the call is on the stack meanwhile. */
+    taken[0] = taken[0] + 1;
+}
+
+static void rows_at(const depth_of_stack *d) {
+    char where[40];
+    snprintf(where, sizeof where, "%zu bytes left", d->left);
+    /* One signal is blocked, the others are not. */
+    sigset_t one;
+    sigemptyset(&one);
+    sigaddset(&one, SIGUSR1);
+    pthread_sigmask(SIG_SETMASK, &one, NULL);
+    all_rows(where, d->wanted);
+}
+
+static void *deep(void *argument) {
+    const depth_of_stack *d = argument;
+    descend(d->left, rows_at, d);
+    return NULL;
+}
+
+static void in_thread(void *(*run)(void *), void *argument) {
+    pthread_attr_t attributes;
+    pthread_t thread;
+    size_t size = (FIRTHNAPKIN_STACK(FIRTHNAPKIN_MOST_DEPTH) + THREAD_LOCAL + (1 << 18)) / 4096 * 4096;
+    if (pthread_attr_init(&attributes) || pthread_attr_setstacksize(&attributes, size)
+        || pthread_create(&thread, &attributes, run, argument) || pthread_join(thread, NULL))
+        abort();
+    pthread_attr_destroy(&attributes);
+}
+
+static void deep_in_stacks(void) {
+    const depth_of_stack depths[] = {
+        {16000, ALL},
+        {FIRTHNAPKIN_STACK(0) - 1000, ALL},
+        {FIRTHNAPKIN_STACK(0) + 2 * FRAMES, SOME},
+        {FIRTHNAPKIN_STACK(200) - 1000, SOME},
+        {FIRTHNAPKIN_STACK(200) + 2 * FRAMES, SOME},
+        {FIRTHNAPKIN_STACK(FIRTHNAPKIN_MOST_DEPTH) - 1000, SOME},
+        {FIRTHNAPKIN_STACK(FIRTHNAPKIN_MOST_DEPTH) + 2 * FRAMES, NONE},
+    };
+    for (size_t i = 0; i < sizeof depths / sizeof *depths; i++) {
+        depth_of_stack d = depths[i];
+        in_thread(deep, &d);
+    }
+}
+
+/* On a stack that the program made, whose bounds no thread knows. */
+static ucontext_t outside, inside;
+
+static void on_own_stack(void) {
+    check(stack_left() == 0, "%zu bytes are left of a stack that the program made", stack_left());
+    all_rows("a stack of the program's", ALL);
+}
+
+static void on_stack_of_program(void) {
+    size_t size = 1 << 20;
+    char *stack = malloc(size);
+    if (stack == NULL || getcontext(&inside)) abort();
+    inside.uc_stack.ss_sp = stack;
+    inside.uc_stack.ss_size = size;
+    inside.uc_link = &outside;
+    makecontext(&inside, on_own_stack, 0);
+    if (swapcontext(&outside, &inside)) abort();
+    free(stack);
+}
+
+/* ---- Where no thread can be made, or its stack isn't known */
+
+static int never_made;
+
+static void never(void *argument) {
+    (void)argument;
+    never_made++;
+}
+
+static void no_calls(const depth_of_stack *d) {
+    sigset_t before;
+    pthread_sigmask(SIG_SETMASK, NULL, &before);
+    for (size_t i = 0; i < sizeof PARSES / sizeof *PARSES; i++) {
+        begin();
+        whole w = parse_whole((const uint8_t *)PARSES[i].source, strlen(PARSES[i].source), PARSES[i].depth, PARSES[i].tokens);
+        check(w.status == FIRTHNAPKIN_MEMORY && w.nodes_count == 0 && w.texts_count == 0, "%u is returned without a stack", w.status);
+        check(seen.parses + seen.counts == 0, "a call is made without a stack, for %.20s", PARSES[i].source);
+        check_seen("no stack", PARSES[i].source, d->wanted, &before);
+        give_back(&w);
+    }
+    whole w = cut_whole((const uint8_t *)"{a}", 3, UINT32_MAX);
+    check(w.status == FIRTHNAPKIN_MEMORY && w.tokens_count == 0, "%u is returned without a stack, by a cut", w.status);
+    give_back(&w);
+    w = canonical_whole((const uint8_t *)"{a}", 3);
+    check(w.status == FIRTHNAPKIN_MEMORY && w.texts_count == 0, "%u is returned without a stack, by a canonical text", w.status);
+    give_back(&w);
+}
+
+static void *without_threads(void *argument) {
+    const depth_of_stack d = {16000, NONE};
+    (void)argument;
+    is_refused_thread = 1;
+    descend(d.left, no_calls, &d);
+    is_refused_thread = 0;
+    run_on_stack((size_t)1 << 60, never, NULL);
+    check(never_made == 0, "a call is made on a stack of 2^60 bytes");
+    return NULL;
+}
+
+static void *without_looks(void *argument) {
+    const depth_of_stack d = {0, NONE};
+    (void)argument;
+    is_refused_look = 1;
+    no_calls(&d);
+    is_refused_look = 0;
+    all_rows("a thread whose stack wasn't known before", NONE);
+    return NULL;
+}
+
+int main(void) {
+    own[0] = 1;
+    all_rows("the first thread", NONE);
+    deep_in_stacks();
+    on_stack_of_program();
+    in_thread(without_threads, NULL);
+    in_thread(without_looks, NULL);
+    return counted();
+}

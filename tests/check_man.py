@@ -1,0 +1,144 @@
+#!/usr/bin/env python3
+"""Compares the man pages with what they describe. Of firthnapkin(3) these are the calls of the header, their parameters, and its
+statuses in the header's words; of gqlcheck(1) the exit statuses of its definition and, where gqlcheck is built, what it writes.
+The last line is 'N passed, M failed', with ', K skipped' where it isn't built.
+
+    tests/check_man.py              compares
+    tests/check_man.py --program    writes a C program, which is the example of firthnapkin(3)
+"""
+
+import re
+import shlex
+import subprocess
+import sys
+
+from header import ROOT, Checks, declared, enum, header, read
+
+GQLCHECK = ROOT / "crates/gqlcheck/out/gqlcheck"
+
+# The words of gqlcheck(1) for each way in which a run ends.
+ENDS = {
+    "Tree": "The text is a document.",
+    "Refused": "It is not.",
+    "NotUtf8": "It is not UTF-8.",
+    "Device": "A read or a write failed.",
+    "Memory": "Memory ran out.",
+    "TooDeep": "It is nested too deep.",
+}
+# The programs ./gqlcheck and ./gqlcanon end with it, too.
+NO_RESULT = {125: "This run gave no result."}
+
+
+def sections(page):
+    """The sections of a page: for each name its lines."""
+    found = {}
+    for part in re.split(r"^\.SH ", read(f"docs/man/{page}"), flags=re.M)[1:]:
+        name, _, body = part.partition("\n")
+        found[name] = body.splitlines()
+    return found
+
+
+def plain(line):
+    """A line without its font macro: words in two fonts in turn, as .BR has them, are written without spaces."""
+    macro = re.match(r"\.([BIR]{1,2}) (.*)$", line)
+    text = line if macro is None else ("" if len(macro[1]) == 2 else " ").join(shlex.split(macro[2], posix=True))
+    return re.sub(r"\\(.)", lambda it: {"e": "\\"}.get(it[1], it[1]), text)
+
+
+def joined(lines):
+    """The text of some lines, with one space between words."""
+    return " ".join(" ".join(plain(line) for line in lines if not re.match(r"\.(PP|nf|fi)$", line)).split())
+
+
+def entries(lines):
+    """The entries of a list: the label of each, and its text."""
+    parts = "\n".join(lines).split(".TP\n")[1:]
+    return [(plain(part.split("\n")[0]), joined(part.split("\n")[1:])) for part in parts]
+
+
+def prototypes(text):
+    """The calls that a text declares: for each its parameters."""
+    found = re.findall(r"uint32_t (firthnapkin_\w+)\(([^()]*)\);", text)
+    return {name: [" ".join(word.split()) for word in parameters.split(",")] for name, parameters in found}
+
+
+def check_library(check):
+    page = sections("firthnapkin.3")
+    calls = prototypes(header)
+    check("the calls of firthnapkin(3)", prototypes(joined(page["SYNOPSIS"])), calls)
+    check("their names", joined(page["NAME"]).split(" - ")[0].split(", "), list(calls))
+    check_statuses(check, page)
+    check_words(check, page, calls)
+    number, text = re.search(r"(\d+) is ([\d.]+)\.", joined(page["DESCRIPTION"])).groups()
+    check("the version as a number", int(number), sum(int(n) * m for n, m in zip(text.split("."), (10000, 100, 1))))
+    check("the stack", re.findall(r"FIRTHNAPKIN_STACK\(\s*(\w+)\s*\)", joined(page["NOTES"])), ["depth", "0"])
+
+
+def check_statuses(check, page):
+    """Each status is described, once and in the header's words."""
+    body = re.search(r"enum firthnapkin_status \{(.*?)\n\};", header, re.S)[1]
+    comments = dict(re.findall(r"(FIRTHNAPKIN_\w+) = \d+,? +/\* (.*?) \*/", body))
+    check("the statuses of the header", list(comments), [f"FIRTHNAPKIN_{word}" for word in enum("firthnapkin_status")])
+    described = entries(page["RETURN VALUE"])
+    check("the statuses of firthnapkin(3)", [label for label, _ in described], list(comments))
+    for label, text in described:
+        wanted = re.sub(r"^of (.*?): ", lambda it: "From " + re.sub(r"(firthnapkin_\w+)", r"\1()", it[1]) + ": ", comments[label])
+        check(f"how {label} is described", text[: len(wanted)].lower(), wanted.lower())
+        check(f"where the description of {label} goes on", text[len(wanted)] in ".,;", True)
+
+
+def check_words(check, page, calls):
+    """Each name of the page is one of the header."""
+    text = "\n".join(plain(line) for lines in page.values() for line in lines)
+    for word in sorted(set(re.findall(r"FIRTHNAPKIN_\w+|firthnapkin_\w+", text))):
+        check(f"{word}, which firthnapkin(3) names", re.search(rf"\b{word}\b", header) is not None, True)
+    fields = {name for word in ("place", "node", "token", "fault") for name, _ in declared(f"firthnapkin_{word}")}
+    parameters = {parameter.split()[-1].lstrip("*") for words in calls.values() for parameter in words}
+    for line in page["DESCRIPTION"]:
+        for word in re.findall(r"^\.I (\w+)$", line):
+            check(f"{word}, which firthnapkin(3) names", word == "i" or word in fields | parameters, True)
+
+
+def check_program(checks):
+    page = sections("gqlcheck.1")
+    defined_ends = dict(re.findall(r"^status_at (\w+) = (\d+)$", read("crates/gqlcheck/specs/Ends.antt"), re.M))
+    wanted = {int(number): ENDS[end] for end, number in defined_ends.items()}
+    checks.check("the statuses of gqlcheck(1)", {int(label): text for label, text in entries(page["EXIT STATUS"])}, {**wanted, **NO_RESULT})
+    if not GQLCHECK.exists():
+        checks.skip("gqlcheck is not built, so the examples of gqlcheck(1) are not run")
+        return
+    for command, shown in examples(page["EXAMPLES"]):
+        told = subprocess.run(["bash", "-c", f'gqlcheck() {{ "{GQLCHECK}"; }}; {command}'], capture_output=True, text=True, check=False)
+        checks.check(f"what {command} writes", told.stdout.splitlines(), shown)
+    depth = int(re.search(r"nested (\d+) deep", joined(page["DESCRIPTION"]))[1])
+    for deeper, end in ((0, "Tree"), (1, "TooDeep")):
+        text = "{a" * (depth + deeper) + "}" * (depth + deeper)
+        status = subprocess.run([GQLCHECK], input=text.encode(), capture_output=True, check=False).returncode
+        checks.check(f"the status of a text {depth + deeper} deep", status, int(defined_ends[end]))
+
+
+def examples(lines):
+    """The commands of a section, each with the lines that it writes."""
+    found = []
+    for line in map(plain, (line for line in lines if not line.startswith("."))):
+        if line.startswith("$ "):
+            found.append((line[2:], []))
+        else:
+            found[-1][1].append(line)
+    return found
+
+
+def program():
+    """The example of firthnapkin(3) as a whole program."""
+    lines = [plain(line) for line in sections("firthnapkin.3")["EXAMPLES"] if not line.startswith(".")]
+    before = ["#include <firthnapkin.h>", "#include <stdio.h>", "#include <string.h>", "int main(void) {"]
+    return "\n".join([*before, *lines, "return 0;", "}"])
+
+
+if sys.argv[1:] == ["--program"]:
+    print(program())
+else:
+    all_checks = Checks()
+    check_library(all_checks.check)
+    check_program(all_checks)
+    all_checks.end()
