@@ -7,6 +7,7 @@ failed, K skipped'.
 import os
 import sys
 import unittest
+from collections import Counter
 
 
 class Result(unittest.TextTestResult):
@@ -25,8 +26,8 @@ def main() -> None:
     tests = unittest.defaultTestLoader.discover(here, pattern=pattern, top_level_dir=here)
     result = unittest.TextTestRunner(stream=sys.stdout, resultclass=Result).run(tests)
     failed = len(result.failures) + len(result.errors) + len(result.unexpectedSuccesses)
-    for test, why in result.skipped:
-        print(f"tests: skipped: {test}: {why}")
+    for why, number in Counter(why for _, why in result.skipped).items():
+        print(f"tests: skipped: {why} ({number} times)")
     print(f"{result.passed} passed, {failed} failed, {len(result.skipped)} skipped")
     # Nothing at all is no success.
     sys.exit(1 if failed or not result.testsRun else 0)

@@ -135,7 +135,9 @@ class Nodes(unittest.TestCase):
     def test_nothing_is_kept(self) -> None:
         """All objects that are made are freed, and counts of references stay the same."""
         texts = [WHOLE, "{a(b:1c:2)}", "{a{b}}", "{ a ) }"]
-        kept = [None, (), True, False, graphql.OperationType.QUERY, ast.FieldNode, graphql_core.Location]
+        kept: List[Any] = [graphql.OperationType.QUERY, ast.FieldNode, graphql_core.Location]
+        # From 3.12 on these are immortal, and the numbers of their references have no meaning.
+        kept += [None, (), True, False] if sys.version_info < (3, 12) else []
 
         def round_of() -> List[int]:
             for text in texts * 5:

@@ -1,6 +1,7 @@
 """Limits in graphql-core's place: the errors, their places, and which parser reports them. Skipped where graphql-core 3.2 is
 not installed."""
 
+import inspect
 import math
 import os
 import random
@@ -17,17 +18,23 @@ from graphql_texts import WHOLE, answer, extension, made_texts, row_texts  # ski
 
 import graphql
 from firthnapkin import graphql_core
-from firthnapkin._graphql_release import RULES
 from graphql import GraphQLSyntaxError, Source
 from graphql.language import Lexer, TokenKind, ast
 from graphql.language.parser import Parser
 from graphql.language.parser import parse as own_parse
 
 # The first releases of 3.2 have no max_tokens. With them, results are compared only with those that are written here.
-HAS_OPTION = RULES.has_limit
+HAS_OPTION = "max_tokens" in inspect.signature(own_parse).parameters
 
-# What a comment counts against a limit.
-COMMENT = int(RULES.limits_comments)
+
+def is_beyond(text: str, most: int) -> bool:
+    """Whether graphql-core itself reports too many tokens."""
+    return HAS_OPTION and "more than" in str(answer(own_parse, text, max_tokens=most))
+
+
+# What a comment counts against a limit, and whether the limit is looked at at the end.
+COMMENT = int(is_beyond("# a comment\n{a}", 3))
+LIMITS_END = is_beyond("", -1)
 
 
 class FirstParser(Parser):
@@ -62,7 +69,7 @@ def nobody_else() -> Iterator[None]:
 
 def releases() -> List[Any]:
     """This release, and the first ones, whose results are this one's if it counts the same."""
-    return [ExitStack, first_release] if HAS_OPTION and not (RULES.limits_comments or RULES.limits_end) else [ExitStack]
+    return [ExitStack, first_release] if HAS_OPTION and not (COMMENT or LIMITS_END) else [ExitStack]
 
 
 def counts(text: str) -> List[Tuple[int, int]]:
@@ -73,7 +80,7 @@ def counts(text: str) -> List[Tuple[int, int]]:
         while last.next is not token:
             last, count = last.next, count + COMMENT
         count += token.kind is not TokenKind.EOF
-        if token.kind is not TokenKind.EOF or RULES.limits_end:
+        if token.kind is not TokenKind.EOF or LIMITS_END:
             found.append((token.start, count))
     return found
 
