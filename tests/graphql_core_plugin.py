@@ -2,7 +2,8 @@
 FIRTHNAPKIN_PARSE is 'ours', and writes the outcome of each test into the file that FIRTHNAPKIN_OUTCOMES names, a line of JSON
 each.
 
-It defines the names that tests of graphql-core 2.3 import, as far as 3.2 has the same under another name.
+Where FIRTHNAPKIN_OLD_NAMES is set it defines the names that tests of graphql-core 2.3 import, as far as 3.2 has the same under
+another name.
 """
 
 import json
@@ -62,7 +63,8 @@ def pytest_configure() -> None:
         from firthnapkin import graphql_core
 
         graphql_core.install()
-    give_old_names()
+    if os.environ.get("FIRTHNAPKIN_OLD_NAMES"):
+        give_old_names()
 
 
 def write(report: Any) -> None:

@@ -5,6 +5,7 @@ import subprocess
 import sys
 import threading
 import time
+import unittest
 from typing import Any, Callable, List
 
 # Arguments of the wrong type, for a source and for a limit, and limits that are too low.
@@ -75,3 +76,14 @@ def longest_wait(call: Callable[[], object]) -> float:
     thread.join()
     within = [begin, *(moment for moment in times if begin < moment < end), end]
     return max(b - a for a, b in zip(within, within[1:])) / (end - begin)
+
+
+def require_graphql_core() -> None:
+    """Skips, with the reason, where graphql-core 3.2 is not installed."""
+    try:
+        import graphql
+    except ImportError as error:
+        raise unittest.SkipTest(f"no graphql-core 3.2: {error}") from None
+    # graphql-core 2 has no version_info.
+    if getattr(graphql, "version_info", ())[:2] != (3, 2):
+        raise unittest.SkipTest(f"no graphql-core 3.2, but {getattr(graphql, '__version__', 'one without a version')}")

@@ -105,6 +105,28 @@ class Nodes(unittest.TestCase):
         self.assertEqual([node.parent and node.parent.index for node in document], [None, 0, 1, 2, 3, 4, 2, 1, 0, None, 9])
         self.assertNotEqual(document[1], parse(document.text)[1])
 
+    def test_many_parents(self) -> None:
+        """Each node of a document of 70,000 nodes, far more than 16 bits hold, has its parent."""
+        document = parse("{" + "a { b } " * 35_000 + "}")
+        self.assertEqual(len(document), 70_001)
+        self.assertIsNone(document[0].parent)
+        for index, node in enumerate(document[1:], 1):
+            parent = node.parent
+            assert parent is not None
+            self.assertEqual((node.index, parent.index), (index, 0 if index % 2 else index - 1))
+        self.assertEqual([node.index for node in document[0].children], list(range(1, 70_001, 2)))
+
+    def test_equal_nodes(self) -> None:
+        """Objects of the same node are one member of a set and one key. Those of other nodes and of other documents are not."""
+        document, other = parse("{ a b }"), parse("{ a b }")
+        nodes = [*document, *document, *other]
+        self.assertEqual(len(set(nodes)), 6)
+        self.assertEqual({document[1]: "a"}[document.definitions[0].children[0]], "a")
+        self.assertNotIn(other[1], {document[1]: "a"})
+        self.assertEqual(document[1], document[1])
+        self.assertNotEqual(document[1], document[2])
+        self.assertNotEqual(document[1], other[1])
+
     def test_copies(self) -> None:
         """Documents and nodes go to other processes, and are copied."""
         document = parse('query Q($v: [T! ]!) { a(b: "é", c: $v) } fragment F on T { x }')

@@ -11,10 +11,10 @@ import sys
 import tracemalloc
 import unittest
 from contextlib import ExitStack, contextmanager
-from typing import Any, Iterator, List
+from typing import Any, Iterator, List, Tuple
 from unittest import mock
 
-from test_graphql_core import WHOLE, answer, made_texts, row_texts  # skips where graphql-core 3.2 is not installed
+from graphql_texts import WHOLE, answer, extension, made_texts, row_texts  # skips where graphql-core 3.2 is not installed
 
 import graphql
 from firthnapkin import graphql_core
@@ -25,6 +25,16 @@ from graphql.language.parser import parse as own_parse
 
 # The first releases of 3.2 have no max_tokens. With them, results are compared only with those that are written here.
 HAS_OPTION = "max_tokens" in inspect.signature(own_parse).parameters
+
+
+def is_beyond(text: str, most: int) -> bool:
+    """Whether graphql-core itself reports too many tokens."""
+    return HAS_OPTION and "more than" in str(answer(own_parse, text, max_tokens=most))
+
+
+# What a comment counts against a limit, and whether the limit is looked at at the end.
+COMMENT = int(is_beyond("# a comment\n{a}", 3))
+LIMITS_END = is_beyond("", -1)
 
 
 class FirstParser(Parser):
@@ -45,6 +55,7 @@ def first_release() -> Iterator[None]:
         stack.enter_context(mock.patch.object(graphql_core, "own_parse", first_parse))
         stack.enter_context(mock.patch.object(graphql_core, "Parser", FirstParser))
         stack.enter_context(mock.patch.object(graphql_core, "_COUNTS_TOKENS", False))
+        stack.enter_context(mock.patch.object(graphql_core, "_graphql_core", extension((False, False, 0))))
         yield
 
 
@@ -57,14 +68,20 @@ def nobody_else() -> Iterator[None]:
 
 
 def releases() -> List[Any]:
-    return [ExitStack, first_release] if HAS_OPTION else [ExitStack]
+    """This release, and the first ones, whose results are this one's if it counts the same."""
+    return [ExitStack, first_release] if HAS_OPTION and not (COMMENT or LIMITS_END) else [ExitStack]
 
 
-def starts(text: str) -> List[int]:
-    """Where graphql-core's tokens start, without comments and the end."""
-    lexer, found = Lexer(Source(text)), []
-    while lexer.advance().kind is not TokenKind.EOF:
-        found.append(lexer.token.start)
+def counts(text: str) -> List[Tuple[int, int]]:
+    """Where graphql-core's tokens start, its end among them where that counts, and what is counted up to each."""
+    lexer, found, count = Lexer(Source(text)), [], 0
+    while lexer.token.kind is not TokenKind.EOF:
+        last, token = lexer.token, lexer.advance()
+        while last.next is not token:
+            last, count = last.next, count + COMMENT
+        count += token.kind is not TokenKind.EOF
+        if token.kind is not TokenKind.EOF or LIMITS_END:
+            found.append((token.start, count))
     return found
 
 
@@ -107,8 +124,8 @@ class TooMany(unittest.TestCase):
     def test_written_places(self) -> None:
         for text, most, index in [
             ("{a}", 0, 0), ("{a}", 1, 1), ("{a}", 2, 2), ("{a}{b}", 3, 3), ("{a} }", 3, 4), ("{ a ) }", 2, 4), ("{a ) }", 1, 1),
-            ("# é𝄞\n{a}", 0, 5), ("# é𝄞\n{a}", 1, 6), ('{a(b:"𝄞é")\nc}', 6, 9), ('{a(b:"𝄞é")\nc}', 7, 11),
-            ('{ a(b: """\n𝄞\n""") }', 6, 16), ("\ufeff{a#}}\n b}", 2, 8), ("{a ?", 1, 1), ("{a(b:1c:2)}", 4, 4), ("}", 0, 0),
+            ("# é𝄞\n{a}", 0, 5), ("# é𝄞\n{a}", 1 + COMMENT, 6), ('{a(b:"𝄞é")\nc}', 6, 9), ('{a(b:"𝄞é")\nc}', 7, 11),
+            ('{ a(b: """\n𝄞\n""") }', 6, 16), ("\ufeff{a#}}\n b}", 2 + COMMENT, 8), ("{a ?", 1, 1), ("{a(b:1c:2)}", 4, 4), ("}", 0, 0),
             ("query($a:Int=$b){c}", 6, 12), ("query($a:Int=$b){c}", 5, 9), ("query($a:Int@d(x:$b)){c}", 5, 9), ("type T", 0, 0),
             ("query($a:Int@d(x:$b)){c}", 11, 17), ("query($a:Int@d(x:$b)){c}", 12, 18), ("query($a:Int=$b){c}", 7, 13),
         ]:  # fmt: skip
@@ -118,11 +135,12 @@ class TooMany(unittest.TestCase):
     def test_every_token(self) -> None:
         """Each token is the first one too many for one limit. None is where the limit is not below the number of tokens."""
         for text in READ:
-            places = starts(text)
+            places = counts(text)
+            total = places[-1][1]
             with nobody_else():
-                for most, index in enumerate(places):
-                    self.refused(text, most, index)
-                for most in (len(places), len(places) + 1, 2**32 - 1, 2**32 + 5, 2**63, 2**64, 2**64 + 1, 10**30):
+                for most in range(total):
+                    self.refused(text, most, next(start for start, count in places if count > most))
+                for most in (total, total + 1, 2**32 - 1, 2**32 + 5, 2**63, 2**64, 2**64 + 1, 10**30):
                     self.assertIsInstance(graphql_core.parse(text, max_tokens=most), ast.DocumentNode)
 
     def test_a_large_text(self) -> None:
@@ -244,7 +262,7 @@ class Verdicts(unittest.TestCase):
             ("{a(b:1c:2)}", 6, "Invalid number, expected digit but got: 'c'.", 6),
             ("query($a:Int=$b){c}", 9, "Unexpected variable '$b' in constant value.", 13),
             ("query($a:Int@d(x:$b)){c}", 13, "Unexpected variable '$b' in constant value.", 17),
-            ("#é𝄞\n{a(b:\"𝄞\"] c}", 7, "Expected Name, found ']'.", 12),
+            ("#é𝄞\n{a(b:\"𝄞\"] c}", 7 + COMMENT, "Expected Name, found ']'.", 12),
             ("type T { a: B }", 6, told(6)[len("Syntax Error: ") :], 14),
             ('{a(b:"\\u{1F600}") c}', 7, told(7)[len("Syntax Error: ") :], 18),
         ]:  # fmt: skip
@@ -275,7 +293,7 @@ class BothLimits(unittest.TestCase):
         deep = "Syntax Error: Brackets are nested deeper than 1."
         for text, most, message, index in [
             ("{a{b}}", 1, told(1), 1), ("{a{b}}", 2, told(2), 2), ("{a{b}}", 3, deep, 2), ("{a{b}}", 4, deep, 2),
-            ("#é𝄞\n{a(b:1)}", 3, deep, 6), ("#é𝄞\n{a(b:1)}", 2, told(2), 6), ("{a ? {b}}", 9, "?", 3), ("{a ) {b}}", 9, ")", 3),
+            ("#é𝄞\n{a(b:1)}", 3 + COMMENT, deep, 6), ("#é𝄞\n{a(b:1)}", 2 + COMMENT, told(2 + COMMENT), 6), ("{a ? {b}}", 9, "?", 3), ("{a ) {b}}", 9, ")", 3),
             ("query($a:T=1c:{}){d}", 20, "'c'", 12), ("query($a:T){d(b:$a)}", 20, deep, 13),
         ]:  # fmt: skip
             with self.subTest(text=text, most=most):

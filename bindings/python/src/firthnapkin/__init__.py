@@ -6,7 +6,7 @@
 """
 
 from ._parser import MOST_DEPTH, VERSION as __version__
-from .document import Document, Kind, Node
+from .document import Document, Kind, Node, Nodes
 from .fault import Detail, Fault, Reason
 from .lexer import Token, TokenKind, Tokens, canonical, tokens
 from .parser import parse
@@ -14,6 +14,6 @@ from .parts import Place
 from .visitor import Step, Visitor
 
 __all__ = [
-    "MOST_DEPTH", "Detail", "Document", "Fault", "Kind", "Node", "Place", "Reason", "Step", "Token", "TokenKind", "Tokens",
-    "Visitor", "__version__", "canonical", "parse", "tokens",
+    "MOST_DEPTH", "Detail", "Document", "Fault", "Kind", "Node", "Nodes", "Place", "Reason", "Step", "Token", "TokenKind",
+    "Tokens", "Visitor", "__version__", "canonical", "parse", "tokens",
 ]  # fmt: skip

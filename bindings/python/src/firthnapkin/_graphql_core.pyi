@@ -2,7 +2,9 @@ from typing import Any, Optional, Tuple, Union
 
 from graphql.language import DocumentNode, Source
 
-def setup(classes: Tuple[Tuple[type, Tuple[str, ...]], ...], operations: Tuple[Any, Any, Any], /) -> None: ...
+def setup(
+    classes: Tuple[Tuple[type, Tuple[str, ...], int], ...], operations: Tuple[Any, Any, Any], rules: Tuple[bool, bool, int], /
+) -> None: ...
 def document(
     source: bytes, characters: int, depth: int, origin: Optional[Source], tokens: int, /
 ) -> Union[DocumentNode, Tuple[int, bool], None]: ...

@@ -41,7 +41,7 @@ enum {
     CLASSES
 };
 
-enum { MOST_ATTRIBUTES = 6, OPERATIONS = 3 };
+enum { MOST_ATTRIBUTES = 12, OPERATIONS = 3 };
 
 /* An attribute, and how it is set. Where that isn't known, it is set by its name. */
 typedef struct {
@@ -51,13 +51,25 @@ typedef struct {
 
 typedef struct {
     PyTypeObject *type;
-    Py_ssize_t count;
+    /* The number of attributes, and of those that are given. The others, of newer releases, are None. */
+    Py_ssize_t count, given;
     attribute attributes[MOST_ATTRIBUTES];
 } node_class;
 
+/* What counts in a release of graphql-core. */
+typedef struct {
+    /* Whether comments count against a limit on tokens, and whether the limit is looked at when the end is read, too. */
+    bool limits_comments, limits_end;
+    /* What the attribute token_count of a document counts. */
+    int token_count;
+} counting_rules;
+
+enum { NO_COUNT, COUNT_OF_TOKENS, COUNT_OF_TOKENS_AND_COMMENTS };
+
 typedef struct {
     node_class classes[CLASSES];
-    PyObject *operations[OPERATIONS], *nothing;
+    PyObject *operations[OPERATIONS], *nothing, *token_count;
+    counting_rules rules;
     /* The functions of module gc. */
     PyObject *is_enabled, *disable, *enable;
     bool is_set;
@@ -73,6 +85,8 @@ typedef struct {
     size_t length;
     /* Each character is a byte. */
     bool is_ascii;
+    /* What graphql-core counts in the source, where documents have that number. */
+    size_t counted;
     /* The Source, or None where no locations are made. */
     PyObject *origin;
     /* The object that was made of each node, until a node around it takes it. */
@@ -98,17 +112,19 @@ static PyObject *none(void) {
     return Py_None;
 }
 
-/* An object with these attributes. Their references are taken, whether the object is made or not. An attribute that could
- * not be made is missing. */
+/* An object with these attributes, as many as are given for its class. Their references are taken, whether the object is made
+ * or not. An attribute that could not be made is missing. */
 static PyObject *object_of(const builder *b, int class, PyObject **values) {
     const node_class *c = &b->state->classes[class];
     bool is_whole = true;
-    for (Py_ssize_t i = 0; i < c->count; i++) is_whole = is_whole && values[i] != NULL;
+    for (Py_ssize_t i = 0; i < c->given; i++) is_whole = is_whole && values[i] != NULL;
     PyObject *object = is_whole ? PyType_GenericNew(c->type, b->state->nothing, NULL) : NULL;
-    for (Py_ssize_t i = 0; i < c->count; i++) {
+    for (Py_ssize_t i = 0; i < c->given; i++) {
         if (object != NULL && put(&c->attributes[i], object, values[i]) != 0) Py_CLEAR(object);
         Py_XDECREF(values[i]);
     }
+    for (Py_ssize_t i = c->given; i < c->count; i++)
+        if (object != NULL && put(&c->attributes[i], object, Py_None) != 0) Py_CLEAR(object);
     return object;
 }
 
@@ -358,6 +374,15 @@ static PyObject *made_of(const builder *b, size_t i) {
     }
 }
 
+/* Sets what was counted as an attribute of the document. The document is freed where that fails. */
+static PyObject *with_count(const builder *b, PyObject *document) {
+    PyObject *number = document == NULL ? NULL : PyLong_FromSize_t(b->counted);
+    if (document != NULL && (number == NULL || PyObject_GenericSetAttr(document, b->state->token_count, number) != 0))
+        Py_CLEAR(document);
+    Py_XDECREF(number);
+    return document;
+}
+
 /* The document, which spans the whole of the str. */
 static PyObject *document(builder *b, Py_ssize_t characters) {
     PyObject *result = NULL;
@@ -367,6 +392,7 @@ static PyObject *document(builder *b, Py_ssize_t characters) {
         parts p = {0, b->count, {0, 0}};
         PyObject *location = location_of(b, DOCUMENT_LOCATION, (span){0, (uint32_t)characters});
         result = object_of(b, DOCUMENT, (PyObject *[]){location, take_all(b, &p, false)});
+        if (b->state->rules.token_count != NO_COUNT) result = with_count(b, result);
     }
     for (; i < b->count; i++) Py_XDECREF(b->made[i]);
     return result;

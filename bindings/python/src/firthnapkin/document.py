@@ -5,11 +5,11 @@ from __future__ import annotations
 import enum
 import struct
 from array import array
-from typing import Iterator, Optional, Union
+from typing import Optional, Sequence, Union, overload
 
-from .parts import Part, Parts
+from .parts import Part, Parts, position
 
-__all__ = ["Document", "Kind", "Node"]
+__all__ = ["Document", "Kind", "Node", "Nodes"]
 
 
 class Kind(enum.Enum):
@@ -116,18 +116,59 @@ class Node(Part):
         return None
 
     @property
-    def children(self) -> Iterator[Node]:
-        """The nodes of the parts in this one that are in no other part in it."""
-        return self._whole._siblings(self.index + 1, self.index + 1 + self.descendants)
+    def children(self) -> Nodes:
+        """The nodes of the parts in this one that are in no other part in it. They are looked for each time."""
+        return self._whole._siblings(self._index + 1, self._index + 1 + self.descendants)
 
     @property
     def parent(self) -> Optional[Node]:
         """The node of the part that this one is in; None for a definition."""
-        parent = self._whole._parents()[self.index]
+        parent = self._whole._parents()[self._index]
         return None if parent < 0 else Node(self._whole, parent)
 
     def __repr__(self) -> str:
         return f"<{self.kind.name} {self.text!r}>"
+
+
+class Nodes(Sequence[Node]):
+    """Some nodes of a document, in its order. A node object is made each time that one is asked for.
+
+    Two are equal, and have the same hash, where they are the same nodes of the same document. A slice is such a sequence, too.
+    """
+
+    __slots__ = ("_document", "_indexes", "__weakref__")
+
+    def __init__(self, document: Document, indexes: array[int]) -> None:
+        self._document = document
+        self._indexes = indexes
+
+    def __len__(self) -> int:
+        return len(self._indexes)
+
+    @overload
+    def __getitem__(self, index: int) -> Node: ...
+
+    @overload
+    def __getitem__(self, index: slice) -> Nodes: ...
+
+    def __getitem__(self, index: Union[int, slice]) -> Union[Node, Nodes]:
+        if isinstance(index, slice):
+            return Nodes(self._document, self._indexes[index])
+        return Node(self._document, self._indexes[position(index, len(self._indexes))])
+
+    def __contains__(self, node: object) -> bool:
+        return isinstance(node, Node) and node._whole is self._document and node._index in self._indexes
+
+    def __eq__(self, other: object) -> bool:
+        if not isinstance(other, Nodes):
+            return NotImplemented
+        return self._document is other._document and self._indexes == other._indexes
+
+    def __hash__(self) -> int:
+        return hash((id(self._document), self._indexes.tobytes()))
+
+    def __repr__(self) -> str:
+        return f"<{len(self._indexes)} nodes>"
 
 
 def _int(text: str) -> int:
@@ -151,6 +192,7 @@ class Document(Parts[Node]):
 
     # kind, descendants, the start's and the end's index, line, column and byte, the name's bytes, value, value's length
     _LAYOUT = struct.Struct("=2I8I2IqI4x")
+    _HEAD = struct.Struct("=2I")
 
     def __init__(self, text: str, source: bytes, nodes: bytes, texts: bytes) -> None:
         super().__init__(text, nodes)
@@ -162,15 +204,18 @@ class Document(Parts[Node]):
         return Node(self, index)
 
     @property
-    def definitions(self) -> Iterator[Node]:
-        """The operations and fragments."""
+    def definitions(self) -> Nodes:
+        """The operations and fragments. They are looked for each time."""
         return self._siblings(0, self._count)
 
-    def _siblings(self, index: int, end: int) -> Iterator[Node]:
+    def _siblings(self, index: int, end: int) -> Nodes:
+        """Returns the nodes from an index to another that are in no other node between these."""
+        found = array("q")
         while index < end:
-            node = Node(self, index)
-            yield node
-            index += 1 + node.descendants
+            found.append(index)
+            _, descendants = self._HEAD.unpack_from(self._parts, self._LAYOUT.size * index)
+            index += 1 + descendants
+        return Nodes(self, found)
 
     def _parents(self) -> array[int]:
         """The index of each node's parent, and -1 for a definition. They are computed when one is first asked for."""

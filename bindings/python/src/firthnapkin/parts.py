@@ -2,6 +2,7 @@
 
 from __future__ import annotations
 
+import operator
 import struct
 from typing import Any, ClassVar, List, NamedTuple, Sequence, Tuple, TypeVar, Union, overload
 
@@ -20,13 +21,17 @@ class Place(NamedTuple):
 class Part:
     """A part of a text. Its numbers are two of its own, the eight of its places, and further ones of its own."""
 
-    __slots__ = ("_whole", "index", "_told")
+    __slots__ = ("_whole", "_index", "_told", "__weakref__")
 
     def __init__(self, whole: Parts[Any], index: int) -> None:
         self._whole = whole
-        #: The index among the parts of the text.
-        self.index = index
+        self._index = index
         self._told: Tuple[int, ...] = whole._LAYOUT.unpack_from(whole._parts, whole._LAYOUT.size * index)
+
+    @property
+    def index(self) -> int:
+        """The index among the parts of the text."""
+        return self._index
 
     @property
     def start(self) -> Place:
@@ -46,10 +51,10 @@ class Part:
         """Whether both are the same part of the result of one call."""
         if not isinstance(other, Part):
             return NotImplemented
-        return self._whole is other._whole and self.index == other.index
+        return self._whole is other._whole and self._index == other._index
 
     def __hash__(self) -> int:
-        return hash((id(self._whole), self.index))
+        return hash((id(self._whole), self._index))
 
 
 P = TypeVar("P", bound=Part)
@@ -58,16 +63,20 @@ P = TypeVar("P", bound=Part)
 class Parts(Sequence[P]):
     """The parts of a text. A part's object is made each time that one is asked for."""
 
-    __slots__ = ("text", "_parts", "_count")
+    __slots__ = ("_text", "_parts", "_count", "__weakref__")
 
     #: The layout of a part's numbers in bytes.
     _LAYOUT: ClassVar[struct.Struct]
 
     def __init__(self, text: str, parts: bytes) -> None:
-        #: The source.
-        self.text = text
+        self._text = text
         self._parts = parts
         self._count = len(parts) // self._LAYOUT.size
+
+    @property
+    def text(self) -> str:
+        """The source."""
+        return self._text
 
     def _part(self, index: int) -> P:
         raise NotImplementedError
@@ -85,8 +94,20 @@ class Parts(Sequence[P]):
         if isinstance(index, slice):
             found: List[P] = [self._part(i) for i in range(*index.indices(self._count))]
             return found
-        if index < 0:
-            index += self._count
-        if not 0 <= index < self._count:
-            raise IndexError("index out of range")
-        return self._part(index)
+        return self._part(position(index, self._count))
+
+    def __contains__(self, part: object) -> bool:
+        return isinstance(part, Part) and part._whole is self
+
+
+def position(index: int, count: int) -> int:
+    """Returns an index of a sequence, counted from its start. Raises TypeError where it is no int, IndexError out of range."""
+    try:
+        found = operator.index(index)
+    except TypeError:
+        raise TypeError(f"an index must be an int or a slice, not {type(index).__name__}") from None
+    if found < 0:
+        found += count
+    if not 0 <= found < count:
+        raise IndexError("index out of range")
+    return found

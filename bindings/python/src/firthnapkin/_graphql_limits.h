@@ -1,0 +1,182 @@
+/* Limits on a source, in graphql-core's place: where graphql-core finds the first token too many, and which errors it reports
+ * before it. */
+#ifndef FIRTHNAPKIN_GRAPHQL_LIMITS_H
+#define FIRTHNAPKIN_GRAPHQL_LIMITS_H
+
+#include "_graphql_nodes.h"
+#include "whole.h"
+
+/* ---- tokens and comments */
+
+/* The tokens of a source and its end, or those before its first lexical error or before the first one too many. They have to
+ * be freed, whatever the status. */
+static whole tokens_found(const uint8_t *source, size_t length, uint32_t most) {
+    whole w = {.status = FIRTHNAPKIN_MEMORY};
+    size_t capacity, needed = at_first(length) + 16;
+    do {
+        give_back(&w);
+        capacity = needed;
+        w.tokens = malloc(capacity * sizeof *w.tokens);
+        w.status = FIRTHNAPKIN_MEMORY;
+        w.tokens_count = 0;
+        if (w.tokens != NULL) w.status = tokens_on_stack(source, length, most, w.tokens, capacity, &w.tokens_count, &w.fault);
+        needed = w.tokens_count;
+    } while (needed > capacity);
+    return w;
+}
+
+static bool may_have_comment(const uint8_t *source, size_t length) {
+    return length > 0 && memchr(source, '#', length) != NULL;
+}
+
+/* The number of comments between two tokens, or before the first one. Each ends with its line. */
+static size_t comments_between(const uint8_t *source, uint32_t from, uint32_t to) {
+    size_t count = 0;
+    bool is_comment = false;
+    for (uint32_t i = from; i < to; i++) {
+        bool begins = !is_comment && source[i] == '#';
+        count += begins;
+        is_comment = begins || (is_comment && source[i] != '\n' && source[i] != '\r');
+    }
+    return count;
+}
+
+/* The number of tokens of a source, and of its comments where these count. Where memory runs out that is the status. */
+static uint32_t count_all(const uint8_t *source, size_t length, bool with_comments, size_t *count) {
+    firthnapkin_fault fault;
+    uint32_t last = 0, status;
+    if (!with_comments || !may_have_comment(source, length)) {
+        status = tokens_on_stack(source, length, UINT32_MAX, NULL, 0, count, &fault);
+        /* The end is no token. */
+        if (status == FIRTHNAPKIN_ROOM) (*count)--;
+        return status;
+    }
+    whole cut = tokens_found(source, length, UINT32_MAX);
+    status = cut.status;
+    *count = cut.tokens_count - (status == FIRTHNAPKIN_TOKENS);
+    for (size_t i = 0; i < cut.tokens_count; i++) {
+        *count += comments_between(source, last, cut.tokens[i].start.byte);
+        last = cut.tokens[i].end.byte;
+    }
+    give_back(&cut);
+    return status;
+}
+
+/* What a document of this source has as its token_count, and 0 where documents have none. The status is FIRTHNAPKIN_TREE, or
+ * says that memory ran out. */
+static uint32_t count_for(const counting_rules *rules, const uint8_t *source, size_t length, size_t *count) {
+    *count = 0;
+    if (rules->token_count == NO_COUNT) return FIRTHNAPKIN_TREE;
+    uint32_t status = count_all(source, length, rules->token_count == COUNT_OF_TOKENS_AND_COMMENTS, count);
+    return status == FIRTHNAPKIN_MEMORY ? FIRTHNAPKIN_MEMORY : FIRTHNAPKIN_TREE;
+}
+
+/* ---- where graphql-core's own parser has to be called */
+
+/* Whether graphql-core refuses one of these tokens, of which it looks at the first so many. All but the last one begin a
+ * document. It refuses a number that goes on, and a variable that is nested deeper than those that an operation defines. */
+static bool has_refused_token(const whole *cut, size_t looked_at, const uint8_t *source, size_t length) {
+    size_t depth = 0;
+    bool is_constant = false;
+    for (size_t i = 0; i < cut->tokens_count; i++) {
+        const firthnapkin_token *t = &cut->tokens[i];
+        char next = t->end.byte < length ? (char)source[t->end.byte] : ' ';
+        switch (t->kind) {
+        case FIRTHNAPKIN_TOKEN_INT:
+        case FIRTHNAPKIN_TOKEN_FLOAT:
+            if (begins_name(next) || next == '.') return true;
+            break;
+        case FIRTHNAPKIN_TOKEN_DOLLAR:
+            /* It is refused when its name is looked at. */
+            if (is_constant && depth > 1 && i + 1 < looked_at) return true;
+            break;
+        case FIRTHNAPKIN_TOKEN_PAREN_OPEN:
+        case FIRTHNAPKIN_TOKEN_BRACKET_OPEN:
+        case FIRTHNAPKIN_TOKEN_CURLY_OPEN:
+            /* Outside of braces this opens an operation's variables, or the arguments of a directive after its name. */
+            if (depth == 0)
+                is_constant = t->kind == FIRTHNAPKIN_TOKEN_PAREN_OPEN && !(i >= 2 && t[-2].kind == FIRTHNAPKIN_TOKEN_AT);
+            depth++;
+            break;
+        case FIRTHNAPKIN_TOKEN_PAREN_CLOSE:
+        case FIRTHNAPKIN_TOKEN_BRACKET_CLOSE:
+        case FIRTHNAPKIN_TOKEN_CURLY_CLOSE: depth--; break;
+        default: break;
+        }
+    }
+    return false;
+}
+
+/* Whether graphql-core reports an error before it reports the token beyond a limit, or the end, at which the fault is. It
+ * reads that one, too, before it looks at the limit. Where memory runs out that is the status. */
+static bool is_refused_before(const uint8_t *source, size_t length, const firthnapkin_fault *fault, uint32_t *status) {
+    whole cut = tokens_found(source, fault->end.byte, UINT32_MAX);
+    size_t looked_at = 0;
+    while (looked_at < cut.tokens_count && cut.tokens[looked_at].start.byte < fault->start.byte) looked_at++;
+    bool is_refused = has_refused_token(&cut, looked_at, source, length);
+    if (cut.status == FIRTHNAPKIN_MEMORY) *status = FIRTHNAPKIN_MEMORY;
+    give_back(&cut);
+    return is_refused;
+}
+
+/* ---- limits */
+
+/* Sets the fault to the first of these tokens, or the end, up to which more is counted than the limit. False where there is
+ * none. */
+static bool find_too_many(const counting_rules *rules, whole *cut, const uint8_t *source, int64_t most) {
+    int64_t count = 0;
+    uint32_t last = 0;
+    for (size_t i = 0; i < cut->tokens_count; i++) {
+        const firthnapkin_token *t = &cut->tokens[i];
+        bool is_end = t->kind == FIRTHNAPKIN_TOKEN_END_OF_FILE;
+        count += !is_end;
+        if (rules->limits_comments) count += (int64_t)comments_between(source, last, t->start.byte);
+        if (count > most && (!is_end || rules->limits_end)) {
+            cut->fault.start = t->start;
+            cut->fault.end = t->end;
+            return true;
+        }
+        last = t->end.byte;
+    }
+    return cut->status == FIRTHNAPKIN_MANY;
+}
+
+/* The nodes of a source that keeps a limit on its tokens. Otherwise the status is FIRTHNAPKIN_MANY, and the fault is at the
+ * first token too many, or at the end. A limit of UINT32_MAX is none. */
+static whole with_few_tokens(const counting_rules *rules, const uint8_t *source, size_t length, uint32_t depth, int64_t most) {
+    bool counts_comments = rules->limits_comments && most < UINT32_MAX && may_have_comment(source, length);
+    uint32_t tokens = most < 0 ? 0 : (uint32_t)most;
+    if (!counts_comments && (most >= 0 || !rules->limits_end)) return parse_whole(source, length, depth, tokens);
+    whole cut = tokens_found(source, length, tokens);
+    if (find_too_many(rules, &cut, source, most))
+        cut.status = FIRTHNAPKIN_MANY;
+    else if (cut.status != FIRTHNAPKIN_MEMORY) {
+        give_back(&cut);
+        return parse_whole(source, length, depth, UINT32_MAX);
+    }
+    return cut;
+}
+
+/* What the tokens before the first one too many are: FIRTHNAPKIN_MANY where a document begins with them, and otherwise the
+ * status that is returned for them, with its fault. No buffers are passed, so nothing is built from them. */
+static uint32_t begun(const uint8_t *source, uint32_t depth, firthnapkin_fault *fault) {
+    size_t nodes, texts;
+    firthnapkin_fault found;
+    uint32_t status = parse_on_stack(source, fault->start.byte, depth, NULL, 0, &nodes, NULL, 0, &texts, &found);
+    bool is_whole = status == FIRTHNAPKIN_ROOM || status == FIRTHNAPKIN_TREE;
+    if (is_whole || (status == FIRTHNAPKIN_REFUSED && found.kind == FIRTHNAPKIN_UNEXPECTED_END)) return FIRTHNAPKIN_MANY;
+    if (status == FIRTHNAPKIN_TOO_DEEP) *fault = found;
+    return status;
+}
+
+/* The nodes of a source that keeps both limits. Where it doesn't, the status says which one, and the fault is at the first
+ * token beyond it. But the status is FIRTHNAPKIN_REFUSED where graphql-core reports an earlier token. */
+static whole within(const counting_rules *rules, const uint8_t *source, size_t length, uint32_t depth, int64_t most) {
+    whole w = with_few_tokens(rules, source, length, depth, most);
+    if (w.status == FIRTHNAPKIN_MANY) w.status = begun(source, depth, &w.fault);
+    bool is_beyond = w.status == FIRTHNAPKIN_MANY || w.status == FIRTHNAPKIN_TOO_DEEP;
+    if (is_beyond && is_refused_before(source, length, &w.fault, &w.status)) w.status = FIRTHNAPKIN_REFUSED;
+    return w;
+}
+
+#endif
