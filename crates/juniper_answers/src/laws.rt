@@ -1,4 +1,5 @@
 //! Laws of answer values, objects and names.
+ghost use Rattle.std.specs.Hash as fed;
 ghost use Rattle.std.specs.Prelude.{◌≡◌, ◌↔◌, ℕ, List, Some, String, true, IsTrue};
 ghost use Rattle.std.specs.Ordering.{is_eq};
 ghost use Rattle.std.specs.String.{string_cmp};
@@ -79,6 +80,11 @@ pub fn refusals_agree()
 /// Equal names hash alike.
 pub fn equal_names_hash_alike()
     ensures { (a b : Name) → IsTrue (⟦<Name as PartialEq>⟧.eq a b) → ⟦<Name as Hash>⟧.hash_input a ≡ ⟦<Name as Hash>⟧.hash_input b }
+{}
+
+/// A name is hashed as its text.
+pub fn names_are_hashed_as_texts()
+    ensures { (a : Name) → ⟦<Name as Hash>⟧.hash_input a ≡ fed.str (text_of_name a) }
 {}
 
 /// The iterators of an object show its fields in order, and end.

@@ -1,7 +1,8 @@
 //! Equality of input values regardless of their places.
-ghost use Rattle.std.specs.Prelude.{◌≡◌, ◌<◌, length, drop, true};
+ghost use Rattle.std.specs.Prelude.{◌≡◌, ◌<◌, ◌≤◌, ◌+◌, ℕ, length, drop, true, false};
 ghost use Rattle.juniper_values.specs.Same.{same_but_place, same_items_but_place, wanted, is_found, is_wanted, all_found, all_wanted};
 ghost use Rattle.juniper_values.specs.device.Keys.{has_key, keys_differ, found_at, wanted_at};
+ghost use Rattle.juniper_values.specs.device.Sizes.{value_count, item_count, held_count, count_at, saturated};
 ghost use Rattle.graphql_grammar.specs.Tree.{Object};
 ghost use Rattle.juniper_values.specs.View.{view, view_items, view_fields, text_of};
 
@@ -231,7 +232,10 @@ fn compared_once<S>(
     differ: bool,
 ) -> usize
     requires { 0 < length fields.now.items }
-    ensures { result < length fields.now.items }
+    ensures inside { result < length fields.now.items }
+    ensures largest { differ ≡ false → (i : ℕ) → i < length fields.now.items
+        → saturated (count_at i (view_fields (λ s. s) fields.now.items))
+        ≤ saturated (count_at result (view_fields (λ s. s) fields.now.items)) }
 {
     if differ {
         return 0;
@@ -250,7 +254,9 @@ fn compared_once<S>(
 
 // The number of values that it consists of, itself among them.
 #[cycle(size)]
-fn size<S>(value: &InputValue<S>) -> usize {
+fn size<S>(value: &InputValue<S>) -> usize
+    ensures { result ≡ saturated (value_count (view (λ s. s) value.now)) }
+{
     match value {
         InputValue::List(items) => size_of_items(items),
         InputValue::Object(fields) => size_of_fields(fields),
@@ -259,7 +265,9 @@ fn size<S>(value: &InputValue<S>) -> usize {
 }
 
 #[cycle(size)]
-fn size_of_items<S>(items: &Vec<Spanning<InputValue<S>>>) -> usize {
+fn size_of_items<S>(items: &Vec<Spanning<InputValue<S>>>) -> usize
+    ensures { result ≡ saturated (1 + item_count (view_items (λ s. s) items.now.items)) }
+{
     let mut sum = 1usize;
     for item in items {
         sum = sum.saturating_add(size(&item.item));
@@ -268,7 +276,9 @@ fn size_of_items<S>(items: &Vec<Spanning<InputValue<S>>>) -> usize {
 }
 
 #[cycle(size)]
-fn size_of_fields<S>(fields: &Vec<(Spanning<String>, Spanning<InputValue<S>>)>) -> usize {
+fn size_of_fields<S>(fields: &Vec<(Spanning<String>, Spanning<InputValue<S>>)>) -> usize
+    ensures { result ≡ saturated (1 + held_count (view_fields (λ s. s) fields.now.items)) }
+{
     let mut sum = 1usize;
     for field in fields {
         sum = sum.saturating_add(size(&field.1.item));
