@@ -24,7 +24,8 @@ IsReportEnd Memory = ⊥
 
 -- an error, and the line and column where it stands
 abbrev pub fault_line : Fault → List ℕ
-fault_line fault = encode_utf8_all (error_text fault.error) ++ (codes ". At " ++ (position_text fault.span.start ++ 10 ∷ []))
+fault_line fault = encode_utf8_all (error_text fault.error)
+    ++ (codes ". At " ++ (position_text fault.span.start ++ 10 ∷ []))
 
 -- that a token is nested too deep, and the line and column where it stands
 abbrev pub deep_line : Span → List ℕ
@@ -36,9 +37,14 @@ limit = 200
 
 -- a run over these bytes ends so, and writes this text
 abbrev pub Report : List ℕ → RunEnd → List ℕ → Type 0
-Report bytes Tree text = IsUtf8 bytes × ((tree : List (Definition Content)) × HasTree default_scalars (chars bytes) tree × (text ≡ encode_utf8_all (document_lines tree))) × IsWithin default_scalars limit (chars bytes)
-Report bytes Refused text = IsUtf8 bytes × ((fault : Fault) × IsRefusal default_scalars (chars bytes) fault × (text ≡ fault_line fault)) × IsWithin default_scalars limit (chars bytes)
-Report bytes TooDeep text = IsUtf8 bytes × ((span : Span) × HasTooDeep default_scalars limit (chars bytes) span × (text ≡ deep_line span))
+Report bytes Tree text = IsUtf8 bytes
+    × ((tree : List (Definition Content)) × HasTree default_scalars (chars bytes) tree
+    × (text ≡ encode_utf8_all (document_lines tree))) × IsWithin default_scalars limit (chars bytes)
+Report bytes Refused text = IsUtf8 bytes
+    × ((fault : Fault) × IsRefusal default_scalars (chars bytes) fault × (text ≡ fault_line fault))
+    × IsWithin default_scalars limit (chars bytes)
+Report bytes TooDeep text = IsUtf8 bytes
+    × ((span : Span) × HasTooDeep default_scalars limit (chars bytes) span × (text ≡ deep_line span))
 Report bytes NotUtf8 text = ¬ IsUtf8 bytes × (text ≡ codes "Not UTF-8\n")
 Report bytes Device text = ⊥
 Report bytes Memory text = ⊥

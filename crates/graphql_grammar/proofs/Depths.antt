@@ -7,15 +7,15 @@ use Rattle.std.proofs.lemmas.List.Sums.{sum_by-cons, sum_by-append}
 use Rattle.graphql_lexical.specs.declared.kind.Kind.{Kind}
 use Rattle.graphql_lexical.specs.declared.kind.Kind.TheVariants.{EndOfFile}
 use Rattle.graphql_lexical.specs.Cutting.{Lexeme, EndsOnce}
-use Rattle.graphql_lexical.specs.Nesting.{is_opening, is_closing, opened, closed, IsFirstDeeper, end_behind, ended_by}
+use Rattle.graphql_lexical.specs.Nesting.{is_opening, is_closing, opened, closed, end_behind, ended_by}
+use Rattle.graphql_lexical.specs.device.Indexed.{IsFirstDeeperAt}
 use Rattle.graphql_lexical.proofs.Public.{opened_push, closed_push, deep_count, opens, opening_no_end}
 use Rattle.graphql_grammar.specs.Tokens.{IsSpelled}
 use Rattle.graphql_grammar.specs.Tree.{Scalars, Definition}
 use Rattle.graphql_grammar.specs.Grammar.{IsScalarKind, IsDocument}
-use Rattle.graphql_grammar.specs.Faults.{AtFault}
+use Rattle.graphql_grammar.specs.device.AlikeFaults.{AtFaultAlike, BeginsDocument}
 use Rattle.graphql_grammar.specs.device.Faults.{Fault, DocumentFaultAt}
 use Rattle.graphql_grammar.specs.device.Productions.{document, reads}
-use Rattle.graphql_grammar.specs.Depth.{BeginsDocument}
 use Rattle.graphql_grammar.proofs.EndParts.{NoEnd, EndParts, end_parts, ends_once}
 use Rattle.graphql_grammar.proofs.Elements.{all_front, all_join}
 use Rattle.graphql_grammar.proofs.Nested as nested
@@ -119,7 +119,7 @@ end_balanced us t e = (
 
 pub refused_in_front : (Allowed : Lexeme → Type 0) {A : Type 0} (R : A → List Lexeme → Type 0)
     (us vs ws before : List Lexeme) (t : Lexeme) → length before < length us
-    → AtFault Allowed R (us ++ vs) before t → AtFault Allowed R (us ++ ws) before t
+    → AtFaultAlike Allowed R (us ++ vs) before t → AtFaultAlike Allowed R (us ++ ws) before t
 refused_in_front Allowed R us vs ws before t l h =
     let w = within us vs before h.after t h.whole l in
     record {
@@ -162,7 +162,7 @@ module _ {C F : Type 0} (S : Scalars C F) where
   document_balanced = nested.document IsBalanced refl join plain around S (λ t c k e. scalar t k)
       (λ t e. uncounted t (ap is_opening e) (ap is_closing e))
 
-  module _ (depth : ℕ) (ts : List Lexeme) (i : ℕ) (t : Lexeme) (d : IsFirstDeeper depth ts i t) where
+  module _ (depth : ℕ) (ts : List Lexeme) (i : ℕ) (t : Lexeme) (d : IsFirstDeeperAt depth ts i t) where
     abbrev pub front : List Lexeme
     front = d.before ++ t ∷ []
 

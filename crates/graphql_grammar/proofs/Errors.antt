@@ -6,9 +6,11 @@ use Rattle.graphql_lexical.specs.Cutting.{Lexeme, EndsOnce}
 use Rattle.graphql_lexical.specs.laws.Alike.{Alike}
 use Rattle.graphql_grammar.specs.Tokens.{Text, IsSpelled}
 use Rattle.graphql_grammar.specs.Tree.{Scalars, Definition}
-use Rattle.graphql_grammar.specs.Grammar.{IsValue, IsDocument, IsLocated}
-use Rattle.graphql_grammar.specs.Faults.{AnyToken, NamedError, end, own, other, DocumentRefusedAt, ValueRefusedAt, TypeError, TypeRefusedAt}
+use Rattle.graphql_grammar.specs.Grammar.{IsValue, IsType, IsDocument, IsLocated}
+use Rattle.graphql_grammar.specs.Faults.{Begins, BeginsValue, BeginsType, DocumentRefusedAt, ValueRefusedAt, TypeError, TypeRefusedAt}
+use Rattle.graphql_grammar.specs.device.AlikeFaults.{AnyToken, NamedErrorAlike, end, own, other}
 use Rattle.graphql_grammar.specs.device.Faults.{Fault, UnexpectedEndOfFile, UnexpectedToken, ScalarError, told, NamesFault, DocumentFaultAt, ValueFaultAt, TypeFault, TypeFaultAt}
+use Rattle.graphql_grammar.proofs.Begun.{fault_from_alike, error_from_alike, alike_from_error, to_begins, from_begins, document_at_fault, alike_document_at_fault, value_to_begins, value_from_begins, type_to_begins, type_from_begins}
 use Rattle.graphql_grammar.proofs.OneFault.{document_or_fault, one_document_refusal, document_refusal_alike}
 
 module _ {F : Type 0} (at_end : F) (unexpected : Kind → Text → F) where
@@ -18,13 +20,13 @@ module _ {F : Type 0} (at_end : F) (unexpected : Kind → Text → F) where
   module _ {C A : Type 0} (Allowed : Lexeme → Type 0) (S : Scalars C F) (R : A → List Lexeme → Type 0)
       (before : List Lexeme) (t : Lexeme) where
     named : (e : Fault F) → NamesFault Allowed S R before t e
-        → NamedError at_end unexpected Allowed S R before t (error e)
+        → NamedErrorAlike at_end unexpected Allowed S R before t (error e)
     named UnexpectedEndOfFile h = end h
     named (ScalarError x) h = own h.0 h.1 h.2
     named (UnexpectedToken kind text) h =
-        subst (NamedError at_end unexpected Allowed S R before t) (ap₂ unexpected (sym h.0) (sym h.1)) (other h.2 h.3)
+        subst (NamedErrorAlike at_end unexpected Allowed S R before t) (ap₂ unexpected (sym h.0) (sym h.1)) (other h.2 h.3)
 
-    unnamed : (x : F) → NamedError at_end unexpected Allowed S R before t x
+    unnamed : (x : F) → NamedErrorAlike at_end unexpected Allowed S R before t x
         → (e : Fault F) × NamesFault Allowed S R before t e × (x ≡ error e)
     unnamed _ (end h) = (UnexpectedEndOfFile, h, refl)
     unnamed _ (own {error = x} s r v) = (ScalarError x, (s, r, v), refl)
@@ -32,7 +34,8 @@ module _ {F : Type 0} (at_end : F) (unexpected : Kind → Text → F) where
 
   pub type_error : (ts before : List Lexeme) (t : Lexeme) (e : Fault F) → TypeFaultAt ts before t e
       → TypeRefusedAt at_end unexpected ts before t (error e)
-  type_error ts before t e h = (h.0, by_fault e h.1)
+  type_error ts before t e h =
+      (fault_from_alike AnyToken IsType BeginsType type_from_begins type_to_begins ts before t h.0, by_fault e h.1)
     where
       by_fault : (e : Fault F) → TypeFault t e → TypeError at_end unexpected t (error e)
       by_fault UnexpectedEndOfFile k = inl (k, refl)
@@ -42,18 +45,29 @@ module _ {F : Type 0} (at_end : F) (unexpected : Kind → Text → F) where
   module _ {C : Type 0} (S : Scalars C F) where
     pub value_error : (free : Bool) (ts before : List Lexeme) (t : Lexeme) (e : Fault F)
         → ValueFaultAt S free ts before t e → ValueRefusedAt at_end unexpected S free ts before t (error e)
-    value_error free ts before t e h = (h.0, named AnyToken S (IsLocated (IsValue S free)) before t e h.1)
+    value_error free ts before t e h =
+        let R = IsLocated (IsValue S free) in
+        let to = value_from_begins S free in
+        let from = value_to_begins S free in (
+          fault_from_alike AnyToken R (BeginsValue S free) to from ts before t h.0,
+          error_from_alike AnyToken R (BeginsValue S free) to from at_end unexpected S before t (error e) (named AnyToken S R before t e h.1),
+        )
 
     pub document_error : (ts before : List Lexeme) (t : Lexeme) (e : Fault F) → DocumentFaultAt S ts before t e
         → DocumentRefusedAt at_end unexpected S ts before t (error e)
-    document_error ts before t e h = (h.0, named IsSpelled S (IsDocument S) before t e h.1)
+    document_error ts before t e h = (
+      document_at_fault S ts before t h.0,
+      error_from_alike IsSpelled (IsDocument S) (Begins S) (from_begins S) (to_begins S) at_end unexpected S before t (error e)
+          (named IsSpelled S (IsDocument S) before t e h.1),
+    )
 
     pub document_fault : (ts before : List Lexeme) (t : Lexeme) (x : F)
         → DocumentRefusedAt at_end unexpected S ts before t x
         → (e : Fault F) × DocumentFaultAt S ts before t e × (x ≡ error e)
     document_fault ts before t x h =
-        let f = unnamed IsSpelled S (IsDocument S) before t x h.1 in
-        (f.0, (h.0, f.1), f.2)
+        let alike = alike_from_error IsSpelled (IsDocument S) (Begins S) (from_begins S) (to_begins S) at_end unexpected S before t x h.1 in
+        let f = unnamed IsSpelled S (IsDocument S) before t x alike in
+        (f.0, (alike_document_at_fault S ts before t h.0, f.1), f.2)
 
     pub document_or_error : (ts : List Lexeme) → AllByRecursion IsSpelled ts → EndsOnce ts
         → ((ds : List (Definition C)) × IsDocument S ds ts)

@@ -8,7 +8,7 @@ use Rattle.graphql_lexical.specs.Cutting.{Lexeme, EndsOnce}
 use Rattle.graphql_grammar.specs.Tokens.{IsSpelled, span_of}
 use Rattle.graphql_grammar.specs.Tree.{Scalars}
 use Rattle.graphql_grammar.specs.Grammar.{IsValue, IsType, IsDocument, IsLocated}
-use Rattle.graphql_grammar.specs.Faults.{AnyToken, Begins, AtFault}
+use Rattle.graphql_grammar.specs.device.AlikeFaults.{AnyToken, BeginsAlike, AtFaultAlike}
 use Rattle.graphql_grammar.specs.device.Faults.{Fault, UnexpectedEndOfFile, UnexpectedToken, DocumentFaultAt, ValueFaultAt, TypeFaultAt, TypeFault}
 use Rattle.graphql_grammar.specs.device.Reading.{of, Read, Took, Refused, Out, Reader, fault_of, a_value, a_type, fully, GivesWhole, GivesFront}
 use Rattle.graphql_grammar.specs.device.Productions.{document, symbol_at, reads}
@@ -144,14 +144,14 @@ type_error F t false e = (
 )
 
 -- A type begins so, with its span or without.
-bare_begins : (ts : List Lexeme) → Begins AnyToken IsSpannedType ts → Begins AnyToken IsType ts
+bare_begins : (ts : List Lexeme) → BeginsAlike AnyToken IsSpannedType ts → BeginsAlike AnyToken IsType ts
 bare_begins ts (front, more, x, a, h, al) = (front, more, x.item, a, h.0, al)
 
-spanned_begins : (ts : List Lexeme) → Begins AnyToken IsType ts → Begins AnyToken IsSpannedType ts
+spanned_begins : (ts : List Lexeme) → BeginsAlike AnyToken IsType ts → BeginsAlike AnyToken IsSpannedType ts
 spanned_begins ts (front, more, x, a, h, al) = (front, more, record { item = x; span = span_of (front ++ more) }, a, (h, refl), al)
 
-bare_fault : (ts before : List Lexeme) (t : Lexeme) → AtFault AnyToken IsSpannedType ts before t
-    → AtFault AnyToken IsType ts before t
+bare_fault : (ts before : List Lexeme) (t : Lexeme) → AtFaultAlike AnyToken IsSpannedType ts before t
+    → AtFaultAlike AnyToken IsType ts before t
 bare_fault ts before t h = record {
   after = h.after;
   whole = h.whole;

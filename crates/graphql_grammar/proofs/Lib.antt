@@ -28,8 +28,10 @@ pub mod Spelling
 pub mod Given
 pub mod Unlocated
 pub mod OneFault
-pub mod Errors
 pub mod Texts
+pub mod Begun
+pub mod TooDeep
+pub mod Errors
 pub mod Depths
 pub mod Answered
 pub mod Public

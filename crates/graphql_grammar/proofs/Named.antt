@@ -9,7 +9,7 @@ use Rattle.graphql_grammar.specs.device.Reading.{of, Took, Refused, Reader, faul
 use Rattle.graphql_grammar.specs.Samples.{sample, IsSample}
 use Rattle.graphql_grammar.specs.Tree.{Scalars}
 use Rattle.graphql_grammar.specs.Grammar.{IsScalarKind}
-use Rattle.graphql_grammar.specs.Faults.{Begins, ValueMayStand, AtFault}
+use Rattle.graphql_grammar.specs.device.AlikeFaults.{BeginsAlike, ValueMayStandAlike, AtFaultAlike}
 use Rattle.graphql_grammar.specs.device.Faults.{Fault, UnexpectedEndOfFile, UnexpectedToken, ScalarError, NamesFault}
 use Rattle.graphql_grammar.proofs.Rules.{Meets, alike_refl, SameHead_refl}
 use Rattle.graphql_grammar.proofs.TokenTests.{of_kind}
@@ -29,7 +29,7 @@ module _ {C F A : Type 0} (S : Scalars C F) (f : ℕ → Reader F A) (R : A → 
     (strict : Bool) (tells : (n : ℕ) → TellsFaults S strict (f n)) (Allowed : Lexeme → Type 0)
     (fills : (t : Lexeme) → IsSample t → Allowed t) where
   -- What begins so is read to its end, with enough fuel.
-  begun : (us : List Lexeme) (w : Lexeme) → Begins Allowed R (us ++ (w ∷ []))
+  begun : (us : List Lexeme) (w : Lexeme) → BeginsAlike Allowed R (us ++ (w ∷ []))
       → (N : ℕ) × (more : List Lexeme) × ((m : ℕ) → N ≤ m → (b : A) × (f m (us ++ (w ∷ more)) ≡ Took b []))
   begun us w (vs, more, a, h, k, al) = (
     suc (length (vs ++ more)),
@@ -49,7 +49,7 @@ module _ {C F A : Type 0} (S : Scalars C F) (f : ℕ → Reader F A) (R : A → 
 
   -- A scalar token that is refused as a token stands where no value may.
   no_value : (n : ℕ) (ts us rest : List Lexeme) (t : Lexeme) (e : Fault F) → f n ts ≡ Refused (t ∷ rest) e
-      → ts ≡ us ++ (t ∷ rest) → e ≡ fault_of t.kind t.text → IsScalarKind t.kind → ValueMayStand Allowed R us → ⊥
+      → ts ≡ us ++ (t ∷ rest) → e ≡ fault_of t.kind t.text → IsScalarKind t.kind → ValueMayStandAlike Allowed R us → ⊥
   unfolding fault_of
   no_value n ts us rest t e p q xe s v = by_tell (subst (λ z. TellsFault S strict (f m) (us ++ (t ∷ rest)) z) refused
       ((tells m).at (us ++ (t ∷ rest))))
@@ -107,7 +107,7 @@ module _ {C F A : Type 0} (S : Scalars C F) (f : ℕ → Reader F A) (R : A → 
       by_scalar_fault us q (y, x, s, d) =
           let w = value_stands f R r Allowed fills n ts rest t y al
           (p ∙ ap (λ (z : Fault F). Refused (t ∷ rest) z) x) in
-          rw x (s, d, subst (λ z. ValueMayStand Allowed R z) (append_cancel_right w.0 us (t ∷ rest) (sym w.1 ∙ q)) w.2)
+          rw x (s, d, subst (λ z. ValueMayStandAlike Allowed R z) (append_cancel_right w.0 us (t ∷ rest) (sym w.1 ∙ q)) w.2)
 
       by_tell : TellsFault S strict (f n) ts (Refused (t ∷ rest) e)
           → (us : List Lexeme) × (ts ≡ us ++ (t ∷ rest)) × NamesFault Allowed S R us t e
@@ -117,7 +117,7 @@ module _ {C F A : Type 0} (S : Scalars C F) (f : ℕ → Reader F A) (R : A → 
   -- Where the reader refuses, the definitions do.
   pub refused_at : (n : ℕ) (ts rest : List Lexeme) (t : Lexeme) (e : Fault F) → AllByRecursion Allowed ts
       → f n ts ≡ Refused (t ∷ rest) e
-      → (us : List Lexeme) × (ts ≡ us ++ (t ∷ rest)) × (AtFault Allowed R ts us t × NamesFault Allowed S R us t e)
+      → (us : List Lexeme) × (ts ≡ us ++ (t ∷ rest)) × (AtFaultAlike Allowed R ts us t × NamesFault Allowed S R us t e)
   refused_at n ts rest t e al p =
       let a = at_fault f R r Allowed fills n ts rest t e al p in
       let w = names n ts rest t e al p in (

@@ -1,13 +1,12 @@
 -- Parts in a row, put together and taken apart.
-use Rattle.std.proofs.Common.{None, ◌≡◌, ◌<◌, ◌+◌, ◌∷◌, [], List, ◌++◌, length, refl, sym, ap, ap₂, ◌∙◌, arith, length-append, append_assoc, append-nil}
+use Rattle.std.proofs.Common.{◌≡◌, ◌<◌, ◌+◌, ◌∷◌, [], List, ◌++◌, length, refl, sym, ap, ap₂, ◌∙◌, arith, length-append, append_assoc, append-nil}
 use Rattle.graphql_lexical.specs.declared.kind.Kind.{Kind}
 use Rattle.graphql_lexical.specs.declared.kind.Kind.TheVariants.{Name}
-use Rattle.graphql_lexical.specs.Cutting.{Lexeme}
+use Rattle.graphql_lexical.specs.Cutting.{Lexeme, last_of}
+use Rattle.graphql_lexical.proofs.Public.{last_next}
 use Rattle.graphql_grammar.specs.Tokens.{Text, word_of, over, span_of}
 use Rattle.graphql_lexical.specs.Parts.{◌·◌}
 use Rattle.graphql_grammar.specs.Grammar.{Token, Is, IsName, Says}
-use Rattle.std.specs.List.{last_or}
-use Rattle.std.specs.Option.{unwrap_or}
 
 -- ---- one token
 
@@ -123,14 +122,6 @@ pub nothing_last : {P : List Lexeme → Type 0} (ts : List Lexeme) → P ts → 
 nothing_last ts h = record { front = ts; back = []; whole = sym (append-nil ts); first = h; second = refl }
 
 -- ---- spans
-
--- the last of one or more tokens
-abbrev pub last_of : Lexeme → List Lexeme → Lexeme
-last_of t ts = unwrap_or (last_or None ts) t
-
-pub last_next : (t u : Lexeme) (us : List Lexeme) → last_of t (u ∷ us) ≡ last_of u us
-last_next t u [] = refl
-last_next t u (v ∷ vs) = last_next t v vs ∙ sym (last_next u v vs)
 
 pub last_joined : (t u : Lexeme) (us vs : List Lexeme) → last_of t (us ++ (u ∷ vs)) ≡ last_of u vs
 last_joined t u [] vs = last_next t u vs

@@ -11,7 +11,7 @@ use Rattle.graphql_lexical.proofs.Public.{goes_on_spaced}
 use Rattle.graphql_grammar.specs.Tokens.{Text, IsSpelled}
 use Rattle.graphql_grammar.specs.Tree.{Scalars}
 use Rattle.graphql_grammar.specs.Grammar.{IsDocument}
-use Rattle.graphql_grammar.specs.Faults.{Begins, AtFault}
+use Rattle.graphql_grammar.specs.device.AlikeFaults.{BeginsAlike, AtFaultAlike}
 use Rattle.graphql_grammar.specs.Texts.{BeginsText}
 use Rattle.graphql_grammar.proofs.EndParts.{NoEnd, end_parts}
 use Rattle.graphql_grammar.proofs.Elements.{all_front}
@@ -73,7 +73,7 @@ spaced (t ∷ ts) h s = by_first s.0 (spaced ts h.1 s.1)
 
 module _ {C F : Type 0} (S : Scalars C F) where
   begins_text : (source : Text) (before : List Lexeme) (next : Lexeme) (after : List Lexeme)
-      → Cut source (before ++ next ∷ after) → Begins IsSpelled (IsDocument S) before → BeginsText S source before
+      → Cut source (before ++ next ∷ after) → BeginsAlike IsSpelled (IsDocument S) before → BeginsText S source before
   begins_text source before next after cut (front, more, tree, alike, document, spelled) =
       let once = end_parts _ (cut_ends source (before ++ next ∷ after) cut) in
       let no_end : NoEnd before = no_end_before before next after once.inner once.end once.whole once.no_end in
@@ -102,12 +102,12 @@ module _ {C F : Type 0} (S : Scalars C F) where
       let d = document_alike S (front ++ more) (before ++ (g.added ++ g.end ∷ [])) tree all_alike document in
       (text.0, g.added ++ g.end ∷ [], d.0, g.cut, d.1)
 
-  text_begins : (source : Text) (ts : List Lexeme) → BeginsText S source ts → Begins IsSpelled (IsDocument S) ts
+  text_begins : (source : Text) (ts : List Lexeme) → BeginsText S source ts → BeginsAlike IsSpelled (IsDocument S) ts
   text_begins source ts (further, after, tree, cut, document) =
       (ts, after, tree, alike_refl ts, document, cut_spelled _ _ cut)
 
   pub fault_in_text : (source : Text) (ts before : List Lexeme) (t : Lexeme) → Cut source ts
-      → AtFault IsSpelled (IsDocument S) ts before t
+      → AtFaultAlike IsSpelled (IsDocument S) ts before t
       → BeginsText S source before × (BeginsText S source (before ++ t ∷ []) → ⊥)
   fault_in_text source ts before t cut h = (
     begins_text source before t h.after (subst (Cut source) h.whole cut) h.begins,

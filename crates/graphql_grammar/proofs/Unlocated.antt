@@ -5,14 +5,14 @@ use Rattle.std.proofs.lemmas.List.{map-append}
 use Rattle.graphql_lexical.specs.declared.kind.Kind.{Kind}
 use Rattle.graphql_lexical.specs.declared.kind.Kind.TheVariants.{Name, ExclamationMark, Dollar, ParenOpen, ParenClose, BracketOpen, BracketClose, CurlyOpen, CurlyClose, Ellipsis, Colon, Equals, At, EndOfFile}
 use Rattle.graphql_lexical.specs.Place.{Span}
-use Rattle.graphql_lexical.specs.Cutting.{Lexeme}
+use Rattle.graphql_lexical.specs.Cutting.{Lexeme, last_of}
 use Rattle.graphql_lexical.specs.laws.Alike.{Alike}
 use Rattle.graphql_grammar.specs.Tokens.{Text, Located, Word, nowhere, span_of}
 use Rattle.graphql_grammar.specs.Tree.{Scalars, Value, Null, Scalar, Enum, Variable, ListOf, Object, Items, no_items, item, ObjectFields, no_fields, object_field, TypeRef, NamedType, ListType, NonNullType, Argument, Arguments, Directive, Directives, VariableDefinition, Variables, Selection, Field, FragmentSpread, InlineFragment, Selections, no_selections, selection, OptionalSelections, absent, present, Definition, Operation, Fragment}
 use Rattle.graphql_lexical.specs.Parts.{◌·◌}
 use Rattle.graphql_grammar.specs.Grammar.{IsLocated, Token, Is, IsVariable, IsValue, AreItems, AreFields, Each, Optional, Several, IsName, Says, Listed, IsType, IsArgument, IsArguments, IsDirective, IsDirectives, IsDefault, IsVariableDefinition, IsVariables, IsAlias, IsTypeCondition, IsFragmentName, IsSelection, IsOptionalSelectionSet, IsSelectionSet, AreSelections, IsDefinition, IsDocument, Over}
 use Rattle.graphql_grammar.specs.Unlocated.{if_some, unlocated_word, unlocated_value, unlocated_items, unlocated_fields, unlocated_argument, unlocated_arguments, unlocated_directive, unlocated_directives, unlocated_variable, unlocated_variables, unlocated_selection, unlocated_selections, unlocated_optional, unlocated_definition, unlocated}
-use Rattle.graphql_grammar.proofs.Sequences.{last_of, last_next}
+use Rattle.graphql_lexical.proofs.Public.{last_next}
 
 -- a token without its span
 abbrev pub bare : Lexeme → Lexeme

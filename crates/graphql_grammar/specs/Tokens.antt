@@ -1,13 +1,12 @@
 -- Tokens, as the grammar sees them.
-use Rattle.std.specs.List.{last_or}
-use Rattle.std.specs.Option.{unwrap_or}
-use Rattle.std.specs.Prelude.{◌≡◌, ◌⊎◌, List, [], ◌∷◌, None}
+use Rattle.std.specs.Prelude.{◌≡◌, ◌⊎◌, []}
 use Rattle.graphql_lexical.specs.declared.kind.Kind.TheVariants.{EndOfFile}
 pub use Rattle.graphql_lexical.specs.Characters.{Text}
-use Rattle.graphql_lexical.specs.Place.{Span, place}
+use Rattle.graphql_lexical.specs.Place.{Span}
 pub use Rattle.graphql_lexical.specs.Place.{nowhere}
 use Rattle.graphql_lexical.specs.Tokens.{Spells}
 use Rattle.graphql_lexical.specs.Cutting.{Lexeme}
+pub use Rattle.graphql_lexical.specs.Cutting.{span_of}
 
 -- what stands from one place to another
 pub record Located (A : Type 0) : Type 0 where
@@ -24,11 +23,6 @@ word_of t = record { item = t.text; span = t.span }
 -- from the start of one token to the end of another
 abbrev pub over : Lexeme → Lexeme → Span
 over first last = record { start = first.span.start; end = last.span.end }
-
--- From the start of the first token to the end of the last. No node of a tree is an empty list of tokens.
-abbrev pub span_of : List Lexeme → Span
-span_of [] = record { start = place [] 0; end = place [] 0 }
-span_of (t ∷ ts) = record { start = t.span.start; end = (unwrap_or (last_or None ts) t).span.end }
 
 -- from the start of one span to the end of another
 abbrev pub from_to : Span → Span → Span

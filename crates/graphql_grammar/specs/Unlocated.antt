@@ -28,7 +28,8 @@ abbrev mutual
 
   pub unlocated_fields : {C : Type 0} → ObjectFields C → ObjectFields C
   unlocated_fields no_fields = no_fields
-  unlocated_fields (object_field name value span fields) = object_field (unlocated_word name) (unlocated_value value) nowhere (unlocated_fields fields)
+  unlocated_fields (object_field name value span fields) =
+      object_field (unlocated_word name) (unlocated_value value) nowhere (unlocated_fields fields)
 
 module _ {C : Type 0} where
   abbrev pub unlocated_argument : Argument C → Argument C
@@ -38,7 +39,8 @@ module _ {C : Type 0} where
   unlocated_arguments = unlocated (map unlocated_argument)
 
   abbrev pub unlocated_directive : Located (Directive C) → Located (Directive C)
-  unlocated_directive = unlocated (λ d. record { name = unlocated_word d.name; arguments = if_some unlocated_arguments d.arguments })
+  unlocated_directive =
+      unlocated (λ d. record { name = unlocated_word d.name; arguments = if_some unlocated_arguments d.arguments })
 
   abbrev pub unlocated_directives : Directives C → Directives C
   unlocated_directives = if_some (map unlocated_directive)
@@ -57,10 +59,13 @@ module _ {C : Type 0} where
   abbrev mutual
     pub unlocated_selection : Selection C → Selection C
     unlocated_selection (Field alias name arguments directives selections span) =
-        Field (if_some unlocated_word alias) (unlocated_word name) (if_some unlocated_arguments arguments) (unlocated_directives directives) (unlocated_optional selections) nowhere
-    unlocated_selection (FragmentSpread name directives span) = FragmentSpread (unlocated_word name) (unlocated_directives directives) nowhere
+        Field (if_some unlocated_word alias) (unlocated_word name) (if_some unlocated_arguments arguments)
+        (unlocated_directives directives) (unlocated_optional selections) nowhere
+    unlocated_selection (FragmentSpread name directives span) =
+        FragmentSpread (unlocated_word name) (unlocated_directives directives) nowhere
     unlocated_selection (InlineFragment condition directives selections span) =
-        InlineFragment (if_some unlocated_word condition) (unlocated_directives directives) (unlocated_selections selections) nowhere
+        InlineFragment (if_some unlocated_word condition) (unlocated_directives directives)
+        (unlocated_selections selections) nowhere
 
     pub unlocated_selections : Selections C → Selections C
     unlocated_selections no_selections = no_selections
@@ -72,9 +77,11 @@ module _ {C : Type 0} where
 
   abbrev pub unlocated_definition : Definition C → Definition C
   unlocated_definition (Operation type name variables directives selections span) =
-      Operation type (if_some unlocated_word name) (if_some unlocated_variables variables) (unlocated_directives directives) (unlocated_selections selections) nowhere
+      Operation type (if_some unlocated_word name) (if_some unlocated_variables variables)
+      (unlocated_directives directives) (unlocated_selections selections) nowhere
   unlocated_definition (Fragment name condition directives selections span) =
-      Fragment (unlocated_word name) (unlocated_word condition) (unlocated_directives directives) (unlocated_selections selections) nowhere
+      Fragment (unlocated_word name) (unlocated_word condition) (unlocated_directives directives)
+      (unlocated_selections selections) nowhere
 
   -- Two documents, or two values, differ in spans alone.
   abbrev pub SameDocument : List (Definition C) → List (Definition C) → Type 0

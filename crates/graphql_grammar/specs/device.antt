@@ -1,3 +1,4 @@
+pub mod AlikeFaults
 pub mod Faults
 pub mod Reading
 pub mod Productions

@@ -8,7 +8,8 @@ ghost use Rattle.graphql_lexical.specs.declared.kind.Kind.{Kind};
 ghost use Rattle.graphql_grammar.specs.Tokens.{Text, IsSpelled};
 ghost use Rattle.graphql_grammar.specs.Tree.{Scalars, Value, TypeRef, Definition};
 ghost use Rattle.graphql_grammar.specs.Grammar.{IsLocated, IsValue, IsType, IsDocument};
-ghost use Rattle.graphql_grammar.specs.Faults.{AtFault, DocumentRefusedAt};
+ghost use Rattle.graphql_grammar.specs.Faults.{Begins, AtFault, DocumentRefusedAt};
+ghost use Rattle.graphql_grammar.specs.device.AlikeFaults.{BeginsAlike};
 ghost use Rattle.graphql_grammar.specs.device.Faults.{DocumentFaultAt, ValueFaultAt, TypeFaultAt};
 ghost use Rattle.graphql_grammar.specs.ScalarTokens.{IsRead, IsReadAlso};
 ghost use Rattle.graphql_grammar.specs.Texts.{BeginsText};
@@ -37,11 +38,17 @@ pub fn value_front<C, F>()
     ensures { (S : Scalars C F) (free : Bool) (us vs : List Lexeme) (v w : Value C) → IsValue S free v us → IsValue S free w (us ++ vs) → vs ≡ [] }
 {}
 
+/// Some tokens begin a document exactly if a document, which a text spells, has a prefix that is alike with them.
+pub fn begun_by_alike_tokens<C, F>()
+    ensures alike { (S : Scalars C F) (ts : List Lexeme) → Begins S ts → BeginsAlike IsSpelled (IsDocument S) ts }
+    ensures begins { (S : Scalars C F) (ts : List Lexeme) → BeginsAlike IsSpelled (IsDocument S) ts → Begins S ts }
+{}
+
 /// Tokens that a text spells, with one end, the last, are a document or are refused at one place, and never both.
 pub fn document_or_fault<C, F>()
     ensures either { (at_end : F) (unexpected : Kind → Text → F) (S : Scalars C F) (ts : List Lexeme) → AllByRecursion IsSpelled ts → EndsOnce ts → ((ds : List (Definition C)) × IsDocument S ds ts) ⊎ ((before : List Lexeme) × (t : Lexeme) × (e : F) × DocumentRefusedAt at_end unexpected S ts before t e) }
-    ensures one { (S : Scalars C F) (ts us vs : List Lexeme) (t u : Lexeme) → AtFault IsSpelled (IsDocument S) ts us t → AtFault IsSpelled (IsDocument S) ts vs u → (us ≡ vs) × (t ≡ u) }
-    ensures never_both { (S : Scalars C F) (ts before : List Lexeme) (ds : List (Definition C)) (t : Lexeme) → AllByRecursion IsSpelled ts → IsDocument S ds ts → AtFault IsSpelled (IsDocument S) ts before t → ⊥ }
+    ensures one { (S : Scalars C F) (ts us vs : List Lexeme) (t u : Lexeme) → AtFault (Begins S) ts us t → AtFault (Begins S) ts vs u → (us ≡ vs) × (t ≡ u) }
+    ensures never_both { (S : Scalars C F) (ts before : List Lexeme) (ds : List (Definition C)) (t : Lexeme) → AllByRecursion IsSpelled ts → IsDocument S ds ts → AtFault (Begins S) ts before t → ⊥ }
 {}
 
 /// A list of tokens is refused at one token, after the same tokens, and with one error.
@@ -51,13 +58,13 @@ pub fn one_refusal<C, F>()
 
 /// The tokens before the refused one can be completed to a document by sample tokens alone.
 pub fn fault_completed<C, F>()
-    ensures { (S : Scalars C F) (ts before : List Lexeme) (t : Lexeme) → AllByRecursion IsSpelled ts → EndsOnce ts → AtFault IsSpelled (IsDocument S) ts before t → (more : List Lexeme) × (ds : List (Definition C)) × AreSamples more × IsDocument S ds (before ++ more) }
+    ensures { (S : Scalars C F) (ts before : List Lexeme) (t : Lexeme) → AllByRecursion IsSpelled ts → EndsOnce ts → AtFault (Begins S) ts before t → (more : List Lexeme) × (ds : List (Definition C)) × AreSamples more × IsDocument S ds (before ++ more) }
 {}
 
 /// The text up to the end of the last token before the refused one, and a space, can be completed to a document's text
 /// whose first tokens are those, with their spans. Up to the end of the refused one it can't.
 pub fn fault_in_characters<C, F>()
-    ensures { (S : Scalars C F) (source : List ℕ) (ts before : List Lexeme) (t : Lexeme) → Cut source ts → AtFault IsSpelled (IsDocument S) ts before t → BeginsText S source before × (BeginsText S source (before ++ t ∷ []) → ⊥) }
+    ensures { (S : Scalars C F) (source : List ℕ) (ts before : List Lexeme) (t : Lexeme) → Cut source ts → AtFault (Begins S) ts before t → BeginsText S source before × (BeginsText S source (before ++ t ∷ []) → ⊥) }
 {}
 
 /// A document closes as many brackets as it opens.

@@ -4,8 +4,8 @@ use Rattle.std.specs.List.{AllZip}
 use Rattle.graphql_lexical.specs.Kinds.{Kind, ExclamationMark, Dollar, ParenOpen, ParenClose, BracketOpen, BracketClose, CurlyOpen, CurlyClose, Ellipsis, Colon, Equals, At, Pipe, EndOfFile, Fixed, spelling, is_fixed, same_kind}
 use Rattle.graphql_lexical.specs.Tokens.{Spells, quotes, written}
 use Rattle.graphql_lexical.specs.device.Whole.{Admits, IsToken, between, text_of}
-use Rattle.graphql_lexical.specs.Reading.{Reads}
-use Rattle.graphql_lexical.specs.Cutting.{Lexeme, CutFrom, Cut}
+use Rattle.graphql_lexical.specs.device.Indexed.{ReadsAt, CutFrom}
+use Rattle.graphql_lexical.specs.Cutting.{Lexeme, Cut}
 use Rattle.graphql_lexical.specs.Canonical.{is_parted, space_if, parting, canonical}
 use Rattle.graphql_lexical.specs.device.Scan.{Broken}
 use Rattle.graphql_lexical.specs.laws.Alike.{Alike}
@@ -17,6 +17,7 @@ use Rattle.graphql_lexical.proofs.Cuts.{cut_computes}
 use Rattle.graphql_lexical.proofs.Writing.{nothing_cut, no_lexeme, lone_lexeme, token_cut, white_cut}
 use Rattle.graphql_lexical.proofs.Wholes.{spells_token, token_spells}
 use Rattle.graphql_lexical.proofs.Readings.{read_end, read_token}
+use Rattle.graphql_lexical.proofs.CutByTexts.{by_places}
 
 -- ---- tokens as they are written
 
@@ -25,7 +26,7 @@ record IsSpelled (kind : Kind) (text : List ℕ) : Type 0 where
   spells : IsToken (written kind text) kind
   text_is : text ≡ text_of kind (written kind text)
 
-read_spelled : (rest : List ℕ) (n : ℕ) (kind : Kind) (text : List ℕ) → Reads rest n kind text → (kind ≡ EndOfFile → ⊥)
+read_spelled : (rest : List ℕ) (n : ℕ) (kind : Kind) (text : List ℕ) → ReadsAt rest n kind text → (kind ≡ EndOfFile → ⊥)
     → IsSpelled kind text
 read_spelled [] n kind text r none = absurd (none (read_end n kind text r).1)
 read_spelled (c ∷ cs) n kind text r none =
@@ -36,7 +37,7 @@ read_spelled (c ∷ cs) n kind text r none =
       text_is = s.1 ∙ ap (text_of kind) front;
     }
 
-pub no_text : (rest : List ℕ) (n : ℕ) (kind : Kind) (text : List ℕ) → Reads rest n kind text → kind ≡ EndOfFile
+pub no_text : (rest : List ℕ) (n : ℕ) (kind : Kind) (text : List ℕ) → ReadsAt rest n kind text → kind ≡ EndOfFile
     → text ≡ []
 no_text [] n kind text r e = (read_end n kind text r).2
 no_text (c ∷ cs) n kind text r e =
@@ -182,7 +183,7 @@ keeps_from source (x ∷ xs) k (n, s, inr (no_end, c)) =
     )
 
 pub keeps_tokens : (source : List ℕ) → KeepsTokens source
-keeps_tokens source xs c = keeps_from source xs 0 c
+keeps_tokens source xs c = keeps_from source xs 0 (by_places source xs c)
 
 -- ---- alike tokens have one canonical text
 

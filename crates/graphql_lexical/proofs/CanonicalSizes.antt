@@ -7,13 +7,15 @@ use Rattle.std.proofs.lemmas.Str.{encodes-append, length-le-encodes}
 use lib.Utf8.{encode}
 use Rattle.graphql_lexical.specs.Place.{Place}
 use Rattle.graphql_lexical.specs.Kinds.{Kind}
-use Rattle.graphql_lexical.specs.Cutting.{Lexeme, Stands, CutFrom, Cut}
+use Rattle.graphql_lexical.specs.Cutting.{Lexeme, Cut}
+use Rattle.graphql_lexical.specs.device.Indexed.{StandsAt, CutFrom}
 use Rattle.graphql_lexical.specs.Canonical.{is_parted, space_if, parting, canonical}
 use Rattle.graphql_lexical.specs.Tokens.{written}
 use Rattle.graphql_lexical.specs.laws.Canonical.{touching, IsHardlyLonger, bytes_of, HasCanonicalSizes, IsShortest}
 use Rattle.graphql_lexical.proofs.Slices.{front_read, place_index}
 use Rattle.graphql_lexical.proofs.Cuts.{stands_size}
 use Rattle.graphql_lexical.proofs.Canonical.{no_text, same_canonical}
+use Rattle.graphql_lexical.proofs.CutByTexts.{by_places}
 
 -- ---- sizes of texts
 
@@ -50,7 +52,7 @@ gapped_within (suc n) = omega arith
 
 -- what is written of a token, and the gap before it, take up the source from where they stand
 stands_weigh : (size : List ℕ → ℕ) → IsSize size → (source : List ℕ) (k : ℕ) (x : Lexeme) (n : ℕ)
-    → (s : Stands source k x n)
+    → (s : StandsAt source k x n)
     → gapped s.gap + (size (written x.kind x.text) + size (drop n source)) ≤ size (drop k source)
 stands_weigh size m source k x n s =
     let rest : List ℕ = drop k source in
@@ -117,8 +119,8 @@ weighs_from size m source x (y ∷ ys) k l (n, s, inr (no_end, c)) =
 
 by_spaces : (size : List ℕ → ℕ) → IsSize size → (source : List ℕ) (xs : List Lexeme) → Cut source xs
     → size (canonical xs) ≤ size source + touching xs
-by_spaces size m source [] c = absurd c
-by_spaces size m source (x ∷ xs) c = let w = weighs_from size m source x xs 0 zero-le c in omega (arith, w)
+by_spaces size m source [] c = absurd (by_places source [] c)
+by_spaces size m source (x ∷ xs) c = let w = weighs_from size m source x xs 0 zero-le (by_places source (x ∷ xs) c) in omega (arith, w)
 
 -- ---- few neighbours touch
 
@@ -138,7 +140,7 @@ touching_from source x (y ∷ ys) k l (n, s, inr (no_end, c)) =
 
 touching_within : (source : List ℕ) (xs : List Lexeme) → Cut source xs → touching xs ≤ length source
 touching_within source [] c = omega arith
-touching_within source (x ∷ xs) c = let t = touching_from source x xs 0 zero-le c in omega (arith, t)
+touching_within source (x ∷ xs) c = let t = touching_from source x xs 0 zero-le (by_places source (x ∷ xs) c) in omega (arith, t)
 
 -- ---- the laws
 

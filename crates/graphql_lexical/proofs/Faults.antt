@@ -7,7 +7,7 @@ use Rattle.std.specs.Prelude.{option_map}
 use Rattle.graphql_lexical.specs.Characters.{is_digit, is_line_end, is_source, is_plain, is_escape}
 use Rattle.graphql_lexical.specs.Kinds.{Kind, Name, String, Float, Int, Ellipsis, LexicalError, UnknownCharacter, UnexpectedCharacter, UnterminatedString, UnknownCharacterInString, UnknownEscapeSequence, UnexpectedEndOfFile, BlockString}
 use Rattle.graphql_lexical.specs.Tokens.{IsZero, IsNumber, Pieces, IsUnit, mark}
-use Rattle.graphql_lexical.specs.Reading.{StringFails, at_end, at_line_end, at_control, lone_backslash, wrong_escape, Fails, number_ends, number_stops, zero_goes_on, string_fails, dots_end, dots_stop, unknown, block_ends, block_stops}
+use Rattle.graphql_lexical.specs.device.Indexed.{StringFailsAt, at_end, at_line_end, at_control, lone_backslash, wrong_escape, FailsAt, number_ends, number_stops, zero_goes_on, string_fails, dots_end, dots_stop, unknown, block_ends, block_stops}
 use Rattle.graphql_lexical.specs.device.Machines.{reach}
 use Rattle.graphql_lexical.specs.device.Scan.{State, Start, Done, OneDot, TwoDots, InName, Minus, Zero, Digits, Point, Fraction, ExponentMark, ExponentSign, Exponent, InString, Backslash, NoHexDigit, OneHexDigit, HexDigitD, TwoHexDigits, ThreeHexDigits, step, Missed, found, missed, stopped, after_zero, after_dots, after_units, after_backslash, after_u, answer, scan, Quote, EmptyString, InBlock, Block, Inside, Closed, block_step, after_block}
 use Rattle.graphql_lexical.proofs.Runs.{Stops, run}
@@ -20,9 +20,9 @@ use Rattle.graphql_lexical.proofs.NumberFronts.{BeginsNumber, begins_some, begin
 use Rattle.graphql_lexical.proofs.Escapes.{same_Err, u_fails}
 
 abbrev pub FailsAs : List ℕ → Missed → Type 0
-FailsAs rest m = Fails rest m.at m.error
+FailsAs rest m = FailsAt rest m.at m.error
 
-pub missed_as : (rest : List ℕ) (n : ℕ) (e : LexicalError) (m : Missed) → missed n e ≡ Err m → Fails rest n e
+pub missed_as : (rest : List ℕ) (n : ℕ) (e : LexicalError) (m : Missed) → missed n e ≡ Err m → FailsAt rest n e
     → FailsAs rest m
 missed_as rest n e m h f = subst (FailsAs rest) (same_Err (record { at = n; error = e }) m h) f
 
@@ -80,24 +80,24 @@ opened tail n rest l h = record {
   made = h.made;
 }
 
-string_from : (units after : List ℕ) (m : ℕ) (e : LexicalError) → Pieces IsUnit units → NoUnit after → StringFails after m e
-    → Fails (34 ∷ (units ++ after)) (suc (length units) + m) e
+string_from : (units after : List ℕ) (m : ℕ) (e : LexicalError) → Pieces IsUnit units → NoUnit after → StringFailsAt after m e
+    → FailsAt (34 ∷ (units ++ after)) (suc (length units) + m) e
 string_from units after m e made none f =
     let k = length units in
     let t : take k (units ++ after) ≡ units = take_at units after k refl in
     let d : drop k (units ++ after) ≡ after = drop_at units after k refl in
     string_fails (units_longest (units ++ after) k (omega (arith, length-append units after))
-    (subst (Pieces IsUnit) (sym t) made) (subst NoUnit (sym d) none)) (subst (λ (x : List ℕ). StringFails x m e) (sym d) f)
+    (subst (Pieces IsUnit) (sym t) made) (subst NoUnit (sym d) none)) (subst (λ (x : List ℕ). StringFailsAt x m e) (sym d) f)
 
 string_missed : (tail : List ℕ) (n : ℕ) (rest : List ℕ) (q : State) (m : ℕ) (e : LexicalError) → Reached rest n q
-    → IsOpen tail (take n rest) → NoUnit (tail ++ drop n rest) → StringFails (tail ++ drop n rest) m e → (at : ℕ)
-    → at + length tail ≡ n + m → Fails rest at e
+    → IsOpen tail (take n rest) → NoUnit (tail ++ drop n rest) → StringFailsAt (tail ++ drop n rest) m e → (at : ℕ)
+    → at + length tail ≡ n + m → FailsAt rest at e
 string_missed tail n rest q m e h o none f at same =
     let p = opened tail n rest h.within o in
     let s = string_from p.units (tail ++ drop n rest) m e p.made none f in
     let place : suc (length p.units) + m ≡ at = omega (arith, p.size) in
-    subst (λ (x : List ℕ). Fails x at e) (sym p.rest_is)
-    (subst (λ (k : ℕ). Fails (34 ∷ (p.units ++ (tail ++ drop n rest))) k e) place s)
+    subst (λ (x : List ℕ). FailsAt x at e) (sym p.rest_is)
+    (subst (λ (k : ℕ). FailsAt (34 ∷ (p.units ++ (tail ++ drop n rest))) k e) place s)
 
 -- what stops a unit
 control_bools : (s l q b : Bool) → ((s && not l) && (not q && not b)) ≡ false → l ≡ false → q ≡ false → b ≡ false
@@ -114,15 +114,15 @@ control_is c s l =
 
 units_cond : (n c : ℕ) (after : List ℕ) (m : Missed) (b : Bool) → is_line_end c ≡ b → step InString c ≡ None
     → cond b (missed n UnterminatedString) (missed n (UnknownCharacterInString c)) ≡ Err m
-    → (m.at ≡ n) × StringFails (c ∷ after) 0 m.error
-units_cond n c after m true l s e = subst (λ (x : Missed). (x.at ≡ n) × StringFails (c ∷ after) 0 x.error)
+    → (m.at ≡ n) × StringFailsAt (c ∷ after) 0 m.error
+units_cond n c after m true l s e = subst (λ (x : Missed). (x.at ≡ n) × StringFailsAt (c ∷ after) 0 x.error)
     (same_Err (record { at = n; error = UnterminatedString }) m e) (refl, at_line_end l)
-units_cond n c after m false l s e = subst (λ (x : Missed). (x.at ≡ n) × StringFails (c ∷ after) 0 x.error)
+units_cond n c after m false l s e = subst (λ (x : Missed). (x.at ≡ n) × StringFailsAt (c ∷ after) 0 x.error)
     (same_Err (record { at = n; error = UnknownCharacterInString c }) m e) (refl, at_control (control_is c s l))
 
 units_fails : (n : ℕ) (b : List ℕ) (m : Missed) → Stops step InString b → after_units n b ≡ Err m
-    → (m.at ≡ n) × StringFails b 0 m.error
-units_fails n [] m s e = subst (λ (x : Missed). (x.at ≡ n) × StringFails [] 0 x.error)
+    → (m.at ≡ n) × StringFailsAt b 0 m.error
+units_fails n [] m s e = subst (λ (x : Missed). (x.at ≡ n) × StringFailsAt [] 0 x.error)
     (same_Err (record { at = n; error = UnterminatedString }) m e) (refl, at_end)
 units_fails n (c ∷ after) m s e = units_cond n c after m (is_line_end c) refl s e
 
@@ -136,13 +136,13 @@ quote_stop (c ∷ after) s =
     cond-false (is_plain c) _ _ a.0 ∙ (cond-false (eqb c 34) _ _ b.0 ∙ cond-false (eqb c 92) _ _ d.0)
 
 backslash_fails : (n : ℕ) (b : List ℕ) (m : Missed) → Stops step Backslash b → after_backslash n b ≡ Err m
-    → (m.at ≡ n) × StringFails (92 ∷ b) 1 m.error
-backslash_fails n [] m s e = subst (λ (x : Missed). (x.at ≡ n) × StringFails (92 ∷ []) 1 x.error)
+    → (m.at ≡ n) × StringFailsAt (92 ∷ b) 1 m.error
+backslash_fails n [] m s e = subst (λ (x : Missed). (x.at ≡ n) × StringFailsAt (92 ∷ []) 1 x.error)
     (same_Err (record { at = n; error = UnterminatedString }) m e) (refl, lone_backslash)
 backslash_fails n (c ∷ after) m s e =
     let a = cond_none (is_escape c) InString _ s in
     let b = cond_none (eqb c 117) NoHexDigit None a.1 in
-    subst (λ (x : Missed). (x.at ≡ n) × StringFails (92 ∷ c ∷ after) 1 x.error)
+    subst (λ (x : Missed). (x.at ≡ n) × StringFailsAt (92 ∷ c ∷ after) 1 x.error)
     (same_Err (record { at = n; error = UnknownEscapeSequence (92 ∷ c ∷ []) }) m e)
     (refl, wrong_escape a.0 (eqb-false c 117 b.0))
 
@@ -175,7 +175,7 @@ block_from : (q : Block) (s b : List ℕ) (m : Missed) → (q ≡ Closed → ⊥
     → Stops step (InBlock q) b → after_block (3 + length s) b ≡ Err m → FailsAs (mark ++ (s ++ b)) m
 block_from q s [] m n r h e =
     missed_as (mark ++ (s ++ [])) (3 + length s) UnterminatedString m e
-    (subst (λ (x : List ℕ). Fails (mark ++ x) (3 + length s) UnterminatedString) (sym (append-nil s))
+    (subst (λ (x : List ℕ). FailsAt (mark ++ x) (3 + length s) UnterminatedString) (sym (append-nil s))
     (block_ends (block_open q s [] n r tt)))
 block_from q s (c ∷ b) m n r h e =
     let t = stops_at q c n (map_none (block_step q c) h) in
@@ -287,7 +287,7 @@ answer_missed ThreeHexDigits n rest m h r e =
 answer_missed (InBlock Closed) n rest m h r e = absurd (not_missed n BlockString rest m e)
 answer_missed (InBlock part) n rest m h r e = block_missed part n rest m (λ x. absurd cc) h r e
 
-pub scan_fails : (rest : List ℕ) (m : Missed) → scan rest ≡ Err m → Fails rest m.at m.error
+pub scan_fails : (rest : List ℕ) (m : Missed) → scan rest ≡ Err m → FailsAt rest m.at m.error
 scan_fails rest m e =
     let r = reach step Start rest in
     answer_missed r.1 r.0 rest m (reached rest) (front_read rest r.0 r.1 (reached rest)) e

@@ -6,7 +6,7 @@ use Rattle.graphql_lexical.specs.Characters.{is_digit, is_line_end}
 use Rattle.graphql_lexical.specs.Kinds.{Kind, Name, String, BlockString, Float, Int, EndOfFile, LexicalError, UnexpectedCharacter, UnterminatedString, UnknownCharacterInString, UnknownEscapeSequence}
 use Rattle.graphql_lexical.specs.Tokens.{Spells, Starts, IsZero}
 use Rattle.graphql_lexical.specs.device.Whole.{IsToken, text_of}
-use Rattle.graphql_lexical.specs.Reading.{counted, Longest, Reads}
+use Rattle.graphql_lexical.specs.device.Indexed.{counted, LongestAt, ReadsAt}
 use Rattle.graphql_lexical.specs.device.Machines.{reach}
 use Rattle.graphql_lexical.specs.device.Scan.{State, Start, Done, OneDot, TwoDots, InName, Minus, Zero, Digits, Point, Fraction, ExponentMark, ExponentSign, Exponent, InString, Backslash, NoHexDigit, OneHexDigit, HexDigitD, TwoHexDigits, ThreeHexDigits, step, Found, Missed, found, missed, stopped, after_zero, after_dots, after_units, after_backslash, after_u, answer, scan, Quote, EmptyString, InBlock, Closed, after_block}
 use Rattle.graphql_lexical.proofs.Runs.{Reaches, reach_is, Longest_same}
@@ -21,7 +21,7 @@ pub reached : (rest : List ℕ) → Reached rest (reach step Start rest).0 (reac
 reached rest = reach_is step Start rest
 
 -- the longest front that begins a token is how far the steps go
-pub starts_longest : (rest : List ℕ) (n : ℕ) (q : State) → Reached rest n q → Longest Starts rest n
+pub starts_longest : (rest : List ℕ) (n : ℕ) (q : State) → Reached rest n q → LongestAt Starts rest n
 starts_longest rest n q h = record {
   within = h.within;
   holds = starts_from (take n rest) q h.runs;
@@ -165,9 +165,9 @@ some_read rest zero q kind h a = let e = same_Some Start q h.runs in absurd (non
 some_read rest (suc n) q kind h a = omega arith
 
 finds_reads : (rest : List ℕ) (n : ℕ) (q : State) (f : Found) → Reached rest n q → Finds q n rest f
-    → Reads rest f.size f.kind f.text
+    → ReadsAt rest f.size f.kind f.text
 finds_reads rest n q f h g =
-    subst (λ (k : ℕ). Reads rest k f.kind f.text) g.size_is (record {
+    subst (λ (k : ℕ). ReadsAt rest k f.kind f.text) g.size_is (record {
       longest = starts_longest rest n q h;
       spells =
           inl (token_spells (take n rest) f.kind f.text
@@ -175,7 +175,7 @@ finds_reads rest n q f h g =
       alone = λ z. g.alone (zero_state (take n rest) q h.runs z);
     })
 
-pub end_reads : Reads [] 0 EndOfFile []
+pub end_reads : ReadsAt [] 0 EndOfFile []
 end_reads = record {
   longest = let r = reach step Start [] in starts_longest [] r.0 r.1 (reached []);
   spells = inr (refl, refl, refl);
@@ -191,7 +191,7 @@ no_empty kind s = let r = spells_run [] kind s in start_no_token r.state kind r.
     start_no_token _ kind g a = absurd cc
 
 -- where nothing is left, the end is read
-pub read_end : (n : ℕ) (kind : Kind) (text : List ℕ) → Reads [] n kind text
+pub read_end : (n : ℕ) (kind : Kind) (text : List ℕ) → ReadsAt [] n kind text
     → (n ≡ 0) × (kind ≡ EndOfFile) × (text ≡ [])
 read_end zero kind text r = elim r.spells [
   | inl s ↦ absurd (no_empty kind (spells_token [] kind text s).0)
@@ -200,7 +200,7 @@ read_end zero kind text r = elim r.spells [
 read_end (suc n) kind text r = absurd (omega (arith, r.longest.within))
 
 -- where something is left, a token is read, which isn't empty
-pub read_token : (c : ℕ) (cs : List ℕ) (n : ℕ) (kind : Kind) (text : List ℕ) → Reads (c ∷ cs) n kind text
+pub read_token : (c : ℕ) (cs : List ℕ) (n : ℕ) (kind : Kind) (text : List ℕ) → ReadsAt (c ∷ cs) n kind text
     → (0 < n) × Spells (take n (c ∷ cs)) kind text
 read_token c cs n kind text r = elim r.spells [
   | inl s ↦ (some n s, s)
@@ -211,15 +211,15 @@ read_token c cs n kind text r = elim r.spells [
     some zero s = absurd (no_empty kind (spells_token [] kind text s).0)
     some (suc n) s = omega arith
 
-pub scan_reads : (rest : List ℕ) (f : Found) → scan rest ≡ Ok f → Reads rest f.size f.kind f.text
+pub scan_reads : (rest : List ℕ) (f : Found) → scan rest ≡ Ok f → ReadsAt rest f.size f.kind f.text
 scan_reads [] f e =
-    subst (λ (x : Found). Reads [] x.size x.kind x.text)
+    subst (λ (x : Found). ReadsAt [] x.size x.kind x.text)
     (same_Ok (record { size = 0; kind = EndOfFile; text = [] }) f e) end_reads
 scan_reads (c ∷ cs) f e =
     let r = reach step Start (c ∷ cs) in
     finds_reads (c ∷ cs) r.0 r.1 f (reached (c ∷ cs)) (answer_finds r.1 r.0 c cs f e)
 
-reads_answer : (rest : List ℕ) (m n : ℕ) (q : State) (kind : Kind) (text : List ℕ) → Reads rest n kind text
+reads_answer : (rest : List ℕ) (m n : ℕ) (q : State) (kind : Kind) (text : List ℕ) → ReadsAt rest n kind text
     → Spells (take n rest) kind text → Reached rest m q → answer q m rest ≡ Ok (record { size = n; kind = kind; text = text })
 reads_answer rest m n q kind text r spells h =
     let same : n ≡ m = Longest_same Starts rest n m r.longest (starts_longest rest m q h) in
@@ -231,7 +231,7 @@ reads_answer rest m n q kind text r spells h =
     (subst (λ (x : State). IsRead x (take m rest)) z (front_read rest m q h)) in
     accepts_answer q m rest kind a alone ∙ rw (s.1, ← same)
 
-pub reads_scan : (rest : List ℕ) (n : ℕ) (kind : Kind) (text : List ℕ) → Reads rest n kind text
+pub reads_scan : (rest : List ℕ) (n : ℕ) (kind : Kind) (text : List ℕ) → ReadsAt rest n kind text
     → scan rest ≡ Ok (record { size = n; kind = kind; text = text })
 reads_scan [] n kind text r = let e = read_end n kind text r in rw (e.0, e.1, e.2)
 reads_scan (c ∷ cs) n kind text r =

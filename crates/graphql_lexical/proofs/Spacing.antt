@@ -1,10 +1,10 @@
 -- Behind a front of a source tokens go on after a space.
-use Rattle.std.proofs.Common.{codes, ◌≡◌, ℕ, ◌≤◌, inl, inr, List, [], ◌∷◌, ◌++◌, length, take, Some, refl, sym, ap, ◌∙◌, subst, append_assoc, zero-le, le_refl}
-use Rattle.std.specs.List.{last_or, AllZip}
-use Rattle.std.specs.Option.{option_map_or}
+use Rattle.std.proofs.Common.{codes, ◌≡◌, ℕ, ◌≤◌, inl, inr, List, [], ◌∷◌, ◌++◌, length, take, refl, sym, ap, ◌∙◌, subst, append_assoc, zero-le, le_refl}
+use Rattle.std.specs.List.{AllZip}
 use Rattle.std.proofs.lemmas.List.{take_all}
 use Rattle.graphql_lexical.specs.Place.{Place, place}
-use Rattle.graphql_lexical.specs.Cutting.{Lexeme, Leads, Cut}
+use Rattle.graphql_lexical.specs.Cutting.{Lexeme, last_of, Cut}
+use Rattle.graphql_lexical.specs.device.Indexed.{LeadsAt}
 use Rattle.graphql_lexical.specs.laws.Alike.{Alike}
 use Rattle.graphql_lexical.specs.laws.Joining.{BeginsApart, IsSeam}
 use Rattle.graphql_lexical.specs.laws.Written.{Bare, AreOf, IsCutInto}
@@ -15,6 +15,7 @@ use Rattle.graphql_lexical.proofs.Joints.{after_front, front_joins, few_tokens}
 use Rattle.graphql_lexical.proofs.Writing.{alike_front, writes_token, writes_white, writes_nothing}
 use Rattle.graphql_lexical.proofs.Fronts.{leads_shorter}
 use Rattle.graphql_lexical.proofs.Places.{place_after}
+use Rattle.graphql_lexical.proofs.CutByTexts.{by_places}
 
 -- ---- a space
 
@@ -46,20 +47,24 @@ spaced_cut text (x ∷ xs) (whole, rest, e, spells, more) =
 
 -- ---- tokens of a source before others
 
-last_is : (source : List ℕ) (x : Lexeme) (xs : List Lexeme) (k n : ℕ) → k ≤ length source → Leads source k (x ∷ xs) n
-    → option_map_or (λ (y : Lexeme). y.span.end.index) (last_or (Some x) xs) 0 ≡ n
+pub last_next : (t u : Lexeme) (us : List Lexeme) → last_of t (u ∷ us) ≡ last_of u us
+last_next t u [] = refl
+last_next t u (v ∷ vs) = last_next t v vs ∙ sym (last_next u v vs)
+
+last_is : (source : List ℕ) (x : Lexeme) (xs : List Lexeme) (k n : ℕ) → k ≤ length source → LeadsAt source k (x ∷ xs) n
+    → (last_of x xs).span.end.index ≡ n
 last_is source x [] k n l h =
     let s = stands_size source k x h.0 l h.1 h.2 in
     ap (λ (p : Place). p.index) h.1.end ∙ (place_index source h.0 s.1 ∙ h.3)
 last_is source x (y ∷ ys) k n l h =
     let s = stands_size source k x h.0 l h.1 h.2 in
-    last_is source y ys h.0 n s.1 h.3
+    ap (λ (t : Lexeme). t.span.end.index) (last_next x y ys) ∙ last_is source y ys h.0 n s.1 h.3
 
-front_is : (source : List ℕ) (front : List Lexeme) (n : ℕ) → Leads source 0 front n → up_to source front ≡ take n source
+front_is : (source : List ℕ) (front : List Lexeme) (n : ℕ) → LeadsAt source 0 front n → up_to source front ≡ take n source
 front_is source [] n h = ap (λ (i : ℕ). take i source) h
 front_is source (x ∷ xs) n h = ap (λ (i : ℕ). take i source) (last_is source x xs 0 n zero-le h)
 
-last_ends : (source : List ℕ) (x : Lexeme) (xs : List Lexeme) (k n : ℕ) → Leads source k (x ∷ xs) n
+last_ends : (source : List ℕ) (x : Lexeme) (xs : List Lexeme) (k n : ℕ) → LeadsAt source k (x ∷ xs) n
     → (some : List Lexeme) × (y : Lexeme) × (x ∷ xs ≡ some ++ y ∷ []) × (y.span.end ≡ place source n)
 last_ends source x [] k n h = ([], x, refl, h.1.end ∙ ap (place source) h.3)
 last_ends source x (y ∷ ys) k n h =
@@ -70,7 +75,7 @@ last_ends source x (y ∷ ys) k n h =
 whole_place : (a : List ℕ) → place_after a ≡ place a (length a)
 whole_place a = ap place_after (sym (take_all (length a) a (le_refl (length a))))
 
-space_is_seam : (source : List ℕ) (front : List Lexeme) (n : ℕ) (text : List ℕ) → Leads source 0 front n
+space_is_seam : (source : List ℕ) (front : List Lexeme) (n : ℕ) (text : List ℕ) → LeadsAt source 0 front n
     → IsSeam (take n source) front (codes " " ++ text)
 space_is_seam source [] n text h = inl (ap (λ (i : ℕ). take i source) (sym h))
 space_is_seam source (x ∷ xs) n text h =
@@ -79,7 +84,7 @@ space_is_seam source (x ∷ xs) n text h =
 
 -- ---- the law
 
-goes_on : (source : List ℕ) (front others : List Lexeme) (n : ℕ) (text : List ℕ) → Leads source 0 front n
+goes_on : (source : List ℕ) (front others : List Lexeme) (n : ℕ) (text : List ℕ) → LeadsAt source 0 front n
     → IsSpaced text others → GoesOn (take n source ++ (codes " " ++ text)) front others
 goes_on source front others n text h spaced =
     let a : List ℕ = take n source in
@@ -103,6 +108,6 @@ goes_on source front others n text h spaced =
 
 pub goes_on_spaced : (source : List ℕ) → GoesOnSpaced source
 goes_on_spaced source front next after others text cut spaced =
-    let f = cut_front source front next after 0 cut in
+    let f = cut_front source front next after 0 (by_places source (front ++ next ∷ after) cut) in
     subst (λ (t : List ℕ). GoesOn (t ++ (codes " " ++ text)) front others) (sym (front_is source front f.0 f.1))
     (goes_on source front others f.0 text f.1 spaced)

@@ -8,7 +8,7 @@ use Rattle.std.specs.Prelude.{option_map}
 use Rattle.graphql_lexical.specs.Characters.{is_digit, is_line_end, is_source, is_plain, is_escape}
 use Rattle.graphql_lexical.specs.Kinds.{Kind, Name, Float, Int, LexicalError, UnexpectedCharacter, UnterminatedString, UnknownEscapeSequence, String}
 use Rattle.graphql_lexical.specs.Tokens.{Starts, IsZero, IsNumber, StartsNumber, Pieces, IsUnit, mark}
-use Rattle.graphql_lexical.specs.Reading.{Longest, counted, StringFails, at_end, at_line_end, at_control, lone_backslash, wrong_escape, short_unicode, wrong_unicode, no_unicode, Fails, number_ends, number_stops, zero_goes_on, string_fails, dots_end, dots_stop, unknown, block_ends, block_stops}
+use Rattle.graphql_lexical.specs.device.Indexed.{LongestAt, counted, StringFailsAt, at_end, at_line_end, at_control, lone_backslash, wrong_escape, short_unicode, wrong_unicode, no_unicode, FailsAt, number_ends, number_stops, zero_goes_on, string_fails, dots_end, dots_stop, unknown, block_ends, block_stops}
 use Rattle.graphql_lexical.specs.device.Machines.{reach, onward}
 use Rattle.graphql_lexical.specs.device.Scan.{State, Start, Done, OneDot, TwoDots, InName, Minus, Zero, Digits, Point, Fraction, ExponentMark, ExponentSign, Exponent, InString, Backslash, NoHexDigit, OneHexDigit, HexDigitD, TwoHexDigits, ThreeHexDigits, step, Found, Missed, missed, stopped, after_zero, after_units, after_backslash, after_u, answer, scan, Quote, EmptyString, InBlock, Block, Closed, after_block}
 use Rattle.graphql_lexical.proofs.Runs.{reach_on, Longest_same, Stops}
@@ -58,7 +58,7 @@ accepts_not None n = refl
 accepts_not (Some k) n = absurd (n k refl)
 
 -- the steps end where the longest front that begins a number does
-number_reached : (rest : List ℕ) (n m : ℕ) (q : State) → Reached rest m q → 0 < n → Longest StartsNumber rest n
+number_reached : (rest : List ℕ) (n m : ℕ) (q : State) → Reached rest m q → 0 < n → LongestAt StartsNumber rest n
     → BeginsNumber (take m rest) × (m ≡ n)
 number_reached rest n m q h b l =
     let s = starts_longest rest m q h in
@@ -66,7 +66,7 @@ number_reached rest n m q h b l =
     (front, Longest_same StartsNumber rest m n (longest_number rest m front s) l)
 
 number_stopped : (rest : List ℕ) (n m : ℕ) (q : State) → Reached rest m q → 0 < n
-    → Longest StartsNumber rest n → (IsNumber (take n rest) → ⊥) → answer q m rest ≡ stopped n (drop n rest)
+    → LongestAt StartsNumber rest n → (IsNumber (take n rest) → ⊥) → answer q m rest ≡ stopped n (drop n rest)
 number_stopped rest n m q h b l none =
     let (front, same) = number_reached rest n m q h b l in
     let r = front_read rest m q h in
@@ -76,7 +76,7 @@ number_stopped rest n m q h b l none =
     number_answer q m rest r front a ∙ ap (λ (x : ℕ). stopped x (drop x rest)) same
 
 zero_stopped : (rest : List ℕ) (n m c : ℕ) (after : List ℕ) (q : State) → Reached rest m q
-    → Longest StartsNumber rest n → IsZero (take n rest) → drop n rest ≡ c ∷ after → IsTrue (is_digit c)
+    → LongestAt StartsNumber rest n → IsZero (take n rest) → drop n rest ≡ c ∷ after → IsTrue (is_digit c)
     → answer q m rest ≡ missed n (UnexpectedCharacter c)
 zero_stopped rest n m c after q h l z d x =
     let same = (number_reached rest n m q h (begins_some n rest (zero_begins (take n rest) z)) l).1 in
@@ -148,7 +148,7 @@ one_more : (p : ℕ) → suc p ≡ p + 1
 one_more p = omega arith
 
 string_answer : (front after : List ℕ) (m : ℕ) (error : LexicalError) (p : ℕ) → length front ≡ p → NoUnit after
-    → StringFails after m error → AnswerAfter front after p (reach step InString after) ≡ missed (p + m) error
+    → StringFailsAt after m error → AnswerAfter front after p (reach step InString after) ≡ missed (p + m) error
 string_answer front _ _ _ p e none at_end = units_answer front [] p e
 string_answer front _ _ _ p e none (at_line_end {c} {after} h) =
     ap (AnswerAfter front (c ∷ after) p) (stop_reach InString c after (line_end_stops c h))
@@ -175,7 +175,7 @@ string_answer front _ _ _ p e none (no_unicode {c} {after} z) =
 
 -- after a quote alone the answer is that after a quote and units
 quote_answer : (front after : List ℕ) (m : ℕ) (error : LexicalError) (p : ℕ) (q : State) → IsStringState q
-    → StringFails after m error → AnswerAfter front after p (reach step q after)
+    → StringFailsAt after m error → AnswerAfter front after p (reach step q after)
     ≡ AnswerAfter front after p (reach step InString after)
 quote_answer front after m error p q (inr e) f = ap (λ (x : State). AnswerAfter front after p (reach step x after)) e
 quote_answer front after m error p q (inl e) f =
@@ -187,7 +187,7 @@ quote_answer front after m error p q (inl e) f =
     both_stop c after a b = ap (AnswerAfter front (c ∷ after) p) (stop_reach Quote c after a)
         ∙ sym (ap (AnswerAfter front (c ∷ after) p) (stop_reach InString c after b))
 
-    same : (after : List ℕ) (m : ℕ) (error : LexicalError) → StringFails after m error
+    same : (after : List ℕ) (m : ℕ) (error : LexicalError) → StringFailsAt after m error
         → AnswerAfter front after p (reach step Quote after) ≡ AnswerAfter front after p (reach step InString after)
     same _ _ _ at_end = refl
     same _ _ _ (at_line_end {c} {after} h) = both_stop c after (line_end_quote c h) (line_end_stops c h)
@@ -198,8 +198,8 @@ quote_answer front after m error p q (inl e) f =
     same _ _ _ (wrong_unicode {after} l s) = refl
     same _ _ _ (no_unicode {c} {after} z) = refl
 
-string_scan : (more : List ℕ) (k m : ℕ) (error : LexicalError) → Longest (Pieces IsUnit) more k
-    → StringFails (drop k more) m error → scan (34 ∷ more) ≡ missed (suc k + m) error
+string_scan : (more : List ℕ) (k m : ℕ) (error : LexicalError) → LongestAt (Pieces IsUnit) more k
+    → StringFailsAt (drop k more) m error → scan (34 ∷ more) ≡ missed (suc k + m) error
 string_scan more k m error l f =
     let front : List ℕ = 34 ∷ take k more in
     let after : List ℕ = drop k more in
@@ -259,7 +259,7 @@ two_dots c after n =
     ap (λ (r : ℕ × State). answer r.1 (suc (suc r.0)) (46 ∷ 46 ∷ c ∷ after))
     (stop_reach TwoDots c after (cond-false (eqb c 46) _ _ (ne_eqb c 46 n)))
 
-pub fails_scan : (rest : List ℕ) (n : ℕ) (error : LexicalError) → Fails rest n error → scan rest ≡ missed n error
+pub fails_scan : (rest : List ℕ) (n : ℕ) (error : LexicalError) → FailsAt rest n error → scan rest ≡ missed n error
 fails_scan _ _ _ (number_ends {rest} {n} b l none d) =
     let r = reach step Start rest in
     number_stopped rest n r.0 r.1 (reached rest) b l none ∙ ap (stopped n) d

@@ -1,9 +1,9 @@
 -- How a token is spelled, with its text and without.
 use Rattle.std.proofs.Common.{◌≡◌, ℕ, suc, ◌+◌, ◌-◌, ◌*◌, List, [], ◌∷◌, ◌++◌, length, take, sym, ap, ap₂, subst, ◌∙◌, refl, arith, length-append, codes}
 use Rattle.std.proofs.Math.Seq.{take-append_seam, drop-append_seam}
-use Rattle.graphql_lexical.specs.Kinds.{Kind, Spelling, Names, Strings, BlockStrings, Floats, Ints, Fixed, NoText, spelling}
-use Rattle.graphql_lexical.specs.Tokens.{Pieces, IsUnit, AreBlockUnits, mark, quotes, around, SpelledAs, Spells, Starts}
-use Rattle.graphql_lexical.specs.device.Whole.{Admits, IsToken, between, text_of}
+use Rattle.graphql_lexical.specs.Kinds.{Kind, EndOfFile, Spelling, Names, Strings, BlockStrings, Floats, Ints, Fixed, NoText, spelling}
+use Rattle.graphql_lexical.specs.Tokens.{Pieces, IsUnit, AreBlockUnits, mark, quotes, around, Spells, Starts}
+use Rattle.graphql_lexical.specs.device.Whole.{SpelledAs, Admits, IsToken, between, text_of}
 
 -- a text between quotes without its quotes
 pub unquoted : (q : ℕ) (qs text : List ℕ) → between (q ∷ qs) (around (q ∷ qs) text) ≡ text
@@ -45,13 +45,22 @@ spelled_as Ints whole text h e = (h, e)
 spelled_as (Fixed fixed) whole text h e = (h, e)
 spelled_as NoText whole text h e = absurd h
 
+-- a token of a kind is spelled as the kind's tokens are
+by_spelling : (whole : List ℕ) (kind : Kind) (text : List ℕ) → Spells whole kind text → SpelledAs (spelling kind) whole text
+by_spelling whole EndOfFile text h = absurd h
+by_spelling whole kind text h = h
+
+pub by_kind : (whole : List ℕ) (kind : Kind) (text : List ℕ) → SpelledAs (spelling kind) whole text → Spells whole kind text
+by_kind whole EndOfFile text h = absurd h
+by_kind whole kind text h = h
+
 pub spells_token : (whole : List ℕ) (kind : Kind) (text : List ℕ) → Spells whole kind text
     → IsToken whole kind × (text ≡ text_of kind whole)
-spells_token whole kind text h = admits (spelling kind) whole text h
+spells_token whole kind text h = admits (spelling kind) whole text (by_spelling whole kind text h)
 
 pub token_spells : (whole : List ℕ) (kind : Kind) (text : List ℕ) → IsToken whole kind → text ≡ text_of kind whole
     → Spells whole kind text
-token_spells whole kind text h e = spelled_as (spelling kind) whole text h e
+token_spells whole kind text h e = by_kind whole kind text (spelled_as (spelling kind) whole text h e)
 
 -- what some token begins with, by the token alone
 pub token_starts : (front more : List ℕ) (kind : Kind) → IsToken (front ++ more) kind → Starts front

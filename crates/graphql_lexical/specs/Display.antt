@@ -1,7 +1,7 @@
 -- How a token and a lexical error are shown.
 use Rattle.std.specs.Prelude.{ℕ, List, [], ◌∷◌, ◌++◌, codes, if◌then◌else◌, flat_map}
-use Rattle.graphql_lexical.specs.Characters.{is_among}
-use Rattle.graphql_lexical.specs.Kinds.{Kind, Spelling, Names, Strings, BlockStrings, Floats, Ints, Fixed, NoText, spelling, LexicalError, UnknownCharacter, UnexpectedCharacter, UnterminatedString, UnknownCharacterInString, UnknownEscapeSequence, UnexpectedEndOfFile, InvalidNumber}
+use Rattle.graphql_lexical.specs.Characters.{Text, is_among}
+use Rattle.graphql_lexical.specs.Kinds.{Kind, Name, String, BlockString, Float, Int, ExclamationMark, Dollar, ParenOpen, ParenClose, BracketOpen, BracketClose, CurlyOpen, CurlyClose, Ellipsis, Colon, Equals, At, Pipe, EndOfFile, LexicalError, UnknownCharacter, UnexpectedCharacter, UnterminatedString, UnknownCharacterInString, UnknownEscapeSequence, UnexpectedEndOfFile, InvalidNumber}
 use Rattle.graphql_lexical.specs.Tokens.{mark}
 
 -- a text between quotes
@@ -15,19 +15,27 @@ escape c = if is_among (codes "\"\\") c then codes "\\" ++ c ∷ [] else c ∷ [
 abbrev pub escaped : List ℕ → List ℕ
 escaped cs = flat_map escape cs
 
--- What is shown of a text that is spelled so.
-abbrev pub shown_as : Spelling → List ℕ → List ℕ
-shown_as Names text = text
-shown_as Strings text = quoted (escaped text)
-shown_as BlockStrings text = mark ++ (text ++ mark)
-shown_as Floats text = text
-shown_as Ints text = text
-shown_as (Fixed fixed) text = text
-shown_as NoText text = codes "End of file"
-
--- What is shown of a token of that kind and text.
-abbrev pub shown : Kind → List ℕ → List ℕ
-shown kind text = shown_as (spelling kind) text
+-- What is shown of a token of this kind and text.
+abbrev pub shown : Kind → Text → Text
+shown Name text = text
+shown String text = quoted (escaped text)
+shown BlockString text = mark ++ (text ++ mark)
+shown Float text = text
+shown Int text = text
+shown ExclamationMark text = text
+shown Dollar text = text
+shown ParenOpen text = text
+shown ParenClose text = text
+shown BracketOpen text = text
+shown BracketClose text = text
+shown CurlyOpen text = text
+shown CurlyClose text = text
+shown Ellipsis text = text
+shown Colon text = text
+shown Equals text = text
+shown At text = text
+shown Pipe text = text
+shown EndOfFile text = codes "End of file"
 
 -- What is shown of a lexical error.
 abbrev pub error_text : LexicalError → List ℕ

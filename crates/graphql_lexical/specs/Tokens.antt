@@ -1,10 +1,10 @@
 -- Which texts are tokens.
-use Rattle.std.specs.Prelude.{◌≡◌, ◌≢◌, ℕ, List, [], ◌∷◌, ◌++◌, take, IsTrue, ◌==◌, Option, Bool, false, codes}
+use Rattle.std.specs.Prelude.{◌≡◌, ◌≢◌, ℕ, List, [], ◌∷◌, ◌++◌, IsTrue, ◌==◌, Option, Bool, false, codes}
 use Rattle.std.specs.List.{AllByRecursion, concat, find}
 use Rattle.std.specs.Option.{option_map_or}
 use Rattle.graphql_lexical.specs.Parts.{◌·◌, ◌or◌, Nothing}
-use Rattle.graphql_lexical.specs.Characters.{is_source, is_digit, is_nonzero_digit, is_name_start, is_name_character, is_among, is_hex, is_plain, is_escape}
-use Rattle.graphql_lexical.specs.Kinds.{Kind, all_kinds, Spelling, Names, Strings, BlockStrings, Floats, Ints, Fixed, NoText, spelling, character_of}
+use Rattle.graphql_lexical.specs.Characters.{Text, is_source, is_digit, is_nonzero_digit, is_name_start, is_name_character, is_among, is_hex, is_plain, is_escape}
+use Rattle.graphql_lexical.specs.Kinds.{Kind, Name, String, BlockString, Float, Int, ExclamationMark, Dollar, ParenOpen, ParenClose, BracketOpen, BracketClose, CurlyOpen, CurlyClose, Ellipsis, Colon, Equals, At, Pipe, EndOfFile, all_kinds, Spelling, Names, Strings, BlockStrings, Floats, Ints, Fixed, NoText, spelling, character_of}
 
 -- P?
 abbrev pub Maybe : (List ℕ → Type 0) → List ℕ → Type 0
@@ -58,9 +58,11 @@ IsFloat = IsInteger · (IsFraction or Maybe IsFraction · IsExponent)
 
 -- ---- strings
 
--- Four hexadecimal digits, where a D comes before an octal digit: their number isn't from D800 to DFFF.
+-- Four hexadecimal digits, where a D comes before an octal digit: their number isn't from D800 to DFFF. October 2021
+-- (section 2.9.4) takes any four; here a surrogate is no character.
 abbrev pub IsScalar : ℕ → ℕ → ℕ → ℕ → Type 0
-IsScalar h i j k = Any is_hex (h ∷ i ∷ j ∷ k ∷ []) × (IsTrue (is_among (codes "Dd") h) → IsTrue (is_among (codes "01234567") i))
+IsScalar h i j k = Any is_hex (h ∷ i ∷ j ∷ k ∷ [])
+    × (IsTrue (is_among (codes "Dd") h) → IsTrue (is_among (codes "01234567") i))
 
 -- what a string is made of
 pub data IsUnit : List ℕ → Type 0 where
@@ -75,32 +77,43 @@ abbrev pub mark : List ℕ
 mark = codes "\"\"\""
 
 -- neither a triple quote nor a backslash and a triple quote begin there
-abbrev pub BeginsNoMark : List ℕ → Type 0
-BeginsNoMark text = (take 3 text ≢ mark) × (take 4 text ≢ codes "\\" ++ mark)
+abbrev pub BeginsNoMark : Text → Type 0
+BeginsNoMark text = (rest : Text) → (text ≢ mark ++ rest) × (text ≢ codes "\\" ++ (mark ++ rest))
 
 -- The text is block units, where `after` follows it: a unit is a backslash and a triple quote, or one source character
 -- at which neither these nor a triple quote begin.
 pub data AreBlockUnits : List ℕ → List ℕ → Type 0 where
   nothing : {after : List ℕ} → AreBlockUnits [] after
-  escaped_mark : {units after : List ℕ} → AreBlockUnits units after → AreBlockUnits (codes "\\" ++ (mark ++ units)) after
-  character : {c : ℕ} {units after : List ℕ} → IsTrue (is_source c) → BeginsNoMark (c ∷ units ++ after) → AreBlockUnits units after → AreBlockUnits (c ∷ units) after
+  escaped_mark : {units after : List ℕ} → AreBlockUnits units after
+      → AreBlockUnits (codes "\\" ++ (mark ++ units)) after
+  character : {c : ℕ} {units after : List ℕ} → IsTrue (is_source c) → BeginsNoMark (c ∷ units ++ after)
+      → AreBlockUnits units after → AreBlockUnits (c ∷ units) after
 
 -- ---- tokens
 
--- The whole text is a token that is spelled so, and this is the token's text: that of a string is what stands between its
--- quotes, that of a block string what stands between its triple quotes.
-abbrev pub SpelledAs : Spelling → List ℕ → List ℕ → Type 0
-SpelledAs Names whole text = IsName whole × (text ≡ whole)
-SpelledAs Strings whole text = (whole ≡ codes "\"" ++ (text ++ codes "\"")) × Pieces IsUnit text
-SpelledAs BlockStrings whole text = (whole ≡ mark ++ (text ++ mark)) × AreBlockUnits text mark
-SpelledAs Floats whole text = IsFloat whole × (text ≡ whole)
-SpelledAs Ints whole text = IsInteger whole × (text ≡ whole)
-SpelledAs (Fixed fixed) whole text = (whole ≡ fixed) × (text ≡ whole)
-SpelledAs NoText whole text = ⊥
-
--- the whole text is a token of this kind and this text
-abbrev pub Spells : List ℕ → Kind → List ℕ → Type 0
-Spells whole kind text = SpelledAs (spelling kind) whole text
+-- The whole text is a token of this kind and this text: a string's text is what stands between its quotes, a block
+-- string's what stands between its triple quotes, and any other token's is the whole. The end is no text. `&` (October
+-- 2021, section 2.1.8), which only type system documents have, is no token here.
+abbrev pub Spells : Text → Kind → Text → Type 0
+Spells whole Name text = IsName whole × (text ≡ whole)
+Spells whole String text = (whole ≡ codes "\"" ++ (text ++ codes "\"")) × Pieces IsUnit text
+Spells whole BlockString text = (whole ≡ mark ++ (text ++ mark)) × AreBlockUnits text mark
+Spells whole Float text = IsFloat whole × (text ≡ whole)
+Spells whole Int text = IsInteger whole × (text ≡ whole)
+Spells whole ExclamationMark text = (whole ≡ codes "!") × (text ≡ whole)
+Spells whole Dollar text = (whole ≡ codes "$") × (text ≡ whole)
+Spells whole ParenOpen text = (whole ≡ codes "(") × (text ≡ whole)
+Spells whole ParenClose text = (whole ≡ codes ")") × (text ≡ whole)
+Spells whole BracketOpen text = (whole ≡ codes "[") × (text ≡ whole)
+Spells whole BracketClose text = (whole ≡ codes "]") × (text ≡ whole)
+Spells whole CurlyOpen text = (whole ≡ codes "{") × (text ≡ whole)
+Spells whole CurlyClose text = (whole ≡ codes "}") × (text ≡ whole)
+Spells whole Ellipsis text = (whole ≡ codes "...") × (text ≡ whole)
+Spells whole Colon text = (whole ≡ codes ":") × (text ≡ whole)
+Spells whole Equals text = (whole ≡ codes "=") × (text ≡ whole)
+Spells whole At text = (whole ≡ codes "@") × (text ≡ whole)
+Spells whole Pipe text = (whole ≡ codes "|") × (text ≡ whole)
+Spells whole EndOfFile text = ⊥
 
 -- each token of this kind is this character
 abbrev pub is_character : ℕ → Kind → Bool

@@ -2,3 +2,4 @@ pub mod Machines
 pub mod Scan
 pub mod Numbers
 pub mod Whole
+pub mod Indexed

@@ -5,7 +5,8 @@ use Rattle.graphql_lexical.specs.declared.kind.Kind.{Kind}
 use Rattle.std.proofs.lemmas.List.{length-take}
 use Rattle.graphql_lexical.specs.Kinds.{LexicalError}
 use Rattle.graphql_lexical.specs.Place.{Place, Span, place, origin}
-use Rattle.graphql_lexical.specs.Cutting.{Lexeme, Cut, BreaksFrom, here, behind as past}
+use Rattle.graphql_lexical.specs.Cutting.{Lexeme, last_of, Cut}
+use Rattle.graphql_lexical.specs.device.Indexed.{BreaksFrom, here, behind as past}
 use Rattle.graphql_lexical.specs.laws.Laws.{AreSlicesFrom}
 use Rattle.graphql_lexical.proofs.Public.{steps_by_characters, slices_in_order, place_after}
 use Rattle.graphql_grammar.specs.Tokens.{Text, Located, Word, span_of}
@@ -17,7 +18,7 @@ use Rattle.graphql_nodes.specs.declared.kind.NodeKind.{NodeKind}
 use Rattle.graphql_nodes.specs.declared.kind.NodeKind.TheVariants as kind
 use Rattle.graphql_nodes.specs.Nodes.{Node, Label, Typed, over, if_present, each, value_nodes, items_nodes, fields_nodes, argument_nodes, arguments_nodes, directive_nodes, directives_nodes, variable_nodes, variables_nodes, alias_nodes, selection_nodes, optional_nodes, selections_nodes, definition_nodes, document_nodes, nodes_at}
 use Rattle.graphql_nodes.specs.laws.SpanLaws.{IsPlaceOf, LiesIn, NodesLieIn}
-use Rattle.graphql_grammar.proofs.Public.{last_of, last_next}
+use Rattle.graphql_lexical.proofs.Public.{last_next}
 
 module _ {A : Type 0} (P : A → Type 0) where
   all_of_both : (xs ys : List A) → AllByRecursion P xs → AllByRecursion P ys → AllByRecursion P (xs ++ ys)

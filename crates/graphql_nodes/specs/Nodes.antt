@@ -1,5 +1,5 @@
--- The nodes of a document: each part of its tree, before the parts in it, with how many nodes these are. C is the type of a
--- scalar's content.
+-- The nodes of a document: each part of its tree, before the parts in it, with how many nodes these are. C is the type
+-- of a scalar's content.
 use Rattle.std.specs.Prelude.{ℕ, List, [], ◌∷◌, ◌++◌, length, Option, Some, None}
 use Rattle.graphql_lexical.specs.Place.{Span}
 use Rattle.graphql_grammar.specs.Tokens.{Text, Located, Word}
@@ -31,11 +31,13 @@ pub record Node (C : Type 0) : Type 0 where
 module _ {C : Type 0} where
   -- a node and those of the parts in it
   abbrev pub over : NodeKind → Span → Label → List (Node C) → List (Node C)
-  over kind span label inner = record { kind = kind; span = span; label = label; content = None; descendants = length inner } ∷ inner
+  over kind span label inner =
+      record { kind = kind; span = span; label = label; content = None; descendants = length inner } ∷ inner
 
   -- the node of a scalar
   abbrev pub scalar_node : C → Span → Node C
-  scalar_node content span = record { kind = kind.Scalar; span = span; label = Unnamed; content = Some content; descendants = 0 }
+  scalar_node content span =
+      record { kind = kind.Scalar; span = span; label = Unnamed; content = Some content; descendants = 0 }
 
 abbrev pub name_of : Option Word → Label
 name_of None = Unnamed
@@ -73,7 +75,8 @@ unfoldable mutual
 
   pub fields_nodes : {C : Type 0} → ObjectFields C → List (Node C)
   fields_nodes no_fields = []
-  fields_nodes (object_field key value span fields) = over kind.Key key.span (Named key) (nodes_at value span) ++ fields_nodes fields
+  fields_nodes (object_field key value span fields) = over kind.Key key.span (Named key) (nodes_at value span)
+      ++ fields_nodes fields
 
 abbrev pub value_nodes : {C : Type 0} → Located (Value C) → List (Node C)
 value_nodes value = nodes_at value.item value.span
@@ -98,7 +101,8 @@ module _ {C : Type 0} where
 
   unfoldable pub variable_nodes : VariableDefinition C → List (Node C)
   variable_nodes v = over kind.Variable v.name.span (Named v.name)
-      (over kind.Type v.of_type.span (Typed v.of_type.item) [] ++ (if_present value_nodes v.default ++ directives_nodes v.directives))
+      (over kind.Type v.of_type.span (Typed v.of_type.item) []
+      ++ (if_present value_nodes v.default ++ directives_nodes v.directives))
 
   unfoldable pub variables_nodes : Variables C → List (Node C)
   variables_nodes v = over kind.Variables v.span Unnamed (each variable_nodes v.item)
@@ -109,9 +113,12 @@ module _ {C : Type 0} where
   unfoldable mutual
     pub selection_nodes : Selection C → List (Node C)
     selection_nodes (tree.Field alias name arguments directives selections span) = over kind.Field span (Named name)
-        (if_present alias_nodes alias ++ (if_present arguments_nodes arguments ++ (directives_nodes directives ++ optional_nodes selections)))
-    selection_nodes (tree.FragmentSpread name directives span) = over kind.Spread span (Named name) (directives_nodes directives)
-    selection_nodes (tree.InlineFragment condition directives selections span) = over kind.Inline span (name_of condition)
+        (if_present alias_nodes alias
+        ++ (if_present arguments_nodes arguments ++ (directives_nodes directives ++ optional_nodes selections)))
+    selection_nodes (tree.FragmentSpread name directives span) =
+        over kind.Spread span (Named name) (directives_nodes directives)
+    selection_nodes (tree.InlineFragment condition directives selections span) =
+        over kind.Inline span (name_of condition)
         (directives_nodes directives ++ selections_nodes selections)
 
     pub optional_nodes : OptionalSelections C → List (Node C)
@@ -123,9 +130,11 @@ module _ {C : Type 0} where
     selections_nodes (selection first others) = selection_nodes first ++ selections_nodes others
 
   unfoldable pub definition_nodes : Definition C → List (Node C)
-  definition_nodes (tree.Operation type name variables directives selections span) = over (operation_kind type) span (name_of name)
+  definition_nodes (tree.Operation type name variables directives selections span) =
+      over (operation_kind type) span (name_of name)
       (if_present variables_nodes variables ++ (directives_nodes directives ++ selections_nodes selections))
-  definition_nodes (tree.Fragment name condition directives selections span) = over kind.Fragment span (OnType name condition)
+  definition_nodes (tree.Fragment name condition directives selections span) =
+      over kind.Fragment span (OnType name condition)
       (directives_nodes directives ++ selections_nodes selections)
 
   -- of a document

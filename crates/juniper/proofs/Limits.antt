@@ -6,15 +6,17 @@ use Rattle.std.proofs.lemmas.Int.{by_lt_z}
 use Rattle.std.specs.List.{AllByRecursion}
 use Rattle.graphql_lexical.specs.Place.{Place, Span}
 use Rattle.graphql_lexical.specs.Kinds.{LexicalError}
-use Rattle.graphql_lexical.specs.Cutting.{Lexeme, Cut, Breaks, BreaksFrom, EndsOnce}
-use Rattle.graphql_lexical.proofs.Public.{one_cut_or_break, one_deep, crossed, IsWide, tokens_wide, tokens_in_order}
-use Rattle.graphql_lexical.specs.Nesting.{nesting, IsFirstDeeper, ended_by}
+use Rattle.graphql_lexical.specs.Cutting.{Lexeme, Cut, Breaks, EndsOnce}
+use Rattle.graphql_lexical.specs.device.Indexed.{nesting_at, IsFirstDeeperAt}
+use Rattle.graphql_lexical.proofs.Public.{one_cut_or_break, one_deep, crossed, IsWide, tokens_wide, tokens_in_order, after_deeper, before_is, fronts_shallow}
+use Rattle.graphql_lexical.specs.Nesting.{ended_by}
 use Rattle.graphql_grammar.specs.Tree.{Scalars, Definition}
 use Rattle.graphql_grammar.specs.Tokens.{IsSpelled}
 use Rattle.graphql_grammar.specs.Faults.{DocumentRefusedAt}
 use Rattle.graphql_grammar.specs.device.Faults.{Fault, told}
-use Rattle.graphql_grammar.specs.Depth.{BeginsDocument, IsTooDeep}
-use Rattle.graphql_grammar.proofs.Public.{same_parts, document_error, document_fault, document_or_fault, cut_spelled, cut_ends, short_spelled, short_ends, TellsDepth, t_goes_on, front_is, short_no_document, short_tells, middle_of}
+use Rattle.graphql_grammar.specs.Depth.{IsTooDeep}
+use Rattle.graphql_grammar.specs.device.AlikeFaults.{BeginsDocument, IsTooDeepAt}
+use Rattle.graphql_grammar.proofs.Public.{after_too_deep, too_deep_after, same_parts, document_error, document_fault, document_or_fault, cut_spelled, cut_ends, short_spelled, short_ends, TellsDepth, t_goes_on, front_is, short_no_document, short_tells, middle_of}
 use Rattle.juniper_tokens.specs.declared.error.ParseError.{ParseError}
 use Rattle.juniper_tokens.specs.declared.error.ParseFailure.{ParseFailure}
 use Rattle.juniper_tokens.specs.declared.error.ParseFailure.TheVariants as failure
@@ -25,16 +27,19 @@ use Rattle.juniper_tokens.specs.declared.span.Span as spans
 use Rattle.juniper_tokens.specs.Spans.{view_span}
 use Rattle.juniper_tokens.specs.Errors.{Error, UnexpectedEndOfFile, view_fault, view_lexer_error, failure_of}
 use Rattle.juniper_tokens.specs.Lexing.{LexerState, started}
-use Rattle.juniper_tokens.specs.Gathering.{IfFault}
-use Rattle.juniper_tokens.specs.Nesting.{IsShallow, EndsAtNesting}
+use Rattle.juniper_tokens.specs.Gathering.{IfFault, BreaksOff}
+use Rattle.juniper_tokens.specs.Nesting.{EndsAtNesting}
+use Rattle.juniper_tokens.specs.device.Nested.{IsShallowAt}
 use Rattle.juniper.specs.declared.parser.document.depth.DepthFailure.{DepthFailure}
 use Rattle.juniper.specs.declared.parser.document.depth.DepthFailure.TheVariants as limited
-use Rattle.juniper.specs.Promise.{HasTree, IsRefusedAt, IsRefusal, ReturnsAs, lexical_fault, unexpected}
+use Rattle.juniper.specs.Promise.{HasTree, ReturnsAs, lexical_fault, unexpected}
+use Rattle.juniper.specs.laws.RefusalClauses.{IsRefusedAt, IsRefusalByClauses}
 use Rattle.juniper.specs.Within.{HasTooDeep, IsWithin, ReturnsWithin, HasTreeWithin, IsRefusedWithin, IsNestedTooDeep, HasOneResult, result_within}
 use Rattle.graphql_grammar.specs.device.Productions.{document}
 use Rattle.juniper.specs.device.Steps.{cursor}
-use Rattle.juniper.proofs.Promises.{document_is, refused_is, refusal_at, accepts, refuses, refusal_in_text, lexical, break_from_start, lexical_reported}
-use Rattle.juniper.proofs.Sources.{either, never_both, refusal_of}
+use Rattle.juniper.proofs.Promises.{document_is, refused_is, refusal_at, accepts, refuses, lexical, break_from_start, lexical_reported}
+use Rattle.juniper.proofs.Refusals.{by_clauses}
+use Rattle.juniper.proofs.Sources.{either_refused, never_both_refused, refusal_of}
 
 same_number : (a b : ℕ) → a ≡ b → (a == b) ≡ true
 same_number a b e = grind arith
@@ -45,21 +50,21 @@ other_number a b l = grind arith
 -- Tokens are nested no deeper than a number, or one of them is the first that is.
 module _ (depth : ℕ) (ts : List Lexeme) where
   abbrev ShallowBefore : ℕ → Type 0
-  ShallowBefore n = (j : ℕ) → j < n → nesting ts j ≤ℤ pos depth
+  ShallowBefore n = (j : ℕ) → j < n → nesting_at ts j ≤ℤ pos depth
 
   abbrev ShallowOrDeeper : Type 0
-  ShallowOrDeeper = IsShallow depth ts ⊎ ((i : ℕ) × (t : Lexeme) × IsFirstDeeper depth ts i t)
+  ShallowOrDeeper = IsShallowAt depth ts ⊎ ((i : ℕ) × (t : Lexeme) × IsFirstDeeperAt depth ts i t)
 
-  one_more : (n : ℕ) → ShallowBefore n → nesting ts n ≤ℤ pos depth → ShallowBefore (suc n)
+  one_more : (n : ℕ) → ShallowBefore n → nesting_at ts n ≤ℤ pos depth → ShallowBefore (suc n)
   one_more n before here j l = elim (eq-or-lt_of_le (let h : j ≤ n = omega (arith, l) in h)) [
-    | inl same ↦ subst (λ (k : ℕ). nesting ts k ≤ℤ pos depth) (sym same) here
+    | inl same ↦ subst (λ (k : ℕ). nesting_at ts k ≤ℤ pos depth) (sym same) here
     | inr less ↦ before j less
   ]
 
   shallow_or_deeper_from : (us vs : List Lexeme) → ts ≡ us ++ vs → ShallowBefore (length us) → ShallowOrDeeper
   shallow_or_deeper_from us [] e before =
       inl (subst (λ (xs : List Lexeme). ShallowBefore (length xs)) (sym (e ∙ append-nil us)) before)
-  shallow_or_deeper_from us (t ∷ vs) e before = by_lt_z (pos depth) (nesting ts (length us))
+  shallow_or_deeper_from us (t ∷ vs) e before = by_lt_z (pos depth) (nesting_at ts (length us))
       (λ deeper. inr (
         length us,
         t,
@@ -75,25 +80,26 @@ module _ {C : Type 0} (S : Scalars C Error) (depth : ℕ) (source : List ℕ) wh
   -- ---- whether a token of the text is too deep
 
   module _ (ts : List Lexeme) (cut : Cut source ts) where
-    deep_there : (span : Span) (h : HasTooDeep S depth source span) → IsTooDeep S depth ts h.number h.token
+    deep_there : (span : Span) (h : HasTooDeep S depth source span) → IsTooDeepAt S depth ts (length h.before) h.token
     deep_there span h =
         let same = (one_cut_or_break source).one_cut h.lexemes ts h.cut cut in
-        subst (λ (xs : List Lexeme). IsTooDeep S depth xs h.number h.token) same h.deep
+        after_too_deep S depth ts h.before h.token
+        (subst (λ (xs : List Lexeme). IsTooDeep S depth xs h.before h.token) same h.deep)
 
-    none_there : IsShallow depth ts → (i : ℕ) (t : Lexeme) → IsFirstDeeper depth ts i t → ⊥
+    none_there : IsShallowAt depth ts → (i : ℕ) (t : Lexeme) → IsFirstDeeperAt depth ts i t → ⊥
     none_there shallow i t d =
         let size = length-append d.before (t ∷ d.after) in
         let inside : i < length ts = omega (arith, ap length d.whole, size, d.number) in
-        crossed (nesting ts i) depth (shallow i inside) d.deeper
+        crossed (nesting_at ts i) depth (shallow i inside) d.deeper
 
-    shallow_within : IsShallow depth ts → IsWithin S depth source
-    shallow_within shallow = record { none = λ span h. none_there shallow h.number h.token (deep_there span h).deeper }
+    shallow_within : IsShallowAt depth ts → IsWithin S depth source
+    shallow_within shallow = record { none = λ span h. none_there shallow (length h.before) h.token (deep_there span h).deeper }
 
-    module _ (i : ℕ) (t : Lexeme) (d : IsFirstDeeper depth ts i t) where
+    module _ (i : ℕ) (t : Lexeme) (d : IsFirstDeeperAt depth ts i t) where
       begun_there : (span : Span) → HasTooDeep S depth source span → BeginsDocument S (take (suc i) ts)
       begun_there span h =
           let deep = deep_there span h in
-          let number = one_deep depth ts h.number i h.token t deep.deeper d in
+          let number = one_deep depth ts (length h.before) i h.token t deep.deeper d in
           subst (λ (k : ℕ). BeginsDocument S (take (suc k) ts)) number deep.begins
 
       unbegun_within : (BeginsDocument S (take (suc i) ts) → ⊥) → IsWithin S depth source
@@ -104,9 +110,9 @@ module _ {C : Type 0} (S : Scalars C Error) (depth : ℕ) (source : List ℕ) wh
       begun_too_deep begins span e = record {
         lexemes = ts;
         cut = cut;
-        number = i;
+        before = d.before;
         token = t;
-        deep = record { deeper = d; begins = begins };
+        deep = too_deep_after S depth ts i t (record { deeper = d; begins = begins });
         at = e;
       }
 
@@ -117,29 +123,28 @@ module _ {C : Type 0} (S : Scalars C Error) (depth : ℕ) (source : List ℕ) wh
     Promised = ReturnsWithin S depth source view
 
     tree_within : (x : X) → HasTree S source (view x) → IsWithin S depth source → Promised (Ok x)
-    tree_within x h w = record { accepted = h; refused = tt; in_characters = tt; within = w; too_deep = tt }
+    tree_within x h w = record { accepted = h; refused = tt; within = w; too_deep = tt }
 
-    refusal_within : (fault : Spanning ParseError) → IsRefusal S source (view_fault fault) → IsWithin S depth source
+    refusal_within : (fault : Spanning ParseError) → IsRefusalByClauses S source (view_fault fault) → IsWithin S depth source
         → Promised (Err (limited.Parse (failure.Refused fault)))
     refusal_within fault h w = record {
       accepted = tt;
-      refused = h;
-      in_characters = refusal_in_text S source (view_fault fault) h;
+      refused = by_clauses S source (view_fault fault) h;
       within = w;
       too_deep = tt;
     }
 
     memory_within : Promised (Err (limited.Parse failure.Memory))
-    memory_within = record { accepted = tt; refused = tt; in_characters = tt; within = tt; too_deep = tt }
+    memory_within = record { accepted = tt; refused = tt; within = tt; too_deep = tt }
 
     deep_within : (span : spans.Span) → HasTooDeep S depth source (view_span span)
         → Promised (Err (limited.TooDeep span))
-    deep_within span h = record { accepted = tt; refused = tt; in_characters = tt; within = tt; too_deep = h }
+    deep_within span h = record { accepted = tt; refused = tt; within = tt; too_deep = h }
 
     -- ---- what is answered for the tokens of the text, or for those up to a deep one
 
     module _ (ts : List Lexeme) (cut : Cut source ts) where
-      shallow_answer : (result : Result X ParseFailure) → IsShallow depth ts
+      shallow_answer : (result : Result X ParseFailure) → IsShallowAt depth ts
           → ReturnsAs view result (cursor S document ts)
           → Promised (result_within None result)
       shallow_answer (Ok x) s a = tree_within x (accepts S source ts cut view (Ok x) a) (shallow_within ts cut s)
@@ -148,7 +153,7 @@ module _ {C : Type 0} (S : Scalars C Error) (depth : ℕ) (source : List ℕ) wh
           refusal_within fault refused (shallow_within ts cut s)
       shallow_answer (Err failure.Memory) s a = memory_within
 
-      module _ (i : ℕ) (t : Lexeme) (d : IsFirstDeeper depth ts i t) where
+      module _ (i : ℕ) (t : Lexeme) (d : IsFirstDeeperAt depth ts i t) where
         deep_fault : (span : spans.Span) (fault : Spanning ParseError) → view_span span ≡ t.span
             → (h : IsRefusedAt S (ended_by d.before t) (view_fault fault)) (e : Fault Error)
             → (view_fault fault).error ≡ told UnexpectedEndOfFile unexpected e → TellsDepth S ts i t h.before h.token e
@@ -208,16 +213,17 @@ module _ {C : Type 0} (S : Scalars C Error) (depth : ℕ) (source : List ℕ) wh
           → EndsAtNesting depth ts deep left → ReturnsAs view result (cursor S document left)
           → Promised (result_within deep result)
       answers_within None left result e a =
-          shallow_answer result e.0 (subst (λ (xs : List Lexeme). ReturnsAs view result (cursor S document xs)) e.1 a)
-      answers_within (Some span) left result (i, t, d, at, is) a =
-          deep_answer i t d span result at
-          (subst (λ (xs : List Lexeme). ReturnsAs view result (cursor S document xs)) is a)
+          shallow_answer result (fronts_shallow depth ts e.0) (subst (λ (xs : List Lexeme). ReturnsAs view result (cursor S document xs)) e.1 a)
+      answers_within (Some span) left result (before, t, d, at, is) a =
+          deep_answer (length before) t (after_deeper depth ts before t d) span result at
+          (subst (λ (xs : List Lexeme). ReturnsAs view result (cursor S document xs))
+          (is ∙ ap (λ (us : List Lexeme). ended_by us t) (sym (before_is depth ts before t d))) a)
 
     -- ---- a lexical fault
 
     pub lexical_within : (state : LexerState) (failed : LexFailure) → state ≡ started source
         → IfFault {X = List Lexeme} (Err failed)
-        (λ fault. BreaksFrom state.source state.index (view_lexer_error fault.item) fault.span.start)
+        (λ fault. BreaksOff state (view_lexer_error fault.item) fault.span.start)
         → IfFault {X = List Lexeme} (Err failed) (λ fault. fault.span.end ≡ fault.span.start)
         → Promised (Err (limited.Parse (failure_of failed)))
     lexical_within state (lexing.Fault fault) e b z =
@@ -232,9 +238,9 @@ module _ {C : Type 0} (S : Scalars C Error) (depth : ℕ) (source : List ℕ) wh
 
   pub one_too_deep : (a b : Span) → HasTooDeep S depth source a → HasTooDeep S depth source b → a ≡ b
   one_too_deep a b h k =
-      let d = h.deep.deeper in
+      let d = (deep_there h.lexemes h.cut a h).deeper in
       let e = (deep_there h.lexemes h.cut b k).deeper in
-      let number = one_deep depth h.lexemes h.number k.number h.token k.token d e in
+      let number = one_deep depth h.lexemes (length h.before) (length k.before) h.token k.token d e in
       let parts = same_parts d.before e.before d.after e.after h.token k.token
       (d.number ∙ number ∙ sym e.number) (sym d.whole ∙ e.whole) in
       h.at ∙ ap (λ (t : Lexeme). t.span) parts.1 ∙ sym k.at
@@ -248,13 +254,13 @@ module _ {C : Type 0} (S : Scalars C Error) (depth : ℕ) (source : List ℕ) wh
   uncut_within error at b = record { none = λ span h. (one_cut_or_break source).never_both h.lexemes error at h.cut b }
 
   module _ (ts : List Lexeme) (cut : Cut source ts) where
-    shallow_has_one : IsShallow depth ts → SomeAnswer
-    shallow_has_one shallow = elim (either S source) [
+    shallow_has_one : IsShallowAt depth ts → SomeAnswer
+    shallow_has_one shallow = elim (either_refused S source) [
       | inl tree ↦ inl (shallow_within ts cut shallow, tree)
       | inr refusal ↦ inr (inl (shallow_within ts cut shallow, refusal))
     ]
 
-    module _ (i : ℕ) (t : Lexeme) (d : IsFirstDeeper depth ts i t) where
+    module _ (i : ℕ) (t : Lexeme) (d : IsFirstDeeperAt depth ts i t) where
       -- where the tokens up to the deep one, and then an end, are refused tells which
       told_has_one : (us : List Lexeme) (u : Lexeme) (e : Fault Error) → TellsDepth S ts i t us u e → SomeAnswer
       told_has_one us u e (inl (end, begins)) =
@@ -264,8 +270,8 @@ module _ {C : Type 0} (S : Scalars C Error) (depth : ℕ) (source : List ℕ) wh
             unbegun_within ts cut i t d none,
             (
               _,
-              refusal_of S source ts us u _ cut
-                  (document_error UnexpectedEndOfFile unexpected S ts us u e refused),
+              by_clauses S source _ (refusal_of S source ts us u _ cut
+                  (document_error UnexpectedEndOfFile unexpected S ts us u e refused)),
             ),
           ))
 
@@ -287,14 +293,14 @@ module _ {C : Type 0} (S : Scalars C Error) (depth : ℕ) (source : List ℕ) wh
     ]
     | inr break ↦ inr (inl (
       uncut_within break.0 break.1 break.2,
-      (lexical_fault break.0 break.1, lexical S source break.0 break.1 _ break.2 refl),
+      (lexical_fault break.0 break.1, by_clauses S source _ (lexical S source break.0 break.1 _ break.2 refl)),
     ))
   ]
 
   pub one_answer : HasOneResult S depth source
   one_answer = record {
     some = some_answer;
-    tree_or_refused = λ tree refused. never_both S source tree.1.0 refused.1.0 tree.1.1 refused.1.1;
+    tree_or_refused = λ tree refused. never_both_refused S source tree.1.0 refused.1.0 tree.1.1 refused.1.1;
     tree_or_too_deep = λ tree deep. tree.0.none deep.0 deep.1;
     refused_or_too_deep = λ refused deep. refused.0.none deep.0 deep.1;
   }

@@ -3,10 +3,10 @@ use Rattle.std.proofs.Common.{◌≡◌, ℕ, zero, suc, ◌+◌, ◌-◌, ◌<�
 use Rattle.std.specs.Prelude.{OnOk}
 use Rattle.std.proofs.lemmas.List.{drop-drop}
 use Rattle.graphql_lexical.specs.Place.{Place, Span}
-use Rattle.graphql_lexical.specs.Cutting.{Lexeme}
+use Rattle.graphql_lexical.specs.Cutting.{Lexeme, last_of}
 use Rattle.graphql_grammar.specs.Tokens.{span_of}
 use Rattle.graphql_grammar.specs.device.Reading.{front}
-use Rattle.graphql_grammar.proofs.Public.{last_of, last_next}
+use Rattle.graphql_lexical.proofs.Public.{last_next}
 use Rattle.juniper_tokens.specs.declared.error.ParseFailure.{ParseFailure}
 use Rattle.juniper_tokens.specs.declared.error.ParseFailure.TheVariants as failures
 use Rattle.juniper_tokens.specs.Errors.{view_fault}

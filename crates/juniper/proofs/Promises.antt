@@ -3,7 +3,7 @@ use Rattle.std.proofs.Common.{◌≡◌, ℕ, List, [], ◌∷◌, sym, ap, ap�
 use Rattle.std.specs.List.{AllByRecursion}
 use Rattle.graphql_lexical.specs.Place.{Place}
 use Rattle.graphql_lexical.specs.Kinds.{LexicalError}
-use Rattle.graphql_lexical.specs.Cutting.{Lexeme, CutFrom, BreaksFrom, Cut, Breaks, EndsOnce}
+use Rattle.graphql_lexical.specs.Cutting.{Lexeme, Cut, Breaks, EndsOnce}
 use Rattle.graphql_lexical.proofs.Public.{one_cut_or_break}
 use Rattle.graphql_grammar.specs.Tree.{Scalars, Definition}
 use Rattle.graphql_grammar.specs.Grammar.{IsDocument}
@@ -13,7 +13,7 @@ use Rattle.graphql_grammar.specs.Tokens.{IsSpelled}
 use Rattle.graphql_grammar.specs.device.Reading.{Took, Refused, Out, GivesWhole, fully}
 use Rattle.graphql_grammar.specs.device.Productions.{reads, document}
 use Rattle.graphql_grammar.specs.device.Reading as reading
-use Rattle.graphql_grammar.proofs.Public.{document_error, document_given, never_both, one_document, cut_spelled, cut_ends, fault_in_text}
+use Rattle.graphql_grammar.proofs.Public.{document_error, document_given, document_or_refused, one_document, cut_spelled, cut_ends, refused_in_text}
 use Rattle.juniper_tokens.specs.declared.error.ParseFailure.{ParseFailure}
 use Rattle.juniper_tokens.specs.declared.error.ParseFailure.TheVariants as failure
 use Rattle.juniper_tokens.specs.declared.error.LexFailure.{LexFailure}
@@ -24,10 +24,11 @@ use Rattle.juniper_tokens.specs.declared.span.Spanning.{Spanning}
 use Rattle.juniper_tokens.specs.Errors.{Error, UnexpectedEndOfFile, Fault, Lexical, view_fault, view_lexer_error, failure_of}
 use Rattle.juniper_tokens.specs.Cursor.{Read}
 use Rattle.juniper_tokens.specs.Lexing.{LexerState, started}
-use Rattle.juniper_tokens.specs.Gathering.{IfFault}
+use Rattle.juniper_tokens.specs.Gathering.{IfFault, HasLeft, BreaksOff}
 use Rattle.juniper.specs.device.Seen.{seen}
 use Rattle.juniper.specs.laws.TreeLaws.{FailsAtBreak, IsRefusedAtBreak}
-use Rattle.juniper.specs.Promise.{lexical_fault, unexpected, HasTree, IsRefusedAt, IsRefusal, IsRefusalInText, IfRefused, ReturnsAs}
+use Rattle.juniper.specs.Promise.{lexical_fault, unexpected, HasTree, IfRefused, ReturnsAs}
+use Rattle.juniper.specs.laws.RefusalClauses.{IsRefusedAt, IsRefusalByClauses, IsRefusalInText}
 use Rattle.juniper.specs.device.Steps.{cursor}
 use Rattle.juniper.proofs.Stepping.{seen_took}
 use Rattle.juniper.proofs.Readings.{document_seen}
@@ -86,9 +87,9 @@ module _ {C : Type 0} (S : Scalars C Error) (source : List ℕ) (ts : List Lexem
     only = λ others other d h. one_document S ts other tree (document_there others other d h) document;
   }
 
-  pub refusal_at : (fault : Fault) → IsRefusedAt S ts fault → IsRefusal S source fault
+  pub refusal_at : (fault : Fault) → IsRefusedAt S ts fault → IsRefusalByClauses S source fault
   refusal_at fault at = record {
-    no_document = λ others tree d h. never_both S ts at.before tree at.token (cut_spelled source ts cut)
+    no_document = λ others tree d h. document_or_refused S ts at.before tree at.token (cut_spelled source ts cut)
         (document_there others tree d h) at.refused.0;
     lexical = λ error place b. absurd ((one_cut_or_break source).never_both ts error place cut b);
     grammatical = λ others d. subst (λ (xs : List Lexeme). IsRefusedAt S xs fault) ((one_cut_or_break source).one_cut ts others cut d) at;
@@ -101,7 +102,7 @@ module _ {C : Type 0} (S : Scalars C Error) (source : List ℕ) (ts : List Lexem
   accepts view (Err e) a = tt
 
   pub refuses : {X : Type 0} (view : X → List (Definition C)) (result : Result X ParseFailure)
-      → ReturnsAs view result (cursor S document ts) → IfRefused result (λ fault. IsRefusal S source (view_fault fault))
+      → ReturnsAs view result (cursor S document ts) → IfRefused result (λ fault. IsRefusalByClauses S source (view_fault fault))
   refuses view (Ok x) a = tt
   refuses view (Err (failure.Refused fault)) a =
       refusal_at (view_fault fault) (refused_is S ts (cut_spelled source ts cut) (cut_ends source ts cut)
@@ -109,7 +110,7 @@ module _ {C : Type 0} (S : Scalars C Error) (source : List ℕ) (ts : List Lexem
   refuses view (Err failure.Memory) a = tt
 
 pub lexical : {C : Type 0} (S : Scalars C Error) (source : List ℕ) (error : LexicalError) (at : Place) (fault : Fault)
-    → Breaks source error at → fault ≡ lexical_fault error at → IsRefusal S source fault
+    → Breaks source error at → fault ≡ lexical_fault error at → IsRefusalByClauses S source fault
 lexical S source error at fault b e = record {
   no_document = λ lexemes tree c d. (one_cut_or_break source).never_both lexemes error at c b;
   lexical = λ other place c. let s = (one_cut_or_break source).one_break error other at place b c in e ∙ ap₂ lexical_fault s.0 s.1;
@@ -117,28 +118,21 @@ lexical S source error at fault b e = record {
 }
 
 -- a refusal in tokens is one in characters
-pub refusal_in_text : {C : Type 0} (S : Scalars C Error) (source : List ℕ) (fault : Fault) → IsRefusal S source fault
+pub refusal_in_text : {C : Type 0} (S : Scalars C Error) (source : List ℕ) (fault : Fault) → IsRefusalByClauses S source fault
     → IsRefusalInText S source fault
 refusal_in_text S source fault h = λ lexemes cut.
     let at = h.grammatical lexemes cut in
-    let in_characters = fault_in_text S source lexemes at.before at.token cut at.refused.0 in
+    let in_characters = refused_in_text S source lexemes at.before at.token cut at.refused.0 in
     (at, in_characters.0, in_characters.1)
-
-pub in_text : {C X : Type 0} (S : Scalars C Error) (source : List ℕ) (result : Result X ParseFailure)
-    → IfRefused result (λ fault. IsRefusal S source (view_fault fault))
-    → IfRefused result (λ fault. IsRefusalInText S source (view_fault fault))
-in_text S source (Ok x) h = tt
-in_text S source (Err (failure.Refused fault)) h = refusal_in_text S source (view_fault fault) h
-in_text S source (Err failure.Memory) h = tt
 
 -- a lexer that was just made stands at the beginning
 pub cut_from_start : (state : LexerState) (source : List ℕ) (lexemes : List Lexeme) → state ≡ started source
-    → CutFrom state.source state.index lexemes → Cut source lexemes
-cut_from_start state source lexemes e c = subst (λ (s : LexerState). CutFrom s.source s.index lexemes) e c
+    → HasLeft state lexemes → Cut source lexemes
+cut_from_start state source lexemes e c = subst (λ (s : LexerState). HasLeft s lexemes) e c
 
 pub break_from_start : (state : LexerState) (source : List ℕ) (error : LexicalError) (at : Place)
-    → state ≡ started source → BreaksFrom state.source state.index error at → Breaks source error at
-break_from_start state source error at e b = subst (λ (s : LexerState). BreaksFrom s.source s.index error at) e b
+    → state ≡ started source → BreaksOff state error at → Breaks source error at
+break_from_start state source error at e b = subst (λ (s : LexerState). BreaksOff s error at) e b
 
 -- a lexical fault, as the parser tells it
 pub lexical_reported : (fault : Spanning LexerError) → fault.span.end ≡ fault.span.start
@@ -161,7 +155,7 @@ module _ {Y : Type 0} (X : Type 0) (source : List ℕ) (P : Fault → Type 0)
     → fault ≡ lexical_fault error at → P fault) where
   pub refused_by_lexer : (state : LexerState) (failed : LexFailure) (result : Result Y ParseFailure)
       → state ≡ started source
-      → IfFault {X = X} (Err failed) (λ fault. BreaksFrom state.source state.index (view_lexer_error fault.item)
+      → IfFault {X = X} (Err failed) (λ fault. BreaksOff state (view_lexer_error fault.item)
       fault.span.start) → IfFault {X = X} (Err failed) (λ fault. fault.span.end ≡ fault.span.start)
       → IsErrAnd result (λ e. e ≡ failure_of failed) → IfRefused result (λ fault. P (view_fault fault))
   refused_by_lexer state failed (Ok y) e b z h = tt
@@ -170,7 +164,7 @@ module _ {Y : Type 0} (X : Type 0) (source : List ℕ) (P : Fault → Type 0)
       (by_failure failed b z)
     where
       by_failure : (f : LexFailure)
-          → IfFault {X = X} (Err f) (λ fault. BreaksFrom state.source state.index (view_lexer_error fault.item)
+          → IfFault {X = X} (Err f) (λ fault. BreaksOff state (view_lexer_error fault.item)
           fault.span.start)
           → IfFault {X = X} (Err f) (λ fault. fault.span.end ≡ fault.span.start)
           → IfRefused {X = Y} (Err (failure_of f)) (λ fault. P (view_fault fault))

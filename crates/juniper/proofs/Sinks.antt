@@ -114,10 +114,10 @@ module _ {C : Type 0} (S : Scalars C Error) where
       let ends = end_parts ts (cut_ends source ts cut) in
       subst (λ (xs : List Lexeme). StandInFront S xs ds) (sym ends.whole)
       (stand_before ends.inner (ends.end ∷ []) ds (h ends.inner ends.end (e.1 ∙ ends.whole)))
-  stand_in_all depth source ts left (Some span) ds cut (i, t, d, at, is) h =
-      let short = h (d.before ++ t ∷ []) (end_behind t) (is ∙ sym (append_assoc d.before (t ∷ []) (end_behind t ∷ []))) in
-      subst (λ (xs : List Lexeme). StandInFront S xs ds) (append_assoc d.before (t ∷ []) d.after ∙ sym d.whole)
-      (stand_before (d.before ++ t ∷ []) d.after ds short)
+  stand_in_all depth source ts left (Some span) ds cut (before, t, d, at, is) h =
+      let short = h (before ++ t ∷ []) (end_behind t) (is ∙ sym (append_assoc before (t ∷ []) (end_behind t ∷ []))) in
+      subst (λ (xs : List Lexeme). StandInFront S xs ds) (append_assoc before (t ∷ []) d.after ∙ sym d.whole)
+      (stand_before (before ++ t ∷ []) d.after ds short)
 
 -- ---- what has come
 

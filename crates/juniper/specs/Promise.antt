@@ -37,28 +37,18 @@ module _ {C : Type 0} (S : Scalars C Error) where
     pub lexemes : List Lexeme
     pub cut : Cut source lexemes
     pub document : IsDocument S tree lexemes
-    pub only : (others : List Lexeme) (other : List (Definition C)) → Cut source others → IsDocument S other others → other ≡ tree
+    pub only : (others : List Lexeme) (other : List (Definition C)) → Cut source others → IsDocument S other others
+        → other ≡ tree
 
-  -- The fault is that of the grammar: it has the span of the token at which the tokens are refused, and names its error.
-  pub record IsRefusedAt (lexemes : List Lexeme) (fault : Fault) : Type 0 where
-    pub before : List Lexeme
-    pub token : Lexeme
-    pub refused : DocumentRefusedAt UnexpectedEndOfFile unexpected S lexemes before token fault.error
-    pub span : fault.span ≡ token.span
-
-  -- The text is no document. Where it can't be cut into tokens, the fault is its first lexical error. Where it can, the
-  -- fault is that of the grammar.
-  pub record IsRefusal (source : List ℕ) (fault : Fault) : Type 0 where
-    pub no_document : (lexemes : List Lexeme) (tree : List (Definition C)) → Cut source lexemes → IsDocument S tree lexemes → ⊥
-    pub lexical : (error : LexicalError) (at : Place) → Breaks source error at → fault ≡ lexical_fault error at
-    pub grammatical : (lexemes : List Lexeme) → Cut source lexemes → IsRefusedAt lexemes fault
-
-  -- Where the text can be cut into tokens, the fault is that of the grammar, in characters, too: the text up to the end
-  -- of the token before the refused one, and a space, can be completed to a document's; up to the refused one's it
-  -- can't.
-  abbrev pub IsRefusalInText : List ℕ → Fault → Type 0
-  IsRefusalInText source fault = (lexemes : List Lexeme) → Cut source lexemes → (at : IsRefusedAt lexemes fault)
-      × BeginsText S source at.before × (BeginsText S source (at.before ++ at.token ∷ []) → ⊥)
+-- The text is refused at its first lexical error, if it has one, and else at the first token that no document could
+-- have there, with the error that the grammar names for it. The text up to the end of the token before that one, and a
+-- space, can be completed to a document's text; up to that one's end it can't.
+pub data IsRefusal {C : Type 0} (S : Scalars C Error) (source : List ℕ) : Fault → Type 0 where
+  lexical : {error : LexicalError} {at : Place} → Breaks source error at → IsRefusal S source (lexical_fault error at)
+  grammatical : {ts before : List Lexeme} {t : Lexeme} {error : Error} → Cut source ts
+      → DocumentRefusedAt UnexpectedEndOfFile unexpected S ts before t error
+      → BeginsText S source before → (BeginsText S source (before ++ t ∷ []) → ⊥)
+      → IsRefusal S source (record { error = error; span = t.span })
 
 -- Where a text was refused, P holds of the error and its place.
 abbrev pub IfRefused : {X : Type 0} → Result X ParseFailure → (Spanning ParseError → Type 0) → Type 0
@@ -81,7 +71,8 @@ module _ {A : Type 0} (R : A → List Lexeme → Type 0) where
 
   -- No prefix of the tokens means anything. The fault has the span of the token at which they are refused, and names
   -- its error. That token is taken, unless it is the end.
-  pub record Refuses (Refused : List Lexeme → List Lexeme → Lexeme → Error → Type 0) (fault : Fault) (old left : List Lexeme) : Type 0 where
+  pub record Refuses (Refused : List Lexeme → List Lexeme → Lexeme → Error
+      → Type 0) (fault : Fault) (old left : List Lexeme) : Type 0 where
     pub none : (us vs : List Lexeme) (y : A) → old ≡ us ++ vs → R y us → ⊥
     pub before : List Lexeme
     pub token : Lexeme
@@ -92,13 +83,20 @@ module _ {A : Type 0} (R : A → List Lexeme → Type 0) where
     pub leaves : left ≡ past (token ∷ after)
 
 -- The one prefix that is a value was taken, or none is one.
-abbrev pub ReturnsValue : {X C : Type 0} → Scalars C Error → Bool → (X → Located (Value C)) → Result X ParseFailure → List Lexeme → List Lexeme → Type 0
-ReturnsValue {C = C} S free view (Ok x) old left = Takes (IsLocated (IsValue S free)) (view x) old left × ((us vs : List Lexeme) (y : Located (Value C)) → old ≡ us ++ vs → IsLocated (IsValue S free) y us → (vs ≡ left) × (y ≡ view x))
-ReturnsValue S free view (Err (failure.Refused e)) old left = Refuses (IsLocated (IsValue S free)) (ValueRefusedAt UnexpectedEndOfFile unexpected S free) (view_fault e) old left
+abbrev pub ReturnsValue : {X C : Type 0} → Scalars C Error → Bool → (X → Located (Value C)) → Result X ParseFailure
+    → List Lexeme → List Lexeme → Type 0
+ReturnsValue {C = C} S free view (Ok x) old left = Takes (IsLocated (IsValue S free)) (view x) old left
+    × ((us vs : List Lexeme) (y : Located (Value C)) → old ≡ us ++ vs → IsLocated (IsValue S free) y us → (vs ≡ left)
+    × (y ≡ view x))
+ReturnsValue S free view (Err (failure.Refused e)) old left =
+    Refuses (IsLocated (IsValue S free)) (ValueRefusedAt UnexpectedEndOfFile unexpected S free) (view_fault e) old left
 ReturnsValue S free view (Err failure.Memory) old left = Unit {0}
 
 -- The longest prefix that is a type was taken, or none is one.
-abbrev pub ReturnsType : {X : Type 0} → (X → Located TypeRef) → Result X ParseFailure → List Lexeme → List Lexeme → Type 0
-ReturnsType view (Ok x) old left = Takes (IsLocated IsType) (view x) old left × ((us vs : List Lexeme) (y : TypeRef) → old ≡ us ++ vs → IsType y us → length left ≤ length vs)
-ReturnsType view (Err (failure.Refused e)) old left = Refuses IsType (TypeRefusedAt UnexpectedEndOfFile unexpected) (view_fault e) old left
+abbrev pub ReturnsType : {X : Type 0} → (X → Located TypeRef) → Result X ParseFailure → List Lexeme → List Lexeme
+    → Type 0
+ReturnsType view (Ok x) old left = Takes (IsLocated IsType) (view x) old left
+    × ((us vs : List Lexeme) (y : TypeRef) → old ≡ us ++ vs → IsType y us → length left ≤ length vs)
+ReturnsType view (Err (failure.Refused e)) old left =
+    Refuses IsType (TypeRefusedAt UnexpectedEndOfFile unexpected) (view_fault e) old left
 ReturnsType view (Err failure.Memory) old left = Unit {0}

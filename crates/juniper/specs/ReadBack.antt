@@ -56,4 +56,6 @@ pub record IsReadAsValue (text : Text) (value : Value Content) : Type 0 where
 
 -- the display of an input value is read as its tree
 abbrev pub IsReadBack : InputValue DefaultScalarValue → Type 0
-IsReadBack v = IsReadAsValue (value_text (scalar_display default_content text_in default_shown) (view (λ s. s) v)) (view default_content v)
+IsReadBack v =
+    IsReadAsValue (value_text (scalar_display default_content text_in default_shown) (view (λ s. s) v))
+    (view default_content v)

@@ -13,7 +13,8 @@ use Rattle.juniper.specs.Promise.{HasTree}
 use Rattle.juniper.specs.Within.{ReturnsWithin}
 
 -- These definitions stand at the front of the tokens, in a row.
-pub record StandInFront {C : Type 0} (S : Scalars C Error) (lexemes : List Lexeme) (ds : List (Definition C)) : Type 0 where
+pub record StandInFront {C : Type 0} (S : Scalars C Error) (lexemes : List Lexeme)
+    (ds : List (Definition C)) : Type 0 where
   pub front : List Lexeme
   pub rest : List Lexeme
   pub whole : lexemes ≡ front ++ rest
@@ -23,7 +24,8 @@ pub record StandInFront {C : Type 0} (S : Scalars C Error) (lexemes : List Lexem
 module _ {D C : Type 0} (holds : List ℕ → D → List (Definition C) → Type 0) (old new : D) where
   -- these definitions were added after the others
   pub record Gains (added : List (Definition C)) : Type 0 where
-    pub definitions : (source : List ℕ) (before : List (Definition C)) → holds source old before → holds source new (before ++ added)
+    pub definitions : (source : List ℕ) (before : List (Definition C)) → holds source old before
+        → holds source new (before ++ added)
 
   -- the source's tree was added after the others
   pub record GainsTree (S : Scalars C Error) (source : List ℕ) : Type 0 where
@@ -51,7 +53,8 @@ module _ {D C : Type 0} (holds : List ℕ → D → List (Definition C) → Type
   GivesAs (Err e) read = (left : List Lexeme) × Fails e left read
 
   -- The same within a limit on nesting, in the words of the grammar.
-  pub record GivesWithin {X : Type 0} (S : Scalars C Error) (depth : ℕ) (source : List ℕ) (result : Result X DepthFailure) : Type 0 where
+  pub record GivesWithin {X : Type 0} (S : Scalars C Error) (depth : ℕ) (source : List ℕ)
+      (result : Result X DepthFailure) : Type 0 where
     pub tree : List (Definition C)
     pub answers : ReturnsWithin S depth source (λ x. tree) result
     pub gains : OnOk result (Gains tree)

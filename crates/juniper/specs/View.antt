@@ -66,7 +66,8 @@ module _ {S C : Type 0} (content : S → C) where
   view_arguments = view_located (λ a. map view_argument a.items.items)
 
   abbrev pub view_directive : Spanning (Directive S) → Located (tree.Directive C)
-  view_directive = view_located (λ d. record { name = view_word d.name; arguments = option_map view_arguments d.arguments })
+  view_directive =
+      view_located (λ d. record { name = view_word d.name; arguments = option_map view_arguments d.arguments })
 
   abbrev pub view_directives : Option (Vec (Spanning (Directive S))) → tree.Directives C
   view_directives ds = option_map (λ v. map view_directive v.items) ds
@@ -91,10 +92,24 @@ module _ {S C : Type 0} (content : S → C) where
   abbrev mutual
     pub view_selection : code.Selection S → tree.Selection C
     view_selection (code.Field' alias name arguments directives selections span) =
-        tree.Field (option_map view_word alias) (view_word name) (option_map (view_arguments content) arguments) (view_directives content directives) (view_held selections) (view_span span)
-    view_selection (code.FragmentSpread s) = tree.FragmentSpread (view_word s.item.name) (view_directives content s.item.directives) (view_span s.span)
+        tree.Field
+        (option_map view_word alias)
+        (view_word name)
+        (option_map (view_arguments content) arguments)
+        (view_directives content directives)
+        (view_held selections)
+        (view_span span)
+    view_selection (code.FragmentSpread s) =
+        tree.FragmentSpread
+        (view_word s.item.name)
+        (view_directives content s.item.directives)
+        (view_span s.span)
     view_selection (code.InlineFragment' condition directives shape all span) =
-        tree.InlineFragment (option_map view_word condition) (view_directives content directives) (view_row all) (view_span span)
+        tree.InlineFragment
+        (option_map view_word condition)
+        (view_directives content directives)
+        (view_row all)
+        (view_span span)
 
     pub view_held : code.Held-Field-selection_set S → tree.OptionalSelections C
     view_held code.None' = tree.absent
@@ -113,21 +128,42 @@ module _ {S C : Type 0} (content : S → C) where
   view_set (Some v) = tree.present (view_selections v.items)
 
   abbrev pub view_field : Spanning (Field S) → tree.Selection C
-  view_field f = tree.Field (option_map view_word f.item.alias) (view_word f.item.name) (option_map (view_arguments content) f.item.arguments)
-      (view_directives content f.item.directives) (view_set f.item.selection_set) (view_span f.span)
+  view_field f =
+      tree.Field
+      (option_map view_word f.item.alias)
+      (view_word f.item.name)
+      (option_map (view_arguments content) f.item.arguments)
+      (view_directives content f.item.directives)
+      (view_set f.item.selection_set)
+      (view_span f.span)
 
   abbrev pub view_inline : Spanning (InlineFragment S) → tree.Selection C
-  view_inline f = tree.InlineFragment (option_map view_word f.item.type_condition) (view_directives content f.item.directives) (view_selections f.item.selection_set.items) (view_span f.span)
+  view_inline f =
+      tree.InlineFragment
+      (option_map view_word f.item.type_condition)
+      (view_directives content f.item.directives)
+      (view_selections f.item.selection_set.items)
+      (view_span f.span)
 
 -- ---- definitions
 
 module _ {S C : Type 0} (content : S → C) where
   abbrev pub view_definition : definitions.Definition S → tree.Definition C
   view_definition (definition.Operation o) =
-      tree.Operation o.item.operation_type (option_map view_word o.item.name) (option_map (view_variables content) o.item.variable_definitions)
-      (view_directives content o.item.directives) (view_selections content o.item.selection_set.items) (view_span o.span)
+      tree.Operation
+      o.item.operation_type
+      (option_map view_word o.item.name)
+      (option_map (view_variables content) o.item.variable_definitions)
+      (view_directives content o.item.directives)
+      (view_selections content o.item.selection_set.items)
+      (view_span o.span)
   view_definition (definition.Fragment f) =
-      tree.Fragment (view_word f.item.name) (view_word f.item.type_condition) (view_directives content f.item.directives) (view_selections content f.item.selection_set.items) (view_span f.span)
+      tree.Fragment
+      (view_word f.item.name)
+      (view_word f.item.type_condition)
+      (view_directives content f.item.directives)
+      (view_selections content f.item.selection_set.items)
+      (view_span f.span)
 
   abbrev pub view_document : Vec (definitions.Definition S) → List (tree.Definition C)
   view_document document = map view_definition document.items

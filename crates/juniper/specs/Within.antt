@@ -13,7 +13,7 @@ use Rattle.juniper_tokens.specs.Spans.{view_span}
 use Rattle.juniper_tokens.specs.Errors.{Error, Fault, view_fault}
 use Rattle.juniper.specs.declared.parser.document.depth.DepthFailure.{DepthFailure}
 use Rattle.juniper.specs.declared.parser.document.depth.DepthFailure.TheVariants as limited
-use Rattle.juniper.specs.Promise.{HasTree, IsRefusal, IsRefusalInText}
+use Rattle.juniper.specs.Promise.{HasTree, IsRefusal}
 
 -- Where a text was refused, P holds of the error and its place.
 abbrev pub IfRefusedWithin : {X : Type 0} → Result X DepthFailure → (Spanning ParseError → Type 0) → Type 0
@@ -41,9 +41,9 @@ module _ {C : Type 0} (S : Scalars C Error) (depth : ℕ) (source : List ℕ) wh
   pub record HasTooDeep (span : Span) : Type 0 where
     pub lexemes : List Lexeme
     pub cut : Cut source lexemes
-    pub number : ℕ
+    pub before : List Lexeme
     pub token : Lexeme
-    pub deep : IsTooDeep S depth lexemes number token
+    pub deep : IsTooDeep S depth lexemes before token
     pub at : span ≡ token.span
 
   -- The text has no such token.
@@ -73,14 +73,14 @@ module _ {C : Type 0} (S : Scalars C Error) (depth : ℕ) (source : List ℕ) wh
   pub record ReturnsWithin {X : Type 0} (view : X → List (Definition C)) (result : Result X DepthFailure) : Type 0 where
     pub accepted : IfOk result (λ x. HasTree S source (view x))
     pub refused : IfRefusedWithin result (λ fault. IsRefusal S source (view_fault fault))
-    pub in_characters : IfRefusedWithin result (λ fault. IsRefusalInText S source (view_fault fault))
     pub within : IfDecided result IsWithin
     pub too_deep : IfTooDeep result (λ span. HasTooDeep (view_span span))
 
 -- A fault of tokens that were ended after a deep one, as it is reported: where that one ends stands the end.
 abbrev pub failure_within : Option spans.Span → ParseFailure → DepthFailure
 failure_within None e = limited.Parse e
-failure_within (Some span) (failure.Refused fault) = if fault.span.start.index == span.end.index then limited.TooDeep span else limited.Parse (failure.Refused fault)
+failure_within (Some span) (failure.Refused fault) = if fault.span.start.index == span.end.index
+    then limited.TooDeep span else limited.Parse (failure.Refused fault)
 failure_within (Some span) failure.Memory = limited.Parse failure.Memory
 
 abbrev pub result_within : {X : Type 0} → Option spans.Span → Result X ParseFailure → Result X DepthFailure

@@ -26,6 +26,7 @@ ghost use Rattle.juniper_values.specs.declared.input_value.InputValue.{InputValu
 ghost use Rattle.juniper_values.specs.declared.type_literal.TypeModifier.{TypeModifier};
 ghost use Rattle.juniper.specs.ReadBack.{AreWritable, IsReadAsType, IsReadBack, type_of};
 ghost use Rattle.juniper.specs.Promise.{HasTree, IsRefusal};
+ghost use Rattle.juniper.specs.laws.RefusalClauses.{IsRefusalByClauses, IsRefusalInText};
 ghost use Rattle.juniper.specs.laws.TreeLaws.{FailsAtBreak, IsRefusedAtBreak, SeesValues, SeesSelections};
 ghost use Rattle.juniper.specs.Scalars.{stated};
 ghost use Rattle.juniper.specs.Sources.{AreRefusedAlike};
@@ -52,6 +53,13 @@ pub fn document_or_fault<S: ScalarValue>()
     ensures either { (source : List ℕ) → ((tree : List (Definition Content)) × HasTree (stated S.reading S.of_bool) source tree) ⊎ ((fault : Fault) × IsRefusal (stated S.reading S.of_bool) source fault) }
     ensures one { (source : List ℕ) (f g : Fault) → IsRefusal (stated S.reading S.of_bool) source f → IsRefusal (stated S.reading S.of_bool) source g → f ≡ g }
     ensures never_both { (source : List ℕ) (tree : List (Definition Content)) (fault : Fault) → HasTree (stated S.reading S.of_bool) source tree → IsRefusal (stated S.reading S.of_bool) source fault → ⊥ }
+{}
+
+/// A refusal by cases is one by clauses, and the other way round.
+pub fn refusals_by_clauses<S: ScalarValue>()
+    ensures clauses { (source : List ℕ) (fault : Fault) → IsRefusal (stated S.reading S.of_bool) source fault → IsRefusalByClauses (stated S.reading S.of_bool) source fault }
+    ensures in_characters { (source : List ℕ) (fault : Fault) → IsRefusal (stated S.reading S.of_bool) source fault → IsRefusalInText (stated S.reading S.of_bool) source fault }
+    ensures cases { (source : List ℕ) (fault : Fault) → IsRefusalByClauses (stated S.reading S.of_bool) source fault → IsRefusal (stated S.reading S.of_bool) source fault }
 {}
 
 /// A source text has one token at most that is nested too deep.

@@ -1,5 +1,5 @@
 -- A name is one token.
-use Rattle.std.proofs.Common.{◌≡◌, ◌↔◌, ℕ, ◌+◌, true, List, [], ◌∷◌, ◌++◌, IsTrue, take, drop, inr, refl, sym, ap, ◌∙◌, subst, append-nil}
+use Rattle.std.proofs.Common.{◌≡◌, ◌↔◌, ℕ, ◌+◌, true, List, [], ◌∷◌, ◌++◌, IsTrue, take, drop, inr, refl, sym, ◌∙◌, subst, append-nil}
 use Rattle.std.specs.List.{AllByRecursion, list_all}
 use Rattle.std.specs.Cmp.{first_so, second_so}
 use Rattle.std.proofs.lemmas.Bool.{and_from, or_left}
@@ -7,10 +7,10 @@ use Rattle.graphql_lexical.specs.Characters.{is_digit, is_name_start, is_name_ch
 use Rattle.graphql_lexical.specs.declared.kind.Kind.{Kind}
 use Rattle.graphql_lexical.specs.declared.kind.Kind.TheVariants.{Name}
 use Rattle.graphql_lexical.specs.Tokens.{IsName, Spells}
-use Rattle.graphql_lexical.specs.Reading.{Reads}
+use Rattle.graphql_lexical.specs.device.Indexed.{ReadsAt}
 use Rattle.graphql_lexical.specs.Cutting.{Lexeme, Cut}
 use Rattle.graphql_lexical.specs.laws.Written.{AreOf}
-use Rattle.graphql_lexical.proofs.Public.{few_tokens, name_same, writes_nothing, writes_token, read_end, read_token}
+use Rattle.graphql_lexical.proofs.Public.{by_places, few_tokens, name_same, writes_nothing, writes_token, read_end, read_token}
 use Rattle.juniper_answers.specs.laws.AnswerLaws.{IsOneName}
 use Rattle.juniper_answers.specs.Names.{is_name}
 
@@ -56,7 +56,7 @@ one_token text n =
     }
     go (x ∷ y ∷ ys) e c a = absurd a.2
 
-name_read : (rest : List ℕ) (n : ℕ) (kind : Kind) (text : List ℕ) → Reads rest n kind text → kind ≡ Name → IsName text
+name_read : (rest : List ℕ) (n : ℕ) (kind : Kind) (text : List ℕ) → ReadsAt rest n kind text → kind ≡ Name → IsName text
 name_read [] n kind text r e = let end = (read_end n kind text r).1 in absurd cc
 name_read (c ∷ cs) n kind text r e =
     let s = subst (λ (k : Kind). Spells (take n (c ∷ cs)) k text) e (read_token c cs n kind text r).1 in
@@ -64,7 +64,7 @@ name_read (c ∷ cs) n kind text r e =
 
 only_name : (text : List ℕ) → IsOneName text → IsName text
 only_name text o =
-    let s = o.cut.1 in
+    let s = (by_places text (o.name ∷ o.end ∷ []) o.cut).1 in
     subst IsName o.same (name_read (drop (0 + s.gap) text) s.size o.name.kind o.name.text s.reads o.kind)
 
 pub name_is_token : (text : List ℕ) → (is_name text ≡ true) ↔ IsOneName text

@@ -18,4 +18,5 @@ module _ {C : Type 0} where
 
     pub fields_as_input : Fields C → input.ObjectFields C
     fields_as_input no_fields = input.no_fields
-    fields_as_input (field k d fs) = input.object_field (record { item = k; span = unlocated }) (as_input d) unlocated (fields_as_input fs)
+    fields_as_input (field k d fs) =
+        input.object_field (record { item = k; span = unlocated }) (as_input d) unlocated (fields_as_input fs)

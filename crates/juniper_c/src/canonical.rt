@@ -42,6 +42,7 @@ pub extern "C" fn firthnapkin_canonical(
     ensures bounds { needed.new ≤ 2 * length source.now }
     ensures refused { result ≡ REFUSED → IsUtf8 source.now × ((error : LexicalError) × (at : places.Place)
         × Breaks (chars source.now) error at × (fault.new ≡ written_fault (chars source.now) (lexical_fault error at))) }
+    ensures memory { result ≡ MEMORY → IsUtf8 source.now }
     ensures no_text { result ≡ NOT_UTF8 → ¬ IsUtf8 source.now }
     ensures too_long { result ≡ TOO_LONG ↔ 2 ^ 32 ≤ length source.now }
 

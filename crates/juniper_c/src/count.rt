@@ -1,5 +1,5 @@
 //! A limit on the number of tokens.
-ghost use Rattle.std.specs.Prelude.{◌≡◌, ◌≢◌, ◌≤◌, ◌^◌, ◌↔◌, length, IsUtf8};
+ghost use Rattle.std.specs.Prelude.{◌≡◌, ◌≢◌, ◌≤◌, ◌^◌, ◌↔◌, [], length, IsUtf8};
 ghost use Rattle.std.specs.Str.{chars};
 ghost use Rattle.graphql_lexical.specs.Place as places;
 ghost use Rattle.juniper_flat.specs.Faults.{many_fault};
@@ -19,8 +19,9 @@ pub extern "C" fn firthnapkin_count(
     fault: &mut Fault,
 ) -> u32
     ensures statuses { IsCountStatus result }
-    ensures few { result ≡ FEW → IsUtf8 source.now × HasFew (chars source.now) 0 most }
-    ensures many { result ≡ MANY → IsUtf8 source.now × ((span : places.Span) × HasMore (chars source.now) 0 most span × (fault.new ≡ many_fault (chars source.now) span)) }
+    ensures few { result ≡ FEW → IsUtf8 source.now × HasFew [] (chars source.now) most }
+    ensures many { result ≡ MANY → IsUtf8 source.now × ((span : places.Span) × HasMore [] (chars source.now) most span × (fault.new ≡ many_fault (chars source.now) span)) }
+    ensures memory { result ≡ MEMORY → IsUtf8 source.now }
     ensures no_text { result ≡ NOT_UTF8 → ¬ IsUtf8 source.now }
     ensures too_long { result ≡ TOO_LONG ↔ 2 ^ 32 ≤ length source.now }
     ensures fault_kept { result ≢ MANY → fault.new ≡ fault.old }

@@ -29,6 +29,7 @@ pub extern "C" fn firthnapkin_message(
         × Begins (deep_message span) room.old room.new × (needed.new ≡ length (deep_message span)) }
     ensures room { result ≡ ROOM → (message : List ℕ) × HasMessage source.now depth message
         × (length room.old < length message) × (needed.new ≡ length message) }
+    ensures memory { result ≡ MEMORY → IsUtf8 source.now }
     ensures no_text { result ≡ NOT_UTF8 → ¬ IsUtf8 source.now }
     ensures too_long { result ≡ TOO_LONG ↔ 2 ^ 32 ≤ length source.now }
     ensures depth_refused { result ≡ DEPTH ↔ ((MOST_DEPTH < depth) × (length source.now < 2 ^ 32)) }

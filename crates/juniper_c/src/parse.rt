@@ -44,6 +44,7 @@ pub extern "C" fn firthnapkin_parse(
     ensures bounds { (nodes_needed.new ≤ length source.now) × (texts_needed.new ≤ length source.now) }
     ensures refused { result ≡ REFUSED → (found : errors.Fault) × HasRefusal source.now depth found × (fault.new ≡ written_fault (chars source.now) found) }
     ensures too_deep { result ≡ TOO_DEEP → (span : places.Span) × HasDeepToken source.now depth span × (fault.new ≡ deep_fault (chars source.now) span) }
+    ensures memory { result ≡ MEMORY → IsUtf8 source.now }
     ensures no_text { result ≡ NOT_UTF8 → ¬ IsUtf8 source.now }
     ensures too_long { result ≡ TOO_LONG ↔ 2 ^ 32 ≤ length source.now }
     ensures depth_refused { result ≡ DEPTH ↔ ((MOST_DEPTH < depth) × (length source.now < 2 ^ 32)) }

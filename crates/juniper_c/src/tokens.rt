@@ -1,8 +1,9 @@
 //! A source's tokens, in the caller's memory.
-ghost use Rattle.std.specs.Prelude.{◌≡◌, ◌≢◌, ◌<◌, ◌≤◌, ◌+◌, ◌^◌, ◌⊎◌, ◌↔◌, ℕ, List, length, IsUtf8};
+ghost use Rattle.std.specs.Prelude.{◌≡◌, ◌≢◌, ◌<◌, ◌≤◌, ◌+◌, ◌^◌, ◌⊎◌, ◌↔◌, ◌++◌, List, [], length, IsUtf8};
 ghost use Rattle.std.specs.Str.{chars};
 ghost use Rattle.graphql_lexical.specs.Place as places;
 ghost use Rattle.graphql_lexical.specs.Kinds.{LexicalError};
+ghost use Rattle.graphql_lexical.specs.Characters.{Text};
 ghost use Rattle.graphql_lexical.specs.Cutting.{Lexeme, Leads, Stands, Breaks};
 ghost use Rattle.juniper.specs.Promise.{lexical_fault};
 ghost use Rattle.juniper_flat.specs.Faults.{written_fault, many_fault};
@@ -45,13 +46,13 @@ pub extern "C" fn firthnapkin_tokens(
         × Breaks (chars source.now) error at × (fault.new ≡ written_fault (chars source.now) (lexical_fault error at)) }
 
     // It begins with the tokens before the first that is one too many, as many as it has capacity for.
-    ensures many { result ≡ MANY → IsUtf8 source.now × ((span : places.Span) × (more : HasMore (chars source.now) 0 most span)
+    ensures many { result ≡ MANY → IsUtf8 source.now × ((span : places.Span) × (more : HasMore [] (chars source.now) most span)
         × Fills (written_tokens (chars source.now) more.front) tokens.old tokens.new × (tokens_needed.new ≡ most)
         × (fault.new ≡ many_fault (chars source.now) span)) }
 
     // It may begin with some of the source's first tokens.
-    ensures memory { result ≡ MEMORY → IsUtf8 source.now × ((some : List Lexeme) × (next : ℕ)
-        × Leads (chars source.now) 0 some next × Fills (written_tokens (chars source.now) some) tokens.old tokens.new) }
+    ensures memory { result ≡ MEMORY → IsUtf8 source.now × ((some : List Lexeme) × (done after : Text)
+        × Leads [] (chars source.now) some done after × Fills (written_tokens (chars source.now) some) tokens.old tokens.new) }
     ensures no_text { result ≡ NOT_UTF8 → ¬ IsUtf8 source.now }
     ensures too_long { result ≡ TOO_LONG ↔ 2 ^ 32 ≤ length source.now }
 
@@ -59,8 +60,8 @@ pub extern "C" fn firthnapkin_tokens(
     ensures bounds { tokens_needed.new ≤ length source.now + 1 }
 
     // A token that stands in the source has the bytes of its text.
-    ensures texts { IsUtf8 source.now → (k : ℕ) (x : Lexeme) (next : ℕ) → k ≤ length (chars source.now)
-        → Stands (chars source.now) k x next → TellsText source.now x }
+    ensures texts { IsUtf8 source.now → (before left : Text) (x : Lexeme) (done after : Text) → before ++ left ≡ chars source.now
+        → Stands before left x done after → TellsText source.now x }
 
     // What is left unchanged.
     ensures room_kept { (result ≡ NOT_UTF8) ⊎ (result ≡ TOO_LONG) → tokens.new ≡ tokens.old }

@@ -1,5 +1,5 @@
 -- What the loop keeps: the canonical text of the tokens so far.
-use Rattle.std.proofs.Common.{◌≡◌, ℕ, Bool, true, false, not, ◌&&◌, ◌||◌, List, [], ◌∷◌, ◌++◌, refl, sym, ap, ap₂, ◌∙◌, subst, append_assoc, append-nil}
+use Rattle.std.proofs.Common.{◌≡◌, ℕ, inr, Bool, true, false, not, ◌&&◌, ◌||◌, List, [], ◌∷◌, ◌++◌, refl, sym, ap, ap₂, ◌∙◌, subst, append_assoc, append-nil}
 use Rattle.graphql_lexical.specs.declared.kind.Kind.{Kind}
 use Rattle.graphql_lexical.specs.declared.kind.Kind.TheVariants.{EndOfFile, Ellipsis}
 use Rattle.graphql_lexical.specs.Kinds.{is_fixed, same_kind}
@@ -7,13 +7,13 @@ use Rattle.juniper_canonical.specs.device.Parting.{is_behind_space}
 use Rattle.std.proofs.Common.{inl}
 use Rattle.std.specs.Prelude.{Some, Result, Ok, Err, encode_utf8_all}
 use Rattle.std.proofs.lemmas.Str.{encodes-append}
-use Rattle.graphql_lexical.specs.Cutting.{Lexeme, Stands, BreaksFrom, here, Breaks}
+use Rattle.graphql_lexical.specs.Cutting.{Lexeme, none, BreaksThere, here, Breaks, Cut}
 use Rattle.juniper_tokens.specs.declared.span.Spanning.{Spanning}
 use Rattle.juniper_tokens.specs.declared.token.Token.{Token}
 use Rattle.juniper_tokens.specs.Tokens.{view_token, token_kind}
-use Rattle.juniper_tokens.specs.Lexing.{LexerState, started, lexer_steps, BreaksAt, GivesFault, GivesItem}
+use Rattle.juniper_tokens.specs.Lexing.{LexerState, started, passed, ahead, PassesToken, lexer_steps, GivesFault, GivesItem}
 use Rattle.std.specs.Result.{IsErrAnd}
-use Rattle.graphql_lexical.proofs.Public.{front_breaks}
+use Rattle.graphql_lexical.proofs.Public.{breaks_lead}
 use Rattle.juniper_tokens.specs.declared.error.LexFailure.{LexFailure}
 use Rattle.juniper_tokens.specs.declared.error.LexFailure.TheVariants as failures
 use Rattle.juniper_tokens.specs.Errors.{view_lexer_error}
@@ -74,7 +74,7 @@ pub record Kept (source : List ℕ) (t : LexerState) (text : List ℕ) (is_bare 
   pub bare_is : is_bare ≡ not (is_fixed (last_kind tokens))
 
 pub kept_first : (source : List ℕ) → Kept source (started source) [] false
-kept_first source = record { tokens = []; gathered = record { source = refl; tokens = inl (refl, refl) }; text_is = refl; bare_is = refl }
+kept_first source = record { tokens = []; gathered = record { source = refl; tokens = inl (refl, none) }; text_is = refl; bare_is = refl }
 
 pub kept_more : (source : List ℕ) (t u : LexerState) (text new : List ℕ) (is_bare : Bool) (token : Spanning Token)
     → Kept source t text is_bare → lexer_steps t (Some (Ok token)) u
@@ -87,7 +87,7 @@ kept_more source t u text new is_bare token k h e =
     record {
       tokens = k.tokens ++ x ∷ [];
       gathered = gathered_token (started source) k.tokens t u x open_yet (h.1 ∙ same)
-          (subst (λ (s : List ℕ). Stands s t.index x u.index) same h.2.stands) h.2.ends;
+          (subst (λ (s : List ℕ). PassesToken (record { source = s; index = t.index; ended = false }) x u.index) same h.2.stands) h.2.ends;
       text_is = e ∙ (ap₂ (λ (s : List ℕ) (b : Bool). s ++ encode_utf8_all (added_behind b x)) k.text_is k.bare_is
           ∙ (ap (λ (t : List ℕ). encode_utf8_all (canonical k.tokens) ++ encode_utf8_all t) (added_same (last_kind k.tokens) x)
           ∙ (sym (encodes-append (canonical k.tokens) (added (last_kind k.tokens) x))
@@ -104,8 +104,15 @@ kept_fault source t u text is_bare (Ok x) failure k h e = absurd e
 kept_fault source t u text is_bare (Err failures.Memory) failure k h e = tt
 kept_fault source t u text is_bare (Err (failures.Fault fault)) failure k h e =
     let gives : GivesFault t fault u = subst (λ (f : LexFailure). GivesItem t (Err f) u) (sym e) h.2 in
-    let breaks : BreaksAt source t.index (view_lexer_error fault.item) fault.span.start =
-    subst (λ (s : List ℕ). BreaksAt s t.index (view_lexer_error fault.item) fault.span.start) k.gathered.source
-    gives.breaks in
-    front_breaks source k.tokens 0 t.index _ _ (gathered_open (started source) k.tokens t k.gathered h.0)
-    (subst (BreaksFrom source t.index (view_lexer_error fault.item)) (sym breaks.at_is) (here breaks.gap_is breaks.fails))
+    let breaks : BreaksThere (passed source t.index) (ahead source t.index) (view_lexer_error fault.item) fault.span.start =
+    subst (λ (s : List ℕ). BreaksThere (passed s t.index) (ahead s t.index) (view_lexer_error fault.item) fault.span.start)
+    k.gathered.source gives.breaks in
+    breaks_lead _ _ _ _ k.tokens _ _ (gathered_open (started source) k.tokens t k.gathered h.0) (here breaks)
+
+-- where the lexer has ended, the source is cut into the tokens behind which it stands
+pub kept_cut : (source : List ℕ) (t : LexerState) (text : List ℕ) (is_bare : Bool) → Kept source t text is_bare
+    → t.ended ≡ true → (tokens : List Lexeme) × Cut source tokens × (text ≡ encode_utf8_all (canonical tokens))
+kept_cut source t text is_bare k e = elim k.gathered.tokens [
+  | inl o ↦ absurd (cc)
+  | inr d ↦ (k.tokens, d.1, k.text_is)
+]

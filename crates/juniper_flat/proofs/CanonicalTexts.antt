@@ -29,5 +29,5 @@ canonical_refused text error at (answer.Refused fault) l u b told =
     let few : length (chars text) < 2 ^ 32 = omega (arith, chars_within text u, l) in
     (l, u, (error, at, b, told (broken_fits (chars text) error at few b)))
 canonical_refused text error at answer.NotUtf8 l u b none = absurd none
-canonical_refused text error at answer.Memory l u b told = l
+canonical_refused text error at answer.Memory l u b told = (l, u)
 canonical_refused text error at answer.TooLong l u b none = absurd none

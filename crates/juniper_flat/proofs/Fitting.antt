@@ -1,16 +1,17 @@
 -- The numbers that C is told of a source of less than 4 GiB fit in 32 bits.
 use Rattle.std.proofs.Common.{◌≡◌, ◌∙◌, ℕ, ◌+◌, ◌^◌, ◌<◌, ◌≤◌, List, [], ◌∷◌, ◌++◌, length, take, reverse, sym, ap, subst, inl, inr, arith, append_assoc, length-append, refl}
 use Rattle.std.specs.List.{AllByRecursion, prefix_len, take_while}
-use Rattle.std.specs.Prelude.{not, ◌==◌}
+use Rattle.std.specs.Prelude.{not, Bool}
 use Rattle.std.specs.Str.{chars, IsUtf8}
 use Rattle.std.proofs.lemmas.List.{length-take, length-reverse}
 use Rattle.std.proofs.lemmas.List.Sums.{count_by-le-length}
 use Rattle.std.proofs.lemmas.Str.{encodes-chars}
 use Rattle.graphql_lexical.specs.Place as places
 use Rattle.graphql_lexical.specs.Place.{place}
+use Rattle.graphql_lexical.specs.Characters.{is_line_feed}
 use Rattle.graphql_lexical.specs.Kinds.{LexicalError}
 use Rattle.graphql_lexical.specs.Cutting.{Breaks}
-use Rattle.graphql_lexical.proofs.Public.{one_cut_or_break}
+use Rattle.graphql_lexical.proofs.Public.{breaks_by_places}
 use Rattle.graphql_grammar.specs.Tree.{Definition}
 use Rattle.graphql_nodes.specs.Nodes as nodes
 use Rattle.graphql_nodes.specs.Nodes.{document_nodes}
@@ -19,7 +20,7 @@ use Rattle.graphql_nodes.proofs.Public.{few_nodes_of_source, document_forest, de
 use Rattle.juniper_tokens.specs.Errors as errors
 use Rattle.juniper_tokens.proofs.Public.{chars_within}
 use Rattle.juniper_values.specs.Scalar.{Content}
-use Rattle.juniper.specs.Promise.{HasTree, IsRefusal}
+use Rattle.juniper.specs.Promise.{HasTree, IsRefusal, lexical, grammatical}
 use Rattle.juniper.specs.Within.{HasTooDeep}
 use Rattle.juniper_nodes.specs.NodeTexts.{text_of_node, node_texts}
 use Rattle.juniper_flat.specs.Nodes.{byte_count}
@@ -30,22 +31,24 @@ use Rattle.juniper_flat.proofs.Written.{bytes-append}
 
 -- ---- places
 
-pub any_place_fits : (source : List ℕ) (m : ℕ) → length source < 2 ^ 32 → PlaceFits (place source m)
-any_place_fits source m l =
-    let front = take m source in
-    let pass = λ (c : ℕ). not (c == 10) in
-    let few : length front ≤ length source = omega (arith, length-take m source) in
-    let lines = count_by-le-length (λ (c : ℕ). c == 10) front in
-    let columns : length (take_while pass (reverse front)) ≤ length front =
-    omega (arith, length-take (prefix_len pass (reverse front)) (reverse front), length-reverse front) in
-    (omega (arith, few, l), omega (arith, lines, few, l), omega (arith, columns, few, l))
+-- the position after a text
+pub position_fits : (text : List ℕ) → length text < 2 ^ 32 → PlaceFits (places.position_after text)
+position_fits text l =
+    let pass : ℕ → Bool = λ (c : ℕ). not (is_line_feed c) in
+    let lines = count_by-le-length is_line_feed text in
+    let columns : length (take_while pass (reverse text)) ≤ length text =
+    omega (arith, length-take (prefix_len pass (reverse text)) (reverse text), length-reverse text) in
+    (l, omega (arith, lines, l), omega (arith, columns, l))
+
+any_place_fits : (source : List ℕ) (m : ℕ) → length source < 2 ^ 32 → PlaceFits (place source m)
+any_place_fits source m l = position_fits (take m source) (omega (arith, length-take m source, l))
 
 place_fits : (source : List ℕ) (p : places.Place) → length source < 2 ^ 32 → IsPlaceOf source p → PlaceFits p
 place_fits source p l h = subst PlaceFits (sym h.is) (any_place_fits source p.index l)
 
 pub broken_fits : (source : List ℕ) (error : LexicalError) (at : places.Place) → length source < 2 ^ 32
     → Breaks source error at → PlaceFits at
-broken_fits source error at l b = place_fits source at l (broken_lies source b)
+broken_fits source error at l b = place_fits source at l (broken_lies source (breaks_by_places source error at b))
 
 pub span_fits : (source : List ℕ) (span : places.Span) → length source < 2 ^ 32 → LiesIn source span → SpanFits span
 span_fits source span l h = (place_fits source span.start l h.start, place_fits source span.end l h.end)
@@ -53,24 +56,16 @@ span_fits source span l h = (place_fits source span.start l h.start, place_fits 
 -- ---- faults
 
 refusal_lies : (source : List ℕ) (fault : errors.Fault) → IsRefusal scalars source fault → LiesIn source fault.span
-refusal_lies source fault h = elim (one_cut_or_break source).some [
-  | inl cut ↦ (
-      let at = h.grammatical cut.0 cut.1 in
-      let refused = at.refused.0 in
-      let lies = tokens_lie source cut.0 cut.1 in
-      subst (LiesIn source) (sym at.span) (token_among source cut.0 at.before refused.after at.token refused.whole lies))
-  | inr break ↦ (
-      let lies = broken_lies source break.2 in
-      subst (λ (f : errors.Fault). LiesIn source f.span) (sym (h.lexical break.0 break.1 break.2))
-      (record { start = lies; end = lies }))
-]
+refusal_lies source _ (lexical b) = let lies = broken_lies source (breaks_by_places source _ _ b) in record { start = lies; end = lies }
+refusal_lies source _ (grammatical {ts} {before} {t} cut refused begins ends) =
+    token_among source ts before refused.0.after t refused.0.whole (tokens_lie source ts cut)
 
 deep_lies : (source : List ℕ) (depth : ℕ) (span : places.Span) → HasTooDeep scalars depth source span
     → LiesIn source span
 deep_lies source depth span h =
     let deeper = h.deep.deeper in
     subst (LiesIn source) (sym h.at)
-    (token_among source h.lexemes deeper.before deeper.after h.token deeper.whole (tokens_lie source h.lexemes h.cut))
+    (token_among source h.lexemes h.before deeper.after h.token deeper.whole (tokens_lie source h.lexemes h.cut))
 
 module _ (text : List ℕ) (u : IsUtf8 text) (l : length text < 2 ^ 32) where
   pub few_characters : length (chars text) < 2 ^ 32

@@ -5,29 +5,22 @@ use Rattle.std.proofs.lemmas.List.{length-map, map-append}
 use Rattle.graphql_lexical.specs.declared.kind.Kind.TheVariants.{EndOfFile}
 use Rattle.graphql_lexical.specs.Place.{Place, Span}
 use Rattle.graphql_lexical.specs.Kinds.{LexicalError}
-use Rattle.graphql_lexical.specs.Cutting.{Lexeme, Stands, Leads, CutFrom, Cut, BreaksFrom, Breaks, here}
-use Rattle.graphql_lexical.proofs.Public.{stands_size, leads_size, front_cut, front_breaks}
-use Rattle.juniper_tokens.specs.Lexing.{LexerState, started, BreaksAt}
-use Rattle.juniper_tokens.proofs.Public.{chars_within, gathered_open, gathered_token}
+use Rattle.graphql_lexical.specs.Cutting.{Lexeme, Stands, Leads, none, Cut, last, BreaksThere, Breaks, here}
+use Rattle.graphql_lexical.specs.device.Indexed.{CutFrom}
+use Rattle.graphql_lexical.proofs.Public.{stands_size, leads_size, leads_whole, leads_from_text, leads_more, cut_leads, breaks_lead}
+use Rattle.juniper_tokens.specs.Lexing.{LexerState, started, passed, ahead, PassesToken, MeetsError}
+use Rattle.juniper_tokens.proofs.Public.{chars_within}
 use Rattle.juniper_flat.specs.Answers.{Fills}
 use Rattle.juniper_flat.specs.TokenCounts.{HasMore}
 use Rattle.juniper_flat.specs.Tokens.{written_token, written_tokens, HasTokens, HasFaultBehind}
 use Rattle.juniper_flat.specs.declared.token.Token.{Token}
 use Rattle.juniper_flat.proofs.Rooms.{fills_none, fills_more}
-
--- one token more
-leads_more : (source : List ℕ) (xs : List Lexeme) (x : Lexeme) (m n : ℕ) → Leads source 0 xs m → Stands source m x n
-    → (x.kind ≡ EndOfFile → ⊥) → Leads source 0 (xs ++ x ∷ []) n
-leads_more source xs x m n l s other =
-    let t : LexerState = record { source = source; index = m; ended = false } in
-    let u : LexerState = record { source = source; index = n; ended = false } in
-    gathered_open (started source) (xs ++ x ∷ []) u
-    (gathered_token (started source) xs t u x l refl s (λ e. absurd cc, λ e. absurd (other e))) refl
+use Rattle.graphql_lexical.proofs.Public.{by_places}
 
 -- The lexer stands behind these tokens, none of them the end, and the room is filled with them.
 pub record Held (source : List ℕ) (old : List Token) (lexer : LexerState) (room : List Token) (count : ℕ) : Type 0 where
   pub tokens : List Lexeme
-  pub leads : Leads source 0 tokens lexer.index
+  pub leads : Leads [] source tokens (passed source lexer.index) (ahead source lexer.index)
   pub same : lexer.source ≡ source
   pub going : lexer.ended ≡ false
   pub fills : Fills (written_tokens source tokens) old room
@@ -36,7 +29,7 @@ pub record Held (source : List ℕ) (old : List Token) (lexer : LexerState) (roo
 pub held_first : (source : List ℕ) (old : List Token) → Held source old (started source) old 0
 held_first source old = record {
   tokens = [];
-  leads = refl;
+  leads = none;
   same = refl;
   going = refl;
   fills = fills_none old;
@@ -55,13 +48,22 @@ fills_next source xs x old room count told f e is =
     (ap₂ (λ (n : ℕ) (t : Token). set room n t) (sym at) (sym is)) more)
 
 module _ (source : List ℕ) (old room : List Token) (s : LexerState) (count : ℕ) (h : Held source old s room count) where
-  -- what the lexer gives stands in the source
-  pub stands_here : (x : Lexeme) (next : ℕ) → Stands s.source s.index x next → Stands source s.index x next
-  stands_here x next = subst (λ (text : List ℕ). Stands text s.index x next) h.same
+  -- the token that stands in the source where the lexer does
+  abbrev pub StandsHere : Lexeme → ℕ → Type 0
+  StandsHere x next = Stands (passed source s.index) (ahead source s.index) x (passed source next) (ahead source next)
 
-  pub breaks_here : (error : LexicalError) (at : Place) → BreaksAt s.source s.index error at
-      → BreaksAt source s.index error at
-  breaks_here error at = subst (λ (text : List ℕ). BreaksAt text s.index error at) h.same
+  -- what the lexer gives stands in the source
+  pub stands_here : (x : Lexeme) (next : ℕ) → PassesToken s x next → StandsHere x next
+  stands_here x next =
+      subst (λ (text : List ℕ). Stands (passed text s.index) (ahead text s.index) x (passed text next) (ahead text next)) h.same
+
+  pub breaks_here : (error : LexicalError) (at : Place) → MeetsError s error at
+      → BreaksThere (passed source s.index) (ahead source s.index) error at
+  breaks_here error at = subst (λ (text : List ℕ). BreaksThere (passed text s.index) (ahead text s.index) error at) h.same
+
+  -- where the lexer stands is within the source
+  pub all_there : passed source s.index ++ ahead source s.index ≡ source
+  all_there = sym (leads_whole [] source (passed source s.index) (ahead source s.index) h.tokens h.leads)
 
   -- one token more is put behind those
   pub held_told : (new : List Token) (told : Token) (x : Lexeme) → told ≡ written_token source x → new ≡ set room count told
@@ -70,12 +72,12 @@ module _ (source : List ℕ) (old room : List Token) (s : LexerState) (count : �
       (fills_next source h.tokens x old room count told h.fills h.count_is is)
 
   -- and it is not the end
-  pub held_more : (t : LexerState) (new : List Token) (told : Token) (x : Lexeme) → Stands source s.index x t.index
+  pub held_more : (t : LexerState) (new : List Token) (told : Token) (x : Lexeme) → StandsHere x t.index
       → (x.kind ≡ EndOfFile → ⊥) → t.source ≡ s.source → t.ended ≡ false → told ≡ written_token source x
       → new ≡ set room count told → Held source old t new (count + 1)
   held_more t new told x stands other same going is put = record {
     tokens = h.tokens ++ x ∷ [];
-    leads = leads_more source h.tokens x s.index t.index h.leads stands other;
+    leads = leads_more _ _ _ _ _ _ h.tokens x h.leads stands other;
     same = same ∙ h.same;
     going = going;
     fills = held_told new told x is put;
@@ -83,17 +85,19 @@ module _ (source : List ℕ) (old room : List Token) (s : LexerState) (count : �
   }
 
   -- the token behind those is one too many
-  pub held_many : (most : ℕ) (x : Lexeme) (next : ℕ) (span : Span) → count ≡ most → Stands source s.index x next
+  pub held_many : (most : ℕ) (x : Lexeme) (next : ℕ) (span : Span) → count ≡ most → StandsHere x next
       → (x.kind ≡ EndOfFile → ⊥) → span ≡ x.span
-      → (more : HasMore source 0 most span) × Fills (written_tokens source more.front) old room
+      → (more : HasMore [] source most span) × Fills (written_tokens source more.front) old room
   held_many most x next span e stands other at = (
     record {
       front = h.tokens;
-      middle = s.index;
+      done = passed source s.index;
+      rest = ahead source s.index;
       leads = h.leads;
       count = sym h.count_is ∙ e;
       token = x;
-      next = next;
+      past = passed source next;
+      after = ahead source next;
       stands = stands;
       other = other;
       at = at;
@@ -102,16 +106,15 @@ module _ (source : List ℕ) (old room : List Token) (s : LexerState) (count : �
   )
 
   -- the token behind those is the end
-  pub held_all : (x : Lexeme) (next : ℕ) → Stands source s.index x next → x.kind ≡ EndOfFile
-      → Cut source (h.tokens ++ x ∷ [])
-  held_all x next stands end = front_cut source h.tokens (x ∷ []) 0 s.index h.leads (next, stands, inl (end, refl))
+  pub held_all : (x : Lexeme) (next : ℕ) → StandsHere x next → x.kind ≡ EndOfFile → Cut source (h.tokens ++ x ∷ [])
+  held_all x next stands end = cut_leads _ _ _ _ h.tokens (x ∷ []) h.leads (last stands end)
 
 -- ---- how many tokens there are
 
 pub cut_within : (source : List ℕ) (xs : List Lexeme) (k : ℕ) → k ≤ length source → CutFrom source k xs
     → length xs + k ≤ length source + 1
 cut_within source [] k l c = absurd c
-cut_within source (x ∷ xs) k l (n, s, inl (end, none)) = omega (arith, l, ap length none)
+cut_within source (x ∷ xs) k l (n, s, inl (end, empty)) = omega (arith, l, ap length empty)
 cut_within source (x ∷ xs) k l (n, s, inr (other, c)) =
     let z = stands_size source k x n l s other in
     omega (arith, z.0, cut_within source xs n z.1 c)
@@ -119,27 +122,24 @@ cut_within source (x ∷ xs) k l (n, s, inr (other, c)) =
 module _ (source : List ℕ) where
   pub few_tokens : (lexemes : List Lexeme) → HasTokens source lexemes → length lexemes ≤ length source + 1
   few_tokens lexemes h =
-      omega (arith, cut_within (chars source) lexemes 0 zero-le h.cut, chars_within source h.utf8)
+      omega (arith, cut_within (chars source) lexemes 0 zero-le (by_places (chars source) lexemes h.cut), chars_within source h.utf8)
 
-  few_leading : (before : List Lexeme) (next : ℕ) → IsUtf8 source → Leads (chars source) 0 before next
+  few_leading : (before : List Lexeme) (done after : List ℕ) → IsUtf8 source → Leads [] (chars source) before done after
       → length before ≤ length source
-  few_leading before next u l =
-      let z = leads_size (chars source) before 0 next zero-le l in
+  few_leading before done after u l =
+      let z = leads_size (chars source) before 0 (length done) zero-le (leads_from_text [] (chars source) done after before l) in
       omega (arith, z.0, z.1, chars_within source u)
 
   pub few_before : (before : List Lexeme) (error : LexicalError) (at : Place) → HasFaultBehind source before error at
       → length before ≤ length source
-  few_before before error at h = few_leading before h.next h.utf8 h.leads
+  few_before before error at h = few_leading before h.done h.after h.utf8 h.leads
 
-  pub few_in_limit : (most : ℕ) (span : Span) → IsUtf8 source → HasMore (chars source) 0 most span
+  pub few_in_limit : (most : ℕ) (span : Span) → IsUtf8 source → HasMore [] (chars source) most span
       → most ≤ length source
-  few_in_limit most span u h = omega (arith, h.count, few_leading h.front h.middle u h.leads)
+  few_in_limit most span u h = omega (arith, h.count, few_leading h.front h.done h.rest u h.leads)
 
 -- ---- faults
 
 pub fault_behind : (source : List ℕ) (before : List Lexeme) (error : LexicalError) (at : Place)
     → HasFaultBehind source before error at → Breaks (chars source) error at
-fault_behind source before error at h =
-    let b = h.breaks in
-    front_breaks (chars source) before 0 h.next error at h.leads
-    (subst (BreaksFrom (chars source) h.next error) (sym b.at_is) (here b.gap_is b.fails))
+fault_behind source before error at h = breaks_lead [] (chars source) h.done h.after before error at h.leads (here h.breaks)

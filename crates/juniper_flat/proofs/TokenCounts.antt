@@ -1,70 +1,97 @@
 -- Counts of tokens, one token on.
-use Rattle.std.proofs.Common.{◌≡◌, ℕ, suc, ◌+◌, ◌<◌, ◌^◌, List, ◌∷◌, [], length, ap, sym, subst, refl, arith}
+use Rattle.std.proofs.Common.{◌≡◌, ℕ, suc, ◌+◌, ◌<◌, ◌^◌, List, ◌∷◌, [], ◌++◌, length, ap, sym, subst, refl, arith}
+use Rattle.std.proofs.lemmas.List.{length-append}
 use Rattle.std.specs.Prelude.{IsUtf8, chars}
 use Rattle.graphql_lexical.specs.Place.{Span}
 use Rattle.graphql_lexical.specs.declared.kind.Kind.TheVariants.{EndOfFile}
-use Rattle.graphql_lexical.specs.Cutting.{Lexeme, Stands}
+use Rattle.graphql_lexical.specs.Characters.{Text}
+use Rattle.graphql_lexical.specs.Cutting.{Lexeme, Stands, none, more}
+use Rattle.graphql_lexical.proofs.Public.{done_whole}
 use Rattle.juniper_flat.specs.FlatWriters.{PlaceFits, SpanFits}
-use Rattle.juniper_flat.specs.TokenCounts.{EndsAt, HasFew, HasMore, IsTooMany, ReturnsCounted}
+use Rattle.juniper_flat.specs.TokenCounts.{EndsAfter, HasFew, HasMore, IsTooMany, ReturnsCounted}
 use Rattle.juniper_flat.specs.declared.count.Counted.{Counted}
 use Rattle.juniper_flat.specs.declared.count.Counted.TheVariants as counted
-use Rattle.juniper_flat.proofs.Fitting.{any_place_fits}
+use Rattle.juniper_flat.proofs.Fitting.{position_fits}
 
 -- the numbers of a token
-pub token_fits : (source : List ℕ) (k m : ℕ) (x : Lexeme) → Stands source k x m → (span : Span) → span ≡ x.span
-    → length source < 2 ^ 32 → SpanFits span
-token_fits source k m x s span at l =
-    let start = subst PlaceFits (sym s.start) (any_place_fits source (k + s.gap) l) in
-    let end = subst PlaceFits (sym s.end) (any_place_fits source m l) in
-    subst SpanFits (sym at) (start, end)
+pub token_fits : (before left : Text) (x : Lexeme) (done after : Text) → Stands before left x done after → (span : Span)
+    → span ≡ x.span → length (before ++ left) < 2 ^ 32 → SpanFits span
+token_fits before left x done after s span at l =
+    let whole = ap length (done_whole before left x done after s) in
+    let end : length done < 2 ^ 32 = omega (arith, l, whole, length-append done after) in
+    let start : length (before ++ s.gap) < 2 ^ 32 = omega (
+      arith,
+      end,
+      ap length s.done_is,
+      length-append before s.gap,
+      length-append before (s.gap ++ s.whole),
+      length-append s.gap s.whole,
+    ) in
+    subst SpanFits (sym at) (
+      subst PlaceFits (sym s.start) (position_fits (before ++ s.gap) start),
+      subst PlaceFits (sym s.end) (position_fits done end),
+    )
 
-module _ (source : List ℕ) (k m : ℕ) (x : Lexeme) (s : Stands source k x m) (other : x.kind ≡ EndOfFile → ⊥) where
-  pub few_behind : (most : ℕ) → HasFew source m most → HasFew source k (suc most)
+module _ (before left : Text) (x : Lexeme) (done after : Text) (s : Stands before left x done after)
+    (other : x.kind ≡ EndOfFile → ⊥) where
+  pub few_behind : (most : ℕ) → HasFew done after most → HasFew before left (suc most)
   few_behind most h = record {
     tokens = x ∷ h.tokens;
-    next = h.next;
-    leads = (m, s, other, h.leads);
+    done = h.done;
+    after = h.after;
+    leads = more s other h.leads;
     ends = h.ends;
     few = omega (arith, h.few);
   }
 
-  pub more_behind : (most : ℕ) (span : Span) → HasMore source m most span → HasMore source k (suc most) span
+  pub more_behind : (most : ℕ) (span : Span) → HasMore done after most span → HasMore before left (suc most) span
   more_behind most span h = record {
     front = x ∷ h.front;
-    middle = h.middle;
-    leads = (m, s, other, h.leads);
+    done = h.done;
+    rest = h.rest;
+    leads = more s other h.leads;
     count = ap suc h.count;
     token = h.token;
-    next = h.next;
+    past = h.past;
+    after = h.after;
     stands = h.stands;
     other = h.other;
     at = h.at;
   }
 
   -- the first token is one too many
-  pub more_here : (span : Span) → span ≡ x.span → HasMore source k 0 span
+  pub more_here : (span : Span) → span ≡ x.span → HasMore before left 0 span
   more_here span at = record {
     front = [];
-    middle = k;
-    leads = refl;
+    done = before;
+    rest = left;
+    leads = none;
     count = refl;
     token = x;
-    next = m;
+    past = done;
+    after = after;
     stands = s;
     other = other;
     at = at;
   }
 
 -- a source that ends here
-pub few_here : (source : List ℕ) (k most : ℕ) → EndsAt source k → HasFew source k most
-few_here source k most e = record { tokens = []; next = k; leads = refl; ends = e; few = omega arith }
+pub few_here : (before left : Text) (most : ℕ) → EndsAfter before left → HasFew before left most
+few_here before left most e = record {
+  tokens = [];
+  done = before;
+  after = left;
+  leads = none;
+  ends = e;
+  few = omega arith;
+}
 
 -- what is answered where there are too many
 pub counted_many : (text : List ℕ) (most : ℕ) (span : Span) (result : Counted) → length text < 2 ^ 32 → IsUtf8 text
-    → HasMore (chars text) 0 most span → SpanFits span → IsTooMany (chars text) span result
+    → HasMore [] (chars text) most span → SpanFits span → IsTooMany (chars text) span result
     → ReturnsCounted text most result
-counted_many text most span counted.Few l u h f none = absurd none
+counted_many text most span counted.Few l u h f never = absurd never
 counted_many text most span (counted.Many fault) l u h f told = (l, u, (span, h, told f))
-counted_many text most span counted.NotUtf8 l u h f none = absurd none
-counted_many text most span counted.Memory l u h f tell = l
-counted_many text most span counted.TooLong l u h f none = absurd none
+counted_many text most span counted.NotUtf8 l u h f never = absurd never
+counted_many text most span counted.Memory l u h f tell = (l, u)
+counted_many text most span counted.TooLong l u h f never = absurd never

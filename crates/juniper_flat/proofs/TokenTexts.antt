@@ -1,5 +1,5 @@
 -- The bytes of a token's text are found between its places.
-use Rattle.std.proofs.Common.{◌≡◌, ◌∙◌, ℕ, ◌+◌, ◌-◌, ◌*◌, ◌≤◌, List, [], ◌∷◌, ◌++◌, length, take, drop, refl, sym, ap, ap₂, arith, append_assoc, append-nil, length-append, length-drop, take-append-drop, take-add}
+use Rattle.std.proofs.Common.{◌≡◌, ◌∙◌, ℕ, ◌+◌, ◌-◌, ◌*◌, ◌≤◌, List, [], ◌∷◌, ◌++◌, length, take, drop, refl, sym, ap, ap₂, subst, arith, append_assoc, append-nil, length-append, length-drop, take-append-drop, take-add}
 use Rattle.std.specs.Prelude.{encode_utf8_all}
 use Rattle.std.specs.Str.{chars, IsUtf8}
 use Rattle.std.proofs.lemmas.Str.{encodes-append, encodes-chars}
@@ -9,7 +9,8 @@ use Rattle.graphql_lexical.specs.Place.{Place}
 use Rattle.graphql_lexical.specs.Kinds.{Spelling, Names, Strings, BlockStrings, Floats, Ints, Fixed, NoText, spelling}
 use Rattle.graphql_lexical.specs.Tokens.{mark, quotes, around}
 use Rattle.graphql_lexical.specs.Cutting.{Lexeme, Stands}
-use Rattle.graphql_lexical.proofs.Public.{front_read, place_index}
+use Rattle.graphql_lexical.specs.device.Indexed.{StandsAt}
+use Rattle.graphql_lexical.proofs.Public.{front_read, place_index, stands_from_text}
 use Rattle.juniper_flat.specs.Places.{byte_behind}
 use Rattle.juniper_flat.specs.Tokens.{TellsText}
 
@@ -52,7 +53,7 @@ middle front marks text rest from size e f =
     ∙ (ap (take (length text)) behind ∙ take-append_seam text (marks ++ rest))
 
 -- the places of a token that stands in a source
-module _ (source : List ℕ) (k : ℕ) (x : Lexeme) (next : ℕ) (l : k ≤ length source) (s : Stands source k x next) where
+module _ (source : List ℕ) (k : ℕ) (x : Lexeme) (next : ℕ) (l : k ≤ length source) (s : StandsAt source k x next) where
   begins_at : x.span.start.index ≡ k + s.gap
   begins_at =
       let before : k + s.gap ≤ length source = omega (arith, l, s.gap_is.within, length-drop k source) in
@@ -65,9 +66,9 @@ module _ (source : List ℕ) (k : ℕ) (x : Lexeme) (next : ℕ) (l : k ≤ leng
       let after : next ≤ length source = omega (arith, before, f.within, s.next_is, length-drop (k + s.gap) source) in
       ap (λ (p : Place). p.index) s.end ∙ (place_index source next after ∙ s.next_is)
 
-pub tells_text : (bytes : List ℕ) → IsUtf8 bytes → (k : ℕ) (x : Lexeme) (next : ℕ) → k ≤ length (chars bytes)
-    → Stands (chars bytes) k x next → TellsText bytes x
-tells_text bytes u k x next l s =
+tells_text_at : (bytes : List ℕ) → IsUtf8 bytes → (k : ℕ) (x : Lexeme) (next : ℕ) → k ≤ length (chars bytes)
+    → StandsAt (chars bytes) k x next → TellsText bytes x
+tells_text_at bytes u k x next l s =
     let source = chars bytes in
     let from : ℕ = k + s.gap in
     let marks : List ℕ = quotes (spelling x.kind) in
@@ -101,3 +102,10 @@ tells_text bytes u k x next l s =
     ap (λ (t : List ℕ). take ((byte_behind source x.span.end.index - byte_behind source x.span.start.index) - 2 * length marks)
     (drop (byte_behind source x.span.start.index + length marks) t)) whole
     ∙ middle front marks text rest _ _ at size
+
+pub tells_text : (bytes : List ℕ) → IsUtf8 bytes → (before left : List ℕ) (x : Lexeme) (done after : List ℕ)
+    → before ++ left ≡ chars bytes → Stands before left x done after → TellsText bytes x
+tells_text bytes u before left x done after e s =
+    let few : length before ≤ length (chars bytes) = omega (arith, ap length e, length-append before left) in
+    tells_text_at bytes u (length before) x (length done) few
+    (subst (λ (text : List ℕ). StandsAt text (length before) x (length done)) e (stands_from_text before left x done after s))

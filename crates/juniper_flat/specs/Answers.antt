@@ -84,19 +84,25 @@ HasMessage source depth message =
 
 -- the nodes of a source, or why it has none
 abbrev pub ReturnsFlat : List ℕ → ℕ → Result Flat Stop → Type 0
-ReturnsFlat source depth (Ok flat) = (length source < 2 ^ 32) × ((tree : List (Definition Content)) × HasDocument source depth tree
+ReturnsFlat source depth (Ok flat) = (length source < 2 ^ 32)
+    × ((tree : List (Definition Content)) × HasDocument source depth tree
     × (flat.nodes.items ≡ nodes_of source tree) × (string_bytes flat.texts ≡ texts_of tree))
-ReturnsFlat source depth (Err (stop.Refused fault)) = (length source < 2 ^ 32) × ((found : errors.Fault) × HasRefusal source depth found × (fault ≡ written_fault (chars source) found))
-ReturnsFlat source depth (Err (stop.TooDeep fault)) = (length source < 2 ^ 32) × ((span : Span) × HasDeepToken source depth span × (fault ≡ deep_fault (chars source) span))
+ReturnsFlat source depth (Err (stop.Refused fault)) = (length source < 2 ^ 32)
+    × ((found : errors.Fault) × HasRefusal source depth found × (fault ≡ written_fault (chars source) found))
+ReturnsFlat source depth (Err (stop.TooDeep fault)) = (length source < 2 ^ 32)
+    × ((span : Span) × HasDeepToken source depth span × (fault ≡ deep_fault (chars source) span))
 ReturnsFlat source depth (Err stop.NotUtf8) = (length source < 2 ^ 32) × ¬ IsUtf8 source
-ReturnsFlat source depth (Err stop.Memory) = length source < 2 ^ 32
+ReturnsFlat source depth (Err stop.Memory) = (length source < 2 ^ 32) × IsUtf8 source
 ReturnsFlat source depth (Err stop.TooLong) = 2 ^ 32 ≤ length source
 
 -- in words, why a source has no tree
 abbrev pub ReturnsSaid : List ℕ → ℕ → Said → Type 0
-ReturnsSaid source depth said.Tree = (length source < 2 ^ 32) × ((tree : List (Definition Content)) × HasDocument source depth tree)
-ReturnsSaid source depth (said.Refused message) = (length source < 2 ^ 32) × ((fault : errors.Fault) × HasRefusal source depth fault × (string_bytes message ≡ refusal_message fault))
-ReturnsSaid source depth (said.TooDeep message) = (length source < 2 ^ 32) × ((span : Span) × HasDeepToken source depth span × (string_bytes message ≡ deep_message span))
+ReturnsSaid source depth said.Tree = (length source < 2 ^ 32)
+    × ((tree : List (Definition Content)) × HasDocument source depth tree)
+ReturnsSaid source depth (said.Refused message) = (length source < 2 ^ 32)
+    × ((fault : errors.Fault) × HasRefusal source depth fault × (string_bytes message ≡ refusal_message fault))
+ReturnsSaid source depth (said.TooDeep message) = (length source < 2 ^ 32)
+    × ((span : Span) × HasDeepToken source depth span × (string_bytes message ≡ deep_message span))
 ReturnsSaid source depth said.NotUtf8 = (length source < 2 ^ 32) × ¬ IsUtf8 source
-ReturnsSaid source depth said.Memory = length source < 2 ^ 32
+ReturnsSaid source depth said.Memory = (length source < 2 ^ 32) × IsUtf8 source
 ReturnsSaid source depth said.TooLong = 2 ^ 32 ≤ length source

@@ -19,12 +19,14 @@ IsCanonicalStatus n = (n ≤ 2) ⊎ ((n ≡ 4) ⊎ ((n ≡ 6) ⊎ (n ≡ 7)))
 
 -- the canonical text of a source, or why there is none
 abbrev pub ReturnsCanonical : List ℕ → Canonical → Type 0
-ReturnsCanonical source (answer.Text text) = (length source < 2 ^ 32) × ((lexemes : List Lexeme) × HasTokens source lexemes
+ReturnsCanonical source (answer.Text text) = (length source < 2 ^ 32)
+    × ((lexemes : List Lexeme) × HasTokens source lexemes
     × (string_bytes text ≡ encode_utf8_all (canonical lexemes)))
-ReturnsCanonical source (answer.Refused fault) = (length source < 2 ^ 32) × IsUtf8 source × ((error : LexicalError) × (at : Place)
+ReturnsCanonical source (answer.Refused fault) = (length source < 2 ^ 32) × IsUtf8 source
+    × ((error : LexicalError) × (at : Place)
     × Breaks (chars source) error at × (fault ≡ written_fault (chars source) (lexical_fault error at)))
 ReturnsCanonical source answer.NotUtf8 = (length source < 2 ^ 32) × ¬ IsUtf8 source
-ReturnsCanonical source answer.Memory = length source < 2 ^ 32
+ReturnsCanonical source answer.Memory = (length source < 2 ^ 32) × IsUtf8 source
 ReturnsCanonical source answer.TooLong = 2 ^ 32 ≤ length source
 
 -- ---- what private contracts say
@@ -32,7 +34,8 @@ ReturnsCanonical source answer.TooLong = 2 ^ 32 ≤ length source
 -- The fault reports an error whose place fits.
 abbrev pub IsReportedRefusal : List ℕ → LexicalError → Place → Canonical → Type 0
 IsReportedRefusal source error at (answer.Text text) = ⊥
-IsReportedRefusal source error at (answer.Refused fault) = PlaceFits at → fault ≡ written_fault source (lexical_fault error at)
+IsReportedRefusal source error at (answer.Refused fault) = PlaceFits at → fault
+    ≡ written_fault source (lexical_fault error at)
 IsReportedRefusal source error at answer.NotUtf8 = ⊥
 IsReportedRefusal source error at answer.Memory = Unit {0}
 IsReportedRefusal source error at answer.TooLong = ⊥

@@ -64,14 +64,20 @@ byte_count t = length (encode_utf8_all t)
 
 -- A name ends where its word does, and is as many bytes long as its text: the word of a variable begins with `$`.
 abbrev pub word_extent : List ℕ → Word → Extent
-word_extent source word = record { start = byte_behind source word.span.end.index - byte_count word.item; end = byte_behind source word.span.end.index }
+word_extent source word =
+    record {
+      start = byte_behind source word.span.end.index - byte_count word.item;
+      end = byte_behind source word.span.end.index;
+    }
 
 abbrev pub span_extent : List ℕ → Span → Extent
-span_extent source span = record { start = byte_behind source span.start.index; end = byte_behind source span.end.index }
+span_extent source span =
+    record { start = byte_behind source span.start.index; end = byte_behind source span.end.index }
 
 -- no bytes, where the part starts
 abbrev pub no_extent : List ℕ → Span → Extent
-no_extent source span = record { start = byte_behind source span.start.index; end = byte_behind source span.start.index }
+no_extent source span =
+    record { start = byte_behind source span.start.index; end = byte_behind source span.start.index }
 
 -- a part without a name: all of a scalar and of null is what names it
 abbrev pub unnamed_extent : NodeKind → List ℕ → Span → Extent
@@ -152,4 +158,5 @@ written_node source at node = record {
 -- nodes whose texts begin at this byte of the texts
 abbrev pub written_nodes : List ℕ → ℕ → List (nodes.Node Content) → List Node
 written_nodes source at [] = []
-written_nodes source at (node ∷ others) = written_node source at node ∷ written_nodes source (at + byte_count (text_of_node node)) others
+written_nodes source at (node ∷ others) =
+    written_node source at node ∷ written_nodes source (at + byte_count (text_of_node node)) others

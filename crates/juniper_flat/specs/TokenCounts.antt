@@ -1,39 +1,43 @@
 -- How many tokens a source has.
-use Rattle.std.specs.Prelude.{◌≡◌, ◌<◌, ◌≤◌, ◌^◌, ◌⊎◌, ℕ, List, length, IsUtf8, chars}
+use Rattle.std.specs.Prelude.{◌≡◌, ◌<◌, ◌≤◌, ◌^◌, ◌⊎◌, ℕ, List, [], length, IsUtf8, chars}
 use Rattle.graphql_lexical.specs.Place.{Span}
 use Rattle.graphql_lexical.specs.Place as places
 use Rattle.graphql_lexical.specs.declared.kind.Kind.TheVariants.{EndOfFile}
 use Rattle.graphql_lexical.specs.Kinds.{LexicalError}
-use Rattle.graphql_lexical.specs.Cutting.{Lexeme, Stands, Leads}
-use Rattle.juniper_tokens.specs.Lexing.{BreaksAt}
+use Rattle.graphql_lexical.specs.Characters.{Text}
+use Rattle.graphql_lexical.specs.Cutting.{Lexeme, Stands, Leads, BreaksThere}
 use Rattle.juniper_flat.specs.Faults.{many_fault}
 use Rattle.juniper_flat.specs.FlatWriters.{SpanFits}
 use Rattle.juniper_flat.specs.declared.count.Counted.{Counted}
 use Rattle.juniper_flat.specs.declared.count.Counted.TheVariants as counted
 
--- After a gap from place k on the source ends, or a rest stands there that begins with no token.
-abbrev pub EndsAt : List ℕ → ℕ → Type 0
-EndsAt source k =
-    ((token : Lexeme) × (next : ℕ) × Stands source k token next × (token.kind ≡ EndOfFile))
-    ⊎ ((error : LexicalError) × (at : places.Place) × BreaksAt source k error at)
+-- After a gap the text that is left after `before` ends, or a rest begins there with a lexical error.
+abbrev pub EndsAfter : Text → Text → Type 0
+EndsAfter before left =
+    ((token : Lexeme) × (done after : Text) × Stands before left token done after × (token.kind ≡ EndOfFile))
+    ⊎ ((error : LexicalError) × (at : places.Place) × BreaksThere before left error at)
 
--- From place k on stand no more than this many tokens before the end, or before the first lexical error.
-pub record HasFew (source : List ℕ) (k most : ℕ) : Type 0 where
+-- What is left after `before` has no more than this many tokens before the end, or before the first lexical error.
+pub record HasFew (before left : Text) (most : ℕ) : Type 0 where
   pub tokens : List Lexeme
-  pub next : ℕ
-  pub leads : Leads source k tokens next
-  pub ends : EndsAt source next
+  pub done : Text
+  pub after : Text
+  pub leads : Leads before left tokens done after
+  pub ends : EndsAfter done after
   pub few : length tokens ≤ most
 
--- From place k on stand this many tokens, none of them the end, and after them one more, which has this span.
-pub record HasMore (source : List ℕ) (k most : ℕ) (span : Span) : Type 0 where
+-- What is left after `before` begins with this many tokens, none of them the end, and after them comes one more, which
+-- has this span.
+pub record HasMore (before left : Text) (most : ℕ) (span : Span) : Type 0 where
   pub front : List Lexeme
-  pub middle : ℕ
-  pub leads : Leads source k front middle
+  pub done : Text
+  pub rest : Text
+  pub leads : Leads before left front done rest
   pub count : length front ≡ most
   pub token : Lexeme
-  pub next : ℕ
-  pub stands : Stands source middle token next
+  pub past : Text
+  pub after : Text
+  pub stands : Stands done rest token past after
   pub other : token.kind ≡ EndOfFile → ⊥
   pub at : span ≡ token.span
 
@@ -43,11 +47,11 @@ IsCountStatus n = (n ≡ 0) ⊎ ((n ≡ 2) ⊎ ((n ≡ 4) ⊎ ((n ≡ 7) ⊎ (n 
 
 -- whether a source has more tokens than this, or why that is not known
 abbrev pub ReturnsCounted : List ℕ → ℕ → Counted → Type 0
-ReturnsCounted source most counted.Few = (length source < 2 ^ 32) × IsUtf8 source × HasFew (chars source) 0 most
+ReturnsCounted source most counted.Few = (length source < 2 ^ 32) × IsUtf8 source × HasFew [] (chars source) most
 ReturnsCounted source most (counted.Many fault) = (length source < 2 ^ 32) × IsUtf8 source
-    × ((span : Span) × HasMore (chars source) 0 most span × (fault ≡ many_fault (chars source) span))
+    × ((span : Span) × HasMore [] (chars source) most span × (fault ≡ many_fault (chars source) span))
 ReturnsCounted source most counted.NotUtf8 = (length source < 2 ^ 32) × ¬ IsUtf8 source
-ReturnsCounted source most counted.Memory = length source < 2 ^ 32
+ReturnsCounted source most counted.Memory = (length source < 2 ^ 32) × IsUtf8 source
 ReturnsCounted source most counted.TooLong = 2 ^ 32 ≤ length source
 
 -- ---- what private contracts say

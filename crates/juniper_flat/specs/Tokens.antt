@@ -1,12 +1,11 @@
 -- Tokens of a source, as C gets them.
-use Rattle.std.specs.Prelude.{◌≡◌, ◌⊎◌, ℕ, ◌+◌, ◌-◌, ◌*◌, List, length, map, take, drop, IsUtf8, chars, encode_utf8_all}
+use Rattle.std.specs.Prelude.{◌≡◌, ◌⊎◌, ℕ, ◌+◌, ◌-◌, ◌*◌, List, [], length, map, take, drop, IsUtf8, chars, encode_utf8_all}
 use Rattle.graphql_lexical.specs.Place.{Place, Span}
 use Rattle.graphql_lexical.specs.Kinds.{LexicalError, spelling}
 use Rattle.graphql_lexical.specs.declared.kind.Kind.{Kind}
 use Rattle.graphql_lexical.specs.declared.kind.Kind.TheVariants as kind
 use Rattle.graphql_lexical.specs.Tokens.{quotes}
-use Rattle.graphql_lexical.specs.Cutting.{Lexeme, Cut, Leads}
-use Rattle.juniper_tokens.specs.Lexing.{BreaksAt}
+use Rattle.graphql_lexical.specs.Cutting.{Lexeme, Cut, Leads, BreaksThere}
 use Rattle.juniper_flat.specs.Places.{written_place}
 use Rattle.juniper_flat.specs.declared.token.Token.{Token}
 
@@ -53,7 +52,8 @@ written_tokens source xs = map (written_token source) xs
 
 -- the bytes of a source between the places of a token, without its quotes
 abbrev pub text_bytes : List ℕ → Token → List ℕ
-text_bytes source token = take ((token.end.byte - token.start.byte) - 2 * token.quotes) (drop (token.start.byte + token.quotes) source)
+text_bytes source token =
+    take ((token.end.byte - token.start.byte) - 2 * token.quotes) (drop (token.start.byte + token.quotes) source)
 
 -- a token is reported with the bytes of its text
 abbrev pub TellsText : List ℕ → Lexeme → Type 0
@@ -69,9 +69,10 @@ pub record HasTokens (source : List ℕ) (lexemes : List Lexeme) : Type 0 where
 -- The source is a text that begins with these tokens, none of them the end, and after them stands this lexical error.
 pub record HasFaultBehind (source : List ℕ) (before : List Lexeme) (error : LexicalError) (at : Place) : Type 0 where
   pub utf8 : IsUtf8 source
-  pub next : ℕ
-  pub leads : Leads (chars source) 0 before next
-  pub breaks : BreaksAt (chars source) next error at
+  pub done : List ℕ
+  pub after : List ℕ
+  pub leads : Leads [] (chars source) before done after
+  pub breaks : BreaksThere done after error at
 
 -- the statuses of `firthnapkin_tokens`
 abbrev pub IsTokensStatus : ℕ → Type 0

@@ -20,6 +20,7 @@ use Rattle.juniper_nodes.specs.NodeTexts.{text_of_label, text_of_node, node_text
 use Rattle.juniper_nodes.proofs.TextLengths.{size, size_is, size_joins}
 use Rattle.juniper_nodes.proofs.SourceBytes.{weight, leads_bytes}
 use Rattle.juniper_nodes.proofs.ShortContents.{ReadsShort}
+use Rattle.graphql_lexical.proofs.Public.{by_places}
 
 -- ---- types
 
@@ -86,7 +87,7 @@ pub texts_are_short : (reading : Kind → Text → Reading) → ReadsShort readi
     → length (encode_utf8_all (node_texts (document_nodes ds))) ≤ length (encode_utf8_all source)
 texts_are_short reading short source ts ds c h =
     let front = document_front (stated reading boolean) measure weight (texts_weigh reading short) ts ds h in
-    let parts = cut_front source front.front front.end [] 0 (subst (Cut source) front.whole c) in
+    let parts = cut_front source front.front front.end [] 0 (by_places source _ (subst (Cut source) front.whole c)) in
     let tokens = leads_bytes source 0 front.front parts.0 parts.1 in
     omega (
       arith,

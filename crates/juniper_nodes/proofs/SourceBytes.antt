@@ -9,8 +9,8 @@ use Rattle.graphql_lexical.specs.declared.kind.Kind.TheVariants.{EndOfFile}
 use Rattle.graphql_lexical.specs.Kinds.{spelling}
 use Rattle.graphql_lexical.specs.Tokens.{quotes}
 use Rattle.graphql_lexical.specs.device.Whole.{between}
-use Rattle.graphql_lexical.specs.Reading.{Reads}
-use Rattle.graphql_lexical.specs.Cutting.{Lexeme, Leads}
+use Rattle.graphql_lexical.specs.device.Indexed.{ReadsAt, LeadsAt}
+use Rattle.graphql_lexical.specs.Cutting.{Lexeme}
 use Rattle.graphql_lexical.proofs.Public.{reads_size, spells_token, read_end, read_token}
 use Rattle.juniper_values.specs.Text.{Text}
 use Rattle.juniper_nodes.proofs.TextLengths.{size, size_joins, drop_is_short}
@@ -42,7 +42,7 @@ between_is_short (q ∷ qs) whole =
 one_or : (m n : ℕ) → 1 ≤ n → m ≤ n → max 1 m ≤ n
 one_or m n h k = omega arith
 
-reads_bytes : (rest : Text) (n : ℕ) (t : Lexeme) → Reads rest n t.kind t.text → (t.kind ≡ EndOfFile → ⊥)
+reads_bytes : (rest : Text) (n : ℕ) (t : Lexeme) → ReadsAt rest n t.kind t.text → (t.kind ≡ EndOfFile → ⊥)
     → weight t ≤ size (take n rest)
 reads_bytes [] n t r none = absurd (none (read_end n t.kind t.text r).1)
 reads_bytes (c ∷ cs) n t r none =
@@ -53,7 +53,7 @@ reads_bytes (c ∷ cs) n t r none =
     let bytes : 1 ≤ size whole = omega (arith, some.0, some.1, some_bytes whole, length-take-le n (c ∷ cs) some.1) in
     one_or (size t.text) (size whole) bytes text
 
-pub leads_bytes : (source : Text) (k : ℕ) (ts : List Lexeme) (next : ℕ) → Leads source k ts next
+pub leads_bytes : (source : Text) (k : ℕ) (ts : List Lexeme) (next : ℕ) → LeadsAt source k ts next
     → sum_by weight ts ≤ size (drop k source)
 leads_bytes source k [] next h = search rules
 leads_bytes source k (t ∷ ts) next (m, s, none, h) =

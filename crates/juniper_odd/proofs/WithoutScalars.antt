@@ -7,9 +7,10 @@ use Rattle.graphql_grammar.specs.Grammar.{IsDocument}
 use Rattle.graphql_grammar.specs.Tree.{Scalars, Definition}
 use Rattle.juniper_tokens.specs.declared.error.ParseFailure.{ParseFailure}
 use Rattle.juniper_tokens.specs.declared.error.ParseFailure.TheVariants as failure
-use Rattle.juniper_tokens.specs.Errors.{Error, view_fault}
+use Rattle.juniper_tokens.specs.Errors.{Error, Fault, view_fault}
 use Rattle.juniper_values.specs.Scalar.{Content, boolean}
-use Rattle.juniper.specs.Promise.{HasTree, IsRefusal, IfRefused}
+use Rattle.juniper.specs.Promise.{HasTree, IfRefused, IsRefusal}
+use Rattle.juniper.specs.laws.RefusalClauses.{IsRefusalByClauses}
 use Rattle.std.specs.Result.{IfOk}
 use Rattle.juniper_odd.specs.WithoutScalars.{no_literals, IsDocumentWithoutScalars, AcceptsExactly}
 
@@ -34,10 +35,11 @@ OfOthers = (T : Scalars Content Error) (ts : List Lexeme) (tree : List (Definiti
 
 pub accepts_exactly : {X : Type 0} (view : X → List (Definition Content)) (source : List ℕ)
     (result : Result X ParseFailure) → Read → OfOthers
+    → ((fault : Fault) → IsRefusal no_literals source fault → IsRefusalByClauses no_literals source fault)
     → IfOk result (λ tree. HasTree no_literals source (view tree))
     → IfRefused result (λ fault. IsRefusal no_literals source (view_fault fault))
     → AcceptsExactly result (IsDocumentWithoutScalars source)
-accepts_exactly view source (Ok x) read of_others h k = record {
+accepts_exactly view source (Ok x) read of_others clauses h k = record {
   lexemes = h.lexemes;
   cut = h.cut;
   no_scalar = unread h.lexemes (read h.lexemes (view x) h.document);
@@ -46,8 +48,8 @@ accepts_exactly view source (Ok x) read of_others h k = record {
   tree = view x;
   document = h.document;
 }
-accepts_exactly view source (Err (failure.Refused fault)) read of_others h k =
-    λ d. k.no_document d.lexemes d.tree d.cut
+accepts_exactly view source (Err (failure.Refused fault)) read of_others clauses h k =
+    λ d. (clauses (view_fault fault) k).no_document d.lexemes d.tree d.cut
     (of_others d.scalars d.lexemes d.tree d.truths (read_also d.scalars no_literals d.lexemes d.no_scalar)
     d.document)
-accepts_exactly view source (Err failure.Memory) read of_others h k = tt
+accepts_exactly view source (Err failure.Memory) read of_others clauses h k = tt

@@ -8,7 +8,7 @@ ghost use Rattle.juniper_odd.specs.ReadBy.{held_content};
 ghost use Rattle.juniper_odd.specs.WithoutScalars.{AcceptsExactly, IsDocumentWithoutScalars, no_literals};
 
 use crate::refuse_all::RefuseAll;
-use juniper::laws::scalar_tokens;
+use juniper::laws::{refusals_by_clauses, scalar_tokens};
 use juniper::{OwnedDocument, UnlocatedParseResult, parse_document_source};
 use std::alloc::Global;
 
@@ -24,8 +24,9 @@ pub fn documents_without_scalars<'a>(
     ensures exactly { AcceptsExactly result (IsDocumentWithoutScalars (chars source.now)) }
     ensures refused { IfRefused result (λ fault. IsRefusal no_literals (chars source.now) (view_fault fault)) }
 {
-    // The law that the proof cites.
+    // The laws that the proof cites.
     scalar_tokens::<RefuseAll>();
+    refusals_by_clauses::<RefuseAll>();
     parse(alloc, source)
 }
 

@@ -7,7 +7,7 @@ use Rattle.std.specs.Str.{chars, IsUtf8}
 use Rattle.std.proofs.lemmas.Bool.{agree_below_at}
 use Rattle.std.proofs.lemmas.List.{drop_all}
 use Rattle.graphql_lexical.specs.Characters.{is_letter, is_digit}
-use Rattle.graphql_lexical.specs.Reading.{counted}
+use Rattle.graphql_lexical.specs.device.Indexed.{counted}
 use Rattle.juniper_tokens.specs.device.ByteRuns.{byte_at}
 use Rattle.juniper_tokens.proofs.Offsets.{byte_at_on, chars_within, ascii_first}
 use Rattle.juniper_tokens.proofs.Runs.{rest_bytes, FirstByte, low, high, first_byte, first_low}

@@ -6,7 +6,7 @@ use Rattle.std.proofs.lemmas.List.{drop_all}
 use Rattle.std.proofs.lemmas.Str.{encodes-chars}
 use lib.Utf8.{encodes}
 use Rattle.graphql_lexical.specs.Kinds.{UnterminatedString, UnknownEscapeSequence}
-use Rattle.graphql_lexical.specs.Reading.{counted}
+use Rattle.graphql_lexical.specs.device.Indexed.{counted}
 use Rattle.graphql_lexical.specs.device.Scan.{missed, after_backslash, after_u}
 use Rattle.graphql_lexical.proofs.Public.{counted_within, u_short}
 use Rattle.juniper_tokens.proofs.Offsets.{chars_within}

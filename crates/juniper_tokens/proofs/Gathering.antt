@@ -1,5 +1,5 @@
 -- The tokens of a lexer, gathered one after another.
-use Rattle.std.proofs.Common.{◌≡◌, ℕ, true, false, List, [], ◌∷◌, ◌++◌, ◌⊎◌, inl, inr, refl, sym, ◌∙◌, subst}
+use Rattle.std.proofs.Common.{◌≡◌, ℕ, true, false, List, [], ◌∷◌, ◌++◌, ◌⊎◌, inl, inr, refl, sym, ◌∙◌, subst, rules}
 use Rattle.std.specs.Prelude.{Some, Result, Ok, Err, ◌↔◌}
 use Rattle.std.specs.Result.{IsErrAnd}
 use Rattle.std.specs.List.{All}
@@ -7,21 +7,18 @@ use Rattle.std.proofs.lemmas.List.Elements.{All-push}
 use Rattle.std.proofs.lemmas.Bool.{cases_Bool}
 use Rattle.std.proofs.lemmas.List.{map-append}
 use Rattle.graphql_lexical.specs.declared.kind.Kind.TheVariants.{EndOfFile}
-use Rattle.graphql_lexical.specs.Cutting.{Lexeme, Stands, Leads, CutFrom, BreaksFrom, here}
-use Rattle.graphql_lexical.proofs.Public.{other_kind, front_cut, front_breaks}
+use Rattle.graphql_lexical.specs.Characters.{Text}
+use Rattle.graphql_lexical.specs.Cutting.{Lexeme, Leads, CutAfter}
+use Rattle.graphql_lexical.specs.Cutting as cutting
+use Rattle.graphql_lexical.proofs.Public.{other_kind, leads_more, cut_leads, breaks_lead}
 use Rattle.juniper_tokens.specs.declared.token_range.TokenRange.{TokenRange}
 use Rattle.juniper_tokens.specs.declared.error.LexFailure.{LexFailure}
 use Rattle.juniper_tokens.specs.declared.error.LexFailure.TheVariants as failures
 use Rattle.juniper_tokens.specs.Errors.{view_lexer_error}
 use Rattle.juniper_tokens.specs.Cursor.{EndsOnce}
-use Rattle.juniper_tokens.specs.Lexing.{LexerState, BreaksAt, GivesFault}
-use Rattle.juniper_tokens.specs.Gathering.{IfFault, StandsLaterOrEnded}
+use Rattle.juniper_tokens.specs.Lexing.{LexerState, passed, ahead, PassesToken, MeetsError, GivesFault}
+use Rattle.juniper_tokens.specs.Gathering.{IfFault, HasLeft, BreaksOff, StandsLaterOrEnded}
 use Rattle.juniper_tokens.specs.device.Ranges.{range_lexeme, range_lexemes, range_steps, GivesRangeItem, IsRange}
-
-leads_more : (source : List ℕ) (xs : List Lexeme) (x : Lexeme) (k m n : ℕ) → Leads source k xs m → Stands source m x n
-    → (x.kind ≡ EndOfFile → ⊥) → Leads source k (xs ++ x ∷ []) n
-leads_more source [] x k m n l h e = (n, subst (λ (i : ℕ). Stands source i x n) (sym l) h, e, refl)
-leads_more source (y ∷ ys) x k m n l h e = (l.0, l.1, l.2, leads_more source ys x l.0 m n l.3 h e)
 
 -- ---- a cut ends once
 
@@ -29,29 +26,35 @@ ends_once_more : (x : Lexeme) (xs : List Lexeme) → (x.kind ≡ EndOfFile → �
 ends_once_more x [] n h = absurd h
 ends_once_more x (y ∷ ys) n h = (other_kind x.kind EndOfFile n, h)
 
-pub cut_ends_once : (source : List ℕ) (k : ℕ) (xs : List Lexeme) → CutFrom source k xs → EndsOnce xs
-cut_ends_once source k [] c = absurd c
-cut_ends_once source k (x ∷ xs) (n, s, inl (e, none)) =
-    subst (λ (ys : List Lexeme). EndsOnce (x ∷ ys)) (sym none) e
-cut_ends_once source k (x ∷ xs) (n, s, inr (e, c)) = ends_once_more x xs e (cut_ends_once source n xs c)
+pub cut_ends_once : (before left : Text) (xs : List Lexeme) → CutAfter before left xs → EndsOnce xs
+cut_ends_once _ _ _ (cutting.last s e) = e
+cut_ends_once _ _ _ (cutting.token {done = done} {after = after} {x = x} {xs = xs} s n c) =
+    ends_once_more x xs n (cut_ends_once done after xs c)
 
 -- ---- what the loop keeps
+
+-- the tokens between two indexes of a source
+abbrev LeadsOn : List ℕ → ℕ → List Lexeme → ℕ → Type 0
+LeadsOn source k xs n = Leads (passed source k) (ahead source k) xs (passed source n) (ahead source n)
 
 -- from state s on these tokens have been gathered, and the lexer is now in state t
 pub record Gathered (s : LexerState) (xs : List Lexeme) (t : LexerState) : Type 0 where
   pub source : t.source ≡ s.source
-  pub tokens : ((t.ended ≡ false) × Leads s.source s.index xs t.index)
-      ⊎ ((t.ended ≡ true) × CutFrom s.source s.index xs)
+  pub tokens : ((t.ended ≡ false) × LeadsOn s.source s.index xs t.index) ⊎ ((t.ended ≡ true) × HasLeft s xs)
 
 pub gathered_open : (s : LexerState) (xs : List Lexeme) (t : LexerState) → Gathered s xs t → t.ended ≡ false
-    → Leads s.source s.index xs t.index
+    → LeadsOn s.source s.index xs t.index
 gathered_open s xs t g e = elim g.tokens [
   | inl o ↦ o.1
   | inr d ↦ absurd (cc)
 ]
 
+-- a state at this index of the source
+abbrev at_index : LexerState → ℕ → LexerState
+at_index s k = record { source = s.source; index = k; ended = s.ended }
+
 pub gathered_token : (s : LexerState) (xs : List Lexeme) (t u : LexerState) (x : Lexeme)
-    → Leads s.source s.index xs t.index → u.source ≡ s.source → Stands s.source t.index x u.index
+    → LeadsOn s.source s.index xs t.index → u.source ≡ s.source → PassesToken (at_index s t.index) x u.index
     → ((u.ended ≡ true) ↔ (x.kind ≡ EndOfFile)) → Gathered s (xs ++ x ∷ []) u
 gathered_token s xs t u x l q stands ends =
     record {
@@ -59,12 +62,11 @@ gathered_token s xs t u x l q stands ends =
       tokens = elim (cases_Bool u.ended) [
         | inl y ↦ inr (
           y,
-          front_cut s.source xs (x ∷ []) s.index t.index l (u.index, stands, inl (ends.0 y, refl)),
+          cut_leads _ _ _ _ xs (x ∷ []) l (cutting.last stands (ends.0 y)),
         )
         | inr n ↦ inl (
           n,
-          leads_more s.source xs x s.index t.index u.index l stands
-              (λ e. let z : true ≡ false = sym (ends.1 e) ∙ n in cc),
+          leads_more _ _ _ _ _ _ xs x l stands (λ e. let z : true ≡ false = sym (ends.1 e) ∙ n in cc),
         )
       ];
     }
@@ -74,11 +76,20 @@ pub record GatheredRanges (s : LexerState) (ranges : List TokenRange) (t : Lexer
   pub gathered : Gathered s (range_lexemes s.source ranges) t
   pub are_ranges : All (IsRange s.source) ranges
 
+-- at the beginning
+pub none_gathered : (s : LexerState) → s.ended ≡ false → GatheredRanges s [] s
+none_gathered s going = record { gathered = record { source = refl; tokens = inl (going, cutting.none) }; are_ranges = search rules }
+
+pub stays : (s : LexerState) → StandsLaterOrEnded s s
+stays s = inl ([], cutting.none)
+
 pub ranges_more : (s : LexerState) (ranges : List TokenRange) (t u : LexerState) (r : TokenRange)
     → GatheredRanges s ranges t → range_steps t (Some (Ok r)) u → GatheredRanges s (ranges ++ r ∷ []) u
 ranges_more s ranges t u r g h =
     let p : t.source ≡ s.source = g.gathered.source in
-    let stands = subst (λ (source : List ℕ). Stands source t.index (range_lexeme source r) u.index) p h.2.stands in
+    let stands : PassesToken (at_index s t.index) (range_lexeme s.source r) u.index =
+    subst (λ (source : List ℕ). PassesToken (record { source = source; index = t.index; ended = s.ended }) (range_lexeme source r) u.index)
+    p h.2.stands in
     let open_yet = gathered_open s (range_lexemes s.source ranges) t g.gathered h.0 in
     record {
       gathered =
@@ -90,7 +101,7 @@ ranges_more s ranges t u r g h =
     }
 
 pub gathered_cut : (s : LexerState) (xs : List Lexeme) (t : LexerState) → Gathered s xs t → t.ended ≡ true
-    → CutFrom s.source s.index xs
+    → HasLeft s xs
 gathered_cut s xs t g e = elim g.tokens [
   | inl o ↦ absurd (cc)
   | inr d ↦ d.1
@@ -106,15 +117,13 @@ gathered_later s xs t g = elim g.tokens [
 pub breaks_passed : (s : LexerState) (ranges : List TokenRange) (t u : LexerState) {X : Type 0}
     (result : Result X LexFailure) (failure : LexFailure)
     → GatheredRanges s ranges t → range_steps t (Some (Err failure)) u → IsErrAnd result (λ x. x ≡ failure)
-    → IfFault result (λ fault. BreaksFrom s.source s.index (view_lexer_error fault.item) fault.span.start)
+    → IfFault result (λ fault. BreaksOff s (view_lexer_error fault.item) fault.span.start)
 breaks_passed s ranges t u (Ok x) failure g h e = absurd e
 breaks_passed s ranges t u (Err failures.Memory) failure g h e = tt
 breaks_passed s ranges t u (Err (failures.Fault fault)) failure g h e =
     let gives : GivesFault t fault u = subst (λ (f : LexFailure). GivesRangeItem t (Err f) u) (sym e) h.2 in
-    let breaks : BreaksAt s.source t.index (view_lexer_error fault.item) fault.span.start =
-    subst (λ (source : List ℕ). BreaksAt source t.index (view_lexer_error fault.item) fault.span.start)
+    let breaks : MeetsError (at_index s t.index) (view_lexer_error fault.item) fault.span.start =
+    subst (λ (source : List ℕ). MeetsError (record { source = source; index = t.index; ended = s.ended }) (view_lexer_error fault.item) fault.span.start)
     g.gathered.source gives.breaks in
-    front_breaks s.source (range_lexemes s.source ranges) s.index t.index _ _
-    (gathered_open s (range_lexemes s.source ranges) t g.gathered h.0)
-    (subst (BreaksFrom s.source t.index (view_lexer_error fault.item)) (sym breaks.at_is)
-    (here breaks.gap_is breaks.fails))
+    breaks_lead _ _ _ _ (range_lexemes s.source ranges) _ _
+    (gathered_open s (range_lexemes s.source ranges) t g.gathered h.0) (cutting.here breaks)

@@ -13,7 +13,7 @@ use Rattle.graphql_lexical.specs.Kinds.{same_kind, LexicalError, UnknownEscapeSe
 use Rattle.graphql_lexical.specs.Kinds as errors
 use Rattle.graphql_lexical.specs.Place.{Place, place, past_character}
 use Rattle.graphql_lexical.specs.device.Scan.{Found, Missed, scan, gap_size, gap_step}
-use Rattle.graphql_lexical.proofs.Public.{misses_what_fails, gap_longest, reach_is, place_index}
+use Rattle.graphql_lexical.proofs.Public.{there_to_text, misses_what_fails, gap_longest, reach_is, place_index}
 use Rattle.juniper_tokens.specs.declared.span.Spanning.{Spanning}
 use Rattle.juniper_tokens.specs.declared.error.LexerError.{LexerError}
 use Rattle.juniper_tokens.specs.Errors.{view_lexer_error}
@@ -22,7 +22,7 @@ use Rattle.juniper_tokens.specs.declared.byte_classes.ByteClass.{ByteClass}
 use Rattle.juniper_tokens.specs.device.Walks.{first_class, EndsGap}
 use Rattle.juniper_tokens.specs.device.Scans.{IsEscape}
 use Rattle.juniper_tokens.specs.device.Scans as scans
-use Rattle.juniper_tokens.specs.Lexing.{LexerState, BreaksAt, GivesFault, WantsMemory}
+use Rattle.juniper_tokens.specs.Lexing.{LexerState, MeetsError, GivesFault, WantsMemory}
 use Rattle.juniper_tokens.specs.device.LexingByScan.{IsPlaced, past_gap}
 use Rattle.juniper_tokens.specs.device.Ranges.{FailsThere}
 use Rattle.juniper_tokens.proofs.Offsets.{byte_at_within, byte_at_on}
@@ -95,20 +95,16 @@ pub same_end : (kind : Kind) → (same_kind kind EndOfFile ≡ true) ↔ (kind �
 same_end kind = (λ e. same_true the_type (search rules) kind EndOfFile e, λ e. ap (λ k. same_kind k EndOfFile) e)
 
 pub breaks_by_scan : (s : LexerState) (m : Missed) → scan (drop (past_gap s).index s.source) ≡ Err m
-    → BreaksAt s.source s.index m.error (place s.source ((past_gap s).index + m.at))
-breaks_by_scan s m e = record {
-  gap = gap_size (drop s.index s.source);
-  size = m.at;
-  gap_is = gap_longest (drop s.index s.source);
-  fails = (misses_what_fails (drop (past_gap s).index s.source) m).0 e;
-  at_is = refl;
-}
+    → MeetsError s m.error (place s.source ((past_gap s).index + m.at))
+breaks_by_scan s m e =
+    there_to_text s.source s.index (gap_size (drop s.index s.source)) m.at m.error (gap_longest (drop s.index s.source))
+    ((misses_what_fails (drop (past_gap s).index s.source) m).0 e)
 
 pub fault_by_scan : (s : LexerState) (fault : Spanning LexerError) (t : LexerState) → FailsThere (past_gap s) fault t
     → GivesFault s fault t
 fault_by_scan s fault t h = record {
   breaks =
-      subst (BreaksAt s.source s.index (view_lexer_error fault.item)) (sym h.start)
+      subst (MeetsError s (view_lexer_error fault.item)) (sym h.start)
       (breaks_by_scan s (record { at = h.size; error = view_lexer_error fault.item }) h.scanned);
   zero_width = h.end;
   ends = h.ends;
@@ -125,7 +121,7 @@ memory_by_scan s t h e = by_scan (scan (drop (past_gap s).index s.source)) refl 
           text = text;
           at = place s.source ((past_gap s).index + m.at);
           breaks =
-              subst (λ (q : LexicalError). BreaksAt s.source s.index q (place s.source ((past_gap s).index + m.at)))
+              subst (λ (q : LexicalError). MeetsError s q (place s.source ((past_gap s).index + m.at)))
               i (breaks_by_scan s m x);
           ends = e;
         }

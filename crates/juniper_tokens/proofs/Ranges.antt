@@ -12,10 +12,10 @@ use Rattle.graphql_lexical.specs.declared.kind.Kind.TheVariants as kinds
 use Rattle.graphql_lexical.specs.Kinds.{same_kind, Spelling, Names, Strings, BlockStrings, Floats, Ints, Fixed, NoText, spelling, fixed_text}
 use Rattle.graphql_lexical.specs.device.Whole.{Admits, IsToken, between, text_of}
 use Rattle.graphql_lexical.specs.Tokens as grammar
-use Rattle.graphql_lexical.specs.Reading.{Reads}
-use Rattle.graphql_lexical.specs.Cutting.{Lexeme, Stands}
+use Rattle.graphql_lexical.specs.device.Indexed.{ReadsAt}
+use Rattle.graphql_lexical.specs.Cutting.{Lexeme}
 use Rattle.graphql_lexical.specs.device.Scan.{found, gap_size}
-use Rattle.graphql_lexical.proofs.Public.{finds_what_reads, gap_longest, place_index, spells_token, read_end, read_token}
+use Rattle.graphql_lexical.proofs.Public.{stands_to_text, finds_what_reads, gap_longest, place_index, spells_token, read_end, read_token}
 use Rattle.juniper_tokens.specs.declared.span.Spanning.{Spanning}
 use Rattle.juniper_tokens.specs.declared.token.Token.{Token}
 use Rattle.juniper_tokens.specs.declared.token_range.TokenRange.{TokenRange}
@@ -29,7 +29,7 @@ use Rattle.juniper_tokens.specs.Positions.{columns_on}
 use Rattle.juniper_tokens.specs.LineTables.{starts_after}
 use Rattle.juniper_tokens.specs.device.LineSteps.{line_number, IsLineOf}
 use Rattle.juniper_tokens.specs.device.Scans.{Finds}
-use Rattle.juniper_tokens.specs.Lexing.{LexerState, GivesItem, GivesToken}
+use Rattle.juniper_tokens.specs.Lexing.{PassesToken, LexerState, GivesItem, GivesToken}
 use Rattle.juniper_tokens.specs.device.LexingByScan.{past_gap, IsPlaced}
 use Rattle.juniper_tokens.specs.device.Ranges.{range_of, range_slice, range_lexeme, IsRange, TakesRange, TakesItem, MayTake, GivesRange, GivesRangeItem, range_steps}
 use Rattle.juniper_tokens.proofs.Offsets.{byte_at_within, byte_at_on, bytes_between, room_from}
@@ -109,10 +109,10 @@ placed_behind source at p q r h i e =
 
 -- ---- the range of a token that has been read
 
-read_within : (rest : List ℕ) (n : ℕ) (kind : Kind) (text : List ℕ) → Reads rest n kind text → n ≤ length rest
+read_within : (rest : List ℕ) (n : ℕ) (kind : Kind) (text : List ℕ) → ReadsAt rest n kind text → n ≤ length rest
 read_within rest n kind text r = r.longest.within
 
-read_spelled : (rest : List ℕ) (n : ℕ) (kind k : Kind) (text : List ℕ) → Reads rest n kind text → kind ≡ k
+read_spelled : (rest : List ℕ) (n : ℕ) (kind k : Kind) (text : List ℕ) → ReadsAt rest n kind text → kind ≡ k
     → (k ≡ kinds.EndOfFile → ⊥)
     → IsToken (take n rest) k
 read_spelled [] n kind k text r e no_end = absurd (no_end (sym e ∙ (read_end n kind text r).1))
@@ -128,7 +128,7 @@ found_range source at p f h s =
     let n = f.end.characters in
     let text = chars source in
     let rest = drop j text in
-    let reads : Reads rest n f.kind (text_of f.kind (take n rest)) = (finds_what_reads rest _).0 s.0 in
+    let reads : ReadsAt rest n f.kind (text_of f.kind (take n rest)) = (finds_what_reads rest _).0 s.0 in
     let within : n ≤ length rest = read_within rest n f.kind _ reads in
     let size : (j + n) - j ≡ n = omega arith in
     let bytes : (at + f.end.bytes) - at ≡ f.end.bytes = omega arith in
@@ -203,7 +203,7 @@ spelled_text Ints whole h = refl
 spelled_text (Fixed text) whole h = h
 spelled_text NoText whole h = absurd h
 
-read_text : (rest : List ℕ) (n : ℕ) (kind : Kind) (text : List ℕ) → Reads rest n kind text
+read_text : (rest : List ℕ) (n : ℕ) (kind : Kind) (text : List ℕ) → ReadsAt rest n kind text
     → text ≡ kind_text kind (text_of kind (take n rest))
 read_text [] n kind text r =
     let e = read_end n kind text r in
@@ -220,22 +220,22 @@ range_given s r t h =
     let rest = drop j s.source in
     let n = r.end.characters - j in
     let kind = r.kind in
-    let reads : Reads rest n kind (text_of kind (take n rest)) = (finds_what_reads rest _).0 h.scanned in
+    let reads : ReadsAt rest n kind (text_of kind (take n rest)) = (finds_what_reads rest _).0 h.scanned in
     let slice : take n rest ≡ range_slice s.source r = ap (λ i. take (r.end.characters - i) (drop i s.source))
     (sym h.from) in
     let text : text_of kind (take n rest) ≡ kind_text kind (text_of kind (range_slice s.source r)) =
     read_text rest n kind _ reads ∙ ap (λ x. kind_text kind (text_of kind x)) slice in
     let forward : j ≤ r.end.characters = omega (arith, h.from, h.is_range.forward) in
     record {
-      stands = record {
+      stands = stands_to_text s.source s.index (range_lexeme s.source r) t.index (record {
         gap = gap_size (drop s.index s.source);
         size = n;
         gap_is = gap_longest (drop s.index s.source);
-        reads = subst (Reads rest n kind) text reads;
+        reads = subst (ReadsAt rest n kind) text reads;
         start = ap (place s.source) h.from;
         end = ap (place s.source) (sym h.to);
         next_is = omega (arith, h.to, forward);
-      };
+      });
       is_range = h.is_range;
       ends = (λ x. (same_end kind).0 (sym h.ends ∙ x), λ x. h.ends ∙ (same_end kind).1 x);
     }
@@ -252,7 +252,7 @@ pub token_given : (s : LexerState) (r : TokenRange) (token : Spanning Token) (t 
 token_given s r token t h e =
     let g = range_given s r t h in
     record {
-      stands = subst (λ (x : Lexeme). Stands s.source s.index x t.index) (sym e) g.stands;
+      stands = subst (λ (x : Lexeme). PassesToken s x t.index) (sym e) g.stands;
       ends = subst (λ k. (t.ended ≡ true) ↔ (k ≡ kinds.EndOfFile)) (sym (ap (λ (x : Lexeme). x.kind) e)) g.ends;
     }
 

@@ -56,17 +56,20 @@ is_wanted kind text t = if has_text kind then same_kind t.kind kind && same_text
 -- The next lexeme is taken; at the end it stays.
 abbrev pub next_at : List Lexeme → Read Lexeme
 next_at [] = Err (record { error = UnexpectedEndOfFile; span = nowhere }, [])
-next_at (t ∷ ts) = if same_kind t.kind EndOfFile then Err (record { error = UnexpectedEndOfFile; span = t.span }, t ∷ ts) else Ok (t, ts)
+next_at (t ∷ ts) = if same_kind t.kind EndOfFile
+    then Err (record { error = UnexpectedEndOfFile; span = t.span }, t ∷ ts) else Ok (t, ts)
 
 -- The result is the refusal at the end.
 abbrev pub RefusesEnd : {X : Type 0} → Result X ParseFailure → List Lexeme → Type 0
 RefusesEnd (Ok x) ts = ⊥
-RefusesEnd (Err (failures.Refused e)) ts = view_fault e ≡ record { error = UnexpectedEndOfFile; span = (first_of ts).span }
+RefusesEnd (Err (failures.Refused e)) ts = view_fault e
+    ≡ record { error = UnexpectedEndOfFile; span = (first_of ts).span }
 RefusesEnd (Err failures.Memory) ts = ⊥
 
 -- The next lexeme is taken, and reported as unexpected; at the end it stays.
 abbrev pub refused_at : {A : Type 0} → List Lexeme → Read A
-refused_at ts = next_at ts >>= λ t. Err (record { error = UnexpectedToken (shown t.0.kind t.0.text); span = t.0.span }, t.1)
+refused_at ts = next_at ts
+    >>= λ t. Err (record { error = UnexpectedToken (shown t.0.kind t.0.text); span = t.0.span }, t.1)
 
 -- the next lexeme, which has to pass a test
 abbrev pub next_if : Bool → List Lexeme → Read Lexeme

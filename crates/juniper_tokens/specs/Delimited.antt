@@ -38,9 +38,11 @@ Leaves (Ok x) old new = IsProperRest old new
 Leaves (Err e) old new = IsRest old new
 
 -- A function may be called wherever a proper suffix of these lexemes stands, and reads on from there.
-pub record ReadsItems {X R : Type 0} (may_call : MutBor (List Lexeme) → Type 0) (gives : Giving (Result X R)) (ts : List Lexeme) : Type 0 where
+pub record ReadsItems {X R : Type 0} (may_call : MutBor (List Lexeme)
+    → Type 0) (gives : Giving (Result X R)) (ts : List Lexeme) : Type 0 where
   pub callable : (given : MutBor (List Lexeme)) → IsProperRest ts given.now → may_call given
-  pub leaves : (given left : MutBor (List Lexeme)) (r : Result X R) → IsProperRest ts given.now → gives given r left → Leaves r given.now left.now
+  pub leaves : (given left : MutBor (List Lexeme)) (r : Result X R) → IsProperRest ts given.now → gives given r left
+      → Leaves r given.now left.now
 
 -- The closing token does not stand next, nor does the end.
 abbrev pub GoesOn : Token → List Lexeme → Type 0
@@ -56,7 +58,8 @@ Refuses (failures.Refused e) old new step = step ≡ Err (view_fault e, new)
 Refuses failures.Memory old new step = Unmoved old new step
 
 -- this step was refused, and e is made of the refusal
-pub record IsRefused {R Y : Type 0} (from : ParseFailure → R → Type 0) (step : Read Y) (old : List Lexeme) (e : R) (new : List Lexeme) : Type 0 where
+pub record IsRefused {R Y : Type 0} (from : ParseFailure → R
+    → Type 0) (step : Read Y) (old : List Lexeme) (e : R) (new : List Lexeme) : Type 0 where
   pub failure : ParseFailure
   pub made : from failure e
   pub refuses : Refuses failure old new step
@@ -108,10 +111,18 @@ module _ {X R : Type 0} (gives : Giving (Result X R)) (from : ParseFailure → R
   -- There is no list: the opening token, an item or the closing token is refused, whichever comes first.
   pub data RefusesList (old : List Lexeme) (e : R) (new : List Lexeme) : Type 0 where
     at_opening : IsRefused from (expect_at opening old) old e new → RefusesList old e new
-    at_item : (opener : Lexeme) (first last : List Lexeme) (items : List X) → expect_at opening old ≡ Ok (opener, first) → FoldsTo (OpenItem gives closing) first items last → GoesOn closing last → HasNoItem gives from last e new → RefusesList old e new
-    at_closing : (opener : Lexeme) (first last : List Lexeme) (items : List X) → expect_at opening old ≡ Ok (opener, first) → FoldsTo (OpenItem gives closing) first items last → IsRefused from (skip_at closing last) last e new → RefusesList old e new
+    at_item : (opener : Lexeme) (first last : List Lexeme) (items : List X) → expect_at opening old ≡ Ok (opener, first)
+        → FoldsTo (OpenItem gives closing) first items last → GoesOn closing last → HasNoItem gives from last e new
+        → RefusesList old e new
+    at_closing : (opener : Lexeme) (first last : List Lexeme) (items : List X) → expect_at opening old
+        ≡ Ok (opener, first) → FoldsTo (OpenItem gives closing) first items last
+        → IsRefused from (skip_at closing last) last e new → RefusesList old e new
 
   pub data RefusesNonempty (old : List Lexeme) (e : R) (new : List Lexeme) : Type 0 where
     at_opening : IsRefused from (expect_at opening old) old e new → RefusesNonempty old e new
-    at_item : (opener : Lexeme) (first last : List Lexeme) (items : List X) → expect_at opening old ≡ Ok (opener, first) → FoldsTo (ItemOpen gives closing) first items last → HasNoItem gives from last e new → RefusesNonempty old e new
-    at_closing : (opener : Lexeme) (first before last : List Lexeme) (items : List X) (item : X) → expect_at opening old ≡ Ok (opener, first) → FoldsTo (ItemOpen gives closing) first items before → Calls gives before (Ok item) last → IsRefused from (skip_at closing last) last e new → RefusesNonempty old e new
+    at_item : (opener : Lexeme) (first last : List Lexeme) (items : List X) → expect_at opening old ≡ Ok (opener, first)
+        → FoldsTo (ItemOpen gives closing) first items last → HasNoItem gives from last e new
+        → RefusesNonempty old e new
+    at_closing : (opener : Lexeme) (first before last : List Lexeme) (items : List X) (item : X) → expect_at opening old
+        ≡ Ok (opener, first) → FoldsTo (ItemOpen gives closing) first items before → Calls gives before (Ok item) last
+        → IsRefused from (skip_at closing last) last e new → RefusesNonempty old e new

@@ -21,11 +21,13 @@ module _ {R : Type 0} (from : ParseFailure → R → Type 0) where
 
   -- the closing token was taken, which ends at this place, or does not stand there
   abbrev pub MayClose : Token → List Lexeme → Result (Option Place) R → List Lexeme → Type 0
-  MayClose closing old (Ok (Some end)) new = (closer : Lexeme) × Closes closing old closer new × (end ≡ closer.span.end) × IsRest old new
+  MayClose closing old (Ok (Some end)) new = (closer : Lexeme) × Closes closing old closer new × (end ≡ closer.span.end)
+      × IsRest old new
   MayClose closing old (Ok None) new = GoesOn closing old × (new ≡ old)
   MayClose closing old (Err e) new = IsRefused from (skip_at closing old) old e new × IsRest old new
 
   -- an item was read, and stands after those that were there
-  abbrev pub Adds : {X : Type 0} → Giving (Result X R) → List Lexeme → List X → Result (Unit {0}) R → List Lexeme → List X → Type 0
+  abbrev pub Adds : {X : Type 0} → Giving (Result X R) → List Lexeme → List X → Result (Unit {0}) R → List Lexeme
+      → List X → Type 0
   Adds {X} gives old items (Ok u) new all = (item : X) × Calls gives old (Ok item) new × (all ≡ items ++ item ∷ [])
   Adds gives old items (Err e) new all = HasNoItem gives from old e new

@@ -5,9 +5,9 @@ ghost use Rattle.std.specs.Global.{Global as Allocator};
 ghost use Rattle.std.specs.Str.{chars};
 ghost use Rattle.graphql_lexical.specs.declared.kind.Kind.TheVariants.{EndOfFile};
 ghost use Rattle.graphql_lexical.specs.Kinds.{same_kind};
-ghost use Rattle.graphql_lexical.specs.Cutting.{Lexeme, CutFrom, BreaksFrom};
+ghost use Rattle.graphql_lexical.specs.Cutting.{Lexeme};
 ghost use Rattle.juniper_tokens.specs.Errors.{view_lexer_error};
-ghost use Rattle.juniper_tokens.specs.Gathering.{IfFault, IfMemory, StandsLaterOrEnded};
+ghost use Rattle.juniper_tokens.specs.Gathering.{IfFault, IfMemory, HasLeft, BreaksOff, StandsLaterOrEnded};
 ghost use Rattle.juniper_tokens.specs.LineTables.{lines_of};
 ghost use Rattle.juniper_tokens.specs.declared.error.LexFailure.TheVariants.{Memory};
 ghost use Rattle.juniper_tokens.specs.device.LineSteps.{HasLines};
@@ -74,8 +74,8 @@ impl<'a> Parser<'a> {
     /// ```
     pub fn new(lexer: &mut Lexer<'a>) -> Result<Self, LexFailure>
         requires { lexer.old.ended ≡ false }
-        ensures tokens { IfOk result (λ tokens. CutFrom lexer.old.source lexer.old.index tokens) }
-        ensures fault { IfFault result (λ fault. BreaksFrom lexer.old.source lexer.old.index (view_lexer_error fault.item) fault.span.start) }
+        ensures tokens { IfOk result (λ tokens. HasLeft lexer.old tokens) }
+        ensures fault { IfFault result (λ fault. BreaksOff lexer.old (view_lexer_error fault.item) fault.span.start) }
         ensures zero_width { IfFault result (λ fault. fault.span.end ≡ fault.span.start) }
         ensures source { lexer.new.source ≡ lexer.old.source }
         ensures lexer { IfMemory result (StandsLaterOrEnded lexer.old lexer.new) (lexer.new.ended ≡ true) }
@@ -323,9 +323,9 @@ impl<'a> Parser<'a> {
 fn gather(lexer: &mut Lexer<'_>) -> Result<(Vec<TokenRange>, LineTable), LexFailure>
     requires { lexer.old.ended ≡ false }
     ensures ranges { IfOk result (λ given. All (IsRange lexer.old.source) given.0.items) }
-    ensures tokens { IfOk result (λ given. CutFrom lexer.old.source lexer.old.index (range_lexemes lexer.old.source given.0.items)) }
+    ensures tokens { IfOk result (λ given. HasLeft lexer.old (range_lexemes lexer.old.source given.0.items)) }
     ensures lines { IfOk result (λ given. given.1 ≡ lines_of lexer.old.source) }
-    ensures fault { IfFault result (λ fault. BreaksFrom lexer.old.source lexer.old.index (view_lexer_error fault.item) fault.span.start) }
+    ensures fault { IfFault result (λ fault. BreaksOff lexer.old (view_lexer_error fault.item) fault.span.start) }
     ensures zero_width { IfFault result (λ fault. fault.span.end ≡ fault.span.start) }
     ensures source { lexer.new.source ≡ lexer.old.source }
     ensures lexer { IfMemory result (StandsLaterOrEnded lexer.old lexer.new) (lexer.new.ended ≡ true) }

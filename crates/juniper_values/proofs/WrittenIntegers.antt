@@ -6,7 +6,6 @@ use Rattle.std.proofs.lemmas.Bool.{and_from}
 use Rattle.std.proofs.lemmas.Bool.Decides.{nat_tests}
 use Rattle.std.proofs.lemmas.Fmt.{decimal_is_IsNumeral, decimal_digit, first_decimal, digits_decimal, digits_value-decimal}
 use Rattle.std.proofs.lemmas.Str.Parse.{digit_from_value}
-use Rattle.graphql_lexical.specs.declared.kind.Kind.TheVariants.{Int}
 use Rattle.graphql_lexical.specs.Characters.{is_digit, is_nonzero_digit}
 use Rattle.graphql_lexical.specs.Tokens.{Any, IsInteger}
 use Rattle.graphql_lexical.specs.device.Numbers.{ReadLongInteger}

@@ -51,8 +51,10 @@ module _ {S : Type 0} (eq : S → S → Bool) (m : Values S) where
 
     pub ItemsBecome : Items S → Items S → Type 0
     ItemsBecome no_items ys = ys ≡ no_items
-    ItemsBecome (item v s xs) ys = (o : Option (Value S)) × (rest : Items S) × (ys ≡ item (or_null o) s rest) × Becomes v o × ItemsBecome xs rest
+    ItemsBecome (item v s xs) ys = (o : Option (Value S)) × (rest : Items S) × (ys ≡ item (or_null o) s rest)
+        × Becomes v o × ItemsBecome xs rest
 
     pub FieldsBecome : ObjectFields S → ObjectFields S → Type 0
     FieldsBecome no_fields gs = gs ≡ no_fields
-    FieldsBecome (object_field k v t fs) gs = (o : Option (Value S)) × (rest : ObjectFields S) × (gs ≡ field_if k o t rest) × Becomes v o × FieldsBecome fs rest
+    FieldsBecome (object_field k v t fs) gs = (o : Option (Value S)) × (rest : ObjectFields S)
+        × (gs ≡ field_if k o t rest) × Becomes v o × FieldsBecome fs rest

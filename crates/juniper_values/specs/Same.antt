@@ -42,7 +42,8 @@ module _ {C : Type 0} (eq : C → C → Bool) where
     same_but_place (Enum a) (Enum b) = same_text a b
     same_but_place (Variable a) (Variable b) = same_text a b
     same_but_place (ListOf xs) (ListOf ys) = same_items_but_place xs ys
-    same_but_place (Object fs) (Object gs) = field_count fs == field_count gs && (all_found (wanted fs) gs && all_wanted (wanted fs) gs)
+    same_but_place (Object fs) (Object gs) = field_count fs == field_count gs
+        && (all_found (wanted fs) gs && all_wanted (wanted fs) gs)
     same_but_place v w = false
 
     pub same_items_but_place : Items C → Items C → Bool

@@ -35,7 +35,8 @@ MeetsReading content reading (Err Memory) = Unit {0}
 
 -- What a scalar becomes in another scalar type, which makes contents of an integer, of a boolean and of a text: that of
 -- its integer where it has one, else of its boolean, else of its text.
-abbrev pub other_content : Option ℤ → Option Bool → Option Text → (ℤ → Content) → (Bool → Content) → (Text → Content) → Option Content
+abbrev pub other_content : Option ℤ → Option Bool → Option Text → (ℤ → Content) → (Bool → Content) → (Text → Content)
+    → Option Content
 other_content (Some n) b t of_int of_bool of_text = Some (of_int n)
 other_content None (Some b) t of_int of_bool of_text = Some (of_bool b)
 other_content None None (Some t) of_int of_bool of_text = Some (of_text t)

@@ -35,8 +35,10 @@ mutual
     later_item : (v : Value C) (s : Span) (xs : Items C) (t : Text) → ItemRefers xs t → ItemRefers (item v s xs) t
 
   pub data FieldRefers {C : Type 0} : ObjectFields C → Text → Type 0 where
-    first_field : (k : Word) (v : Value C) (s : Span) (fs : ObjectFields C) (t : Text) → Refers v t → FieldRefers (object_field k v s fs) t
-    later_field : (k : Word) (v : Value C) (s : Span) (fs : ObjectFields C) (t : Text) → FieldRefers fs t → FieldRefers (object_field k v s fs) t
+    first_field : (k : Word) (v : Value C) (s : Span) (fs : ObjectFields C) (t : Text) → Refers v t
+        → FieldRefers (object_field k v s fs) t
+    later_field : (k : Word) (v : Value C) (s : Span) (fs : ObjectFields C) (t : Text) → FieldRefers fs t
+        → FieldRefers (object_field k v s fs) t
 
 -- no variable stands in the value
 abbrev pub HasNoVariable : {C : Type 0} → Value C → Type 0

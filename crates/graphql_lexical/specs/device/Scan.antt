@@ -6,7 +6,7 @@ use Rattle.graphql_lexical.specs.Place.{Place, place}
 use Rattle.graphql_lexical.specs.Kinds.{Kind, Name, String, Float, Int, Ellipsis, EndOfFile, same_kind, LexicalError, UnknownCharacter, UnexpectedCharacter, UnterminatedString, UnknownCharacterInString, UnknownEscapeSequence, UnexpectedEndOfFile, BlockString}
 use Rattle.graphql_lexical.specs.Tokens.{punctuator}
 use Rattle.graphql_lexical.specs.device.Whole.{text_of}
-use Rattle.graphql_lexical.specs.Reading.{counted}
+use Rattle.graphql_lexical.specs.device.Indexed.{counted}
 use Rattle.graphql_lexical.specs.Cutting.{Lexeme}
 use Rattle.graphql_lexical.specs.device.Machines.{reach}
 pub use Rattle.graphql_lexical.specs.declared.state.State.{State}

@@ -1,7 +1,17 @@
--- A device: which texts are tokens, without the token's text, and the text of one that is a token.
+-- A device: which texts are tokens, by how they are spelled, without the token's text, and the text of one that is a token.
 use Rattle.std.specs.Prelude.{◌≡◌, ℕ, ◌-◌, ◌*◌, List, [], ◌∷◌, ◌++◌, length, take, drop, codes}
 use Rattle.graphql_lexical.specs.Kinds.{Kind, Spelling, Names, Strings, BlockStrings, Floats, Ints, Fixed, NoText, spelling}
 use Rattle.graphql_lexical.specs.Tokens.{IsName, IsFloat, IsInteger, Pieces, IsUnit, AreBlockUnits, mark, quotes}
+
+-- The whole text is a token that is spelled so, and this is the token's text.
+abbrev pub SpelledAs : Spelling → List ℕ → List ℕ → Type 0
+SpelledAs Names whole text = IsName whole × (text ≡ whole)
+SpelledAs Strings whole text = (whole ≡ codes "\"" ++ (text ++ codes "\"")) × Pieces IsUnit text
+SpelledAs BlockStrings whole text = (whole ≡ mark ++ (text ++ mark)) × AreBlockUnits text mark
+SpelledAs Floats whole text = IsFloat whole × (text ≡ whole)
+SpelledAs Ints whole text = IsInteger whole × (text ≡ whole)
+SpelledAs (Fixed fixed) whole text = (whole ≡ fixed) × (text ≡ whole)
+SpelledAs NoText whole text = ⊥
 
 -- a quote, units, a quote
 abbrev pub IsString : List ℕ → Type 0

@@ -5,6 +5,8 @@ use Rattle.graphql_lexical.specs.Kinds.{Kind, BlockString, EndOfFile, LexicalErr
 use Rattle.graphql_lexical.specs.Place.{Place, Span, place, origin, past_character}
 use Rattle.graphql_lexical.specs.Tokens.{mark, written}
 use Rattle.graphql_lexical.specs.Reading.{Reads, Fails}
+use Rattle.graphql_lexical.specs.device.Indexed.{ReadsAt, FailsAt}
+use Rattle.graphql_lexical.specs.Characters.{Text}
 use Rattle.graphql_lexical.specs.Cutting.{Lexeme, Cut, Breaks}
 use Rattle.graphql_lexical.specs.device.Scan.{Found, Missed, Broken, scan, cut_of}
 
@@ -15,31 +17,35 @@ pub record StepsByCharacters (source : List ℕ) : Type 0 where
 
 -- what scan finds is what is read
 abbrev pub FindsWhatReads : List ℕ → Type 0
-FindsWhatReads rest = (f : Found) → (scan rest ≡ Ok f) ↔ Reads rest f.size f.kind f.text
+FindsWhatReads rest = (f : Found) → (scan rest ≡ Ok f) ↔ ReadsAt rest f.size f.kind f.text
 
 -- what scan misses is what fails
 abbrev pub MissesWhatFails : List ℕ → Type 0
-MissesWhatFails rest = (m : Missed) → (scan rest ≡ Err m) ↔ Fails rest m.at m.error
+MissesWhatFails rest = (m : Missed) → (scan rest ≡ Err m) ↔ FailsAt rest m.at m.error
 
 -- this is read, nothing else is, and nothing fails
-pub record IsOnlyReading (rest : List ℕ) (n : ℕ) (kind : Kind) (text : List ℕ) : Type 0 where
-  pub reads : Reads rest n kind text
-  pub alone : (m : ℕ) (k : Kind) (t : List ℕ) → Reads rest m k t → (m ≡ n) × (k ≡ kind) × (t ≡ text)
-  pub no_fault : (m : ℕ) (error : LexicalError) → Fails rest m error → ⊥
+pub record IsOnlyReading (rest whole after : Text) (kind : Kind) (text : Text) : Type 0 where
+  pub whole_is : rest ≡ whole ++ after
+  pub reads : Reads whole after kind text
+  pub alone : (w a : Text) (k : Kind) (t : Text) → rest ≡ w ++ a → Reads w a k t → (w ≡ whole) × (k ≡ kind) × (t ≡ text)
+  pub no_error : (w a : Text) (error : LexicalError) → rest ≡ w ++ a → Fails w a error → ⊥
 
 -- this fails, nothing else does, and nothing is read
-pub record IsOnlyFault (rest : List ℕ) (n : ℕ) (error : LexicalError) : Type 0 where
-  pub fails : Fails rest n error
-  pub alone : (m : ℕ) (e : LexicalError) → Fails rest m e → (m ≡ n) × (e ≡ error)
-  pub no_reading : (m : ℕ) (k : Kind) (t : List ℕ) → Reads rest m k t → ⊥
+pub record IsOnlyError (rest front after : Text) (error : LexicalError) : Type 0 where
+  pub whole_is : rest ≡ front ++ after
+  pub fails : Fails front after error
+  pub alone : (w a : Text) (e : LexicalError) → rest ≡ w ++ a → Fails w a e → (w ≡ front) × (e ≡ error)
+  pub no_reading : (w a : Text) (k : Kind) (t : Text) → rest ≡ w ++ a → Reads w a k t → ⊥
 
 -- a rest has exactly one of both
-abbrev pub HasOneResult : List ℕ → Type 0
-HasOneResult rest = ((n : ℕ) × (kind : Kind) × (text : List ℕ) × IsOnlyReading rest n kind text) ⊎ ((n : ℕ) × (error : LexicalError) × IsOnlyFault rest n error)
+abbrev pub HasOneResult : Text → Type 0
+HasOneResult rest = ((whole after : Text) × (kind : Kind) × (text : Text) × IsOnlyReading rest whole after kind text)
+    ⊎ ((front after : Text) × (error : LexicalError) × IsOnlyError rest front after error)
 
 -- no token but a block string begins with a triple quote
-abbrev pub BeginsBlockString : List ℕ → Type 0
-BeginsBlockString rest = (n : ℕ) (kind : Kind) (text : List ℕ) → Reads (mark ++ rest) n kind text → kind ≡ BlockString
+abbrev pub BeginsBlockString : Text → Type 0
+BeginsBlockString rest = (whole after : Text) (kind : Kind) (text : Text) → mark ++ rest ≡ whole ++ after
+    → Reads whole after kind text → kind ≡ BlockString
 
 abbrev pub CutsWhatIsCut : List ℕ → Type 0
 CutsWhatIsCut source = (xs : List Lexeme) → (cut_of source ≡ Ok xs) ↔ Cut source xs

@@ -1,23 +1,23 @@
 -- A prefix of a source, and tokens after it with spaces between.
-use Rattle.std.specs.Prelude.{◌≡◌, ℕ, List, [], ◌∷◌, ◌++◌, take, None, codes}
-use Rattle.std.specs.List.{last_or, AllZip}
-use Rattle.std.specs.Option.{option_map_or}
+use Rattle.std.specs.Prelude.{◌≡◌, List, [], ◌∷◌, ◌++◌, take, codes}
+use Rattle.std.specs.List.{AllZip}
+use Rattle.graphql_lexical.specs.Characters.{Text}
 use Rattle.graphql_lexical.specs.Kinds.{EndOfFile}
 use Rattle.graphql_lexical.specs.Tokens.{Spells}
-use Rattle.graphql_lexical.specs.Cutting.{Lexeme, Cut}
+use Rattle.graphql_lexical.specs.Cutting.{Lexeme, span_of, Cut}
 use Rattle.graphql_lexical.specs.laws.Alike.{Alike}
 
 -- the source up to the end of the last of these tokens
-abbrev pub up_to : List ℕ → List Lexeme → List ℕ
-up_to source tokens = take (option_map_or (λ x. x.span.end.index) (last_or None tokens) 0) source
+abbrev pub up_to : Text → List Lexeme → Text
+up_to source tokens = take (span_of tokens).end.index source
 
 -- The text is these tokens in a row, each spelled, with a space after it.
-abbrev pub IsSpaced : List ℕ → List Lexeme → Type 0
+abbrev pub IsSpaced : Text → List Lexeme → Type 0
 IsSpaced text [] = text ≡ []
-IsSpaced text (x ∷ xs) = (whole rest : List ℕ) × (text ≡ whole ++ (codes " " ++ rest)) × Spells whole x.kind x.text × IsSpaced rest xs
+IsSpaced text (x ∷ xs) = (whole rest : Text) × (text ≡ whole ++ (codes " " ++ rest)) × Spells whole x.kind x.text × IsSpaced rest xs
 
 -- The text is cut into these tokens, with these spans, then tokens alike with the others, and the end.
-pub record GoesOn (text : List ℕ) (front others : List Lexeme) : Type 0 where
+pub record GoesOn (text : Text) (front others : List Lexeme) : Type 0 where
   pub added : List Lexeme
   pub end : Lexeme
   pub cut : Cut text (front ++ (added ++ end ∷ []))
@@ -26,5 +26,5 @@ pub record GoesOn (text : List ℕ) (front others : List Lexeme) : Type 0 where
 
 -- The source up to the end of a token that is not its last, or up to its beginning, then a space, and then spelled
 -- tokens with a space after each: this is cut into the source's tokens up to that one and tokens alike with those.
-abbrev pub GoesOnSpaced : List ℕ → Type 0
-GoesOnSpaced source = (front : List Lexeme) (next : Lexeme) (after others : List Lexeme) (text : List ℕ) → Cut source (front ++ next ∷ after) → IsSpaced text others → GoesOn (up_to source front ++ (codes " " ++ text)) front others
+abbrev pub GoesOnSpaced : Text → Type 0
+GoesOnSpaced source = (front : List Lexeme) (next : Lexeme) (after others : List Lexeme) (text : Text) → Cut source (front ++ next ∷ after) → IsSpaced text others → GoesOn (up_to source front ++ (codes " " ++ text)) front others

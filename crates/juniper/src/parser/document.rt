@@ -7,7 +7,7 @@ ghost use Rattle.juniper.specs.Scalars.{stated};
 ghost use Rattle.graphql_grammar.specs.device.Productions.{document};
 ghost use Rattle.juniper_tokens.specs.Taking.{left};
 ghost use Rattle.juniper.specs.device.Steps.{cursor};
-ghost use Rattle.juniper.specs.Promise.{HasTree, IsRefusal, IsRefusalInText, IfRefused, ReturnsAs};
+ghost use Rattle.juniper.specs.Promise.{HasTree, IfRefused, ReturnsAs, IsRefusal};
 
 pub(crate) mod depth;
 pub(crate) mod sink;
@@ -45,7 +45,6 @@ pub fn parse_document_source<'a, S: ScalarValue>(
 ) -> UnlocatedParseResult<OwnedDocument<'a, S>>
     ensures accepted { IfOk result (λ tree. HasTree (stated S.reading S.of_bool) (chars s.now) (view_document S.content tree)) }
     ensures refused { IfRefused result (λ fault. IsRefusal (stated S.reading S.of_bool) (chars s.now) (view_fault fault)) }
-    ensures in_characters { IfRefused result (λ fault. IsRefusalInText (stated S.reading S.of_bool) (chars s.now) (view_fault fault)) }
 {
     let mut lexer = Lexer::new(alloc, s);
     let parser = Parser::new(&mut lexer)?;

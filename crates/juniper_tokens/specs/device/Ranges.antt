@@ -6,7 +6,7 @@ use Rattle.graphql_lexical.specs.declared.kind.Kind.TheVariants as kinds
 use Rattle.graphql_lexical.specs.Kinds.{same_kind}
 use Rattle.graphql_lexical.specs.device.Scan as scans
 use Rattle.graphql_lexical.specs.device.Whole.{text_of}
-use Rattle.graphql_lexical.specs.Cutting.{Lexeme, Stands}
+use Rattle.graphql_lexical.specs.Cutting.{Lexeme}
 use Rattle.juniper_tokens.specs.declared.span.Spanning.{Spanning}
 use Rattle.juniper_tokens.specs.declared.token.Token.{Token}
 use Rattle.juniper_tokens.specs.declared.token_range.TokenRange.{TokenRange}
@@ -22,7 +22,7 @@ use Rattle.juniper_tokens.specs.Positions.{columns_on}
 use Rattle.juniper_tokens.specs.device.Scans.{MissesEscape}
 use Rattle.juniper_tokens.specs.LineTables.{lines_of}
 use Rattle.juniper_tokens.specs.device.LineSteps.{line_number}
-use Rattle.juniper_tokens.specs.Lexing.{LexerState, GivesFault, WantsMemory}
+use Rattle.juniper_tokens.specs.Lexing.{LexerState, PassesToken, GivesFault, WantsMemory}
 use Rattle.juniper_tokens.specs.device.LexingByScan.{past_gap}
 use Rattle.juniper_tokens.specs.Cursor.{EndsOnce, first_of}
 
@@ -55,7 +55,7 @@ pub record IsRange (source : List ℕ) (r : TokenRange) : Type 0 where
 
 -- A token of this range stands where the lexer did, which is then after it, and has ended where the token is the end.
 pub record GivesRange (s : LexerState) (r : TokenRange) (t : LexerState) : Type 0 where
-  pub stands : Stands s.source s.index (range_lexeme s.source r) t.index
+  pub stands : PassesToken s (range_lexeme s.source r) t.index
   pub is_range : IsRange s.source r
   pub ends : (t.ended ≡ true) ↔ (r.kind ≡ kinds.EndOfFile)
 

@@ -1,12 +1,12 @@
 use Rattle.juniper.specs.Scalars.{stated}
-use Rattle.juniper.proofs.Sources.{either, one, never_both}
+use Rattle.juniper.proofs.Sources.{either_refused, one_refused, never_both_refused}
 use Rattle.juniper.proofs.laws.document_or_fault.Goals as goal
 
 pub returns-clause-either : goal.returns-clause-either
-returns-clause-either g c = either (stated g.S.ParseScalarValue.reading g.S.ScalarValue.of_bool)
+returns-clause-either g c = either_refused (stated g.S.ParseScalarValue.reading g.S.ScalarValue.of_bool)
 
 pub returns-clause-one : goal.returns-clause-one
-returns-clause-one g c = one (stated g.S.ParseScalarValue.reading g.S.ScalarValue.of_bool)
+returns-clause-one g c = one_refused (stated g.S.ParseScalarValue.reading g.S.ScalarValue.of_bool)
 
 pub returns-clause-never_both : goal.returns-clause-never_both
-returns-clause-never_both g c = never_both (stated g.S.ParseScalarValue.reading g.S.ScalarValue.of_bool)
+returns-clause-never_both g c = never_both_refused (stated g.S.ParseScalarValue.reading g.S.ScalarValue.of_bool)

@@ -6,7 +6,7 @@ ghost use Rattle.juniper_tokens.specs.Errors.{view_fault};
 ghost use Rattle.juniper_tokens.specs.Spans.{view_span};
 ghost use Rattle.juniper.specs.View.{view_document};
 ghost use Rattle.juniper.specs.Scalars.{stated};
-ghost use Rattle.juniper.specs.Promise.{HasTree, IsRefusal, IsRefusalInText};
+ghost use Rattle.juniper.specs.Promise.{HasTree, IsRefusal};
 ghost use Rattle.juniper.specs.Within.{IfRefusedWithin, IfTooDeep, IfDecided, HasTooDeep, IsWithin, ReturnsWithin, failure_within};
 
 use crate::parser::document::parse_definitions;
@@ -48,7 +48,6 @@ pub fn parse_document_source_within<'a, S: ScalarValue>(
 ) -> Result<OwnedDocument<'a, S>, DepthFailure>
     ensures accepted { IfOk result (λ tree. HasTree (stated S.reading S.of_bool) (chars s.now) (view_document S.content tree)) }
     ensures refused { IfRefusedWithin result (λ fault. IsRefusal (stated S.reading S.of_bool) (chars s.now) (view_fault fault)) }
-    ensures in_characters { IfRefusedWithin result (λ fault. IsRefusalInText (stated S.reading S.of_bool) (chars s.now) (view_fault fault)) }
     ensures within { IfDecided result (IsWithin (stated S.reading S.of_bool) depth (chars s.now)) }
     ensures too_deep { IfTooDeep result (λ span. HasTooDeep (stated S.reading S.of_bool) depth (chars s.now) (view_span span)) }
 {

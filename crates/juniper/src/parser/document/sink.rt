@@ -11,9 +11,9 @@ ghost use Rattle.juniper.specs.Scalars.{stated};
 ghost use Rattle.graphql_grammar.specs.device.Productions.{document};
 ghost use Rattle.juniper_tokens.specs.Taking.{left};
 ghost use Rattle.juniper.specs.device.Steps.{cursor};
-ghost use Rattle.juniper.specs.Promise.{IsRefusal, IsRefusalInText};
 ghost use Rattle.juniper.specs.Within.{IfRefusedWithin, IfTooDeep, IfDecided, HasTooDeep, IsWithin};
 ghost use Rattle.juniper.specs.Sinks.{Gains, GainsTree, GainsFront, GainsBeforeEnd, GivesAs, GivesWithin};
+ghost use Rattle.juniper.specs.Promise.{IsRefusal};
 
 use crate::parser::definition::parse_definition;
 use crate::parser::document::depth::{DepthFailure, depth_failure};
@@ -58,7 +58,6 @@ pub fn parse_document_source_into<S: ScalarValue, D: DefinitionSink<S>>(
 ) -> Result<(), DepthFailure>
     ensures accepted { IfOk result (λ _. GainsTree D.holds definitions.old definitions.new (stated S.reading S.of_bool) (chars s.now)) }
     ensures refused { IfRefusedWithin result (λ fault. IsRefusal (stated S.reading S.of_bool) (chars s.now) (view_fault fault)) }
-    ensures in_characters { IfRefusedWithin result (λ fault. IsRefusalInText (stated S.reading S.of_bool) (chars s.now) (view_fault fault)) }
     ensures within { IfDecided result (IsWithin (stated S.reading S.of_bool) depth (chars s.now)) }
     ensures too_deep { IfTooDeep result (λ span. HasTooDeep (stated S.reading S.of_bool) depth (chars s.now) (view_span span)) }
     ensures given { GainsFront D.holds definitions.old definitions.new (stated S.reading S.of_bool) (chars s.now) }

@@ -1,7 +1,8 @@
 -- What holds of the rest and the tokens that are left to it holds of the whole.
-use Rattle.std.proofs.Common.{◌≡◌, false}
+use Rattle.std.proofs.Common.{◌≡◌, false, [], ◌++◌}
 use Rattle.std.specs.Str.{chars}
 use Rattle.graphql_lexical.specs.Place.{Span}
+use Rattle.juniper_tokens.specs.Lexing.{passed, ahead}
 use Rattle.juniper_flat.specs.TokenCounts.{HasFew, HasMore}
 use Rattle.juniper_flat.proofs.count.count_of_text.Given as goal
 
@@ -9,9 +10,14 @@ abbrev pub invariant-loop-span : goal.invariant-loop-span
 invariant-loop-span l = record {
   source : l.lexer.source ≡ chars l.fn.text;
   going : l.lexer.ended ≡ false;
-  few : HasFew (chars l.fn.text) l.lexer.index l.left → HasFew (chars l.fn.text) 0 l.fn.most;
+  whole : passed (chars l.fn.text) l.lexer.index ++ ahead (chars l.fn.text) l.lexer.index ≡ chars l.fn.text;
+  few :
+      HasFew (passed (chars l.fn.text) l.lexer.index) (ahead (chars l.fn.text) l.lexer.index) l.left
+      → HasFew [] (chars l.fn.text) l.fn.most;
   more :
-      (span : Span) → HasMore (chars l.fn.text) l.lexer.index l.left span → HasMore (chars l.fn.text) 0 l.fn.most span;
+      (span : Span)
+      → HasMore (passed (chars l.fn.text) l.lexer.index) (ahead (chars l.fn.text) l.lexer.index) l.left span
+      → HasMore [] (chars l.fn.text) l.fn.most span;
 }
 
 abbrev pub decreases-loop-span : goal.decreases-loop-span

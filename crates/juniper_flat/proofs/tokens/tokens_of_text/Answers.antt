@@ -1,12 +1,20 @@
-use Rattle.std.proofs.Common.{◌≡◌, ◌∙◌, ◌++◌, ◌∷◌, [], sym, ap₂, arith, length-append}
+use Rattle.std.proofs.Common.{◌≡◌, ◌∙◌, ℕ, ◌<◌, ◌^◌, List, ◌++◌, ◌∷◌, [], length, sym, subst, ap₂, arith, zero-le, length-append}
 use Rattle.std.specs.Str.{chars}
+use Rattle.graphql_lexical.specs.Cutting.{none}
 use Rattle.juniper_tokens.specs.Errors.{view_lexer_error}
+use Rattle.juniper_tokens.specs.Lexing.{LexerState, passed, ahead}
 use Rattle.juniper_tokens.specs.Spans.{view_span}
+use Rattle.juniper_flat.specs.declared.token.Token.{Token}
 use Rattle.juniper_flat.specs.Tokens.{token_at, written_token, HasFaultBehind}
 use Rattle.juniper_flat.proofs.Fitting.{few_characters, broken_fits}
 use Rattle.juniper_flat.proofs.TokenCounts.{token_fits}
-use Rattle.juniper_flat.proofs.HeldTokens.{stands_here, breaks_here, held_more, held_many, held_all, held_told, fault_behind}
+use Rattle.juniper_flat.proofs.Rooms.{fills_none}
+use Rattle.juniper_flat.proofs.HeldTokens.{Held, held_first, all_there, stands_here, breaks_here, held_more, held_many, held_all, held_told, fault_behind}
 use Rattle.juniper_flat.proofs.tokens.tokens_of_text.Goals as goal
+
+within_text : (text : List ℕ) (old room : List Token) (s : LexerState) (count : ℕ) (h : Held text old s room count)
+    → length text < 2 ^ 32 → length (passed text s.index ++ ahead text s.index) < 2 ^ 32
+within_text text old room s count h = subst (λ (t : List ℕ). length t < 2 ^ 32) (sym (all_there text old room s count h))
 
 pub returns-then-count-most : goal.returns-then-count-most
 returns-then-count-most c =
@@ -18,7 +26,7 @@ returns-then-count-most c =
     let stands = stands_here text _ _ l.lexer l.count held step.0 next step.1 in
     let span = view_span c.in-Token.span in
     let few = few_characters c.args.text.now c.utf8.text c.requires in
-    let fits = token_fits text l.lexer.index next step.0 stands span step.4 few in
+    let fits = token_fits _ _ step.0 _ _ stands span step.4 (within_text text _ _ l.lexer l.count held few) in
     let more = held_many text _ _ l.lexer l.count held c.args.most step.0 next span (omega (arith, c.if-count-most.true)) stands
     step.2 step.4 in
     (c.requires, c.utf8.text, (span, more.0, more.1, c.many_fault.ensures text c.in-Ok.ensures fits))
@@ -33,7 +41,7 @@ loop-kind-preserved c =
     let stands = stands_here text _ _ l.lexer l.count held step.0 next step.1 in
     let span = view_span c.in-Token.span in
     let few = few_characters c.args.text.now c.utf8.text c.requires in
-    let fits = token_fits text l.lexer.index next step.0 stands span step.4 few in
+    let fits = token_fits _ _ step.0 _ _ stands span step.4 (within_text text _ _ l.lexer l.count held few) in
     let told : c.token_at.result ≡ written_token text step.0 =
     c.token_at.ensures text c.in-Ok.ensures fits ∙ ap₂ (token_at text) step.3 step.4 in record {
       held = held_more text _ _ l.lexer l.count held c.next_step.new.lexer c.put.new.room c.token_at.result step.0 stands
@@ -51,7 +59,7 @@ returns-in-End c =
     let stands = stands_here text _ _ l.lexer l.count held step.0 next step.1 in
     let span = view_span c.in-End.span in
     let few = few_characters c.args.text.now c.utf8.text c.requires in
-    let fits = token_fits text l.lexer.index next step.0 stands span step.3 few in
+    let fits = token_fits _ _ step.0 _ _ stands span step.3 (within_text text _ _ l.lexer l.count held few) in
     let told : c.token_at-in-End.result ≡ written_token text step.0 =
     c.token_at-in-End.ensures text c.in-Ok.ensures fits ∙ ap₂ (token_at text) (sym step.2) step.3 in
     let more = length-append held.tokens (step.0 ∷ []) in (
@@ -75,7 +83,8 @@ returns-in-Fault c =
     let at = c.in-Fault.fault.span.start in
     let behind : HasFaultBehind c.args.text.now held.tokens error at = record {
       utf8 = c.utf8.text;
-      next = l.lexer.index;
+      done = passed text l.lexer.index;
+      after = ahead text l.lexer.index;
       leads = held.leads;
       breaks = breaks_here text _ _ l.lexer l.count held error at c.in-Fault.ensures;
     } in
@@ -93,3 +102,14 @@ returns-in-Fault c =
         c.lexical_fault-found.ensures text c.in-Ok.ensures fits,
       ),
     )
+
+pub loop-kind-init : goal.loop-kind-init
+loop-kind-init c =
+    let text = chars c.args.text.now in
+    let room = c.args.room.now in record {
+      held = subst (λ (s : LexerState). Held text room s room 0) (sym c.new-lexer.ensures) (held_first text room);
+      few = zero-le;
+    }
+
+pub returns-in_default : goal.returns-in_default
+returns-in_default c = (c.requires, c.utf8.text, ([], [], chars c.args.text.now, none, fills_none c.args.room.now))

@@ -1,5 +1,5 @@
 use Rattle.std.proofs.Common.{◌≡◌, ◌∷◌, [], ◌++◌, ◌∙◌, Ok, Err, sym, subst, rules}
-use Rattle.juniper_tokens.proofs.Gathering.{GatheredRanges, ranges_more, gathered_later, breaks_passed}
+use Rattle.juniper_tokens.proofs.Gathering.{GatheredRanges, none_gathered, stays, ranges_more, gathered_later, breaks_passed}
 use Rattle.juniper_tokens.proofs.Lexing.{ranges_fewer}
 use Rattle.juniper_tokens.proofs.Ranges.{plain_steps, other_steps}
 use Rattle.juniper_tokens.proofs.parser.gather.Goals.{in-Some, in-None+in_ok-next_other-in-None}
@@ -73,3 +73,13 @@ loop-lexer-preserved c =
           w.in_ok-next_other-in-None.field-0 c.loop-lexer.invariant.0 step))
     ] in
     (kept, search rules)
+
+pub loop-lexer-init : goal.loop-lexer-init
+loop-lexer-init c = (
+  subst (λ rs. GatheredRanges c.args.lexer.now rs c.args.lexer.now) (sym c.room_for_ranges-ranges.ensures)
+      (none_gathered c.args.lexer.now c.requires),
+  search rules,
+)
+
+pub returns-in_err-lines-clause-lexer : goal.returns-in_err-lines-clause-lexer
+returns-in_err-lines-clause-lexer c = let here = stays c.args.lexer.now in search (rules, here)

@@ -3,7 +3,6 @@ use Rattle.std.specs.Vec.Iter.{into_iter_items}
 use Rattle.juniper_tokens.specs.declared.span.Spanning.{Spanning}
 use Rattle.std.specs.Prelude.{IfOk, Some, option_map}
 use Rattle.juniper_values.specs.declared.input_value.InputValue.{InputValue, the_lemmas}
-use Rattle.juniper_values.specs.declared.input_value.InputValue.TheVariants as InputValue
 use Rattle.juniper_values.specs.Resolve.{Becomes, ItemsBecome, FieldsBecome}
 use Rattle.graphql_grammar.specs.Tree.{Value, Enum, Variable, no_items, no_fields}
 use Rattle.juniper_values.specs.View.{view, view_items, view_fields, values_in, text_of}

@@ -16,7 +16,6 @@ returns-in-Ok g c =
     record {
       accepted = p.accepted;
       refused = p.refused;
-      in_characters = p.in_characters;
       within = p.within;
       too_deep = p.too_deep;
     }
@@ -32,7 +31,6 @@ returns-in-Err g c =
     record {
       accepted = p.accepted;
       refused = p.refused;
-      in_characters = p.in_characters;
       within = p.within;
       too_deep = p.too_deep;
     }

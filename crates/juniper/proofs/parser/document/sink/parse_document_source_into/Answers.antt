@@ -24,7 +24,6 @@ returns-in-Ok g c =
     record {
       accepted = tree;
       refused = answers.refused;
-      in_characters = answers.in_characters;
       within = answers.within;
       too_deep = answers.too_deep;
       given = given.ensures.given source cut;
@@ -43,7 +42,6 @@ returns-in-Err g c =
     record {
       accepted = p.accepted;
       refused = p.refused;
-      in_characters = p.in_characters;
       within = p.within;
       too_deep = p.too_deep;
       given = none_given g.D.DefinitionSink.holds S source c.args.definitions.now;
