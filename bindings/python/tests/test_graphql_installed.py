@@ -208,6 +208,15 @@ class Rules(unittest.TestCase):
                 if tokens:
                     self.assertEqual(found.token_count, count)
 
+    def test_comments_before_tokens_alone(self) -> None:
+        """A release might count comments, and not look at the limit at the end."""
+        module = extension((True, False, 2))
+        for text, limit, place in [("#\n{a}", 3, 4), ("#\n{a}", 2, 3), ("{a#\n}#", 3, 4), ("", -1, None), ("#", 0, None)]:
+            self.assertEqual(self.places(module, text, limit), None if place is None else (place, False), (text, limit))
+        for text, limit in (("{a}#", 3), ("#\n{a}#", 4)):
+            found = module.document(text.encode(), len(text), 200, None, limit)
+            self.assertEqual(found.token_count, len(text.replace("\n", "")))
+
     def test_no_count(self) -> None:
         """Where documents of a release have no such number, none is set."""
         found = extension((False, False, 0)).document(b"{a}", 3, 200, None, 9)
