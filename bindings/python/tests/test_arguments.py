@@ -7,7 +7,7 @@ from typing import List
 from unittest import mock
 
 import firthnapkin
-from firthnapkin import MOST_DEPTH, Fault, Kind, Reason, __version__, canonical, parse, tokens
+from firthnapkin import MOST_DEPTH, Fault, Kind, Place, Reason, __version__, canonical, parse, tokens
 from helpers import LARGE_LIMITS, LOW_LIMITS, NO_LIMITS, NO_SOURCES, Text, on_stack, process
 
 
@@ -120,7 +120,8 @@ class Sources(unittest.TestCase):
         self.assertEqual((len(document), document[0].end.byte), (2**20 + 1, 2**26 + 2))
         with self.assertRaises(Fault) as raised:
             parse("{" + "a" * 2**26)
-        self.assertEqual(raised.exception.start.index, 2**26 + 1)
+        index = 2**26 + 1
+        self.assertEqual((raised.exception.start, raised.exception.end), (Place(index, 0, index, index),) * 2)
 
 
 class Stacks(unittest.TestCase):

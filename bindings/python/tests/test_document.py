@@ -107,10 +107,14 @@ class Nodes(unittest.TestCase):
 
     def test_many_parents(self) -> None:
         """Each node of a document of 70,000 nodes, far more than 16 bits hold, has its parent."""
-        document = parse("{" + "a { b } " * 35_000 + "}")
-        self.assertEqual(len(document), 70_001)
-        self.assertIsNone(document[0].parent)
-        for index, node in enumerate(document[1:], 1):
+        document = parse("{" + "a { b } " * 35_000 + "} query Q { c }")
+        self.assertEqual(len(document), 70_003)
+        self.assertEqual([(node.index, node.name) for node in document.definitions], [(0, None), (70_001, "Q")])
+        self.assertEqual([node.descendants for node in document.definitions], [70_000, 1])
+        for node in document.definitions:
+            self.assertIsNone(node.parent)
+        self.assertEqual(document[-1].parent, document[-2])
+        for index, node in enumerate(document[1:-2], 1):
             parent = node.parent
             assert parent is not None
             self.assertEqual((node.index, parent.index), (index, 0 if index % 2 else index - 1))
@@ -220,6 +224,22 @@ class Visits(unittest.TestCase):
 
         Some().visit(parse(self.TEXT))
         self.assertEqual(seen, ["QUERY", "VARIABLES", "VARIABLE", "TYPE", "a", "SPREAD", "FRAGMENT"])
+
+    def test_many(self) -> None:
+        """A walk over more nodes than 16 bits count, and over one of the last."""
+        document = parse("{" + "a " * 70_000 + "b { c } }")
+        seen: List[int] = []
+
+        class All(Visitor):
+            def enter(self, node: Node) -> Optional[Step]:
+                seen.append(node.index)
+                return None
+
+        All().visit(document)
+        self.assertEqual(seen, list(range(70_003)))
+        seen.clear()
+        All().visit(document[-2])
+        self.assertEqual(seen, [70_001, 70_002])
 
     def test_depth(self) -> None:
         """A walk over a deep text takes no more of the interpreter's stack."""

@@ -185,6 +185,7 @@ class Rules(unittest.TestCase):
         ("# a\n# b\n# c\n{ a }", 3, 3, (12, 12, 14, 16), (12, 12, 12, 12, 12, 14, 16)),
         ("#é𝄞\r{a#}#\r\n}#b\n\n#", 3, 4, (4, 4, 5, 11), (4, 4, 4, 5, 11, 11, 17, 17)),
         ('{a(b:"#",c:"""\n#\n""")#"\n}', 11, 1, None, (0, 0, 1, 2, 3, 4, 5, 9, 10, 11, 20, 24, 24)),
+        ("#\r#\r\r#\n{a}", 3, 3, (7, 7, 8, 9), (7, 7, 7, 7, 7, 8, 9)),
         ("#\n,\ufeff#\n{#{\n#}\na b}#", 4, 5, (6, 6, 13, 15, 16), (6, 6, 6, 6, 13, 13, 13, 15, 16, 18)),
     ]  # fmt: skip
 
@@ -206,6 +207,15 @@ class Rules(unittest.TestCase):
                 found = module.document(text.encode(), len(text), 200, None, 2**32 - 1)
                 if tokens:
                     self.assertEqual(found.token_count, count)
+
+    def test_comments_before_tokens_alone(self) -> None:
+        """A release might count comments, and not look at the limit at the end."""
+        module = extension((True, False, 2))
+        for text, limit, place in [("#\n{a}", 3, 4), ("#\n{a}", 2, 3), ("{a#\n}#", 3, 4), ("", -1, None), ("#", 0, None)]:
+            self.assertEqual(self.places(module, text, limit), None if place is None else (place, False), (text, limit))
+        for text, limit in (("{a}#", 3), ("#\n{a}#", 4)):
+            found = module.document(text.encode(), len(text), 200, None, limit)
+            self.assertEqual(found.token_count, len(text.replace("\n", "")))
 
     def test_no_count(self) -> None:
         """Where documents of a release have no such number, none is set."""

@@ -171,10 +171,15 @@ class TooMany(unittest.TestCase):
         self.assertLess(resident() - before, 2**26)
 
     def test_want_of_memory(self) -> None:
+        for end in ("", "#"):
+            with self.subTest(end=end):
+                self.goes_on_without_memory(end)
+
+    def goes_on_without_memory(self, end: str) -> None:
         program = (
             "import resource\n"
             "from firthnapkin import graphql_core\n"
-            "text = '{' + 'a ' * 2**24\n"
+            f"text = '{{' + 'a ' * 2**24 + '{end}'\n"
             "taken = int(open('/proc/self/statm').read().split()[0]) * resource.getpagesize()\n"
             "resource.setrlimit(resource.RLIMIT_AS, (taken + 2**26, resource.RLIM_INFINITY))\n"
             "try: graphql_core.parse(text, max_tokens=2**24)\n"

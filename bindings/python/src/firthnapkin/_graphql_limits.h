@@ -13,6 +13,8 @@
 static whole tokens_found(const uint8_t *source, size_t length, uint32_t most) {
     whole w = {.status = FIRTHNAPKIN_MEMORY};
     size_t capacity, needed = at_first(length) + 16;
+    /* No more are found than these and the end. */
+    if (most < needed) needed = (size_t)most + 1;
     do {
         give_back(&w);
         capacity = needed;
