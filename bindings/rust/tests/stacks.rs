@@ -88,6 +88,31 @@ fn deep_in_a_stack() {
     }
 }
 
+/// Of a stack that the program made itself no thread knows the bounds. This one is too small for a call.
+#[cfg(all(target_arch = "x86_64", target_os = "linux"))]
+#[test]
+fn a_stack_of_the_programs_own() {
+    extern "C" fn calls() {
+        parse_deep_texts();
+    }
+    let mut stack = vec![0u8; 1 << 18];
+    let top = stack.as_mut_ptr_range().end as usize / 16 * 16;
+    // SAFETY: the call returns to the stack before it, whose pointer is kept where a call keeps it.
+    unsafe {
+        std::arch::asm!(
+            "mov r12, rsp",
+            "mov rsp, {top}",
+            "call {calls}",
+            "mov rsp, r12",
+            top = in(reg) top,
+            calls = sym calls,
+            out("r12") _,
+            clobber_abi("C"),
+        );
+    }
+    assert_eq!(stack.len(), 1 << 18);
+}
+
 #[test]
 fn threads() {
     let source = format!("query Q {{ {} }}", "user(id: 4, b: {c: [1.5, \"x\"]}) { id name } ".repeat(500));
