@@ -122,6 +122,7 @@ test("faults, with their places", () => {
     ["#𝄞\n{a(b:\"𝄞\") ) }", "unexpectedToken", null, null, [15, 1, 11, 19], [16, 1, 12, 20], 'Unexpected ")". At 1:10'],
     ['{\n"é\ud800"}', "surrogate", null, null, [4, 1, 2, 5], [5, 1, 3, 8], "Lone surrogate U+D800. At 1:2"],
     ["\udc00", "surrogate", null, null, [0, 0, 0, 0], [1, 0, 1, 3], "Lone surrogate U+DC00. At 0:0"],
+    ["\n\udfff", "surrogate", null, null, [1, 1, 0, 1], [2, 1, 1, 4], "Lone surrogate U+DFFF. At 1:0"],
     // A character of two units: at it, at the next character, and after two of them.
     ["#𝄞", "unexpectedEnd", null, null, [3, 0, 3, 5], [3, 0, 3, 5], "Unexpected end of input. At 0:2"],
     ['{a(b:"𝄞', "lexical", "unterminatedString", null, [8, 0, 8, 10], [8, 0, 8, 10], "Unterminated string literal. At 0:7"],
@@ -164,8 +165,11 @@ test("large places, and a document of 70,001 nodes", () => {
 });
 
 test("options", () => {
-  for (const options of [null, 5, 5n, "5", "", true, [], [5], () => 5, Symbol("depth")])
-    assert.throws(() => parse("{a}", options), { name: "TypeError", message: /^options must be an object, not / });
+  for (const [options, told] of [
+    [null, "null"], [5, "number"], [5n, "bigint"], ["5", "string"], ["", "string"], [true, "boolean"], [[], "array"], [[5], "array"],
+    [() => 5, "function"], [Symbol("depth"), "symbol"],
+  ])
+    assert.throws(() => parse("{a}", options), { name: "TypeError", message: `options must be an object, not ${told}` });
   for (const options of [{ dept: 5 }, { depth: 5, maxToken: 5 }, { Depth: 5 }, { [Symbol("depth")]: 5 }, { 0: 5 }, new Map(), ["a"]]) {
     if (options instanceof Map) assert.strictEqual(parse("{a}", options).length, 2);
     else assert.throws(() => parse("{a}", options), TypeError);
@@ -187,6 +191,8 @@ test("depths", () => {
       assert.throws(() => parse(source, { depth }), RangeError, String(depth));
     for (const depth of [null, "5", [], {}, true, 5n]) assert.throws(() => parse(source, { depth }), TypeError);
     assert.throws(() => parse(source, null), TypeError);
+    assert.throws(() => parse(source, { depth: null }), { message: "depth must be a number, not null" });
+    assert.throws(() => parse(source, { depth: -1 }), { message: "depth must be an integer from 0 to 1000" });
   }
   for (const depth of [0, 1, 2, 199, 200, 1000]) {
     if (depth > 0) assert.strictEqual(parse("{a".repeat(depth) + "}".repeat(depth), { depth }).length, depth + 1);
