@@ -1,6 +1,7 @@
 """What the tests of several calls share."""
 
 import os
+import resource
 import subprocess
 import sys
 import threading
@@ -27,6 +28,12 @@ def process(program: str) -> "subprocess.CompletedProcess[bytes]":
     """A run of another Python on a program."""
     here = os.path.dirname(os.path.abspath(__file__))
     return subprocess.run([sys.executable, "-c", program], cwd=here, capture_output=True, check=False)
+
+
+def resident() -> int:
+    """How many bytes of memory this process has, where /proc says it."""
+    with open("/proc/self/statm", encoding="ascii") as file:
+        return int(file.read().split()[1]) * resource.getpagesize()
 
 
 def on_stack(size: int, work: Callable[[], None]) -> None:

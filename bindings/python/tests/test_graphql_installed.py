@@ -3,6 +3,7 @@ installed."""
 
 import copy
 import inspect
+import os
 import pickle
 import sys
 import types
@@ -11,6 +12,7 @@ from itertools import islice
 from typing import Any
 from unittest import mock
 
+from helpers import resident
 from graphql_texts import WHOLE, answer, extension, made_texts, row_texts  # skips where graphql-core 3.2 is not installed
 
 import graphql
@@ -216,6 +218,18 @@ class Rules(unittest.TestCase):
         for text, limit in (("{a}#", 3), ("#\n{a}#", 4)):
             found = module.document(text.encode(), len(text), 200, None, limit)
             self.assertEqual(found.token_count, len(text.replace("\n", "")))
+
+    @unittest.skipUnless(os.path.exists("/proc/self/statm"), "no /proc")
+    def test_nothing_is_left(self) -> None:
+        """The tokens that are counted are freed, whether there are too many, or the text is no document, or it is one."""
+        module = extension((True, True, 2))
+        many, whole = b"} " + b"a " * 200_000 + b"#", b"{" + b"a " * 50_000 + b"}#"
+        for text, limit, kind in [(many, 10**6, type(None)), (many, 150_000, type(None)), (whole, 2**32 - 1, ast.DocumentNode),
+                                  (b"{" + many[2:], 200_001, tuple)]:  # fmt: skip
+            for i in range(14):
+                self.assertIsInstance(module.document(text, len(text), 200, None, limit), kind)
+                before = before if i > 3 else resident()
+            self.assertLess(resident() - before, 2**23)
 
     def test_no_count(self) -> None:
         """Where documents of a release have no such number, none is set."""

@@ -5,7 +5,6 @@ import inspect
 import math
 import os
 import random
-import resource
 import subprocess
 import sys
 import tracemalloc
@@ -14,6 +13,7 @@ from contextlib import ExitStack, contextmanager
 from typing import Any, Iterator, List, Tuple
 from unittest import mock
 
+from helpers import resident
 from graphql_texts import WHOLE, answer, extension, made_texts, row_texts  # skips where graphql-core 3.2 is not installed
 
 import graphql
@@ -158,11 +158,6 @@ class TooMany(unittest.TestCase):
     @unittest.skipUnless(os.path.exists("/proc/self/statm"), "no /proc")
     def test_nothing_is_left(self) -> None:
         """The process keeps no more memory, however often it reports a limit."""
-
-        def resident() -> int:
-            with open("/proc/self/statm", encoding="ascii") as file:
-                return int(file.read().split()[1]) * resource.getpagesize()
-
         text = "{" + "a " * 500_000 + "}"
         self.refused(text, 400_000, 799_999)
         before = resident()

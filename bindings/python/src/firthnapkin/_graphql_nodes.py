@@ -109,7 +109,7 @@ def _nodes_in(node: ast.Node) -> Iterator[ast.Node]:
     yield node
     for key in node.keys:
         value = getattr(node, key)
-        for part in value if isinstance(value, tuple) else (value,):
+        for part in value if isinstance(value, (list, tuple)) else (value,):
             if isinstance(part, ast.Node):
                 yield from _nodes_in(part)
 
