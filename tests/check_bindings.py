@@ -1,19 +1,17 @@
 #!/usr/bin/env python3
 """Compares what the bindings repeat with include/firthnapkin.h: the numbers of kinds, reasons, details and statuses, the
-fields of nodes, tokens and faults, the depths, the stack that a call takes, and the version, which the file VERSION says. It
-compares the default limits, too. The last line is 'N passed, M failed'.
+fields of nodes, tokens and faults, the depths, and the stack that a call takes. It compares the default limits, too. The last
+line is 'N passed, M failed'.
 
     tests/check_bindings.py
 """
 
-import json
 import re
 
 from header import Checks, declared, defined, enum, read
 
 checks = Checks()
 check = checks.check
-version = read("VERSION").strip()
 kinds, refusals, details = enum("firthnapkin_kind"), enum("firthnapkin_refusal"), enum("firthnapkin_detail")
 statuses = enum("firthnapkin_status")
 # The library never reports these two.
@@ -120,10 +118,8 @@ check("the words of Node's kinds in its types", {upper(word) for word in typed},
 typed = set(re.findall(r'"(\w+)"', part(types, "export type Detail =", r";\n")))
 check("the words of Node's details in its types", {"NO_DETAIL", *map(upper, typed)}, set(told_details))
 
-# ---- the version, and the default depth
+# ---- the default limits
 
-check("the version of Node's package", json.loads(read("bindings/node/package.json"))["version"], version)
-check("the version of Rust's crate", re.search(r'^version = "(.*)"$', read("bindings/rust/Cargo.toml"), re.M)[1], version)
 for path, pattern in (
     ("python/src/firthnapkin/parser.py", r"depth: int = (\d+),"),
     ("go/parse.go", r"const DefaultDepth = (\d+)"),

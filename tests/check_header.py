@@ -1,7 +1,8 @@
 #!/usr/bin/env python3
 """Compares include/firthnapkin.h, as it is written and as a C compiler lays it out, with the sources of the crates
 juniper_flat and juniper_c. Those of the first have the fields of each type, their types, offsets and sizes, the numbers of
-statuses, of kinds of nodes and of tokens, of refusals and details. Those of the second have the calls' parameters and the version. The last line is 'N passed, M failed'.
+statuses, of kinds of nodes and of tokens, of refusals and details. Those of the second have the calls' parameters. The last
+line is 'N passed, M failed'.
 
     tests/check_header.py LAYOUT    a file with the output of the program of tests/c/layout.c
 """
@@ -103,16 +104,6 @@ words = {
 }
 check("details", enum("firthnapkin_detail"), {"NO_DETAIL": 0, **{words[name]: int(detail) for name, _, detail, _ in lexical}})
 check("the largest depth", defined("FIRTHNAPKIN_MOST_DEPTH"), re.search(r"const MOST_DEPTH: u32 = (\d+);", source("depth"))[1])
-
-# ---- the version, which is in the file VERSION
-
-version = read("VERSION").strip()
-first, second, third = map(int, version.split("."))
-number = str(10000 * first + 100 * second + third)
-check("the version of the header", defined("FIRTHNAPKIN_VERSION"), number)
-check("the version of the header, as a text", defined("FIRTHNAPKIN_VERSION_TEXT"), f'"{version}"')
-check("the version of the library", re.search(r"const VERSION: u32 = (\d+);", source("version", "juniper_c"))[1], number)
-check("the version of CHANGELOG.md", re.search(r"^## (\S+)", read("CHANGELOG.md"), re.M)[1], version)
 
 # ---- calls
 

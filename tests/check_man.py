@@ -69,8 +69,6 @@ def check_library(check):
     check("their names", joined(page["NAME"]).split(" - ")[0].split(", "), list(calls))
     check_statuses(check, page)
     check_words(check, page, calls)
-    number, text = re.search(r"(\d+) is ([\d.]+)\.", joined(page["DESCRIPTION"])).groups()
-    check("the version as a number", int(number), sum(int(n) * m for n, m in zip(text.split("."), (10000, 100, 1))))
     check("the stack", re.findall(r"FIRTHNAPKIN_STACK\(\s*(\w+)\s*\)", joined(page["NOTES"])), ["depth", "0"])
 
 
