@@ -1,7 +1,7 @@
 #!/usr/bin/env python3
 """Compares the man pages with what they describe. Of firthnapkin(3) these are the calls of the header, their parameters, and its
-statuses in the header's words; of gqlcheck(1) the exit statuses of its definition and, where gqlcheck is built, what it writes.
-The last line is 'N passed, M failed', with ', K skipped' where it isn't built.
+statuses in the header's words; of gqlcheck(1) and gqlcanon(1) the exit statuses of their definitions and, where the program is
+built, what it writes. The last line is 'N passed, M failed', with ', K skipped' where one isn't built.
 
     tests/check_man.py              compares
     tests/check_man.py --program    writes a C program, which is the example of firthnapkin(3)
@@ -14,16 +14,11 @@ import sys
 
 from header import ROOT, Checks, declared, enum, header, read
 
-GQLCHECK = ROOT / "crates/gqlcheck/out/gqlcheck"
-
-# The words of gqlcheck(1) for each way in which a run ends.
+# The words of gqlcheck(1) and gqlcanon(1) for each way in which a run ends.
+FAULTS = {"NotUtf8": "It is not UTF-8.", "Device": "A read or a write failed.", "Memory": "Memory ran out."}
 ENDS = {
-    "Tree": "The text is a document.",
-    "Refused": "It is not.",
-    "NotUtf8": "It is not UTF-8.",
-    "Device": "A read or a write failed.",
-    "Memory": "Memory ran out.",
-    "TooDeep": "It is nested too deep.",
+    "gqlcheck": {**FAULTS, "Tree": "The text is a document.", "Refused": "It is not.", "TooDeep": "It is nested too deep."},
+    "gqlcanon": {**FAULTS, "Text": "The text has tokens only.", "Refused": "It has an error."},
 }
 # The programs ./gqlcheck and ./gqlcanon end with it, too.
 NO_RESULT = {125: "This run gave no result."}
@@ -97,22 +92,25 @@ def check_words(check, page, calls):
             check(f"{word}, which firthnapkin(3) names", word == "i" or word in fields | parameters, True)
 
 
-def check_program(checks):
-    page = sections("gqlcheck.1")
-    defined_ends = dict(re.findall(r"^status_at (\w+) = (\d+)$", read("crates/gqlcheck/specs/Ends.antt"), re.M))
-    wanted = {int(number): ENDS[end] for end, number in defined_ends.items()}
-    checks.check("the statuses of gqlcheck(1)", {int(label): text for label, text in entries(page["EXIT STATUS"])}, {**wanted, **NO_RESULT})
-    if not GQLCHECK.exists():
-        checks.skip("gqlcheck is not built, so the examples of gqlcheck(1) are not run")
+def check_program(checks, name):
+    page = sections(f"{name}.1")
+    defined_ends = dict(re.findall(r"^status_at (\w+) = (\d+)$", read(f"crates/{name}/specs/Ends.antt"), re.M))
+    wanted = {int(number): ENDS[name][end] for end, number in defined_ends.items()}
+    checks.check(f"the statuses of {name}(1)", {int(label): text for label, text in entries(page["EXIT STATUS"])}, {**wanted, **NO_RESULT})
+    checks.check(f"the name of {name}(1)", (plain(page["SYNOPSIS"][0]), joined(page["NAME"]).split(" - ")[0]), (name, name))
+    built = ROOT / f"crates/{name}/out/{name}"
+    if not built.exists():
+        checks.skip(f"{name} is not built, so the examples of {name}(1) are not run")
         return
     for command, shown in examples(page["EXAMPLES"]):
-        told = subprocess.run(["bash", "-c", f'gqlcheck() {{ "{GQLCHECK}"; }}; {command}'], capture_output=True, text=True, check=False)
+        told = subprocess.run(["bash", "-c", f'{name}() {{ "{built}"; }}; {command}'], capture_output=True, text=True, check=False)
         checks.check(f"what {command} writes", told.stdout.splitlines(), shown)
-    depth = int(re.search(r"nested (\d+) deep", joined(page["DESCRIPTION"]))[1])
-    for deeper, end in ((0, "Tree"), (1, "TooDeep")):
-        text = "{a" * (depth + deeper) + "}" * (depth + deeper)
-        status = subprocess.run([GQLCHECK], input=text.encode(), capture_output=True, check=False).returncode
-        checks.check(f"the status of a text {depth + deeper} deep", status, int(defined_ends[end]))
+    if "TooDeep" in defined_ends:
+        depth = int(re.search(r"nested (\d+) deep", joined(page["DESCRIPTION"]))[1])
+        for deeper, end in ((0, "Tree"), (1, "TooDeep")):
+            text = "{a" * (depth + deeper) + "}" * (depth + deeper)
+            status = subprocess.run([built], input=text.encode(), capture_output=True, check=False).returncode
+            checks.check(f"the status of a text {depth + deeper} deep", status, int(defined_ends[end]))
 
 
 def examples(lines):
@@ -138,5 +136,6 @@ if sys.argv[1:] == ["--program"]:
 else:
     all_checks = Checks()
     check_library(all_checks.check)
-    check_program(all_checks)
+    for program_name in ENDS:
+        check_program(all_checks, program_name)
     all_checks.end()
