@@ -23,15 +23,6 @@ word_no_end text t e = kind_no_end Name refl t (first_so (same_kind t.kind Name)
 pub other_no_end : PassesNoEnd other_than_on
 other_no_end t e = kind_no_end Name refl t (first_so (same_kind t.kind Name) (not (bytes_eq t.text (codes "on"))) e)
 
--- a Name that isn't `on`
-pub other_is_name : (t : Lexeme) → passes (word (codes "on")) t ≡ false → passes other_than_on t ≡ same_kind t.kind Name
-other_is_name t e = by_parts (same_kind t.kind Name) (bytes_eq t.text (codes "on")) e
-  where
-    by_parts : (a b : Bool) → (a && b) ≡ false → (a && not b) ≡ a
-    by_parts true true p = absurd (cc p)
-    by_parts true false p = refl
-    by_parts false b p = refl
-
 pub operation_no_end : PassesNoEnd operation_word
 operation_no_end t e = kind_no_end Name refl t (by_parts (same_kind t.kind Name) (bytes_eq t.text (codes "query"))
     (bytes_eq t.text (codes "mutation")) (bytes_eq t.text (codes "subscription")) e)

@@ -1,8 +1,5 @@
 -- From the reading of a literal to its promise.
-use Rattle.std.proofs.Common.{◌≡◌, ◌≤◌, ℕ, suc, Bool, true, List, [], ◌∷◌, length, Result, Ok, Err, refl, sym, ap, ◌∙◌, subst, arith, length-append}
-use Rattle.graphql_lexical.specs.declared.kind.Kind.{Kind}
-use Rattle.graphql_lexical.specs.declared.kind.Kind.TheVariants.{EndOfFile}
-use Rattle.graphql_lexical.specs.Kinds.{same_kind}
+use Rattle.std.proofs.Common.{◌≡◌, ◌≤◌, ℕ, suc, Bool, List, [], ◌∷◌, length, Result, Ok, Err, refl, sym, ap, ◌∙◌, subst, arith, length-append}
 use Rattle.graphql_lexical.specs.Cutting.{Lexeme}
 use Rattle.graphql_grammar.specs.Tokens.{Located, span_of}
 use Rattle.graphql_grammar.specs.Tree.{Scalars, Value, TypeRef}

@@ -4,17 +4,32 @@ use Rattle.std.specs.Prelude.{OnOk}
 use Rattle.std.proofs.lemmas.List.{drop-drop}
 use Rattle.graphql_lexical.specs.Place.{Place, Span}
 use Rattle.graphql_lexical.specs.Cutting.{Lexeme, last_of}
-use Rattle.graphql_grammar.specs.Tokens.{span_of}
+use Rattle.graphql_grammar.specs.Tokens.{span_of, from_to}
 use Rattle.graphql_grammar.specs.device.Reading.{front}
 use Rattle.graphql_lexical.proofs.Public.{last_next}
 use Rattle.juniper_tokens.specs.declared.error.ParseFailure.{ParseFailure}
 use Rattle.juniper_tokens.specs.declared.error.ParseFailure.TheVariants as failures
 use Rattle.juniper_tokens.specs.Errors.{view_fault}
 use Rattle.juniper_tokens.specs.Cursor.{Read, Gives, ◌>>=◌, first_of}
-use Rattle.juniper_tokens.specs.Taking.{Taking, left, last_end, GoesOn}
+use Rattle.juniper_tokens.specs.Taking.{Taking, left, last_end, next_taken, GoesOn}
 use Rattle.juniper_tokens.proofs.Public.{more_taken}
 use Rattle.juniper.specs.device.Steps.{at_span}
 use Rattle.juniper.proofs.Cursors.{ok_is}
+
+abbrev between : Place → Place → Span
+between p q = record { start = p; end = q }
+
+-- the lexeme that was taken last ends where it stood
+pub last_taken : (t : Taking) → last_end (next_taken t) ≡ (first_of (left t)).span.end
+last_taken t =
+    let same : (t.taken + 1) - 1 ≡ t.taken = omega arith in
+    ap (λ n. (first_of (drop n t.tokens)).span.end) same
+
+-- from the start of one span to the end of another, which was taken last
+pub closes : (p q : Span) (new : Taking) (start : Place) (span : Span) → start ≡ p.start → q.end ≡ last_end new
+    → span ≡ record { start = start; end = last_end new } → from_to p q ≡ span
+closes p q new start span e f h =
+    ap (λ (z : Place). between z q.end) (sym e) ∙ ap (λ (z : Place). between start z) f ∙ sym h
 
 last_is : (n : ℕ) (t : Lexeme) (ts : List Lexeme) → n ≤ length ts → last_of t (take n ts) ≡ first_of (drop n (t ∷ ts))
 last_is zero t ts l = refl
@@ -24,9 +39,6 @@ last_is (suc n) t (u ∷ us) l = last_next t u (take n us) ∙ last_is n u us (o
 -- what was read, with the span of the tokens that were taken for it
 abbrev spanning : {A : Type 0} → List Lexeme → Read (Span → A) → Read A
 spanning ts r = r >>= λ y. Ok (y.0 (span_of (front ts y.1)), y.1)
-
-abbrev between : Place → Place → Span
-between p q = record { start = p; end = q }
 
 -- one token more than n
 span_is : (n : ℕ) (ts : List Lexeme) → n < length ts

@@ -1,7 +1,7 @@
 -- What the display of a type and of an input value is read back as.
 use Rattle.std.specs.Prelude.{true, List, [], ◌∷◌, ◌++◌, Some, None}
 use Rattle.graphql_lexical.specs.Cutting.{Lexeme, Cut}
-use Rattle.graphql_grammar.specs.Tokens.{Text, nowhere}
+use Rattle.graphql_grammar.specs.Tokens.{Text}
 use Rattle.graphql_grammar.specs.Tree.{Value, TypeRef, NamedType}
 use Rattle.graphql_grammar.specs.Grammar.{IsValue, IsType}
 use Rattle.graphql_grammar.specs.Unlocated.{SameValue}

@@ -1,23 +1,13 @@
 -- A device: the parts of a tree that one parse function passes to another, as the readers give them.
-use Rattle.std.specs.Prelude.{ℕ, List, map, Option, Some, None, option_map}
+use Rattle.std.specs.Prelude.{ℕ, List, map, Option, option_map}
 use Rattle.std.specs.Borrow.{Bor}
 use Rattle.std.specs.Global.{Vec}
-use Rattle.graphql_lexical.specs.Place.{Place, Span}
 use Rattle.graphql_grammar.specs.Tokens.{Word}
 use Rattle.graphql_grammar.specs.Tree.{Directives, Selections}
-use Rattle.juniper_tokens.specs.Spans.{view_span}
 use Rattle.juniper_tokens.specs.declared.span.Spanning.{Spanning}
 use Rattle.juniper.specs.declared.tree.ast.Directive.{Directive}
 use Rattle.juniper.specs.declared.tree.ast.Selection.{Selection}
 use Rattle.juniper.specs.View.{view_word, view_directives, view_selections}
-
--- items, and where their closing token stands
-abbrev pub view_list : {X A : Type 0} → (X → A) → Spanning (Vec X) → List A × Span
-view_list view s = (map view s.item.items, view_span s.span)
-
--- items, whatever the place of their closing token
-abbrev pub view_listed : {X A : Type 0} → (X → A) → Spanning (Vec X) → List A
-view_listed view s = map view s.item.items
 
 abbrev pub view_items : {X A : Type 0} → (X → A) → Vec X → List A
 view_items view v = map view v.items
@@ -25,11 +15,6 @@ view_items view v = map view v.items
 -- an alias, if there is one, and the name
 abbrev pub view_names : Option (Spanning (Bor (List ℕ))) × Spanning (Bor (List ℕ)) → Option Word × Word
 view_names n = (option_map view_word n.0, view_word n.1)
-
--- where a field of these names begins
-abbrev pub names_start : Option (Spanning (Bor (List ℕ))) × Spanning (Bor (List ℕ)) → Place
-names_start (Some alias, name) = alias.span.start
-names_start (None, name) = name.span.start
 
 module _ {S C : Type 0} (content : S → C) where
   abbrev pub view_whole_set : Vec (Selection S) → Selections C

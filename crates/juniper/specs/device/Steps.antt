@@ -1,20 +1,20 @@
 -- A device: what a cursor returns where the steps of a production are read.
-use Rattle.std.specs.Prelude.{◌≡◌, List, [], ◌∷◌, ◌++◌, drop, Bool, true, Option, Some, None, Result, Ok, Err, if◌then◌else◌}
+use Rattle.std.specs.Prelude.{◌≡◌, List, codes, map, drop, Bool, true, Option, Some, None, Result, Ok, Err, if◌then◌else◌}
+use Rattle.std.specs.Global.{Vec}
 use Rattle.graphql_lexical.specs.Place.{Place, Span}
 use Rattle.graphql_lexical.specs.declared.kind.Kind.{Kind}
 use Rattle.graphql_lexical.specs.Kinds.{same_kind}
 use Rattle.graphql_lexical.specs.Cutting.{Lexeme}
-use Rattle.graphql_grammar.specs.Tokens.{Text, Located, span_of}
+use Rattle.graphql_grammar.specs.Tokens.{Text, Located, Word, span_of}
 use Rattle.graphql_grammar.specs.Tree.{Scalars, Value, Scalar, TypeRef, Selection}
-use Rattle.graphql_grammar.specs.device.Reading.{Test, passes, many, repeated, scalar_token, fully, front, Symbol, a_value, a_type, a_selection, Steps, gives, wants, takes, sees, part, symbol, spanned, scalar, closed, each}
-use Rattle.graphql_grammar.specs.device.Productions.{symbol_at, reads}
+use Rattle.graphql_grammar.specs.device.Reading.{Test, word, passes, many, repeated, scalar_token, fully, front, Symbol, a_value, a_type, a_selection, Steps, gives, wants, takes, sees, part, symbol, spanned, scalar, closed, each}
+use Rattle.graphql_grammar.specs.device.Productions.{symbol_at, reads, type_condition, inline}
 use Rattle.juniper_tokens.specs.Errors.{Error, unexpected}
 use Rattle.juniper_tokens.specs.declared.error.ParseFailure.{ParseFailure}
-use Rattle.juniper_tokens.specs.declared.span.Span as code
-use Rattle.juniper_tokens.specs.Spans.{view_span}
 use Rattle.juniper_tokens.specs.declared.token.ScalarToken.{ScalarToken}
 use Rattle.juniper_tokens.specs.Tokens.{scalar_kind, scalar_text}
 use Rattle.juniper_tokens.specs.Cursor.{Read, Fails, ◌>>=◌, first_of, kind_at, next_at, next_if}
+use Rattle.juniper_tokens.specs.Taking.{Taking, left, last_end}
 use Rattle.juniper.specs.device.Seen.{seen}
 
 -- a scalar token by the scalar type's reading; another token is reported as unexpected
@@ -36,15 +36,10 @@ abbrev pub GivesNext : Result (Unit {0}) ParseFailure → List Lexeme → List L
 GivesNext (Ok _) old new r = r ≡ Ok (first_of old, new)
 GivesNext (Err e) old new r = Fails e new r
 
--- The next token was taken, and its place is returned.
-abbrev pub GivesPlace : Result code.Span ParseFailure → List Lexeme → List Lexeme → Read Lexeme → Type 0
-GivesPlace (Ok place) old new r = (r ≡ Ok (first_of old, new)) × (view_span place ≡ (first_of old).span)
-GivesPlace (Err e) old new r = Fails e new r
-
--- An item was appended to a list, and those lexemes were left: that is what the step gives, unless memory ran out.
-abbrev pub Appends : {X A : Type 0} → (X → A) → Result (Unit {0}) ParseFailure → List X → List X → List Lexeme → Read A → Type 0
-Appends {X} view (Ok _) before after left read = (x : X) × (after ≡ before ++ x ∷ []) × (read ≡ Ok (view x, left))
-Appends view (Err e) before after left read = Fails e left read
+-- Items were read up to a closing token, which was taken last.
+abbrev pub GivesClosed : {X A : Type 0} → (X → A) → Result (Vec X) ParseFailure → Taking → Read (List A × Span) → Type 0
+GivesClosed view (Ok v) new r = (q : Span) × (q.end ≡ last_end new) × (r ≡ Ok ((map view v.items, q), left new))
+GivesClosed view (Err e) new r = Fails e (left new) r
 
 -- a token of the kind k is taken, and its span returned
 abbrev pub closing_at : Kind → List Lexeme → Option Span × List Lexeme
@@ -93,6 +88,14 @@ module _ {C : Type 0} (S : Scalars C Error) where
   cursor (scalar k) ts = scalar_read ts >>= λ v. cursor (k v.0) v.1
   cursor (closed close p k) ts = closed_read close p ts >>= λ r. cursor (k r.0.0 r.0.1) r.1
   cursor (each test p k) ts = each_read test p ts >>= λ r. cursor (k r.0) r.1
+
+-- ("on" Name)?
+abbrev pub optional_condition : {C : Type 0} → Steps C (Option Word)
+optional_condition = sees (word (codes "on")) (part type_condition (λ n. gives (Some n))) (gives None)
+
+-- ("on" Name)? Directive* SelectionSet, after three dots
+abbrev pub any_inline : {C : Type 0} → Steps C (Span → Selection C)
+any_inline = part optional_condition (λ n. inline n)
 
 -- what lacks its span alone, with the span from one place to another
 abbrev pub at_span : {A : Type 0} → Place → Place → Read (Span → A) → Read A

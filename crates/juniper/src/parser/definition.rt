@@ -2,7 +2,7 @@
 ghost use Rattle.std.specs.Prelude.{◌≡◌, ◌<◌, ◌≤◌, length, Some, None, option_map, OnOk, codes, if◌then◌else◌};
 ghost use Rattle.std.specs.Str.{chars};
 ghost use Rattle.graphql_grammar.specs.device.Reading.{passes};
-ghost use Rattle.graphql_grammar.specs.device.Productions.{optional_name, fragment_name, type_condition, operation, fragment, shorthand, operation_word, operation_of, definition};
+ghost use Rattle.graphql_grammar.specs.device.Productions.{optional_name, fragment_name, operation, fragment, shorthand, operation_word, operation_of, definition};
 ghost use Rattle.juniper_tokens.specs.Tokens.{view_name};
 ghost use Rattle.juniper_tokens.specs.Cursor.{EndsOnce, Gives, first_of, refused_at};
 ghost use Rattle.juniper.specs.View.{view_word, view_definition};
@@ -10,8 +10,8 @@ ghost use Rattle.juniper.specs.Scalars.{stated};
 ghost use Rattle.juniper_tokens.specs.Taking.{left, last_end, GoesOn};
 ghost use Rattle.juniper.specs.device.Steps.{no_scalars, cursor, at_span};
 
-use crate::parser::next::{next_is, next_is_word, take_next};
-use crate::parser::selection::{parse_inline_parts, parse_selection_set};
+use crate::parser::next::{expect_name, next_is, next_is_word};
+use crate::parser::selection::{parse_inline_parts, parse_selection_set, parse_type_condition};
 use crate::parser::variables::parse_optional_variables;
 use crate::tree::ast::{Definition, Fragment, Operation};
 use graphql_grammar::OperationType;
@@ -34,12 +34,12 @@ pub(crate) fn parse_definition<'a, S: ScalarValue>(
     let start = tokens.mark();
     match next_operation(tokens) {
         Some(operation_type) => {
-            take_next(tokens);
+            tokens.advance();
             parse_operation(tokens, operation_type, start)
         }
         None => {
             if next_is_word(tokens, "fragment") {
-                take_next(tokens);
+                tokens.advance();
                 parse_fragment(tokens, start)
             } else {
                 parse_shorthand(tokens, start)
@@ -116,14 +116,14 @@ fn parse_operation<'a, S: ScalarValue>(
 }
 
 /// `Name?`
-#[tactic(auto, using(juniper_tokens::proofs::Public::stays), unfolding(juniper_tokens::specs::Cursor::expect_name_at))]
+#[tactic(auto, using(juniper_tokens::proofs::Public::stays))]
 fn parse_optional_name<'a>(tokens: &mut Cursor<'_, 'a>) -> OptionParseResult<&'a str>
     ensures gives { Gives (option_map view_word) result (left tokens.new) (cursor no_scalars optional_name (left tokens.old)) }
     ensures not_longer { OnOk result (length (left tokens.new) ≤ length (left tokens.old)) }
     ensures on { OnOk result (GoesOn tokens.old tokens.new) }
 {
     if next_is(tokens, Kind::Name) {
-        Ok(Some(tokens.expect_name()?))
+        Ok(Some(expect_name(tokens)?))
     } else {
         Ok(None)
     }
@@ -155,7 +155,7 @@ fn parse_fragment<'a, S: ScalarValue>(
 }
 
 /// `FragmentName = a Name other than "on"`
-#[tactic(auto, using(crate::proofs::Names::on_is), unfolding(juniper_tokens::specs::Cursor::expect_name_at))]
+#[tactic(auto, using(crate::proofs::Names::on_is))]
 fn parse_fragment_name<'a>(tokens: &mut Cursor<'_, 'a>) -> ParseResult<&'a str>
     ensures gives { Gives view_word result (left tokens.new) (cursor no_scalars fragment_name (left tokens.old)) }
     ensures shorter { OnOk result (length (left tokens.new) < length (left tokens.old)) }
@@ -164,21 +164,6 @@ fn parse_fragment_name<'a>(tokens: &mut Cursor<'_, 'a>) -> ParseResult<&'a str>
     if next_is_word(tokens, "on") {
         tokens.refuse()
     } else {
-        tokens.expect_name()
-    }
-}
-
-/// `"on" Name`
-#[tactic(auto, using(crate::proofs::Names::on_is, crate::proofs::Cursors::word_is_no_end, juniper_tokens::proofs::Public::goes_further), unfolding(juniper_tokens::specs::Cursor::expect_name_at))]
-fn parse_type_condition<'a>(tokens: &mut Cursor<'_, 'a>) -> ParseResult<&'a str>
-    ensures gives { Gives view_word result (left tokens.new) (cursor no_scalars type_condition (left tokens.old)) }
-    ensures shorter { OnOk result (length (left tokens.new) < length (left tokens.old)) }
-    ensures on { OnOk result (GoesOn tokens.old tokens.new) }
-{
-    if next_is_word(tokens, "on") {
-        take_next(tokens);
-        tokens.expect_name()
-    } else {
-        tokens.refuse()
+        expect_name(tokens)
     }
 }

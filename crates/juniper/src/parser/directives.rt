@@ -8,11 +8,11 @@ ghost use Rattle.juniper_tokens.specs.Cursor.{EndsOnce, Gives, kind_at};
 ghost use Rattle.juniper_tokens.specs.Taking.{left, GoesOn};
 ghost use Rattle.juniper.specs.View.{view_argument, view_arguments, view_directive, view_directives};
 ghost use Rattle.juniper.specs.Scalars.{stated};
-ghost use Rattle.juniper.specs.device.PartViews.{view_listed};
-ghost use Rattle.juniper.specs.device.Steps.{cursor, Appends};
+ghost use Rattle.juniper.specs.device.PartViews.{view_items};
+ghost use Rattle.juniper.specs.device.Steps.{cursor};
 
-use crate::parser::lists::push_item;
-use crate::parser::next::{expect_kind, next_is, refused, take_closing, take_name};
+use crate::parser::lists::{expected, many, push_item};
+use crate::parser::next::{expect, expect_name, next_is};
 use crate::parser::value::parse_value;
 use crate::tree::ast::{Arguments, Directive};
 use juniper_tokens::{
@@ -20,46 +20,31 @@ use juniper_tokens::{
 };
 use juniper_values::{InputValue, ScalarValue};
 
-/// `Name ":" Value(free)`, appended.
-#[tactic(auto, using(juniper_tokens::proofs::Public::goes_further), unfolding(graphql_grammar::specs::device::Productions::argument, juniper_tokens::specs::Cursor::expect_name_at))]
+/// `Name ":" Value(free)`
+#[tactic(auto, using(juniper_tokens::proofs::Public::goes_further), unfolding(graphql_grammar::specs::device::Productions::argument))]
 fn parse_argument<'a, S: ScalarValue>(
     tokens: &mut Cursor<'_, 'a>,
-    arguments: &mut Vec<(Spanning<&'a str>, Spanning<InputValue<S>>)>,
-) -> UnlocatedParseResult<()>
-    ensures appends { Appends (view_argument S.content) result arguments.old.items arguments.new.items (left tokens.new) (cursor (stated S.reading S.of_bool) argument (left tokens.old)) }
+) -> UnlocatedParseResult<(Spanning<&'a str>, Spanning<InputValue<S>>)>
+    ensures gives { Gives (view_argument S.content) result (left tokens.new) (cursor (stated S.reading S.of_bool) argument (left tokens.old)) }
     ensures shorter { OnOk result (length (left tokens.new) < length (left tokens.old)) }
     ensures on { OnOk result (GoesOn tokens.old tokens.new) }
 {
-    if !next_is(tokens, Kind::Name) {
-        return refused(tokens);
-    }
-    let name = take_name(tokens);
-    if !next_is(tokens, Kind::Colon) {
-        return refused(tokens);
-    }
-    tokens.advance();
+    let name = expect_name(tokens)?;
+    expect(tokens, Kind::Colon)?;
     let value = parse_value(tokens, false)?;
-    push_item(arguments, (name, value), next_is(tokens, Kind::ParenClose))?;
-    Ok(())
+    Ok((name, value))
 }
 
-/// `(Name ":" Value(free))+ ")"`, with the place of the parenthesis. Nobody asks for it; a result without a place makes each
-/// turn of the loop a half longer.
+/// `(Name ":" Value(free))+ ")"`
 #[tactic(auto, using(juniper_tokens::proofs::Public::goes_further, juniper_tokens::proofs::Public::stays))]
 fn parse_argument_list<'a, S: ScalarValue>(
     tokens: &mut Cursor<'_, 'a>,
-) -> ParseResult<Vec<(Spanning<&'a str>, Spanning<InputValue<S>>)>>
-    ensures gives { Gives (view_listed (view_argument S.content)) result (left tokens.new) (cursor (stated S.reading S.of_bool) arguments_inner (left tokens.old)) }
+) -> UnlocatedParseResult<Vec<(Spanning<&'a str>, Spanning<InputValue<S>>)>>
+    ensures gives { Gives (view_items (view_argument S.content)) result (left tokens.new) (cursor (stated S.reading S.of_bool) arguments_inner (left tokens.old)) }
     ensures shorter { OnOk result (length (left tokens.new) < length (left tokens.old)) }
     ensures on { OnOk result (GoesOn tokens.old tokens.new) }
 {
-    let mut items = Vec::new(tokens.allocator());
-    loop {
-        parse_argument(tokens, &mut items)?;
-        if let Some(closing) = take_closing(tokens, Kind::ParenClose) {
-            return Ok(Spanning::new(closing, items));
-        }
-    }
+    many!(tokens, parse_argument(tokens), Kind::ParenClose)
 }
 
 /// `Arguments = "(" (Name ":" Value(free))+ ")"`
@@ -71,9 +56,9 @@ fn parse_arguments<'a, S: ScalarValue>(tokens: &mut Cursor<'_, 'a>) -> ParseResu
     ensures on { OnOk result (GoesOn tokens.old tokens.new) }
 {
     let start = tokens.mark();
-    expect_kind(tokens, Kind::ParenOpen)?;
-    let list = parse_argument_list(tokens)?;
-    Ok(Spanning::new(tokens.span_from(start), Arguments { items: list.item }))
+    expect(tokens, Kind::ParenOpen)?;
+    let items = parse_argument_list(tokens)?;
+    Ok(Spanning::new(tokens.span_from(start), Arguments { items }))
 }
 
 /// `Arguments?`
@@ -93,7 +78,7 @@ pub(crate) fn parse_optional_arguments<'a, S: ScalarValue>(
     }
 }
 
-// `Arguments`. The room for the result is made where this is called, and so only where there are arguments.
+/// `Arguments`, in a stack slot of its own.
 #[inline(always)]
 fn parse_some_arguments<'a, S: ScalarValue>(
     tokens: &mut Cursor<'_, 'a>,
@@ -105,27 +90,18 @@ fn parse_some_arguments<'a, S: ScalarValue>(
     Ok(Some(parse_arguments(tokens)?))
 }
 
-/// `Directive = "@" Name Arguments?`, appended.
-#[tactic(auto, using(juniper_tokens::proofs::Public::goes_further, juniper_tokens::proofs::Public::some_taken, crate::proofs::Cursors::closing_is_no_end), unfolding(graphql_grammar::specs::device::Productions::directive, juniper_tokens::specs::Cursor::expect_name_at))]
-fn parse_directive<'a, S: ScalarValue>(
-    tokens: &mut Cursor<'_, 'a>,
-    directives: &mut Vec<Spanning<Directive<'a, S>>>,
-) -> UnlocatedParseResult<()>
-    requires { same_kind (kind_at (left tokens.old)) At ≡ true }
-    ensures appends { Appends (view_directive S.content) result directives.old.items directives.new.items (left tokens.new) (cursor (stated S.reading S.of_bool) directive (left tokens.old)) }
+/// `Directive = "@" Name Arguments?`
+#[tactic(auto, using(juniper_tokens::proofs::Public::goes_further, juniper_tokens::proofs::Public::some_taken, crate::proofs::Cursors::closing_is_no_end), unfolding(graphql_grammar::specs::device::Productions::directive))]
+fn parse_directive<'a, S: ScalarValue>(tokens: &mut Cursor<'_, 'a>) -> ParseResult<Directive<'a, S>>
+    ensures gives { Gives (view_directive S.content) result (left tokens.new) (cursor (stated S.reading S.of_bool) directive (left tokens.old)) }
     ensures shorter { OnOk result (length (left tokens.new) < length (left tokens.old)) }
     ensures on { OnOk result (GoesOn tokens.old tokens.new) }
 {
     let start = tokens.mark();
-    tokens.advance();
-    if !next_is(tokens, Kind::Name) {
-        return refused(tokens);
-    }
-    let name = take_name(tokens);
+    expect(tokens, Kind::At)?;
+    let name = expect_name(tokens)?;
     let arguments = parse_optional_arguments(tokens)?;
-    let directive = Spanning::new(tokens.span_from(start), Directive { name, arguments });
-    push_item(directives, directive, !next_is(tokens, Kind::At))?;
-    Ok(())
+    Ok(Spanning::new(tokens.span_from(start), Directive { name, arguments }))
 }
 
 /// `Directive*`. Most parts have none, so that is found without a call.
@@ -145,7 +121,7 @@ pub(crate) fn parse_directives<'a, S: ScalarValue>(
     }
 }
 
-// `Directive+`. The room for the result is made where this is called, and so only where there are directives.
+/// `Directive+`, in a stack slot of its own.
 #[inline(always)]
 fn parse_some_directives<'a, S: ScalarValue>(
     tokens: &mut Cursor<'_, 'a>,
@@ -173,8 +149,10 @@ fn parse_directive_list<'a, S: ScalarValue>(
 {
     let mut items = Vec::new(tokens.allocator());
     loop {
-        parse_directive(tokens, &mut items)?;
-        if !next_is(tokens, Kind::At) {
+        let directive = parse_directive(tokens)?;
+        let has_more = next_is(tokens, Kind::At);
+        push_item(&mut items, directive, expected(!has_more))?;
+        if !has_more {
             return Ok(Some(items));
         }
     }

@@ -13,7 +13,7 @@ pub(crate) mod depth;
 pub(crate) mod sink;
 
 use crate::parser::definition::parse_definition;
-use crate::parser::lists::push_item;
+use crate::parser::lists::{expected, push_item};
 use crate::parser::next::next_is;
 use crate::tree::ast::OwnedDocument;
 use juniper_tokens::{Cursor, Kind, Lexer, Parser, UnlocatedParseResult};
@@ -61,7 +61,7 @@ pub(crate) fn parse_definitions<'a, S: ScalarValue>(
     loop {
         let definition = parse_definition(tokens)?;
         let is_last = next_is(tokens, Kind::EndOfFile);
-        push_item(&mut definitions, definition, is_last)?;
+        push_item(&mut definitions, definition, expected(is_last))?;
         if is_last {
             return Ok(definitions);
         }

@@ -1,4 +1,4 @@
-//! Lists that grow item by item.
+//! Lists: the loops that read their items, and how they grow.
 ghost use Rattle.std.specs.Prelude.{◌≡◌, ◌++◌, ◌∷◌, [], OnOk};
 
 use std::alloc::AllocError;
@@ -6,22 +6,9 @@ use std::alloc::AllocError;
 // The capacity that is requested at the first of several items. Most lists have no more.
 const FEW: usize = 3;
 
-/// Appends an item. The first one of a list requests capacity for itself alone, if it is the last one too, so that a
-/// list of one item has no unused capacity.
-#[inline(always)]
-pub(crate) fn push_item<T: Drop>(
-    items: &mut Vec<T>,
-    item: T,
-    is_last: bool,
-) -> Result<(), AllocError>
-    ensures items { OnOk result (items.new.items ≡ items.old.items ++ item ∷ []) }
-{
-    push_expecting(items, item, if is_last { 1 } else { FEW })
-}
-
 /// Appends an item. The first one of a list requests capacity for as many as are expected.
 #[inline(always)]
-pub(crate) fn push_expecting<T: Drop>(
+pub(crate) fn push_item<T: Drop>(
     items: &mut Vec<T>,
     item: T,
     expected: usize,
@@ -34,3 +21,49 @@ pub(crate) fn push_expecting<T: Drop>(
     items.push(item)?;
     Ok(())
 }
+
+/// How many items a list is expected to have, of which the first has just been read.
+#[inline(always)]
+pub(crate) fn expected(is_last: bool) -> usize {
+    if is_last { 1 } else { FEW }
+}
+
+/// Returns `Item+ close`: a list of one item or more, up to a closing token, which is taken.
+macro_rules! many {
+    ($tokens:ident, $item:expr, $close:expr) => {
+        many!(
+            $tokens,
+            $item,
+            $close,
+            $crate::parser::lists::expected($crate::parser::next::next_is($tokens, $close))
+        )
+    };
+    ($tokens:ident, $item:expr, $close:expr, $expected:expr) => {{
+        let mut items = Vec::new($tokens.allocator());
+        loop {
+            let item = $item?;
+            $crate::parser::lists::push_item(&mut items, item, $expected)?;
+            if $crate::parser::next::take_if($tokens, $close) {
+                return Ok(items);
+            }
+        }
+    }};
+}
+
+/// Returns `Item* close`: a list of any number of items, up to a closing token, which is taken.
+macro_rules! any {
+    ($tokens:ident, $item:expr, $close:expr) => {{
+        let mut items = Vec::new($tokens.allocator());
+        loop {
+            if $crate::parser::next::take_if($tokens, $close) {
+                return Ok(items);
+            }
+            let item = $item?;
+            let is_last = $crate::parser::next::next_is($tokens, $close);
+            $crate::parser::lists::push_item(&mut items, item, $crate::parser::lists::expected(is_last))?;
+        }
+    }};
+}
+
+pub(crate) use any;
+pub(crate) use many;

@@ -1,20 +1,19 @@
-//! The next token. One that was looked at is taken by `take_next` or `take_name`, one that has to be there by `expect_kind`
-//! or `expect_place`.
-ghost use Rattle.std.specs.Prelude.{◌≡◌, ◌<◌, ◌≤◌, length, drop, true, false, Some, None, option_map, Ok, OnOk, IfSome, if◌then◌else◌};
+//! The next token: it is looked at by `next_is` and `next_is_word`, taken where it is of a kind by `take_if`, and one that
+//! has to be there is taken by `expect` or `expect_name`.
+ghost use Rattle.std.specs.Prelude.{◌≡◌, ◌<◌, ◌≤◌, length, true, false, Some, None, IfOk, OnOk, if◌then◌else◌};
 ghost use Rattle.std.specs.Str.{chars};
 ghost use Rattle.graphql_lexical.specs.Kinds.{same_kind};
 ghost use Rattle.graphql_lexical.specs.declared.kind.Kind.TheVariants.{EndOfFile, Name};
-ghost use Rattle.juniper_tokens.specs.Cursor.{EndsOnce, Fails, Gives, first_of, kind_at, next_at, next_if, refused_at};
+ghost use Rattle.juniper_tokens.specs.Cursor.{EndsOnce, Fails, Gives, first_of, kind_at, next_if, refused_at};
+ghost use Rattle.juniper_tokens.specs.Tokens.{view_name};
 ghost use Rattle.graphql_lexical.specs.Cutting.{Lexeme};
 ghost use Rattle.graphql_grammar.specs.device.Reading.{passes, word};
-ghost use Rattle.juniper_tokens.specs.Taking.{left, GoesOn};
 ghost use Rattle.juniper_tokens.specs.Spans.{view_span};
-ghost use Rattle.graphql_grammar.specs.Tokens.{word_of};
-ghost use Rattle.juniper.specs.View.{view_word};
-ghost use Rattle.juniper.specs.device.Steps.{closing_at, GivesNext, GivesPlace};
+ghost use Rattle.juniper_tokens.specs.Taking.{left, last_end, GoesOn};
+ghost use Rattle.juniper.specs.device.Steps.{closing_at, GivesNext};
 
 use juniper_tokens::text::same_text;
-use juniper_tokens::{Cursor, Kind, ParseFailure, Span, Spanning};
+use juniper_tokens::{Cursor, Kind, ParseFailure, ParseResult, Spanning};
 
 /// Whether the next token is of this kind. It is not taken.
 pub(crate) fn next_is(tokens: &Cursor<'_, '_>, kind: Kind) -> bool
@@ -30,22 +29,6 @@ pub(crate) fn next_is_word(tokens: &Cursor<'_, '_>, text: &str) -> bool
     ensures ended { EndsOnce (left tokens.now) }
 {
     tokens.kind() == Kind::Name && same_text(tokens.text(), text)
-}
-
-/// Takes the next token, which must not be the end, and returns its span.
-#[inline(always)]
-pub(crate) fn take_next(tokens: &mut Cursor<'_, '_>) -> Span
-    requires { same_kind (kind_at (left tokens.old)) EndOfFile ≡ false }
-    ensures place { view_span result ≡ (first_of (left tokens.old)).span }
-    ensures takes { next_at (left tokens.old) ≡ Ok (first_of (left tokens.old), left tokens.new) }
-    ensures left { left tokens.new ≡ drop 1 (left tokens.old) }
-    ensures ended { EndsOnce (left tokens.old) }
-    ensures shorter { length (left tokens.new) < length (left tokens.old) }
-    ensures on { GoesOn tokens.old tokens.new }
-{
-    let place = tokens.span();
-    tokens.advance();
-    place
 }
 
 /// Takes the next token, and returns the error that it is unexpected. What stands after it is what `Cursor::refuse` leaves.
@@ -71,40 +54,8 @@ pub(crate) fn refused<T: Drop>(tokens: &mut Cursor<'_, '_>) -> Result<T, ParseFa
     Err(refusal(tokens))
 }
 
-/// Takes the next token, which must be a Name, and returns its text with its span.
-#[inline(always)]
-pub(crate) fn take_name<'a>(tokens: &mut Cursor<'_, 'a>) -> Spanning<&'a str>
-    requires { same_kind (kind_at (left tokens.old)) Name ≡ true }
-    ensures name { view_word result ≡ word_of (first_of (left tokens.old)) }
-    ensures takes { next_at (left tokens.old) ≡ Ok (first_of (left tokens.old), left tokens.new) }
-    ensures ended { EndsOnce (left tokens.old) }
-    ensures shorter { length (left tokens.new) < length (left tokens.old) }
-    ensures on { GoesOn tokens.old tokens.new }
-{
-    let text = tokens.text();
-    Spanning::new(take_next(tokens), text)
-}
-
-/// Takes the next token if it is of this kind, and returns its span, else returns None.
-#[tactic(auto, using(crate::proofs::Cursors::closing_is_no_end, juniper_tokens::proofs::Public::stays))]
-#[inline(always)]
-pub(crate) fn take_closing(tokens: &mut Cursor<'_, '_>, closing: Kind) -> Option<Span>
-    requires { same_kind closing EndOfFile ≡ false }
-    ensures takes { (option_map view_span result, left tokens.new) ≡ closing_at closing (left tokens.old) }
-    ensures ended { EndsOnce (left tokens.old) }
-    ensures shorter { IfSome result (λ place. length (left tokens.new) < length (left tokens.old)) }
-    ensures not_longer { length (left tokens.new) ≤ length (left tokens.old) }
-    ensures on { GoesOn tokens.old tokens.new }
-{
-    if next_is(tokens, closing) {
-        Some(take_next(tokens))
-    } else {
-        None
-    }
-}
-
 /// Takes the next token if it is of this kind, and returns whether it is.
-#[tactic(auto, using(crate::proofs::Cursors::closing_is_no_end, juniper_tokens::proofs::Public::stays))]
+#[tactic(auto, using(crate::proofs::Cursors::closing_is_no_end, crate::proofs::Marks::last_taken, juniper_tokens::proofs::Public::stays))]
 #[inline(always)]
 pub(crate) fn take_if(tokens: &mut Cursor<'_, '_>, kind: Kind) -> bool
     requires { same_kind kind EndOfFile ≡ false }
@@ -113,6 +64,7 @@ pub(crate) fn take_if(tokens: &mut Cursor<'_, '_>, kind: Kind) -> bool
     ensures shorter { result ≡ true → length (left tokens.new) < length (left tokens.old) }
     ensures not_longer { length (left tokens.new) ≤ length (left tokens.old) }
     ensures on { GoesOn tokens.old tokens.new }
+    ensures ends { result ≡ true → last_end tokens.new ≡ (first_of (left tokens.old)).span.end }
 {
     let is_next = next_is(tokens, kind);
     if is_next {
@@ -124,13 +76,14 @@ pub(crate) fn take_if(tokens: &mut Cursor<'_, '_>, kind: Kind) -> bool
 /// Takes the next token if it is of this kind, else returns an error.
 ///
 /// Another token is taken too, and reported as unexpected. At the end nothing is taken.
-#[tactic(auto, using(crate::proofs::Cursors::closing_is_no_end))]
+#[tactic(auto, using(crate::proofs::Cursors::closing_is_no_end, crate::proofs::Marks::last_taken))]
 #[inline(always)]
-pub(crate) fn expect_kind(tokens: &mut Cursor<'_, '_>, kind: Kind) -> Result<(), ParseFailure>
+pub(crate) fn expect(tokens: &mut Cursor<'_, '_>, kind: Kind) -> Result<(), ParseFailure>
     requires { same_kind kind EndOfFile ≡ false }
     ensures gives { GivesNext result (left tokens.old) (left tokens.new) (next_if (same_kind (kind_at (left tokens.old)) kind) (left tokens.old)) }
     ensures shorter { OnOk result (length (left tokens.new) < length (left tokens.old)) }
     ensures on { GoesOn tokens.old tokens.new }
+    ensures ends { OnOk result (last_end tokens.new ≡ (first_of (left tokens.old)).span.end) }
 {
     if next_is(tokens, kind) {
         tokens.advance();
@@ -140,18 +93,20 @@ pub(crate) fn expect_kind(tokens: &mut Cursor<'_, '_>, kind: Kind) -> Result<(),
     }
 }
 
-/// Takes the next token if it is of this kind, and returns its span, else returns the error that `expect_kind` returns.
-#[tactic(auto, using(crate::proofs::Cursors::closing_is_no_end))]
+/// Takes the next token if it is a Name, and returns its text with its span, else returns the error that `expect` returns.
+#[tactic(auto, using(crate::proofs::Marks::last_taken))]
 #[inline(always)]
-pub(crate) fn expect_place(tokens: &mut Cursor<'_, '_>, kind: Kind) -> Result<Span, ParseFailure>
-    requires { same_kind kind EndOfFile ≡ false }
-    ensures gives { GivesPlace result (left tokens.old) (left tokens.new) (next_if (same_kind (kind_at (left tokens.old)) kind) (left tokens.old)) }
+pub(crate) fn expect_name<'a>(tokens: &mut Cursor<'_, 'a>) -> ParseResult<&'a str>
+    ensures gives { Gives view_name result (left tokens.new) (next_if (same_kind (kind_at (left tokens.old)) Name) (left tokens.old)) }
     ensures shorter { OnOk result (length (left tokens.new) < length (left tokens.old)) }
     ensures on { GoesOn tokens.old tokens.new }
+    ensures ends { IfOk result (λ name. last_end tokens.new ≡ (view_span name.span).end) }
 {
-    if next_is(tokens, kind) {
-        Ok(take_next(tokens))
-    } else {
-        refused(tokens)
+    if !next_is(tokens, Kind::Name) {
+        return refused(tokens);
     }
+    let text = tokens.text();
+    let span = tokens.span();
+    tokens.advance();
+    Ok(Spanning::new(span, text))
 }

@@ -8,7 +8,7 @@ ghost use Rattle.juniper.specs.Promise.{ReturnsType};
 ghost use Rattle.juniper.specs.View.{view_spanned_type};
 ghost use Rattle.juniper.specs.device.Steps.{no_scalars, cursor, type_read};
 
-use crate::parser::next::{expect_place, next_is, take_next};
+use crate::parser::next::{expect, expect_name, next_is, take_if};
 use juniper_tokens::{Cursor, Kind, ParseFailure, ParseResult, Parser, Spanning};
 use juniper_values::Type;
 
@@ -63,13 +63,13 @@ fn parse_nullable_type<'a>(tokens: &mut Cursor<'_, 'a>) -> ParseResult<Type<&'a 
 }
 
 /// `Name`
-#[tactic(auto, unfolding(graphql_grammar::specs::device::Productions::named_type, juniper_tokens::specs::Cursor::expect_name_at))]
+#[tactic(auto, unfolding(graphql_grammar::specs::device::Productions::named_type))]
 fn parse_named_type<'a>(tokens: &mut Cursor<'_, 'a>) -> ParseResult<Type<&'a str>>
     ensures gives { Gives view_spanned_type result (left tokens.new) (cursor no_scalars named_type (left tokens.old)) }
     ensures shorter { OnOk result (length (left tokens.new) < length (left tokens.old)) }
     ensures on { GoesOn tokens.old tokens.new }
 {
-    let name = tokens.expect_name()?;
+    let name = expect_name(tokens)?;
     Ok(Spanning::new(name.span, Type::nullable(name.item)))
 }
 
@@ -81,11 +81,12 @@ fn parse_list_type<'a>(tokens: &mut Cursor<'_, 'a>) -> ParseResult<Type<&'a str>
     ensures shorter { OnOk result (length (left tokens.new) < length (left tokens.old)) }
     ensures on { GoesOn tokens.old tokens.new }
 {
-    let opening = expect_place(tokens, Kind::BracketOpen)?;
+    let start = tokens.mark();
+    expect(tokens, Kind::BracketOpen)?;
     let inner = parse_any_type(tokens)?;
-    let closing = expect_place(tokens, Kind::BracketClose)?;
+    expect(tokens, Kind::BracketClose)?;
     match inner.item.wrap_list(tokens.allocator(), None) {
-        Ok(list) => Ok(Spanning::start_end(&opening.start, &closing.end, list)),
+        Ok(list) => Ok(Spanning::new(tokens.span_from(start), list)),
         Err(_) => Err(ParseFailure::Memory),
     }
 }
@@ -100,13 +101,12 @@ fn parse_non_null<'a>(
     ensures not_longer { OnOk result (length (left tokens.new) ≤ length (left tokens.old)) }
     ensures on { GoesOn tokens.old tokens.new }
 {
-    if !next_is(tokens, Kind::ExclamationMark) {
+    if !take_if(tokens, Kind::ExclamationMark) {
         return Ok(inner);
     }
     let start = inner.span.start;
-    let mark = take_next(tokens);
     match inner.item.wrap_non_null(tokens.allocator()) {
-        Ok(of_type) => Ok(Spanning::start_end(&start, &mark.end, of_type)),
+        Ok(of_type) => Ok(Spanning::new(tokens.span_from(start), of_type)),
         Err(_) => Err(ParseFailure::Memory),
     }
 }

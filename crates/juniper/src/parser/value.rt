@@ -2,8 +2,8 @@
 ghost use Rattle.std.specs.Prelude.{◌≡◌, ◌<◌, length, false, MatchOption, OnOk, IfOk, not};
 ghost use Rattle.std.specs.Str.{chars};
 ghost use Rattle.graphql_lexical.specs.Kinds.{same_kind};
-ghost use Rattle.graphql_lexical.specs.declared.kind.Kind.TheVariants.{BracketClose, CurlyClose};
-ghost use Rattle.graphql_grammar.specs.device.Reading.{of, symbol, a_value, passes, scalar_token};
+ghost use Rattle.graphql_lexical.specs.declared.kind.Kind.TheVariants.{BracketOpen, BracketClose, CurlyOpen, CurlyClose, Dollar, Name};
+ghost use Rattle.graphql_grammar.specs.device.Reading.{of, symbol, a_value, passes, scalar_token, wants, gives};
 ghost use Rattle.graphql_grammar.specs.device.Productions.{by_name, list, key_and_value, object, variable};
 ghost use Rattle.juniper_tokens.specs.Spans.{view_span};
 ghost use Rattle.juniper_tokens.specs.Cursor.{EndsOnce, Gives, OnMemory, first_of};
@@ -11,15 +11,14 @@ ghost use Rattle.juniper_tokens.specs.Delimited.{IsRest};
 ghost use Rattle.juniper_tokens.specs.Taking.{left, GoesOn};
 ghost use Rattle.juniper.specs.Promise.{ReturnsValue};
 ghost use Rattle.juniper.specs.View.{view_value, view_object_field};
-ghost use Rattle.juniper.specs.device.PartViews.{view_list};
-ghost use Rattle.juniper.specs.device.Steps.{cursor, value_read, scalar_read, closed_read, IsScalarAt};
+ghost use Rattle.juniper.specs.device.Steps.{cursor, value_read, scalar_read, closed_read, IsScalarAt, GivesClosed};
 ghost use Rattle.juniper.specs.Scalars.{stated};
 
-use crate::parser::lists::push_item;
-use crate::parser::next::{next_is, refused, take_closing, take_name, take_next};
+use crate::parser::lists::any;
+use crate::parser::next::{expect, expect_name, refused};
 use juniper_tokens::text::same_text;
 use juniper_tokens::{
-    Cursor, Kind, ParseFailure, ParseResult, Parser, ScalarToken, Span, Spanning,
+    Cursor, Kind, ParseFailure, ParseResult, Parser, ScalarToken, Spanning, UnlocatedParseResult,
 };
 use juniper_values::{InputValue, ReadFailure, ScalarValue};
 use std::alloc::{AllocError, Global};
@@ -53,7 +52,7 @@ pub fn parse_value_literal<'a, S: ScalarValue>(
 /// `Value(c) = a scalar token that the scalar type reads | Name | "$" Name where c is free
 ///           | "[" Value(c)* "]" | "{" (Name ":" Value(c))* "}"`
 #[cycle(value)]
-#[tactic(auto, using(crate::proofs::Readings::value_is), unfolding(graphql_grammar::specs::device::Productions::value, juniper_tokens::specs::Cursor::expect_name_at))]
+#[tactic(auto, using(crate::proofs::Readings::value_is), unfolding(graphql_grammar::specs::device::Productions::value))]
 pub(crate) fn parse_value<'a, S: ScalarValue>(
     tokens: &mut Cursor<'_, 'a>,
     is_const: bool,
@@ -64,103 +63,79 @@ pub(crate) fn parse_value<'a, S: ScalarValue>(
     ensures on { GoesOn tokens.old tokens.new }
 {
     match tokens.kind() {
-        Kind::BracketOpen => {
-            let opening = take_next(tokens);
-            parse_list(tokens, is_const, opening)
-        }
-        Kind::CurlyOpen => {
-            let opening = take_next(tokens);
-            parse_object(tokens, is_const, opening)
-        }
-        Kind::Dollar if !is_const => {
-            let dollar = take_next(tokens);
-            parse_variable(tokens, dollar)
-        }
-        Kind::Name => {
-            let name = take_name(tokens);
-            Ok(value_of_name(tokens.allocator(), name)?)
-        }
+        Kind::BracketOpen => parse_list(tokens, is_const),
+        Kind::CurlyOpen => parse_object(tokens, is_const),
+        Kind::Dollar if !is_const => parse_variable(tokens),
+        Kind::Name => parse_named_value(tokens),
         // a scalar token, or one that begins no value and is refused
         _ => parse_scalar(tokens),
     }
 }
 
-/// `Value(c)* "]"`, after the bracket that stands at `opening`.
+/// `"[" Value(c)* "]"`
 #[cycle(value)]
 #[tactic(auto, using(juniper_tokens::proofs::Public::goes_further), unfolding(graphql_grammar::specs::device::Productions::list))]
 fn parse_list<'a, S: ScalarValue>(
     tokens: &mut Cursor<'_, 'a>,
     is_const: bool,
-    opening: Span,
 ) -> ParseResult<InputValue<S>>
-    ensures gives { Gives (view_value S.content) result (left tokens.new) (cursor (stated S.reading S.of_bool) (list (not is_const) (view_span opening)) (left tokens.old)) }
+    ensures gives { Gives (view_value S.content) result (left tokens.new) (cursor (stated S.reading S.of_bool) (wants (of BracketOpen) (λ o. list (not is_const) o.span)) (left tokens.old)) }
     ensures shorter { OnOk result (length (left tokens.new) < length (left tokens.old)) }
     ensures on { GoesOn tokens.old tokens.new }
 {
+    let start = tokens.mark();
+    expect(tokens, Kind::BracketOpen)?;
     let items = parse_items(tokens, is_const)?;
-    let end = items.span.end;
-    Ok(Spanning::start_end(&opening.start, &end, InputValue::List(items.item)))
+    Ok(Spanning::new(tokens.span_from(start), InputValue::List(items)))
 }
 
-/// `Value(c)* "]"`, with the place of the bracket.
+/// `Value(c)* "]"`
 #[cycle(value)]
 #[tactic(auto, using(juniper_tokens::proofs::Public::goes_further))]
 fn parse_items<'a, S: ScalarValue>(
     tokens: &mut Cursor<'_, 'a>,
     is_const: bool,
-) -> ParseResult<Vec<Spanning<InputValue<S>>>>
-    ensures gives { Gives (view_list (view_value S.content)) result (left tokens.new) (closed_read (stated S.reading S.of_bool) (of BracketClose) (symbol (a_value (not is_const))) (left tokens.old)) }
+) -> UnlocatedParseResult<Vec<Spanning<InputValue<S>>>>
+    ensures gives { GivesClosed (view_value S.content) result tokens.new (closed_read (stated S.reading S.of_bool) (of BracketClose) (symbol (a_value (not is_const))) (left tokens.old)) }
     ensures shorter { OnOk result (length (left tokens.new) < length (left tokens.old)) }
     ensures on { GoesOn tokens.old tokens.new }
 {
-    let mut items = Vec::new(tokens.allocator());
-    loop {
-        if let Some(closing) = take_closing(tokens, Kind::BracketClose) {
-            return Ok(Spanning::new(closing, items));
-        }
-        let item = parse_value(tokens, is_const)?;
-        let is_last = next_is(tokens, Kind::BracketClose);
-        push_item(&mut items, item, is_last)?;
-    }
+    any!(tokens, parse_value(tokens, is_const), Kind::BracketClose)
 }
 
-/// `(Name ":" Value(c))* "}"`, after the brace that stands at `opening`.
+/// `"{" (Name ":" Value(c))* "}"`
 #[cycle(value)]
 #[tactic(auto, using(juniper_tokens::proofs::Public::goes_further), unfolding(graphql_grammar::specs::device::Productions::object))]
 fn parse_object<'a, S: ScalarValue>(
     tokens: &mut Cursor<'_, 'a>,
     is_const: bool,
-    opening: Span,
 ) -> ParseResult<InputValue<S>>
-    ensures gives { Gives (view_value S.content) result (left tokens.new) (cursor (stated S.reading S.of_bool) (object (not is_const) (view_span opening)) (left tokens.old)) }
+    ensures gives { Gives (view_value S.content) result (left tokens.new) (cursor (stated S.reading S.of_bool) (wants (of CurlyOpen) (λ o. object (not is_const) o.span)) (left tokens.old)) }
     ensures shorter { OnOk result (length (left tokens.new) < length (left tokens.old)) }
     ensures on { GoesOn tokens.old tokens.new }
 {
+    let start = tokens.mark();
+    expect(tokens, Kind::CurlyOpen)?;
     let fields = parse_fields(tokens, is_const)?;
-    let end = fields.span.end;
-    Ok(Spanning::start_end(&opening.start, &end, InputValue::Object(fields.item)))
+    Ok(Spanning::new(tokens.span_from(start), InputValue::Object(fields)))
 }
 
-/// `(Name ":" Value(c))* "}"`, with the place of the brace.
+/// `(Name ":" Value(c))* "}"`
 #[cycle(value)]
 #[tactic(auto, using(juniper_tokens::proofs::Public::goes_further))]
 fn parse_fields<'a, S: ScalarValue>(
     tokens: &mut Cursor<'_, 'a>,
     is_const: bool,
-) -> ParseResult<Vec<(Spanning<String>, Spanning<InputValue<S>>)>>
-    ensures gives { Gives (view_list (view_object_field S.content)) result (left tokens.new) (closed_read (stated S.reading S.of_bool) (of CurlyClose) (key_and_value (not is_const)) (left tokens.old)) }
+) -> UnlocatedParseResult<Vec<(Spanning<String>, Spanning<InputValue<S>>)>>
+    ensures gives { GivesClosed (view_object_field S.content) result tokens.new (closed_read (stated S.reading S.of_bool) (of CurlyClose) (key_and_value (not is_const)) (left tokens.old)) }
     ensures shorter { OnOk result (length (left tokens.new) < length (left tokens.old)) }
     ensures on { GoesOn tokens.old tokens.new }
 {
-    let mut fields = Vec::new(tokens.allocator());
-    loop {
-        if let Some(closing) = take_closing(tokens, Kind::CurlyClose) {
-            return Ok(Spanning::new(closing, fields));
-        }
-        let field = parse_object_field(tokens, is_const)?;
-        let is_last = next_is(tokens, Kind::CurlyClose);
-        push_item(&mut fields, field, is_last)?;
-    }
+    any!(
+        tokens,
+        parse_object_field(tokens, is_const),
+        Kind::CurlyClose
+    )
 }
 
 /// `Name ":" Value(c)`
@@ -169,40 +144,30 @@ fn parse_fields<'a, S: ScalarValue>(
 fn parse_object_field<'a, S: ScalarValue>(
     tokens: &mut Cursor<'_, 'a>,
     is_const: bool,
-) -> Result<(Spanning<String>, Spanning<InputValue<S>>), ParseFailure>
+) -> UnlocatedParseResult<(Spanning<String>, Spanning<InputValue<S>>)>
     ensures gives { Gives (view_object_field S.content) result (left tokens.new) (cursor (stated S.reading S.of_bool) (key_and_value (not is_const)) (left tokens.old)) }
     ensures shorter { OnOk result (length (left tokens.new) < length (left tokens.old)) }
     ensures on { GoesOn tokens.old tokens.new }
 {
-    if !next_is(tokens, Kind::Name) {
-        return refused(tokens);
-    }
-    let key = take_name(tokens);
-    if !next_is(tokens, Kind::Colon) {
-        return refused(tokens);
-    }
-    tokens.advance();
+    let key = expect_name(tokens)?;
+    expect(tokens, Kind::Colon)?;
     let value = parse_value(tokens, is_const)?;
     let text = String::from_str(tokens.allocator(), key.item)?;
     Ok((Spanning::new(key.span, text), value))
 }
 
-/// `Name`, after the dollar that stands at `dollar`.
+/// `"$" Name`
 #[tactic(auto, using(crate::proofs::ValueViews::view_of_variable), unfolding(graphql_grammar::specs::device::Productions::variable))]
-fn parse_variable<'a, S: ScalarValue>(
-    tokens: &mut Cursor<'_, 'a>,
-    dollar: Span,
-) -> ParseResult<InputValue<S>>
-    ensures gives { Gives (view_value S.content) result (left tokens.new) (cursor (stated S.reading S.of_bool) (variable (view_span dollar)) (left tokens.old)) }
+fn parse_variable<'a, S: ScalarValue>(tokens: &mut Cursor<'_, 'a>) -> ParseResult<InputValue<S>>
+    ensures gives { Gives (view_value S.content) result (left tokens.new) (cursor (stated S.reading S.of_bool) (wants (of Dollar) (λ d. variable d.span)) (left tokens.old)) }
     ensures shorter { OnOk result (length (left tokens.new) < length (left tokens.old)) }
     ensures on { GoesOn tokens.old tokens.new }
 {
-    if !next_is(tokens, Kind::Name) {
-        return refused(tokens);
-    }
-    let name = take_name(tokens);
+    let start = tokens.mark();
+    expect(tokens, Kind::Dollar)?;
+    let name = expect_name(tokens)?;
     let text = String::from_str(tokens.allocator(), name.item)?;
-    Ok(Spanning::start_end(&dollar.start, &name.span.end, InputValue::Variable(text)))
+    Ok(Spanning::new(tokens.span_from(start), InputValue::Variable(text)))
 }
 
 /// A scalar token. Another token is refused.
@@ -215,7 +180,8 @@ fn parse_scalar<'a, S: ScalarValue>(tokens: &mut Cursor<'_, 'a>) -> ParseResult<
     let Some(token) = next_scalar(tokens) else {
         return refused(tokens);
     };
-    let span = take_next(tokens);
+    let span = tokens.span();
+    tokens.advance();
     match S::from_str(tokens.allocator(), token) {
         Ok(scalar) => Ok(Spanning::new(span, InputValue::Scalar(scalar))),
         Err(ReadFailure::Refused(error)) => {
@@ -238,6 +204,16 @@ fn next_scalar<'a>(tokens: &Cursor<'_, 'a>) -> Option<ScalarToken<'a>>
         Kind::Int => Some(ScalarToken::Int(tokens.text())),
         _ => None,
     }
+}
+
+/// A Name: `true` and `false` are scalars, `null` is null, any other name is an enum value.
+fn parse_named_value<'a, S: ScalarValue>(tokens: &mut Cursor<'_, 'a>) -> ParseResult<InputValue<S>>
+    ensures gives { Gives (view_value S.content) result (left tokens.new) (cursor (stated S.reading S.of_bool) (wants (of Name) (λ t. gives (record { item = by_name (stated S.reading S.of_bool) t.text; span = t.span }))) (left tokens.old)) }
+    ensures shorter { OnOk result (length (left tokens.new) < length (left tokens.old)) }
+    ensures on { GoesOn tokens.old tokens.new }
+{
+    let name = expect_name(tokens)?;
+    Ok(value_of_name(tokens.allocator(), name)?)
 }
 
 /// `true` and `false` are scalars, `null` is null, any other name is an enum value.

@@ -9,8 +9,8 @@ ghost use Rattle.juniper.specs.device.PartViews.{view_items};
 ghost use Rattle.juniper.specs.device.Steps.{cursor};
 
 use crate::parser::directives::parse_directives;
-use crate::parser::lists::push_item;
-use crate::parser::next::{expect_kind, expect_place, next_is, take_if, take_next};
+use crate::parser::lists::many;
+use crate::parser::next::{expect, expect_name, next_is, take_if};
 use crate::parser::types::parse_any_type;
 use crate::parser::value::parse_value;
 use crate::tree::ast::{VariableDefinition, VariableDefinitions};
@@ -28,8 +28,7 @@ fn parse_default<'a, S: ScalarValue>(
     ensures not_longer { OnOk result (length (left tokens.new) ≤ length (left tokens.old)) }
     ensures on { OnOk result (GoesOn tokens.old tokens.new) }
 {
-    if next_is(tokens, Kind::Equals) {
-        take_next(tokens);
+    if take_if(tokens, Kind::Equals) {
         Ok(Some(parse_value(tokens, true)?))
     } else {
         Ok(None)
@@ -37,7 +36,7 @@ fn parse_default<'a, S: ScalarValue>(
 }
 
 /// `"$" Name ":" Type ("=" Value(const))? Directive*`
-#[tactic(auto, using(juniper_tokens::proofs::Public::goes_further), unfolding(graphql_grammar::specs::device::Productions::variable_definition, juniper_tokens::specs::Cursor::expect_name_at))]
+#[tactic(auto, using(juniper_tokens::proofs::Public::goes_further), unfolding(graphql_grammar::specs::device::Productions::variable_definition))]
 fn parse_variable_definition<'a, S: ScalarValue>(
     tokens: &mut Cursor<'_, 'a>,
 ) -> Result<(Spanning<&'a str>, VariableDefinition<'a, S>), ParseFailure>
@@ -45,15 +44,16 @@ fn parse_variable_definition<'a, S: ScalarValue>(
     ensures shorter { OnOk result (length (left tokens.new) < length (left tokens.old)) }
     ensures on { OnOk result (GoesOn tokens.old tokens.new) }
 {
-    let start = expect_place(tokens, Kind::Dollar)?.start;
-    let name = tokens.expect_name()?;
-    expect_kind(tokens, Kind::Colon)?;
+    let start = tokens.mark();
+    expect(tokens, Kind::Dollar)?;
+    let text = expect_name(tokens)?.item;
+    let name = Spanning::new(tokens.span_from(start), text);
+    expect(tokens, Kind::Colon)?;
     let var_type = parse_any_type(tokens)?;
     let default_value = parse_default(tokens)?;
     let directives = parse_directives(tokens)?;
-    let end = name.span.end;
     Ok((
-        Spanning::start_end(&start, &end, name.item),
+        name,
         VariableDefinition {
             var_type,
             default_value,
@@ -71,15 +71,7 @@ fn parse_variable_list<'a, S: ScalarValue>(
     ensures shorter { OnOk result (length (left tokens.new) < length (left tokens.old)) }
     ensures on { OnOk result (GoesOn tokens.old tokens.new) }
 {
-    let mut items = Vec::new(tokens.allocator());
-    loop {
-        let variable = parse_variable_definition(tokens)?;
-        let is_last = next_is(tokens, Kind::ParenClose);
-        push_item(&mut items, variable, is_last)?;
-        if take_if(tokens, Kind::ParenClose) {
-            return Ok(items);
-        }
-    }
+    many!(tokens, parse_variable_definition(tokens), Kind::ParenClose)
 }
 
 /// `Variables = "(" ("$" Name ":" Type ("=" Value(const))? Directive*)+ ")"`
@@ -93,7 +85,7 @@ fn parse_variables<'a, S: ScalarValue>(
     ensures on { OnOk result (GoesOn tokens.old tokens.new) }
 {
     let start = tokens.mark();
-    expect_kind(tokens, Kind::ParenOpen)?;
+    expect(tokens, Kind::ParenOpen)?;
     let items = parse_variable_list(tokens)?;
     Ok(Spanning::new(tokens.span_from(start), VariableDefinitions { items }))
 }

@@ -11,8 +11,8 @@ use Rattle.juniper.proofs.Names.{says_fragment}
 use Rattle.juniper.proofs.Readings.{operation_begins, operation_is_no_end, fragment_begins, shorthand_begins}
 use Rattle.juniper.proofs.parser.definition.parse_definition.Goals as goal
 
-pub take_next-requires : goal.take_next-requires
-take_next-requires g c =
+pub advance-requires : goal.advance-requires
+advance-requires g c =
     operation_is_no_end (left c.args.tokens.now) c.in-Some.operation_type
     (sym c.next_operation.ensures ∙ c.in-Some.is)
 
@@ -23,17 +23,17 @@ returns-in-Some-clause-gives g c =
     let read = c.parse_operation in
     marked_result (view_definition g.S.ParseScalarValue.content) c.args.tokens.now read.new.tokens _ c.mark-start.ensures
     (cursor S definition_parts (left c.args.tokens.now)) read.result
-    (on_ok read.result (λ h. goes_further _ _ _ c.take_next.ensures.on h) read.ensures.on)
-    (on_ok read.result (λ h. omega (arith, h, c.take_next.ensures.shorter)) read.ensures.shorter) read.ensures.within
-    (rw (operation_begins S (left c.args.tokens.now) c.in-Some.operation_type (left c.take_next.new.tokens)
-    (sym c.next_operation.ensures ∙ c.in-Some.is) c.take_next.ensures.takes) read.ensures.gives)
+    (on_ok read.result (λ h. goes_further _ _ _ c.advance.ensures.on h) read.ensures.on)
+    (on_ok read.result (λ h. omega (arith, h, c.advance.ensures.shorter)) read.ensures.shorter) read.ensures.within
+    (rw (operation_begins S (left c.args.tokens.now) c.in-Some.operation_type (left c.advance.new.self)
+    (sym c.next_operation.ensures ∙ c.in-Some.is) c.advance.ensures.takes) read.ensures.gives)
 
 pub returns-then-next_is_word-clause-gives : goal.returns-then-next_is_word-clause-gives
 unfolding definition
 returns-then-next_is_word-clause-gives g c =
     let S = stated g.S.ParseScalarValue.reading g.S.ScalarValue.of_bool in
     let read = c.parse_fragment in
-    let took = c.take_next-then-next_is_word in
+    let took = c.advance-then-next_is_word in
     let says = says_fragment (first_of (left c.args.tokens.now)) _ _ c.next_is_word.ensures.is
     c.if-next_is_word.true in
     marked_result (view_definition g.S.ParseScalarValue.content) c.args.tokens.now read.new.tokens _ c.mark-start.ensures
@@ -41,7 +41,7 @@ returns-then-next_is_word-clause-gives g c =
     (on_ok read.result (λ h. goes_further _ _ _ took.ensures.on h) read.ensures.on)
     (on_ok read.result (λ h. omega (arith, h, took.ensures.shorter)) read.ensures.shorter) read.ensures.within
     (rw (fragment_begins S (left c.args.tokens.now) (sym c.next_operation.ensures ∙ c.in-None.is)
-    (left took.new.tokens) says took.ensures.takes) read.ensures.gives)
+    (left took.new.self) says took.ensures.takes) read.ensures.gives)
 
 pub returns-else-next_is_word-clause-gives : goal.returns-else-next_is_word-clause-gives
 unfolding definition

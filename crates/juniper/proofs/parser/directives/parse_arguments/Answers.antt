@@ -12,14 +12,14 @@ use Rattle.juniper.proofs.parser.directives.parse_arguments.Goals as goal
 pub returns-clause-gives : goal.returns-clause-gives
 unfolding arguments
 returns-clause-gives g c =
-    let on = goes_further _ _ _ c.in_ok-expect_kind.ensures.on c.in_ok-list.ensures.on in
+    let on = goes_further _ _ _ c.in_ok-expect.ensures.on c.in_ok-items.ensures.on in
     let tokens = c.parse_argument_list.new.tokens in
-    marked _ _ on (omega (arith, c.in_ok-expect_kind.ensures.shorter, c.in_ok-list.ensures.shorter)) c.span_from.ensures.within
+    marked _ _ on (omega (arith, c.in_ok-expect.ensures.shorter, c.in_ok-items.ensures.shorter)) c.span_from.ensures.within
     (cursor (stated g.S.ParseScalarValue.reading g.S.ScalarValue.of_bool) arguments_parts (left c.args.tokens.now))
     _ _ c.mark-start.ensures
-    (rw (c.in_ok-expect_kind.ensures.gives, c.in_ok-list.ensures.gives, c.new.ensures)
+    (rw (c.in_ok-expect.ensures.gives, c.in_ok-items.ensures.gives, c.new.ensures)
     (ap (λ (p : Span). Ok (
-      record { item = map (view_argument g.S.ParseScalarValue.content) c.in_ok-list.list.item.items; span = p },
+      record { item = map (view_argument g.S.ParseScalarValue.content) c.in_ok-items.items.items; span = p },
       left tokens,
     ))
     (sym c.span_from.ensures.span)))

@@ -14,36 +14,36 @@ use Rattle.juniper.proofs.Loops.{before_go_on, before_end, before_fail, after_fa
 use Rattle.juniper.proofs.Readings.{directives_repeat}
 use Rattle.juniper.proofs.parser.directives.parse_directive_list.Goals as goal
 
-pub returns-in_err-parse_directive-clause-gives : goal.returns-in_err-parse_directive-clause-gives
+pub returns-in_err-directive-clause-gives : goal.returns-in_err-directive-clause-gives
 unfolding directives
-returns-in_err-parse_directive-clause-gives g c =
+returns-in_err-directive-clause-gives g c =
     let p = err_from_is_err_and c.from_residual.result c.from_residual.ensures.1 in
-    rw (p.1, p.2) (after_fails c.in_err-parse_directive.field-0.0 _ _ _
+    rw (p.1, p.2) (after_fails c.in_err-directive.field-0.0 _ _ _
     (before_fail (directives_repeat _) _ _ c.loop-items.invariant.ended c.loop-items.invariant.so_far
-    c.loop-items.invariant.at c.in_err-parse_directive.field-0.0 _ c.in_err-parse_directive.ensures.appends))
+    c.loop-items.invariant.at c.in_err-directive.field-0.0 _ c.in_err-directive.ensures.gives))
 
 pub loop-items-preserved : goal.loop-items-preserved
 loop-items-preserved g c =
-    let item = c.in_ok-parse_directive.ensures.appends in record {
-      so_far = rw (item.1, map-append)
+    let item = c.in_ok-directive.ensures.gives in record {
+      so_far = rw (c.in_ok-push_item.ensures.items, map-append)
           (before_go_on (directives_repeat _) _ _ c.loop-items.invariant.ended c.loop-items.invariant.so_far
-          c.loop-items.invariant.at item.2);
+          c.loop-items.invariant.at item);
       not_longer = search rules;
-      on = goes_further _ _ _ c.loop-items.invariant.on c.in_ok-parse_directive.ensures.on;
-      at = sym c.next_is.ensures.is ∙ c.if-not-next_is.false;
-      ended = c.next_is.ensures.ended;
+      on = goes_further _ _ _ c.loop-items.invariant.on c.in_ok-directive.ensures.on;
+      at = sym c.next_is-has_more.ensures.is ∙ c.if-not-has_more.false;
+      ended = c.next_is-has_more.ensures.ended;
     }
 
-pub returns-then-not-next_is-clause-gives : goal.returns-then-not-next_is-clause-gives
+pub returns-then-not-has_more-clause-gives : goal.returns-then-not-has_more-clause-gives
 unfolding directives
-returns-then-not-next_is-clause-gives g c =
+returns-then-not-has_more-clause-gives g c =
     let view = view_directive g.S.ParseScalarValue.content in
-    let item = c.in_ok-parse_directive.ensures.appends in
-    let none = sym c.next_is.ensures.is ∙ c.if-not-next_is.true in
+    let item = c.in_ok-directive.ensures.gives in
+    let none = sym c.next_is-has_more.ensures.is ∙ c.if-not-has_more.true in
     let so_far = before_go_on (directives_repeat _) _ _ c.loop-items.invariant.ended c.loop-items.invariant.so_far
-    c.loop-items.invariant.at item.2 in
+    c.loop-items.invariant.at item in
     ap (λ (r : Read (List (Located (Directive Content)))). r >>= λ ds. Ok (directives_of ds.0, ds.1))
-    (before_end (directives_repeat _) _ _ c.next_is.ensures.ended so_far none)
+    (before_end (directives_repeat _) _ _ c.next_is-has_more.ensures.ended so_far none)
     ∙ ap (λ (o : Directives Content). Ok (o, left c.parse_directive.new.tokens))
-    (some_directives (map view c.loop-items.items.items) (view item.0))
-    ∙ rw (item.1, map-append) refl
+    (some_directives (map view c.loop-items.items.items) (view c.in_ok-directive.directive))
+    ∙ rw (c.in_ok-push_item.ensures.items, map-append) refl

@@ -16,93 +16,87 @@ use Rattle.juniper.specs.device.PartViews.{view_whole_set}
 use Rattle.juniper.specs.device.Steps.{cursor}
 use Rattle.juniper.proofs.Loops.{some_go_on, some_end, some_item_fails}
 use Rattle.juniper.proofs.Marks.{marked, marked_result, on_ok}
-use Rattle.juniper.proofs.Names.{says_on}
-use Rattle.juniper.proofs.CursorFits.{other_is_name}
+use Rattle.juniper.proofs.Fragments.{inline_is, other_is_a_name, other_is_not_on}
 use Rattle.juniper.proofs.Readings.{selections_repeat}
 use Rattle.juniper.proofs.SelectionViews.{set_gives, field_view}
 use Rattle.juniper.proofs.parser.selection.+selection.Goals as goal
 
-pub parse_selection_list-returns-in_err-parse_selection-clause-gives : goal.parse_selection_list-returns-in_err-parse_selection-clause-gives
-parse_selection_list-returns-in_err-parse_selection-clause-gives g t c =
+pub parse_selection_list-returns-in_err-item-clause-gives : goal.parse_selection_list-returns-in_err-item-clause-gives
+parse_selection_list-returns-in_err-item-clause-gives g t c =
     let p = err_from_is_err_and c.from_residual.result c.from_residual.ensures.1 in
     rw (p.1, p.2) (some_item_fails (selections_repeat _) _ _ c.loop-items.invariant.so_far
-    c.in_err-parse_selection.field-0.0 _ c.in_err-parse_selection.ensures.appends)
+    c.in_err-item.field-0.0 _ c.in_err-item.ensures.gives)
 
 pub parse_selection_list-returns-then-take_if-clause-gives : goal.parse_selection_list-returns-then-take_if-clause-gives
 parse_selection_list-returns-then-take_if-clause-gives g t c =
-    let item = c.in_ok-parse_selection.ensures.appends in
-    some_end (selections_repeat _) _ _ c.loop-items.invariant.so_far item.2
+    some_end (selections_repeat _) _ _ c.loop-items.invariant.so_far c.in_ok-item.ensures.gives
     c.take_if.ensures.ended (rw c.if-take_if.true at c.take_if.ensures.takes)
-    ∙ rw (item.1, map-append) refl
+    ∙ rw (c.in_ok-push_item.ensures.items, map-append) refl
 
 pub parse_selection_list-loop-items-preserved : goal.parse_selection_list-loop-items-preserved
-parse_selection_list-loop-items-preserved g t c =
-    let item = c.in_ok-parse_selection.ensures.appends in record {
-      so_far = rw (item.1, map-append)
-          (some_go_on (selections_repeat _) _ _ c.loop-items.invariant.so_far item.2
-          c.take_if.ensures.ended (rw c.if-take_if.false at c.take_if.ensures.takes));
-      not_longer = search rules;
-      on = goes_further _ _ _ c.loop-items.invariant.on
-          (goes_further _ _ _ c.in_ok-parse_selection.ensures.on c.take_if.ensures.on);
-    }
+parse_selection_list-loop-items-preserved g t c = record {
+  so_far = rw (c.in_ok-push_item.ensures.items, map-append)
+      (some_go_on (selections_repeat _) _ _ c.loop-items.invariant.so_far c.in_ok-item.ensures.gives
+      c.take_if.ensures.ended (rw c.if-take_if.false at c.take_if.ensures.takes));
+  not_longer = search rules;
+  on = goes_further _ _ _ c.loop-items.invariant.on
+      (goes_further _ _ _ c.in_ok-item.ensures.on c.take_if.ensures.on);
+}
 
 pub parse_selection_set-returns-clause-gives : goal.parse_selection_set-returns-clause-gives
 unfolding selection_set
 parse_selection_set-returns-clause-gives g t c =
-    rw c.in_ok-expect_kind.ensures.gives
+    rw c.in_ok-expect.ensures.gives
     (set_gives g.S.ParseScalarValue.content _ _ _ c.parse_selection_list.ensures.gives)
 
 pub parse_selection_set-returns-clause-on : goal.parse_selection_set-returns-clause-on
 parse_selection_set-returns-clause-on g t c =
-    on_ok c.parse_selection_list.result (goes_further _ _ _ c.in_ok-expect_kind.ensures.on)
+    on_ok c.parse_selection_list.result (goes_further _ _ _ c.in_ok-expect.ensures.on)
     c.parse_selection_list.ensures.on
 
-pub parse_field-returns-clause-appends : goal.parse_field-returns-clause-appends
+pub parse_field-returns-clause-gives : goal.parse_field-returns-clause-gives
 unfolding field
-parse_field-returns-clause-appends g t c =
+parse_field-returns-clause-gives g t c =
     let content = g.S.ParseScalarValue.content in
     let on = goes_further _ _ _ c.in_ok-alias.ensures.on
     (goes_further _ _ _ c.in_ok-arguments.ensures.on
-    (goes_further _ _ _ c.in_ok-directives.ensures.on c.in_ok-selection_set.ensures.on)) in (
-      _,
-      c.in_ok-push_expecting.ensures.items,
-      marked _ _ on
-          (omega (
-            arith,
-            c.in_ok-alias.ensures.shorter,
-            c.in_ok-arguments.ensures.not_longer,
-            c.in_ok-directives.ensures.not_longer,
-            c.in_ok-selection_set.ensures.not_longer,
-          ))
-          c.span_from-span.ensures.within
-          (cursor (stated g.S.ParseScalarValue.reading g.S.ScalarValue.of_bool) field_parts (left c.args.tokens.now))
-          _ _ (c.start_of-start.ensures ∙ c.in_ok-alias.ensures.start)
-          (rw (
-            c.in_ok-alias.ensures.gives,
-            c.in_ok-arguments.ensures.gives,
-            c.in_ok-directives.ensures.gives,
-            c.in_ok-selection_set.ensures.gives,
-            c.new-spanned.ensures,
-          )
-          (ap (λ (p : Span). Ok (
-            tree.Field (option_map view_word c.in_ok-alias.alias) (view_word c.in_ok-alias.name)
-                (option_map (view_arguments content) c.in_ok-arguments.arguments)
-                (view_directives content c.in_ok-directives.directives)
-                (optional_of (option_map (view_whole_set content) c.in_ok-selection_set.selection_set)) p,
-            left c.parse_optional_selection_set.new.tokens,
-          )) (sym c.span_from-span.ensures.span)
-          ∙ ap (λ (s : Selection Content). Ok (s, left c.parse_optional_selection_set.new.tokens))
-          (field_view content (record {
-            item = record {
-              alias = c.in_ok-alias.alias;
-              name = c.in_ok-alias.name;
-              arguments = c.in_ok-arguments.arguments;
-              directives = c.in_ok-directives.directives;
-              selection_set = c.in_ok-selection_set.selection_set;
-            };
-            span = c.span_from-span.result;
-          })))),
+    (goes_further _ _ _ c.in_ok-directives.ensures.on c.in_ok-selection_set.ensures.on)) in
+    marked _ _ on
+    (omega (
+      arith,
+      c.in_ok-alias.ensures.shorter,
+      c.in_ok-arguments.ensures.not_longer,
+      c.in_ok-directives.ensures.not_longer,
+      c.in_ok-selection_set.ensures.not_longer,
+    ))
+    c.span_from-span.ensures.within
+    (cursor (stated g.S.ParseScalarValue.reading g.S.ScalarValue.of_bool) field_parts (left c.args.tokens.now))
+    _ _ c.mark-start.ensures
+    (rw (
+      c.in_ok-alias.ensures.gives,
+      c.in_ok-arguments.ensures.gives,
+      c.in_ok-directives.ensures.gives,
+      c.in_ok-selection_set.ensures.gives,
+      c.new.ensures,
     )
+    (ap (λ (p : Span). Ok (
+      tree.Field (option_map view_word c.in_ok-alias.alias) (view_word c.in_ok-alias.name)
+          (option_map (view_arguments content) c.in_ok-arguments.arguments)
+          (view_directives content c.in_ok-directives.directives)
+          (optional_of (option_map (view_whole_set content) c.in_ok-selection_set.selection_set)) p,
+      left c.parse_optional_selection_set.new.tokens,
+    )) (sym c.span_from-span.ensures.span)
+    ∙ ap (λ (s : Selection Content). Ok (s, left c.parse_optional_selection_set.new.tokens))
+    (field_view content (record {
+      item = record {
+        alias = c.in_ok-alias.alias;
+        name = c.in_ok-alias.name;
+        arguments = c.in_ok-arguments.arguments;
+        directives = c.in_ok-directives.directives;
+        selection_set = c.in_ok-selection_set.selection_set;
+      };
+      span = c.span_from-span.result;
+    }))))
 
 pub parse_field-span_from-span-requires : goal.parse_field-span_from-span-requires
 parse_field-span_from-span-requires g t c =
@@ -123,46 +117,31 @@ parse_field-returns-clause-on g t c =
     (goes_further _ _ _ c.in_ok-arguments.ensures.on
     (goes_further _ _ _ c.in_ok-directives.ensures.on c.in_ok-selection_set.ensures.on))
 
-pub parse_spread-returns-then-next_is_word-clause-gives : goal.parse_spread-returns-then-next_is_word-clause-gives
+pub parse_spread-returns-then-next_is_fragment_name-clause-gives : goal.parse_spread-returns-then-next_is_fragment_name-clause-gives
 unfolding spread
-parse_spread-returns-then-next_is_word-clause-gives g t c =
+parse_spread-returns-then-next_is_fragment_name-clause-gives g t c =
     let S = stated g.S.ParseScalarValue.reading g.S.ScalarValue.of_bool in
-    let dots = c.in_ok-expect_kind.ensures in
-    let read = c.parse_typed_fragment in
-    let on = says_on (first_of (left c.expect_kind.new.tokens)) _ _ c.next_is_word.ensures.is c.if-next_is_word.true in
-    marked_result (view_selection g.S.ParseScalarValue.content) c.args.tokens.now read.new.tokens _ c.mark-start.ensures
-    (cursor S spread_parts (left c.args.tokens.now)) read.result
-    (on_ok read.result (λ h. goes_further _ _ _ dots.on (goes_further _ _ _ c.take_next.ensures.on h)) read.ensures.on)
-    (on_ok read.result (λ h. omega (arith, h, dots.shorter, c.take_next.ensures.shorter)) read.ensures.shorter)
-    read.ensures.within (rw (dots.gives, on, c.take_next.ensures.takes) read.ensures.gives)
-
-pub parse_spread-returns-then-next_is-clause-gives : goal.parse_spread-returns-then-next_is-clause-gives
-unfolding spread
-parse_spread-returns-then-next_is-clause-gives g t c =
-    let S = stated g.S.ParseScalarValue.reading g.S.ScalarValue.of_bool in
-    let dots = c.in_ok-expect_kind.ensures in
+    let dots = c.in_ok-expect.ensures in
     let read = c.parse_named_spread in
-    let next = first_of (left c.expect_kind.new.tokens) in
-    let on = says_on next _ _ c.next_is_word.ensures.is c.if-next_is_word.false in
-    let name = sym c.next_is.ensures.is ∙ c.if-next_is.true in
+    let next = first_of (left c.expect.new.tokens) in
+    let name = sym c.next_is_fragment_name.ensures.is ∙ c.if-next_is_fragment_name.true in
     marked_result (view_selection g.S.ParseScalarValue.content) c.args.tokens.now read.new.tokens _ c.mark-start.ensures
     (cursor S spread_parts (left c.args.tokens.now)) read.result
-    (on_ok read.result (λ h. goes_further _ _ _ dots.on (goes_further _ _ _ c.take_name-name.ensures.on h)) read.ensures.on)
-    (on_ok read.result (λ h. omega (arith, h, dots.shorter, c.take_name-name.ensures.shorter)) read.ensures.not_longer)
+    (on_ok read.result (λ h. goes_further _ _ _ dots.on h) read.ensures.on)
+    (on_ok read.result (λ h. omega (arith, h, dots.shorter)) read.ensures.shorter)
     read.ensures.within
-    (rw (dots.gives, on, other_is_name next on ∙ name, c.take_name-name.ensures.takes)
-    (rw c.take_name-name.ensures.name at read.ensures.gives))
+    (rw (dots.gives, other_is_not_on next name, name) (rw (other_is_a_name next name) at read.ensures.gives))
 
-pub parse_spread-returns-else-next_is-clause-gives : goal.parse_spread-returns-else-next_is-clause-gives
+pub parse_spread-returns-else-next_is_fragment_name-clause-gives : goal.parse_spread-returns-else-next_is_fragment_name-clause-gives
 unfolding spread
-parse_spread-returns-else-next_is-clause-gives g t c =
+parse_spread-returns-else-next_is_fragment_name-clause-gives g t c =
     let S = stated g.S.ParseScalarValue.reading g.S.ScalarValue.of_bool in
-    let dots = c.in_ok-expect_kind.ensures in
-    let read = c.parse_untyped_fragment in
-    let next = first_of (left c.expect_kind.new.tokens) in
-    let on = says_on next _ _ c.next_is_word.ensures.is c.if-next_is_word.false in
+    let dots = c.in_ok-expect.ensures in
+    let read = c.parse_inline_fragment in
+    let next = first_of (left c.expect.new.tokens) in
+    let none = sym c.next_is_fragment_name.ensures.is ∙ c.if-next_is_fragment_name.false in
     marked_result (view_selection g.S.ParseScalarValue.content) c.args.tokens.now read.new.tokens _ c.mark-start.ensures
     (cursor S spread_parts (left c.args.tokens.now)) read.result
     (on_ok read.result (λ h. goes_further _ _ _ dots.on h) read.ensures.on)
     (on_ok read.result (λ h. omega (arith, h, dots.shorter)) read.ensures.shorter) read.ensures.within
-    (rw (dots.gives, on, other_is_name next on ∙ sym c.next_is.ensures.is ∙ c.if-next_is.false) read.ensures.gives)
+    (rw (dots.gives, inline_is S _ none) read.ensures.gives)

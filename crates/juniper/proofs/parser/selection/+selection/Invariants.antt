@@ -16,20 +16,11 @@ decreases-parse_field g l = 6 * length (left l.tokens.now) + 1
 abbrev pub decreases-parse_optional_selection_set : goal.decreases-parse_optional_selection_set
 decreases-parse_optional_selection_set g l = 6 * length (left l.tokens.now) + 2
 
-abbrev pub decreases-parse_some_selection_set : goal.decreases-parse_some_selection_set
-decreases-parse_some_selection_set g l = 6 * length (left l.tokens.now) + 1
-
-abbrev pub decreases-push_spread : goal.decreases-push_spread
-decreases-push_spread g l = 6 * length (left l.tokens.now) + 3
-
 abbrev pub decreases-parse_spread : goal.decreases-parse_spread
 decreases-parse_spread g l = 6 * length (left l.tokens.now) + 2
 
-abbrev pub decreases-parse_typed_fragment : goal.decreases-parse_typed_fragment
-decreases-parse_typed_fragment g l = 6 * length (left l.tokens.now) + 2
-
-abbrev pub decreases-parse_untyped_fragment : goal.decreases-parse_untyped_fragment
-decreases-parse_untyped_fragment g l = 6 * length (left l.tokens.now) + 2
+abbrev pub decreases-parse_inline_fragment : goal.decreases-parse_inline_fragment
+decreases-parse_inline_fragment g l = 6 * length (left l.tokens.now) + 2
 
 abbrev pub decreases-parse_selection : goal.decreases-parse_selection
 decreases-parse_selection g l = 6 * length (left l.tokens.now) + 4
@@ -51,3 +42,9 @@ decreases-parse_selection_list-loop-items g l = length (left l.tokens)
 
 abbrev pub decreases-parse_inline_parts : goal.decreases-parse_inline_parts
 decreases-parse_inline_parts g l = 6 * length (left l.tokens.now) + 1
+
+abbrev pub decreases-parse_some_selection_set : goal.decreases-parse_some_selection_set
+decreases-parse_some_selection_set g l = 6 * length (left l.tokens.now) + 1
+
+abbrev pub decreases-parse_some_spread : goal.decreases-parse_some_spread
+decreases-parse_some_spread g l = 6 * length (left l.tokens.now) + 3

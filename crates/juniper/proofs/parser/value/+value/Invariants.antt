@@ -10,7 +10,7 @@ use Rattle.juniper.proofs.Loops.{with_front}
 use Rattle.juniper.proofs.parser.value.+value.Given as goal
 
 abbrev pub decreases-parse_list : goal.decreases-parse_list
-decreases-parse_list g l = 4 * length (left l.tokens.now) + 3
+decreases-parse_list g l = 4 * length (left l.tokens.now) + 2
 
 abbrev pub decreases-parse_object : goal.decreases-parse_object
 decreases-parse_object g l = 4 * length (left l.tokens.now) + 2
@@ -19,16 +19,16 @@ abbrev pub decreases-parse_object_field : goal.decreases-parse_object_field
 decreases-parse_object_field g l = 4 * length (left l.tokens.now)
 
 abbrev pub decreases-parse_value : goal.decreases-parse_value
-decreases-parse_value g l = 4 * length (left l.tokens.now) + 1
+decreases-parse_value g l = 4 * length (left l.tokens.now) + 3
 
 abbrev pub decreases-parse_items : goal.decreases-parse_items
-decreases-parse_items g l = 4 * length (left l.tokens.now) + 2
+decreases-parse_items g l = 4 * length (left l.tokens.now) + 4
 
 abbrev pub decreases-parse_fields : goal.decreases-parse_fields
 decreases-parse_fields g l = 4 * length (left l.tokens.now) + 1
 
-abbrev pub invariant-parse_items-loop-closing : goal.invariant-parse_items-loop-closing
-invariant-parse_items-loop-closing g l =
+abbrev pub invariant-parse_items-loop-items : goal.invariant-parse_items-loop-items
+invariant-parse_items-loop-items g l =
     let S = stated g.S.ParseScalarValue.reading g.S.ScalarValue.of_bool in
     let read = closed_read S (of BracketClose) (symbol (a_value (not l.is_const))) in record {
       so_far : with_front (map (view_value g.S.ParseScalarValue.content) l.items.items)
@@ -37,18 +37,18 @@ invariant-parse_items-loop-closing g l =
       on : GoesOn l.fn.tokens l.tokens;
     }
 
-abbrev pub decreases-parse_items-loop-closing : goal.decreases-parse_items-loop-closing
-decreases-parse_items-loop-closing g l = length (left l.tokens)
+abbrev pub decreases-parse_items-loop-items : goal.decreases-parse_items-loop-items
+decreases-parse_items-loop-items g l = length (left l.tokens)
 
-abbrev pub invariant-parse_fields-loop-closing : goal.invariant-parse_fields-loop-closing
-invariant-parse_fields-loop-closing g l =
+abbrev pub invariant-parse_fields-loop-items : goal.invariant-parse_fields-loop-items
+invariant-parse_fields-loop-items g l =
     let S = stated g.S.ParseScalarValue.reading g.S.ScalarValue.of_bool in
     let read = closed_read S (of CurlyClose) (key_and_value (not l.is_const)) in record {
-      so_far : with_front (map (view_object_field g.S.ParseScalarValue.content) l.fields.items)
+      so_far : with_front (map (view_object_field g.S.ParseScalarValue.content) l.items.items)
           (read (left l.tokens)) ≡ read (left l.fn.tokens);
       not_longer : length (left l.tokens) ≤ length (left l.fn.tokens);
       on : GoesOn l.fn.tokens l.tokens;
     }
 
-abbrev pub decreases-parse_fields-loop-closing : goal.decreases-parse_fields-loop-closing
-decreases-parse_fields-loop-closing g l = length (left l.tokens)
+abbrev pub decreases-parse_fields-loop-items : goal.decreases-parse_fields-loop-items
+decreases-parse_fields-loop-items g l = length (left l.tokens)

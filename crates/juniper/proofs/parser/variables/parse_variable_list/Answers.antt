@@ -6,24 +6,24 @@ use Rattle.juniper.proofs.Loops.{some_go_on, some_end, some_item_fails}
 use Rattle.juniper.proofs.Readings.{variables_repeat}
 use Rattle.juniper.proofs.parser.variables.parse_variable_list.Goals as goal
 
-pub returns-in_err-variable-clause-gives : goal.returns-in_err-variable-clause-gives
-returns-in_err-variable-clause-gives g c =
+pub returns-in_err-item-clause-gives : goal.returns-in_err-item-clause-gives
+returns-in_err-item-clause-gives g c =
     let p = err_from_is_err_and c.from_residual.result c.from_residual.ensures.1 in
     rw (p.1, p.2) (some_item_fails (variables_repeat _) _ _ c.loop-items.invariant.so_far
-    c.in_err-variable.field-0.0 _ c.in_err-variable.ensures.gives)
+    c.in_err-item.field-0.0 _ c.in_err-item.ensures.gives)
 
 pub returns-then-take_if-clause-gives : goal.returns-then-take_if-clause-gives
 returns-then-take_if-clause-gives g c =
-    some_end (variables_repeat _) _ _ c.loop-items.invariant.so_far c.in_ok-variable.ensures.gives
+    some_end (variables_repeat _) _ _ c.loop-items.invariant.so_far c.in_ok-item.ensures.gives
     c.take_if.ensures.ended (rw c.if-take_if.true at c.take_if.ensures.takes)
     ∙ rw (c.in_ok-push_item.ensures.items, map-append) refl
 
 pub loop-items-preserved : goal.loop-items-preserved
 loop-items-preserved g c = record {
   so_far = rw (c.in_ok-push_item.ensures.items, map-append)
-      (some_go_on (variables_repeat _) _ _ c.loop-items.invariant.so_far c.in_ok-variable.ensures.gives
+      (some_go_on (variables_repeat _) _ _ c.loop-items.invariant.so_far c.in_ok-item.ensures.gives
       c.take_if.ensures.ended (rw c.if-take_if.false at c.take_if.ensures.takes));
   not_longer = search rules;
   on = goes_further _ _ _ c.loop-items.invariant.on
-      (goes_further _ _ _ c.in_ok-variable.ensures.on c.take_if.ensures.on);
+      (goes_further _ _ _ c.in_ok-item.ensures.on c.take_if.ensures.on);
 }
