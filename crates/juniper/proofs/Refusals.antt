@@ -1,15 +1,13 @@
 -- A refusal by cases is one by clauses, and the other way round.
-use Rattle.std.proofs.Common.{◌≡◌, ℕ, ◌⊎◌, inl, inr, List, [], ◌∷◌, ◌++◌, refl, sym, ap, ap₂, ◌∙◌, subst, Result, Ok, Err}
-use Rattle.graphql_lexical.specs.Place.{Place}
-use Rattle.graphql_lexical.specs.Kinds.{LexicalError}
-use Rattle.graphql_lexical.specs.Cutting.{Lexeme, Cut, Breaks}
+use Rattle.std.proofs.Common.{ℕ, inl, inr, List, [], ◌∷◌, ◌++◌, refl, sym, ap, subst, Result, Ok, Err}
+use Rattle.graphql_lexical.specs.Cutting.{Lexeme, Cut}
 use Rattle.graphql_lexical.proofs.Public.{one_cut_or_break}
 use Rattle.graphql_grammar.specs.Tree.{Scalars}
 use Rattle.graphql_grammar.specs.Texts.{BeginsText}
 use Rattle.juniper_tokens.specs.declared.error.ParseFailure.{ParseFailure}
 use Rattle.juniper_tokens.specs.declared.error.ParseFailure.TheVariants as failure
-use Rattle.juniper_tokens.specs.Errors.{Error, UnexpectedEndOfFile, Fault, view_fault}
-use Rattle.juniper.specs.Promise.{unexpected, IfRefused, IsRefusal, lexical, grammatical}
+use Rattle.juniper_tokens.specs.Errors.{Error, Fault, view_fault}
+use Rattle.juniper.specs.Promise.{IfRefused, IsRefusal, lexical, grammatical}
 use Rattle.juniper.specs.laws.RefusalClauses.{IsRefusedAt, IsRefusalByClauses, IsRefusalInText}
 use Rattle.juniper.proofs.Promises.{refusal_at, refusal_in_text}
 use Rattle.juniper.proofs.Promises as promise

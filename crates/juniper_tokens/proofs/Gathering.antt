@@ -1,5 +1,5 @@
 -- The tokens of a lexer, gathered one after another.
-use Rattle.std.proofs.Common.{◌≡◌, ℕ, true, false, List, [], ◌∷◌, ◌++◌, ◌⊎◌, inl, inr, refl, sym, ◌∙◌, subst, rules}
+use Rattle.std.proofs.Common.{◌≡◌, ◌≤◌, ℕ, true, false, List, [], ◌∷◌, ◌++◌, ◌⊎◌, inl, inr, refl, sym, ◌∙◌, subst, rules, arith}
 use Rattle.std.specs.Prelude.{Some, Result, Ok, Err, ◌↔◌}
 use Rattle.std.specs.Result.{IsErrAnd}
 use Rattle.std.specs.List.{All}
@@ -18,7 +18,8 @@ use Rattle.juniper_tokens.specs.Errors.{view_lexer_error}
 use Rattle.juniper_tokens.specs.Cursor.{EndsOnce}
 use Rattle.juniper_tokens.specs.Lexing.{LexerState, passed, ahead, PassesToken, MeetsError, GivesFault}
 use Rattle.juniper_tokens.specs.Gathering.{IfFault, HasLeft, BreaksOff, StandsLaterOrEnded}
-use Rattle.juniper_tokens.specs.device.Ranges.{range_lexeme, range_lexemes, range_steps, GivesRangeItem, IsRange}
+use Rattle.juniper_tokens.specs.device.Ranges.{range_lexeme, range_lexemes, range_steps, GivesRangeItem, IsRange, InOrder}
+use Rattle.juniper_tokens.proofs.InOrder.{end_of, order_more, end_more}
 
 -- ---- a cut ends once
 
@@ -75,10 +76,17 @@ gathered_token s xs t u x l q stands ends =
 pub record GatheredRanges (s : LexerState) (ranges : List TokenRange) (t : LexerState) : Type 0 where
   pub gathered : Gathered s (range_lexemes s.source ranges) t
   pub are_ranges : All (IsRange s.source) ranges
+  pub in_order : InOrder 0 ranges
+  pub reached : end_of 0 ranges ≤ t.index
 
 -- at the beginning
 pub none_gathered : (s : LexerState) → s.ended ≡ false → GatheredRanges s [] s
-none_gathered s going = record { gathered = record { source = refl; tokens = inl (going, cutting.none) }; are_ranges = search rules }
+none_gathered s going = record {
+  gathered = record { source = refl; tokens = inl (going, cutting.none) };
+  are_ranges = search rules;
+  in_order = tt;
+  reached = omega arith;
+}
 
 pub stays : (s : LexerState) → StandsLaterOrEnded s s
 stays s = inl ([], cutting.none)
@@ -98,6 +106,8 @@ ranges_more s ranges t u r g h =
           h.2.ends);
       are_ranges = All-push (IsRange s.source) ranges r g.are_ranges
           (subst (λ (source : List ℕ). IsRange source r) p h.2.is_range);
+      in_order = order_more 0 ranges r g.in_order (omega (arith, g.reached, h.2.from));
+      reached = omega (arith, end_more 0 ranges r, h.2.to);
     }
 
 pub gathered_cut : (s : LexerState) (xs : List Lexeme) (t : LexerState) → Gathered s xs t → t.ended ≡ true

@@ -1,5 +1,5 @@
 -- Tables of the beginnings of lines.
-use Rattle.std.proofs.Common.{◌≡◌, ℕ, zero, suc, ◌+◌, ◌-◌, ◌<◌, ◌≤◌, Bool, true, false, cond, ◌==◌, List, [], ◌∷◌, ◌++◌, length, take, refl, sym, ap, ap₂, ◌∙◌, subst, arith, Some, None, append-nil, append_assoc, add-one}
+use Rattle.std.proofs.Common.{◌≡◌, ℕ, zero, suc, ◌+◌, ◌-◌, ◌<◌, ◌≤◌, Bool, true, false, cond, ◌==◌, List, [], ◌∷◌, ◌++◌, length, take, refl, sym, ap, ap₂, ◌∙◌, subst, arith, Some, None, append-nil, append_assoc, add-one, get_or}
 use Rattle.std.specs.Prelude.{slice_get}
 use Rattle.std.specs.List.{fold}
 use Rattle.std.proofs.lemmas.Bool.{le-leb}
@@ -8,7 +8,8 @@ use Rattle.graphql_lexical.specs.Place.{Place, place, past_character, next_line,
 use Rattle.juniper_tokens.specs.declared.lexer.run.Run.TheVariants as run
 use Rattle.juniper_tokens.specs.device.ByteRuns.{is_inner}
 use Rattle.juniper_tokens.specs.device.Walks.{run_test, each_machine}
-use Rattle.juniper_tokens.specs.device.LineSteps.{made_table, longer, one_line, past}
+use Rattle.juniper_tokens.specs.declared.line.Line.{Line}
+use Rattle.juniper_tokens.specs.device.LineSteps.{made_table, longer, one_line, past, IsLine, IsBefore}
 use Rattle.juniper_tokens.specs.LineTables.{Lines, starts_after, lines_of, IsTable, place_within, AscendFrom, StartLines, IsOnLine}
 use Rattle.juniper_tokens.proofs.LineWalks.{no_feed_in_line, no_feed_past_ascii}
 use Rattle.juniper_tokens.proofs.Places.{place_fold}
@@ -121,12 +122,38 @@ place_some source k p w e = ap Some e ∙ ap (λ b. cond b (Some (place source k
 -- ---- the search
 
 -- the line is neither before low nor at or behind high
-pub record Narrowed (starts : List ℕ) (k low start high : ℕ) : Type 0 where
+pub record Narrowed (starts : List ℕ) (k low high : ℕ) : Type 0 where
   pub order : low < high
   pub within : high ≤ length starts
-  pub begins : slice_get starts low ≡ Some start
-  pub before : start ≤ k
-  pub after : (next : ℕ) → slice_get starts high ≡ Some next → k < next
+  pub before : get_or starts low 0 ≤ k
+  pub after : IsBefore starts k high
+
+pub line_found : (starts : List ℕ) (k low high : ℕ) (line : Line) → Narrowed starts k low high → high ≤ low + 1
+    → IsLine starts line → line.number ≡ low → IsOnLine starts k line.number line.start
+line_found starts k low high line h one is number =
+    let last : line.number + 1 ≡ high = omega (arith, one, h.order, number) in
+    let there : slice_get starts low ≡ Some line.start = ap (slice_get starts) (sym number) ∙ is.begins in
+    record {
+      begins = is.begins;
+      before = omega (arith, h.before, get_or_from_slice_get starts low line.start 0 there);
+      after = λ next e. h.after next (ap (slice_get starts) (sym last) ∙ e);
+    }
+
+-- ---- on a line that is known
+
+pub on_this_line : (starts : List ℕ) (k : ℕ) (line : Line) → IsLine starts line → line.start ≤ k → k < line.end
+    → IsOnLine starts k line.number line.start
+on_this_line starts k line is from l = record {
+  begins = is.begins;
+  before = from;
+  after = λ next e. omega (arith, l, is.ends next e);
+}
+
+-- the next line begins where this one ends
+pub next_begins : (starts : List ℕ) (line next : Line) → IsLine starts line → IsLine starts next
+    → next.number ≡ line.number + 1 → next.start ≡ line.end
+next_begins starts line next is more number =
+    sym (is.ends next.start (ap (slice_get starts) (sym number) ∙ more.begins))
 
 -- ---- the lines after each character
 

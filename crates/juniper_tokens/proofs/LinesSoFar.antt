@@ -1,14 +1,15 @@
 -- The beginnings of lines, as far as a source has been read.
 use Rattle.std.proofs.Common.{◌≡◌, ℕ, suc, ◌+◌, ◌-◌, ◌<◌, ◌≤◌, Bool, true, false, cond, ◌==◌, List, [], ◌∷◌, ◌++◌, length, take, drop, count_by, le_refl, refl, sym, ap, ap₂, subst, ◌∙◌, arith, Some, append-nil, append_assoc, length-append, length-drop, take-add, take-append-drop}
-use Rattle.std.specs.Prelude.{◌^◌, ◌%◌, slice_get}
+use Rattle.std.specs.Prelude.{slice_get}
 use Rattle.std.specs.List.{fold, AllByRecursion}
 use Rattle.std.proofs.lemmas.List.{length-take-le, nil_from_length, take_all}
 use Rattle.std.proofs.lemmas.List.Sums.{sum_by-cons}
-use Rattle.std.proofs.lemmas.Option.{none-some, slice_get_past, slice_get_within}
+use Rattle.std.proofs.lemmas.Option.{none-some, slice_get_past, get_or_from_slice_get}
 use Rattle.graphql_lexical.specs.Place.{Place, place}
 use Rattle.graphql_lexical.proofs.Public.{place_after, place_index}
 use Rattle.juniper_tokens.specs.LineTables.{Lines, starts_after, lines_of, IsOnLine}
-use Rattle.juniper_tokens.specs.device.LineSteps.{made_table, past, AreStarts, IsLineOf, line_number}
+use Rattle.juniper_tokens.specs.declared.line.Line.{Line}
+use Rattle.juniper_tokens.specs.device.LineSteps.{made_table, past, AreStarts, IsLine}
 use Rattle.juniper_tokens.proofs.Lines.{line_place, lines_on, first_after}
 
 none_plus : (k : ℕ) → 0 + k ≡ k
@@ -190,14 +191,20 @@ its_line source starts k table within =
     above : (next : ℕ) → slice_get (starts_after k (drop k source)) 0 ≡ Some next → k < next
     above next e = omega (arith, first_after k (drop k source) next e)
 
--- the number that a range keeps of it
-pub line_of_place : (source starts : List ℕ) (k number : ℕ) → starts ≡ 0 ∷ starts_after 0 source → k ≤ length source
-    → number ≡ line_number (place source k).line → IsLineOf starts number k
-line_of_place source starts k number table within e few =
-    let line = its_line source starts k table within in
-    let few_before = slice_get_within starts (place source k).line line.0 line.1.begins in
-    let exact : number ≡ (place source k).line = e ∙ whole_number (place source k).line (omega (arith, few_before, few)) in
-    (line.0, subst (λ n. IsOnLine starts k n line.0) (sym exact) line.1)
-  where
-    whole_number : (n : ℕ) → n < 2 ^ 32 → n % 4294967296 ≡ n
-    whole_number n l = omega (arith, l)
+-- a line of the place's number is that line
+pub line_of_place : (source starts : List ℕ) (k : ℕ) (line : Line) → starts ≡ 0 ∷ starts_after 0 source → k ≤ length source
+    → IsLine starts line → line.number ≡ (place source k).line → IsOnLine starts k line.number line.start
+line_of_place source starts k line table within is number =
+    let found = its_line source starts k table within in
+    let l = (place source k).line in
+    let there : slice_get starts l ≡ Some line.start = ap (slice_get starts) (sym number) ∙ is.begins in
+    record {
+      begins = is.begins;
+      before = omega (
+        arith,
+        found.1.before,
+        get_or_from_slice_get starts l line.start 0 there,
+        get_or_from_slice_get starts l found.0 0 found.1.begins,
+      );
+      after = λ next e. found.1.after next (ap (λ n. slice_get starts (n + 1)) (sym number) ∙ e);
+    }

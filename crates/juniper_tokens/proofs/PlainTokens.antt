@@ -1,6 +1,6 @@
 -- Tokens that a run finds: Names, Ints, Strings without escapes; and punctuators of one character.
-use Rattle.std.proofs.Common.{◌≡◌, ℕ, suc, ◌+◌, ◌-◌, ◌<◌, Bool, true, false, cond, ◌==◌, List, [], ◌∷◌, ◌++◌, length, take, drop, get_or, get_or-drop, Option, Some, None, refl, sym, ap, ap₂, subst, ◌∙◌, arith, length-drop}
-use Rattle.std.specs.Prelude.{option_map, is_some}
+use Rattle.std.proofs.Common.{◌≡◌, ℕ, suc, ◌+◌, ◌-◌, ◌<◌, ◌≤◌, Bool, true, false, cond, ◌==◌, List, [], ◌∷◌, ◌++◌, length, take, drop, get_or, get_or-drop, Option, Some, None, refl, sym, ap, ap₂, subst, ◌∙◌, arith, length-drop}
+use Rattle.std.specs.Prelude.{option_map, is_some, not, ◌&&◌}
 use Rattle.std.specs.Str.{chars, IsUtf8}
 use Rattle.std.proofs.lemmas.Bool.{eqb-true, ltb-true}
 use Rattle.std.proofs.lemmas.List.{take_all}
@@ -25,15 +25,18 @@ use Rattle.juniper_tokens.specs.declared.lexer.run.Run.TheVariants as run
 use Rattle.juniper_tokens.specs.declared.lexer.text.Offset.{Offset}
 use Rattle.juniper_tokens.specs.ByteClasses.{class_of, name_class, digit_class, first_state}
 use Rattle.juniper_tokens.specs.device.Offsets.{IsOffset}
-use Rattle.juniper_tokens.specs.device.ByteRuns.{byte_at}
+use Rattle.juniper_tokens.specs.device.ByteRuns.{byte_at, is_inner}
 use Rattle.juniper_tokens.specs.device.Scans.{Finds}
-use Rattle.juniper_tokens.specs.device.Walks.{run_test, run_step, run_size, RunsTo, is_in_float, first_class}
+use Rattle.juniper_tokens.specs.device.Walks.{run_test, run_step, run_size, run_machine, RunsTo, token_machine, WalkedToken, is_in_float, first_class}
 use Rattle.juniper_tokens.proofs.Offsets.{ascii_first, byte_at_on}
 use Rattle.juniper_tokens.proofs.ByteClasses.{name_class_tests, digit_class_tests, first_state_tests, low_class, low_class_tests, quote_class_tests}
-use Rattle.juniper_tokens.proofs.Runs.{run_of, run_more, run_none, rest_bytes, FirstByte, first_byte, first_low}
+use Rattle.juniper_tokens.proofs.ByteRuns.{step_once, walked_on}
+use Rattle.juniper_tokens.proofs.RunWalks.{walked_none, walked_further}
+use Rattle.juniper_tokens.proofs.TokenWalks.{string_over, token_step}
+use Rattle.juniper_tokens.proofs.Runs.{run_of, run_more, run_none, run_stops, rest_bytes, FirstByte, first_byte, first_low, begins_outer}
 
 -- a token in state q, whose steps end after n characters
-ended_token : (cs : List ℕ) (kind : Kind) (q : State) (b n : ℕ) → reach step Start cs ≡ (n, q)
+pub ended_token : (cs : List ℕ) (kind : Kind) (q : State) (b n : ℕ) → reach step Start cs ≡ (n, q)
     → answer q n cs ≡ scans.found n kind cs
     → b ≡ byte_at n cs → Finds cs (record { kind = kind; end = record { bytes = b; characters = n } })
 ended_token cs kind q b n r a e = (ap (λ (x : ℕ × State). answer x.1 x.0 cs) r ∙ a, e)
@@ -124,6 +127,24 @@ string_read (c ∷ cs) t l d = by_plain (is_plain c) refl
     by_plain true e = step_more Start Quote (Done kinds.String) 34 _ (c ∷ cs) refl
         (same_behind c cs e ∙ in_run run.Plain InString plain_stays (c ∷ cs) 1 (Done kinds.String) (string_ends _ t d))
     by_plain false e = absurd (omega (arith, l, run_none run.Plain c cs e))
+
+-- Over the bytes of a run after a String's first quote the steps are those within a String.
+begun : (ds tail : List ℕ) (r : Offset) → tail ≡ encodes ds → RunsTo run.Plain tail r → 0 < r.characters → (n : ℕ)
+    → reach token_machine (Quote, n) tail ≡ reach token_machine (InString, n) tail
+begun ds [] r e h l n = absurd (omega (arith, l, ap (λ (x : ℕ × (Unit {0} × ℕ)). x.1.1) h))
+begun ds (b ∷ bs) r e h l n = by_test (is_plain b) refl
+  where
+    outer : is_inner b ≡ false
+    outer = begins_outer ds b (first_byte ds (b ∷ bs) e (omega arith))
+
+    by_test : (goes : Bool) → is_plain b ≡ goes
+        → reach token_machine (Quote, n) (b ∷ bs) ≡ reach token_machine (InString, n) (b ∷ bs)
+    by_test true p = rw (outer, p) refl
+    by_test false p =
+        let stops : (not (is_inner b) && run_test run.Plain b) ≡ false = rw (outer, p) refl in
+        let none : (0, (tt {0}, 0)) ≡ (r.bytes, (tt {0}, r.characters)) =
+        sym (step_once (run_machine run.Plain) (tt, 0) bs b None (run_stops run.Plain 0 b stops outer)) ∙ h in
+        absurd (omega (arith, l, ap (λ (x : ℕ × (Unit {0} × ℕ)). x.1.1) none))
 
 -- ---- by the class of the first byte
 
@@ -249,3 +270,18 @@ module _ (text bytes : List ℕ) (u : IsUtf8 text) (same : bytes ≡ text) (some
     where
       plus_none : (n : ℕ) → n + 0 ≡ n
       plus_none n = omega arith
+
+  -- Up to the end of the run a String has begun.
+  pub string_begun : (r : Offset) (tail : List ℕ) → classes.Quote ≡ class_of b
+      → tail ≡ take (length bytes - 1) (drop 1 bytes) → RunsTo run.Plain tail r
+      → r.bytes ≤ length tail → 0 < r.characters → WalkedToken text (1 + r.bytes) InString (1 + r.characters)
+  string_begun r tail c t h within l =
+      let quote : b ≡ 34 = eqb-true b 34 (sym (quote_class_tests b small)
+      ∙ ap (λ k. sameb the_type k classes.Quote) (sym c)) in
+      let outer : is_inner b ≡ false = ap is_inner quote in
+      let opens : step Start b ≡ Some Quote = ap (step Start) quote in
+      let one : WalkedToken text 1 Quote 1 = walked_on token_machine (Start, 0) (Start, 0) (Quote, 1) text 0 some
+      (token_step Start Quote 0 b outer opens) (walked_none token_machine (Start, 0) text) in
+      let steps = begun (drop 1 cs) tail r (behind classes.Quote c refl tail t) h l 1 in
+      walked_further token_machine (Start, 0) (Quote, 1) (InString, 1 + r.characters) text tail 1 r.bytes
+      (t ∙ ap (λ bs. take (length bs - 1) (drop 1 bs)) same) within (steps ∙ string_over tail r h 1) one

@@ -26,14 +26,11 @@ use Rattle.juniper_tokens.specs.Tokens.{kind_text, view_token}
 use Rattle.juniper_tokens.specs.device.ByteRuns.{byte_at}
 use Rattle.juniper_tokens.specs.device.Offsets.{EndsQuoted, quotes}
 use Rattle.juniper_tokens.specs.Positions.{columns_on}
-use Rattle.juniper_tokens.specs.LineTables.{starts_after}
-use Rattle.juniper_tokens.specs.device.LineSteps.{line_number, IsLineOf}
 use Rattle.juniper_tokens.specs.device.Scans.{Finds}
 use Rattle.juniper_tokens.specs.Lexing.{PassesToken, LexerState, GivesItem, GivesToken}
 use Rattle.juniper_tokens.specs.device.LexingByScan.{past_gap, IsPlaced}
 use Rattle.juniper_tokens.specs.device.Ranges.{range_of, range_slice, range_lexeme, IsRange, TakesRange, TakesItem, MayTake, GivesRange, GivesRangeItem, range_steps}
 use Rattle.juniper_tokens.proofs.Offsets.{byte_at_within, byte_at_on, bytes_between, room_from}
-use Rattle.juniper_tokens.proofs.LinesSoFar.{line_of_place}
 use Rattle.juniper_tokens.proofs.LexingByScan.{same_end, fault_by_scan, memory_by_scan}
 use Rattle.juniper_tokens.proofs.Places.{place_on, line_end}
 
@@ -83,13 +80,6 @@ pub ends_on_line : (source : List ℕ) (r : TokenRange) (p : Place) → IsRange 
     → columns_on (r.end.characters - r.start.characters) p ≡ place source r.end.characters
 ends_on_line source r p h at e =
     ap (columns_on (r.end.characters - r.start.characters)) at ∙ h.lined (λ b. absurd (cc (e, ap (λ (k : Kind). same_kind k kinds.BlockString) b)))
-
--- a token that is no block string ends on the line on which it begins
-pub last_line_of : (source starts : List ℕ) (r : TokenRange) → IsRange source r → starts ≡ 0 ∷ starts_after 0 source
-    → same_kind r.kind kinds.BlockString ≡ false → IsLineOf starts r.line r.end.characters
-last_line_of source starts r h table e =
-    line_of_place source starts r.end.characters r.line table h.within
-    (h.line_is ∙ ap (λ (x : Place). line_number x.line) (ends_on_line source r _ h refl e))
 
 -- where a lexer stands behind it
 pub placed_behind : (source : List ℕ) (at : ℕ) (p q : Place) (r : TokenRange) → IsPlaced source at p
@@ -143,7 +133,6 @@ found_range source at p f h s =
       offset = s.1;
     })) in
     record {
-      line_is = ap (λ (x : Place). line_number x.line) h.place_is;
       start = h.byte_is;
       end = ap₂ (λ a b. a + b) h.byte_is s.1 ∙ byte_at_on j n text;
       forward = omega arith;
@@ -236,6 +225,8 @@ range_given s r t h =
         end = ap (place s.source) (sym h.to);
         next_is = omega (arith, h.to, forward);
       });
+      from = omega (arith, h.from);
+      to = h.to;
       is_range = h.is_range;
       ends = (λ x. (same_end kind).0 (sym h.ends ∙ x), λ x. h.ends ∙ (same_end kind).1 x);
     }

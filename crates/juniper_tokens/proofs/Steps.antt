@@ -4,14 +4,20 @@ use Rattle.graphql_lexical.specs.declared.kind.Kind.{Kind}
 use Rattle.graphql_lexical.specs.declared.kind.Kind.TheVariants.{EndOfFile}
 use Rattle.graphql_lexical.specs.Kinds.{same_kind}
 use Rattle.graphql_lexical.specs.Cutting.{Lexeme}
+use Rattle.graphql_lexical.specs.Place.{Place, place}
 use Rattle.juniper_tokens.specs.declared.token_range.TokenRange.{TokenRange}
 use Rattle.juniper_tokens.specs.Cursor.{first_of, kind_at, next_at, EndsOnce}
-use Rattle.std.proofs.lemmas.List.{drop-drop, drop-map, length-map}
+use Rattle.std.proofs.lemmas.List.{drop-drop, drop-map, length-map, get_or_default}
 use Rattle.std.proofs.lemmas.List.Elements.{All-get_or}
 use Rattle.juniper_tokens.specs.declared.span.Spanning.{Spanning}
 use Rattle.juniper_tokens.specs.declared.token.Token.{Token}
 use Rattle.juniper_tokens.specs.Tokens.{view_token}
-use Rattle.juniper_tokens.specs.device.Ranges.{range_lexeme, range_lexemes, IsRange, AreLeft, IsCursor}
+use Rattle.juniper_tokens.specs.LineTables.{IsOnLine}
+use Rattle.juniper_tokens.specs.declared.line.Line.{Line}
+use Rattle.juniper_tokens.specs.device.LineSteps.{IsLine}
+use Rattle.juniper_tokens.specs.device.Ranges.{range_lexeme, range_lexemes, end_at, IsRange, AreLeft, IsCursor}
+use Rattle.juniper_tokens.proofs.LinesSoFar.{its_line, line_of_place}
+use Rattle.std.proofs.lemmas.Option.{slice_get_within}
 
 -- past a token that is not the end, the list still ends once
 pub still_ended : (ts : List Lexeme) → EndsOnce ts → same_kind (kind_at ts) EndOfFile ≡ false → EndsOnce (drop 1 ts)
@@ -52,6 +58,7 @@ pub one_fewer : (source : List ℕ) (ranges : List TokenRange) (starts : List �
     → AreLeft source ranges starts (taken + 1)
 one_fewer source ranges starts taken here left seen more = record {
   are_ranges = here.are_ranges;
+  in_order = here.in_order;
   ended =
       subst EndsOnce (sym (drop_one_more source ranges taken))
       (still_ended _ here.ended (ap (λ ts. same_kind (kind_at ts) EndOfFile) seen ∙ more));
@@ -88,6 +95,32 @@ module _ (source : List ℕ) (ranges : List TokenRange) (starts : List ℕ) (tak
       → IsCursor source ranges starts taken token
   next_held token e = record { left = here; first = e ∙ sym next_is }
 
+-- The token that is held stands on a line of the table.
+module _ (source : List ℕ) (ranges : List TokenRange) (starts : List ℕ) (taken : ℕ) (current : Spanning Token)
+    (here : IsCursor source ranges starts taken current) where
+  held_at : (d : TokenRange) → (view_token current).span.start ≡ place source (get_or ranges taken d).start.characters
+  held_at d = ap (λ (t : Lexeme). t.span.start) (here.first ∙ next_is source ranges starts taken here.left (get_or ranges taken d) next)
+    where
+      next : get_or ranges taken d ≡ get_or ranges taken (get_or ranges taken d)
+      next = get_or_default ranges taken d (get_or ranges taken d) (left_within source ranges taken here.left.ended)
+
+  starts_within : (d : TokenRange) → (get_or ranges taken d).start.characters ≤ length source
+  starts_within d =
+      let range = All-get_or (IsRange source) ranges taken d (left_within source ranges taken here.left.ended)
+      here.left.are_ranges in
+      omega (arith, range.forward, range.within)
+
+  pub line_within : (l : ℕ) → l ≡ (view_token current).span.start.line → l < length starts
+  line_within l e =
+      let d = end_at (record { bytes = 0; characters = 0 }) in
+      let line = its_line source starts (get_or ranges taken d).start.characters here.left.lines_are (starts_within d) in
+      omega (arith, e, ap (λ (p : Place). p.line) (held_at d), slice_get_within starts _ line.0 line.1.begins)
+
+  pub on_its_line : (line : Line) → IsLine starts line → line.number ≡ (view_token current).span.start.line
+      → (d : TokenRange) → IsOnLine starts (get_or ranges taken d).start.characters line.number line.start
+  on_its_line line is e d = line_of_place source starts (get_or ranges taken d).start.characters line here.left.lines_are
+      (starts_within d) is (e ∙ ap (λ (p : Place). p.line) (held_at d))
+
 -- Tokens are taken until so many are left.
 module _ (source : List ℕ) (ranges : List TokenRange) (starts : List ℕ) (taken : ℕ) (here : AreLeft source ranges starts taken)
     (old : List Lexeme) (seen : range_lexemes source (drop taken ranges) ≡ old) (left : ℕ) (some : 0 < left)
@@ -106,6 +139,7 @@ module _ (source : List ℕ) (ranges : List TokenRange) (starts : List ℕ) (tak
   pub so_many_left : AreLeft source ranges starts (all - left)
   so_many_left = record {
     are_ranges = here.are_ranges;
+    in_order = here.in_order;
     ended =
         subst EndsOnce (sym left_many)
         (ended_after (length old - left) old (subst EndsOnce seen here.ended) (omega (arith, some, fewer)));

@@ -78,7 +78,7 @@ next_if passes ts = if passes then next_at ts else refused_at ts
 unfoldable pub expect_at : Token → List Lexeme → Read Lexeme
 expect_at wanted ts = next_if (is_wanted (token_kind wanted) (token_text wanted) (first_of ts)) ts
 
-unfoldable pub expect_name_at : List Lexeme → Read Lexeme
+abbrev pub expect_name_at : List Lexeme → Read Lexeme
 expect_name_at ts = next_if (same_kind (kind_at ts) Name) ts
 
 -- The wanted lexeme is taken, if it stands next.

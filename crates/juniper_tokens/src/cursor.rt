@@ -1,17 +1,22 @@
 //! The cursor that the parse functions call: it makes a token's text and places only where they are asked for.
-ghost use Rattle.std.specs.Prelude.{◌≡◌, ◌<◌, drop, false, true, length, IsTrue, Ok, OnOk};
+ghost use Rattle.std.specs.Prelude.{◌≡◌, ◌<◌, drop, get_or, false, true, length, IfOk, IsTrue, Ok, OnOk};
 ghost use Rattle.std.specs.Global.{Global as Allocator};
 ghost use Rattle.std.specs.Str.{chars};
 ghost use Rattle.graphql_lexical.specs.Cutting.{Lexeme};
 ghost use Rattle.graphql_lexical.specs.declared.kind.Kind.TheVariants.{EndOfFile};
 ghost use Rattle.graphql_lexical.specs.Kinds.{same_kind};
-ghost use Rattle.juniper_tokens.specs.Cursor.{Gives, RefusesEnd, OnMemory, Unmoved, EndsOnce, first_of, kind_at, has_text, next_at, refused_at, expect_name_at};
+ghost use Rattle.juniper_tokens.specs.Cursor.{Fails, Gives, RefusesEnd, OnMemory, Unmoved, EndsOnce, first_of, kind_at, has_text, next_at, refused_at, expect_name_at};
 ghost use Rattle.juniper_tokens.specs.Taking.{left, next_taken, last_end, GoesOn};
 ghost use Rattle.juniper_tokens.specs.Spans.{view_span};
+ghost use Rattle.juniper_tokens.specs.declared.error.ParseFailure.TheVariants.{Memory};
 ghost use Rattle.juniper_tokens.specs.device.Ranges.{range_lexemes, AreLeft};
+ghost use Rattle.juniper_tokens.specs.device.LineSteps.{IsLine};
+ghost use Rattle.juniper_tokens.specs.LineTables.{IsOnLine};
+ghost use Rattle.juniper_tokens.specs.declared.token_range.TokenRange.{TokenRange};
 ghost use Rattle.juniper_tokens.specs.Tokens.{view_token, view_name};
 
 use crate::error::{ParseError, ParseFailure, ParseResult};
+use crate::line::{Line, NearLines, place_on};
 use crate::position::SourcePosition;
 use crate::span::{Span, Spanning};
 use crate::token::Token;
@@ -33,18 +38,20 @@ pub struct Cursor<'p, 'a> {
     starts: &'p [usize],
     // The number of tokens that have been taken.
     taken: usize,
+    // The line on which the next token begins, and one before the end of the token that was taken last.
+    lines: NearLines,
 }
 
 impl<'p, 'a> Model for Cursor<'p, 'a> {
     ghost use Rattle.std.specs.Str.{chars};
     ghost use Rattle.juniper_tokens.specs.Taking.{Taking};
-    ghost use Rattle.juniper_tokens.specs.device.Ranges.{range_lexemes, AreLeft};
+    ghost use Rattle.juniper_tokens.specs.device.Ranges.{range_lexemes, StandsOn};
 
     ghost Value = { Taking };
 
     ghost view = { λ c. record { tokens = range_lexemes (chars c.source.now) c.ranges.now; taken = c.taken } };
 
-    ghost invariant = { λ c. AreLeft (chars c.source.now) c.ranges.now c.starts.now c.taken };
+    ghost invariant = { λ c. StandsOn (chars c.source.now) c.ranges.now c.starts.now c.taken c.lines };
 }
 
 impl<'p, 'a> Cursor<'p, 'a> {
@@ -56,8 +63,11 @@ impl<'p, 'a> Cursor<'p, 'a> {
         ranges: &'p [TokenRange],
         starts: &'p [usize],
         taken: usize,
+        line: Line,
     ) -> Self
-        requires { AreLeft (chars source.now) ranges.now starts.now taken }
+        requires left { AreLeft (chars source.now) ranges.now starts.now taken }
+        requires line { IsLine starts.now line }
+        requires on { (r : TokenRange) → IsOnLine starts.now (get_or ranges.now taken r).start.characters line.number line.start }
         ensures { result ≡ record { tokens = range_lexemes (chars source.now) ranges.now; taken = taken } }
     {
         Cursor {
@@ -66,6 +76,10 @@ impl<'p, 'a> Cursor<'p, 'a> {
             ranges,
             starts,
             taken,
+            lines: NearLines {
+                line,
+                earlier: Line::new(starts, 0),
+            },
         }
     }
 
@@ -112,7 +126,11 @@ impl<'p, 'a> Cursor<'p, 'a> {
     pub fn mark(&self) -> SourcePosition
         ensures { result ≡ (first_of (left self.now)).span.start }
     {
-        self.ranges[self.taken].start_in(self.source, self.starts)
+        place_on(
+            self.starts,
+            self.lines.line,
+            self.ranges[self.taken].start.characters,
+        )
     }
 
     /// From a place to the end of the token that was taken last.
@@ -122,9 +140,10 @@ impl<'p, 'a> Cursor<'p, 'a> {
         ensures span { view_span result ≡ record { start = start; end = last_end self.now } }
         ensures within { self.now.taken < length self.now.tokens }
     {
+        let index = self.ranges[self.taken - 1].end.characters;
         Span {
             start,
-            end: self.ranges[self.taken - 1].end_in(self.source, self.starts),
+            end: self.lines.place_back(self.starts, index),
         }
     }
 
@@ -133,14 +152,14 @@ impl<'p, 'a> Cursor<'p, 'a> {
     pub fn span(&self) -> Span
         ensures { view_span result ≡ (first_of (left self.now)).span }
     {
-        self.ranges[self.taken].span(self.source, self.starts)
+        self.ranges[self.taken].span(self.source, self.starts, self.lines.line)
     }
 
     /// The next token, with its place.
     pub fn token(&self) -> Spanning<Token<'a>>
         ensures { view_token result ≡ first_of (left self.now) }
     {
-        self.ranges[self.taken].located(self.source, self.starts)
+        self.ranges[self.taken].located_at(self.source, self.span())
     }
 
     /// Takes the next token, which must not be the end.
@@ -155,6 +174,8 @@ impl<'p, 'a> Cursor<'p, 'a> {
         ensures on { GoesOn self.old self.new }
     {
         self.taken += 1;
+        let index = self.ranges[self.taken].start.characters;
+        self.lines.follow(self.starts, index);
     }
 
     /// The error at the end, where nothing is taken.
@@ -184,32 +205,47 @@ impl<'p, 'a> Cursor<'p, 'a> {
 
     /// Takes the next token, and returns the error that it is unexpected. At the end it returns `UnexpectedEndOfFile`, and
     /// nothing is taken. Where there is no memory for the text of the error, nothing changes.
-    #[tactic(auto, using(crate::proofs::Taking::stays))]
-    #[cold]
+    #[inline(always)]
     pub fn refuse<T: Drop>(&mut self) -> Result<T, ParseFailure>
         ensures gives { Gives (λ x. x) result (left self.new) (refused_at (left self.old)) }
         ensures never { OnOk result ⊥ }
         ensures memory { OnMemory result (Unmoved {A = Lexeme} (left self.old) (left self.new) (refused_at (left self.old))) }
         ensures on { GoesOn self.old self.new }
     {
+        Err(self.refusal())
+    }
+
+    // The error of `refuse`. It is made out of line, and the room for it where that is called.
+    #[tactic(auto, using(crate::proofs::Taking::stays))]
+    #[cold]
+    fn refusal(&mut self) -> ParseFailure
+        ensures gives { Fails {Y = Lexeme} result (left self.new) (refused_at (left self.old)) }
+        ensures memory { result ≡ Memory → Unmoved {A = Lexeme} (left self.old) (left self.new) (refused_at (left self.old)) }
+        ensures on { GoesOn self.old self.new }
+    {
         if self.kind() == Kind::EndOfFile {
-            return self.refuse_end();
+            let end = Spanning::new(self.span(), ParseError::UnexpectedEndOfFile);
+            return ParseFailure::Refused(end);
         }
         let token = self.token();
-        let error = ParseError::unexpected_token(self.alloc, token.item)?;
-        self.advance();
-        Err(ParseFailure::Refused(Spanning::new(token.span, error)))
+        match ParseError::unexpected_token(self.alloc, token.item) {
+            Ok(error) => {
+                self.advance();
+                ParseFailure::Refused(Spanning::new(token.span, error))
+            }
+            Err(_) => ParseFailure::Memory,
+        }
     }
 
     /// Takes the next token if it is a Name, and returns its text and its span, else returns an error. The errors are
     /// those of `refuse`.
-    #[tactic(auto, unfolding(crate::specs::Cursor::expect_name_at))]
     #[inline(always)]
     pub fn expect_name(&mut self) -> ParseResult<&'a str>
         ensures gives { Gives view_name result (left self.new) (expect_name_at (left self.old)) }
         ensures shorter { OnOk result (length (left self.new) < length (left self.old)) }
         ensures memory { OnMemory result (Unmoved (left self.old) (left self.new) (expect_name_at (left self.old))) }
         ensures on { GoesOn self.old self.new }
+        ensures ends { IfOk result (λ name. last_end self.new ≡ (view_span name.span).end) }
     {
         if self.kind() != Kind::Name {
             return self.refuse();

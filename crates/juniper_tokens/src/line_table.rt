@@ -1,16 +1,17 @@
 //! Positions found by the beginnings of lines.
-ghost use Rattle.std.specs.Prelude.{◌≡◌, ◌+◌, ◌-◌, ◌<◌, ◌≤◌, ◌^◌, [], List, ℕ, length, IfOk, OnOk, MatchOption};
+ghost use Rattle.std.specs.Prelude.{◌≡◌, ◌+◌, ◌<◌, ◌≤◌, ◌^◌, [], List, ℕ, length, IfOk, OnOk, MatchOption};
 ghost use Rattle.std.specs.List.{fold};
 ghost use Rattle.std.specs.Str.{chars};
 ghost use Rattle.graphql_lexical.specs.Place.{place};
-ghost use Rattle.juniper_tokens.specs.LineTables.{Lines, lines_of, IsTable, place_within, StartLines, IsOnLine};
+ghost use Rattle.juniper_tokens.specs.LineTables.{Lines, lines_of, IsTable, place_within};
 ghost use Rattle.juniper_tokens.specs.device.Offsets.{IsOffset};
 ghost use Rattle.juniper_tokens.specs.device.LexingByScan.{IsPlaced};
-ghost use Rattle.juniper_tokens.specs.device.LineSteps.{made_table, past, AreStarts, CountsLines, HasLines, IsLineOf, line_number};
+ghost use Rattle.juniper_tokens.specs.device.LineSteps.{made_table, past, AreStarts, CountsLines, HasLines};
 
 use crate::byte_classes::{ByteClass, byte_class};
 use crate::lexer::run::{Run, run_over};
 use crate::lexer::text::{Offset, text_before, text_from};
+use crate::line::{line_of, place_on};
 use crate::position::SourcePosition;
 use std::alloc::{AllocError, Global};
 use std::marker::Model;
@@ -182,25 +183,6 @@ impl Model for LineTable {
     ghost invariant = { λ t. IsTable (record { starts = t.lines.starts.items; count = t.lines.at.characters }) };
 }
 
-/// A line's number and the index of the character at which it begins.
-#[derive(Clone, Copy)]
-pub(crate) struct Line {
-    number: usize,
-    start: usize,
-}
-
-impl Line {
-    /// The place after `index` characters of the source, on this line.
-    #[inline(always)]
-    pub(crate) fn position(self, index: usize) -> SourcePosition
-        requires before { self.start ≤ index }
-        requires below { self.number ≤ self.start }
-        ensures { result ≡ record { index = index; line = self.number; column = index - self.start } }
-    {
-        SourcePosition::new(index, self.number, index - self.start)
-    }
-}
-
 impl LineTable {
     /// The table of a source. A line ends at a line feed alone.
     ///
@@ -228,7 +210,8 @@ impl LineTable {
     pub(crate) fn place(&self, index: usize) -> SourcePosition
         ensures { (source : List ℕ) → self.now ≡ lines_of source → index ≤ length source → result ≡ place source index }
     {
-        line_of(&self.lines.starts, index).position(index)
+        let starts: &[usize] = &self.lines.starts;
+        place_on(starts, line_of(starts, index), index)
     }
 
     /// The characters at which the lines begin.
@@ -237,64 +220,4 @@ impl LineTable {
     {
         &self.lines.starts
     }
-}
-
-/// What a token's record keeps of a line's number: its lowest 32 bits.
-#[inline(always)]
-pub(crate) fn line_number(line: usize) -> u32
-    ensures { result ≡ line_number line }
-{
-    (line % 4294967296) as u32
-}
-
-/// The place after `index` characters of a source, on the line of this number. `starts` has the characters at which the
-/// source's lines begin.
-#[inline(always)]
-pub(crate) fn place_on(starts: &[usize], number: u32, index: usize) -> SourcePosition
-    requires starts { StartLines starts.now }
-    requires line { IsLineOf starts.now number index }
-    ensures { (source : List ℕ) → starts.now ≡ (lines_of source).starts → index ≤ length source → result ≡ place source index }
-{
-    line_on(starts, number, index).position(index)
-}
-
-/// The line on which a character stands, by the lowest 32 bits of its number. Where there are 2^31 lines or more it is
-/// searched for.
-#[inline(always)]
-pub(crate) fn line_on(starts: &[usize], number: u32, index: usize) -> Line
-    requires starts { StartLines starts.now }
-    requires line { IsLineOf starts.now number index }
-    ensures { IsOnLine starts.now index result.number result.start }
-{
-    if starts.len() >= 2147483648 {
-        return line_of(starts, index);
-    }
-    let number = number as usize;
-    Line {
-        number,
-        start: starts[number],
-    }
-}
-
-/// The line on which a character stands, which is searched for.
-#[cold]
-#[inline(never)]
-pub(crate) fn line_of(starts: &[usize], index: usize) -> Line
-    requires { StartLines starts.now }
-    ensures { IsOnLine starts.now index result.number result.start }
-{
-    let mut low = 0;
-    let mut start = 0;
-    let mut high = starts.len();
-    while high - low > 1 {
-        let middle = low + (high - low) / 2;
-        let found = starts[middle];
-        if found <= index {
-            low = middle;
-            start = found;
-        } else {
-            high = middle;
-        }
-    }
-    Line { number: low, start }
 }

@@ -11,7 +11,7 @@ ghost use Rattle.juniper_tokens.specs.Gathering.{IfFault, IfMemory, HasLeft, Bre
 ghost use Rattle.juniper_tokens.specs.LineTables.{lines_of};
 ghost use Rattle.juniper_tokens.specs.declared.error.LexFailure.TheVariants.{Memory};
 ghost use Rattle.juniper_tokens.specs.device.LineSteps.{HasLines};
-ghost use Rattle.juniper_tokens.specs.device.Ranges.{IsRange, range_lexemes};
+ghost use Rattle.juniper_tokens.specs.device.Ranges.{InOrder, IsRange, range_lexemes};
 ghost use Rattle.juniper_tokens.specs.Tokens.{token_kind, token_text, view_token, view_name};
 ghost use Rattle.juniper_tokens.specs.Nesting.{EndsAtNesting};
 ghost use Rattle.juniper_tokens.specs.Delimited.{IsRest};
@@ -21,14 +21,15 @@ ghost use Rattle.juniper_tokens.specs.Cursor.{Gives, RefusesEnd, OnMemory, Unmov
 use crate::cursor::Cursor;
 use crate::error::{LexFailure, OptionParseResult, ParseFailure, ParseResult};
 use crate::lexer::Lexer;
-use crate::line_table::{LineStarts, LineTable, line_number};
+use crate::line::{Line, line_near};
+use crate::line_table::{LineStarts, LineTable};
 use crate::nesting::{end_behind, first_deeper};
 use crate::span::{Span, Spanning};
 use crate::text::same_text;
 use crate::token::Token;
 use crate::token_range::TokenRange;
 use graphql_lexical::Kind;
-use std::alloc::Global;
+use std::alloc::{AllocError, Global};
 use std::marker::Model;
 
 /// A cursor over the tokens of a source that are left. The last of them, and no other, is the end.
@@ -83,9 +84,10 @@ impl<'a> Parser<'a> {
         let alloc = lexer.allocator();
         let source = lexer.source();
         let mut rest = lexer.duplicate();
-        let gathered = gather(&mut rest);
+        let mut ranges = room_for_ranges(alloc, source);
+        let gathered = gather(&mut rest, &mut ranges);
         *lexer = rest;
-        let (ranges, lines) = gathered?;
+        let lines = gathered?;
         Ok(Parser::from_ranges(alloc, source, ranges, lines))
     }
 
@@ -97,11 +99,12 @@ impl<'a> Parser<'a> {
         lines: LineTable,
     ) -> Self
         requires ranges { All (IsRange (chars source.now)) ranges.items }
+        requires order { InOrder 0 ranges.items }
         requires lines { lines ≡ lines_of (chars source.now) }
         requires ends { EndsOnce (range_lexemes (chars source.now) ranges.items) }
         ensures { result ≡ range_lexemes (chars source.now) ranges.items }
     {
-        let current = ranges[0].located(source, lines.starts());
+        let current = ranges[0].located(source, lines.starts(), 0);
         Parser {
             alloc,
             source,
@@ -128,9 +131,14 @@ impl<'a> Parser<'a> {
     {
         let last = self.taken + first_deeper(&self.ranges[self.taken..], depth)?;
         let range = self.ranges[last];
-        let span = range.span(self.source, self.lines.starts());
-        let line = line_number(span.end.line());
-        end_behind(&mut self.ranges, last, range.end, line);
+        let starts = self.lines.starts();
+        let line = line_near(
+            starts,
+            self.current.span.start.line(),
+            range.start.characters,
+        );
+        let span = range.span(self.source, starts, line);
+        end_behind(&mut self.ranges, last, range.end);
         Some(span)
     }
 
@@ -139,12 +147,15 @@ impl<'a> Parser<'a> {
     pub fn cursor(&self) -> Cursor<'_, 'a>
         ensures { left result ≡ self.now }
     {
+        let starts = self.lines.starts();
+        let line = Line::new(starts, self.current.span.start.line());
         Cursor::from_ranges(
             self.alloc,
             self.source,
             &self.ranges,
-            self.lines.starts(),
+            starts,
             self.taken,
+            line,
         )
     }
 
@@ -162,7 +173,8 @@ impl<'a> Parser<'a> {
         ensures { self.new ≡ drop (length self.old - left) self.old }
     {
         self.taken = self.ranges.len() - left;
-        self.current = self.ranges[self.taken].located(self.source, self.lines.starts());
+        let near = self.current.span.start.line();
+        self.current = self.ranges[self.taken].located(self.source, self.lines.starts(), near);
     }
 
     /// The next token, which is not taken.
@@ -194,7 +206,8 @@ impl<'a> Parser<'a> {
         ensures { self.new ≡ drop 1 self.old }
     {
         self.taken += 1;
-        self.current = self.ranges[self.taken].located(self.source, self.lines.starts());
+        let near = self.current.span.start.line();
+        self.current = self.ranges[self.taken].located(self.source, self.lines.starts(), near);
     }
 
     // Takes the next token, which is not the end.
@@ -300,7 +313,7 @@ impl<'a> Parser<'a> {
 
     /// Takes the next token if it is a Name, and returns its text, else returns an error. The errors, and what stands
     /// after them and where memory ran out, are those of `expect`.
-    #[tactic(auto, using(crate::proofs::Rests::one_taken), unfolding(crate::specs::Cursor::expect_name_at))]
+    #[tactic(auto, using(crate::proofs::Rests::one_taken))]
     pub fn expect_name(&mut self) -> ParseResult<&'a str>
         ensures gives { Gives view_name result self.new (expect_name_at self.old) }
         ensures shorter { OnOk result (length self.new < length self.old) }
@@ -318,25 +331,35 @@ impl<'a> Parser<'a> {
     }
 }
 
-// The ranges of all tokens that a lexer has left, and the lines of its source.
+// Appends the ranges of all tokens that a lexer has left to an empty list, and returns the lines of its source.
 #[inline(always)]
-fn gather(lexer: &mut Lexer<'_>) -> Result<(Vec<TokenRange>, LineTable), LexFailure>
-    requires { lexer.old.ended ≡ false }
-    ensures ranges { IfOk result (λ given. All (IsRange lexer.old.source) given.0.items) }
-    ensures tokens { IfOk result (λ given. HasLeft lexer.old (range_lexemes lexer.old.source given.0.items)) }
-    ensures lines { IfOk result (λ given. given.1 ≡ lines_of lexer.old.source) }
+fn gather(lexer: &mut Lexer<'_>, ranges: &mut Vec<TokenRange>) -> Result<LineTable, LexFailure>
+    requires going { lexer.old.ended ≡ false }
+    requires none { ranges.old.items ≡ [] }
+    ensures ranges { OnOk result (All (IsRange lexer.old.source) ranges.new.items) }
+    ensures order { OnOk result (InOrder 0 ranges.new.items) }
+    ensures tokens { OnOk result (HasLeft lexer.old (range_lexemes lexer.old.source ranges.new.items)) }
+    ensures lines { IfOk result (λ lines. lines ≡ lines_of lexer.old.source) }
     ensures fault { IfFault result (λ fault. BreaksOff lexer.old (view_lexer_error fault.item) fault.span.start) }
     ensures zero_width { IfFault result (λ fault. fault.span.end ≡ fault.span.start) }
     ensures source { lexer.new.source ≡ lexer.old.source }
     ensures lexer { IfMemory result (StandsLaterOrEnded lexer.old lexer.new) (lexer.new.ended ≡ true) }
 {
-    let mut ranges = room_for_ranges(lexer.allocator(), lexer.source());
     let start = lexer.duplicate();
     let mut lines = first_lines(&start)?;
-    while !lexer.has_ended() {
+    loop {
         let pushed = match lexer.next_plain() {
             Some(range) => ranges.push(range),
-            None => ranges.push(lexer.next_other()?),
+            None => {
+                let range = lexer.next_other()?;
+                if range.kind == Kind::EndOfFile {
+                    if ranges.push(range).is_err() || lexer.count_lines(&mut lines).is_err() {
+                        return Err(LexFailure::Memory);
+                    }
+                    break;
+                }
+                ranges.push(range)
+            }
         };
         if pushed.is_err() || lexer.count_lines(&mut lines).is_err() {
             return Err(LexFailure::Memory);
@@ -344,7 +367,7 @@ fn gather(lexer: &mut Lexer<'_>) -> Result<(Vec<TokenRange>, LineTable), LexFail
     }
     let end = lexer.duplicate();
     match end.line_table(lines) {
-        Ok(table) => Ok((ranges, table)),
+        Ok(table) => Ok(table),
         Err(_) => Err(LexFailure::Memory),
     }
 }

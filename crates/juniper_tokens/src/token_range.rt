@@ -1,5 +1,5 @@
 //! Tokens as parts of their source.
-ghost use Rattle.std.specs.Prelude.{◌≡◌, ◌-◌, ◌≤◌, drop};
+ghost use Rattle.std.specs.Prelude.{◌≡◌, ◌-◌, ◌<◌, ◌≤◌, drop, length};
 ghost use Rattle.std.specs.Str.{chars};
 ghost use Rattle.graphql_lexical.specs.Place.{place};
 ghost use Rattle.graphql_lexical.specs.device.Whole.{text_of};
@@ -8,23 +8,22 @@ ghost use Rattle.juniper_tokens.specs.Positions.{columns_on};
 ghost use Rattle.juniper_tokens.specs.Spans.{view_span};
 ghost use Rattle.juniper_tokens.specs.Tokens.{view_token};
 ghost use Rattle.juniper_tokens.specs.device.LexingByScan.{IsPlaced};
+ghost use Rattle.juniper_tokens.specs.device.LineSteps.{IsLine};
 ghost use Rattle.juniper_tokens.specs.device.Scans.{Finds};
 ghost use Rattle.juniper_tokens.specs.device.Ranges.{IsRange, range_of, range_slice, range_lexeme};
 
 use crate::lexer::text::{Offset, text_before, text_from, unquoted};
 use crate::lexer::{Found, walk_text};
-use crate::line_table::{Line, line_number, line_of, line_on, place_on};
+use crate::line::{Line, line_near, line_of, place_on};
 use crate::position::SourcePosition;
 use crate::span::{Span, Spanning};
 use crate::token::Token;
 use graphql_lexical::Kind;
 
-/// A token's kind, the line on which it begins, and the two ends of the part of the source that it takes.
+/// A token's kind, and the two ends of the part of the source that it takes.
 #[derive(Clone, Copy)]
 pub(crate) struct TokenRange {
     pub(crate) kind: Kind,
-    /// The number of the line on which it begins: its lowest 32 bits.
-    pub(crate) line: u32,
     /// The offset of the first character.
     pub(crate) start: Offset,
     /// The offset after the last character.
@@ -41,7 +40,6 @@ impl TokenRange {
     {
         TokenRange {
             kind: found.kind,
-            line: line_number(start.line()),
             start: Offset {
                 bytes: at,
                 characters: start.index(),
@@ -102,41 +100,25 @@ impl TokenRange {
         walk_text(text_before(rest, size), start)
     }
 
-    /// The place before the first character. `starts` has the characters at which the source's lines begin.
+    /// From the first character, which stands on this line, to the place after the last one. `starts` has the characters at
+    /// which the source's lines begin.
     #[inline(always)]
-    pub(crate) fn start_in(&self, source: &str, starts: &[usize]) -> SourcePosition
+    pub(crate) fn span(&self, source: &str, starts: &[usize], line: Line) -> Span
         requires range { IsRange (chars source.now) self.now }
         requires lines { starts.now ≡ (lines_of (chars source.now)).starts }
-        ensures { result ≡ place (chars source.now) self.now.start.characters }
+        requires line { IsLine starts.now line }
+        requires on { IsOnLine starts.now self.now.start.characters line.number line.start }
+        ensures { view_span result ≡ (range_lexeme (chars source.now) self.now).span }
     {
-        place_on(starts, self.line, self.start.characters)
-    }
-
-    // The line on which it ends. That of a block string is searched for.
-    #[inline(always)]
-    fn last_line(&self, source: &str, starts: &[usize]) -> Line
-        requires range { IsRange (chars source.now) self.now }
-        requires lines { starts.now ≡ (lines_of (chars source.now)).starts }
-        ensures { IsOnLine starts.now self.now.end.characters result.number result.start }
-    {
-        if self.kind == Kind::BlockString {
-            line_of(starts, self.end.characters)
-        } else {
-            line_on(starts, self.line, self.end.characters)
+        let start = place_on(starts, line, self.start.characters);
+        Span {
+            start,
+            end: self.end_from(source, starts, start),
         }
     }
 
-    /// The place after the last character. `starts` has the characters at which the source's lines begin.
-    #[inline(always)]
-    pub(crate) fn end_in(&self, source: &str, starts: &[usize]) -> SourcePosition
-        requires range { IsRange (chars source.now) self.now }
-        requires lines { starts.now ≡ (lines_of (chars source.now)).starts }
-        ensures { result ≡ place (chars source.now) self.now.end.characters }
-    {
-        self.last_line(source, starts).position(self.end.characters)
-    }
-
-    // `end_in`, where the place `start` of the first character is known: only a block string's line is looked up again.
+    // The place after the last character, where the place `start` of the first one is known: the line of a block string's end
+    // alone is searched for.
     #[inline(always)]
     fn end_from(&self, source: &str, starts: &[usize], start: SourcePosition) -> SourcePosition
         requires range { IsRange (chars source.now) self.now }
@@ -145,24 +127,10 @@ impl TokenRange {
         ensures { result ≡ place (chars source.now) self.now.end.characters }
     {
         if self.kind == Kind::BlockString {
-            self.end_in(source, starts)
+            let index = self.end.characters;
+            place_on(starts, line_of(starts, index), index)
         } else {
             self.end_on_line(start)
-        }
-    }
-
-    /// From the first character to the place after the last one. `starts` has the characters at which the source's lines
-    /// begin.
-    #[inline(always)]
-    pub(crate) fn span(&self, source: &str, starts: &[usize]) -> Span
-        requires range { IsRange (chars source.now) self.now }
-        requires lines { starts.now ≡ (lines_of (chars source.now)).starts }
-        ensures { view_span result ≡ (range_lexeme (chars source.now) self.now).span }
-    {
-        let start = self.start_in(source, starts);
-        Span {
-            start,
-            end: self.end_from(source, starts, start),
         }
     }
 
@@ -192,13 +160,21 @@ impl TokenRange {
         Spanning::new(span, self.token(source))
     }
 
-    /// The token with its places. `starts` has the characters at which the source's lines begin.
+    /// The token with its places. `starts` has the characters at which the source's lines begin; the token's line is looked
+    /// for from that of the number `near` on.
     #[inline(never)]
-    pub(crate) fn located<'a>(&self, source: &'a str, starts: &[usize]) -> Spanning<Token<'a>>
+    pub(crate) fn located<'a>(
+        &self,
+        source: &'a str,
+        starts: &[usize],
+        near: usize,
+    ) -> Spanning<Token<'a>>
         requires range { IsRange (chars source.now) self.now }
         requires lines { starts.now ≡ (lines_of (chars source.now)).starts }
+        requires near { near < length starts.now }
         ensures { view_token result ≡ range_lexeme (chars source.now) self.now }
     {
-        self.located_at(source, self.span(source, starts))
+        let line = line_near(starts, near, self.start.characters);
+        self.located_at(source, self.span(source, starts, line))
     }
 }

@@ -10,7 +10,7 @@ ghost use Rattle.juniper.specs.Scalars.{stated};
 ghost use Rattle.juniper_tokens.specs.Taking.{left, last_end, GoesOn};
 ghost use Rattle.juniper.specs.device.Steps.{no_scalars, cursor, at_span};
 
-use crate::parser::next::{expect_name, next_is, next_is_word};
+use crate::parser::next::{next_is, next_is_word};
 use crate::parser::selection::{parse_inline_parts, parse_selection_set, parse_type_condition};
 use crate::parser::variables::parse_optional_variables;
 use crate::tree::ast::{Definition, Fragment, Operation};
@@ -123,7 +123,7 @@ fn parse_optional_name<'a>(tokens: &mut Cursor<'_, 'a>) -> OptionParseResult<&'a
     ensures on { OnOk result (GoesOn tokens.old tokens.new) }
 {
     if next_is(tokens, Kind::Name) {
-        Ok(Some(expect_name(tokens)?))
+        Ok(Some(tokens.expect_name()?))
     } else {
         Ok(None)
     }
@@ -164,6 +164,6 @@ fn parse_fragment_name<'a>(tokens: &mut Cursor<'_, 'a>) -> ParseResult<&'a str>
     if next_is_word(tokens, "on") {
         tokens.refuse()
     } else {
-        expect_name(tokens)
+        tokens.expect_name()
     }
 }

@@ -12,7 +12,7 @@ ghost use Rattle.juniper.specs.device.PartViews.{view_items};
 ghost use Rattle.juniper.specs.device.Steps.{cursor};
 
 use crate::parser::lists::{expected, many, push_item};
-use crate::parser::next::{expect, expect_name, next_is};
+use crate::parser::next::{expect, next_is};
 use crate::parser::value::parse_value;
 use crate::tree::ast::{Arguments, Directive};
 use juniper_tokens::{
@@ -29,7 +29,7 @@ fn parse_argument<'a, S: ScalarValue>(
     ensures shorter { OnOk result (length (left tokens.new) < length (left tokens.old)) }
     ensures on { OnOk result (GoesOn tokens.old tokens.new) }
 {
-    let name = expect_name(tokens)?;
+    let name = tokens.expect_name()?;
     expect(tokens, Kind::Colon)?;
     let value = parse_value(tokens, false)?;
     Ok((name, value))
@@ -99,7 +99,7 @@ fn parse_directive<'a, S: ScalarValue>(tokens: &mut Cursor<'_, 'a>) -> ParseResu
 {
     let start = tokens.mark();
     expect(tokens, Kind::At)?;
-    let name = expect_name(tokens)?;
+    let name = tokens.expect_name()?;
     let arguments = parse_optional_arguments(tokens)?;
     Ok(Spanning::new(tokens.span_from(start), Directive { name, arguments }))
 }

@@ -1,5 +1,5 @@
 //! The next token: it is looked at by `next_is` and `next_is_word`, taken where it is of a kind by `take_if`, and one that
-//! has to be there is taken by `expect` or `expect_name`.
+//! has to be there is taken by `expect`, or by the cursor's `expect_name`.
 ghost use Rattle.std.specs.Prelude.{◌≡◌, ◌<◌, ◌≤◌, length, true, false, Some, None, IfOk, OnOk, if◌then◌else◌};
 ghost use Rattle.std.specs.Str.{chars};
 ghost use Rattle.graphql_lexical.specs.Kinds.{same_kind};
@@ -29,29 +29,6 @@ pub(crate) fn next_is_word(tokens: &Cursor<'_, '_>, text: &str) -> bool
     ensures ended { EndsOnce (left tokens.now) }
 {
     tokens.kind() == Kind::Name && same_text(tokens.text(), text)
-}
-
-/// Takes the next token, and returns the error that it is unexpected. What stands after it is what `Cursor::refuse` leaves.
-#[cold]
-pub(crate) fn refusal(tokens: &mut Cursor<'_, '_>) -> ParseFailure
-    ensures gives { Fails {Y = Lexeme} result (left tokens.new) (refused_at (left tokens.old)) }
-    ensures on { GoesOn tokens.old tokens.new }
-{
-    match tokens.refuse::<()>() {
-        Err(failure) => failure,
-        Ok(()) => unreachable!(),
-    }
-}
-
-/// Takes the next token, and returns the error that it is unexpected, as `refusal` does. The room for it is made where this
-/// is called, and not at the beginning of the calling function.
-#[inline(always)]
-pub(crate) fn refused<T: Drop>(tokens: &mut Cursor<'_, '_>) -> Result<T, ParseFailure>
-    ensures gives { Gives (λ x. x) result (left tokens.new) (refused_at (left tokens.old)) }
-    ensures never { OnOk result ⊥ }
-    ensures on { GoesOn tokens.old tokens.new }
-{
-    Err(refusal(tokens))
 }
 
 /// Takes the next token if it is of this kind, and returns whether it is.
@@ -89,24 +66,6 @@ pub(crate) fn expect(tokens: &mut Cursor<'_, '_>, kind: Kind) -> Result<(), Pars
         tokens.advance();
         Ok(())
     } else {
-        refused(tokens)
+        tokens.refuse()
     }
-}
-
-/// Takes the next token if it is a Name, and returns its text with its span, else returns the error that `expect` returns.
-#[tactic(auto, using(crate::proofs::Marks::last_taken))]
-#[inline(always)]
-pub(crate) fn expect_name<'a>(tokens: &mut Cursor<'_, 'a>) -> ParseResult<&'a str>
-    ensures gives { Gives view_name result (left tokens.new) (next_if (same_kind (kind_at (left tokens.old)) Name) (left tokens.old)) }
-    ensures shorter { OnOk result (length (left tokens.new) < length (left tokens.old)) }
-    ensures on { GoesOn tokens.old tokens.new }
-    ensures ends { IfOk result (λ name. last_end tokens.new ≡ (view_span name.span).end) }
-{
-    if !next_is(tokens, Kind::Name) {
-        return refused(tokens);
-    }
-    let text = tokens.text();
-    let span = tokens.span();
-    tokens.advance();
-    Ok(Spanning::new(span, text))
 }

@@ -13,7 +13,7 @@ ghost use Rattle.juniper.specs.device.PartViews.{view_items, view_names, view_wh
 
 use crate::parser::directives::{parse_directives, parse_optional_arguments};
 use crate::parser::lists::many;
-use crate::parser::next::{expect, expect_name, next_is, next_is_word, take_if};
+use crate::parser::next::{expect, next_is, next_is_word, take_if};
 use crate::tree::ast::{Directive, Field, FragmentSpread, InlineFragment, Selection};
 use juniper_tokens::text::same_text;
 use juniper_tokens::{
@@ -168,9 +168,9 @@ fn parse_names<'a>(
     ensures shorter { OnOk result (length (left tokens.new) < length (left tokens.old)) }
     ensures on { OnOk result (GoesOn tokens.old tokens.new) }
 {
-    let first = expect_name(tokens)?;
+    let first = tokens.expect_name()?;
     if take_if(tokens, Kind::Colon) {
-        let name = expect_name(tokens)?;
+        let name = tokens.expect_name()?;
         Ok((Some(first), name))
     } else {
         Ok((None, first))
@@ -216,7 +216,7 @@ fn parse_named_spread<'a, S: ScalarValue>(
     ensures on { OnOk result (GoesOn tokens.old tokens.new) }
     ensures within { OnOk result (tokens.new.taken < length tokens.new.tokens) }
 {
-    let name = expect_name(tokens)?;
+    let name = tokens.expect_name()?;
     let directives = parse_directives(tokens)?;
     Ok(Selection::FragmentSpread(Spanning::new(
         tokens.span_from(start),
@@ -271,7 +271,7 @@ pub(crate) fn parse_type_condition<'a>(tokens: &mut Cursor<'_, 'a>) -> ParseResu
 {
     if next_is_word(tokens, "on") {
         tokens.advance();
-        expect_name(tokens)
+        tokens.expect_name()
     } else {
         tokens.refuse()
     }

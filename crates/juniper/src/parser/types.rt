@@ -8,7 +8,7 @@ ghost use Rattle.juniper.specs.Promise.{ReturnsType};
 ghost use Rattle.juniper.specs.View.{view_spanned_type};
 ghost use Rattle.juniper.specs.device.Steps.{no_scalars, cursor, type_read};
 
-use crate::parser::next::{expect, expect_name, next_is, take_if};
+use crate::parser::next::{expect, next_is, take_if};
 use juniper_tokens::{Cursor, Kind, ParseFailure, ParseResult, Parser, Spanning};
 use juniper_values::Type;
 
@@ -69,7 +69,7 @@ fn parse_named_type<'a>(tokens: &mut Cursor<'_, 'a>) -> ParseResult<Type<&'a str
     ensures shorter { OnOk result (length (left tokens.new) < length (left tokens.old)) }
     ensures on { GoesOn tokens.old tokens.new }
 {
-    let name = expect_name(tokens)?;
+    let name = tokens.expect_name()?;
     Ok(Spanning::new(name.span, Type::nullable(name.item)))
 }
 

@@ -15,7 +15,7 @@ ghost use Rattle.juniper.specs.device.Steps.{cursor, value_read, scalar_read, cl
 ghost use Rattle.juniper.specs.Scalars.{stated};
 
 use crate::parser::lists::any;
-use crate::parser::next::{expect, expect_name, refused};
+use crate::parser::next::expect;
 use juniper_tokens::text::same_text;
 use juniper_tokens::{
     Cursor, Kind, ParseFailure, ParseResult, Parser, ScalarToken, Spanning, UnlocatedParseResult,
@@ -149,7 +149,7 @@ fn parse_object_field<'a, S: ScalarValue>(
     ensures shorter { OnOk result (length (left tokens.new) < length (left tokens.old)) }
     ensures on { GoesOn tokens.old tokens.new }
 {
-    let key = expect_name(tokens)?;
+    let key = tokens.expect_name()?;
     expect(tokens, Kind::Colon)?;
     let value = parse_value(tokens, is_const)?;
     let text = String::from_str(tokens.allocator(), key.item)?;
@@ -165,7 +165,7 @@ fn parse_variable<'a, S: ScalarValue>(tokens: &mut Cursor<'_, 'a>) -> ParseResul
 {
     let start = tokens.mark();
     expect(tokens, Kind::Dollar)?;
-    let name = expect_name(tokens)?;
+    let name = tokens.expect_name()?;
     let text = String::from_str(tokens.allocator(), name.item)?;
     Ok(Spanning::new(tokens.span_from(start), InputValue::Variable(text)))
 }
@@ -178,7 +178,7 @@ fn parse_scalar<'a, S: ScalarValue>(tokens: &mut Cursor<'_, 'a>) -> ParseResult<
     ensures on { GoesOn tokens.old tokens.new }
 {
     let Some(token) = next_scalar(tokens) else {
-        return refused(tokens);
+        return tokens.refuse();
     };
     let span = tokens.span();
     tokens.advance();
@@ -212,7 +212,7 @@ fn parse_named_value<'a, S: ScalarValue>(tokens: &mut Cursor<'_, 'a>) -> ParseRe
     ensures shorter { OnOk result (length (left tokens.new) < length (left tokens.old)) }
     ensures on { GoesOn tokens.old tokens.new }
 {
-    let name = expect_name(tokens)?;
+    let name = tokens.expect_name()?;
     Ok(value_of_name(tokens.allocator(), name)?)
 }
 

@@ -10,7 +10,7 @@ ghost use Rattle.juniper.specs.device.Steps.{cursor};
 
 use crate::parser::directives::parse_directives;
 use crate::parser::lists::many;
-use crate::parser::next::{expect, expect_name, next_is, take_if};
+use crate::parser::next::{expect, next_is, take_if};
 use crate::parser::types::parse_any_type;
 use crate::parser::value::parse_value;
 use crate::tree::ast::{VariableDefinition, VariableDefinitions};
@@ -46,7 +46,7 @@ fn parse_variable_definition<'a, S: ScalarValue>(
 {
     let start = tokens.mark();
     expect(tokens, Kind::Dollar)?;
-    let text = expect_name(tokens)?.item;
+    let text = tokens.expect_name()?.item;
     let name = Spanning::new(tokens.span_from(start), text);
     expect(tokens, Kind::Colon)?;
     let var_type = parse_any_type(tokens)?;

@@ -1,6 +1,7 @@
 -- A device: a table of lines, character by character.
-use Rattle.std.specs.Prelude.{◌≡◌, ℕ, ◌+◌, ◌<◌, ◌≤◌, ◌^◌, ◌==◌, ◌%◌, if◌then◌else◌, List, [], ◌∷◌, ◌++◌, length, take}
-use Rattle.juniper_tokens.specs.LineTables.{Lines, starts_after, IsOnLine}
+use Rattle.std.specs.Prelude.{◌≡◌, ℕ, ◌+◌, ◌<◌, ◌≤◌, ◌==◌, if◌then◌else◌, List, [], ◌∷◌, ◌++◌, take, Some, slice_get}
+use Rattle.juniper_tokens.specs.LineTables.{Lines, starts_after}
+use Rattle.juniper_tokens.specs.declared.line.Line.{Line}
 use Rattle.juniper_tokens.specs.declared.line_table.LineStarts.{LineStarts}
 use Rattle.juniper_tokens.specs.device.Offsets.{IsOffset}
 
@@ -35,10 +36,11 @@ pub record HasLines (source : List ℕ) (lines : LineStarts) (k : ℕ) : Type 0 
   pub before : lines.at.characters ≤ k
   pub so_far : AreStarts lines.starts.items source k
 
--- what a token's record keeps of a line's number: its lowest 32 bits
-abbrev pub line_number : ℕ → ℕ
-line_number l = l % 4294967296
+-- This line is one of those that begin at these characters.
+pub record IsLine (starts : List ℕ) (line : Line) : Type 0 where
+  pub begins : slice_get starts line.number ≡ Some line.start
+  pub ends : (next : ℕ) → slice_get starts (line.number + 1) ≡ Some next → line.end ≡ next
 
--- Character k stands on the line of this number, where there are fewer lines than the number has room for.
-abbrev pub IsLineOf : List ℕ → ℕ → ℕ → Type 0
-IsLineOf starts number k = length starts < 2 ^ 31 → (start : ℕ) × IsOnLine starts k number start
+-- Character k stands before the line of this number, if there is such a line.
+abbrev pub IsBefore : List ℕ → ℕ → ℕ → Type 0
+IsBefore starts k number = (next : ℕ) → slice_get starts number ≡ Some next → k < next

@@ -1,5 +1,5 @@
 -- A device: tokens as ranges of their source.
-use Rattle.std.specs.Prelude.{◌≡◌, ◌↔◌, ℕ, ◌+◌, ◌-◌, ◌≤◌, true, false, List, take, drop, length, map, Option, Some, None, Result, Ok, Err}
+use Rattle.std.specs.Prelude.{◌≡◌, ◌↔◌, ℕ, ◌+◌, ◌-◌, ◌≤◌, true, false, List, [], ◌∷◌, take, drop, get_or, length, map, Option, Some, None, Result, Ok, Err}
 use Rattle.std.specs.List.{All}
 use Rattle.graphql_lexical.specs.Place.{Place, place}
 use Rattle.graphql_lexical.specs.declared.kind.Kind.TheVariants as kinds
@@ -20,8 +20,9 @@ use Rattle.juniper_tokens.specs.Errors.{view_lexer_error}
 use Rattle.juniper_tokens.specs.device.Offsets.{IsOffset, EndsQuoted}
 use Rattle.juniper_tokens.specs.Positions.{columns_on}
 use Rattle.juniper_tokens.specs.device.Scans.{MissesEscape}
-use Rattle.juniper_tokens.specs.LineTables.{lines_of}
-use Rattle.juniper_tokens.specs.device.LineSteps.{line_number}
+use Rattle.juniper_tokens.specs.LineTables.{lines_of, IsOnLine}
+use Rattle.juniper_tokens.specs.declared.line.NearLines.{NearLines}
+use Rattle.juniper_tokens.specs.device.LineSteps.{IsLine}
 use Rattle.juniper_tokens.specs.Lexing.{LexerState, PassesToken, GivesFault, WantsMemory}
 use Rattle.juniper_tokens.specs.device.LexingByScan.{past_gap}
 use Rattle.juniper_tokens.specs.Cursor.{EndsOnce, first_of}
@@ -44,7 +45,6 @@ range_lexemes source = map (range_lexeme source)
 -- Both ends are offsets within the source, the start not after the end; a String has its quotes, and a block string its
 -- triple quotes; any other token than a block string ends on its line.
 pub record IsRange (source : List ℕ) (r : TokenRange) : Type 0 where
-  pub line_is : r.line ≡ line_number (place source r.start.characters).line
   pub start : IsOffset r.start source
   pub end : IsOffset r.end source
   pub forward : r.start.characters ≤ r.end.characters
@@ -56,6 +56,8 @@ pub record IsRange (source : List ℕ) (r : TokenRange) : Type 0 where
 -- A token of this range stands where the lexer did, which is then after it, and has ended where the token is the end.
 pub record GivesRange (s : LexerState) (r : TokenRange) (t : LexerState) : Type 0 where
   pub stands : PassesToken s (range_lexeme s.source r) t.index
+  pub from : s.index ≤ r.start.characters
+  pub to : t.index ≡ r.end.characters
   pub is_range : IsRange s.source r
   pub ends : (t.ended ≡ true) ↔ (r.kind ≡ kinds.EndOfFile)
 
@@ -75,7 +77,6 @@ range_steps s (Some item) t = (s.ended ≡ false) × (t.source ≡ s.source) × 
 abbrev pub range_of : Found → ℕ → Place → TokenRange
 range_of found at start = record {
   kind = found.kind;
-  line = line_number start.line;
   start = record { bytes = at; characters = start.index };
   end = record { bytes = at + found.end.bytes; characters = start.index + found.end.characters };
 }
@@ -114,18 +115,33 @@ MayTake s range t = TakesPlain (past_gap s) range t
 
 -- ---- cursors
 
--- the end of a source as a range, at this offset and on the line of this number
-abbrev pub end_at : Offset → ℕ → TokenRange
-end_at offset line = record { kind = kinds.EndOfFile; line = line; start = offset; end = offset }
+-- each range begins at this character or after it, and the next one where it ends or after that
+abbrev pub InOrder : ℕ → List TokenRange → Type 0
+InOrder k [] = Unit {0}
+InOrder k (r ∷ rs) = (k ≤ r.start.characters) × InOrder r.end.characters rs
+
+-- the end of a source as a range, at this offset
+abbrev pub end_at : Offset → TokenRange
+end_at offset = record { kind = kinds.EndOfFile; start = offset; end = offset }
 
 -- This many of these ranges of a source have been taken. Of those that are left the last one, and no other, is the end.
 -- The source's lines begin at these characters.
 pub record AreLeft (source : List ℕ) (ranges : List TokenRange) (starts : List ℕ) (taken : ℕ) : Type 0 where
   pub are_ranges : All (IsRange source) ranges
+  pub in_order : InOrder 0 ranges
   pub ended : EndsOnce (range_lexemes source (drop taken ranges))
   pub lines_are : starts ≡ (lines_of source).starts
 
--- the same, of which the next one is held as a token
+-- So many are left. The next one begins on the first of these two lines, and the other begins before the end of the one that
+-- was taken last.
+pub record StandsOn (source : List ℕ) (ranges : List TokenRange) (starts : List ℕ) (taken : ℕ) (lines : NearLines) : Type 0 where
+  pub left : AreLeft source ranges starts taken
+  pub line_is : IsLine starts lines.line
+  pub on_line : (r : TokenRange) → IsOnLine starts (get_or ranges taken r).start.characters lines.line.number lines.line.start
+  pub earlier_is : IsLine starts lines.earlier
+  pub reaches : (r : TokenRange) → lines.earlier.start ≤ (get_or ranges (taken - 1) r).end.characters
+
+-- So many are left, of which the next one is held as a token.
 pub record IsCursor (source : List ℕ) (ranges : List TokenRange) (starts : List ℕ) (taken : ℕ) (current : Spanning Token) : Type 0 where
   pub left : AreLeft source ranges starts taken
   pub first : view_token current ≡ first_of (range_lexemes source (drop taken ranges))

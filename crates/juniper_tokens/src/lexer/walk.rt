@@ -9,7 +9,7 @@ ghost use Rattle.graphql_lexical.specs.device.Scan.{step as next_state};
 ghost use Rattle.juniper_tokens.specs.device.Offsets.{IsOffset};
 ghost use Rattle.juniper_tokens.specs.device.ByteRuns.{byte_at};
 ghost use Rattle.juniper_tokens.specs.device.LexingByScan.{begins_with_mark};
-ghost use Rattle.juniper_tokens.specs.device.Walks.{EndsGap, StaysOver};
+ghost use Rattle.juniper_tokens.specs.device.Walks.{EndsGap, StaysOver, WalkedToken};
 
 use crate::byte_classes::{ByteClass, byte_class};
 use crate::lexer::machine::step;
@@ -120,10 +120,21 @@ pub(crate) fn walk_token(text: &str) -> Reached
     ensures offset { IsOffset result.end (chars text.now) }
     ensures within { result.end.characters ≤ length text.now }
 {
+    walk_on(text, State::Start, Offset::start())
+}
+
+/// Follows the steps of a token as far as they go, from an offset on up to which they were followed, to this state.
+pub(crate) fn walk_on(text: &str, from: State, start: Offset) -> Reached
+    requires walked { WalkedToken text.now start.bytes from start.characters }
+    requires fewer { start.characters ≤ start.bytes }
+    ensures reached { reach next_state Start (chars text.now) ≡ (result.end.characters, result.state) }
+    ensures offset { IsOffset result.end (chars text.now) }
+    ensures within { result.end.characters ≤ length text.now }
+{
     let bytes = text.as_bytes();
-    let mut state = State::Start;
-    let mut characters = 0;
-    let mut i = 0;
+    let mut state = from;
+    let mut characters = start.characters;
+    let mut i = start.bytes;
     while i < bytes.len() {
         if byte_class(bytes[i]).is_inner() {
             i += 1;

@@ -1,19 +1,39 @@
-use Rattle.std.proofs.Common.{◌∙◌, ap, sym, subst, drop, Ok, List}
+use Rattle.std.proofs.Common.{◌∙◌, ◌+◌, ap, sym, subst, drop, Ok, List}
 use Rattle.std.proofs.lemmas.List.{drop-drop}
 use Rattle.std.specs.Str.{chars}
 use Rattle.graphql_lexical.specs.Cutting.{Lexeme}
 use Rattle.juniper_tokens.specs.Cursor.{first_of}
 use Rattle.juniper_tokens.specs.Taking.{Taking, left, next_taken, GoesOn}
 use Rattle.juniper_tokens.specs.device.Ranges.{range_lexemes}
-use Rattle.juniper_tokens.proofs.Steps.{next_is_taken}
-use Rattle.juniper_tokens.proofs.Taking.{seen_ended, past_seen, goes_past}
+use Rattle.juniper_tokens.proofs.Steps.{next_is_taken, left_within}
+use Rattle.juniper_tokens.proofs.Taking.{seen_ended, past_seen, goes_past, are_starts, next_after, past_lines}
 use Rattle.juniper_tokens.proofs.cursor.Cursor.advance.Goals as goal
+
+pub bounds-self-inside-self-inside : goal.bounds-self-inside-self-inside
+bounds-self-inside-self-inside c =
+    let here = c.self.inside in
+    let after = past_seen (chars here.source.now) here.ranges.now here.starts.now here.taken c.self.invariant.left
+    c.args.self.now c.self.view_is c.requires in
+    left_within (chars here.source.now) here.ranges.now (here.taken + 1) after.ended
+
+pub follow-requires-clause-starts : goal.follow-requires-clause-starts
+follow-requires-clause-starts c =
+    let here = c.self.inside in
+    are_starts (chars here.source.now) here.ranges.now here.starts.now here.taken here.lines c.self.invariant
+    c.args.self.now c.self.view_is
+
+pub follow-requires-clause-from : goal.follow-requires-clause-from
+follow-requires-clause-from c =
+    let here = c.self.inside in
+    next_after (chars here.source.now) here.ranges.now here.starts.now here.taken here.lines c.self.invariant
+    c.args.self.now c.self.view_is _ c.requires
 
 pub invariant_of-self : goal.invariant_of-self
 invariant_of-self c =
     let here = c.self.inside in
-    past_seen (chars here.source.now) here.ranges.now here.starts.now here.taken c.self.invariant c.args.self.now
-    c.self.view_is c.requires
+    past_lines (chars here.source.now) here.ranges.now here.starts.now here.taken here.lines c.self.invariant
+    c.args.self.now c.self.view_is c.requires c.follow.new.self c.follow.ensures.line _ c.follow.ensures.on c.follow.ensures.earlier
+    c.follow.ensures.not_after
 
 pub returns-clause-left : goal.returns-clause-left
 returns-clause-left c =
@@ -24,7 +44,7 @@ returns-clause-left c =
 pub returns-clause-ended : goal.returns-clause-ended
 returns-clause-ended c =
     let here = c.self.inside in
-    seen_ended (chars here.source.now) here.ranges.now here.starts.now here.taken c.self.invariant c.args.self.now c.self.view_is
+    seen_ended (chars here.source.now) here.ranges.now here.starts.now here.taken c.self.invariant.left c.args.self.now c.self.view_is
 
 pub returns-clause-takes : goal.returns-clause-takes
 returns-clause-takes c =

@@ -1,18 +1,23 @@
 use Rattle.std.proofs.Common.{ap, ◌∙◌}
 use Rattle.std.specs.Str.{chars}
 use Rattle.graphql_lexical.specs.Cutting.{Lexeme}
-use Rattle.juniper_tokens.proofs.Taking.{first_is_range, seen_first}
+use Rattle.juniper_tokens.proofs.Taking.{first_within, seen_first, are_starts}
 use Rattle.juniper_tokens.proofs.cursor.Cursor.mark.Goals as goal
 
-pub start_in-requires-clause-range : goal.start_in-requires-clause-range
-start_in-requires-clause-range c =
+pub place_on-requires-clause-starts : goal.place_on-requires-clause-starts
+place_on-requires-clause-starts c =
     let here = c.self.inside in
-    first_is_range (chars here.source.now) here.ranges.now here.starts.now here.taken c.self.invariant c.args.self.now
-    c.self.view_is _
+    are_starts (chars here.source.now) here.ranges.now here.starts.now here.taken here.lines c.self.invariant
+    c.args.self.now c.self.view_is
+
+pub place_on-requires-clause-line : goal.place_on-requires-clause-line
+place_on-requires-clause-line c = c.self.invariant.on_line _
 
 pub returns : goal.returns
 returns c =
     let here = c.self.inside in
-    c.start_in.ensures
+    c.place_on.ensures (chars here.source.now) c.self.invariant.left.lines_are
+    (first_within (chars here.source.now) here.ranges.now here.starts.now here.taken c.self.invariant.left
+    c.args.self.now c.self.view_is _)
     ∙ ap (λ (t : Lexeme). t.span.start) (seen_first (chars here.source.now) here.ranges.now here.starts.now here.taken
-    c.self.invariant c.args.self.now c.self.view_is _)
+    c.self.invariant.left c.args.self.now c.self.view_is _)

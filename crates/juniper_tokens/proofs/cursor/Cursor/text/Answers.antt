@@ -9,13 +9,13 @@ use Rattle.juniper_tokens.proofs.cursor.Cursor.text.Goals as goal
 pub text-requires : goal.text-requires
 text-requires c =
     let here = c.self.inside in
-    first_is_range (chars here.source.now) here.ranges.now here.starts.now here.taken c.self.invariant c.args.self.now
+    first_is_range (chars here.source.now) here.ranges.now here.starts.now here.taken c.self.invariant.left c.args.self.now
     c.self.view_is _
 
 pub returns : goal.returns
 returns c open_kind =
     let here = c.self.inside in
-    let first = seen_first (chars here.source.now) here.ranges.now here.starts.now here.taken c.self.invariant c.args.self.now
+    let first = seen_first (chars here.source.now) here.ranges.now here.starts.now here.taken c.self.invariant.left c.args.self.now
     c.self.view_is _ in
     c.text.ensures
     ∙ (open_text _ _ (ap (λ (t : Lexeme). has_text t.kind) first ∙ open_kind) ∙ ap (λ (t : Lexeme). t.text) first)

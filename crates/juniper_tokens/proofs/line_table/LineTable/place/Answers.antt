@@ -1,18 +1,15 @@
 use Rattle.std.proofs.Common.{ap, ◌∙◌}
 use Rattle.juniper_tokens.specs.LineTables.{Lines}
-use Rattle.juniper_tokens.proofs.Lines.{table_starts, number_below, line_place}
+use Rattle.juniper_tokens.proofs.Lines.{table_starts}
 use Rattle.juniper_tokens.proofs.line_table.LineTable.place.Goals as goal
 
 pub line_of-requires : goal.line_of-requires
-line_of-requires c = rw c.deref.ensures.value (table_starts _ c.self.invariant)
+line_of-requires c = rw c.deref-starts.ensures.value (table_starts _ c.self.invariant)
 
-pub position-requires-clause-below : goal.position-requires-clause-below
-position-requires-clause-below c =
-    number_below c.deref.result.now _ _ (rw c.deref.ensures.value (table_starts _ c.self.invariant))
-    c.line_of.ensures.begins
+pub place_on-requires-clause-starts : goal.place_on-requires-clause-starts
+place_on-requires-clause-starts c = rw c.deref-starts.ensures.value (table_starts _ c.self.invariant)
 
 pub returns : goal.returns
 returns c source e w =
-    let starts = c.deref.ensures.value ∙ (ap (λ (t : Lines). t.starts) c.self.view_is
-    ∙ ap (λ (t : Lines). t.starts) e) in
-    rw c.position.ensures (line_place source c.deref.result.now c.args.index _ _ starts w c.line_of.ensures)
+    c.place_on.ensures source (c.deref-starts.ensures.value ∙ (ap (λ (t : Lines). t.starts) c.self.view_is
+    ∙ ap (λ (t : Lines). t.starts) e)) w

@@ -1,6 +1,6 @@
 use Rattle.std.proofs.Common.{◌∙◌, ◌+◌, ap, drop, arith}
 use Rattle.std.specs.Str.{chars}
-use Rattle.juniper_tokens.proofs.Steps.{drop_one_more, left_within, one_fewer, next_is_range, next_held}
+use Rattle.juniper_tokens.proofs.Steps.{line_within, drop_one_more, left_within, one_fewer, next_is_range, next_held}
 use Rattle.juniper_tokens.proofs.parser.Parser.advance.Goals as goal
 
 pub index-requires : goal.index-requires
@@ -31,3 +31,9 @@ invariant_of-self c =
 pub returns : goal.returns
 returns c = drop_one_more (chars c.self.inside.source.now) c.self.inside.ranges.items c.self.inside.taken
     ∙ ap (drop 1) c.self.view_is
+
+pub located-self-inside-requires-clause-near : goal.located-self-inside-requires-clause-near
+located-self-inside-requires-clause-near c =
+    let here = c.self.inside in
+    rw c.starts.ensures (line_within (chars here.source.now) here.ranges.items here.lines.starts here.taken here.current
+    c.self.invariant _ c.line-near.ensures)

@@ -18,7 +18,7 @@ pub invariant_of-result : goal.invariant_of-result
 invariant_of-result c =
     let source = chars c.args.source.now in
     record {
-      left = record { are_ranges = c.requires.ranges; ended = c.requires.ends; lines_are = ap (λ (t : Lines). t.starts) c.requires.lines };
+      left = record { are_ranges = c.requires.ranges; in_order = c.requires.order; ended = c.requires.ends; lines_are = ap (λ (t : Lines). t.starts) c.requires.lines };
       first = c.located-current.ensures ∙ sym (first_left source c.args.ranges.items 0 _
           (some_left source c.args.ranges.items c.requires.ends) (sym c.index.ensures));
     }

@@ -7,6 +7,6 @@ use Rattle.juniper_tokens.proofs.parser.Parser.new.Goals as goal
 
 pub from_ranges-requires-clause-ends : goal.from_ranges-requires-clause-ends
 from_ranges-requires-clause-ends c =
-    subst (λ (source : List ℕ). EndsOnce (range_lexemes source c.in_ok-ranges.ranges.items))
+    subst (λ (source : List ℕ). EndsOnce (range_lexemes source c.gather-gathered.new.ranges.items))
     (ap (λ (s : LexerState). s.source) c.duplicate-rest.ensures ∙ sym c.source-source.ensures)
-    (cut_ends_once _ _ _ c.in_ok-ranges.ensures.tokens)
+    (cut_ends_once _ _ _ c.in_ok-lines.ensures.tokens)

@@ -1,11 +1,18 @@
-use Rattle.std.proofs.Common.{◌≡◌, ◌≤◌, false, length, get_or, sym, ap, ◌∙◌, arith, refl}
+use Rattle.std.proofs.Common.{◌≡◌, ◌≤◌, false, length, get_or, sym, ap, ◌∙◌, arith, refl, subst}
 use Rattle.graphql_lexical.specs.declared.state.State.TheVariants.{Start}
 use Rattle.juniper_tokens.specs.device.ByteRuns.{is_inner}
-use Rattle.juniper_tokens.specs.device.Walks.{token_machine}
+use Rattle.juniper_tokens.specs.device.Walks.{token_machine, WalkedToken}
 use Rattle.juniper_tokens.proofs.ByteRuns.{walked_stop, walked_end}
 use Rattle.juniper_tokens.proofs.ByteClasses.{outer}
 use Rattle.juniper_tokens.proofs.TokenWalks.{walked_next, token_none, token_reached}
-use Rattle.juniper_tokens.proofs.lexer.walk.walk_token.Goals as goal
+use Rattle.juniper_tokens.proofs.lexer.walk.walk_on.Goals as goal
+
+pub loop-i-init : goal.loop-i-init
+loop-i-init c = (
+  subst (λ bs. WalkedToken bs c.args.start.bytes c.args.from c.args.start.characters) (sym c.as_bytes-bytes.ensures.value)
+      c.requires.walked,
+  c.requires.fewer,
+)
 
 pub loop-i-preserved : goal.loop-i-preserved
 loop-i-preserved c =
