@@ -74,11 +74,25 @@ fn write_fixed(out: &mut String, is_bare: bool, kind: Kind) -> Result<bool, Allo
         ++ encode_utf8_all (space_if (is_behind_space is_bare kind) ++ kind_text kind [])) }
 {
     write_space(out, is_bare && kind == Kind::Ellipsis)?;
-    push_text(out, kind.spelling().unwrap_or(""))?;
+    write_short(out, kind.spelling().unwrap_or(""))?;
     Ok(false)
 }
 
-// Writes a String, a block string or a number after a token that is bare or isn't.
+// Writes a text as it stands. A single byte is pushed, which takes less than a copy.
+#[tactic(auto, using(crate::proofs::Growth::grown_byte))]
+fn write_short(out: &mut String, text: &str) -> Result<(), AllocError>
+    ensures { OnOk result (string_bytes out.new ≡ string_bytes out.old ++ encode_utf8_all (chars text.now)) }
+{
+    let bytes = text.as_bytes();
+    if bytes.len() == 1 {
+        return out.push(bytes[0] as char);
+    }
+    push_text(out, text)
+}
+
+// Writes a String, a block string or a number after a token that is bare or isn't. It is out of line, so that the loop
+// over the tokens keeps more in registers.
+#[inline(never)]
 #[tactic(auto, using(crate::proofs::Marks::chars_quote, crate::proofs::Marks::chars_mark))]
 fn write_scalar(
     out: &mut String,
