@@ -20,11 +20,12 @@ pub struct Place {
 pub(crate) fn place_at(table: &ByteTable, position: SourcePosition) -> Place
     ensures { (source : List ℕ) → IsTableOf source table.now → PlaceFits position → result ≡ written_place source position }
 {
+    let index = in_word(position.index());
     Place {
-        index: in_word(position.index()),
+        index,
         line: in_word(position.line()),
         column: in_word(position.column()),
-        byte: table.byte(position.index()),
+        byte: table.byte(index as usize),
     }
 }
 

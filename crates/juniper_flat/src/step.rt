@@ -15,6 +15,7 @@ pub(crate) enum Step {
 }
 
 /// Skips the next ignored tokens, and takes what stands after them. The lexer has not ended.
+#[inline(always)]
 pub(crate) fn next_step(lexer: &mut Lexer<'_>) -> Step
     requires { lexer.old.ended ≡ false }
     ensures { Steps lexer.old result lexer.new }
