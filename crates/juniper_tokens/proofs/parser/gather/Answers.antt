@@ -94,37 +94,26 @@ loop-range-preserved c =
     ] in
     (kept, goes_on, search rules)
 
-pub returns-in-Ok-clause-ranges : goal.returns-in-Ok-clause-ranges
-returns-in-Ok-clause-ranges c =
-    let s = c.loop-range.lexer in
-    let same = c.in_ok-range-in-None.ensures.source ∙ c.in-None.ensures.source in
-    let step = other_steps s c.next_other.new.self c.loop-range.invariant.1 same c.next_plain.new.self
-    (Ok c.in_ok-range-in-None.range) c.in-None.ensures.takes c.in_ok-range-in-None.ensures.takes in
-    let pushed : c.push.new.self.items ≡ c.loop-range.ranges.items ++ c.in_ok-range-in-None.range ∷ [] = search rules in
-    (subst (λ rs. GatheredRanges c.args.lexer.now rs c.next_other.new.self) (sym pushed)
-    (ranges_more c.args.lexer.now c.loop-range.ranges.items s c.next_other.new.self
-    c.in_ok-range-in-None.range c.loop-range.invariant.0 step)).are_ranges
-
-pub returns-in-Ok-clause-order : goal.returns-in-Ok-clause-order
-returns-in-Ok-clause-order c =
-    let s = c.loop-range.lexer in
-    let same = c.in_ok-range-in-None.ensures.source ∙ c.in-None.ensures.source in
-    let step = other_steps s c.next_other.new.self c.loop-range.invariant.1 same c.next_plain.new.self
-    (Ok c.in_ok-range-in-None.range) c.in-None.ensures.takes c.in_ok-range-in-None.ensures.takes in
-    let pushed : c.push.new.self.items ≡ c.loop-range.ranges.items ++ c.in_ok-range-in-None.range ∷ [] = search rules in
-    (subst (λ rs. GatheredRanges c.args.lexer.now rs c.next_other.new.self) (sym pushed)
-    (ranges_more c.args.lexer.now c.loop-range.ranges.items s c.next_other.new.self
-    c.in_ok-range-in-None.range c.loop-range.invariant.0 step)).in_order
-
-pub returns-in-Ok-clause-tokens : goal.returns-in-Ok-clause-tokens
-returns-in-Ok-clause-tokens c =
+pub returns-in-Ok : goal.returns-in-Ok
+returns-in-Ok c =
     let s = c.loop-range.lexer in
     let same = c.in_ok-range-in-None.ensures.source ∙ c.in-None.ensures.source in
     let step = other_steps s c.next_other.new.self c.loop-range.invariant.1 same c.next_plain.new.self
     (Ok c.in_ok-range-in-None.range) c.in-None.ensures.takes c.in_ok-range-in-None.ensures.takes in
     let pushed : c.push.new.self.items ≡ c.loop-range.ranges.items ++ c.in_ok-range-in-None.range ∷ [] = search rules in
     let is_end : same_kind c.in_ok-range-in-None.range.kind EndOfFile ≡ true = search rules in
-    gathered_cut _ _ _ (subst (λ rs. GatheredRanges c.args.lexer.now rs c.next_other.new.self) (sym pushed)
+    let all : GatheredRanges c.args.lexer.now c.push.new.self.items c.next_other.new.self =
+    subst (λ rs. GatheredRanges c.args.lexer.now rs c.next_other.new.self) (sym pushed)
     (ranges_more c.args.lexer.now c.loop-range.ranges.items s c.next_other.new.self
-    c.in_ok-range-in-None.range c.loop-range.invariant.0 step)).gathered
-    (c.in_ok-range-in-None.ensures.takes.ends ∙ is_end)
+    c.in_ok-range-in-None.range c.loop-range.invariant.0 step) in
+    let ended = c.in_ok-range-in-None.ensures.takes.ends ∙ is_end in
+    record {
+      ranges = all.are_ranges;
+      order = all.in_order;
+      tokens = gathered_cut _ _ _ all.gathered ended;
+      lines = search rules;
+      fault = search rules;
+      zero_width = search rules;
+      source = search rules;
+      lexer = search rules;
+    }

@@ -1,4 +1,4 @@
-use Rattle.std.proofs.Common.{◌≡◌, ◌≤◌, false, length, get_or, sym, ap, ◌∙◌, arith, refl, subst}
+use Rattle.std.proofs.Common.{◌≡◌, ◌≤◌, false, length, get_or, sym, ap, ◌∙◌, arith, refl, subst, rules}
 use Rattle.graphql_lexical.specs.declared.state.State.TheVariants.{Start}
 use Rattle.juniper_tokens.specs.device.ByteRuns.{is_inner}
 use Rattle.juniper_tokens.specs.device.Walks.{token_machine, WalkedToken}
@@ -26,46 +26,26 @@ loop-i-preserved c =
       omega (arith, c.loop-i.invariant.1, c.walk_run-run.ensures.fewer),
     )
 
-pub returns-in-None-clause-reached : goal.returns-in-None-clause-reached
-returns-in-None-clause-reached c =
+pub returns-in-None : goal.returns-in-None
+returns-in-None c =
     let bytes = c.as_bytes-bytes.result.now in
     let b = get_or bytes c.loop-i.i 0 in
     let begins : is_inner b ≡ false = outer b c.byte_class.result false
     (omega (arith, c.type_inv.text c.loop-i.i, ap (λ t. get_or t c.loop-i.i 0) c.as_bytes-bytes.ensures.value))
     c.byte_class.ensures (sym c.if-is_inner.false ∙ c.is_inner.ensures) in
-    (token_reached c.args.text.now bytes c.loop-i.i c.loop-i.characters c.loop-i.state c.utf8.text
+    let reached = token_reached c.args.text.now bytes c.loop-i.i c.loop-i.characters c.loop-i.state c.utf8.text
     c.as_bytes-bytes.ensures.value
     (walked_stop token_machine (Start, 0) (c.loop-i.state, c.loop-i.characters) bytes c.loop-i.i c.loop-i-test.true
     (token_none c.loop-i.state c.loop-i.characters b begins
-    (sym c.step.ensures ∙ c.in-None.is)) c.loop-i.invariant.0)).0
+    (sym c.step.ensures ∙ c.in-None.is)) c.loop-i.invariant.0) in
+    record { reached = reached.0; offset = reached.1; within = search rules }
 
-pub returns-in-None-clause-offset : goal.returns-in-None-clause-offset
-returns-in-None-clause-offset c =
-    let bytes = c.as_bytes-bytes.result.now in
-    let b = get_or bytes c.loop-i.i 0 in
-    let begins : is_inner b ≡ false = outer b c.byte_class.result false
-    (omega (arith, c.type_inv.text c.loop-i.i, ap (λ t. get_or t c.loop-i.i 0) c.as_bytes-bytes.ensures.value))
-    c.byte_class.ensures (sym c.if-is_inner.false ∙ c.is_inner.ensures) in
-    (token_reached c.args.text.now bytes c.loop-i.i c.loop-i.characters c.loop-i.state c.utf8.text
-    c.as_bytes-bytes.ensures.value
-    (walked_stop token_machine (Start, 0) (c.loop-i.state, c.loop-i.characters) bytes c.loop-i.i c.loop-i-test.true
-    (token_none c.loop-i.state c.loop-i.characters b begins
-    (sym c.step.ensures ∙ c.in-None.is)) c.loop-i.invariant.0)).1
-
-pub returns-clause-reached : goal.returns-clause-reached
-returns-clause-reached c =
+pub returns : goal.returns
+returns c =
     let bytes = c.as_bytes-bytes.result.now in
     let end : length bytes ≤ c.loop-i.i = omega (arith, c.loop-i-test.false) in
-    (token_reached c.args.text.now bytes c.loop-i.i c.loop-i.characters c.loop-i.state c.utf8.text
+    let reached = token_reached c.args.text.now bytes c.loop-i.i c.loop-i.characters c.loop-i.state c.utf8.text
     c.as_bytes-bytes.ensures.value
     (walked_end token_machine (Start, 0) (c.loop-i.state, c.loop-i.characters) bytes c.loop-i.i end
-    c.loop-i.invariant.0)).0
-
-pub returns-clause-offset : goal.returns-clause-offset
-returns-clause-offset c =
-    let bytes = c.as_bytes-bytes.result.now in
-    let end : length bytes ≤ c.loop-i.i = omega (arith, c.loop-i-test.false) in
-    (token_reached c.args.text.now bytes c.loop-i.i c.loop-i.characters c.loop-i.state c.utf8.text
-    c.as_bytes-bytes.ensures.value
-    (walked_end token_machine (Start, 0) (c.loop-i.state, c.loop-i.characters) bytes c.loop-i.i end
-    c.loop-i.invariant.0)).1
+    c.loop-i.invariant.0) in
+    record { reached = reached.0; offset = reached.1; within = search rules }
