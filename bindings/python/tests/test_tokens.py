@@ -174,6 +174,25 @@ class Extremes(unittest.TestCase):
             self.assertEqual(fault_of(call, '"' + "é" * 2**25).start, Place(2**25 + 1, 0, 2**25 + 1, 2**26 + 1))
         self.assertEqual(fault_of(tokens, "!" * 2**26, max_tokens=2**22).start.index, 2**22)
 
+    def test_numbers_of_more_than_16_bits(self) -> None:
+        """Both places of a token, a node and each kind of fault, past 65,536 lines and, on a line, past as many characters."""
+        for gap in ("\n" * 2**17, " " * 2**17):
+            start, end = place(gap, len(gap)), place(gap + "{a}", len(gap) + 3)
+            found, document = tokens(gap + "{a}"), firthnapkin.parse(gap + "{a}")
+            self.assertEqual((found[0].start, found[2].end), (start, end))
+            self.assertEqual((document[0].start, document[0].end), (start, end))
+            for call, text, length, options in [
+                (tokens, "?", 0, {}),
+                (canonical, "?", 0, {}),
+                (firthnapkin.parse, "?", 0, {}),
+                (firthnapkin.parse, "}", 1, {}),
+                (firthnapkin.parse, "{", 1, {"depth": 0}),
+                (firthnapkin.parse, "a", 1, {"max_tokens": 0}),
+                (tokens, "a", 1, {"max_tokens": 0}),
+            ]:
+                fault = fault_of(call, gap + text, **options)
+                self.assertEqual((fault.start, fault.end), (start, place(gap + text, len(gap) + length)))
+
     def test_the_extension_alone(self) -> None:
         """The extension checks the types of its arguments, too."""
         extension = firthnapkin._parser
