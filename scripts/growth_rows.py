@@ -13,61 +13,66 @@ def times(n, part):
     return part * count if "№" not in part else "".join(part.replace("№", f"{i:06}") for i in range(count))
 
 
+def repeated(before, part, after=""):
+    """The texts, by their size, of a part over and over between two others."""
+    return lambda n: before + times(n, part) + after
+
+
 def nested(n, opening, inner, closing, depth=198):
     return times(n, opening * depth + inner + closing * depth + " ")
 
 
 TEXTS = {
-    "fields": lambda n: "{" + times(n, "a ") + "}",
+    "fields": repeated("{", "a ", "}"),
     "fields in fields": lambda n: "{" + nested(n, "a{", "a", "}") + "}",
     "inline fragments in each other": lambda n: "{" + nested(n, "...{", "a", "}") + "}",
-    "definitions": lambda n: times(n, "query Q {a} "),
-    "fragments": lambda n: times(n, "fragment F№ on T {...F№} "),
-    "a long name": lambda n: "{" + times(n, "a") + "}",
-    "long names": lambda n: "{" + times(n, "a" * 500 + " ") + "}",
-    "a long string": lambda n: '{a(b:"' + times(n, "x") + '")}',
-    "strings": lambda n: "{a(b:[" + times(n, '"x y" ') + "])}",
-    "escapes": lambda n: '{a(b:"' + times(n, r"\u00e9\n") + '")}',
-    "strings of escapes": lambda n: "{a(b:[" + times(n, r'"\\" ') + "])}",
-    "a block string of many lines": lambda n: '{a(b:"""' + times(n, "\n  line") + '""")}',
-    "a block string of empty lines": lambda n: '{a(b:"""a' + times(n, "\n") + 'b""")}',
-    "a block string, deep indents": lambda n: '{a(b:"""' + times(n, "\n" + " " * 500 + "a") + '""")}',
-    "a block string, one deep indent": lambda n: '{a(b:"""\n' + times(n, " ") + 'a""")}',
-    "a block string of carriage returns": lambda n: '{a(b:"""' + times(n, "\r\na") + '""")}',
-    "a block string of quotes": lambda n: '{a(b:"""' + times(n, '\\"""') + '""")}',
-    "block strings": lambda n: "{a(b:[" + times(n, '"""x""" ') + "])}",
-    "a long comment": lambda n: "#" + times(n, "c") + "\n{a}",
-    "comments": lambda n: "{a" + times(n, "#\n") + "}",
-    "spaces": lambda n: "{a" + times(n, " ") + "}",
-    "line feeds": lambda n: "{a" + times(n, "\n") + "}",
-    "byte order marks": lambda n: "{a" + times(n, "\ufeff") + "}",
-    "commas": lambda n: "{a" + times(n, ",\r\n\t") + "}",
-    "variables": lambda n: "query(" + times(n, "$v№: T = 1 ") + "){a}",
+    "definitions": repeated("", "query Q {a} "),
+    "fragments": repeated("", "fragment F№ on T {...F№} "),
+    "a long name": repeated("{", "a", "}"),
+    "long names": repeated("{", "a" * 500 + " ", "}"),
+    "a long string": repeated('{a(b:"', "x", '")}'),
+    "strings": repeated("{a(b:[", '"x y" ', "])}"),
+    "escapes": repeated('{a(b:"', r"\u00e9\n", '")}'),
+    "strings of escapes": repeated("{a(b:[", r'"\\" ', "])}"),
+    "a block string of many lines": repeated('{a(b:"""', "\n  line", '""")}'),
+    "a block string of empty lines": repeated('{a(b:"""a', "\n", 'b""")}'),
+    "a block string, deep indents": repeated('{a(b:"""', "\n" + " " * 500 + "a", '""")}'),
+    "a block string, one deep indent": repeated('{a(b:"""\n', " ", 'a""")}'),
+    "a block string of carriage returns": repeated('{a(b:"""', "\r\na", '""")}'),
+    "a block string of quotes": repeated('{a(b:"""', '\\"""', '""")}'),
+    "block strings": repeated("{a(b:[", '"""x""" ', "])}"),
+    "a long comment": repeated("#", "c", "\n{a}"),
+    "comments": repeated("{a", "#\n", "}"),
+    "spaces": repeated("{a", " ", "}"),
+    "line feeds": repeated("{a", "\n", "}"),
+    "byte order marks": repeated("{a", "\ufeff", "}"),
+    "commas": repeated("{a", ",\r\n\t", "}"),
+    "variables": repeated("query(", "$v№: T = 1 ", "){a}"),
     "types in types": lambda n: "query(" + nested(n, "$a:" + "[" * 197, "T", "]" * 197 + "!", 1) + "){a}",
-    "arguments": lambda n: "{a(" + times(n, "b№: 1 ") + ")}",
-    "a list": lambda n: "{a(b:[" + times(n, "1 ") + "])}",
+    "arguments": repeated("{a(", "b№: 1 ", ")}"),
+    "a list": repeated("{a(b:[", "1 ", "])}"),
     "lists in lists": lambda n: "{a(b:[" + nested(n, "[", "", "]", 190) + "])}",
-    "an object of many fields": lambda n: "{a(b:{" + times(n, "k№: E ") + "})}",
+    "an object of many fields": repeated("{a(b:{", "k№: E ", "})}"),
     "objects in objects": lambda n: "{a(b:[" + nested(n, "{k:", "1", "}", 190) + "])}",
-    "directives": lambda n: "{a " + times(n, "@d(x: $v) ") + "}",
-    "aliases": lambda n: "{" + times(n, "a: b ") + "}",
-    "spreads": lambda n: "{" + times(n, "...F ") + "}",
-    "a long Int": lambda n: "{a(b:" + times(n, "1") + ")}",
-    "a long Float": lambda n: "{a(b:1." + times(n, "1") + ")}",
-    "a long exponent": lambda n: "{a(b:1e" + times(n, "1") + ")}",
+    "directives": repeated("{a ", "@d(x: $v) ", "}"),
+    "aliases": repeated("{", "a: b ", "}"),
+    "spreads": repeated("{", "...F ", "}"),
+    "a long Int": repeated("{a(b:", "1", ")}"),
+    "a long Float": repeated("{a(b:1.", "1", ")}"),
+    "a long exponent": repeated("{a(b:1e", "1", ")}"),
     "text past ASCII": lambda n: "#" + times(n, "мир, ") + '\n{a(b:"' + times(n, "𝄞é") + '")}',
-    "tokens past text past ASCII": lambda n: "#é\n{" + times(n, "a(b:1)\n") + "}",
-    "a fault at the end": lambda n: "{" + times(n, "a ") + ")",
-    "an end that comes too soon": lambda n: "{" + times(n, "a "),
-    "a lexical fault at the end": lambda n: "{" + times(n, "a ") + "?",
-    "a string without an end": lambda n: '{a(b:"' + times(n, "x"),
-    "a block string without an end": lambda n: '{a(b:"""' + times(n, "x"),
-    "an escape that is none, at the end": lambda n: '{a(b:"' + times(n, "x") + r'\q")}',
-    "a long token that is refused": lambda n: '{ "' + times(n, "x\\\\") + '" }',
-    "too deep at the end": lambda n: "{" + times(n, "a ") + "a{" * 201,
-    "brackets without an end": lambda n: times(n, "{a"),
-    "lists without an end": lambda n: "{a(b:" + times(n, "["),
-    "keys without an end": lambda n: "{a(b:" + times(n, "{k:"),
+    "tokens past text past ASCII": repeated("#é\n{", "a(b:1)\n", "}"),
+    "a fault at the end": repeated("{", "a ", ")"),
+    "an end that comes too soon": repeated("{", "a "),
+    "a lexical fault at the end": repeated("{", "a ", "?"),
+    "a string without an end": repeated('{a(b:"', "x"),
+    "a block string without an end": repeated('{a(b:"""', "x"),
+    "an escape that is none, at the end": repeated('{a(b:"', "x", r'\q")}'),
+    "a long token that is refused": repeated('{ "', "x\\\\", '" }'),
+    "too deep at the end": repeated("{", "a ", "a{" * 201),
+    "brackets without an end": repeated("", "{a"),
+    "lists without an end": repeated("{a(b:", "["),
+    "keys without an end": repeated("{a(b:", "{k:"),
 }
 
 # The texts that each program reads in a bounded run. C's call reads all of them.
@@ -78,10 +83,10 @@ CHAIN = lambda n: "{k:" * (n // 200) + "1" + "}" * (n // 200)
 DOUBLED = lambda n: "{k:1 k:" * (n // 200) + "1" + "}" * (n // 200)
 # The same with a list on each level, a hundred levels deep in ten thousand bytes. The shorter list comes first.
 LISTED = lambda n: "{k:[1 1 1] k:[1 " * (n // 100) + "1" + "]}" * (n // 100)
-LISTS = lambda part: lambda n: "[" + times(n, part) + "]"
-OBJECT = lambda part: lambda n: "{" + times(n, part) + "}"
-WORDS = lambda part: lambda n: times(n, part)
-TOKEN = lambda kind, part: lambda n: kind + " " + times(n, part)
+LISTS = lambda part: repeated("[", part, "]")
+OBJECT = lambda part: repeated("{", part, "}")
+WORDS = lambda part: repeated("", part)
+TOKEN = lambda kind, part: repeated(kind + " ", part)
 
 # The calls of `check_calls calls`: the kind, the call if the kind has any, its input, and how many times as much twice the
 # size may take. `unlocated_eq` compares the value with itself.
@@ -107,7 +112,7 @@ VALUES = [
     ("unlocated_eq", "lists under doubled keys", LISTED, SQUARE),
 ]
 CALLS = [(("input_value", call), name, text, most) for call, name, text, most in VALUES] + [
-    (("arguments", "get v"), "objects in a list", lambda n: "{v: [" + times(n, "{k: [1]} ") + "]}", LINEAR),
+    (("arguments", "get v"), "objects in a list", repeated("{v: [", "{k: [1]} ", "]}"), LINEAR),
     (("pushed",), "definitions", TEXTS["definitions"], LINEAR),
     (("cursor", "rest"), "punctuators", LISTS("a "), LINEAR),
     (("cursor", "delimited_list [ ]"), "names", LISTS("a "), LINEAR),
@@ -123,8 +128,8 @@ CALLS = [(("input_value", call), name, text, most) for call, name, text, most in
     (("scalar", "from_str"), "lines", TOKEN("BlockString", "\n  line"), LINEAR),
     (("scalar", "from_str"), "digits", TOKEN("Int", "1"), LINEAR),
     (("odd_scalar", "from_str"), "digits of Literal", TOKEN("Literal Int", "1"), LINEAR),
-    (("odd_scalar", "from_str"), "a fraction of Literal", lambda n: "Literal Float 1." + times(n, "1"), LINEAR),
-    (("odd_scalar", "from_str"), "a fraction of Thousandths", lambda n: "Thousandths Float " + times(n, "1") + ".5", LINEAR),
+    (("odd_scalar", "from_str"), "a fraction of Literal", repeated("Literal Float 1.", "1"), LINEAR),
+    (("odd_scalar", "from_str"), "a fraction of Thousandths", repeated("Thousandths Float ", "1", ".5"), LINEAR),
     (("odd_scalar", "try_clone"), "escapes of Literal", TOKEN("Literal String", r"\u00e9\n"), LINEAR),
     (("object", "from_iter"), "distinct keys", OBJECT('k№: ["k" null] '), LINEAR),
     (("object", "from_iter"), "one key", OBJECT('k: ["k" null] '), LINEAR),
@@ -138,11 +143,11 @@ CALLS = [(("input_value", call), name, text, most) for call, name, text, most in
 # The inputs of which it is measured how many bytes each call requests. Lists and selection sets have two and seven parts, since
 # short ones have capacity at once by their length.
 REQUESTING = {
-    "lists of two": lambda n: "{a(b:[" + times(n, "[1 1] ") + "])}",
-    "lists of seven": lambda n: "{a(b:[" + times(n, "[1 1 1 1 1 1 1] ") + "])}",
-    "sets of two": lambda n: "{" + times(n, "a{b c} ") + "}",
-    "sets of seven": lambda n: "{" + times(n, "a{b c d e f g h} ") + "}",
-    "objects of two fields": lambda n: "{a(b:[" + times(n, "{k: 1 l: 1} ") + "])}",
+    "lists of two": repeated("{a(b:[", "[1 1] ", "])}"),
+    "lists of seven": repeated("{a(b:[", "[1 1 1 1 1 1 1] ", "])}"),
+    "sets of two": repeated("{", "a{b c} ", "}"),
+    "sets of seven": repeated("{", "a{b c d e f g h} ", "}"),
+    "objects of two fields": repeated("{a(b:[", "{k: 1 l: 1} ", "])}"),
     **{
         name: TEXTS[name]
         for name in ("an object of many fields", "a block string of many lines", "a block string of quotes", "line feeds", "definitions")
