@@ -53,13 +53,11 @@ pub extern "C" fn firthnapkin_canonical(
 {
     *needed = 0;
     match canonical_of(alloc, source) {
-        Canonical::Text(text) => fill(room, needed, text.as_bytes(), CANONICAL),
-        Canonical::Refused(found) => {
+        Ok(Canonical::Text(text)) => fill(room, needed, text.as_bytes(), CANONICAL),
+        Ok(Canonical::Refused(found)) => {
             *fault = found;
             REFUSED
         }
-        Canonical::NotUtf8 => NOT_UTF8,
-        Canonical::Memory => MEMORY,
-        Canonical::TooLong => TOO_LONG,
+        Err(unread) => unread.status(),
     }
 }

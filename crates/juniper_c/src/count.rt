@@ -27,13 +27,11 @@ pub extern "C" fn firthnapkin_count(
     ensures fault_kept { result ≢ MANY → fault.new ≡ fault.old }
 {
     match count_of(alloc, source, most) {
-        Counted::Few => FEW,
-        Counted::Many(found) => {
+        Ok(Counted::Few) => FEW,
+        Ok(Counted::Many(found)) => {
             *fault = found;
             MANY
         }
-        Counted::NotUtf8 => NOT_UTF8,
-        Counted::Memory => MEMORY,
-        Counted::TooLong => TOO_LONG,
+        Err(unread) => unread.status(),
     }
 }

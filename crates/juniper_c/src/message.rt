@@ -43,11 +43,9 @@ pub extern "C" fn firthnapkin_message(
         return DEPTH;
     }
     match message_of(alloc, source, depth) {
-        Said::Tree => TREE,
-        Said::Refused(message) => fill(room, needed, message.as_bytes(), REFUSED),
-        Said::TooDeep(message) => fill(room, needed, message.as_bytes(), TOO_DEEP),
-        Said::NotUtf8 => NOT_UTF8,
-        Said::Memory => MEMORY,
-        Said::TooLong => TOO_LONG,
+        Ok(Said::Tree) => TREE,
+        Ok(Said::Refused(message)) => fill(room, needed, message.as_bytes(), REFUSED),
+        Ok(Said::TooDeep(message)) => fill(room, needed, message.as_bytes(), TOO_DEEP),
+        Err(unread) => unread.status(),
     }
 }

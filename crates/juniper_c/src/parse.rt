@@ -10,7 +10,7 @@ ghost use Rattle.juniper_flat.specs.Answers.{HasDocument, HasRefusal, HasDeepTok
 
 use juniper_flat::depth::{MOST_DEPTH, is_refused};
 use juniper_flat::fault::Fault;
-use juniper_flat::flat::{Stop, flat_of};
+use juniper_flat::flat::{Parsed, flat_of};
 use juniper_flat::node::Node;
 use juniper_flat::room::fill_both;
 use juniper_flat::status::{DEPTH, MEMORY, NOT_UTF8, REFUSED, ROOM, TOO_DEEP, TOO_LONG, TREE};
@@ -60,7 +60,7 @@ pub extern "C" fn firthnapkin_parse(
         return DEPTH;
     }
     match flat_of(alloc, source, depth) {
-        Ok(flat) => {
+        Ok(Parsed::Tree(flat)) => {
             *nodes_needed = flat.nodes.len();
             *texts_needed = flat.texts.len();
             if fill_both(nodes, texts, &flat.nodes, flat.texts.as_bytes()) {
@@ -69,16 +69,14 @@ pub extern "C" fn firthnapkin_parse(
                 ROOM
             }
         }
-        Err(Stop::Refused(found)) => {
+        Ok(Parsed::Refused(found)) => {
             *fault = found;
             REFUSED
         }
-        Err(Stop::TooDeep(found)) => {
+        Ok(Parsed::TooDeep(found)) => {
             *fault = found;
             TOO_DEEP
         }
-        Err(Stop::NotUtf8) => NOT_UTF8,
-        Err(Stop::Memory) => MEMORY,
-        Err(Stop::TooLong) => TOO_LONG,
+        Err(unread) => unread.status(),
     }
 }

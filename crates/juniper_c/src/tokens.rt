@@ -70,22 +70,20 @@ pub extern "C" fn firthnapkin_tokens(
 {
     *tokens_needed = 0;
     match tokens_of(alloc, source, most, tokens) {
-        Written::Tokens(count) => {
+        Ok(Written::Tokens(count)) => {
             *tokens_needed = count;
             if count <= tokens.len() { TOKENS } else { ROOM }
         }
-        Written::Refused(count, found) => {
+        Ok(Written::Refused(count, found)) => {
             *tokens_needed = count;
             *fault = found;
             REFUSED
         }
-        Written::Many(found) => {
+        Ok(Written::Many(found)) => {
             *tokens_needed = most as usize;
             *fault = found;
             MANY
         }
-        Written::NotUtf8 => NOT_UTF8,
-        Written::Memory => MEMORY,
-        Written::TooLong => TOO_LONG,
+        Err(unread) => unread.status(),
     }
 }

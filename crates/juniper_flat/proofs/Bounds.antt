@@ -1,6 +1,6 @@
 -- A source is as long as what there is to tell of it.
 use Rattle.std.proofs.Common.{◌≡◌, ℕ, suc, ◌+◌, ◌≤◌, List, [], ◌∷◌, length, refl, ap, arith}
-use Rattle.std.specs.Prelude.{Result, Ok, Err, IfOk, string_bytes}
+use Rattle.std.specs.Prelude.{Result, Ok, Err, string_bytes}
 use Rattle.std.specs.Str.{chars}
 use Rattle.std.proofs.lemmas.Str.{encodes-chars}
 use Rattle.graphql_grammar.specs.Tree.{Definition}
@@ -11,9 +11,10 @@ use Rattle.juniper_tokens.proofs.Public.{chars_within}
 use Rattle.juniper_values.specs.Scalar.{Content}
 use Rattle.juniper_flat.specs.Nodes.{byte_count, written_nodes}
 use Rattle.juniper_nodes.specs.NodeTexts.{text_of_node}
-use Rattle.juniper_flat.specs.declared.flat.Flat.{Flat}
-use Rattle.juniper_flat.specs.declared.flat.Stop.{Stop}
-use Rattle.juniper_flat.specs.Answers.{ReturnsFlat, HasDocument, scalars, nodes_of, texts_of}
+use Rattle.juniper_flat.specs.declared.flat.Parsed.{Parsed}
+use Rattle.juniper_flat.specs.declared.flat.Parsed.TheVariants as parsed
+use Rattle.juniper_flat.specs.declared.source.Unread.{Unread}
+use Rattle.juniper_flat.specs.Answers.{ReturnsFlat, IfTree, HasDocument, scalars, nodes_of, texts_of}
 use Rattle.juniper_flat.proofs.ShortScalars.{short_texts}
 
 told-length : (source : List ℕ) (at : ℕ) (ns : List (nodes.Node Content)) → length (written_nodes source at ns) ≡ length ns
@@ -29,10 +30,12 @@ within_source source depth tree h =
       omega (arith, short, ap length (encodes-chars source h.utf8)),
     )
 
-pub flat_within : (source : List ℕ) (depth : ℕ) (result : Result Flat Stop) → ReturnsFlat source depth result
-    → IfOk result (λ flat.
+pub flat_within : (source : List ℕ) (depth : ℕ) (result : Result Parsed Unread) → ReturnsFlat source depth result
+    → IfTree result (λ flat.
     (length flat.nodes.items ≤ length source) × (length (string_bytes flat.texts) ≤ length source))
-flat_within source depth (Ok flat) h =
+flat_within source depth (Ok (parsed.Tree flat)) h =
     let within = within_source source depth h.1.0 h.1.1 in
     (omega (arith, within.0, ap length h.1.2), omega (arith, within.1, ap length h.1.3))
-flat_within source depth (Err e) h = tt
+flat_within source depth (Ok (parsed.Refused fault)) h = tt
+flat_within source depth (Ok (parsed.TooDeep fault)) h = tt
+flat_within source depth (Err unread) h = tt

@@ -1,6 +1,7 @@
 -- What a room holds of a source's tokens while a lexer goes over it.
 use Rattle.std.proofs.Common.{◌≡◌, ◌∙◌, ℕ, ◌+◌, ◌≤◌, false, List, [], ◌∷◌, ◌++◌, length, set, inl, inr, refl, sym, ap, ap₂, subst, arith, length-append, zero-le}
-use Rattle.std.specs.Prelude.{IsUtf8, chars}
+use Rattle.std.specs.Prelude.{◌<◌, ◌^◌, IsUtf8, chars, Result, Ok, Err}
+use Rattle.std.specs.Result.{IsErrAnd}
 use Rattle.std.proofs.lemmas.List.{length-map, map-append}
 use Rattle.graphql_lexical.specs.declared.kind.Kind.TheVariants.{EndOfFile}
 use Rattle.graphql_lexical.specs.Place.{Place, Span}
@@ -11,9 +12,13 @@ use Rattle.graphql_lexical.proofs.Public.{stands_size, leads_size, leads_whole, 
 use Rattle.juniper_tokens.specs.Lexing.{LexerState, started, passed, ahead, PassesToken, MeetsError}
 use Rattle.juniper_tokens.proofs.Public.{chars_within}
 use Rattle.juniper_flat.specs.Answers.{Fills}
+use Rattle.juniper_flat.specs.CutTokens.{ReturnsTokens}
 use Rattle.juniper_flat.specs.TokenCounts.{HasMore}
 use Rattle.juniper_flat.specs.Tokens.{written_token, written_tokens, HasTokens, HasFaultBehind}
+use Rattle.juniper_flat.specs.declared.source.Unread.{Unread}
+use Rattle.juniper_flat.specs.declared.source.Unread.TheVariants as unread
 use Rattle.juniper_flat.specs.declared.token.Token.{Token}
+use Rattle.juniper_flat.specs.declared.tokens.Written.{Written}
 use Rattle.juniper_flat.proofs.Rooms.{fills_none, fills_more}
 use Rattle.graphql_lexical.proofs.Public.{by_places}
 
@@ -108,6 +113,15 @@ module _ (source : List ℕ) (old room : List Token) (s : LexerState) (count : �
   -- the token behind those is the end
   pub held_all : (x : Lexeme) (next : ℕ) → StandsHere x next → x.kind ≡ EndOfFile → Cut source (h.tokens ++ x ∷ [])
   held_all x next stands end = cut_leads _ _ _ _ h.tokens (x ∷ []) h.leads (last stands end)
+
+-- ---- where memory runs out before the first token
+
+pub none_held : (source : List ℕ) (most : ℕ) (old : List Token) (result : Result Written Unread) → length source < 2 ^ 32
+    → IsUtf8 source → IsErrAnd result (λ e. e ≡ unread.OutOfMemory) → ReturnsTokens source most old old result
+none_held source most old (Ok written) l u e = absurd e
+none_held source most old (Err unread.NotUtf8) l u e = absurd (cc)
+none_held source most old (Err unread.TooLong) l u e = absurd (cc)
+none_held source most old (Err unread.OutOfMemory) l u e = ((l, u), ([], [], chars source, none, fills_none old))
 
 -- ---- how many tokens there are
 

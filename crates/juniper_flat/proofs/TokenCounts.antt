@@ -1,16 +1,13 @@
 -- Counts of tokens, one token on.
-use Rattle.std.proofs.Common.{◌≡◌, ℕ, suc, ◌+◌, ◌<◌, ◌^◌, List, ◌∷◌, [], ◌++◌, length, ap, sym, subst, refl, arith}
+use Rattle.std.proofs.Common.{◌≡◌, ℕ, suc, ◌<◌, ◌^◌, ◌∷◌, [], ◌++◌, length, ap, sym, subst, refl, arith}
 use Rattle.std.proofs.lemmas.List.{length-append}
-use Rattle.std.specs.Prelude.{IsUtf8, chars}
 use Rattle.graphql_lexical.specs.Place.{Span}
 use Rattle.graphql_lexical.specs.declared.kind.Kind.TheVariants.{EndOfFile}
 use Rattle.graphql_lexical.specs.Characters.{Text}
 use Rattle.graphql_lexical.specs.Cutting.{Lexeme, Stands, none, more}
 use Rattle.graphql_lexical.proofs.Public.{done_whole}
 use Rattle.juniper_flat.specs.FlatWriters.{PlaceFits, SpanFits}
-use Rattle.juniper_flat.specs.TokenCounts.{EndsAfter, HasFew, HasMore, IsTooMany, ReturnsCounted}
-use Rattle.juniper_flat.specs.declared.count.Counted.{Counted}
-use Rattle.juniper_flat.specs.declared.count.Counted.TheVariants as counted
+use Rattle.juniper_flat.specs.TokenCounts.{EndsAfter, HasFew, HasMore}
 use Rattle.juniper_flat.proofs.Fitting.{position_fits}
 
 -- the numbers of a token
@@ -85,13 +82,3 @@ few_here before left most e = record {
   ends = e;
   few = omega arith;
 }
-
--- what is answered where there are too many
-pub counted_many : (text : List ℕ) (most : ℕ) (span : Span) (result : Counted) → length text < 2 ^ 32 → IsUtf8 text
-    → HasMore [] (chars text) most span → SpanFits span → IsTooMany (chars text) span result
-    → ReturnsCounted text most result
-counted_many text most span counted.Few l u h f never = absurd never
-counted_many text most span (counted.Many fault) l u h f told = (l, u, (span, h, told f))
-counted_many text most span counted.NotUtf8 l u h f never = absurd never
-counted_many text most span counted.Memory l u h f tell = (l, u)
-counted_many text most span counted.TooLong l u h f never = absurd never

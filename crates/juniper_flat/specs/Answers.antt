@@ -14,9 +14,11 @@ use Rattle.juniper_nodes.specs.NodeTexts.{node_texts}
 use Rattle.juniper_flat.specs.Nodes.{written_nodes}
 use Rattle.juniper_flat.specs.Scalars.{scalar_reading}
 use Rattle.juniper_flat.specs.Faults.{written_fault, deep_fault}
+use Rattle.juniper_flat.specs.Sources.{IsUnread}
+use Rattle.juniper_flat.specs.declared.source.Unread.{Unread}
 use Rattle.juniper_flat.specs.declared.flat.Flat.{Flat}
-use Rattle.juniper_flat.specs.declared.flat.Stop.{Stop}
-use Rattle.juniper_flat.specs.declared.flat.Stop.TheVariants as stop
+use Rattle.juniper_flat.specs.declared.flat.Parsed.{Parsed}
+use Rattle.juniper_flat.specs.declared.flat.Parsed.TheVariants as parsed
 use Rattle.juniper_flat.specs.declared.message.Said.{Said}
 use Rattle.juniper_flat.specs.declared.message.Said.TheVariants as said
 use Rattle.juniper_flat.specs.declared.node.Node.{Node}
@@ -83,26 +85,29 @@ HasMessage source depth message =
 -- ---- before the buffers are looked at
 
 -- the nodes of a source, or why it has none
-abbrev pub ReturnsFlat : List ℕ → ℕ → Result Flat Stop → Type 0
-ReturnsFlat source depth (Ok flat) = (length source < 2 ^ 32)
+abbrev pub ReturnsFlat : List ℕ → ℕ → Result Parsed Unread → Type 0
+ReturnsFlat source depth (Ok (parsed.Tree flat)) = (length source < 2 ^ 32)
     × ((tree : List (Definition Content)) × HasDocument source depth tree
     × (flat.nodes.items ≡ nodes_of source tree) × (string_bytes flat.texts ≡ texts_of tree))
-ReturnsFlat source depth (Err (stop.Refused fault)) = (length source < 2 ^ 32)
+ReturnsFlat source depth (Ok (parsed.Refused fault)) = (length source < 2 ^ 32)
     × ((found : errors.Fault) × HasRefusal source depth found × (fault ≡ written_fault (chars source) found))
-ReturnsFlat source depth (Err (stop.TooDeep fault)) = (length source < 2 ^ 32)
+ReturnsFlat source depth (Ok (parsed.TooDeep fault)) = (length source < 2 ^ 32)
     × ((span : Span) × HasDeepToken source depth span × (fault ≡ deep_fault (chars source) span))
-ReturnsFlat source depth (Err stop.NotUtf8) = (length source < 2 ^ 32) × ¬ IsUtf8 source
-ReturnsFlat source depth (Err stop.Memory) = (length source < 2 ^ 32) × IsUtf8 source
-ReturnsFlat source depth (Err stop.TooLong) = 2 ^ 32 ≤ length source
+ReturnsFlat source depth (Err unread) = IsUnread source unread
+
+-- of the nodes of a source, where it has some
+abbrev pub IfTree : Result Parsed Unread → (Flat → Type 0) → Type 0
+IfTree (Ok (parsed.Tree flat)) P = P flat
+IfTree (Ok (parsed.Refused fault)) P = Unit {0}
+IfTree (Ok (parsed.TooDeep fault)) P = Unit {0}
+IfTree (Err unread) P = Unit {0}
 
 -- in words, why a source has no tree
-abbrev pub ReturnsSaid : List ℕ → ℕ → Said → Type 0
-ReturnsSaid source depth said.Tree = (length source < 2 ^ 32)
+abbrev pub ReturnsSaid : List ℕ → ℕ → Result Said Unread → Type 0
+ReturnsSaid source depth (Ok said.Tree) = (length source < 2 ^ 32)
     × ((tree : List (Definition Content)) × HasDocument source depth tree)
-ReturnsSaid source depth (said.Refused message) = (length source < 2 ^ 32)
+ReturnsSaid source depth (Ok (said.Refused message)) = (length source < 2 ^ 32)
     × ((fault : errors.Fault) × HasRefusal source depth fault × (string_bytes message ≡ refusal_message fault))
-ReturnsSaid source depth (said.TooDeep message) = (length source < 2 ^ 32)
+ReturnsSaid source depth (Ok (said.TooDeep message)) = (length source < 2 ^ 32)
     × ((span : Span) × HasDeepToken source depth span × (string_bytes message ≡ deep_message span))
-ReturnsSaid source depth said.NotUtf8 = (length source < 2 ^ 32) × ¬ IsUtf8 source
-ReturnsSaid source depth said.Memory = (length source < 2 ^ 32) × IsUtf8 source
-ReturnsSaid source depth said.TooLong = 2 ^ 32 ≤ length source
+ReturnsSaid source depth (Err unread) = IsUnread source unread

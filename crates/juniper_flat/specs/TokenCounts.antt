@@ -1,5 +1,5 @@
 -- How many tokens a source has.
-use Rattle.std.specs.Prelude.{◌≡◌, ◌<◌, ◌≤◌, ◌^◌, ◌⊎◌, ℕ, List, [], length, IsUtf8, chars}
+use Rattle.std.specs.Prelude.{◌≡◌, ◌<◌, ◌≤◌, ◌^◌, ◌⊎◌, ℕ, List, [], length, IsUtf8, chars, Result, Ok, Err}
 use Rattle.graphql_lexical.specs.Place.{Span}
 use Rattle.graphql_lexical.specs.Place as places
 use Rattle.graphql_lexical.specs.declared.kind.Kind.TheVariants.{EndOfFile}
@@ -7,7 +7,8 @@ use Rattle.graphql_lexical.specs.Kinds.{LexicalError}
 use Rattle.graphql_lexical.specs.Characters.{Text}
 use Rattle.graphql_lexical.specs.Cutting.{Lexeme, Stands, Leads, BreaksThere}
 use Rattle.juniper_flat.specs.Faults.{many_fault}
-use Rattle.juniper_flat.specs.FlatWriters.{SpanFits}
+use Rattle.juniper_flat.specs.Sources.{IsUnread}
+use Rattle.juniper_flat.specs.declared.source.Unread.{Unread}
 use Rattle.juniper_flat.specs.declared.count.Counted.{Counted}
 use Rattle.juniper_flat.specs.declared.count.Counted.TheVariants as counted
 
@@ -45,21 +46,9 @@ pub record HasMore (before left : Text) (most : ℕ) (span : Span) : Type 0 wher
 abbrev pub IsCountStatus : ℕ → Type 0
 IsCountStatus n = (n ≡ 0) ⊎ ((n ≡ 2) ⊎ ((n ≡ 4) ⊎ ((n ≡ 7) ⊎ (n ≡ 9))))
 
--- whether a source has more tokens than this, or why that is not known
-abbrev pub ReturnsCounted : List ℕ → ℕ → Counted → Type 0
-ReturnsCounted source most counted.Few = (length source < 2 ^ 32) × IsUtf8 source × HasFew [] (chars source) most
-ReturnsCounted source most (counted.Many fault) = (length source < 2 ^ 32) × IsUtf8 source
+-- whether a source has more tokens than this, or why nothing is known of it
+abbrev pub ReturnsCounted : List ℕ → ℕ → Result Counted Unread → Type 0
+ReturnsCounted source most (Ok counted.Few) = (length source < 2 ^ 32) × IsUtf8 source × HasFew [] (chars source) most
+ReturnsCounted source most (Ok (counted.Many fault)) = (length source < 2 ^ 32) × IsUtf8 source
     × ((span : Span) × HasMore [] (chars source) most span × (fault ≡ many_fault (chars source) span))
-ReturnsCounted source most counted.NotUtf8 = (length source < 2 ^ 32) × ¬ IsUtf8 source
-ReturnsCounted source most counted.Memory = (length source < 2 ^ 32) × IsUtf8 source
-ReturnsCounted source most counted.TooLong = 2 ^ 32 ≤ length source
-
--- ---- what private contracts say
-
--- The fault reports a token whose numbers fit.
-abbrev pub IsTooMany : List ℕ → Span → Counted → Type 0
-IsTooMany source span counted.Few = ⊥
-IsTooMany source span (counted.Many fault) = SpanFits span → fault ≡ many_fault source span
-IsTooMany source span counted.NotUtf8 = ⊥
-IsTooMany source span counted.Memory = Unit {0}
-IsTooMany source span counted.TooLong = ⊥
+ReturnsCounted source most (Err unread) = IsUnread source unread

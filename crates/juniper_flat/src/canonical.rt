@@ -1,8 +1,11 @@
 //! A source's canonical text.
-ghost use Rattle.std.specs.Prelude.{◌<◌, ◌^◌, length};
+ghost use Rattle.std.specs.Prelude.{◌≡◌, ◌<◌, ◌^◌, length, IfOk};
 ghost use Rattle.std.specs.Str.{chars};
 ghost use Rattle.juniper_tokens.specs.Errors.{view_lexer_error};
-ghost use Rattle.juniper_flat.specs.CanonicalTexts.{ReturnsCanonical, IsReportedRefusal};
+ghost use Rattle.juniper.specs.Promise.{lexical_fault};
+ghost use Rattle.juniper_flat.specs.CanonicalTexts.{ReturnsCanonical};
+ghost use Rattle.juniper_flat.specs.Faults.{written_fault};
+ghost use Rattle.juniper_flat.specs.FlatWriters.{PlaceFits};
 
 use crate::byte_table::ByteTable;
 use crate::fault::{Fault, lexical_fault};
@@ -10,7 +13,7 @@ use crate::source::{Unread, text_of};
 use juniper::{LexerError, SourcePosition};
 use juniper_canonical::canonical_text;
 use juniper_tokens::LexFailure;
-use std::alloc::Global;
+use std::alloc::{AllocError, Global};
 
 /// A source's canonical text, or why there is none.
 #[derive(Drop)]
@@ -19,44 +22,40 @@ pub enum Canonical {
     Text(String),
     /// The source has a lexical error, and this is the first.
     Refused(Fault),
-    /// The bytes are no text.
-    NotUtf8,
-    /// Memory ran out.
-    Memory,
-    /// The source has 4 GiB or more.
-    TooLong,
 }
 
-/// Returns the canonical text of a source. There is none where the bytes are no text or are 4 GiB or more, where a
-/// lexical error stands in them, and where memory runs out.
-pub fn canonical_of(alloc: Global, source: &[u8]) -> Canonical
+/// Returns the canonical text of a source, or that a lexical error stands in it. Nothing is known where the bytes are no
+/// text or are 4 GiB or more, and where memory runs out.
+pub fn canonical_of(alloc: Global, source: &[u8]) -> Result<Canonical, Unread>
     ensures { ReturnsCanonical source.now result }
 {
-    match text_of(source) {
-        Ok(text) => canonical_of_text(alloc, text),
-        Err(Unread::NotUtf8) => Canonical::NotUtf8,
-        Err(Unread::TooLong) => Canonical::TooLong,
-    }
+    canonical_of_text(alloc, text_of(source)?)
 }
 
-fn canonical_of_text(alloc: Global, text: &str) -> Canonical
+fn canonical_of_text(alloc: Global, text: &str) -> Result<Canonical, Unread>
     requires { length text.now < 2 ^ 32 }
     ensures { ReturnsCanonical text.now result }
 {
     match canonical_text(alloc, text) {
-        Ok(written) => Canonical::Text(written),
-        Err(LexFailure::Fault(fault)) => refused(alloc, text, &fault.item, fault.span.start),
-        Err(LexFailure::Memory) => Canonical::Memory,
+        Ok(written) => Ok(Canonical::Text(written)),
+        Err(LexFailure::Fault(fault)) => {
+            let found = reported(alloc, text, &fault.item, fault.span.start)?;
+            Ok(Canonical::Refused(found))
+        }
+        Err(LexFailure::Memory) => Err(Unread::OutOfMemory),
     }
 }
 
-// A source that is refused for this error at this place.
-fn refused(alloc: Global, text: &str, error: &LexerError, at: SourcePosition) -> Canonical
+// The fault of a text with this lexical error there.
+fn reported(
+    alloc: Global,
+    text: &str,
+    error: &LexerError,
+    at: SourcePosition,
+) -> Result<Fault, AllocError>
     requires { length text.now < 2 ^ 32 }
-    ensures { IsReportedRefusal (chars text.now) (view_lexer_error error.now) at result }
+    ensures { IfOk result (λ fault. PlaceFits at → fault ≡ written_fault (chars text.now) (lexical_fault (view_lexer_error error.now) at)) }
 {
-    match ByteTable::new(alloc, text) {
-        Ok(table) => Canonical::Refused(lexical_fault(&table, error, at)),
-        Err(_) => Canonical::Memory,
-    }
+    let table = ByteTable::new(alloc, text)?;
+    Ok(lexical_fault(&table, error, at))
 }

@@ -1,8 +1,10 @@
 //! A limit on the number of tokens.
-ghost use Rattle.std.specs.Prelude.{◌<◌, ◌^◌, length};
+ghost use Rattle.std.specs.Prelude.{◌≡◌, ◌<◌, ◌^◌, length, IfOk};
 ghost use Rattle.std.specs.Str.{chars};
 ghost use Rattle.juniper_tokens.specs.Spans.{view_span};
-ghost use Rattle.juniper_flat.specs.TokenCounts.{ReturnsCounted, IsTooMany};
+ghost use Rattle.juniper_flat.specs.Faults.{many_fault};
+ghost use Rattle.juniper_flat.specs.FlatWriters.{SpanFits};
+ghost use Rattle.juniper_flat.specs.TokenCounts.{ReturnsCounted};
 
 use crate::byte_table::ByteTable;
 use crate::fault::{Fault, many_fault};
@@ -10,37 +12,27 @@ use crate::source::{Unread, text_of};
 use crate::step::{Step, next_step};
 use juniper::Span;
 use juniper_tokens::Lexer;
-use std::alloc::Global;
+use std::alloc::{AllocError, Global};
 
-/// Whether a source has more tokens than a limit, or why that is not known.
+/// Whether a source has more tokens than a limit.
 #[derive(Clone, Copy)]
 pub enum Counted {
     /// No more than the limit stand before the source's end, or before its first lexical error.
     Few,
     /// There are more, and the fault is at the first that is one too many.
     Many(Fault),
-    /// The bytes are no text.
-    NotUtf8,
-    /// Memory ran out.
-    Memory,
-    /// The source has 4 GiB or more.
-    TooLong,
 }
 
 /// Returns whether a source has more tokens than the limit, besides its end. It is read up to the first that is one too
 /// many, or to its first lexical error. Nothing is known where the bytes are no text or are 4 GiB or more, and where
 /// memory runs out.
-pub fn count_of(alloc: Global, source: &[u8], most: u32) -> Counted
+pub fn count_of(alloc: Global, source: &[u8], most: u32) -> Result<Counted, Unread>
     ensures { ReturnsCounted source.now most result }
 {
-    match text_of(source) {
-        Ok(text) => count_of_text(alloc, text, most),
-        Err(Unread::NotUtf8) => Counted::NotUtf8,
-        Err(Unread::TooLong) => Counted::TooLong,
-    }
+    count_of_text(alloc, text_of(source)?, most)
 }
 
-fn count_of_text(alloc: Global, text: &str, most: u32) -> Counted
+fn count_of_text(alloc: Global, text: &str, most: u32) -> Result<Counted, Unread>
     requires { length text.now < 2 ^ 32 }
     ensures { ReturnsCounted text.now most result }
 {
@@ -50,25 +42,23 @@ fn count_of_text(alloc: Global, text: &str, most: u32) -> Counted
         match next_step(&mut lexer) {
             Step::Token(_, span) => {
                 if left == 0 {
-                    return too_many(alloc, text, span);
+                    return Ok(Counted::Many(reported(alloc, text, span)?));
                 }
                 left -= 1;
             }
-            Step::End(_) => return Counted::Few,
+            Step::End(_) => return Ok(Counted::Few),
             // Nothing after an error is a token.
-            Step::Fault(_) => return Counted::Few,
-            Step::Memory => return Counted::Memory,
+            Step::Fault(_) => return Ok(Counted::Few),
+            Step::Memory => return Err(Unread::OutOfMemory),
         }
     }
 }
 
-// A source that has too many tokens, the first of which has this span.
-fn too_many(alloc: Global, text: &str, span: Span) -> Counted
+// The fault of a text that has too many tokens, the first of which has this span.
+fn reported(alloc: Global, text: &str, span: Span) -> Result<Fault, AllocError>
     requires { length text.now < 2 ^ 32 }
-    ensures { IsTooMany (chars text.now) (view_span span) result }
+    ensures { IfOk result (λ fault. SpanFits (view_span span) → fault ≡ many_fault (chars text.now) (view_span span)) }
 {
-    match ByteTable::new(alloc, text) {
-        Ok(table) => Counted::Many(many_fault(&table, span)),
-        Err(_) => Counted::Memory,
-    }
+    let table = ByteTable::new(alloc, text)?;
+    Ok(many_fault(&table, span))
 }

@@ -1,5 +1,5 @@
 //! What is known of a source before the caller's buffers are looked at.
-ghost use Rattle.std.specs.Prelude.{◌≡◌, ◌<◌, ◌≤◌, ◌^◌, ◌++◌, ℕ, List, [], length, map, IfOk, OnOk, OnErr, string_bytes, encode_utf8_all};
+ghost use Rattle.std.specs.Prelude.{◌≡◌, ◌<◌, ◌≤◌, ◌^◌, ◌++◌, ℕ, List, [], length, map, OnOk, OnErr, string_bytes, encode_utf8_all};
 ghost use Rattle.graphql_nodes.specs.Nodes.{definition_nodes};
 ghost use Rattle.juniper.specs.View.{view_definition};
 ghost use Rattle.juniper_nodes.specs.NodeTexts.{node_texts};
@@ -9,7 +9,7 @@ ghost use Rattle.juniper_flat.specs.Scalars.{scalar_content};
 ghost use Rattle.juniper_flat.specs.Nodes.{written_nodes};
 ghost use Rattle.juniper_flat.specs.FlatWriters.{NodesFit};
 ghost use Rattle.juniper_flat.specs.declared.node.Node.{Node as Written};
-ghost use Rattle.juniper_flat.specs.Answers.{ReturnsFlat};
+ghost use Rattle.juniper_flat.specs.Answers.{ReturnsFlat, IfTree};
 
 use crate::byte_table::ByteTable;
 use crate::fault::{Fault, deep_fault, written_fault};
@@ -57,46 +57,28 @@ const BYTES_OF_A_NODE: usize = 8;
 // About how many characters of a definition there are for a node: more nodes need more memory.
 const CHARACTERS_OF_A_NODE: usize = 4;
 
-/// Why there are no nodes.
-#[derive(Clone, Copy)]
-pub enum Stop {
+/// What is known of a source.
+#[derive(Drop)]
+pub enum Parsed {
+    /// The source is a document, and no token is nested deeper than the limit.
+    Tree(Flat),
     /// The source is no document.
     Refused(Fault),
     /// A token is nested too deep, and those up to it begin a document.
     TooDeep(Fault),
-    /// The bytes are no text.
-    NotUtf8,
-    /// Memory ran out.
-    Memory,
-    /// The source has 4 GiB or more.
-    TooLong,
 }
 
-impl From<AllocError> for Stop {
-    ghost use Rattle.juniper_flat.specs.declared.flat.Stop.TheVariants.{Memory};
-
-    ghost from_gives = { λ _ e. e ≡ Memory };
-
-    fn from(_error: AllocError) -> Stop {
-        Stop::Memory
-    }
-}
-
-/// Returns the nodes of a source's tree and their texts. It fails where the source is no document, where a token is nested
-/// deeper than the limit, where the bytes are no text or are 4 GiB or more, and where memory runs out. A limit above
-/// `MOST_DEPTH` may need more stack than there is.
-pub fn flat_of(alloc: Global, source: &[u8], depth: u32) -> Result<Flat, Stop>
+/// Returns the nodes of a source's tree and their texts, or that the source is no document, or that a token is nested
+/// deeper than the limit. Nothing is known where the bytes are no text or are 4 GiB or more, and where memory runs out. A
+/// limit above `MOST_DEPTH` may need more stack than there is.
+pub fn flat_of(alloc: Global, source: &[u8], depth: u32) -> Result<Parsed, Unread>
     ensures answer { ReturnsFlat source.now depth result }
-    ensures bounds { IfOk result (λ flat. (length flat.nodes.items ≤ length source.now) × (length (string_bytes flat.texts) ≤ length source.now)) }
+    ensures bounds { IfTree result (λ flat. (length flat.nodes.items ≤ length source.now) × (length (string_bytes flat.texts) ≤ length source.now)) }
 {
-    match text_of(source) {
-        Ok(text) => flat_of_text(alloc, text, depth),
-        Err(Unread::NotUtf8) => Err(Stop::NotUtf8),
-        Err(Unread::TooLong) => Err(Stop::TooLong),
-    }
+    flat_of_text(alloc, text_of(source)?, depth)
 }
 
-fn flat_of_text(alloc: Global, text: &str, depth: u32) -> Result<Flat, Stop>
+fn flat_of_text(alloc: Global, text: &str, depth: u32) -> Result<Parsed, Unread>
     requires { length text.now < 2 ^ 32 }
     ensures { ReturnsFlat text.now depth result }
 {
@@ -115,12 +97,12 @@ fn flat_of_text(alloc: Global, text: &str, depth: u32) -> Result<Flat, Stop>
         depth as usize,
         &mut writer,
     ) {
-        Ok(()) => Ok(writer.flat),
+        Ok(()) => Ok(Parsed::Tree(writer.flat)),
         Err(DepthFailure::Parse(ParseFailure::Refused(found))) => {
-            Err(Stop::Refused(written_fault(&table, &found)))
+            Ok(Parsed::Refused(written_fault(&table, &found)))
         }
-        Err(DepthFailure::TooDeep(span)) => Err(Stop::TooDeep(deep_fault(&table, span))),
-        Err(DepthFailure::Parse(ParseFailure::Memory)) => Err(Stop::Memory),
+        Err(DepthFailure::TooDeep(span)) => Ok(Parsed::TooDeep(deep_fault(&table, span))),
+        Err(DepthFailure::Parse(ParseFailure::Memory)) => Err(Unread::OutOfMemory),
     }
 }
 

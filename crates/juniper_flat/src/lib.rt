@@ -15,7 +15,7 @@ pub mod node;
 pub mod place;
 pub mod room;
 mod scalar;
-mod source;
+pub mod source;
 pub mod status;
 mod step;
 pub mod token;

@@ -20,44 +20,28 @@ pub enum Said {
     Refused(String),
     /// A token is nested too deep, and those up to it begin a document: its line and its column.
     TooDeep(String),
-    /// The bytes are no text.
-    NotUtf8,
-    /// Memory ran out.
-    Memory,
-    /// The source has 4 GiB or more.
-    TooLong,
 }
 
 /// Returns why a source has no tree within a limit on the nesting of brackets, in words, or that it has one. There are
 /// no words where the bytes are no text or are 4 GiB or more, and where memory runs out. A limit above `MOST_DEPTH` may
 /// need more stack than there is.
-pub fn message_of(alloc: Global, source: &[u8], depth: u32) -> Said
+pub fn message_of(alloc: Global, source: &[u8], depth: u32) -> Result<Said, Unread>
     ensures { ReturnsSaid source.now depth result }
 {
-    match text_of(source) {
-        Ok(text) => message_of_text(alloc, text, depth),
-        Err(Unread::NotUtf8) => Said::NotUtf8,
-        Err(Unread::TooLong) => Said::TooLong,
-    }
+    message_of_text(alloc, text_of(source)?, depth)
 }
 
-fn message_of_text(alloc: Global, text: &str, depth: u32) -> Said
+fn message_of_text(alloc: Global, text: &str, depth: u32) -> Result<Said, Unread>
     requires { length text.now < 2 ^ 32 }
     ensures { ReturnsSaid text.now depth result }
 {
     match parse_document_source_within::<Scalar>(alloc, text, depth as usize) {
-        Ok(_) => Said::Tree,
+        Ok(_) => Ok(Said::Tree),
         Err(DepthFailure::Parse(ParseFailure::Refused(fault))) => {
-            match refusal_message(alloc, &fault) {
-                Ok(message) => Said::Refused(message),
-                Err(_) => Said::Memory,
-            }
+            Ok(Said::Refused(refusal_message(alloc, &fault)?))
         }
-        Err(DepthFailure::TooDeep(span)) => match deep_message(alloc, span) {
-            Ok(message) => Said::TooDeep(message),
-            Err(_) => Said::Memory,
-        },
-        Err(DepthFailure::Parse(ParseFailure::Memory)) => Said::Memory,
+        Err(DepthFailure::TooDeep(span)) => Ok(Said::TooDeep(deep_message(alloc, span)?)),
+        Err(DepthFailure::Parse(ParseFailure::Memory)) => Err(Unread::OutOfMemory),
     }
 }
 

@@ -1,21 +1,50 @@
-//! Bytes that a caller gives as a source.
-ghost use Rattle.std.specs.Prelude.{◌≡◌, ◌<◌, ◌^◌, length, MatchResult};
-ghost use Rattle.juniper_flat.specs.Sources.{IsUnread};
+//! Bytes that a caller gives as a source, and why nothing is known of them.
+ghost use Rattle.std.specs.Prelude.{◌≡◌, ◌≢◌, ◌<◌, ◌^◌, length, IfErr, IfOk};
+ghost use Rattle.juniper_flat.specs.Sources.{IsUnread, unread_status};
+ghost use Rattle.juniper_flat.specs.declared.source.Unread.TheVariants.{OutOfMemory};
 
-use crate::status::TOO_LONG_FROM;
+use crate::status::{MEMORY, NOT_UTF8, TOO_LONG, TOO_LONG_FROM};
+use std::alloc::AllocError;
 
-/// Why bytes are not read as a source.
+/// Why nothing is known of a source.
 #[derive(Clone, Copy)]
-pub(crate) enum Unread {
-    /// They are no text.
+pub enum Unread {
+    /// The bytes are no text.
     NotUtf8,
     /// There are 4 GiB or more, and they were not looked at.
     TooLong,
+    /// Memory ran out. The bytes are a text.
+    OutOfMemory,
 }
 
-/// These bytes as a text, or why they are not read as one.
+impl Unread {
+    /// What a call returns then.
+    pub fn status(self) -> u32
+        ensures { result ≡ unread_status self }
+    {
+        match self {
+            Unread::NotUtf8 => NOT_UTF8,
+            Unread::TooLong => TOO_LONG,
+            Unread::OutOfMemory => MEMORY,
+        }
+    }
+}
+
+impl From<AllocError> for Unread {
+    ghost use Rattle.juniper_flat.specs.declared.source.Unread.TheVariants.{OutOfMemory};
+
+    ghost from_gives = { λ _ e. e ≡ OutOfMemory };
+
+    fn from(_error: AllocError) -> Unread {
+        Unread::OutOfMemory
+    }
+}
+
+/// These bytes as a text, or why they are not read as one. It takes no memory.
 pub(crate) fn text_of(source: &[u8]) -> Result<&str, Unread>
-    ensures { MatchResult result (λ text. (text.now ≡ source.now) × (length source.now < 2 ^ 32)) (IsUnread source.now) }
+    ensures text { IfOk result (λ text. (text.now ≡ source.now) × (length source.now < 2 ^ 32)) }
+    ensures unread { IfErr result (IsUnread source.now) }
+    ensures memory { IfErr result (λ unread. unread ≢ OutOfMemory) }
 {
     if source.len() >= TOO_LONG_FROM {
         return Err(Unread::TooLong);

@@ -20,54 +20,52 @@ pub enum Written {
     Refused(usize, Fault),
     /// As many as the limit, and the fault is at the first that is one too many.
     Many(Fault),
-    /// None, since the bytes are no text.
-    NotUtf8,
-    /// Some of the first, or none, before memory ran out.
-    Memory,
-    /// None, since the source has 4 GiB or more.
-    TooLong,
 }
 
 /// Puts the tokens of a source into a buffer, as many as it has capacity for, and returns how many there are. The call
 /// stops at a lexical error, and at the first token that is more than the limit. The buffer stays as it is where the bytes
 /// are no text or are 4 GiB or more. Where memory runs out, some tokens may stand in it.
-pub fn tokens_of(alloc: Global, source: &[u8], most: u32, room: &mut [Token]) -> Written
+pub fn tokens_of(
+    alloc: Global,
+    source: &[u8],
+    most: u32,
+    room: &mut [Token],
+) -> Result<Written, Unread>
     ensures { ReturnsTokens source.now most room.old room.new result }
 {
-    match text_of(source) {
-        Ok(text) => tokens_of_text(alloc, text, most, room),
-        Err(Unread::NotUtf8) => Written::NotUtf8,
-        Err(Unread::TooLong) => Written::TooLong,
-    }
+    tokens_of_text(alloc, text_of(source)?, most, room)
 }
 
-fn tokens_of_text(alloc: Global, text: &str, most: u32, room: &mut [Token]) -> Written
+fn tokens_of_text(
+    alloc: Global,
+    text: &str,
+    most: u32,
+    room: &mut [Token],
+) -> Result<Written, Unread>
     requires { length text.now < 2 ^ 32 }
     ensures { ReturnsTokens text.now most room.old room.new result }
 {
-    let Ok(table) = ByteTable::new(alloc, text) else {
-        return Written::Memory;
-    };
+    let table = ByteTable::new(alloc, text)?;
     let mut lexer = Lexer::new(alloc, text);
     let mut count = 0;
     loop {
         match next_step(&mut lexer) {
             Step::Token(kind, span) => {
                 if count == most as usize {
-                    return Written::Many(many_fault(&table, span));
+                    return Ok(Written::Many(many_fault(&table, span)));
                 }
                 put(room, count, token_at(&table, kind, &span));
                 count += 1;
             }
             Step::End(span) => {
                 put(room, count, token_at(&table, Kind::EndOfFile, &span));
-                return Written::Tokens(count + 1);
+                return Ok(Written::Tokens(count + 1));
             }
             Step::Fault(fault) => {
                 let found = lexical_fault(&table, &fault.item, fault.span.start);
-                return Written::Refused(count, found);
+                return Ok(Written::Refused(count, found));
             }
-            Step::Memory => return Written::Memory,
+            Step::Memory => return Err(Unread::OutOfMemory),
         }
     }
 }

@@ -2,9 +2,9 @@ use Rattle.std.proofs.Common.{ap, arith, length}
 use Rattle.juniper_flat.proofs.Public.{canonical_within}
 use Rattle.juniper_c.proofs.canonical.firthnapkin_canonical.Goals as goal
 
-pub returns-in-Text-clause-bounds : goal.returns-in-Text-clause-bounds
-returns-in-Text-clause-bounds c =
-    let found = c.in-Text.ensures.1 in
+pub returns-in-Ok-Text-clause-bounds : goal.returns-in-Ok-Text-clause-bounds
+returns-in-Ok-Text-clause-bounds c =
+    let found = (rw c.in-Ok-Text.field-0-is at c.in-Ok-Text.ensures).1 in
     omega (
       arith,
       canonical_within c.args.source.now found.0 found.1,

@@ -8,7 +8,7 @@ use Rattle.graphql_lexical.specs.Kinds.{LexicalError}
 use Rattle.juniper_tokens.specs.Lexing.{LexerState, passed, ahead}
 use Rattle.juniper_tokens.specs.Spans.{view_span}
 use Rattle.juniper_flat.specs.TokenCounts.{EndsAfter, HasFew, HasMore}
-use Rattle.juniper_flat.proofs.TokenCounts.{few_behind, more_behind, more_here, few_here, token_fits, counted_many}
+use Rattle.juniper_flat.proofs.TokenCounts.{few_behind, more_behind, more_here, few_here, token_fits}
 use Rattle.juniper_flat.proofs.Fitting.{few_characters}
 use Rattle.juniper_flat.proofs.count.count_of_text.Goals as goal
 
@@ -36,9 +36,9 @@ returns-then-left-eq0 c =
     let more = subst (λ (n : ℕ). HasMore (passed text k) (ahead text k) n span) none
     (more_here (passed text k) (ahead text k) step.0 (passed text m) (ahead text m) stands step.2 span step.4) in
     let few = few_characters c.args.text.now c.utf8.text c.requires in
-    counted_many c.args.text.now c.args.most span _ c.requires c.utf8.text (l.invariant.more span more)
-    (token_fits (passed text k) (ahead text k) step.0 (passed text m) (ahead text m) stands span step.4
-    (subst (λ (t : List ℕ). length t < 2 ^ 32) (sym l.invariant.whole) few)) c.too_many.ensures
+    let fits = token_fits (passed text k) (ahead text k) step.0 (passed text m) (ahead text m) stands span step.4
+    (subst (λ (t : List ℕ). length t < 2 ^ 32) (sym l.invariant.whole) few) in
+    (c.requires, c.utf8.text, (span, l.invariant.more span more, c.in_ok-reported-in-Token.ensures fits))
 
 pub loop-span-preserved : goal.loop-span-preserved
 loop-span-preserved c =

@@ -2,5 +2,5 @@ use Rattle.std.proofs.Common.{rules}
 use Rattle.juniper_flat.proofs.Bounds.{flat_within}
 use Rattle.juniper_flat.proofs.flat.flat_of.Goals as goal
 
-pub returns-in-Ok-clause-bounds : goal.returns-in-Ok-clause-bounds
-returns-in-Ok-clause-bounds c = flat_within c.args.source.now c.args.depth c.flat_of_text.result (search rules)
+pub returns-clause-bounds : goal.returns-clause-bounds
+returns-clause-bounds c = flat_within c.args.source.now c.args.depth c.flat_of_text.result (search rules)

@@ -1,6 +1,5 @@
 use Rattle.std.proofs.Common.{◌≡◌, ◌∙◌, ℕ, ◌<◌, ◌^◌, List, ◌++◌, ◌∷◌, [], length, sym, subst, ap₂, arith, zero-le, length-append}
 use Rattle.std.specs.Str.{chars}
-use Rattle.graphql_lexical.specs.Cutting.{none}
 use Rattle.juniper_tokens.specs.Errors.{view_lexer_error}
 use Rattle.juniper_tokens.specs.Lexing.{LexerState, passed, ahead}
 use Rattle.juniper_tokens.specs.Spans.{view_span}
@@ -8,8 +7,7 @@ use Rattle.juniper_flat.specs.declared.token.Token.{Token}
 use Rattle.juniper_flat.specs.Tokens.{token_at, written_token, HasFaultBehind}
 use Rattle.juniper_flat.proofs.Fitting.{few_characters, broken_fits}
 use Rattle.juniper_flat.proofs.TokenCounts.{token_fits}
-use Rattle.juniper_flat.proofs.Rooms.{fills_none}
-use Rattle.juniper_flat.proofs.HeldTokens.{Held, held_first, all_there, stands_here, breaks_here, held_more, held_many, held_all, held_told, fault_behind}
+use Rattle.juniper_flat.proofs.HeldTokens.{Held, held_first, all_there, stands_here, breaks_here, held_more, held_many, held_all, held_told, fault_behind, none_held}
 use Rattle.juniper_flat.proofs.tokens.tokens_of_text.Goals as goal
 
 within_text : (text : List ℕ) (old room : List Token) (s : LexerState) (count : ℕ) (h : Held text old s room count)
@@ -29,7 +27,7 @@ returns-then-count-most c =
     let fits = token_fits _ _ step.0 _ _ stands span step.4 (within_text text _ _ l.lexer l.count held few) in
     let more = held_many text _ _ l.lexer l.count held c.args.most step.0 next span (omega (arith, c.if-count-most.true)) stands
     step.2 step.4 in
-    (c.requires, c.utf8.text, (span, more.0, more.1, c.many_fault.ensures text c.in-Ok.ensures fits))
+    (c.requires, c.utf8.text, (span, more.0, more.1, c.many_fault.ensures text c.in_ok-table.ensures fits))
 
 pub loop-kind-preserved : goal.loop-kind-preserved
 loop-kind-preserved c =
@@ -43,7 +41,7 @@ loop-kind-preserved c =
     let few = few_characters c.args.text.now c.utf8.text c.requires in
     let fits = token_fits _ _ step.0 _ _ stands span step.4 (within_text text _ _ l.lexer l.count held few) in
     let told : c.token_at.result ≡ written_token text step.0 =
-    c.token_at.ensures text c.in-Ok.ensures fits ∙ ap₂ (token_at text) step.3 step.4 in record {
+    c.token_at.ensures text c.in_ok-table.ensures fits ∙ ap₂ (token_at text) step.3 step.4 in record {
       held = held_more text _ _ l.lexer l.count held c.next_step.new.lexer c.put.new.room c.token_at.result step.0 stands
           step.2 step.5 step.6 told c.put.ensures;
       few = omega (arith, l.invariant.few, c.if-count-most.false);
@@ -61,7 +59,7 @@ returns-in-End c =
     let few = few_characters c.args.text.now c.utf8.text c.requires in
     let fits = token_fits _ _ step.0 _ _ stands span step.3 (within_text text _ _ l.lexer l.count held few) in
     let told : c.token_at-in-End.result ≡ written_token text step.0 =
-    c.token_at-in-End.ensures text c.in-Ok.ensures fits ∙ ap₂ (token_at text) (sym step.2) step.3 in
+    c.token_at-in-End.ensures text c.in_ok-table.ensures fits ∙ ap₂ (token_at text) (sym step.2) step.3 in
     let more = length-append held.tokens (step.0 ∷ []) in (
       c.requires,
       (
@@ -99,7 +97,7 @@ returns-in-Fault c =
         omega (arith, held.count_is, l.invariant.few),
         held.fills,
         held.count_is,
-        c.lexical_fault-found.ensures text c.in-Ok.ensures fits,
+        c.lexical_fault-found.ensures text c.in_ok-table.ensures fits,
       ),
     )
 
@@ -111,5 +109,6 @@ loop-kind-init c =
       few = zero-le;
     }
 
-pub returns-in_default : goal.returns-in_default
-returns-in_default c = (c.requires, c.utf8.text, ([], [], chars c.args.text.now, none, fills_none c.args.room.now))
+pub returns-in_err-table : goal.returns-in_err-table
+returns-in_err-table c =
+    none_held c.args.text.now c.args.most c.args.room.now c.from_residual.result c.requires c.utf8.text c.from_residual.ensures.1
