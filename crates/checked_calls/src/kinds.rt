@@ -39,6 +39,7 @@ pub fn write_answer(
         "const" => literals::write_value_in(alloc, out, text, true),
         "document" => documents::write_tree(alloc, out, text),
         "within" => documents::write_tree_within(alloc, out, text),
+        "limited" => documents::write_tree_limited(alloc, out, text),
         "equal" => documents::write_equal(alloc, out, text),
         "odd_document" => odd::write_arguments_of(alloc, out, text),
         "pushed" => documents::write_counts(alloc, out, text),

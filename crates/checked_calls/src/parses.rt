@@ -1,8 +1,8 @@
 //! A parse of a document, reported as it comes.
 
 use juniper::{
-    DefaultScalarValue, Definition, DefinitionSink, DepthFailure, OwnedDocument, ParseFailure,
-    parse_document_source, parse_document_source_into, parse_document_source_within,
+    DefaultScalarValue, Definition, DefinitionSink, LimitFailure, Limits, OwnedDocument,
+    ParseFailure, parse_document_source, parse_document_source_into, parse_document_source_within,
 };
 use std::alloc::{AllocError, Global};
 use std::io;
@@ -33,12 +33,12 @@ impl DefinitionSink<DefaultScalarValue> for Given {
 }
 
 // The tree of a text, within a limit on nesting where the word is a number.
-fn parsed<'a>(alloc: Global, word: &str, text: &'a str) -> Result<Document<'a>, DepthFailure> {
+fn parsed<'a>(alloc: Global, word: &str, text: &'a str) -> Result<Document<'a>, LimitFailure> {
     match word.parse::<usize>() {
-        Ok(depth) => parse_document_source_within(alloc, text, depth),
+        Ok(depth) => Ok(parse_document_source_within(alloc, text, depth)?),
         Err(_) => match parse_document_source(alloc, text) {
             Ok(document) => Ok(document),
-            Err(failure) => Err(DepthFailure::Parse(failure)),
+            Err(failure) => Err(LimitFailure::Parse(failure)),
         },
     }
 }
@@ -75,7 +75,7 @@ fn tell_given<R: Print + AllocGlobal>(rt: &R, text: &str) -> io::Result<()> {
     let answer = parse_document_source_into::<DefaultScalarValue, Given>(
         rt.alloc(),
         text,
-        200,
+        Limits::default(),
         &mut given,
     );
     if let Err(failure) = &answer {
@@ -85,13 +85,17 @@ fn tell_given<R: Print + AllocGlobal>(rt: &R, text: &str) -> io::Result<()> {
     println!(rt; "{count} definitions")
 }
 
-fn tell_failure<R: Print + AllocGlobal>(rt: &R, failure: &DepthFailure) -> io::Result<()> {
+fn tell_failure<R: Print + AllocGlobal>(rt: &R, failure: &LimitFailure) -> io::Result<()> {
     match failure {
-        DepthFailure::Parse(ParseFailure::Refused(fault)) => println!(rt; "{fault}"),
-        DepthFailure::Parse(ParseFailure::Memory) => println!(rt; "Memory"),
-        DepthFailure::TooDeep(span) => {
+        LimitFailure::Parse(ParseFailure::Refused(fault)) => println!(rt; "{fault}"),
+        LimitFailure::Parse(ParseFailure::Memory) => println!(rt; "Memory"),
+        LimitFailure::TooDeep(span) => {
             let start = span.start;
             println!(rt; "Too deeply nested. At {start}")
+        }
+        LimitFailure::TooMany(span) => {
+            let start = span.start;
+            println!(rt; "Too many tokens. At {start}")
         }
     }
 }

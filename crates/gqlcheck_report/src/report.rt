@@ -9,7 +9,7 @@ ghost use Rattle.gqlcheck_report.specs.Report.{Report, OneReport, IsReportEnd, f
 use crate::lines::document_text;
 use juniper::laws::{document_or_fault, one_answer_within, one_too_deep};
 use juniper::{
-    DefaultScalarValue, DepthFailure, ParseError, ParseFailure, Span, Spanning,
+    DEFAULT_DEPTH, DefaultScalarValue, DepthFailure, ParseError, ParseFailure, Span, Spanning,
     parse_document_source_within,
 };
 use std::alloc::{AllocError, Global};
@@ -34,7 +34,7 @@ pub enum RunEnd {
 }
 
 // The limit on the nesting of brackets.
-const LIMIT: usize = 200;
+const LIMIT: usize = DEFAULT_DEPTH;
 
 const NOT_UTF8: &str = "Not UTF-8\n";
 

@@ -107,9 +107,17 @@ by_texts source xs c = cut_to_text source 0 xs c
 pub by_places : (source : Text) (xs : List Lexeme) → Cut source xs → CutFrom source 0 xs
 by_places source xs c = cut_from_text [] source xs c
 
-pub breaks_from_text : (before left : Text) (error : LexicalError) (at : Place) → BreaksAfter before left error at
-    → BreaksFrom (before ++ left) (length before) error at
-breaks_from_text before left error at (form.here b) =
+-- the gap before a lexical error and the place of the error, by numbers of characters
+pub record ThereAt (source : Text) (k : ℕ) (error : LexicalError) (at : Place) : Type 0 where
+  pub gap : ℕ
+  pub size : ℕ
+  pub longest_gap : LongestAt IsGap (drop k source) gap
+  pub fails : FailsAt (drop (k + gap) source) size error
+  pub at_is : at ≡ place source ((k + gap) + size)
+
+pub there_from_text : (before left : Text) (error : LexicalError) (at : Place) → BreaksThere before left error at
+    → ThereAt (before ++ left) (length before) error at
+there_from_text before left error at b =
     let source : Text = before ++ left in
     let rest : drop (length before + length b.gap) source ≡ b.front ++ b.after = past_gap before left b.gap (b.front ++ b.after) b.left_is in
     let size : length (b.gap ++ b.front) ≡ length b.gap + length b.front = length-append b.gap b.front in
@@ -117,9 +125,19 @@ breaks_from_text before left error at (form.here b) =
     let up : take ((length before + length b.gap) + length b.front) source ≡ before ++ (b.gap ++ b.front) =
     ap (λ (i : ℕ). take i source) sum
     ∙ up_to_gap before left (b.gap ++ b.front) b.after (b.left_is ∙ sym (append_assoc b.gap b.front b.after)) in
-    subst (BreaksFrom source (length before) error) (ap position_after up ∙ sym b.at_is)
-    (now.here (gap_there before left b.gap (b.front ++ b.after) b.left_is b.longest_gap)
-    (subst (λ (t : Text). FailsAt t (length b.front) error) (sym rest) (fails_from_text b.front b.after error b.fails)))
+    record {
+      gap = length b.gap;
+      size = length b.front;
+      longest_gap = gap_there before left b.gap (b.front ++ b.after) b.left_is b.longest_gap;
+      fails = subst (λ (t : Text). FailsAt t (length b.front) error) (sym rest) (fails_from_text b.front b.after error b.fails);
+      at_is = b.at_is ∙ ap position_after (sym up);
+    }
+
+pub breaks_from_text : (before left : Text) (error : LexicalError) (at : Place) → BreaksAfter before left error at
+    → BreaksFrom (before ++ left) (length before) error at
+breaks_from_text before left error at (form.here b) =
+    let there = there_from_text before left error at b in
+    subst (BreaksFrom (before ++ left) (length before) error) (sym there.at_is) (now.here there.longest_gap there.fails)
 breaks_from_text before left error at (form.later {done = done} {after = after} {x = x} s n b) =
     now.behind (stands_from_text before left x done after s) n
     (subst (λ (t : Text). BreaksFrom t (length done) error at) (sym (done_whole before left x done after s)) (breaks_from_text done after error at b))

@@ -9,6 +9,7 @@ pub use Rattle.graphql_lexical.proofs.Gaps.{gap_longest}
 pub use Rattle.graphql_lexical.proofs.Joints.{few_tokens}
 pub use Rattle.graphql_lexical.proofs.Depths.{deeper_after, after_deeper, before_is, up_to_token, shallow_fronts, fronts_shallow}
 pub use Rattle.graphql_lexical.proofs.NumberParts.{float_same, integer_same, name_same}
+pub use Rattle.graphql_lexical.proofs.OneToken.{one_token, token_or_error}
 pub use Rattle.graphql_lexical.proofs.Places.{place_after, place_push, steps_by_characters}
 pub use Rattle.graphql_lexical.proofs.ReadByTexts.{from_reads_text}
 pub use Rattle.graphql_lexical.proofs.Readings.{answer_finds, read_end, read_token, same_Ok}

@@ -3,6 +3,7 @@ pub mod Scalars
 pub mod device
 pub mod Promise
 pub mod Within
+pub mod Limited
 pub mod Sinks
 pub mod Named
 pub mod ReadBack

@@ -31,6 +31,7 @@ ghost use Rattle.juniper.specs.laws.TreeLaws.{FailsAtBreak, IsRefusedAtBreak, Se
 ghost use Rattle.juniper.specs.Scalars.{stated};
 ghost use Rattle.juniper.specs.Sources.{AreRefusedAlike};
 ghost use Rattle.juniper.specs.Within.{HasTooDeep, HasOneResult};
+ghost use Rattle.juniper.specs.Limited.{HasOneResultLimited};
 
 mod equality;
 
@@ -71,6 +72,12 @@ pub fn one_too_deep<S: ScalarValue>()
 /// of these.
 pub fn one_answer_within<S: ScalarValue>()
     ensures { (depth : ℕ) (source : List ℕ) → HasOneResult (stated S.reading S.of_bool) depth source }
+{}
+
+/// Within limits on nesting and on tokens, a source text has few tokens and a tree, is refused, or has a token that is
+/// nested too deep, or it has too many tokens: exactly one of these four.
+pub fn one_answer_limited<S: ScalarValue>()
+    ensures { (depth most : ℕ) (source : List ℕ) → HasOneResultLimited (stated S.reading S.of_bool) depth most source }
 {}
 
 /// Two source texts whose tokens are alike, in kinds and texts, are both documents, whose trees differ in spans alone,

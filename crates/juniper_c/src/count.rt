@@ -3,7 +3,8 @@ ghost use Rattle.std.specs.Prelude.{◌≡◌, ◌≢◌, ◌≤◌, ◌^◌, �
 ghost use Rattle.std.specs.Str.{chars};
 ghost use Rattle.graphql_lexical.specs.Place as places;
 ghost use Rattle.juniper_flat.specs.Faults.{many_fault};
-ghost use Rattle.juniper_flat.specs.TokenCounts.{HasFew, HasMore, IsCountStatus};
+ghost use Rattle.juniper_tokens.specs.Counting.{HasFew, HasMore};
+ghost use Rattle.juniper_flat.specs.TokenCounts.{IsCountStatus};
 
 use juniper_flat::count::{Counted, count_of};
 use juniper_flat::fault::Fault;

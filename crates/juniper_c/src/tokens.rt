@@ -8,7 +8,7 @@ ghost use Rattle.graphql_lexical.specs.Cutting.{Lexeme, Leads, Stands, Breaks};
 ghost use Rattle.juniper.specs.Promise.{lexical_fault};
 ghost use Rattle.juniper_flat.specs.Faults.{written_fault, many_fault};
 ghost use Rattle.juniper_flat.specs.Answers.{Begins, Fills};
-ghost use Rattle.juniper_flat.specs.TokenCounts.{HasMore};
+ghost use Rattle.juniper_tokens.specs.Counting.{HasMore};
 ghost use Rattle.juniper_flat.specs.Tokens.{written_tokens, TellsText, HasTokens, HasFaultBehind, IsTokensStatus};
 
 use juniper_flat::fault::Fault;

@@ -13,7 +13,7 @@ use Rattle.juniper_tokens.specs.Lexing.{LexerState, started, passed, ahead, Pass
 use Rattle.juniper_tokens.proofs.Public.{chars_within}
 use Rattle.juniper_flat.specs.Answers.{Fills}
 use Rattle.juniper_flat.specs.CutTokens.{ReturnsTokens}
-use Rattle.juniper_flat.specs.TokenCounts.{HasMore}
+use Rattle.juniper_tokens.specs.Counting.{HasMore}
 use Rattle.juniper_flat.specs.Tokens.{written_token, written_tokens, HasTokens, HasFaultBehind}
 use Rattle.juniper_flat.specs.declared.source.Unread.{Unread}
 use Rattle.juniper_flat.specs.declared.source.Unread.TheVariants as unread

@@ -6,7 +6,7 @@ use Rattle.graphql_lexical.specs.Cutting.{Lexeme, Leads}
 use Rattle.juniper.specs.Promise.{lexical_fault}
 use Rattle.juniper_flat.specs.Faults.{written_fault, many_fault}
 use Rattle.juniper_flat.specs.Answers.{Fills}
-use Rattle.juniper_flat.specs.TokenCounts.{HasMore}
+use Rattle.juniper_tokens.specs.Counting.{HasMore}
 use Rattle.juniper_flat.specs.Sources.{IsUnread}
 use Rattle.juniper_flat.specs.declared.source.Unread.{Unread}
 use Rattle.juniper_flat.specs.declared.source.Unread.TheVariants as unread

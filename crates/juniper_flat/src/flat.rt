@@ -16,7 +16,9 @@ use crate::fault::{Fault, deep_fault, written_fault};
 use crate::node::{Node, write_node, written_node};
 use crate::scalar::Scalar;
 use crate::source::{Unread, text_of};
-use juniper::{Definition, DefinitionSink, DepthFailure, ParseFailure, parse_document_source_into};
+use juniper::{
+    Definition, DefinitionSink, LimitFailure, Limits, ParseFailure, parse_document_source_into,
+};
 use juniper_nodes::push_definition;
 use std::alloc::{AllocError, Global};
 
@@ -91,18 +93,18 @@ fn flat_of_text(alloc: Global, text: &str, depth: u32) -> Result<Parsed, Unread>
             texts: String::new(alloc),
         },
     };
-    match parse_document_source_into::<Scalar, FlatWriter<'_>>(
-        alloc,
-        text,
-        depth as usize,
-        &mut writer,
-    ) {
+    let limits = Limits {
+        depth: depth as usize,
+        tokens: usize::MAX,
+    };
+    match parse_document_source_into::<Scalar, FlatWriter<'_>>(alloc, text, limits, &mut writer) {
         Ok(()) => Ok(Parsed::Tree(writer.flat)),
-        Err(DepthFailure::Parse(ParseFailure::Refused(found))) => {
+        Err(LimitFailure::Parse(ParseFailure::Refused(found))) => {
             Ok(Parsed::Refused(written_fault(&table, &found)))
         }
-        Err(DepthFailure::TooDeep(span)) => Ok(Parsed::TooDeep(deep_fault(&table, span))),
-        Err(DepthFailure::Parse(ParseFailure::Memory)) => Err(Unread::OutOfMemory),
+        Err(LimitFailure::TooDeep(span)) => Ok(Parsed::TooDeep(deep_fault(&table, span))),
+        Err(LimitFailure::TooMany(_)) => unreachable!(),
+        Err(LimitFailure::Parse(ParseFailure::Memory)) => Err(Unread::OutOfMemory),
     }
 }
 

@@ -51,7 +51,7 @@ gathered_open s xs t g e = elim g.tokens [
 ]
 
 -- a state at this index of the source
-abbrev at_index : LexerState → ℕ → LexerState
+abbrev pub at_index : LexerState → ℕ → LexerState
 at_index s k = record { source = s.source; index = k; ended = s.ended }
 
 pub gathered_token : (s : LexerState) (xs : List Lexeme) (t u : LexerState) (x : Lexeme)

@@ -4,6 +4,7 @@ pub mod SpanningText
 pub mod Tokens
 pub mod Errors
 pub mod Escapes
+pub mod Counting
 pub mod Cursor
 pub mod Taking
 pub mod Delimited

@@ -2,7 +2,7 @@
 ghost use Rattle.std.specs.Prelude.{◌≡◌, Some, IfOk};
 ghost use Rattle.std.specs.Str.{encode_utf8_all};
 
-use crate::span::Spanning;
+use crate::span::{Span, Spanning};
 use crate::text::{same_text, write_text};
 use crate::token::Token;
 use std::alloc::{AllocError, AllocFailed, Global};
@@ -76,6 +76,25 @@ pub enum LexFailure {
     Fault(Spanning<LexerError>),
     /// Memory ran out.
     Memory,
+}
+
+/// Why a source has no list of so many tokens.
+#[derive(Debug, Drop)]
+pub enum LimitedLexFailure {
+    /// The lexer's failure.
+    Lex(LexFailure),
+    /// The span of the first token that is one too many.
+    TooMany(Span),
+}
+
+impl From<LexFailure> for LimitedLexFailure {
+    ghost use Rattle.juniper_tokens.specs.declared.error.LimitedLexFailure.TheVariants.{Lex};
+
+    ghost from_gives = { λ failure e. e ≡ Lex failure };
+
+    fn from(failure: LexFailure) -> LimitedLexFailure {
+        LimitedLexFailure::Lex(failure)
+    }
 }
 
 /// Why a parser returned nothing.

@@ -286,6 +286,21 @@ impl<'a> Lexer<'a> {
         }
     }
 
+    /// The span from a character of what has been read to where the lexer stands. It takes no memory: the character's place
+    /// is walked to from the source's beginning.
+    #[cold]
+    pub(crate) fn span_from(&self, index: usize) -> Span
+        requires { index ≤ self.now.index }
+        ensures start { result.start ≡ place self.now.source index }
+        ensures end { result.end ≡ place self.now.source self.now.index }
+    {
+        let origin = SourcePosition::new_origin();
+        Span {
+            start: walk_characters(self.source, origin, index),
+            end: self.position,
+        }
+    }
+
     // The token of the range that begins at the place `start`, and at whose end the lexer stands.
     #[inline(always)]
     fn token(&self, range: TokenRange, start: SourcePosition) -> Spanning<Token<'a>>

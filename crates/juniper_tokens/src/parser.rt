@@ -1,5 +1,5 @@
 //! The cursor over the tokens of a source.
-ghost use Rattle.std.specs.Prelude.{◌≡◌, ◌-◌, ◌<◌, ◌≤◌, [], ◌∷◌, drop, false, true, length, option_map, OnOk, IfOk, IfErr};
+ghost use Rattle.std.specs.Prelude.{◌≡◌, ◌-◌, ◌^◌, ◌<◌, ◌≤◌, [], ◌∷◌, drop, false, true, length, option_map, OnOk, IfOk, IfErr};
 ghost use Rattle.std.specs.List.{All};
 ghost use Rattle.std.specs.Global.{Global as Allocator};
 ghost use Rattle.std.specs.Str.{chars};
@@ -7,11 +7,14 @@ ghost use Rattle.graphql_lexical.specs.declared.kind.Kind.TheVariants.{EndOfFile
 ghost use Rattle.graphql_lexical.specs.Kinds.{same_kind};
 ghost use Rattle.graphql_lexical.specs.Cutting.{Lexeme};
 ghost use Rattle.juniper_tokens.specs.Errors.{view_lexer_error};
+ghost use Rattle.juniper_tokens.specs.Counting.{HasFew, HasMore, IfCounted, IfFaultWithin, IfStopped, IfTooMany};
 ghost use Rattle.juniper_tokens.specs.Gathering.{IfFault, IfMemory, HasLeft, BreaksOff, StandsLaterOrEnded};
 ghost use Rattle.juniper_tokens.specs.LineTables.{lines_of};
 ghost use Rattle.juniper_tokens.specs.declared.error.LexFailure.TheVariants.{Memory};
 ghost use Rattle.juniper_tokens.specs.device.LineSteps.{HasLines};
 ghost use Rattle.juniper_tokens.specs.device.Ranges.{InOrder, IsRange, range_lexemes};
+ghost use Rattle.juniper_tokens.specs.Lexing.{passed, ahead};
+ghost use Rattle.juniper_tokens.specs.Spans.{view_span};
 ghost use Rattle.juniper_tokens.specs.Tokens.{token_kind, token_text, view_token, view_name};
 ghost use Rattle.juniper_tokens.specs.Nesting.{EndsAtNesting};
 ghost use Rattle.juniper_tokens.specs.Delimited.{IsRest};
@@ -19,7 +22,7 @@ ghost use Rattle.juniper_tokens.specs.Taking.{left};
 ghost use Rattle.juniper_tokens.specs.Cursor.{Gives, RefusesEnd, OnMemory, Unmoved, EndsOnce, first_of, kind_at, is_wanted, next_at, refused_at, expect_at, expect_name_at, skip_at};
 
 use crate::cursor::Cursor;
-use crate::error::{LexFailure, OptionParseResult, ParseFailure, ParseResult};
+use crate::error::{LexFailure, LimitedLexFailure, OptionParseResult, ParseFailure, ParseResult};
 use crate::lexer::Lexer;
 use crate::line::{Line, line_near};
 use crate::line_table::{LineStarts, LineTable};
@@ -81,11 +84,41 @@ impl<'a> Parser<'a> {
         ensures source { lexer.new.source ≡ lexer.old.source }
         ensures lexer { IfMemory result (StandsLaterOrEnded lexer.old lexer.new) (lexer.new.ended ≡ true) }
     {
+        match Parser::new_within(lexer, usize::MAX) {
+            Ok(parser) => Ok(parser),
+            Err(LimitedLexFailure::Lex(failure)) => Err(failure),
+            Err(LimitedLexFailure::TooMany(_)) => unreachable!(),
+        }
+    }
+
+    /// A cursor at the first of the tokens that a lexer has left, which may be no more than `most`, the end not counted.
+    /// `usize::MAX` is no limit.
+    ///
+    /// The tokens are taken up to the first that is one too many, and `TooMany` is returned with its span if it stands before
+    /// the end and before the first lexical error. It takes no memory of its own. Otherwise the result is that of `new`.
+    ///
+    /// ```
+    /// let mut lexer = Lexer::new(alloc, "{ a }");
+    /// let parser = Parser::new_within(&mut lexer, 3)?;
+    /// ```
+    pub fn new_within(lexer: &mut Lexer<'a>, most: usize) -> Result<Self, LimitedLexFailure>
+        requires { lexer.old.ended ≡ false }
+        ensures tokens { IfOk result (λ tokens. HasLeft lexer.old tokens) }
+        ensures fault { IfFaultWithin result (λ fault. BreaksOff lexer.old (view_lexer_error fault.item) fault.span.start) }
+        ensures zero_width { IfFaultWithin result (λ fault. fault.span.end ≡ fault.span.start) }
+        ensures few { IfCounted result (HasFew (passed lexer.old.source lexer.old.index) (ahead lexer.old.source lexer.old.index) most) }
+        ensures many { IfTooMany result (λ span. HasMore (passed lexer.old.source lexer.old.index) (ahead lexer.old.source lexer.old.index) most (view_span span)) }
+
+        // So there is a limit that no source exceeds.
+        ensures limited { IfTooMany result (λ _. most < 2 ^ 63) }
+        ensures source { lexer.new.source ≡ lexer.old.source }
+        ensures lexer { IfStopped result (StandsLaterOrEnded lexer.old lexer.new) (lexer.new.ended ≡ true) }
+    {
         let alloc = lexer.allocator();
         let source = lexer.source();
         let mut rest = lexer.duplicate();
-        let mut ranges = room_for_ranges(alloc, source);
-        let gathered = gather(&mut rest, &mut ranges);
+        let mut ranges = room_for_ranges(alloc, source, most);
+        let gathered = gather(&mut rest, &mut ranges, most);
         *lexer = rest;
         let lines = gathered?;
         Ok(Parser::from_ranges(alloc, source, ranges, lines))
@@ -331,44 +364,62 @@ impl<'a> Parser<'a> {
     }
 }
 
-// Appends the ranges of all tokens that a lexer has left to an empty list, and returns the lines of its source.
+// Appends the ranges of all tokens that a lexer has left to an empty list, if they are no more than `most` besides the end,
+// and returns the lines of its source.
 #[inline(always)]
-fn gather(lexer: &mut Lexer<'_>, ranges: &mut Vec<TokenRange>) -> Result<LineTable, LexFailure>
+fn gather(
+    lexer: &mut Lexer<'_>,
+    ranges: &mut Vec<TokenRange>,
+    most: usize,
+) -> Result<LineTable, LimitedLexFailure>
     requires going { lexer.old.ended ≡ false }
     requires none { ranges.old.items ≡ [] }
     ensures ranges { OnOk result (All (IsRange lexer.old.source) ranges.new.items) }
     ensures order { OnOk result (InOrder 0 ranges.new.items) }
     ensures tokens { OnOk result (HasLeft lexer.old (range_lexemes lexer.old.source ranges.new.items)) }
     ensures lines { IfOk result (λ lines. lines ≡ lines_of lexer.old.source) }
-    ensures fault { IfFault result (λ fault. BreaksOff lexer.old (view_lexer_error fault.item) fault.span.start) }
-    ensures zero_width { IfFault result (λ fault. fault.span.end ≡ fault.span.start) }
+    ensures fault { IfFaultWithin result (λ fault. BreaksOff lexer.old (view_lexer_error fault.item) fault.span.start) }
+    ensures zero_width { IfFaultWithin result (λ fault. fault.span.end ≡ fault.span.start) }
+    ensures few { IfCounted result (HasFew (passed lexer.old.source lexer.old.index) (ahead lexer.old.source lexer.old.index) most) }
+    ensures many { IfTooMany result (λ span. HasMore (passed lexer.old.source lexer.old.index) (ahead lexer.old.source lexer.old.index) most (view_span span)) }
+    ensures limited { IfTooMany result (λ _. most < 2 ^ 63) }
     ensures source { lexer.new.source ≡ lexer.old.source }
-    ensures lexer { IfMemory result (StandsLaterOrEnded lexer.old lexer.new) (lexer.new.ended ≡ true) }
+    ensures lexer { IfStopped result (StandsLaterOrEnded lexer.old lexer.new) (lexer.new.ended ≡ true) }
 {
     let start = lexer.duplicate();
     let mut lines = first_lines(&start)?;
     loop {
         let pushed = match lexer.next_plain() {
-            Some(range) => ranges.push(range),
+            Some(range) => {
+                if ranges.len() >= most {
+                    let span = lexer.duplicate().span_from(range.start.characters);
+                    return Err(LimitedLexFailure::TooMany(span));
+                }
+                ranges.push(range)
+            }
             None => {
                 let range = lexer.next_other()?;
                 if range.kind == Kind::EndOfFile {
                     if ranges.push(range).is_err() || lexer.count_lines(&mut lines).is_err() {
-                        return Err(LexFailure::Memory);
+                        return Err(LimitedLexFailure::Lex(LexFailure::Memory));
                     }
                     break;
+                }
+                if ranges.len() >= most {
+                    let span = lexer.duplicate().span_from(range.start.characters);
+                    return Err(LimitedLexFailure::TooMany(span));
                 }
                 ranges.push(range)
             }
         };
         if pushed.is_err() || lexer.count_lines(&mut lines).is_err() {
-            return Err(LexFailure::Memory);
+            return Err(LimitedLexFailure::Lex(LexFailure::Memory));
         }
     }
     let end = lexer.duplicate();
     match end.line_table(lines) {
         Ok(table) => Ok(table),
-        Err(_) => Err(LexFailure::Memory),
+        Err(_) => Err(LimitedLexFailure::Lex(LexFailure::Memory)),
     }
 }
 
@@ -390,11 +441,13 @@ fn first_lines(lexer: &Lexer<'_>) -> Result<LineStarts, LexFailure>
 }
 
 // A list with capacity for a token every four bytes of a source and some more, if there is as much memory. Few sources
-// have more tokens.
-fn room_for_ranges(alloc: Global, source: &str) -> Vec<TokenRange>
+// have more tokens. It has no more than `most` tokens and the end need.
+fn room_for_ranges(alloc: Global, source: &str, most: usize) -> Vec<TokenRange>
     ensures { result.items ≡ [] }
 {
-    match Vec::with_capacity(alloc, source.len() / 4 + 16) {
+    let wanted = source.len() / 4 + 16;
+    let capacity = if most < wanted { most + 1 } else { wanted };
+    match Vec::with_capacity(alloc, capacity) {
         Ok(room) => room,
         Err(_) => Vec::new(alloc),
     }

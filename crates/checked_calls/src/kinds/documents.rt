@@ -5,8 +5,9 @@ use crate::kinds::word_of;
 use crate::parsing::{Input, literal};
 use crate::write::{Written, write_refusal, write_separator, write_span};
 use juniper::{
-    Arguments, DefaultScalarValue, DepthFailure, InputValue, OwnedDocument, ParseFailure, Spanning,
-    parse_document_source, parse_document_source_within,
+    Arguments, DefaultScalarValue, DepthFailure, InputValue, LimitFailure, Limits, OwnedDocument,
+    ParseFailure, Spanning, parse_document_source, parse_document_source_limited,
+    parse_document_source_within,
 };
 use std::alloc::{AllocError, Global};
 
@@ -51,6 +52,36 @@ pub fn write_tree_within(alloc: Global, out: &mut String, text: &str) -> Written
         Err(DepthFailure::TooDeep(span)) => {
             write_span(out, span)?;
             out.push_str(" TooDeep\n")
+        }
+    }
+}
+
+fn document_limited(
+    alloc: Global,
+    source: &str,
+    limits: Limits,
+) -> Result<Document<'_>, LimitFailure> {
+    parse_document_source_limited(alloc, source, limits)
+}
+
+/// `limited`: the same within limits on nesting and on tokens, which are the text's first two words.
+pub fn write_tree_limited(alloc: Global, out: &mut String, text: &str) -> Written {
+    let (depth, rest) = word_of(text);
+    let (tokens, source) = word_of(rest);
+    let limits = Limits {
+        depth: depth.parse::<usize>().unwrap_or(0),
+        tokens: tokens.parse::<usize>().unwrap_or(0),
+    };
+    match &document_limited(alloc, source, limits) {
+        Ok(document) => write_document(alloc, out, document),
+        Err(LimitFailure::Parse(failure)) => write_refusal(out, failure),
+        Err(LimitFailure::TooDeep(span)) => {
+            write_span(out, span)?;
+            out.push_str(" TooDeep\n")
+        }
+        Err(LimitFailure::TooMany(span)) => {
+            write_span(out, span)?;
+            out.push_str(" TooMany\n")
         }
     }
 }

@@ -10,6 +10,7 @@ ghost use Rattle.juniper.specs.device.Steps.{cursor};
 ghost use Rattle.juniper.specs.Promise.{HasTree, IfRefused, ReturnsAs, IsRefusal};
 
 pub(crate) mod depth;
+pub(crate) mod limited;
 pub(crate) mod sink;
 
 use crate::parser::definition::parse_definition;

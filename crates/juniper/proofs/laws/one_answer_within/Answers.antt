@@ -1,5 +1,5 @@
 use Rattle.juniper.specs.Scalars.{stated}
-use Rattle.juniper.proofs.Limits.{one_answer}
+use Rattle.juniper.proofs.DepthLimits.{one_answer}
 use Rattle.juniper.proofs.laws.one_answer_within.Goals as goal
 
 pub returns : goal.returns

@@ -1,5 +1,5 @@
 use Rattle.juniper.specs.Scalars.{stated}
-use Rattle.juniper.proofs.Limits.{one_too_deep}
+use Rattle.juniper.proofs.DepthLimits.{one_too_deep}
 use Rattle.juniper.proofs.laws.one_too_deep.Goals as goal
 
 pub returns : goal.returns

@@ -9,9 +9,10 @@ ghost use Rattle.juniper.specs.Scalars.{stated};
 ghost use Rattle.juniper.specs.Promise.{HasTree, IsRefusal};
 ghost use Rattle.juniper.specs.Within.{IfRefusedWithin, IfTooDeep, IfDecided, HasTooDeep, IsWithin, ReturnsWithin, failure_within};
 
+use crate::parser::document::limited::{LimitFailure, Limits, parse_document_source_limited};
 use crate::parser::document::parse_definitions;
 use crate::tree::ast::OwnedDocument;
-use juniper_tokens::{Lexer, ParseFailure, Parser, Span};
+use juniper_tokens::{ParseFailure, Parser, Span};
 use juniper_values::ScalarValue;
 use std::alloc::Global;
 
@@ -51,15 +52,20 @@ pub fn parse_document_source_within<'a, S: ScalarValue>(
     ensures within { IfDecided result (IsWithin (stated S.reading S.of_bool) depth (chars s.now)) }
     ensures too_deep { IfTooDeep result (λ span. HasTooDeep (stated S.reading S.of_bool) depth (chars s.now) (view_span span)) }
 {
-    let mut lexer = Lexer::new(alloc, s);
-    match Parser::new(&mut lexer) {
-        Ok(mut parser) => parse_within(&mut parser, depth),
-        Err(failure) => Err(DepthFailure::Parse(ParseFailure::from(failure))),
+    let limits = Limits {
+        depth,
+        tokens: usize::MAX,
+    };
+    match parse_document_source_limited(alloc, s, limits) {
+        Ok(tree) => Ok(tree),
+        Err(LimitFailure::Parse(failure)) => Err(DepthFailure::Parse(failure)),
+        Err(LimitFailure::TooDeep(span)) => Err(DepthFailure::TooDeep(span)),
+        Err(LimitFailure::TooMany(_)) => unreachable!(),
     }
 }
 
-// Parses the tokens of a source.
-fn parse_within<'a, S: ScalarValue>(
+/// Parses the tokens of a source.
+pub(crate) fn parse_within<'a, S: ScalarValue>(
     parser: &mut Parser<'a>,
     depth: usize,
 ) -> Result<OwnedDocument<'a, S>, DepthFailure>

@@ -1,5 +1,5 @@
 //! Documents whose definitions are given away one by one.
-ghost use Rattle.std.specs.Prelude.{◌∷◌, [], ℕ, List, IfOk, OnOk, OnErr};
+ghost use Rattle.std.specs.Prelude.{◌-◌, ◌<◌, ◌^◌, ◌∷◌, [], ℕ, List, IfOk, OnOk, OnErr};
 ghost use Rattle.std.specs.Str.{chars};
 ghost use Rattle.graphql_lexical.specs.Cutting.{Cut};
 ghost use Rattle.graphql_grammar.specs.Tree.{Definition as Seen};
@@ -11,12 +11,14 @@ ghost use Rattle.juniper.specs.Scalars.{stated};
 ghost use Rattle.graphql_grammar.specs.device.Productions.{document};
 ghost use Rattle.juniper_tokens.specs.Taking.{left};
 ghost use Rattle.juniper.specs.device.Steps.{cursor};
-ghost use Rattle.juniper.specs.Within.{IfRefusedWithin, IfTooDeep, IfDecided, HasTooDeep, IsWithin};
+ghost use Rattle.juniper.specs.Within.{HasTooDeep, IsWithin};
+ghost use Rattle.juniper.specs.Limited.{HasFewTokens, HasTooManyTokens, IfDecidedLimited, IfParsed, IfRefusedLimited, IfTooDeepLimited, IfTooManyLimited};
 ghost use Rattle.juniper.specs.Sinks.{Gains, GainsTree, GainsFront, GainsBeforeEnd, GivesAs, GivesWithin};
 ghost use Rattle.juniper.specs.Promise.{IsRefusal};
 
 use crate::parser::definition::parse_definition;
 use crate::parser::document::depth::{DepthFailure, depth_failure};
+use crate::parser::document::limited::{LimitFailure, Limits};
 use crate::parser::next::next_is;
 use crate::tree::ast::Definition;
 use juniper_tokens::{Cursor, Kind, Lexer, ParseFailure, Parser, UnlocatedParseResult};
@@ -36,37 +38,40 @@ pub trait DefinitionSink<S: ScalarValue> {
         ensures kept { OnErr result (Gains holds self.old self.new []) };
 }
 
-/// Parses a source text whose brackets are nested at most `depth` deep, and gives its definitions to a sink, each as
-/// soon as it is read: so no more than one needs to be in memory at a time.
+/// Parses a source text within limits, and gives its definitions to a sink, each as soon as it is read: so no more than one
+/// needs to be in memory at a time.
 ///
-/// The result is that of `parse_document_source_within`, and where that is a tree, its definitions have been given in
-/// order. Whatever the result, what was given are definitions that stand at the front of the source's tokens, in order:
-/// before an error, and where memory ran out, there may be some. Where the source can't be cut into tokens, none were
-/// given. The stack holds a nesting of `depth` at most; where memory ran out, in the parser or in the sink, returns
-/// `DepthFailure::Parse` with `ParseFailure::Memory`.
+/// The result is that of `parse_document_source_limited`, and if that is a tree, its definitions have been given in order.
+/// Whatever the result, what was given are definitions that stand at the front of the source's tokens, in order: before
+/// an error, and if memory ran out, there may be some. If the source can't be cut into tokens, or has too many, none
+/// were given. The stack holds a nesting of `limits.depth` at most; if memory ran out, in the parser or in the sink, returns
+/// `LimitFailure::Parse` with `ParseFailure::Memory`.
 ///
 /// ```
 /// // `Fields` is a type of the program's own that counts fields, and is a `DefinitionSink`
 /// let mut fields = Fields::none();
-/// parse_document_source_into::<DefaultScalarValue, Fields>(alloc, source, 200, &mut fields)?;
+/// parse_document_source_into::<DefaultScalarValue, Fields>(alloc, source, Limits::default(), &mut fields)?;
 /// ```
 pub fn parse_document_source_into<S: ScalarValue, D: DefinitionSink<S>>(
     alloc: Global,
     s: &str,
-    depth: usize,
+    limits: Limits,
     definitions: &mut D,
-) -> Result<(), DepthFailure>
+) -> Result<(), LimitFailure>
     ensures accepted { IfOk result (λ _. GainsTree D.holds definitions.old definitions.new (stated S.reading S.of_bool) (chars s.now)) }
-    ensures refused { IfRefusedWithin result (λ fault. IsRefusal (stated S.reading S.of_bool) (chars s.now) (view_fault fault)) }
-    ensures within { IfDecided result (IsWithin (stated S.reading S.of_bool) depth (chars s.now)) }
-    ensures too_deep { IfTooDeep result (λ span. HasTooDeep (stated S.reading S.of_bool) depth (chars s.now) (view_span span)) }
+    ensures refused { IfRefusedLimited result (λ fault. IsRefusal (stated S.reading S.of_bool) (chars s.now) (view_fault fault)) }
+    ensures within { IfDecidedLimited result (IsWithin (stated S.reading S.of_bool) limits.depth (chars s.now)) }
+    ensures too_deep { IfTooDeepLimited result (λ span. HasTooDeep (stated S.reading S.of_bool) limits.depth (chars s.now) (view_span span)) }
+    ensures few { IfParsed result (HasFewTokens limits.tokens (chars s.now)) }
+    ensures too_many { IfTooManyLimited result (λ span. HasTooManyTokens limits.tokens (chars s.now) (view_span span)) }
+
+    // So `usize::MAX` is no limit.
+    ensures limited { IfTooManyLimited result (λ _. limits.tokens < 2 ^ 63) }
     ensures given { GainsFront D.holds definitions.old definitions.new (stated S.reading S.of_bool) (chars s.now) }
 {
     let mut lexer = Lexer::new(alloc, s);
-    match Parser::new(&mut lexer) {
-        Ok(mut parser) => give_within(&mut parser, depth, definitions),
-        Err(failure) => Err(DepthFailure::Parse(ParseFailure::from(failure))),
-    }
+    let mut parser = Parser::new_within(&mut lexer, limits.tokens)?;
+    Ok(give_within(&mut parser, limits.depth, definitions)?)
 }
 
 // Gives the definitions of the tokens of a source.

@@ -7,8 +7,9 @@ use Rattle.graphql_lexical.specs.Place.{Place}
 use Rattle.graphql_lexical.specs.Kinds.{LexicalError}
 use Rattle.juniper_tokens.specs.Lexing.{LexerState, passed, ahead}
 use Rattle.juniper_tokens.specs.Spans.{view_span}
-use Rattle.juniper_flat.specs.TokenCounts.{EndsAfter, HasFew, HasMore}
-use Rattle.juniper_flat.proofs.TokenCounts.{few_behind, more_behind, more_here, few_here, token_fits}
+use Rattle.juniper_tokens.specs.Counting.{EndsAfter, HasFew, HasMore}
+use Rattle.juniper_tokens.proofs.Public.{few_behind, few_here, more_behind, more_here}
+use Rattle.juniper_flat.proofs.TokenCounts.{token_fits}
 use Rattle.juniper_flat.proofs.Fitting.{few_characters}
 use Rattle.juniper_flat.proofs.count.count_of_text.Goals as goal
 

@@ -3,7 +3,7 @@ use Rattle.std.proofs.Common.{◌≡◌, false, [], ◌++◌}
 use Rattle.std.specs.Str.{chars}
 use Rattle.graphql_lexical.specs.Place.{Span}
 use Rattle.juniper_tokens.specs.Lexing.{passed, ahead}
-use Rattle.juniper_flat.specs.TokenCounts.{HasFew, HasMore}
+use Rattle.juniper_tokens.specs.Counting.{HasFew, HasMore}
 use Rattle.juniper_flat.proofs.count.count_of_text.Given as goal
 
 abbrev pub invariant-loop-span : goal.invariant-loop-span

@@ -3,7 +3,7 @@ use Rattle.juniper.specs.View.{view_document}
 use Rattle.juniper.specs.Scalars.{stated}
 use Rattle.juniper.specs.Within.{ReturnsWithin}
 use Rattle.juniper.specs.declared.parser.document.depth.DepthFailure.{DepthFailure}
-use Rattle.juniper.proofs.Limits.{answers_within}
+use Rattle.juniper.proofs.DepthLimits.{answers_within}
 use Rattle.juniper.proofs.parser.document.depth.parse_within.Goals as goal
 
 pub returns-in-Ok : goal.returns-in-Ok

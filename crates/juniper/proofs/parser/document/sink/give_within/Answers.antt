@@ -4,7 +4,7 @@ use Rattle.juniper_values.specs.Scalar.{Content}
 use Rattle.juniper.specs.Scalars.{stated}
 use Rattle.juniper.specs.Within.{ReturnsWithin}
 use Rattle.juniper.specs.declared.parser.document.depth.DepthFailure.{DepthFailure}
-use Rattle.juniper.proofs.Limits.{answers_within}
+use Rattle.juniper.proofs.DepthLimits.{answers_within}
 use Rattle.juniper.proofs.Sinks.{given_of_text}
 use Rattle.juniper.proofs.parser.document.sink.give_within.Goals as goal
 

@@ -3,7 +3,7 @@ use Rattle.juniper_tokens.specs.Cursor.{EndsOnce}
 use Rattle.juniper_tokens.specs.Lexing.{LexerState}
 use Rattle.juniper_tokens.specs.device.Ranges.{range_lexemes}
 use Rattle.juniper_tokens.proofs.Gathering.{cut_ends_once}
-use Rattle.juniper_tokens.proofs.parser.Parser.new.Goals as goal
+use Rattle.juniper_tokens.proofs.parser.Parser.new_within.Goals as goal
 
 pub from_ranges-requires-clause-ends : goal.from_ranges-requires-clause-ends
 from_ranges-requires-clause-ends c =
