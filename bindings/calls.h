@@ -83,95 +83,96 @@ static inline void run_on_stack(size_t size, void (*run)(void *), void *argument
 
 /* The stack that a call takes; one that refuses its depth takes next to nothing. */
 static inline size_t stack_for(uint32_t depth) {
-    return FIRTHNAPKIN_STACK(depth <= FIRTHNAPKIN_MOST_DEPTH ? depth : 0);
+    return FIRTHNAPKIN_STACK_SIZE(depth <= FIRTHNAPKIN_MAX_DEPTH ? depth : 0);
 }
 
 /* A call that runs on such a stack: its arguments and its result. For firthnapkin_message and firthnapkin_canonical the
- * buffer and its count are those of the texts. */
+ * buffer, its capacity and its length are those of the texts. */
 typedef struct {
     const uint8_t *source;
     size_t length;
-    uint32_t depth, most, status;
+    uint32_t depth, max_tokens, status;
     firthnapkin_node *nodes;
-    size_t nodes_room, *nodes_needed;
+    size_t nodes_capacity, *nodes_length;
     firthnapkin_token *tokens;
-    size_t tokens_room, *tokens_needed;
+    size_t tokens_capacity, *tokens_length;
     uint8_t *texts;
-    size_t texts_room, *texts_needed;
-    firthnapkin_fault *fault;
+    size_t texts_capacity, *texts_length;
+    firthnapkin_error *error;
 } whole_call;
 
 static inline void run_parse(void *call) {
     whole_call *c = call;
-    c->status = firthnapkin_parse(c->source, c->length, c->depth, c->nodes, c->nodes_room, c->nodes_needed, c->texts,
-                                  c->texts_room, c->texts_needed, c->fault);
+    c->status = firthnapkin_parse(c->source, c->length, c->depth, c->nodes, c->nodes_capacity, c->nodes_length, c->texts,
+                                  c->texts_capacity, c->texts_length, c->error);
 }
 
 static inline void run_message(void *call) {
     whole_call *c = call;
-    c->status = firthnapkin_message(c->source, c->length, c->depth, c->texts, c->texts_room, c->texts_needed);
+    c->status = firthnapkin_message(c->source, c->length, c->depth, c->texts, c->texts_capacity, c->texts_length);
 }
 
 static inline void run_count(void *call) {
     whole_call *c = call;
-    c->status = firthnapkin_count(c->source, c->length, c->most, c->fault);
+    c->status = firthnapkin_count(c->source, c->length, c->max_tokens, c->error);
 }
 
 static inline void run_tokens(void *call) {
     whole_call *c = call;
-    c->status = firthnapkin_tokens(c->source, c->length, c->most, c->tokens, c->tokens_room, c->tokens_needed, c->fault);
+    c->status = firthnapkin_tokens(c->source, c->length, c->max_tokens, c->tokens, c->tokens_capacity, c->tokens_length, c->error);
 }
 
 static inline void run_canonical(void *call) {
     whole_call *c = call;
-    c->status = firthnapkin_canonical(c->source, c->length, c->texts, c->texts_room, c->texts_needed, c->fault);
+    c->status = firthnapkin_canonical(c->source, c->length, c->texts, c->texts_capacity, c->texts_length, c->error);
 }
 
-/* firthnapkin_parse; FIRTHNAPKIN_MEMORY where no stack can be made. */
+/* firthnapkin_parse; FIRTHNAPKIN_OUT_OF_MEMORY where no stack can be made. */
 static inline uint32_t parse_on_stack(const uint8_t *source, size_t length, uint32_t depth, firthnapkin_node *nodes,
-                                      size_t nodes_room, size_t *nodes_needed, uint8_t *texts, size_t texts_room,
-                                      size_t *texts_needed, firthnapkin_fault *fault) {
-    whole_call call = {.source = source, .length = length, .depth = depth, .status = FIRTHNAPKIN_MEMORY, .nodes = nodes,
-                       .nodes_room = nodes_room, .nodes_needed = nodes_needed, .texts = texts, .texts_room = texts_room,
-                       .texts_needed = texts_needed, .fault = fault};
-    *nodes_needed = *texts_needed = 0;
+                                      size_t nodes_capacity, size_t *nodes_length, uint8_t *texts, size_t texts_capacity,
+                                      size_t *texts_length, firthnapkin_error *error) {
+    whole_call call = {.source = source, .length = length, .depth = depth, .status = FIRTHNAPKIN_OUT_OF_MEMORY, .nodes = nodes,
+                       .nodes_capacity = nodes_capacity, .nodes_length = nodes_length, .texts = texts,
+                       .texts_capacity = texts_capacity, .texts_length = texts_length, .error = error};
+    *nodes_length = *texts_length = 0;
     run_on_stack(stack_for(depth), run_parse, &call);
     return call.status;
 }
 
 /* firthnapkin_message, in the same way. */
-static inline uint32_t message_on_stack(const uint8_t *source, size_t length, uint32_t depth, uint8_t *room,
-                                        size_t room_length, size_t *needed) {
-    whole_call call = {.source = source, .length = length, .depth = depth, .status = FIRTHNAPKIN_MEMORY,
-                       .texts = room, .texts_room = room_length, .texts_needed = needed};
-    *needed = 0;
+static inline uint32_t message_on_stack(const uint8_t *source, size_t length, uint32_t depth, uint8_t *buffer,
+                                        size_t buffer_capacity, size_t *buffer_length) {
+    whole_call call = {.source = source, .length = length, .depth = depth, .status = FIRTHNAPKIN_OUT_OF_MEMORY,
+                       .texts = buffer, .texts_capacity = buffer_capacity, .texts_length = buffer_length};
+    *buffer_length = 0;
     run_on_stack(stack_for(depth), run_message, &call);
     return call.status;
 }
 
 /* firthnapkin_count, in the same way. */
-static inline uint32_t count_on_stack(const uint8_t *source, size_t length, uint32_t most, firthnapkin_fault *fault) {
-    whole_call call = {.source = source, .length = length, .most = most, .status = FIRTHNAPKIN_MEMORY, .fault = fault};
+static inline uint32_t count_on_stack(const uint8_t *source, size_t length, uint32_t max_tokens, firthnapkin_error *error) {
+    whole_call call = {.source = source, .length = length, .max_tokens = max_tokens, .status = FIRTHNAPKIN_OUT_OF_MEMORY,
+                       .error = error};
     run_on_stack(stack_for(0), run_count, &call);
     return call.status;
 }
 
 /* firthnapkin_tokens, in the same way. */
-static inline uint32_t tokens_on_stack(const uint8_t *source, size_t length, uint32_t most, firthnapkin_token *tokens,
-                                       size_t tokens_room, size_t *tokens_needed, firthnapkin_fault *fault) {
-    whole_call call = {.source = source, .length = length, .most = most, .status = FIRTHNAPKIN_MEMORY, .tokens = tokens,
-                       .tokens_room = tokens_room, .tokens_needed = tokens_needed, .fault = fault};
-    *tokens_needed = 0;
+static inline uint32_t tokens_on_stack(const uint8_t *source, size_t length, uint32_t max_tokens, firthnapkin_token *tokens,
+                                       size_t tokens_capacity, size_t *tokens_length, firthnapkin_error *error) {
+    whole_call call = {.source = source, .length = length, .max_tokens = max_tokens, .status = FIRTHNAPKIN_OUT_OF_MEMORY,
+                       .tokens = tokens, .tokens_capacity = tokens_capacity, .tokens_length = tokens_length, .error = error};
+    *tokens_length = 0;
     run_on_stack(stack_for(0), run_tokens, &call);
     return call.status;
 }
 
 /* firthnapkin_canonical, in the same way. */
-static inline uint32_t canonical_on_stack(const uint8_t *source, size_t length, uint8_t *room, size_t room_length,
-                                          size_t *needed, firthnapkin_fault *fault) {
-    whole_call call = {.source = source, .length = length, .status = FIRTHNAPKIN_MEMORY, .texts = room,
-                       .texts_room = room_length, .texts_needed = needed, .fault = fault};
-    *needed = 0;
+static inline uint32_t canonical_on_stack(const uint8_t *source, size_t length, uint8_t *buffer, size_t buffer_capacity,
+                                          size_t *buffer_length, firthnapkin_error *error) {
+    whole_call call = {.source = source, .length = length, .status = FIRTHNAPKIN_OUT_OF_MEMORY, .texts = buffer,
+                       .texts_capacity = buffer_capacity, .texts_length = buffer_length, .error = error};
+    *buffer_length = 0;
     run_on_stack(stack_for(0), run_canonical, &call);
     return call.status;
 }

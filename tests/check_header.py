@@ -1,7 +1,7 @@
 #!/usr/bin/env python3
 """Compares include/firthnapkin.h, as it is written and as a C compiler lays it out, with the sources of the crates
 juniper_flat and juniper_c. Those of the first have the fields of each type, their types, offsets and sizes, the numbers of
-statuses, of kinds of nodes and of tokens, of refusals and details. Those of the second have the calls' parameters. The last
+statuses, of kinds of nodes, of tokens and of errors, and of details. Those of the second have the calls' parameters. The last
 line is 'N passed, M failed'.
 
     tests/check_header.py LAYOUT    a file with the output of the program of tests/c/layout.c
@@ -24,7 +24,9 @@ def source(name, crate="juniper_flat"):
 
 # For each type of a field its size and alignment, and its name in C.
 SIZES = {"u32": (4, 4), "i64": (8, 8)}
-C_NAMES = {"u32": "uint32_t", "i64": "int64_t", "Place": "firthnapkin_place"}
+C_NAMES = {"u32": "uint32_t", "i64": "int64_t", "Place": "firthnapkin_position"}
+# What the header calls them where the crates have another word.
+WORDS = {"Place": "position", "Fault": "error"}
 
 
 def fields_of(name, text):
@@ -36,7 +38,7 @@ def fields_of(name, text):
 def laid_out(name, text):
     """The lines of layout.c for a struct with C's layout: each field at the next multiple of its alignment."""
     lines, offset, most = [], 0, 1
-    word = f"firthnapkin_{name.lower()}"
+    word = f"firthnapkin_{WORDS.get(name, name.lower())}"
     for field, kind in fields_of(name, text):
         size, alignment = SIZES[kind]
         offset += -offset % alignment
@@ -52,7 +54,7 @@ with open(sys.argv[1], encoding="utf-8") as file:
     layout = file.read().splitlines()
 for name, file in (("Place", "place"), ("Node", "node"), ("Token", "token"), ("Fault", "fault")):
     wanted = laid_out(name, source(file))
-    word = f"firthnapkin_{name.lower()}"
+    word = f"firthnapkin_{WORDS.get(name, name.lower())}"
     found = [line for line in layout if line.split()[0] == word]
     check(f"the number of fields of {word}", len(found), len(wanted))
     for line, other in zip(found, wanted):
@@ -69,30 +71,41 @@ def upper(name):
     return re.sub(r"(?<=[a-z0-9])(?=[A-Z])", "_", name).upper()
 
 
+for name in ("status", "kind", "token_kind", "error_kind", "error_detail"):
+    found = list(enum(f"firthnapkin_{name}").values())
+    check(f"the numbers of firthnapkin_{name}, from 0 on", found, list(range(len(found))))
 check("statuses", enum("firthnapkin_status"), {w: int(n) for w, n in re.findall(r"const (\w+): u32 = (\d+);", source("status"))})
 
+# What GraphQL calls the kinds of nodes for which gqlcheck has a word of its own.
+KINDS = {
+    "FRAGMENT": "FRAGMENT_DEFINITION",
+    "VARIABLES": "VARIABLE_DEFINITIONS",
+    "VARIABLE": "VARIABLE_DEFINITION",
+    "SPREAD": "FRAGMENT_SPREAD",
+    "INLINE": "INLINE_FRAGMENT",
+    "REFERENCE": "VARIABLE",
+    "KEY": "OBJECT_FIELD",
+}
 kinds = {upper(w): int(n) for w, n in re.findall(r"NodeKind::(\w+) => (\d+),", source("node"))}
-named = re.findall(r"^    (\w+),$", re.search(r"pub enum NodeKind \{(.*?)\n\}", read("crates/graphql_nodes/src/kind.rt"), re.S)[1], re.M)
-check("the order of kinds", list(kinds), [upper(name) for name in named])
-check("the numbers of kinds", list(kinds.values()), list(range(len(named))))
-check("the number of a scalar, which no node has", kinds.pop("SCALAR"), 15)
 scalars = {upper(w): int(n) for w, n in re.findall(r"Scalar(?:Value)?::(\w+)(?:\(_\)+)? => (\d+),", source("node"))}
-check("kinds", enum("firthnapkin_kind"), {**kinds, **scalars})
+check("the number of a scalar, which no node has", kinds.pop("SCALAR"), len(kinds) + len(scalars))
+named = re.findall(r"^    (\w+),$", re.search(r"pub enum NodeKind \{(.*?)\n\}", read("crates/graphql_nodes/src/kind.rt"), re.S)[1], re.M)
+check("the order of kinds", list(kinds), [upper(name) for name in named if name != "Scalar"])
+check("kinds", enum("firthnapkin_kind"), {KINDS.get(word, word): number for word, number in {**kinds, **scalars}.items()})
 
 tokens = {upper(w): int(n) for w, n in re.findall(r"^kind_number kind\.(\w+) = (\d+)$", read("crates/juniper_flat/specs/Tokens.antt"), re.M)}
 named = re.findall(r"^    (\w+),$", re.search(r"pub enum Kind \{(.*?)\n\}", read("crates/graphql_lexical/src/kind.rt"), re.S)[1], re.M)
-check("the order of kinds of tokens", list(tokens), [upper(name) for name in named])
-check("kinds of tokens", enum("firthnapkin_token_kind"), {f"TOKEN_{word}": number for number, word in enumerate(tokens)})
-check("the numbers of kinds of tokens", list(tokens.values()), list(range(len(named))))
+check("the order of kinds of tokens, the end first", list(tokens), [upper(name) for name in named[-1:] + named[:-1]])
+check("kinds of tokens", enum("firthnapkin_token_kind"), {f"TOKEN_{word}": number for word, number in tokens.items()})
 
 fault = source("fault")
-names = {"UNEXPECTED_TOKEN": "UnexpectedToken", "UNEXPECTED_END": "UnexpectedEndOfFile", "SCALAR": "ExpectedScalarError"}
-refusals = {word: int(re.search(rf"ParseError::{name}\S* => because\((\d), 0, 0\)", fault)[1]) for word, name in names.items()}
+names = {"UNEXPECTED_TOKEN": "UnexpectedToken", "UNEXPECTED_END": "UnexpectedEndOfFile", "INVALID_SCALAR": "ExpectedScalarError"}
+errors = {word: int(re.search(rf"ParseError::{name}\S* => because\((\d), 0, 0\)", fault)[1]) for word, name in names.items()}
 lexical = re.findall(r"LexerError::(\w+)\S* => because\((\d+), (\d+), (0|\*c as u32)\)", fault)
-check("one number of lexical refusals", {kind for _, kind, _, _ in lexical}, {str(enum("firthnapkin_refusal")["LEXICAL"])})
-refusals["LEXICAL"] = int(lexical[0][1])
-refusals["NESTED"], refusals["TOO_MANY"] = map(int, re.findall(r"fault_at\(table, because\((\d), 0, 0\), &span\)", fault))
-check("refusals", enum("firthnapkin_refusal"), refusals)
+check("one number of lexical errors", {kind for _, kind, _, _ in lexical}, {str(enum("firthnapkin_error_kind")["ERROR_LEXICAL"])})
+errors["LEXICAL"] = int(lexical[0][1])
+errors["TOO_DEEP"], errors["TOO_MANY_TOKENS"] = map(int, re.findall(r"fault_at\(table, because\((\d), 0, 0\), &span\)", fault))
+check("kinds of errors", enum("firthnapkin_error_kind"), {f"ERROR_{word}": number for word, number in errors.items()})
 words = {
     "UnknownCharacter": "UNKNOWN_CHARACTER",
     "UnexpectedCharacter": "UNEXPECTED_CHARACTER",
@@ -102,24 +115,25 @@ words = {
     "UnexpectedEndOfFile": "UNEXPECTED_END_IN_TOKEN",
     "InvalidNumber": "INVALID_NUMBER",
 }
-check("details", enum("firthnapkin_detail"), {"NO_DETAIL": 0, **{words[name]: int(detail) for name, _, detail, _ in lexical}})
-check("the largest depth", defined("FIRTHNAPKIN_MOST_DEPTH"), re.search(r"const MOST_DEPTH: u32 = (\d+);", source("depth"))[1])
+details = {"NONE": 0, **{words[name]: int(detail) for name, _, detail, _ in lexical}}
+check("details", enum("firthnapkin_error_detail"), {f"DETAIL_{word}": number for word, number in details.items()})
+check("the largest depth", defined("FIRTHNAPKIN_MAX_DEPTH"), re.search(r"const MAX_DEPTH: u32 = (\d+);", source("depth"))[1])
 
 # ---- calls
 
 C_TYPES = {
     "source: &[u8]": ["const uint8_t *source", "size_t length"],
     "depth: u32": ["uint32_t depth"],
-    "most: u32": ["uint32_t most"],
-    "nodes: &mut [Node]": ["firthnapkin_node *nodes", "size_t nodes_room"],
-    "nodes_needed: &mut usize": ["size_t *nodes_needed"],
-    "texts: &mut [u8]": ["uint8_t *texts", "size_t texts_room"],
-    "texts_needed: &mut usize": ["size_t *texts_needed"],
-    "fault: &mut Fault": ["firthnapkin_fault *fault"],
-    "room: &mut [u8]": ["uint8_t *room", "size_t room_length"],
-    "needed: &mut usize": ["size_t *needed"],
-    "tokens: &mut [Token]": ["firthnapkin_token *tokens", "size_t tokens_room"],
-    "tokens_needed: &mut usize": ["size_t *tokens_needed"],
+    "max_tokens: u32": ["uint32_t max_tokens"],
+    "nodes: &mut [Node]": ["firthnapkin_node *nodes", "size_t nodes_capacity"],
+    "nodes_length: &mut usize": ["size_t *nodes_length"],
+    "texts: &mut [u8]": ["uint8_t *texts", "size_t texts_capacity"],
+    "texts_length: &mut usize": ["size_t *texts_length"],
+    "fault: &mut Fault": ["firthnapkin_error *error"],
+    "buffer: &mut [u8]": ["uint8_t *buffer", "size_t buffer_capacity"],
+    "buffer_length: &mut usize": ["size_t *buffer_length"],
+    "tokens: &mut [Token]": ["firthnapkin_token *tokens", "size_t tokens_capacity"],
+    "tokens_length: &mut usize": ["size_t *tokens_length"],
     # C has no parameter for it.
     "alloc: Global": [],
 }

@@ -62,22 +62,24 @@ def check_library(check):
     calls = prototypes(header)
     check("the calls of firthnapkin(3)", prototypes(joined(page["SYNOPSIS"])), calls)
     check("their names", joined(page["NAME"]).split(" - ")[0].split(", "), list(calls))
-    check_statuses(check, page)
+    check_statuses(check, page, calls)
     check_words(check, page, calls)
-    check("the stack", re.findall(r"FIRTHNAPKIN_STACK\(\s*(\w+)\s*\)", joined(page["NOTES"])), ["depth", "0"])
+    check("the stack", re.findall(r"FIRTHNAPKIN_STACK_SIZE\(\s*(\w+)\s*\)", joined(page["NOTES"])), ["depth", "0"])
 
 
-def check_statuses(check, page):
-    """Each status is described, once and in the header's words."""
+def check_statuses(check, page, calls):
+    """Each status is described, once and in the header's words, and what success means for each call."""
     body = re.search(r"enum firthnapkin_status \{(.*?)\n\};", header, re.S)[1]
     comments = dict(re.findall(r"(FIRTHNAPKIN_\w+) = \d+,? +/\* (.*?) \*/", body))
     check("the statuses of the header", list(comments), [f"FIRTHNAPKIN_{word}" for word in enum("firthnapkin_status")])
     described = entries(page["RETURN VALUE"])
     check("the statuses of firthnapkin(3)", [label for label, _ in described], list(comments))
     for label, text in described:
-        wanted = re.sub(r"^of (.*?): ", lambda it: "From " + re.sub(r"(firthnapkin_\w+)", r"\1()", it[1]) + ": ", comments[label])
+        wanted = comments[label]
         check(f"how {label} is described", text[: len(wanted)].lower(), wanted.lower())
         check(f"where the description of {label} goes on", text[len(wanted)] in ".,;", True)
+    succeeding = re.findall(r"(firthnapkin_\w+)\(\)", dict(described)["FIRTHNAPKIN_OK"])
+    check("the calls whose success is described", succeeding, [name for name in calls if name != "firthnapkin_version"])
 
 
 def check_words(check, page, calls):
@@ -85,7 +87,7 @@ def check_words(check, page, calls):
     text = "\n".join(plain(line) for lines in page.values() for line in lines)
     for word in sorted(set(re.findall(r"FIRTHNAPKIN_\w+|firthnapkin_\w+", text))):
         check(f"{word}, which firthnapkin(3) names", re.search(rf"\b{word}\b", header) is not None, True)
-    fields = {name for word in ("place", "node", "token", "fault") for name, _ in declared(f"firthnapkin_{word}")}
+    fields = {name for word in ("position", "node", "token", "error") for name, _ in declared(f"firthnapkin_{word}")}
     parameters = {parameter.split()[-1].lstrip("*") for words in calls.values() for parameter in words}
     for line in page["DESCRIPTION"]:
         for word in re.findall(r"^\.I (\w+)$", line):

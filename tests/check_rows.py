@@ -193,7 +193,7 @@ def completed(program: str, refusal: Refusal, further: str) -> str:
 class Library:
     """The library for C, for the outcome of a text."""
 
-    TREE, REFUSED, ROOM = 0, 1, 6
+    OK, SYNTAX_ERROR, BUFFER_TOO_SMALL = 0, 1, 6
     # Why a text is refused: at its end, or because it can't be cut.
     END, LEXICAL = 1, 2
     DEPTH = 1000
@@ -209,9 +209,9 @@ class Library:
         source, needed, fault = text.encode(), ctypes.c_size_t(), (ctypes.c_uint32 * 11)()
         room = [None, 0, ctypes.byref(needed)]
         status = self.parse(source, len(source), self.DEPTH, *room, *room, fault)
-        if status in (self.TREE, self.ROOM):
+        if status in (self.OK, self.BUFFER_TOO_SMALL):
             return "document"
-        if status != self.REFUSED:
+        if status != self.SYNTAX_ERROR:
             return f"status {status}"
         return {self.END: "begun", self.LEXICAL: "no cut"}.get(fault[0], "refused")
 

@@ -27,7 +27,7 @@ LEXICAL = re.compile(r"Unknown |Unexpected character |Unterminated string litera
 ROWS, WITHOUT_CUT = 2168, 1490
 
 
-class Place(ctypes.Structure):
+class Position(ctypes.Structure):
     _fields_ = [(name, ctypes.c_uint32) for name in ("index", "line", "column", "byte")]
 
     def numbers(self) -> Tuple[int, ...]:
@@ -35,29 +35,29 @@ class Place(ctypes.Structure):
 
 
 class Token(ctypes.Structure):
-    _fields_ = [("kind", ctypes.c_uint32), ("quotes", ctypes.c_uint32), ("start", Place), ("end", Place)]
+    _fields_ = [("kind", ctypes.c_uint32), ("quotes", ctypes.c_uint32), ("start", Position), ("end", Position)]
 
 
-class Fault(ctypes.Structure):
-    _fields_ = [(name, ctypes.c_uint32) for name in ("kind", "detail", "character")] + [("start", Place), ("end", Place)]
+class Error(ctypes.Structure):
+    _fields_ = [(name, ctypes.c_uint32) for name in ("kind", "detail", "character")] + [("start", Position), ("end", Position)]
 
 
 class Answer:
-    """The library's results for a text: statuses of both calls, tokens, the canonical text and the faults."""
+    """The library's results for a text: statuses of both calls, tokens, the canonical text and the errors."""
 
     def __init__(self, library: ctypes.CDLL, source: bytes) -> None:
-        needed, self.fault, self.other_fault = ctypes.c_size_t(), Fault(), Fault()
+        needed, self.error, self.other_error = ctypes.c_size_t(), Error(), Error()
         # Buffers that are never too short.
         room = (Token * (len(source) + 1))()
         self.status = library.firthnapkin_tokens(
             source, ctypes.c_size_t(len(source)), ctypes.c_uint32(2**32 - 1), room, ctypes.c_size_t(len(room)),
-            ctypes.byref(needed), ctypes.byref(self.fault),
+            ctypes.byref(needed), ctypes.byref(self.error),
         )  # fmt: skip
         self.tokens = room[: needed.value]
         text = ctypes.create_string_buffer(2 * len(source) + 1)
         self.canonical_status = library.firthnapkin_canonical(
             source, ctypes.c_size_t(len(source)), text, ctypes.c_size_t(2 * len(source)), ctypes.byref(needed),
-            ctypes.byref(self.other_fault),
+            ctypes.byref(self.other_error),
         )  # fmt: skip
         self.canonical = text.raw[: needed.value].decode()
 
@@ -94,10 +94,10 @@ def tokens_fault(answer: Answer, source: bytes, text: str) -> Optional[str]:
     """What is wrong with the tokens that are returned; None where nothing is wrong."""
     found = [told(source, token) for token in answer.tokens]
     here = [wanted(text, *token) for token in cut(text)]
-    if answer.status == STATUS["TOKENS"]:
+    if answer.status == STATUS["OK"]:
         here.append(("END_OF_FILE", "", "", place(text, len(text)), place(text, len(text))))
-    elif here[len(found) :] and here[len(found)][3][0] > answer.fault.start.index:
-        return "a token stands before the fault, and is not told"
+    elif here[len(found) :] and here[len(found)][3][0] > answer.error.start.index:
+        return "a token stands before the error, and is not told"
     else:
         here = here[: len(found)]
     return None if found == here else f"{found} is told, {here} is wanted"
@@ -106,8 +106,8 @@ def tokens_fault(answer: Answer, source: bytes, text: str) -> Optional[str]:
 def row_fault(answer: Answer, row: Row) -> Optional[str]:
     """What is wrong with the results according to the row itself; None where nothing is wrong."""
     says = is_cut_by_row(row)
-    is_cut = answer.status == STATUS["TOKENS"]
-    if answer.status not in (STATUS["TOKENS"], STATUS["REFUSED"]) or answer.canonical_status != answer.status:
+    is_cut = answer.status == STATUS["OK"]
+    if answer.status not in (STATUS["OK"], STATUS["SYNTAX_ERROR"]) or answer.canonical_status != answer.status:
         return f"the statuses {answer.status} and {answer.canonical_status}"
     if says is not None and says != is_cut:
         return f"the status {answer.status}"
@@ -115,10 +115,10 @@ def row_fault(answer: Answer, row: Row) -> Optional[str]:
         lines = [plain(line).decode() for line in row.wanted[:-1]]
         return None if row.kind != "canonical" or answer.canonical == "\n".join(lines) else f"the text {answer.canonical!r}"
     at = re.search(r"\. At (\d+):(\d+)$", row.wanted[0])
-    start = answer.fault.start
+    start = answer.error.start
     if at is None or (start.line, start.column) != (int(at[1]), int(at[2])):
-        return f"a fault at {start.line}:{start.column}"
-    return None if bytes(answer.fault) == bytes(answer.other_fault) else "another fault for the canonical text"
+        return f"an error at {start.line}:{start.column}"
+    return None if bytes(answer.error) == bytes(answer.other_error) else "another error for the canonical text"
 
 
 def try_row(library: ctypes.CDLL, row: Row) -> Tuple[Optional[str], bool]:
@@ -130,10 +130,10 @@ def try_row(library: ctypes.CDLL, row: Row) -> Tuple[Optional[str], bool]:
         statuses = [answer.status, answer.canonical_status]
         return None if statuses == [STATUS["NOT_UTF8"]] * 2 else f"the statuses {statuses}", False
     wrong = row_fault(answer, row) or tokens_fault(answer, row.text, text)
-    if wrong is None and answer.status == STATUS["TOKENS"]:
+    if wrong is None and answer.status == STATUS["OK"]:
         made = joined([token for _, token in cut(text)])
         wrong = None if answer.canonical == made else f"the text {answer.canonical!r}, not {made!r}"
-    return wrong, answer.status == STATUS["REFUSED"]
+    return wrong, answer.status == STATUS["SYNTAX_ERROR"]
 
 
 def main() -> None:

@@ -9,13 +9,13 @@
 enum { DEPTH = 200 };
 
 static uint8_t *all(FILE *file, size_t *length) {
-    size_t room = 1 << 16;
-    uint8_t *bytes = malloc(room);
+    size_t capacity = 1 << 16;
+    uint8_t *bytes = malloc(capacity);
     *length = 0;
     while (bytes != NULL) {
-        *length += fread(bytes + *length, 1, room - *length, file);
-        if (*length < room) return bytes;
-        uint8_t *more = realloc(bytes, room *= 2);
+        *length += fread(bytes + *length, 1, capacity - *length, file);
+        if (*length < capacity) return bytes;
+        uint8_t *more = realloc(bytes, capacity *= 2);
         if (more == NULL) free(bytes);
         bytes = more;
     }
@@ -33,34 +33,34 @@ static size_t write_node(const uint8_t *source, const firthnapkin_node *nodes, s
 }
 
 /* Writes why a source is no document: the first call returns how many bytes that is. */
-static uint32_t write_fault(const uint8_t *source, size_t length) {
-    size_t needed;
-    uint32_t status = firthnapkin_message(source, length, DEPTH, NULL, 0, &needed);
-    if (status != FIRTHNAPKIN_ROOM) return status;
-    uint8_t *words = malloc(needed);
-    if (words == NULL) return FIRTHNAPKIN_MEMORY;
-    status = firthnapkin_message(source, length, DEPTH, words, needed, &needed);
-    fwrite(words, 1, needed, stdout);
+static uint32_t write_error(const uint8_t *source, size_t length) {
+    size_t words_length;
+    uint32_t status = firthnapkin_message(source, length, DEPTH, NULL, 0, &words_length);
+    if (status != FIRTHNAPKIN_BUFFER_TOO_SMALL) return status;
+    uint8_t *words = malloc(words_length);
+    if (words == NULL) return FIRTHNAPKIN_OUT_OF_MEMORY;
+    status = firthnapkin_message(source, length, DEPTH, words, words_length, &words_length);
+    fwrite(words, 1, words_length, stdout);
     putchar('\n');
     free(words);
     return status;
 }
 
 int main(void) {
-    size_t length, nodes_needed, texts_needed;
+    size_t length, nodes_length, texts_length;
     uint8_t *source = all(stdin, &length);
-    if (source == NULL) return FIRTHNAPKIN_MEMORY;
+    if (source == NULL) return FIRTHNAPKIN_OUT_OF_MEMORY;
     /* Buffers as long as the source are never too short. */
     firthnapkin_node *nodes = malloc((length + 1) * sizeof *nodes);
     uint8_t *texts = malloc(length + 1);
-    uint32_t status = FIRTHNAPKIN_MEMORY;
-    firthnapkin_fault fault;
+    uint32_t status = FIRTHNAPKIN_OUT_OF_MEMORY;
+    firthnapkin_error error;
     if (nodes != NULL && texts != NULL)
-        status = firthnapkin_parse(source, length, DEPTH, nodes, length, &nodes_needed, texts, length, &texts_needed,
-                                   &fault);
-    if (status == FIRTHNAPKIN_TREE)
-        for (size_t i = 0; i < nodes_needed;) i = write_node(source, nodes, i, 0);
-    if (status == FIRTHNAPKIN_REFUSED || status == FIRTHNAPKIN_TOO_DEEP) status = write_fault(source, length);
+        status = firthnapkin_parse(source, length, DEPTH, nodes, length, &nodes_length, texts, length, &texts_length,
+                                   &error);
+    if (status == FIRTHNAPKIN_OK)
+        for (size_t i = 0; i < nodes_length;) i = write_node(source, nodes, i, 0);
+    if (status == FIRTHNAPKIN_SYNTAX_ERROR || status == FIRTHNAPKIN_TOO_DEEP) status = write_error(source, length);
     free(source);
     free(nodes);
     free(texts);

@@ -5,55 +5,55 @@ import (
 	"strconv"
 )
 
-// Kind is the kind of a node. There is no 15.
+// Kind is the kind of a node.
 type Kind uint32
 
 // The kinds of nodes.
 const (
-	Query        Kind = 0
-	Mutation     Kind = 1
-	Subscription Kind = 2
-	Fragment     Kind = 3 // the definition of a fragment
-	Variables    Kind = 4 // the variable definitions of an operation
-	Variable     Kind = 5 // a variable definition, by its name
-	Type         Kind = 6 // the type of a variable
-	Field        Kind = 7
-	Alias        Kind = 8  // the alias of a field
-	Spread       Kind = 9  // the use of a fragment by its name
-	Inline       Kind = 10 // a fragment without a name; its name is its type condition
-	Directive    Kind = 11
-	Arguments    Kind = 12 // the arguments of a field or a directive
-	Argument     Kind = 13 // an argument, by its name
-	Null         Kind = 14
-	Enum         Kind = 16
-	Reference    Kind = 17 // a variable used as a value
-	List         Kind = 18
-	Object       Kind = 19
-	Key          Kind = 20 // a field of an object, by its name
-	Int          Kind = 21 // an Int that 32 bits hold
-	LargeInt     Kind = 22 // an Int that 32 bits don't hold
-	Float        Kind = 23
-	String       Kind = 24
-	BlockString  Kind = 25
-	Boolean      Kind = 26
+	Query               Kind = 0
+	Mutation            Kind = 1
+	Subscription        Kind = 2
+	FragmentDefinition  Kind = 3
+	VariableDefinitions Kind = 4 // the variable definitions of an operation
+	VariableDefinition  Kind = 5 // a variable definition, by its name
+	Type                Kind = 6 // the type of a variable
+	Field               Kind = 7
+	Alias               Kind = 8  // the alias of a field
+	FragmentSpread      Kind = 9  // the use of a fragment by its name
+	InlineFragment      Kind = 10 // a fragment without a name; its name is its type condition
+	Directive           Kind = 11
+	Arguments           Kind = 12 // the arguments of a field or a directive
+	Argument            Kind = 13 // an argument, by its name
+	Null                Kind = 14
+	Enum                Kind = 15
+	Variable            Kind = 16 // a variable used as a value
+	List                Kind = 17
+	Object              Kind = 18
+	ObjectField         Kind = 19 // a field of an object, by its name
+	Int                 Kind = 20 // an Int that 32 bits hold
+	LargeInt            Kind = 21 // an Int that 32 bits don't hold
+	Float               Kind = 22
+	String              Kind = 23
+	BlockString         Kind = 24
+	Boolean             Kind = 25
 )
 
 var kindNames = [...]string{
-	"query", "mutation", "subscription", "fragment", "variables", "variable", "type", "field", "alias", "spread", "inline",
-	"directive", "arguments", "argument", "null", "", "enum", "reference", "list", "object", "key", "int", "large_int",
-	"float", "string", "block_string", "boolean",
+	"query", "mutation", "subscription", "fragment_definition", "variable_definitions", "variable_definition", "type", "field",
+	"alias", "fragment_spread", "inline_fragment", "directive", "arguments", "argument", "null", "enum", "variable", "list",
+	"object", "object_field", "int", "large_int", "float", "string", "block_string", "boolean",
 }
 
 // String returns the kind's word, as "field".
 func (k Kind) String() string {
-	if int(k) < len(kindNames) && kindNames[k] != "" {
+	if int(k) < len(kindNames) {
 		return kindNames[k]
 	}
 	return "Kind(" + strconv.Itoa(int(k)) + ")"
 }
 
-// Place is the number of characters of the source, of line feeds, of characters of the line, and of bytes before it.
-type Place struct {
+// Position is the number of characters of the source, of line feeds, of characters of the line, and of bytes before it.
+type Position struct {
 	Index, Line, Column, Byte uint32
 }
 
@@ -61,7 +61,7 @@ type Place struct {
 type Node struct {
 	Kind        Kind
 	Descendants uint32 // how many of the nodes after it are of parts in it
-	Start, End  Place
+	Start, End  Position
 	// The bytes of the source that are its name: Document.Name.
 	NameStart, NameEnd uint32
 	// Value is an Int's number, a Boolean's 0 or 1. Of strings, types and fragments see Document.Meaning; otherwise it is 0.
@@ -96,7 +96,7 @@ func (d *Document) Meaning(i int) string {
 	switch n.Kind {
 	case String, BlockString, Type:
 		return d.texts[from : from+length]
-	case Fragment:
+	case FragmentDefinition:
 		return d.Source[from : from+length]
 	}
 	return ""
@@ -125,40 +125,40 @@ func (d *Document) between(i, end int) []int {
 	return found
 }
 
-// Reason is why a source has no document.
-type Reason uint32
+// ErrorKind is why a source has no document.
+type ErrorKind uint32
 
-// The reasons.
+// The kinds of errors.
 const (
-	UnexpectedToken Reason = 0 // no document has the token after those before it
-	UnexpectedEnd   Reason = 1 // the source ends within a document
-	Lexical         Reason = 2 // there is no token here; the Detail says why
-	Nested          Reason = 4 // the token is nested too deep
-	TooMany         Reason = 5 // the token is one too many
+	UnexpectedToken ErrorKind = 0 // no document has the token after those before it
+	UnexpectedEnd   ErrorKind = 1 // the source ends within a document
+	Lexical         ErrorKind = 2 // there is no token here; the ErrorDetail says why
+	TooDeep         ErrorKind = 3 // the token is nested too deep
+	TooManyTokens   ErrorKind = 4 // the token is one too many
 )
 
-// Detail is why there is no token.
-type Detail uint32
+// ErrorDetail is why there is no token.
+type ErrorDetail uint32
 
-// The details.
+// The details of errors.
 const (
-	NoDetail                 Detail = 0
-	UnknownCharacter         Detail = 1
-	UnexpectedCharacter      Detail = 2
-	UnterminatedString       Detail = 3
-	UnknownCharacterInString Detail = 4
-	UnknownEscape            Detail = 5
-	UnexpectedEndInToken     Detail = 6
+	NoDetail                 ErrorDetail = 0
+	UnknownCharacter         ErrorDetail = 1
+	UnexpectedCharacter      ErrorDetail = 2
+	UnterminatedString       ErrorDetail = 3
+	UnknownCharacterInString ErrorDetail = 4
+	UnknownEscape            ErrorDetail = 5
+	UnexpectedEndInToken     ErrorDetail = 6
 )
 
 // SyntaxError says why a source has no document within the limits, and where.
 type SyntaxError struct {
 	Message   string
-	Reason    Reason
-	Detail    Detail
+	Kind      ErrorKind
+	Detail    ErrorDetail
 	Character rune // the character of the Detail, otherwise 0
-	// The places of a token, or of zero width. Lines and columns are counted from 0, columns in characters.
-	Start, End Place
+	// The positions of a token, or of zero width. Lines and columns are counted from 0, columns in characters.
+	Start, End Position
 }
 
 // Error returns the message and the line and column, both counted from 0, as `Unexpected ")". At 1:4`.

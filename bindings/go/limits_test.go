@@ -39,20 +39,20 @@ func TestAllocations(t *testing.T) {
 
 func TestDepths(t *testing.T) {
 	deep := strings.Repeat("{a", 200000)
-	for _, depth := range []int{-1, -1 << 63, MostDepth + 1, 1<<31 - 1, 1<<32 - 1, 1 << 32, 1<<32 + 5, 1<<63 - 1} {
+	for _, depth := range []int{-1, -1 << 63, MaxDepth + 1, 1<<31 - 1, 1<<32 - 1, 1 << 32, 1<<32 + 5, 1<<63 - 1} {
 		for _, source := range []string{deep, "{a}", "", "\xff"} {
-			if _, err := ParseWithin(source, depth, AnyTokens); !errors.Is(err, ErrDepth) {
+			if _, err := ParseWithin(source, depth, AnyTokens); !errors.Is(err, ErrInvalidDepth) {
 				t.Errorf("the depth %d: %v", depth, err)
 			}
 		}
 	}
-	for _, depth := range []int{0, 1, 2, 199, 200, MostDepth} {
+	for _, depth := range []int{0, 1, 2, 199, 200, MaxDepth} {
 		if d, err := ParseWithin(strings.Repeat("{a", depth)+strings.Repeat("}", depth), depth, AnyTokens); depth > 0 &&
 			(err != nil || len(d.Nodes) != depth+1) {
 			t.Errorf("a text %d deep: %v", depth, err)
 		}
-		fault := refused(t, strings.Repeat("{a", depth+1), depth)
-		same(t, "too deep", []any{fault.Reason, int(fault.Start.Byte)}, []any{Nested, 2 * depth})
+		found := refused(t, strings.Repeat("{a", depth+1), depth)
+		same(t, "too deep", []any{found.Kind, int(found.Start.Byte)}, []any{TooDeep, 2 * depth})
 	}
 	same(t, "the default depth", len(parsed(t, strings.Repeat("{a", 200)+strings.Repeat("}", 200)).Nodes), 201)
 }
@@ -67,34 +67,34 @@ func TestTokens(t *testing.T) {
 	}
 	for tokens, start := range starts {
 		_, err := ParseWithin(source, 5, tokens)
-		var fault *SyntaxError
-		if !errors.As(err, &fault) {
+		var found *SyntaxError
+		if !errors.As(err, &found) {
 			t.Fatalf("%d tokens: %v", tokens, err)
 		}
-		same(t, "too many tokens", []any{fault.Reason, fault.Message, fault.Start.Index}, []any{TooMany, "Too many tokens", start})
-		same(t, "their error", fault.Error(), fmt.Sprintf("Too many tokens. At 0:%d", start))
+		same(t, "too many tokens", []any{found.Kind, found.Message, found.Start.Index}, []any{TooManyTokens, "Too many tokens", start})
+		same(t, "their error", found.Error(), fmt.Sprintf("Too many tokens. At 0:%d", start))
 	}
-	// Nothing after the first token too many is read, and no deep text is parsed.
+	// No lexical error after the first token too many counts, and no deep text is parsed.
 	for _, source := range []string{strings.Repeat("{a", 1<<20), "{ a ) } \"", "{ a \"\x00"} {
 		_, err := ParseWithin(source, 5, 2)
-		var fault *SyntaxError
-		same(t, source[:5], errors.As(err, &fault) && fault.Reason == TooMany, source != "{ a \"\x00")
+		var found *SyntaxError
+		same(t, source[:5], errors.As(err, &found) && found.Kind == TooManyTokens, source != "{ a \"\x00")
 	}
 	many := "{" + strings.Repeat("a ", 1000001)
 	for _, tokens := range []int{65535, 65536, 65537, 999999, 1000000, 1000001, 1000002} {
 		_, err := ParseWithin(many, 5, tokens)
-		var fault *SyntaxError
-		if !errors.As(err, &fault) {
+		var found *SyntaxError
+		if !errors.As(err, &found) {
 			t.Fatalf("%d tokens: %v", tokens, err)
 		}
-		wanted := []any{TooMany, 2*tokens - 1}
+		wanted := []any{TooManyTokens, 2*tokens - 1}
 		if tokens == 1000002 {
 			wanted = []any{UnexpectedEnd, 2*tokens - 1}
 		}
-		same(t, "a limit on many tokens", []any{fault.Reason, int(fault.Start.Byte)}, wanted)
+		same(t, "a limit on many tokens", []any{found.Kind, int(found.Start.Byte)}, wanted)
 	}
 	for _, tokens := range []int{-1, -1 << 63} {
-		if _, err := ParseWithin(source, 5, tokens); !errors.Is(err, ErrTokens) {
+		if _, err := ParseWithin(source, 5, tokens); !errors.Is(err, ErrInvalidMaxTokens) {
 			t.Errorf("%d tokens: %v", tokens, err)
 		}
 	}
@@ -112,7 +112,7 @@ func TestTooLong(t *testing.T) {
 	defer syscall.Munmap(bytes)
 	source := *(*string)(unsafe.Pointer(&bytes))
 	for _, tokens := range []int{5, AnyTokens} {
-		if _, err := ParseWithin(source, 5, tokens); !errors.Is(err, ErrTooLong) {
+		if _, err := ParseWithin(source, 5, tokens); !errors.Is(err, ErrSourceTooLong) {
 			t.Errorf("4 GiB: %v", err)
 		}
 	}
@@ -141,7 +141,7 @@ func TestSmallStacks(t *testing.T) {
 	if os.Getenv("FIRTHNAPKIN_SMALL_STACK") != "" {
 		for _, part := range []string{"{...", "{a", "{a(x:{k:", "query($a:["} {
 			refused(t, strings.Repeat(part, 5000), DefaultDepth)
-			refused(t, strings.Repeat(part, 5000), MostDepth)
+			refused(t, strings.Repeat(part, 5000), MaxDepth)
 		}
 		same(t, "nodes", len(parsed(t, strings.Repeat("{...", 199)+"{a}"+strings.Repeat("}", 199)).Nodes), 201)
 		return

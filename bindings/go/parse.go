@@ -20,22 +20,22 @@ package firthnapkin
 #include "calls.h"
 
 typedef struct {
-	size_t nodes_needed, texts_needed;
-	firthnapkin_fault fault;
+	size_t nodes_length, texts_length;
+	firthnapkin_error error;
 } told;
 
-static uint32_t parse(const char *source, size_t length, uint32_t depth, void *nodes, size_t nodes_room, char *texts,
-                      size_t texts_room, told *t) {
-	return parse_on_stack((const uint8_t *)source, length, depth, nodes, nodes_room, &t->nodes_needed, (uint8_t *)texts,
-	                      texts_room, &t->texts_needed, &t->fault);
+static uint32_t parse(const char *source, size_t length, uint32_t depth, void *nodes, size_t nodes_capacity, char *texts,
+                      size_t texts_capacity, told *t) {
+	return parse_on_stack((const uint8_t *)source, length, depth, nodes, nodes_capacity, &t->nodes_length, (uint8_t *)texts,
+	                      texts_capacity, &t->texts_length, &t->error);
 }
 
-static uint32_t count(const char *source, size_t length, uint32_t most, told *t) {
-	return count_on_stack((const uint8_t *)source, length, most, &t->fault);
+static uint32_t count(const char *source, size_t length, uint32_t max_tokens, told *t) {
+	return count_on_stack((const uint8_t *)source, length, max_tokens, &t->error);
 }
 
-static uint32_t message(const char *source, size_t length, uint32_t depth, char *room, size_t room_length, told *t) {
-	return message_on_stack((const uint8_t *)source, length, depth, (uint8_t *)room, room_length, &t->texts_needed);
+static uint32_t message(const char *source, size_t length, uint32_t depth, char *buffer, size_t buffer_capacity, told *t) {
+	return message_on_stack((const uint8_t *)source, length, depth, (uint8_t *)buffer, buffer_capacity, &t->texts_length);
 }
 */
 import "C"
@@ -51,27 +51,27 @@ import (
 // DefaultDepth is how deep Parse allows brackets to be nested.
 const DefaultDepth = 200
 
-// MostDepth is the largest depth that ParseWithin takes.
-const MostDepth = C.FIRTHNAPKIN_MOST_DEPTH
+// MaxDepth is the largest depth that ParseWithin takes.
+const MaxDepth = C.FIRTHNAPKIN_MAX_DEPTH
 
 // AnyTokens is a number of tokens that no source exceeds.
 const AnyTokens = 1<<32 - 1
 
 // Version is the library's version.
-const Version = C.FIRTHNAPKIN_VERSION_TEXT
+const Version = C.FIRTHNAPKIN_VERSION_STRING
 
 // What Parse and ParseWithin return besides a *SyntaxError.
 var (
 	// ErrNotUTF8 says that the source is not UTF-8.
 	ErrNotUTF8 = errors.New("firthnapkin: the source is not UTF-8")
-	// ErrMemory says that memory ran out.
-	ErrMemory = errors.New("firthnapkin: memory ran out")
-	// ErrTooLong says that the source has 4 GiB or more.
-	ErrTooLong = errors.New("firthnapkin: the source has 4 GiB or more")
-	// ErrDepth says that the depth is below 0 or above MostDepth.
-	ErrDepth = fmt.Errorf("firthnapkin: the depth is not from 0 to %d", MostDepth)
-	// ErrTokens says that the number of tokens is below 0.
-	ErrTokens = errors.New("firthnapkin: the number of tokens is below 0")
+	// ErrOutOfMemory says that memory ran out.
+	ErrOutOfMemory = errors.New("firthnapkin: memory ran out")
+	// ErrSourceTooLong says that the source has 4 GiB or more.
+	ErrSourceTooLong = errors.New("firthnapkin: the source has 4 GiB or more")
+	// ErrInvalidDepth says that the depth is below 0 or above MaxDepth.
+	ErrInvalidDepth = fmt.Errorf("firthnapkin: the depth is not from 0 to %d", MaxDepth)
+	// ErrInvalidMaxTokens says that the number of tokens is below 0.
+	ErrInvalidMaxTokens = errors.New("firthnapkin: the number of tokens is below 0")
 )
 
 // Parse returns the document that a source is, with brackets nested at most DefaultDepth deep, or an error: a *SyntaxError
@@ -80,32 +80,32 @@ func Parse(source string) (*Document, error) {
 	return ParseWithin(source, DefaultDepth, AnyTokens)
 }
 
-// ParseWithin is Parse with brackets nested at most as deep as depth, from 0 to MostDepth, and no more than that many tokens.
+// ParseWithin is Parse with brackets nested at most as deep as depth, from 0 to MaxDepth, and no more than maxTokens tokens.
 // A source with more is refused at the first one too many, before anything is built.
-func ParseWithin(source string, depth, tokens int) (*Document, error) {
-	if depth < 0 || depth > MostDepth {
-		return nil, ErrDepth
+func ParseWithin(source string, depth, maxTokens int) (*Document, error) {
+	if depth < 0 || depth > MaxDepth {
+		return nil, ErrInvalidDepth
 	}
-	if tokens < 0 {
-		return nil, ErrTokens
+	if maxTokens < 0 {
+		return nil, ErrInvalidMaxTokens
 	}
-	if tokens < AnyTokens {
-		if err := count(source, tokens); err != nil {
+	if maxTokens < AnyTokens {
+		if err := count(source, maxTokens); err != nil {
 			return nil, err
 		}
 	}
 	return parse(source, depth)
 }
 
-func count(source string, tokens int) error {
+func count(source string, maxTokens int) error {
 	told := new(C.told)
-	status := C.count(bytesOf(source), C.size_t(len(source)), C.uint32_t(tokens), told)
+	status := C.count(bytesOf(source), C.size_t(len(source)), C.uint32_t(maxTokens), told)
 	runtime.KeepAlive(source)
 	switch status {
-	case C.FIRTHNAPKIN_FEW:
+	case C.FIRTHNAPKIN_OK:
 		return nil
-	case C.FIRTHNAPKIN_MANY:
-		return syntaxErrorOf("Too many tokens", &told.fault)
+	case C.FIRTHNAPKIN_TOO_MANY_TOKENS:
+		return syntaxErrorOf("Too many tokens", &told.error)
 	}
 	return errorOf(status)
 }
@@ -120,19 +120,19 @@ func parse(source string, depth int) (*Document, error) {
 	if first > mostAtFirst {
 		first = mostAtFirst
 	}
-	nodesRoom, textsRoom := first+16, first+64
+	nodesCapacity, textsCapacity := first+16, first+64
 	for {
-		nodes, texts, told := make([]Node, nodesRoom), make([]byte, textsRoom), new(C.told)
+		nodes, texts, told := make([]Node, nodesCapacity), make([]byte, textsCapacity), new(C.told)
 		status := C.parse(bytesOf(source), C.size_t(len(source)), C.uint32_t(depth), unsafe.Pointer(&nodes[0]),
-			C.size_t(nodesRoom), (*C.char)(unsafe.Pointer(&texts[0])), C.size_t(textsRoom), told)
+			C.size_t(nodesCapacity), (*C.char)(unsafe.Pointer(&texts[0])), C.size_t(textsCapacity), told)
 		runtime.KeepAlive(source)
 		switch status {
-		case C.FIRTHNAPKIN_TREE:
-			return &Document{source, nodes[:told.nodes_needed:told.nodes_needed], string(texts[:told.texts_needed])}, nil
-		case C.FIRTHNAPKIN_ROOM:
-			nodesRoom, textsRoom = int(told.nodes_needed)+1, int(told.texts_needed)+1
-		case C.FIRTHNAPKIN_REFUSED, C.FIRTHNAPKIN_TOO_DEEP:
-			return nil, syntaxError(source, depth, &told.fault)
+		case C.FIRTHNAPKIN_OK:
+			return &Document{source, nodes[:told.nodes_length:told.nodes_length], string(texts[:told.texts_length])}, nil
+		case C.FIRTHNAPKIN_BUFFER_TOO_SMALL:
+			nodesCapacity, textsCapacity = int(told.nodes_length)+1, int(told.texts_length)+1
+		case C.FIRTHNAPKIN_SYNTAX_ERROR, C.FIRTHNAPKIN_TOO_DEEP:
+			return nil, syntaxError(source, depth, &told.error)
 		default:
 			return nil, errorOf(status)
 		}
@@ -143,12 +143,12 @@ func errorOf(status C.uint32_t) error {
 	switch status {
 	case C.FIRTHNAPKIN_NOT_UTF8:
 		return ErrNotUTF8
-	case C.FIRTHNAPKIN_MEMORY:
-		return ErrMemory
-	case C.FIRTHNAPKIN_TOO_LONG:
-		return ErrTooLong
-	case C.FIRTHNAPKIN_DEPTH:
-		return ErrDepth
+	case C.FIRTHNAPKIN_OUT_OF_MEMORY:
+		return ErrOutOfMemory
+	case C.FIRTHNAPKIN_SOURCE_TOO_LONG:
+		return ErrSourceTooLong
+	case C.FIRTHNAPKIN_INVALID_LIMIT:
+		return ErrInvalidDepth
 	}
 	return fmt.Errorf("firthnapkin: the parser returned %d", status)
 }
@@ -158,38 +158,38 @@ func bytesOf(source string) *C.char {
 	return *(**C.char)(unsafe.Pointer(&source))
 }
 
-func syntaxError(source string, depth int, fault *C.firthnapkin_fault) error {
-	for room := 256; ; {
-		words, told := make([]byte, room), new(C.told)
+func syntaxError(source string, depth int, found *C.firthnapkin_error) error {
+	for capacity := 256; ; {
+		words, told := make([]byte, capacity), new(C.told)
 		status := C.message(bytesOf(source), C.size_t(len(source)), C.uint32_t(depth),
-			(*C.char)(unsafe.Pointer(&words[0])), C.size_t(room), told)
+			(*C.char)(unsafe.Pointer(&words[0])), C.size_t(capacity), told)
 		runtime.KeepAlive(source)
 		switch status {
-		case C.FIRTHNAPKIN_ROOM:
-			room = int(told.texts_needed)
-		case C.FIRTHNAPKIN_REFUSED, C.FIRTHNAPKIN_TOO_DEEP:
-			message := string(words[:told.texts_needed])
-			return syntaxErrorOf(message[:strings.LastIndex(message, ". At ")], fault)
+		case C.FIRTHNAPKIN_BUFFER_TOO_SMALL:
+			capacity = int(told.texts_length)
+		case C.FIRTHNAPKIN_SYNTAX_ERROR, C.FIRTHNAPKIN_TOO_DEEP:
+			message := string(words[:told.texts_length])
+			return syntaxErrorOf(message[:strings.LastIndex(message, ". At ")], found)
 		default:
 			return errorOf(status)
 		}
 	}
 }
 
-func syntaxErrorOf(message string, fault *C.firthnapkin_fault) error {
+func syntaxErrorOf(message string, found *C.firthnapkin_error) error {
 	return &SyntaxError{
 		Message: message,
-		Reason:  Reason(fault.kind),
-		Detail:  Detail(fault.detail),
+		Kind:    ErrorKind(found.kind),
+		Detail:  ErrorDetail(found.detail),
 		// The characters of a source are below 0x110000.
-		Character: rune(fault.character),
-		Start:     placeOf(fault.start),
-		End:       placeOf(fault.end),
+		Character: rune(found.character),
+		Start:     positionOf(found.start),
+		End:       positionOf(found.end),
 	}
 }
 
-func placeOf(place C.firthnapkin_place) Place {
-	return Place{uint32(place.index), uint32(place.line), uint32(place.column), uint32(place.byte)}
+func positionOf(p C.firthnapkin_position) Position {
+	return Position{uint32(p.index), uint32(p.line), uint32(p.column), uint32(p.byte)}
 }
 
 // The nodes of a slice are laid out as the library writes them; each of these lines is a compile error where that is wrong.
@@ -202,7 +202,7 @@ var (
 	_ = [1]struct{}{}[unsafe.Offsetof(Node{}.NameEnd)-unsafe.Offsetof(C.firthnapkin_node{}.name_end)]
 	_ = [1]struct{}{}[unsafe.Offsetof(Node{}.Value)-unsafe.Offsetof(C.firthnapkin_node{}.value)]
 	_ = [1]struct{}{}[unsafe.Offsetof(Node{}.ValueLength)-unsafe.Offsetof(C.firthnapkin_node{}.value_length)]
-	_ = [1]struct{}{}[unsafe.Offsetof(Place{}.Line)-unsafe.Offsetof(C.firthnapkin_place{}.line)]
-	_ = [1]struct{}{}[unsafe.Offsetof(Place{}.Column)-unsafe.Offsetof(C.firthnapkin_place{}.column)]
-	_ = [1]struct{}{}[unsafe.Offsetof(Place{}.Byte)-unsafe.Offsetof(C.firthnapkin_place{}.byte)]
+	_ = [1]struct{}{}[unsafe.Offsetof(Position{}.Line)-unsafe.Offsetof(C.firthnapkin_position{}.line)]
+	_ = [1]struct{}{}[unsafe.Offsetof(Position{}.Column)-unsafe.Offsetof(C.firthnapkin_position{}.column)]
+	_ = [1]struct{}{}[unsafe.Offsetof(Position{}.Byte)-unsafe.Offsetof(C.firthnapkin_position{}.byte)]
 )

@@ -25,11 +25,11 @@ func parsed(t *testing.T, source string) *Document {
 func refused(t *testing.T, source string, depth int) *SyntaxError {
 	t.Helper()
 	_, err := ParseWithin(source, depth, AnyTokens)
-	var fault *SyntaxError
-	if !errors.As(err, &fault) {
+	var found *SyntaxError
+	if !errors.As(err, &found) {
 		t.Fatalf("%.40q: %v", source, err)
 	}
-	return fault
+	return found
 }
 
 func same(t *testing.T, told string, found, wanted any) {
@@ -37,6 +37,20 @@ func same(t *testing.T, told string, found, wanted any) {
 	if !reflect.DeepEqual(found, wanted) {
 		t.Errorf("%s: %v, not %v", told, found, wanted)
 	}
+}
+
+// gqlcheck's words for the kinds that it names otherwise.
+var gqlcheckWords = map[Kind]string{
+	FragmentDefinition: "fragment", VariableDefinitions: "variables", VariableDefinition: "variable", FragmentSpread: "spread",
+	InlineFragment: "inline", Variable: "reference", ObjectField: "key",
+}
+
+// wordOf returns gqlcheck's word for a kind.
+func wordOf(kind Kind) string {
+	if word, isOther := gqlcheckWords[kind]; isOther {
+		return word
+	}
+	return kind.String()
 }
 
 // lines returns what gqlcheck writes for a source.
@@ -50,14 +64,14 @@ func lines(source string) string {
 	}
 	var written []string
 	for i, node := range document.Nodes {
-		line := fmt.Sprintf("%v %d %d", node.Kind, node.Start.Index, node.End.Index)
+		line := fmt.Sprintf("%s %d %d", wordOf(node.Kind), node.Start.Index, node.End.Index)
 		switch node.Kind {
 		case Int, LargeInt, Float, String, BlockString, Boolean:
 			line = fmt.Sprintf("scalar %d %d", node.Start.Index, node.End.Index)
 		case Null:
 		case Type:
 			line += " " + document.Meaning(i)
-		case Fragment:
+		case FragmentDefinition:
 			line += " " + document.Name(i) + " " + document.Meaning(i)
 		default:
 			if name := document.Name(i); name != "" {
@@ -135,58 +149,58 @@ func TestDocument(t *testing.T) {
 	same(t, "definitions", d.Definitions(), []int{0, 11})
 	same(t, "children of the query", d.Children(0), []int{1, 4, 10})
 	same(t, "children of the field", d.Children(4), []int{5, 6, 9})
-	same(t, "the variable", []any{d.Nodes[2].Kind, d.Name(2), d.Text(2)}, []any{Variable, "v", "$v"})
+	same(t, "the variable", []any{d.Nodes[2].Kind, d.Name(2), d.Text(2)}, []any{VariableDefinition, "v", "$v"})
 	same(t, "the type", []any{d.Nodes[3].Kind, d.Meaning(3), d.Text(3)}, []any{Type, "[T!]", "[T ! ]"})
-	same(t, "the fragment", []any{d.Nodes[11].Kind, d.Name(11), d.Meaning(11)}, []any{Fragment, "F", "T"})
+	same(t, "the fragment", []any{d.Nodes[11].Kind, d.Name(11), d.Meaning(11)}, []any{FragmentDefinition, "F", "T"})
 	last := len(d.Nodes) - 1
 	same(t, "the string", []any{d.Text(last), d.Meaning(last)}, []any{`"é𝄞"`, "é𝄞"})
-	same(t, "its start", d.Nodes[last].Start, Place{75, 2, 23, 79})
-	same(t, "its end", d.Nodes[last].End, Place{79, 2, 27, 87})
-	same(t, "a kind's word", []string{Query.String(), Boolean.String(), Kind(15).String(), Kind(27).String()},
-		[]string{"query", "boolean", "Kind(15)", "Kind(27)"})
+	same(t, "its start", d.Nodes[last].Start, Position{75, 2, 23, 79})
+	same(t, "its end", d.Nodes[last].End, Position{79, 2, 27, 87})
+	same(t, "a kind's word", []string{Query.String(), ObjectField.String(), Boolean.String(), Kind(26).String()},
+		[]string{"query", "object_field", "boolean", "Kind(26)"})
 	same(t, "the version", Version != "", true)
 }
 
 func TestSyntaxErrors(t *testing.T) {
 	for _, row := range []struct {
 		source     string
-		reason     Reason
-		detail     Detail
+		kind       ErrorKind
+		detail     ErrorDetail
 		character  rune
-		start, end Place
+		start, end Position
 		told       string
 	}{
-		{"{\n  a )\n}", UnexpectedToken, NoDetail, 0, Place{6, 1, 4, 6}, Place{7, 1, 5, 7}, `Unexpected ")". At 1:4`},
-		{"", UnexpectedEnd, NoDetail, 0, Place{}, Place{}, "Unexpected end of input. At 0:0"},
-		{"#é\n{ a", UnexpectedEnd, NoDetail, 0, Place{6, 1, 3, 7}, Place{6, 1, 3, 7}, "Unexpected end of input. At 1:3"},
-		{"{ é }", Lexical, UnknownCharacter, 'é', Place{2, 0, 2, 2}, Place{2, 0, 2, 2}, `Unknown character "é". At 0:2`},
-		{"{ .a }", Lexical, UnexpectedCharacter, '.', Place{2, 0, 2, 2}, Place{2, 0, 2, 2}, `Unexpected character ".". At 0:2`},
-		{`{a(b:"c`, Lexical, UnterminatedString, 0, Place{7, 0, 7, 7}, Place{7, 0, 7, 7}, "Unterminated string literal. At 0:7"},
-		{"{a(b:\"\x00\")}", Lexical, UnknownCharacterInString, 0, Place{6, 0, 6, 6}, Place{6, 0, 6, 6},
+		{"{\n  a )\n}", UnexpectedToken, NoDetail, 0, Position{6, 1, 4, 6}, Position{7, 1, 5, 7}, `Unexpected ")". At 1:4`},
+		{"", UnexpectedEnd, NoDetail, 0, Position{}, Position{}, "Unexpected end of input. At 0:0"},
+		{"#é\n{ a", UnexpectedEnd, NoDetail, 0, Position{6, 1, 3, 7}, Position{6, 1, 3, 7}, "Unexpected end of input. At 1:3"},
+		{"{ é }", Lexical, UnknownCharacter, 'é', Position{2, 0, 2, 2}, Position{2, 0, 2, 2}, `Unknown character "é". At 0:2`},
+		{"{ .a }", Lexical, UnexpectedCharacter, '.', Position{2, 0, 2, 2}, Position{2, 0, 2, 2}, `Unexpected character ".". At 0:2`},
+		{`{a(b:"c`, Lexical, UnterminatedString, 0, Position{7, 0, 7, 7}, Position{7, 0, 7, 7}, "Unterminated string literal. At 0:7"},
+		{"{a(b:\"\x00\")}", Lexical, UnknownCharacterInString, 0, Position{6, 0, 6, 6}, Position{6, 0, 6, 6},
 			"Unknown character \"\x00\" in string literal. At 0:6"},
-		{`{a(b:"\q")}`, Lexical, UnknownEscape, 0, Place{7, 0, 7, 7}, Place{7, 0, 7, 7},
+		{`{a(b:"\q")}`, Lexical, UnknownEscape, 0, Position{7, 0, 7, 7}, Position{7, 0, 7, 7},
 			`Unknown escape sequence "\q" in string. At 0:7`},
-		{"{a(b:-", Lexical, UnexpectedEndInToken, 0, Place{6, 0, 6, 6}, Place{6, 0, 6, 6}, "Unexpected end of input. At 0:6"},
-		{strings.Repeat("{a", 201), Nested, NoDetail, 0, Place{400, 0, 400, 400}, Place{401, 0, 401, 401},
+		{"{a(b:-", Lexical, UnexpectedEndInToken, 0, Position{6, 0, 6, 6}, Position{6, 0, 6, 6}, "Unexpected end of input. At 0:6"},
+		{strings.Repeat("{a", 201), TooDeep, NoDetail, 0, Position{400, 0, 400, 400}, Position{401, 0, 401, 401},
 			"Too deeply nested. At 0:400"},
 		// A token may be written like the end of a message.
-		{`{ "a. At b" }`, UnexpectedToken, NoDetail, 0, Place{2, 0, 2, 2}, Place{11, 0, 11, 11}, `Unexpected ""a. At b"". At 0:2`},
-		{`{ "a. At 1:1" }`, UnexpectedToken, NoDetail, 0, Place{2, 0, 2, 2}, Place{13, 0, 13, 13},
+		{`{ "a. At b" }`, UnexpectedToken, NoDetail, 0, Position{2, 0, 2, 2}, Position{11, 0, 11, 11}, `Unexpected ""a. At b"". At 0:2`},
+		{`{ "a. At 1:1" }`, UnexpectedToken, NoDetail, 0, Position{2, 0, 2, 2}, Position{13, 0, 13, 13},
 			`Unexpected ""a. At 1:1"". At 0:2`},
 		// Characters of two, three and four bytes.
-		{"{ ж }", Lexical, UnknownCharacter, 'ж', Place{2, 0, 2, 2}, Place{2, 0, 2, 2}, `Unknown character "ж". At 0:2`},
-		{"{ \uffff }", Lexical, UnknownCharacter, '\uffff', Place{2, 0, 2, 2}, Place{2, 0, 2, 2}, "Unknown character \"\uffff\". At 0:2"},
-		{"{𝄞", Lexical, UnknownCharacter, '𝄞', Place{1, 0, 1, 1}, Place{1, 0, 1, 1}, `Unknown character "𝄞". At 0:1`},
-		{"{a(b:-\U0010ffff", Lexical, UnexpectedCharacter, '\U0010ffff', Place{6, 0, 6, 6}, Place{6, 0, 6, 6},
+		{"{ ж }", Lexical, UnknownCharacter, 'ж', Position{2, 0, 2, 2}, Position{2, 0, 2, 2}, `Unknown character "ж". At 0:2`},
+		{"{ \uffff }", Lexical, UnknownCharacter, '\uffff', Position{2, 0, 2, 2}, Position{2, 0, 2, 2}, "Unknown character \"\uffff\". At 0:2"},
+		{"{𝄞", Lexical, UnknownCharacter, '𝄞', Position{1, 0, 1, 1}, Position{1, 0, 1, 1}, `Unknown character "𝄞". At 0:1`},
+		{"{a(b:-\U0010ffff", Lexical, UnexpectedCharacter, '\U0010ffff', Position{6, 0, 6, 6}, Position{6, 0, 6, 6},
 			"Unexpected character \"\U0010ffff\". At 0:6"},
 		// Indexes, lines, columns and bytes that 16 bits don't hold.
 		{"#é" + strings.Repeat("\n", 70000) + strings.Repeat(" ", 70001) + ")", UnexpectedToken, NoDetail, 0,
-			Place{140003, 70000, 70001, 140004}, Place{140004, 70000, 70002, 140005}, `Unexpected ")". At 70000:70001`},
+			Position{140003, 70000, 70001, 140004}, Position{140004, 70000, 70002, 140005}, `Unexpected ")". At 70000:70001`},
 	} {
-		fault := refused(t, row.source, DefaultDepth)
-		same(t, row.source, *fault, SyntaxError{fault.Message, row.reason, row.detail, row.character, row.start, row.end})
-		same(t, row.source, fault.Error(), row.told)
-		same(t, row.source, fault.Message+row.told[strings.LastIndex(row.told, ". At "):], row.told)
+		found := refused(t, row.source, DefaultDepth)
+		same(t, row.source, *found, SyntaxError{found.Message, row.kind, row.detail, row.character, row.start, row.end})
+		same(t, row.source, found.Error(), row.told)
+		same(t, row.source, found.Message+row.told[strings.LastIndex(row.told, ". At "):], row.told)
 	}
 	for _, length := range []int{1, 200, 242, 243, 244, 255, 256, 257, 5000} {
 		name := strings.Repeat("n", length)
@@ -206,24 +220,24 @@ func TestSources(t *testing.T) {
 	large := parsed(t, "{"+strings.Repeat(strings.Repeat("a", 63)+" ", 1<<20)+"}")
 	same(t, "nodes of 64 MB", len(large.Nodes), 1<<20+1)
 	same(t, "the end of 64 MB", int(large.Nodes[0].End.Byte), 1<<26+2)
-	same(t, "the fault of 64 MB", int(refused(t, "{"+strings.Repeat("a", 1<<26), 9).Start.Byte), 1<<26+1)
+	same(t, "the error of 64 MB", int(refused(t, "{"+strings.Repeat("a", 1<<26), 9).Start.Byte), 1<<26+1)
 	strs := parsed(t, "{a(b:["+strings.Repeat(`"\n0123456789" `, 5000)+"])}")
 	same(t, "the last of many strings", strs.Meaning(len(strs.Nodes)-1), "\n0123456789")
 }
 
 func TestStatuses(t *testing.T) {
-	same(t, "the errors of statuses", []error{errorOf(2), errorOf(4), errorOf(7), errorOf(8)},
-		[]error{ErrNotUTF8, ErrMemory, ErrTooLong, ErrDepth})
+	same(t, "the errors of statuses", []error{errorOf(2), errorOf(3), errorOf(7), errorOf(8)},
+		[]error{ErrNotUTF8, ErrOutOfMemory, ErrSourceTooLong, ErrInvalidDepth})
 	for err, told := range map[error]string{
-		ErrNotUTF8: "the source is not UTF-8",
-		ErrMemory:  "memory ran out",
-		ErrTooLong: "the source has 4 GiB or more",
-		ErrDepth:   "the depth is not from 0 to 1000",
-		ErrTokens:  "the number of tokens is below 0",
+		ErrNotUTF8:          "the source is not UTF-8",
+		ErrOutOfMemory:      "memory ran out",
+		ErrSourceTooLong:    "the source has 4 GiB or more",
+		ErrInvalidDepth:     "the depth is not from 0 to 1000",
+		ErrInvalidMaxTokens: "the number of tokens is below 0",
 	} {
 		same(t, "the words of an error", err.Error(), "firthnapkin: "+told)
 	}
-	same(t, "the error of another", errorOf(3).Error(), "firthnapkin: the parser returned 3")
+	same(t, "the error of another", errorOf(9).Error(), "firthnapkin: the parser returned 9")
 }
 
 func ExampleParse() {

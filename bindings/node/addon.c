@@ -1,5 +1,5 @@
 /* The library's calls for index.js, which checks the types of arguments: parse(buffer, depth, tokens, allocate) returns
- * { status, nodes, texts }, an ArrayBuffer of the nodes or of the fault, and one of the texts or of the fault's words. `allocate`
+ * { status, nodes, texts }, an ArrayBuffer of the nodes or of the error, and one of the texts or of the error's words. `allocate`
  * makes an ArrayBuffer of so many bytes. */
 #define _GNU_SOURCE
 #include "whole.h"
@@ -33,9 +33,10 @@ static napi_status copied(napi_env env, napi_value allocate, const void *from, s
 }
 
 static napi_value told(napi_env env, const whole *w, napi_value allocate) {
-    int is_fault = w->status == FIRTHNAPKIN_REFUSED || w->status == FIRTHNAPKIN_TOO_DEEP || w->status == FIRTHNAPKIN_MANY;
-    size_t size = is_fault ? sizeof w->fault : w->nodes_count * sizeof *w->nodes;
-    const void *from = is_fault ? (const void *)&w->fault : (const void *)w->nodes;
+    int is_error = w->status == FIRTHNAPKIN_SYNTAX_ERROR || w->status == FIRTHNAPKIN_TOO_DEEP
+        || w->status == FIRTHNAPKIN_TOO_MANY_TOKENS;
+    size_t size = is_error ? sizeof w->error : w->nodes_count * sizeof *w->nodes;
+    const void *from = is_error ? (const void *)&w->error : (const void *)w->nodes;
     napi_value result, value;
     if (napi_create_object(env, &result) != napi_ok
         || !has(env, result, "status", napi_create_uint32(env, w->status, &value), &value)
@@ -59,10 +60,10 @@ static napi_value parse(napi_env env, napi_callback_info info) {
         || napi_get_value_double(env, arguments[2], &tokens) != napi_ok)
         return failed(env, "parse takes a buffer, a depth, a number of tokens and a function");
     /* NaN is neither less than 0 nor more. */
-    uint32_t limit = depth >= 0 && depth <= FIRTHNAPKIN_MOST_DEPTH ? (uint32_t)depth : UINT32_MAX;
+    uint32_t limit = depth >= 0 && depth <= FIRTHNAPKIN_MAX_DEPTH ? (uint32_t)depth : UINT32_MAX;
     uint32_t most = tokens >= 0 && tokens < UINT32_MAX ? (uint32_t)tokens : UINT32_MAX;
     whole w = parse_whole(source, length, limit, most);
-    napi_value result = w.status == FIRTHNAPKIN_MEMORY ? failed(env, "memory ran out") : told(env, &w, arguments[3]);
+    napi_value result = w.status == FIRTHNAPKIN_OUT_OF_MEMORY ? failed(env, "memory ran out") : told(env, &w, arguments[3]);
     give_back(&w);
     return result;
 }
@@ -70,9 +71,9 @@ static napi_value parse(napi_env env, napi_callback_info info) {
 NAPI_MODULE_INIT() {
     napi_value value;
     if (!has(env, exports, "parse", napi_create_function(env, "parse", NAPI_AUTO_LENGTH, parse, NULL, &value), &value)
-        || !has(env, exports, "MOST_DEPTH", napi_create_uint32(env, FIRTHNAPKIN_MOST_DEPTH, &value), &value)
+        || !has(env, exports, "MAX_DEPTH", napi_create_uint32(env, FIRTHNAPKIN_MAX_DEPTH, &value), &value)
         || !has(env, exports, "VERSION",
-                napi_create_string_utf8(env, FIRTHNAPKIN_VERSION_TEXT, NAPI_AUTO_LENGTH, &value), &value))
+                napi_create_string_utf8(env, FIRTHNAPKIN_VERSION_STRING, NAPI_AUTO_LENGTH, &value), &value))
         return failed(env, "the module was not made");
     return exports;
 }

@@ -1,21 +1,20 @@
 /** The kind of a node. */
 export type Kind =
   | "query" | "mutation" | "subscription"
-  /** The definition of a fragment. */
-  | "fragment"
+  | "fragmentDefinition"
   /** The variable definitions of an operation. */
-  | "variables"
+  | "variableDefinitions"
   /** A variable definition, by its name. */
-  | "variable"
+  | "variableDefinition"
   /** The type of a variable. */
   | "type"
   | "field"
   /** The alias of a field. */
   | "alias"
   /** The use of a fragment by its name. */
-  | "spread"
+  | "fragmentSpread"
   /** A fragment without a name; its name is its type condition. */
-  | "inline"
+  | "inlineFragment"
   | "directive"
   /** The arguments of a field or a directive. */
   | "arguments"
@@ -23,18 +22,18 @@ export type Kind =
   | "argument"
   | "null" | "enum"
   /** A variable used as a value. */
-  | "reference"
+  | "variable"
   | "list" | "object"
   /** A field of an object, by its name. */
-  | "key"
+  | "objectField"
   /** An Int that 32 bits hold. */
   | "int"
   /** An Int that 32 bits don't hold. */
   | "largeInt"
   | "float" | "string" | "blockString" | "boolean";
 
-/** How much comes before a place: UTF-16 units of the source, line feeds, units of the line, bytes of UTF-8. */
-export interface Place {
+/** How much comes before a position: UTF-16 units of the source, line feeds, units of the line, bytes of UTF-8. */
+export interface Position {
   readonly index: number;
   readonly line: number;
   readonly column: number;
@@ -49,9 +48,9 @@ export interface Node {
   readonly kind: Kind;
   /** How many of the nodes after this one are of parts in it. */
   readonly descendants: number;
-  readonly start: Place;
-  /** The place after the last character. */
-  readonly end: Place;
+  readonly start: Position;
+  /** The position after the last character. */
+  readonly end: Position;
   /** The text of the source from the start to the end: of a number how it is written. */
   readonly text: string;
   /** The name, without `$` and `@`; of an inline fragment its type condition. */
@@ -75,8 +74,8 @@ export interface NodeParts {
   readonly name: string | null;
   /** The node's value. Of a `largeInt`, and of a Float beyond the largest number, the text. */
   readonly value: null | boolean | number | string;
-  readonly start: Place;
-  readonly end: Place;
+  readonly start: Position;
+  readonly end: Position;
   readonly children: NodeParts[];
 }
 
@@ -97,8 +96,20 @@ export interface DocumentParts {
   readonly definitions: NodeParts[];
 }
 
+/** The kind of an error. */
+export type ErrorKind =
+  | "unexpectedToken" | "unexpectedEnd"
+  /** There is no token: the detail says why. */
+  | "lexical"
+  /** A token is nested too deep. */
+  | "tooDeep"
+  /** A token is one too many. */
+  | "tooManyTokens"
+  /** A half of a surrogate pair is alone, so the string is no text. */
+  | "surrogate";
+
 /** Why there is no token. */
-export type Detail =
+export type ErrorDetail =
   | "unknownCharacter" | "unexpectedCharacter" | "unterminatedString" | "unknownCharacterInString" | "unknownEscape"
   | "unexpectedEndInToken";
 
@@ -106,37 +117,36 @@ export type Detail =
  * Why a source is no document within the limits, and where. The message ends with the line and the column, both counted from 0,
  * and there in characters.
  */
-export class Fault extends Error {
+export class FirthnapkinError extends Error {
   private constructor();
-  readonly name: "Fault";
-  /** `surrogate`: a half of a surrogate pair is alone, so the string is no text. */
-  readonly reason: "unexpectedToken" | "unexpectedEnd" | "lexical" | "nested" | "tooMany" | "surrogate";
-  /** Where the reason is `lexical`. */
-  readonly detail: Detail | null;
+  readonly name: "FirthnapkinError";
+  readonly kind: ErrorKind;
+  /** Where the kind is `lexical`. */
+  readonly detail: ErrorDetail | null;
   /** The character of the detail. */
   readonly character: string | null;
-  readonly start: Place;
-  readonly end: Place;
+  readonly start: Position;
+  readonly end: Position;
   /** The line and the column, both counted from 1, as in the errors of a response. */
   readonly locations: ReadonlyArray<{ readonly line: number; readonly column: number }>;
 }
 
 export interface Options {
-  /** How deep brackets may be nested: an integer from 0 to MOST_DEPTH; 200 where it isn't given. */
+  /** How deep brackets may be nested: an integer from 0 to MAX_DEPTH; 200 where it isn't given. */
   depth?: number;
   /** How many tokens the source may have; any number where it isn't given. */
   maxTokens?: number;
 }
 
 /**
- * The document that a source is. Throws a Fault where it is none, a bracket is nested deeper, or a token is one too many,
+ * The document that a source is. Throws a FirthnapkinError where it is none, a bracket is nested deeper, or a token is one too many,
  * before anything is built; a TypeError where the source is no string, a limit no number, or the options are no object or
  * have a name that `Options` lacks; a RangeError where a limit is no integer of its range; an Error where memory ran out.
  */
 export function parse(source: string, options?: Options): Document;
 
 /** The largest depth. */
-export const MOST_DEPTH: number;
+export const MAX_DEPTH: number;
 
 /** The library's version. */
 export const version: string;

@@ -8,19 +8,19 @@ const { inspect } = require("util");
 
 const addon = require("./firthnapkin.node");
 
-const TREE = 0;
-const REFUSED = 1;
-const TOO_DEEP = 5;
-const MANY = 9;
+const OK = 0;
+const SYNTAX_ERROR = 1;
+const TOO_DEEP = 4;
+const TOO_MANY_TOKENS = 5;
 
-// By their numbers; there is no 15.
+// By their numbers.
 const KINDS = [
-  "query", "mutation", "subscription", "fragment", "variables", "variable", "type", "field", "alias", "spread", "inline",
-  "directive", "arguments", "argument", "null", undefined, "enum", "reference", "list", "object", "key", "int", "largeInt",
-  "float", "string", "blockString", "boolean",
+  "query", "mutation", "subscription", "fragmentDefinition", "variableDefinitions", "variableDefinition", "type", "field",
+  "alias", "fragmentSpread", "inlineFragment", "directive", "arguments", "argument", "null", "enum", "variable", "list",
+  "object", "objectField", "int", "largeInt", "float", "string", "blockString", "boolean",
 ];
-const REASONS = ["unexpectedToken", "unexpectedEnd", "lexical", "scalar", "nested", "tooMany"];
-const DETAILS = [
+const ERROR_KINDS = ["unexpectedToken", "unexpectedEnd", "lexical", "tooDeep", "tooManyTokens", "invalidScalar"];
+const ERROR_DETAILS = [
   null, "unknownCharacter", "unexpectedCharacter", "unterminatedString", "unknownCharacterInString", "unknownEscape",
   "unexpectedEndInToken", "invalidNumber",
 ];
@@ -72,19 +72,19 @@ class Units {
     return index + low;
   }
 
-  // The place whose numbers begin there.
-  place(words, at) {
+  // The position whose numbers begin there.
+  position(words, at) {
     const index = this.before(words[at]);
     return { index, line: words[at + 1], column: index - this.before(words[at] - words[at + 2]), byte: words[at + 3] };
   }
 }
 
 /** Why a source is no document within the depth, and where. */
-class Fault extends Error {
+class FirthnapkinError extends Error {
   constructor(message, told) {
     super(`${message}. At ${told.at}`);
-    this.name = "Fault";
-    this.reason = told.reason;
+    this.name = "FirthnapkinError";
+    this.kind = told.kind;
     this.detail = told.detail;
     this.character = told.character;
     this.start = told.start;
@@ -121,11 +121,11 @@ class Node {
   }
 
   get start() {
-    return this.#document.units.place(this.#document.words, this.#at + START);
+    return this.#document.units.position(this.#document.words, this.#at + START);
   }
 
   get end() {
-    return this.#document.units.place(this.#document.words, this.#at + END);
+    return this.#document.units.position(this.#document.words, this.#at + END);
   }
 
   get text() {
@@ -155,10 +155,10 @@ class Node {
       case "blockString":
       case "type":
         return this.#document.texts.utf8Slice(from, to);
-      case "fragment":
+      case "fragmentDefinition":
         return this.#document.bytes.latin1Slice(from, to);
       case "enum":
-      case "reference":
+      case "variable":
         return this.name;
       default:
         return null;
@@ -273,10 +273,10 @@ function typeOf(value) {
 }
 
 // A number that is an integer from 0 to this.
-function integer(name, value, most) {
+function integer(name, value, largest) {
   if (typeof value !== "number") throw new TypeError(`${name} must be a number, not ${typeOf(value)}`);
-  if (!Number.isInteger(value) || value < 0 || value > most)
-    throw new RangeError(`${name} must be an integer from 0 to ${most}`);
+  if (!Number.isInteger(value) || value < 0 || value > largest)
+    throw new RangeError(`${name} must be an integer from 0 to ${largest}`);
   return value;
 }
 
@@ -285,9 +285,9 @@ function surrogate(source, index) {
   const column = index - (source.lastIndexOf("\n", index) + 1);
   const byte = Buffer.byteLength(source.slice(0, index));
   const number = source.charCodeAt(index).toString(16).toUpperCase();
-  return new Fault(`Lone surrogate U+${number}`, {
+  return new FirthnapkinError(`Lone surrogate U+${number}`, {
     at: `${line}:${column}`,
-    reason: "surrogate",
+    kind: "surrogate",
     detail: null,
     character: null,
     start: { index, line, column, byte },
@@ -295,19 +295,19 @@ function surrogate(source, index) {
   });
 }
 
-function fault(source, nodes, texts) {
+function errorOf(source, nodes, texts) {
   const words = new Uint32Array(nodes);
   const units = new Units(source);
   const told = texts.length > 0 ? texts.utf8Slice() : `Too many tokens. At ${words[4]}:${words[5]}`;
   const [, message, at] = /^([^]*)\. At (\d+:\d+)$/.exec(told);
-  const detail = DETAILS[words[1]];
-  return new Fault(message, {
+  const detail = ERROR_DETAILS[words[1]];
+  return new FirthnapkinError(message, {
     at,
-    reason: REASONS[words[0]],
+    kind: ERROR_KINDS[words[0]],
     detail,
     character: WITH_CHARACTER.includes(detail) ? String.fromCodePoint(words[2]) : null,
-    start: units.place(words, 3),
-    end: units.place(words, 7),
+    start: units.position(words, 3),
+    end: units.position(words, 7),
   });
 }
 
@@ -320,7 +320,7 @@ function limitsOf(options) {
     if (!OPTIONS.includes(name)) throw new TypeError(`there is no option ${String(name)}, only ${OPTIONS.join(" and ")}`);
   }
   const { depth = 200, maxTokens = Number.MAX_SAFE_INTEGER } = options;
-  return [integer("depth", depth, addon.MOST_DEPTH), integer("maxTokens", maxTokens, Number.MAX_SAFE_INTEGER)];
+  return [integer("depth", depth, addon.MAX_DEPTH), integer("maxTokens", maxTokens, Number.MAX_SAFE_INTEGER)];
 }
 
 // What a function returns that allocates: V8 throws a RangeError where memory is short.
@@ -335,16 +335,16 @@ function allocated(allocate) {
 /** The document that a source is; index.d.ts says what is thrown. */
 function parse(source, options = {}) {
   if (typeof source !== "string") throw new TypeError(`source must be a string, not ${typeOf(source)}`);
-  const [depth, most] = limitsOf(options);
+  const [depth, maxTokens] = limitsOf(options);
   const alone = source.isWellFormed?.() ? -1 : source.search(/\p{Surrogate}/u);
   if (alone >= 0) throw surrogate(source, alone);
   const bytes = allocated(() => Buffer.from(source));
   const allocate = (size) => allocated(() => new ArrayBuffer(size));
-  const { status, nodes, texts } = addon.parse(bytes, depth, most, allocate);
-  if (status === TREE) return new Document(source, bytes, nodes, Buffer.from(texts));
-  if (status === REFUSED || status === TOO_DEEP || status === MANY) throw fault(source, nodes, Buffer.from(texts));
+  const { status, nodes, texts } = addon.parse(bytes, depth, maxTokens, allocate);
+  if (status === OK) return new Document(source, bytes, nodes, Buffer.from(texts));
+  if ([SYNTAX_ERROR, TOO_DEEP, TOO_MANY_TOKENS].includes(status)) throw errorOf(source, nodes, Buffer.from(texts));
   // No string has 4 GiB.
   throw new Error(`the parser returned ${status}`);
 }
 
-module.exports = { parse, Document, Node, Fault, MOST_DEPTH: addon.MOST_DEPTH, version: addon.VERSION };
+module.exports = { parse, Document, Node, FirthnapkinError, MAX_DEPTH: addon.MAX_DEPTH, version: addon.VERSION };

@@ -65,7 +65,7 @@ static void use_stack(size_t size) {
 
 /* A call with a depth that is refused takes next to nothing. */
 static void look(uint32_t depth) {
-    size_t size = FIRTHNAPKIN_STACK(depth <= FIRTHNAPKIN_MOST_DEPTH ? depth : 0);
+    size_t size = FIRTHNAPKIN_STACK_SIZE(depth <= FIRTHNAPKIN_MAX_DEPTH ? depth : 0);
     if (!pthread_equal(pthread_self(), seen.caller)) {
         seen.in_threads++;
         own[THREAD_LOCAL - 1] = 1;
@@ -77,39 +77,40 @@ static void look(uint32_t depth) {
         use_stack(size - FRAMES);
 }
 
-static uint32_t seen_parse(const uint8_t *source, size_t length, uint32_t depth, firthnapkin_node *nodes, size_t nodes_room,
-                           size_t *nodes_needed, uint8_t *texts, size_t texts_room, size_t *texts_needed,
-                           firthnapkin_fault *fault) {
+static uint32_t seen_parse(const uint8_t *source, size_t length, uint32_t depth, firthnapkin_node *nodes, size_t nodes_capacity,
+                           size_t *nodes_length, uint8_t *texts, size_t texts_capacity, size_t *texts_length,
+                           firthnapkin_error *error) {
     seen.parses++;
     look(depth);
-    return firthnapkin_parse(source, length, depth, nodes, nodes_room, nodes_needed, texts, texts_room, texts_needed, fault);
+    return firthnapkin_parse(source, length, depth, nodes, nodes_capacity, nodes_length, texts, texts_capacity, texts_length,
+                             error);
 }
 
-static uint32_t seen_message(const uint8_t *source, size_t length, uint32_t depth, uint8_t *room, size_t room_length,
-                             size_t *needed) {
+static uint32_t seen_message(const uint8_t *source, size_t length, uint32_t depth, uint8_t *buffer, size_t buffer_capacity,
+                             size_t *buffer_length) {
     seen.messages++;
     look(depth);
-    return firthnapkin_message(source, length, depth, room, room_length, needed);
+    return firthnapkin_message(source, length, depth, buffer, buffer_capacity, buffer_length);
 }
 
-static uint32_t seen_count(const uint8_t *source, size_t length, uint32_t most, firthnapkin_fault *fault) {
+static uint32_t seen_count(const uint8_t *source, size_t length, uint32_t max_tokens, firthnapkin_error *error) {
     seen.counts++;
     look(0);
-    return firthnapkin_count(source, length, most, fault);
+    return firthnapkin_count(source, length, max_tokens, error);
 }
 
-static uint32_t seen_tokens(const uint8_t *source, size_t length, uint32_t most, firthnapkin_token *tokens, size_t tokens_room,
-                            size_t *tokens_needed, firthnapkin_fault *fault) {
+static uint32_t seen_tokens(const uint8_t *source, size_t length, uint32_t max_tokens, firthnapkin_token *tokens,
+                            size_t tokens_capacity, size_t *tokens_length, firthnapkin_error *error) {
     seen.cuts++;
     look(0);
-    return firthnapkin_tokens(source, length, most, tokens, tokens_room, tokens_needed, fault);
+    return firthnapkin_tokens(source, length, max_tokens, tokens, tokens_capacity, tokens_length, error);
 }
 
-static uint32_t seen_canonical(const uint8_t *source, size_t length, uint8_t *room, size_t room_length, size_t *needed,
-                               firthnapkin_fault *fault) {
+static uint32_t seen_canonical(const uint8_t *source, size_t length, uint8_t *buffer, size_t buffer_capacity, size_t *buffer_length,
+                               firthnapkin_error *error) {
     seen.canonicals++;
     look(0);
-    return firthnapkin_canonical(source, length, room, room_length, needed, fault);
+    return firthnapkin_canonical(source, length, buffer, buffer_capacity, buffer_length, error);
 }
 
 static int create_thread(pthread_t *thread, const pthread_attr_t *attributes, void *(*run)(void *), void *argument) {
@@ -145,22 +146,22 @@ typedef struct {
 #define THOUSAND(text) TEN(TEN(TEN(text)))
 
 static const parse_row PARSES[] = {
-    {"{a}", 200, UINT32_MAX, FIRTHNAPKIN_TREE, 1, 0, 0},
-    {"{a}", 200, 3, FIRTHNAPKIN_TREE, 1, 0, 1},
-    {"{a}", 200, 2, FIRTHNAPKIN_MANY, 0, 0, 1},
-    {"{a}", 200, 0, FIRTHNAPKIN_MANY, 0, 0, 1},
-    {"{ a ) }", 200, UINT32_MAX, FIRTHNAPKIN_REFUSED, 1, 1, 0},
+    {"{a}", 200, UINT32_MAX, FIRTHNAPKIN_OK, 1, 0, 0},
+    {"{a}", 200, 3, FIRTHNAPKIN_OK, 1, 0, 1},
+    {"{a}", 200, 2, FIRTHNAPKIN_TOO_MANY_TOKENS, 0, 0, 1},
+    {"{a}", 200, 0, FIRTHNAPKIN_TOO_MANY_TOKENS, 0, 0, 1},
+    {"{ a ) }", 200, UINT32_MAX, FIRTHNAPKIN_SYNTAX_ERROR, 1, 1, 0},
     {"{a{b}}", 1, UINT32_MAX, FIRTHNAPKIN_TOO_DEEP, 1, 1, 0},
     {"{\xff}", 200, UINT32_MAX, FIRTHNAPKIN_NOT_UTF8, 1, 0, 0},
-    {"{a}", 1001, UINT32_MAX, FIRTHNAPKIN_DEPTH, 1, 0, 0},
+    {"{a}", 1001, UINT32_MAX, FIRTHNAPKIN_INVALID_LIMIT, 1, 0, 0},
     /* As many nodes as a request of its length has: 25. */
     {"query Q($v: [T! ]! = [1, \"\\u00e9b\"] @d) { x: a(v: {k: 1.5, l: 99999999999, m: E, n: $v, o: true, p: null}) }", 200,
-     UINT32_MAX, FIRTHNAPKIN_TREE, 1, 0, 0},
+     UINT32_MAX, FIRTHNAPKIN_OK, 1, 0, 0},
     /* A node for two bytes, texts as long as the source, and words of more than 256 bytes. */
-    {"{" THOUSAND("a ") "}", 200, UINT32_MAX, FIRTHNAPKIN_TREE, 2, 0, 0},
-    {"{a(b:\"" THOUSAND("c") "\")}", 200, UINT32_MAX, FIRTHNAPKIN_TREE, 2, 0, 0},
-    {"query a " THOUSAND("b"), 200, UINT32_MAX, FIRTHNAPKIN_REFUSED, 1, 2, 0},
-    {THOUSAND(DEEPER) THOUSAND(CLOSING), 1000, UINT32_MAX, FIRTHNAPKIN_TREE, 1, 0, 0},
+    {"{" THOUSAND("a ") "}", 200, UINT32_MAX, FIRTHNAPKIN_OK, 2, 0, 0},
+    {"{a(b:\"" THOUSAND("c") "\")}", 200, UINT32_MAX, FIRTHNAPKIN_OK, 2, 0, 0},
+    {"query a " THOUSAND("b"), 200, UINT32_MAX, FIRTHNAPKIN_SYNTAX_ERROR, 1, 2, 0},
+    {THOUSAND(DEEPER) THOUSAND(CLOSING), 1000, UINT32_MAX, FIRTHNAPKIN_OK, 1, 0, 0},
     {THOUSAND(DEEPER) "{b", 1000, UINT32_MAX, FIRTHNAPKIN_TOO_DEEP, 1, 1, 0},
 };
 
@@ -173,17 +174,17 @@ typedef struct {
 
 /* The last token is the source's end. */
 static const text_row CUTS[] = {
-    {"{a}", FIRTHNAPKIN_TOKENS, 4, 1, 0},
-    {"{" THOUSAND("abc ") "}", FIRTHNAPKIN_TOKENS, 1003, 1, 0},
-    {"{" THOUSAND("a ") "}", FIRTHNAPKIN_TOKENS, 1003, 2, 0},
-    {"{a ?", FIRTHNAPKIN_REFUSED, 2, 1, 1},
+    {"{a}", FIRTHNAPKIN_OK, 4, 1, 0},
+    {"{" THOUSAND("abc ") "}", FIRTHNAPKIN_OK, 1003, 1, 0},
+    {"{" THOUSAND("a ") "}", FIRTHNAPKIN_OK, 1003, 2, 0},
+    {"{a ?", FIRTHNAPKIN_SYNTAX_ERROR, 2, 1, 1},
 };
 
 static const text_row CANONICALS[] = {
-    {"{ a }", FIRTHNAPKIN_CANONICAL, 3, 1, 0},
+    {"{ a }", FIRTHNAPKIN_OK, 3, 1, 0},
     /* Longer than the source, by a space at each seam. */
-    {"1a\"\"2b", FIRTHNAPKIN_CANONICAL, 10, 2, 0},
-    {"{ a ?", FIRTHNAPKIN_REFUSED, 20, 1, 1},
+    {"1a\"\"2b", FIRTHNAPKIN_OK, 10, 2, 0},
+    {"{ a ?", FIRTHNAPKIN_SYNTAX_ERROR, 20, 1, 1},
 };
 
 /* ---- Each of them, with as much stack as there is */
@@ -292,7 +293,7 @@ static void *deep(void *argument) {
 static void in_thread(void *(*run)(void *), void *argument) {
     pthread_attr_t attributes;
     pthread_t thread;
-    size_t size = (FIRTHNAPKIN_STACK(FIRTHNAPKIN_MOST_DEPTH) + THREAD_LOCAL + (1 << 18)) / 4096 * 4096;
+    size_t size = (FIRTHNAPKIN_STACK_SIZE(FIRTHNAPKIN_MAX_DEPTH) + THREAD_LOCAL + (1 << 18)) / 4096 * 4096;
     if (pthread_attr_init(&attributes) || pthread_attr_setstacksize(&attributes, size)
         || pthread_create(&thread, &attributes, run, argument) || pthread_join(thread, NULL))
         abort();
@@ -302,12 +303,12 @@ static void in_thread(void *(*run)(void *), void *argument) {
 static void deep_in_stacks(void) {
     const depth_of_stack depths[] = {
         {16000, ALL},
-        {FIRTHNAPKIN_STACK(0) - 1000, ALL},
-        {FIRTHNAPKIN_STACK(0) + 2 * FRAMES, SOME},
-        {FIRTHNAPKIN_STACK(200) - 1000, SOME},
-        {FIRTHNAPKIN_STACK(200) + 2 * FRAMES, SOME},
-        {FIRTHNAPKIN_STACK(FIRTHNAPKIN_MOST_DEPTH) - 1000, SOME},
-        {FIRTHNAPKIN_STACK(FIRTHNAPKIN_MOST_DEPTH) + 2 * FRAMES, NONE},
+        {FIRTHNAPKIN_STACK_SIZE(0) - 1000, ALL},
+        {FIRTHNAPKIN_STACK_SIZE(0) + 2 * FRAMES, SOME},
+        {FIRTHNAPKIN_STACK_SIZE(200) - 1000, SOME},
+        {FIRTHNAPKIN_STACK_SIZE(200) + 2 * FRAMES, SOME},
+        {FIRTHNAPKIN_STACK_SIZE(FIRTHNAPKIN_MAX_DEPTH) - 1000, SOME},
+        {FIRTHNAPKIN_STACK_SIZE(FIRTHNAPKIN_MAX_DEPTH) + 2 * FRAMES, NONE},
     };
     for (size_t i = 0; i < sizeof depths / sizeof *depths; i++) {
         depth_of_stack d = depths[i];
@@ -350,16 +351,18 @@ static void no_calls(const depth_of_stack *d) {
     for (size_t i = 0; i < sizeof PARSES / sizeof *PARSES; i++) {
         begin();
         whole w = parse_whole((const uint8_t *)PARSES[i].source, strlen(PARSES[i].source), PARSES[i].depth, PARSES[i].tokens);
-        check(w.status == FIRTHNAPKIN_MEMORY && w.nodes_count == 0 && w.texts_count == 0, "%u is returned without a stack", w.status);
+        check(w.status == FIRTHNAPKIN_OUT_OF_MEMORY && w.nodes_count == 0 && w.texts_count == 0, "%u is returned without a stack",
+              w.status);
         check(seen.parses + seen.counts == 0, "a call is made without a stack, for %.20s", PARSES[i].source);
         check_seen("no stack", PARSES[i].source, d->wanted, &before);
         give_back(&w);
     }
     whole w = cut_whole((const uint8_t *)"{a}", 3, UINT32_MAX);
-    check(w.status == FIRTHNAPKIN_MEMORY && w.tokens_count == 0, "%u is returned without a stack, by a cut", w.status);
+    check(w.status == FIRTHNAPKIN_OUT_OF_MEMORY && w.tokens_count == 0, "%u is returned without a stack, by a cut", w.status);
     give_back(&w);
     w = canonical_whole((const uint8_t *)"{a}", 3);
-    check(w.status == FIRTHNAPKIN_MEMORY && w.texts_count == 0, "%u is returned without a stack, by a canonical text", w.status);
+    check(w.status == FIRTHNAPKIN_OUT_OF_MEMORY && w.texts_count == 0, "%u is returned without a stack, by a canonical text",
+          w.status);
     give_back(&w);
 }
 

@@ -23,31 +23,33 @@ int main() {
     const std::string source = "query Q { a(b: -7) }";
     std::vector<firthnapkin_node> nodes(source.size());
     std::vector<std::uint8_t> texts(source.size());
-    std::size_t nodes_needed = 0, texts_needed = 0;
-    firthnapkin_fault fault;
-    std::uint32_t status = firthnapkin_parse(bytes(source), source.size(), 200, nodes.data(), nodes.size(), &nodes_needed,
-                                         texts.data(), texts.size(), &texts_needed, &fault);
-    check(status == FIRTHNAPKIN_TREE && nodes_needed == 5 && texts_needed == 0, "a document's nodes");
+    std::size_t nodes_length = 0, texts_length = 0;
+    firthnapkin_error error;
+    std::uint32_t status = firthnapkin_parse(bytes(source), source.size(), 200, nodes.data(), nodes.size(), &nodes_length,
+                                         texts.data(), texts.size(), &texts_length, &error);
+    check(status == FIRTHNAPKIN_OK && nodes_length == 5 && texts_length == 0, "a document's nodes");
     check(nodes[0].kind == FIRTHNAPKIN_QUERY && nodes[0].descendants == 4, "the first node");
     check(nodes[4].kind == FIRTHNAPKIN_INT && nodes[4].value == -7 && nodes[4].start.byte == 15, "the last node");
 
     const std::string other = "{ a ) }";
-    status = firthnapkin_parse(bytes(other), other.size(), 200, nodes.data(), nodes.size(), &nodes_needed, texts.data(),
-                           texts.size(), &texts_needed, &fault);
-    check(status == FIRTHNAPKIN_REFUSED && fault.kind == FIRTHNAPKIN_UNEXPECTED_TOKEN && fault.start.column == 4, "a fault");
+    status = firthnapkin_parse(bytes(other), other.size(), 200, nodes.data(), nodes.size(), &nodes_length, texts.data(),
+                           texts.size(), &texts_length, &error);
+    check(status == FIRTHNAPKIN_SYNTAX_ERROR && error.kind == FIRTHNAPKIN_ERROR_UNEXPECTED_TOKEN && error.start.column == 4,
+          "an error");
     std::size_t needed = 0;
-    std::vector<std::uint8_t> room(64);
-    status = firthnapkin_message(bytes(other), other.size(), 200, room.data(), room.size(), &needed);
-    check(status == FIRTHNAPKIN_REFUSED && std::string(room.begin(), room.begin() + needed) == "Unexpected \")\". At 0:4",
-          "a fault's words");
-    check(firthnapkin_count(bytes(other), other.size(), 2, &fault) == FIRTHNAPKIN_MANY && fault.start.column == 4, "a count");
+    std::vector<std::uint8_t> buffer(64);
+    status = firthnapkin_message(bytes(other), other.size(), 200, buffer.data(), buffer.size(), &needed);
+    check(status == FIRTHNAPKIN_SYNTAX_ERROR && std::string(buffer.begin(), buffer.begin() + needed) == "Unexpected \")\". At 0:4",
+          "an error's words");
+    check(firthnapkin_count(bytes(other), other.size(), 2, &error) == FIRTHNAPKIN_TOO_MANY_TOKENS && error.start.column == 4,
+          "a count");
     std::vector<firthnapkin_token> tokens(source.size() + 1);
-    status = firthnapkin_tokens(bytes(source), source.size(), UINT32_MAX, tokens.data(), tokens.size(), &needed, &fault);
-    check(status == FIRTHNAPKIN_TOKENS && needed == 11 && tokens[7].kind == FIRTHNAPKIN_TOKEN_INT && tokens[7].start.byte == 15
+    status = firthnapkin_tokens(bytes(source), source.size(), UINT32_MAX, tokens.data(), tokens.size(), &needed, &error);
+    check(status == FIRTHNAPKIN_OK && needed == 11 && tokens[7].kind == FIRTHNAPKIN_TOKEN_INT && tokens[7].start.byte == 15
               && tokens[10].kind == FIRTHNAPKIN_TOKEN_END_OF_FILE,
           "tokens");
-    status = firthnapkin_canonical(bytes(source), source.size(), room.data(), room.size(), &needed, &fault);
-    check(status == FIRTHNAPKIN_CANONICAL && std::string(room.begin(), room.begin() + needed) == "query Q{a(b:-7)}",
+    status = firthnapkin_canonical(bytes(source), source.size(), buffer.data(), buffer.size(), &needed, &error);
+    check(status == FIRTHNAPKIN_OK && std::string(buffer.begin(), buffer.begin() + needed) == "query Q{a(b:-7)}",
           "a canonical text");
     check(firthnapkin_version() == FIRTHNAPKIN_VERSION, "the number of the interface");
     std::printf("%ld passed, %ld failed\n", passed, failed);

@@ -8,22 +8,22 @@
 
 /* All of standard input. */
 static uint8_t *input(size_t *length) {
-    size_t room = 1 << 16;
-    uint8_t *source = malloc(room);
+    size_t capacity = 1 << 16;
+    uint8_t *source = malloc(capacity);
     *length = 0;
     while (source != NULL) {
-        size_t count = fread(source + *length, 1, room - *length, stdin);
+        size_t count = fread(source + *length, 1, capacity - *length, stdin);
         if (count == 0) return source;
         *length += count;
-        if (*length == room) source = realloc(source, room *= 2);
+        if (*length == capacity) source = realloc(source, capacity *= 2);
     }
     abort();
 }
 
 int main(int argc, char **argv) {
-    size_t length, nodes_needed, texts_needed;
+    size_t length, nodes_length, texts_length;
     uint8_t *source = input(&length);
-    firthnapkin_fault fault;
+    firthnapkin_error error;
     /* Memory that nothing is written to costs nothing. */
     uint8_t *texts = malloc(2 * length + 1);
     firthnapkin_node *nodes = malloc((length + 1) * sizeof *nodes);
@@ -32,15 +32,15 @@ int main(int argc, char **argv) {
     if (write(STDOUT_FILENO, "calling\n", 8) != 8) return 1;
     uint32_t status;
     if (strcmp(argv[1], "parse") == 0)
-        status = firthnapkin_parse(source, length, 200, nodes, length, &nodes_needed, texts, length, &texts_needed, &fault);
+        status = firthnapkin_parse(source, length, 200, nodes, length, &nodes_length, texts, length, &texts_length, &error);
     else if (strcmp(argv[1], "message") == 0)
-        status = firthnapkin_message(source, length, 200, texts, length, &texts_needed);
+        status = firthnapkin_message(source, length, 200, texts, length, &texts_length);
     else if (strcmp(argv[1], "tokens") == 0)
-        status = firthnapkin_tokens(source, length, UINT32_MAX, tokens, length + 1, &nodes_needed, &fault);
+        status = firthnapkin_tokens(source, length, UINT32_MAX, tokens, length + 1, &nodes_length, &error);
     else if (strcmp(argv[1], "canonical") == 0)
-        status = firthnapkin_canonical(source, length, texts, 2 * length, &texts_needed, &fault);
+        status = firthnapkin_canonical(source, length, texts, 2 * length, &texts_length, &error);
     else
-        status = firthnapkin_count(source, length, UINT32_MAX, &fault);
+        status = firthnapkin_count(source, length, UINT32_MAX, &error);
     printf("%u\n", (unsigned)status);
     return 0;
 }

@@ -7,11 +7,11 @@
 #define SIZE(type) printf(#type " %zu\n", sizeof(type))
 
 int main(void) {
-    FIELD(firthnapkin_place, index);
-    FIELD(firthnapkin_place, line);
-    FIELD(firthnapkin_place, column);
-    FIELD(firthnapkin_place, byte);
-    SIZE(firthnapkin_place);
+    FIELD(firthnapkin_position, index);
+    FIELD(firthnapkin_position, line);
+    FIELD(firthnapkin_position, column);
+    FIELD(firthnapkin_position, byte);
+    SIZE(firthnapkin_position);
     FIELD(firthnapkin_node, kind);
     FIELD(firthnapkin_node, descendants);
     FIELD(firthnapkin_node, start);
@@ -26,11 +26,11 @@ int main(void) {
     FIELD(firthnapkin_token, start);
     FIELD(firthnapkin_token, end);
     SIZE(firthnapkin_token);
-    FIELD(firthnapkin_fault, kind);
-    FIELD(firthnapkin_fault, detail);
-    FIELD(firthnapkin_fault, character);
-    FIELD(firthnapkin_fault, start);
-    FIELD(firthnapkin_fault, end);
-    SIZE(firthnapkin_fault);
+    FIELD(firthnapkin_error, kind);
+    FIELD(firthnapkin_error, detail);
+    FIELD(firthnapkin_error, character);
+    FIELD(firthnapkin_error, start);
+    FIELD(firthnapkin_error, end);
+    SIZE(firthnapkin_error);
     return 0;
 }

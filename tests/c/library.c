@@ -23,19 +23,19 @@ static int same_nodes(const firthnapkin_node *a, const firthnapkin_node *b, size
 /* A parse into buffers of these sizes. */
 typedef struct {
     uint32_t status;
-    size_t nodes_room, texts_room, nodes_needed, texts_needed;
+    size_t nodes_capacity, texts_capacity, nodes_length, texts_length;
     firthnapkin_node *nodes;
     uint8_t *texts;
-    firthnapkin_fault fault;
+    firthnapkin_error error;
 } run;
 
-static run parsed(const char *source, size_t length, uint32_t depth, size_t nodes_room, size_t texts_room) {
-    run r = {.nodes_room = nodes_room, .texts_room = texts_room, .nodes_needed = 1, .texts_needed = 1};
-    r.nodes = (firthnapkin_node *)canaries(nodes_room * sizeof *r.nodes + BEYOND);
-    r.texts = canaries(texts_room + BEYOND);
-    memset(&r.fault, CANARY, sizeof r.fault);
-    r.status = firthnapkin_parse((const uint8_t *)source, length, depth, r.nodes, nodes_room, &r.nodes_needed, r.texts,
-                             texts_room, &r.texts_needed, &r.fault);
+static run parsed(const char *source, size_t length, uint32_t depth, size_t nodes_capacity, size_t texts_capacity) {
+    run r = {.nodes_capacity = nodes_capacity, .texts_capacity = texts_capacity, .nodes_length = 1, .texts_length = 1};
+    r.nodes = (firthnapkin_node *)canaries(nodes_capacity * sizeof *r.nodes + BEYOND);
+    r.texts = canaries(texts_capacity + BEYOND);
+    memset(&r.error, CANARY, sizeof r.error);
+    r.status = firthnapkin_parse((const uint8_t *)source, length, depth, r.nodes, nodes_capacity, &r.nodes_length, r.texts,
+                             texts_capacity, &r.texts_length, &r.error);
     return r;
 }
 
@@ -46,46 +46,46 @@ static void give_back(run r) {
 
 /* Nothing is written after the buffer, nor after what is needed, and nothing at all where there is no tree. */
 static int is_kept(run r) {
-    size_t nodes = r.status == FIRTHNAPKIN_TREE ? r.nodes_needed : 0, texts = r.status == FIRTHNAPKIN_TREE ? r.texts_needed : 0;
-    return are_canaries(r.nodes + nodes, (r.nodes_room - nodes) * sizeof *r.nodes + BEYOND)
-        && are_canaries(r.texts + texts, r.texts_room - texts + BEYOND);
+    size_t nodes = r.status == FIRTHNAPKIN_OK ? r.nodes_length : 0, texts = r.status == FIRTHNAPKIN_OK ? r.texts_length : 0;
+    return are_canaries(r.nodes + nodes, (r.nodes_capacity - nodes) * sizeof *r.nodes + BEYOND)
+        && are_canaries(r.texts + texts, r.texts_capacity - texts + BEYOND);
 }
 
-static int is_fault_kept(run r) {
-    return are_canaries(&r.fault, sizeof r.fault);
+static int is_error_kept(run r) {
+    return are_canaries(&r.error, sizeof r.error);
 }
 
-static void every_room(const char *source) {
+static void every_capacity(const char *source) {
     size_t length = strlen(source);
     run whole = parsed(source, length, DEPTH, length, length);
-    check(whole.status == FIRTHNAPKIN_TREE && is_kept(whole) && is_fault_kept(whole), "ample rooms for %s", source);
-    check(whole.nodes_needed <= length && whole.texts_needed <= length, "one call suffices for %s", source);
-    for (size_t nodes = 0; nodes <= whole.nodes_needed; nodes++) {
-        for (size_t texts = 0; texts <= whole.texts_needed; texts++) {
-            int fits = nodes == whole.nodes_needed && texts == whole.texts_needed;
+    check(whole.status == FIRTHNAPKIN_OK && is_kept(whole) && is_error_kept(whole), "ample buffers for %s", source);
+    check(whole.nodes_length <= length && whole.texts_length <= length, "one call suffices for %s", source);
+    for (size_t nodes = 0; nodes <= whole.nodes_length; nodes++) {
+        for (size_t texts = 0; texts <= whole.texts_length; texts++) {
+            int fits = nodes == whole.nodes_length && texts == whole.texts_length;
             run r = parsed(source, length, DEPTH, nodes, texts);
-            check(r.status == (fits ? FIRTHNAPKIN_TREE : FIRTHNAPKIN_ROOM) && r.nodes_needed == whole.nodes_needed
-                      && r.texts_needed == whole.texts_needed && is_kept(r) && is_fault_kept(r),
-                  "room for %zu nodes and %zu bytes, for %s", nodes, texts, source);
-            if (r.status == FIRTHNAPKIN_TREE)
+            check(r.status == (fits ? FIRTHNAPKIN_OK : FIRTHNAPKIN_BUFFER_TOO_SMALL) && r.nodes_length == whole.nodes_length
+                      && r.texts_length == whole.texts_length && is_kept(r) && is_error_kept(r),
+                  "capacity for %zu nodes and %zu bytes, for %s", nodes, texts, source);
+            if (r.status == FIRTHNAPKIN_OK)
                 check(same_nodes(r.nodes, whole.nodes, nodes) && !memcmp(r.texts, whole.texts, texts),
-                      "the same in exact rooms, for %s", source);
+                      "the same in exact buffers, for %s", source);
             give_back(r);
         }
     }
     give_back(whole);
 }
 
-static void every_message_room(const char *source, uint32_t depth, uint32_t status, const char *wanted) {
+static void every_message_capacity(const char *source, uint32_t depth, uint32_t status, const char *wanted) {
     size_t length = strlen(source), needed = 0;
-    for (size_t room = 0; room <= strlen(wanted) + 1; room++) {
-        uint8_t *words = canaries(room + BEYOND);
-        uint32_t found = firthnapkin_message((const uint8_t *)source, length, depth, words, room, &needed);
-        int fits = room >= strlen(wanted);
-        check(found == (fits ? status : FIRTHNAPKIN_ROOM) && needed == strlen(wanted)
+    for (size_t capacity = 0; capacity <= strlen(wanted) + 1; capacity++) {
+        uint8_t *words = canaries(capacity + BEYOND);
+        uint32_t found = firthnapkin_message((const uint8_t *)source, length, depth, words, capacity, &needed);
+        int fits = capacity >= strlen(wanted);
+        check(found == (fits ? status : FIRTHNAPKIN_BUFFER_TOO_SMALL) && needed == strlen(wanted)
                   && (!fits || !memcmp(words, wanted, needed))
-                  && are_canaries(words + (fits ? needed : 0), room - (fits ? needed : 0) + BEYOND),
-              "a message room of %zu bytes for %s", room, source);
+                  && are_canaries(words + (fits ? needed : 0), capacity - (fits ? needed : 0) + BEYOND),
+              "a message buffer of %zu bytes for %s", capacity, source);
         free(words);
     }
 }
@@ -94,64 +94,71 @@ static void every_message_room(const char *source, uint32_t depth, uint32_t stat
 static void refused(const char *source, uint32_t depth, uint32_t status, uint32_t kind, uint32_t detail,
                     uint32_t character, uint32_t line, uint32_t column, uint32_t byte, const char *message) {
     run r = parsed(source, strlen(source), depth, 9, 9);
-    check(r.status == status && r.nodes_needed == 0 && r.texts_needed == 0 && is_kept(r), "the status for %s", source);
-    check(r.fault.kind == kind && r.fault.detail == detail && r.fault.character == character
-              && r.fault.start.line == line && r.fault.start.column == column && r.fault.start.byte == byte,
-          "the fault of %s: %u %u %u at %u:%u, byte %u", source, r.fault.kind, r.fault.detail, r.fault.character,
-          r.fault.start.line, r.fault.start.column, r.fault.start.byte);
+    check(r.status == status && r.nodes_length == 0 && r.texts_length == 0 && is_kept(r), "the status for %s", source);
+    check(r.error.kind == kind && r.error.detail == detail && r.error.character == character
+              && r.error.start.line == line && r.error.start.column == column && r.error.start.byte == byte,
+          "the error of %s: %u %u %u at %u:%u, byte %u", source, r.error.kind, r.error.detail, r.error.character,
+          r.error.start.line, r.error.start.column, r.error.start.byte);
     give_back(r);
-    every_message_room(source, depth, status, message);
+    every_message_capacity(source, depth, status, message);
 }
 
 static void statuses(void) {
-    refused("{ a ) }", DEPTH, FIRTHNAPKIN_REFUSED, FIRTHNAPKIN_UNEXPECTED_TOKEN, 0, 0, 0, 4, 4, "Unexpected \")\". At 0:4");
-    refused("#\xc3\xa9\n{ a", DEPTH, FIRTHNAPKIN_REFUSED, FIRTHNAPKIN_UNEXPECTED_END, 0, 0, 1, 3, 7,
+    refused("{ a ) }", DEPTH, FIRTHNAPKIN_SYNTAX_ERROR, FIRTHNAPKIN_ERROR_UNEXPECTED_TOKEN, 0, 0, 0, 4, 4,
+            "Unexpected \")\". At 0:4");
+    refused("#\xc3\xa9\n{ a", DEPTH, FIRTHNAPKIN_SYNTAX_ERROR, FIRTHNAPKIN_ERROR_UNEXPECTED_END, 0, 0, 1, 3, 7,
             "Unexpected end of input. At 1:3");
-    refused("{ \xc3\xa9 }", DEPTH, FIRTHNAPKIN_REFUSED, FIRTHNAPKIN_LEXICAL, FIRTHNAPKIN_UNKNOWN_CHARACTER, 0xE9, 0, 2, 2,
-            "Unknown character \"\xc3\xa9\". At 0:2");
-    refused("{ .a }", DEPTH, FIRTHNAPKIN_REFUSED, FIRTHNAPKIN_LEXICAL, FIRTHNAPKIN_UNEXPECTED_CHARACTER, '.', 0, 2, 2,
-            "Unexpected character \".\". At 0:2");
-    refused("{a(b:\"c", DEPTH, FIRTHNAPKIN_REFUSED, FIRTHNAPKIN_LEXICAL, FIRTHNAPKIN_UNTERMINATED_STRING, 0, 0, 7, 7,
-            "Unterminated string literal. At 0:7");
-    refused("{a(b:\"\x01\")}", DEPTH, FIRTHNAPKIN_REFUSED, FIRTHNAPKIN_LEXICAL, FIRTHNAPKIN_UNKNOWN_CHARACTER_IN_STRING, 1, 0, 6, 6,
-            "Unknown character \"\x01\" in string literal. At 0:6");
-    refused("{a(b:\"\\q\")}", DEPTH, FIRTHNAPKIN_REFUSED, FIRTHNAPKIN_LEXICAL, FIRTHNAPKIN_UNKNOWN_ESCAPE, 0, 0, 7, 7,
-            "Unknown escape sequence \"\\q\" in string. At 0:7");
-    refused("{a{b}}", 1, FIRTHNAPKIN_TOO_DEEP, FIRTHNAPKIN_NESTED, 0, 0, 0, 2, 2, "Too deeply nested. At 0:2");
-    refused("{a}", 0, FIRTHNAPKIN_TOO_DEEP, FIRTHNAPKIN_NESTED, 0, 0, 0, 0, 0, "Too deeply nested. At 0:0");
+    refused("{ \xc3\xa9 }", DEPTH, FIRTHNAPKIN_SYNTAX_ERROR, FIRTHNAPKIN_ERROR_LEXICAL, FIRTHNAPKIN_DETAIL_UNKNOWN_CHARACTER,
+            0xE9, 0, 2, 2, "Unknown character \"\xc3\xa9\". At 0:2");
+    refused("{ .a }", DEPTH, FIRTHNAPKIN_SYNTAX_ERROR, FIRTHNAPKIN_ERROR_LEXICAL, FIRTHNAPKIN_DETAIL_UNEXPECTED_CHARACTER,
+            '.', 0, 2, 2, "Unexpected character \".\". At 0:2");
+    refused("{a(b:\"c", DEPTH, FIRTHNAPKIN_SYNTAX_ERROR, FIRTHNAPKIN_ERROR_LEXICAL, FIRTHNAPKIN_DETAIL_UNTERMINATED_STRING,
+            0, 0, 7, 7, "Unterminated string literal. At 0:7");
+    refused("{a(b:\"\x01\")}", DEPTH, FIRTHNAPKIN_SYNTAX_ERROR, FIRTHNAPKIN_ERROR_LEXICAL,
+            FIRTHNAPKIN_DETAIL_UNKNOWN_CHARACTER_IN_STRING, 1, 0, 6, 6, "Unknown character \"\x01\" in string literal. At 0:6");
+    refused("{a(b:\"\\q\")}", DEPTH, FIRTHNAPKIN_SYNTAX_ERROR, FIRTHNAPKIN_ERROR_LEXICAL, FIRTHNAPKIN_DETAIL_UNKNOWN_ESCAPE,
+            0, 0, 7, 7, "Unknown escape sequence \"\\q\" in string. At 0:7");
+    refused("{a{b}}", 1, FIRTHNAPKIN_TOO_DEEP, FIRTHNAPKIN_ERROR_TOO_DEEP, 0, 0, 0, 2, 2, "Too deeply nested. At 0:2");
+    refused("{a}", 0, FIRTHNAPKIN_TOO_DEEP, FIRTHNAPKIN_ERROR_TOO_DEEP, 0, 0, 0, 0, 0, "Too deeply nested. At 0:0");
+    /* A lexical error comes before a token that is nested too deep, wherever it is; of other errors the first one counts. */
+    refused("{a{b}} ?", 1, FIRTHNAPKIN_SYNTAX_ERROR, FIRTHNAPKIN_ERROR_LEXICAL, FIRTHNAPKIN_DETAIL_UNKNOWN_CHARACTER, '?', 0, 7,
+            7, "Unknown character \"?\". At 0:7");
+    refused("{a{b}} )", 1, FIRTHNAPKIN_TOO_DEEP, FIRTHNAPKIN_ERROR_TOO_DEEP, 0, 0, 0, 2, 2, "Too deeply nested. At 0:2");
+    refused("{a)a{b}}", 1, FIRTHNAPKIN_SYNTAX_ERROR, FIRTHNAPKIN_ERROR_UNEXPECTED_TOKEN, 0, 0, 0, 2, 2,
+            "Unexpected \")\". At 0:2");
 
     size_t needed = 1;
     run r = parsed("\xff{", 2, DEPTH, 3, 3);
-    check(r.status == FIRTHNAPKIN_NOT_UTF8 && is_kept(r) && is_fault_kept(r) && !r.nodes_needed, "bytes that are no text");
+    check(r.status == FIRTHNAPKIN_NOT_UTF8 && is_kept(r) && is_error_kept(r) && !r.nodes_length, "bytes that are no text");
     give_back(r);
     check(firthnapkin_message((const uint8_t *)"\xff{", 2, DEPTH, NULL, 0, &needed) == FIRTHNAPKIN_NOT_UTF8 && needed == 0,
           "no words for bytes that are no text");
     needed = 1;
-    check(firthnapkin_message((const uint8_t *)"{a}", 3, DEPTH, NULL, 0, &needed) == FIRTHNAPKIN_TREE && needed == 0,
+    check(firthnapkin_message((const uint8_t *)"{a}", 3, DEPTH, NULL, 0, &needed) == FIRTHNAPKIN_OK && needed == 0,
           "no words for a document");
     check(firthnapkin_version() == FIRTHNAPKIN_VERSION, "the number of the interface");
 }
 
 /* Where a count is 0 no memory is needed. */
 static void no_memory(void) {
-    size_t nodes_needed = 1, texts_needed = 1;
-    firthnapkin_fault fault;
-    memset(&fault, CANARY, sizeof fault);
-    check(firthnapkin_parse(NULL, 0, DEPTH, NULL, 0, &nodes_needed, NULL, 0, &texts_needed, &fault) == FIRTHNAPKIN_REFUSED
-              && fault.kind == FIRTHNAPKIN_UNEXPECTED_END && fault.start.index == 0 && fault.end.byte == 0 && !nodes_needed
-              && !texts_needed,
+    size_t nodes_length = 1, texts_length = 1;
+    firthnapkin_error error;
+    memset(&error, CANARY, sizeof error);
+    check(firthnapkin_parse(NULL, 0, DEPTH, NULL, 0, &nodes_length, NULL, 0, &texts_length, &error) == FIRTHNAPKIN_SYNTAX_ERROR
+              && error.kind == FIRTHNAPKIN_ERROR_UNEXPECTED_END && error.start.index == 0 && error.end.byte == 0 && !nodes_length
+              && !texts_length,
           "no source");
-    check(firthnapkin_parse((const uint8_t *)"{a}", 3, DEPTH, NULL, 0, &nodes_needed, NULL, 0, &texts_needed, &fault)
-                  == FIRTHNAPKIN_ROOM
-              && nodes_needed == 2 && texts_needed == 0,
-          "no rooms");
+    check(firthnapkin_parse((const uint8_t *)"{a}", 3, DEPTH, NULL, 0, &nodes_length, NULL, 0, &texts_length, &error)
+                  == FIRTHNAPKIN_BUFFER_TOO_SMALL
+              && nodes_length == 2 && texts_length == 0,
+          "no capacity");
     firthnapkin_node nodes[2];
-    check(firthnapkin_parse((const uint8_t *)"{a}", 3, DEPTH, nodes, 2, &nodes_needed, NULL, 0, &texts_needed, &fault)
-                  == FIRTHNAPKIN_TREE
+    check(firthnapkin_parse((const uint8_t *)"{a}", 3, DEPTH, nodes, 2, &nodes_length, NULL, 0, &texts_length, &error)
+                  == FIRTHNAPKIN_OK
               && nodes[0].kind == FIRTHNAPKIN_QUERY && nodes[1].kind == FIRTHNAPKIN_FIELD,
-          "no room for texts where there are none");
-    check(firthnapkin_message(NULL, 0, DEPTH, NULL, 0, &nodes_needed) == FIRTHNAPKIN_ROOM && nodes_needed == 31,
-          "no source and no room for words");
+          "no capacity for texts where there are none");
+    check(firthnapkin_message(NULL, 0, DEPTH, NULL, 0, &nodes_length) == FIRTHNAPKIN_BUFFER_TOO_SMALL && nodes_length == 31,
+          "no source and no capacity for words");
 }
 
 /* A source that is too long is not read. */
@@ -160,46 +167,47 @@ static void too_long(void) {
     void *source = too_long_source();
     if (source == NULL) return;
     run r = parsed(source, FOUR_GIB, DEPTH, 1, 1);
-    check(r.status == FIRTHNAPKIN_TOO_LONG && is_kept(r) && is_fault_kept(r) && !r.nodes_needed && !r.texts_needed, "4 GiB");
+    check(r.status == FIRTHNAPKIN_SOURCE_TOO_LONG && is_kept(r) && is_error_kept(r) && !r.nodes_length && !r.texts_length, "4 GiB");
     give_back(r);
-    check(firthnapkin_message(source, FOUR_GIB, DEPTH, NULL, 0, &needed) == FIRTHNAPKIN_TOO_LONG && needed == 0, "4 GiB, in words");
-    check(firthnapkin_count(source, FOUR_GIB, 1, &r.fault) == FIRTHNAPKIN_TOO_LONG && is_fault_kept(r), "4 GiB, counted");
+    check(firthnapkin_message(source, FOUR_GIB, DEPTH, NULL, 0, &needed) == FIRTHNAPKIN_SOURCE_TOO_LONG && needed == 0,
+          "4 GiB, in words");
+    check(firthnapkin_count(source, FOUR_GIB, 1, &r.error) == FIRTHNAPKIN_SOURCE_TOO_LONG && is_error_kept(r), "4 GiB, counted");
     munmap(source, FOUR_GIB);
 }
 
 /* A depth above the largest is refused, and the source is not read. */
 static void depths(void) {
-    static const uint32_t depth[] = {FIRTHNAPKIN_MOST_DEPTH + 1, (uint32_t)1 << 31, UINT32_MAX};
+    static const uint32_t depth[] = {FIRTHNAPKIN_MAX_DEPTH + 1, (uint32_t)1 << 31, UINT32_MAX};
     static const char *const sources[] = {"{a}", "{ a ) }", "\xff{", ""};
     for (size_t i = 0; i < sizeof depth / sizeof *depth; i++) {
         for (size_t k = 0; k < sizeof sources / sizeof *sources; k++) {
             size_t needed = 1;
             run r = parsed(sources[k], strlen(sources[k]), depth[i], 9, 9);
-            check(r.status == FIRTHNAPKIN_DEPTH && is_kept(r) && is_fault_kept(r) && !r.nodes_needed && !r.texts_needed,
+            check(r.status == FIRTHNAPKIN_INVALID_LIMIT && is_kept(r) && is_error_kept(r) && !r.nodes_length && !r.texts_length,
                   "the depth %u for %s: %u", depth[i], sources[k], r.status);
             give_back(r);
             uint32_t status = firthnapkin_message((const uint8_t *)sources[k], strlen(sources[k]), depth[i], NULL, 0, &needed);
-            check(status == FIRTHNAPKIN_DEPTH && needed == 0, "no words at the depth %u for %s", depth[i], sources[k]);
+            check(status == FIRTHNAPKIN_INVALID_LIMIT && needed == 0, "no words at the depth %u for %s", depth[i], sources[k]);
         }
     }
-    run r = parsed("{a}", 3, FIRTHNAPKIN_MOST_DEPTH, 9, 9);
-    check(r.status == FIRTHNAPKIN_TREE && r.nodes_needed == 2, "the largest depth");
+    run r = parsed("{a}", 3, FIRTHNAPKIN_MAX_DEPTH, 9, 9);
+    check(r.status == FIRTHNAPKIN_OK && r.nodes_length == 2, "the largest depth");
     give_back(r);
 }
 
-/* Every limit from 0 to above the number of tokens: where the limit is below it, the fault is the first token too many. */
+/* Every limit from 0 to above the number of tokens: where the limit is below it, the error is the first token too many. */
 static void every_count(const char *source, uint32_t tokens, const uint32_t *starts, const uint32_t *ends) {
-    for (uint32_t most = 0; most < tokens + 3; most++) {
-        firthnapkin_fault fault;
-        memset(&fault, CANARY, sizeof fault);
-        uint32_t status = firthnapkin_count((const uint8_t *)source, strlen(source), most, &fault);
-        if (most >= tokens) {
-            check(status == FIRTHNAPKIN_FEW && are_canaries(&fault, sizeof fault), "%u tokens in %s", most, source);
+    for (uint32_t max_tokens = 0; max_tokens < tokens + 3; max_tokens++) {
+        firthnapkin_error error;
+        memset(&error, CANARY, sizeof error);
+        uint32_t status = firthnapkin_count((const uint8_t *)source, strlen(source), max_tokens, &error);
+        if (max_tokens >= tokens) {
+            check(status == FIRTHNAPKIN_OK && are_canaries(&error, sizeof error), "%u tokens in %s", max_tokens, source);
             continue;
         }
-        check(status == FIRTHNAPKIN_MANY && fault.kind == FIRTHNAPKIN_TOO_MANY && !fault.detail && !fault.character
-                  && fault.start.byte == starts[most] && fault.end.byte == ends[most],
-              "more than %u tokens in %s: %u, at %u to %u", most, source, status, fault.start.byte, fault.end.byte);
+        check(status == FIRTHNAPKIN_TOO_MANY_TOKENS && error.kind == FIRTHNAPKIN_ERROR_TOO_MANY_TOKENS && !error.detail
+                  && !error.character && error.start.byte == starts[max_tokens] && error.end.byte == ends[max_tokens],
+              "more than %u tokens in %s: %u, at %u to %u", max_tokens, source, status, error.start.byte, error.end.byte);
     }
 }
 
@@ -208,18 +216,20 @@ static void counts(void) {
     every_count("  , # {a}\n", 0, NULL, NULL);
     every_count("#\xc3\xa9\n{a(b:\"\xc3\xa9\",...)}", 9, (const uint32_t[]){4, 5, 6, 7, 8, 9, 14, 17, 18},
                 (const uint32_t[]){5, 6, 7, 8, 9, 13, 17, 18, 19});
-    /* No token after the first one too many is read, and there is none after a lexical error. */
+    /* The source is cut up to the first token too many, and there is none after a lexical error. */
     every_count("{a ? b c d", 2, (const uint32_t[]){0, 1}, (const uint32_t[]){1, 2});
     every_count("a b \"", 2, (const uint32_t[]){0, 2}, (const uint32_t[]){1, 3});
-    firthnapkin_fault fault;
-    memset(&fault, CANARY, sizeof fault);
-    check(firthnapkin_count((const uint8_t *)"{\xff", 2, 0, &fault) == FIRTHNAPKIN_NOT_UTF8, "a count of what is no text");
-    check(firthnapkin_count(NULL, 0, 0, &fault) == FIRTHNAPKIN_FEW, "a count of nothing");
-    check(firthnapkin_count((const uint8_t *)"{a}", 3, UINT32_MAX, &fault) == FIRTHNAPKIN_FEW, "the largest limit");
-    check(are_canaries(&fault, sizeof fault), "a fault is left");
-    check(firthnapkin_count((const uint8_t *)"# \xf0\x9d\x84\x9e\n a", 9, 0, &fault) == FIRTHNAPKIN_MANY && fault.start.index == 5
-              && fault.start.line == 1 && fault.start.column == 1 && fault.start.byte == 8 && fault.end.index == 6,
-          "a place beyond ASCII");
+    firthnapkin_error error;
+    memset(&error, CANARY, sizeof error);
+    check(firthnapkin_count((const uint8_t *)"{\xff", 2, 0, &error) == FIRTHNAPKIN_NOT_UTF8, "a count of what is no text");
+    check(firthnapkin_count((const uint8_t *)"a b \xff", 5, 1, &error) == FIRTHNAPKIN_NOT_UTF8,
+          "bytes that are no text after the first token too many");
+    check(firthnapkin_count(NULL, 0, 0, &error) == FIRTHNAPKIN_OK, "a count of nothing");
+    check(firthnapkin_count((const uint8_t *)"{a}", 3, UINT32_MAX, &error) == FIRTHNAPKIN_OK, "the largest limit");
+    check(are_canaries(&error, sizeof error), "an error is left");
+    check(firthnapkin_count((const uint8_t *)"# \xf0\x9d\x84\x9e\n a", 9, 0, &error) == FIRTHNAPKIN_TOO_MANY_TOKENS
+              && error.start.index == 5 && error.start.line == 1 && error.start.column == 1 && error.start.byte == 8 && error.end.index == 6,
+          "a position beyond ASCII");
 }
 
 /* A text of nested parts: a head, a number of openings, a middle, as many closings, a tail; the head opens some, too. */
@@ -258,8 +268,8 @@ static void *call_deep(void *argument) {
 }
 
 static void stacks(void) {
-    static const uint32_t depths[] = {2, 10, 200, FIRTHNAPKIN_MOST_DEPTH};
-    static char text[8 * (FIRTHNAPKIN_MOST_DEPTH + 9)];
+    static const uint32_t depths[] = {2, 10, 200, FIRTHNAPKIN_MAX_DEPTH};
+    static char text[8 * (FIRTHNAPKIN_MAX_DEPTH + 9)];
     for (size_t i = 0; i < sizeof NESTED / sizeof *NESTED; i++) {
         for (size_t k = 0; k < sizeof depths / sizeof *depths; k++) {
             nested n = NESTED[i];
@@ -269,25 +279,26 @@ static void stacks(void) {
                 end = repeated(repeated(end, n.closing, count), n.tail, 1);
                 deep_calls d = {text, (size_t)(end - text), depths[k], 99, 99};
                 on_stack(d.depth, call_deep, &d);
-                uint32_t wanted = beyond ? FIRTHNAPKIN_TOO_DEEP : FIRTHNAPKIN_TREE;
-                check(d.parsed == wanted && d.told == (beyond ? FIRTHNAPKIN_ROOM : wanted),
+                uint32_t wanted = beyond ? FIRTHNAPKIN_TOO_DEEP : FIRTHNAPKIN_OK;
+                check(d.parsed == wanted && d.told == (beyond ? FIRTHNAPKIN_BUFFER_TOO_SMALL : wanted),
                       "%u of %s, with the depth %u: %u, %u", count, n.opening, depths[k], d.parsed, d.told);
             }
         }
     }
 }
 
-/* Strings' meanings and a type's text, values and names, in one place each. */
+/* Strings' meanings and a type's text, values and names, each in one function. */
 static void fields(void) {
     const char *s = SOURCES[1];
     run r = parsed(s, strlen(s), DEPTH, 99, 99);
-    check(r.nodes_needed == 25 && r.texts_needed == 8 && !memcmp(r.texts, "[T!]!\xc3\xa9" "b", 8), "the texts of %s", s);
-    for (size_t i = 0; i < r.nodes_needed; i++) {
+    check(r.nodes_length == 25 && r.texts_length == 8 && !memcmp(r.texts, "[T!]!\xc3\xa9" "b", 8), "the texts of %s", s);
+    for (size_t i = 0; i < r.nodes_length; i++) {
         firthnapkin_node n = r.nodes[i];
         size_t name = n.name_end - n.name_start;
         const char *at = s + n.name_start;
-        check(n.descendants < r.nodes_needed - i, "descendants of node %zu", i);
-        if (n.kind == FIRTHNAPKIN_VARIABLE) check(name == 1 && *at == 'v' && n.start.byte + 1 == n.name_start, "a variable");
+        check(n.descendants < r.nodes_length - i, "descendants of node %zu", i);
+        if (n.kind == FIRTHNAPKIN_VARIABLE_DEFINITION)
+            check(name == 1 && *at == 'v' && n.start.byte + 1 == n.name_start, "a variable definition");
         if (n.kind == FIRTHNAPKIN_TYPE) check(n.value == 0 && n.value_length == 5 && name == 6, "a type");
         if (n.kind == FIRTHNAPKIN_STRING) check(n.value == 5 && n.value_length == 3 && name == 9, "a string");
         if (n.kind == FIRTHNAPKIN_INT) check(n.value == 1 && n.value_length == 0 && name == 1, "an Int");
@@ -296,15 +307,15 @@ static void fields(void) {
         if (n.kind == FIRTHNAPKIN_BOOLEAN) check(n.value == 1 && !n.value_length && name == 4, "a Boolean");
         if (n.kind == FIRTHNAPKIN_NULL) check(!n.value && !n.value_length && name == 4, "null");
         if (n.kind == FIRTHNAPKIN_ENUM) check(name == 1 && *at == 'E', "an enum");
-        if (n.kind == FIRTHNAPKIN_REFERENCE) check(name == 1 && *at == 'v' && n.start.byte + 1 == n.name_start, "a reference");
+        if (n.kind == FIRTHNAPKIN_VARIABLE) check(name == 1 && *at == 'v' && n.start.byte + 1 == n.name_start, "a variable");
         if (n.kind == FIRTHNAPKIN_LIST || n.kind == FIRTHNAPKIN_OBJECT) check(name == 0 && n.name_start == n.start.byte, "no name");
     }
     give_back(r);
     s = SOURCES[2];
     r = parsed(s, strlen(s), DEPTH, 99, 99);
     int fragments = 0;
-    for (size_t i = 0; i < r.nodes_needed; i++) {
-        if (r.nodes[i].kind != FIRTHNAPKIN_FRAGMENT) continue;
+    for (size_t i = 0; i < r.nodes_length; i++) {
+        if (r.nodes[i].kind != FIRTHNAPKIN_FRAGMENT_DEFINITION) continue;
         fragments++;
         check(s[r.nodes[i].name_start] == 'F' && s[r.nodes[i].value] == 'T' && r.nodes[i].value_length == 1, "a fragment");
     }
@@ -334,7 +345,7 @@ static void numbers(void) {
         size_t length = (size_t)snprintf(source, sizeof source, "{a(b:%s)}", wanted[i].text);
         run r = parsed(source, length, DEPTH, 9, 9);
         firthnapkin_node n = r.nodes[4];
-        check(r.status == FIRTHNAPKIN_TREE && r.nodes_needed == 5 && n.kind == wanted[i].kind && n.value == wanted[i].value
+        check(r.status == FIRTHNAPKIN_OK && r.nodes_length == 5 && n.kind == wanted[i].kind && n.value == wanted[i].value
                   && (wanted[i].value < 0) == (n.value < 0) && n.value_length == 0 && n.name_start == n.start.byte
                   && n.name_end == n.end.byte && n.name_end - n.name_start == strlen(wanted[i].text),
               "the value of %s", wanted[i].text);
@@ -347,8 +358,8 @@ static void *many(void *failures) {
         for (size_t i = 0; i < sizeof SOURCES / sizeof *SOURCES; i++) {
             size_t length = strlen(SOURCES[i]);
             run a = parsed(SOURCES[i], length, DEPTH, length, length), b = parsed(SOURCES[i], length, DEPTH, length, length);
-            if (a.status != FIRTHNAPKIN_TREE || !is_kept(a) || !same_nodes(a.nodes, b.nodes, a.nodes_needed)
-                || memcmp(a.texts, b.texts, a.texts_needed))
+            if (a.status != FIRTHNAPKIN_OK || !is_kept(a) || !same_nodes(a.nodes, b.nodes, a.nodes_length)
+                || memcmp(a.texts, b.texts, a.texts_length))
                 ++*(long *)failures;
             give_back(a);
             give_back(b);
@@ -366,18 +377,18 @@ static void large(const char *part, size_t nodes, size_t texts) {
     for (size_t i = 0; i < count; i++) memcpy(source + 1 + i * step, part, step);
     source[length - 1] = '}';
     run r = parsed(source, length, DEPTH, count * nodes + 1, length);
-    check(r.status == FIRTHNAPKIN_TREE && r.nodes_needed == count * nodes + 1 && r.texts_needed == count * texts && is_kept(r),
+    check(r.status == FIRTHNAPKIN_OK && r.nodes_length == count * nodes + 1 && r.texts_length == count * texts && is_kept(r),
           "ten million bytes of %s", part);
-    if (r.status == FIRTHNAPKIN_TREE)
+    if (r.status == FIRTHNAPKIN_OK)
         check(r.nodes[0].descendants == count * nodes && r.nodes[0].end.byte == length
-                  && r.nodes[r.nodes_needed - 1].end.byte < length,
-              "the places in ten million bytes of %s", part);
+                  && r.nodes[r.nodes_length - 1].end.byte < length,
+              "the positions in ten million bytes of %s", part);
     give_back(r);
     free(source);
 }
 
 int main(void) {
-    for (size_t i = 0; i < sizeof SOURCES / sizeof *SOURCES; i++) every_room(SOURCES[i]);
+    for (size_t i = 0; i < sizeof SOURCES / sizeof *SOURCES; i++) every_capacity(SOURCES[i]);
     statuses();
     no_memory();
     too_long();

@@ -13,15 +13,15 @@ enum { CANARY = 0xA5, BEYOND = 64 };
 
 /* A block of memory, filled with one byte. */
 static uint8_t *canaries(size_t length) {
-    uint8_t *room = malloc(length);
-    if (room == NULL) abort();
-    memset(room, CANARY, length);
-    return room;
+    uint8_t *block = malloc(length);
+    if (block == NULL) abort();
+    memset(block, CANARY, length);
+    return block;
 }
 
-static int are_canaries(const void *room, size_t length) {
+static int are_canaries(const void *block, size_t length) {
     for (size_t i = 0; i < length; i++)
-        if (((const uint8_t *)room)[i] != CANARY) return 0;
+        if (((const uint8_t *)block)[i] != CANARY) return 0;
     return 1;
 }
 
@@ -31,7 +31,7 @@ static const size_t FOUR_GIB = (size_t)1 << 32;
 static void *too_long_source(void) {
     void *source = mmap(NULL, FOUR_GIB, PROT_NONE, MAP_PRIVATE | MAP_ANONYMOUS | MAP_NORESERVE, -1, 0);
     if (source != MAP_FAILED) return source;
-    skip("no address space for 4 GiB, so status %d is not tried", FIRTHNAPKIN_TOO_LONG);
+    skip("no address space for 4 GiB, so status %d is not tried", FIRTHNAPKIN_SOURCE_TOO_LONG);
     return NULL;
 }
 
@@ -50,7 +50,7 @@ static void in_threads(void *(*run)(void *)) {
 /* Runs it in a thread with as much stack as the header says for this depth, beside memory that nothing may touch. */
 static void on_stack(uint32_t depth, void *(*run)(void *), void *argument) {
     enum { PAGE = 4096, GUARD = 16 * PAGE };
-    size_t size = (FIRTHNAPKIN_STACK(depth) + PAGE - 1) / PAGE * PAGE;
+    size_t size = (FIRTHNAPKIN_STACK_SIZE(depth) + PAGE - 1) / PAGE * PAGE;
     char *memory = mmap(NULL, GUARD + size, PROT_READ | PROT_WRITE, MAP_PRIVATE | MAP_ANONYMOUS, -1, 0);
     pthread_attr_t attributes;
     pthread_t thread;

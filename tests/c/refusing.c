@@ -51,49 +51,49 @@ static firthnapkin_token cut[4096];
 
 typedef struct {
     uint32_t status;
-    size_t nodes_needed, texts_needed;
+    size_t nodes_length, texts_length;
 } answer;
 
 static answer parse(const char *source) {
-    answer a = {.nodes_needed = 1, .texts_needed = 1};
-    firthnapkin_fault fault;
-    a.status = firthnapkin_parse((const uint8_t *)source, strlen(source), 200, nodes, 4096, &a.nodes_needed, words, 4096,
-                             &a.texts_needed, &fault);
+    answer a = {.nodes_length = 1, .texts_length = 1};
+    firthnapkin_error error;
+    a.status = firthnapkin_parse((const uint8_t *)source, strlen(source), 200, nodes, 4096, &a.nodes_length, words, 4096,
+                             &a.texts_length, &error);
     return a;
 }
 
 static answer message(const char *source) {
-    answer a = {.nodes_needed = 1, .texts_needed = 0};
-    a.status = firthnapkin_message((const uint8_t *)source, strlen(source), 200, words, 4096, &a.nodes_needed);
+    answer a = {.nodes_length = 1, .texts_length = 0};
+    a.status = firthnapkin_message((const uint8_t *)source, strlen(source), 200, words, 4096, &a.nodes_length);
     return a;
 }
 
-/* With an array of two tokens, so that a place is written. */
+/* With an array of two tokens, so that a position is written. */
 static answer count(const char *source) {
-    answer a = {.nodes_needed = 0, .texts_needed = 0};
-    firthnapkin_fault fault;
-    a.status = firthnapkin_count((const uint8_t *)source, strlen(source), 2, &fault);
+    answer a = {.nodes_length = 0, .texts_length = 0};
+    firthnapkin_error error;
+    a.status = firthnapkin_count((const uint8_t *)source, strlen(source), 2, &error);
     return a;
 }
 
 /* What is written to the array before memory runs out is not reported. */
 static answer tokens(const char *source) {
-    answer a = {.nodes_needed = 1, .texts_needed = 0};
-    firthnapkin_fault fault;
-    a.status = firthnapkin_tokens((const uint8_t *)source, strlen(source), UINT32_MAX, cut, 4096, &a.nodes_needed, &fault);
+    answer a = {.nodes_length = 1, .texts_length = 0};
+    firthnapkin_error error;
+    a.status = firthnapkin_tokens((const uint8_t *)source, strlen(source), UINT32_MAX, cut, 4096, &a.nodes_length, &error);
     return a;
 }
 
 static answer canonical(const char *source) {
-    answer a = {.nodes_needed = 1, .texts_needed = 0};
-    firthnapkin_fault fault;
-    a.status = firthnapkin_canonical((const uint8_t *)source, strlen(source), words, 4096, &a.nodes_needed, &fault);
+    answer a = {.nodes_length = 1, .texts_length = 0};
+    firthnapkin_error error;
+    a.status = firthnapkin_canonical((const uint8_t *)source, strlen(source), words, 4096, &a.nodes_length, &error);
     return a;
 }
 
-/* What a call of bindings/whole.h returned. The counts of one for which memory ran out say nothing. */
+/* What a call of bindings/whole.h returned. The lengths of one for which memory ran out say nothing. */
 static answer answer_of(whole w, size_t count) {
-    int is_there = w.status != FIRTHNAPKIN_MEMORY;
+    int is_there = w.status != FIRTHNAPKIN_OUT_OF_MEMORY;
     answer a = {w.status, is_there ? count : 0, is_there ? w.texts_count : 0};
     give_back(&w);
     return a;
@@ -132,16 +132,16 @@ static answer with_refused(answer (*call)(const char *), const char *source, lon
 static void each(answer (*call)(const char *), const char *source) {
     answer ample = with_refused(call, source, 0, 0);
     long requests = asked, memory = 0;
-    check(ample.status != FIRTHNAPKIN_MEMORY, "memory is ample for %s", source);
+    check(ample.status != FIRTHNAPKIN_OUT_OF_MEMORY, "memory is ample for %s", source);
     for (int onwards = 0; onwards < 2; onwards++) {
         for (long number = 1; number <= requests; number++) {
             answer a = with_refused(call, source, number, onwards);
-            if (a.status == FIRTHNAPKIN_MEMORY) {
+            if (a.status == FIRTHNAPKIN_OUT_OF_MEMORY) {
                 memory++;
-                check(a.nodes_needed == 0 && a.texts_needed == 0, "the counts where memory ran out, for %s", source);
+                check(a.nodes_length == 0 && a.texts_length == 0, "the lengths where memory ran out, for %s", source);
             } else {
-                check(a.status == ample.status && a.nodes_needed == ample.nodes_needed
-                          && a.texts_needed == ample.texts_needed,
+                check(a.status == ample.status && a.nodes_length == ample.nodes_length
+                          && a.texts_length == ample.texts_length,
                       "the answer for %s where request %ld is refused: %u", source, number, a.status);
             }
         }
@@ -151,19 +151,19 @@ static void each(answer (*call)(const char *), const char *source) {
 
 /* The capacity for nodes that is requested before the first token is a hint: where it is refused, the result stays. That for
    a definition's nodes is one, too, and may be of the same size. */
-static void room_is_a_hint(const char *source) {
+static void capacity_is_a_hint(const char *source) {
     answer ample = with_refused(parse, source, 0, 0);
     refused_size = strlen(source) / 8 * sizeof(firthnapkin_node);
     refused_sizes = 0;
     answer a = with_refused(parse, source, 0, 0);
     refused_size = 0;
-    check(refused_sizes > 0, "%ld requests for the first room are refused, of %s", refused_sizes, source);
-    check(a.status == ample.status && a.nodes_needed == ample.nodes_needed && a.texts_needed == ample.texts_needed,
-          "the answer for %s where the first room for nodes is refused: %u", source, a.status);
+    check(refused_sizes > 0, "%ld requests for the first buffer are refused, of %s", refused_sizes, source);
+    check(a.status == ample.status && a.nodes_length == ample.nodes_length && a.texts_length == ample.texts_length,
+          "the answer for %s where the first buffer for nodes is refused: %u", source, a.status);
 }
 
 #define TEN(text) text text text text text text text text text text
-#define LONG_FAULT "query a " TEN(TEN("nnn"))
+#define LONG_ERROR "query a " TEN(TEN("nnn"))
 
 int main(void) {
     static const char *const sources[] = {
@@ -179,7 +179,7 @@ int main(void) {
         "{a a a a a a a a a a a a a a a a a a a a a a a a a a a a a a a a a a a a a a a a a a}",
         "{a(b:\"ccccccccccccccccccccccccccccccccccccccccccccccccccccccccccccccccccccccccccccccccccccccccccccccccccccccccccccc\")}",
         "1a\"\"2b\"\"3c",
-        LONG_FAULT,
+        LONG_ERROR,
     };
     for (size_t i = 0; i < sizeof sources / sizeof *sources; i++) {
         each(parse, sources[i]);
@@ -192,7 +192,7 @@ int main(void) {
         each(whole_tokens, sources[i]);
         each(whole_canonical, sources[i]);
     }
-    room_is_a_hint(sources[1]);
-    room_is_a_hint(sources[2]);
+    capacity_is_a_hint(sources[1]);
+    capacity_is_a_hint(sources[2]);
     return counted();
 }

@@ -46,32 +46,32 @@ static const cut_source CUT[] = {
     {") } { query", 0, 0, 0,
      {{FIRTHNAPKIN_TOKEN_PAREN_CLOSE, 0, ")"}, {FIRTHNAPKIN_TOKEN_CURLY_CLOSE, 0, "}"}, {FIRTHNAPKIN_TOKEN_CURLY_OPEN, 0, "{"},
       {FIRTHNAPKIN_TOKEN_NAME, 0, "query"}, END}},
-    {"?", FIRTHNAPKIN_UNKNOWN_CHARACTER, '?', 0, {{0}}},
-    {"{a \xc3\xa9? b", FIRTHNAPKIN_UNKNOWN_CHARACTER, 0xE9, 3,
+    {"?", FIRTHNAPKIN_DETAIL_UNKNOWN_CHARACTER, '?', 0, {{0}}},
+    {"{a \xc3\xa9? b", FIRTHNAPKIN_DETAIL_UNKNOWN_CHARACTER, 0xE9, 3,
      {{FIRTHNAPKIN_TOKEN_CURLY_OPEN, 0, "{"}, {FIRTHNAPKIN_TOKEN_NAME, 0, "a"}}},
-    {"a 01", FIRTHNAPKIN_UNEXPECTED_CHARACTER, '1', 3, {{FIRTHNAPKIN_TOKEN_NAME, 0, "a"}}},
-    {"# \xc3\xa9\n\"b\" \"", FIRTHNAPKIN_UNTERMINATED_STRING, 0, 10, {{FIRTHNAPKIN_TOKEN_STRING, 1, "\"b\""}}},
-    {"a \"\x01", FIRTHNAPKIN_UNKNOWN_CHARACTER_IN_STRING, 1, 3, {{FIRTHNAPKIN_TOKEN_NAME, 0, "a"}}},
-    {"[\"\\q\" 7 ]", FIRTHNAPKIN_UNKNOWN_ESCAPE, 0, 3, {{FIRTHNAPKIN_TOKEN_BRACKET_OPEN, 0, "["}}},
-    {"1 -", FIRTHNAPKIN_UNEXPECTED_END_IN_TOKEN, 0, 3, {{FIRTHNAPKIN_TOKEN_INT, 0, "1"}}},
+    {"a 01", FIRTHNAPKIN_DETAIL_UNEXPECTED_CHARACTER, '1', 3, {{FIRTHNAPKIN_TOKEN_NAME, 0, "a"}}},
+    {"# \xc3\xa9\n\"b\" \"", FIRTHNAPKIN_DETAIL_UNTERMINATED_STRING, 0, 10, {{FIRTHNAPKIN_TOKEN_STRING, 1, "\"b\""}}},
+    {"a \"\x01", FIRTHNAPKIN_DETAIL_UNKNOWN_CHARACTER_IN_STRING, 1, 3, {{FIRTHNAPKIN_TOKEN_NAME, 0, "a"}}},
+    {"[\"\\q\" 7 ]", FIRTHNAPKIN_DETAIL_UNKNOWN_ESCAPE, 0, 3, {{FIRTHNAPKIN_TOKEN_BRACKET_OPEN, 0, "["}}},
+    {"1 -", FIRTHNAPKIN_DETAIL_UNEXPECTED_END_IN_TOKEN, 0, 3, {{FIRTHNAPKIN_TOKEN_INT, 0, "1"}}},
 };
 
-/* The place after this many bytes of a source. */
-static firthnapkin_place place_of(const char *source, size_t byte) {
-    firthnapkin_place place = {0, 0, 0, (uint32_t)byte};
+/* The position after this many bytes of a source. */
+static firthnapkin_position position_of(const char *source, size_t byte) {
+    firthnapkin_position position = {0, 0, 0, (uint32_t)byte};
     for (size_t i = 0; i < byte; i++) {
         if (((unsigned char)source[i] & 0xC0) == 0x80) continue;
-        place.index++;
-        place.column++;
+        position.index++;
+        position.column++;
         if (source[i] == '\n') {
-            place.line++;
-            place.column = 0;
+            position.line++;
+            position.column = 0;
         }
     }
-    return place;
+    return position;
 }
 
-/* The tokens of a source, in places found by what is written; how many there are. */
+/* The tokens of a source, at positions found by what is written; how many there are. */
 static size_t wanted_of(const cut_source *cut, firthnapkin_token *wanted) {
     size_t count = 0;
     const char *at = cut->source;
@@ -79,64 +79,69 @@ static size_t wanted_of(const cut_source *cut, firthnapkin_token *wanted) {
         at = strstr(at, s->written);
         if (at == NULL) abort();
         size_t start = (size_t)(at - cut->source), end = start + strlen(s->written);
-        wanted[count++] = (firthnapkin_token){s->kind, s->quotes, place_of(cut->source, start), place_of(cut->source, end)};
+        wanted[count++] = (firthnapkin_token){s->kind, s->quotes, position_of(cut->source, start), position_of(cut->source, end)};
         at = cut->source + end;
     }
     if (cut->detail == 0) {
-        firthnapkin_place end = place_of(cut->source, strlen(cut->source));
+        firthnapkin_position end = position_of(cut->source, strlen(cut->source));
         wanted[count++] = (firthnapkin_token){FIRTHNAPKIN_TOKEN_END_OF_FILE, 0, end, end};
     }
     return count;
 }
 
-static int same_place(firthnapkin_place a, firthnapkin_place b) {
+static int same_position(firthnapkin_position a, firthnapkin_position b) {
     return memcmp(&a, &b, sizeof a) == 0;
 }
 
 /* A call with an array of this size. */
 typedef struct {
     uint32_t status;
-    size_t room, needed;
+    size_t capacity, needed;
     firthnapkin_token *tokens;
-    firthnapkin_fault fault;
+    firthnapkin_error error;
 } run;
 
-static run cut(const char *source, size_t length, uint32_t most, size_t room) {
-    run r = {.room = room, .needed = 99};
-    r.tokens = (firthnapkin_token *)canaries(room * sizeof *r.tokens + BEYOND);
-    memset(&r.fault, CANARY, sizeof r.fault);
-    r.status = firthnapkin_tokens((const uint8_t *)source, length, most, r.tokens, room, &r.needed, &r.fault);
+static run cut(const char *source, size_t length, uint32_t max_tokens, size_t capacity) {
+    run r = {.capacity = capacity, .needed = 99};
+    r.tokens = (firthnapkin_token *)canaries(capacity * sizeof *r.tokens + BEYOND);
+    memset(&r.error, CANARY, sizeof r.error);
+    r.status = firthnapkin_tokens((const uint8_t *)source, length, max_tokens, r.tokens, capacity, &r.needed, &r.error);
     return r;
 }
 
 /* The array begins with the first of these, as many as fit, and nothing else is written. */
 static int holds(run r, const firthnapkin_token *wanted, size_t count) {
-    size_t some = count < r.room ? count : r.room;
+    size_t some = count < r.capacity ? count : r.capacity;
     return (some == 0 || !memcmp(r.tokens, wanted, some * sizeof *wanted))
-        && are_canaries(r.tokens + some, (r.room - some) * sizeof *r.tokens + BEYOND);
+        && are_canaries(r.tokens + some, (r.capacity - some) * sizeof *r.tokens + BEYOND);
 }
 
-static int is_fault_kept(run r) {
-    return are_canaries(&r.fault, sizeof r.fault);
+static int is_error_kept(run r) {
+    return are_canaries(&r.error, sizeof r.error);
 }
 
-static void every_room(const cut_source *c) {
+/* What a call with an array of this size returns for a source of so many tokens, if these are within the limit. */
+static uint32_t status_of(const cut_source *c, size_t count, size_t capacity) {
+    if (c->detail != 0) return FIRTHNAPKIN_SYNTAX_ERROR;
+    return capacity < count ? FIRTHNAPKIN_BUFFER_TOO_SMALL : FIRTHNAPKIN_OK;
+}
+
+static void every_capacity(const cut_source *c) {
     firthnapkin_token wanted[ANY_TOKENS];
     size_t length = strlen(c->source), count = wanted_of(c, wanted);
     check(count <= length + 1, "one call suffices for %s", c->source);
-    for (size_t room = 0; room <= count + 1 || room <= length + 1; room++) {
-        run r = cut(c->source, length, UINT32_MAX, room);
-        uint32_t status = c->detail != 0 ? FIRTHNAPKIN_REFUSED : room < count ? FIRTHNAPKIN_ROOM : FIRTHNAPKIN_TOKENS;
-        check(r.status == status && r.needed == count && holds(r, wanted, count), "room for %zu tokens of %s: %u, %zu", room,
-              c->source, r.status, r.needed);
-        firthnapkin_place at = place_of(c->source, c->at);
+    for (size_t capacity = 0; capacity <= count + 1 || capacity <= length + 1; capacity++) {
+        run r = cut(c->source, length, UINT32_MAX, capacity);
+        check(r.status == status_of(c, count, capacity) && r.needed == count && holds(r, wanted, count),
+              "capacity for %zu tokens of %s: %u, %zu", capacity, c->source, r.status, r.needed);
+        firthnapkin_position at = position_of(c->source, c->at);
         if (c->detail == 0)
-            check(is_fault_kept(r), "no fault of %s", c->source);
+            check(is_error_kept(r), "no error of %s", c->source);
         else
-            check(r.fault.kind == FIRTHNAPKIN_LEXICAL && r.fault.detail == c->detail && r.fault.character == c->character
-                      && same_place(r.fault.start, at) && same_place(r.fault.end, at),
-                  "the fault of %s: %u %u %u at byte %u", c->source, r.fault.kind, r.fault.detail, r.fault.character,
-                  r.fault.start.byte);
+            check(r.error.kind == FIRTHNAPKIN_ERROR_LEXICAL && r.error.detail == c->detail && r.error.character == c->character
+                      && same_position(r.error.start, at) && same_position(r.error.end, at),
+                  "the error of %s: %u %u %u at byte %u", c->source, r.error.kind, r.error.detail, r.error.character,
+                  r.error.start.byte);
         free(r.tokens);
     }
 }
@@ -145,18 +150,18 @@ static void every_room(const cut_source *c) {
 static void every_limit(const cut_source *c) {
     firthnapkin_token wanted[ANY_TOKENS];
     size_t length = strlen(c->source), count = wanted_of(c, wanted), others = count - (c->detail == 0);
-    for (size_t most = 0; most <= others + 2; most++) {
-        for (size_t room = 0; room <= count + 1; room++) {
-            run r = cut(c->source, length, (uint32_t)most, room);
-            if (most >= others) {
-                uint32_t status = c->detail != 0 ? FIRTHNAPKIN_REFUSED : room < count ? FIRTHNAPKIN_ROOM : FIRTHNAPKIN_TOKENS;
-                check(r.status == status && r.needed == count && holds(r, wanted, count), "no more than %zu tokens in %s: %u", most,
-                      c->source, r.status);
+    for (size_t max_tokens = 0; max_tokens <= others + 2; max_tokens++) {
+        for (size_t capacity = 0; capacity <= count + 1; capacity++) {
+            run r = cut(c->source, length, (uint32_t)max_tokens, capacity);
+            if (max_tokens >= others) {
+                check(r.status == status_of(c, count, capacity) && r.needed == count && holds(r, wanted, count),
+                      "no more than %zu tokens in %s: %u", max_tokens, c->source, r.status);
             } else {
-                check(r.status == FIRTHNAPKIN_MANY && r.needed == most && holds(r, wanted, most)
-                          && r.fault.kind == FIRTHNAPKIN_TOO_MANY && !r.fault.detail && !r.fault.character
-                          && same_place(r.fault.start, wanted[most].start) && same_place(r.fault.end, wanted[most].end),
-                      "more than %zu tokens in %s: %u, byte %u", most, c->source, r.status, r.fault.start.byte);
+                check(r.status == FIRTHNAPKIN_TOO_MANY_TOKENS && r.needed == max_tokens && holds(r, wanted, max_tokens)
+                          && r.error.kind == FIRTHNAPKIN_ERROR_TOO_MANY_TOKENS && !r.error.detail && !r.error.character
+                          && same_position(r.error.start, wanted[max_tokens].start)
+                          && same_position(r.error.end, wanted[max_tokens].end),
+                      "more than %zu tokens in %s: %u, byte %u", max_tokens, c->source, r.status, r.error.start.byte);
             }
             free(r.tokens);
         }
@@ -178,55 +183,56 @@ static void texts(void) {
 
 /* ---- canonical texts */
 
-static void every_text_room(const char *source, const char *wanted) {
+static void every_text_capacity(const char *source, const char *wanted) {
     size_t length = strlen(source), count = strlen(wanted);
     check(count <= 2 * length, "twice as many bytes suffice for %s", source);
-    for (size_t room = 0; room <= count + 1 || room <= 2 * length; room++) {
+    for (size_t capacity = 0; capacity <= count + 1 || capacity <= 2 * length; capacity++) {
         size_t needed = 99;
-        firthnapkin_fault fault;
-        memset(&fault, CANARY, sizeof fault);
-        uint8_t *text = canaries(room + BEYOND);
-        uint32_t status = firthnapkin_canonical((const uint8_t *)source, length, text, room, &needed, &fault);
-        int fits = room >= count;
-        check(status == (fits ? FIRTHNAPKIN_CANONICAL : FIRTHNAPKIN_ROOM) && needed == count
+        firthnapkin_error error;
+        memset(&error, CANARY, sizeof error);
+        uint8_t *text = canaries(capacity + BEYOND);
+        uint32_t status = firthnapkin_canonical((const uint8_t *)source, length, text, capacity, &needed, &error);
+        int fits = capacity >= count;
+        check(status == (fits ? FIRTHNAPKIN_OK : FIRTHNAPKIN_BUFFER_TOO_SMALL) && needed == count
                   && (!fits || !memcmp(text, wanted, count))
-                  && are_canaries(text + (fits ? count : 0), room - (fits ? count : 0) + BEYOND)
-                  && are_canaries(&fault, sizeof fault),
-              "a room of %zu bytes for the canonical text of %s: %u, %zu", room, source, status, needed);
+                  && are_canaries(text + (fits ? count : 0), capacity - (fits ? count : 0) + BEYOND)
+                  && are_canaries(&error, sizeof error),
+              "a buffer of %zu bytes for the canonical text of %s: %u, %zu", capacity, source, status, needed);
         free(text);
     }
 }
 
 static void no_canonical_text(const char *source, size_t length, uint32_t status, uint32_t detail, uint32_t character, uint32_t at) {
     size_t needed = 99;
-    firthnapkin_fault fault;
-    memset(&fault, CANARY, sizeof fault);
+    firthnapkin_error error;
+    memset(&error, CANARY, sizeof error);
     uint8_t *text = canaries(99 + BEYOND);
-    uint32_t found = firthnapkin_canonical((const uint8_t *)source, length, text, 99, &needed, &fault);
+    uint32_t found = firthnapkin_canonical((const uint8_t *)source, length, text, 99, &needed, &error);
     check(found == status && needed == 0 && are_canaries(text, 99 + BEYOND), "no canonical text of %s: %u", source, found);
-    firthnapkin_place place = place_of(source, at);
-    if (status != FIRTHNAPKIN_REFUSED)
-        check(are_canaries(&fault, sizeof fault), "the fault is left, of %s", source);
+    firthnapkin_position position = position_of(source, at);
+    if (status != FIRTHNAPKIN_SYNTAX_ERROR)
+        check(are_canaries(&error, sizeof error), "the error is left, of %s", source);
     else
-        check(fault.kind == FIRTHNAPKIN_LEXICAL && fault.detail == detail && fault.character == character
-                  && same_place(fault.start, place) && same_place(fault.end, place),
-              "the fault of %s: %u %u %u at byte %u", source, fault.kind, fault.detail, fault.character, fault.start.byte);
+        check(error.kind == FIRTHNAPKIN_ERROR_LEXICAL && error.detail == detail && error.character == character
+                  && same_position(error.start, position) && same_position(error.end, position),
+              "the error of %s: %u %u %u at byte %u", source, error.kind, error.detail, error.character, error.start.byte);
     free(text);
 }
 
 static void canonical_texts(void) {
-    every_text_room("", "");
-    every_text_room(" , # all\n", "");
-    every_text_room("{ a, b(c: \"d\") } # all", "{a b(c:\"d\")}");
-    every_text_room("\xef\xbb\xbfquery Q ($v : [ T ! ] = 1) { a ... on T { b } ...F }", "query Q($v:[T!]=1){a ...on T{b}...F}");
-    every_text_room("{a(b:\"\xc3\xa9 ,\"\"\"\"\n # \xf0\x9d\x84\x9e\n\"\"\")}", "{a(b:\"\xc3\xa9 ,\" \"\"\"\n # \xf0\x9d\x84\x9e\n\"\"\")}");
+    every_text_capacity("", "");
+    every_text_capacity(" , # all\n", "");
+    every_text_capacity("{ a, b(c: \"d\") } # all", "{a b(c:\"d\")}");
+    every_text_capacity("\xef\xbb\xbfquery Q ($v : [ T ! ] = 1) { a ... on T { b } ...F }", "query Q($v:[T!]=1){a ...on T{b}...F}");
+    every_text_capacity("{a(b:\"\xc3\xa9 ,\"\"\"\"\n # \xf0\x9d\x84\x9e\n\"\"\")}", "{a(b:\"\xc3\xa9 ,\" \"\"\"\n # \xf0\x9d\x84\x9e\n\"\"\")}");
     /* As many spaces as there are seams. */
-    every_text_room("1a\"\"2b\"\"...", "1 a \"\" 2 b \"\" ...");
+    every_text_capacity("1a\"\"2b\"\"...", "1 a \"\" 2 b \"\" ...");
     for (size_t i = 0; i < sizeof CUT / sizeof *CUT; i++)
         if (CUT[i].detail != 0)
-            no_canonical_text(CUT[i].source, strlen(CUT[i].source), FIRTHNAPKIN_REFUSED, CUT[i].detail, CUT[i].character, CUT[i].at);
+            no_canonical_text(CUT[i].source, strlen(CUT[i].source), FIRTHNAPKIN_SYNTAX_ERROR, CUT[i].detail, CUT[i].character,
+                              CUT[i].at);
     no_canonical_text("{\xff", 2, FIRTHNAPKIN_NOT_UTF8, 0, 0, 0);
-    no_canonical_text("{a\0}", 4, FIRTHNAPKIN_REFUSED, FIRTHNAPKIN_UNKNOWN_CHARACTER, 0, 2);
+    no_canonical_text("{a\0}", 4, FIRTHNAPKIN_SYNTAX_ERROR, FIRTHNAPKIN_DETAIL_UNKNOWN_CHARACTER, 0, 2);
 }
 
 /* ---- both */
@@ -234,35 +240,46 @@ static void canonical_texts(void) {
 /* Where a count is 0 no memory is needed. */
 static void no_memory(void) {
     size_t needed = 99;
-    firthnapkin_fault fault;
-    memset(&fault, CANARY, sizeof fault);
-    check(firthnapkin_tokens(NULL, 0, 0, NULL, 0, &needed, &fault) == FIRTHNAPKIN_ROOM && needed == 1, "no source and no room for its end");
-    check(firthnapkin_tokens((const uint8_t *)"{a}", 3, 9, NULL, 0, &needed, &fault) == FIRTHNAPKIN_ROOM && needed == 4, "no room for tokens");
-    check(firthnapkin_canonical(NULL, 0, NULL, 0, &needed, &fault) == FIRTHNAPKIN_CANONICAL && needed == 0, "the canonical text of nothing");
-    check(firthnapkin_canonical((const uint8_t *)"{a}", 3, NULL, 0, &needed, &fault) == FIRTHNAPKIN_ROOM && needed == 3, "no room for a text");
-    check(are_canaries(&fault, sizeof fault), "a fault is left");
+    firthnapkin_error error;
+    memset(&error, CANARY, sizeof error);
+    check(firthnapkin_tokens(NULL, 0, 0, NULL, 0, &needed, &error) == FIRTHNAPKIN_BUFFER_TOO_SMALL && needed == 1,
+          "no source and no capacity for its end");
+    check(firthnapkin_tokens((const uint8_t *)"{a}", 3, 9, NULL, 0, &needed, &error) == FIRTHNAPKIN_BUFFER_TOO_SMALL
+              && needed == 4,
+          "no capacity for tokens");
+    check(firthnapkin_canonical(NULL, 0, NULL, 0, &needed, &error) == FIRTHNAPKIN_OK && needed == 0,
+          "the canonical text of nothing");
+    check(firthnapkin_canonical((const uint8_t *)"{a}", 3, NULL, 0, &needed, &error) == FIRTHNAPKIN_BUFFER_TOO_SMALL
+              && needed == 3,
+          "no capacity for a text");
+    check(are_canaries(&error, sizeof error), "an error is left");
     firthnapkin_token end;
-    check(firthnapkin_tokens(NULL, 0, 0, &end, 1, &needed, &fault) == FIRTHNAPKIN_TOKENS && needed == 1
+    check(firthnapkin_tokens(NULL, 0, 0, &end, 1, &needed, &error) == FIRTHNAPKIN_OK && needed == 1
               && end.kind == FIRTHNAPKIN_TOKEN_END_OF_FILE && end.end.byte == 0,
           "the end of nothing");
 }
 
 static void not_looked_at(void) {
     run r = cut("{\xff", 2, UINT32_MAX, 9);
-    check(r.status == FIRTHNAPKIN_NOT_UTF8 && r.needed == 0 && holds(r, NULL, 0) && is_fault_kept(r), "bytes that are no text");
+    check(r.status == FIRTHNAPKIN_NOT_UTF8 && r.needed == 0 && holds(r, NULL, 0) && is_error_kept(r), "bytes that are no text");
+    free(r.tokens);
+    r = cut("a b \xff", 5, 1, 9);
+    check(r.status == FIRTHNAPKIN_NOT_UTF8 && r.needed == 0 && holds(r, NULL, 0) && is_error_kept(r),
+          "bytes that are no text after the first token too many");
     free(r.tokens);
     r = cut("{a\0}", 4, UINT32_MAX, 9);
-    check(r.status == FIRTHNAPKIN_REFUSED && r.needed == 2 && r.fault.detail == FIRTHNAPKIN_UNKNOWN_CHARACTER && r.fault.start.byte == 2,
+    check(r.status == FIRTHNAPKIN_SYNTAX_ERROR && r.needed == 2 && r.error.detail == FIRTHNAPKIN_DETAIL_UNKNOWN_CHARACTER
+              && r.error.start.byte == 2,
           "a byte 0");
     free(r.tokens);
     size_t needed = 99;
     void *source = too_long_source();
     if (source == NULL) return;
     r = cut(source, FOUR_GIB, 1, 9);
-    check(r.status == FIRTHNAPKIN_TOO_LONG && r.needed == 0 && holds(r, NULL, 0) && is_fault_kept(r), "4 GiB");
+    check(r.status == FIRTHNAPKIN_SOURCE_TOO_LONG && r.needed == 0 && holds(r, NULL, 0) && is_error_kept(r), "4 GiB");
     uint8_t text = CANARY;
-    check(firthnapkin_canonical(source, FOUR_GIB, &text, 1, &needed, &r.fault) == FIRTHNAPKIN_TOO_LONG && needed == 0 && text == CANARY
-              && is_fault_kept(r),
+    check(firthnapkin_canonical(source, FOUR_GIB, &text, 1, &needed, &r.error) == FIRTHNAPKIN_SOURCE_TOO_LONG && needed == 0
+              && text == CANARY && is_error_kept(r),
           "4 GiB, as a canonical text");
     free(r.tokens);
     munmap(source, FOUR_GIB);
@@ -271,22 +288,23 @@ static void not_looked_at(void) {
 /* A source of ten million bytes, and calls on no more stack than the header says. */
 typedef struct {
     const char *source;
-    size_t length, tokens, text, tokens_needed, text_needed;
+    size_t length, tokens, text, tokens_length, text_needed;
     uint32_t cut, canonical, counted;
 } calls;
 
 static void *call_all(void *argument) {
     calls *c = argument;
-    firthnapkin_fault fault;
+    firthnapkin_error error;
     /* Memory that nothing is written to costs nothing. */
     firthnapkin_token *tokens = malloc((c->length + 1) * sizeof *tokens);
     uint8_t *text = malloc(2 * c->length);
     if (tokens == NULL || text == NULL) abort();
-    c->cut = firthnapkin_tokens((const uint8_t *)c->source, c->length, UINT32_MAX, tokens, c->length + 1, &c->tokens_needed, &fault);
-    c->canonical = firthnapkin_canonical((const uint8_t *)c->source, c->length, text, 2 * c->length, &c->text_needed, &fault);
-    c->counted = firthnapkin_count((const uint8_t *)c->source, c->length, UINT32_MAX, &fault);
-    check(tokens[c->tokens_needed - 1].end.byte == c->length && tokens[c->tokens_needed - 2].start.byte >= c->length - 70,
-          "the last places of ten million bytes");
+    c->cut = firthnapkin_tokens((const uint8_t *)c->source, c->length, UINT32_MAX, tokens, c->length + 1, &c->tokens_length,
+                                &error);
+    c->canonical = firthnapkin_canonical((const uint8_t *)c->source, c->length, text, 2 * c->length, &c->text_needed, &error);
+    c->counted = firthnapkin_count((const uint8_t *)c->source, c->length, UINT32_MAX, &error);
+    check(tokens[c->tokens_length - 1].end.byte == c->length && tokens[c->tokens_length - 2].start.byte >= c->length - 70,
+          "the last positions of ten million bytes");
     free(tokens);
     free(text);
     return NULL;
@@ -299,9 +317,9 @@ static void large(const char *part, size_t tokens, size_t text) {
     for (size_t i = 0; i < count; i++) memcpy(source + i * step, part, step + 1);
     calls c = {.source = source, .length = count * step};
     on_stack(0, call_all, &c);
-    check(c.cut == FIRTHNAPKIN_TOKENS && c.canonical == FIRTHNAPKIN_CANONICAL && c.counted == FIRTHNAPKIN_FEW
-              && c.tokens_needed == count * tokens + 1 && c.text_needed == count * text,
-          "ten million bytes of %s: %zu tokens, %zu bytes", part, c.tokens_needed, c.text_needed);
+    check(c.cut == FIRTHNAPKIN_OK && c.canonical == FIRTHNAPKIN_OK && c.counted == FIRTHNAPKIN_OK
+              && c.tokens_length == count * tokens + 1 && c.text_needed == count * text,
+          "ten million bytes of %s: %zu tokens, %zu bytes", part, c.tokens_length, c.text_needed);
     free(source);
 }
 
@@ -320,7 +338,7 @@ static void *many(void *failures) {
 
 int main(void) {
     for (size_t i = 0; i < sizeof CUT / sizeof *CUT; i++) {
-        every_room(&CUT[i]);
+        every_capacity(&CUT[i]);
         every_limit(&CUT[i]);
     }
     texts();

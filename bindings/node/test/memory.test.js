@@ -10,7 +10,7 @@ const MAIN = JSON.stringify(path.join(__dirname, ".."));
 
 /** Runs a program in a process of its own, with these words for Node, and returns what it writes. */
 function written(program, ...words) {
-  return execFileSync(process.execPath, [...words, "-e", `const { parse, Fault } = require(${MAIN});\n${program}`], {
+  return execFileSync(process.execPath, [...words, "-e", `const { parse, FirthnapkinError } = require(${MAIN});\n${program}`], {
     encoding: "utf8",
     // A block of memory that is freed goes back to the system.
     env: { ...process.env, MALLOC_MMAP_THRESHOLD_: "65536", MALLOC_TRIM_THRESHOLD_: "65536" },
@@ -18,7 +18,7 @@ function written(program, ...words) {
   });
 }
 
-// A call that keeps its nodes, its texts or a fault's words keeps half a megabyte or more here, each time.
+// A call that keeps its nodes, its texts or an error's words keeps half a megabyte or more here, each time.
 const GROWTH = `
   const sources = [
     "{a}".repeat(4000),
@@ -27,7 +27,7 @@ const GROWTH = `
     "{a}".repeat(4000) + ")",
   ];
   const grown = sources.map((source) => {
-    const round = () => { try { parse(source); } catch (error) { if (!(error instanceof Fault)) throw error; } };
+    const round = () => { try { parse(source); } catch (error) { if (!(error instanceof FirthnapkinError)) throw error; } };
     for (let i = 0; i < 10; i++) round();
     gc();
     const before = process.memoryUsage().rss;
@@ -74,7 +74,7 @@ const LITTLE = `${LIMITED}
 const hasLimits = process.platform === "linux" && spawnSync("prlimit", ["--version"]).status === 0;
 
 test("a process with little memory", { skip: hasLimits ? false : "no prlimit, so memory is not limited" }, () => {
-  const wanted = ["Error: memory ran out", 'Fault: Unexpected ")". At 0:98304', "nodes: 65536"];
+  const wanted = ["Error: memory ran out", 'FirthnapkinError: Unexpected ")". At 0:98304', "nodes: 65536"];
   assert.strictEqual(written(LITTLE, "--expose-gc").trim(), `${JSON.stringify(wanted)} 2`);
 });
 

@@ -7,34 +7,39 @@ const { test } = require("node:test");
 const path = require("path");
 const { Worker } = require("worker_threads");
 
-const { parse, Fault, MOST_DEPTH, version } = require("..");
+const { parse, FirthnapkinError, MAX_DEPTH, version } = require("..");
 
-function faultOf(source, options) {
+function errorOf(source, options) {
   try {
     parse(source, options);
   } catch (error) {
-    assert.ok(error instanceof Fault, String(error));
+    assert.ok(error instanceof FirthnapkinError, String(error));
     return error;
   }
   throw new Error(`${JSON.stringify(source).slice(0, 40)} has a document`);
 }
 
-const SCALARS = ["int", "largeInt", "float", "string", "blockString", "boolean"];
+// gqlcheck's words for the kinds that it names otherwise.
+const WORDS = {
+  fragmentDefinition: "fragment", variableDefinitions: "variables", variableDefinition: "variable", fragmentSpread: "spread",
+  inlineFragment: "inline", variable: "reference", objectField: "key",
+};
+for (const kind of ["int", "largeInt", "float", "string", "blockString", "boolean"]) WORDS[kind] = "scalar";
 
-/** What gqlcheck writes for a source: places count characters there. */
+/** What gqlcheck writes for a source: positions count characters there. */
 function lines(source) {
   let document;
   try {
     document = parse(source);
   } catch (error) {
-    if (error instanceof Fault) return error.message;
+    if (error instanceof FirthnapkinError) return error.message;
     throw error;
   }
   const characters = (index) => Array.from(source.slice(0, index)).length;
   return Array.from(document, (node) => {
-    let line = `${SCALARS.includes(node.kind) ? "scalar" : node.kind} ${characters(node.start.index)} ${characters(node.end.index)}`;
+    let line = `${WORDS[node.kind] ?? node.kind} ${characters(node.start.index)} ${characters(node.end.index)}`;
     if (node.kind === "type") line += ` ${node.value}`;
-    else if (node.kind === "fragment") line += ` ${node.name} ${node.value}`;
+    else if (node.kind === "fragmentDefinition") line += ` ${node.name} ${node.value}`;
     else if (node.name !== null) line += ` ${node.name}`;
     return line;
   }).join("\n");
@@ -70,11 +75,11 @@ test("values", () => {
     ['"\\u00e9\\n𝄞"', "string", "é\n𝄞"],
     ['"""\n  x\n """', "blockString", "x"],
     ["E", "enum", "E"],
-    ["$v", "reference", "v"],
+    ["$v", "variable", "v"],
   ]) {
     const node = parse(`{ a(b: ${text}) }`).node(4);
     assert.deepStrictEqual([node.kind, node.value, node.text], [kind, value, text]);
-    assert.strictEqual(node.name, ["enum", "reference"].includes(kind) ? value : null);
+    assert.strictEqual(node.name, ["enum", "variable"].includes(kind) ? value : null);
   }
   for (const text of ["1e400", "-1e400"]) {
     const node = parse(`{ a(b: ${text}) }`).node(4);
@@ -83,7 +88,7 @@ test("values", () => {
   }
 });
 
-test("places in UTF-16 units", () => {
+test("positions in UTF-16 units", () => {
   const source = '# Größe 𝄞\n{ b(x: "𝄞", y: "é") }';
   const nodes = Array.from(parse(source)).filter((node) => node.kind === "string");
   assert.deepStrictEqual(nodes.map((node) => node.text), ['"𝄞"', '"é"']);
@@ -94,7 +99,7 @@ test("places in UTF-16 units", () => {
 
 test("children, parents and definitions", () => {
   const document = parse("{ a { b(c: 1) { d } e } f } fragment F on T { g }");
-  assert.deepStrictEqual(document.definitions.map((node) => node.kind), ["query", "fragment"]);
+  assert.deepStrictEqual(document.definitions.map((node) => node.kind), ["query", "fragmentDefinition"]);
   assert.deepStrictEqual(document.node(0).children.map((node) => node.name), ["a", "f"]);
   assert.deepStrictEqual(document.node(2).children.map((node) => node.kind), ["arguments", "field"]);
   assert.deepStrictEqual(
@@ -105,8 +110,8 @@ test("children, parents and definitions", () => {
   for (const index of [-1, 11, 1.5, NaN, "0", null]) assert.throws(() => document.node(index), RangeError);
 });
 
-test("faults, with their places", () => {
-  for (const [source, reason, detail, character, start, end, told] of [
+test("errors, with their positions", () => {
+  for (const [source, kind, detail, character, start, end, told] of [
     ["{\n  a )\n}", "unexpectedToken", null, null, [6, 1, 4, 6], [7, 1, 5, 7], 'Unexpected ")". At 1:4'],
     ["", "unexpectedEnd", null, null, [0, 0, 0, 0], [0, 0, 0, 0], "Unexpected end of input. At 0:0"],
     ["{ é }", "lexical", "unknownCharacter", "é", [2, 0, 2, 2], [2, 0, 2, 2], 'Unknown character "é". At 0:2'],
@@ -117,8 +122,8 @@ test("faults, with their places", () => {
     ['{a(b:"\\q")}', "lexical", "unknownEscape", null, [7, 0, 7, 7], [7, 0, 7, 7],
       'Unknown escape sequence "\\q" in string. At 0:7'],
     ["{a(b:-", "lexical", "unexpectedEndInToken", null, [6, 0, 6, 6], [6, 0, 6, 6], "Unexpected end of input. At 0:6"],
-    ["{a".repeat(201), "nested", null, null, [400, 0, 400, 400], [401, 0, 401, 401], "Too deeply nested. At 0:400"],
-    // Columns of the message count characters, those of places UTF-16 units.
+    ["{a".repeat(201), "tooDeep", null, null, [400, 0, 400, 400], [401, 0, 401, 401], "Too deeply nested. At 0:400"],
+    // Columns of the message count characters, those of positions UTF-16 units.
     ["#𝄞\n{a(b:\"𝄞\") ) }", "unexpectedToken", null, null, [15, 1, 11, 19], [16, 1, 12, 20], 'Unexpected ")". At 1:10'],
     ['{\n"é\ud800"}', "surrogate", null, null, [4, 1, 2, 5], [5, 1, 3, 8], "Lone surrogate U+D800. At 1:2"],
     ["\udc00", "surrogate", null, null, [0, 0, 0, 0], [1, 0, 1, 3], "Lone surrogate U+DC00. At 0:0"],
@@ -137,24 +142,24 @@ test("faults, with their places", () => {
     ['{ "a. At b" }', "unexpectedToken", null, null, [2, 0, 2, 2], [11, 0, 11, 11], 'Unexpected ""a. At b"". At 0:2'],
     ['{ "a. At 1:1" }', "unexpectedToken", null, null, [2, 0, 2, 2], [13, 0, 13, 13], 'Unexpected ""a. At 1:1"". At 0:2'],
   ]) {
-    const fault = faultOf(source);
-    const place = ([index, line, column, byte]) => ({ index, line, column, byte });
-    assert.deepStrictEqual([fault.reason, fault.detail, fault.character], [reason, detail, character]);
-    assert.deepStrictEqual([fault.start, fault.end], [place(start), place(end)]);
-    assert.deepStrictEqual([fault.name, fault.message], ["Fault", told]);
-    assert.deepStrictEqual(fault.locations, [{ line: start[1] + 1, column: start[2] + 1 }]);
+    const error = errorOf(source);
+    const position = ([index, line, column, byte]) => ({ index, line, column, byte });
+    assert.deepStrictEqual([error.kind, error.detail, error.character], [kind, detail, character]);
+    assert.deepStrictEqual([error.start, error.end], [position(start), position(end)]);
+    assert.deepStrictEqual([error.name, error.message], ["FirthnapkinError", told]);
+    assert.deepStrictEqual(error.locations, [{ line: start[1] + 1, column: start[2] + 1 }]);
   }
   for (const length of [1, 200, 243, 244, 255, 256, 257, 1024, 5000]) {
     const name = "n".repeat(length);
-    assert.strictEqual(faultOf(`query a ${name}`).message, `Unexpected "${name}". At 0:8`);
+    assert.strictEqual(errorOf(`query a ${name}`).message, `Unexpected "${name}". At 0:8`);
   }
 });
 
 // Indexes, lines, columns, bytes, parents and tokens that 16 bits don't hold.
-test("large places, and a document of 70,001 nodes", () => {
-  const fault = faultOf(`#é${"\n".repeat(70000)}${" ".repeat(70001)})`);
-  assert.deepStrictEqual(fault.start, { index: 140003, line: 70000, column: 70001, byte: 140004 });
-  assert.deepStrictEqual(fault.end, { index: 140004, line: 70000, column: 70002, byte: 140005 });
+test("large positions, and a document of 70,001 nodes", () => {
+  const error = errorOf(`#é${"\n".repeat(70000)}${" ".repeat(70001)})`);
+  assert.deepStrictEqual(error.start, { index: 140003, line: 70000, column: 70001, byte: 140004 });
+  assert.deepStrictEqual(error.end, { index: 140004, line: 70000, column: 70002, byte: 140005 });
   const document = parse(`{${"a{b}".repeat(35000)}}`);
   assert.strictEqual(document.length, 70001);
   for (const index of [2, 128, 130, 256, 258, 32768, 32770, 65536, 65538, 70000])
@@ -181,11 +186,11 @@ test("options", () => {
   class Limits {
     depth = 0;
   }
-  assert.throws(() => parse("{a}", new Limits()), Fault);
+  assert.throws(() => parse("{a}", new Limits()), FirthnapkinError);
 });
 
 test("depths", () => {
-  assert.strictEqual(MOST_DEPTH, 1000);
+  assert.strictEqual(MAX_DEPTH, 1000);
   for (const source of ["{a".repeat(200000), "{a}", "", "\ud800"]) {
     for (const depth of [-1, 1001, 2 ** 31, 2 ** 32 - 1, 2 ** 32, 2 ** 32 + 5, 1e300, 0.5, 1.5, NaN, Infinity, -Infinity])
       assert.throws(() => parse(source, { depth }), RangeError, String(depth));
@@ -196,8 +201,8 @@ test("depths", () => {
   }
   for (const depth of [0, 1, 2, 199, 200, 1000]) {
     if (depth > 0) assert.strictEqual(parse("{a".repeat(depth) + "}".repeat(depth), { depth }).length, depth + 1);
-    const fault = faultOf("{a".repeat(depth + 1), { depth });
-    assert.deepStrictEqual([fault.reason, fault.start.index], ["nested", 2 * depth]);
+    const error = errorOf("{a".repeat(depth + 1), { depth });
+    assert.deepStrictEqual([error.kind, error.start.index], ["tooDeep", 2 * depth]);
   }
   assert.strictEqual(parse("{a".repeat(200) + "}".repeat(200)).length, 201);
   assert.strictEqual(parse("{a".repeat(200) + "}".repeat(200), { depth: undefined }).length, 201);
@@ -208,20 +213,20 @@ test("tokens", () => {
   const starts = [0, 2, 3, 4, 5, 7, 12, 14, 17, 19];
   for (const maxTokens of [10, 11, 2 ** 32 - 1, 2 ** 32, 2 ** 53 - 1, undefined]) assert.ok(parse(source, { maxTokens }));
   starts.forEach((start, maxTokens) => {
-    const fault = faultOf(source, { maxTokens });
-    assert.deepStrictEqual([fault.reason, fault.detail, fault.start.index], ["tooMany", null, start]);
+    const error = errorOf(source, { maxTokens });
+    assert.deepStrictEqual([error.kind, error.detail, error.start.index], ["tooManyTokens", null, start]);
     // The message counts characters.
-    assert.strictEqual(fault.message, `Too many tokens. At 0:${start > 10 ? start - 1 : start}`);
+    assert.strictEqual(error.message, `Too many tokens. At 0:${start > 10 ? start - 1 : start}`);
   });
-  // Nothing after the first token too many is read, and there is no token after a lexical error.
-  assert.strictEqual(faultOf('{ a ) } "', { maxTokens: 2 }).reason, "tooMany");
-  assert.strictEqual(faultOf('{ a ) } "', { maxTokens: 4 }).reason, "lexical");
-  assert.strictEqual(faultOf("{a".repeat(1000), { maxTokens: 1999 }).reason, "tooMany");
-  assert.strictEqual(faultOf("{a".repeat(1000), { maxTokens: 2000 }).reason, "nested");
+  // No error after the first token too many counts, and there is no token after a lexical error.
+  assert.strictEqual(errorOf('{ a ) } "', { maxTokens: 2 }).kind, "tooManyTokens");
+  assert.strictEqual(errorOf('{ a ) } "', { maxTokens: 4 }).kind, "lexical");
+  assert.strictEqual(errorOf("{a".repeat(1000), { maxTokens: 1999 }).kind, "tooManyTokens");
+  assert.strictEqual(errorOf("{a".repeat(1000), { maxTokens: 2000 }).kind, "tooDeep");
   const many = `{${"a ".repeat(1000001)}`;
   for (const maxTokens of [65535, 65536, 65537, 999999, 1000000, 1000001])
-    assert.deepStrictEqual(faultOf(many, { maxTokens }).start.index, 2 * maxTokens - 1);
-  assert.strictEqual(faultOf(many, { maxTokens: 1000002 }).reason, "unexpectedEnd");
+    assert.deepStrictEqual(errorOf(many, { maxTokens }).start.index, 2 * maxTokens - 1);
+  assert.strictEqual(errorOf(many, { maxTokens: 1000002 }).kind, "unexpectedEnd");
   for (const maxTokens of [-1, 0.5, NaN, Infinity, -Infinity, 2 ** 53, 1e300])
     assert.throws(() => parse(source, { maxTokens }), RangeError);
   for (const maxTokens of [null, "5", [], {}, true, 5n]) assert.throws(() => parse(source, { maxTokens }), TypeError);
@@ -230,22 +235,22 @@ test("tokens", () => {
 test("sources", () => {
   for (const source of [undefined, null, 5, Buffer.from("{a}"), ["{a}"], { toString: () => "{a}" }, Symbol("{a}")])
     assert.throws(() => parse(source), { name: "TypeError", message: /^source must be a string, not / });
-  for (const source of ["", "\0", "{a\0}", "\ufeff", "{}", "#", '"', '"""', "\u{10ffff}"]) faultOf(source);
+  for (const source of ["", "\0", "{a\0}", "\ufeff", "{}", "#", '"', '"""', "\u{10ffff}"]) errorOf(source);
   assert.strictEqual(parse("\ufeff{a}").node(1).start.byte, 4);
   const large = parse(`{${" ".repeat(2 ** 26 - 3)}a}`);
   assert.strictEqual(large.node(1).start.index, 2 ** 26 - 2);
   // Any number of tokens, where no limit is given.
   assert.strictEqual(parse(`{${"a ".repeat(2 ** 20)}}`).length, 2 ** 20 + 1);
-  assert.strictEqual(faultOf(`{${"a".repeat(2 ** 26)}`).start.byte, 2 ** 26 + 1);
+  assert.strictEqual(errorOf(`{${"a".repeat(2 ** 26)}`).start.byte, 2 ** 26 + 1);
   const strings = parse(`{a(b:[${'"\\n0123456789" '.repeat(5000)}])}`);
   assert.strictEqual(strings.node(strings.length - 1).value, "\n0123456789");
 });
 
 const DEEP = `
-  const { parse, Fault } = require(${JSON.stringify(path.join(__dirname, ".."))});
+  const { parse, FirthnapkinError } = require(${JSON.stringify(path.join(__dirname, ".."))});
   for (const part of ["{...", "{a", "{a(x:{k:", "query($a:["])
     for (const depth of [200, 1000])
-      try { parse(part.repeat(5000), { depth }); } catch (error) { if (!(error instanceof Fault)) throw error; }
+      try { parse(part.repeat(5000), { depth }); } catch (error) { if (!(error instanceof FirthnapkinError)) throw error; }
   const length = parse("{...".repeat(199) + "{a}" + "}".repeat(199)).length;
   if (length !== 201) throw new Error("a tree of " + length);
 `;

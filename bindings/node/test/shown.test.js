@@ -7,16 +7,16 @@ const { inspect } = require("util");
 
 const { parse, Node } = require("..");
 
-const place = (index, line, column) => ({ index, line, column, byte: index });
+const position = (index, line, column) => ({ index, line, column, byte: index });
 
 test("JSON of a node and of a document", () => {
   const document = parse("{ a(b: -7)\n  c }");
-  const int = { kind: "int", name: null, value: -7, start: place(7, 0, 7), end: place(9, 0, 9), children: [] };
-  const argument = { kind: "argument", name: "b", value: null, start: place(4, 0, 4), end: place(5, 0, 5), children: [int] };
-  const list = { kind: "arguments", name: null, value: null, start: place(3, 0, 3), end: place(10, 0, 10), children: [argument] };
-  const first = { kind: "field", name: "a", value: null, start: place(2, 0, 2), end: place(10, 0, 10), children: [list] };
-  const second = { kind: "field", name: "c", value: null, start: place(13, 1, 2), end: place(14, 1, 3), children: [] };
-  const query = { kind: "query", name: null, value: null, start: place(0, 0, 0), end: place(16, 1, 5), children: [first, second] };
+  const int = { kind: "int", name: null, value: -7, start: position(7, 0, 7), end: position(9, 0, 9), children: [] };
+  const argument = { kind: "argument", name: "b", value: null, start: position(4, 0, 4), end: position(5, 0, 5), children: [int] };
+  const list = { kind: "arguments", name: null, value: null, start: position(3, 0, 3), end: position(10, 0, 10), children: [argument] };
+  const first = { kind: "field", name: "a", value: null, start: position(2, 0, 2), end: position(10, 0, 10), children: [list] };
+  const second = { kind: "field", name: "c", value: null, start: position(13, 1, 2), end: position(14, 1, 3), children: [] };
+  const query = { kind: "query", name: null, value: null, start: position(0, 0, 0), end: position(16, 1, 5), children: [first, second] };
   assert.deepStrictEqual(document.node(1).toJSON(), first);
   assert.deepStrictEqual(JSON.parse(JSON.stringify(document.node(5))), second);
   assert.deepStrictEqual(JSON.parse(JSON.stringify(document)), { definitions: [query] });

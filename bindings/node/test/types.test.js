@@ -8,7 +8,7 @@ const path = require("path");
 
 const firthnapkin = require("..");
 
-const { parse, Fault } = firthnapkin;
+const { parse, FirthnapkinError } = firthnapkin;
 
 // What a program may find at run time and has no use for.
 const INTERNAL = { Document: ["units", "parents", "between"] };
@@ -60,7 +60,7 @@ function isOf(alternative, value, where) {
   if (alternative.startsWith("{")) return hasMembers(membersOf(alternative.slice(1, -1)), value, where);
   if (unions.has(alternative)) return has(unions.get(alternative), value, alternative);
   // Those that contain others are compared one by one, below.
-  if (["Node", "Document", "Fault"].includes(alternative)) return value instanceof firthnapkin[alternative];
+  if (["Node", "Document", "FirthnapkinError"].includes(alternative)) return value instanceof firthnapkin[alternative];
   if (objects.has(alternative)) return hasMembers(objects.get(alternative), value, alternative);
   assert.ok(["boolean", "number", "bigint", "string"].includes(alternative), `${alternative} is no type that is known here`);
   return typeof value === alternative;
@@ -107,7 +107,7 @@ const DOCUMENTS = [
   'query Q($v: [T!]! = [1] @d) { x: a(b: {c: -1.5, d: 99999999999, e: E, f: $v, g: true, h: null, i: "s", j: """t"""}) ...F }',
   "mutation { m } subscription S { ... on T { s } ... { u } } fragment F on T { f }",
 ];
-const FAULTS = [
+const ERRORS = [
   ["{ a ) }"], ["{"], ["{ \u00e9 }"], ["{a(b: 01)}"], ['{a(b: "'], ['{a(b: "\0")}'], ['{a(b: "\\q")}'], ["{a(b: -"], ["\ud800"],
   ["{a{b}}", { depth: 1 }], ["{a}", { maxTokens: 1 }],
 ];
@@ -122,11 +122,11 @@ test("documents and nodes are what index.d.ts says", () => {
   assert.ok(has("NodeParts", beyond, "NodeParts"), "a Float beyond the largest number, as JSON");
 });
 
-test("faults are what index.d.ts says", () => {
-  for (const words of FAULTS) {
-    assert.throws(() => parse(...words), (fault) => {
-      assert.ok(fault instanceof Fault && fault instanceof Error);
-      compared("Fault", fault);
+test("errors are what index.d.ts says", () => {
+  for (const words of ERRORS) {
+    assert.throws(() => parse(...words), (error) => {
+      assert.ok(error instanceof FirthnapkinError && error instanceof Error);
+      compared("FirthnapkinError", error);
       return true;
     });
   }
@@ -139,7 +139,7 @@ test("what is exported is what index.d.ts says", () => {
     assert.strictEqual(firthnapkin[name].length, required.length, name);
     assert.ok(has(type, firthnapkin[name]("{ a }"), name), name);
   }
-  assert.deepStrictEqual(classes, ["Fault"]);
+  assert.deepStrictEqual(classes, ["FirthnapkinError"]);
   // The classes of what is returned are there for `instanceof`.
   const names = [...functions.keys(), ...constants.keys(), ...classes, "Node", "Document"];
   assert.deepStrictEqual(Object.keys(firthnapkin).sort(), names.sort());

@@ -7,7 +7,7 @@ from typing import List
 from unittest import mock
 
 import firthnapkin
-from firthnapkin import MOST_DEPTH, Fault, Kind, Place, Reason, __version__, canonical, parse, tokens
+from firthnapkin import MAX_DEPTH, ErrorKind, FirthnapkinError, Kind, Position, __version__, canonical, parse, tokens
 from helpers import LARGE_LIMITS, LOW_LIMITS, NO_LIMITS, NO_SOURCES, Text, on_stack, process
 
 
@@ -20,12 +20,12 @@ class Index:
 
 class Depths(unittest.TestCase):
     def test_out_of_range(self) -> None:
-        self.assertEqual(MOST_DEPTH, 1000)
+        self.assertEqual(MAX_DEPTH, 1000)
         for text in ("{a" * 200000, "{a}", "", "\ud800"):
             for depth in (-1, -(2**63), 1001, 2**31, 2**32 - 1, 2**32, 2**32 + 5, 2**64 + 5, 10**30):
                 with self.subTest(depth=depth), self.assertRaises(ValueError) as raised:
                     parse(text, depth=depth)
-                self.assertNotIsInstance(raised.exception, Fault)
+                self.assertNotIsInstance(raised.exception, FirthnapkinError)
                 self.assertIn("depth", str(raised.exception))
 
     def test_wrong_kinds(self) -> None:
@@ -39,17 +39,17 @@ class Depths(unittest.TestCase):
             text = "{a" * depth + "}" * depth
             if depth:
                 self.assertEqual(len(parse(text, depth=depth)), depth + 1)
-            with self.assertRaises(Fault) as raised:
+            with self.assertRaises(FirthnapkinError) as raised:
                 parse("{a" * (depth + 1), depth=depth)
-            self.assertEqual((raised.exception.reason, raised.exception.start.index), (Reason.NESTED, 2 * depth))
+            self.assertEqual((raised.exception.kind, raised.exception.start.index), (ErrorKind.TOO_DEEP, 2 * depth))
         self.assertEqual(len(parse("{a{b}}", depth=Index())), 3)  # type: ignore[arg-type]
         self.assertEqual(len(parse("{a}", depth=True)), 2)
 
     def test_default(self) -> None:
         self.assertEqual(len(parse("{a" * 200 + "}" * 200)), 201)
-        with self.assertRaises(Fault) as raised:
+        with self.assertRaises(FirthnapkinError) as raised:
             parse("{a" * 201 + "}" * 201)
-        self.assertIs(raised.exception.reason, Reason.NESTED)
+        self.assertIs(raised.exception.kind, ErrorKind.TOO_DEEP)
 
 
 class Tokens(unittest.TestCase):
@@ -60,26 +60,27 @@ class Tokens(unittest.TestCase):
         for most in (10, 11, *LARGE_LIMITS):
             self.assertEqual(len(parse(self.SOURCE, max_tokens=most)), 6)
         for most, start in enumerate(self.STARTS):
-            with self.assertRaises(Fault) as raised:
+            with self.assertRaises(FirthnapkinError) as raised:
                 parse(self.SOURCE, max_tokens=most)
-            fault = raised.exception
-            self.assertEqual((fault.reason, fault.message, fault.start.index), (Reason.TOO_MANY, "Too many tokens", start))
-            self.assertEqual((str(fault), fault.source), (f"Too many tokens. At 0:{start}", self.SOURCE))
-            self.assertEqual(str(pickle.loads(pickle.dumps(fault))), str(fault))
+            error = raised.exception
+            self.assertEqual((error.kind, error.message, error.start.index), (ErrorKind.TOO_MANY_TOKENS, "Too many tokens", start))
+            self.assertEqual((str(error), error.source), (f"Too many tokens. At 0:{start}", self.SOURCE))
+            self.assertEqual(str(pickle.loads(pickle.dumps(error))), str(error))
 
     def test_order(self) -> None:
-        """Nothing after the first token too many is read, and there is no token after a lexical error."""
-        for text, most, reason in [
-            ('{ a ) } "', 2, Reason.TOO_MANY),
-            ('{ a ) } "', 4, Reason.LEXICAL),
-            ("{ a ) }", 4, Reason.UNEXPECTED_TOKEN),
-            ("{a" * 201, 401, Reason.TOO_MANY),
-            ("{a" * 201, 402, Reason.NESTED),
-            ("\ud800 a b", 0, Reason.SURROGATE),
+        """The first token too many comes before all errors after it but a lone surrogate; no token is after a lexical error."""
+        for text, most, kind in [
+            ('{ a ) } "', 2, ErrorKind.TOO_MANY_TOKENS),
+            ('{ a ) } "', 4, ErrorKind.LEXICAL),
+            ("{ a ) }", 4, ErrorKind.UNEXPECTED_TOKEN),
+            ("{a" * 201, 401, ErrorKind.TOO_MANY_TOKENS),
+            ("{a" * 201, 402, ErrorKind.TOO_DEEP),
+            ("\ud800 a b", 0, ErrorKind.SURROGATE),
+            ("a b \ud800", 0, ErrorKind.SURROGATE),
         ]:
-            with self.assertRaises(Fault) as raised:
+            with self.assertRaises(FirthnapkinError) as raised:
                 parse(text, max_tokens=most)
-            self.assertIs(raised.exception.reason, reason)
+            self.assertIs(raised.exception.kind, kind)
 
     def test_wrong_kinds(self) -> None:
         for call in (parse, tokens):
@@ -91,7 +92,7 @@ class Tokens(unittest.TestCase):
                 for text in ("{a}", "\ud800"):
                     with self.assertRaises(ValueError) as raised_value:
                         call(text, max_tokens=most)  # type: ignore[operator]
-                    self.assertNotIsInstance(raised_value.exception, Fault)
+                    self.assertNotIsInstance(raised_value.exception, FirthnapkinError)
                     self.assertIn("max_tokens", str(raised_value.exception))
 
 
@@ -112,16 +113,16 @@ class Sources(unittest.TestCase):
 
     def test_extremes(self) -> None:
         for text in ("", "\0", "{a\0}", "\ufeff", " " * 1000, "{}", "#", '"', '"""', "\x7f", "\U0010ffff"):
-            self.assertRaises(Fault, parse, text)
+            self.assertRaises(FirthnapkinError, parse, text)
         self.assertEqual(parse("\ufeff{a}")[1].start.byte, 4)
 
     def test_64_megabytes(self) -> None:
         document = parse("{" + ("a" * 63 + " ") * 2**20 + "}")
         self.assertEqual((len(document), document[0].end.byte), (2**20 + 1, 2**26 + 2))
-        with self.assertRaises(Fault) as raised:
+        with self.assertRaises(FirthnapkinError) as raised:
             parse("{" + "a" * 2**26)
         index = 2**26 + 1
-        self.assertEqual((raised.exception.start, raised.exception.end), (Place(index, 0, index, index),) * 2)
+        self.assertEqual((raised.exception.start, raised.exception.end), (Position(index, 0, index, index),) * 2)
 
 
 class Stacks(unittest.TestCase):
@@ -135,8 +136,8 @@ class Stacks(unittest.TestCase):
             for part in self.DEEP:
                 try:
                     parse(part * 5000, depth=depth)
-                except Fault as fault:
-                    found.append(fault.reason.name)
+                except FirthnapkinError as error:
+                    found.append(error.kind.name)
             document = parse("{..." * depth + "{a}" + "}" * depth, depth=depth + 1)
             found.append(document[-1].kind.name)
 
@@ -144,7 +145,7 @@ class Stacks(unittest.TestCase):
         return found
 
     def test_small_stacks(self) -> None:
-        wanted = [Reason.NESTED.name] * 2 + [Reason.UNEXPECTED_TOKEN.name] * 2 + [Kind.FIELD.name]
+        wanted = [ErrorKind.TOO_DEEP.name] * 2 + [ErrorKind.UNEXPECTED_TOKEN.name] * 2 + [Kind.FIELD.name]
         for size in (256 * 1024, 512 * 1024, 2**20):
             self.assertEqual(self.in_thread(size, 200), wanted)
             self.assertEqual(self.in_thread(size, 999), wanted)
@@ -172,7 +173,7 @@ class Statuses(unittest.TestCase):
                 with mock.patch.object(firthnapkin._parser, call.__name__, return_value=(status, b"", b"")):
                     with self.subTest(status=status, call=call.__name__), self.assertRaises(error) as raised:
                         call("{a}")  # type: ignore[operator]
-                    self.assertNotIsInstance(raised.exception, Fault)
+                    self.assertNotIsInstance(raised.exception, FirthnapkinError)
                     self.assertIn("4 GiB" if status == 7 else str(status), str(raised.exception))
 
     def test_refused_depth(self) -> None:

@@ -8,7 +8,7 @@ import unittest
 from typing import List, Optional
 
 import firthnapkin
-from firthnapkin import Fault, Kind, Node, Step, Visitor, parse
+from firthnapkin import FirthnapkinError, Kind, Node, Step, Visitor, parse
 from helpers import in_threads, longest_wait
 
 
@@ -24,7 +24,7 @@ class Nodes(unittest.TestCase):
         values = [(node.kind, node.name, node.value) for node in parse(text)]
         for wanted in [
             (Kind.QUERY, "Q", None),
-            (Kind.VARIABLE, "v", None),
+            (Kind.VARIABLE_DEFINITION, "v", None),
             (Kind.TYPE, None, "[T!]!"),
             (Kind.FLOAT, None, 1.5),
             (Kind.STRING, None, "é\n"),
@@ -33,10 +33,10 @@ class Nodes(unittest.TestCase):
             (Kind.BOOLEAN, None, True),
             (Kind.NULL, None, None),
             (Kind.ENUM, "E", "E"),
-            (Kind.REFERENCE, "v", "v"),
+            (Kind.VARIABLE, "v", "v"),
             (Kind.BLOCK_STRING, None, "x"),
-            (Kind.SPREAD, "F", None),
-            (Kind.FRAGMENT, "F", "T"),
+            (Kind.FRAGMENT_SPREAD, "F", None),
+            (Kind.FRAGMENT_DEFINITION, "F", "T"),
         ]:
             self.assertIn(wanted, values)
 
@@ -192,7 +192,7 @@ class Visits(unittest.TestCase):
                 names.append(node.name)
                 return None
 
-            def leave_fragment(self, node: Node) -> Optional[Step]:
+            def leave_fragment_definition(self, node: Node) -> Optional[Step]:
                 names.append(node.name)
                 return None
 
@@ -204,7 +204,7 @@ class Visits(unittest.TestCase):
         Fields().visit(document)
         self.assertEqual(names, ["a", "c", "d", "F"])
         self.assertEqual(sorted(kind.value for kind in others),
-                         sorted(node.kind.value for node in document if node.kind is not Kind.FRAGMENT))  # fmt: skip
+                         sorted(node.kind.value for node in document if node.kind is not Kind.FRAGMENT_DEFINITION))  # fmt: skip
 
     def test_steps(self) -> None:
         seen: List[str] = []
@@ -212,7 +212,7 @@ class Visits(unittest.TestCase):
         class Some(Visitor):
             def enter(self, node: Node) -> Optional[Step]:
                 seen.append(node.kind.name)
-                return Step.STOP if node.kind is Kind.FRAGMENT else None
+                return Step.STOP if node.kind is Kind.FRAGMENT_DEFINITION else None
 
             def enter_field(self, node: Node) -> Optional[Step]:
                 seen.append(str(node.name))
@@ -223,7 +223,8 @@ class Visits(unittest.TestCase):
                 return None
 
         Some().visit(parse(self.TEXT))
-        self.assertEqual(seen, ["QUERY", "VARIABLES", "VARIABLE", "TYPE", "a", "SPREAD", "FRAGMENT"])
+        self.assertEqual(seen, ["QUERY", "VARIABLE_DEFINITIONS", "VARIABLE_DEFINITION", "TYPE", "a", "FRAGMENT_SPREAD",
+                                "FRAGMENT_DEFINITION"])
 
     def test_many(self) -> None:
         """A walk over more nodes than 16 bits count, and over one of the last."""
@@ -257,8 +258,8 @@ class Visits(unittest.TestCase):
 
 
 class EditedTexts(unittest.TestCase):
-    def test_places(self) -> None:
-        """Each text has a document or a fault, and the place of the fault lies in the text."""
+    def test_positions(self) -> None:
+        """Each text has a document or an error, and the position of the error lies in the text."""
         random.seed(7)
         base = 'query Q($x: [Int!]! = [1, "a"]) @d { b: c(d: {e: $x, s: "q\\n"}) @f(a: T) { ... on T { g } ...F } }'
         base += " fragment F on T { a }"
@@ -271,10 +272,10 @@ class EditedTexts(unittest.TestCase):
                 text = text[:i] + random.choice(words) + text[i + random.randrange(0, 3) :]
             try:
                 document = parse(text)
-            except Fault as fault:
-                self.assertLessEqual(fault.start.index, fault.end.index)
-                self.assertLessEqual(fault.end.byte, len(text.encode()))
-                self.assertEqual(len(text[: fault.start.index].encode()), fault.start.byte)
+            except FirthnapkinError as error:
+                self.assertLessEqual(error.start.index, error.end.index)
+                self.assertLessEqual(error.end.byte, len(text.encode()))
+                self.assertEqual(len(text[: error.start.index].encode()), error.start.byte)
             else:
                 trees += 1
                 for node in document:

@@ -309,7 +309,7 @@ class BothLimits(unittest.TestCase):
             self.assertIn(message, error[1])
             self.assertEqual((error[0], error[2]), (GraphQLSyntaxError, [index]))
 
-    def test_faults_before_what_is_too_deep(self) -> None:
+    def test_errors_before_what_is_too_deep(self) -> None:
         """They are reported, although this package's parser goes on after them."""
         for text, depth in [
             ("{a(b:1c:[[]])}", 3), ("{a(b:[1.5e3a [[]]])}", 3), ("query($a:Int @d(x:$b) = [[]]){c}", 2),

@@ -14,18 +14,34 @@ from cutting import cut, joined, kind_of, unquoted
 from rows import gqlcheck, plain, rows
 
 SCALARS = (Kind.INT, Kind.LARGE_INT, Kind.FLOAT, Kind.STRING, Kind.BLOCK_STRING, Kind.BOOLEAN)
-KINDS = {kind.name.lower() for kind in Kind}
+# gqlcheck's words for the kinds that it names otherwise.
+WORDS = {
+    Kind.FRAGMENT_DEFINITION: "fragment",
+    Kind.VARIABLE_DEFINITIONS: "variables",
+    Kind.VARIABLE_DEFINITION: "variable",
+    Kind.FRAGMENT_SPREAD: "spread",
+    Kind.INLINE_FRAGMENT: "inline",
+    Kind.VARIABLE: "reference",
+    Kind.OBJECT_FIELD: "key",
+}
+
+
+def word_of(kind: Kind) -> str:
+    return WORDS.get(kind, kind.name.lower())
+
+
+KINDS = set(map(word_of, Kind))
 
 
 def lines(document: firthnapkin.Document) -> List[str]:
     """The lines that gqlcheck writes for a document."""
     written = []
     for node in document:
-        word = "scalar" if node.kind in SCALARS else node.kind.name.lower()
+        word = "scalar" if node.kind in SCALARS else word_of(node.kind)
         line = f"{word} {node.start.index} {node.end.index}"
         if node.kind is Kind.TYPE:
             line += f" {node.value}"
-        elif node.kind is Kind.FRAGMENT:
+        elif node.kind is Kind.FRAGMENT_DEFINITION:
             line += f" {node.name} {node.value}"
         elif node.name is not None:
             line += f" {node.name}"
@@ -43,8 +59,8 @@ class Rows(unittest.TestCase):
                     continue
                 try:
                     found = lines(firthnapkin.parse(row.text.decode()))
-                except firthnapkin.Fault as fault:
-                    found = [str(fault)]
+                except firthnapkin.FirthnapkinError as error:
+                    found = [str(error)]
                 self.assertEqual("\n".join(found), "\n".join(row.wanted))
             count += 1
         self.assertGreaterEqual(count, least)
@@ -56,7 +72,7 @@ class Rows(unittest.TestCase):
         self.of_file("peer.rows", 1500)
 
     def test_tokens(self) -> None:
-        """Kinds and texts of the tokens of each text that can be cut. For each other text of gqlcheck, the fault of parse."""
+        """Kinds and texts of the tokens of each text that can be cut. For each other text of gqlcheck, the error of parse."""
         counts = {"cut": 0, "refused": 0}
         for name in ("gqlcheck.rows", "peer.rows", "canonical.rows"):
             for row in rows(name):
@@ -66,14 +82,14 @@ class Rows(unittest.TestCase):
                 with self.subTest(file=name, row=row.number):
                     try:
                         found = firthnapkin.tokens(text)
-                    except firthnapkin.Fault as fault:
+                    except firthnapkin.FirthnapkinError as error:
                         counts["refused"] += 1
                         for call in (firthnapkin.parse, firthnapkin.canonical):
-                            with self.assertRaises(firthnapkin.Fault) as raised:
+                            with self.assertRaises(firthnapkin.FirthnapkinError) as raised:
                                 call(text)
-                            self.assertEqual((str(raised.exception), raised.exception.start), (str(fault), fault.start))
-                        self.assertIs(fault.reason, firthnapkin.Reason.LEXICAL)
-                        self.assertEqual(str(fault), plain(row.wanted[0]).decode())
+                            self.assertEqual((str(raised.exception), raised.exception.start), (str(error), error.start))
+                        self.assertIs(error.kind, firthnapkin.ErrorKind.LEXICAL)
+                        self.assertEqual(str(error), plain(row.wanted[0]).decode())
                         continue
                     counts["cut"] += 1
                     wanted = [(kind_of(it), begin, it, unquoted(it)) for begin, it in cut(text)]
@@ -87,7 +103,7 @@ class Rows(unittest.TestCase):
         self.assertGreater(counts["refused"], 1000)
 
     def test_documents(self) -> None:
-        """A row of documents has the first and the last place of each part, too."""
+        """A row of documents has the first and the last position of each part, too."""
         count = 0
         for row in rows("documents.rows"):
             if row.kind != "document" or not row.wanted or " " not in row.wanted[0]:
@@ -96,18 +112,18 @@ class Rows(unittest.TestCase):
                 found: Dict[str, List[str]] = {}
                 try:
                     document = firthnapkin.parse(row.text.decode(), depth=1000)
-                except firthnapkin.Fault as fault:
+                except firthnapkin.FirthnapkinError as error:
                     self.assertNotRegex(row.wanted[0], r" (query|mutation|subscription|fragment)\b")
-                    place = ":".join(str(n) for n in fault.start[:3])
-                    self.assertTrue(row.wanted[0].startswith(place + "-"), (row.wanted[0], place))
+                    position = ":".join(str(n) for n in error.start[:3])
+                    self.assertTrue(row.wanted[0].startswith(position + "-"), (row.wanted[0], position))
                 else:
                     for node in document:
                         start, end = ("{0.index}:{0.line}:{0.column}".format(p) for p in (node.start, node.end))
-                        found.setdefault(f"{start}-{end}", []).append(node.kind.name.lower())
+                        found.setdefault(f"{start}-{end}", []).append(word_of(node.kind))
                     for line in row.wanted:
-                        place, part = line.split(" ", 2)[:2]
+                        position, part = line.split(" ", 2)[:2]
                         if part in KINDS and part not in ("alias", "type"):
-                            part = "reference" if part == "variable" and "reference" in found.get(place, []) else part
-                            self.assertIn(part, found.get(place, []), line)
+                            part = "reference" if part == "variable" and "reference" in found.get(position, []) else part
+                            self.assertIn(part, found.get(position, []), line)
                 count += 1
         self.assertGreaterEqual(count, 20)

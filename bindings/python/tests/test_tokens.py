@@ -6,29 +6,29 @@ import unittest
 from typing import Any, Callable, List
 
 import firthnapkin
-from firthnapkin import Detail, Fault, Place, Reason, Token, TokenKind, canonical, tokens
+from firthnapkin import ErrorDetail, ErrorKind, FirthnapkinError, Position, Token, TokenKind, canonical, tokens
 from helpers import LARGE_LIMITS, in_threads, longest_wait, on_stack, process
 
 K = TokenKind
 WHOLE = '#é\n{a(b:"é𝄞\\"" c:""" \n𝄞"""),...F} -1 0.5 [!$@=:|]'
 
 
-def place(text: str, index: int) -> Place:
+def position_at(text: str, index: int) -> Position:
     before = text[:index]
-    return Place(index, before.count("\n"), index - (before.rfind("\n") + 1), len(before.encode()))
+    return Position(index, before.count("\n"), index - (before.rfind("\n") + 1), len(before.encode()))
 
 
-def fault_of(call: Callable[..., Any], text: str, **options: Any) -> Fault:
+def error_of(call: Callable[..., Any], text: str, **options: Any) -> FirthnapkinError:
     try:
         call(text, **options)
-    except Fault as fault:
-        return fault
+    except FirthnapkinError as error:
+        return error
     raise AssertionError(f"{text!r} is not refused")
 
 
 class Cut(unittest.TestCase):
     def test_tokens(self) -> None:
-        """Each kind, with its text, with and without quotes, and both places."""
+        """Each kind, with its text, with and without quotes, and both positions."""
         wanted = [
             (K.CURLY_OPEN, "{", "{"), (K.NAME, "a", "a"), (K.PAREN_OPEN, "(", "("), (K.NAME, "b", "b"), (K.COLON, ":", ":"),
             (K.STRING, '"é𝄞\\""', 'é𝄞\\"'), (K.NAME, "c", "c"), (K.COLON, ":", ":"), (K.BLOCK_STRING, '""" \n𝄞"""', " \n𝄞"),
@@ -42,7 +42,7 @@ class Cut(unittest.TestCase):
         at = 0
         for token, (_, text, _) in zip(found, wanted):
             at = WHOLE.index(text, at) if text else len(WHOLE)
-            self.assertEqual((token.start, token.end), (place(WHOLE, at), place(WHOLE, at + len(text))))
+            self.assertEqual((token.start, token.end), (position_at(WHOLE, at), position_at(WHOLE, at + len(text))))
             at += len(text)
         self.assertEqual({it.kind for it in found}, set(TokenKind))
 
@@ -69,7 +69,7 @@ class Cut(unittest.TestCase):
         token = pickle.loads(pickle.dumps(found[5]))
         self.assertEqual((token.index, token.kind, token.unquoted), (5, K.STRING, 'é𝄞\\"'))
 
-    def test_rooms(self) -> None:
+    def test_capacities(self) -> None:
         """Numbers of tokens around the sizes of the arrays that are tried, and large ones."""
         for count in (*range(0, 70), 5000, 300000):
             for part in ("a ", "!"):
@@ -107,61 +107,61 @@ class Canonical(unittest.TestCase):
             self.assertEqual(canonical(text), " ".join(["1", "a", '""'] * count))
 
 
-class Faults(unittest.TestCase):
-    def test_faults(self) -> None:
-        """Both calls report the first place that has no token, with its message. parse has the same fault."""
+class Errors(unittest.TestCase):
+    def test_errors(self) -> None:
+        """Both calls report the first position that has no token, with its message. parse has the same error."""
         for text, detail, character, index, message in [
-            ("?", Detail.UNKNOWN_CHARACTER, "?", 0, 'Unknown character "?"'),
-            ("} é ?", Detail.UNKNOWN_CHARACTER, "é", 2, 'Unknown character "é"'),
-            ("{a\0}", Detail.UNKNOWN_CHARACTER, "\0", 2, 'Unknown character "\0"'),
-            ("a\n01", Detail.UNEXPECTED_CHARACTER, "1", 3, 'Unexpected character "1"'),
-            ('{{{ "é', Detail.UNTERMINATED_STRING, None, 6, "Unterminated string literal"),
-            ('"\x01"', Detail.UNKNOWN_CHARACTER_IN_STRING, "\x01", 1, 'Unknown character "\x01" in string literal'),
-            ('"\\u00g"', Detail.UNKNOWN_ESCAPE, None, 2, 'Unknown escape sequence "\\u00g" in string'),
-            ("# é\n-", Detail.UNEXPECTED_END_IN_TOKEN, None, 5, "Unexpected end of input"),
-            ("{" * 5000 + "?", Detail.UNKNOWN_CHARACTER, "?", 5000, 'Unknown character "?"'),
+            ("?", ErrorDetail.UNKNOWN_CHARACTER, "?", 0, 'Unknown character "?"'),
+            ("} é ?", ErrorDetail.UNKNOWN_CHARACTER, "é", 2, 'Unknown character "é"'),
+            ("{a\0}", ErrorDetail.UNKNOWN_CHARACTER, "\0", 2, 'Unknown character "\0"'),
+            ("a\n01", ErrorDetail.UNEXPECTED_CHARACTER, "1", 3, 'Unexpected character "1"'),
+            ('{{{ "é', ErrorDetail.UNTERMINATED_STRING, None, 6, "Unterminated string literal"),
+            ('"\x01"', ErrorDetail.UNKNOWN_CHARACTER_IN_STRING, "\x01", 1, 'Unknown character "\x01" in string literal'),
+            ('"\\u00g"', ErrorDetail.UNKNOWN_ESCAPE, None, 2, 'Unknown escape sequence "\\u00g" in string'),
+            ("# é\n-", ErrorDetail.UNEXPECTED_END_IN_TOKEN, None, 5, "Unexpected end of input"),
+            ("{" * 5000 + "?", ErrorDetail.UNKNOWN_CHARACTER, "?", 5000, 'Unknown character "?"'),
         ]:
             for call in (tokens, canonical, firthnapkin.parse):
                 with self.subTest(text=text[:20], call=call.__name__):
-                    fault = fault_of(call, text)
-                    self.assertEqual((fault.reason, fault.detail, fault.character), (Reason.LEXICAL, detail, character))
-                    self.assertEqual((fault.start, fault.end), (place(text, index), place(text, index)))
-                    self.assertEqual((fault.message, fault.source), (message, text))
-                    self.assertEqual(str(fault), f"{message}. At {fault.start.line}:{fault.start.column}")
+                    error = error_of(call, text)
+                    self.assertEqual((error.kind, error.detail, error.character), (ErrorKind.LEXICAL, detail, character))
+                    self.assertEqual((error.start, error.end), (position_at(text, index), position_at(text, index)))
+                    self.assertEqual((error.message, error.source), (message, text))
+                    self.assertEqual(str(error), f"{message}. At {error.start.line}:{error.start.column}")
 
     def test_long_words(self) -> None:
         for length in (1, 200, 255, 256, 257, 5000):
             text = "a" * length + '"\\' + "é"
             for call in (tokens, canonical):
-                self.assertEqual(fault_of(call, text).message, 'Unknown escape sequence "\\é" in string')
+                self.assertEqual(error_of(call, text).message, 'Unknown escape sequence "\\é" in string')
 
     def test_every_limit(self) -> None:
         count = len(tokens(WHOLE)) - 1
         for most in (count, count + 1, *LARGE_LIMITS):
             self.assertEqual(len(tokens(WHOLE, max_tokens=most)), count + 1)
         for most, token in enumerate(tokens(WHOLE)[:-1]):
-            fault = fault_of(tokens, WHOLE, max_tokens=most)
-            self.assertEqual((fault.reason, fault.detail, fault.message), (Reason.TOO_MANY, Detail.NO_DETAIL, "Too many tokens"))
-            self.assertEqual((fault.start, fault.end, fault.source), (token.start, token.end, WHOLE))
-            parsed = fault_of(firthnapkin.parse, WHOLE, max_tokens=most)
-            self.assertEqual((parsed.start, parsed.end, str(parsed)), (fault.start, fault.end, str(fault)))
+            error = error_of(tokens, WHOLE, max_tokens=most)
+            self.assertEqual((error.kind, error.detail, error.message), (ErrorKind.TOO_MANY_TOKENS, ErrorDetail.NONE, "Too many tokens"))
+            self.assertEqual((error.start, error.end, error.source), (token.start, token.end, WHOLE))
+            parsed = error_of(firthnapkin.parse, WHOLE, max_tokens=most)
+            self.assertEqual((parsed.start, parsed.end, str(parsed)), (error.start, error.end, str(error)))
 
     def test_order(self) -> None:
-        """Nothing after the first token too many is read, and there is no token after a lexical error."""
-        for text, most, reason in [
-            ('{ a "', 1, Reason.TOO_MANY),
-            ('{ a "', 2, Reason.LEXICAL),
-            ("? a b", 0, Reason.LEXICAL),
-            ("a b \ud800", 0, Reason.SURROGATE),
+        """The first token too many comes before all errors after it but a lone surrogate; no token is after a lexical error."""
+        for text, most, kind in [
+            ('{ a "', 1, ErrorKind.TOO_MANY_TOKENS),
+            ('{ a "', 2, ErrorKind.LEXICAL),
+            ("? a b", 0, ErrorKind.LEXICAL),
+            ("a b \ud800", 0, ErrorKind.SURROGATE),
         ]:
-            self.assertIs(fault_of(tokens, text, max_tokens=most).reason, reason)
+            self.assertIs(error_of(tokens, text, max_tokens=most).kind, kind)
         self.assertEqual(len(tokens(" # no token", max_tokens=0)), 1)
 
     def test_lone_surrogates(self) -> None:
         for call in (tokens, canonical):
-            fault = fault_of(call, "{é\n \udfff }")
-            self.assertEqual((fault.reason, fault.message), (Reason.SURROGATE, "Lone surrogate U+DFFF"))
-            self.assertEqual((fault.start, fault.end), (Place(4, 1, 1, 5), Place(5, 1, 2, 8)))
+            error = error_of(call, "{é\n \udfff }")
+            self.assertEqual((error.kind, error.message), (ErrorKind.SURROGATE, "Lone surrogate U+DFFF"))
+            self.assertEqual((error.start, error.end), (Position(4, 1, 1, 5), Position(5, 1, 2, 8)))
 
 
 class Extremes(unittest.TestCase):
@@ -171,13 +171,13 @@ class Extremes(unittest.TestCase):
         self.assertEqual((len(found), found[-1].end.byte), (2**20 + 1, 2**26))
         self.assertEqual(canonical(text), text[:-1])
         for call in (tokens, canonical):
-            self.assertEqual(fault_of(call, '"' + "é" * 2**25).start, Place(2**25 + 1, 0, 2**25 + 1, 2**26 + 1))
-        self.assertEqual(fault_of(tokens, "!" * 2**26, max_tokens=2**22).start.index, 2**22)
+            self.assertEqual(error_of(call, '"' + "é" * 2**25).start, Position(2**25 + 1, 0, 2**25 + 1, 2**26 + 1))
+        self.assertEqual(error_of(tokens, "!" * 2**26, max_tokens=2**22).start.index, 2**22)
 
     def test_numbers_of_more_than_16_bits(self) -> None:
-        """Both places of a token, a node and each kind of fault, past 65,536 lines and, on a line, past as many characters."""
+        """Both positions of a token, a node and each kind of error, past 65,536 lines and, on a line, past as many characters."""
         for gap in ("\n" * 2**17, " " * 2**17):
-            start, end = place(gap, len(gap)), place(gap + "{a}", len(gap) + 3)
+            start, end = position_at(gap, len(gap)), position_at(gap + "{a}", len(gap) + 3)
             found, document = tokens(gap + "{a}"), firthnapkin.parse(gap + "{a}")
             self.assertEqual((found[0].start, found[2].end), (start, end))
             self.assertEqual((document[0].start, document[0].end), (start, end))
@@ -190,8 +190,8 @@ class Extremes(unittest.TestCase):
                 (firthnapkin.parse, "a", 1, {"max_tokens": 0}),
                 (tokens, "a", 1, {"max_tokens": 0}),
             ]:
-                fault = fault_of(call, gap + text, **options)
-                self.assertEqual((fault.start, fault.end), (start, place(gap + text, len(gap) + length)))
+                error = error_of(call, gap + text, **options)
+                self.assertEqual((error.start, error.end), (start, position_at(gap + text, len(gap) + length)))
 
     def test_the_extension_alone(self) -> None:
         """The extension checks the types of its arguments, too."""
@@ -213,7 +213,7 @@ class Processes(unittest.TestCase):
         found: List[Any] = []
 
         def work() -> None:
-            found.extend((len(tokens("{a" * 100000)), canonical("{ a " * 5), fault_of(canonical, "{" * 9 + "?").column))
+            found.extend((len(tokens("{a" * 100000)), canonical("{ a " * 5), error_of(canonical, "{" * 9 + "?").column))
 
         on_stack(64 * 1024, work)
         self.assertEqual(found, [200001, "{a{a{a{a{a", 9])
@@ -238,7 +238,7 @@ class Processes(unittest.TestCase):
             "    for text in texts:\n"
             "        for call, options in ((firthnapkin.tokens, {}), (firthnapkin.tokens, {'max_tokens': 3}), (firthnapkin.canonical, {})):\n"
             "            try: call(text, **options)\n"
-            "            except firthnapkin.Fault: pass\n"
+            "            except firthnapkin.FirthnapkinError: pass\n"
             "for _ in range(20): work()\n"
             "before = taken()\n"
             "for _ in range(100): work()\n"

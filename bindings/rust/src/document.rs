@@ -10,60 +10,58 @@ pub enum Kind {
     Query = 0,
     Mutation = 1,
     Subscription = 2,
-    /// The definition of a fragment.
-    Fragment = 3,
+    FragmentDefinition = 3,
     /// The variable definitions of an operation.
-    Variables = 4,
+    VariableDefinitions = 4,
     /// A variable definition, by its name.
-    Variable = 5,
+    VariableDefinition = 5,
     /// The type of a variable.
     Type = 6,
     Field = 7,
     /// The alias of a field.
     Alias = 8,
     /// The use of a fragment by its name.
-    Spread = 9,
+    FragmentSpread = 9,
     /// A fragment without a name; its name is its type condition.
-    Inline = 10,
+    InlineFragment = 10,
     Directive = 11,
     /// The arguments of a field or a directive.
     Arguments = 12,
     /// An argument, by its name.
     Argument = 13,
     Null = 14,
-    Enum = 16,
+    Enum = 15,
     /// A variable used as a value.
-    Reference = 17,
-    List = 18,
-    Object = 19,
+    Variable = 16,
+    List = 17,
+    Object = 18,
     /// A field of an object, by its name.
-    Key = 20,
+    ObjectField = 19,
     /// An Int that 32 bits hold.
-    Int = 21,
+    Int = 20,
     /// An Int that 32 bits don't hold.
-    LargeInt = 22,
-    Float = 23,
-    String = 24,
-    BlockString = 25,
-    Boolean = 26,
+    LargeInt = 21,
+    Float = 22,
+    String = 23,
+    BlockString = 24,
+    Boolean = 25,
 }
 
-/// The kinds by their numbers; there is no 15.
+/// The kinds by their numbers.
 #[rustfmt::skip]
-const KINDS: [Option<Kind>; 27] = {
+const KINDS: [Kind; 26] = {
     use Kind::*;
     [
-        Some(Query), Some(Mutation), Some(Subscription), Some(Fragment), Some(Variables), Some(Variable), Some(Type),
-        Some(Field), Some(Alias), Some(Spread), Some(Inline), Some(Directive), Some(Arguments), Some(Argument), Some(Null),
-        None, Some(Enum), Some(Reference), Some(List), Some(Object), Some(Key), Some(Int), Some(LargeInt), Some(Float),
-        Some(String), Some(BlockString), Some(Boolean),
+        Query, Mutation, Subscription, FragmentDefinition, VariableDefinitions, VariableDefinition, Type, Field, Alias,
+        FragmentSpread, InlineFragment, Directive, Arguments, Argument, Null, Enum, Variable, List, Object, ObjectField,
+        Int, LargeInt, Float, String, BlockString, Boolean,
     ]
 };
 
-/// The number of characters of the source, of line feeds, of characters of the line, and of bytes before a place.
+/// The number of characters of the source, of line feeds, of characters of the line, and of bytes before a position.
 #[repr(C)]
 #[derive(Clone, Copy, Debug, Default, PartialEq, Eq, PartialOrd, Ord, Hash)]
-pub struct Place {
+pub struct Position {
     pub index: u32,
     pub line: u32,
     pub column: u32,
@@ -76,8 +74,8 @@ pub struct Place {
 pub(crate) struct RawNode {
     kind: u32,
     descendants: u32,
-    start: Place,
-    end: Place,
+    start: Position,
+    end: Position,
     name_start: u32,
     name_end: u32,
     value: i64,
@@ -199,7 +197,7 @@ impl<'d, 'a> Node<'d, 'a> {
     }
 
     pub fn kind(&self) -> Kind {
-        KINDS[self.raw().kind as usize].expect("the library tells no other kind")
+        KINDS[self.raw().kind as usize]
     }
 
     /// How many of the nodes after this one are of parts in it.
@@ -207,12 +205,12 @@ impl<'d, 'a> Node<'d, 'a> {
         self.raw().descendants as usize
     }
 
-    pub fn start(&self) -> Place {
+    pub fn start(&self) -> Position {
         self.raw().start
     }
 
-    /// The place after the last character.
-    pub fn end(&self) -> Place {
+    /// The position after the last character.
+    pub fn end(&self) -> Position {
         self.raw().end
     }
 
@@ -239,8 +237,8 @@ impl<'d, 'a> Node<'d, 'a> {
             Kind::Boolean => Value::Boolean(raw.value == 1),
             Kind::LargeInt | Kind::Float => Value::Number(self.text()),
             Kind::String | Kind::BlockString | Kind::Type => Value::Text(within(&self.document.texts)),
-            Kind::Fragment => Value::Text(within(self.document.source)),
-            Kind::Enum | Kind::Reference => self.name().map_or(Value::Nothing, Value::Text),
+            Kind::FragmentDefinition => Value::Text(within(self.document.source)),
+            Kind::Enum | Kind::Variable => self.name().map_or(Value::Nothing, Value::Text),
             _ => Value::Nothing,
         }
     }

@@ -1,7 +1,7 @@
 //! Why there is no document.
 
-use crate::document::Place;
-use crate::MOST_DEPTH;
+use crate::document::Position;
+use crate::MAX_DEPTH;
 use std::fmt;
 
 /// Why there is no document.
@@ -9,31 +9,32 @@ use std::fmt;
 #[non_exhaustive]
 pub enum Error {
     /// The source is no document, or exceeds a limit.
-    Fault(Fault),
+    Syntax(SyntaxError),
     /// Memory ran out.
-    Memory,
+    OutOfMemory,
     /// The source has 4 GiB or more.
-    TooLong,
-    /// The depth is above [`MOST_DEPTH`].
-    Depth,
+    SourceTooLong,
+    /// The depth is above [`MAX_DEPTH`].
+    InvalidDepth,
 }
 
 /// Why a source is no document within the limits, and where.
 #[derive(Clone, Debug, PartialEq, Eq)]
-pub struct Fault {
-    /// The error, without its place.
+pub struct SyntaxError {
+    /// The error, without its position.
     pub message: String,
-    pub reason: Reason,
-    /// Where the reason is [`Reason::Lexical`].
-    pub detail: Option<Detail>,
-    /// The places of a token, or of zero width.
-    pub start: Place,
-    pub end: Place,
+    pub kind: ErrorKind,
+    /// Where the kind is [`ErrorKind::Lexical`].
+    pub detail: Option<ErrorDetail>,
+    /// The positions of a token, or of zero width.
+    pub start: Position,
+    pub end: Position,
 }
 
+/// The kind of a [`SyntaxError`].
 #[derive(Clone, Copy, Debug, PartialEq, Eq)]
 #[non_exhaustive]
-pub enum Reason {
+pub enum ErrorKind {
     /// No document has the token after those before it.
     UnexpectedToken,
     /// The source ends within a document.
@@ -41,15 +42,15 @@ pub enum Reason {
     /// There is no token here.
     Lexical,
     /// The token is nested too deep.
-    Nested,
+    TooDeep,
     /// The token is one too many.
-    TooMany,
+    TooManyTokens,
 }
 
 /// Why there is no token, with the character where there is one.
 #[derive(Clone, Copy, Debug, PartialEq, Eq)]
 #[non_exhaustive]
-pub enum Detail {
+pub enum ErrorDetail {
     UnknownCharacter(char),
     UnexpectedCharacter(char),
     UnterminatedString,
@@ -58,36 +59,36 @@ pub enum Detail {
     UnexpectedEndInToken,
 }
 
-impl Reason {
+impl ErrorKind {
     pub(crate) fn of(number: u32) -> Self {
         match number {
-            0 => Reason::UnexpectedToken,
-            1 => Reason::UnexpectedEnd,
-            2 => Reason::Lexical,
-            4 => Reason::Nested,
-            5 => Reason::TooMany,
-            _ => unreachable!("the library tells no other reason"),
+            0 => ErrorKind::UnexpectedToken,
+            1 => ErrorKind::UnexpectedEnd,
+            2 => ErrorKind::Lexical,
+            3 => ErrorKind::TooDeep,
+            4 => ErrorKind::TooManyTokens,
+            _ => unreachable!("the library reports no other kind"),
         }
     }
 }
 
-impl Detail {
+impl ErrorDetail {
     pub(crate) fn of(number: u32, character: u32) -> Option<Self> {
         let character = char::from_u32(character).unwrap_or(char::REPLACEMENT_CHARACTER);
         match number {
-            1 => Some(Detail::UnknownCharacter(character)),
-            2 => Some(Detail::UnexpectedCharacter(character)),
-            3 => Some(Detail::UnterminatedString),
-            4 => Some(Detail::UnknownCharacterInString(character)),
-            5 => Some(Detail::UnknownEscape),
-            6 => Some(Detail::UnexpectedEndInToken),
+            1 => Some(ErrorDetail::UnknownCharacter(character)),
+            2 => Some(ErrorDetail::UnexpectedCharacter(character)),
+            3 => Some(ErrorDetail::UnterminatedString),
+            4 => Some(ErrorDetail::UnknownCharacterInString(character)),
+            5 => Some(ErrorDetail::UnknownEscape),
+            6 => Some(ErrorDetail::UnexpectedEndInToken),
             _ => None,
         }
     }
 }
 
 /// Writes the error and its line and column, both counted from 0, as `Unexpected ")". At 1:4`.
-impl fmt::Display for Fault {
+impl fmt::Display for SyntaxError {
     fn fmt(&self, f: &mut fmt::Formatter<'_>) -> fmt::Result {
         write!(f, "{}. At {}:{}", self.message, self.start.line, self.start.column)
     }
@@ -96,20 +97,20 @@ impl fmt::Display for Fault {
 impl fmt::Display for Error {
     fn fmt(&self, f: &mut fmt::Formatter<'_>) -> fmt::Result {
         match self {
-            Error::Fault(fault) => fault.fmt(f),
-            Error::Memory => f.write_str("memory ran out"),
-            Error::TooLong => f.write_str("the source has 4 GiB or more"),
-            Error::Depth => write!(f, "the depth is above {MOST_DEPTH}"),
+            Error::Syntax(error) => error.fmt(f),
+            Error::OutOfMemory => f.write_str("memory ran out"),
+            Error::SourceTooLong => f.write_str("the source has 4 GiB or more"),
+            Error::InvalidDepth => write!(f, "the depth is above {MAX_DEPTH}"),
         }
     }
 }
 
-impl std::error::Error for Fault {}
+impl std::error::Error for SyntaxError {}
 
 impl std::error::Error for Error {}
 
-impl From<Fault> for Error {
-    fn from(fault: Fault) -> Self {
-        Error::Fault(fault)
+impl From<SyntaxError> for Error {
+    fn from(error: SyntaxError) -> Self {
+        Error::Syntax(error)
     }
 }

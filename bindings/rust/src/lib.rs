@@ -13,14 +13,14 @@ mod error;
 mod stack;
 
 pub use call::{parse, parse_within};
-pub use document::{Children, Document, Kind, Node, Place, Value};
-pub use error::{Detail, Error, Fault, Reason};
+pub use document::{Children, Document, Kind, Node, Position, Value};
+pub use error::{Error, ErrorDetail, ErrorKind, SyntaxError};
 
 /// How deep [`parse`] allows brackets to be nested.
 pub const DEFAULT_DEPTH: u32 = 200;
 
 /// The largest depth that [`parse_within`] takes.
-pub const MOST_DEPTH: u32 = 1000;
+pub const MAX_DEPTH: u32 = 1000;
 
 /// What a source may have.
 ///
@@ -30,7 +30,7 @@ pub const MOST_DEPTH: u32 = 1000;
 /// ```
 #[derive(Clone, Copy, Debug, PartialEq, Eq)]
 pub struct Limits {
-    /// How deep brackets may be nested: from 0 to [`MOST_DEPTH`].
+    /// How deep brackets may be nested: from 0 to [`MAX_DEPTH`].
     pub depth: u32,
     /// How many tokens there may be.
     pub tokens: u32,

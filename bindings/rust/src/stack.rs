@@ -2,7 +2,7 @@
 
 use std::{io, panic, thread};
 
-/// So many bytes are enough for a call with this depth: `FIRTHNAPKIN_STACK` of the header, and this crate's own.
+/// So many bytes are enough for a call with this depth: `FIRTHNAPKIN_STACK_SIZE` of the header, and this crate's own.
 const fn needed(depth: u32) -> usize {
     32768 + 2304 * depth as usize + OWN
 }

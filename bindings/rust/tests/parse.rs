@@ -1,18 +1,20 @@
 //! What the crate gives for sources and depths of every kind.
 
-use firthnapkin::{parse, Detail, Document, Error, Fault, Kind, Limits, Place, Reason, Value, MOST_DEPTH};
+use firthnapkin::{
+    parse, Document, Error, ErrorDetail, ErrorKind, Kind, Limits, Position, SyntaxError, Value, MAX_DEPTH,
+};
 
-fn place(index: u32, line: u32, column: u32, byte: u32) -> Place {
-    Place { index, line, column, byte }
+fn position(index: u32, line: u32, column: u32, byte: u32) -> Position {
+    Position { index, line, column, byte }
 }
 
 fn parse_within(source: &str, depth: u32) -> Result<Document<'_>, Error> {
     firthnapkin::parse_within(source, Limits { depth, ..Limits::default() })
 }
 
-fn fault(source: &str, depth: u32) -> Fault {
+fn error_of(source: &str, depth: u32) -> SyntaxError {
     match parse_within(source, depth) {
-        Err(Error::Fault(fault)) => fault,
+        Err(Error::Syntax(error)) => error,
         other => panic!("{source:.40}: {other:?}"),
     }
 }
@@ -25,13 +27,27 @@ fn lines(source: &str) -> String {
     }
 }
 
+/// gqlcheck's word for a kind.
+fn word_of(kind: Kind) -> String {
+    match kind {
+        Kind::FragmentDefinition => "fragment".to_string(),
+        Kind::VariableDefinitions => "variables".to_string(),
+        Kind::VariableDefinition => "variable".to_string(),
+        Kind::FragmentSpread => "spread".to_string(),
+        Kind::InlineFragment => "inline".to_string(),
+        Kind::Variable => "reference".to_string(),
+        Kind::ObjectField => "key".to_string(),
+        _ => format!("{kind:?}").to_lowercase(),
+    }
+}
+
 fn line(node: firthnapkin::Node) -> String {
     let (kind, start, end) = (node.kind(), node.start().index, node.end().index);
-    let word = format!("{kind:?}").to_lowercase();
+    let word = word_of(kind);
     let named = |name: &str| format!("{word} {start} {end} {name}");
     match (kind, node.value(), node.name()) {
         (Kind::Type, Value::Text(text), _) => named(text),
-        (Kind::Fragment, Value::Text(condition), Some(name)) => named(&format!("{name} {condition}")),
+        (Kind::FragmentDefinition, Value::Text(condition), Some(name)) => named(&format!("{name} {condition}")),
         (_, Value::Int(_) | Value::Boolean(_) | Value::Number(_), _) => format!("scalar {start} {end}"),
         (Kind::String | Kind::BlockString, _, _) => format!("scalar {start} {end}"),
         (_, _, Some(name)) => named(name),
@@ -79,14 +95,14 @@ fn values() {
         (r#""\u00e9\n𝄞""#, Kind::String, Value::Text("é\n𝄞")),
         ("\"\"\"\n  x\n \"\"\"", Kind::BlockString, Value::Text("x")),
         ("E", Kind::Enum, Value::Text("E")),
-        ("$v", Kind::Reference, Value::Text("v")),
+        ("$v", Kind::Variable, Value::Text("v")),
     ] {
         let source = format!("{{ a(b: {text}) }}");
         let document = parse(&source).unwrap();
         let node = document.node(4).unwrap();
         assert_eq!((node.kind(), node.value()), (kind, value));
         assert_eq!(node.text(), text);
-        assert_eq!(node.name(), matches!(kind, Kind::Enum | Kind::Reference).then(|| text.trim_start_matches('$')));
+        assert_eq!(node.name(), matches!(kind, Kind::Enum | Kind::Variable).then(|| text.trim_start_matches('$')));
     }
 }
 
@@ -102,7 +118,7 @@ fn documents() {
     assert_eq!(document.node(11).unwrap().value(), Value::Text("T"));
     let last = document.nodes().next_back().unwrap();
     assert_eq!((last.text(), last.value()), ("\"é𝄞\"", Value::Text("é𝄞")));
-    assert_eq!((last.start(), last.end()), (place(75, 2, 23, 79), place(79, 2, 27, 87)));
+    assert_eq!((last.start(), last.end()), (position(75, 2, 23, 79), position(79, 2, 27, 87)));
     assert_eq!((document.len(), document.nodes().len(), document.is_empty()), (16, 16, false));
     assert_eq!(document.node(16), None);
     // Names, texts and the source borrow from the source, not from the document.
@@ -141,18 +157,18 @@ fn many_nodes() {
 }
 
 #[test]
-fn faults() {
-    use Reason::*;
+fn errors() {
+    use ErrorKind::*;
     let deep = "{a".repeat(201);
     let far = format!("#é{}{})", "\n".repeat(70_000), " ".repeat(70_001));
-    for (source, reason, detail, start, end, told) in [
+    for (source, kind, detail, start, end, told) in [
         ("{\n  a )\n}", UnexpectedToken, None, (6, 1, 4, 6), (7, 1, 5, 7), "Unexpected \")\". At 1:4"),
         ("", UnexpectedEnd, None, (0, 0, 0, 0), (0, 0, 0, 0), "Unexpected end of input. At 0:0"),
         ("#é\n{ a", UnexpectedEnd, None, (6, 1, 3, 7), (6, 1, 3, 7), "Unexpected end of input. At 1:3"),
         (
             "{ é }",
             Lexical,
-            Some(Detail::UnknownCharacter('é')),
+            Some(ErrorDetail::UnknownCharacter('é')),
             (2, 0, 2, 2),
             (2, 0, 2, 2),
             "Unknown character \"é\". At 0:2",
@@ -160,7 +176,7 @@ fn faults() {
         (
             "{ .a }",
             Lexical,
-            Some(Detail::UnexpectedCharacter('.')),
+            Some(ErrorDetail::UnexpectedCharacter('.')),
             (2, 0, 2, 2),
             (2, 0, 2, 2),
             "Unexpected character \".\". At 0:2",
@@ -168,7 +184,7 @@ fn faults() {
         (
             "{a(b:\"c",
             Lexical,
-            Some(Detail::UnterminatedString),
+            Some(ErrorDetail::UnterminatedString),
             (7, 0, 7, 7),
             (7, 0, 7, 7),
             "Unterminated string literal. At 0:7",
@@ -176,7 +192,7 @@ fn faults() {
         (
             "{a(b:\"\0\")}",
             Lexical,
-            Some(Detail::UnknownCharacterInString('\0')),
+            Some(ErrorDetail::UnknownCharacterInString('\0')),
             (6, 0, 6, 6),
             (6, 0, 6, 6),
             "Unknown character \"\0\" in string literal. At 0:6",
@@ -184,7 +200,7 @@ fn faults() {
         (
             "{a(b:\"\\q\")}",
             Lexical,
-            Some(Detail::UnknownEscape),
+            Some(ErrorDetail::UnknownEscape),
             (7, 0, 7, 7),
             (7, 0, 7, 7),
             "Unknown escape sequence \"\\q\" in string. At 0:7",
@@ -192,12 +208,12 @@ fn faults() {
         (
             "{a(b:-",
             Lexical,
-            Some(Detail::UnexpectedEndInToken),
+            Some(ErrorDetail::UnexpectedEndInToken),
             (6, 0, 6, 6),
             (6, 0, 6, 6),
             "Unexpected end of input. At 0:6",
         ),
-        (&deep, Nested, None, (400, 0, 400, 400), (401, 0, 401, 401), "Too deeply nested. At 0:400"),
+        (&deep, TooDeep, None, (400, 0, 400, 400), (401, 0, 401, 401), "Too deeply nested. At 0:400"),
         // A token may be written like the end of a message.
         ("{ \"a. At b\" }", UnexpectedToken, None, (2, 0, 2, 2), (11, 0, 11, 11), "Unexpected \"\"a. At b\"\". At 0:2"),
         (
@@ -218,39 +234,39 @@ fn faults() {
             "Unexpected \")\". At 70000:70001",
         ),
     ] {
-        let fault = fault(source, 200);
-        assert_eq!((fault.reason, fault.detail), (reason, detail), "{source}");
-        let (a, b) = (place(start.0, start.1, start.2, start.3), place(end.0, end.1, end.2, end.3));
-        assert_eq!((fault.start, fault.end, fault.to_string()), (a, b, told.to_string()));
-        assert_eq!(Some(fault.message.as_str()), told.rsplit_once(". At ").map(|it| it.0));
-        let error: Box<dyn std::error::Error> = Box::new(Error::Fault(fault));
+        let error = error_of(source, 200);
+        assert_eq!((error.kind, error.detail), (kind, detail), "{source}");
+        let (a, b) = (position(start.0, start.1, start.2, start.3), position(end.0, end.1, end.2, end.3));
+        assert_eq!((error.start, error.end, error.to_string()), (a, b, told.to_string()));
+        assert_eq!(Some(error.message.as_str()), told.rsplit_once(". At ").map(|it| it.0));
+        let error: Box<dyn std::error::Error> = Box::new(Error::Syntax(error));
         assert_eq!(error.to_string(), told);
     }
     for length in [1, 200, 242, 243, 244, 255, 256, 257, 5000] {
         let name = "n".repeat(length);
-        assert_eq!(fault(&format!("query a {name}"), 9).to_string(), format!("Unexpected \"{name}\". At 0:8"));
+        assert_eq!(error_of(&format!("query a {name}"), 9).to_string(), format!("Unexpected \"{name}\". At 0:8"));
     }
 }
 
 /// Characters of one to four bytes.
 #[test]
-fn characters_of_faults() {
+fn characters_of_errors() {
     for character in ['?', 'é', 'ж', '\u{ff}', '\u{100}', '\u{ffff}', '\u{10000}', '𝄞', '\u{10ffff}'] {
-        let unknown = fault(&format!("{{ {character} }}"), 9);
-        assert_eq!(unknown.detail, Some(Detail::UnknownCharacter(character)));
+        let unknown = error_of(&format!("{{ {character} }}"), 9);
+        assert_eq!(unknown.detail, Some(ErrorDetail::UnknownCharacter(character)));
         assert_eq!(unknown.to_string(), format!("Unknown character \"{character}\". At 0:2"));
-        let unexpected = fault(&format!("{{a(b:-{character}"), 9);
-        assert_eq!(unexpected.detail, Some(Detail::UnexpectedCharacter(character)));
+        let unexpected = error_of(&format!("{{a(b:-{character}"), 9);
+        assert_eq!(unexpected.detail, Some(ErrorDetail::UnexpectedCharacter(character)));
         assert_eq!(unexpected.to_string(), format!("Unexpected character \"{character}\". At 0:6"));
     }
 }
 
 #[test]
 fn words_of_errors() {
-    assert_eq!(Error::Memory.to_string(), "memory ran out");
-    assert_eq!(Error::TooLong.to_string(), "the source has 4 GiB or more");
-    assert_eq!(Error::Depth.to_string(), "the depth is above 1000");
-    assert_eq!(Error::Fault(fault("{", 9)).to_string(), "Unexpected end of input. At 0:1");
+    assert_eq!(Error::OutOfMemory.to_string(), "memory ran out");
+    assert_eq!(Error::SourceTooLong.to_string(), "the source has 4 GiB or more");
+    assert_eq!(Error::InvalidDepth.to_string(), "the depth is above 1000");
+    assert_eq!(Error::Syntax(error_of("{", 9)).to_string(), "Unexpected end of input. At 0:1");
 }
 
 fn deep(depth: usize) -> String {
@@ -260,20 +276,20 @@ fn deep(depth: usize) -> String {
 #[test]
 fn depths() {
     for source in [deep(200_000).as_str(), "{a}", ""] {
-        for depth in [MOST_DEPTH + 1, 1 << 31, u32::MAX, -1i32 as u32] {
-            assert!(matches!(parse_within(source, depth), Err(Error::Depth)));
+        for depth in [MAX_DEPTH + 1, 1 << 31, u32::MAX, -1i32 as u32] {
+            assert!(matches!(parse_within(source, depth), Err(Error::InvalidDepth)));
         }
     }
-    for depth in [0, 1, 2, 199, 200, MOST_DEPTH] {
+    for depth in [0, 1, 2, 199, 200, MAX_DEPTH] {
         let source = deep(depth as usize);
         if depth > 0 {
             assert_eq!(parse_within(&source, depth).unwrap().len(), depth as usize + 1);
         }
-        let fault = fault(&deep(depth as usize + 1), depth);
-        assert_eq!((fault.reason, fault.start.byte), (Reason::Nested, 2 * depth));
+        let error = error_of(&deep(depth as usize + 1), depth);
+        assert_eq!((error.kind, error.start.byte), (ErrorKind::TooDeep, 2 * depth));
     }
     assert_eq!(parse(&deep(200)).unwrap().len(), 201);
-    assert_eq!(fault(&deep(201), 200), fault(&deep(201), firthnapkin::DEFAULT_DEPTH));
+    assert_eq!(error_of(&deep(201), 200), error_of(&deep(201), firthnapkin::DEFAULT_DEPTH));
 }
 
 #[test]
@@ -286,42 +302,42 @@ fn tokens() {
     }
     for (tokens, start) in starts.into_iter().enumerate() {
         match within(source, tokens as u32) {
-            Err(Error::Fault(fault)) => {
-                assert_eq!((fault.reason, fault.detail, fault.start.index), (Reason::TooMany, None, start));
-                assert_eq!(fault.to_string(), format!("Too many tokens. At 0:{start}"));
+            Err(Error::Syntax(error)) => {
+                assert_eq!((error.kind, error.detail, error.start.index), (ErrorKind::TooManyTokens, None, start));
+                assert_eq!(error.to_string(), format!("Too many tokens. At 0:{start}"));
             }
             other => panic!("{tokens} tokens: {other:?}"),
         }
     }
     let many = format!("{{{}", "a ".repeat(1_000_001));
     for tokens in [65_535, 65_536, 65_537, 999_999, 1_000_000, 1_000_001, 1_000_002] {
-        let reason = if tokens == 1_000_002 { Reason::UnexpectedEnd } else { Reason::TooMany };
+        let kind = if tokens == 1_000_002 { ErrorKind::UnexpectedEnd } else { ErrorKind::TooManyTokens };
         match firthnapkin::parse_within(&many, Limits { depth: 5, tokens }) {
-            Err(Error::Fault(fault)) => assert_eq!((fault.reason, fault.start.byte), (reason, 2 * tokens - 1)),
+            Err(Error::Syntax(error)) => assert_eq!((error.kind, error.start.byte), (kind, 2 * tokens - 1)),
             other => panic!("{tokens} tokens: {:?}", other.map(|document| document.len())),
         }
     }
-    // Nothing after the first token too many is read, and there is no token after a lexical error.
-    let reason = |source, tokens| match within(source, tokens) {
-        Err(Error::Fault(fault)) => fault.reason,
+    // No error after the first token too many counts, and there is no token after a lexical error.
+    let kind = |source, tokens| match within(source, tokens) {
+        Err(Error::Syntax(error)) => error.kind,
         other => panic!("{other:?}"),
     };
-    assert_eq!(reason("{ a ) } \"", 2), Reason::TooMany);
-    assert_eq!(reason("{ a ) } \"", 4), Reason::Lexical);
-    assert_eq!(reason("{ a ) }", 4), Reason::UnexpectedToken);
-    assert_eq!(reason("{a{b{c{d{e{f}}}}}}", 17), Reason::TooMany);
-    assert_eq!(reason("{a{b{c{d{e{f}}}}}}", 18), Reason::Nested);
+    assert_eq!(kind("{ a ) } \"", 2), ErrorKind::TooManyTokens);
+    assert_eq!(kind("{ a ) } \"", 4), ErrorKind::Lexical);
+    assert_eq!(kind("{ a ) }", 4), ErrorKind::UnexpectedToken);
+    assert_eq!(kind("{a{b{c{d{e{f}}}}}}", 17), ErrorKind::TooManyTokens);
+    assert_eq!(kind("{a{b{c{d{e{f}}}}}}", 18), ErrorKind::TooDeep);
 }
 
 #[test]
 fn sources() {
     for source in ["", "\0", "{a\0}", "\u{feff}", "{}", "#", "\"", "\"\"\"", "\u{10ffff}"] {
-        fault(source, 200);
+        error_of(source, 200);
     }
     let large = format!("{{{}}}", ("a".repeat(63) + " ").repeat(1 << 20));
     let document = parse(&large).unwrap();
     assert_eq!((document.len(), document.node(0).unwrap().end().byte), ((1 << 20) + 1, (1 << 26) + 2));
-    assert_eq!(fault(&format!("{{{}", "a".repeat(1 << 26)), 9).start.byte, (1 << 26) + 1);
+    assert_eq!(error_of(&format!("{{{}", "a".repeat(1 << 26)), 9).start.byte, (1 << 26) + 1);
     let strings = format!("{{a(b:[{}])}}", "\"\\n0123456789\" ".repeat(5000));
     assert_eq!(parse(&strings).unwrap().nodes().next_back().unwrap().value(), Value::Text("\n0123456789"));
 }
@@ -331,5 +347,5 @@ fn a_document_goes_to_other_threads() {
     fn goes<T: Send + Sync>(_: &T) {}
     let document: Document = parse("{a}").unwrap();
     goes(&document);
-    goes(&fault("{", 9));
+    goes(&error_of("{", 9));
 }

@@ -1,6 +1,6 @@
 //! Calls in threads of any stack, each with a megabyte of variables of its own.
 
-use firthnapkin::{parse, parse_within, Error, Limits, Reason, MOST_DEPTH};
+use firthnapkin::{parse, parse_within, Error, ErrorKind, Limits, MAX_DEPTH};
 use std::cell::Cell;
 use std::hint::black_box;
 
@@ -21,9 +21,9 @@ fn in_thread(stack: usize, run: impl FnOnce() + Send) {
     });
 }
 
-fn reason(source: &str, limits: Limits) -> Reason {
+fn kind(source: &str, limits: Limits) -> ErrorKind {
     match parse_within(source, limits) {
-        Err(Error::Fault(fault)) => fault.reason,
+        Err(Error::Syntax(error)) => error.kind,
         other => panic!("{source:.40}: {other:?}"),
     }
 }
@@ -42,11 +42,11 @@ const NESTED: [(&str, &str, &str, &str, &str, u32); 5] = [
 fn parse_deep_texts() {
     use_own_bytes();
     for (head, part, middle, end, tail, levels) in NESTED {
-        for depth in [0, 1, 2, 200, MOST_DEPTH] {
+        for depth in [0, 1, 2, 200, MAX_DEPTH] {
             let limits = Limits { depth, tokens: u32::MAX };
             let deeper = head.to_string() + &part.repeat(5000);
-            assert_eq!(reason(&deeper, limits), Reason::Nested);
-            assert_eq!(reason(&deeper, Limits { tokens: 1, ..limits }), Reason::TooMany);
+            assert_eq!(kind(&deeper, limits), ErrorKind::TooDeep);
+            assert_eq!(kind(&deeper, Limits { tokens: 1, ..limits }), ErrorKind::TooManyTokens);
             if depth >= levels {
                 let count = (depth - levels) as usize;
                 let source = head.to_string() + &part.repeat(count) + middle + &end.repeat(count) + tail;

@@ -14,7 +14,9 @@ ghost use Rattle.juniper_flat.specs.CanonicalTexts.{IsCanonicalStatus};
 use juniper_flat::canonical::{Canonical, canonical_of};
 use juniper_flat::fault::Fault;
 use juniper_flat::room::fill;
-use juniper_flat::status::{CANONICAL, MEMORY, NOT_UTF8, REFUSED, ROOM, TOO_LONG};
+use juniper_flat::status::{
+    BUFFER_TOO_SMALL, NOT_UTF8, OK, OUT_OF_MEMORY, SOURCE_TOO_LONG, SYNTAX_ERROR,
+};
 use std::alloc::Global;
 
 /// Writes the canonical text of a source into the caller's buffer, or its first lexical error.
@@ -22,41 +24,41 @@ use std::alloc::Global;
 pub extern "C" fn firthnapkin_canonical(
     alloc: Global,
     source: &[u8],
-    room: &mut [u8],
-    needed: &mut usize,
+    buffer: &mut [u8],
+    buffer_length: &mut usize,
     fault: &mut Fault,
 ) -> u32
     ensures statuses { IsCanonicalStatus result }
 
     // The buffer begins with the canonical text of the source's tokens.
-    ensures canonical { result ≡ CANONICAL → (lexemes : List Lexeme) × HasTokens source.now lexemes
-        × Begins (encode_utf8_all (canonical lexemes)) room.old room.new
-        × (needed.new ≡ length (encode_utf8_all (canonical lexemes))) }
+    ensures canonical { result ≡ OK → (lexemes : List Lexeme) × HasTokens source.now lexemes
+        × Begins (encode_utf8_all (canonical lexemes)) buffer.old buffer.new
+        × (buffer_length.new ≡ length (encode_utf8_all (canonical lexemes))) }
 
     // The buffer is too short for it.
-    ensures room { result ≡ ROOM → (lexemes : List Lexeme) × HasTokens source.now lexemes
-        × (length room.old < length (encode_utf8_all (canonical lexemes)))
-        × (needed.new ≡ length (encode_utf8_all (canonical lexemes))) }
+    ensures too_small { result ≡ BUFFER_TOO_SMALL → (lexemes : List Lexeme) × HasTokens source.now lexemes
+        × (length buffer.old < length (encode_utf8_all (canonical lexemes)))
+        × (buffer_length.new ≡ length (encode_utf8_all (canonical lexemes))) }
 
     // So a buffer twice as long as the source is never too short.
-    ensures bounds { needed.new ≤ 2 * length source.now }
-    ensures refused { result ≡ REFUSED → IsUtf8 source.now × ((error : LexicalError) × (at : places.Place)
+    ensures bounds { buffer_length.new ≤ 2 * length source.now }
+    ensures refused { result ≡ SYNTAX_ERROR → IsUtf8 source.now × ((error : LexicalError) × (at : places.Place)
         × Breaks (chars source.now) error at × (fault.new ≡ written_fault (chars source.now) (lexical_fault error at))) }
-    ensures memory { result ≡ MEMORY → IsUtf8 source.now }
+    ensures memory { result ≡ OUT_OF_MEMORY → IsUtf8 source.now }
     ensures no_text { result ≡ NOT_UTF8 → ¬ IsUtf8 source.now }
-    ensures too_long { result ≡ TOO_LONG ↔ 2 ^ 32 ≤ length source.now }
+    ensures too_long { result ≡ SOURCE_TOO_LONG ↔ 2 ^ 32 ≤ length source.now }
 
     // What is left unchanged.
-    ensures room_kept { result ≢ CANONICAL → room.new ≡ room.old }
-    ensures no_count { result ≢ CANONICAL → result ≢ ROOM → needed.new ≡ 0 }
-    ensures fault_kept { result ≢ REFUSED → fault.new ≡ fault.old }
+    ensures buffer_kept { result ≢ OK → buffer.new ≡ buffer.old }
+    ensures no_count { result ≢ OK → result ≢ BUFFER_TOO_SMALL → buffer_length.new ≡ 0 }
+    ensures fault_kept { result ≢ SYNTAX_ERROR → fault.new ≡ fault.old }
 {
-    *needed = 0;
+    *buffer_length = 0;
     match canonical_of(alloc, source) {
-        Ok(Canonical::Text(text)) => fill(room, needed, text.as_bytes(), CANONICAL),
+        Ok(Canonical::Text(text)) => fill(buffer, buffer_length, text.as_bytes(), OK),
         Ok(Canonical::Refused(found)) => {
             *fault = found;
-            REFUSED
+            SYNTAX_ERROR
         }
         Err(unread) => unread.status(),
     }

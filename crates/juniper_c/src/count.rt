@@ -8,7 +8,7 @@ ghost use Rattle.juniper_flat.specs.TokenCounts.{IsCountStatus};
 
 use juniper_flat::count::{Counted, count_of};
 use juniper_flat::fault::Fault;
-use juniper_flat::status::{FEW, MANY, MEMORY, NOT_UTF8, TOO_LONG};
+use juniper_flat::status::{NOT_UTF8, OK, OUT_OF_MEMORY, SOURCE_TOO_LONG, TOO_MANY_TOKENS};
 use std::alloc::Global;
 
 /// Reports whether a source has more tokens than the limit, besides its end, and where the first one too many is.
@@ -16,22 +16,22 @@ use std::alloc::Global;
 pub extern "C" fn firthnapkin_count(
     alloc: Global,
     source: &[u8],
-    most: u32,
+    max_tokens: u32,
     fault: &mut Fault,
 ) -> u32
     ensures statuses { IsCountStatus result }
-    ensures few { result ≡ FEW → IsUtf8 source.now × HasFew [] (chars source.now) most }
-    ensures many { result ≡ MANY → IsUtf8 source.now × ((span : places.Span) × HasMore [] (chars source.now) most span × (fault.new ≡ many_fault (chars source.now) span)) }
-    ensures memory { result ≡ MEMORY → IsUtf8 source.now }
+    ensures few { result ≡ OK → IsUtf8 source.now × HasFew [] (chars source.now) max_tokens }
+    ensures many { result ≡ TOO_MANY_TOKENS → IsUtf8 source.now × ((span : places.Span) × HasMore [] (chars source.now) max_tokens span × (fault.new ≡ many_fault (chars source.now) span)) }
+    ensures memory { result ≡ OUT_OF_MEMORY → IsUtf8 source.now }
     ensures no_text { result ≡ NOT_UTF8 → ¬ IsUtf8 source.now }
-    ensures too_long { result ≡ TOO_LONG ↔ 2 ^ 32 ≤ length source.now }
-    ensures fault_kept { result ≢ MANY → fault.new ≡ fault.old }
+    ensures too_long { result ≡ SOURCE_TOO_LONG ↔ 2 ^ 32 ≤ length source.now }
+    ensures fault_kept { result ≢ TOO_MANY_TOKENS → fault.new ≡ fault.old }
 {
-    match count_of(alloc, source, most) {
-        Ok(Counted::Few) => FEW,
+    match count_of(alloc, source, max_tokens) {
+        Ok(Counted::Few) => OK,
         Ok(Counted::Many(found)) => {
             *fault = found;
-            MANY
+            TOO_MANY_TOKENS
         }
         Err(unread) => unread.status(),
     }

@@ -6,10 +6,13 @@ ghost use Rattle.juniper_tokens.specs.Errors as errors;
 ghost use Rattle.juniper_values.specs.Scalar.{Content};
 ghost use Rattle.juniper_flat.specs.Answers.{Begins, HasDocument, HasRefusal, HasDeepToken, HasMessage, IsStatus, refusal_message, deep_message};
 
-use juniper_flat::depth::{MOST_DEPTH, is_refused};
+use juniper_flat::depth::{MAX_DEPTH, is_refused};
 use juniper_flat::message::{Said, message_of};
 use juniper_flat::room::fill;
-use juniper_flat::status::{DEPTH, MEMORY, NOT_UTF8, REFUSED, ROOM, TOO_DEEP, TOO_LONG, TREE};
+use juniper_flat::status::{
+    BUFFER_TOO_SMALL, INVALID_LIMIT, NOT_UTF8, OK, OUT_OF_MEMORY, SOURCE_TOO_LONG, SYNTAX_ERROR,
+    TOO_DEEP,
+};
 use std::alloc::Global;
 
 /// Writes into the caller's buffer why a source has no tree.
@@ -18,34 +21,34 @@ pub extern "C" fn firthnapkin_message(
     alloc: Global,
     source: &[u8],
     depth: u32,
-    room: &mut [u8],
-    needed: &mut usize,
+    buffer: &mut [u8],
+    buffer_length: &mut usize,
 ) -> u32
     ensures statuses { IsStatus result }
-    ensures tree { result ≡ TREE → (tree : List (Definition Content)) × HasDocument source.now depth tree }
-    ensures refused { result ≡ REFUSED → (fault : errors.Fault) × HasRefusal source.now depth fault
-        × Begins (refusal_message fault) room.old room.new × (needed.new ≡ length (refusal_message fault)) }
+    ensures tree { result ≡ OK → (tree : List (Definition Content)) × HasDocument source.now depth tree }
+    ensures refused { result ≡ SYNTAX_ERROR → (fault : errors.Fault) × HasRefusal source.now depth fault
+        × Begins (refusal_message fault) buffer.old buffer.new × (buffer_length.new ≡ length (refusal_message fault)) }
     ensures too_deep { result ≡ TOO_DEEP → (span : places.Span) × HasDeepToken source.now depth span
-        × Begins (deep_message span) room.old room.new × (needed.new ≡ length (deep_message span)) }
-    ensures room { result ≡ ROOM → (message : List ℕ) × HasMessage source.now depth message
-        × (length room.old < length message) × (needed.new ≡ length message) }
-    ensures memory { result ≡ MEMORY → IsUtf8 source.now }
+        × Begins (deep_message span) buffer.old buffer.new × (buffer_length.new ≡ length (deep_message span)) }
+    ensures too_small { result ≡ BUFFER_TOO_SMALL → (message : List ℕ) × HasMessage source.now depth message
+        × (length buffer.old < length message) × (buffer_length.new ≡ length message) }
+    ensures memory { result ≡ OUT_OF_MEMORY → IsUtf8 source.now }
     ensures no_text { result ≡ NOT_UTF8 → ¬ IsUtf8 source.now }
-    ensures too_long { result ≡ TOO_LONG ↔ 2 ^ 32 ≤ length source.now }
-    ensures depth_refused { result ≡ DEPTH ↔ ((MOST_DEPTH < depth) × (length source.now < 2 ^ 32)) }
+    ensures too_long { result ≡ SOURCE_TOO_LONG ↔ 2 ^ 32 ≤ length source.now }
+    ensures depth_refused { result ≡ INVALID_LIMIT ↔ ((MAX_DEPTH < depth) × (length source.now < 2 ^ 32)) }
 
     // What is left unchanged.
-    ensures room_kept { result ≢ REFUSED → result ≢ TOO_DEEP → room.new ≡ room.old }
-    ensures no_message { result ≢ REFUSED → result ≢ TOO_DEEP → result ≢ ROOM → needed.new ≡ 0 }
+    ensures buffer_kept { result ≢ SYNTAX_ERROR → result ≢ TOO_DEEP → buffer.new ≡ buffer.old }
+    ensures no_message { result ≢ SYNTAX_ERROR → result ≢ TOO_DEEP → result ≢ BUFFER_TOO_SMALL → buffer_length.new ≡ 0 }
 {
-    *needed = 0;
+    *buffer_length = 0;
     if is_refused(source, depth) {
-        return DEPTH;
+        return INVALID_LIMIT;
     }
     match message_of(alloc, source, depth) {
-        Ok(Said::Tree) => TREE,
-        Ok(Said::Refused(message)) => fill(room, needed, message.as_bytes(), REFUSED),
-        Ok(Said::TooDeep(message)) => fill(room, needed, message.as_bytes(), TOO_DEEP),
+        Ok(Said::Tree) => OK,
+        Ok(Said::Refused(message)) => fill(buffer, buffer_length, message.as_bytes(), SYNTAX_ERROR),
+        Ok(Said::TooDeep(message)) => fill(buffer, buffer_length, message.as_bytes(), TOO_DEEP),
         Err(unread) => unread.status(),
     }
 }

@@ -27,9 +27,9 @@ use Rattle.juniper_flat.specs.declared.node.Node.{Node}
 abbrev pub scalars : Scalars Content errors.Error
 scalars = stated scalar_reading boolean
 
--- the statuses of include/firthnapkin.h
+-- the statuses of `firthnapkin_parse` and `firthnapkin_message`
 abbrev pub IsStatus : ℕ → Type 0
-IsStatus n = (n ≤ 2) ⊎ ((4 ≤ n) × (n ≤ 8))
+IsStatus n = (n ≤ 4) ⊎ ((6 ≤ n) × (n ≤ 8))
 
 -- ---- sources
 

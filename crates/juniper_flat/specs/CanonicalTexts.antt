@@ -14,7 +14,7 @@ use Rattle.juniper_flat.specs.declared.canonical.Canonical.TheVariants as answer
 
 -- the statuses of `firthnapkin_canonical`
 abbrev pub IsCanonicalStatus : ℕ → Type 0
-IsCanonicalStatus n = (n ≤ 2) ⊎ ((n ≡ 4) ⊎ ((n ≡ 6) ⊎ (n ≡ 7)))
+IsCanonicalStatus n = (n ≤ 3) ⊎ ((n ≡ 6) ⊎ (n ≡ 7))
 
 -- ---- before the buffer is looked at
 

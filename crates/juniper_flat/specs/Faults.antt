@@ -25,13 +25,13 @@ abbrev pub error_reason : Error → Reason
 error_reason (errors.UnexpectedToken t) = because 0 0 0
 error_reason errors.UnexpectedEndOfFile = because 1 0 0
 error_reason (errors.Lexical e) = lexical_reason e
-error_reason (errors.ExpectedScalar t) = because 3 0 0
+error_reason (errors.ExpectedScalar t) = because 5 0 0
 
 abbrev pub deep_reason : Reason
-deep_reason = because 4 0 0
+deep_reason = because 3 0 0
 
 abbrev pub many_reason : Reason
-many_reason = because 5 0 0
+many_reason = because 4 0 0
 
 abbrev pub fault_at : List ℕ → Reason → Span → Fault
 fault_at source reason span = record {

@@ -18,6 +18,7 @@ use Rattle.juniper_flat.specs.declared.node.Value.{Value}
 
 -- ---- kinds
 
+-- The number of a kind. No node has that of a scalar, which is after all others: a literal's number is its content's.
 abbrev pub kind_number : NodeKind → ℕ
 kind_number kind.Query = 0
 kind_number kind.Mutation = 1
@@ -34,22 +35,22 @@ kind_number kind.Directive = 11
 kind_number kind.Arguments = 12
 kind_number kind.Argument = 13
 kind_number kind.Null = 14
-kind_number kind.Scalar = 15
-kind_number kind.Enum = 16
-kind_number kind.Reference = 17
-kind_number kind.List = 18
-kind_number kind.Object = 19
-kind_number kind.Key = 20
+kind_number kind.Enum = 15
+kind_number kind.Reference = 16
+kind_number kind.List = 17
+kind_number kind.Object = 18
+kind_number kind.Key = 19
+kind_number kind.Scalar = 26
 
 -- A large Int's content begins with 1, a Float's with 2, a block string's with 4.
 abbrev pub custom_number : List ℤ → ℕ
 custom_number [] = kind_number kind.Scalar
-custom_number (n ∷ ns) = 21 + unsigned_abs n
+custom_number (n ∷ ns) = 20 + unsigned_abs n
 
 abbrev pub content_number : Content → ℕ
-content_number (integer n) = 21
-content_number (text t) = 24
-content_number (boolean b) = 26
+content_number (integer n) = 20
+content_number (text t) = 23
+content_number (boolean b) = 25
 content_number (custom ns) = custom_number ns
 
 -- a scalar's number says what stands

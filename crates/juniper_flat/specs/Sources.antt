@@ -13,4 +13,4 @@ IsUnread source unread.OutOfMemory = (length source < 2 ^ 32) × IsUtf8 source
 abbrev pub unread_status : Unread → ℕ
 unread_status unread.NotUtf8 = 2
 unread_status unread.TooLong = 7
-unread_status unread.OutOfMemory = 4
+unread_status unread.OutOfMemory = 3

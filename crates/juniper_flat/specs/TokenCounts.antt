@@ -10,7 +10,7 @@ use Rattle.juniper_flat.specs.declared.count.Counted.TheVariants as counted
 
 -- the statuses of `firthnapkin_count`
 abbrev pub IsCountStatus : ℕ → Type 0
-IsCountStatus n = (n ≡ 0) ⊎ ((n ≡ 2) ⊎ ((n ≡ 4) ⊎ ((n ≡ 7) ⊎ (n ≡ 9))))
+IsCountStatus n = (n ≡ 0) ⊎ ((n ≡ 2) ⊎ ((n ≡ 3) ⊎ ((n ≡ 5) ⊎ (n ≡ 7))))
 
 -- whether a source has more tokens than this, or why nothing is known of it
 abbrev pub ReturnsCounted : List ℕ → ℕ → Result Counted Unread → Type 0

@@ -15,8 +15,8 @@ use juniper::{LexerError, ParseError, SourcePosition, Span, Spanning};
 #[repr(C)]
 #[derive(Clone, Copy)]
 pub struct Fault {
-    /// 0 for an unexpected token, 1 for an unexpected end, 2 for a lexical error, 3 for a scalar, 4 for nesting, 5 for
-    /// a token too many.
+    /// 0 for an unexpected token, 1 for an unexpected end, 2 for a lexical error, 3 for nesting, 4 for a token too many,
+    /// 5 for a scalar.
     pub kind: u32,
     /// A number for each `LexerError`, from 1 on in their order; 0 where the source is refused for no such error.
     pub detail: u32,
@@ -45,14 +45,14 @@ pub(crate) fn written_fault(table: &ByteTable, fault: &Spanning<ParseError>) -> 
 pub(crate) fn deep_fault(table: &ByteTable, span: Span) -> Fault
     ensures { (source : List ℕ) → IsTableOf source table.now → SpanFits (view_span span) → result ≡ deep_fault source (view_span span) }
 {
-    fault_at(table, because(4, 0, 0), &span)
+    fault_at(table, because(3, 0, 0), &span)
 }
 
 /// The fault of a source with too many tokens, at the first that is one.
 pub(crate) fn many_fault(table: &ByteTable, span: Span) -> Fault
     ensures { (source : List ℕ) → IsTableOf source table.now → SpanFits (view_span span) → result ≡ many_fault source (view_span span) }
 {
-    fault_at(table, because(5, 0, 0), &span)
+    fault_at(table, because(4, 0, 0), &span)
 }
 
 /// The fault of a source with this lexical error there.
@@ -81,7 +81,7 @@ fn error_reason(error: &ParseError) -> Reason
         ParseError::UnexpectedToken(_) => because(0, 0, 0),
         ParseError::UnexpectedEndOfFile => because(1, 0, 0),
         ParseError::LexerError(error) => lexical_reason(error),
-        ParseError::ExpectedScalarError(_) => because(3, 0, 0),
+        ParseError::ExpectedScalarError(_) => because(5, 0, 0),
     }
 }
 

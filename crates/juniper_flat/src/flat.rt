@@ -72,7 +72,7 @@ pub enum Parsed {
 
 /// Returns the nodes of a source's tree and their texts, or that the source is no document, or that a token is nested
 /// deeper than the limit. Nothing is known where the bytes are no text or are 4 GiB or more, and where memory runs out. A
-/// limit above `MOST_DEPTH` may need more stack than there is.
+/// limit above `MAX_DEPTH` may need more stack than there is.
 pub fn flat_of(alloc: Global, source: &[u8], depth: u32) -> Result<Parsed, Unread>
     ensures answer { ReturnsFlat source.now depth result }
     ensures bounds { IfTree result (λ flat. (length flat.nodes.items ≤ length source.now) × (length (string_bytes flat.texts) ≤ length source.now)) }

@@ -23,7 +23,7 @@ pub enum Said {
 }
 
 /// Returns why a source has no tree within a limit on the nesting of brackets, in words, or that it has one. There are
-/// no words where the bytes are no text or are 4 GiB or more, and where memory runs out. A limit above `MOST_DEPTH` may
+/// no words where the bytes are no text or are 4 GiB or more, and where memory runs out. A limit above `MAX_DEPTH` may
 /// need more stack than there is.
 pub fn message_of(alloc: Global, source: &[u8], depth: u32) -> Result<Said, Unread>
     ensures { ReturnsSaid source.now depth result }

@@ -27,7 +27,8 @@ use std::alloc::AllocError;
 #[repr(C)]
 #[derive(Clone, Copy)]
 pub struct Node {
-    /// What it stands for: a number for each `NodeKind` in their order, for a scalar one for each kind of literal.
+    /// What it stands for: a number for each `NodeKind` but that of scalars, in their order, and after these one for each
+    /// kind of literal.
     pub kind: u32,
     /// The number of the nodes after it that are of parts in it.
     pub descendants: u32,
@@ -138,12 +139,13 @@ fn kind_number(kind: NodeKind) -> u32
         NodeKind::Arguments => 12,
         NodeKind::Argument => 13,
         NodeKind::Null => 14,
-        NodeKind::Scalar => 15,
-        NodeKind::Enum => 16,
-        NodeKind::Reference => 17,
-        NodeKind::List => 18,
-        NodeKind::Object => 19,
-        NodeKind::Key => 20,
+        NodeKind::Enum => 15,
+        NodeKind::Reference => 16,
+        NodeKind::List => 17,
+        NodeKind::Object => 18,
+        NodeKind::Key => 19,
+        // No node has this number: a literal's is its scalar's.
+        NodeKind::Scalar => 26,
     }
 }
 
@@ -151,12 +153,12 @@ fn scalar_number(scalar: &Scalar) -> u32
     ensures { result ≡ content_number (scalar_content scalar.now) }
 {
     match scalar {
-        Scalar::Default(DefaultScalarValue::Int(_)) => 21,
-        Scalar::LargeInt => 22,
-        Scalar::Float => 23,
-        Scalar::Default(DefaultScalarValue::String(_)) => 24,
-        Scalar::BlockString(_) => 25,
-        Scalar::Default(DefaultScalarValue::Boolean(_)) => 26,
+        Scalar::Default(DefaultScalarValue::Int(_)) => 20,
+        Scalar::LargeInt => 21,
+        Scalar::Float => 22,
+        Scalar::Default(DefaultScalarValue::String(_)) => 23,
+        Scalar::BlockString(_) => 24,
+        Scalar::Default(DefaultScalarValue::Boolean(_)) => 25,
     }
 }
 

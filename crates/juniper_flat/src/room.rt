@@ -3,19 +3,19 @@ ghost use Rattle.std.specs.Prelude.{◌≡◌, ◌<◌, ◌≤◌, ◌⊎◌, le
 ghost use Rattle.juniper_flat.specs.Answers.{Begins};
 
 use crate::node::Node;
-use crate::status::ROOM;
+use crate::status::BUFFER_TOO_SMALL;
 use crate::token::Token;
 
 /// Copies these bytes to the buffer's beginning and returns the status, if the buffer is long enough. Otherwise it leaves
-/// the buffer as it is and returns `ROOM`. In `needed` it puts how many bytes there are.
+/// the buffer as it is and returns `BUFFER_TOO_SMALL`. In `needed` it puts how many bytes there are.
 pub fn fill(room: &mut [u8], needed: &mut usize, bytes: &[u8], status: u32) -> u32
     ensures count { needed.new ≡ length bytes.now }
     ensures filled { length bytes.now ≤ length room.old → (result ≡ status) × Begins bytes.now room.old room.new }
-    ensures short { length room.old < length bytes.now → (result ≡ ROOM) × (room.new ≡ room.old) }
+    ensures short { length room.old < length bytes.now → (result ≡ BUFFER_TOO_SMALL) × (room.new ≡ room.old) }
 {
     *needed = bytes.len();
     if room.len() < bytes.len() {
-        return ROOM;
+        return BUFFER_TOO_SMALL;
     }
     room[..bytes.len()].copy_from_slice(bytes);
     status

@@ -3,7 +3,7 @@ ghost use Rattle.std.specs.Prelude.{◌≡◌, ◌≢◌, ◌<◌, ◌^◌, leng
 ghost use Rattle.juniper_flat.specs.Sources.{IsUnread, unread_status};
 ghost use Rattle.juniper_flat.specs.declared.source.Unread.TheVariants.{OutOfMemory};
 
-use crate::status::{MEMORY, NOT_UTF8, TOO_LONG, TOO_LONG_FROM};
+use crate::status::{NOT_UTF8, OUT_OF_MEMORY, SOURCE_TOO_LONG, TOO_LONG_FROM};
 use std::alloc::AllocError;
 
 /// Why nothing is known of a source.
@@ -24,8 +24,8 @@ impl Unread {
     {
         match self {
             Unread::NotUtf8 => NOT_UTF8,
-            Unread::TooLong => TOO_LONG,
-            Unread::OutOfMemory => MEMORY,
+            Unread::TooLong => SOURCE_TOO_LONG,
+            Unread::OutOfMemory => OUT_OF_MEMORY,
         }
     }
 }

@@ -1,40 +1,32 @@
-//! What a call returns. There is no 3.
+//! What a call returns.
 
-/// The source is a document.
-pub const TREE: u32 = 0;
+/// Success: the source is a document, has no more tokens than the limit, or can be cut into tokens.
+pub const OK: u32 = 0;
 
 /// The source is a text that is no document, or that can't be cut into tokens where tokens are all that is wanted.
-pub const REFUSED: u32 = 1;
+pub const SYNTAX_ERROR: u32 = 1;
 
 /// The source is not UTF-8.
 pub const NOT_UTF8: u32 = 2;
 
 /// Memory ran out.
-pub const MEMORY: u32 = 4;
+pub const OUT_OF_MEMORY: u32 = 3;
 
-/// A token is nested deeper than the caller's depth, and those before it begin a document.
-pub const TOO_DEEP: u32 = 5;
+/// The source can be cut into tokens. One of them is nested deeper than the caller's depth, and those up to it begin a
+/// document.
+pub const TOO_DEEP: u32 = 4;
+
+/// The source has more tokens than the limit, before its end and before its first lexical error.
+pub const TOO_MANY_TOKENS: u32 = 5;
 
 /// A buffer is too short.
-pub const ROOM: u32 = 6;
+pub const BUFFER_TOO_SMALL: u32 = 6;
 
-/// The source has 4 GiB or more.
-pub const TOO_LONG: u32 = 7;
+/// The source has 4 GiB or more, and was not read.
+pub const SOURCE_TOO_LONG: u32 = 7;
 
-/// The depth is above `MOST_DEPTH`, and the source was not read.
-pub const DEPTH: u32 = 8;
-
-/// The source has no more tokens than the limit.
-pub const FEW: u32 = 0;
-
-/// The source has more tokens than the limit.
-pub const MANY: u32 = 9;
-
-/// The source was cut into tokens.
-pub const TOKENS: u32 = 0;
-
-/// The source has a canonical text.
-pub const CANONICAL: u32 = 0;
+/// The depth is above `MAX_DEPTH`, and the source was not read.
+pub const INVALID_LIMIT: u32 = 8;
 
 /// The least number of bytes of a source that is too many: an offset in it has 32 bits.
 pub const TOO_LONG_FROM: usize = 1 << 32;

@@ -14,7 +14,7 @@ use juniper_tokens::Kind;
 #[repr(C)]
 #[derive(Clone, Copy)]
 pub struct Token {
-    /// A number for each `Kind`, in their order.
+    /// A number for each `Kind`: 0 for the end, then those of the others in their order.
     pub kind: u32,
     /// The number of quotes on each side of its text.
     pub quotes: u32,
@@ -37,7 +37,10 @@ pub(crate) fn token_at(table: &ByteTable, kind: Kind, span: &Span) -> Token
 fn kind_number(kind: Kind) -> u32
     ensures { result ≡ kind_number kind }
 {
-    kind as u32
+    match kind {
+        Kind::EndOfFile => 0,
+        _ => kind as u32 + 1,
+    }
 }
 
 fn quote_count(kind: Kind) -> u32

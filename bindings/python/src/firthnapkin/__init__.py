@@ -5,15 +5,15 @@
         print(node.kind, node.name, node.value, node.text)
 """
 
-from ._parser import MOST_DEPTH, VERSION as __version__
+from ._parser import MAX_DEPTH, VERSION as __version__
 from .document import Document, Kind, Node, Nodes
-from .fault import Detail, Fault, Reason
+from .errors import ErrorDetail, ErrorKind, FirthnapkinError
 from .lexer import Token, TokenKind, Tokens, canonical, tokens
 from .parser import parse
-from .parts import Place
+from .parts import Position
 from .visitor import Step, Visitor
 
 __all__ = [
-    "MOST_DEPTH", "Detail", "Document", "Fault", "Kind", "Node", "Nodes", "Place", "Reason", "Step", "Token", "TokenKind",
-    "Tokens", "Visitor", "__version__", "canonical", "parse", "tokens",
+    "MAX_DEPTH", "Document", "ErrorDetail", "ErrorKind", "FirthnapkinError", "Kind", "Node", "Nodes", "Position", "Step", "Token",
+    "TokenKind", "Tokens", "Visitor", "__version__", "canonical", "parse", "tokens",
 ]  # fmt: skip

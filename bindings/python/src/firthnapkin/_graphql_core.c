@@ -42,8 +42,8 @@ static bool is_read_otherwise(const builder *b) {
         const firthnapkin_node *n = &b->nodes[i];
         bool is_number = n->kind == FIRTHNAPKIN_INT || n->kind == FIRTHNAPKIN_LARGE_INT || n->kind == FIRTHNAPKIN_FLOAT;
         char next = is_number && n->end.byte < b->length ? b->source[n->end.byte] : ' ';
-        if (n->kind == FIRTHNAPKIN_VARIABLES) constant = behind(b, i);
-        if (begins_name(next) || (n->kind == FIRTHNAPKIN_REFERENCE && i < constant)) return true;
+        if (n->kind == FIRTHNAPKIN_VARIABLE_DEFINITIONS) constant = behind(b, i);
+        if (begins_name(next) || (n->kind == FIRTHNAPKIN_VARIABLE && i < constant)) return true;
     }
     return false;
 }
@@ -53,7 +53,7 @@ static bool is_read_otherwise(const builder *b) {
 PyDoc_STRVAR(document_doc,
              "document(source, characters, depth, origin, tokens, /)\n--\n\n"
              "Returns the DocumentNode of a str of that many characters, which source has as UTF-8.\n\n"
-             "The origin is the Source of its locations, or None where it has no locations. A limit of MOST_TOKENS tokens is none,\n"
+             "The origin is the Source of its locations, or None where it has no locations. A limit of MAX_TOKENS tokens is none,\n"
              "and one below 0 is -1. Returns None where graphql-core's own parser has to be called. Where a limit is exceeded,\n"
              "returns the index of the first token beyond it, and whether that token is nested too deep. Raises MemoryError where\n"
              "memory runs out.");
@@ -61,10 +61,10 @@ PyDoc_STRVAR(document_doc,
 /* What document returns for a source that was parsed so. */
 static PyObject *answer(builder *b, const whole *w, Py_ssize_t characters) {
     bool is_deep = w->status == FIRTHNAPKIN_TOO_DEEP;
-    if (w->status == FIRTHNAPKIN_MEMORY) return PyErr_NoMemory();
-    if (is_deep || w->status == FIRTHNAPKIN_MANY)
-        return Py_BuildValue("kO", (unsigned long)w->fault.start.index, is_deep ? Py_True : Py_False);
-    return w->status != FIRTHNAPKIN_TREE || is_read_otherwise(b) ? none() : document_at_once(b, characters);
+    if (w->status == FIRTHNAPKIN_OUT_OF_MEMORY) return PyErr_NoMemory();
+    if (is_deep || w->status == FIRTHNAPKIN_TOO_MANY_TOKENS)
+        return Py_BuildValue("kO", (unsigned long)w->error.start.index, is_deep ? Py_True : Py_False);
+    return w->status != FIRTHNAPKIN_OK || is_read_otherwise(b) ? none() : document_at_once(b, characters);
 }
 
 static PyObject *document_in(PyObject *module, PyObject *arguments) {
@@ -77,12 +77,12 @@ static PyObject *document_in(PyObject *module, PyObject *arguments) {
     if (!PyArg_ParseTuple(arguments, "SnkOL:document", &source, &characters, &depth, &origin, &tokens)) return NULL;
     if (PyBytes_AsStringAndSize(source, &bytes, &length) != 0) return NULL;
     if (!state->is_set) return PyErr_Format(PyExc_SystemError, "setup is to be called first");
-    uint32_t limit = depth <= FIRTHNAPKIN_MOST_DEPTH ? (uint32_t)depth : UINT32_MAX;
+    uint32_t limit = depth <= FIRTHNAPKIN_MAX_DEPTH ? (uint32_t)depth : UINT32_MAX;
     int64_t most = tokens < -1 ? -1 : tokens < UINT32_MAX ? tokens : UINT32_MAX;
     size_t counted = 0;
     PyThreadState *thread = PyEval_SaveThread();
     whole w = within(&state->rules, (const uint8_t *)bytes, (size_t)length, limit, most);
-    if (w.status == FIRTHNAPKIN_TREE) w.status = count_for(&state->rules, (const uint8_t *)bytes, (size_t)length, &counted);
+    if (w.status == FIRTHNAPKIN_OK) w.status = count_for(&state->rules, (const uint8_t *)bytes, (size_t)length, &counted);
     PyEval_RestoreThread(thread);
     builder b = {.state = state, .nodes = w.nodes, .count = w.nodes_count, .source = bytes, .texts = (const char *)w.texts,
                  .length = (size_t)length, .is_ascii = characters == length, .counted = counted, .origin = origin};

@@ -11,7 +11,7 @@
 /* The tokens of a source and its end, or those before its first lexical error or before the first one too many. They have to
  * be freed, whatever the status. */
 static whole tokens_found(const uint8_t *source, size_t length, uint32_t most) {
-    whole w = {.status = FIRTHNAPKIN_MEMORY};
+    whole w = {.status = FIRTHNAPKIN_OUT_OF_MEMORY};
     size_t capacity, needed = at_first(length) + 16;
     /* No more are found than these and the end. */
     if (most < needed) needed = (size_t)most + 1;
@@ -19,9 +19,9 @@ static whole tokens_found(const uint8_t *source, size_t length, uint32_t most) {
         give_back(&w);
         capacity = needed;
         w.tokens = malloc(capacity * sizeof *w.tokens);
-        w.status = FIRTHNAPKIN_MEMORY;
+        w.status = FIRTHNAPKIN_OUT_OF_MEMORY;
         w.tokens_count = 0;
-        if (w.tokens != NULL) w.status = tokens_on_stack(source, length, most, w.tokens, capacity, &w.tokens_count, &w.fault);
+        if (w.tokens != NULL) w.status = tokens_on_stack(source, length, most, w.tokens, capacity, &w.tokens_count, &w.error);
         needed = w.tokens_count;
     } while (needed > capacity);
     return w;
@@ -45,17 +45,17 @@ static size_t comments_between(const uint8_t *source, uint32_t from, uint32_t to
 
 /* The number of tokens of a source, and of its comments where these count. Where memory runs out that is the status. */
 static uint32_t count_all(const uint8_t *source, size_t length, bool with_comments, size_t *count) {
-    firthnapkin_fault fault;
+    firthnapkin_error error;
     uint32_t last = 0, status;
     if (!with_comments || !may_have_comment(source, length)) {
-        status = tokens_on_stack(source, length, UINT32_MAX, NULL, 0, count, &fault);
+        status = tokens_on_stack(source, length, UINT32_MAX, NULL, 0, count, &error);
         /* The end is no token. */
-        if (status == FIRTHNAPKIN_ROOM) (*count)--;
+        if (status == FIRTHNAPKIN_BUFFER_TOO_SMALL) (*count)--;
         return status;
     }
     whole cut = tokens_found(source, length, UINT32_MAX);
     status = cut.status;
-    *count = cut.tokens_count - (status == FIRTHNAPKIN_TOKENS);
+    *count = cut.tokens_count - (status == FIRTHNAPKIN_OK);
     for (size_t i = 0; i < cut.tokens_count; i++) {
         *count += comments_between(source, last, cut.tokens[i].start.byte);
         last = cut.tokens[i].end.byte;
@@ -64,13 +64,13 @@ static uint32_t count_all(const uint8_t *source, size_t length, bool with_commen
     return status;
 }
 
-/* What a document of this source has as its token_count, and 0 where documents have none. The status is FIRTHNAPKIN_TREE, or
+/* What a document of this source has as its token_count, and 0 where documents have none. The status is FIRTHNAPKIN_OK, or
  * says that memory ran out. */
 static uint32_t count_for(const counting_rules *rules, const uint8_t *source, size_t length, size_t *count) {
     *count = 0;
-    if (rules->token_count == NO_COUNT) return FIRTHNAPKIN_TREE;
+    if (rules->token_count == NO_COUNT) return FIRTHNAPKIN_OK;
     uint32_t status = count_all(source, length, rules->token_count == COUNT_OF_TOKENS_AND_COMMENTS, count);
-    return status == FIRTHNAPKIN_MEMORY ? FIRTHNAPKIN_MEMORY : FIRTHNAPKIN_TREE;
+    return status == FIRTHNAPKIN_OUT_OF_MEMORY ? FIRTHNAPKIN_OUT_OF_MEMORY : FIRTHNAPKIN_OK;
 }
 
 /* ---- where graphql-core's own parser has to be called */
@@ -109,21 +109,21 @@ static bool has_refused_token(const whole *cut, size_t looked_at, const uint8_t 
     return false;
 }
 
-/* Whether graphql-core reports an error before it reports the token beyond a limit, or the end, at which the fault is. It
+/* Whether graphql-core reports an error before it reports the token beyond a limit, or the end, at which the error is. It
  * reads that one, too, before it looks at the limit. Where memory runs out that is the status. */
-static bool is_refused_before(const uint8_t *source, size_t length, const firthnapkin_fault *fault, uint32_t *status) {
-    whole cut = tokens_found(source, fault->end.byte, UINT32_MAX);
+static bool is_refused_before(const uint8_t *source, size_t length, const firthnapkin_error *error, uint32_t *status) {
+    whole cut = tokens_found(source, error->end.byte, UINT32_MAX);
     size_t looked_at = 0;
-    while (looked_at < cut.tokens_count && cut.tokens[looked_at].start.byte < fault->start.byte) looked_at++;
+    while (looked_at < cut.tokens_count && cut.tokens[looked_at].start.byte < error->start.byte) looked_at++;
     bool is_refused = has_refused_token(&cut, looked_at, source, length);
-    if (cut.status == FIRTHNAPKIN_MEMORY) *status = FIRTHNAPKIN_MEMORY;
+    if (cut.status == FIRTHNAPKIN_OUT_OF_MEMORY) *status = FIRTHNAPKIN_OUT_OF_MEMORY;
     give_back(&cut);
     return is_refused;
 }
 
 /* ---- limits */
 
-/* Sets the fault to the first of these tokens, or the end, up to which more is counted than the limit. False where there is
+/* Sets the error to the first of these tokens, or the end, up to which more is counted than the limit. False where there is
  * none. */
 static bool find_too_many(const counting_rules *rules, whole *cut, const uint8_t *source, int64_t most) {
     int64_t count = 0;
@@ -134,50 +134,51 @@ static bool find_too_many(const counting_rules *rules, whole *cut, const uint8_t
         count += !is_end;
         if (rules->limits_comments) count += (int64_t)comments_between(source, last, t->start.byte);
         if (count > most && (!is_end || rules->limits_end)) {
-            cut->fault.start = t->start;
-            cut->fault.end = t->end;
+            cut->error.start = t->start;
+            cut->error.end = t->end;
             return true;
         }
         last = t->end.byte;
     }
-    return cut->status == FIRTHNAPKIN_MANY;
+    return cut->status == FIRTHNAPKIN_TOO_MANY_TOKENS;
 }
 
-/* The nodes of a source that keeps a limit on its tokens. Otherwise the status is FIRTHNAPKIN_MANY, and the fault is at the
- * first token too many, or at the end. A limit of UINT32_MAX is none. */
+/* The nodes of a source that keeps a limit on its tokens. Otherwise the status is FIRTHNAPKIN_TOO_MANY_TOKENS, and the error is
+ * at the first token too many, or at the end. A limit of UINT32_MAX is none. */
 static whole with_few_tokens(const counting_rules *rules, const uint8_t *source, size_t length, uint32_t depth, int64_t most) {
     bool counts_comments = rules->limits_comments && most < UINT32_MAX && may_have_comment(source, length);
     uint32_t tokens = most < 0 ? 0 : (uint32_t)most;
     if (!counts_comments && (most >= 0 || !rules->limits_end)) return parse_whole(source, length, depth, tokens);
     whole cut = tokens_found(source, length, tokens);
     if (find_too_many(rules, &cut, source, most))
-        cut.status = FIRTHNAPKIN_MANY;
-    else if (cut.status != FIRTHNAPKIN_MEMORY) {
+        cut.status = FIRTHNAPKIN_TOO_MANY_TOKENS;
+    else if (cut.status != FIRTHNAPKIN_OUT_OF_MEMORY) {
         give_back(&cut);
         return parse_whole(source, length, depth, UINT32_MAX);
     }
     return cut;
 }
 
-/* What the tokens before the first one too many are: FIRTHNAPKIN_MANY where a document begins with them, and otherwise the
- * status that is returned for them, with its fault. No buffers are passed, so nothing is built from them. */
-static uint32_t begun(const uint8_t *source, uint32_t depth, firthnapkin_fault *fault) {
+/* What the tokens before the first one too many are: FIRTHNAPKIN_TOO_MANY_TOKENS where a document begins with them, and
+ * otherwise the status that is returned for them, with its error. No buffers are passed, so nothing is built from them. */
+static uint32_t begun(const uint8_t *source, uint32_t depth, firthnapkin_error *error) {
     size_t nodes, texts;
-    firthnapkin_fault found;
-    uint32_t status = parse_on_stack(source, fault->start.byte, depth, NULL, 0, &nodes, NULL, 0, &texts, &found);
-    bool is_whole = status == FIRTHNAPKIN_ROOM || status == FIRTHNAPKIN_TREE;
-    if (is_whole || (status == FIRTHNAPKIN_REFUSED && found.kind == FIRTHNAPKIN_UNEXPECTED_END)) return FIRTHNAPKIN_MANY;
-    if (status == FIRTHNAPKIN_TOO_DEEP) *fault = found;
+    firthnapkin_error found;
+    uint32_t status = parse_on_stack(source, error->start.byte, depth, NULL, 0, &nodes, NULL, 0, &texts, &found);
+    bool is_whole = status == FIRTHNAPKIN_BUFFER_TOO_SMALL || status == FIRTHNAPKIN_OK;
+    bool is_at_end = status == FIRTHNAPKIN_SYNTAX_ERROR && found.kind == FIRTHNAPKIN_ERROR_UNEXPECTED_END;
+    if (is_whole || is_at_end) return FIRTHNAPKIN_TOO_MANY_TOKENS;
+    if (status == FIRTHNAPKIN_TOO_DEEP) *error = found;
     return status;
 }
 
-/* The nodes of a source that keeps both limits. Where it doesn't, the status says which one, and the fault is at the first
- * token beyond it. But the status is FIRTHNAPKIN_REFUSED where graphql-core reports an earlier token. */
+/* The nodes of a source that keeps both limits. Where it doesn't, the status says which one, and the error is at the first
+ * token beyond it. But the status is FIRTHNAPKIN_SYNTAX_ERROR where graphql-core reports an earlier token. */
 static whole within(const counting_rules *rules, const uint8_t *source, size_t length, uint32_t depth, int64_t most) {
     whole w = with_few_tokens(rules, source, length, depth, most);
-    if (w.status == FIRTHNAPKIN_MANY) w.status = begun(source, depth, &w.fault);
-    bool is_beyond = w.status == FIRTHNAPKIN_MANY || w.status == FIRTHNAPKIN_TOO_DEEP;
-    if (is_beyond && is_refused_before(source, length, &w.fault, &w.status)) w.status = FIRTHNAPKIN_REFUSED;
+    if (w.status == FIRTHNAPKIN_TOO_MANY_TOKENS) w.status = begun(source, depth, &w.error);
+    bool is_beyond = w.status == FIRTHNAPKIN_TOO_MANY_TOKENS || w.status == FIRTHNAPKIN_TOO_DEEP;
+    if (is_beyond && is_refused_before(source, length, &w.error, &w.status)) w.status = FIRTHNAPKIN_SYNTAX_ERROR;
     return w;
 }
 

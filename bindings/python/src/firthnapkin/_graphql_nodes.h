@@ -142,8 +142,8 @@ static PyObject *location_of(const builder *b, int class, span at) {
 
 /* ---- places */
 
-static spot spot_of(firthnapkin_place place) {
-    return (spot){place.index, place.byte};
+static spot spot_of(firthnapkin_position position) {
+    return (spot){position.index, position.byte};
 }
 
 static span span_of(const firthnapkin_node *n) {
@@ -250,7 +250,7 @@ static PyObject *selections(const builder *b, parts *p, const firthnapkin_node *
 
 /* A type, by its source: the brackets and exclamation marks around a name. */
 static PyObject *type_of(const builder *b, const firthnapkin_node *n) {
-    uint32_t opened[FIRTHNAPKIN_MOST_DEPTH], count = 0;
+    uint32_t opened[FIRTHNAPKIN_MAX_DEPTH], count = 0;
     spot at = spot_of(n->start);
     for (; b->source[at.byte] == '['; at = token_behind(b, (spot){at.index + 1, at.byte + 1})) opened[count++] = at.index;
     uint32_t end = at.byte, start = at.index;
@@ -274,7 +274,7 @@ static PyObject *operation(const builder *b, const firthnapkin_node *n, parts *p
     PyObject *kind = b->state->operations[n->kind];
     Py_INCREF(kind);
     PyObject *name = has_name ? own_name(b, &p->last, n) : none();
-    PyObject *variables = take_if(b, p, FIRTHNAPKIN_VARIABLES, b->state->nothing);
+    PyObject *variables = take_if(b, p, FIRTHNAPKIN_VARIABLE_DEFINITIONS, b->state->nothing);
     PyObject *directives = take_all(b, p, true);
     return NODE(b, OPERATION, span_of(n), kind, name, variables, directives, selections(b, p, n));
 }
@@ -346,26 +346,26 @@ static PyObject *made_of(const builder *b, size_t i) {
     case FIRTHNAPKIN_QUERY:
     case FIRTHNAPKIN_MUTATION:
     case FIRTHNAPKIN_SUBSCRIPTION: return operation(b, n, &p);
-    case FIRTHNAPKIN_FRAGMENT: return fragment(b, n, &p);
-    case FIRTHNAPKIN_VARIABLES:
+    case FIRTHNAPKIN_FRAGMENT_DEFINITION: return fragment(b, n, &p);
+    case FIRTHNAPKIN_VARIABLE_DEFINITIONS:
     case FIRTHNAPKIN_ARGUMENTS: return take_all(b, &p, false);
-    case FIRTHNAPKIN_VARIABLE: return variable_definition(b, n, &p);
+    case FIRTHNAPKIN_VARIABLE_DEFINITION: return variable_definition(b, n, &p);
     case FIRTHNAPKIN_TYPE: return type_of(b, n);
     case FIRTHNAPKIN_FIELD: return field(b, n, &p);
     case FIRTHNAPKIN_ALIAS: return own_name(b, &p.last, n);
-    case FIRTHNAPKIN_SPREAD: {
+    case FIRTHNAPKIN_FRAGMENT_SPREAD: {
         PyObject *name = own_name(b, &p.last, n);
         return NODE(b, SPREAD, span_of(n), name, take_all(b, &p, true));
     }
-    case FIRTHNAPKIN_INLINE: return inline_fragment(b, n, &p);
+    case FIRTHNAPKIN_INLINE_FRAGMENT: return inline_fragment(b, n, &p);
     case FIRTHNAPKIN_DIRECTIVE: return directive(b, n, &p);
     case FIRTHNAPKIN_ARGUMENT: return pair(b, ARGUMENT, n, &p);
     case FIRTHNAPKIN_NULL: return NODE(b, NULL_VALUE, span_of(n), NULL);
     case FIRTHNAPKIN_ENUM: return written(b, ENUM, n);
-    case FIRTHNAPKIN_REFERENCE: return variable(b, n);
+    case FIRTHNAPKIN_VARIABLE: return variable(b, n);
     case FIRTHNAPKIN_LIST: return NODE(b, LIST, span_of(n), take_all(b, &p, false));
     case FIRTHNAPKIN_OBJECT: return NODE(b, OBJECT, span_of(n), take_all(b, &p, false));
-    case FIRTHNAPKIN_KEY: return pair(b, OBJECT_FIELD, n, &p);
+    case FIRTHNAPKIN_OBJECT_FIELD: return pair(b, OBJECT_FIELD, n, &p);
     case FIRTHNAPKIN_INT:
     case FIRTHNAPKIN_LARGE_INT: return written(b, INT, n);
     case FIRTHNAPKIN_FLOAT: return written(b, FLOAT, n);

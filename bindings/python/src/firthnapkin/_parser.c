@@ -10,14 +10,15 @@ static PyObject *pair_of(uint32_t status, const void *first, size_t first_length
                          texts, (Py_ssize_t)w->texts_count);
 }
 
-/* The result of a call: its status, and two bytes objects. The first one is `first`, or the fault. The memory of the call is
+/* The result of a call: its status, and two bytes objects. The first one is `first`, or the error. The memory of the call is
  * freed. */
 static PyObject *told(whole *w, const void *first, size_t first_length) {
     PyObject *result;
-    if (w->status == FIRTHNAPKIN_MEMORY)
+    if (w->status == FIRTHNAPKIN_OUT_OF_MEMORY)
         result = PyErr_NoMemory();
-    else if (w->status == FIRTHNAPKIN_REFUSED || w->status == FIRTHNAPKIN_TOO_DEEP || w->status == FIRTHNAPKIN_MANY)
-        result = pair_of(w->status, &w->fault, sizeof w->fault, w);
+    else if (w->status == FIRTHNAPKIN_SYNTAX_ERROR || w->status == FIRTHNAPKIN_TOO_DEEP
+             || w->status == FIRTHNAPKIN_TOO_MANY_TOKENS)
+        result = pair_of(w->status, &w->error, sizeof w->error, w);
     else
         result = pair_of(w->status, first, first_length, w);
     give_back(w);
@@ -31,8 +32,8 @@ static uint32_t limit_of(unsigned long tokens) {
 
 PyDoc_STRVAR(parse_doc, "parse(source, depth, tokens, /)\n--\n\n"
                         "Returns the status, the bytes of the nodes, and the bytes of the texts.\n\n"
-                        "For an error the bytes are those of the fault and of its message. Raises MemoryError where memory\n"
-                        "runs out.");
+                        "For an error the bytes are those of a firthnapkin_error and of its message. Raises MemoryError where\n"
+                        "memory runs out.");
 
 static PyObject *parse(PyObject *module, PyObject *arguments) {
     PyObject *source;
@@ -42,7 +43,7 @@ static PyObject *parse(PyObject *module, PyObject *arguments) {
     (void)module;
     if (!PyArg_ParseTuple(arguments, "Skk:parse", &source, &depth, &tokens)) return NULL;
     if (PyBytes_AsStringAndSize(source, &bytes, &length) != 0) return NULL;
-    uint32_t limit = depth <= FIRTHNAPKIN_MOST_DEPTH ? (uint32_t)depth : UINT32_MAX;
+    uint32_t limit = depth <= FIRTHNAPKIN_MAX_DEPTH ? (uint32_t)depth : UINT32_MAX;
     PyThreadState *state = PyEval_SaveThread();
     whole w = parse_whole((const uint8_t *)bytes, (size_t)length, limit, limit_of(tokens));
     PyEval_RestoreThread(state);
@@ -51,8 +52,8 @@ static PyObject *parse(PyObject *module, PyObject *arguments) {
 
 PyDoc_STRVAR(tokens_doc, "tokens(source, tokens, /)\n--\n\n"
                          "Returns the status, the bytes of the tokens, and no bytes.\n\n"
-                         "For an error the bytes are those of the fault and of its message. Raises MemoryError where memory\n"
-                         "runs out.");
+                         "For an error the bytes are those of a firthnapkin_error and of its message. Raises MemoryError where\n"
+                         "memory runs out.");
 
 static PyObject *tokens(PyObject *module, PyObject *arguments) {
     PyObject *source;
@@ -70,8 +71,8 @@ static PyObject *tokens(PyObject *module, PyObject *arguments) {
 
 PyDoc_STRVAR(canonical_doc, "canonical(source, /)\n--\n\n"
                             "Returns the status, no bytes, and the bytes of the canonical text.\n\n"
-                            "For an error the bytes are those of the fault and of its message. Raises MemoryError where\n"
-                            "memory runs out.");
+                            "For an error the bytes are those of a firthnapkin_error and of its message. Raises MemoryError\n"
+                            "where memory runs out.");
 
 static PyObject *canonical(PyObject *module, PyObject *source) {
     char *bytes;
@@ -90,9 +91,9 @@ static PyMethodDef methods[] = {{"parse", parse, METH_VARARGS, parse_doc},
                                 {NULL, NULL, 0, NULL}};
 
 static int begin(PyObject *module) {
-    return PyModule_AddIntConstant(module, "MOST_DEPTH", FIRTHNAPKIN_MOST_DEPTH) != 0
-            || PyModule_AddObject(module, "MOST_TOKENS", PyLong_FromUnsignedLong(UINT32_MAX)) != 0
-            || PyModule_AddStringConstant(module, "VERSION", FIRTHNAPKIN_VERSION_TEXT) != 0
+    return PyModule_AddIntConstant(module, "MAX_DEPTH", FIRTHNAPKIN_MAX_DEPTH) != 0
+            || PyModule_AddObject(module, "MAX_TOKENS", PyLong_FromUnsignedLong(UINT32_MAX)) != 0
+            || PyModule_AddStringConstant(module, "VERSION", FIRTHNAPKIN_VERSION_STRING) != 0
         ? -1
         : 0;
 }

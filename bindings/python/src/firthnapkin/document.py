@@ -7,7 +7,7 @@ import struct
 from array import array
 from typing import Optional, Sequence, Union, overload
 
-from .parts import Part, Parts, position
+from .parts import Part, Parts, from_start
 
 __all__ = ["Document", "Kind", "Node", "Nodes"]
 
@@ -18,42 +18,41 @@ class Kind(enum.Enum):
     QUERY = 0
     MUTATION = 1
     SUBSCRIPTION = 2
-    #: The definition of a fragment.
-    FRAGMENT = 3
+    FRAGMENT_DEFINITION = 3
     #: The variable definitions of an operation.
-    VARIABLES = 4
+    VARIABLE_DEFINITIONS = 4
     #: A variable definition, by its name.
-    VARIABLE = 5
+    VARIABLE_DEFINITION = 5
     #: The type of a variable.
     TYPE = 6
     FIELD = 7
     #: The alias of a field.
     ALIAS = 8
     #: The use of a fragment by its name.
-    SPREAD = 9
+    FRAGMENT_SPREAD = 9
     #: A fragment without a name.
-    INLINE = 10
+    INLINE_FRAGMENT = 10
     DIRECTIVE = 11
     #: The arguments of a field or a directive.
     ARGUMENTS = 12
     #: An argument, by its name.
     ARGUMENT = 13
     NULL = 14
-    ENUM = 16
+    ENUM = 15
     #: A variable used as a value.
-    REFERENCE = 17
-    LIST = 18
-    OBJECT = 19
+    VARIABLE = 16
+    LIST = 17
+    OBJECT = 18
     #: A field of an object, by its name.
-    KEY = 20
+    OBJECT_FIELD = 19
     #: An Int that fits into 32 bits.
-    INT = 21
+    INT = 20
     #: An Int that doesn't.
-    LARGE_INT = 22
-    FLOAT = 23
-    STRING = 24
-    BLOCK_STRING = 25
-    BOOLEAN = 26
+    LARGE_INT = 21
+    FLOAT = 22
+    STRING = 23
+    BLOCK_STRING = 24
+    BOOLEAN = 25
 
 
 _KINDS = {kind.value: kind for kind in Kind}
@@ -109,9 +108,9 @@ class Node(Part):
             return _float(self.text)
         if kind in (Kind.STRING, Kind.BLOCK_STRING, Kind.TYPE):
             return self._whole._texts[told[12] : told[12] + told[13]].decode()
-        if kind is Kind.FRAGMENT:
+        if kind is Kind.FRAGMENT_DEFINITION:
             return self._whole._source[told[12] : told[12] + told[13]].decode()
-        if kind in (Kind.ENUM, Kind.REFERENCE):
+        if kind in (Kind.ENUM, Kind.VARIABLE):
             return self.name
         return None
 
@@ -154,7 +153,7 @@ class Nodes(Sequence[Node]):
     def __getitem__(self, index: Union[int, slice]) -> Union[Node, Nodes]:
         if isinstance(index, slice):
             return Nodes(self._document, self._indexes[index])
-        return Node(self._document, self._indexes[position(index, len(self._indexes))])
+        return Node(self._document, self._indexes[from_start(index, len(self._indexes))])
 
     def __contains__(self, node: object) -> bool:
         return isinstance(node, Node) and node._whole is self._document and node._index in self._indexes

@@ -45,7 +45,7 @@ def parse(
     deep brackets may be nested. Raises GraphQLSyntaxError as graphql-core does, and at the first token that is nested deeper.
     With `max_tokens` a text with more is refused at the first token too many, before any node is made. What counts against
     it, comments for instance, is what counts in the installed release. Raises TypeError where the depth is no int, and for an
-    argument that graphql-core's parse doesn't have; ValueError where the depth is below 0 or above MOST_DEPTH. A `max_tokens`
+    argument that graphql-core's parse doesn't have; ValueError where the depth is below 0 or above MAX_DEPTH. A `max_tokens`
     that is no int is passed to graphql-core, which accepts or refuses it.
     """
     limit = limit_of(depth)
@@ -69,7 +69,7 @@ def _document(origin: Source, no_location: bool, max_tokens: Optional[int], dept
     except UnicodeEncodeError:
         # A lone surrogate: graphql-core's own parser decides.
         return None
-    most = _parser.MOST_TOKENS if max_tokens is None else min(max(max_tokens, -1), _parser.MOST_TOKENS)
+    most = _parser.MAX_TOKENS if max_tokens is None else min(max(max_tokens, -1), _parser.MAX_TOKENS)
     found = _graphql_core.document(written, len(origin.body), depth, None if no_location else origin, most)
     if not isinstance(found, tuple):
         return found

@@ -16,31 +16,31 @@ __all__ = ["Token", "TokenKind", "Tokens", "canonical", "tokens"]
 class TokenKind(enum.Enum):
     """The kind of a token."""
 
-    #: A name or a word of the language.
-    NAME = 0
-    #: A text between quotes.
-    STRING = 1
-    #: A text between three quotes on each side.
-    BLOCK_STRING = 2
-    #: A number with a fraction or an exponent.
-    FLOAT = 3
-    #: A number without either.
-    INT = 4
-    EXCLAMATION_MARK = 5
-    DOLLAR = 6
-    PAREN_OPEN = 7
-    PAREN_CLOSE = 8
-    BRACKET_OPEN = 9
-    BRACKET_CLOSE = 10
-    CURLY_OPEN = 11
-    CURLY_CLOSE = 12
-    ELLIPSIS = 13
-    COLON = 14
-    EQUALS = 15
-    AT = 16
-    PIPE = 17
     #: The end of the text.
-    END_OF_FILE = 18
+    END_OF_FILE = 0
+    #: A name or a word of the language.
+    NAME = 1
+    #: A text between quotes.
+    STRING = 2
+    #: A text between three quotes on each side.
+    BLOCK_STRING = 3
+    #: A number with a fraction or an exponent.
+    FLOAT = 4
+    #: A number without either.
+    INT = 5
+    EXCLAMATION_MARK = 6
+    DOLLAR = 7
+    PAREN_OPEN = 8
+    PAREN_CLOSE = 9
+    BRACKET_OPEN = 10
+    BRACKET_CLOSE = 11
+    CURLY_OPEN = 12
+    CURLY_CLOSE = 13
+    ELLIPSIS = 14
+    COLON = 15
+    EQUALS = 16
+    AT = 17
+    PIPE = 18
 
 
 _KINDS = {kind.value: kind for kind in TokenKind}
@@ -84,11 +84,12 @@ def tokens(source: str, *, max_tokens: Optional[int] = None) -> Tokens:
     """Returns the tokens of a text. The last one is its end. Other threads run meanwhile.
 
     White space, line ends, commas, comments and byte order marks are no tokens. With `max_tokens` the text may have no more
-    tokens than that, its end not counted. A text with more is refused at the first token too many, whatever comes after it.
+    tokens than that, its end not counted. A text with more is refused at the first token too many, whatever comes after it but
+    a lone surrogate.
 
-    Raises Fault, a ValueError, at the first place that has no token, or at the first token too many; TypeError where the source
-    is no str, or max_tokens neither an int nor None; ValueError where max_tokens is below 0, or the text has 4 GiB or more;
-    MemoryError where memory runs out.
+    Raises FirthnapkinError, a ValueError, at the first position that has no token, or at the first token too many; TypeError
+    where the source is no str, or max_tokens neither an int nor None; ValueError where max_tokens is below 0, or the text has
+    4 GiB or more; MemoryError where memory runs out.
     """
     require_text(source)
     most = most_of(max_tokens)
@@ -103,8 +104,8 @@ def canonical(source: str) -> str:
     before `...` after a token that is no punctuator. It is never more than twice as long as the text. The call doesn't check
     whether the text is a document.
 
-    Raises Fault, a ValueError, at the first place that has no token; TypeError where the source is no str; ValueError where the
-    text has 4 GiB or more; MemoryError where memory runs out.
+    Raises FirthnapkinError, a ValueError, at the first position that has no token; TypeError where the source is no str;
+    ValueError where the text has 4 GiB or more; MemoryError where memory runs out.
     """
     require_text(source)
     _, text = given(source, *_parser.canonical(encoded(source)))

@@ -6,11 +6,11 @@ import operator
 import struct
 from typing import Any, ClassVar, List, NamedTuple, Sequence, Tuple, TypeVar, Union, overload
 
-__all__ = ["Place"]
+__all__ = ["Position"]
 
 
-class Place(NamedTuple):
-    """How many characters, line feeds, characters of the line, and bytes of UTF-8 are before a place."""
+class Position(NamedTuple):
+    """How many characters, line feeds, characters of the line, and bytes of UTF-8 are before a position."""
 
     index: int  # type: ignore[assignment]
     line: int
@@ -19,7 +19,7 @@ class Place(NamedTuple):
 
 
 class Part:
-    """A part of a text. Its numbers are two of its own, the eight of its places, and further ones of its own."""
+    """A part of a text. Its numbers are two of its own, the eight of its positions, and further ones of its own."""
 
     __slots__ = ("_whole", "_index", "_told", "__weakref__")
 
@@ -34,13 +34,13 @@ class Part:
         return self._index
 
     @property
-    def start(self) -> Place:
-        return Place(*self._told[2:6])
+    def start(self) -> Position:
+        return Position(*self._told[2:6])
 
     @property
-    def end(self) -> Place:
-        """The place after the last character."""
-        return Place(*self._told[6:10])
+    def end(self) -> Position:
+        """The position after the last character."""
+        return Position(*self._told[6:10])
 
     @property
     def text(self) -> str:
@@ -94,13 +94,13 @@ class Parts(Sequence[P]):
         if isinstance(index, slice):
             found: List[P] = [self._part(i) for i in range(*index.indices(self._count))]
             return found
-        return self._part(position(index, self._count))
+        return self._part(from_start(index, self._count))
 
     def __contains__(self, part: object) -> bool:
         return isinstance(part, Part) and part._whole is self
 
 
-def position(index: int, count: int) -> int:
+def from_start(index: int, count: int) -> int:
     """Returns an index of a sequence, counted from its start. Raises TypeError where it is no int, IndexError out of range."""
     try:
         found = operator.index(index)

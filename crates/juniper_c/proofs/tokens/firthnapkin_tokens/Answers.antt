@@ -30,7 +30,7 @@ returns-in-Ok-Many-clause-many c = λ _.
 pub returns-in-Ok-Many-clause-bounds : goal.returns-in-Ok-Many-clause-bounds
 returns-in-Ok-Many-clause-bounds c =
     let it = rw c.in-Ok-Many.field-0-is at c.in-Ok-Many.ensures in
-    omega (arith, few_in_limit c.args.source.now c.args.most it.2.0 it.1 it.2.1)
+    omega (arith, few_in_limit c.args.source.now c.args.max_tokens it.2.0 it.1 it.2.1)
 
 pub returns-then-count-tokens-clause-texts : goal.returns-then-count-tokens-clause-texts
 returns-then-count-tokens-clause-texts c = tells_text c.args.source.now

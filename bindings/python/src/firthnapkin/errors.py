@@ -6,34 +6,34 @@ import enum
 import re
 from typing import Any, List, Optional, Tuple
 
-from .parts import Place
+from .parts import Position
 
-__all__ = ["Detail", "Fault", "Reason"]
+__all__ = ["ErrorDetail", "ErrorKind", "FirthnapkinError"]
 
 
-class Reason(enum.Enum):
+class ErrorKind(enum.Enum):
     """Why a text is no document within the limits."""
 
     #: No document can go on with this token.
     UNEXPECTED_TOKEN = 0
     #: The text ends within a document.
     UNEXPECTED_END = 1
-    #: A lexical error: there is no token here. The fault's `detail` says why.
+    #: A lexical error: there is no token here. The error's `detail` says why.
     LEXICAL = 2
-    #: Never reported.
-    SCALAR = 3
     #: The token is nested too deep.
-    NESTED = 4
+    TOO_DEEP = 3
     #: The token is one too many.
-    TOO_MANY = 5
+    TOO_MANY_TOKENS = 4
+    #: Never reported.
+    INVALID_SCALAR = 5
     #: There is half of a surrogate pair alone: such a str is no text.
     SURROGATE = 6
 
 
-class Detail(enum.Enum):
+class ErrorDetail(enum.Enum):
     """Why there is no token."""
 
-    NO_DETAIL = 0
+    NONE = 0
     UNKNOWN_CHARACTER = 1
     UNEXPECTED_CHARACTER = 2
     UNTERMINATED_STRING = 3
@@ -44,23 +44,23 @@ class Detail(enum.Enum):
     INVALID_NUMBER = 7
 
 
-class Fault(ValueError):
+class FirthnapkinError(ValueError):
     """Why a text is no document within the limits, and where. It can be pickled and copied, with its source."""
 
     def __init__(
         self,
         message: str,
-        reason: Reason,
-        start: Place,
-        end: Place,
+        kind: ErrorKind,
+        start: Position,
+        end: Position,
         source: str,
-        detail: Detail = Detail.NO_DETAIL,
+        detail: ErrorDetail = ErrorDetail.NONE,
         character: Optional[str] = None,
     ) -> None:
         super().__init__(f"{message}. At {start.line}:{start.column}")
-        #: The error, without its place.
+        #: The error, without its position.
         self.message = message
-        self.reason = reason
+        self.kind = kind
         self.start = start
         self.end = end
         self.source = source
@@ -96,11 +96,11 @@ class Fault(ValueError):
 
     @property
     def excerpt(self) -> str:
-        """The lines around the place, numbered from 1, with a caret below it. Here a carriage return ends a line, too."""
+        """The lines around the position, numbered from 1, with a caret below it. Here a carriage return ends a line, too."""
         return _excerpt(self.source, self.start.index)
 
     def __reduce__(self) -> Tuple[Any, ...]:
-        parts = (self.message, self.reason, self.start, self.end, self.source, self.detail, self.character)
+        parts = (self.message, self.kind, self.start, self.end, self.source, self.detail, self.character)
         return type(self), parts, self.__dict__
 
 
@@ -115,7 +115,7 @@ def _excerpt(source: str, index: int) -> str:
     number, column = len(ends), index - (ends[-1] if ends else 0)
     # A half of a surrogate pair cannot be written.
     lines = [line.encode("utf-8", "replace").decode() for line in _BREAK.split(source)]
-    place = f"GraphQL request:{number + 1}:{column + 1}\n"
+    head = f"GraphQL request:{number + 1}:{column + 1}\n"
     line = lines[number]
     if len(line) > _LONG:
         pieces = [line[i : i + _PIECE] for i in range(0, len(line), _PIECE)]
@@ -126,7 +126,7 @@ def _excerpt(source: str, index: int) -> str:
         rows = [(f"{number} |", lines[number - 1])] if number > 0 else []
         rows += [(f"{number + 1} |", line), ("|", " " * column + "^")]
         rows += [(f"{number + 2} |", it) for it in lines[number + 1 : number + 2]]
-    return place + _table(rows)
+    return head + _table(rows)
 
 
 def _table(rows: List[Tuple[str, str]]) -> str:
