@@ -150,11 +150,14 @@ prove_after_others() {
     fi
 }
 
+# flags_of NAME: what the kit is told beside the crate where it builds this library. A script may say other ones.
+flags_of() { :; }
+
 # prove_crate NAME FOLDER: a program is proved by running it, a library by building it. The folder is for notes.
 prove_crate() {
     note_sources "$2" "$1"
     cd "$root/crates/$1" || return 1
-    if [ -e src/main.rt ]; then echo '{ a }' | rt run; else rt lib; fi && keep_list "$2" "$1"
+    if [ -e src/main.rt ]; then echo '{ a }' | rt run; else rt lib $(flags_of "$1"); fi && keep_list "$2" "$1"
 }
 
 # The longest text of a checked run, in bytes. Much shorter ones already get no result in time.
