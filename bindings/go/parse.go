@@ -1,3 +1,5 @@
+//go:build linux && amd64 && cgo
+
 // Package firthnapkin parses GraphQL's executable documents (October 2021): operations, fragments and what is in them.
 //
 // The parser is proved; this package calls it by cgo and copies nothing. A Document is a list of nodes, each part of the
@@ -15,8 +17,8 @@
 package firthnapkin
 
 /*
-#cgo CFLAGS: -D_GNU_SOURCE -I${SRCDIR}/../../include -I${SRCDIR}/..
-#cgo LDFLAGS: ${SRCDIR}/../../out/libfirthnapkin.a -pthread
+#cgo CFLAGS: -D_GNU_SOURCE -I${SRCDIR}/native -I${SRCDIR}/../../include -I${SRCDIR}/..
+#cgo LDFLAGS: -L${SRCDIR}/native -L${SRCDIR}/../../out -l:libfirthnapkin.a -pthread
 #include "calls.h"
 
 typedef struct {

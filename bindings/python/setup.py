@@ -4,6 +4,8 @@ There is no pyproject.toml. With one, each release of pip fetches setuptools fro
 it is told --no-build-isolation. Without one only the newer releases do.
 """
 
+import os
+import platform
 import sys
 from pathlib import Path
 
@@ -11,8 +13,29 @@ from setuptools import Extension, setup
 
 HERE = Path(__file__).resolve().parent
 ROOT = HERE.parent.parent
-LIBRARY = ROOT / "out/libfirthnapkin.a"
+# A source distribution has the archive, the headers and the version inside.
+INSIDE = HERE / "native"
+IS_RELEASE = INSIDE.exists()
+LIBRARY = (INSIDE if IS_RELEASE else ROOT / "out") / "libfirthnapkin.a"
+HEADERS = [INSIDE] if IS_RELEASE else [ROOT / "include", ROOT / "bindings"]
+VERSION = (INSIDE if IS_RELEASE else ROOT) / "VERSION"
 
+
+def machine():
+    """This machine's system, processor and C library, and whether the archive is for it."""
+    try:
+        library = os.confstr("CS_GNU_LIBC_VERSION") or ""
+    except (AttributeError, ValueError, OSError):
+        library = ""
+    bits = "" if sys.maxsize > 2**32 else ", with a Python of 32 bits"
+    name = f"{platform.system()} on {platform.machine()} with {library or 'a C library that is not glibc'}{bits}"
+    version = [int(part) for part in library.replace("glibc ", "").split(".") if part.isdigit()]
+    return name, name.startswith("Linux on x86_64 with glibc ") and not bits and version >= [2, 17]
+
+
+found, is_supported = machine()
+if not is_supported:
+    sys.exit(f"firthnapkin is for Linux on x86-64 with glibc 2.17 or later, and this machine is {found}")
 if not LIBRARY.exists():
     sys.exit(f"{LIBRARY} is not there: ./c-library builds it, in the repository's folder")
 
@@ -22,16 +45,16 @@ def extension(name):
         f"firthnapkin.{name}",
         [f"src/firthnapkin/{name}.c"],
         define_macros=[("Py_LIMITED_API", "0x03090000")],
-        include_dirs=[str(ROOT / "include"), str(ROOT / "bindings")],
+        include_dirs=[str(folder) for folder in HEADERS],
         extra_objects=[str(LIBRARY)],
         extra_compile_args=["-pthread"],
         extra_link_args=["-pthread"],
-        depends=[str(LIBRARY), *map(str, [*ROOT.glob("bindings/*.h"), *HERE.glob("src/firthnapkin/*.h")])],
+        depends=[str(LIBRARY), *(str(path) for folder in [*HEADERS, HERE / "src/firthnapkin"] for path in folder.glob("*.h"))],
         py_limited_api=True,
     )
 
 
 setup(
-    version=(ROOT / "VERSION").read_text(encoding="utf-8").strip(),
+    version=VERSION.read_text(encoding="utf-8").strip(),
     ext_modules=[extension("_parser"), extension("_graphql_core")],
 )

@@ -1,14 +1,24 @@
-//! Links the archive that `./c-library` builds.
+//! Links the archive: in a release it is inside the crate, and in the repository `./c-library` builds it.
 
 use std::path::Path;
 
 fn main() {
-    let here = std::env::var("CARGO_MANIFEST_DIR").expect("cargo tells the crate's folder");
-    let out = Path::new(&here).join("../../out");
-    let library = out.join("libfirthnapkin.a");
+    let target = ["OS", "ARCH", "ENV"].map(|part| variable(&format!("CARGO_CFG_TARGET_{part}")));
+    if target != ["linux", "x86_64", "gnu"] {
+        eprintln!("firthnapkin is for Linux on x86-64 with glibc, and this target is {}", variable("TARGET"));
+        std::process::exit(1);
+    }
+    let here = variable("CARGO_MANIFEST_DIR");
+    let inside = Path::new(&here).join("native");
+    let folder = if inside.exists() { inside } else { Path::new(&here).join("../../out") };
+    let library = folder.join("libfirthnapkin.a");
     assert!(library.exists(), "{} is not there: ./c-library builds it, in the repository's folder", library.display());
-    println!("cargo:rustc-link-search=native={}", out.display());
+    println!("cargo:rustc-link-search=native={}", folder.display());
     println!("cargo:rustc-link-lib=static=firthnapkin");
     println!("cargo:rerun-if-changed={}", library.display());
     println!("cargo:rerun-if-changed=build.rs");
+}
+
+fn variable(name: &str) -> String {
+    std::env::var(name).expect("cargo sets it for a build script")
 }
