@@ -1,6 +1,6 @@
-# The functions that ./gqlcheck, ./gqlcanon, ./prove, ./c-library and ./test share: which crates a crate depends on, which
-# sources a built file was made of, how crates are proved in parallel, and how a program is run. It is sourced, with the
-# repository's folder in $root.
+# The functions that ./gqlcheck, ./gqlcanon, ./prove, ./c-library, ./test and scripts/release share: which crates a crate depends
+# on, which sources a built file was made of, how crates are proved in parallel, and how a program is run. It is sourced, with
+# the repository's folder in $root.
 
 # crates_below NAME ..: these crates and the crates of this repository that they depend on, the lowest first, each once.
 crates_below() {
@@ -87,6 +87,28 @@ keep_list() {
     if [ -e "$product" ] && times_of "$2" | cmp -s - "$1/$2.times"; then
         { cat "$1/$2.sums" && sha256sum < "$product"; } > "$list"
     fi
+}
+
+# The sums of what ./c-library links, of that script, which says how, and of what it made. False where one is missing.
+sums_of_link() {
+    (cd "$root" && sha256sum crates/juniper_c/out/libjuniper_c.a c-library out/libfirthnapkin.{a,so.0,so} 2> /dev/null)
+}
+
+# Whether the library for C is there as ./c-library linked it.
+is_linked() {
+    [ -e "$root/out/libfirthnapkin.sources" ] && sums_of_link | cmp -s - "$root/out/libfirthnapkin.sources"
+}
+
+# Sets $python to a Python that can build the package, and to nothing where there is none.
+find_python() {
+    for python in /usr/bin/python3 python3; do
+        "$python" -c 'import setuptools, pip, sys, sysconfig, os
+from importlib.util import find_spec
+makes_wheels = find_spec("wheel") or tuple(map(int, setuptools.__version__.split(".")[:2])) >= (70, 1)
+has_header = os.path.exists(sysconfig.get_path("include") + "/Python.h")
+sys.exit(not (sys.version_info >= (3, 9) and makes_wheels and has_header))' 2> /dev/null && return
+    done
+    python=
 }
 
 # can_write WHO FOLDER ..: ends with a line on standard error, and status 125, where no file can be written in one of these

@@ -1,5 +1,5 @@
-# How ./c-library installs: what is put below PREFIX, the file for pkg-config, and the list of what was installed. It is sourced
-# after scripts/building.sh, with the repository's folder in $root.
+# How ./c-library installs: what is put below PREFIX, the file for pkg-config, and the list of what was installed. scripts/release
+# puts the same files into what it makes for C. It is sourced after scripts/building.sh, with the repository's folder in $root.
 
 # The files of the library: for each its mode, its name below PREFIX, and the file of the repository.
 LIBRARY='644 include/firthnapkin.h include/firthnapkin.h
@@ -19,7 +19,7 @@ is_tellable() {
 install_below() {
     local name left='' installed=()
     set_folders
-    put_library && put_text lib/pkgconfig/firthnapkin.pc "$(package)" || return
+    put_library && put_text lib/pkgconfig/firthnapkin.pc "$(package "$(escaped "$prefix")")" || return
     for name in gqlcheck gqlcanon; do
         if is_current "$name"; then put_program "$name" || return; else left+=" $name"; fi
     done
@@ -80,12 +80,17 @@ put_list() {
     put_text "$LIST" "$(printf '%s\n' "${installed[@]}" "${earlier[@]}" "$LIST" | LC_ALL=C sort)"
 }
 
-# The file for pkg-config. It names PREFIX as an absolute path, since pkg-config is run anywhere, and without $DESTDIR, which is no
-# longer there then. Each other character than those of common names is escaped, so that the flags are still words of a shell
-# where they are evaluated.
+# escaped PREFIX: the path as firthnapkin.pc names it. Each other character than those of common names is escaped, so that the
+# flags are still words of a shell where they are evaluated.
+escaped() {
+    LC_ALL=C sed 's|[^A-Za-z0-9_./-]|\\&|g' <<< "$1"
+}
+
+# package PREFIX: the file for pkg-config. An installed one names an absolute path, since pkg-config is run anywhere, and without
+# $DESTDIR, which is no longer there then.
 package() {
     cat << END
-prefix=$(LC_ALL=C sed 's|[^A-Za-z0-9_./-]|\\&|g' <<< "$prefix")
+prefix=$1
 includedir=\${prefix}/include
 libdir=\${prefix}/lib
 
