@@ -46,7 +46,8 @@ LIBRARY = ROOT / "out/libfirthnapkin.so.0"
 COMPLETION = "completion of a refused text"
 SAME = "canonical text of a row"
 COUNTS = {"gqlcheck": 2127, "built": 4, "completed": 8, "canonical": 29, COMPLETION: 462, SAME: 636}
-COUNTS.update(lexer=73, line_table=1, type=5, value=34, const=1, document=44, within=14, equal=25, large=4, odd_document=25)
+COUNTS.update(lexer=73, line_table=1, type=5, value=34, const=1, document=44, within=14, limited=23, equal=25, large=4)
+COUNTS.update(odd_document=25)
 
 # Of the kinds of check_calls those whose rows make calls, with the number of their rows.
 CALLS = {"cursor": 14, "arguments": 7, "answer": 17, "devices": 2, "input_value": 22, "scalar": 24, "odd_scalar": 42,
