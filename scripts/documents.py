@@ -1,5 +1,6 @@
-"""What scripts/definitions reads of documents: the links, the headings that they lead to, and diagrams in Mermaid."""
+"""What scripts/definitions and scripts/chart read of documents: links, the headings that they lead to, diagrams, a chart."""
 
+import math
 import re
 
 LINK = re.compile(r"\]\(([^()\s]+)\)")
@@ -68,3 +69,21 @@ class Drawn:
 def items(diagram):
     """The items of crates that a diagram names, as `juniper::parse_document_source`: the crate and the item."""
     return re.findall(r"\b([a-z]\w*)::(\w+)", diagram)
+
+
+CHART = re.compile(r"^```text\n(.*?)^```\n", re.S | re.M)
+
+
+def with_chart(text):
+    """A text with its chart drawn anew from the table above it: a bar for each number of a row, a block long for each whole
+    part and rounded up, under the row's label."""
+    chart = CHART.search(text)
+    rows = [[cell.strip() for cell in line.strip("|").split("|")] for line in text[: chart.start()].split("\n") if line[:1] == "|"]
+    last = len(rows) - 1 - next(i for i, row in enumerate(reversed(rows)) if set(row[0]) == {"-"})
+    (_, *heads), table = rows[last - 1], rows[last + 1 :]
+    width = max(map(len, heads))
+    lines = []
+    for label, *cells in table:
+        lines += [label.replace("`", "")]
+        lines += [f"  {head:{width}}  {'█' * math.ceil(float(cell))} {cell}" for head, cell in zip(heads, cells) if cell]
+    return text[: chart.start(1)] + "\n".join(lines) + "\n" + text[chart.end(1) :]
