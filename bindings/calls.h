@@ -86,12 +86,14 @@ static inline size_t stack_for(uint32_t depth) {
     return FIRTHNAPKIN_STACK_SIZE(depth <= FIRTHNAPKIN_MAX_DEPTH ? depth : 0);
 }
 
-/* A call that runs on such a stack: its arguments and its result. For firthnapkin_message and firthnapkin_canonical the
- * buffer, its capacity and its length are those of the texts. */
+/* A call that runs on such a stack: its arguments and its result. For firthnapkin_message, firthnapkin_excerpt and
+ * firthnapkin_canonical the buffer, its capacity and its length are those of the texts. */
 typedef struct {
     const uint8_t *source;
     size_t length;
-    uint32_t depth, max_tokens, status;
+    const firthnapkin_limits *limits;
+    const firthnapkin_error *given;
+    uint32_t max_tokens, status;
     firthnapkin_node *nodes;
     size_t nodes_capacity, *nodes_length;
     firthnapkin_token *tokens;
@@ -103,18 +105,18 @@ typedef struct {
 
 static inline void run_parse(void *call) {
     whole_call *c = call;
-    c->status = firthnapkin_parse(c->source, c->length, c->depth, c->nodes, c->nodes_capacity, c->nodes_length, c->texts,
+    c->status = firthnapkin_parse(c->source, c->length, c->limits, c->nodes, c->nodes_capacity, c->nodes_length, c->texts,
                                   c->texts_capacity, c->texts_length, c->error);
 }
 
 static inline void run_message(void *call) {
     whole_call *c = call;
-    c->status = firthnapkin_message(c->source, c->length, c->depth, c->texts, c->texts_capacity, c->texts_length);
+    c->status = firthnapkin_message(c->source, c->length, c->given, c->texts, c->texts_capacity, c->texts_length);
 }
 
-static inline void run_count(void *call) {
+static inline void run_excerpt(void *call) {
     whole_call *c = call;
-    c->status = firthnapkin_count(c->source, c->length, c->max_tokens, c->error);
+    c->status = firthnapkin_excerpt(c->source, c->length, c->given, c->texts, c->texts_capacity, c->texts_length);
 }
 
 static inline void run_tokens(void *call) {
@@ -128,33 +130,37 @@ static inline void run_canonical(void *call) {
 }
 
 /* firthnapkin_parse; FIRTHNAPKIN_OUT_OF_MEMORY where no stack can be made. */
-static inline uint32_t parse_on_stack(const uint8_t *source, size_t length, uint32_t depth, firthnapkin_node *nodes,
-                                      size_t nodes_capacity, size_t *nodes_length, uint8_t *texts, size_t texts_capacity,
-                                      size_t *texts_length, firthnapkin_error *error) {
-    whole_call call = {.source = source, .length = length, .depth = depth, .status = FIRTHNAPKIN_OUT_OF_MEMORY, .nodes = nodes,
+static inline uint32_t parse_on_stack(const uint8_t *source, size_t length, const firthnapkin_limits *limits,
+                                      firthnapkin_node *nodes, size_t nodes_capacity, size_t *nodes_length, uint8_t *texts,
+                                      size_t texts_capacity, size_t *texts_length, firthnapkin_error *error) {
+    whole_call call = {.source = source, .length = length, .limits = limits, .status = FIRTHNAPKIN_OUT_OF_MEMORY, .nodes = nodes,
                        .nodes_capacity = nodes_capacity, .nodes_length = nodes_length, .texts = texts,
                        .texts_capacity = texts_capacity, .texts_length = texts_length, .error = error};
     *nodes_length = *texts_length = 0;
-    run_on_stack(stack_for(depth), run_parse, &call);
+    run_on_stack(stack_for(limits->depth), run_parse, &call);
+    return call.status;
+}
+
+/* A call that writes words on an error into a buffer, in the same way. */
+static inline uint32_t words_on_stack(void (*run)(void *), const uint8_t *source, size_t length, const firthnapkin_error *error,
+                                      uint8_t *buffer, size_t buffer_capacity, size_t *buffer_length) {
+    whole_call call = {.source = source, .length = length, .given = error, .status = FIRTHNAPKIN_OUT_OF_MEMORY,
+                       .texts = buffer, .texts_capacity = buffer_capacity, .texts_length = buffer_length};
+    *buffer_length = 0;
+    run_on_stack(stack_for(0), run, &call);
     return call.status;
 }
 
 /* firthnapkin_message, in the same way. */
-static inline uint32_t message_on_stack(const uint8_t *source, size_t length, uint32_t depth, uint8_t *buffer,
+static inline uint32_t message_on_stack(const uint8_t *source, size_t length, const firthnapkin_error *error, uint8_t *buffer,
                                         size_t buffer_capacity, size_t *buffer_length) {
-    whole_call call = {.source = source, .length = length, .depth = depth, .status = FIRTHNAPKIN_OUT_OF_MEMORY,
-                       .texts = buffer, .texts_capacity = buffer_capacity, .texts_length = buffer_length};
-    *buffer_length = 0;
-    run_on_stack(stack_for(depth), run_message, &call);
-    return call.status;
+    return words_on_stack(run_message, source, length, error, buffer, buffer_capacity, buffer_length);
 }
 
-/* firthnapkin_count, in the same way. */
-static inline uint32_t count_on_stack(const uint8_t *source, size_t length, uint32_t max_tokens, firthnapkin_error *error) {
-    whole_call call = {.source = source, .length = length, .max_tokens = max_tokens, .status = FIRTHNAPKIN_OUT_OF_MEMORY,
-                       .error = error};
-    run_on_stack(stack_for(0), run_count, &call);
-    return call.status;
+/* firthnapkin_excerpt, in the same way. */
+static inline uint32_t excerpt_on_stack(const uint8_t *source, size_t length, const firthnapkin_error *error, uint8_t *buffer,
+                                        size_t buffer_capacity, size_t *buffer_length) {
+    return words_on_stack(run_excerpt, source, length, error, buffer, buffer_capacity, buffer_length);
 }
 
 /* firthnapkin_tokens, in the same way. */

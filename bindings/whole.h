@@ -5,8 +5,8 @@
 #include "calls.h"
 #include <stdlib.h>
 
-/* The result for a source. The texts are those of the nodes, or the canonical text. Where there is an error they are its words,
- * unless there are too many tokens. */
+/* The result for a source. The texts are those of the nodes, or the canonical text. Where there is an error they are its
+ * words. */
 typedef struct {
     uint32_t status;
     firthnapkin_node *nodes;
@@ -35,16 +35,33 @@ static inline int make_buffers(whole *w, size_t nodes, size_t texts) {
     return w->nodes != NULL && w->texts != NULL;
 }
 
-/* The words of a source's error. */
-static inline uint32_t find_words(whole *w, const uint8_t *source, size_t length, uint32_t depth) {
+/* What a call writes on an error, as message_on_stack does, into the texts. */
+static inline uint32_t find_words(whole *w, const uint8_t *source, size_t length,
+                                  uint32_t (*call)(const uint8_t *, size_t, const firthnapkin_error *, uint8_t *, size_t,
+                                                   size_t *)) {
     size_t capacity = 256;
     uint32_t status;
     do {
         if (!make_buffers(w, 0, capacity)) return FIRTHNAPKIN_OUT_OF_MEMORY;
-        status = message_on_stack(source, length, depth, w->texts, capacity, &w->texts_count);
+        status = call(source, length, &w->error, w->texts, capacity, &w->texts_count);
         capacity = w->texts_count;
     } while (status == FIRTHNAPKIN_BUFFER_TOO_SMALL);
     return status;
+}
+
+/* Puts the words of the source's error into the texts, where the status says that there is one. */
+static inline void add_words(whole *w, const uint8_t *source, size_t length) {
+    if (w->status != FIRTHNAPKIN_SYNTAX_ERROR && w->status != FIRTHNAPKIN_TOO_DEEP && w->status != FIRTHNAPKIN_TOO_MANY_TOKENS)
+        return;
+    uint32_t status = find_words(w, source, length, message_on_stack);
+    if (status != FIRTHNAPKIN_OK) w->status = status;
+}
+
+/* The lines around this byte of a source, as texts. The result has to be freed, whatever the status. */
+static inline whole excerpt_whole(const uint8_t *source, size_t length, uint32_t byte) {
+    whole w = {.error.start.byte = byte};
+    w.status = find_words(&w, source, length, excerpt_on_stack);
+    return w;
 }
 
 /* How many nodes, tokens or bytes of texts are allocated at first: one for four bytes of the source. */
@@ -53,27 +70,23 @@ static inline size_t at_first(size_t length) {
     return length / 4 < MOST_AT_FIRST ? length / 4 : MOST_AT_FIRST;
 }
 
-/* Parses a source with no more than so many tokens; UINT32_MAX is no limit. The result has to be freed, whatever the status.
- * Few texts have more nodes than one for four bytes. For those, and for the largest, the second try has the size that the first
- * returned. Memory that is not written to costs nothing. */
-static inline whole parse_whole(const uint8_t *source, size_t length, uint32_t depth, uint32_t max_tokens) {
+/* Parses a source within limits. The result has to be freed, whatever the status. Few texts have more nodes than one for four
+ * bytes. For those, and for the largest, the second try has the size that the first returned. Memory that is not written to
+ * costs nothing. */
+static inline whole parse_whole(const uint8_t *source, size_t length, const firthnapkin_limits *limits) {
     whole w = {.status = FIRTHNAPKIN_OUT_OF_MEMORY};
-    if (max_tokens != UINT32_MAX) {
-        w.status = count_on_stack(source, length, max_tokens, &w.error);
-        if (w.status != FIRTHNAPKIN_OK) return w;
-    }
     size_t nodes = at_first(length) + 16, texts = at_first(length) + 64;
     do {
         if (!make_buffers(&w, nodes, texts)) {
             w.status = FIRTHNAPKIN_OUT_OF_MEMORY;
             return w;
         }
-        w.status = parse_on_stack(source, length, depth, w.nodes, nodes, &w.nodes_count, w.texts, texts, &w.texts_count,
+        w.status = parse_on_stack(source, length, limits, w.nodes, nodes, &w.nodes_count, w.texts, texts, &w.texts_count,
                                   &w.error);
         nodes = w.nodes_count;
         texts = w.texts_count;
     } while (w.status == FIRTHNAPKIN_BUFFER_TOO_SMALL);
-    if (w.status == FIRTHNAPKIN_SYNTAX_ERROR || w.status == FIRTHNAPKIN_TOO_DEEP) w.status = find_words(&w, source, length, depth);
+    add_words(&w, source, length);
     return w;
 }
 
@@ -90,8 +103,7 @@ static inline whole cut_whole(const uint8_t *source, size_t length, uint32_t max
             : tokens_on_stack(source, length, max_tokens, w.tokens, tokens, &w.tokens_count, &w.error);
         tokens = w.tokens_count;
     } while (w.status == FIRTHNAPKIN_BUFFER_TOO_SMALL);
-    /* A text that can't be cut is refused for that at any depth. */
-    if (w.status == FIRTHNAPKIN_SYNTAX_ERROR) w.status = find_words(&w, source, length, 0);
+    add_words(&w, source, length);
     return w;
 }
 
@@ -105,7 +117,7 @@ static inline whole canonical_whole(const uint8_t *source, size_t length) {
             : FIRTHNAPKIN_OUT_OF_MEMORY;
         texts = w.texts_count;
     } while (w.status == FIRTHNAPKIN_BUFFER_TOO_SMALL);
-    if (w.status == FIRTHNAPKIN_SYNTAX_ERROR) w.status = find_words(&w, source, length, 0);
+    add_words(&w, source, length);
     return w;
 }
 

@@ -5,10 +5,10 @@
  *
  * The caller has to keep these conditions, since no proof does:
  * - A pointer refers to memory for as many bytes, nodes or tokens as its length or its capacity says. If that is 0 the
- *   pointer may be NULL. The pointers to lengths and to the error are never NULL.
- * - The source and the buffers, lengths and error of one call don't overlap, and nothing else writes to them meanwhile.
+ *   pointer may be NULL. The pointers to limits, lengths and errors are never NULL.
+ * - The source, limits, buffers, lengths and error of one call don't overlap, and nothing else writes to them meanwhile.
  * - The stack is large enough for the call: FIRTHNAPKIN_STACK_SIZE(depth) bytes are enough, whatever the source, and
- *   FIRTHNAPKIN_STACK_SIZE(0) for a call that takes no depth.
+ *   FIRTHNAPKIN_STACK_SIZE(0) for a call that takes no limits.
  * - malloc, realloc and free are of one allocator, and a block is aligned to each power of two up to 16 that divides its
  *   size. A call is not made from a signal handler, nor in the forked child of a process with threads.
  */
@@ -29,21 +29,44 @@ extern "C" {
 /* The largest depth that a call takes. */
 #define FIRTHNAPKIN_MAX_DEPTH 1000
 
+/* The limits of a call. A later version may give a reserved word a meaning, in which 0 is no limit. */
+typedef struct {
+    uint32_t depth;       /* how deep brackets may be nested: 0 to FIRTHNAPKIN_MAX_DEPTH */
+    uint32_t tokens;      /* how many tokens a source may have, its end not counted; UINT32_MAX is no limit */
+    uint32_t reserved[6]; /* 0 */
+} firthnapkin_limits;
+
+/* Brackets nested 200 deep, and any number of tokens. */
+#define FIRTHNAPKIN_LIMITS_DEFAULT {200, UINT32_MAX, {0}}
+
 /* So many bytes of stack are enough for a call with this depth; measured on x86-64, where a level takes at most 2,100. */
 #define FIRTHNAPKIN_STACK_SIZE(depth) ((size_t)32768 + (size_t)2304 * (depth))
 
-/* What a call returns. Each call says what FIRTHNAPKIN_OK and FIRTHNAPKIN_SYNTAX_ERROR mean there. Each checks the whole source
- * as UTF-8 before it looks for anything else in it. */
+/* What a call returns. Each call says which of these it returns, and what FIRTHNAPKIN_OK and FIRTHNAPKIN_SYNTAX_ERROR mean
+ * there. Where several hold, the first line of this table that holds is the answer:
+ *
+ *   1. FIRTHNAPKIN_SOURCE_TOO_LONG     the source isn't read
+ *   2. FIRTHNAPKIN_INVALID_LIMIT       the source isn't read
+ *   3. FIRTHNAPKIN_NOT_UTF8            the whole source is checked, also what is after an error or after the last token wanted
+ *   4. FIRTHNAPKIN_INVALID_ERROR
+ *   5. FIRTHNAPKIN_TOO_MANY_TOKENS     the first token too many is before the first lexical error
+ *   6. FIRTHNAPKIN_SYNTAX_ERROR        a lexical error, wherever it is: also after a token that is nested too deep
+ *   7. FIRTHNAPKIN_TOO_DEEP or FIRTHNAPKIN_SYNTAX_ERROR, by which token is first: nested too deep, or with an error before it
+ *   8. FIRTHNAPKIN_BUFFER_TOO_SMALL
+ *   9. FIRTHNAPKIN_OK
+ *
+ * FIRTHNAPKIN_OUT_OF_MEMORY may be returned in place of lines 5 to 9. */
 enum firthnapkin_status {
     FIRTHNAPKIN_OK = 0,               /* success */
     FIRTHNAPKIN_SYNTAX_ERROR = 1,     /* the source is a text, and has a syntax error */
     FIRTHNAPKIN_NOT_UTF8 = 2,         /* the source is not UTF-8 */
     FIRTHNAPKIN_OUT_OF_MEMORY = 3,    /* memory ran out */
-    FIRTHNAPKIN_TOO_DEEP = 4,         /* a token is nested too deep, with no error before it and no lexical error after it */
+    FIRTHNAPKIN_TOO_DEEP = 4,         /* a token is nested too deep */
     FIRTHNAPKIN_TOO_MANY_TOKENS = 5,  /* the source has more tokens than the limit, before its first lexical error */
     FIRTHNAPKIN_BUFFER_TOO_SMALL = 6, /* a buffer or an array is too small */
-    FIRTHNAPKIN_SOURCE_TOO_LONG = 7,  /* the source has 4 GiB or more, and was not read */
-    FIRTHNAPKIN_INVALID_LIMIT = 8     /* the depth is above FIRTHNAPKIN_MAX_DEPTH, and the source was not read */
+    FIRTHNAPKIN_SOURCE_TOO_LONG = 7,  /* the source has 4 GiB or more */
+    FIRTHNAPKIN_INVALID_LIMIT = 8,    /* the depth is above FIRTHNAPKIN_MAX_DEPTH, or a reserved word isn't 0 */
+    FIRTHNAPKIN_INVALID_ERROR = 9     /* the error that was given has no words, or no lines, in this source */
 };
 
 /* The kind of a node. The kinds of literals are last. */
@@ -158,9 +181,50 @@ typedef struct {
     uint32_t detail;    /* a firthnapkin_error_detail; FIRTHNAPKIN_DETAIL_NONE if the error isn't lexical */
     uint32_t character; /* the character of the detail, otherwise 0 */
     firthnapkin_position start, end;
+    /* The bytes of the source that the error's words show: those of an unexpected token, and of an escape that is unknown.
+     * For any other error both are start.byte. */
+    uint32_t text_start, text_end;
 } firthnapkin_error;
 
-/* Parses a source. Brackets may be nested `depth` deep: 0 to FIRTHNAPKIN_MAX_DEPTH.
+/* The names of numbers, as "fragment_spread" of FIRTHNAPKIN_FRAGMENT_SPREAD, and "unknown" of any number that this header
+ * doesn't have. */
+static inline const char *firthnapkin_status_name(uint32_t status) {
+    static const char *const names[] = {
+        "ok", "syntax_error", "not_utf8", "out_of_memory", "too_deep", "too_many_tokens", "buffer_too_small",
+        "source_too_long", "invalid_limit", "invalid_error"};
+    return status < sizeof names / sizeof *names ? names[status] : "unknown";
+}
+
+static inline const char *firthnapkin_kind_name(uint32_t kind) {
+    static const char *const names[] = {
+        "query", "mutation", "subscription", "fragment_definition", "variable_definitions", "variable_definition", "type",
+        "field", "alias", "fragment_spread", "inline_fragment", "directive", "arguments", "argument", "null", "enum",
+        "variable", "list", "object", "object_field", "int", "large_int", "float", "string", "block_string", "boolean"};
+    return kind < sizeof names / sizeof *names ? names[kind] : "unknown";
+}
+
+static inline const char *firthnapkin_token_kind_name(uint32_t kind) {
+    static const char *const names[] = {
+        "end_of_file", "name", "string", "block_string", "float", "int", "exclamation_mark", "dollar", "paren_open",
+        "paren_close", "bracket_open", "bracket_close", "curly_open", "curly_close", "ellipsis", "colon", "equals", "at",
+        "pipe"};
+    return kind < sizeof names / sizeof *names ? names[kind] : "unknown";
+}
+
+static inline const char *firthnapkin_error_kind_name(uint32_t kind) {
+    static const char *const names[] = {
+        "unexpected_token", "unexpected_end", "lexical", "too_deep", "too_many_tokens", "invalid_scalar"};
+    return kind < sizeof names / sizeof *names ? names[kind] : "unknown";
+}
+
+static inline const char *firthnapkin_error_detail_name(uint32_t detail) {
+    static const char *const names[] = {
+        "none", "unknown_character", "unexpected_character", "unterminated_string", "unknown_character_in_string",
+        "unknown_escape", "unexpected_end_in_token", "invalid_number"};
+    return detail < sizeof names / sizeof *names ? names[detail] : "unknown";
+}
+
+/* Parses a source within limits.
  *
  * FIRTHNAPKIN_OK: the source is a document. Its nodes are at the beginning of `nodes`, and their texts, one after the other,
  * at the beginning of `texts`; the rest of both is as it was. FIRTHNAPKIN_BUFFER_TOO_SMALL: it is a document, and one of the
@@ -169,25 +233,48 @@ typedef struct {
  *
  * FIRTHNAPKIN_SYNTAX_ERROR: the source is a text, and no document. The error is its first lexical error, wherever that is;
  * without one it is at the first token that no document has there. FIRTHNAPKIN_TOO_DEEP: the source has no lexical error, not
- * even after the token that is nested too deep. That token is the error, and those up to it begin a document. These two
- * statuses write the error, the others leave it as it was. */
-uint32_t firthnapkin_parse(const uint8_t *source, size_t length, uint32_t depth, firthnapkin_node *nodes,
+ * even after the token that is nested too deep. That token is the error, and those up to it begin a document.
+ * FIRTHNAPKIN_TOO_MANY_TOKENS: the source has more tokens than limits->tokens, before its end or its first lexical error. The
+ * first one too many is the error, and nothing was parsed. These three statuses write the error, the others leave it as it was.
+ *
+ * It also returns FIRTHNAPKIN_NOT_UTF8, FIRTHNAPKIN_OUT_OF_MEMORY, FIRTHNAPKIN_SOURCE_TOO_LONG and FIRTHNAPKIN_INVALID_LIMIT.
+ * Before the first token is judged it holds 40 bytes for each token; the most that was seen is 388 bytes for a byte of a source
+ * of the shape {a{a}a{a}..}. */
+uint32_t firthnapkin_parse(const uint8_t *source, size_t length, const firthnapkin_limits *limits, firthnapkin_node *nodes,
                            size_t nodes_capacity, size_t *nodes_length, uint8_t *texts, size_t texts_capacity,
                            size_t *texts_length, firthnapkin_error *error);
 
-/* Writes in words what error a source has, with its line and column, both counted from 0, as `Unexpected "}". At 0:2`, in
- * UTF-8, with no line feed and no byte 0 at its end. The error is that of firthnapkin_parse with this depth.
+/* Writes an error in words, as `Unexpected "}"`, in UTF-8, with no byte 0 at its end. The source is the one that another call
+ * found the error in; it isn't parsed again. Neither the position nor the line is in the words: an excerpt shows these.
  *
- * FIRTHNAPKIN_SYNTAX_ERROR and FIRTHNAPKIN_TOO_DEEP: the words are at the beginning of `buffer`, the rest of which is as it
- * was, and `buffer_length` is the number of their bytes. FIRTHNAPKIN_BUFFER_TOO_SMALL: they have `buffer_length` bytes, more
- * than `buffer_capacity`. With any other status there are no words, and `buffer_length` is 0; FIRTHNAPKIN_OK: the source is a
- * document. All statuses but the first two leave `buffer` as it was. */
-uint32_t firthnapkin_message(const uint8_t *source, size_t length, uint32_t depth, uint8_t *buffer, size_t buffer_capacity,
-                             size_t *buffer_length);
+ * FIRTHNAPKIN_OK: the words are at the beginning of `buffer`, the rest of which is as it was, and `buffer_length` is the number
+ * of their bytes. FIRTHNAPKIN_BUFFER_TOO_SMALL: they have `buffer_length` bytes, more than `buffer_capacity`.
+ * FIRTHNAPKIN_INVALID_ERROR: there are no words for this error in this source. Any other error has some, also where it is of
+ * another source. It also returns FIRTHNAPKIN_NOT_UTF8, FIRTHNAPKIN_OUT_OF_MEMORY and FIRTHNAPKIN_SOURCE_TOO_LONG. All statuses
+ * but FIRTHNAPKIN_OK leave `buffer` as it was, and all but the first two set `buffer_length` to 0. */
+uint32_t firthnapkin_message(const uint8_t *source, size_t length, const firthnapkin_error *error, uint8_t *buffer,
+                             size_t buffer_capacity, size_t *buffer_length);
+
+/* Writes the lines around the beginning of an error, and a caret below its character, in UTF-8, with no byte 0 at its end:
+ *
+ *     1 | query {
+ *     2 |   a )
+ *       |     ^
+ *     3 | }
+ *
+ * They are the line before, if there is one, the line, the caret, and the line after, if there is one, with a line feed between
+ * two of them. Lines are numbered from 1 and end at line feeds. A carriage return before a line feed isn't shown, and any other
+ * is shown as a space. Of a line of more than 120 characters the 80 from 40 before the error's column are shown. Only
+ * error->start.byte is read of the error: the line and the column are those of that byte of the source.
+ *
+ * Its statuses are those of firthnapkin_message. FIRTHNAPKIN_INVALID_ERROR: that byte is within a character of the source, or
+ * after its end. */
+uint32_t firthnapkin_excerpt(const uint8_t *source, size_t length, const firthnapkin_error *error, uint8_t *buffer,
+                             size_t buffer_capacity, size_t *buffer_length);
 
 /* Says whether a source has more tokens than `max_tokens`, its end not counted. The whole source is checked as UTF-8, then
- * cut into tokens up to the first one too many. No memory is taken but for the positions or the words of an error. So a server
- * calls it before firthnapkin_parse.
+ * cut into tokens up to the first one too many. No memory is taken but for the positions of the error. firthnapkin_parse takes
+ * the same limit; this call is for those who parse elsewhere.
  *
  * FIRTHNAPKIN_OK: there are no more before the end, or before the first lexical error. FIRTHNAPKIN_TOO_MANY_TOKENS: there are
  * more before either, and the error is at the first one too many; what is after it is UTF-8, and may have lexical errors. It

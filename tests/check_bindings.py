@@ -8,7 +8,7 @@ line is 'N passed, M failed'.
 
 import re
 
-from header import Checks, declared, defined, enum, read
+from header import Checks, declared, defined, enum, header, read
 
 checks = Checks()
 check = checks.check
@@ -44,9 +44,11 @@ def part(text, begin, end):
 
 # ---- Python
 
-document, error, parser, lexer = (read(f"bindings/python/src/firthnapkin/{it}.py") for it in ("document", "errors", "parser", "lexer"))
+nodes, document, error, parser, lexer = (
+    read(f"bindings/python/src/firthnapkin/{it}.py") for it in ("nodes", "document", "errors", "parser", "lexer")
+)
 member = r"^    ([A-Z_]+) = (\d+)$"
-check("Python's kinds", numbers(part(document, r"class Kind\(", r"\nclass "), member), kinds)
+check("Python's kinds", numbers(part(nodes, r"class Kind\(", r"\nclass "), member), kinds)
 kinds_of_tokens = without_prefix("TOKEN_", enum("firthnapkin_token_kind"))
 check("Python's kinds of tokens", numbers(part(lexer, r"class TokenKind\(", r"\nclass "), member), kinds_of_tokens)
 found = numbers(part(error, r"class ErrorKind\(", r"\nclass "), member)
@@ -73,77 +75,74 @@ for name, text in (("Node", document), ("Error", parser), ("Token", lexer)):
     plain = re.sub(r"(\d+)([A-Za-z])", lambda it: it[2] * int(it[1]), written)
     check(f"the parts of Python's {name.lower()}", plain, format_of(f"firthnapkin_{name.lower()}"))
 
-# ---- Go
+# ---- Go, whose numbers are the header's own
 
-go = read("bindings/go/document.go")
-check("Go's kinds", numbers(go, r"^\t(\w+) +Kind += (\d+)"), kinds)
-check("Go's kinds of errors", numbers(go, r"^\t(\w+) +ErrorKind += (\d+)"), reported_errors)
-found = numbers(go, r"^\t(\w+) +ErrorDetail += (\d+)")
-check("Go's NoDetail", found.pop("NO_DETAIL"), details["NONE"])
-check("Go's other details", {"NONE": 0, **found}, reported_details)
-words = re.findall(r'"(\w+)"', part(go, r"var kindNames = ", r"\n}"))
-check("the words of Go's kinds", {word.upper(): i for i, word in enumerate(words)}, kinds)
+
+def named(path, pattern):
+    """The words that Go gives to the header's words, both written as there."""
+    return {upper(word): theirs for word, theirs in re.findall(pattern, read(f"bindings/go/{path}.go"), re.M)}
+
+
+for what, path, pattern, constants in (
+    ("kinds", "document", r"^\tKind(\w+) +Kind += C\.FIRTHNAPKIN_(\w+)", kinds),
+    ("kinds of tokens", "tokens", r"^\tToken(\w+) +TokenKind += C\.FIRTHNAPKIN_TOKEN_(\w+)", kinds_of_tokens),
+    ("kinds of errors", "errors", r"^\t(\w+) +ErrorKind += C\.FIRTHNAPKIN_ERROR_(\w+)", reported_errors),
+):
+    check(f"Go's {what}", named(path, pattern), {word: word for word in constants})
+found = named("errors", r"^\t(\w+) +ErrorDetail += C\.FIRTHNAPKIN_DETAIL_(\w+)")
+check("Go's NoDetail", found.pop("NO_DETAIL"), "NONE")
+check("Go's other details", found, {word: word for word in reported_details if word != "NONE"})
 
 # ---- Rust
 
-rust, error, call = (read(f"bindings/rust/src/{name}.rs") for name in ("document", "error", "call"))
-check("Rust's kinds", numbers(part(rust, r"pub enum Kind \{", r"\n}"), r"^    (\w+) = (\d+),$"), kinds)
-table = re.findall(r"\w+", part(rust, r"const KINDS.*?\n    \[", r"\n    \]"))
-check("the order of Rust's kinds", {upper(word): i for i, word in enumerate(table)}, kinds)
+rust, error, call, lexer = (read(f"bindings/rust/src/{name}.rs") for name in ("document", "error", "call", "lexer"))
+for what, text, name, constants in (("kinds", rust, "Kind", kinds), ("kinds of tokens", lexer, "TokenKind", kinds_of_tokens)):
+    check(f"Rust's {what}", numbers(part(text, rf"pub enum {name} \{{", r"\n}"), r"^    (\w+) = (\d+),$"), constants)
+    table = re.findall(r"\w+", part(text, r"const KINDS.*?\n    \[", r"\n    \]"))
+    check(f"the order of Rust's {what}", {upper(word): i for i, word in enumerate(table)}, constants)
 check("Rust's kinds of errors", {upper(word): int(n) for n, word in re.findall(r"(\d+) => ErrorKind::(\w+),", error)}, reported_errors)
 found = {upper(word): int(n) for n, word in re.findall(r"(\d+) => Some\(ErrorDetail::(\w+)", error)}
 check("Rust's details", {"NONE": 0, **found}, reported_details)
 for word, number in re.findall(r"^const (\w+): u32 = (\d+);", call, re.M):
     check(f"Rust's status {word}", int(number), statuses[word])
-RUST_TYPES = {"u32": "uint32_t", "i64": "int64_t", "Position": "firthnapkin_position"}
-for name, text in (("RawNode", rust), ("RawError", call), ("Position", rust)):
+RUST_TYPES = {"u32": "uint32_t", "i64": "int64_t", "Position": "firthnapkin_position", "[u32; 6]": "uint32_t[6]"}
+for name, text in (("RawNode", rust), ("RawError", call), ("RawLimits", call), ("RawToken", lexer), ("Position", rust)):
     body = part(text, rf"#\[repr\(C\)\]\n#\[derive\([^\n]*\n(?:pub(?:\(crate\))? )?struct {name} \{{", r"\n}")
-    found = [(field, RUST_TYPES[kind]) for field, kind in re.findall(r"^    (?:pub )?(\w+): (\w+),$", body, re.M)]
+    found = [(field, RUST_TYPES[kind]) for field, kind in re.findall(r"^    (?:pub )?(\w+): (\w+|\[u32; 6\]),$", body, re.M)]
     check(f"the fields of Rust's {name}", found, declared(f"firthnapkin_{name.replace('Raw', '').lower()}"))
 library = read("bindings/rust/src/lib.rs")
 check("Rust's largest depth", re.search(r"MAX_DEPTH: u32 = (\d+);", library)[1], defined("FIRTHNAPKIN_MAX_DEPTH"))
 stack = re.search(r"^    (\d+) \+ (\d+) \* depth as usize", read("bindings/rust/src/stack.rs"), re.M).groups()
 check("the stack that Rust gives", stack, re.search(r"\(size_t\)(\d+) \+ \(size_t\)(\d+) \*", defined("FIRTHNAPKIN_STACK_SIZE(depth)")).groups())
 
-# ---- Node
+# ---- Node, whose addon reads the header's names
 
-node = read("bindings/node/index.js")
-
-
-def listed(name):
-    """The words of an array, with their indexes."""
-    words = re.findall(r'"(\w+)"|null', part(node, rf"const {name} = \[", r"\];"))
-    return {upper(word): number for number, word in enumerate(words) if word}
-
-
-check("Node's kinds", listed("KINDS"), kinds)
-check("Node's kinds of errors", listed("ERROR_KINDS"), errors)
-check("Node's details", {"NONE": 0, **listed("ERROR_DETAILS")}, details)
-for word in ("OK", "SYNTAX_ERROR", "TOO_DEEP", "TOO_MANY_TOKENS"):
-    check(f"Node's status {word}", int(re.search(rf"^const {word} = (\d+);", node, re.M)[1]), statuses[word])
 types = read("bindings/node/index.d.ts")
-typed = set(re.findall(r'"(\w+)"', part(types, "export type Kind =", r";\n")))
-check("the words of Node's kinds in its types", {upper(word) for word in typed}, set(kinds))
-typed = set(re.findall(r'"(\w+)"', part(types, "export type ErrorKind =", r";\n")))
-check("the words of Node's kinds of errors in its types", {upper(word) for word in typed} - {"SURROGATE"}, set(reported_errors))
-typed = set(re.findall(r'"(\w+)"', part(types, "export type ErrorDetail =", r";\n")))
-check("the words of Node's details in its types", {"NONE", *map(upper, typed)}, set(reported_details))
+for name, constants, others in (
+    ("Kind", kinds, set()),
+    ("TokenKind", kinds_of_tokens, set()),
+    # No string that is a text has half of a surrogate pair alone.
+    ("ErrorKind", reported_errors, {"SURROGATE"}),
+    ("ErrorDetail", {word for word in reported_details if word != "NONE"}, set()),
+):
+    typed = set(re.findall(r'"(\w+)"', part(types, f"export type {name} =", r";\n")))
+    check(f"the words of Node's {name} in its types", {upper(word) for word in typed}, {*constants, *others})
 
 # ---- the default limits
 
 for path, pattern in (
     ("python/src/firthnapkin/parser.py", r"depth: int = (\d+),"),
-    ("go/parse.go", r"const DefaultDepth = (\d+)"),
+    ("go/parse.go", r"DefaultLimits = Limits\{Depth: (\d+), "),
     ("rust/src/lib.rs", r"DEFAULT_DEPTH: u32 = (\d+);"),
-    ("node/index.js", r"\{ depth = (\d+), "),
+    ("node/lib/calls.js", r"depth: \[(\d+), "),
 ):
     check(f"the default depth of {path}", re.search(pattern, read(f"bindings/{path}"))[1], "200")
 check("the default depth that Node's types name", re.search(r"from 0 to MAX_DEPTH; (\d+) where it isn't given", types)[1], "200")
 for path, pattern, wanted in (
-    ("go/parse.go", r"return ParseWithin\(source, DefaultDepth, (\w+)\)", "AnyTokens"),
+    ("go/parse.go", r"DefaultLimits = Limits\{Depth: 200, Tokens: (\w+)\}", "AnyTokens"),
     ("go/parse.go", r"const AnyTokens = (.*)", "1<<32 - 1"),
     ("rust/src/lib.rs", r"Limits \{ depth: DEFAULT_DEPTH, tokens: ([\w:]+) \}", "u32::MAX"),
-    ("node/index.js", r"\{ depth = 200, maxTokens = ([\w.]+) \}", "Number.MAX_SAFE_INTEGER"),
+    ("node/lib/calls.js", r"maxTokens: \[([\w.]+), ", "Number.MAX_SAFE_INTEGER"),
 ):
     check(f"the default number of tokens of {path}", re.search(pattern, read(f"bindings/{path}"))[1], wanted)
 

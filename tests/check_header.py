@@ -23,8 +23,8 @@ def source(name, crate="juniper_flat"):
 # ---- types
 
 # For each type of a field its size and alignment, and its name in C.
-SIZES = {"u32": (4, 4), "i64": (8, 8)}
-C_NAMES = {"u32": "uint32_t", "i64": "int64_t", "Place": "firthnapkin_position"}
+SIZES = {"u32": (4, 4), "i64": (8, 8), "[u32; 6]": (24, 4)}
+C_NAMES = {"u32": "uint32_t", "i64": "int64_t", "Place": "firthnapkin_position", "[u32; 6]": "uint32_t[6]"}
 # What the header calls them where the crates have another word.
 WORDS = {"Place": "position", "Fault": "error"}
 
@@ -32,7 +32,7 @@ WORDS = {"Place": "position", "Fault": "error"}
 def fields_of(name, text):
     """The fields of a struct with C's layout, each with its type."""
     body = re.search(rf"#\[repr\(C\)\][^{{]*pub struct {name} \{{(.*?)\n\}}", text, re.S)[1]
-    return re.findall(r"^    pub (\w+): (\w+),$", body, re.M)
+    return re.findall(r"^    pub (\w+): (\w+|\[u32; 6\]),$", body, re.M)
 
 
 def laid_out(name, text):
@@ -52,7 +52,7 @@ def laid_out(name, text):
 
 with open(sys.argv[1], encoding="utf-8") as file:
     layout = file.read().splitlines()
-for name, file in (("Place", "place"), ("Node", "node"), ("Token", "token"), ("Fault", "fault")):
+for name, file in (("Place", "place"), ("Node", "node"), ("Token", "token"), ("Fault", "fault"), ("Limits", "limits")):
     wanted = laid_out(name, source(file))
     word = f"firthnapkin_{WORDS.get(name, name.lower())}"
     found = [line for line in layout if line.split()[0] == word]
@@ -63,6 +63,7 @@ for name, file in (("Place", "place"), ("Node", "node"), ("Token", "token"), ("F
     check(f"the types of the fields of {word}", declared(word), typed)
 check("the size of a node", SIZES["Node"][0], 64)
 check("the size of a token", SIZES["Token"][0], 40)
+check("the size of limits, which stays", SIZES["Limits"][0], 32)
 
 # ---- numbers
 
@@ -98,38 +99,36 @@ named = re.findall(r"^    (\w+),$", re.search(r"pub enum Kind \{(.*?)\n\}", read
 check("the order of kinds of tokens, the end first", list(tokens), [upper(name) for name in named[-1:] + named[:-1]])
 check("kinds of tokens", enum("firthnapkin_token_kind"), {f"TOKEN_{word}": number for word, number in tokens.items()})
 
-fault = source("fault")
-names = {"UNEXPECTED_TOKEN": "UnexpectedToken", "UNEXPECTED_END": "UnexpectedEndOfFile", "INVALID_SCALAR": "ExpectedScalarError"}
-errors = {word: int(re.search(rf"ParseError::{name}\S* => because\((\d), 0, 0\)", fault)[1]) for word, name in names.items()}
-lexical = re.findall(r"LexerError::(\w+)\S* => because\((\d+), (\d+), (0|\*c as u32)\)", fault)
-check("one number of lexical errors", {kind for _, kind, _, _ in lexical}, {str(enum("firthnapkin_error_kind")["ERROR_LEXICAL"])})
-errors["LEXICAL"] = int(lexical[0][1])
-errors["TOO_DEEP"], errors["TOO_MANY_TOKENS"] = map(int, re.findall(r"fault_at\(table, because\((\d), 0, 0\), &span\)", fault))
-check("kinds of errors", enum("firthnapkin_error_kind"), {f"ERROR_{word}": number for word, number in errors.items()})
-words = {
-    "UnknownCharacter": "UNKNOWN_CHARACTER",
-    "UnexpectedCharacter": "UNEXPECTED_CHARACTER",
-    "UnterminatedString": "UNTERMINATED_STRING",
-    "UnknownCharacterInString": "UNKNOWN_CHARACTER_IN_STRING",
-    "UnknownEscapeSequence": "UNKNOWN_ESCAPE",
-    "UnexpectedEndOfFile": "UNEXPECTED_END_IN_TOKEN",
-    "InvalidNumber": "INVALID_NUMBER",
-}
-details = {"NONE": 0, **{words[name]: int(detail) for name, _, detail, _ in lexical}}
+constants = {w: int(n) for w, n in re.findall(r"^pub const (\w+): u32 = (\d+);", source("fault"), re.M)}
+details = list(constants).index("NO_DETAIL")
+kinds, details = dict(list(constants.items())[:details]), dict(list(constants.items())[details:])
+check("kinds of errors", enum("firthnapkin_error_kind"), {f"ERROR_{word}": number for word, number in kinds.items()})
+details["NONE"] = details.pop("NO_DETAIL")
 check("details", enum("firthnapkin_error_detail"), {f"DETAIL_{word}": number for word, number in details.items()})
-check("the largest depth", defined("FIRTHNAPKIN_MAX_DEPTH"), re.search(r"const MAX_DEPTH: u32 = (\d+);", source("depth"))[1])
+check("the largest depth", defined("FIRTHNAPKIN_MAX_DEPTH"), re.search(r"const MAX_DEPTH: u32 = (\d+);", source("limits"))[1])
+default = re.search(r"const DEFAULT_DEPTH: usize = (\d+);", read("crates/juniper/src/parser/document/limited.rt"))[1]
+check("the default limits", defined("FIRTHNAPKIN_LIMITS_DEFAULT"), f"{{{default}, UINT32_MAX, {{0}}}}")
+
+# ---- names of numbers
+
+PREFIXES = {"status": "", "kind": "", "token_kind": "TOKEN_", "error_kind": "ERROR_", "error_detail": "DETAIL_"}
+for name, prefix in PREFIXES.items():
+    body = re.search(rf"firthnapkin_{name}_name\(uint32_t \w+\) {{(.*?)\n}}", header, re.S)[1]
+    words = [word for word in re.findall(r'"(\w+)"', body) if word != "unknown"]
+    check(f"the names of firthnapkin_{name}", words, [word[len(prefix):].lower() for word in enum(f"firthnapkin_{name}")])
 
 # ---- calls
 
 C_TYPES = {
     "source: &[u8]": ["const uint8_t *source", "size_t length"],
-    "depth: u32": ["uint32_t depth"],
+    "limits: &Limits": ["const firthnapkin_limits *limits"],
     "max_tokens: u32": ["uint32_t max_tokens"],
     "nodes: &mut [Node]": ["firthnapkin_node *nodes", "size_t nodes_capacity"],
     "nodes_length: &mut usize": ["size_t *nodes_length"],
     "texts: &mut [u8]": ["uint8_t *texts", "size_t texts_capacity"],
     "texts_length: &mut usize": ["size_t *texts_length"],
     "fault: &mut Fault": ["firthnapkin_error *error"],
+    "fault: &Fault": ["const firthnapkin_error *error"],
     "buffer: &mut [u8]": ["uint8_t *buffer", "size_t buffer_capacity"],
     "buffer_length: &mut usize": ["size_t *buffer_length"],
     "tokens: &mut [Token]": ["firthnapkin_token *tokens", "size_t tokens_capacity"],
@@ -138,7 +137,7 @@ C_TYPES = {
     "alloc: Global": [],
 }
 exported = 0
-for name in ("parse", "message", "count", "tokens", "canonical", "version"):
+for name in ("parse", "message", "excerpt", "count", "tokens", "canonical", "version"):
     text = source(name, "juniper_c")
     for call, parameters, result in re.findall(r'pub extern "C" fn (\w+)\((.*?)\) -> (\w+)', text, re.S):
         exported += 1

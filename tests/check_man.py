@@ -1,6 +1,6 @@
 #!/usr/bin/env python3
 """Compares the man pages with what they describe. Of firthnapkin(3) these are the calls of the header, their parameters, and its
-statuses in the header's words; of gqlcheck(1) and gqlcanon(1) the exit statuses of their definitions and, where the program is
+statuses in the header's words and order; of gqlcheck(1) and gqlcanon(1) the exit statuses of their definitions and, where the program is
 built, what it writes. The last line is 'N passed, M failed', with ', K skipped' where one isn't built.
 
     tests/check_man.py              compares
@@ -80,6 +80,14 @@ def check_statuses(check, page, calls):
         check(f"where the description of {label} goes on", text[len(wanted)] in ".,;", True)
     succeeding = re.findall(r"(firthnapkin_\w+)\(\)", dict(described)["FIRTHNAPKIN_OK"])
     check("the calls whose success is described", succeeding, [name for name in calls if name != "firthnapkin_version"])
+    table = re.search(r" \*   1\. .*?\*/", header, re.S)[0]
+    check("which status comes first", lines_of_statuses("\n".join(page["RETURN VALUE"])), lines_of_statuses(table))
+
+
+def lines_of_statuses(text):
+    """The statuses of each numbered line, and those of the sentence after the last that may come in place of some."""
+    lines = re.findall(r"^(?: \*   )?(\d)\. (FIRTHNAPKIN_\w+)(?: or (FIRTHNAPKIN_\w+))?", text, re.M)
+    return lines, re.findall(r"(FIRTHNAPKIN_\w+)\s+may be returned in place of lines (\d) to (\d)", text)
 
 
 def check_words(check, page, calls):
@@ -87,7 +95,7 @@ def check_words(check, page, calls):
     text = "\n".join(plain(line) for lines in page.values() for line in lines)
     for word in sorted(set(re.findall(r"FIRTHNAPKIN_\w+|firthnapkin_\w+", text))):
         check(f"{word}, which firthnapkin(3) names", re.search(rf"\b{word}\b", header) is not None, True)
-    fields = {name for word in ("position", "node", "token", "error") for name, _ in declared(f"firthnapkin_{word}")}
+    fields = {name for word in ("position", "node", "token", "error", "limits") for name, _ in declared(f"firthnapkin_{word}")}
     parameters = {parameter.split()[-1].lstrip("*") for words in calls.values() for parameter in words}
     for line in page["DESCRIPTION"]:
         for word in re.findall(r"^\.I (\w+)$", line):

@@ -202,14 +202,15 @@ class Library:
     def __init__(self) -> None:
         self.parse = ctypes.CDLL(str(LIBRARY)).firthnapkin_parse
         room = [ctypes.c_void_p, ctypes.c_size_t, ctypes.POINTER(ctypes.c_size_t)]
-        self.parse.argtypes = [ctypes.c_char_p, ctypes.c_size_t, ctypes.c_uint32, *room, *room, ctypes.c_void_p]
+        self.parse.argtypes = [ctypes.c_char_p, ctypes.c_size_t, ctypes.c_void_p, *room, *room, ctypes.c_void_p]
         self.parse.restype = ctypes.c_uint32
 
     def outcome(self, text: str) -> str:
         """Whether a text is a document, begins one, can't be cut, or none of these: it is refused before its end."""
-        source, needed, fault = text.encode(), ctypes.c_size_t(), (ctypes.c_uint32 * 11)()
+        source, needed, fault = text.encode(), ctypes.c_size_t(), (ctypes.c_uint32 * 13)()
+        limits = (ctypes.c_uint32 * 8)(self.DEPTH, 2**32 - 1)
         room = [None, 0, ctypes.byref(needed)]
-        status = self.parse(source, len(source), self.DEPTH, *room, *room, fault)
+        status = self.parse(source, len(source), limits, *room, *room, fault)
         if status in (self.OK, self.BUFFER_TOO_SMALL):
             return "document"
         if status != self.SYNTAX_ERROR:

@@ -39,7 +39,9 @@ class Token(ctypes.Structure):
 
 
 class Error(ctypes.Structure):
-    _fields_ = [(name, ctypes.c_uint32) for name in ("kind", "detail", "character")] + [("start", Position), ("end", Position)]
+    _fields_ = [(name, ctypes.c_uint32) for name in ("kind", "detail", "character")] + [
+        ("start", Position), ("end", Position), ("text_start", ctypes.c_uint32), ("text_end", ctypes.c_uint32),
+    ]  # fmt: skip
 
 
 class Answer:

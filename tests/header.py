@@ -23,8 +23,8 @@ def enum(name):
 def declared(word):
     """The fields of a type of the header, each with its type."""
     body = re.search(rf"typedef struct \{{([^}}]*)\}} {word};", header)[1]
-    lines = re.findall(r"^\s*(\w+) ([\w, ]+);", re.sub(r"/\*.*?\*/", "", body, flags=re.S), re.M)
-    return [(field, kind) for kind, names in lines for field in names.split(", ")]
+    lines = re.findall(r"^\s*(\w+) ([\w, ]+)(\[\d+\])?;", re.sub(r"/\*.*?\*/", "", body, flags=re.S), re.M)
+    return [(field, kind + count) for kind, names, count in lines for field in names.split(", ")]
 
 
 def defined(word):

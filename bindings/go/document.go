@@ -2,64 +2,51 @@
 
 package firthnapkin
 
-import (
-	"fmt"
-	"strconv"
-)
+/*
+#include "calls.h"
+*/
+import "C"
 
 // Kind is the kind of a node.
 type Kind uint32
 
 // The kinds of nodes.
 const (
-	Query               Kind = 0
-	Mutation            Kind = 1
-	Subscription        Kind = 2
-	FragmentDefinition  Kind = 3
-	VariableDefinitions Kind = 4 // the variable definitions of an operation
-	VariableDefinition  Kind = 5 // a variable definition, by its name
-	Type                Kind = 6 // the type of a variable
-	Field               Kind = 7
-	Alias               Kind = 8  // the alias of a field
-	FragmentSpread      Kind = 9  // the use of a fragment by its name
-	InlineFragment      Kind = 10 // a fragment without a name; its name is its type condition
-	Directive           Kind = 11
-	Arguments           Kind = 12 // the arguments of a field or a directive
-	Argument            Kind = 13 // an argument, by its name
-	Null                Kind = 14
-	Enum                Kind = 15
-	Variable            Kind = 16 // a variable used as a value
-	List                Kind = 17
-	Object              Kind = 18
-	ObjectField         Kind = 19 // a field of an object, by its name
-	Int                 Kind = 20 // an Int that 32 bits hold
-	LargeInt            Kind = 21 // an Int that 32 bits don't hold
-	Float               Kind = 22
-	String              Kind = 23
-	BlockString         Kind = 24
-	Boolean             Kind = 25
+	KindQuery               Kind = C.FIRTHNAPKIN_QUERY
+	KindMutation            Kind = C.FIRTHNAPKIN_MUTATION
+	KindSubscription        Kind = C.FIRTHNAPKIN_SUBSCRIPTION
+	KindFragmentDefinition  Kind = C.FIRTHNAPKIN_FRAGMENT_DEFINITION
+	KindVariableDefinitions Kind = C.FIRTHNAPKIN_VARIABLE_DEFINITIONS // the variable definitions of an operation
+	KindVariableDefinition  Kind = C.FIRTHNAPKIN_VARIABLE_DEFINITION  // a variable definition, by its name
+	KindType                Kind = C.FIRTHNAPKIN_TYPE                 // the type of a variable
+	KindField               Kind = C.FIRTHNAPKIN_FIELD
+	KindAlias               Kind = C.FIRTHNAPKIN_ALIAS           // the alias of a field
+	KindFragmentSpread      Kind = C.FIRTHNAPKIN_FRAGMENT_SPREAD // the use of a fragment by its name
+	KindInlineFragment      Kind = C.FIRTHNAPKIN_INLINE_FRAGMENT // a fragment without a name; its name is its type condition
+	KindDirective           Kind = C.FIRTHNAPKIN_DIRECTIVE
+	KindArguments           Kind = C.FIRTHNAPKIN_ARGUMENTS // the arguments of a field or a directive
+	KindArgument            Kind = C.FIRTHNAPKIN_ARGUMENT  // an argument, by its name
+	KindNull                Kind = C.FIRTHNAPKIN_NULL
+	KindEnum                Kind = C.FIRTHNAPKIN_ENUM
+	KindVariable            Kind = C.FIRTHNAPKIN_VARIABLE // a variable used as a value
+	KindList                Kind = C.FIRTHNAPKIN_LIST
+	KindObject              Kind = C.FIRTHNAPKIN_OBJECT
+	KindObjectField         Kind = C.FIRTHNAPKIN_OBJECT_FIELD // a field of an object, by its name
+	KindInt                 Kind = C.FIRTHNAPKIN_INT          // an Int that 32 bits hold
+	KindLargeInt            Kind = C.FIRTHNAPKIN_LARGE_INT    // an Int that 32 bits don't hold
+	KindFloat               Kind = C.FIRTHNAPKIN_FLOAT
+	KindString              Kind = C.FIRTHNAPKIN_STRING
+	KindBlockString         Kind = C.FIRTHNAPKIN_BLOCK_STRING
+	KindBoolean             Kind = C.FIRTHNAPKIN_BOOLEAN
 )
 
-var kindNames = [...]string{
-	"query", "mutation", "subscription", "fragment_definition", "variable_definitions", "variable_definition", "type", "field",
-	"alias", "fragment_spread", "inline_fragment", "directive", "arguments", "argument", "null", "enum", "variable", "list",
-	"object", "object_field", "int", "large_int", "float", "string", "block_string", "boolean",
-}
-
-// String returns the kind's word, as "field".
-func (k Kind) String() string {
-	if int(k) < len(kindNames) {
-		return kindNames[k]
-	}
-	return "Kind(" + strconv.Itoa(int(k)) + ")"
-}
-
-// Position is the number of characters of the source, of line feeds, of characters of the line, and of bytes before it.
+// Position is the number of characters of the source, of line feeds, of characters of the line, and of bytes before it: each is
+// counted from 0.
 type Position struct {
 	Index, Line, Column, Byte uint32
 }
 
-// Node is a part of a document. After it come the nodes of the parts in it. Document's methods return its texts.
+// Node is a part of a document, as the library writes it. After it come the nodes of the parts in it. Document's methods return its texts.
 type Node struct {
 	Kind        Kind
 	Descendants uint32 // how many of the nodes after it are of parts in it
@@ -72,7 +59,7 @@ type Node struct {
 	_           uint32
 }
 
-// Document is a source's nodes, each part before the parts in it.
+// Document is a source's nodes, each part before the parts in it. Operations and Fragments begin with the parts by their names.
 type Document struct {
 	Source string
 	Nodes  []Node
@@ -96,9 +83,9 @@ func (d *Document) Meaning(i int) string {
 	n := &d.Nodes[i]
 	from, length := n.Value, int64(n.ValueLength)
 	switch n.Kind {
-	case String, BlockString, Type:
+	case KindString, KindBlockString, KindType:
 		return d.texts[from : from+length]
-	case FragmentDefinition:
+	case KindFragmentDefinition:
 		return d.Source[from : from+length]
 	}
 	return ""
@@ -125,45 +112,4 @@ func (d *Document) between(i, end int) []int {
 		found = append(found, i)
 	}
 	return found
-}
-
-// ErrorKind is why a source has no document.
-type ErrorKind uint32
-
-// The kinds of errors.
-const (
-	UnexpectedToken ErrorKind = 0 // no document has the token after those before it
-	UnexpectedEnd   ErrorKind = 1 // the source ends within a document
-	Lexical         ErrorKind = 2 // there is no token here; the ErrorDetail says why
-	TooDeep         ErrorKind = 3 // the token is nested too deep
-	TooManyTokens   ErrorKind = 4 // the token is one too many
-)
-
-// ErrorDetail is why there is no token.
-type ErrorDetail uint32
-
-// The details of errors.
-const (
-	NoDetail                 ErrorDetail = 0
-	UnknownCharacter         ErrorDetail = 1
-	UnexpectedCharacter      ErrorDetail = 2
-	UnterminatedString       ErrorDetail = 3
-	UnknownCharacterInString ErrorDetail = 4
-	UnknownEscape            ErrorDetail = 5
-	UnexpectedEndInToken     ErrorDetail = 6
-)
-
-// SyntaxError says why a source has no document within the limits, and where.
-type SyntaxError struct {
-	Message   string
-	Kind      ErrorKind
-	Detail    ErrorDetail
-	Character rune // the character of the Detail, otherwise 0
-	// The positions of a token, or of zero width. Lines and columns are counted from 0, columns in characters.
-	Start, End Position
-}
-
-// Error returns the message and the line and column, both counted from 0, as `Unexpected ")". At 1:4`.
-func (e *SyntaxError) Error() string {
-	return fmt.Sprintf("%s. At %d:%d", e.Message, e.Start.Line, e.Start.Column)
 }

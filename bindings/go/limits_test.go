@@ -41,13 +41,17 @@ func TestDepths(t *testing.T) {
 	deep := strings.Repeat("{a", 200000)
 	for _, depth := range []int{-1, -1 << 63, MaxDepth + 1, 1<<31 - 1, 1<<32 - 1, 1 << 32, 1<<32 + 5, 1<<63 - 1} {
 		for _, source := range []string{deep, "{a}", "", "\xff"} {
-			if _, err := ParseWithin(source, depth, AnyTokens); !errors.Is(err, ErrInvalidDepth) {
+			if _, err := ParseWithin(source, Limits{Depth: depth, Tokens: AnyTokens}); !errors.Is(err, ErrInvalidLimit) {
 				t.Errorf("the depth %d: %v", depth, err)
 			}
 		}
 	}
+	_, err := ParseWithin("{a}", Limits{Depth: 1001, Tokens: 5})
+	same(t, "the words of a depth", err.Error(), "firthnapkin: invalid limit: the depth 1001 is not from 0 to 1000")
+	_, err = ParseWithin("{a}", Limits{Depth: 5, Tokens: -7})
+	same(t, "the words of a number of tokens", err.Error(), "firthnapkin: invalid limit: the number of tokens -7 is below 0")
 	for _, depth := range []int{0, 1, 2, 199, 200, MaxDepth} {
-		if d, err := ParseWithin(strings.Repeat("{a", depth)+strings.Repeat("}", depth), depth, AnyTokens); depth > 0 &&
+		if d, err := ParseWithin(strings.Repeat("{a", depth)+strings.Repeat("}", depth), Limits{Depth: depth, Tokens: AnyTokens}); depth > 0 &&
 			(err != nil || len(d.Nodes) != depth+1) {
 			t.Errorf("a text %d deep: %v", depth, err)
 		}
@@ -61,28 +65,28 @@ func TestTokens(t *testing.T) {
 	source := "{ a(b: \"é\") ...F }"
 	starts := []uint32{0, 2, 3, 4, 5, 7, 10, 12, 15, 17}
 	for _, tokens := range []int{len(starts), len(starts) + 1, AnyTokens - 1, AnyTokens, 1 << 40, 1<<63 - 1} {
-		if _, err := ParseWithin(source, 5, tokens); err != nil {
+		if _, err := ParseWithin(source, Limits{Depth: 5, Tokens: tokens}); err != nil {
 			t.Errorf("%d tokens: %v", tokens, err)
 		}
 	}
 	for tokens, start := range starts {
-		_, err := ParseWithin(source, 5, tokens)
+		_, err := ParseWithin(source, Limits{Depth: 5, Tokens: tokens})
 		var found *SyntaxError
 		if !errors.As(err, &found) {
 			t.Fatalf("%d tokens: %v", tokens, err)
 		}
 		same(t, "too many tokens", []any{found.Kind, found.Message, found.Start.Index}, []any{TooManyTokens, "Too many tokens", start})
-		same(t, "their error", found.Error(), fmt.Sprintf("Too many tokens. At 0:%d", start))
+		same(t, "their error", found.Error(), fmt.Sprintf("Too many tokens. At 1:%d", start+1))
 	}
 	// No lexical error after the first token too many counts, and no deep text is parsed.
 	for _, source := range []string{strings.Repeat("{a", 1<<20), "{ a ) } \"", "{ a \"\x00"} {
-		_, err := ParseWithin(source, 5, 2)
+		_, err := ParseWithin(source, Limits{Depth: 5, Tokens: 2})
 		var found *SyntaxError
 		same(t, source[:5], errors.As(err, &found) && found.Kind == TooManyTokens, source != "{ a \"\x00")
 	}
 	many := "{" + strings.Repeat("a ", 1000001)
 	for _, tokens := range []int{65535, 65536, 65537, 999999, 1000000, 1000001, 1000002} {
-		_, err := ParseWithin(many, 5, tokens)
+		_, err := ParseWithin(many, Limits{Depth: 5, Tokens: tokens})
 		var found *SyntaxError
 		if !errors.As(err, &found) {
 			t.Fatalf("%d tokens: %v", tokens, err)
@@ -94,11 +98,11 @@ func TestTokens(t *testing.T) {
 		same(t, "a limit on many tokens", []any{found.Kind, int(found.Start.Byte)}, wanted)
 	}
 	for _, tokens := range []int{-1, -1 << 63} {
-		if _, err := ParseWithin(source, 5, tokens); !errors.Is(err, ErrInvalidMaxTokens) {
+		if _, err := ParseWithin(source, Limits{Depth: 5, Tokens: tokens}); !errors.Is(err, ErrInvalidLimit) {
 			t.Errorf("%d tokens: %v", tokens, err)
 		}
 	}
-	if _, err := ParseWithin("{\xff", 5, 0); !errors.Is(err, ErrNotUTF8) {
+	if _, err := ParseWithin("{\xff", Limits{Depth: 5, Tokens: 0}); !errors.Is(err, ErrNotUTF8) {
 		t.Errorf("what is no text: %v", err)
 	}
 }
@@ -112,7 +116,7 @@ func TestTooLong(t *testing.T) {
 	defer syscall.Munmap(bytes)
 	source := *(*string)(unsafe.Pointer(&bytes))
 	for _, tokens := range []int{5, AnyTokens} {
-		if _, err := ParseWithin(source, 5, tokens); !errors.Is(err, ErrSourceTooLong) {
+		if _, err := ParseWithin(source, Limits{Depth: 5, Tokens: tokens}); !errors.Is(err, ErrSourceTooLong) {
 			t.Errorf("4 GiB: %v", err)
 		}
 	}
@@ -140,7 +144,7 @@ func TestGoroutines(t *testing.T) {
 func TestSmallStacks(t *testing.T) {
 	if os.Getenv("FIRTHNAPKIN_SMALL_STACK") != "" {
 		for _, part := range []string{"{...", "{a", "{a(x:{k:", "query($a:["} {
-			refused(t, strings.Repeat(part, 5000), DefaultDepth)
+			refused(t, strings.Repeat(part, 5000), DefaultLimits.Depth)
 			refused(t, strings.Repeat(part, 5000), MaxDepth)
 		}
 		same(t, "nodes", len(parsed(t, strings.Repeat("{...", 199)+"{a}"+strings.Repeat("}", 199)).Nodes), 201)

@@ -2,18 +2,22 @@
 
 // Package firthnapkin parses GraphQL's executable documents (October 2021): operations, fragments and what is in them.
 //
-// The parser is proved; this package calls it by cgo and copies nothing. A Document is a list of nodes, each part of the
-// source before the parts in it:
+// The parser is proved; this package calls it by cgo and copies nothing. A Document has the parts of a source by their names:
 //
 //	document, err := firthnapkin.Parse("{ user(id: 4) { name } }")
 //	if err != nil {
 //		return err
 //	}
-//	for i, node := range document.Nodes {
-//		fmt.Println(node.Kind, document.Name(i))
+//	for _, operation := range document.Operations() {
+//		for _, selection := range operation.Selections() {
+//			if field, ok := selection.(firthnapkin.Field); ok {
+//				fmt.Println(field.ResponseKey(), field.Line(), field.Column())
+//			}
+//		}
 //	}
 //
-// It may be called from any number of goroutines at once.
+// It is also a list of nodes, each part of the source before the parts in it. All calls may be made from any number of
+// goroutines at once.
 package firthnapkin
 
 /*
@@ -26,18 +30,11 @@ typedef struct {
 	firthnapkin_error error;
 } told;
 
-static uint32_t parse(const char *source, size_t length, uint32_t depth, void *nodes, size_t nodes_capacity, char *texts,
-                      size_t texts_capacity, told *t) {
-	return parse_on_stack((const uint8_t *)source, length, depth, nodes, nodes_capacity, &t->nodes_length, (uint8_t *)texts,
+static uint32_t parse(const char *source, size_t length, uint32_t depth, uint32_t tokens, void *nodes, size_t nodes_capacity,
+                      char *texts, size_t texts_capacity, told *t) {
+	firthnapkin_limits limits = {depth, tokens, {0}};
+	return parse_on_stack((const uint8_t *)source, length, &limits, nodes, nodes_capacity, &t->nodes_length, (uint8_t *)texts,
 	                      texts_capacity, &t->texts_length, &t->error);
-}
-
-static uint32_t count(const char *source, size_t length, uint32_t max_tokens, told *t) {
-	return count_on_stack((const uint8_t *)source, length, max_tokens, &t->error);
-}
-
-static uint32_t message(const char *source, size_t length, uint32_t depth, char *buffer, size_t buffer_capacity, told *t) {
-	return message_on_stack((const uint8_t *)source, length, depth, (uint8_t *)buffer, buffer_capacity, &t->texts_length);
 }
 */
 import "C"
@@ -46,12 +43,8 @@ import (
 	"errors"
 	"fmt"
 	"runtime"
-	"strings"
 	"unsafe"
 )
-
-// DefaultDepth is how deep Parse allows brackets to be nested.
-const DefaultDepth = 200
 
 // MaxDepth is the largest depth that ParseWithin takes.
 const MaxDepth = C.FIRTHNAPKIN_MAX_DEPTH
@@ -62,7 +55,18 @@ const AnyTokens = 1<<32 - 1
 // Version is the library's version.
 const Version = C.FIRTHNAPKIN_VERSION_STRING
 
-// What Parse and ParseWithin return besides a *SyntaxError.
+// Limits are what a source may have. The zero value allows no bracket and no token, so begin with DefaultLimits.
+type Limits struct {
+	// Depth is how deep brackets may be nested: from 0 to MaxDepth.
+	Depth int
+	// Tokens is how many tokens there may be, the end of the source not counted. AnyTokens and more are no limit.
+	Tokens int
+}
+
+// DefaultLimits are those of Parse: brackets nested 200 deep, and any number of tokens.
+var DefaultLimits = Limits{Depth: 200, Tokens: AnyTokens}
+
+// What the calls return besides a *SyntaxError.
 var (
 	// ErrNotUTF8 says that the source is not UTF-8.
 	ErrNotUTF8 = errors.New("firthnapkin: the source is not UTF-8")
@@ -70,62 +74,52 @@ var (
 	ErrOutOfMemory = errors.New("firthnapkin: memory ran out")
 	// ErrSourceTooLong says that the source has 4 GiB or more.
 	ErrSourceTooLong = errors.New("firthnapkin: the source has 4 GiB or more")
-	// ErrInvalidDepth says that the depth is below 0 or above MaxDepth.
-	ErrInvalidDepth = fmt.Errorf("firthnapkin: the depth is not from 0 to %d", MaxDepth)
-	// ErrInvalidMaxTokens says that the number of tokens is below 0.
-	ErrInvalidMaxTokens = errors.New("firthnapkin: the number of tokens is below 0")
+	// ErrInvalidLimit says that a limit is out of its range; the error that wraps it says which.
+	ErrInvalidLimit = errors.New("firthnapkin: invalid limit")
 )
 
-// Parse returns the document that a source is, with brackets nested at most DefaultDepth deep, or an error: a *SyntaxError
-// where the source is no such document, otherwise one of the Err values.
+// Parse returns the document that a source is within DefaultLimits, or an error: a *SyntaxError where the source is no such
+// document, otherwise one of the Err values.
 func Parse(source string) (*Document, error) {
-	return ParseWithin(source, DefaultDepth, AnyTokens)
+	return ParseWithin(source, DefaultLimits)
 }
 
-// ParseWithin is Parse with brackets nested at most as deep as depth, from 0 to MaxDepth, and no more than maxTokens tokens.
-// A source with more is refused at the first one too many, before anything is built.
-func ParseWithin(source string, depth, maxTokens int) (*Document, error) {
-	if depth < 0 || depth > MaxDepth {
-		return nil, ErrInvalidDepth
+// ParseWithin is Parse with other limits. The source is read once. One with too many tokens is refused at the first one too
+// many, before anything is built. An error that wraps ErrInvalidLimit is returned, and the source isn't read, where the depth
+// is not from 0 to MaxDepth, or the number of tokens is below 0.
+func ParseWithin(source string, limits Limits) (*Document, error) {
+	if limits.Depth < 0 || limits.Depth > MaxDepth {
+		return nil, fmt.Errorf("%w: the depth %d is not from 0 to %d", ErrInvalidLimit, limits.Depth, MaxDepth)
 	}
-	if maxTokens < 0 {
-		return nil, ErrInvalidMaxTokens
+	tokens, err := tokensOf(limits.Tokens)
+	if err != nil {
+		return nil, err
 	}
-	if maxTokens < AnyTokens {
-		if err := count(source, maxTokens); err != nil {
-			return nil, err
-		}
-	}
-	return parse(source, depth)
+	return parse(source, C.uint32_t(limits.Depth), tokens)
 }
 
-func count(source string, maxTokens int) error {
-	told := new(C.told)
-	status := C.count(bytesOf(source), C.size_t(len(source)), C.uint32_t(maxTokens), told)
-	runtime.KeepAlive(source)
-	switch status {
-	case C.FIRTHNAPKIN_OK:
-		return nil
-	case C.FIRTHNAPKIN_TOO_MANY_TOKENS:
-		return syntaxErrorOf("Too many tokens", &told.error)
+// tokensOf returns a number of tokens as the library takes it.
+func tokensOf(tokens int) (C.uint32_t, error) {
+	if tokens < 0 {
+		return 0, fmt.Errorf("%w: the number of tokens %d is below 0", ErrInvalidLimit, tokens)
 	}
-	return errorOf(status)
+	if tokens > AnyTokens {
+		tokens = AnyTokens
+	}
+	return C.uint32_t(tokens), nil
 }
 
-// How many nodes are allocated for the first call, at most.
+// How many nodes or tokens are allocated for the first call, at most.
 const mostAtFirst = 1 << 20
 
-func parse(source string, depth int) (*Document, error) {
-	// Few sources have more nodes than one for six bytes; for others, and for the largest, the second call has the capacity that
-	// the first returns.
-	first := len(source) / 6
-	if first > mostAtFirst {
-		first = mostAtFirst
-	}
+// Few sources have more nodes than one for six bytes; for others, and for the largest, the second call has the capacity that
+// the first returns.
+func parse(source string, depth, tokens C.uint32_t) (*Document, error) {
+	first := atFirst(source)
 	nodesCapacity, textsCapacity := first+16, first+64
 	for {
 		nodes, texts, told := make([]Node, nodesCapacity), make([]byte, textsCapacity), new(C.told)
-		status := C.parse(bytesOf(source), C.size_t(len(source)), C.uint32_t(depth), unsafe.Pointer(&nodes[0]),
+		status := C.parse(bytesOf(source), C.size_t(len(source)), depth, tokens, unsafe.Pointer(&nodes[0]),
 			C.size_t(nodesCapacity), (*C.char)(unsafe.Pointer(&texts[0])), C.size_t(textsCapacity), told)
 		runtime.KeepAlive(source)
 		switch status {
@@ -133,65 +127,38 @@ func parse(source string, depth int) (*Document, error) {
 			return &Document{source, nodes[:told.nodes_length:told.nodes_length], string(texts[:told.texts_length])}, nil
 		case C.FIRTHNAPKIN_BUFFER_TOO_SMALL:
 			nodesCapacity, textsCapacity = int(told.nodes_length)+1, int(told.texts_length)+1
-		case C.FIRTHNAPKIN_SYNTAX_ERROR, C.FIRTHNAPKIN_TOO_DEEP:
-			return nil, syntaxError(source, depth, &told.error)
 		default:
-			return nil, errorOf(status)
+			return nil, errorOf(status, source, &told.error)
 		}
 	}
 }
 
-func errorOf(status C.uint32_t) error {
+// atFirst returns how many nodes or tokens are allocated for the first call.
+func atFirst(source string) int {
+	if first := len(source) / 6; first < mostAtFirst {
+		return first
+	}
+	return mostAtFirst
+}
+
+// errorOf returns the error of a status, with what the call found.
+func errorOf(status C.uint32_t, source string, found *C.firthnapkin_error) error {
 	switch status {
+	case C.FIRTHNAPKIN_SYNTAX_ERROR, C.FIRTHNAPKIN_TOO_DEEP, C.FIRTHNAPKIN_TOO_MANY_TOKENS:
+		return syntaxErrorOf(source, found)
 	case C.FIRTHNAPKIN_NOT_UTF8:
 		return ErrNotUTF8
 	case C.FIRTHNAPKIN_OUT_OF_MEMORY:
 		return ErrOutOfMemory
 	case C.FIRTHNAPKIN_SOURCE_TOO_LONG:
 		return ErrSourceTooLong
-	case C.FIRTHNAPKIN_INVALID_LIMIT:
-		return ErrInvalidDepth
 	}
-	return fmt.Errorf("firthnapkin: the parser returned %d", status)
+	return fmt.Errorf("firthnapkin: the parser returned %s", C.GoString(C.firthnapkin_status_name(status)))
 }
 
 // bytesOf returns a pointer to a string's bytes. C reads them and keeps nothing.
 func bytesOf(source string) *C.char {
 	return *(**C.char)(unsafe.Pointer(&source))
-}
-
-func syntaxError(source string, depth int, found *C.firthnapkin_error) error {
-	for capacity := 256; ; {
-		words, told := make([]byte, capacity), new(C.told)
-		status := C.message(bytesOf(source), C.size_t(len(source)), C.uint32_t(depth),
-			(*C.char)(unsafe.Pointer(&words[0])), C.size_t(capacity), told)
-		runtime.KeepAlive(source)
-		switch status {
-		case C.FIRTHNAPKIN_BUFFER_TOO_SMALL:
-			capacity = int(told.texts_length)
-		case C.FIRTHNAPKIN_SYNTAX_ERROR, C.FIRTHNAPKIN_TOO_DEEP:
-			message := string(words[:told.texts_length])
-			return syntaxErrorOf(message[:strings.LastIndex(message, ". At ")], found)
-		default:
-			return errorOf(status)
-		}
-	}
-}
-
-func syntaxErrorOf(message string, found *C.firthnapkin_error) error {
-	return &SyntaxError{
-		Message: message,
-		Kind:    ErrorKind(found.kind),
-		Detail:  ErrorDetail(found.detail),
-		// The characters of a source are below 0x110000.
-		Character: rune(found.character),
-		Start:     positionOf(found.start),
-		End:       positionOf(found.end),
-	}
-}
-
-func positionOf(p C.firthnapkin_position) Position {
-	return Position{uint32(p.index), uint32(p.line), uint32(p.column), uint32(p.byte)}
 }
 
 // The nodes of a slice are laid out as the library writes them; each of these lines is a compile error where that is wrong.

@@ -24,7 +24,7 @@ func parsed(t *testing.T, source string) *Document {
 // refused returns why a source has no document, and fails where it has one.
 func refused(t *testing.T, source string, depth int) *SyntaxError {
 	t.Helper()
-	_, err := ParseWithin(source, depth, AnyTokens)
+	_, err := ParseWithin(source, Limits{Depth: depth, Tokens: AnyTokens})
 	var found *SyntaxError
 	if !errors.As(err, &found) {
 		t.Fatalf("%.40q: %v", source, err)
@@ -41,8 +41,8 @@ func same(t *testing.T, told string, found, wanted any) {
 
 // gqlcheck's words for the kinds that it names otherwise.
 var gqlcheckWords = map[Kind]string{
-	FragmentDefinition: "fragment", VariableDefinitions: "variables", VariableDefinition: "variable", FragmentSpread: "spread",
-	InlineFragment: "inline", Variable: "reference", ObjectField: "key",
+	KindFragmentDefinition: "fragment", KindVariableDefinitions: "variables", KindVariableDefinition: "variable", KindFragmentSpread: "spread",
+	KindInlineFragment: "inline", KindVariable: "reference", KindObjectField: "key",
 }
 
 // wordOf returns gqlcheck's word for a kind.
@@ -59,6 +59,11 @@ func lines(source string) string {
 	if errors.Is(err, ErrNotUTF8) {
 		return "Not UTF-8"
 	}
+	var found *SyntaxError
+	if errors.As(err, &found) {
+		// gqlcheck counts from 0, and says nothing of schemas.
+		return fmt.Sprintf("%s. At %d:%d", strings.TrimSuffix(found.Message, schemaWords), found.Start.Line, found.Start.Column)
+	}
 	if err != nil {
 		return err.Error()
 	}
@@ -66,12 +71,12 @@ func lines(source string) string {
 	for i, node := range document.Nodes {
 		line := fmt.Sprintf("%s %d %d", wordOf(node.Kind), node.Start.Index, node.End.Index)
 		switch node.Kind {
-		case Int, LargeInt, Float, String, BlockString, Boolean:
+		case KindInt, KindLargeInt, KindFloat, KindString, KindBlockString, KindBoolean:
 			line = fmt.Sprintf("scalar %d %d", node.Start.Index, node.End.Index)
-		case Null:
-		case Type:
+		case KindNull:
+		case KindType:
 			line += " " + document.Meaning(i)
-		case FragmentDefinition:
+		case KindFragmentDefinition:
 			line += " " + document.Name(i) + " " + document.Meaning(i)
 		default:
 			if name := document.Name(i); name != "" {
@@ -119,26 +124,26 @@ func TestValues(t *testing.T) {
 		kind          Kind
 		value         int64
 	}{
-		{"-7", "", Int, -7},
-		{"-0", "", Int, 0},
-		{"-2147483648", "", Int, -2147483648},
-		{"2147483647", "", Int, 2147483647},
-		{"-2147483649", "", LargeInt, 0},
-		{"2147483648", "", LargeInt, 0},
-		{strings.Repeat("9", 5000), "", LargeInt, 0},
-		{"-1.5", "", Float, 0},
-		{"1e400", "", Float, 0},
-		{"true", "", Boolean, 1},
-		{"false", "", Boolean, 0},
-		{"null", "", Null, 0},
-		{`"\u00e9\n"`, "é\n", String, -1},
-		{`""`, "", String, -1},
-		{"\"\"\"\n  x\n \"\"\"", "x", BlockString, -1},
+		{"-7", "", KindInt, -7},
+		{"-0", "", KindInt, 0},
+		{"-2147483648", "", KindInt, -2147483648},
+		{"2147483647", "", KindInt, 2147483647},
+		{"-2147483649", "", KindLargeInt, 0},
+		{"2147483648", "", KindLargeInt, 0},
+		{strings.Repeat("9", 5000), "", KindLargeInt, 0},
+		{"-1.5", "", KindFloat, 0},
+		{"1e400", "", KindFloat, 0},
+		{"true", "", KindBoolean, 1},
+		{"false", "", KindBoolean, 0},
+		{"null", "", KindNull, 0},
+		{`"\u00e9\n"`, "é\n", KindString, -1},
+		{`""`, "", KindString, -1},
+		{"\"\"\"\n  x\n \"\"\"", "x", KindBlockString, -1},
 	} {
 		d := parsed(t, "{ a(b: "+row.text+") }")
 		node := d.Nodes[4]
 		same(t, row.text, []any{node.Kind, d.Meaning(4), d.Text(4), d.Name(4)}, []any{row.kind, row.meaning, row.text, row.text})
-		if row.value >= 0 || row.kind == Int {
+		if row.value >= 0 || row.kind == KindInt {
 			same(t, row.text, node.Value, row.value)
 		}
 	}
@@ -149,15 +154,18 @@ func TestDocument(t *testing.T) {
 	same(t, "definitions", d.Definitions(), []int{0, 11})
 	same(t, "children of the query", d.Children(0), []int{1, 4, 10})
 	same(t, "children of the field", d.Children(4), []int{5, 6, 9})
-	same(t, "the variable", []any{d.Nodes[2].Kind, d.Name(2), d.Text(2)}, []any{VariableDefinition, "v", "$v"})
-	same(t, "the type", []any{d.Nodes[3].Kind, d.Meaning(3), d.Text(3)}, []any{Type, "[T!]", "[T ! ]"})
-	same(t, "the fragment", []any{d.Nodes[11].Kind, d.Name(11), d.Meaning(11)}, []any{FragmentDefinition, "F", "T"})
+	same(t, "the variable", []any{d.Nodes[2].Kind, d.Name(2), d.Text(2)}, []any{KindVariableDefinition, "v", "$v"})
+	same(t, "the type", []any{d.Nodes[3].Kind, d.Meaning(3), d.Text(3)}, []any{KindType, "[T!]", "[T ! ]"})
+	same(t, "the fragment", []any{d.Nodes[11].Kind, d.Name(11), d.Meaning(11)}, []any{KindFragmentDefinition, "F", "T"})
 	last := len(d.Nodes) - 1
 	same(t, "the string", []any{d.Text(last), d.Meaning(last)}, []any{`"é𝄞"`, "é𝄞"})
 	same(t, "its start", d.Nodes[last].Start, Position{75, 2, 23, 79})
 	same(t, "its end", d.Nodes[last].End, Position{79, 2, 27, 87})
-	same(t, "a kind's word", []string{Query.String(), ObjectField.String(), Boolean.String(), Kind(26).String()},
+	same(t, "a kind's word", []string{KindQuery.String(), KindObjectField.String(), KindBoolean.String(), Kind(26).String()},
 		[]string{"query", "object_field", "boolean", "Kind(26)"})
+	same(t, "the words of errors", []string{UnexpectedToken.String(), TooManyTokens.String(), ErrorKind(7).String(),
+		UnknownEscape.String(), UnexpectedEndInToken.String(), ErrorDetail(9).String()},
+		[]string{"unexpected_token", "too_many_tokens", "ErrorKind(7)", "unknown_escape", "unexpected_end_in_token", "ErrorDetail(9)"})
 	same(t, "the version", Version != "", true)
 }
 
@@ -170,42 +178,67 @@ func TestSyntaxErrors(t *testing.T) {
 		start, end Position
 		told       string
 	}{
-		{"{\n  a )\n}", UnexpectedToken, NoDetail, 0, Position{6, 1, 4, 6}, Position{7, 1, 5, 7}, `Unexpected ")". At 1:4`},
-		{"", UnexpectedEnd, NoDetail, 0, Position{}, Position{}, "Unexpected end of input. At 0:0"},
-		{"#é\n{ a", UnexpectedEnd, NoDetail, 0, Position{6, 1, 3, 7}, Position{6, 1, 3, 7}, "Unexpected end of input. At 1:3"},
-		{"{ é }", Lexical, UnknownCharacter, 'é', Position{2, 0, 2, 2}, Position{2, 0, 2, 2}, `Unknown character "é". At 0:2`},
-		{"{ .a }", Lexical, UnexpectedCharacter, '.', Position{2, 0, 2, 2}, Position{2, 0, 2, 2}, `Unexpected character ".". At 0:2`},
-		{`{a(b:"c`, Lexical, UnterminatedString, 0, Position{7, 0, 7, 7}, Position{7, 0, 7, 7}, "Unterminated string literal. At 0:7"},
+		{"{\n  a )\n}", UnexpectedToken, NoDetail, 0, Position{6, 1, 4, 6}, Position{7, 1, 5, 7}, `Unexpected ")". At 2:5`},
+		{"", UnexpectedEnd, NoDetail, 0, Position{}, Position{}, "Unexpected end of input. At 1:1"},
+		{"#é\n{ a", UnexpectedEnd, NoDetail, 0, Position{6, 1, 3, 7}, Position{6, 1, 3, 7}, "Unexpected end of input. At 2:4"},
+		{"{ é }", Lexical, UnknownCharacter, 'é', Position{2, 0, 2, 2}, Position{2, 0, 2, 2}, `Unknown character "é". At 1:3`},
+		{"{ .a }", Lexical, UnexpectedCharacter, '.', Position{2, 0, 2, 2}, Position{2, 0, 2, 2}, `Unexpected character ".". At 1:3`},
+		{`{a(b:"c`, Lexical, UnterminatedString, 0, Position{7, 0, 7, 7}, Position{7, 0, 7, 7}, "Unterminated string literal. At 1:8"},
 		{"{a(b:\"\x00\")}", Lexical, UnknownCharacterInString, 0, Position{6, 0, 6, 6}, Position{6, 0, 6, 6},
-			"Unknown character \"\x00\" in string literal. At 0:6"},
+			"Unknown character \"\x00\" in string literal. At 1:7"},
 		{`{a(b:"\q")}`, Lexical, UnknownEscape, 0, Position{7, 0, 7, 7}, Position{7, 0, 7, 7},
-			`Unknown escape sequence "\q" in string. At 0:7`},
-		{"{a(b:-", Lexical, UnexpectedEndInToken, 0, Position{6, 0, 6, 6}, Position{6, 0, 6, 6}, "Unexpected end of input. At 0:6"},
+			`Unknown escape sequence "\q" in string. At 1:8`},
+		{"{a(b:-", Lexical, UnexpectedEndInToken, 0, Position{6, 0, 6, 6}, Position{6, 0, 6, 6}, "Unexpected end of input. At 1:7"},
 		{strings.Repeat("{a", 201), TooDeep, NoDetail, 0, Position{400, 0, 400, 400}, Position{401, 0, 401, 401},
-			"Too deeply nested. At 0:400"},
+			"Too deeply nested. At 1:401"},
 		// A token may be written like the end of a message.
-		{`{ "a. At b" }`, UnexpectedToken, NoDetail, 0, Position{2, 0, 2, 2}, Position{11, 0, 11, 11}, `Unexpected ""a. At b"". At 0:2`},
+		{`{ "a. At b" }`, UnexpectedToken, NoDetail, 0, Position{2, 0, 2, 2}, Position{11, 0, 11, 11}, `Unexpected ""a. At b"". At 1:3`},
 		{`{ "a. At 1:1" }`, UnexpectedToken, NoDetail, 0, Position{2, 0, 2, 2}, Position{13, 0, 13, 13},
-			`Unexpected ""a. At 1:1"". At 0:2`},
+			`Unexpected ""a. At 1:1"". At 1:3`},
 		// Characters of two, three and four bytes.
-		{"{ ж }", Lexical, UnknownCharacter, 'ж', Position{2, 0, 2, 2}, Position{2, 0, 2, 2}, `Unknown character "ж". At 0:2`},
-		{"{ \uffff }", Lexical, UnknownCharacter, '\uffff', Position{2, 0, 2, 2}, Position{2, 0, 2, 2}, "Unknown character \"\uffff\". At 0:2"},
-		{"{𝄞", Lexical, UnknownCharacter, '𝄞', Position{1, 0, 1, 1}, Position{1, 0, 1, 1}, `Unknown character "𝄞". At 0:1`},
+		{"{ ж }", Lexical, UnknownCharacter, 'ж', Position{2, 0, 2, 2}, Position{2, 0, 2, 2}, `Unknown character "ж". At 1:3`},
+		{"{ \uffff }", Lexical, UnknownCharacter, '\uffff', Position{2, 0, 2, 2}, Position{2, 0, 2, 2}, "Unknown character \"\uffff\". At 1:3"},
+		{"{𝄞", Lexical, UnknownCharacter, '𝄞', Position{1, 0, 1, 1}, Position{1, 0, 1, 1}, `Unknown character "𝄞". At 1:2`},
 		{"{a(b:-\U0010ffff", Lexical, UnexpectedCharacter, '\U0010ffff', Position{6, 0, 6, 6}, Position{6, 0, 6, 6},
-			"Unexpected character \"\U0010ffff\". At 0:6"},
+			"Unexpected character \"\U0010ffff\". At 1:7"},
 		// Indexes, lines, columns and bytes that 16 bits don't hold.
 		{"#é" + strings.Repeat("\n", 70000) + strings.Repeat(" ", 70001) + ")", UnexpectedToken, NoDetail, 0,
-			Position{140003, 70000, 70001, 140004}, Position{140004, 70000, 70002, 140005}, `Unexpected ")". At 70000:70001`},
+			Position{140003, 70000, 70001, 140004}, Position{140004, 70000, 70002, 140005}, `Unexpected ")". At 70001:70002`},
 	} {
-		found := refused(t, row.source, DefaultDepth)
-		same(t, row.source, *found, SyntaxError{found.Message, row.kind, row.detail, row.character, row.start, row.end})
+		found := refused(t, row.source, DefaultLimits.Depth)
+		message := row.told[:strings.LastIndex(row.told, ". At ")]
+		same(t, row.source, *found, SyntaxError{message, row.kind, row.detail, row.character, row.start, row.end, row.source})
 		same(t, row.source, found.Error(), row.told)
-		same(t, row.source, found.Message+row.told[strings.LastIndex(row.told, ". At "):], row.told)
+		same(t, row.source, fmt.Sprintf("%s. At %d:%d", message, found.Line(), found.Column()), row.told)
 	}
 	for _, length := range []int{1, 200, 242, 243, 244, 255, 256, 257, 5000} {
 		name := strings.Repeat("n", length)
-		same(t, "a long name", refused(t, "query a "+name, 9).Error(), `Unexpected "`+name+`". At 0:8`)
+		same(t, "a long name", refused(t, "query a "+name, 9).Error(), `Unexpected "`+name+`". At 1:9`)
 	}
+}
+
+// The first token of a schema's definition, or of its description, is an error that says so.
+func TestSchemas(t *testing.T) {
+	for _, word := range strings.Fields(`type schema extend directive scalar interface union enum input "text" """text"""`) {
+		for _, before := range []string{"", "# é\n", "{ a } ", "fragment F on T { a }", strings.Repeat("{a", MaxDepth) + strings.Repeat("}", MaxDepth)} {
+			found := refused(t, before+word+" A { b: C }", MaxDepth)
+			same(t, word, found.Message, `Unexpected "`+word+`": this is a schema's definition, not a request's`)
+			same(t, word, int(found.Start.Byte), len(before))
+		}
+	}
+	for source, message := range map[string]string{
+		"query type type { a }":   `Unexpected "type"`,
+		"{ a } b":                 `Unexpected "b"`,
+		"{ a } }":                 `Unexpected "}"`,
+		"{ a(b: ) type }":         `Unexpected ")"`,
+		"{ a \"b\" }":             `Unexpected ""b""`,
+		"query ($a: \"b\") { a }": `Unexpected ""b""`,
+	} {
+		same(t, source, refused(t, source, 9).Message, message)
+	}
+	_, err := ParseWithin("type A", Limits{Depth: 5, Tokens: 0})
+	same(t, "a token too many", err.(*SyntaxError).Message, "Too many tokens")
+	parsed(t, "{ type { schema(input: enum) } } query type { extend } fragment enum on union { scalar }")
 }
 
 func TestSources(t *testing.T) {
@@ -215,7 +248,7 @@ func TestSources(t *testing.T) {
 		}
 	}
 	for _, source := range []string{"", "\x00", "{a\x00}", "\ufeff", "{}", "#", `"`, `"""`, "\U0010ffff"} {
-		refused(t, source, DefaultDepth)
+		refused(t, source, DefaultLimits.Depth)
 	}
 	large := parsed(t, "{"+strings.Repeat(strings.Repeat("a", 63)+" ", 1<<20)+"}")
 	same(t, "nodes of 64 MB", len(large.Nodes), 1<<20+1)
@@ -226,18 +259,17 @@ func TestSources(t *testing.T) {
 }
 
 func TestStatuses(t *testing.T) {
-	same(t, "the errors of statuses", []error{errorOf(2), errorOf(3), errorOf(7), errorOf(8)},
-		[]error{ErrNotUTF8, ErrOutOfMemory, ErrSourceTooLong, ErrInvalidDepth})
+	same(t, "the errors of statuses", []error{errorOf(2, "", nil), errorOf(3, "", nil), errorOf(7, "", nil)},
+		[]error{ErrNotUTF8, ErrOutOfMemory, ErrSourceTooLong})
 	for err, told := range map[error]string{
-		ErrNotUTF8:          "the source is not UTF-8",
-		ErrOutOfMemory:      "memory ran out",
-		ErrSourceTooLong:    "the source has 4 GiB or more",
-		ErrInvalidDepth:     "the depth is not from 0 to 1000",
-		ErrInvalidMaxTokens: "the number of tokens is below 0",
+		ErrNotUTF8:       "the source is not UTF-8",
+		ErrOutOfMemory:   "memory ran out",
+		ErrSourceTooLong: "the source has 4 GiB or more",
+		ErrInvalidLimit:  "invalid limit",
 	} {
 		same(t, "the words of an error", err.Error(), "firthnapkin: "+told)
 	}
-	same(t, "the error of another", errorOf(9).Error(), "firthnapkin: the parser returned 9")
+	same(t, "the error of another", errorOf(9, "", nil).Error(), "firthnapkin: the parser returned invalid_error")
 }
 
 func ExampleParse() {
@@ -258,7 +290,7 @@ func ExampleParse() {
 	// argument "id"
 	// int "4"
 	// field "name"
-	// Unexpected "}". At 0:8
+	// Unexpected "}". At 1:9
 }
 
 func BenchmarkParse(b *testing.B) {

@@ -1,6 +1,12 @@
-/* The library's calls for index.js, which checks the types of arguments: parse(buffer, depth, tokens, allocate) returns
- * { status, nodes, texts }, an ArrayBuffer of the nodes or of the error, and one of the texts or of the error's words. `allocate`
- * makes an ArrayBuffer of so many bytes. */
+/* The library's calls for lib/calls.js, which checks the types of arguments. `allocate` makes an ArrayBuffer of so many bytes:
+ *
+ *     parse(buffer, depth, tokens, allocate)    the nodes, and their texts
+ *     tokens(buffer, tokens, allocate)          the tokens
+ *     canonical(buffer, allocate)               the canonical text
+ *     excerpt(buffer, byte, allocate)           the lines around a byte
+ *
+ * Each returns { status, parts, texts }: the name of its status, an ArrayBuffer of nodes, of tokens or of the error, and one of
+ * texts or of the error's words. */
 #define _GNU_SOURCE
 #include "whole.h"
 
@@ -18,6 +24,10 @@ static int has(napi_env env, napi_value object, const char *name, napi_status ma
     return made == napi_ok && napi_set_named_property(env, object, name, *value) == napi_ok;
 }
 
+static napi_status text_of(napi_env env, const char *text, napi_value *result) {
+    return napi_create_string_utf8(env, text, NAPI_AUTO_LENGTH, result);
+}
+
 /* Copies bytes into an ArrayBuffer that JavaScript allocates: it throws where memory is short, where napi_create_arraybuffer ends
  * the process. */
 static napi_status copied(napi_env env, napi_value allocate, const void *from, size_t size, napi_value *result) {
@@ -32,48 +42,103 @@ static napi_status copied(napi_env env, napi_value allocate, const void *from, s
     return napi_ok;
 }
 
-static napi_value told(napi_env env, const whole *w, napi_value allocate) {
+/* What a call found: so many bytes of parts, or the error. Frees the result. */
+static napi_value told(napi_env env, whole *w, const void *parts, size_t size, napi_value allocate) {
     int is_error = w->status == FIRTHNAPKIN_SYNTAX_ERROR || w->status == FIRTHNAPKIN_TOO_DEEP
         || w->status == FIRTHNAPKIN_TOO_MANY_TOKENS;
-    size_t size = is_error ? sizeof w->error : w->nodes_count * sizeof *w->nodes;
-    const void *from = is_error ? (const void *)&w->error : (const void *)w->nodes;
     napi_value result, value;
-    if (napi_create_object(env, &result) != napi_ok
-        || !has(env, result, "status", napi_create_uint32(env, w->status, &value), &value)
-        || !has(env, result, "texts", copied(env, allocate, w->texts, w->texts_count, &value), &value)
-        || !has(env, result, "nodes", copied(env, allocate, from, size, &value), &value))
-        return failed(env, "the result was not made");
+    if (is_error) {
+        parts = &w->error;
+        size = sizeof w->error;
+    }
+    if (w->status == FIRTHNAPKIN_OUT_OF_MEMORY)
+        result = failed(env, "memory ran out");
+    else if (napi_create_object(env, &result) != napi_ok
+             || !has(env, result, "status", text_of(env, firthnapkin_status_name(w->status), &value), &value)
+             || !has(env, result, "texts", copied(env, allocate, w->texts, w->texts_count, &value), &value)
+             || !has(env, result, "parts", copied(env, allocate, parts, size, &value), &value))
+        result = failed(env, "the result was not made");
+    give_back(w);
     return result;
 }
 
-/* How many arguments parse takes. */
-enum { ARGUMENTS = 4 };
+/* A call's arguments: a buffer, numbers, and a function that allocates. */
+enum { MOST_NUMBERS = 2 };
+typedef struct {
+    void *source;
+    size_t length;
+    double numbers[MOST_NUMBERS];
+    napi_value allocate;
+} call_arguments;
+
+static int are_read(napi_env env, napi_callback_info info, size_t numbers, call_arguments *a) {
+    napi_value values[MOST_NUMBERS + 2];
+    size_t count = numbers + 2;
+    if (napi_get_cb_info(env, info, &count, values, NULL, NULL) != napi_ok || count < numbers + 2
+        || napi_get_buffer_info(env, values[0], &a->source, &a->length) != napi_ok)
+        return 0;
+    for (size_t i = 0; i < numbers; i++)
+        if (napi_get_value_double(env, values[i + 1], &a->numbers[i]) != napi_ok) return 0;
+    a->allocate = values[numbers + 1];
+    return 1;
+}
+
+/* A number as the library takes it; the largest for one that is out of its range. NaN is neither less than 0 nor more. */
+static uint32_t number_of(double number) {
+    return number >= 0 && number < UINT32_MAX ? (uint32_t)number : UINT32_MAX;
+}
 
 static napi_value parse(napi_env env, napi_callback_info info) {
-    size_t count = ARGUMENTS, length;
-    napi_value arguments[ARGUMENTS];
-    void *source;
-    double depth, tokens;
-    if (napi_get_cb_info(env, info, &count, arguments, NULL, NULL) != napi_ok || count < ARGUMENTS
-        || napi_get_buffer_info(env, arguments[0], &source, &length) != napi_ok
-        || napi_get_value_double(env, arguments[1], &depth) != napi_ok
-        || napi_get_value_double(env, arguments[2], &tokens) != napi_ok)
-        return failed(env, "parse takes a buffer, a depth, a number of tokens and a function");
-    /* NaN is neither less than 0 nor more. */
-    uint32_t limit = depth >= 0 && depth <= FIRTHNAPKIN_MAX_DEPTH ? (uint32_t)depth : UINT32_MAX;
-    uint32_t most = tokens >= 0 && tokens < UINT32_MAX ? (uint32_t)tokens : UINT32_MAX;
-    whole w = parse_whole(source, length, limit, most);
-    napi_value result = w.status == FIRTHNAPKIN_OUT_OF_MEMORY ? failed(env, "memory ran out") : told(env, &w, arguments[3]);
-    give_back(&w);
-    return result;
+    call_arguments a;
+    if (!are_read(env, info, 2, &a)) return failed(env, "parse takes a buffer, a depth, a number of tokens and a function");
+    firthnapkin_limits limits = {number_of(a.numbers[0]), number_of(a.numbers[1]), {0}};
+    whole w = parse_whole(a.source, a.length, &limits);
+    return told(env, &w, w.nodes, w.nodes_count * sizeof *w.nodes, a.allocate);
+}
+
+static napi_value tokens(napi_env env, napi_callback_info info) {
+    call_arguments a;
+    if (!are_read(env, info, 1, &a)) return failed(env, "tokens takes a buffer, a number of tokens and a function");
+    whole w = cut_whole(a.source, a.length, number_of(a.numbers[0]));
+    return told(env, &w, w.tokens, w.tokens_count * sizeof *w.tokens, a.allocate);
+}
+
+static napi_value canonical(napi_env env, napi_callback_info info) {
+    call_arguments a;
+    if (!are_read(env, info, 0, &a)) return failed(env, "canonical takes a buffer and a function");
+    whole w = canonical_whole(a.source, a.length);
+    return told(env, &w, NULL, 0, a.allocate);
+}
+
+static napi_value excerpt(napi_env env, napi_callback_info info) {
+    call_arguments a;
+    if (!are_read(env, info, 1, &a)) return failed(env, "excerpt takes a buffer, a byte and a function");
+    whole w = excerpt_whole(a.source, a.length, number_of(a.numbers[0]));
+    return told(env, &w, NULL, 0, a.allocate);
+}
+
+/* The names of the numbers from 0, as an array. */
+static napi_status names(napi_env env, const char *name_of(uint32_t), napi_value *result) {
+    napi_value name;
+    if (napi_create_array(env, result) != napi_ok) return napi_generic_failure;
+    for (uint32_t i = 0; strcmp(name_of(i), "unknown") != 0; i++)
+        if (text_of(env, name_of(i), &name) != napi_ok || napi_set_element(env, *result, i, name) != napi_ok)
+            return napi_generic_failure;
+    return napi_ok;
 }
 
 NAPI_MODULE_INIT() {
     napi_value value;
     if (!has(env, exports, "parse", napi_create_function(env, "parse", NAPI_AUTO_LENGTH, parse, NULL, &value), &value)
+        || !has(env, exports, "tokens", napi_create_function(env, "tokens", NAPI_AUTO_LENGTH, tokens, NULL, &value), &value)
+        || !has(env, exports, "canonical", napi_create_function(env, "canonical", NAPI_AUTO_LENGTH, canonical, NULL, &value), &value)
+        || !has(env, exports, "excerpt", napi_create_function(env, "excerpt", NAPI_AUTO_LENGTH, excerpt, NULL, &value), &value)
+        || !has(env, exports, "KINDS", names(env, firthnapkin_kind_name, &value), &value)
+        || !has(env, exports, "TOKEN_KINDS", names(env, firthnapkin_token_kind_name, &value), &value)
+        || !has(env, exports, "ERROR_KINDS", names(env, firthnapkin_error_kind_name, &value), &value)
+        || !has(env, exports, "ERROR_DETAILS", names(env, firthnapkin_error_detail_name, &value), &value)
         || !has(env, exports, "MAX_DEPTH", napi_create_uint32(env, FIRTHNAPKIN_MAX_DEPTH, &value), &value)
-        || !has(env, exports, "VERSION",
-                napi_create_string_utf8(env, FIRTHNAPKIN_VERSION_STRING, NAPI_AUTO_LENGTH, &value), &value))
+        || !has(env, exports, "VERSION", text_of(env, FIRTHNAPKIN_VERSION_STRING, &value), &value))
         return failed(env, "the module was not made");
     return exports;
 }

@@ -32,7 +32,7 @@ export type Kind =
   | "largeInt"
   | "float" | "string" | "blockString" | "boolean";
 
-/** How much comes before a position: UTF-16 units of the source, line feeds, units of the line, bytes of UTF-8. */
+/** How much comes before a position: UTF-16 units of the source, line feeds, units of the line, bytes of UTF-8. So each is counted from 0. */
 export interface Position {
   readonly index: number;
   readonly line: number;
@@ -40,8 +40,20 @@ export interface Position {
   readonly byte: number;
 }
 
-/** A part of a document. */
-export interface Node {
+/** What is shown to people of a part of a source. */
+export interface Shown {
+  /** The text of the source from the start to the end: of a number how it is written. */
+  readonly text: string;
+  /** The line where it starts, counted from 1. Lines end at line feeds. */
+  readonly line: number;
+  /** The column where it starts, in UTF-16 units, counted from 1. */
+  readonly column: number;
+  /** The lines around its start, numbered from 1, with a caret below it. Made anew each time. */
+  readonly excerpt: string;
+}
+
+/** A part of a document, as the library writes it. */
+export interface Node extends Shown {
   readonly document: Document;
   /** The index among the document's nodes. */
   readonly index: number;
@@ -51,13 +63,12 @@ export interface Node {
   readonly start: Position;
   /** The position after the last character. */
   readonly end: Position;
-  /** The text of the source from the start to the end: of a number how it is written. */
-  readonly text: string;
   /** The name, without `$` and `@`; of an inline fragment its type condition. */
   readonly name: string | null;
   /**
-   * What a scalar means, of a `largeInt` a bigint; a type without spaces; the name of an enum or a variable; a fragment's
-   * type condition. Throws a RangeError where a Float is beyond the largest number.
+   * What a scalar means; of an Int that a number doesn't hold exactly a bigint. A type without spaces; the name of an enum or a
+   * variable; a fragment's type condition. Throws a RangeError where a Float is beyond the largest number, and where an Int has
+   * more than 4,300 digits.
    */
   readonly value: null | boolean | number | bigint | string;
   /** The nodes of the parts in this one that are in no other part in it. */
@@ -79,16 +90,134 @@ export interface NodeParts {
   readonly children: NodeParts[];
 }
 
-/** A document's nodes, each part before the parts in it. A node is made each time that one is read. */
+/** A document: its parts by their names, and its nodes, each part before the parts in it. Each is made when one is read. */
 export interface Document extends Iterable<Node> {
   readonly source: string;
+  /** How many nodes there are. */
   readonly length: number;
-  /** The operations and fragments. */
+  readonly operations: Operation[];
+  readonly fragments: Fragment[];
+  /** The first operation of a name; without a name the only operation, whatever its name, and null where there are several. */
+  operation(name?: string | null): Operation | null;
+  /** The first fragment of a name. */
+  fragment(name: string): Fragment | null;
+  /** The nodes of the operations and fragments. */
   readonly definitions: Node[];
   /** The node of this index; throws a RangeError where there is none. */
   node(index: number): Node;
   /** What JSON.stringify writes. */
   toJSON(): DocumentParts;
+}
+
+/** A part of a document by its name. */
+export interface Part extends Shown {
+  /** What the part stands on: it has the positions, as numbers from 0. */
+  readonly node: Node;
+  /** What JSON.stringify writes: that of the node. console.log shows the part's text. */
+  toJSON(): NodeParts;
+}
+
+/** A query, a mutation or a subscription. */
+export interface Operation extends Part {
+  readonly kind: "query" | "mutation" | "subscription";
+  readonly name: string | null;
+  readonly variables: VariableDefinition[];
+  readonly directives: Directive[];
+  readonly selections: Selection[];
+}
+
+/** The definition of a fragment. */
+export interface Fragment extends Part {
+  readonly kind: "fragmentDefinition";
+  readonly name: string;
+  readonly typeCondition: string;
+  readonly directives: Directive[];
+  readonly selections: Selection[];
+}
+
+/** What is selected: `kind` tells which. */
+export type Selection = Field | FragmentSpread | InlineFragment;
+
+export interface Field extends Part {
+  readonly kind: "field";
+  readonly alias: string | null;
+  /** The name of the field, whatever its alias. */
+  readonly name: string;
+  /** The alias, or the name where there is none: the key of the field in a response. */
+  readonly responseKey: string;
+  readonly arguments: Argument[];
+  /** The first argument of a name. */
+  argument(name: string): Argument | null;
+  readonly directives: Directive[];
+  /** What is selected in the field. */
+  readonly selections: Selection[];
+}
+
+/** The use of a fragment by its name. */
+export interface FragmentSpread extends Part {
+  readonly kind: "fragmentSpread";
+  readonly name: string;
+  readonly directives: Directive[];
+}
+
+/** A fragment without a name. */
+export interface InlineFragment extends Part {
+  readonly kind: "inlineFragment";
+  readonly typeCondition: string | null;
+  readonly directives: Directive[];
+  readonly selections: Selection[];
+}
+
+/** The definition of a variable by an operation. The text is all of it. */
+export interface VariableDefinition extends Part {
+  readonly kind: "variableDefinition";
+  /** The name, without `$`. */
+  readonly name: string;
+  /** The type without spaces, as `[ID!]!`. */
+  readonly type: string;
+  /** The default value; undefined where there is none. Throws a RangeError as `Argument.value` does. */
+  readonly defaultValue: Value | undefined;
+  readonly directives: Directive[];
+}
+
+export interface Directive extends Part {
+  readonly kind: "directive";
+  /** The name, without `@`. */
+  readonly name: string;
+  readonly arguments: Argument[];
+  /** The first argument of a name. */
+  argument(name: string): Argument | null;
+}
+
+/** An argument of a field or a directive. The text is the name and the value. */
+export interface Argument extends Part {
+  readonly kind: "argument";
+  readonly name: string;
+  /** The value. Throws a RangeError where a Float in it is beyond the largest number, or an Int has more than 4,300 digits. */
+  readonly value: Value;
+}
+
+/**
+ * A value as JavaScript's own data: a string is what a String means. An Int that a number doesn't hold exactly is a bigint. An
+ * object has no prototype, so a key may be any name; a key that is there twice is at its first position, with its last value.
+ */
+export type Value = null | boolean | number | bigint | string | EnumValue | Variable | Value[] | ObjectValue;
+
+export interface ObjectValue {
+  readonly [name: string]: Value;
+}
+
+/** The value of an enum: `instanceof` tells it from an object. */
+export class EnumValue {
+  constructor(name: string);
+  readonly name: string;
+}
+
+/** A variable used as a value: `instanceof` tells it from an object. */
+export class Variable {
+  constructor(name: string);
+  /** The name, without `$`. */
+  readonly name: string;
 }
 
 /** A document's parts, as JSON has them. */
@@ -114,12 +243,13 @@ export type ErrorDetail =
   | "unexpectedEndInToken";
 
 /**
- * Why a source is no document within the limits, and where. The message ends with the line and the column, both counted from 0,
- * and there in characters.
+ * Why a source is no document within the limits, and where. The message ends with the line and the column, as in `locations`.
  */
 export class FirthnapkinError extends Error {
   private constructor();
   readonly name: "FirthnapkinError";
+  /** The message without the position. */
+  readonly reason: string;
   readonly kind: ErrorKind;
   /** Where the kind is `lexical`. */
   readonly detail: ErrorDetail | null;
@@ -127,14 +257,16 @@ export class FirthnapkinError extends Error {
   readonly character: string | null;
   readonly start: Position;
   readonly end: Position;
-  /** The line and the column, both counted from 1, as in the errors of a response. */
+  /** The line and the column in UTF-16 units, both counted from 1, as in the errors of a response. */
   readonly locations: ReadonlyArray<{ readonly line: number; readonly column: number }>;
+  /** The lines around the error, numbered from 1, with a caret below its character. Made anew each time. */
+  readonly excerpt: string;
 }
 
 export interface Options {
   /** How deep brackets may be nested: an integer from 0 to MAX_DEPTH; 200 where it isn't given. */
   depth?: number;
-  /** How many tokens the source may have; any number where it isn't given. */
+  /** How many tokens the source may have, its end not counted; any number where it isn't given. */
   maxTokens?: number;
 }
 
@@ -144,6 +276,59 @@ export interface Options {
  * have a name that `Options` lacks; a RangeError where a limit is no integer of its range; an Error where memory ran out.
  */
 export function parse(source: string, options?: Options): Document;
+
+/** The kind of a token. */
+export type TokenKind =
+  /** The end of the source, which has no characters. */
+  | "endOfFile"
+  /** A name or a word of the language. */
+  | "name"
+  | "string" | "blockString"
+  /** A number with a fraction or an exponent. */
+  | "float"
+  /** A number without either. */
+  | "int"
+  | "exclamationMark" | "dollar" | "parenOpen" | "parenClose" | "bracketOpen" | "bracketClose" | "curlyOpen" | "curlyClose"
+  | "ellipsis" | "colon" | "equals" | "at" | "pipe";
+
+/** A token of a source. */
+export interface Token extends Shown {
+  /** The index among the source's tokens. */
+  readonly index: number;
+  readonly kind: TokenKind;
+  readonly start: Position;
+  /** The position after the last character. */
+  readonly end: Position;
+  /** The text without the quotes of a string: escapes and lines are as they are written. */
+  readonly unquoted: string;
+}
+
+/** A source's tokens, the last of which is its end. A token is made each time that one is read. */
+export interface Tokens extends Iterable<Token> {
+  readonly source: string;
+  readonly length: number;
+  /** The token of this index; throws a RangeError where there is none. */
+  token(index: number): Token;
+}
+
+export interface TokenOptions {
+  /** How many tokens the source may have, its end not counted; any number where it isn't given. */
+  maxTokens?: number;
+}
+
+/**
+ * The tokens of a source, which may be a document or not. White space, line ends, commas, comments and byte order marks are no
+ * tokens. Throws a FirthnapkinError at the first position that has no token, or at the first token too many; otherwise what
+ * `parse` throws.
+ */
+export function tokens(source: string, options?: TokenOptions): Tokens;
+
+/**
+ * The canonical text of a source, one for each query whatever its white space and comments: its tokens as they are written, with a
+ * space between two neighbours of which neither is a punctuator, and before `...` after a token that is no punctuator. Throws a
+ * FirthnapkinError at the first position that has no token; a TypeError where the source is no string; an Error where memory ran out.
+ */
+export function canonical(source: string): string;
 
 /** The largest depth. */
 export const MAX_DEPTH: number;

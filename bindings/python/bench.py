@@ -1,7 +1,7 @@
 #!/usr/bin/env python3
 """Measures how fast texts are parsed by this package, and by graphql-core 3.2 with and without it. It prints the best of a
-second's rounds, in microseconds, how many times as long graphql-core's own parser takes as `firthnapkin.graphql_core`, and the
-time of the latter where it counts tokens, and where it refuses the 101st.
+second's rounds, in microseconds: of both without a limit on tokens and with one that the text keeps, of graphql-core's own
+parser, and of the refusal of the 101st token. It prints how many times as long graphql-core's own parser takes, too.
 
     python bench.py    with this package installed, and graphql-core 3.2
 """
@@ -60,7 +60,11 @@ def best(calls: Dict[str, Callable[[str], Any]], text: str) -> Dict[str, float]:
     return times
 
 
-def counted(text: str) -> Any:
+def nodes_limited(text: str) -> Any:
+    return firthnapkin.parse(text, max_tokens=10**6)
+
+
+def limited(text: str) -> Any:
     return graphql_core.parse(text, max_tokens=10**6)
 
 
@@ -73,14 +77,14 @@ def refused(text: str) -> None:
 
 
 def main() -> None:
-    calls = {"alone": firthnapkin.parse, "ours": graphql_core.parse, "own": graphql_core.own_parse, "counted": counted,
-             "refused": refused}  # fmt: skip
-    print(f"{'':20} {'bytes':>7} {'nodes alone':>12} {'graphql_core':>12} {'own':>10} {'times':>6} {'counted':>10} {'refused':>8}")
+    calls = {"nodes": firthnapkin.parse, "limited": nodes_limited, "graphql_core": graphql_core.parse,
+             "limited ": limited, "own": graphql_core.own_parse, "refused": refused}  # fmt: skip
+    print(f"{'':20} {'bytes':>7}" + "".join(f"{name:>13}" for name in calls) + f"{'times':>7}")
     for name, text in texts().items():
         assert graphql_core.parse(text) == graphql_core.own_parse(text)
-        times = {call: 1e6 * it for call, it in best(calls, text).items()}
-        print(f"{name:20} {len(text.encode()):7} {times['alone']:12.1f} {times['ours']:12.1f} {times['own']:10.1f}"
-              f" {times['own'] / times['ours']:6.1f} {times['counted']:10.1f} {times['refused']:8.1f}")  # fmt: skip
+        times = best(calls, text)
+        figures = "".join(f"{1e6 * it:13.1f}" for it in times.values())
+        print(f"{name:20} {len(text.encode()):7}{figures}{times['own'] / times['graphql_core']:7.1f}")
 
 
 if __name__ == "__main__":

@@ -37,7 +37,7 @@ static size_t left_here(void) {
 
 static struct {
     pthread_t caller;
-    int parses, messages, counts, cuts, canonicals;
+    int parses, messages, excerpts, cuts, canonicals;
     /* Calls in another thread, those of them that got signals, and calls with too little stack. */
     int in_threads, with_signals, narrow;
 } seen;
@@ -77,26 +77,27 @@ static void look(uint32_t depth) {
         use_stack(size - FRAMES);
 }
 
-static uint32_t seen_parse(const uint8_t *source, size_t length, uint32_t depth, firthnapkin_node *nodes, size_t nodes_capacity,
-                           size_t *nodes_length, uint8_t *texts, size_t texts_capacity, size_t *texts_length,
-                           firthnapkin_error *error) {
+static uint32_t seen_parse(const uint8_t *source, size_t length, const firthnapkin_limits *limits, firthnapkin_node *nodes,
+                           size_t nodes_capacity, size_t *nodes_length, uint8_t *texts, size_t texts_capacity,
+                           size_t *texts_length, firthnapkin_error *error) {
     seen.parses++;
-    look(depth);
-    return firthnapkin_parse(source, length, depth, nodes, nodes_capacity, nodes_length, texts, texts_capacity, texts_length,
+    look(limits->depth);
+    return firthnapkin_parse(source, length, limits, nodes, nodes_capacity, nodes_length, texts, texts_capacity, texts_length,
                              error);
 }
 
-static uint32_t seen_message(const uint8_t *source, size_t length, uint32_t depth, uint8_t *buffer, size_t buffer_capacity,
-                             size_t *buffer_length) {
+static uint32_t seen_message(const uint8_t *source, size_t length, const firthnapkin_error *error, uint8_t *buffer,
+                             size_t buffer_capacity, size_t *buffer_length) {
     seen.messages++;
-    look(depth);
-    return firthnapkin_message(source, length, depth, buffer, buffer_capacity, buffer_length);
+    look(0);
+    return firthnapkin_message(source, length, error, buffer, buffer_capacity, buffer_length);
 }
 
-static uint32_t seen_count(const uint8_t *source, size_t length, uint32_t max_tokens, firthnapkin_error *error) {
-    seen.counts++;
+static uint32_t seen_excerpt(const uint8_t *source, size_t length, const firthnapkin_error *error, uint8_t *buffer,
+                             size_t buffer_capacity, size_t *buffer_length) {
+    seen.excerpts++;
     look(0);
-    return firthnapkin_count(source, length, max_tokens, error);
+    return firthnapkin_excerpt(source, length, error, buffer, buffer_capacity, buffer_length);
 }
 
 static uint32_t seen_tokens(const uint8_t *source, size_t length, uint32_t max_tokens, firthnapkin_token *tokens,
@@ -124,7 +125,7 @@ static int get_attributes(pthread_t thread, pthread_attr_t *attributes) {
 /* The headers make their calls by these. */
 #define firthnapkin_parse seen_parse
 #define firthnapkin_message seen_message
-#define firthnapkin_count seen_count
+#define firthnapkin_excerpt seen_excerpt
 #define firthnapkin_tokens seen_tokens
 #define firthnapkin_canonical seen_canonical
 #define pthread_create create_thread
@@ -136,7 +137,7 @@ static int get_attributes(pthread_t thread, pthread_attr_t *attributes) {
 typedef struct {
     const char *source;
     uint32_t depth, tokens, status;
-    int parses, messages, counts;
+    int parses, messages;
 } parse_row;
 
 /* Names of seven letters: with more than one node for four bytes a second call is needed. */
@@ -146,23 +147,23 @@ typedef struct {
 #define THOUSAND(text) TEN(TEN(TEN(text)))
 
 static const parse_row PARSES[] = {
-    {"{a}", 200, UINT32_MAX, FIRTHNAPKIN_OK, 1, 0, 0},
-    {"{a}", 200, 3, FIRTHNAPKIN_OK, 1, 0, 1},
-    {"{a}", 200, 2, FIRTHNAPKIN_TOO_MANY_TOKENS, 0, 0, 1},
-    {"{a}", 200, 0, FIRTHNAPKIN_TOO_MANY_TOKENS, 0, 0, 1},
-    {"{ a ) }", 200, UINT32_MAX, FIRTHNAPKIN_SYNTAX_ERROR, 1, 1, 0},
-    {"{a{b}}", 1, UINT32_MAX, FIRTHNAPKIN_TOO_DEEP, 1, 1, 0},
-    {"{\xff}", 200, UINT32_MAX, FIRTHNAPKIN_NOT_UTF8, 1, 0, 0},
-    {"{a}", 1001, UINT32_MAX, FIRTHNAPKIN_INVALID_LIMIT, 1, 0, 0},
+    {"{a}", 200, UINT32_MAX, FIRTHNAPKIN_OK, 1, 0},
+    {"{a}", 200, 3, FIRTHNAPKIN_OK, 1, 0},
+    {"{a}", 200, 2, FIRTHNAPKIN_TOO_MANY_TOKENS, 1, 1},
+    {"{a}", 200, 0, FIRTHNAPKIN_TOO_MANY_TOKENS, 1, 1},
+    {"{ a ) }", 200, UINT32_MAX, FIRTHNAPKIN_SYNTAX_ERROR, 1, 1},
+    {"{a{b}}", 1, UINT32_MAX, FIRTHNAPKIN_TOO_DEEP, 1, 1},
+    {"{\xff}", 200, UINT32_MAX, FIRTHNAPKIN_NOT_UTF8, 1, 0},
+    {"{a}", 1001, UINT32_MAX, FIRTHNAPKIN_INVALID_LIMIT, 1, 0},
     /* As many nodes as a request of its length has: 25. */
     {"query Q($v: [T! ]! = [1, \"\\u00e9b\"] @d) { x: a(v: {k: 1.5, l: 99999999999, m: E, n: $v, o: true, p: null}) }", 200,
-     UINT32_MAX, FIRTHNAPKIN_OK, 1, 0, 0},
+     UINT32_MAX, FIRTHNAPKIN_OK, 1, 0},
     /* A node for two bytes, texts as long as the source, and words of more than 256 bytes. */
-    {"{" THOUSAND("a ") "}", 200, UINT32_MAX, FIRTHNAPKIN_OK, 2, 0, 0},
-    {"{a(b:\"" THOUSAND("c") "\")}", 200, UINT32_MAX, FIRTHNAPKIN_OK, 2, 0, 0},
-    {"query a " THOUSAND("b"), 200, UINT32_MAX, FIRTHNAPKIN_SYNTAX_ERROR, 1, 2, 0},
-    {THOUSAND(DEEPER) THOUSAND(CLOSING), 1000, UINT32_MAX, FIRTHNAPKIN_OK, 1, 0, 0},
-    {THOUSAND(DEEPER) "{b", 1000, UINT32_MAX, FIRTHNAPKIN_TOO_DEEP, 1, 1, 0},
+    {"{" THOUSAND("a ") "}", 200, UINT32_MAX, FIRTHNAPKIN_OK, 2, 0},
+    {"{a(b:\"" THOUSAND("c") "\")}", 200, UINT32_MAX, FIRTHNAPKIN_OK, 2, 0},
+    {"query a " THOUSAND("b"), 200, UINT32_MAX, FIRTHNAPKIN_SYNTAX_ERROR, 1, 2},
+    {THOUSAND(DEEPER) THOUSAND(CLOSING), 1000, UINT32_MAX, FIRTHNAPKIN_OK, 1, 0},
+    {THOUSAND(DEEPER) "{b", 1000, UINT32_MAX, FIRTHNAPKIN_TOO_DEEP, 1, 1},
 };
 
 typedef struct {
@@ -206,7 +207,7 @@ static void begin(void) {
 static void check_seen(const char *where, const char *source, threads wanted, const sigset_t *before) {
     sigset_t after;
     pthread_sigmask(SIG_SETMASK, NULL, &after);
-    int calls = seen.parses + seen.messages + seen.counts + seen.cuts + seen.canonicals;
+    int calls = seen.parses + seen.messages + seen.excerpts + seen.cuts + seen.canonicals;
     check(seen.narrow == 0, "%s: %d calls with too little stack, for %.20s", where, seen.narrow, source);
     check(seen.with_signals == 0, "%s: %d calls with signals, for %.20s", where, seen.with_signals, source);
     check(wanted == SOME || seen.in_threads == (wanted == ALL ? calls : 0), "%s: %d of %d calls in threads, for %.20s", where,
@@ -214,14 +215,19 @@ static void check_seen(const char *where, const char *source, threads wanted, co
     check(same_mask(before, &after), "%s: the signals that are blocked after a call, for %.20s", where, source);
 }
 
+static whole parsed(parse_row row) {
+    firthnapkin_limits limits = {.depth = row.depth, .tokens = row.tokens};
+    return parse_whole((const uint8_t *)row.source, strlen(row.source), &limits);
+}
+
 static void parse_rows(const char *where, threads wanted, const sigset_t *mask) {
     for (size_t i = 0; i < sizeof PARSES / sizeof *PARSES; i++) {
         parse_row row = PARSES[i];
         begin();
-        whole w = parse_whole((const uint8_t *)row.source, strlen(row.source), row.depth, row.tokens);
+        whole w = parsed(row);
         check(w.status == row.status, "%s: %u is returned for %.20s", where, w.status, row.source);
-        check(seen.parses == row.parses && seen.messages == row.messages && seen.counts == row.counts,
-              "%s: %d parses, %d messages and %d counts, for %.20s", where, seen.parses, seen.messages, seen.counts, row.source);
+        check(seen.parses == row.parses && seen.messages == row.messages, "%s: %d parses and %d messages, for %.20s", where,
+              seen.parses, seen.messages, row.source);
         check_seen(where, row.source, wanted, mask);
         give_back(&w);
     }
@@ -249,11 +255,52 @@ static void text_rows(const char *where, threads wanted, const sigset_t *mask) {
     }
 }
 
+/* An excerpt of a line that is longer than the first buffer, and of one that isn't. */
+static void excerpt_rows(const char *where, threads wanted, const sigset_t *mask) {
+    static const text_row rows[] = {
+        {"{ a ) }", FIRTHNAPKIN_OK, 11 + 1 + 9, 1, 0},
+        {"{" THOUSAND("\xc3\xa9") "\n" THOUSAND("\xc3\xa9"), FIRTHNAPKIN_OK, 0, 2, 0},
+    };
+    for (size_t i = 0; i < sizeof rows / sizeof *rows; i++) {
+        begin();
+        whole w = excerpt_whole((const uint8_t *)rows[i].source, strlen(rows[i].source), i == 0 ? 4 : 101);
+        check(w.status == rows[i].status && (i != 0 || w.texts_count == rows[i].count) && seen.excerpts == rows[i].calls,
+              "%s: %u, %zu bytes by %d calls, for %.20s", where, w.status, w.texts_count, seen.excerpts, rows[i].source);
+        check_seen(where, rows[i].source, wanted, mask);
+        give_back(&w);
+    }
+}
+
+static void has_words(const char *where, whole w, uint32_t status, uint32_t byte, const char *words) {
+    check(w.status == status && w.error.start.byte == byte && w.texts_count == strlen(words)
+              && !memcmp(w.texts, words, w.texts_count),
+          "%s: %u at %u, %.*s, and not %s", where, w.status, w.error.start.byte, (int)w.texts_count, w.texts, words);
+    give_back(&w);
+}
+
+/* The words of each call's error, and the lines about a byte. */
+static void words_rows(const char *where) {
+    const uint8_t *source = (const uint8_t *)"{ a ) ?";
+    const firthnapkin_limits few = {.depth = 200, .tokens = 2}, shallow = {.tokens = UINT32_MAX},
+                             unknown = {.depth = 200, .reserved = {0, 1}};
+    has_words(where, parse_whole(source, 7, &few), FIRTHNAPKIN_TOO_MANY_TOKENS, 4, "Too many tokens");
+    has_words(where, parse_whole(source, 5, &shallow), FIRTHNAPKIN_TOO_DEEP, 0, "Too deeply nested");
+    has_words(where, parse_whole(source, 5, &unknown), FIRTHNAPKIN_INVALID_LIMIT, 0, "");
+    has_words(where, parsed((parse_row){"{ a )", 200, UINT32_MAX, 0, 0, 0}), FIRTHNAPKIN_SYNTAX_ERROR, 4, "Unexpected \")\"");
+    has_words(where, cut_whole(source, 7, 2), FIRTHNAPKIN_TOO_MANY_TOKENS, 4, "Too many tokens");
+    has_words(where, cut_whole(source, 7, 3), FIRTHNAPKIN_SYNTAX_ERROR, 6, "Unknown character \"?\"");
+    has_words(where, canonical_whole(source, 7), FIRTHNAPKIN_SYNTAX_ERROR, 6, "Unknown character \"?\"");
+    has_words(where, excerpt_whole(source, 7, 4), FIRTHNAPKIN_OK, 4, "1 | { a ) ?\n  |     ^");
+    has_words(where, excerpt_whole(source, 7, 8), FIRTHNAPKIN_INVALID_ERROR, 8, "");
+}
+
 static void all_rows(const char *where, threads wanted) {
     sigset_t mask;
     pthread_sigmask(SIG_SETMASK, NULL, &mask);
     parse_rows(where, wanted, &mask);
     text_rows(where, wanted, &mask);
+    excerpt_rows(where, wanted, &mask);
+    words_rows(where);
 }
 
 /* ---- Where they are made */
@@ -350,10 +397,10 @@ static void no_calls(const depth_of_stack *d) {
     pthread_sigmask(SIG_SETMASK, NULL, &before);
     for (size_t i = 0; i < sizeof PARSES / sizeof *PARSES; i++) {
         begin();
-        whole w = parse_whole((const uint8_t *)PARSES[i].source, strlen(PARSES[i].source), PARSES[i].depth, PARSES[i].tokens);
+        whole w = parsed(PARSES[i]);
         check(w.status == FIRTHNAPKIN_OUT_OF_MEMORY && w.nodes_count == 0 && w.texts_count == 0, "%u is returned without a stack",
               w.status);
-        check(seen.parses + seen.counts == 0, "a call is made without a stack, for %.20s", PARSES[i].source);
+        check(seen.parses + seen.messages == 0, "a call is made without a stack, for %.20s", PARSES[i].source);
         check_seen("no stack", PARSES[i].source, d->wanted, &before);
         give_back(&w);
     }
@@ -363,6 +410,9 @@ static void no_calls(const depth_of_stack *d) {
     w = canonical_whole((const uint8_t *)"{a}", 3);
     check(w.status == FIRTHNAPKIN_OUT_OF_MEMORY && w.texts_count == 0, "%u is returned without a stack, by a canonical text",
           w.status);
+    give_back(&w);
+    w = excerpt_whole((const uint8_t *)"{a}", 3, 0);
+    check(w.status == FIRTHNAPKIN_OUT_OF_MEMORY && w.texts_count == 0, "%u is returned without a stack, by an excerpt", w.status);
     give_back(&w);
 }
 

@@ -1,4 +1,5 @@
-/* One call on the text of standard input: growth parse, message, count, tokens, or canonical. Without a word it makes none. The
+/* One call on the text of standard input: growth parse, few, message, excerpt, count, tokens, or canonical; few is a parse of no more
+ * than ten tokens, and the error that a message and an excerpt are given is one at the source's end. Without a word it makes none. The
  * first line that is written says that the call comes now, the second what it returns. */
 #include "../../include/firthnapkin.h"
 #include <stdio.h>
@@ -31,10 +32,15 @@ int main(int argc, char **argv) {
     if (texts == NULL || nodes == NULL || tokens == NULL || argc < 2) return 0;
     if (write(STDOUT_FILENO, "calling\n", 8) != 8) return 1;
     uint32_t status;
-    if (strcmp(argv[1], "parse") == 0)
-        status = firthnapkin_parse(source, length, 200, nodes, length, &nodes_length, texts, length, &texts_length, &error);
+    firthnapkin_limits limits = FIRTHNAPKIN_LIMITS_DEFAULT;
+    if (strcmp(argv[1], "few") == 0) limits.tokens = 10;
+    firthnapkin_error end = {.kind = FIRTHNAPKIN_ERROR_UNEXPECTED_TOKEN, .start.byte = (uint32_t)length, .text_end = (uint32_t)length};
+    if (strcmp(argv[1], "parse") == 0 || strcmp(argv[1], "few") == 0)
+        status = firthnapkin_parse(source, length, &limits, nodes, length, &nodes_length, texts, length, &texts_length, &error);
     else if (strcmp(argv[1], "message") == 0)
-        status = firthnapkin_message(source, length, 200, texts, length, &texts_length);
+        status = firthnapkin_message(source, length, &end, texts, 2 * length, &texts_length);
+    else if (strcmp(argv[1], "excerpt") == 0)
+        status = firthnapkin_excerpt(source, length, &end, texts, 2 * length, &texts_length);
     else if (strcmp(argv[1], "tokens") == 0)
         status = firthnapkin_tokens(source, length, UINT32_MAX, tokens, length + 1, &nodes_length, &error);
     else if (strcmp(argv[1], "canonical") == 0)

@@ -31,6 +31,12 @@ int main(void) {
     FIELD(firthnapkin_error, character);
     FIELD(firthnapkin_error, start);
     FIELD(firthnapkin_error, end);
+    FIELD(firthnapkin_error, text_start);
+    FIELD(firthnapkin_error, text_end);
     SIZE(firthnapkin_error);
+    FIELD(firthnapkin_limits, depth);
+    FIELD(firthnapkin_limits, tokens);
+    FIELD(firthnapkin_limits, reserved);
+    SIZE(firthnapkin_limits);
     return 0;
 }

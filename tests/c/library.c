@@ -6,6 +6,8 @@
 
 enum { DEPTH = 200 };
 
+static const firthnapkin_limits DEFAULT = FIRTHNAPKIN_LIMITS_DEFAULT;
+
 static const char *const SOURCES[] = {
     "{a}",
     "query Q($v: [T! ]! = [1, \"\\u00e9b\"] @d) { x: a(v: {k: 1.5, l: 99999999999, m: E, n: $v, o: true, p: null}) }",
@@ -29,14 +31,21 @@ typedef struct {
     firthnapkin_error error;
 } run;
 
-static run parsed(const char *source, size_t length, uint32_t depth, size_t nodes_capacity, size_t texts_capacity) {
+static run parsed_within(const char *source, size_t length, firthnapkin_limits limits, size_t nodes_capacity,
+                         size_t texts_capacity) {
     run r = {.nodes_capacity = nodes_capacity, .texts_capacity = texts_capacity, .nodes_length = 1, .texts_length = 1};
     r.nodes = (firthnapkin_node *)canaries(nodes_capacity * sizeof *r.nodes + BEYOND);
     r.texts = canaries(texts_capacity + BEYOND);
     memset(&r.error, CANARY, sizeof r.error);
-    r.status = firthnapkin_parse((const uint8_t *)source, length, depth, r.nodes, nodes_capacity, &r.nodes_length, r.texts,
-                             texts_capacity, &r.texts_length, &r.error);
+    r.status = firthnapkin_parse((const uint8_t *)source, length, &limits, r.nodes, nodes_capacity, &r.nodes_length, r.texts,
+                                 texts_capacity, &r.texts_length, &r.error);
     return r;
+}
+
+static run parsed(const char *source, size_t length, uint32_t depth, size_t nodes_capacity, size_t texts_capacity) {
+    firthnapkin_limits limits = FIRTHNAPKIN_LIMITS_DEFAULT;
+    limits.depth = depth;
+    return parsed_within(source, length, limits, nodes_capacity, texts_capacity);
 }
 
 static void give_back(run r) {
@@ -76,23 +85,9 @@ static void every_capacity(const char *source) {
     give_back(whole);
 }
 
-static void every_message_capacity(const char *source, uint32_t depth, uint32_t status, const char *wanted) {
-    size_t length = strlen(source), needed = 0;
-    for (size_t capacity = 0; capacity <= strlen(wanted) + 1; capacity++) {
-        uint8_t *words = canaries(capacity + BEYOND);
-        uint32_t found = firthnapkin_message((const uint8_t *)source, length, depth, words, capacity, &needed);
-        int fits = capacity >= strlen(wanted);
-        check(found == (fits ? status : FIRTHNAPKIN_BUFFER_TOO_SMALL) && needed == strlen(wanted)
-                  && (!fits || !memcmp(words, wanted, needed))
-                  && are_canaries(words + (fits ? needed : 0), capacity - (fits ? needed : 0) + BEYOND),
-              "a message buffer of %zu bytes for %s", capacity, source);
-        free(words);
-    }
-}
-
 /* A source without a tree. */
 static void refused(const char *source, uint32_t depth, uint32_t status, uint32_t kind, uint32_t detail,
-                    uint32_t character, uint32_t line, uint32_t column, uint32_t byte, const char *message) {
+                    uint32_t character, uint32_t line, uint32_t column, uint32_t byte) {
     run r = parsed(source, strlen(source), depth, 9, 9);
     check(r.status == status && r.nodes_length == 0 && r.texts_length == 0 && is_kept(r), "the status for %s", source);
     check(r.error.kind == kind && r.error.detail == detail && r.error.character == character
@@ -100,42 +95,32 @@ static void refused(const char *source, uint32_t depth, uint32_t status, uint32_
           "the error of %s: %u %u %u at %u:%u, byte %u", source, r.error.kind, r.error.detail, r.error.character,
           r.error.start.line, r.error.start.column, r.error.start.byte);
     give_back(r);
-    every_message_capacity(source, depth, status, message);
 }
 
 static void statuses(void) {
-    refused("{ a ) }", DEPTH, FIRTHNAPKIN_SYNTAX_ERROR, FIRTHNAPKIN_ERROR_UNEXPECTED_TOKEN, 0, 0, 0, 4, 4,
-            "Unexpected \")\". At 0:4");
-    refused("#\xc3\xa9\n{ a", DEPTH, FIRTHNAPKIN_SYNTAX_ERROR, FIRTHNAPKIN_ERROR_UNEXPECTED_END, 0, 0, 1, 3, 7,
-            "Unexpected end of input. At 1:3");
+    refused("{ a ) }", DEPTH, FIRTHNAPKIN_SYNTAX_ERROR, FIRTHNAPKIN_ERROR_UNEXPECTED_TOKEN, 0, 0, 0, 4, 4);
+    refused("#\xc3\xa9\n{ a", DEPTH, FIRTHNAPKIN_SYNTAX_ERROR, FIRTHNAPKIN_ERROR_UNEXPECTED_END, 0, 0, 1, 3, 7);
     refused("{ \xc3\xa9 }", DEPTH, FIRTHNAPKIN_SYNTAX_ERROR, FIRTHNAPKIN_ERROR_LEXICAL, FIRTHNAPKIN_DETAIL_UNKNOWN_CHARACTER,
-            0xE9, 0, 2, 2, "Unknown character \"\xc3\xa9\". At 0:2");
+            0xE9, 0, 2, 2);
     refused("{ .a }", DEPTH, FIRTHNAPKIN_SYNTAX_ERROR, FIRTHNAPKIN_ERROR_LEXICAL, FIRTHNAPKIN_DETAIL_UNEXPECTED_CHARACTER,
-            '.', 0, 2, 2, "Unexpected character \".\". At 0:2");
+            '.', 0, 2, 2);
     refused("{a(b:\"c", DEPTH, FIRTHNAPKIN_SYNTAX_ERROR, FIRTHNAPKIN_ERROR_LEXICAL, FIRTHNAPKIN_DETAIL_UNTERMINATED_STRING,
-            0, 0, 7, 7, "Unterminated string literal. At 0:7");
+            0, 0, 7, 7);
     refused("{a(b:\"\x01\")}", DEPTH, FIRTHNAPKIN_SYNTAX_ERROR, FIRTHNAPKIN_ERROR_LEXICAL,
-            FIRTHNAPKIN_DETAIL_UNKNOWN_CHARACTER_IN_STRING, 1, 0, 6, 6, "Unknown character \"\x01\" in string literal. At 0:6");
+            FIRTHNAPKIN_DETAIL_UNKNOWN_CHARACTER_IN_STRING, 1, 0, 6, 6);
     refused("{a(b:\"\\q\")}", DEPTH, FIRTHNAPKIN_SYNTAX_ERROR, FIRTHNAPKIN_ERROR_LEXICAL, FIRTHNAPKIN_DETAIL_UNKNOWN_ESCAPE,
-            0, 0, 7, 7, "Unknown escape sequence \"\\q\" in string. At 0:7");
-    refused("{a{b}}", 1, FIRTHNAPKIN_TOO_DEEP, FIRTHNAPKIN_ERROR_TOO_DEEP, 0, 0, 0, 2, 2, "Too deeply nested. At 0:2");
-    refused("{a}", 0, FIRTHNAPKIN_TOO_DEEP, FIRTHNAPKIN_ERROR_TOO_DEEP, 0, 0, 0, 0, 0, "Too deeply nested. At 0:0");
+            0, 0, 7, 7);
+    refused("{a{b}}", 1, FIRTHNAPKIN_TOO_DEEP, FIRTHNAPKIN_ERROR_TOO_DEEP, 0, 0, 0, 2, 2);
+    refused("{a}", 0, FIRTHNAPKIN_TOO_DEEP, FIRTHNAPKIN_ERROR_TOO_DEEP, 0, 0, 0, 0, 0);
     /* A lexical error comes before a token that is nested too deep, wherever it is; of other errors the first one counts. */
     refused("{a{b}} ?", 1, FIRTHNAPKIN_SYNTAX_ERROR, FIRTHNAPKIN_ERROR_LEXICAL, FIRTHNAPKIN_DETAIL_UNKNOWN_CHARACTER, '?', 0, 7,
-            7, "Unknown character \"?\". At 0:7");
-    refused("{a{b}} )", 1, FIRTHNAPKIN_TOO_DEEP, FIRTHNAPKIN_ERROR_TOO_DEEP, 0, 0, 0, 2, 2, "Too deeply nested. At 0:2");
-    refused("{a)a{b}}", 1, FIRTHNAPKIN_SYNTAX_ERROR, FIRTHNAPKIN_ERROR_UNEXPECTED_TOKEN, 0, 0, 0, 2, 2,
-            "Unexpected \")\". At 0:2");
+            7);
+    refused("{a{b}} )", 1, FIRTHNAPKIN_TOO_DEEP, FIRTHNAPKIN_ERROR_TOO_DEEP, 0, 0, 0, 2, 2);
+    refused("{a)a{b}}", 1, FIRTHNAPKIN_SYNTAX_ERROR, FIRTHNAPKIN_ERROR_UNEXPECTED_TOKEN, 0, 0, 0, 2, 2);
 
-    size_t needed = 1;
     run r = parsed("\xff{", 2, DEPTH, 3, 3);
     check(r.status == FIRTHNAPKIN_NOT_UTF8 && is_kept(r) && is_error_kept(r) && !r.nodes_length, "bytes that are no text");
     give_back(r);
-    check(firthnapkin_message((const uint8_t *)"\xff{", 2, DEPTH, NULL, 0, &needed) == FIRTHNAPKIN_NOT_UTF8 && needed == 0,
-          "no words for bytes that are no text");
-    needed = 1;
-    check(firthnapkin_message((const uint8_t *)"{a}", 3, DEPTH, NULL, 0, &needed) == FIRTHNAPKIN_OK && needed == 0,
-          "no words for a document");
     check(firthnapkin_version() == FIRTHNAPKIN_VERSION, "the number of the interface");
 }
 
@@ -144,61 +129,83 @@ static void no_memory(void) {
     size_t nodes_length = 1, texts_length = 1;
     firthnapkin_error error;
     memset(&error, CANARY, sizeof error);
-    check(firthnapkin_parse(NULL, 0, DEPTH, NULL, 0, &nodes_length, NULL, 0, &texts_length, &error) == FIRTHNAPKIN_SYNTAX_ERROR
+    check(firthnapkin_parse(NULL, 0, &DEFAULT, NULL, 0, &nodes_length, NULL, 0, &texts_length, &error) == FIRTHNAPKIN_SYNTAX_ERROR
               && error.kind == FIRTHNAPKIN_ERROR_UNEXPECTED_END && error.start.index == 0 && error.end.byte == 0 && !nodes_length
               && !texts_length,
           "no source");
-    check(firthnapkin_parse((const uint8_t *)"{a}", 3, DEPTH, NULL, 0, &nodes_length, NULL, 0, &texts_length, &error)
+    check(firthnapkin_parse((const uint8_t *)"{a}", 3, &DEFAULT, NULL, 0, &nodes_length, NULL, 0, &texts_length, &error)
                   == FIRTHNAPKIN_BUFFER_TOO_SMALL
               && nodes_length == 2 && texts_length == 0,
           "no capacity");
     firthnapkin_node nodes[2];
-    check(firthnapkin_parse((const uint8_t *)"{a}", 3, DEPTH, nodes, 2, &nodes_length, NULL, 0, &texts_length, &error)
+    check(firthnapkin_parse((const uint8_t *)"{a}", 3, &DEFAULT, nodes, 2, &nodes_length, NULL, 0, &texts_length, &error)
                   == FIRTHNAPKIN_OK
               && nodes[0].kind == FIRTHNAPKIN_QUERY && nodes[1].kind == FIRTHNAPKIN_FIELD,
           "no capacity for texts where there are none");
-    check(firthnapkin_message(NULL, 0, DEPTH, NULL, 0, &nodes_length) == FIRTHNAPKIN_BUFFER_TOO_SMALL && nodes_length == 31,
-          "no source and no capacity for words");
 }
 
 /* A source that is too long is not read. */
 static void too_long(void) {
-    size_t needed = 1;
     void *source = too_long_source();
     if (source == NULL) return;
     run r = parsed(source, FOUR_GIB, DEPTH, 1, 1);
     check(r.status == FIRTHNAPKIN_SOURCE_TOO_LONG && is_kept(r) && is_error_kept(r) && !r.nodes_length && !r.texts_length, "4 GiB");
     give_back(r);
-    check(firthnapkin_message(source, FOUR_GIB, DEPTH, NULL, 0, &needed) == FIRTHNAPKIN_SOURCE_TOO_LONG && needed == 0,
-          "4 GiB, in words");
     check(firthnapkin_count(source, FOUR_GIB, 1, &r.error) == FIRTHNAPKIN_SOURCE_TOO_LONG && is_error_kept(r), "4 GiB, counted");
     munmap(source, FOUR_GIB);
 }
 
-/* A depth above the largest is refused, and the source is not read. */
-static void depths(void) {
-    static const uint32_t depth[] = {FIRTHNAPKIN_MAX_DEPTH + 1, (uint32_t)1 << 31, UINT32_MAX};
+/* Limits that no call takes: the source is not read. */
+static void invalid_limits(firthnapkin_limits limits) {
     static const char *const sources[] = {"{a}", "{ a ) }", "\xff{", ""};
+    for (size_t k = 0; k < sizeof sources / sizeof *sources; k++) {
+        run r = parsed_within(sources[k], strlen(sources[k]), limits, 9, 9);
+        check(r.status == FIRTHNAPKIN_INVALID_LIMIT && is_kept(r) && is_error_kept(r) && !r.nodes_length && !r.texts_length,
+              "the depth %u for %s: %u", limits.depth, sources[k], r.status);
+        give_back(r);
+    }
+}
+
+static void limits(void) {
+    static const uint32_t depth[] = {FIRTHNAPKIN_MAX_DEPTH + 1, (uint32_t)1 << 31, UINT32_MAX};
+    firthnapkin_limits limits = DEFAULT;
+    check(limits.depth == 200 && limits.tokens == UINT32_MAX, "the default limits");
     for (size_t i = 0; i < sizeof depth / sizeof *depth; i++) {
-        for (size_t k = 0; k < sizeof sources / sizeof *sources; k++) {
-            size_t needed = 1;
-            run r = parsed(sources[k], strlen(sources[k]), depth[i], 9, 9);
-            check(r.status == FIRTHNAPKIN_INVALID_LIMIT && is_kept(r) && is_error_kept(r) && !r.nodes_length && !r.texts_length,
-                  "the depth %u for %s: %u", depth[i], sources[k], r.status);
-            give_back(r);
-            uint32_t status = firthnapkin_message((const uint8_t *)sources[k], strlen(sources[k]), depth[i], NULL, 0, &needed);
-            check(status == FIRTHNAPKIN_INVALID_LIMIT && needed == 0, "no words at the depth %u for %s", depth[i], sources[k]);
-        }
+        limits.depth = depth[i];
+        invalid_limits(limits);
+    }
+    for (size_t i = 0; i < sizeof limits.reserved / sizeof *limits.reserved; i++) {
+        limits = DEFAULT;
+        limits.reserved[i] = i % 2 ? UINT32_MAX : 1;
+        invalid_limits(limits);
     }
     run r = parsed("{a}", 3, FIRTHNAPKIN_MAX_DEPTH, 9, 9);
     check(r.status == FIRTHNAPKIN_OK && r.nodes_length == 2, "the largest depth");
     give_back(r);
 }
 
+/* A parse within the same limit is refused at the same token, or is what it is without a limit. */
+static void parse_of_few(const char *source, uint32_t tokens, uint32_t max_tokens, const uint32_t *starts) {
+    firthnapkin_limits limits = DEFAULT;
+    limits.tokens = max_tokens;
+    run r = parsed_within(source, strlen(source), limits, 99, 99), any = parsed(source, strlen(source), DEPTH, 99, 99);
+    if (max_tokens >= tokens)
+        check(r.status == any.status && r.nodes_length == any.nodes_length && same_nodes(r.nodes, any.nodes, r.nodes_length)
+                  && !memcmp(&r.error, &any.error, sizeof r.error),
+              "a parse of %u tokens of %s", max_tokens, source);
+    else
+        check(r.status == FIRTHNAPKIN_TOO_MANY_TOKENS && is_kept(r) && !r.nodes_length && !r.texts_length
+                  && r.error.kind == FIRTHNAPKIN_ERROR_TOO_MANY_TOKENS && r.error.start.byte == starts[max_tokens],
+              "a parse of more than %u tokens of %s: %u at %u", max_tokens, source, r.status, r.error.start.byte);
+    give_back(r);
+    give_back(any);
+}
+
 /* Every limit from 0 to above the number of tokens: where the limit is below it, the error is the first token too many. */
 static void every_count(const char *source, uint32_t tokens, const uint32_t *starts, const uint32_t *ends) {
     for (uint32_t max_tokens = 0; max_tokens < tokens + 3; max_tokens++) {
         firthnapkin_error error;
+        parse_of_few(source, tokens, max_tokens, starts);
         memset(&error, CANARY, sizeof error);
         uint32_t status = firthnapkin_count((const uint8_t *)source, strlen(source), max_tokens, &error);
         if (max_tokens >= tokens) {
@@ -254,16 +261,14 @@ static char *repeated(char *at, const char *part, uint32_t count) {
 typedef struct {
     const char *source;
     size_t length;
-    uint32_t depth, parsed, told;
+    uint32_t depth, parsed;
 } deep_calls;
 
 static void *call_deep(void *argument) {
     deep_calls *d = argument;
-    size_t needed;
     run r = parsed(d->source, d->length, d->depth, d->length, d->length);
     d->parsed = r.status;
     give_back(r);
-    d->told = firthnapkin_message((const uint8_t *)d->source, d->length, d->depth, NULL, 0, &needed);
     return NULL;
 }
 
@@ -277,11 +282,10 @@ static void stacks(void) {
                 uint32_t count = depths[k] - n.opened + beyond;
                 char *end = repeated(repeated(repeated(text, n.head, 1), n.opening, count), n.middle, 1);
                 end = repeated(repeated(end, n.closing, count), n.tail, 1);
-                deep_calls d = {text, (size_t)(end - text), depths[k], 99, 99};
+                deep_calls d = {text, (size_t)(end - text), depths[k], 99};
                 on_stack(d.depth, call_deep, &d);
                 uint32_t wanted = beyond ? FIRTHNAPKIN_TOO_DEEP : FIRTHNAPKIN_OK;
-                check(d.parsed == wanted && d.told == (beyond ? FIRTHNAPKIN_BUFFER_TOO_SMALL : wanted),
-                      "%u of %s, with the depth %u: %u, %u", count, n.opening, depths[k], d.parsed, d.told);
+                check(d.parsed == wanted, "%u of %s, with the depth %u: %u", count, n.opening, depths[k], d.parsed);
             }
         }
     }
@@ -392,7 +396,7 @@ int main(void) {
     statuses();
     no_memory();
     too_long();
-    depths();
+    limits();
     counts();
     stacks();
     fields();

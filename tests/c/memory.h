@@ -12,7 +12,7 @@
 enum { CANARY = 0xA5, BEYOND = 64 };
 
 /* A block of memory, filled with one byte. */
-static uint8_t *canaries(size_t length) {
+static inline uint8_t *canaries(size_t length) {
     uint8_t *block = malloc(length);
     if (block == NULL) abort();
     memset(block, CANARY, length);
@@ -36,7 +36,7 @@ static void *too_long_source(void) {
 }
 
 /* Runs it in four threads at once. Each counts failures where its argument points, and none may have any. */
-static void in_threads(void *(*run)(void *)) {
+static inline void in_threads(void *(*run)(void *)) {
     pthread_t thread[4];
     long failures[4] = {0};
     for (int i = 0; i < 4; i++)
@@ -48,7 +48,7 @@ static void in_threads(void *(*run)(void *)) {
 }
 
 /* Runs it in a thread with as much stack as the header says for this depth, beside memory that nothing may touch. */
-static void on_stack(uint32_t depth, void *(*run)(void *), void *argument) {
+static inline void on_stack(uint32_t depth, void *(*run)(void *), void *argument) {
     enum { PAGE = 4096, GUARD = 16 * PAGE };
     size_t size = (FIRTHNAPKIN_STACK_SIZE(depth) + PAGE - 1) / PAGE * PAGE;
     char *memory = mmap(NULL, GUARD + size, PROT_READ | PROT_WRITE, MAP_PRIVATE | MAP_ANONYMOUS, -1, 0);

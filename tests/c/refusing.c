@@ -54,17 +54,40 @@ typedef struct {
     size_t nodes_length, texts_length;
 } answer;
 
+static const firthnapkin_limits DEFAULT = FIRTHNAPKIN_LIMITS_DEFAULT;
+
 static answer parse(const char *source) {
     answer a = {.nodes_length = 1, .texts_length = 1};
     firthnapkin_error error;
-    a.status = firthnapkin_parse((const uint8_t *)source, strlen(source), 200, nodes, 4096, &a.nodes_length, words, 4096,
+    a.status = firthnapkin_parse((const uint8_t *)source, strlen(source), &DEFAULT, nodes, 4096, &a.nodes_length, words, 4096,
                              &a.texts_length, &error);
     return a;
 }
 
+/* An error of the source, found where memory is ample. */
+static firthnapkin_error error_of(const char *source) {
+    long number = refused_request;
+    size_t nodes_length, texts_length;
+    firthnapkin_error error = {.kind = FIRTHNAPKIN_ERROR_TOO_DEEP};
+    refused_request = 0;
+    firthnapkin_parse((const uint8_t *)source, strlen(source), &DEFAULT, nodes, 4096, &nodes_length, words, 4096, &texts_length,
+                      &error);
+    asked = 0;
+    refused_request = number;
+    return error;
+}
+
 static answer message(const char *source) {
     answer a = {.nodes_length = 1, .texts_length = 0};
-    a.status = firthnapkin_message((const uint8_t *)source, strlen(source), 200, words, 4096, &a.nodes_length);
+    firthnapkin_error error = error_of(source);
+    a.status = firthnapkin_message((const uint8_t *)source, strlen(source), &error, words, 4096, &a.nodes_length);
+    return a;
+}
+
+static answer excerpt(const char *source) {
+    answer a = {.nodes_length = 1, .texts_length = 0};
+    firthnapkin_error error = error_of(source);
+    a.status = firthnapkin_excerpt((const uint8_t *)source, strlen(source), &error, words, 4096, &a.nodes_length);
     return a;
 }
 
@@ -100,18 +123,23 @@ static answer answer_of(whole w, size_t count) {
 }
 
 static answer whole_parse(const char *source) {
-    whole w = parse_whole((const uint8_t *)source, strlen(source), 200, UINT32_MAX);
+    whole w = parse_whole((const uint8_t *)source, strlen(source), &DEFAULT);
     return answer_of(w, w.nodes_count);
 }
 
 static answer whole_parse_of_few(const char *source) {
-    whole w = parse_whole((const uint8_t *)source, strlen(source), 200, 20);
+    static const firthnapkin_limits few = {.depth = 200, .tokens = 20};
+    whole w = parse_whole((const uint8_t *)source, strlen(source), &few);
     return answer_of(w, w.nodes_count);
 }
 
 static answer whole_tokens(const char *source) {
     whole w = cut_whole((const uint8_t *)source, strlen(source), UINT32_MAX);
     return answer_of(w, w.tokens_count);
+}
+
+static answer whole_excerpt(const char *source) {
+    return answer_of(excerpt_whole((const uint8_t *)source, strlen(source), (uint32_t)strlen(source)), 0);
 }
 
 static answer whole_canonical(const char *source) {
@@ -184,6 +212,7 @@ int main(void) {
     for (size_t i = 0; i < sizeof sources / sizeof *sources; i++) {
         each(parse, sources[i]);
         each(message, sources[i]);
+        each(excerpt, sources[i]);
         each(count, sources[i]);
         each(tokens, sources[i]);
         each(canonical, sources[i]);
@@ -191,6 +220,7 @@ int main(void) {
         each(whole_parse_of_few, sources[i]);
         each(whole_tokens, sources[i]);
         each(whole_canonical, sources[i]);
+        each(whole_excerpt, sources[i]);
     }
     capacity_is_a_hint(sources[1]);
     capacity_is_a_hint(sources[2]);

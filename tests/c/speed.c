@@ -20,10 +20,11 @@ int main(int argc, char **argv) {
     firthnapkin_node *nodes = malloc((length + 1) * sizeof *nodes);
     firthnapkin_error error;
     if (source == NULL || texts == NULL || nodes == NULL || fread(source, 1, length, file) != length) return 2;
+    const firthnapkin_limits limits = FIRTHNAPKIN_LIMITS_DEFAULT;
     double best = 0;
     for (long round = atol(argv[2]); round > 0; round--) {
         double start = now();
-        uint32_t status = firthnapkin_parse(source, length, 200, nodes, length, &nodes_length, texts, length, &texts_length, &error);
+        uint32_t status = firthnapkin_parse(source, length, &limits, nodes, length, &nodes_length, texts, length, &texts_length, &error);
         double speed = (double)length / (now() - start) / 1e6;
         if (status != FIRTHNAPKIN_OK) return 1;
         if (speed > best) best = speed;

@@ -74,7 +74,7 @@ const LITTLE = `${LIMITED}
 const hasLimits = process.platform === "linux" && spawnSync("prlimit", ["--version"]).status === 0;
 
 test("a process with little memory", { skip: hasLimits ? false : "no prlimit, so memory is not limited" }, () => {
-  const wanted = ["Error: memory ran out", 'FirthnapkinError: Unexpected ")". At 0:98304', "nodes: 65536"];
+  const wanted = ["Error: memory ran out", 'FirthnapkinError: Unexpected ")". At 1:98305', "nodes: 65536"];
   assert.strictEqual(written(LITTLE, "--expose-gc").trim(), `${JSON.stringify(wanted)} 2`);
 });
 
@@ -103,14 +103,21 @@ test("the addon takes no other arguments", () => {
   const addon = require("../firthnapkin.node");
   const allocate = (size) => new ArrayBuffer(size);
   const source = Buffer.from("{ a }");
-  assert.strictEqual(addon.parse(source, 5, 5, allocate).nodes.byteLength, 128);
+  assert.strictEqual(addon.parse(source, 5, 5, allocate).parts.byteLength, 128);
   for (const words of [[], [source], [source, 5, 5], ["{ a }", 5, 5, allocate], [source, "5", 5, allocate], [source, 5, 5n, allocate]])
     assert.throws(() => addon.parse(...words), { message: /^parse takes a buffer, a depth, a number of tokens and a function$/ });
   for (const other of [5, () => 5, () => new ArrayBuffer(0), (size) => new ArrayBuffer(size + 1), (size) => Buffer.alloc(size)])
     assert.throws(() => addon.parse(source, 5, 5, other), { message: "the result was not made" });
   // A depth that is none of the range is refused by the library, and a number of tokens beyond it is no limit.
-  for (const depth of [-1, NaN, Infinity, 1001, 2 ** 32, 1e300]) assert.strictEqual(addon.parse(source, depth, 5, allocate).status, 8);
-  for (const tokens of [-1, NaN, Infinity, 2 ** 32, 1e300]) assert.strictEqual(addon.parse(source, 5, tokens, allocate).status, 0);
+  for (const depth of [-1, NaN, Infinity, 1001, 2 ** 32, 1e300]) assert.strictEqual(addon.parse(source, depth, 5, allocate).status, "invalid_limit");
+  for (const tokens of [-1, NaN, Infinity, 2 ** 32, 1e300]) assert.strictEqual(addon.parse(source, 5, tokens, allocate).status, "ok");
+  for (const words of [[], [source], [source, 5], [source, "5", allocate], ["{ a }", 5, allocate]]) {
+    assert.throws(() => addon.tokens(...words), { message: "tokens takes a buffer, a number of tokens and a function" });
+    assert.throws(() => addon.excerpt(...words), { message: "excerpt takes a buffer, a byte and a function" });
+  }
+  for (const words of [[], [source], ["{ a }", allocate]])
+    assert.throws(() => addon.canonical(...words), { message: "canonical takes a buffer and a function" });
+  for (const byte of [6, 2 ** 32, -1, NaN, 1e300]) assert.strictEqual(addon.excerpt(source, byte, allocate).status, "invalid_error");
 });
 
 test("a small heap", () => {

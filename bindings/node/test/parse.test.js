@@ -26,14 +26,15 @@ const WORDS = {
 };
 for (const kind of ["int", "largeInt", "float", "string", "blockString", "boolean"]) WORDS[kind] = "scalar";
 
-/** What gqlcheck writes for a source: positions count characters there. */
+/** What gqlcheck writes for a source: positions count characters there, and from 0, and nothing is said of schemas. */
 function lines(source) {
   let document;
   try {
     document = parse(source);
   } catch (error) {
-    if (error instanceof FirthnapkinError) return error.message;
-    throw error;
+    if (!(error instanceof FirthnapkinError)) throw error;
+    const { index, line, column } = error.start;
+    return `${error.reason.replace(/: this is a schema's definition, not a request's$/, "")}. At ${line}:${Array.from(source.slice(index - column, index)).length}`;
   }
   const characters = (index) => Array.from(source.slice(0, index)).length;
   return Array.from(document, (node) => {
@@ -65,9 +66,15 @@ test("values", () => {
     ["-0", "int", 0],
     ["-2147483648", "int", -2147483648],
     ["2147483647", "int", 2147483647],
-    ["-2147483649", "largeInt", -2147483649n],
-    ["2147483648", "largeInt", 2147483648n],
-    ["9".repeat(5000), "largeInt", 10n ** 5000n - 1n],
+    ["-2147483649", "largeInt", -2147483649],
+    ["2147483648", "largeInt", 2147483648],
+    ["9007199254740991", "largeInt", 2 ** 53 - 1],
+    ["9007199254740992", "largeInt", 2n ** 53n],
+    ["9007199254740993", "largeInt", 2n ** 53n + 1n],
+    ["-9007199254740991", "largeInt", 1 - 2 ** 53],
+    ["-9007199254740992", "largeInt", -(2n ** 53n)],
+    ["9".repeat(4300), "largeInt", 10n ** 4300n - 1n],
+    ["-" + "9".repeat(4300), "largeInt", 1n - 10n ** 4300n],
     ["-1.5", "float", -1.5],
     ["true", "boolean", true],
     ["false", "boolean", false],
@@ -81,10 +88,16 @@ test("values", () => {
     assert.deepStrictEqual([node.kind, node.value, node.text], [kind, value, text]);
     assert.strictEqual(node.name, ["enum", "variable"].includes(kind) ? value : null);
   }
-  for (const text of ["1e400", "-1e400"]) {
+  const many = "9".repeat(4301);
+  for (const [text, kind, message] of [
+    ["1e400", "float", "a Float beyond the largest number: the text has it"],
+    ["-1e400", "float", "a Float beyond the largest number: the text has it"],
+    [many, "largeInt", "an Int of 4301 digits: the text has it"],
+    ["-" + many, "largeInt", "an Int of 4301 digits: the text has it"],
+  ]) {
     const node = parse(`{ a(b: ${text}) }`).node(4);
-    assert.deepStrictEqual([node.kind, node.text], ["float", text]);
-    assert.throws(() => node.value, RangeError);
+    assert.deepStrictEqual([node.kind, node.text], [kind, text]);
+    assert.throws(() => node.value, { name: "RangeError", message });
   }
 });
 
@@ -112,47 +125,68 @@ test("children, parents and definitions", () => {
 
 test("errors, with their positions", () => {
   for (const [source, kind, detail, character, start, end, told] of [
-    ["{\n  a )\n}", "unexpectedToken", null, null, [6, 1, 4, 6], [7, 1, 5, 7], 'Unexpected ")". At 1:4'],
-    ["", "unexpectedEnd", null, null, [0, 0, 0, 0], [0, 0, 0, 0], "Unexpected end of input. At 0:0"],
-    ["{ é }", "lexical", "unknownCharacter", "é", [2, 0, 2, 2], [2, 0, 2, 2], 'Unknown character "é". At 0:2'],
-    ["{ .a }", "lexical", "unexpectedCharacter", ".", [2, 0, 2, 2], [2, 0, 2, 2], 'Unexpected character ".". At 0:2'],
-    ['{a(b:"c', "lexical", "unterminatedString", null, [7, 0, 7, 7], [7, 0, 7, 7], "Unterminated string literal. At 0:7"],
+    ["{\n  a )\n}", "unexpectedToken", null, null, [6, 1, 4, 6], [7, 1, 5, 7], 'Unexpected ")". At 2:5'],
+    ["", "unexpectedEnd", null, null, [0, 0, 0, 0], [0, 0, 0, 0], "Unexpected end of input. At 1:1"],
+    ["{ é }", "lexical", "unknownCharacter", "é", [2, 0, 2, 2], [2, 0, 2, 2], 'Unknown character "é". At 1:3'],
+    ["{ .a }", "lexical", "unexpectedCharacter", ".", [2, 0, 2, 2], [2, 0, 2, 2], 'Unexpected character ".". At 1:3'],
+    ['{a(b:"c', "lexical", "unterminatedString", null, [7, 0, 7, 7], [7, 0, 7, 7], "Unterminated string literal. At 1:8"],
     ['{a(b:"\0")}', "lexical", "unknownCharacterInString", "\0", [6, 0, 6, 6], [6, 0, 6, 6],
-      'Unknown character "\0" in string literal. At 0:6'],
+      'Unknown character "\0" in string literal. At 1:7'],
     ['{a(b:"\\q")}', "lexical", "unknownEscape", null, [7, 0, 7, 7], [7, 0, 7, 7],
-      'Unknown escape sequence "\\q" in string. At 0:7'],
-    ["{a(b:-", "lexical", "unexpectedEndInToken", null, [6, 0, 6, 6], [6, 0, 6, 6], "Unexpected end of input. At 0:6"],
-    ["{a".repeat(201), "tooDeep", null, null, [400, 0, 400, 400], [401, 0, 401, 401], "Too deeply nested. At 0:400"],
-    // Columns of the message count characters, those of positions UTF-16 units.
-    ["#𝄞\n{a(b:\"𝄞\") ) }", "unexpectedToken", null, null, [15, 1, 11, 19], [16, 1, 12, 20], 'Unexpected ")". At 1:10'],
-    ['{\n"é\ud800"}', "surrogate", null, null, [4, 1, 2, 5], [5, 1, 3, 8], "Lone surrogate U+D800. At 1:2"],
-    ["\udc00", "surrogate", null, null, [0, 0, 0, 0], [1, 0, 1, 3], "Lone surrogate U+DC00. At 0:0"],
-    ["\n\udfff", "surrogate", null, null, [1, 1, 0, 1], [2, 1, 1, 4], "Lone surrogate U+DFFF. At 1:0"],
+      'Unknown escape sequence "\\q" in string. At 1:8'],
+    ["{a(b:-", "lexical", "unexpectedEndInToken", null, [6, 0, 6, 6], [6, 0, 6, 6], "Unexpected end of input. At 1:7"],
+    ["{a".repeat(201), "tooDeep", null, null, [400, 0, 400, 400], [401, 0, 401, 401], "Too deeply nested. At 1:401"],
+    // Columns count UTF-16 units, as JavaScript's strings do.
+    ["#𝄞\n{a(b:\"𝄞\") ) }", "unexpectedToken", null, null, [15, 1, 11, 19], [16, 1, 12, 20], 'Unexpected ")". At 2:12'],
+    ['{\n"é\ud800"}', "surrogate", null, null, [4, 1, 2, 5], [5, 1, 3, 8], "Lone surrogate U+D800. At 2:3"],
+    ["\udc00", "surrogate", null, null, [0, 0, 0, 0], [1, 0, 1, 3], "Lone surrogate U+DC00. At 1:1"],
+    ["\n\udfff", "surrogate", null, null, [1, 1, 0, 1], [2, 1, 1, 4], "Lone surrogate U+DFFF. At 2:1"],
     // A character of two units: at it, at the next character, and after two of them.
-    ["#𝄞", "unexpectedEnd", null, null, [3, 0, 3, 5], [3, 0, 3, 5], "Unexpected end of input. At 0:2"],
-    ['{a(b:"𝄞', "lexical", "unterminatedString", null, [8, 0, 8, 10], [8, 0, 8, 10], "Unterminated string literal. At 0:7"],
-    ["{ 𝄞 }", "lexical", "unknownCharacter", "𝄞", [2, 0, 2, 2], [2, 0, 2, 2], 'Unknown character "𝄞". At 0:2'],
-    ["#𝄞\n𝄞", "lexical", "unknownCharacter", "𝄞", [4, 1, 0, 6], [4, 1, 0, 6], 'Unknown character "𝄞". At 1:0'],
-    ['{a(b:"𝄞"𝄞', "lexical", "unknownCharacter", "𝄞", [9, 0, 9, 11], [9, 0, 9, 11], 'Unknown character "𝄞". At 0:8'],
+    ["#𝄞", "unexpectedEnd", null, null, [3, 0, 3, 5], [3, 0, 3, 5], "Unexpected end of input. At 1:4"],
+    ['{a(b:"𝄞', "lexical", "unterminatedString", null, [8, 0, 8, 10], [8, 0, 8, 10], "Unterminated string literal. At 1:9"],
+    ["{ 𝄞 }", "lexical", "unknownCharacter", "𝄞", [2, 0, 2, 2], [2, 0, 2, 2], 'Unknown character "𝄞". At 1:3'],
+    ["#𝄞\n𝄞", "lexical", "unknownCharacter", "𝄞", [4, 1, 0, 6], [4, 1, 0, 6], 'Unknown character "𝄞". At 2:1'],
+    ['{a(b:"𝄞"𝄞', "lexical", "unknownCharacter", "𝄞", [9, 0, 9, 11], [9, 0, 9, 11], 'Unknown character "𝄞". At 1:10'],
     ['{a(b:"𝄞𝄞" \u{10ffff}', "lexical", "unknownCharacter", "\u{10ffff}", [12, 0, 12, 16], [12, 0, 12, 16],
-      'Unknown character "\u{10ffff}". At 0:10'],
-    ["{a(b:-𝄞", "lexical", "unexpectedCharacter", "𝄞", [6, 0, 6, 6], [6, 0, 6, 6], 'Unexpected character "𝄞". At 0:6'],
-    ["{ \uffff }", "lexical", "unknownCharacter", "\uffff", [2, 0, 2, 2], [2, 0, 2, 2], 'Unknown character "\uffff". At 0:2'],
+      'Unknown character "\u{10ffff}". At 1:13'],
+    ["{a(b:-𝄞", "lexical", "unexpectedCharacter", "𝄞", [6, 0, 6, 6], [6, 0, 6, 6], 'Unexpected character "𝄞". At 1:7'],
+    ["{ \uffff }", "lexical", "unknownCharacter", "\uffff", [2, 0, 2, 2], [2, 0, 2, 2], 'Unknown character "\uffff". At 1:3'],
     // A token may be written like the end of a message.
-    ['{ "a. At b" }', "unexpectedToken", null, null, [2, 0, 2, 2], [11, 0, 11, 11], 'Unexpected ""a. At b"". At 0:2'],
-    ['{ "a. At 1:1" }', "unexpectedToken", null, null, [2, 0, 2, 2], [13, 0, 13, 13], 'Unexpected ""a. At 1:1"". At 0:2'],
+    ['{ "a. At b" }', "unexpectedToken", null, null, [2, 0, 2, 2], [11, 0, 11, 11], 'Unexpected ""a. At b"". At 1:3'],
+    ['{ "a. At 1:1" }', "unexpectedToken", null, null, [2, 0, 2, 2], [13, 0, 13, 13], 'Unexpected ""a. At 1:1"". At 1:3'],
   ]) {
     const error = errorOf(source);
     const position = ([index, line, column, byte]) => ({ index, line, column, byte });
     assert.deepStrictEqual([error.kind, error.detail, error.character], [kind, detail, character]);
     assert.deepStrictEqual([error.start, error.end], [position(start), position(end)]);
-    assert.deepStrictEqual([error.name, error.message], ["FirthnapkinError", told]);
+    assert.deepStrictEqual([error.name, error.message, error.reason], ["FirthnapkinError", told, told.slice(0, told.lastIndexOf(". At "))]);
     assert.deepStrictEqual(error.locations, [{ line: start[1] + 1, column: start[2] + 1 }]);
   }
   for (const length of [1, 200, 243, 244, 255, 256, 257, 1024, 5000]) {
     const name = "n".repeat(length);
-    assert.strictEqual(errorOf(`query a ${name}`).message, `Unexpected "${name}". At 0:8`);
+    assert.strictEqual(errorOf(`query a ${name}`).message, `Unexpected "${name}". At 1:9`);
   }
+});
+
+test("the first token of a schema's definition, or of its description, is an error that says so", () => {
+  const deep = "{a".repeat(1000) + "}".repeat(1000);
+  for (const word of 'type schema extend directive scalar interface union enum input "text" """text"""'.split(" ")) {
+    for (const before of ["", "# é𝄞\n", "{ a } ", "fragment F on T { a }", deep]) {
+      const { reason, start } = errorOf(`${before}${word} A { b: C }`, { depth: 1000 });
+      assert.deepStrictEqual([reason, start.index], [`Unexpected "${word}": this is a schema's definition, not a request's`, before.length]);
+    }
+  }
+  for (const [source, reason] of [
+    ["query type type { a }", 'Unexpected "type"'],
+    ["{ a } b", 'Unexpected "b"'],
+    ["{ a } }", 'Unexpected "}"'],
+    ["{ a(b: ) type }", 'Unexpected ")"'],
+    ['{ a "b" }', 'Unexpected ""b""'],
+    ['query ($a: "b") { a }', 'Unexpected ""b""'],
+  ])
+    assert.strictEqual(errorOf(source).reason, reason);
+  assert.strictEqual(errorOf("type A", { maxTokens: 0 }).reason, "Too many tokens");
+  parse("{ type { schema(input: enum) } } query type { extend } fragment enum on union { scalar }");
 });
 
 // Indexes, lines, columns, bytes, parents and tokens that 16 bits don't hold.
@@ -215,8 +249,8 @@ test("tokens", () => {
   starts.forEach((start, maxTokens) => {
     const error = errorOf(source, { maxTokens });
     assert.deepStrictEqual([error.kind, error.detail, error.start.index], ["tooManyTokens", null, start]);
-    // The message counts characters.
-    assert.strictEqual(error.message, `Too many tokens. At 0:${start > 10 ? start - 1 : start}`);
+    assert.strictEqual(error.message, `Too many tokens. At 1:${start + 1}`);
+    assert.strictEqual(error.excerpt, `1 | ${source}\n  |${" ".repeat(Array.from(source.slice(0, start)).length + 1)}^`);
   });
   // No error after the first token too many counts, and there is no token after a lexical error.
   assert.strictEqual(errorOf('{ a ) } "', { maxTokens: 2 }).kind, "tooManyTokens");

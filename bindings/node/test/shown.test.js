@@ -5,7 +5,7 @@ const assert = require("assert");
 const { test } = require("node:test");
 const { inspect } = require("util");
 
-const { parse, Node } = require("..");
+const { parse, Field, Node } = require("..");
 
 const position = (index, line, column) => ({ index, line, column, byte: index });
 
@@ -26,6 +26,7 @@ test("JSON of a node and of a document", () => {
 test("JSON of values that it doesn't have", () => {
   for (const [text, value] of [
     ["99999999999", "99999999999"],
+    ["9".repeat(5000), "9".repeat(5000)],
     ["1e400", "1e400"],
     ["-1e400", "-1e400"],
     ["1e300", 1e300],
@@ -46,12 +47,20 @@ test("a deep document as JSON, and shown", () => {
 });
 
 test("what console.log shows of a node", () => {
-  const document = parse("{ a(b: 99999999999, c: 1e400) { d } }");
+  const document = parse("{ a(b: 99999999999999999999, c: 1e400) { d } }");
   const shown = inspect(document.node(1), { breakLength: Infinity });
   assert.match(shown, /^Node \{ kind: 'field', name: 'a', value: null, start: \{ index: 2, line: 0, column: 2, byte: 2 \}, end: \{/);
   assert.match(shown, /children: \[ Node \{ kind: 'arguments', .*children: \[Array\] \}, Node \{ kind: 'field', name: 'd'/);
-  assert.match(inspect(document.node(4)), /value: 99999999999n/);
+  assert.match(inspect(document.node(4)), /value: 99999999999999999999n/);
   assert.match(inspect(document.node(6)), /value: '1e400'/);
+  assert.match(inspect(parse(`{ a(b: ${"9".repeat(4301)}) }`).node(4)), /value: '9999/);
   assert.match(inspect([document.node(7)], { depth: 0 }), /^\[ \[Node\] \]$/);
   assert.match(inspect(Node, { showHidden: true }), /\[class Node\]/);
+});
+
+test("what is shown of a part, and its JSON", () => {
+  const [field] = parse("{ x: a(b: 1) { c } }").operation().selections;
+  assert.strictEqual(inspect([field, field.arguments[0]]), "[ Field x: a(b: 1) { c }, Argument b: 1 ]");
+  assert.deepStrictEqual(JSON.parse(JSON.stringify(field)), field.node.toJSON());
+  assert.match(inspect(Field, { showHidden: true }), /\[class Field extends Part\]/);
 });

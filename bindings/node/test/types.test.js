@@ -5,13 +5,14 @@ const assert = require("assert");
 const fs = require("fs");
 const { test } = require("node:test");
 const path = require("path");
+const { inspect } = require("util");
 
 const firthnapkin = require("..");
 
-const { parse, FirthnapkinError } = firthnapkin;
+const { parse, tokens, FirthnapkinError } = firthnapkin;
 
 // What a program may find at run time and has no use for.
-const INTERNAL = { Document: ["units", "parents", "between"] };
+const INTERNAL = { Document: ["units", "parents", "between"], Tokens: ["units"] };
 
 const text = fs.readFileSync(path.join(__dirname, "..", "index.d.ts"), "utf8").replace(/\/\*[^]*?\*\//g, "");
 
@@ -22,20 +23,32 @@ function membersOf(body) {
   for (const line of body.match(/(?:\{[^{}]*\}|[^;])+/g)) {
     const member = /^(?:readonly )?(\w+)(\?)?(?:\((.*)\))?: ([^]*)$/.exec(line.trim());
     if (member) members.set(member[1], { isOptional: member[2] !== undefined, parameters: member[3], type: member[4] });
-    else assert.match(line.trim(), /^(private constructor\(\))?$/, "a member of another form");
+    else assert.match(line.trim(), /^(private constructor\(\)|constructor\(name: string\)|readonly \[name: string\]: Value)?$/);
   }
   return members;
 }
 
 const unions = new Map(Array.from(text.matchAll(/^export type (\w+) =([^;]*);/gm), ([, name, type]) => [name, type]));
-const objects = new Map(
-  Array.from(text.matchAll(/^export (?:interface|class) (\w+)[^{]*\{\n([^]*?)^\}/gm), ([, name, body]) => [name, membersOf(body)]),
-);
+// A type has the members of those that it extends, which are before it.
+const objects = new Map();
+const extended = new Set();
+for (const [, name, heading, body] of text.matchAll(/^export (?:interface|class) (\w+)([^{]*)\{\n([^]*?)^\}/gm)) {
+  const base = /extends (\w+) $/.exec(heading)?.[1];
+  const isHere = base !== undefined && base !== "Error";
+  objects.set(name, new Map([...(isHere ? objects.get(base) : []), ...membersOf(body)]));
+  if (isHere) extended.add(base);
+}
 const functions = new Map(
   Array.from(text.matchAll(/^export function (\w+)\((.*)\): (\w+);/gm), ([, name, parameters, type]) => [name, { parameters, type }]),
 );
 const constants = new Map(Array.from(text.matchAll(/^export const (\w+): (\w+);/gm), ([, name, type]) => [name, type]));
 const classes = Array.from(text.matchAll(/^export class (\w+)/gm), ([, name]) => name);
+
+// The interfaces and classes that classes are of.
+const CLASSES = [
+  "Node", "Document", "Operation", "Fragment", "Field", "FragmentSpread", "InlineFragment", "VariableDefinition", "Directive",
+  "Argument", "EnumValue", "Variable", "Tokens", "Token", "FirthnapkinError",
+];
 
 /** The alternatives of a type, each without spaces around. */
 function alternativesOf(type) {
@@ -60,7 +73,11 @@ function isOf(alternative, value, where) {
   if (alternative.startsWith("{")) return hasMembers(membersOf(alternative.slice(1, -1)), value, where);
   if (unions.has(alternative)) return has(unions.get(alternative), value, alternative);
   // Those that contain others are compared one by one, below.
-  if (["Node", "Document", "FirthnapkinError"].includes(alternative)) return value instanceof firthnapkin[alternative];
+  if (CLASSES.includes(alternative)) return value instanceof firthnapkin[alternative];
+  if (alternative === "undefined") return value === undefined;
+  if (alternative === "ObjectValue")
+    return typeof value === "object" && value !== null && Object.getPrototypeOf(value) === null
+      && Object.values(value).every((item) => has("Value", item, where));
   if (objects.has(alternative)) return hasMembers(objects.get(alternative), value, alternative);
   assert.ok(["boolean", "number", "bigint", "string"].includes(alternative), `${alternative} is no type that is known here`);
   return typeof value === alternative;
@@ -87,8 +104,11 @@ function namesOf(object) {
   const names = Object.keys(object);
   for (let at = Object.getPrototypeOf(object); ![Object.prototype, Error.prototype].includes(at); at = Object.getPrototypeOf(at))
     names.push(...Object.getOwnPropertyNames(at));
-  return names.filter((name) => name !== "constructor");
+  return Array.from(new Set(names)).filter((name) => name !== "constructor");
 }
+
+// What methods are given that take a name, or an index.
+const NAMES = ["Q", "F", "b", "e", "nothing"];
 
 /** An object of a class: it has the members that its type has, and no others. */
 function compared(type, object) {
@@ -98,14 +118,21 @@ function compared(type, object) {
   for (const [name, member] of declared) {
     const isCall = member.parameters !== undefined;
     if (isCall) assert.strictEqual(object[name].length, member.parameters.split(",").filter((word) => word !== "").length, name);
-    const value = isCall ? object[name](0) : object[name];
-    assert.ok(has(member.type, value, `${type}.${name}`), `${type}.${name} is no ${member.type}: ${String(value)}`);
+    const words = member.parameters?.includes("string") ? NAMES : [0];
+    for (const value of isCall ? words.map((word) => object[name](word)) : [object[name]])
+      assert.ok(has(member.type, value, `${type}.${name}`), `${type}.${name} is no ${member.type}: ${inspect(value)}`);
   }
 }
 
+/** A part by its name, and those in it. */
+function comparedParts(part) {
+  compared(part.constructor.name, part);
+  for (const name of ["variables", "directives", "selections", "arguments"]) for (const inner of part[name] ?? []) comparedParts(inner);
+}
+
 const DOCUMENTS = [
-  'query Q($v: [T!]! = [1] @d) { x: a(b: {c: -1.5, d: 99999999999, e: E, f: $v, g: true, h: null, i: "s", j: """t"""}) ...F }',
-  "mutation { m } subscription S { ... on T { s } ... { u } } fragment F on T { f }",
+  'query Q($v: [T!]! = [1] @d, $w: Int) { x: a(b: {c: -1.5, d: 99999999999999999999, e: E, f: $v, g: true, h: null, i: "s", j: """t"""}) ...F @e }',
+  "mutation { m @d(b: 1) @e } subscription S @d { ... on T @e { s } ... { u } } fragment F on T @d(e: 2) { f }",
 ];
 const ERRORS = [
   ["{ a ) }"], ["{"], ["{ \u00e9 }"], ["{a(b: 01)}"], ['{a(b: "'], ['{a(b: "\0")}'], ['{a(b: "\\q")}'], ["{a(b: -"], ["\ud800"],
@@ -117,9 +144,20 @@ test("documents and nodes are what index.d.ts says", () => {
     const document = parse(source);
     compared("Document", document);
     for (const node of document) compared("Node", node);
+    for (const part of [...document.operations, ...document.fragments]) comparedParts(part);
   }
   const beyond = parse("{ a(b: 1e400) }").node(4).toJSON();
   assert.ok(has("NodeParts", beyond, "NodeParts"), "a Float beyond the largest number, as JSON");
+});
+
+test("tokens are what index.d.ts says", () => {
+  const found = tokens('{a(b: [-1, 1.5, "s", """t""", $v!], c = @ | ...)}');
+  compared("Tokens", found);
+  for (const token of found) compared("Token", token);
+});
+
+test("enums and variables are what index.d.ts says", () => {
+  for (const name of ["EnumValue", "Variable"]) compared(name, new firthnapkin[name]("a"));
 });
 
 test("errors are what index.d.ts says", () => {
@@ -139,28 +177,35 @@ test("what is exported is what index.d.ts says", () => {
     assert.strictEqual(firthnapkin[name].length, required.length, name);
     assert.ok(has(type, firthnapkin[name]("{ a }"), name), name);
   }
-  assert.deepStrictEqual(classes, ["FirthnapkinError"]);
+  assert.deepStrictEqual(classes, ["EnumValue", "Variable", "FirthnapkinError"]);
   // The classes of what is returned are there for `instanceof`.
-  const names = [...functions.keys(), ...constants.keys(), ...classes, "Node", "Document"];
+  const names = [...functions.keys(), ...constants.keys(), ...CLASSES];
   assert.deepStrictEqual(Object.keys(firthnapkin).sort(), names.sort());
 });
 
+test("a module imports each name", async () => {
+  const imported = await import("../index.js");
+  for (const name of Object.keys(firthnapkin)) assert.strictEqual(imported[name], firthnapkin[name], name);
+});
+
 test("the options are those of index.d.ts", () => {
-  const options = objects.get("Options");
-  assert.deepStrictEqual(Array.from(options.keys()).sort(), ["depth", "maxTokens"]);
-  for (const [name, { isOptional, type }] of options) {
-    assert.ok(isOptional, name);
-    for (const value of [5, 5n, "5", true, null, undefined]) {
-      const call = () => parse("{ a }", { [name]: value });
-      if (value === undefined || has(type, value, `Options.${name}`)) call();
-      else assert.throws(call, TypeError);
+  for (const [type, call, wanted] of [["Options", parse, ["depth", "maxTokens"]], ["TokenOptions", tokens, ["maxTokens"]]]) {
+    const options = objects.get(type);
+    assert.deepStrictEqual(Array.from(options.keys()).sort(), wanted);
+    for (const [name, member] of options) {
+      assert.ok(member.isOptional, name);
+      for (const value of [5, 5n, "5", true, null, undefined]) {
+        const run = () => call("{ a }", { [name]: value });
+        if (value === undefined || has(member.type, value, `${type}.${name}`)) run();
+        else assert.throws(run, TypeError);
+      }
     }
   }
 });
 
 test("each alternative of a type of index.d.ts is of some value", () => {
   const wanted = Array.from(unions, ([name, type]) => [name, type]);
-  for (const [type, members] of objects)
+  for (const [type, members] of Array.from(objects).filter(([type]) => !extended.has(type)))
     for (const [name, member] of members) wanted.push([`${type}.${name}`, member.type]);
   for (const [where, type] of wanted)
     for (const alternative of alternativesOf(type)) assert.ok(seen.has(`${where}: ${alternative}`), `${where}: never ${alternative}`);

@@ -3,7 +3,7 @@
 import pickle
 import sys
 import unittest
-from typing import List
+from typing import Any, List
 from unittest import mock
 
 import firthnapkin
@@ -64,7 +64,7 @@ class Tokens(unittest.TestCase):
                 parse(self.SOURCE, max_tokens=most)
             error = raised.exception
             self.assertEqual((error.kind, error.message, error.start.index), (ErrorKind.TOO_MANY_TOKENS, "Too many tokens", start))
-            self.assertEqual((str(error), error.source), (f"Too many tokens. At 0:{start}", self.SOURCE))
+            self.assertEqual((str(error), error.source), (f"Too many tokens. At 1:{start + 1}", self.SOURCE))
             self.assertEqual(str(pickle.loads(pickle.dumps(error))), str(error))
 
     def test_order(self) -> None:
@@ -125,6 +125,17 @@ class Sources(unittest.TestCase):
         self.assertEqual((raised.exception.start, raised.exception.end), (Position(index, 0, index, index),) * 2)
 
 
+class Options(unittest.TestCase):
+    def test_unknown(self) -> None:
+        """An option that a call doesn't have is an error, and so is one of another call."""
+        unknown = ((parse, ("dept", "max_depth", "tokens")), (tokens, ("depth", "most")), (canonical, ("depth", "max_tokens")))
+        for call, names in unknown:
+            for name in names:
+                with self.subTest(call=call.__name__, name=name), self.assertRaises(TypeError) as raised:
+                    call("{a}", **{name: 5})  # type: ignore[operator]
+                self.assertIn(name, str(raised.exception))
+
+
 class Stacks(unittest.TestCase):
     # The nesting that takes the most stack, and others.
     DEEP = ("{...", "{a", "{a(x:{k:", "query($a:[")
@@ -168,7 +179,7 @@ class Stacks(unittest.TestCase):
 class Statuses(unittest.TestCase):
     def test_statuses(self) -> None:
         """The error that is raised for each status of the library."""
-        for status, error in ((7, ValueError), (2, SystemError), (3, SystemError), (6, SystemError), (8, SystemError)):
+        for status, error in ((9, SystemError), (7, ValueError), (2, SystemError), (3, SystemError), (6, SystemError), (8, SystemError)):
             for call in (parse, tokens, canonical):
                 with mock.patch.object(firthnapkin._parser, call.__name__, return_value=(status, b"", b"")):
                     with self.subTest(status=status, call=call.__name__), self.assertRaises(error) as raised:
@@ -176,15 +187,30 @@ class Statuses(unittest.TestCase):
                     self.assertNotIsInstance(raised.exception, FirthnapkinError)
                     self.assertIn("4 GiB" if status == 7 else str(status), str(raised.exception))
 
+    def test_statuses_of_excerpts(self) -> None:
+        error = FirthnapkinError("", ErrorKind.LEXICAL, Position(0, 0, 0, 0), Position(0, 0, 0, 0), "")
+        parts: List[Any] = [parse("{a}")[0], parse("{a}").operations[0], error]
+        for part in parts:
+            for status, wanted in ((7, ValueError), (2, SystemError), (3, SystemError), (9, SystemError)):
+                with mock.patch.object(firthnapkin._parser, "excerpt", return_value=(status, b"", b"")):
+                    with self.subTest(status=status), self.assertRaises(wanted) as raised:
+                        part.excerpt
+                    self.assertIn("4 GiB" if status == 7 else str(status), str(raised.exception))
+
     def test_refused_depth(self) -> None:
         """The extension by itself checks its depth and the types of its arguments, too."""
         for depth in (1001, 2**32 - 1, 2**32 + 5, -1, 2**64 - 1):
             self.assertEqual(firthnapkin._parser.parse(b"{a" * 200000, depth, 2**32 - 1)[0], 8)
         self.assertEqual(firthnapkin._parser.parse(b"\xff", 200, 2**32 - 1)[0], 2)
+        for byte in (4, 2**32 - 1, 2**32, 2**64 - 1, -1):
+            self.assertEqual(firthnapkin._parser.excerpt(b"{a}", byte), (9, b"", b""))
         for arguments in ((), ("{a}", 5, 5), (None, 5, 5), (b"{a}", None, 5), (b"{a}", 1.5, 5), (b"{a}", 5, None), (b"{a}", 5),
                           (b"{a}", 5, 5, 5), (bytearray(b"{a}"), 5, 5)):  # fmt: skip
             with self.assertRaises(TypeError):
                 firthnapkin._parser.parse(*arguments)  # type: ignore[arg-type]
+        for arguments in ((), (b"{a}",), ("{a}", 1), (b"{a}", None), (b"{a}", 1.5), (b"{a}", 1, 1)):
+            with self.assertRaises(TypeError):
+                firthnapkin._parser.excerpt(*arguments)  # type: ignore[arg-type]
 
     def test_memory(self) -> None:
         """The process goes on after memory has run out."""

@@ -156,9 +156,10 @@ class Nodes(unittest.TestCase):
         self.assertEqual(found, [True] * 80)
 
     def test_other_threads_go_on(self) -> None:
-        """While a long text is parsed, another thread never waits for as long as half of that time."""
+        """While a long text is parsed or shown, another thread never waits for as long as half of that time."""
         text = ("{" + "a " * 1000000 + "}").encode()
-        self.assertLess(longest_wait(lambda: firthnapkin._parser.parse(text, 200, 2**32 - 1)), 0.5)
+        for call in (lambda: firthnapkin._parser.parse(text, 200, 2**32 - 1), lambda: firthnapkin._parser.excerpt(text, 1000000)):
+            self.assertLess(longest_wait(call), 0.5)
 
 
 class Visits(unittest.TestCase):

@@ -27,44 +27,44 @@ class Errors(unittest.TestCase):
     def test_kinds(self) -> None:
         """Each kind and each detail, with its message, its character and both its positions."""
         for text, kind, detail, character, start, end, told in [
-            ("{\n  a )\n}", ErrorKind.UNEXPECTED_TOKEN, ErrorDetail.NONE, None, (6, 1, 4, 6), (7, 1, 5, 7), 'Unexpected ")". At 1:4'),
-            ("{ a: }", ErrorKind.UNEXPECTED_TOKEN, ErrorDetail.NONE, None, (5, 0, 5, 5), (6, 0, 6, 6), 'Unexpected "}". At 0:5'),
+            ("{\n  a )\n}", ErrorKind.UNEXPECTED_TOKEN, ErrorDetail.NONE, None, (6, 1, 4, 6), (7, 1, 5, 7), 'Unexpected ")". At 2:5'),
+            ("{ a: }", ErrorKind.UNEXPECTED_TOKEN, ErrorDetail.NONE, None, (5, 0, 5, 5), (6, 0, 6, 6), 'Unexpected "}". At 1:6'),
             ("{ ... on on }", ErrorKind.UNEXPECTED_TOKEN, ErrorDetail.NONE, None, (12, 0, 12, 12), (13, 0, 13, 13),
-             'Unexpected "}". At 0:12'),
+             'Unexpected "}". At 1:13'),
             ("query name name", ErrorKind.UNEXPECTED_TOKEN, ErrorDetail.NONE, None, (11, 0, 11, 11), (15, 0, 15, 15),
-             'Unexpected "name". At 0:11'),
+             'Unexpected "name". At 1:12'),
             ('{ "a. At b" }', ErrorKind.UNEXPECTED_TOKEN, ErrorDetail.NONE, None, (2, 0, 2, 2), (11, 0, 11, 11),
-             'Unexpected ""a. At b"". At 0:2'),
-            ("", ErrorKind.UNEXPECTED_END, ErrorDetail.NONE, None, (0, 0, 0, 0), (0, 0, 0, 0), "Unexpected end of input. At 0:0"),
+             'Unexpected ""a. At b"". At 1:3'),
+            ("", ErrorKind.UNEXPECTED_END, ErrorDetail.NONE, None, (0, 0, 0, 0), (0, 0, 0, 0), "Unexpected end of input. At 1:1"),
             ("#é\n{ a", ErrorKind.UNEXPECTED_END, ErrorDetail.NONE, None, (6, 1, 3, 7), (6, 1, 3, 7),
-             "Unexpected end of input. At 1:3"),
-            ("{ é }", ErrorKind.LEXICAL, ErrorDetail.UNKNOWN_CHARACTER, "é", (2, 0, 2, 2), (2, 0, 2, 2), 'Unknown character "é". At 0:2'),
-            ("{ ш }", ErrorKind.LEXICAL, ErrorDetail.UNKNOWN_CHARACTER, "ш", (2, 0, 2, 2), (2, 0, 2, 2), 'Unknown character "ш". At 0:2'),
-            ("{ 𝄞 }", ErrorKind.LEXICAL, ErrorDetail.UNKNOWN_CHARACTER, "𝄞", (2, 0, 2, 2), (2, 0, 2, 2), 'Unknown character "𝄞". At 0:2'),
+             "Unexpected end of input. At 2:4"),
+            ("{ é }", ErrorKind.LEXICAL, ErrorDetail.UNKNOWN_CHARACTER, "é", (2, 0, 2, 2), (2, 0, 2, 2), 'Unknown character "é". At 1:3'),
+            ("{ ш }", ErrorKind.LEXICAL, ErrorDetail.UNKNOWN_CHARACTER, "ш", (2, 0, 2, 2), (2, 0, 2, 2), 'Unknown character "ш". At 1:3'),
+            ("{ 𝄞 }", ErrorKind.LEXICAL, ErrorDetail.UNKNOWN_CHARACTER, "𝄞", (2, 0, 2, 2), (2, 0, 2, 2), 'Unknown character "𝄞". At 1:3'),
             ("{ .a }", ErrorKind.LEXICAL, ErrorDetail.UNEXPECTED_CHARACTER, ".", (2, 0, 2, 2), (2, 0, 2, 2),
-             'Unexpected character ".". At 0:2'),
+             'Unexpected character ".". At 1:3'),
             ('{a(b:"c', ErrorKind.LEXICAL, ErrorDetail.UNTERMINATED_STRING, None, (7, 0, 7, 7), (7, 0, 7, 7),
-             "Unterminated string literal. At 0:7"),
+             "Unterminated string literal. At 1:8"),
             ('{a(b:"\x01")}', ErrorKind.LEXICAL, ErrorDetail.UNKNOWN_CHARACTER_IN_STRING, "\x01", (6, 0, 6, 6), (6, 0, 6, 6),
-             'Unknown character "\x01" in string literal. At 0:6'),
+             'Unknown character "\x01" in string literal. At 1:7'),
             ('{a(b:"\x00")}', ErrorKind.LEXICAL, ErrorDetail.UNKNOWN_CHARACTER_IN_STRING, "\x00", (6, 0, 6, 6), (6, 0, 6, 6),
-             'Unknown character "\x00" in string literal. At 0:6'),
+             'Unknown character "\x00" in string literal. At 1:7'),
             ('{a(b:"\\q")}', ErrorKind.LEXICAL, ErrorDetail.UNKNOWN_ESCAPE, None, (7, 0, 7, 7), (7, 0, 7, 7),
-             'Unknown escape sequence "\\q" in string. At 0:7'),
+             'Unknown escape sequence "\\q" in string. At 1:8'),
             ("{a(b:-", ErrorKind.LEXICAL, ErrorDetail.UNEXPECTED_END_IN_TOKEN, None, (6, 0, 6, 6), (6, 0, 6, 6),
-             "Unexpected end of input. At 0:6"),
+             "Unexpected end of input. At 1:7"),
         ]:  # fmt: skip
             with self.subTest(text=text):
                 error = error_of(text)
                 self.assertEqual((error.kind, error.detail, error.character), (kind, detail, character))
                 self.assertEqual((error.start, error.end, str(error)), (Position(*start), Position(*end), told))
                 self.assertEqual((error.message, error.source), (told.rpartition(". At ")[0], text))
-                self.assertEqual((error.line, error.column, error.lineno, error.colno),
-                                 (start[1], start[2], start[1] + 1, start[2] + 1))  # fmt: skip
+                self.assertEqual((error.line, error.column), (start[1] + 1, start[2] + 1))
+                self.assertEqual((error.lineno, error.colno), (start[1] + 1, start[2] + 1))
 
     def test_depth(self) -> None:
         error = error_of("{a{b}}", depth=1)
-        self.assertEqual((error.kind, str(error)), (ErrorKind.TOO_DEEP, "Too deeply nested. At 0:2"))
+        self.assertEqual((error.kind, str(error)), (ErrorKind.TOO_DEEP, "Too deeply nested. At 1:3"))
         self.assertEqual((error.start, error.end), (Position(2, 0, 2, 2), Position(3, 0, 3, 3)))
         self.assertEqual(error_of("{a" * 201).start, Position(400, 0, 400, 400))
         parse("{a" * 200 + "}" * 200)
@@ -73,13 +73,13 @@ class Errors(unittest.TestCase):
         """Messages of lengths around the sizes of the buffers that are tried."""
         for length in (1, 200, 243, 244, 245, 255, 256, 257, 5000):
             name = "n" * length
-            self.assertEqual(str(error_of("query a " + name)), f'Unexpected "{name}". At 0:8')
+            self.assertEqual(str(error_of("query a " + name)), f'Unexpected "{name}". At 1:9')
 
     def test_lone_surrogates(self) -> None:
         for text, start, told in [
-            ("\ud800", (0, 0, 0, 0), "Lone surrogate U+D800. At 0:0"),
-            ("{é\n a(b: \"\udfff\") }", (10, 1, 7, 11), "Lone surrogate U+DFFF. At 1:7"),
-            ("} \udc00 \ud800", (2, 0, 2, 2), "Lone surrogate U+DC00. At 0:2"),
+            ("\ud800", (0, 0, 0, 0), "Lone surrogate U+D800. At 1:1"),
+            ("{é\n a(b: \"\udfff\") }", (10, 1, 7, 11), "Lone surrogate U+DFFF. At 2:8"),
+            ("} \udc00 \ud800", (2, 0, 2, 2), "Lone surrogate U+DC00. At 1:3"),
         ]:  # fmt: skip
             error = error_of(text)
             index, line, column, byte = start
@@ -90,7 +90,7 @@ class Errors(unittest.TestCase):
 
     def test_utf16_column(self) -> None:
         error = error_of("{\n a(b: \"𝄞éм\uffee\") ) }")
-        self.assertEqual((error.column, error.utf16_column), (14, 15))
+        self.assertEqual((error.start.column, error.utf16_column), (14, 15))
         self.assertEqual(error_of("# 𝄞\n )").utf16_column, 1)
 
 
@@ -113,30 +113,90 @@ class Copies(unittest.TestCase):
         self.assertEqual(parts(raised.exception), parts(error_of("{ a ) }")))
 
 
+class Schemas(unittest.TestCase):
+    def test_definitions(self) -> None:
+        """The message says of the first token of a schema's definition what it is, and the position is that token's."""
+        for word in "type schema extend directive scalar interface union enum input".split():
+            for before in ("", "# A\n", "\ufeff, ", "{ a }\n", "fragment F on T { a } query Q { b(c: {d: 1}) } "):
+                with self.subTest(word=word, before=before):
+                    error = error_of(f"{before}{word} A {{ b: C }}")
+                    self.assertEqual(error.message, f'Unexpected "{word}": this is a schema\'s definition, not a request\'s')
+                    self.assertEqual((error.kind, error.start.index, error.is_schema), (ErrorKind.UNEXPECTED_TOKEN, len(before), True))
+        for written in ('"A"', '"""A\n B"""'):
+            error = error_of(f"{{ a }} {written} type A {{ b: C }}")
+            self.assertEqual(error.message, f'Unexpected "{written}": this is a schema\'s definition, not a request\'s')
+
+    def test_other_errors(self) -> None:
+        """The same words elsewhere, and other words, are no schema."""
+        for text, word in [
+            ("query Q type { a }", "type"),
+            ("query ($a: A) type { a }", "type"),
+            ("fragment F type A { a }", "type"),
+            ("fragment F on T type { a }", "type"),
+            ("{ a(b: 1 2) } type A", "2"),
+            ("{ a } types A", "types"),
+            ("{ a } Type A", "Type"),
+            ("{ a } 1 type", "1"),
+            ("{ a } } type", "}"),
+            ('{ "a" }', '"a"'),
+            ('query Q "a" { a }', '"a"'),
+        ]:
+            self.assertEqual((error_of(text).message, error_of(text).is_schema), (f'Unexpected "{word}"', False))
+        for most in (0, 1):
+            error = error_of("type A {{", max_tokens=most)
+            self.assertEqual((error.message, error.is_schema), ("Too many tokens", False))
+        self.assertEqual(error_of('type A "', max_tokens=5).kind, ErrorKind.LEXICAL)
+        parse("{ type { schema(input: enum) } } query type { extend } fragment enum on union { scalar }")
+
+    def test_depths(self) -> None:
+        """What comes before may be nested as deep as any document, and may have half of a surrogate pair in an error made by hand."""
+        error = FirthnapkinError("", ErrorKind.UNEXPECTED_TOKEN, Position(2, 0, 2, 4), Position(6, 0, 6, 8), "\ud800 type A")
+        self.assertIs(error.is_schema, False)
+        self.assertIn("schema", error_of("{a" * 1000 + "}" * 1000 + "type A", depth=1000).message)
+
+
 class Excerpts(unittest.TestCase):
     def test_short(self) -> None:
-        self.assertEqual(error_of("{ }").excerpt, "GraphQL request:1:3\n1 | { }\n  |   ^")
-        self.assertEqual(
-            error_of("{\n  a )\n}").excerpt, "GraphQL request:2:5\n1 | {\n2 |   a )\n  |     ^\n3 | }"
-        )
-        self.assertEqual(error_of("").excerpt, "GraphQL request:1:1\n1 |\n  | ^")
+        self.assertEqual(error_of("{ }").excerpt, "1 | { }\n  |   ^")
+        self.assertEqual(error_of("{\n  a )\n}").excerpt, "1 | {\n2 |   a )\n  |     ^\n3 | }")
+        self.assertEqual(error_of("").excerpt, "1 |\n  | ^")
 
     def test_numbers_of_two_digits(self) -> None:
         text = "\n" * 8 + "{\n)\n\n}"
-        self.assertEqual(error_of(text).excerpt, "GraphQL request:10:1\n 9 | {\n10 | )\n   | ^\n11 |")
+        self.assertEqual(error_of(text).excerpt, " 9 | {\n10 | )\n   | ^\n11 |")
 
     def test_ends_of_lines(self) -> None:
-        self.assertEqual(error_of("{\r\n\ra )").excerpt, "GraphQL request:3:3\n2 |\n3 | a )\n  |   ^")
+        """Lines are those of positions, and end at line feeds alone. A carriage return before one isn't shown."""
+        self.assertEqual(error_of("{\r\n\ra )\r\n}").excerpt, "1 | {\n2 |  a )\n  |    ^\n3 | }")
 
     def test_at_the_end_of_a_line(self) -> None:
-        self.assertEqual(error_of('{a(b:"c\n)}').excerpt, 'GraphQL request:1:8\n1 | {a(b:"c\n  |        ^\n2 | )}')
+        self.assertEqual(error_of('{a(b:"c\n)}').excerpt, '1 | {a(b:"c\n  |        ^\n2 | )}')
 
     def test_long_lines(self) -> None:
-        """A line of more than 120 characters is cut into pieces of 80, and ends one piece after the caret."""
+        """Of a line of more than 120 characters the 80 from 40 before the column are shown."""
         text = "{ " + "abcdefg " * 20 + ")" + " x" * 60
-        pieces = [text[i : i + 80] for i in range(0, len(text), 80)]
         self.assertEqual(text.index(")"), 162)
-        self.assertEqual(
-            error_of(text).excerpt,
-            f"GraphQL request:1:163\n1 | {pieces[0]}\n  | {pieces[1]}\n  | {pieces[2]}\n  |   ^\n  | {pieces[3]}",
-        )
+        self.assertEqual(error_of(text).excerpt, f"1 | {text[122:202]}\n  | {' ' * 40}^")
+
+    def test_beyond_ascii(self) -> None:
+        self.assertEqual(error_of("# мир 𝄞\n𝄞é ").excerpt, "1 | # мир 𝄞\n2 | 𝄞é \n  | ^")
+        self.assertEqual(error_of('{ a(b: "𝄞é") ) }').excerpt, '1 | { a(b: "𝄞é") ) }\n  |              ^')
+
+    def test_lone_surrogates(self) -> None:
+        """Each is shown as a question mark, and the caret is below the first."""
+        self.assertEqual(error_of("{ é\n\udfff a \ud800 }\n𝄞").excerpt, "1 | { é\n2 | ? a ? }\n  | ^\n3 | 𝄞")
+
+    def test_errors_of_other_texts(self) -> None:
+        """An error that is made by hand has an excerpt, whatever its position."""
+        nowhere = Position(0, 0, 0, 0)
+        for index, wanted in ((0, "1 | {é}\n  | ^"), (2, "1 | {é}\n  |   ^"), (3, "1 | {é}\n  |    ^"), (10**9, "1 | {é}\n  |    ^")):
+            error = FirthnapkinError("", ErrorKind.LEXICAL, Position(index, 2**31, 2**31, 10**30), nowhere, "{é}")
+            self.assertEqual(error.excerpt, wanted)
+        for index in (-1, -5, -(10**30)):
+            self.assertIn("{é}", FirthnapkinError("", ErrorKind.LEXICAL, Position(index, 0, 0, -1), nowhere, "{é}").excerpt)
+
+    def test_long_texts(self) -> None:
+        """An excerpt of a text of 20 MB has two of its lines."""
+        error = error_of("# " + "é" * 10**7 + "\n{ ) }")
+        self.assertEqual(error.excerpt.split("\n")[1:], ["2 | { ) }", "  |   ^"])
+        self.assertLess(len(error.excerpt), 200)

@@ -13,7 +13,7 @@ from contextlib import ExitStack, contextmanager
 from typing import Any, Iterator, List, Tuple
 from unittest import mock
 
-from helpers import resident
+from helpers import process, resident
 from graphql_texts import WHOLE, answer, extension, made_texts, row_texts  # skips where graphql-core 3.2 is not installed
 
 import graphql
@@ -164,6 +164,38 @@ class TooMany(unittest.TestCase):
         for _ in range(20):
             self.refused(text, 400_000, 799_999)
         self.assertLess(resident() - before, 2**26)
+
+    @unittest.skipUnless(os.path.exists("/proc/self/statm"), "no /proc")
+    def test_nothing_is_left_of_comments(self) -> None:
+        """The same where comments may count, by which a text is read again: in a process that has freed nothing before."""
+        found = process(
+            "from firthnapkin import graphql_core\n"
+            "from graphql import GraphQLSyntaxError\n"
+            "from helpers import resident\n"
+            "for i in range(60_000):\n"
+            "    if i == 1_000: before = resident()\n"
+            "    try: graphql_core.parse('{ a #\\n b }', max_tokens=2)\n"
+            "    except GraphQLSyntaxError: pass\n"
+            "    else: raise AssertionError\n"
+            "small = resident() - before\n"
+            "text = '{' + 'a ' * 100_000 + '} ####'\n"
+            "for i in range(20):\n"
+            "    if i == 2: before = resident()\n"
+            f"    graphql_core.parse(text, max_tokens=100_002 + {COMMENT})\n"
+            "print(small < 2**23, resident() - before < 2**25)\n"
+        )
+        self.assertEqual((found.stdout, found.stderr), (b"True True\n", b""))
+
+    def test_number_signs(self) -> None:
+        """Those in strings and in comments begin no comment, however many there are."""
+        for text in ('{ a(b: "####", c: """##""") } #', "{ a } ####", '{ a # "#\n (b: "#") #', "#{\n#\n{ a }"):
+            places = counts(text)
+            total = places[-1][1]
+            with nobody_else():
+                for most in range(total):
+                    self.refused(text, most, next(start for start, count in places if count > most))
+            for most in (total, total + 1, total + 9, 2**32 - 1):
+                self.assertEqual(answer(graphql_core.parse, text, max_tokens=most), answer(own_parse, text))
 
     def test_want_of_memory(self) -> None:
         for end in ("", "#"):

@@ -127,7 +127,7 @@ class Errors(unittest.TestCase):
                     self.assertEqual((error.kind, error.detail, error.character), (ErrorKind.LEXICAL, detail, character))
                     self.assertEqual((error.start, error.end), (position_at(text, index), position_at(text, index)))
                     self.assertEqual((error.message, error.source), (message, text))
-                    self.assertEqual(str(error), f"{message}. At {error.start.line}:{error.start.column}")
+                    self.assertEqual(str(error), f"{message}. At {error.start.line + 1}:{error.start.column + 1}")
 
     def test_long_words(self) -> None:
         for length in (1, 200, 255, 256, 257, 5000):
@@ -216,7 +216,7 @@ class Processes(unittest.TestCase):
             found.extend((len(tokens("{a" * 100000)), canonical("{ a " * 5), error_of(canonical, "{" * 9 + "?").column))
 
         on_stack(64 * 1024, work)
-        self.assertEqual(found, [200001, "{a{a{a{a{a", 9])
+        self.assertEqual(found, [200001, "{a{a{a{a{a", 10])
 
     def test_threads(self) -> None:
         found = in_threads(lambda: ([(it.kind, it.text, it.end) for it in tokens(WHOLE * 50)], canonical(WHOLE * 50)), 10)

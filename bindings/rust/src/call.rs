@@ -2,6 +2,7 @@
 
 use crate::document::{Document, Position, RawNode};
 use crate::error::{Error, ErrorDetail, ErrorKind, SyntaxError};
+use crate::lexer::{RawToken, Tokens};
 use crate::{stack, Limits, MAX_DEPTH};
 
 const OK: u32 = 0;
@@ -10,6 +11,15 @@ const TOO_DEEP: u32 = 4;
 const TOO_MANY_TOKENS: u32 = 5;
 const BUFFER_TOO_SMALL: u32 = 6;
 const SOURCE_TOO_LONG: u32 = 7;
+const INVALID_LIMIT: u32 = 8;
+
+#[repr(C)]
+#[derive(Clone, Copy)]
+struct RawLimits {
+    depth: u32,
+    tokens: u32,
+    reserved: [u32; 6],
+}
 
 #[repr(C)]
 #[derive(Clone, Copy, Default)]
@@ -19,13 +29,18 @@ struct RawError {
     character: u32,
     start: Position,
     end: Position,
+    text_start: u32,
+    text_end: u32,
 }
+
+/// A call that writes words on an error into a buffer.
+type Words = unsafe extern "C" fn(*const u8, usize, *const RawError, *mut u8, usize, *mut usize) -> u32;
 
 extern "C" {
     fn firthnapkin_parse(
         source: *const u8,
         length: usize,
-        depth: u32,
+        limits: *const RawLimits,
         nodes: *mut RawNode,
         nodes_capacity: usize,
         nodes_length: *mut usize,
@@ -35,15 +50,41 @@ extern "C" {
         error: *mut RawError,
     ) -> u32;
 
-    fn firthnapkin_count(source: *const u8, length: usize, max_tokens: u32, error: *mut RawError) -> u32;
-
     fn firthnapkin_message(
         source: *const u8,
         length: usize,
-        depth: u32,
+        error: *const RawError,
         buffer: *mut u8,
         buffer_capacity: usize,
         buffer_length: *mut usize,
+    ) -> u32;
+
+    fn firthnapkin_excerpt(
+        source: *const u8,
+        length: usize,
+        error: *const RawError,
+        buffer: *mut u8,
+        buffer_capacity: usize,
+        buffer_length: *mut usize,
+    ) -> u32;
+
+    fn firthnapkin_tokens(
+        source: *const u8,
+        length: usize,
+        max_tokens: u32,
+        tokens: *mut RawToken,
+        tokens_capacity: usize,
+        tokens_length: *mut usize,
+        error: *mut RawError,
+    ) -> u32;
+
+    fn firthnapkin_canonical(
+        source: *const u8,
+        length: usize,
+        buffer: *mut u8,
+        buffer_capacity: usize,
+        buffer_length: *mut usize,
+        error: *mut RawError,
     ) -> u32;
 }
 
@@ -52,42 +93,58 @@ pub fn parse(source: &str) -> Result<Document<'_>, Error> {
     parse_within(source, Limits::default())
 }
 
-/// The document that a source is, within these limits. A source with too many tokens is refused at the first one too many,
-/// before anything is built.
+/// The document that a source is, within these limits. The source is read once. One with too many tokens is refused at the
+/// first one too many, before anything is built; one with a depth above [`MAX_DEPTH`] is not read.
 pub fn parse_within(source: &str, limits: Limits) -> Result<Document<'_>, Error> {
     if limits.depth > MAX_DEPTH {
-        return Err(Error::InvalidDepth);
+        return Err(Error::InvalidLimit);
     }
-    let parse = || {
-        count(source, limits.tokens)?;
-        parse_here(source, limits.depth)
-    };
-    stack::with(limits.depth, parse).unwrap_or(Err(Error::OutOfMemory))
+    stack::with(limits.depth, || parse_here(source, limits)).unwrap_or(Err(Error::OutOfMemory))
 }
 
-/// An error where there are more tokens than that, on this thread's stack. No source has more than the largest number.
-fn count(source: &str, max_tokens: u32) -> Result<(), Error> {
-    if max_tokens == u32::MAX {
-        return Ok(());
-    }
-    let mut error = RawError::default();
-    // SAFETY: the source has as many bytes as its length says, and the stack is enough.
-    let status = unsafe { firthnapkin_count(source.as_ptr(), source.len(), max_tokens, &mut error) };
-    match status {
-        OK => Ok(()),
-        TOO_MANY_TOKENS => Err(told("Too many tokens".to_string(), error).into()),
-        _ => Err(failure(status)),
-    }
+/// The tokens of a source, the last of which is its end. White space, line ends, commas, comments and byte order marks are no
+/// tokens. The source may be a document or not; an error is at the first position that has no token.
+pub fn tokens(source: &str) -> Result<Tokens<'_>, Error> {
+    tokens_within(source, u32::MAX)
 }
 
-/// How many nodes are allocated for the first call, at most.
+/// The same of a source that may have no more than so many tokens, its end not counted. One with more is refused at the first one
+/// too many.
+pub fn tokens_within(source: &str, max_tokens: u32) -> Result<Tokens<'_>, Error> {
+    stack::with(0, || tokens_here(source, max_tokens)).unwrap_or(Err(Error::OutOfMemory))
+}
+
+/// The canonical text of a source, one for each query whatever its white space and comments: its tokens as they are written, with
+/// a space between two neighbours of which neither is a punctuator, and before `...` after a token that is no punctuator. The
+/// source may be a document or not; an error is at the first position that has no token.
+///
+/// ```
+/// assert_eq!(firthnapkin::canonical("{ a, b(c: 1) } # all")?, "{a b(c:1)}");
+/// # Ok::<(), firthnapkin::Error>(())
+/// ```
+pub fn canonical(source: &str) -> Result<String, Error> {
+    stack::with(0, || canonical_here(source)).unwrap_or(Err(Error::OutOfMemory))
+}
+
+/// The lines around a byte of a source; nothing where it is within a character or after the end, or memory ran out.
+pub(crate) fn excerpt(source: &str, byte: u32) -> Option<String> {
+    let error = RawError { start: Position { byte, ..Position::default() }, ..RawError::default() };
+    stack::with(0, || words(firthnapkin_excerpt, source, &error)).ok()?.ok()
+}
+
+/// How many nodes or tokens are allocated for the first call, at most.
 const MOST_AT_FIRST: usize = 1 << 22;
 
-/// The same on this thread's stack. Few sources have more nodes than one for four bytes; for others, and for the largest, the
-/// second call has the capacity that the first returns. Memory that is not written to costs nothing.
-fn parse_here(source: &str, depth: u32) -> Result<Document<'_>, Error> {
-    let first = (source.len() / 4).min(MOST_AT_FIRST);
-    let (mut nodes_length, mut texts_length) = (first + 16, first + 64);
+/// How many nodes or tokens are allocated for the first call. Few sources have more than one for four bytes; for others, and for
+/// the largest, the second call has the capacity that the first returns. Memory that is not written to costs nothing.
+fn at_first(source: &str) -> usize {
+    (source.len() / 4).min(MOST_AT_FIRST)
+}
+
+/// A parse on this thread's stack.
+fn parse_here(source: &str, limits: Limits) -> Result<Document<'_>, Error> {
+    let limits = RawLimits { depth: limits.depth, tokens: limits.tokens, reserved: [0; 6] };
+    let (mut nodes_length, mut texts_length) = (at_first(source) + 16, at_first(source) + 64);
     loop {
         let mut nodes: Vec<RawNode> = with_capacity(nodes_length)?;
         let mut texts: Vec<u8> = with_capacity(texts_length)?;
@@ -97,7 +154,7 @@ fn parse_here(source: &str, depth: u32) -> Result<Document<'_>, Error> {
             firthnapkin_parse(
                 source.as_ptr(),
                 source.len(),
-                depth,
+                &limits,
                 nodes.as_mut_ptr(),
                 nodes.capacity(),
                 &mut nodes_length,
@@ -107,21 +164,87 @@ fn parse_here(source: &str, depth: u32) -> Result<Document<'_>, Error> {
                 &mut error,
             )
         };
+        if status == OK {
+            // SAFETY: the call wrote that many.
+            unsafe {
+                nodes.set_len(nodes_length);
+                texts.set_len(texts_length);
+            }
+            return Ok(Document::new(source, nodes, text_of(texts)));
+        }
+        refused(status, source, &error)?;
+    }
+}
+
+/// A call of `tokens` on this thread's stack.
+fn tokens_here(source: &str, max_tokens: u32) -> Result<Tokens<'_>, Error> {
+    let mut length = at_first(source) + 16;
+    loop {
+        let mut tokens: Vec<RawToken> = with_capacity(length)?;
+        let mut error = RawError::default();
+        // SAFETY: as above.
+        let status = unsafe {
+            firthnapkin_tokens(
+                source.as_ptr(),
+                source.len(),
+                max_tokens,
+                tokens.as_mut_ptr(),
+                tokens.capacity(),
+                &mut length,
+                &mut error,
+            )
+        };
+        if status == OK {
+            // SAFETY: the call wrote that many.
+            unsafe { tokens.set_len(length) };
+            return Ok(Tokens::new(source, tokens));
+        }
+        refused(status, source, &error)?;
+    }
+}
+
+/// A call of `canonical` on this thread's stack. The text is seldom longer than the source.
+fn canonical_here(source: &str) -> Result<String, Error> {
+    let mut length = source.len();
+    loop {
+        let mut text: Vec<u8> = with_capacity(length)?;
+        let mut error = RawError::default();
+        let (buffer, capacity) = (text.as_mut_ptr(), text.capacity());
+        // SAFETY: as above.
+        let status =
+            unsafe { firthnapkin_canonical(source.as_ptr(), source.len(), buffer, capacity, &mut length, &mut error) };
+        if status == OK {
+            // SAFETY: the call wrote that many.
+            unsafe { text.set_len(length) };
+            return Ok(text_of(text));
+        }
+        refused(status, source, &error)?;
+    }
+}
+
+/// What a call writes on an error, on this thread's stack.
+fn words(call: Words, source: &str, error: &RawError) -> Result<String, Error> {
+    let mut length = 256;
+    loop {
+        let mut words: Vec<u8> = with_capacity(length)?;
+        // SAFETY: as above.
+        let status =
+            unsafe { call(source.as_ptr(), source.len(), error, words.as_mut_ptr(), words.capacity(), &mut length) };
         match status {
             OK => {
                 // SAFETY: the call wrote that many.
-                unsafe {
-                    nodes.set_len(nodes_length);
-                    texts.set_len(texts_length);
-                }
-                let texts = String::from_utf8(texts).expect("the texts of a document are UTF-8");
-                return Ok(Document::new(source, nodes, texts));
+                unsafe { words.set_len(length) };
+                return Ok(text_of(words));
             }
             BUFFER_TOO_SMALL => {}
-            SYNTAX_ERROR | TOO_DEEP => return Err(error_of(source, depth, error)?.into()),
             _ => return Err(failure(status)),
         }
     }
+}
+
+/// What the library writes is UTF-8.
+fn text_of(bytes: Vec<u8>) -> String {
+    String::from_utf8(bytes).expect("the library writes UTF-8")
 }
 
 /// A vector with this capacity, if there is memory.
@@ -131,44 +254,53 @@ fn with_capacity<T>(count: usize) -> Result<Vec<T>, Error> {
     Ok(items)
 }
 
+/// The error of a status; none where a buffer was too small.
+fn refused(status: u32, source: &str, error: &RawError) -> Result<(), Error> {
+    match status {
+        BUFFER_TOO_SMALL => Ok(()),
+        SYNTAX_ERROR | TOO_DEEP | TOO_MANY_TOKENS => Err(error_of(source, error)?.into()),
+        _ => Err(failure(status)),
+    }
+}
+
 /// A `str` is UTF-8, and the depth is no larger than the largest.
 fn failure(status: u32) -> Error {
     match status {
         SOURCE_TOO_LONG => Error::SourceTooLong,
+        INVALID_LIMIT => Error::InvalidLimit,
         _ => Error::OutOfMemory,
     }
 }
 
-fn error_of(source: &str, depth: u32, error: RawError) -> Result<SyntaxError, Error> {
-    let mut length = 256;
-    loop {
-        let mut words: Vec<u8> = with_capacity(length)?;
-        // SAFETY: as above.
-        let status = unsafe {
-            firthnapkin_message(source.as_ptr(), source.len(), depth, words.as_mut_ptr(), words.capacity(), &mut length)
-        };
-        match status {
-            SYNTAX_ERROR | TOO_DEEP => {
-                // SAFETY: the call wrote that many.
-                unsafe { words.set_len(length) };
-                let mut message = String::from_utf8(words).expect("the words of an error are UTF-8");
-                message.truncate(message.rfind(". At ").unwrap_or(message.len()));
-                return Ok(told(message, error));
-            }
-            BUFFER_TOO_SMALL => {}
-            _ => return Err(failure(status)),
-        }
+fn error_of(source: &str, error: &RawError) -> Result<SyntaxError, Error> {
+    let mut message = words(firthnapkin_message, source, error)?;
+    let kind = ErrorKind::of(error.kind);
+    if kind == ErrorKind::UnexpectedToken && begins_schema(source, error.start.byte as usize, error.end.byte as usize) {
+        message.push_str(": this is a schema's definition, not a request's");
     }
-}
-
-fn told(message: String, error: RawError) -> SyntaxError {
-    SyntaxError {
+    Ok(SyntaxError {
         message,
-        kind: ErrorKind::of(error.kind),
+        kind,
         detail: ErrorDetail::of(error.detail, error.character),
         start: error.start,
         end: error.end,
+    })
+}
+
+/// The words with which a definition of a type system document begins. A description is a String.
+const SCHEMA_WORDS: [&str; 9] =
+    ["type", "schema", "extend", "directive", "scalar", "interface", "union", "enum", "input"];
+
+/// Whether an unexpected token, from one byte to another, begins a definition of a schema, or its description: where what is
+/// before it is a document, or has no tokens.
+fn begins_schema(source: &str, start: usize, end: usize) -> bool {
+    let token = &source[start..end];
+    if !SCHEMA_WORDS.contains(&token) && !token.starts_with('"') {
+        return false;
     }
+    let before = &source[..start];
+    parse_within(before, Limits { depth: MAX_DEPTH, ..Limits::default() }).is_ok()
+        || canonical(before).is_ok_and(|text| text.is_empty())
 }
 
 #[cfg(test)]

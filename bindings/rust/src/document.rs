@@ -1,5 +1,6 @@
 //! A document's nodes.
 
+use crate::call;
 use std::fmt;
 
 /// The kind of a node.
@@ -58,7 +59,8 @@ const KINDS: [Kind; 26] = {
     ]
 };
 
-/// The number of characters of the source, of line feeds, of characters of the line, and of bytes before a position.
+/// The number of characters of the source, of line feeds, of characters of the line, and of bytes before a position: each is
+/// counted from 0.
 #[repr(C)]
 #[derive(Clone, Copy, Debug, Default, PartialEq, Eq, PartialOrd, Ord, Hash)]
 pub struct Position {
@@ -82,10 +84,10 @@ pub(crate) struct RawNode {
     value_length: u32,
 }
 
-/// What a scalar means; a type without spaces; the name of an enum or a variable; a fragment's type condition.
+/// What the scalar of a node means; a type without spaces; the name of an enum or a variable; a fragment's type condition.
 #[derive(Clone, Copy, Debug, PartialEq, Eq)]
 #[non_exhaustive]
-pub enum Value<'d> {
+pub enum NodeValue<'d> {
     /// No such node.
     Nothing,
     Int(i32),
@@ -95,7 +97,7 @@ pub enum Value<'d> {
     Number(&'d str),
 }
 
-/// A document's nodes, each part before the parts in it.
+/// A document: its parts by their names, and its nodes, each part before the parts in it.
 #[derive(Clone)]
 pub struct Document<'a> {
     source: &'a str,
@@ -133,7 +135,7 @@ impl<'a> Document<'a> {
         (0..self.nodes.len()).map(move |index| Node { document: self, index })
     }
 
-    /// The operations and fragments.
+    /// The nodes of the operations and fragments.
     pub fn definitions(&self) -> Children<'_, 'a> {
         Children { document: self, index: 0, end: self.nodes.len() }
     }
@@ -145,7 +147,7 @@ impl fmt::Debug for Document<'_> {
     }
 }
 
-/// A part of a document. Its names and texts borrow from the source, and so may be kept after the document is dropped:
+/// A part of a document, as the library writes it. Its names and texts borrow from the source, and so may be kept after the document is dropped:
 ///
 /// ```
 /// let source = "{ user { name } }".to_string();
@@ -229,18 +231,62 @@ impl<'d, 'a> Node<'d, 'a> {
         }
     }
 
-    pub fn value(&self) -> Value<'d> {
+    pub fn value(&self) -> NodeValue<'d> {
         let raw = self.raw();
-        let within = |text: &'d str| &text[raw.value as usize..raw.value as usize + raw.value_length as usize];
         match self.kind() {
-            Kind::Int => Value::Int(raw.value as i32),
-            Kind::Boolean => Value::Boolean(raw.value == 1),
-            Kind::LargeInt | Kind::Float => Value::Number(self.text()),
-            Kind::String | Kind::BlockString | Kind::Type => Value::Text(within(&self.document.texts)),
-            Kind::FragmentDefinition => Value::Text(within(self.document.source)),
-            Kind::Enum | Kind::Variable => self.name().map_or(Value::Nothing, Value::Text),
-            _ => Value::Nothing,
+            Kind::Int => NodeValue::Int(raw.value as i32),
+            Kind::Boolean => NodeValue::Boolean(self.is_true()),
+            Kind::LargeInt | Kind::Float => NodeValue::Number(self.text()),
+            Kind::String | Kind::BlockString | Kind::Type => NodeValue::Text(self.meaning()),
+            Kind::FragmentDefinition => NodeValue::Text(self.type_condition()),
+            Kind::Enum | Kind::Variable => self.name().map_or(NodeValue::Nothing, NodeValue::Text),
+            _ => NodeValue::Nothing,
         }
+    }
+
+    /// Whether a Boolean is true.
+    pub(crate) fn is_true(&self) -> bool {
+        self.raw().value == 1
+    }
+
+    /// What a string means, and a type without spaces.
+    pub(crate) fn meaning(&self) -> &'d str {
+        self.of_value(&self.document.texts)
+    }
+
+    /// The type condition of a fragment.
+    pub(crate) fn type_condition(&self) -> &'a str {
+        self.of_value(self.document.source)
+    }
+
+    /// The part of a text that the node's value is.
+    fn of_value<'t>(&self, text: &'t str) -> &'t str {
+        let start = self.raw().value as usize;
+        &text[start..start + self.raw().value_length as usize]
+    }
+
+    /// The text up to the end of what is in the node, if the node itself ends with its name.
+    pub(crate) fn whole_text(&self) -> &'a str {
+        let last = match self.kind() {
+            Kind::VariableDefinition | Kind::Argument => self.children().last().unwrap_or(*self),
+            _ => *self,
+        };
+        &self.document.source[self.raw().start.byte as usize..last.raw().end.byte as usize]
+    }
+
+    /// The line where it starts, counted from 1. Lines end at line feeds.
+    pub fn line(&self) -> u32 {
+        self.raw().start.line + 1
+    }
+
+    /// The column where it starts, in characters, counted from 1.
+    pub fn column(&self) -> u32 {
+        self.raw().start.column + 1
+    }
+
+    /// The lines around its start, as [`SyntaxError::excerpt`](crate::SyntaxError::excerpt) has them; nothing where memory ran out.
+    pub fn excerpt(&self) -> Option<String> {
+        call::excerpt(self.document.source, self.raw().start.byte)
     }
 
     /// The nodes of the parts in this one that are in no other part in it.

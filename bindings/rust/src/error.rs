@@ -1,5 +1,6 @@
 //! Why there is no document.
 
+use crate::call;
 use crate::document::Position;
 use crate::MAX_DEPTH;
 use std::fmt;
@@ -15,7 +16,7 @@ pub enum Error {
     /// The source has 4 GiB or more.
     SourceTooLong,
     /// The depth is above [`MAX_DEPTH`].
-    InvalidDepth,
+    InvalidLimit,
 }
 
 /// Why a source is no document within the limits, and where.
@@ -26,9 +27,37 @@ pub struct SyntaxError {
     pub kind: ErrorKind,
     /// Where the kind is [`ErrorKind::Lexical`].
     pub detail: Option<ErrorDetail>,
-    /// The positions of a token, or of zero width.
+    /// The positions of a token, or of zero width. Lines and columns are counted from 0.
     pub start: Position,
     pub end: Position,
+}
+
+impl SyntaxError {
+    /// The line, counted from 1. Lines end at line feeds.
+    pub fn line(&self) -> u32 {
+        self.start.line + 1
+    }
+
+    /// The column in characters, counted from 1.
+    pub fn column(&self) -> u32 {
+        self.start.column + 1
+    }
+
+    /// The lines around the error, numbered from 1, with a caret below its character, and no line feed at the end:
+    ///
+    /// ```
+    /// let source = "query {\n  a )\n}";
+    /// if let Err(firthnapkin::Error::Syntax(error)) = firthnapkin::parse(source) {
+    ///     let lines = ["1 | query {", "2 |   a )", "  |     ^", "3 | }"];
+    ///     assert_eq!(error.excerpt(source).unwrap(), lines.join("\n"));
+    /// }
+    /// ```
+    ///
+    /// The source is the one that has the error. Nothing where the error starts within a character of it or after its end, or
+    /// memory ran out.
+    pub fn excerpt(&self, source: &str) -> Option<String> {
+        call::excerpt(source, self.start.byte)
+    }
 }
 
 /// The kind of a [`SyntaxError`].
@@ -87,10 +116,10 @@ impl ErrorDetail {
     }
 }
 
-/// Writes the error and its line and column, both counted from 0, as `Unexpected ")". At 1:4`.
+/// Writes the error and its line and column, both counted from 1, as `Unexpected ")". At 2:5`.
 impl fmt::Display for SyntaxError {
     fn fmt(&self, f: &mut fmt::Formatter<'_>) -> fmt::Result {
-        write!(f, "{}. At {}:{}", self.message, self.start.line, self.start.column)
+        write!(f, "{}. At {}:{}", self.message, self.line(), self.column())
     }
 }
 
@@ -100,7 +129,7 @@ impl fmt::Display for Error {
             Error::Syntax(error) => error.fmt(f),
             Error::OutOfMemory => f.write_str("memory ran out"),
             Error::SourceTooLong => f.write_str("the source has 4 GiB or more"),
-            Error::InvalidDepth => write!(f, "the depth is above {MAX_DEPTH}"),
+            Error::InvalidLimit => write!(f, "the depth is above {MAX_DEPTH}"),
         }
     }
 }

@@ -2,19 +2,29 @@
 //!
 //! ```
 //! let document = firthnapkin::parse("{ user(id: 4) { name } }")?;
-//! let names: Vec<_> = document.nodes().filter_map(|node| node.name()).collect();
-//! assert_eq!(names, ["user", "id", "name"]);
+//! let operation = document.operation(None).unwrap();
+//! let user = operation.selections().next().unwrap().as_field().unwrap();
+//! assert_eq!(user.argument("id").unwrap().value(), firthnapkin::Value::Int(4));
 //! # Ok::<(), firthnapkin::Error>(())
 //! ```
 
 mod call;
 mod document;
 mod error;
+mod lexer;
+mod parts;
 mod stack;
+mod value;
 
-pub use call::{parse, parse_within};
-pub use document::{Children, Document, Kind, Node, Position, Value};
+pub use call::{canonical, parse, parse_within, tokens, tokens_within};
+pub use document::{Children, Document, Kind, Node, NodeValue, Position};
 pub use error::{Error, ErrorDetail, ErrorKind, SyntaxError};
+pub use lexer::{Token, TokenKind, Tokens};
+pub use parts::{
+    Argument, Directive, Field, Fragment, FragmentSpread, InlineFragment, Operation, OperationKind, Selection,
+    VariableDefinition,
+};
+pub use value::{Enum, List, Object, Value, Variable};
 
 /// How deep [`parse`] allows brackets to be nested.
 pub const DEFAULT_DEPTH: u32 = 200;
@@ -32,7 +42,7 @@ pub const MAX_DEPTH: u32 = 1000;
 pub struct Limits {
     /// How deep brackets may be nested: from 0 to [`MAX_DEPTH`].
     pub depth: u32,
-    /// How many tokens there may be.
+    /// How many tokens there may be, the end of the source not counted; [`u32::MAX`] is no limit.
     pub tokens: u32,
 }
 

@@ -1,7 +1,7 @@
 //! What the crate gives for sources and depths of every kind.
 
 use firthnapkin::{
-    parse, Document, Error, ErrorDetail, ErrorKind, Kind, Limits, Position, SyntaxError, Value, MAX_DEPTH,
+    parse, Document, Error, ErrorDetail, ErrorKind, Kind, Limits, NodeValue, Position, SyntaxError, MAX_DEPTH,
 };
 
 fn position(index: u32, line: u32, column: u32, byte: u32) -> Position {
@@ -23,6 +23,11 @@ fn error_of(source: &str, depth: u32) -> SyntaxError {
 fn lines(source: &str) -> String {
     match parse(source) {
         Ok(document) => document.nodes().map(line).collect::<Vec<_>>().join("\n"),
+        // gqlcheck counts from 0, and says nothing of schemas.
+        Err(Error::Syntax(error)) => {
+            let message = error.message.trim_end_matches(": this is a schema's definition, not a request's");
+            format!("{message}. At {}:{}", error.start.line, error.start.column)
+        }
         Err(error) => error.to_string(),
     }
 }
@@ -46,9 +51,9 @@ fn line(node: firthnapkin::Node) -> String {
     let word = word_of(kind);
     let named = |name: &str| format!("{word} {start} {end} {name}");
     match (kind, node.value(), node.name()) {
-        (Kind::Type, Value::Text(text), _) => named(text),
-        (Kind::FragmentDefinition, Value::Text(condition), Some(name)) => named(&format!("{name} {condition}")),
-        (_, Value::Int(_) | Value::Boolean(_) | Value::Number(_), _) => format!("scalar {start} {end}"),
+        (Kind::Type, NodeValue::Text(text), _) => named(text),
+        (Kind::FragmentDefinition, NodeValue::Text(condition), Some(name)) => named(&format!("{name} {condition}")),
+        (_, NodeValue::Int(_) | NodeValue::Boolean(_) | NodeValue::Number(_), _) => format!("scalar {start} {end}"),
         (Kind::String | Kind::BlockString, _, _) => format!("scalar {start} {end}"),
         (_, _, Some(name)) => named(name),
         _ => format!("{word} {start} {end}"),
@@ -80,22 +85,22 @@ fn rows() {
 fn values() {
     let nines = "9".repeat(5000);
     for (text, kind, value) in [
-        ("-7", Kind::Int, Value::Int(-7)),
-        ("-0", Kind::Int, Value::Int(0)),
-        ("-2147483648", Kind::Int, Value::Int(i32::MIN)),
-        ("2147483647", Kind::Int, Value::Int(i32::MAX)),
-        ("-2147483649", Kind::LargeInt, Value::Number("-2147483649")),
-        ("2147483648", Kind::LargeInt, Value::Number("2147483648")),
-        (&nines, Kind::LargeInt, Value::Number(&nines)),
-        ("-1.5", Kind::Float, Value::Number("-1.5")),
-        ("1e400", Kind::Float, Value::Number("1e400")),
-        ("true", Kind::Boolean, Value::Boolean(true)),
-        ("false", Kind::Boolean, Value::Boolean(false)),
-        ("null", Kind::Null, Value::Nothing),
-        (r#""\u00e9\n𝄞""#, Kind::String, Value::Text("é\n𝄞")),
-        ("\"\"\"\n  x\n \"\"\"", Kind::BlockString, Value::Text("x")),
-        ("E", Kind::Enum, Value::Text("E")),
-        ("$v", Kind::Variable, Value::Text("v")),
+        ("-7", Kind::Int, NodeValue::Int(-7)),
+        ("-0", Kind::Int, NodeValue::Int(0)),
+        ("-2147483648", Kind::Int, NodeValue::Int(i32::MIN)),
+        ("2147483647", Kind::Int, NodeValue::Int(i32::MAX)),
+        ("-2147483649", Kind::LargeInt, NodeValue::Number("-2147483649")),
+        ("2147483648", Kind::LargeInt, NodeValue::Number("2147483648")),
+        (&nines, Kind::LargeInt, NodeValue::Number(&nines)),
+        ("-1.5", Kind::Float, NodeValue::Number("-1.5")),
+        ("1e400", Kind::Float, NodeValue::Number("1e400")),
+        ("true", Kind::Boolean, NodeValue::Boolean(true)),
+        ("false", Kind::Boolean, NodeValue::Boolean(false)),
+        ("null", Kind::Null, NodeValue::Nothing),
+        (r#""\u00e9\n𝄞""#, Kind::String, NodeValue::Text("é\n𝄞")),
+        ("\"\"\"\n  x\n \"\"\"", Kind::BlockString, NodeValue::Text("x")),
+        ("E", Kind::Enum, NodeValue::Text("E")),
+        ("$v", Kind::Variable, NodeValue::Text("v")),
     ] {
         let source = format!("{{ a(b: {text}) }}");
         let document = parse(&source).unwrap();
@@ -114,10 +119,10 @@ fn documents() {
     assert_eq!(indexes(document.definitions()), [0, 11]);
     assert_eq!(indexes(document.node(0).unwrap().children()), [1, 4, 10]);
     assert_eq!(indexes(document.node(4).unwrap().children()), [5, 6, 9]);
-    assert_eq!(document.node(3).unwrap().value(), Value::Text("[T!]"));
-    assert_eq!(document.node(11).unwrap().value(), Value::Text("T"));
+    assert_eq!(document.node(3).unwrap().value(), NodeValue::Text("[T!]"));
+    assert_eq!(document.node(11).unwrap().value(), NodeValue::Text("T"));
     let last = document.nodes().next_back().unwrap();
-    assert_eq!((last.text(), last.value()), ("\"é𝄞\"", Value::Text("é𝄞")));
+    assert_eq!((last.text(), last.value()), ("\"é𝄞\"", NodeValue::Text("é𝄞")));
     assert_eq!((last.start(), last.end()), (position(75, 2, 23, 79), position(79, 2, 27, 87)));
     assert_eq!((document.len(), document.nodes().len(), document.is_empty()), (16, 16, false));
     assert_eq!(document.node(16), None);
@@ -162,16 +167,16 @@ fn errors() {
     let deep = "{a".repeat(201);
     let far = format!("#é{}{})", "\n".repeat(70_000), " ".repeat(70_001));
     for (source, kind, detail, start, end, told) in [
-        ("{\n  a )\n}", UnexpectedToken, None, (6, 1, 4, 6), (7, 1, 5, 7), "Unexpected \")\". At 1:4"),
-        ("", UnexpectedEnd, None, (0, 0, 0, 0), (0, 0, 0, 0), "Unexpected end of input. At 0:0"),
-        ("#é\n{ a", UnexpectedEnd, None, (6, 1, 3, 7), (6, 1, 3, 7), "Unexpected end of input. At 1:3"),
+        ("{\n  a )\n}", UnexpectedToken, None, (6, 1, 4, 6), (7, 1, 5, 7), "Unexpected \")\". At 2:5"),
+        ("", UnexpectedEnd, None, (0, 0, 0, 0), (0, 0, 0, 0), "Unexpected end of input. At 1:1"),
+        ("#é\n{ a", UnexpectedEnd, None, (6, 1, 3, 7), (6, 1, 3, 7), "Unexpected end of input. At 2:4"),
         (
             "{ é }",
             Lexical,
             Some(ErrorDetail::UnknownCharacter('é')),
             (2, 0, 2, 2),
             (2, 0, 2, 2),
-            "Unknown character \"é\". At 0:2",
+            "Unknown character \"é\". At 1:3",
         ),
         (
             "{ .a }",
@@ -179,7 +184,7 @@ fn errors() {
             Some(ErrorDetail::UnexpectedCharacter('.')),
             (2, 0, 2, 2),
             (2, 0, 2, 2),
-            "Unexpected character \".\". At 0:2",
+            "Unexpected character \".\". At 1:3",
         ),
         (
             "{a(b:\"c",
@@ -187,7 +192,7 @@ fn errors() {
             Some(ErrorDetail::UnterminatedString),
             (7, 0, 7, 7),
             (7, 0, 7, 7),
-            "Unterminated string literal. At 0:7",
+            "Unterminated string literal. At 1:8",
         ),
         (
             "{a(b:\"\0\")}",
@@ -195,7 +200,7 @@ fn errors() {
             Some(ErrorDetail::UnknownCharacterInString('\0')),
             (6, 0, 6, 6),
             (6, 0, 6, 6),
-            "Unknown character \"\0\" in string literal. At 0:6",
+            "Unknown character \"\0\" in string literal. At 1:7",
         ),
         (
             "{a(b:\"\\q\")}",
@@ -203,7 +208,7 @@ fn errors() {
             Some(ErrorDetail::UnknownEscape),
             (7, 0, 7, 7),
             (7, 0, 7, 7),
-            "Unknown escape sequence \"\\q\" in string. At 0:7",
+            "Unknown escape sequence \"\\q\" in string. At 1:8",
         ),
         (
             "{a(b:-",
@@ -211,18 +216,18 @@ fn errors() {
             Some(ErrorDetail::UnexpectedEndInToken),
             (6, 0, 6, 6),
             (6, 0, 6, 6),
-            "Unexpected end of input. At 0:6",
+            "Unexpected end of input. At 1:7",
         ),
-        (&deep, TooDeep, None, (400, 0, 400, 400), (401, 0, 401, 401), "Too deeply nested. At 0:400"),
+        (&deep, TooDeep, None, (400, 0, 400, 400), (401, 0, 401, 401), "Too deeply nested. At 1:401"),
         // A token may be written like the end of a message.
-        ("{ \"a. At b\" }", UnexpectedToken, None, (2, 0, 2, 2), (11, 0, 11, 11), "Unexpected \"\"a. At b\"\". At 0:2"),
+        ("{ \"a. At b\" }", UnexpectedToken, None, (2, 0, 2, 2), (11, 0, 11, 11), "Unexpected \"\"a. At b\"\". At 1:3"),
         (
             "{ \"a. At 1:1\" }",
             UnexpectedToken,
             None,
             (2, 0, 2, 2),
             (13, 0, 13, 13),
-            "Unexpected \"\"a. At 1:1\"\". At 0:2",
+            "Unexpected \"\"a. At 1:1\"\". At 1:3",
         ),
         // Indexes, lines, columns and bytes that 16 bits don't hold.
         (
@@ -231,21 +236,53 @@ fn errors() {
             None,
             (140_003, 70_000, 70_001, 140_004),
             (140_004, 70_000, 70_002, 140_005),
-            "Unexpected \")\". At 70000:70001",
+            "Unexpected \")\". At 70001:70002",
         ),
     ] {
         let error = error_of(source, 200);
         assert_eq!((error.kind, error.detail), (kind, detail), "{source}");
         let (a, b) = (position(start.0, start.1, start.2, start.3), position(end.0, end.1, end.2, end.3));
         assert_eq!((error.start, error.end, error.to_string()), (a, b, told.to_string()));
+        assert_eq!(
+            told.rsplit_once(". At ").map(|it| it.1.to_string()),
+            Some(format!("{}:{}", error.line(), error.column()))
+        );
         assert_eq!(Some(error.message.as_str()), told.rsplit_once(". At ").map(|it| it.0));
         let error: Box<dyn std::error::Error> = Box::new(Error::Syntax(error));
         assert_eq!(error.to_string(), told);
     }
     for length in [1, 200, 242, 243, 244, 255, 256, 257, 5000] {
         let name = "n".repeat(length);
-        assert_eq!(error_of(&format!("query a {name}"), 9).to_string(), format!("Unexpected \"{name}\". At 0:8"));
+        assert_eq!(error_of(&format!("query a {name}"), 9).to_string(), format!("Unexpected \"{name}\". At 1:9"));
     }
+}
+
+/// The first token of a schema's definition, or of its description, is an error that says so.
+#[test]
+fn schemas() {
+    let deepest = deep(MAX_DEPTH as usize);
+    for word in "type schema extend directive scalar interface union enum input \"text\" \"\"\"text\"\"\"".split(' ') {
+        for before in ["", "# é\n", "{ a } ", "fragment F on T { a }", deepest.as_str()] {
+            let error = error_of(&format!("{before}{word} A {{ b: C }}"), MAX_DEPTH);
+            let wanted = format!("Unexpected \"{word}\": this is a schema's definition, not a request's");
+            assert_eq!((error.message, error.start.byte as usize), (wanted, before.len()));
+        }
+    }
+    for (source, message) in [
+        ("query type type { a }", "Unexpected \"type\""),
+        ("{ a } b", "Unexpected \"b\""),
+        ("{ a } }", "Unexpected \"}\""),
+        ("{ a(b: ) type }", "Unexpected \")\""),
+        ("{ a \"b\" }", "Unexpected \"\"b\"\""),
+        ("query ($a: \"b\") { a }", "Unexpected \"\"b\"\""),
+    ] {
+        assert_eq!(error_of(source, 9).message, message);
+    }
+    match firthnapkin::parse_within("type A", Limits { depth: 5, tokens: 0 }) {
+        Err(Error::Syntax(error)) => assert_eq!(error.message, "Too many tokens"),
+        other => panic!("{other:?}"),
+    }
+    parse("{ type { schema(input: enum) } } query type { extend } fragment enum on union { scalar }").unwrap();
 }
 
 /// Characters of one to four bytes.
@@ -254,10 +291,10 @@ fn characters_of_errors() {
     for character in ['?', 'é', 'ж', '\u{ff}', '\u{100}', '\u{ffff}', '\u{10000}', '𝄞', '\u{10ffff}'] {
         let unknown = error_of(&format!("{{ {character} }}"), 9);
         assert_eq!(unknown.detail, Some(ErrorDetail::UnknownCharacter(character)));
-        assert_eq!(unknown.to_string(), format!("Unknown character \"{character}\". At 0:2"));
+        assert_eq!(unknown.to_string(), format!("Unknown character \"{character}\". At 1:3"));
         let unexpected = error_of(&format!("{{a(b:-{character}"), 9);
         assert_eq!(unexpected.detail, Some(ErrorDetail::UnexpectedCharacter(character)));
-        assert_eq!(unexpected.to_string(), format!("Unexpected character \"{character}\". At 0:6"));
+        assert_eq!(unexpected.to_string(), format!("Unexpected character \"{character}\". At 1:7"));
     }
 }
 
@@ -265,8 +302,8 @@ fn characters_of_errors() {
 fn words_of_errors() {
     assert_eq!(Error::OutOfMemory.to_string(), "memory ran out");
     assert_eq!(Error::SourceTooLong.to_string(), "the source has 4 GiB or more");
-    assert_eq!(Error::InvalidDepth.to_string(), "the depth is above 1000");
-    assert_eq!(Error::Syntax(error_of("{", 9)).to_string(), "Unexpected end of input. At 0:1");
+    assert_eq!(Error::InvalidLimit.to_string(), "the depth is above 1000");
+    assert_eq!(Error::Syntax(error_of("{", 9)).to_string(), "Unexpected end of input. At 1:2");
 }
 
 fn deep(depth: usize) -> String {
@@ -277,7 +314,7 @@ fn deep(depth: usize) -> String {
 fn depths() {
     for source in [deep(200_000).as_str(), "{a}", ""] {
         for depth in [MAX_DEPTH + 1, 1 << 31, u32::MAX, -1i32 as u32] {
-            assert!(matches!(parse_within(source, depth), Err(Error::InvalidDepth)));
+            assert!(matches!(parse_within(source, depth), Err(Error::InvalidLimit)));
         }
     }
     for depth in [0, 1, 2, 199, 200, MAX_DEPTH] {
@@ -304,7 +341,7 @@ fn tokens() {
         match within(source, tokens as u32) {
             Err(Error::Syntax(error)) => {
                 assert_eq!((error.kind, error.detail, error.start.index), (ErrorKind::TooManyTokens, None, start));
-                assert_eq!(error.to_string(), format!("Too many tokens. At 0:{start}"));
+                assert_eq!(error.to_string(), format!("Too many tokens. At 1:{}", start + 1));
             }
             other => panic!("{tokens} tokens: {other:?}"),
         }
@@ -339,7 +376,7 @@ fn sources() {
     assert_eq!((document.len(), document.node(0).unwrap().end().byte), ((1 << 20) + 1, (1 << 26) + 2));
     assert_eq!(error_of(&format!("{{{}", "a".repeat(1 << 26)), 9).start.byte, (1 << 26) + 1);
     let strings = format!("{{a(b:[{}])}}", "\"\\n0123456789\" ".repeat(5000));
-    assert_eq!(parse(&strings).unwrap().nodes().next_back().unwrap().value(), Value::Text("\n0123456789"));
+    assert_eq!(parse(&strings).unwrap().nodes().next_back().unwrap().value(), NodeValue::Text("\n0123456789"));
 }
 
 #[test]

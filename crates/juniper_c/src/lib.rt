@@ -3,6 +3,7 @@
 
 mod canonical;
 mod count;
+mod excerpt;
 mod message;
 mod parse;
 mod tokens;

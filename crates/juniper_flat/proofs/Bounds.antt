@@ -13,6 +13,7 @@ use Rattle.juniper_flat.specs.Nodes.{byte_count, written_nodes}
 use Rattle.juniper_nodes.specs.NodeTexts.{text_of_node}
 use Rattle.juniper_flat.specs.declared.flat.Parsed.{Parsed}
 use Rattle.juniper_flat.specs.declared.flat.Parsed.TheVariants as parsed
+use Rattle.juniper_flat.specs.declared.limits.Limits.{Limits}
 use Rattle.juniper_flat.specs.declared.source.Unread.{Unread}
 use Rattle.juniper_flat.specs.Answers.{ReturnsFlat, IfTree, HasDocument, scalars, nodes_of, texts_of}
 use Rattle.juniper_flat.proofs.ShortScalars.{short_texts}
@@ -21,21 +22,22 @@ told-length : (source : List ℕ) (at : ℕ) (ns : List (nodes.Node Content)) �
 told-length source at [] = refl
 told-length source at (n ∷ ns) = ap suc (told-length source (at + byte_count (text_of_node n)) ns)
 
-pub within_source : (source : List ℕ) (depth : ℕ) (tree : List (Definition Content)) → HasDocument source depth tree
+pub within_source : (source : List ℕ) (limits : Limits) (tree : List (Definition Content)) → HasDocument source limits tree
     → (length (nodes_of source tree) ≤ length source) × (length (texts_of tree) ≤ length source)
-within_source source depth tree h =
+within_source source limits tree h =
     let few = few_nodes_of_source scalars (chars source) h.has_tree.lexemes tree h.has_tree.cut h.has_tree.document in
     let short = short_texts (chars source) h.has_tree.lexemes tree h.has_tree.cut h.has_tree.document in (
       omega (arith, few, told-length (chars source) 0 (document_nodes tree), chars_within source h.utf8),
       omega (arith, short, ap length (encodes-chars source h.utf8)),
     )
 
-pub flat_within : (source : List ℕ) (depth : ℕ) (result : Result Parsed Unread) → ReturnsFlat source depth result
+pub flat_within : (source : List ℕ) (limits : Limits) (result : Result Parsed Unread) → ReturnsFlat source limits result
     → IfTree result (λ flat.
     (length flat.nodes.items ≤ length source) × (length (string_bytes flat.texts) ≤ length source))
-flat_within source depth (Ok (parsed.Tree flat)) h =
-    let within = within_source source depth h.1.0 h.1.1 in
+flat_within source limits (Ok (parsed.Tree flat)) h =
+    let within = within_source source limits h.1.0 h.1.1 in
     (omega (arith, within.0, ap length h.1.2), omega (arith, within.1, ap length h.1.3))
-flat_within source depth (Ok (parsed.Refused fault)) h = tt
-flat_within source depth (Ok (parsed.TooDeep fault)) h = tt
-flat_within source depth (Err unread) h = tt
+flat_within source limits (Ok (parsed.Refused fault)) h = tt
+flat_within source limits (Ok (parsed.TooDeep fault)) h = tt
+flat_within source limits (Ok (parsed.TooMany fault)) h = tt
+flat_within source limits (Err unread) h = tt

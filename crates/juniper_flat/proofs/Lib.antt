@@ -10,4 +10,7 @@ pub mod Rooms
 pub mod TokenTexts
 pub mod HeldTokens
 pub mod CanonicalTexts
+pub mod Quotes
+pub mod Shown
+pub mod Messages
 pub mod Public

@@ -1,12 +1,14 @@
 -- The numbers of a token fit.
-use Rattle.std.proofs.Common.{◌≡◌, ◌<◌, ◌^◌, ◌++◌, length, ap, sym, subst, arith}
+use Rattle.std.proofs.Common.{◌≡◌, ◌<◌, ◌^◌, ℕ, List, [], ◌++◌, length, ap, sym, subst, arith}
+use Rattle.std.specs.Str.{chars, IsUtf8}
 use Rattle.std.proofs.lemmas.List.{length-append}
 use Rattle.graphql_lexical.specs.Place.{Span}
 use Rattle.graphql_lexical.specs.Characters.{Text}
 use Rattle.graphql_lexical.specs.Cutting.{Lexeme, Stands}
-use Rattle.graphql_lexical.proofs.Public.{done_whole}
+use Rattle.graphql_lexical.proofs.Public.{done_whole, leads_whole}
+use Rattle.juniper_tokens.specs.Counting.{HasMore}
 use Rattle.juniper_flat.specs.FlatWriters.{PlaceFits, SpanFits}
-use Rattle.juniper_flat.proofs.Fitting.{position_fits}
+use Rattle.juniper_flat.proofs.Fitting.{few_characters, position_fits}
 
 -- the numbers of a token
 pub token_fits : (before left : Text) (x : Lexeme) (done after : Text) → Stands before left x done after → (span : Span)
@@ -26,3 +28,10 @@ token_fits before left x done after s span at l =
       subst PlaceFits (sym s.start) (position_fits (before ++ s.gap) start),
       subst PlaceFits (sym s.end) (position_fits done end),
     )
+
+-- those of the first token too many
+pub many_fits : (text : List ℕ) → IsUtf8 text → length text < 2 ^ 32 → (most : ℕ) (span : Span)
+    → HasMore [] (chars text) most span → SpanFits span
+many_fits text u l most span m =
+    token_fits m.done m.rest m.token m.past m.after m.stands span m.at
+    (subst (λ (t : Text). length t < 2 ^ 32) (leads_whole [] (chars text) m.done m.rest m.front m.leads) (few_characters text u l))

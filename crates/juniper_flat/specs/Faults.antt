@@ -1,12 +1,13 @@
 -- Why a source has no tree, as C gets it.
-use Rattle.std.specs.Prelude.{ℕ, List}
+use Rattle.std.specs.Prelude.{ℕ, ◌+◌, ◌-◌, List, length}
 use Rattle.graphql_lexical.specs.Place.{Span}
 use Rattle.graphql_lexical.specs.Kinds.{LexicalError, UnknownCharacter, UnexpectedCharacter, UnterminatedString, UnknownCharacterInString, UnknownEscapeSequence, UnexpectedEndOfFile, InvalidNumber}
 use Rattle.juniper_tokens.specs.Errors as errors
 use Rattle.juniper_tokens.specs.Errors.{Error}
-use Rattle.juniper_flat.specs.Places.{written_place}
+use Rattle.juniper_flat.specs.Places.{byte_behind, written_place}
 use Rattle.juniper_flat.specs.declared.fault.Fault.{Fault}
 use Rattle.juniper_flat.specs.declared.fault.Reason.{Reason}
+use Rattle.juniper_flat.specs.declared.fault.Shown.{Shown}
 
 abbrev pub because : ℕ → ℕ → ℕ → Reason
 because kind detail character = record { kind = kind; detail = detail; character = character }
@@ -33,23 +34,52 @@ deep_reason = because 3 0 0
 abbrev pub many_reason : Reason
 many_reason = because 4 0 0
 
-abbrev pub fault_at : List ℕ → Reason → Span → Fault
-fault_at source reason span = record {
+-- ---- which characters of the source an error's words show
+
+abbrev pub nothing_at : ℕ → Shown
+nothing_at index = record { start = index; end = index }
+
+-- An escape that is unknown begins with a backslash, and the error's position is after that.
+abbrev pub escape_at : ℕ → List ℕ → Shown
+escape_at at escape = record { start = at - 1; end = (at - 1) + length escape }
+
+abbrev pub shown_of_lexical : LexicalError → ℕ → Shown
+shown_of_lexical (UnknownCharacter c) at = nothing_at at
+shown_of_lexical (UnexpectedCharacter c) at = nothing_at at
+shown_of_lexical UnterminatedString at = nothing_at at
+shown_of_lexical (UnknownCharacterInString c) at = nothing_at at
+shown_of_lexical (UnknownEscapeSequence t) at = escape_at at t
+shown_of_lexical UnexpectedEndOfFile at = nothing_at at
+shown_of_lexical InvalidNumber at = nothing_at at
+
+-- of an unexpected token all of it
+abbrev pub shown_of_error : Error → Span → Shown
+shown_of_error (errors.UnexpectedToken t) span = record { start = span.start.index; end = span.end.index }
+shown_of_error errors.UnexpectedEndOfFile span = nothing_at span.start.index
+shown_of_error (errors.Lexical e) span = shown_of_lexical e span.start.index
+shown_of_error (errors.ExpectedScalar t) span = nothing_at span.start.index
+
+-- ---- errors
+
+abbrev pub fault_at : List ℕ → Reason → Span → Shown → Fault
+fault_at source reason span shown = record {
   kind = reason.kind;
   detail = reason.detail;
   character = reason.character;
   start = written_place source span.start;
   end = written_place source span.end;
+  text_start = byte_behind source shown.start;
+  text_end = byte_behind source shown.end;
 }
 
 -- a refusal
 abbrev pub written_fault : List ℕ → errors.Fault → Fault
-written_fault source fault = fault_at source (error_reason fault.error) fault.span
+written_fault source fault = fault_at source (error_reason fault.error) fault.span (shown_of_error fault.error fault.span)
 
 -- a token that is nested too deep
 abbrev pub deep_fault : List ℕ → Span → Fault
-deep_fault source span = fault_at source deep_reason span
+deep_fault source span = fault_at source deep_reason span (nothing_at span.start.index)
 
 -- a token that is one too many
 abbrev pub many_fault : List ℕ → Span → Fault
-many_fault source span = fault_at source many_reason span
+many_fault source span = fault_at source many_reason span (nothing_at span.start.index)

@@ -3,7 +3,10 @@ pub mod ByteTables
 pub mod Nodes
 pub mod Scalars
 pub mod laws
+pub mod Excerpts
 pub mod Faults
+pub mod Limits
+pub mod Messages
 pub mod Answers
 pub mod FlatWriters
 pub mod Sources

@@ -1,29 +1,62 @@
 //! Why a source has no tree, as C gets it.
-ghost use Rattle.std.specs.Prelude.{◌≡◌, ℕ, List};
+ghost use Rattle.std.specs.Prelude.{◌≡◌, ◌<◌, ◌^◌, ℕ, List};
 ghost use Rattle.juniper_tokens.specs.Errors.{view_error, view_fault, view_lexer_error};
 ghost use Rattle.juniper_tokens.specs.Spans.{view_span};
 ghost use Rattle.juniper_flat.specs.ByteTables.{IsTableOf};
 ghost use Rattle.juniper.specs.Promise.{lexical_fault};
 ghost use Rattle.juniper_flat.specs.FlatWriters.{PlaceFits, SpanFits};
-ghost use Rattle.juniper_flat.specs.Faults.{lexical_reason, error_reason, fault_at, written_fault, deep_fault, many_fault};
+ghost use Rattle.juniper_flat.specs.Faults.{lexical_reason, error_reason, shown_of_error, shown_of_lexical, fault_at, written_fault, deep_fault, many_fault};
 
 use crate::byte_table::ByteTable;
 use crate::place::{Place, place_at};
 use juniper::{LexerError, ParseError, SourcePosition, Span, Spanning};
 
+/// The kinds of errors.
+pub const UNEXPECTED_TOKEN: u32 = 0;
+
+pub const UNEXPECTED_END: u32 = 1;
+
+pub const LEXICAL: u32 = 2;
+
+pub const TOO_DEEP: u32 = 3;
+
+pub const TOO_MANY_TOKENS: u32 = 4;
+
+pub const INVALID_SCALAR: u32 = 5;
+
+/// Which lexical error it is.
+pub const NO_DETAIL: u32 = 0;
+
+pub const UNKNOWN_CHARACTER: u32 = 1;
+
+pub const UNEXPECTED_CHARACTER: u32 = 2;
+
+pub const UNTERMINATED_STRING: u32 = 3;
+
+pub const UNKNOWN_CHARACTER_IN_STRING: u32 = 4;
+
+pub const UNKNOWN_ESCAPE: u32 = 5;
+
+pub const UNEXPECTED_END_IN_TOKEN: u32 = 6;
+
+pub const INVALID_NUMBER: u32 = 7;
+
 /// Why a source has no tree, and where.
 #[repr(C)]
 #[derive(Clone, Copy)]
 pub struct Fault {
-    /// 0 for an unexpected token, 1 for an unexpected end, 2 for a lexical error, 3 for nesting, 4 for a token too many,
-    /// 5 for a scalar.
+    /// One of the kinds of errors.
     pub kind: u32,
-    /// A number for each `LexerError`, from 1 on in their order; 0 where the source is refused for no such error.
+    /// Which lexical error it is; `NO_DETAIL` where it is none.
     pub detail: u32,
     /// The character that the lexical error names, or 0.
     pub character: u32,
     pub start: Place,
     pub end: Place,
+    /// The bytes of the source that its words show: of an unexpected token all of it, of an escape that is unknown the
+    /// escape. Of any other error both are the start's byte.
+    pub text_start: u32,
+    pub text_end: u32,
 }
 
 // The first three of them.
@@ -34,36 +67,63 @@ struct Reason {
     character: u32,
 }
 
+// The characters of the source that an error's words show, by their indexes.
+#[derive(Clone, Copy)]
+struct Shown {
+    start: usize,
+    end: usize,
+}
+
 /// The fault of a source that is refused.
 pub(crate) fn written_fault(table: &ByteTable, fault: &Spanning<ParseError>) -> Fault
     ensures { (source : List ℕ) → IsTableOf source table.now → SpanFits (view_fault fault.now).span → result ≡ written_fault source (view_fault fault.now) }
 {
-    fault_at(table, error_reason(&fault.item), &fault.span)
+    fault_at(
+        table,
+        error_reason(&fault.item),
+        &fault.span,
+        shown_of_error(&fault.item, &fault.span),
+    )
 }
 
 /// The fault of a source with a token that is nested too deep.
 pub(crate) fn deep_fault(table: &ByteTable, span: Span) -> Fault
     ensures { (source : List ℕ) → IsTableOf source table.now → SpanFits (view_span span) → result ≡ deep_fault source (view_span span) }
 {
-    fault_at(table, because(3, 0, 0), &span)
+    fault_at(
+        table,
+        because(TOO_DEEP, NO_DETAIL, 0),
+        &span,
+        nothing_at(span.start.index()),
+    )
 }
 
 /// The fault of a source with too many tokens, at the first that is one.
 pub(crate) fn many_fault(table: &ByteTable, span: Span) -> Fault
     ensures { (source : List ℕ) → IsTableOf source table.now → SpanFits (view_span span) → result ≡ many_fault source (view_span span) }
 {
-    fault_at(table, because(4, 0, 0), &span)
+    fault_at(
+        table,
+        because(TOO_MANY_TOKENS, NO_DETAIL, 0),
+        &span,
+        nothing_at(span.start.index()),
+    )
 }
 
 /// The fault of a source with this lexical error there.
 pub(crate) fn lexical_fault(table: &ByteTable, error: &LexerError, at: SourcePosition) -> Fault
     ensures { (source : List ℕ) → IsTableOf source table.now → PlaceFits at → result ≡ written_fault source (lexical_fault (view_lexer_error error.now) at) }
 {
-    fault_at(table, lexical_reason(error), &Span::zero_width(at))
+    fault_at(
+        table,
+        lexical_reason(error),
+        &Span::zero_width(at),
+        shown_of_lexical(error, at.index()),
+    )
 }
 
-fn fault_at(table: &ByteTable, reason: Reason, span: &Span) -> Fault
-    ensures { (source : List ℕ) → IsTableOf source table.now → SpanFits (view_span span.now) → result ≡ fault_at source reason (view_span span.now) }
+fn fault_at(table: &ByteTable, reason: Reason, span: &Span, shown: Shown) -> Fault
+    ensures { (source : List ℕ) → IsTableOf source table.now → SpanFits (view_span span.now) → result ≡ fault_at source reason (view_span span.now) shown }
 {
     Fault {
         kind: reason.kind,
@@ -71,6 +131,47 @@ fn fault_at(table: &ByteTable, reason: Reason, span: &Span) -> Fault
         character: reason.character,
         start: place_at(table, span.start),
         end: place_at(table, span.end),
+        text_start: table.byte(shown.start),
+        text_end: table.byte(shown.end),
+    }
+}
+
+fn shown_of_error(error: &ParseError, span: &Span) -> Shown
+    ensures { SpanFits (view_span span.now) → result ≡ shown_of_error (view_error error.now) (view_span span.now) }
+{
+    match error {
+        ParseError::UnexpectedToken(_) => Shown {
+            start: span.start.index(),
+            end: span.end.index(),
+        },
+        ParseError::LexerError(error) => shown_of_lexical(error, span.start.index()),
+        ParseError::UnexpectedEndOfFile => nothing_at(span.start.index()),
+        ParseError::ExpectedScalarError(_) => nothing_at(span.start.index()),
+    }
+}
+
+// An unknown escape is reported after its backslash.
+fn shown_of_lexical(error: &LexerError, at: usize) -> Shown
+    ensures { at < 2 ^ 32 → result ≡ shown_of_lexical (view_lexer_error error.now) at }
+{
+    match error {
+        LexerError::UnknownEscapeSequence(escape) => {
+            let start = at.saturating_sub(1);
+            Shown {
+                start,
+                end: start.saturating_add(escape.as_str().chars().count()),
+            }
+        }
+        _ => nothing_at(at),
+    }
+}
+
+fn nothing_at(index: usize) -> Shown
+    ensures { result ≡ record { start = index; end = index } }
+{
+    Shown {
+        start: index,
+        end: index,
     }
 }
 
@@ -78,10 +179,10 @@ fn error_reason(error: &ParseError) -> Reason
     ensures { result ≡ error_reason (view_error error.now) }
 {
     match error {
-        ParseError::UnexpectedToken(_) => because(0, 0, 0),
-        ParseError::UnexpectedEndOfFile => because(1, 0, 0),
+        ParseError::UnexpectedToken(_) => because(UNEXPECTED_TOKEN, NO_DETAIL, 0),
+        ParseError::UnexpectedEndOfFile => because(UNEXPECTED_END, NO_DETAIL, 0),
         ParseError::LexerError(error) => lexical_reason(error),
-        ParseError::ExpectedScalarError(_) => because(5, 0, 0),
+        ParseError::ExpectedScalarError(_) => because(INVALID_SCALAR, NO_DETAIL, 0),
     }
 }
 
@@ -89,13 +190,17 @@ fn lexical_reason(error: &LexerError) -> Reason
     ensures { result ≡ lexical_reason (view_lexer_error error.now) }
 {
     match error {
-        LexerError::UnknownCharacter(c) => because(2, 1, *c as u32),
-        LexerError::UnexpectedCharacter(c) => because(2, 2, *c as u32),
-        LexerError::UnterminatedString => because(2, 3, 0),
-        LexerError::UnknownCharacterInString(c) => because(2, 4, *c as u32),
-        LexerError::UnknownEscapeSequence(_) => because(2, 5, 0),
-        LexerError::UnexpectedEndOfFile => because(2, 6, 0),
-        LexerError::InvalidNumber => because(2, 7, 0),
+        LexerError::UnknownCharacter(c) => because(LEXICAL, UNKNOWN_CHARACTER, *c as u32),
+        LexerError::UnexpectedCharacter(c) => because(LEXICAL, UNEXPECTED_CHARACTER, *c as u32),
+        LexerError::UnterminatedString => because(LEXICAL, UNTERMINATED_STRING, 0),
+        LexerError::UnknownCharacterInString(c) => because(
+            LEXICAL,
+            UNKNOWN_CHARACTER_IN_STRING,
+            *c as u32,
+        ),
+        LexerError::UnknownEscapeSequence(_) => because(LEXICAL, UNKNOWN_ESCAPE, 0),
+        LexerError::UnexpectedEndOfFile => because(LEXICAL, UNEXPECTED_END_IN_TOKEN, 0),
+        LexerError::InvalidNumber => because(LEXICAL, INVALID_NUMBER, 0),
     }
 }
 

@@ -12,13 +12,12 @@ ghost use Rattle.juniper_flat.specs.declared.node.Node.{Node as Written};
 ghost use Rattle.juniper_flat.specs.Answers.{ReturnsFlat, IfTree};
 
 use crate::byte_table::ByteTable;
-use crate::fault::{Fault, deep_fault, written_fault};
+use crate::fault::{Fault, deep_fault, many_fault, written_fault};
+use crate::limits::Limits;
 use crate::node::{Node, write_node, written_node};
 use crate::scalar::Scalar;
 use crate::source::{Unread, text_of};
-use juniper::{
-    Definition, DefinitionSink, LimitFailure, Limits, ParseFailure, parse_document_source_into,
-};
+use juniper::{Definition, DefinitionSink, LimitFailure, ParseFailure, parse_document_source_into};
 use juniper_nodes::push_definition;
 use std::alloc::{AllocError, Global};
 
@@ -62,48 +61,50 @@ const CHARACTERS_OF_A_NODE: usize = 4;
 /// What is known of a source.
 #[derive(Drop)]
 pub enum Parsed {
-    /// The source is a document, and no token is nested deeper than the limit.
+    /// The source is a document within the limits.
     Tree(Flat),
     /// The source is no document.
     Refused(Fault),
     /// A token is nested too deep, and those up to it begin a document.
     TooDeep(Fault),
+    /// A token is one too many, and stands before the first lexical error.
+    TooMany(Fault),
 }
 
-/// Returns the nodes of a source's tree and their texts, or that the source is no document, or that a token is nested
-/// deeper than the limit. Nothing is known where the bytes are no text or are 4 GiB or more, and where memory runs out. A
-/// limit above `MAX_DEPTH` may need more stack than there is.
-pub fn flat_of(alloc: Global, source: &[u8], depth: u32) -> Result<Parsed, Unread>
-    ensures answer { ReturnsFlat source.now depth result }
+/// Returns the nodes of a source's tree and their texts, or that the source is no document, or that a token is nested too
+/// deep or is one too many. Nothing is known where the bytes are no text or are 4 GiB or more, and where memory runs out. A
+/// depth above `MAX_DEPTH` may need more stack than there is.
+pub fn flat_of(alloc: Global, source: &[u8], limits: &Limits) -> Result<Parsed, Unread>
+    ensures answer { ReturnsFlat source.now limits.now result }
     ensures bounds { IfTree result (λ flat. (length flat.nodes.items ≤ length source.now) × (length (string_bytes flat.texts) ≤ length source.now)) }
 {
-    flat_of_text(alloc, text_of(source)?, depth)
+    flat_of_text(alloc, text_of(source)?, limits)
 }
 
-fn flat_of_text(alloc: Global, text: &str, depth: u32) -> Result<Parsed, Unread>
+fn flat_of_text(alloc: Global, text: &str, limits: &Limits) -> Result<Parsed, Unread>
     requires { length text.now < 2 ^ 32 }
-    ensures { ReturnsFlat text.now depth result }
+    ensures { ReturnsFlat text.now limits.now result }
 {
     let table = ByteTable::new(alloc, text)?;
+    let within = juniper::Limits {
+        depth: limits.depth as usize,
+        tokens: limits.tokens as usize,
+    };
     let mut writer = FlatWriter {
         alloc,
         table: &table,
         flat: Flat {
-            nodes: room_for(alloc, text.len() / BYTES_OF_A_NODE),
+            nodes: room_for(alloc, within.tokens.min(text.len() / BYTES_OF_A_NODE)),
             texts: String::new(alloc),
         },
     };
-    let limits = Limits {
-        depth: depth as usize,
-        tokens: usize::MAX,
-    };
-    match parse_document_source_into::<Scalar, FlatWriter<'_>>(alloc, text, limits, &mut writer) {
+    match parse_document_source_into::<Scalar, FlatWriter<'_>>(alloc, text, within, &mut writer) {
         Ok(()) => Ok(Parsed::Tree(writer.flat)),
         Err(LimitFailure::Parse(ParseFailure::Refused(found))) => {
             Ok(Parsed::Refused(written_fault(&table, &found)))
         }
         Err(LimitFailure::TooDeep(span)) => Ok(Parsed::TooDeep(deep_fault(&table, span))),
-        Err(LimitFailure::TooMany(_)) => unreachable!(),
+        Err(LimitFailure::TooMany(span)) => Ok(Parsed::TooMany(many_fault(&table, span))),
         Err(LimitFailure::Parse(ParseFailure::Memory)) => Err(Unread::OutOfMemory),
     }
 }

@@ -7,9 +7,10 @@
 mod byte_table;
 pub mod canonical;
 pub mod count;
-pub mod depth;
+pub mod excerpt;
 pub mod fault;
 pub mod flat;
+pub mod limits;
 pub mod message;
 pub mod node;
 pub mod place;

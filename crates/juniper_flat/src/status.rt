@@ -12,8 +12,7 @@ pub const NOT_UTF8: u32 = 2;
 /// Memory ran out.
 pub const OUT_OF_MEMORY: u32 = 3;
 
-/// The source can be cut into tokens. One of them is nested deeper than the caller's depth, and those up to it begin a
-/// document.
+/// The source can be cut into tokens. One of them is nested deeper than the limit, and those up to it begin a document.
 pub const TOO_DEEP: u32 = 4;
 
 /// The source has more tokens than the limit, before its end and before its first lexical error.
@@ -25,8 +24,11 @@ pub const BUFFER_TOO_SMALL: u32 = 6;
 /// The source has 4 GiB or more, and was not read.
 pub const SOURCE_TOO_LONG: u32 = 7;
 
-/// The depth is above `MAX_DEPTH`, and the source was not read.
+/// The depth is above `MAX_DEPTH`, or a reserved word of the limits isn't 0. The source was not read.
 pub const INVALID_LIMIT: u32 = 8;
+
+/// The error that the caller gave is none of the source.
+pub const INVALID_ERROR: u32 = 9;
 
 /// The least number of bytes of a source that is too many: an offset in it has 32 bits.
 pub const TOO_LONG_FROM: usize = 1 << 32;

@@ -1,19 +1,26 @@
 """A proved parser of GraphQL's executable documents (October 2021).
 
     document = firthnapkin.parse("{ user(id: 4) { name } }")
-    for node in document:
-        print(node.kind, node.name, node.value, node.text)
+    for field in document.operations[0].selections:
+        print(field.text, field.line, field.column)
 """
 
 from ._parser import MAX_DEPTH, VERSION as __version__
-from .document import Document, Kind, Node, Nodes
+from .definitions import Fragment, Operation, VariableDefinition
+from .document import Document
 from .errors import ErrorDetail, ErrorKind, FirthnapkinError
 from .lexer import Token, TokenKind, Tokens, canonical, tokens
+from .nodes import Kind, Node, Nodes
 from .parser import parse
 from .parts import Position
+from .selections import Argument, Directive, Field, FragmentSpread, InlineFragment, Selection
+from .syntax import SyntaxPart, SyntaxParts
+from .values import EnumValue, Value, Variable
 from .visitor import Step, Visitor
 
 __all__ = [
-    "MAX_DEPTH", "Document", "ErrorDetail", "ErrorKind", "FirthnapkinError", "Kind", "Node", "Nodes", "Position", "Step", "Token",
-    "TokenKind", "Tokens", "Visitor", "__version__", "canonical", "parse", "tokens",
+    "MAX_DEPTH", "Argument", "Directive", "Document", "EnumValue", "ErrorDetail", "ErrorKind", "Field",
+    "FirthnapkinError", "Fragment", "FragmentSpread", "InlineFragment", "Kind", "Node", "Nodes", "Operation",
+    "Position", "Selection", "Step", "SyntaxPart", "SyntaxParts", "Token", "TokenKind", "Tokens", "Value", "Variable",
+    "VariableDefinition", "Visitor", "__version__", "canonical", "parse", "tokens",
 ]  # fmt: skip

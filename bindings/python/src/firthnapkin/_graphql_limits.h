@@ -143,20 +143,47 @@ static bool find_too_many(const counting_rules *rules, whole *cut, const uint8_t
     return cut->status == FIRTHNAPKIN_TOO_MANY_TOKENS;
 }
 
-/* The nodes of a source that keeps a limit on its tokens. Otherwise the status is FIRTHNAPKIN_TOO_MANY_TOKENS, and the error is
- * at the first token too many, or at the end. A limit of UINT32_MAX is none. */
-static whole with_few_tokens(const counting_rules *rules, const uint8_t *source, size_t length, uint32_t depth, int64_t most) {
-    bool counts_comments = rules->limits_comments && most < UINT32_MAX && may_have_comment(source, length);
-    uint32_t tokens = most < 0 ? 0 : (uint32_t)most;
-    if (!counts_comments && (most >= 0 || !rules->limits_end)) return parse_whole(source, length, depth, tokens);
-    whole cut = tokens_found(source, length, tokens);
+/* How many comments a source has at most: each begins with a number sign, which a string may have, too. */
+static size_t most_comments(const uint8_t *source, size_t length) {
+    size_t count = 0;
+    const uint8_t *at = source, *end = source + length;
+    while (at < end && (at = memchr(at, '#', (size_t)(end - at))) != NULL) {
+        at++;
+        count++;
+    }
+    return count;
+}
+
+static whole parse_within(const uint8_t *source, size_t length, uint32_t depth, uint32_t tokens) {
+    firthnapkin_limits limits = {.depth = depth, .tokens = tokens};
+    return parse_whole(source, length, &limits);
+}
+
+/* The nodes of a source whose tokens, and the comments and the end if they are looked at, are counted one by one. Otherwise as
+ * with_few_tokens. */
+static whole counted_first(const counting_rules *rules, const uint8_t *source, size_t length, uint32_t depth, int64_t most) {
+    whole cut = tokens_found(source, length, most < 0 ? 0 : (uint32_t)most);
     if (find_too_many(rules, &cut, source, most))
         cut.status = FIRTHNAPKIN_TOO_MANY_TOKENS;
     else if (cut.status != FIRTHNAPKIN_OUT_OF_MEMORY) {
         give_back(&cut);
-        return parse_whole(source, length, depth, UINT32_MAX);
+        return parse_within(source, length, depth, UINT32_MAX);
     }
     return cut;
+}
+
+/* The nodes of a source that keeps a limit on its tokens. Otherwise the status is FIRTHNAPKIN_TOO_MANY_TOKENS, and the error is
+ * at the first token too many, or at the end. A limit of UINT32_MAX is none. A source whose tokens keep what the comments leave
+ * of the limit is read once. */
+static whole with_few_tokens(const counting_rules *rules, const uint8_t *source, size_t length, uint32_t depth, int64_t most) {
+    size_t comments = rules->limits_comments && most < UINT32_MAX ? most_comments(source, length) : 0;
+    bool is_counted = comments > 0 || (most < 0 && rules->limits_end);
+    if (!is_counted) return parse_within(source, length, depth, most < 0 ? 0 : (uint32_t)most);
+    if (most < 0 || comments > (uint64_t)most) return counted_first(rules, source, length, depth, most);
+    whole w = parse_within(source, length, depth, (uint32_t)(most - (int64_t)comments));
+    if (w.status != FIRTHNAPKIN_TOO_MANY_TOKENS) return w;
+    give_back(&w);
+    return counted_first(rules, source, length, depth, most);
 }
 
 /* What the tokens before the first one too many are: FIRTHNAPKIN_TOO_MANY_TOKENS where a document begins with them, and
@@ -164,7 +191,8 @@ static whole with_few_tokens(const counting_rules *rules, const uint8_t *source,
 static uint32_t begun(const uint8_t *source, uint32_t depth, firthnapkin_error *error) {
     size_t nodes, texts;
     firthnapkin_error found;
-    uint32_t status = parse_on_stack(source, error->start.byte, depth, NULL, 0, &nodes, NULL, 0, &texts, &found);
+    firthnapkin_limits limits = {.depth = depth, .tokens = UINT32_MAX};
+    uint32_t status = parse_on_stack(source, error->start.byte, &limits, NULL, 0, &nodes, NULL, 0, &texts, &found);
     bool is_whole = status == FIRTHNAPKIN_BUFFER_TOO_SMALL || status == FIRTHNAPKIN_OK;
     bool is_at_end = status == FIRTHNAPKIN_SYNTAX_ERROR && found.kind == FIRTHNAPKIN_ERROR_UNEXPECTED_END;
     if (is_whole || is_at_end) return FIRTHNAPKIN_TOO_MANY_TOKENS;

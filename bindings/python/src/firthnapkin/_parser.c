@@ -25,9 +25,10 @@ static PyObject *told(whole *w, const void *first, size_t first_length) {
     return result;
 }
 
-/* A number of tokens. For a larger one it is the largest number of 32 bits, which is no limit. */
-static uint32_t limit_of(unsigned long tokens) {
-    return tokens < UINT32_MAX ? (uint32_t)tokens : UINT32_MAX;
+/* A number of tokens or of a byte. For a larger one it is the largest number of 32 bits, which is no limit, and after the end of
+ * each source. */
+static uint32_t limit_of(unsigned long number) {
+    return number < UINT32_MAX ? (uint32_t)number : UINT32_MAX;
 }
 
 PyDoc_STRVAR(parse_doc, "parse(source, depth, tokens, /)\n--\n\n"
@@ -44,8 +45,9 @@ static PyObject *parse(PyObject *module, PyObject *arguments) {
     if (!PyArg_ParseTuple(arguments, "Skk:parse", &source, &depth, &tokens)) return NULL;
     if (PyBytes_AsStringAndSize(source, &bytes, &length) != 0) return NULL;
     uint32_t limit = depth <= FIRTHNAPKIN_MAX_DEPTH ? (uint32_t)depth : UINT32_MAX;
+    firthnapkin_limits limits = {.depth = limit, .tokens = limit_of(tokens)};
     PyThreadState *state = PyEval_SaveThread();
-    whole w = parse_whole((const uint8_t *)bytes, (size_t)length, limit, limit_of(tokens));
+    whole w = parse_whole((const uint8_t *)bytes, (size_t)length, &limits);
     PyEval_RestoreThread(state);
     return told(&w, w.nodes, w.nodes_count * sizeof *w.nodes);
 }
@@ -85,9 +87,28 @@ static PyObject *canonical(PyObject *module, PyObject *source) {
     return told(&w, NULL, 0);
 }
 
+PyDoc_STRVAR(excerpt_doc, "excerpt(source, byte, /)\n--\n\n"
+                          "Returns the status, no bytes, and the bytes of the lines around a byte of the source.\n\n"
+                          "Raises MemoryError where memory runs out.");
+
+static PyObject *excerpt(PyObject *module, PyObject *arguments) {
+    PyObject *source;
+    unsigned long byte;
+    char *bytes;
+    Py_ssize_t length;
+    (void)module;
+    if (!PyArg_ParseTuple(arguments, "Sk:excerpt", &source, &byte)) return NULL;
+    if (PyBytes_AsStringAndSize(source, &bytes, &length) != 0) return NULL;
+    PyThreadState *state = PyEval_SaveThread();
+    whole w = excerpt_whole((const uint8_t *)bytes, (size_t)length, limit_of(byte));
+    PyEval_RestoreThread(state);
+    return told(&w, NULL, 0);
+}
+
 static PyMethodDef methods[] = {{"parse", parse, METH_VARARGS, parse_doc},
                                 {"tokens", tokens, METH_VARARGS, tokens_doc},
                                 {"canonical", canonical, METH_O, canonical_doc},
+                                {"excerpt", excerpt, METH_VARARGS, excerpt_doc},
                                 {NULL, NULL, 0, NULL}};
 
 static int begin(PyObject *module) {

@@ -1,187 +1,17 @@
-"""A document's nodes."""
+"""A document: its nodes, and its operations and fragments."""
 
 from __future__ import annotations
 
-import enum
 import struct
 from array import array
-from typing import Optional, Sequence, Union, overload
+from typing import FrozenSet, Optional
 
-from .parts import Part, Parts, from_start
+from .definitions import FRAGMENTS, OPERATIONS, Fragment, Operation
+from .nodes import Node, Nodes
+from .parts import Parts
+from .syntax import SyntaxParts, first_named
 
-__all__ = ["Document", "Kind", "Node", "Nodes"]
-
-
-class Kind(enum.Enum):
-    """The kind of a part that a node stands for."""
-
-    QUERY = 0
-    MUTATION = 1
-    SUBSCRIPTION = 2
-    FRAGMENT_DEFINITION = 3
-    #: The variable definitions of an operation.
-    VARIABLE_DEFINITIONS = 4
-    #: A variable definition, by its name.
-    VARIABLE_DEFINITION = 5
-    #: The type of a variable.
-    TYPE = 6
-    FIELD = 7
-    #: The alias of a field.
-    ALIAS = 8
-    #: The use of a fragment by its name.
-    FRAGMENT_SPREAD = 9
-    #: A fragment without a name.
-    INLINE_FRAGMENT = 10
-    DIRECTIVE = 11
-    #: The arguments of a field or a directive.
-    ARGUMENTS = 12
-    #: An argument, by its name.
-    ARGUMENT = 13
-    NULL = 14
-    ENUM = 15
-    #: A variable used as a value.
-    VARIABLE = 16
-    LIST = 17
-    OBJECT = 18
-    #: A field of an object, by its name.
-    OBJECT_FIELD = 19
-    #: An Int that fits into 32 bits.
-    INT = 20
-    #: An Int that doesn't.
-    LARGE_INT = 21
-    FLOAT = 22
-    STRING = 23
-    BLOCK_STRING = 24
-    BOOLEAN = 25
-
-
-_KINDS = {kind.value: kind for kind in Kind}
-
-# The name range of these kinds is all of their text, and no name.
-_WITHOUT_NAME = frozenset(
-    (Kind.TYPE, Kind.NULL, Kind.INT, Kind.LARGE_INT, Kind.FLOAT, Kind.STRING, Kind.BLOCK_STRING, Kind.BOOLEAN)
-)
-
-
-class Node(Part):
-    """A part of a document."""
-
-    __slots__ = ()
-
-    _whole: Document
-
-    @property
-    def document(self) -> Document:
-        return self._whole
-
-    @property
-    def kind(self) -> Kind:
-        return _KINDS[self._told[0]]
-
-    @property
-    def descendants(self) -> int:
-        """How many of the nodes after this one are of parts in it."""
-        return self._told[1]
-
-    @property
-    def name(self) -> Optional[str]:
-        """The name, without `$` and `@`; of an inline fragment its type condition."""
-        told = self._told
-        if self.kind in _WITHOUT_NAME or told[10] == told[11]:
-            return None
-        return self._whole._source[told[10] : told[11]].decode()
-
-    @property
-    def value(self) -> Union[None, bool, int, float, str]:
-        """The meaning of a scalar; a type without spaces; the name of an enum or a variable; a fragment's type condition.
-
-        Raises OverflowError for an Int of more digits than Python accepts, and for a Float beyond a float. `text` has both.
-        """
-        told, kind = self._told, self.kind
-        if kind is Kind.INT:
-            return told[12]
-        if kind is Kind.BOOLEAN:
-            return told[12] == 1
-        if kind is Kind.LARGE_INT:
-            return _int(self.text)
-        if kind is Kind.FLOAT:
-            return _float(self.text)
-        if kind in (Kind.STRING, Kind.BLOCK_STRING, Kind.TYPE):
-            return self._whole._texts[told[12] : told[12] + told[13]].decode()
-        if kind is Kind.FRAGMENT_DEFINITION:
-            return self._whole._source[told[12] : told[12] + told[13]].decode()
-        if kind in (Kind.ENUM, Kind.VARIABLE):
-            return self.name
-        return None
-
-    @property
-    def children(self) -> Nodes:
-        """The nodes of the parts in this one that are in no other part in it. They are looked for each time."""
-        return self._whole._siblings(self._index + 1, self._index + 1 + self.descendants)
-
-    @property
-    def parent(self) -> Optional[Node]:
-        """The node of the part that this one is in; None for a definition."""
-        parent = self._whole._parents()[self._index]
-        return None if parent < 0 else Node(self._whole, parent)
-
-    def __repr__(self) -> str:
-        return f"<{self.kind.name} {self.text!r}>"
-
-
-class Nodes(Sequence[Node]):
-    """Some nodes of a document, in its order. A node object is made each time that one is asked for.
-
-    Two are equal, and have the same hash, where they are the same nodes of the same document. A slice is such a sequence, too.
-    """
-
-    __slots__ = ("_document", "_indexes", "__weakref__")
-
-    def __init__(self, document: Document, indexes: array[int]) -> None:
-        self._document = document
-        self._indexes = indexes
-
-    def __len__(self) -> int:
-        return len(self._indexes)
-
-    @overload
-    def __getitem__(self, index: int) -> Node: ...
-
-    @overload
-    def __getitem__(self, index: slice) -> Nodes: ...
-
-    def __getitem__(self, index: Union[int, slice]) -> Union[Node, Nodes]:
-        if isinstance(index, slice):
-            return Nodes(self._document, self._indexes[index])
-        return Node(self._document, self._indexes[from_start(index, len(self._indexes))])
-
-    def __contains__(self, node: object) -> bool:
-        return isinstance(node, Node) and node._whole is self._document and node._index in self._indexes
-
-    def __eq__(self, other: object) -> bool:
-        if not isinstance(other, Nodes):
-            return NotImplemented
-        return self._document is other._document and self._indexes == other._indexes
-
-    def __hash__(self) -> int:
-        return hash((id(self._document), self._indexes.tobytes()))
-
-    def __repr__(self) -> str:
-        return f"<{len(self._indexes)} nodes>"
-
-
-def _int(text: str) -> int:
-    try:
-        return int(text)
-    except ValueError:
-        raise OverflowError(f"an Int of {len(text.lstrip('-'))} digits: the node's text has it") from None
-
-
-def _float(text: str) -> float:
-    number = float(text)
-    if number in (float("inf"), float("-inf")):
-        raise OverflowError("a Float beyond the largest float: the node's text has it")
-    return number
+__all__ = ["Document"]
 
 
 class Document(Parts[Node]):
@@ -207,14 +37,42 @@ class Document(Parts[Node]):
         """The operations and fragments. They are looked for each time."""
         return self._siblings(0, self._count)
 
-    def _siblings(self, index: int, end: int) -> Nodes:
-        """Returns the nodes from an index to another that are in no other node between these."""
+    @property
+    def operations(self) -> SyntaxParts[Operation]:
+        """The operations, in the order of the text. They are looked for each time."""
+        return SyntaxParts(self._siblings(0, self._count, OPERATIONS), Operation)
+
+    @property
+    def fragments(self) -> SyntaxParts[Fragment]:
+        """The definitions of fragments, in the order of the text. They are looked for each time."""
+        return SyntaxParts(self._siblings(0, self._count, FRAGMENTS), Fragment)
+
+    def operation(self, name: Optional[str] = None) -> Optional[Operation]:
+        """Returns the first operation of this name, and without a name the only operation.
+
+        Returns None where no operation has the name, and without a name where there are several operations or none.
+        """
+        operations = self.operations
+        if name is None:
+            return operations[0] if len(operations) == 1 else None
+        return first_named(operations, name)
+
+    def fragment(self, name: str) -> Optional[Fragment]:
+        """Returns the first fragment of this name; None where there is none."""
+        return first_named(self.fragments, name)
+
+    def _siblings(self, index: int, end: int, kinds: Optional[FrozenSet[int]] = None) -> Nodes:
+        """Returns the nodes from an index to another that are in no other node between these, and that are of these kinds."""
         found = array("q")
         while index < end:
-            found.append(index)
-            _, descendants = self._HEAD.unpack_from(self._parts, self._LAYOUT.size * index)
+            kind, descendants = self._HEAD.unpack_from(self._parts, self._LAYOUT.size * index)
+            if kinds is None or kind in kinds:
+                found.append(index)
             index += 1 + descendants
         return Nodes(self, found)
+
+    def _written(self) -> bytes:
+        return self._source
 
     def _parents(self) -> array[int]:
         """The index of each node's parent, and -1 for a definition. They are computed when one is first asked for."""

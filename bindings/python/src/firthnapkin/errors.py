@@ -3,10 +3,11 @@
 from __future__ import annotations
 
 import enum
-import re
-from typing import Any, List, Optional, Tuple
+from typing import Any, Optional, Tuple
 
+from .excerpts import excerpt_of
 from .parts import Position
+from .schemas import begins_schema
 
 __all__ = ["ErrorDetail", "ErrorKind", "FirthnapkinError"]
 
@@ -57,8 +58,8 @@ class FirthnapkinError(ValueError):
         detail: ErrorDetail = ErrorDetail.NONE,
         character: Optional[str] = None,
     ) -> None:
-        super().__init__(f"{message}. At {start.line}:{start.column}")
-        #: The error, without its position.
+        super().__init__(f"{message}. At {start.line + 1}:{start.column + 1}")
+        #: The error in words, without its position.
         self.message = message
         self.kind = kind
         self.start = start
@@ -70,23 +71,23 @@ class FirthnapkinError(ValueError):
 
     @property
     def line(self) -> int:
-        """The line, counted from 0. Lines end at line feeds."""
-        return self.start.line
-
-    @property
-    def column(self) -> int:
-        """The column in characters, counted from 0."""
-        return self.start.column
-
-    @property
-    def lineno(self) -> int:
-        """The line, counted from 1."""
+        """The line, counted from 1. Lines end at line feeds."""
         return self.start.line + 1
 
     @property
-    def colno(self) -> int:
+    def column(self) -> int:
         """The column in characters, counted from 1."""
         return self.start.column + 1
+
+    @property
+    def lineno(self) -> int:
+        """The same as `line`, by the name that Python's own errors have for it."""
+        return self.line
+
+    @property
+    def colno(self) -> int:
+        """The same as `column`, by the name that Python's own errors have for it."""
+        return self.column
 
     @property
     def utf16_column(self) -> int:
@@ -96,39 +97,23 @@ class FirthnapkinError(ValueError):
 
     @property
     def excerpt(self) -> str:
-        """The lines around the position, numbered from 1, with a caret below it. Here a carriage return ends a line, too."""
-        return _excerpt(self.source, self.start.index)
+        """The lines around the position, numbered from 1, with a caret below its character. It is made each time.
+
+        They are the line before, the line, the caret, and the line after. Of a line of more than 120 characters the 80 from 40
+        before the column are shown. A lone surrogate is shown as a question mark.
+        """
+        return excerpt_of(_replaced(self.source), len(_replaced(self.source[: self.start.index])))
+
+    @property
+    def is_schema(self) -> bool:
+        """Whether the error is that a definition of a schema, or its description, begins here. It is looked for each time."""
+        return self.kind is ErrorKind.UNEXPECTED_TOKEN and begins_schema(self.source, self.start.index, self.end.index)
 
     def __reduce__(self) -> Tuple[Any, ...]:
         parts = (self.message, self.kind, self.start, self.end, self.source, self.detail, self.character)
         return type(self), parts, self.__dict__
 
 
-_BREAK = re.compile("\r\n|\r|\n")
-
-# A longer line is cut into pieces of the second length.
-_LONG, _PIECE = 120, 80
-
-
-def _excerpt(source: str, index: int) -> str:
-    ends = [found.end() for found in _BREAK.finditer(source) if found.start() < index]
-    number, column = len(ends), index - (ends[-1] if ends else 0)
-    # A half of a surrogate pair cannot be written.
-    lines = [line.encode("utf-8", "replace").decode() for line in _BREAK.split(source)]
-    head = f"GraphQL request:{number + 1}:{column + 1}\n"
-    line = lines[number]
-    if len(line) > _LONG:
-        pieces = [line[i : i + _PIECE] for i in range(0, len(line), _PIECE)]
-        piece, column = divmod(column, _PIECE)
-        rows = [(f"{number + 1} |", pieces[0])] + [("|", it) for it in pieces[1 : piece + 1]]
-        rows += [("|", " " * column + "^")] + [("|", it) for it in pieces[piece + 1 : piece + 2]]
-    else:
-        rows = [(f"{number} |", lines[number - 1])] if number > 0 else []
-        rows += [(f"{number + 1} |", line), ("|", " " * column + "^")]
-        rows += [(f"{number + 2} |", it) for it in lines[number + 1 : number + 2]]
-    return head + _table(rows)
-
-
-def _table(rows: List[Tuple[str, str]]) -> str:
-    width = max(len(head) for head, _ in rows)
-    return "\n".join(head.rjust(width) + (f" {line}" if line else "") for head, line in rows)
+def _replaced(source: str) -> bytes:
+    """The UTF-8 of a str, with a question mark for each lone surrogate, which has none."""
+    return str.encode(source, "utf-8", "replace")

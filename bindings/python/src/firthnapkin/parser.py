@@ -10,14 +10,15 @@ from . import _parser
 from .document import Document
 from .errors import ErrorDetail, ErrorKind, FirthnapkinError
 from .parts import Position
+from .schemas import begins_schema
 
 __all__ = ["parse"]
 
 # The statuses of the library.
 _OK, _SYNTAX_ERROR, _TOO_DEEP, _TOO_MANY_TOKENS, _SOURCE_TOO_LONG = 0, 1, 4, 5, 7
 
-# kind, detail, character, and the positions
-_ERROR = struct.Struct("=3I8I")
+# kind, detail, character, the positions, and the bytes that the words show
+_ERROR = struct.Struct("=3I8I2I")
 
 
 def parse(source: str, *, depth: int = 200, max_tokens: Optional[int] = None) -> Document:
@@ -85,12 +86,16 @@ def given(source: str, status: int, first: bytes, texts: bytes) -> Tuple[bytes, 
 
 
 def _error(source: str, told: bytes, words: bytes) -> FirthnapkinError:
-    kind, detail, character, *positions = _ERROR.unpack(told)
+    kind, detail, character, *positions = _ERROR.unpack(told)[:11]
+    start, end = Position(*positions[:4]), Position(*positions[4:])
+    message = words.decode()
+    if kind == ErrorKind.UNEXPECTED_TOKEN.value and begins_schema(source, start.index, end.index):
+        message += ": this is a schema's definition, not a request's"
     return FirthnapkinError(
-        words.decode().rpartition(". At ")[0] or "Too many tokens",
+        message,
         ErrorKind(kind),
-        Position(*positions[:4]),
-        Position(*positions[4:]),
+        start,
+        end,
         source,
         ErrorDetail(detail),
         chr(character) if detail in _WITH_CHARACTER else None,

@@ -6,11 +6,13 @@ import operator
 import struct
 from typing import Any, ClassVar, List, NamedTuple, Sequence, Tuple, TypeVar, Union, overload
 
+from .excerpts import excerpt_of
+
 __all__ = ["Position"]
 
 
 class Position(NamedTuple):
-    """How many characters, line feeds, characters of the line, and bytes of UTF-8 are before a position."""
+    """How many characters, line feeds, characters of the line, and bytes of UTF-8 are before a position: all count from 0."""
 
     index: int  # type: ignore[assignment]
     line: int
@@ -47,6 +49,21 @@ class Part:
         """The source from the start to the end: a number as it is written, a string with its quotes."""
         return self._whole.text[self._told[2] : self._told[6]]
 
+    @property
+    def line(self) -> int:
+        """The line of the start, counted from 1. Lines end at line feeds."""
+        return self._told[3] + 1
+
+    @property
+    def column(self) -> int:
+        """The column of the start in characters, counted from 1."""
+        return self._told[4] + 1
+
+    @property
+    def excerpt(self) -> str:
+        """The lines around the start, with a caret below its character, as `FirthnapkinError.excerpt`. It is made each time."""
+        return excerpt_of(self._whole._written(), self._told[5])
+
     def __eq__(self, other: object) -> bool:
         """Whether both are the same part of the result of one call."""
         if not isinstance(other, Part):
@@ -80,6 +97,10 @@ class Parts(Sequence[P]):
 
     def _part(self, index: int) -> P:
         raise NotImplementedError
+
+    def _written(self) -> bytes:
+        """The source as UTF-8."""
+        return str.encode(self._text)
 
     def __len__(self) -> int:
         return self._count

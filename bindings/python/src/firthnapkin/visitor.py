@@ -5,7 +5,8 @@ from __future__ import annotations
 import enum
 from typing import Callable, List, Optional, Union
 
-from .document import Document, Node
+from .document import Document
+from .nodes import Node
 
 __all__ = ["Step", "Visitor"]
 

@@ -1,0 +1,73 @@
+// The addon's calls, and what is asked of their arguments.
+"use strict";
+
+const addon = require("../firthnapkin.node");
+
+// `curlyOpen` for `curly_open`.
+function camelCase(name) {
+  return name.replace(/_(.)/g, (_, letter) => letter.toUpperCase());
+}
+
+function namesOf(names) {
+  return names.map(camelCase);
+}
+
+function typeOf(value) {
+  if (value === null) return "null";
+  return Array.isArray(value) ? "array" : typeof value;
+}
+
+// What a function returns that allocates: V8 throws a RangeError where memory is short.
+function allocated(allocate) {
+  try {
+    return allocate();
+  } catch (error) {
+    throw error instanceof RangeError ? new Error("memory ran out") : error;
+  }
+}
+
+// The addon calls it with a size.
+function allocate(size) {
+  return allocated(() => new ArrayBuffer(size));
+}
+
+function encoded(source) {
+  return allocated(() => Buffer.from(source));
+}
+
+function requireString(name, value) {
+  if (typeof value !== "string") throw new TypeError(`${name} must be a string, not ${typeOf(value)}`);
+}
+
+// A number that is an integer from 0 to this.
+function integer(name, value, largest) {
+  if (typeof value !== "number") throw new TypeError(`${name} must be a number, not ${typeOf(value)}`);
+  if (!Number.isInteger(value) || value < 0 || value > largest)
+    throw new RangeError(`${name} must be an integer from 0 to ${largest}`);
+  return value;
+}
+
+// The options that are known, each with its default and its largest number.
+const LIMITS = { depth: [200, addon.MAX_DEPTH], maxTokens: [Number.MAX_SAFE_INTEGER, Number.MAX_SAFE_INTEGER] };
+
+// The limits that options are, of those with these names: those that aren't given are the default ones.
+function limitsOf(options, names) {
+  if (typeOf(options) !== "object") throw new TypeError(`options must be an object, not ${typeOf(options)}`);
+  for (const name of Reflect.ownKeys(options)) {
+    if (!names.includes(name)) throw new TypeError(`there is no option ${String(name)}, only ${names.join(" and ")}`);
+  }
+  return names.map((name) => {
+    const [standard, largest] = LIMITS[name];
+    const value = options[name];
+    return value === undefined ? standard : integer(name, value, largest);
+  });
+}
+
+// The lines around a byte of a source that is encoded.
+function excerptAt(bytes, byte) {
+  const { status, texts } = addon.excerpt(bytes, byte, allocate);
+  if (status !== "ok") throw new Error(`the library returned ${status}`);
+  return Buffer.from(texts).utf8Slice();
+}
+
+module.exports = { addon, allocate, allocated, encoded, excerptAt, limitsOf, namesOf, requireString, typeOf };

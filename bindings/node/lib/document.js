@@ -1,0 +1,231 @@
+// A document's nodes.
+"use strict";
+
+const { inspect } = require("util");
+
+const { addon, excerptAt, namesOf, requireString } = require("./calls");
+const { Fragment, Operation } = require("./parts");
+const { Units } = require("./positions");
+const { floatOf, integerOf } = require("./values");
+
+// By their numbers.
+const KINDS = namesOf(addon.KINDS);
+
+// The kinds of nodes that have no name: their bytes are all that the node is written as.
+const WITHOUT_NAME = new Set(["type", "null", "int", "largeInt", "float", "string", "blockString", "boolean"]);
+
+// The numbers of 32 bits of a node, in their order: its kind, its descendants, the start's and the end's index, line, column
+// and byte, the name's bytes, the value's low and high half, the value's length, and one without a meaning.
+const WORDS = 16;
+const START = 2;
+const END = 6;
+const NAME = 10;
+const VALUE = 12;
+const LENGTH = 14;
+
+/** A part of a document, as the library writes it. */
+class Node {
+  #document;
+  #at;
+
+  constructor(document, index) {
+    this.#document = document;
+    this.#at = WORDS * index;
+    this.index = index;
+  }
+
+  #word(number) {
+    return this.#document.words[this.#at + number];
+  }
+
+  get document() {
+    return this.#document;
+  }
+
+  get kind() {
+    return KINDS[this.#word(0)];
+  }
+
+  get descendants() {
+    return this.#word(1);
+  }
+
+  get start() {
+    return this.#document.units.position(this.#document.words, this.#at + START);
+  }
+
+  get end() {
+    return this.#document.units.position(this.#document.words, this.#at + END);
+  }
+
+  get line() {
+    return this.start.line + 1;
+  }
+
+  get column() {
+    return this.start.column + 1;
+  }
+
+  get excerpt() {
+    return excerptAt(this.#document.bytes, this.start.byte);
+  }
+
+  get text() {
+    return this.#document.source.slice(this.start.index, this.end.index);
+  }
+
+  get name() {
+    const from = this.#word(NAME);
+    const to = this.#word(NAME + 1);
+    // A name is ASCII.
+    return from === to || WITHOUT_NAME.has(this.kind) ? null : this.#document.bytes.latin1Slice(from, to);
+  }
+
+  get value() {
+    const from = this.#word(VALUE);
+    const to = from + this.#word(LENGTH);
+    switch (this.kind) {
+      case "int":
+        return from | 0;
+      case "boolean":
+        return from === 1;
+      case "largeInt":
+        return integerOf(this.text);
+      case "float":
+        return floatOf(this.text);
+      case "string":
+      case "blockString":
+      case "type":
+        return this.#document.texts.utf8Slice(from, to);
+      case "fragmentDefinition":
+        return this.#document.bytes.latin1Slice(from, to);
+      case "enum":
+      case "variable":
+        return this.name;
+      default:
+        return null;
+    }
+  }
+
+  get children() {
+    return this.#document.between(this.index + 1, this.index + 1 + this.descendants);
+  }
+
+  get parent() {
+    const parent = this.#document.parents[this.index];
+    return parent < 0 ? null : this.#document.node(parent);
+  }
+
+  toJSON() {
+    const { kind, name, start, end } = this;
+    // JSON has no such numbers.
+    const value = kind === "largeInt" ? this.text : valueOrText(this);
+    const children = this.children.map((child) => child.toJSON());
+    return { kind, name, value, start, end, children };
+  }
+
+  [inspect.custom]() {
+    // The class's prototype is no node.
+    if (!Object.keys(this).includes("index")) return this;
+    const { kind, name, start, end, children } = this;
+    return Object.assign(new Shown(), { kind, name, value: valueOrText(this), start, end, children });
+  }
+}
+
+// What inspect shows of a node, under the same name.
+const Shown = { Node: class {} }.Node;
+
+// A node's value; the text of a number that has none.
+function valueOrText(node) {
+  try {
+    return node.value;
+  } catch (error) {
+    if (!(error instanceof RangeError)) throw error;
+    return node.text;
+  }
+}
+
+/** A document's nodes, each part before the parts in it. */
+class Document {
+  #units;
+  #parents;
+
+  constructor(source, bytes, nodes, texts) {
+    this.source = source;
+    Object.defineProperties(this, {
+      bytes: { value: bytes },
+      words: { value: new Uint32Array(nodes) },
+      texts: { value: texts },
+    });
+    this.length = this.words.length / WORDS;
+  }
+
+  get units() {
+    this.#units ??= new Units(this.source);
+    return this.#units;
+  }
+
+  // The index of each node's parent, and -1 of a definition.
+  get parents() {
+    if (this.#parents === undefined) {
+      const parents = new Float64Array(this.length);
+      const around = [[-1, this.length]];
+      for (let index = 0; index < this.length; index++) {
+        while (around[around.length - 1][1] === index) around.pop();
+        parents[index] = around[around.length - 1][0];
+        around.push([index, index + 1 + this.words[WORDS * index + 1]]);
+      }
+      this.#parents = parents;
+    }
+    return this.#parents;
+  }
+
+  node(index) {
+    if (!Number.isInteger(index) || index < 0 || index >= this.length) throw new RangeError(`there is no node ${index}`);
+    return new Node(this, index);
+  }
+
+  get definitions() {
+    return this.between(0, this.length);
+  }
+
+  get operations() {
+    return this.definitions.filter((node) => node.kind !== "fragmentDefinition").map((node) => new Operation(node));
+  }
+
+  get fragments() {
+    return this.definitions.filter((node) => node.kind === "fragmentDefinition").map((node) => new Fragment(node));
+  }
+
+  operation(name) {
+    const { operations } = this;
+    if (name === undefined || name === null) return operations.length === 1 ? operations[0] : null;
+    requireString("name", name);
+    return operations.find((operation) => operation.name === name) ?? null;
+  }
+
+  fragment(name) {
+    requireString("name", name);
+    return this.fragments.find((fragment) => fragment.name === name) ?? null;
+  }
+
+  between(index, end) {
+    const found = [];
+    while (index < end) {
+      const node = this.node(index);
+      found.push(node);
+      index += 1 + node.descendants;
+    }
+    return found;
+  }
+
+  *[Symbol.iterator]() {
+    for (let index = 0; index < this.length; index++) yield this.node(index);
+  }
+
+  toJSON() {
+    return { definitions: this.definitions.map((definition) => definition.toJSON()) };
+  }
+}
+
+module.exports = { Document, Node };

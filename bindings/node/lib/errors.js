@@ -1,0 +1,88 @@
+// Errors of sources.
+"use strict";
+
+const { addon, encoded, excerptAt, namesOf } = require("./calls");
+const { Units } = require("./positions");
+const { beginsSchema } = require("./schemas");
+
+// By their numbers.
+const KINDS = namesOf(addon.ERROR_KINDS);
+const DETAILS = namesOf(addon.ERROR_DETAILS).map((name) => (name === "none" ? null : name));
+
+// The details that have a character.
+const WITH_CHARACTER = ["unknownCharacter", "unexpectedCharacter", "unknownCharacterInString"];
+
+/** Why a source is no document within the limits, and where. */
+class FirthnapkinError extends Error {
+  #source;
+
+  constructor(reason, told, source) {
+    const [line, column] = [told.start.line + 1, told.start.column + 1];
+    super(`${reason}. At ${line}:${column}`);
+    this.name = "FirthnapkinError";
+    this.reason = reason;
+    this.kind = told.kind;
+    this.detail = told.detail;
+    this.character = told.character;
+    this.start = told.start;
+    this.end = told.end;
+    this.locations = [{ line, column }];
+    this.#source = source;
+  }
+
+  get excerpt() {
+    // Halves of surrogate pairs become replacement characters, which take as many bytes.
+    return excerptAt(encoded(this.#source), this.start.byte);
+  }
+}
+
+// The error of half a surrogate pair at this index.
+function surrogate(source, index) {
+  const line = source.slice(0, index).split("\n").length - 1;
+  const column = index - (source.lastIndexOf("\n", index) + 1);
+  const byte = Buffer.byteLength(source.slice(0, index));
+  const number = source.charCodeAt(index).toString(16).toUpperCase();
+  const told = {
+    kind: "surrogate",
+    detail: null,
+    character: null,
+    start: { index, line, column, byte },
+    end: { index: index + 1, line, column: column + 1, byte: byte + 3 },
+  };
+  return new FirthnapkinError(`Lone surrogate U+${number}`, told, source);
+}
+
+// The error that a call found: its numbers and its words.
+function errorOf(source, numbers, texts) {
+  const words = new Uint32Array(numbers);
+  const units = new Units(source);
+  const detail = DETAILS[words[1]];
+  const told = {
+    kind: KINDS[words[0]],
+    detail,
+    character: WITH_CHARACTER.includes(detail) ? String.fromCodePoint(words[2]) : null,
+    start: units.position(words, 3),
+    end: units.position(words, 7),
+  };
+  let reason = Buffer.from(texts).utf8Slice();
+  if (told.kind === "unexpectedToken" && beginsSchema(source, told.start.index, told.end.index))
+    reason += ": this is a schema's definition, not a request's";
+  return new FirthnapkinError(reason, told, source);
+}
+
+// The source as bytes, or an error where half of a surrogate pair is alone.
+function bytesOf(source) {
+  const alone = source.isWellFormed?.() ? -1 : source.search(/\p{Surrogate}/u);
+  if (alone >= 0) throw surrogate(source, alone);
+  return encoded(source);
+}
+
+// What a call found, or an error.
+function checked(source, { status, parts, texts }) {
+  if (status === "ok") return { parts, texts: Buffer.from(texts) };
+  if (["syntax_error", "too_deep", "too_many_tokens"].includes(status)) throw errorOf(source, parts, texts);
+  // No string has 4 GiB.
+  throw new Error(`the library returned ${status}`);
+}
+
+module.exports = { FirthnapkinError, bytesOf, checked };

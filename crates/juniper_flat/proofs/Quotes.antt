@@ -1,0 +1,195 @@
+-- Which tokens a quote begins, and what is shown of each.
+use Rattle.std.proofs.Common.{◌≡◌, ◌≢◌, ◌∙◌, ◌⊎◌, ℕ, List, [], ◌∷◌, ◌++◌, length, inl, inr, refl, sym, ap, ap₂, subst, arith, codes, get_or, length-append, append-nil}
+use Rattle.std.specs.Prelude.{◌<◌, IsTrue, encode_utf8_all}
+use Rattle.std.specs.Str.{chars, IsUtf8}
+use Rattle.std.proofs.lemmas.Str.{chars-append, chars-encodes, chars_past_char, char_from_byte, encodes-append, encodes-chars, length-le-encodes}
+use lib.Utf8.{encode}
+use Rattle.std.specs.List.{AllByRecursion, concat}
+use Rattle.std.proofs.lemmas.Bool.Decides.{nat_tests}
+use Rattle.graphql_lexical.specs.Characters.{Text, is_name_start, is_nonzero_digit, is_plain}
+use Rattle.graphql_lexical.specs.Display.{shown}
+use Rattle.graphql_lexical.specs.declared.kind.Kind.{Kind}
+use Rattle.graphql_lexical.specs.declared.kind.Kind.TheVariants.{Name, String, BlockString, Float, Int, ExclamationMark, Dollar, ParenOpen, ParenClose, BracketOpen, BracketClose, CurlyOpen, CurlyClose, Ellipsis, Colon, Equals, At, Pipe, EndOfFile}
+use Rattle.graphql_lexical.specs.device.Numbers.{ReadInteger}
+use Rattle.graphql_lexical.specs.device.Whole.{between}
+use Rattle.graphql_lexical.specs.Tokens.{Spells, IsName, IsInteger, IsFloat, Pieces, IsUnit, plain, escape, unicode, mark}
+use Rattle.juniper_flat.specs.Messages.{IsQuoted}
+use Rattle.graphql_lexical.proofs.Public.{name_same, integer_same, unquoted}
+
+abbrev first : List ℕ → ℕ
+first [] = 0
+first (c ∷ cs) = c
+
+first_same : (c d : ℕ) (s t : List ℕ) → c ∷ s ≡ d ∷ t → c ≡ d
+first_same c d s t e = ap first e
+
+-- a first character, which is no quote
+abbrev pub BeginsOther : Text → Type 0
+BeginsOther text = (c : ℕ) × (cs : Text) × (text ≡ c ∷ cs) × (c ≢ 34)
+
+goes_on : (front back : Text) → BeginsOther front → BeginsOther (front ++ back)
+goes_on front back (c, cs, e, n) = (c, cs ++ back, ap (λ t. t ++ back) e, n)
+
+no_quote : (text : Text) → BeginsOther text → (rest : Text) → text ≢ codes "\"" ++ rest
+no_quote text (c, cs, e, n) rest f = n (first_same c 34 cs rest (sym e ∙ f))
+
+-- ---- tokens that no quote begins
+
+name_other : (c : ℕ) → IsTrue (is_name_start c) → c ≢ 34
+name_other c h e = grind (arith, nat_tests)
+
+digit_other : (c : ℕ) → IsTrue (is_nonzero_digit c) → c ≢ 34
+digit_other c h e = grind (arith, nat_tests)
+
+plain_other : (c : ℕ) → IsTrue (is_plain c) → c ≢ 34
+plain_other c h e = grind (arith, nat_tests)
+
+name_begins : (t : Text) → IsName t → BeginsOther t
+name_begins t h = let r = (name_same t).0 h in (r.0, r.1, r.2, name_other r.0 r.3)
+
+fixed_begins : (c : ℕ) (cs t : Text) → c ≢ 34 → t ≡ c ∷ cs → BeginsOther t
+fixed_begins c cs t n e = (c, cs, e, n)
+
+zero_other : (c : ℕ) → c ≡ 48 → c ≢ 34
+zero_other c e f = omega (arith, e, f)
+
+minus_other : (c : ℕ) → c ≡ 45 → c ≢ 34
+minus_other c e f = omega (arith, e, f)
+
+read_begins : (t : Text) → ReadInteger t → BeginsOther t
+read_begins t (inl (inl e)) = (48, [], e, zero_other 48 refl)
+read_begins t (inl (inr e)) = (45, codes "0", e, minus_other 45 refl)
+read_begins t (inr (sign, d, ds, e, inl s, n, h)) = (d, ds, e ∙ ap (λ t. t ++ d ∷ ds) s, digit_other d n)
+read_begins t (inr (sign, d, ds, e, inr s, n, h)) = (45, d ∷ ds, e ∙ ap (λ t. t ++ d ∷ ds) s, minus_other 45 refl)
+
+integer_begins : (t : Text) → IsInteger t → BeginsOther t
+integer_begins t h = read_begins t ((integer_same t).0 h)
+
+float_begins : (t : Text) → IsFloat t → BeginsOther t
+float_begins t h = subst BeginsOther (sym h.whole) (goes_on h.front h.back (integer_begins h.front h.first))
+
+-- ---- strings
+
+unit_begins : (t : Text) → IsUnit t → BeginsOther t
+unit_begins _ (plain {c} h) = (c, [], refl, plain_other c h)
+unit_begins _ (escape {c} h) = (92, c ∷ [], refl, λ e. omega (arith, e))
+unit_begins _ (unicode {h} {i} {j} {k} s) = (92, 117 ∷ h ∷ i ∷ j ∷ k ∷ [], refl, λ e. omega (arith, e))
+
+units_begin : (units : List Text) → AllByRecursion IsUnit units → (rest : Text) → concat units ≢ codes "\"" ++ rest
+units_begin [] h rest e = absurd (omega (arith, ap length e))
+units_begin (unit ∷ units) h rest e = no_quote (unit ++ concat units) (goes_on unit (concat units) (unit_begins unit h.0)) rest e
+
+string_quoted : (whole text : Text) → whole ≡ codes "\"" ++ (text ++ codes "\"") → Pieces IsUnit text → IsQuoted whole text
+string_quoted whole text e (units, h, f) =
+    (e, λ rest g. units_begin units h rest (sym f ∙ g))
+
+not_quoted : (whole : Text) → BeginsOther whole → (text : Text) → IsQuoted whole text → ⊥
+not_quoted whole b text q = no_quote whole b (text ++ codes "\"") q.0
+
+block_not_quoted : (whole text : Text) → whole ≡ mark ++ (text ++ mark) → (t : Text) → IsQuoted whole t → ⊥
+block_not_quoted whole text e [] q = absurd (omega (arith, ap length (sym e ∙ q.0), length-append text mark))
+block_not_quoted whole text e (c ∷ cs) q = q.1 cs (ap (λ d. d ∷ cs) (quote_first c _ _ (sym q.0 ∙ e)))
+  where
+    quote_first : (c : ℕ) (s t : Text) → 34 ∷ c ∷ s ≡ 34 ∷ 34 ∷ t → c ≡ 34
+    quote_first c s t e = first_same c 34 s t (ap rest_of e)
+      where
+        rest_of : Text → Text
+        rest_of [] = []
+        rest_of (c ∷ cs) = cs
+
+-- ---- what is shown
+
+-- Of a String the text between its quotes, with escapes; of any other token all of it.
+abbrev pub IsShown : Text → Text → Text → Type 0
+IsShown whole text told =
+    (IsQuoted whole text × (told ≡ shown String text)) ⊎ (((t : Text) → IsQuoted whole t → ⊥) × (told ≡ whole))
+
+fixed_shown : (c : ℕ) (cs whole text : Text) → c ≢ 34 → whole ≡ c ∷ cs → text ≡ whole → IsShown whole text text
+fixed_shown c cs whole text n e f = inr (not_quoted whole (c, cs, e, n), f)
+
+pub is_shown : (whole : Text) (kind : Kind) (text : Text) → Spells whole kind text → IsShown whole text (shown kind text)
+is_shown whole Name text h = inr (not_quoted whole (name_begins whole h.0), h.1)
+is_shown whole String text h = inl (string_quoted whole text h.0 h.1, refl)
+is_shown whole BlockString text h = inr (block_not_quoted whole text h.0, sym h.0)
+is_shown whole Float text h = inr (not_quoted whole (float_begins whole h.0), h.1)
+is_shown whole Int text h = inr (not_quoted whole (integer_begins whole h.0), h.1)
+is_shown whole ExclamationMark text h = fixed_shown 33 [] whole text (λ e. omega (arith, e)) h.0 h.1
+is_shown whole Dollar text h = fixed_shown 36 [] whole text (λ e. omega (arith, e)) h.0 h.1
+is_shown whole ParenOpen text h = fixed_shown 40 [] whole text (λ e. omega (arith, e)) h.0 h.1
+is_shown whole ParenClose text h = fixed_shown 41 [] whole text (λ e. omega (arith, e)) h.0 h.1
+is_shown whole BracketOpen text h = fixed_shown 91 [] whole text (λ e. omega (arith, e)) h.0 h.1
+is_shown whole BracketClose text h = fixed_shown 93 [] whole text (λ e. omega (arith, e)) h.0 h.1
+is_shown whole CurlyOpen text h = fixed_shown 123 [] whole text (λ e. omega (arith, e)) h.0 h.1
+is_shown whole CurlyClose text h = fixed_shown 125 [] whole text (λ e. omega (arith, e)) h.0 h.1
+is_shown whole Ellipsis text h = fixed_shown 46 (46 ∷ 46 ∷ []) whole text (λ e. omega (arith, e)) h.0 h.1
+is_shown whole Colon text h = fixed_shown 58 [] whole text (λ e. omega (arith, e)) h.0 h.1
+is_shown whole Equals text h = fixed_shown 61 [] whole text (λ e. omega (arith, e)) h.0 h.1
+is_shown whole At text h = fixed_shown 64 [] whole text (λ e. omega (arith, e)) h.0 h.1
+is_shown whole Pipe text h = fixed_shown 124 [] whole text (λ e. omega (arith, e)) h.0 h.1
+is_shown whole EndOfFile text h = absurd h
+
+-- one text alone is quoted so
+pub quoted_once : (whole s t : Text) → IsQuoted whole s → whole ≡ codes "\"" ++ (t ++ codes "\"") → t ≡ s
+quoted_once whole s t q e =
+    sym (unquoted 34 [] t) ∙ (ap (between (codes "\"")) (sym e ∙ q.0) ∙ unquoted 34 [] s)
+
+-- what is shown of a String, by what stands between its quotes
+pub shown_string : (whole text between told : Text) → IsQuoted whole between → IsShown whole text told
+    → shown String between ≡ told
+shown_string whole text between told q (inl (r, e)) =
+    ap (shown String) (quoted_once whole text between r q.0) ∙ sym e
+shown_string whole text between told q (inr (n, e)) = absurd (n between q)
+
+-- what is shown of any other token, by its bytes
+pub shown_plain : (bytes text told : List ℕ) → IsUtf8 bytes → ((t : Text) → IsQuoted (chars bytes) t → ⊥)
+    → IsShown (chars bytes) text told → bytes ≡ encode_utf8_all told
+shown_plain bytes text told u n (inl (q, e)) = absurd (n text q)
+shown_plain bytes text told u n (inr (m, e)) = sym (encodes-chars bytes u) ∙ ap encode_utf8_all (sym e)
+
+-- ---- the bytes between quotes
+
+pub encode_quote : encode 34 ≡ 34 ∷ []
+unfolding encode
+encode_quote = refl
+
+one_quote : encode_utf8_all (34 ∷ []) ≡ 34 ∷ []
+unfolding encode
+one_quote = refl
+
+chars_quote : chars (34 ∷ []) ≡ 34 ∷ []
+chars_quote = sym (ap chars one_quote) ∙ chars-encodes (34 ∷ []) refl
+
+pub quoted_bytes : (bytes : List ℕ) (text : Text) → IsUtf8 bytes → chars bytes ≡ codes "\"" ++ (text ++ codes "\"")
+    → bytes ≡ 34 ∷ (encode_utf8_all text ++ 34 ∷ [])
+quoted_bytes bytes text u e =
+    sym (encodes-chars bytes u) ∙ (ap encode_utf8_all e ∙ (encodes-append (34 ∷ []) (text ++ 34 ∷ [])
+    ∙ ap₂ (λ a b. a ++ b) one_quote (encodes-append text (34 ∷ []) ∙ ap (λ b. encode_utf8_all text ++ b) one_quote)))
+
+pub quoted_characters : (bytes text : List ℕ) → IsUtf8 bytes → IsUtf8 text → bytes ≡ 34 ∷ (text ++ 34 ∷ [])
+    → chars bytes ≡ codes "\"" ++ (chars text ++ codes "\"")
+quoted_characters bytes text u v e =
+    chars_past_char bytes (text ++ 34 ∷ []) 34 u (e ∙ ap (λ a. a ++ (text ++ 34 ∷ [])) (sym encode_quote))
+    ∙ ap (λ t. 34 ∷ t) (chars-append text (34 ∷ []) v ∙ ap (λ b. chars text ++ b) chars_quote)
+
+pub first_byte : (bytes rest : List ℕ) → IsUtf8 bytes → chars bytes ≡ 34 ∷ rest → get_or bytes 0 0 ≡ 34
+first_byte bytes rest u e =
+    ap (λ t. get_or t 0 0) (sym (encodes-chars bytes u) ∙ (ap encode_utf8_all e
+    ∙ (encodes-append (34 ∷ []) rest ∙ ap (λ a. a ++ encode_utf8_all rest) one_quote)))
+
+pub first_character : (text : Text) → get_or (encode_utf8_all text) 0 0 ≡ 34 → (cs : Text) × (text ≡ 34 ∷ cs)
+first_character [] e = absurd (omega (arith, e))
+first_character (c ∷ cs) e =
+    let bytes = encode_utf8_all (c ∷ cs) in
+    let some : 0 < length bytes = omega (arith, length-le-encodes (c ∷ cs)) in
+    (cs, ap (λ d. d ∷ cs) (char_from_byte bytes (encode_utf8_all cs) c (encodes-append (c ∷ []) cs ∙ ap (λ a. a ++ encode_utf8_all cs) (append-nil (encode c))) (omega (arith, e)) some ∙ e))
+
+abbrev tail_of : List ℕ → List ℕ
+tail_of [] = []
+tail_of (b ∷ bs) = bs
+
+pub tail_same : (s t : List ℕ) → 34 ∷ s ≡ 34 ∷ t → s ≡ t
+tail_same s t e = ap tail_of e
+
+pub same_between : (bytes s t : List ℕ) → bytes ≡ 34 ∷ (s ++ 34 ∷ []) → bytes ≡ 34 ∷ (t ++ 34 ∷ []) → s ≡ t
+same_between bytes s t e f =
+    sym (unquoted 34 [] s) ∙ (ap (between (34 ∷ [])) (sym e ∙ f) ∙ unquoted 34 [] t)

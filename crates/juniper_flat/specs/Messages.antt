@@ -1,0 +1,61 @@
+-- The words of an error.
+use Rattle.std.specs.Prelude.{◌≡◌, ◌≢◌, ◌<◌, ◌≤◌, ◌-◌, ◌^◌, ◌⊎◌, ℕ, List, ◌++◌, take, drop, length, codes, encode_utf8_all, IsUtf8, chars, Option, Some, None, Result, Ok, Err, String, string_bytes}
+use Rattle.std.specs.declared.alloc.Global.{Global}
+use Rattle.graphql_lexical.specs.Characters.{Text}
+use Rattle.graphql_lexical.specs.Place.{Span}
+use Rattle.juniper_tokens.specs.Errors as errors
+use Rattle.juniper_tokens.specs.Errors.{error_text}
+use Rattle.juniper.specs.Promise.{IsRefusal}
+use Rattle.juniper_flat.specs.Answers.{scalars}
+use Rattle.juniper_flat.specs.Faults.{written_fault, deep_fault, many_fault}
+use Rattle.juniper_flat.specs.Sources.{IsUnread}
+use Rattle.juniper_flat.specs.declared.fault.Fault.{Fault}
+use Rattle.juniper_flat.specs.declared.source.Unread.{Unread}
+
+-- Such an error of this source is given by calls, and these are its words, in UTF-8.
+pub data IsErrorOf (source : List ℕ) (fault : Fault) : List ℕ → Type 0 where
+  refused : {found : errors.Fault} → IsRefusal scalars (chars source) found → fault ≡ written_fault (chars source) found
+      → IsErrorOf source fault (encode_utf8_all (error_text found.error))
+  too_deep : {span : Span} → fault ≡ deep_fault (chars source) span → IsErrorOf source fault (codes "Too deeply nested")
+  too_many : {span : Span} → fault ≡ many_fault (chars source) span → IsErrorOf source fault (codes "Too many tokens")
+
+-- If the error is one that calls give, these are its words.
+abbrev pub AreWords : List ℕ → Fault → List ℕ → Type 0
+AreWords source fault message = (words : List ℕ) → IsErrorOf source fault words → message ≡ words
+
+-- no call on this source gives the error
+abbrev pub IsNoErrorOf : List ℕ → Fault → Type 0
+IsNoErrorOf source fault = (words : List ℕ) → IsErrorOf source fault words → ⊥
+
+-- no scalar type's own error
+abbrev pub IsOfGrammar : errors.Error → Type 0
+IsOfGrammar (errors.UnexpectedToken t) = Unit {0}
+IsOfGrammar errors.UnexpectedEndOfFile = Unit {0}
+IsOfGrammar (errors.Lexical e) = Unit {0}
+IsOfGrammar (errors.ExpectedScalar t) = ⊥
+
+-- an error in words, of which there are some, or why there are none
+abbrev pub ReturnsMessage : List ℕ → Fault → Result (Option (String Global)) Unread → Type 0
+ReturnsMessage source fault (Ok (Some message)) = (length source < 2 ^ 32)
+    × (IsUtf8 source × ((0 < length (string_bytes message)) × AreWords source fault (string_bytes message)))
+ReturnsMessage source fault (Ok None) = (length source < 2 ^ 32) × (IsUtf8 source × IsNoErrorOf source fault)
+ReturnsMessage source fault (Err unread) = IsUnread source unread
+
+-- the statuses of `firthnapkin_message` and `firthnapkin_excerpt`
+abbrev pub IsWordsStatus : ℕ → Type 0
+IsWordsStatus n = (n ≡ 0) ⊎ (((2 ≤ n) × (n ≤ 3)) ⊎ (((6 ≤ n) × (n ≤ 7)) ⊎ (n ≡ 9)))
+
+-- ---- how they are found
+
+-- the bytes of the source that the error shows
+abbrev pub shown_bytes : List ℕ → Fault → List ℕ
+shown_bytes source fault = take (fault.text_end - fault.text_start) (drop fault.text_start source)
+
+-- these bytes are a text
+abbrev pub ShowsText : List ℕ → Fault → Type 0
+ShowsText source fault =
+    (fault.text_start ≤ fault.text_end) × ((fault.text_end ≤ length source) × IsUtf8 (shown_bytes source fault))
+
+-- The text is a String's token, and this stands between its quotes.
+abbrev pub IsQuoted : Text → Text → Type 0
+IsQuoted whole text = (whole ≡ codes "\"" ++ (text ++ codes "\"")) × ((rest : Text) → text ≢ codes "\"" ++ rest)
