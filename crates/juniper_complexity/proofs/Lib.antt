@@ -1,0 +1,15 @@
+pub mod Places
+pub mod Steps
+pub mod Measure
+pub mod Elements
+pub mod Algebra
+pub mod Gaining
+pub mod Selecting
+pub mod Bridge
+pub mod Counting
+pub mod Unique
+pub mod Levels
+pub mod Expanding
+pub mod Gathering
+pub mod OneFault
+pub mod Total

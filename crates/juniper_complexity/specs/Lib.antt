@@ -1,0 +1,5 @@
+pub mod Complexities
+pub mod Parts
+pub mod Expansion
+pub mod Faults
+pub mod device

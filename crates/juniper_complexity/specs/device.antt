@@ -1,0 +1,4 @@
+pub mod Sums
+pub mod BySpreads
+pub mod Outlines
+pub mod Walk

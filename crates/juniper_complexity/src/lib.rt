@@ -1,0 +1,15 @@
+//! The complexity of each operation of a document: how many fields, aliases and directives it has, and how deep it is, with
+//! every fragment expanded (GraphQL specification, October 2021, section 2.8).
+#![tactic(auto)]
+
+mod complexity;
+pub mod laws;
+mod names;
+mod operations;
+mod outline;
+#[cfg(test)]
+mod tests;
+mod walk;
+
+pub use complexity::{Complexity, ComplexityFailure};
+pub use operations::{OperationComplexity, operation_complexities};
