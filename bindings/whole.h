@@ -27,7 +27,7 @@ static inline void give_back(whole *w) {
     w->texts = NULL;
 }
 
-/* Allocates arrays of so many nodes and bytes, in place of those that are there; never NULL. False where memory ran out. */
+/* Allocates arrays of so many nodes and bytes, in place of those that are there; never NULL. False if memory runs out. */
 static inline int make_buffers(whole *w, size_t nodes, size_t texts) {
     give_back(w);
     w->nodes = malloc((nodes + 1) * sizeof *w->nodes);

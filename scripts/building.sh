@@ -99,7 +99,7 @@ is_linked() {
     [ -e "$root/out/libfirthnapkin.sources" ] && sums_of_link | cmp -s - "$root/out/libfirthnapkin.sources"
 }
 
-# Sets $python to a Python that can build the package, and to nothing where there is none.
+# Sets $python to a Python that can build the package, and to nothing if there is none.
 find_python() {
     for python in /usr/bin/python3 python3; do
         "$python" -c 'import setuptools, pip, sys, sysconfig, os
@@ -172,7 +172,7 @@ prove_after_others() {
     fi
 }
 
-# flags_of NAME: what the kit is told beside the crate where it builds this library. A script may say other ones.
+# flags_of NAME: the flags that the kit gets beside the crate when it builds this library. A script may say other ones.
 flags_of() { :; }
 
 # prove_crate NAME FOLDER: a program is proved by running it, a library by building it. The folder is for notes.

@@ -45,7 +45,7 @@ def unquoted(token: str) -> str:
 
 
 def joined(tokens: List[str]) -> str:
-    """Tokens one after the other, with a space between two that are no punctuators, and before `...` after one that is none."""
+    """Tokens one after the other, with a space between two non-punctuators, and between a non-punctuator and `...`."""
     parted = (
         not PUNCTUATOR.fullmatch(before) and (after == "..." or not PUNCTUATOR.fullmatch(after))
         for before, after in zip(tokens, tokens[1:])

@@ -45,7 +45,7 @@ static uint32_t write_words(uint32_t (*call)(const uint8_t *, size_t, const firt
     return status;
 }
 
-/* Writes why a source is no document, and its lines around that. */
+/* Writes why a source isn't a document, and its lines around that. */
 static uint32_t write_error(const uint8_t *source, size_t length, const firthnapkin_error *error) {
     uint32_t status = write_words(firthnapkin_message, source, length, error);
     return status == FIRTHNAPKIN_OK ? write_words(firthnapkin_excerpt, source, length, error) : status;

@@ -83,7 +83,7 @@ func (e *SyntaxError) Column() int {
 //	  |     ^
 //	3 | }
 //
-// There is no line feed at the end. The excerpt is made anew each time. It is "" where memory ran out.
+// There is no line feed at the end. The excerpt is made anew each time. It is "" if memory ran out.
 func (e *SyntaxError) Excerpt() string {
 	return excerptAt(e.source, e.Start.Byte)
 }

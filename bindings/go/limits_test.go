@@ -107,7 +107,7 @@ func TestTokens(t *testing.T) {
 	}
 }
 
-// A source that is too long is not read: there is no memory behind this one.
+// A source that is too long is not read: no memory backs this one.
 func TestTooLong(t *testing.T) {
 	bytes, err := syscall.Mmap(-1, 0, 1<<32, syscall.PROT_READ, syscall.MAP_PRIVATE|syscall.MAP_ANON|syscall.MAP_NORESERVE)
 	if err != nil {

@@ -176,7 +176,7 @@ type Operation struct{ part }
 // Kind returns KindQuery, KindMutation or KindSubscription.
 func (o Operation) Kind() Kind { return o.node().Kind }
 
-// Name returns the name, and "" where there is none.
+// Name returns the name, and "" if there is none.
 func (o Operation) Name() string { return o.document.Name(o.index) }
 
 // Variables returns the variable definitions, in the order of the source.
@@ -216,7 +216,7 @@ func (f Fragment) Selections() []Selection { return f.selections() }
 // Field is a field that is selected.
 type Field struct{ part }
 
-// Alias returns the alias, and "" where there is none.
+// Alias returns the alias, and "" if there is none.
 func (f Field) Alias() string {
 	if alias, ok := f.first(KindAlias); ok {
 		return f.document.Name(alias.index)
@@ -227,7 +227,7 @@ func (f Field) Alias() string {
 // Name returns the name of the field, whatever its alias.
 func (f Field) Name() string { return f.document.Name(f.index) }
 
-// ResponseKey returns the alias, and the name where there is none: the key of the field in a response.
+// ResponseKey returns the alias, and the name if there is none: the key of the field in a response.
 func (f Field) ResponseKey() string {
 	if alias := f.Alias(); alias != "" {
 		return alias
@@ -263,7 +263,7 @@ func (FragmentSpread) isSelection() {}
 // InlineFragment is a fragment without a name.
 type InlineFragment struct{ part }
 
-// TypeCondition returns the name of the type that the fragment is on, and "" where there is none.
+// TypeCondition returns the name of the type that the fragment is on, and "" if there is none.
 func (f InlineFragment) TypeCondition() string { return f.document.Name(f.index) }
 
 // Directives returns the directives, in the order of the source.

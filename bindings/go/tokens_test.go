@@ -120,7 +120,7 @@ func TestLimitedTokens(t *testing.T) {
 	}
 }
 
-// What is too long is not read: there is no memory behind this one.
+// What is too long is not read: no memory backs this one.
 func TestTooLongForTokens(t *testing.T) {
 	bytes, err := syscall.Mmap(-1, 0, 1<<32, syscall.PROT_READ, syscall.MAP_PRIVATE|syscall.MAP_ANON|syscall.MAP_NORESERVE)
 	if err != nil {

@@ -4,7 +4,7 @@ package firthnapkin
 
 import "strconv"
 
-// Enum is the value of an enum, by its name. It is no string, so the two are told apart.
+// Enum is the value of an enum, by its name. It isn't a string, so the two can be distinguished.
 type Enum struct{ Name string }
 
 // String returns the name.

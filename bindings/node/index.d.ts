@@ -103,7 +103,7 @@ export interface Document extends Iterable<Node> {
   fragment(name: string): Fragment | null;
   /** The nodes of the operations and fragments. */
   readonly definitions: Node[];
-  /** The node of this index; throws a RangeError where there is none. */
+  /** The node of this index; throws a RangeError if there is none. */
   node(index: number): Node;
   /** What JSON.stringify writes. */
   toJSON(): DocumentParts;
@@ -143,7 +143,7 @@ export interface Field extends Part {
   readonly alias: string | null;
   /** The name of the field, whatever its alias. */
   readonly name: string;
-  /** The alias, or the name where there is none: the key of the field in a response. */
+  /** The alias, or the name if there is none: the key of the field in a response. */
   readonly responseKey: string;
   readonly arguments: Argument[];
   /** The first argument of a name. */
@@ -175,7 +175,7 @@ export interface VariableDefinition extends Part {
   readonly name: string;
   /** The type without spaces, as `[ID!]!`. */
   readonly type: string;
-  /** The default value; undefined where there is none. Throws a RangeError as `Argument.value` does. */
+  /** The default value; undefined if there is none. Throws a RangeError as `Argument.value` does. */
   readonly defaultValue: Value | undefined;
   readonly directives: Directive[];
 }
@@ -234,7 +234,7 @@ export type ErrorKind =
   | "tooDeep"
   /** A token is one too many. */
   | "tooManyTokens"
-  /** A half of a surrogate pair is alone, so the string is no text. */
+  /** A half of a surrogate pair is alone, so the string can't be encoded as UTF-8. */
   | "surrogate";
 
 /** Why there is no token. */
@@ -243,7 +243,7 @@ export type ErrorDetail =
   | "unexpectedEndInToken";
 
 /**
- * Why a source is no document within the limits, and where. The message ends with the line and the column, as in `locations`.
+ * Why a source isn't a document within the limits, and where. The message ends with the line and the column, as in `locations`.
  */
 export class FirthnapkinError extends Error {
   private constructor();
@@ -271,9 +271,9 @@ export interface Options {
 }
 
 /**
- * The document that a source is. Throws a FirthnapkinError where it is none, a bracket is nested deeper, or a token is one too many,
+ * The document that a source is. Throws a FirthnapkinError if it isn't one, a bracket is nested deeper, or a token is one too many,
  * before anything is built; a TypeError where the source is no string, a limit no number, or the options are no object or
- * have a name that `Options` lacks; a RangeError where a limit is no integer of its range; an Error where memory ran out.
+ * have a name that `Options` lacks; a RangeError where a limit is no integer of its range; an Error if memory runs out.
  */
 export function parse(source: string, options?: Options): Document;
 
@@ -307,7 +307,7 @@ export interface Token extends Shown {
 export interface Tokens extends Iterable<Token> {
   readonly source: string;
   readonly length: number;
-  /** The token of this index; throws a RangeError where there is none. */
+  /** The token of this index; throws a RangeError if there is none. */
   token(index: number): Token;
 }
 
@@ -326,7 +326,7 @@ export function tokens(source: string, options?: TokenOptions): Tokens;
 /**
  * The canonical text of a source, one for each query whatever its white space and comments: its tokens as they are written, with a
  * space between two neighbours of which neither is a punctuator, and before `...` after a token that is no punctuator. Throws a
- * FirthnapkinError at the first position that has no token; a TypeError where the source is no string; an Error where memory ran out.
+ * FirthnapkinError at the first position that has no token; a TypeError where the source is no string; an Error if memory runs out.
  */
 export function canonical(source: string): string;
 

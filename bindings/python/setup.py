@@ -1,7 +1,7 @@
 """Builds the package with the library included, on the stable ABI: the wheel works with Python 3.9 and later.
 
 There is no pyproject.toml. With one, each release of pip fetches setuptools from a registry even where it is installed, unless
-it is told --no-build-isolation. Without one only the newer releases do.
+it gets --no-build-isolation. Without one only the newer releases do.
 """
 
 import os

@@ -282,7 +282,7 @@ static void refused(void) {
           "an error of another source");
 }
 
-/* What is no text, what is too long, and nothing. */
+/* What isn't UTF-8, what is too long, and nothing. */
 static void sources(void) {
     firthnapkin_error error = {.kind = FIRTHNAPKIN_ERROR_TOO_DEEP};
     words_call *calls[] = {firthnapkin_message, firthnapkin_excerpt};

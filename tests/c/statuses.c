@@ -21,11 +21,11 @@ typedef struct {
 #define ANY WITHIN(200, UINT32_MAX)
 
 static const row PARSES[] = {
-    /* An invalid limit, and what no text is. */
+    /* An invalid limit, and what isn't UTF-8. */
     {"{\xff", WITHIN(1001, 0), 0, FIRTHNAPKIN_INVALID_LIMIT, NO_ERROR},
     {"{ ? a", UNKNOWN, 0, FIRTHNAPKIN_INVALID_LIMIT, NO_ERROR},
     {"{a}", WITHIN(1001, UINT32_MAX), 0, FIRTHNAPKIN_INVALID_LIMIT, NO_ERROR},
-    /* What no text is, after a token too many, a lexical error, a token too deep, an error, or in a buffer that is too small. */
+    /* What isn't UTF-8, after a token too many, a lexical error, a token too deep, an error, or in a buffer that is too small. */
     {"a b \xff", WITHIN(200, 1), 0, FIRTHNAPKIN_NOT_UTF8, NO_ERROR},
     {"{ ? \xff", ANY, MOST, FIRTHNAPKIN_NOT_UTF8, NO_ERROR},
     {"{a{b}} \xff", WITHIN(1, 99), MOST, FIRTHNAPKIN_NOT_UTF8, NO_ERROR},
@@ -167,7 +167,7 @@ static void too_long(void) {
     munmap(source, FOUR_GIB);
 }
 
-/* What is no text comes before an error that is invalid, and that before a buffer that is too small. */
+/* What isn't UTF-8 comes before an error that is invalid, and that before a buffer that is too small. */
 static void words(void) {
     firthnapkin_error invalid = {.kind = 99, .start.byte = 99}, valid = {.kind = FIRTHNAPKIN_ERROR_TOO_DEEP};
     const uint8_t *text = (const uint8_t *)"a", *none = (const uint8_t *)"\xff";

@@ -12,7 +12,7 @@ const DETAILS = namesOf(addon.ERROR_DETAILS).map((name) => (name === "none" ? nu
 // The details that have a character.
 const WITH_CHARACTER = ["unknownCharacter", "unexpectedCharacter", "unknownCharacterInString"];
 
-/** Why a source is no document within the limits, and where. */
+/** Why a source isn't a document within the limits, and where. */
 class FirthnapkinError extends Error {
   #source;
 

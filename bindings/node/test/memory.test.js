@@ -108,7 +108,7 @@ test("the addon takes no other arguments", () => {
     assert.throws(() => addon.parse(...words), { message: /^parse takes a buffer, a depth, a number of tokens and a function$/ });
   for (const other of [5, () => 5, () => new ArrayBuffer(0), (size) => new ArrayBuffer(size + 1), (size) => Buffer.alloc(size)])
     assert.throws(() => addon.parse(source, 5, 5, other), { message: "the result was not made" });
-  // A depth that is none of the range is refused by the library, and a number of tokens beyond it is no limit.
+  // A depth out of range is refused by the library, and a number of tokens beyond it is no limit.
   for (const depth of [-1, NaN, Infinity, 1001, 2 ** 32, 1e300]) assert.strictEqual(addon.parse(source, depth, 5, allocate).status, "invalid_limit");
   for (const tokens of [-1, NaN, Infinity, 2 ** 32, 1e300]) assert.strictEqual(addon.parse(source, 5, tokens, allocate).status, "ok");
   for (const words of [[], [source], [source, 5], [source, "5", allocate], ["{ a }", 5, allocate]]) {

@@ -52,7 +52,7 @@ test("the rows of the language, which tests/rows.py writes", { skip: ROWS ? fals
   let count = 0;
   for (const row of fs.readFileSync(ROWS, "latin1").trim().split("\n")) {
     const [source, wanted] = row.split(" ").map((word) => Buffer.from(word, "hex"));
-    // Bytes that are no text can't be a string.
+    // Bytes that aren't UTF-8 can't be a string.
     if (wanted.toString() === "Not UTF-8") continue;
     assert.strictEqual(lines(source.toString()), wanted.toString());
     count++;

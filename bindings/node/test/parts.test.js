@@ -147,7 +147,7 @@ test("excerpts of errors", () => {
   ])
     assert.strictEqual(errorOf(source).excerpt, wanted);
   assert.strictEqual(errorOf("{ a }", { maxTokens: 1 }).excerpt, "1 | { a }\n  |   ^");
-  // A program that changes an error's position is told so.
+  // A program that changes an error's position gets an error.
   const error = errorOf("{");
   error.start.byte = 5;
   assert.throws(() => error.excerpt, { message: "the library returned invalid_error" });

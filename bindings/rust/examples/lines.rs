@@ -1,4 +1,4 @@
-//! Writes the kinds and names of the nodes of standard input, or why it is no document.
+//! Writes the kinds and names of the nodes of standard input, or why it isn't a document.
 
 use std::io::Read;
 

@@ -284,7 +284,7 @@ impl<'d, 'a> Node<'d, 'a> {
         self.raw().start.column + 1
     }
 
-    /// The lines around its start, as [`SyntaxError::excerpt`](crate::SyntaxError::excerpt) has them; nothing where memory ran out.
+    /// The lines around its start, as [`SyntaxError::excerpt`](crate::SyntaxError::excerpt) has them; nothing if memory runs out.
     pub fn excerpt(&self) -> Option<String> {
         call::excerpt(self.document.source, self.raw().start.byte)
     }

@@ -9,7 +9,7 @@ use std::fmt;
 #[derive(Clone, Debug, PartialEq, Eq)]
 #[non_exhaustive]
 pub enum Error {
-    /// The source is no document, or exceeds a limit.
+    /// The source isn't a document, or exceeds a limit.
     Syntax(SyntaxError),
     /// Memory ran out.
     OutOfMemory,
@@ -19,7 +19,7 @@ pub enum Error {
     InvalidLimit,
 }
 
-/// Why a source is no document within the limits, and where.
+/// Why a source isn't a document within the limits, and where.
 #[derive(Clone, Debug, PartialEq, Eq)]
 pub struct SyntaxError {
     /// The error, without its position.

@@ -142,7 +142,7 @@ impl<'a> Token<'a> {
         &self.source[self.raw.start.byte as usize + quotes..self.raw.end.byte as usize - quotes]
     }
 
-    /// The lines around its start, as [`SyntaxError::excerpt`](crate::SyntaxError::excerpt) has them; nothing where memory ran out.
+    /// The lines around its start, as [`SyntaxError::excerpt`](crate::SyntaxError::excerpt) has them; nothing if memory runs out.
     pub fn excerpt(&self) -> Option<String> {
         call::excerpt(self.source, self.raw.start.byte)
     }

@@ -241,7 +241,7 @@ impl<'d, 'a> Field<'d, 'a> {
         name(self.0)
     }
 
-    /// The alias, or the name where there is none: the key of the field in a response.
+    /// The alias, or the name if there is none: the key of the field in a response.
     pub fn response_key(&self) -> &'a str {
         self.alias().unwrap_or_else(|| self.name())
     }

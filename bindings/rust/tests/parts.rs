@@ -172,7 +172,7 @@ fn excerpts_of_errors() {
     }
     let error = error_of("{ a }", Limits { tokens: 1, ..Limits::default() });
     assert_eq!(error.excerpt("{ a }").as_deref(), Some("1 | { a }\n  |   ^"));
-    // Of other sources: where there is such a byte, and where there is none.
+    // Of other sources: with such a byte, and without.
     assert_eq!(error.excerpt("é\nb").as_deref(), Some("1 | é\n  |  ^\n2 | b"));
     assert_eq!((error.excerpt("a"), error.excerpt("aé")), (None, None));
 }

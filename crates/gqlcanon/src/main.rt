@@ -24,13 +24,13 @@ fn main(rt: HostRuntime) -> ExitCode {
     let mut writer = Watched::new(rt.stdout());
     let end = run(rt.alloc(), &mut reader, &mut writer);
     if let Some(fault) = fault_of(end) {
-        // Where standard error fails too, nothing is left to report to.
+        // If standard error fails too, nothing is left to report to.
         let _ = eprintln!(rt; "{fault}");
     }
     ExitCode::from(status_of(end))
 }
 
-// What is written to standard error, where a run has no report.
+// What is written to standard error if a run has no report.
 fn fault_of(end: RunEnd) -> Option<Fault>
     ensures { result ≡ fault_at end }
 {

@@ -17,9 +17,9 @@ use streams::{Stop, Watched, read_all, write_all};
 pub enum RunEnd {
     /// The bytes are a text that can be cut into tokens: its canonical text.
     Text,
-    /// The bytes are a text that can't be cut into tokens: its first lexical error, and where it stands.
+    /// The bytes are UTF-8 but can't be cut into tokens: the first lexical error and its position.
     Refused,
-    /// The bytes are no text: a line that says so.
+    /// The bytes are not UTF-8: a line that says so.
     NotUtf8,
     /// A read or a write failed: after a failed read nothing, after a failed write a prefix of the report.
     Device,
@@ -31,8 +31,8 @@ const NOT_UTF8: &str = "Not UTF-8\n";
 
 /// Reads all of the reader, and writes the report of its bytes.
 ///
-/// The report is a function of the bytes. It is built whole before any of it is written. A reader that neither ends nor
-/// fails leads to `Memory`. Condition: neither the reader nor the writer has failed yet.
+/// The report is a function of the bytes. It is built whole before any of it is written. If the reader neither ends nor
+/// fails, memory runs out. Condition: neither the reader nor the writer has failed yet.
 pub fn run<R: Read, W: Write>(
     alloc: Global,
     reader: &mut Watched<R>,
@@ -58,7 +58,7 @@ pub fn run<R: Read, W: Write>(
         × ((end : RunEnd) × (text : List ℕ) × Report bytes end text
         × ((n : ℕ) × Appends (W.contents (inner_of writer.old)) (W.contents (inner_of writer.new)) (take n text))) }
 
-    // After a failed read, and where memory ran out, nothing has.
+    // After a failed read, and if memory ran out, nothing has.
     ensures failed_read { has_failed reader.new ≡ true
         → Keeps (W.contents (inner_of writer.old)) (W.contents (inner_of writer.new)) }
     ensures memory { result ≡ RunEnd.Memory

@@ -44,12 +44,12 @@ unfolding place_text
 place-bytes kind start end s e =
     simp (encodes-append, kind_bytes kind, decimal_bytes start s, decimal_bytes end e, encode_ascii 32 (lit< tt))
 
--- a text behind a space
-pub behind_space : (text bytes : List ℕ) → encode_utf8_all text ≡ bytes → encode_utf8_all (32 ∷ text) ≡ 32 ∷ bytes
-behind_space text bytes e = simp (encode_ascii 32 (lit< tt), e)
+-- a text after a space
+pub after_space : (text bytes : List ℕ) → encode_utf8_all text ≡ bytes → encode_utf8_all (32 ∷ text) ≡ 32 ∷ bytes
+after_space text bytes e = simp (encode_ascii 32 (lit< tt), e)
 
 pub name-bytes : (a : List ℕ) → IsUtf8 a → encode_utf8_all (32 ∷ chars a) ≡ 32 ∷ a
-name-bytes a p = behind_space (chars a) a (encodes-chars a p)
+name-bytes a p = after_space (chars a) a (encodes-chars a p)
 
 line_feed : (old new : List ℕ) → new ≡ old ++ (10 ∷ []) → new ≡ old ++ encode_utf8_all (10 ∷ [])
 line_feed old new e = e ∙ ap (λ bs. old ++ bs) (sym (encodes-IsAscii (10 ∷ []) (search rules)))

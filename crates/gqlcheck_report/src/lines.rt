@@ -40,7 +40,7 @@ fn write_node<S: ScalarValue>(out: &mut String, node: &Node<'_, '_, S>) -> Resul
     writeln!(out)
 }
 
-// Writes the kind of a node and where it stands.
+// Writes the kind of a node and its span.
 fn write_place(out: &mut String, kind: NodeKind, start: usize, end: usize) -> Result<(), AllocError>
     ensures { OnOk result (string_bytes out.new ≡ string_bytes out.old ++ encode_utf8_all (place_text kind start end)) }
 {

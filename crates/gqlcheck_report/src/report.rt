@@ -21,11 +21,11 @@ use streams::{Stop, Watched, read_all, write_all};
 pub enum RunEnd {
     /// The bytes are a document: a line for each part of its tree.
     Tree,
-    /// The bytes are a text that is no document: its fault, and where it stands.
+    /// The bytes are UTF-8 but not a document: the error and its position.
     Refused,
-    /// The bytes are no text: a line that says so.
+    /// The bytes are not UTF-8: a line that says so.
     NotUtf8,
-    /// A token of the text is nested deeper than 200 brackets, and those before it begin a document: where it stands.
+    /// A token of the text is nested deeper than 200 brackets, and those before it begin a document: its position.
     TooDeep,
     /// A read or a write failed: after a failed read nothing, after a failed write a prefix of the report.
     Device,
@@ -40,8 +40,8 @@ const NOT_UTF8: &str = "Not UTF-8\n";
 
 /// Reads all of the reader, and writes the report of its bytes.
 ///
-/// The report is a function of the bytes. It is built whole before any of it is written. A reader that neither ends
-/// nor fails leads to `Memory`. Condition: neither the reader nor the writer has failed yet.
+/// The report is a function of the bytes. It is built whole before any of it is written. If the reader neither ends nor
+/// fails, memory runs out. Condition: neither the reader nor the writer has failed yet.
 pub fn run<R: Read, W: Write>(
     alloc: Global,
     reader: &mut Watched<R>,
@@ -67,7 +67,7 @@ pub fn run<R: Read, W: Write>(
         × ((end : RunEnd) × (text : List ℕ) × Report bytes end text
         × ((n : ℕ) × Appends (W.contents (inner_of writer.old)) (W.contents (inner_of writer.new)) (take n text))) }
 
-    // After a failed read, and where memory ran out, nothing has.
+    // After a failed read, and if memory ran out, nothing has.
     ensures failed_read { has_failed reader.new ≡ true
         → Keeps (W.contents (inner_of writer.old)) (W.contents (inner_of writer.new)) }
     ensures memory { result ≡ RunEnd.Memory
@@ -115,7 +115,7 @@ fn report(alloc: Global, bytes: &[u8]) -> Result<(RunEnd, String), AllocError>
     }
 }
 
-// The line that reports where a text is nested too deep.
+// The line that reports the position at which a text is nested too deep.
 fn deep_text(alloc: Global, span: Span) -> Result<String, AllocError>
     ensures { IfOk result (λ text. string_bytes text ≡ deep_line (view_span span)) }
 {

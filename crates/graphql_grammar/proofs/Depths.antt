@@ -7,7 +7,7 @@ use Rattle.std.proofs.lemmas.List.Sums.{sum_by-cons, sum_by-append}
 use Rattle.graphql_lexical.specs.declared.kind.Kind.{Kind}
 use Rattle.graphql_lexical.specs.declared.kind.Kind.TheVariants.{EndOfFile}
 use Rattle.graphql_lexical.specs.Cutting.{Lexeme, EndsOnce}
-use Rattle.graphql_lexical.specs.Nesting.{is_opening, is_closing, opened, closed, end_behind, ended_by}
+use Rattle.graphql_lexical.specs.Nesting.{is_opening, is_closing, opened, closed, end_after, ended_by}
 use Rattle.graphql_lexical.specs.device.Indexed.{IsFirstDeeperAt}
 use Rattle.graphql_lexical.proofs.Public.{opened_push, closed_push, deep_count, opens, opening_no_end}
 use Rattle.graphql_grammar.specs.Tokens.{IsSpelled}
@@ -115,7 +115,7 @@ end_balanced us t e = (
   closed_push us t ∙ ap (λ k. closed us + one (is_closing k)) e,
 )
 
--- ---- a refusal sees no token behind it
+-- ---- a refusal sees no token after it
 
 pub refused_in_front : (Allowed : Lexeme → Type 0) {A : Type 0} (R : A → List Lexeme → Type 0)
     (us vs ws before : List Lexeme) (t : Lexeme) → length before < length us
@@ -135,11 +135,11 @@ refused_in_front Allowed R us vs ws before t l h =
 no_end_before : (inner : List Lexeme) (end : Lexeme) (us : List Lexeme) (t : Lexeme) (after : List Lexeme)
     → NoEnd inner → inner ++ (end ∷ []) ≡ us ++ t ∷ after → (t.kind ≡ EndOfFile → ⊥) → NoEnd (us ++ t ∷ [])
 no_end_before inner end [] t after n e k = (k, tt)
-no_end_before [] end (u ∷ us) t after n e k = absurd (no_room us after (let h : [] ≡ us ++ t ∷ after = cc in h))
+no_end_before [] end (u ∷ us) t after n e k = absurd (never_empty us after (let h : [] ≡ us ++ t ∷ after = cc in h))
   where
-    no_room : (us after : List Lexeme) → [] ≡ us ++ t ∷ after → ⊥
-    no_room [] after e = absurd (cc e)
-    no_room (u ∷ us) after e = absurd (cc e)
+    never_empty : (us after : List Lexeme) → [] ≡ us ++ t ∷ after → ⊥
+    never_empty [] after e = absurd (cc e)
+    never_empty (u ∷ us) after e = absurd (cc e)
 no_end_before (x ∷ inner) end (u ∷ us) t after n e k =
     let h : x ≡ u = cc in
     let rest : inner ++ (end ∷ []) ≡ us ++ t ∷ after = cc in
@@ -155,7 +155,7 @@ module _ {C F : Type 0} (S : Scalars C F) where
   -- all tokens are refused there too.
   abbrev pub TellsDepth : List Lexeme → ℕ → Lexeme → List Lexeme → Lexeme → Fault F → Type 0
   TellsDepth ts i t us u e =
-      ((u ≡ end_behind t) × BeginsDocument S (take (suc i) ts))
+      ((u ≡ end_after t) × BeginsDocument S (take (suc i) ts))
       ⊎ (((rest : List Lexeme) × (take (suc i) ts ≡ us ++ u ∷ rest)) × (BeginsDocument S (take (suc i) ts) → ⊥) × DocumentFaultAt S ts us u e)
 
   pub document_balanced : (ts : List Lexeme) (ds : List (Definition C)) → IsDocument S ds ts → opened ts ≡ closed ts
@@ -166,8 +166,8 @@ module _ {C F : Type 0} (S : Scalars C F) where
     abbrev pub front : List Lexeme
     front = d.before ++ t ∷ []
 
-    pub short_parts : ended_by d.before t ≡ front ++ end_behind t ∷ []
-    short_parts = sym (append_assoc d.before (t ∷ []) (end_behind t ∷ []))
+    pub short_parts : ended_by d.before t ≡ front ++ end_after t ∷ []
+    short_parts = sym (append_assoc d.before (t ∷ []) (end_after t ∷ []))
 
     whole_parts : ts ≡ front ++ d.after
     whole_parts = d.whole ∙ sym (append_assoc d.before (t ∷ []) d.after)
@@ -181,10 +181,10 @@ module _ {C F : Type 0} (S : Scalars C F) where
     -- They are no document: a bracket is still open.
     pub short_no_document : (ds : List (Definition C)) → IsDocument S ds (ended_by d.before t) → ⊥
     short_no_document ds h =
-        let b : opened (front ++ end_behind t ∷ [])
-        ≡ closed (front ++ end_behind t ∷ []) =
+        let b : opened (front ++ end_after t ∷ [])
+        ≡ closed (front ++ end_after t ∷ []) =
         subst IsBalanced short_parts (document_balanced (ended_by d.before t) ds h) in
-        let c = end_balanced front (end_behind t) refl in
+        let c = end_balanced front (end_after t) refl in
         let still = deep_count depth ts i t d in
         absurd (omega (arith, b, c.0, c.1, still))
 
@@ -199,33 +199,33 @@ module _ {C F : Type 0} (S : Scalars C F) where
       pub short_spelled : AllByRecursion IsSpelled (ended_by d.before t)
       short_spelled =
           subst (AllByRecursion IsSpelled) (sym short_parts)
-          (all_join IsSpelled front (end_behind t ∷ [])
+          (all_join IsSpelled front (end_after t ∷ [])
           (all_front IsSpelled front d.after (subst (AllByRecursion IsSpelled) whole_parts spelled))
           (inr (refl, refl), tt))
 
       pub short_ends : EndsOnce (ended_by d.before t)
       short_ends =
           ends_once (ended_by d.before t)
-          (record { inner = front; end = end_behind t; whole = short_parts; no_end = front_no_end; is_end = refl })
+          (record { inner = front; end = end_after t; whole = short_parts; no_end = front_no_end; is_end = refl })
 
       pub front_is : front ≡ take (suc i) ts
       front_is =
           sym (ap (λ k. take k ts) (sym front_length) ∙ ap (take (length front)) whole_parts
           ∙ take-append_seam front d.after)
 
-      at_end : (us : List Lexeme) (u : Lexeme) (e : Fault F) → DocumentFaultAt S (front ++ end_behind t ∷ []) us u e
+      at_end : (us : List Lexeme) (u : Lexeme) (e : Fault F) → DocumentFaultAt S (front ++ end_after t ∷ []) us u e
           → length us ≡ suc i → TellsDepth ts i t us u e
       at_end us u e h same =
-          let parts = same_parts front us [] h.0.after (end_behind t) u (front_length ∙ sym same) h.0.whole in
+          let parts = same_parts front us [] h.0.after (end_after t) u (front_length ∙ sym same) h.0.whole in
           inl (sym parts.1, subst (BeginsDocument S) (sym parts.0 ∙ front_is) h.0.begins)
 
       before_end : (us : List Lexeme) (u : Lexeme) (e : Fault F)
-          → DocumentFaultAt S (front ++ end_behind t ∷ []) us u e → length us < suc i → TellsDepth ts i t us u e
+          → DocumentFaultAt S (front ++ end_after t ∷ []) us u e → length us < suc i → TellsDepth ts i t us u e
       before_end us u e h l =
           let shorter_by : length us < length front = omega (arith, l, front_length) in
-          let inside = within front (end_behind t ∷ []) us h.0.after u h.0.whole shorter_by in
+          let inside = within front (end_after t ∷ []) us h.0.after u h.0.whole shorter_by in
           let refused : DocumentFaultAt S ts us u e = subst (λ l. DocumentFaultAt S l us u e) (sym whole_parts)
-          (refused_in_front IsSpelled (IsDocument S) front (end_behind t ∷ []) d.after us u shorter_by h.0, h.1) in
+          (refused_in_front IsSpelled (IsDocument S) front (end_after t ∷ []) d.after us u shorter_by h.0, h.1) in
           inr (
             (inside.0, sym front_is ∙ inside.1),
             (λ b. refused.0.ends (front_begins (λ n. reads S n document) (IsDocument S) (document_reads S) IsSpelled
@@ -238,12 +238,12 @@ module _ {C F : Type 0} (S : Scalars C F) where
       pub short_tells : (us : List Lexeme) (u : Lexeme) (e : Fault F) → DocumentFaultAt S (ended_by d.before t) us u e
           → TellsDepth ts i t us u e
       short_tells us u e h =
-          let g : DocumentFaultAt S (front ++ end_behind t ∷ []) us u e =
+          let g : DocumentFaultAt S (front ++ end_after t ∷ []) us u e =
           subst (λ l. DocumentFaultAt S l us u e) short_parts h in
           let inside : length us < suc (suc i) = omega (
             arith,
             ap length g.0.whole,
-            length-append front (end_behind t ∷ []),
+            length-append front (end_after t ∷ []),
             length-append us (u ∷ g.0.after),
             front_length,
           ) in

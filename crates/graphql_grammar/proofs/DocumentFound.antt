@@ -111,8 +111,8 @@ module _ {C F : Type 0} (S : Scalars C F) where
       → Covers (symbol_at S n _ a_type) us vs
   type_covers us vs x h n le = by_test vs refl
     where
-      room : (ws : List Lexeme) → vs ≡ ws → length us + length ws < n
-      room ws e = let l = ap (λ (z : List Lexeme). length (us ++ z)) e ∙ length-append us ws in omega (arith, l)
+      fits : (ws : List Lexeme) → vs ≡ ws → length us + length ws < n
+      fits ws e = let l = ap (λ (z : List Lexeme). length (us ++ z)) e ∙ length-append us ws in omega (arith, l)
 
       with_mark : (mark : Lexeme) (ws : List Lexeme) → vs ≡ mark ∷ ws → mark.kind ≡ ExclamationMark → (y : TypeRef)
           → IsNullable y → IsType y us → Covers (symbol_at S n _ a_type) us (mark ∷ ws)
@@ -122,7 +122,7 @@ module _ {C F : Type 0} (S : Scalars C F) where
         ws,
         ap (symbol_at S n _ a_type) (sym (append_assoc us (mark ∷ []) ws))
             ∙ (non_null_finds n y (span_of (us ++ (mark ∷ [])))).at (us ++ (mark ∷ [])) ws
-            (let l = room (mark ∷ ws) e in rw (length-append us (mark ∷ [])) (omega (arith, l)))
+            (let l = fits (mark ∷ ws) e in rw (length-append us (mark ∷ [])) (omega (arith, l)))
             ((row us (mark ∷ []) h (kind_is ExclamationMark mark k), p), refl) tt,
         refl,
       )
@@ -133,7 +133,7 @@ module _ {C F : Type 0} (S : Scalars C F) where
         typed (NonNullType y) (span_of us),
         [],
         mark ∷ ws,
-        (non_null_finds n y (span_of us)).at us (mark ∷ ws) (let l = room (mark ∷ ws) e in omega (arith, l)) (h, refl)
+        (non_null_finds n y (span_of us)).at us (mark ∷ ws) (let l = fits (mark ∷ ws) e in omega (arith, l)) (h, refl)
             tt,
         refl,
       )
@@ -145,7 +145,7 @@ module _ {C F : Type 0} (S : Scalars C F) where
         typed x (span_of us),
         [],
         ws,
-        type_found n us ws x (span_of us) (let l = room ws e in omega (arith, l)) h refl g,
+        type_found n us ws x (span_of us) (let l = fits ws e in omega (arith, l)) h refl g,
         refl,
       )
 

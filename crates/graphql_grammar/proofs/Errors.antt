@@ -9,13 +9,13 @@ use Rattle.graphql_grammar.specs.Tree.{Scalars, Definition}
 use Rattle.graphql_grammar.specs.Grammar.{IsValue, IsType, IsDocument, IsLocated}
 use Rattle.graphql_grammar.specs.Faults.{Begins, BeginsValue, BeginsType, DocumentRefusedAt, ValueRefusedAt, TypeError, TypeRefusedAt}
 use Rattle.graphql_grammar.specs.device.AlikeFaults.{AnyToken, NamedErrorAlike, end, own, other}
-use Rattle.graphql_grammar.specs.device.Faults.{Fault, UnexpectedEndOfFile, UnexpectedToken, ScalarError, told, NamesFault, DocumentFaultAt, ValueFaultAt, TypeFault, TypeFaultAt}
+use Rattle.graphql_grammar.specs.device.Faults.{Fault, UnexpectedEndOfFile, UnexpectedToken, ScalarError, as_error, NamesFault, DocumentFaultAt, ValueFaultAt, TypeFault, TypeFaultAt}
 use Rattle.graphql_grammar.proofs.Begun.{fault_from_alike, error_from_alike, alike_from_error, to_begins, from_begins, document_at_fault, alike_document_at_fault, value_to_begins, value_from_begins, type_to_begins, type_from_begins}
 use Rattle.graphql_grammar.proofs.OneFault.{document_or_fault, one_document_refusal, document_refusal_alike}
 
 module _ {F : Type 0} (at_end : F) (unexpected : Kind → Text → F) where
   abbrev error : Fault F → F
-  error = told at_end unexpected
+  error = as_error at_end unexpected
 
   module _ {C A : Type 0} (Allowed : Lexeme → Type 0) (S : Scalars C F) (R : A → List Lexeme → Type 0)
       (before : List Lexeme) (t : Lexeme) where

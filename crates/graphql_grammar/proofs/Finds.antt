@@ -190,7 +190,7 @@ module _ {F A : Type 0} {n : ℕ} {f : Reader F A} {P After : List Lexeme → Ty
       cases ts rest le (inl h) g = p.at ts rest le h g
       cases ts rest le (inr h) g = q.at ts rest le h g
 
--- a part whose span is told with it
+-- a part that is given with its span
 module _ {F A : Type 0} {n : ℕ} {f : Reader F A} {P Q After : List Lexeme → Type 0} {a : A} where
   pub located_front : ((p : Span) → Finds n f ((λ ts. P ts × (p ≡ span_of ts)) · Q) After a)
       → Finds n f (P · Q) After a
@@ -250,7 +250,7 @@ pub last_one : {P : List Lexeme → Type 0} {k : Kind} (ts : List Lexeme) (h : (
     → (P · (Only (token k h.second.0 h.second.1))) ts
 last_one ts h = row_as h h.first h.second.2
 
--- where a row begins or ends with one token, the reader may be told which
+-- where a row begins or ends with one token, the reader may be given it
 module _ {F A : Type 0} {n : ℕ} {f : Reader F A} {Q After : List Lexeme → Type 0} {a : A} where
   pub is_found : {k : Kind} → ((w : Text) (p : Span) → Finds n f (Only (token k w p) · Q) After a)
       → Finds n f (Is k · Q) After a

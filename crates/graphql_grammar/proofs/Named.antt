@@ -14,7 +14,7 @@ use Rattle.graphql_grammar.specs.device.Faults.{Fault, UnexpectedEndOfFile, Unex
 use Rattle.graphql_grammar.proofs.Rules.{Meets, alike_refl, SameHead_refl}
 use Rattle.graphql_grammar.proofs.TokenTests.{of_kind}
 use Rattle.graphql_grammar.proofs.Faulty.{Reads, fails_all, value_stands, at_fault}
-use Rattle.graphql_grammar.proofs.NoValues.{NoValueBehind}
+use Rattle.graphql_grammar.proofs.NoValues.{NoValueAfter}
 use Rattle.graphql_grammar.proofs.ScalarFaults.{TellsFault, TellsFaults, IsScalarFault}
 use Rattle.std.specs.List.{AllByRecursion, AllZip}
 use Rattle.graphql_grammar.proofs.Alike.{alike_sym, alike_join}
@@ -69,7 +69,7 @@ module _ {C F A : Type 0} (S : Scalars C F) (f : ℕ → Reader F A) (R : A → 
       refused = fails_all f R r n m (omega arith) ts us rest t e p q us (t ∷ rest) (alike_refl us)
           (SameHead_refl (t ∷ rest))
 
-      by_no_value : (vs : List Lexeme) → vs ≡ us → NoValueBehind strict (f m) vs → ⊥
+      by_no_value : (vs : List Lexeme) → vs ≡ us → NoValueAfter strict (f m) vs → ⊥
       by_no_value vs h (inl g) =
           let stop = g (sample BracketOpen ∷ b1.1) refl in
           let took = b1.2 m (omega arith) in

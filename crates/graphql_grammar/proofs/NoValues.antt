@@ -26,8 +26,8 @@ abbrev pub Stops : {F A : Type 0} → Reader F A → List Lexeme → List Lexeme
 Stops {F} f us rest = (x : Fault F) × (f (us ++ rest) ≡ Refused rest x)
 
 -- After these tokens `[` is refused, or `{` is. A strict reader refuses `{` alone only after a token of its own.
-abbrev pub NoValueBehind : {F A : Type 0} → Bool → Reader F A → List Lexeme → Type 0
-NoValueBehind b f us = ((rest : List Lexeme) → Starts BracketOpen rest → Stops f us rest)
+abbrev pub NoValueAfter : {F A : Type 0} → Bool → Reader F A → List Lexeme → Type 0
+NoValueAfter b f us = ((rest : List Lexeme) → Starts BracketOpen rest → Stops f us rest)
     ⊎ ((b ≡ true → 0 < length us) × ((rest : List Lexeme) → Starts CurlyOpen rest → Stops f us rest))
 
 pub exchanged : (vs last other : List Lexeme) → Exchange last other → Exchange (vs ++ last) (vs ++ other)

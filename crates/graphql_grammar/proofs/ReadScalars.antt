@@ -13,11 +13,11 @@ use Rattle.graphql_grammar.proofs.Nested.{is_plain, is_scalar, IsPair}
 use Rattle.graphql_grammar.proofs.TokenTests.{both}
 use Rattle.std.proofs.lemmas.Bool.{not-true}
 
-told_apart : (k : Kind) → is_scalar k ≡ false → IsScalarKind k → ⊥
-told_apart k n (inl e) = let z = sym n ∙ ap is_scalar e in absurd (cc z)
-told_apart k n (inr (inl e)) = let z = sym n ∙ ap is_scalar e in absurd (cc z)
-told_apart k n (inr (inr (inl e))) = let z = sym n ∙ ap is_scalar e in absurd (cc z)
-told_apart k n (inr (inr (inr e))) = let z = sym n ∙ ap is_scalar e in absurd (cc z)
+no_scalar_kind : (k : Kind) → is_scalar k ≡ false → IsScalarKind k → ⊥
+no_scalar_kind k n (inl e) = let z = sym n ∙ ap is_scalar e in absurd (cc z)
+no_scalar_kind k n (inr (inl e)) = let z = sym n ∙ ap is_scalar e in absurd (cc z)
+no_scalar_kind k n (inr (inr (inl e))) = let z = sym n ∙ ap is_scalar e in absurd (cc z)
+no_scalar_kind k n (inr (inr (inr e))) = let z = sym n ∙ ap is_scalar e in absurd (cc z)
 
 plain_is_none : (k : Kind) → is_plain k ≡ true → is_scalar k ≡ false
 plain_is_none k p = not-true _ (both _ _ (both _ _ (both _ _ p).1).1).0
@@ -38,7 +38,7 @@ module _ {C F : Type 0} (S : Scalars C F) where
 
   none : (t : Lexeme) → is_scalar t.kind ≡ false → AreRead (t ∷ [])
   unfolding AreRead
-  none t n = ((λ s. absurd (told_apart t.kind n s)), tt)
+  none t n = ((λ s. absurd (no_scalar_kind t.kind n s)), tt)
 
   join : (us vs : List Lexeme) → AreRead us → AreRead vs → AreRead (us ++ vs)
   unfolding AreRead

@@ -12,7 +12,7 @@ use Rattle.graphql_grammar.specs.device.Faults.{Fault, ScalarError}
 use Rattle.graphql_grammar.proofs.TokenRules.{on_passed, on_failed}
 use Rattle.graphql_grammar.proofs.PartRules.{front_is, span_took, span_refused}
 use Rattle.graphql_grammar.proofs.Finds.{seq_took}
-use Rattle.graphql_grammar.proofs.NoValues.{Exchange, Starts, Stops, NoValueBehind, exchanged, exchanged_some, exchanged_bracket, PassesNoValue, starts_value, no_value_by}
+use Rattle.graphql_grammar.proofs.NoValues.{Exchange, Starts, Stops, NoValueAfter, exchanged, exchanged_some, exchanged_bracket, PassesNoValue, starts_value, no_value_by}
 
 module _ {C F : Type 0} (S : Scalars C F) where
   abbrev pub IsScalarFault : Lexeme → Fault F → Type 0
@@ -24,7 +24,7 @@ module _ {C F : Type 0} (S : Scalars C F) where
   TellsFault b f ts (Refused [] x) = Unit {0}
   TellsFault b f ts (Refused (t ∷ rest) x) =
       (us : List Lexeme) × (ts ≡ us ++ (t ∷ rest))
-      × (IsScalarFault t x ⊎ ((x ≡ fault_of t.kind t.text) × (IsScalarKind t.kind → NoValueBehind b f us)))
+      × (IsScalarFault t x ⊎ ((x ≡ fault_of t.kind t.text) × (IsScalarKind t.kind → NoValueAfter b f us)))
   TellsFault b f ts Out = Unit {0}
 
   pub record TellsFaults {A : Type 0} (b : Bool) (f : Reader F A) : Type 0 where
@@ -48,7 +48,7 @@ module _ {C F : Type 0} (S : Scalars C F) where
       by_front false [] other n st x' y' = y' refl other st
       by_front false (v ∷ vs) other n st x' y' = x' (v ∷ vs ++ other) (inl refl)
 
-      by_no_value : IsScalarKind t.kind → NoValueBehind b g us → NoValueBehind b h us
+      by_no_value : IsScalarKind t.kind → NoValueAfter b g us → NoValueAfter b h us
       by_no_value s (inl p) = inl (λ other st. (
         (p other st).0,
         x (us ++ other)
@@ -77,7 +77,7 @@ module _ {C F : Type 0} (S : Scalars C F) where
   weak_tell f ts (Refused (t ∷ rest) x) (us, e, inl o) = (us, e, inl o)
   weak_tell f ts (Refused (t ∷ rest) x) (us, e, inr (q, off)) = (us, e, inr (q, λ s. by_no_value (off s)))
     where
-      by_no_value : NoValueBehind true f us → NoValueBehind false f us
+      by_no_value : NoValueAfter true f us → NoValueAfter false f us
       by_no_value (inl p) = inl p
       by_no_value (inr p) = inr ((λ c. absurd (cc c)), p.1)
   weak_tell f ts Out p = p
@@ -129,7 +129,7 @@ module _ {C F : Type 0} (S : Scalars C F) where
     second ts us mid a e h (Refused (t ∷ last) x) (vs, q, inr (xe, off)) =
         (us ++ vs, e ∙ ap (λ z. us ++ z) q ∙ sym (append_assoc us vs (t ∷ last)), inr (xe, λ s. by_no_value s (off s)))
       where
-        by_no_value : IsScalarKind t.kind → NoValueBehind true (k a) vs → NoValueBehind b (seq f k) (us ++ vs)
+        by_no_value : IsScalarKind t.kind → NoValueAfter true (k a) vs → NoValueAfter b (seq f k) (us ++ vs)
         by_no_value s (inl p) = inl (λ other st. (
           (p other st).0,
           goes us vs mid (t ∷ last) other a q
@@ -152,7 +152,7 @@ module _ {C F : Type 0} (S : Scalars C F) where
     seq_tell ts (Refused (t ∷ rest) x) (us, e, inl o) g = (us, e, inl o)
     seq_tell ts (Refused (t ∷ rest) x) (us, e, inr (xe, off)) g = (us, e, inr (xe, λ s. by_no_value (off s)))
       where
-        by_no_value : NoValueBehind b f us → NoValueBehind b (seq f k) us
+        by_no_value : NoValueAfter b f us → NoValueAfter b (seq f k) us
         by_no_value (inl p) = inl (λ other st. ((p other st).0, seq_refused f k (us ++ other) other _ (p other st).1))
         by_no_value (inr (n, p)) = inr (
           n,
@@ -186,7 +186,7 @@ module _ {C F : Type 0} (S : Scalars C F) where
     push t ts (Refused (u ∷ rest) x) e (us, q, inr (xe, off)) =
         (t ∷ us, ap (λ z. t ∷ z) q, inr (xe, λ s. by_no_value (off s)))
       where
-        by_no_value : NoValueBehind false (k t) us → NoValueBehind b (on test k g) (t ∷ us)
+        by_no_value : NoValueAfter false (k t) us → NoValueAfter b (on test k g) (t ∷ us)
         by_no_value (inl p) = inl (λ other st. ((p other st).0, on_passed test k g t (us ++ other) e ∙ (p other st).1))
         by_no_value (inr (n, p)) = inr (
           (λ c. omega arith),
@@ -331,7 +331,7 @@ module _ {C F : Type 0} (S : Scalars C F) where
     span_tell ts (Refused (t ∷ rest) x) (us, e, inl o) = (us, e, inl o)
     span_tell ts (Refused (t ∷ rest) x) (us, e, inr (xe, off)) = (us, e, inr (xe, λ s. by_no_value (off s)))
       where
-        by_no_value : NoValueBehind b f us → NoValueBehind b (with_span f) us
+        by_no_value : NoValueAfter b f us → NoValueAfter b (with_span f) us
         by_no_value (inl p) = inl (λ other st. ((p other st).0, span_refused f (us ++ other) other _ (p other st).1))
         by_no_value (inr (n, p)) = inr (
           n,

@@ -43,16 +43,16 @@ no_end_alike [] (v ∷ vs) a h = absurd a
 no_end_alike (u ∷ us) [] a h = absurd a
 no_end_alike (u ∷ us) (v ∷ vs) a h = ((λ e. h.0 (a.0.kind ∙ e)), no_end_alike us vs a.1 h.1)
 
--- the end stands behind tokens that are not the end
-behind : (us more inner : List Lexeme) (end : Lexeme) → us ++ more ≡ inner ++ end ∷ [] → NoEnd us
+-- the end stands after tokens that are not the end
+end_in_rest : (us more inner : List Lexeme) (end : Lexeme) → us ++ more ≡ inner ++ end ∷ [] → NoEnd us
     → end.kind ≡ EndOfFile → (others : List Lexeme) × (more ≡ others ++ end ∷ []) × (inner ≡ us ++ others)
-behind [] more inner end e h k = (inner, e, refl)
-behind (u ∷ us) more [] end e h k = let same : end ≡ u = cc in
+end_in_rest [] more inner end e h k = (inner, e, refl)
+end_in_rest (u ∷ us) more [] end e h k = let same : end ≡ u = cc in
     absurd (h.0 (subst (λ (t : Lexeme). t.kind ≡ EndOfFile) same k))
-behind (u ∷ us) more (x ∷ inner) end e h k =
+end_in_rest (u ∷ us) more (x ∷ inner) end e h k =
     let heads : x ≡ u = cc in
     let tails : us ++ more ≡ inner ++ end ∷ [] = cc in
-    let r = behind us more inner end tails h.1 k in
+    let r = end_in_rest us more inner end tails h.1 k in
     (r.0, r.1, ap₂ (λ (t : Lexeme) (ts : List Lexeme). t ∷ ts) heads r.2)
 
 -- ---- spelled tokens
@@ -78,7 +78,8 @@ module _ {C F : Type 0} (S : Scalars C F) where
       let once = end_parts _ (cut_ends source (before ++ next ∷ after) cut) in
       let no_end : NoEnd before = no_end_before before next after once.inner once.end once.whole once.no_end in
       let ends = document_ends S (front ++ more) tree document in
-      let b = behind front more ends.inner ends.end ends.whole (no_end_alike before front alike no_end) ends.is_end in
+      let b = end_in_rest front more ends.inner ends.end ends.whole
+      (no_end_alike before front alike no_end) ends.is_end in
       let others : List Lexeme = b.0 in
       let all : AllByRecursion IsSpelled (others ++ ends.end ∷ []) =
       subst (AllByRecursion IsSpelled) b.1 (all_back IsSpelled front more spelled) in

@@ -72,7 +72,7 @@ pub fn document_is_balanced<C, F>()
     ensures { (S : Scalars C F) (ts : List Lexeme) (ds : List (Definition C)) → IsDocument S ds ts → opened ts ≡ closed ts }
 {}
 
-/// A list that is refused at a token of a prefix is refused there whatever stands after that prefix.
+/// A list that is refused at a token of a prefix is refused there whatever comes after that prefix.
 pub fn refused_in_front<C, F>()
     ensures { (at_end : F) (unexpected : Kind → Text → F) (S : Scalars C F) (front more other before : List Lexeme) (t : Lexeme) (e : F) → length before < length front → DocumentRefusedAt at_end unexpected S (front ++ more) before t e → DocumentRefusedAt at_end unexpected S (front ++ other) before t e }
 {}
@@ -111,17 +111,17 @@ pub fn samples_are_spelled()
     ensures { (t : Lexeme) → IsSample t → IsSpelled t }
 {}
 
-/// The reading of a document gives the one tree, or refuses where the definitions do.
+/// The reading of a document gives the one tree, or refuses when the definitions do.
 pub fn document_is_read<C, F>()
     ensures { (S : Scalars C F) (ts : List Lexeme) → AllByRecursion IsSpelled ts → EndsOnce ts → GivesWhole (IsDocument S) (DocumentFaultAt S ts) ts (fully (λ n. reads S n document) ts) }
 {}
 
-/// The reading of a value gives the one prefix that is a value, or refuses where the definitions do.
+/// The reading of a value gives the one prefix that is a value, or refuses when the definitions do.
 pub fn value_is_read<C, F>()
     ensures { (S : Scalars C F) (free : Bool) (ts : List Lexeme) → EndsOnce ts → GivesFront (IsLocated (IsValue S free)) (ValueFaultAt S free ts) ts (fully (λ n. symbol_at S n _ (a_value free)) ts) }
 {}
 
-/// The reading of a type gives the longest prefix that is a type, with its span, or refuses where the definitions do.
+/// The reading of a type gives the longest prefix that is a type, with its span, or refuses when the definitions do.
 pub fn type_is_read<C, F>()
     ensures { (S : Scalars C F) (ts : List Lexeme) → EndsOnce ts → GivesFront (IsLocated IsType) (TypeFaultAt ts) ts (fully (λ n. symbol_at S n _ a_type) ts) }
 {}

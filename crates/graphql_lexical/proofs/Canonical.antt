@@ -43,7 +43,7 @@ no_text [] n kind text r e = (read_end n kind text r).2
 no_text (c ∷ cs) n kind text r e =
     absurd (subst (λ (k : Kind). Spells (take n (c ∷ cs)) k text) e (read_token c cs n kind text r).1)
 
--- ---- what may stand behind a token
+-- ---- what may stand after a token
 
 fixed_begins : (kind : Kind) (c : ℕ) → spelling kind ≡ Fixed (c ∷ []) → IsTrue (is_fixed kind) → (whole rest : List ℕ)
     → IsToken whole kind → BeginsApart (whole ++ rest)
@@ -79,7 +79,7 @@ begins_or_dots = each_kind BeginsOrDots (
   λ w r f s. absurd s,
 )
 
--- behind a token that is no punctuator stands a space, a punctuator of one character, or nothing
+-- after a token that is no punctuator stands a space, a punctuator of one character, or nothing
 open_parting : (source : List ℕ) (kind : Kind) (xs : List Lexeme) (k : ℕ) → is_fixed kind ≡ false → CutFrom source k xs
     → BeginsApart (parting kind xs ++ canonical xs)
 open_parting source kind [] k o c = absurd c
@@ -96,13 +96,13 @@ open_parting source kind (x ∷ xs) k o (n, s, rest) =
     unparted false d e f g h = absurd cc
     unparted true true e f g h = absurd cc
     unparted true false e f g (inl (end, none)) =
-        let text = no_text (drop (k + s.gap) source) s.size x.kind x.text s.reads end in
+        let text = no_text (drop (k + s.ignored) source) s.size x.kind x.text s.reads end in
         let empty : canonical (x ∷ xs) ≡ [] =
         ap (λ (ys : List Lexeme). written x.kind x.text ++ (parting x.kind ys ++ canonical ys)) none
         ∙ ap₂ (λ (i : Kind) (t : List ℕ). written i t ++ []) end text in
         subst BeginsApart (sym empty) tt
     unparted true false e f g (inr (no_end, c)) =
-        let spelled = read_spelled (drop (k + s.gap) source) s.size x.kind x.text s.reads no_end in
+        let spelled = read_spelled (drop (k + s.ignored) source) s.size x.kind x.text s.reads no_end in
         elim (begins_or_dots x.kind (written x.kind x.text) (parting x.kind xs ++ canonical xs) e spelled.spells) [
           | inl a ↦ a
           | inr dots ↦ absurd (let z = ap (λ (i : Kind). same_kind i Ellipsis) dots in cc)
@@ -159,7 +159,7 @@ keeps_from : (source : List ℕ) (xs : List Lexeme) (k : ℕ) → CutFrom source
     → (ys : List Lexeme) × Cut (canonical xs) ys × AllZip Alike ys xs
 keeps_from source [] k c = absurd c
 keeps_from source (x ∷ xs) k (n, s, inl (end, none)) =
-    let text = no_text (drop (k + s.gap) source) s.size x.kind x.text s.reads end in
+    let text = no_text (drop (k + s.ignored) source) s.size x.kind x.text s.reads end in
     let empty : canonical (x ∷ xs) ≡ [] =
     ap (λ (ys : List Lexeme). written x.kind x.text ++ (parting x.kind ys ++ canonical ys)) none
     ∙ ap₂ (λ (i : Kind) (t : List ℕ). written i t ++ []) end text in (
@@ -170,7 +170,7 @@ keeps_from source (x ∷ xs) k (n, s, inl (end, none)) =
     )
 keeps_from source (x ∷ xs) k (n, s, inr (no_end, c)) =
     let more = keeps_from source xs n c in
-    let spelled = read_spelled (drop (k + s.gap) source) s.size x.kind x.text s.reads no_end in
+    let spelled = read_spelled (drop (k + s.ignored) source) s.size x.kind x.text s.reads no_end in
     let parted = parted_cut x.kind xs more.0 more.1 in
     let whole = token_cut (written x.kind x.text) x.kind (parting x.kind xs ++ canonical xs) parted.0 spelled.spells
     (may_follow source x.kind xs n c) parted.1 in (

@@ -39,36 +39,36 @@ bytes = record {
 empty_size : (size : List ℕ → ℕ) → IsSize size → size [] ≡ 0
 empty_size size m = let e = m.appended [] [] in omega arith
 
--- ---- a token and the gap before it
+-- ---- a token and the ignored tokens before it
 
--- 1 if there is a gap
-abbrev gapped : ℕ → ℕ
-gapped zero = 0
-gapped (suc n) = 1
+-- 1 if there are ignored tokens
+abbrev some_ignored : ℕ → ℕ
+some_ignored zero = 0
+some_ignored (suc n) = 1
 
-gapped_within : (n : ℕ) → gapped n ≤ n
-gapped_within zero = omega arith
-gapped_within (suc n) = omega arith
+some_ignored_within : (n : ℕ) → some_ignored n ≤ n
+some_ignored_within zero = omega arith
+some_ignored_within (suc n) = omega arith
 
--- what is written of a token, and the gap before it, take up the source from where they stand
+-- what is written of a token, and the ignored tokens before it, take up the source from where they stand
 stands_weigh : (size : List ℕ → ℕ) → IsSize size → (source : List ℕ) (k : ℕ) (x : Lexeme) (n : ℕ)
     → (s : StandsAt source k x n)
-    → gapped s.gap + (size (written x.kind x.text) + size (drop n source)) ≤ size (drop k source)
+    → some_ignored s.ignored + (size (written x.kind x.text) + size (drop n source)) ≤ size (drop k source)
 stands_weigh size m source k x n s =
     let rest : List ℕ = drop k source in
-    let gap : size (take s.gap rest) + size (drop s.gap rest) ≡ size rest =
-    sym (m.appended (take s.gap rest) (drop s.gap rest)) ∙ ap size (take-append-drop s.gap rest) in
-    let token : List ℕ = drop (k + s.gap) source in
+    let ignored : size (take s.ignored rest) + size (drop s.ignored rest) ≡ size rest =
+    sym (m.appended (take s.ignored rest) (drop s.ignored rest)) ∙ ap size (take-append-drop s.ignored rest) in
+    let token : List ℕ = drop (k + s.ignored) source in
     let parts : size (take s.size token) + size (drop s.size token) ≡ size token =
     sym (m.appended (take s.size token) (drop s.size token)) ∙ ap size (take-append-drop s.size token) in
     let front : size (take s.size token) ≡ size (written x.kind x.text) =
     ap size (front_read token s.size x.kind x.text s.reads).front in
-    let behind_gap : size (drop s.gap rest) ≡ size token = ap size (drop_sum s.gap k source) in
-    let behind : size (drop s.size token) ≡ size (drop n source) =
-    ap size (drop_sum s.size (k + s.gap) source ∙ ap (λ (i : ℕ). drop i source) (sym s.next_is)) in
-    let long : length (take s.gap rest) ≡ s.gap = length-take-le s.gap rest s.gap_is.within in
-    let w = gapped_within s.gap in
-    let some = m.some (take s.gap rest) in
+    let after_ignored : size (drop s.ignored rest) ≡ size token = ap size (drop_sum s.ignored k source) in
+    let after_token : size (drop s.size token) ≡ size (drop n source) =
+    ap size (drop_sum s.size (k + s.ignored) source ∙ ap (λ (i : ℕ). drop i source) (sym s.next_is)) in
+    let long : length (take s.ignored rest) ≡ s.ignored = length-take-le s.ignored rest s.ignored_is.within in
+    let w = some_ignored_within s.ignored in
+    let some = m.some (take s.ignored rest) in
     omega arith
   where
     drop_sum : (i j : ℕ) (l : List ℕ) → drop i (drop j l) ≡ drop (j + i) l
@@ -76,25 +76,25 @@ stands_weigh size m source k x n s =
 
 -- ---- spaces
 
--- a space is paid for by a gap, or the neighbours touch
-space_weighs : (size : List ℕ → ℕ) → IsSize size → (parted : Bool) (gap i j : ℕ) → j ≡ i + gap
-    → size (space_if parted) ≤ gapped gap + (if parted && eqb i j then 1 else 0)
-space_weighs size m false gap i j e = let z = empty_size size m in omega arith
+-- a space is paid for by ignored tokens, or the neighbours touch
+space_weighs : (size : List ℕ → ℕ) → IsSize size → (parted : Bool) (ignored i j : ℕ) → j ≡ i + ignored
+    → size (space_if parted) ≤ some_ignored ignored + (if parted && eqb i j then 1 else 0)
+space_weighs size m false ignored i j e = let z = empty_size size m in omega arith
 space_weighs size m true zero i j e = by_test (eqb i j) refl
   where
     by_test : (b : Bool) → eqb i j ≡ b → size (32 ∷ []) ≤ 0 + (if b then 1 else 0)
     by_test true t = let z = m.space in omega arith
     by_test false t = absurd (let same : i ≡ j = omega arith in let g : eqb i i ≡ false = subst (λ (z : ℕ). eqb i z ≡ false) (sym same) t in grind (arith, nat_tests))
-space_weighs size m true (suc gap) i j e = let z = m.space in
+space_weighs size m true (suc ignored) i j e = let z = m.space in
     let w : 1 ≤ 1 + (if true && eqb i j then 1 else 0) = omega arith in omega arith
 
 -- ---- whole sources
 
 weighs_from : (size : List ℕ → ℕ) → IsSize size → (source : List ℕ) (x : Lexeme) (xs : List Lexeme) (k : ℕ)
     → k ≤ length source → (c : CutFrom source k (x ∷ xs))
-    → gapped c.1.gap + size (canonical (x ∷ xs)) ≤ size (drop k source) + touching (x ∷ xs)
+    → some_ignored c.1.ignored + size (canonical (x ∷ xs)) ≤ size (drop k source) + touching (x ∷ xs)
 weighs_from size m source x xs k l (n, s, inl (end, none)) =
-    let text = no_text (drop (k + s.gap) source) s.size x.kind x.text s.reads end in
+    let text = no_text (drop (k + s.ignored) source) s.size x.kind x.text s.reads end in
     let empty : size (canonical (x ∷ xs)) ≡ 0 =
     ap (λ (ys : List Lexeme). size (written x.kind x.text ++ (parting x.kind ys ++ canonical ys))) none
     ∙ (ap₂ (λ (i : Kind) (t : List ℕ). size (written i t ++ [])) end text ∙ empty_size size m) in
@@ -106,10 +106,10 @@ weighs_from size m source x (y ∷ ys) k l (n, s, inr (no_end, c)) =
     let more = weighs_from size m source y ys n z.1 c in
     let w = stands_weigh size m source k x n s in
     let end : x.span.end.index ≡ n = ap (λ (p : Place). p.index) s.end ∙ place_index source n z.1 in
-    let start : y.span.start.index ≡ n + c.1.gap = ap (λ (p : Place). p.index) c.1.start
-    ∙ place_index source (n + c.1.gap) (omega (arith, c.1.gap_is.within, length-drop n source, z.1)) in
-    let space = space_weighs size m (is_parted x.kind y.kind) c.1.gap x.span.end.index y.span.start.index
-    (start ∙ ap (λ (i : ℕ). i + c.1.gap) (sym end)) in
+    let start : y.span.start.index ≡ n + c.1.ignored = ap (λ (p : Place). p.index) c.1.start
+    ∙ place_index source (n + c.1.ignored) (omega (arith, c.1.ignored_is.within, length-drop n source, z.1)) in
+    let space = space_weighs size m (is_parted x.kind y.kind) c.1.ignored x.span.end.index y.span.start.index
+    (start ∙ ap (λ (i : ℕ). i + c.1.ignored) (sym end)) in
     let whole : size (canonical (x ∷ y ∷ ys)) ≡ size (written x.kind x.text)
     + (size (space_if (is_parted x.kind y.kind)) + size (canonical (y ∷ ys))) =
     m.appended (written x.kind x.text) (space_if (is_parted x.kind y.kind) ++ canonical (y ∷ ys))

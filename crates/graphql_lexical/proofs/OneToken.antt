@@ -34,5 +34,5 @@ pub token_or_error : (before left : Text) (x : Lexeme) (done after : Text) (erro
     → Stands before left x done after → BreaksThere before left error at → ⊥
 token_or_error before left x done after error at s b =
     let there = there_from_text before left error at b in
-    stands_unbroken (before ++ left) (length before) x (length done) there.gap there.size error
-    (stands_from_text before left x done after s) there.longest_gap there.fails
+    stands_unbroken (before ++ left) (length before) x (length done) there.ignored there.size error
+    (stands_from_text before left x done after s) there.longest_ignored there.fails

@@ -5,7 +5,7 @@ pub use Rattle.graphql_lexical.proofs.Cuts.{cut_front, each_stands, leads_size, 
 pub use Rattle.graphql_lexical.proofs.DeepTokens.{closed_push, crossed, deep_count, one_deep, opened_push, opening_goes_on, opening_no_end, opens, take_next}
 pub use Rattle.graphql_lexical.proofs.EachKind.{other_kind}
 pub use Rattle.graphql_lexical.proofs.Escapes.{counted_within, u_short}
-pub use Rattle.graphql_lexical.proofs.Gaps.{gap_longest}
+pub use Rattle.graphql_lexical.proofs.Ignored.{ignored_is_longest}
 pub use Rattle.graphql_lexical.proofs.Joints.{few_tokens}
 pub use Rattle.graphql_lexical.proofs.Depths.{deeper_after, after_deeper, before_is, up_to_token, shallow_fronts, fronts_shallow}
 pub use Rattle.graphql_lexical.proofs.NumberParts.{float_same, integer_same, name_same}

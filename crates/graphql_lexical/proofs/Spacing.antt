@@ -1,4 +1,4 @@
--- Behind a front of a source tokens go on after a space.
+-- After a front of a source tokens go on after a space.
 use Rattle.std.proofs.Common.{codes, ◌≡◌, ℕ, ◌≤◌, inl, inr, List, [], ◌∷◌, ◌++◌, length, take, refl, sym, ap, ◌∙◌, subst, append_assoc, zero-le, le_refl}
 use Rattle.std.specs.List.{AllZip}
 use Rattle.std.proofs.lemmas.List.{take_all}

@@ -122,7 +122,7 @@ wrong_stops c h n = cond-false (is_escape c) _ _ h ∙ cond-false (eqb c 117) _ 
 stop_reach : (q : State) (c : ℕ) (t : List ℕ) → step q c ≡ None → reach step q (c ∷ t) ≡ (0, q)
 stop_reach q c t e = ap (onward q (λ p. reach step p t)) e
 
--- the answer behind a front of p characters
+-- the answer after a front of p characters
 abbrev AnswerAfter : List ℕ → List ℕ → ℕ → ℕ × State → Result Found Missed
 AnswerAfter front after p r = answer r.1 (p + r.0) (front ++ after)
 

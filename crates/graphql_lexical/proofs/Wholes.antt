@@ -8,11 +8,11 @@ use Rattle.graphql_lexical.specs.device.Whole.{SpelledAs, Admits, IsToken, betwe
 -- a text between quotes without its quotes
 pub unquoted : (q : ℕ) (qs text : List ℕ) → between (q ∷ qs) (around (q ∷ qs) text) ≡ text
 unquoted q qs text =
-    let behind : length (text ++ q ∷ qs) ≡ length text + suc (length qs) = length-append text (q ∷ qs) in
+    let inner : length (text ++ q ∷ qs) ≡ length text + suc (length qs) = length-append text (q ∷ qs) in
     let whole : length (qs ++ (text ++ q ∷ qs)) ≡ length qs + length (text ++ q ∷ qs) =
     length-append qs (text ++ q ∷ qs) in
     let count : suc (length (qs ++ (text ++ q ∷ qs))) - 2 * suc (length qs)
-    ≡ length text = omega (arith, behind, whole) in
+    ≡ length text = omega (arith, inner, whole) in
     ap₂ take count (drop-append_seam qs (text ++ q ∷ qs)) ∙ take-append_seam text (q ∷ qs)
 
 in_quotes : (whole text : List ℕ) → whole ≡ codes "\"" ++ (text ++ codes "\"") → between (quotes Strings) whole ≡ text

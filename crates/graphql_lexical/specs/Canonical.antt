@@ -4,7 +4,7 @@ use Rattle.graphql_lexical.specs.Kinds.{Kind, Ellipsis, same_kind, is_fixed}
 use Rattle.graphql_lexical.specs.Cutting.{Lexeme}
 use Rattle.graphql_lexical.specs.Tokens.{written}
 
--- whether neighbours of these kinds are separated: the first is no punctuator, and the next is none either, or it is
+-- whether neighbours of these kinds are separated: the first is no punctuator, and the next isn't one either, or it is
 -- `...`
 abbrev pub is_parted : Kind → Kind → Bool
 is_parted kind next = not (is_fixed kind) && (not (is_fixed next) || same_kind next Ellipsis)

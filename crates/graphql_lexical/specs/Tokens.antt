@@ -92,7 +92,7 @@ pub data AreBlockUnits : List ℕ → List ℕ → Type 0 where
 -- ---- tokens
 
 -- The whole text is a token of this kind and this text: a string's text is what stands between its quotes, a block
--- string's what stands between its triple quotes, and any other token's is the whole. The end is no text. `&` (October
+-- string's what stands between its triple quotes, and any other token's is the whole. The end has no text. `&` (October
 -- 2021, section 2.1.8), which only type system documents have, is no token here.
 abbrev pub Spells : Text → Kind → Text → Type 0
 Spells whole Name text = IsName whole × (text ≡ whole)

@@ -81,9 +81,9 @@ module _ {C : Type 0} where
   unfolding variable_nodes
   variable_forest v =
       let default = if_present_forest value_nodes value_forest v.default in
-      let behind = join (if_present value_nodes v.default) (directives_nodes v.directives) default
+      let tail = join (if_present value_nodes v.default) (directives_nodes v.directives) default
       (directives_forest v.directives) in
-      over_forest _ _ _ _ (join _ _ (over_forest _ _ _ [] no_node) behind)
+      over_forest _ _ _ _ (join _ _ (over_forest _ _ _ [] no_node) tail)
 
   variables_forest : (v : Variables C) → IsForest (variables_nodes v)
   unfolding variables_nodes
@@ -100,10 +100,10 @@ module _ {C : Type 0} where
     selection_forest : (s : Selection C) → IsForest (selection_nodes s)
     selection_forest (tree.Field alias name arguments ds ss p) =
         let directives = join (directives_nodes ds) (optional_nodes ss) (directives_forest ds) (optional_forest ss) in
-        let behind = join (if_present arguments_nodes arguments) _
+        let tail = join (if_present arguments_nodes arguments) _
         (if_present_forest arguments_nodes arguments_forest arguments) directives in
         over_forest _ _ _ _ (join (if_present alias_nodes alias) _ (if_present_forest alias_nodes alias_forest alias)
-        behind)
+        tail)
     selection_forest (tree.FragmentSpread name ds p) = over_forest _ _ _ (directives_nodes ds) (directives_forest ds)
     selection_forest (tree.InlineFragment condition ds ss p) =
         over_forest _ _ _ _ (join (directives_nodes ds) (selections_nodes ss) (directives_forest ds)
@@ -121,9 +121,9 @@ module _ {C : Type 0} where
   definition_forest : (d : Definition C) → IsForest (definition_nodes d)
   unfolding definition_nodes
   definition_forest (tree.Operation type name variables ds ss p) =
-      let behind = join (directives_nodes ds) (selections_nodes ss) (directives_forest ds) (selections_forest ss) in
+      let tail = join (directives_nodes ds) (selections_nodes ss) (directives_forest ds) (selections_forest ss) in
       over_forest _ _ _ _ (join (if_present variables_nodes variables) _
-      (if_present_forest variables_nodes variables_forest variables) behind)
+      (if_present_forest variables_nodes variables_forest variables) tail)
   definition_forest (tree.Fragment name condition ds ss p) =
       over_forest _ _ _ _ (join (directives_nodes ds) (selections_nodes ss) (directives_forest ds)
       (selections_forest ss))
@@ -156,20 +156,20 @@ module _ {C : Type 0} where
       longer u b first (inl (middle, e, f)) = inl (middle, ap₂ (λ x l. x ∷ l) first e, f)
       longer u b first (inr h) = inr h
 
-  pub descendants_behind : (nodes before after : List (Node C)) (n : Node C) → IsForest nodes
+  pub descendants_follow : (nodes before after : List (Node C)) (n : Node C) → IsForest nodes
       → nodes ≡ before ++ n ∷ after → n.descendants ≤ length after
-  descendants_behind nodes [] after n no_node e = absurd (cc)
-  descendants_behind nodes (b ∷ bs) after n no_node e = absurd (cc)
-  descendants_behind nodes [] after n (node_first m inner rest f d h i) e =
+  descendants_follow nodes [] after n no_node e = absurd (cc)
+  descendants_follow nodes (b ∷ bs) after n no_node e = absurd (cc)
+  descendants_follow nodes [] after n (node_first m inner rest f d h i) e =
       let whole : m ∷ inner ++ rest ≡ n ∷ after = sym f ∙ e in
       let first : m ≡ n = cc in
-      let behind : inner ++ rest ≡ after = cc in
-      omega (arith, ap (λ x. x.descendants) first, d, ap length behind, length-append inner rest)
-  descendants_behind nodes (b ∷ bs) after n (node_first m inner rest f d h i) e =
+      let tail : inner ++ rest ≡ after = cc in
+      omega (arith, ap (λ x. x.descendants) first, d, ap length tail, length-append inner rest)
+  descendants_follow nodes (b ∷ bs) after n (node_first m inner rest f d h i) e =
       let whole : m ∷ inner ++ rest ≡ b ∷ bs ++ n ∷ after = sym f ∙ e in
-      let behind : inner ++ rest ≡ bs ++ n ∷ after = cc in
-      cases (λ middle p. descendants_behind inner bs middle n h p)
-      (λ middle p. descendants_behind rest middle after n i p) (which inner rest bs after n behind)
+      let tail : inner ++ rest ≡ bs ++ n ∷ after = cc in
+      cases (λ middle p. descendants_follow inner bs middle n h p)
+      (λ middle p. descendants_follow rest middle after n i p) (which inner rest bs after n tail)
     where
       cases : ((middle : List (Node C)) → inner ≡ bs ++ n ∷ middle → n.descendants ≤ length middle)
           → ((middle : List (Node C)) → rest ≡ middle ++ n ∷ after → n.descendants ≤ length after)

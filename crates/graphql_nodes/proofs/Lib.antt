@@ -1,9 +1,9 @@
 pub mod Splits
 pub mod Heads
-pub mod ToldValues
+pub mod DeterminedValues
 pub mod Filled
-pub mod ToldParts
-pub mod Told
+pub mod DeterminedParts
+pub mod Determined
 pub mod Forests
 pub mod Measures
 pub mod Few

@@ -6,7 +6,7 @@ use Rattle.std.proofs.lemmas.List.{length-take}
 use Rattle.graphql_lexical.specs.Kinds.{LexicalError}
 use Rattle.graphql_lexical.specs.Place.{Place, Span, place, origin}
 use Rattle.graphql_lexical.specs.Cutting.{Lexeme, last_of, Cut}
-use Rattle.graphql_lexical.specs.device.Indexed.{BreaksFrom, here, behind as past}
+use Rattle.graphql_lexical.specs.device.Indexed.{BreaksFrom, here, later as past}
 use Rattle.graphql_lexical.specs.laws.Laws.{AreSlicesFrom}
 use Rattle.graphql_lexical.proofs.Public.{steps_by_characters, slices_in_order, place_after}
 use Rattle.graphql_grammar.specs.Tokens.{Text, Located, Word, span_of}
@@ -62,12 +62,12 @@ module _ (source : List ℕ) where
   pub origin_lies : IsPlaceOf source origin
   origin_lies = record { within = zero-le; is = sym (steps_by_characters source).first }
 
-  -- the place behind any number of characters, all of them where there are no more
+  -- the place after any number of characters, all of them where there are no more
   any_place : (m : ℕ) → IsPlaceOf source (place source m)
   any_place m = record { within = omega (arith, length-take m source); is = ap place_after (sym (take_taken m source)) }
 
   pub broken_lies : {k : ℕ} {error : LexicalError} {at : Place} → BreaksFrom source k error at → IsPlaceOf source at
-  broken_lies {k} (here {gap = gap} {size = size} g f) = any_place ((k + gap) + size)
+  broken_lies {k} (here {ignored = ignored} {size = size} g f) = any_place ((k + ignored) + size)
   broken_lies (past s e b) = broken_lies b
 
   last_lies : (t : Lexeme) (ts : List Lexeme) → Lie (t ∷ ts) → LiesIn source (last_of t ts).span
@@ -119,8 +119,8 @@ module _ {C F : Type 0} (S : Scalars C F) (source : List ℕ) where
     }
 
     -- the second part alone has nodes
-    behind : (ns : List (Node C)) → (Q h.back → Within h.back ns) → Within ts ns
-    behind ns g = joined [] ns (λ p. none h.front) g
+    after : (ns : List (Node C)) → (Q h.back → Within h.back ns) → Within ts ns
+    after ns g = joined [] ns (λ p. none h.front) g
 
     -- the first part alone has nodes
     before : (ns : List (Node C)) → (P h.front → Within h.front ns) → Within ts ns
@@ -129,7 +129,7 @@ module _ {C F : Type 0} (S : Scalars C F) (source : List ℕ) where
   -- in brackets
   bracketed : {P : List Lexeme → Type 0} (opening closing : Kind) (ts : List Lexeme) (ns : List (Node C))
       → ((us : List Lexeme) → P us → Within us ns) → (Is opening · P · Is closing) ts → Within ts ns
-  bracketed opening closing ts ns f h = behind ts h ns (λ q. before h.back q ns (f q.front))
+  bracketed opening closing ts ns f h = after ts h ns (λ q. before h.back q ns (f q.front))
 
   each_lies : {A : Type 0} (R : A → List Lexeme → Type 0) (nodes : A → List (Node C))
       → ((ts : List Lexeme) (x : A) → R x ts → Within ts (nodes x))
@@ -185,7 +185,7 @@ module _ {C F : Type 0} (S : Scalars C F) (source : List ℕ) where
         → Within ts (fields_nodes fs)
     fields_lie free ts no_fields h = none ts
     fields_lie free ts (object_field w v p fs) h =
-        let inner = behind ts h _ (λ q. behind h.back q _ (λ r. joined q.back r (nodes_at v p) (fields_nodes fs)
+        let inner = after ts h _ (λ q. after h.back q _ (λ r. joined q.back r (nodes_at v p) (fields_nodes fs)
         (lies_at free r.front v p) (fields_lie free r.back fs))) in
         record { lie = λ l. (token_lies source h.front w.span _ w.item h.first (front_lies source ts h l), inner.lie l) }
 
@@ -199,7 +199,7 @@ module _ {C F : Type 0} (S : Scalars C F) (source : List ℕ) where
   unfolding argument_nodes
   argument_lies ts a h =
       above ts _ a.name.span _ (value_nodes a.value) (λ l. token_lies source h.front a.name.span _ a.name.item h.first
-      (front_lies source ts h l)) (behind ts h _ (λ q. behind h.back q _ (value_lies true q.back a.value)))
+      (front_lies source ts h l)) (after ts h _ (λ q. after h.back q _ (value_lies true q.back a.value)))
 
   arguments_lie : (ts : List Lexeme) (a : Arguments C) → IsArguments S a ts → Within ts (arguments_nodes a)
   unfolding arguments_nodes
@@ -208,7 +208,7 @@ module _ {C F : Type 0} (S : Scalars C F) (source : List ℕ) where
 
   directive_lies : (ts : List Lexeme) (d : Located (Directive C)) → IsLocated (IsDirective S) d ts → Within ts (directive_nodes d)
   unfolding directive_nodes
-  directive_lies ts d h = above ts _ d.span _ _ (whole_lies source ts d.span h.1) (behind ts h.0 _ (λ q. behind h.0.back q _
+  directive_lies ts d h = above ts _ d.span _ _ (whole_lies source ts d.span h.1) (after ts h.0 _ (λ q. after h.0.back q _
       (optional_lies (IsArguments S) arguments_nodes arguments_lie q.back d.item.arguments)))
 
   directives_lie : (ts : List Lexeme) (ds : Directives C) → IsDirectives S ds ts → Within ts (directives_nodes ds)
@@ -219,7 +219,7 @@ module _ {C F : Type 0} (S : Scalars C F) (source : List ℕ) where
   -- ---- variable definitions
 
   default_lies : (ts : List Lexeme) (v : Located (Value C)) → IsDefault S v ts → Within ts (value_nodes v)
-  default_lies ts v h = behind ts h (value_nodes v) (value_lies false h.back v)
+  default_lies ts v h = after ts h (value_nodes v) (value_lies false h.back v)
 
   variable_lies : (ts : List Lexeme) (v : VariableDefinition C) → IsVariableDefinition S v ts
       → Within ts (variable_nodes v)
@@ -229,7 +229,7 @@ module _ {C F : Type 0} (S : Scalars C F) (source : List ℕ) where
       let others = if_present value_nodes v.default ++ directives_nodes v.directives in
       above ts _ v.name.span _ (types ++ others)
       (λ l. whole_lies source h.front v.name.span h.first.1 (front_lies source ts h l))
-      (behind ts h _ (λ colon. behind h.back colon _ (λ type. joined colon.back type types others
+      (after ts h _ (λ colon. after h.back colon _ (λ type. joined colon.back type types others
       (λ t. leaf type.front kind.Type v.of_type.span (Typed v.of_type.item) t.1)
       (λ rest. joined type.back rest _ _
       (optional_lies (IsDefault S) value_nodes default_lies rest.front v.default)
@@ -253,13 +253,13 @@ module _ {C F : Type 0} (S : Scalars C F) (source : List ℕ) where
     selection_lies : (ts : List Lexeme) (s : Selection C) → IsSelection S s ts → Within ts (selection_nodes s)
     selection_lies ts (tree.Field alias name arguments ds ss p) h = above ts _ p _ _ (whole_lies source ts p h.1)
         (joined ts h.0 _ _ (optional_lies (IsAlias S) alias_nodes alias_lies h.0.front alias)
-        (λ named. behind h.0.back named _ (λ q. joined named.back q _ _
+        (λ named. after h.0.back named _ (λ q. joined named.back q _ _
         (optional_lies (IsArguments S) arguments_nodes arguments_lie q.front arguments)
         (λ r. joined q.back r _ _ (directives_lie r.front ds) (optional_set_lies r.back ss)))))
     selection_lies ts (tree.FragmentSpread name ds p) h = above ts _ p _ _ (whole_lies source ts p h.1)
-        (behind ts h.0 _ (λ q. behind h.0.back q _ (directives_lie q.back ds)))
+        (after ts h.0 _ (λ q. after h.0.back q _ (directives_lie q.back ds)))
     selection_lies ts (tree.InlineFragment condition ds ss p) h = above ts _ p _ _ (whole_lies source ts p h.1)
-        (behind ts h.0 _ (λ q. behind h.0.back q _
+        (after ts h.0 _ (λ q. after h.0.back q _
         (λ r. joined q.back r _ _ (directives_lie r.front ds) (set_lies r.back ss))))
 
     optional_set_lies : (ts : List Lexeme) (ss : OptionalSelections C) → IsOptionalSelectionSet S ss ts
@@ -269,7 +269,7 @@ module _ {C F : Type 0} (S : Scalars C F) (source : List ℕ) where
 
     set_lies : (ts : List Lexeme) (ss : Selections C) → IsSelectionSet S ss ts → Within ts (selections_nodes ss)
     set_lies ts no_selections h = absurd h
-    set_lies ts (selection s ss) h = behind ts h _ (λ q. joined h.back q _ _ (selection_lies q.front s)
+    set_lies ts (selection s ss) h = after ts h _ (λ q. joined h.back q _ _ (selection_lies q.front s)
         (λ r. before q.back r _ (selections_lie r.front ss)))
 
     selections_lie : (ts : List Lexeme) (ss : Selections C) → AreSelections S ss ts
@@ -287,12 +287,12 @@ module _ {C F : Type 0} (S : Scalars C F) (source : List ℕ) where
       (subst (λ ds. Within ts (definition_nodes (tree.Operation type name None ds ss p))) (sym d)
       (above ts _ p _ _ (whole_lies source ts p e) (set_lies ts ss h)))
   definition_lies ts (tree.Operation type name variables ds ss p) (inr h, e) =
-      above ts _ p _ _ (whole_lies source ts p e) (behind ts h _ (λ named. behind h.back named _ (λ r. joined named.back r _ _
+      above ts _ p _ _ (whole_lies source ts p e) (after ts h _ (λ named. after h.back named _ (λ r. joined named.back r _ _
       (optional_lies (IsVariables S) variables_nodes variables_lie r.front variables)
       (λ body. joined r.back body _ _ (directives_lie body.front ds) (set_lies body.back ss)))))
   definition_lies ts (tree.Fragment name condition ds ss p) h =
-      above ts _ p _ _ (whole_lies source ts p h.1) (behind ts h.0 _ (λ named. behind h.0.back named _
-      (λ typed. behind named.back typed _
+      above ts _ p _ _ (whole_lies source ts p h.1) (after ts h.0 _ (λ named. after h.0.back named _
+      (λ typed. after named.back typed _
       (λ body. joined typed.back body _ _ (directives_lie body.front ds) (set_lies body.back ss)))))
 
   pub nodes_lie : (ts : List Lexeme) (ds : List (Definition C)) → Cut source ts → IsDocument S ds ts

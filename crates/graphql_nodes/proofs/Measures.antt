@@ -97,8 +97,8 @@ module _ {C F : Type 0} (S : Scalars C F) (measure : Node C → ℕ) (weight : L
         (join h.front h.back ms ns (f h.first) (g h.second))
 
     -- the second part alone has nodes
-    behind : (ns : List (Node C)) → (Q h.back → Within h.back ns) → Within ts ns
-    behind ns g = joined [] ns (λ p. none h.front) g
+    after : (ns : List (Node C)) → (Q h.back → Within h.back ns) → Within ts ns
+    after ns g = joined [] ns (λ p. none h.front) g
 
     -- the first part alone has nodes
     before : (ns : List (Node C)) → (P h.front → Within h.front ns) → Within ts ns
@@ -206,7 +206,7 @@ module _ {C F : Type 0} (S : Scalars C F) (measure : Node C → ℕ) (weight : L
     fields_within free ts no_fields h = none ts
     fields_within free ts (object_field w v p fs) h =
         headed_before ts h (word_one _) kind.Key w.span _ (nodes_at v p) (fields_nodes fs) tt
-        (λ q. behind h.back q _ (λ r. joined q.back r (nodes_at v p) (fields_nodes fs)
+        (λ q. after h.back q _ (λ r. joined q.back r (nodes_at v p) (fields_nodes fs)
         (λ k. within_at free r.front v p k.0) (fields_within free r.back fs)))
 
   value_within : (free : Bool) (ts : List Lexeme) (v : Located (Value C)) → IsLocated (IsValue S free) v ts
@@ -218,7 +218,7 @@ module _ {C F : Type 0} (S : Scalars C F) (measure : Node C → ℕ) (weight : L
   argument_within : (ts : List Lexeme) (a : Argument C) → IsArgument S a ts → Within ts (argument_nodes a)
   unfolding argument_nodes
   argument_within ts a h = headed ts h (word_one a.name) _ _ _ (value_nodes a.value) tt
-      (λ q. behind h.back q (value_nodes a.value) (value_within true q.back a.value))
+      (λ q. after h.back q (value_nodes a.value) (value_within true q.back a.value))
 
   arguments_within : (ts : List Lexeme) (a : Arguments C) → IsArguments S a ts → Within ts (arguments_nodes a)
   unfolding arguments_nodes
@@ -226,7 +226,7 @@ module _ {C F : Type 0} (S : Scalars C F) (measure : Node C → ℕ) (weight : L
 
   directive_within : (ts : List Lexeme) (d : Located (Directive C)) → IsLocated (IsDirective S) d ts → Within ts (directive_nodes d)
   unfolding directive_nodes
-  directive_within ts d h = headed ts h.0 (is_one At) _ _ _ _ tt (λ q. behind h.0.back q _
+  directive_within ts d h = headed ts h.0 (is_one At) _ _ _ _ tt (λ q. after h.0.back q _
       (optional_within (IsArguments S) arguments_nodes arguments_within q.back d.item.arguments))
 
   directives_within : (ts : List Lexeme) (ds : Directives C) → IsDirectives S ds ts → Within ts (directives_nodes ds)
@@ -249,14 +249,14 @@ module _ {C F : Type 0} (S : Scalars C F) (measure : Node C → ℕ) (weight : L
   }
 
   default_within : (ts : List Lexeme) (v : Located (Value C)) → IsDefault S v ts → Within ts (value_nodes v)
-  default_within ts v h = behind ts h (value_nodes v) (value_within false h.back v)
+  default_within ts v h = after ts h (value_nodes v) (value_within false h.back v)
 
   variable_within : (ts : List Lexeme) (v : VariableDefinition C) → IsVariableDefinition S v ts
       → Within ts (variable_nodes v)
   unfolding variable_nodes
   variable_within ts v h =
       let dollar = row_right ts (row_front (λ us k. k.0) ts h) in
-      headed ts dollar (is_one Dollar) _ _ _ _ tt (λ name. behind dollar.back name _ (λ colon. behind name.back colon _
+      headed ts dollar (is_one Dollar) _ _ _ _ tt (λ name. after dollar.back name _ (λ colon. after name.back colon _
       (λ type. joined colon.back type _ _ (λ t. type_within type.front v.of_type.item v.of_type.span t.0)
       (λ rest. joined type.back rest _ _
       (optional_within (IsDefault S) value_nodes default_within rest.front v.default)
@@ -307,9 +307,9 @@ module _ {C F : Type 0} (S : Scalars C F) (measure : Node C → ℕ) (weight : L
         (optional_within (IsArguments S) arguments_nodes arguments_within q.front arguments)
         (λ r. joined q.back r _ _ (directives_within r.front ds) (optional_set_within r.back ss)))
     selection_within ts (tree.FragmentSpread name ds p) h = headed ts h.0 (is_one Ellipsis) _ _ _ _ tt
-        (λ q. behind h.0.back q _ (directives_within q.back ds))
+        (λ q. after h.0.back q _ (directives_within q.back ds))
     selection_within ts (tree.InlineFragment condition ds ss p) h =
-        headed ts h.0 (is_one Ellipsis) _ _ _ _ (untyped_name condition) (λ q. behind h.0.back q _
+        headed ts h.0 (is_one Ellipsis) _ _ _ _ (untyped_name condition) (λ q. after h.0.back q _
         (λ r. joined q.back r _ _ (directives_within r.front ds) (set_within r.back ss)))
 
     optional_set_within : (ts : List Lexeme) (ss : OptionalSelections C) → IsOptionalSelectionSet S ss ts
@@ -319,7 +319,7 @@ module _ {C F : Type 0} (S : Scalars C F) (measure : Node C → ℕ) (weight : L
 
     set_within : (ts : List Lexeme) (ss : Selections C) → IsSelectionSet S ss ts → Within ts (selections_nodes ss)
     set_within ts no_selections h = absurd h
-    set_within ts (selection s ss) h = behind ts h _ (λ q. joined h.back q _ _ (selection_within q.front s)
+    set_within ts (selection s ss) h = after ts h _ (λ q. joined h.back q _ _ (selection_within q.front s)
         (λ r. before q.back r _ (selections_within r.front ss)))
 
     selections_within : (ts : List Lexeme) (ss : Selections C) → AreSelections S ss ts
@@ -346,11 +346,11 @@ module _ {C F : Type 0} (S : Scalars C F) (measure : Node C → ℕ) (weight : L
       (subst (λ ds. Within ts (definition_nodes (tree.Operation type name None ds ss p))) (sym d)
       (set_over ts ss _ _ _ (untyped_name name) h))
   definition_within ts (tree.Operation type name variables ds ss p) (inr h, q) =
-      headed ts h (says_one _) _ _ _ _ (untyped_name name) (λ named. behind h.back named _ (λ r. joined named.back r _ _
+      headed ts h (says_one _) _ _ _ _ (untyped_name name) (λ named. after h.back named _ (λ r. joined named.back r _ _
       (optional_within (IsVariables S) variables_nodes variables_within r.front variables)
       (λ body. joined r.back body _ _ (directives_within body.front ds) (set_within body.back ss))))
   definition_within ts (tree.Fragment name condition ds ss p) h =
-      headed ts h.0 (says_one _) _ _ _ _ tt (λ named. behind h.0.back named _ (λ typed. behind named.back typed _
+      headed ts h.0 (says_one _) _ _ _ _ tt (λ named. after h.0.back named _ (λ typed. after named.back typed _
       (λ body. joined typed.back body _ _ (directives_within body.front ds) (set_within body.back ss))))
 
   -- a document's tokens before its end

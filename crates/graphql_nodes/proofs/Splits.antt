@@ -32,8 +32,8 @@ module _ {C : Type 0} where
       → over k p l us ++ ws ≡ over k' p' l' vs ++ xs → Shares k k' p p' l l' us vs ws xs
   shares k k' p p' l l' us vs ws xs e =
       let same : node_over k p l us ≡ node_over k' p' l' vs = cc in
-      let behind : us ++ ws ≡ vs ++ xs = cc in
-      let h = split us vs ws xs (ap (λ n. n.descendants) same) behind in
+      let tail : us ++ ws ≡ vs ++ xs = cc in
+      let h = split us vs ws xs (ap (λ n. n.descendants) same) tail in
       record {
         kind = ap (λ n. n.kind) same;
         span = ap (λ n. n.span) same;

@@ -54,9 +54,9 @@ module _ {C : Type 0} (S : Scalars C Error) (depth most : ℕ) (source : List �
       limited = tt;
     }
 
-    told : (r : Result X LimitFailure) (e : LimitFailure) → IsErrAnd r (λ x. x ≡ e) → r ≡ Err e
-    told (Ok x) e is = absurd is
-    told (Err x) e is = ap Err is
+    is_error : (r : Result X LimitFailure) (e : LimitFailure) → IsErrAnd r (λ x. x ≡ e) → r ≡ Err e
+    is_error (Ok x) e is = absurd is
+    is_error (Err x) e is = ap Err is
 
     lex_so : (Y : Type 0) (failed : LexFailure) (state : LexerState) → state ≡ started source
         → IfFaultWithin {X = Y} (Err (counting.Lex failed)) (λ fault. BreaksOff state (view_lexer_error fault.item) fault.span.start)
@@ -93,7 +93,7 @@ module _ {C : Type 0} (S : Scalars C Error) (depth most : ℕ) (source : List �
     tokens_so Y (counting.TooMany span) state is breaks wide few many limit = many_so span state is many limit
 
     -- a failure to take the tokens, passed on
-    pub tokens_told : (Y : Type 0) (failed : LimitedLexFailure) (r : Result X LimitFailure)
+    pub tokens_failed : (Y : Type 0) (failed : LimitedLexFailure) (r : Result X LimitFailure)
         → IsErrAnd r (λ x. x ≡ tokens_limited failed) → (state : LexerState) → state ≡ started source
         → IfFaultWithin {X = Y} (Err failed) (λ fault. BreaksOff state (view_lexer_error fault.item) fault.span.start)
         → IfFaultWithin {X = Y} (Err failed) (λ fault. fault.span.end ≡ fault.span.start)
@@ -101,8 +101,8 @@ module _ {C : Type 0} (S : Scalars C Error) (depth most : ℕ) (source : List �
         → IfTooMany {X = Y} (Err failed) (λ span. HasMore (passed state.source state.index) (ahead state.source state.index) most (view_span span))
         → IfTooMany {X = Y} (Err failed) (λ _. most < 2 ^ 63)
         → ReturnsLimited S depth most source view r
-    tokens_told Y failed r is state from breaks wide few many limit =
-        subst (ReturnsLimited S depth most source view) (sym (told r (tokens_limited failed) is))
+    tokens_failed Y failed r is state from breaks wide few many limit =
+        subst (ReturnsLimited S depth most source view) (sym (is_error r (tokens_limited failed) is))
         (tokens_so Y failed state from breaks wide few many limit)
 
   -- ---- a text has one answer

@@ -64,7 +64,7 @@ enough f w n ts = elim ((settled f w n).at ts) [ inl e ↦ inl e | inr e ↦ inr
 
 module _ {C : Type 0} (S : Scalars C Error) where
   -- What the steps of a production have to be, so that the cursor goes their way: no test passes the end or what
-  -- stands at no place, spans are told rightly, and lists answer.
+  -- is at no place, spans are returned rightly, and lists are read.
   abbrev pub Fits : {A : Type 0} → Steps C A → Type 0
   Fits (gives a) = Unit {0}
   Fits (wants test k) = PassesNoEnd test × ((t : Lexeme) → Fits (k t))

@@ -1,4 +1,4 @@
--- What is answered for tokens that were ended behind a deep one is answered for their text.
+-- What is answered for tokens that were ended after a deep one is answered for their text.
 use Rattle.std.proofs.Common.{◌≡◌, ℕ, suc, ◌<◌, ◌≤◌, ◌⊎◌, true, false, List, [], ◌∷◌, ◌++◌, length, take, inl, inr, refl, sym, ap, subst, ◌∙◌, arith, append_assoc, append-nil, Result, Ok, Err, Option, Some, None, length-append}
 use Rattle.std.specs.Prelude.{◌==◌, pos, ◌≤ℤ◌}
 use Rattle.std.proofs.Math.Nat.{eq-or-lt_of_le}
@@ -13,7 +13,7 @@ use Rattle.graphql_lexical.specs.Nesting.{ended_by}
 use Rattle.graphql_grammar.specs.Tree.{Scalars, Definition}
 use Rattle.graphql_grammar.specs.Tokens.{IsSpelled}
 use Rattle.graphql_grammar.specs.Faults.{DocumentRefusedAt}
-use Rattle.graphql_grammar.specs.device.Faults.{Fault, told}
+use Rattle.graphql_grammar.specs.device.Faults.{Fault, as_error}
 use Rattle.graphql_grammar.specs.Depth.{IsTooDeep}
 use Rattle.graphql_grammar.specs.device.AlikeFaults.{BeginsDocument, IsTooDeepAt}
 use Rattle.graphql_grammar.proofs.Public.{after_too_deep, too_deep_after, same_parts, document_error, document_fault, document_or_fault, cut_spelled, cut_ends, short_spelled, short_ends, TellsDepth, t_goes_on, front_is, short_no_document, short_tells, middle_of}
@@ -156,7 +156,8 @@ module _ {C : Type 0} (S : Scalars C Error) (depth : ℕ) (source : List ℕ) wh
       module _ (i : ℕ) (t : Lexeme) (d : IsFirstDeeperAt depth ts i t) where
         deep_fault : (span : spans.Span) (fault : Spanning ParseError) → view_span span ≡ t.span
             → (h : IsRefusedAt S (ended_by d.before t) (view_fault fault)) (e : Fault Error)
-            → (view_fault fault).error ≡ told UnexpectedEndOfFile unexpected e → TellsDepth S ts i t h.before h.token e
+            → (view_fault fault).error ≡ as_error UnexpectedEndOfFile unexpected e
+            → TellsDepth S ts i t h.before h.token e
             → Promised (result_within (Some span) (Err (failure.Refused fault)))
         deep_fault span fault e h x is (inl (end, begins)) =
             let at_end = h.span ∙ ap (λ (x : Lexeme). x.span) end in
@@ -262,10 +263,10 @@ module _ {C : Type 0} (S : Scalars C Error) (depth : ℕ) (source : List ℕ) wh
 
     module _ (i : ℕ) (t : Lexeme) (d : IsFirstDeeperAt depth ts i t) where
       -- where the tokens up to the deep one, and then an end, are refused tells which
-      told_has_one : (us : List Lexeme) (u : Lexeme) (e : Fault Error) → TellsDepth S ts i t us u e → SomeAnswer
-      told_has_one us u e (inl (end, begins)) =
+      refused_has_one : (us : List Lexeme) (u : Lexeme) (e : Fault Error) → TellsDepth S ts i t us u e → SomeAnswer
+      refused_has_one us u e (inl (end, begins)) =
           inr (inr (t.span, begun_too_deep ts cut i t d begins t.span refl))
-      told_has_one us u e (inr (inside, none, refused)) =
+      refused_has_one us u e (inr (inside, none, refused)) =
           inr (inl (
             unbegun_within ts cut i t d none,
             (
@@ -282,7 +283,7 @@ module _ {C : Type 0} (S : Scalars C Error) (depth : ℕ) (source : List ℕ) wh
           elim (document_or_fault S (ended_by d.before t) (short_spelled S depth ts i t d all once)
           (short_ends S depth ts i t d all once)) [
             | inl tree ↦ absurd (short_no_document S depth ts i t d tree.0 tree.1)
-            | inr r ↦ told_has_one r.0 r.1 r.2 (short_tells S depth ts i t d all once r.0 r.1 r.2 r.3)
+            | inr r ↦ refused_has_one r.0 r.1 r.2 (short_tells S depth ts i t d all once r.0 r.1 r.2 r.3)
           ]
 
   some_answer : SomeAnswer

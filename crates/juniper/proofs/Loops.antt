@@ -12,7 +12,7 @@ use Rattle.juniper_tokens.specs.Cursor.{Read, Fails, ◌>>=◌, EndsOnce}
 abbrev pub then_others : {A B : Type 0} → A → Read (List A × B) → Read (List A × B)
 then_others a r = r >>= λ x. Ok ((a ∷ x.0.0, x.0.1), x.1)
 
--- these items, and then those that are read, with what stands behind them
+-- these items, and then those that are read, with what stands after them
 abbrev pub with_front : {A B : Type 0} → List A → Read (List A × B) → Read (List A × B)
 with_front front r = r >>= λ x. Ok ((front ++ x.0.0, x.0.1), x.1)
 
@@ -56,7 +56,7 @@ module _ {A : Type 0} {close : List Lexeme → Option Span × List Lexeme} {item
       let one : more p ≡ Err (view_fault e, left) = u.unfolds p ended ∙ rw (sym opened, fails) refl in
       sym so_far ∙ ap (with_front front) one
 
--- ---- a closing token is looked for behind each item
+-- ---- a closing token is looked for after each item
 
 -- these items, and then those that are read
 abbrev pub before_others : {A : Type 0} → List A → Read (List A) → Read (List A)

@@ -63,12 +63,12 @@ module _ (old new : Taking) (on : GoesOn old new) (shorter : length (left new) <
         length-drop old.taken old.tokens,
         length-drop new.taken old.tokens,
       ) in
-      let room : n < length (left old) = omega (arith, size) in
+      let some_left : n < length (left old) = omega (arith, size) in
       let last : drop n (left old) ≡ drop (new.taken - 1) new.tokens =
       drop-drop n old.taken old.tokens ∙ ap (λ k. drop k old.tokens) whole
       ∙ ap (drop (new.taken - 1)) (sym on.same) in
       ap (λ (ts : List Lexeme). between (first_of (left old)).span.start (first_of ts).span.end) (sym last)
-      ∙ span_is n (left old) room ∙ ap (λ k. span_of (take k (left old))) (sym size)
+      ∙ span_is n (left old) some_left ∙ ap (λ k. span_of (take k (left old))) (sym size)
 
   -- What was read with the span from a mark has the span of its tokens.
   pub marked : {A : Type 0} (r : Read (Span → A)) (x : A) (start : Place)

@@ -2,7 +2,7 @@
 use Rattle.std.proofs.Common.{◌≡◌, ◌⊎◌, inl, inr, List, ◌++◌, [], ◌∷◌, ℕ, refl, sym, ap, subst, ◌∙◌, append_assoc, append-nil}
 use Rattle.std.specs.Prelude.{Result, Ok, Err, IfOk, Option, Some, None}
 use Rattle.graphql_lexical.specs.Cutting.{Lexeme, Cut}
-use Rattle.graphql_lexical.specs.Nesting.{end_behind}
+use Rattle.graphql_lexical.specs.Nesting.{end_after}
 use Rattle.graphql_lexical.proofs.Public.{one_cut_or_break}
 use Rattle.graphql_grammar.specs.Tree.{Scalars, Definition}
 use Rattle.graphql_grammar.specs.Grammar.{Each, IsDefinition}
@@ -105,7 +105,7 @@ module _ {C : Type 0} (S : Scalars C Error) where
       }
       by_goes_on (inr ended) = by_rest left ended (sym h.whole ∙ e)
 
-  -- What stands before the end of tokens that were ended behind a deep one stands at the front of all.
+  -- What stands before the end of tokens that were ended after a deep one stands at the front of all.
   pub stand_in_all : (depth : ℕ) (source : List ℕ) (ts left : List Lexeme) (deep : Option spans.Span)
       (ds : List (Definition C)) → Cut source ts → EndsAtNesting depth ts deep left
       → ((inner : List Lexeme) (end : Lexeme) → left ≡ inner ++ end ∷ [] → StandInFront S inner ds)
@@ -115,7 +115,7 @@ module _ {C : Type 0} (S : Scalars C Error) where
       subst (λ (xs : List Lexeme). StandInFront S xs ds) (sym ends.whole)
       (stand_before ends.inner (ends.end ∷ []) ds (h ends.inner ends.end (e.1 ∙ ends.whole)))
   stand_in_all depth source ts left (Some span) ds cut (before, t, d, at, is) h =
-      let short = h (before ++ t ∷ []) (end_behind t) (is ∙ sym (append_assoc before (t ∷ []) (end_behind t ∷ []))) in
+      let short = h (before ++ t ∷ []) (end_after t) (is ∙ sym (append_assoc before (t ∷ []) (end_after t ∷ []))) in
       subst (λ (xs : List Lexeme). StandInFront S xs ds) (append_assoc before (t ∷ []) d.after ∙ sym d.whole)
       (stand_before (before ++ t ∷ []) d.after ds short)
 

@@ -1,8 +1,8 @@
 //! Laws of source texts, of displays and of views: the contracts of functions that do nothing. A function whose proof needs
 //! one calls it.
 //!
-//! The laws of the token grammar, of the document grammar, of tokens, of input values and of answer values stand in modules
-//! of their own.
+//! The laws of the token grammar, of the document grammar, of tokens, of input values and of answer values are in
+//! modules of their own.
 ghost use Rattle.std.specs.Prelude.{◌≡◌, ◌⊎◌, ℕ, List};
 ghost use Rattle.std.specs.List.{AllByRecursion, AllZip};
 ghost use Rattle.graphql_lexical.specs.Place.{Span};
@@ -44,7 +44,7 @@ pub use juniper_tokens::laws as tokens;
 use juniper_values::ScalarValue;
 pub use juniper_values::laws as values;
 
-/// Where a lexer fails at its source's break, a parser returns the lexical error that stands there.
+/// If a lexer fails where its source breaks, a parser returns the lexical error at that place.
 pub fn lexer_failures_are_reported()
     ensures { (source : List ℕ) (failed : LexFailure) → FailsAtBreak source failed → IsRefusedAtBreak source (failure_of failed) }
 {}
@@ -103,7 +103,7 @@ pub fn type_display_is_read_back()
     ensures { (name : Text) (ms : List TypeModifier) → IsName name → AreWritable ms → IsReadAsType (type_text name ms) (type_of name ms) }
 {}
 
-/// The display of a plain value of default scalars is read back as that value, apart from its places.
+/// The display of a plain value of default scalars is read back as that value, apart from its spans.
 pub fn value_display_is_read_back()
     ensures { (v : InputValue DefaultScalarValue) → IsPlain (view default_content v) → IsReadBack v }
 {}

@@ -151,20 +151,20 @@ same_key key k l e =
     (sym (encodes-chars (string_bytes k) (IsUtf8-string_bytes k)) ∙ ap encodes e
     ∙ encodes-chars (string_bytes l) (IsUtf8-string_bytes l))
 
--- what is found at a key, where the first values are equal and what is found behind them is
+-- what is found at a key, where the first values are equal and what is found after them is
 found : {A : Type 0} (E : A → A → Bool) (v w : A) (m n : Option A) (b : Bool) → E v w ≡ true → option_eq E m n ≡ true
     → option_eq E (cond b (Some v) m) (cond b (Some w) n) ≡ true
 found E v w m n true e h = e
 found E v w m n false e h = h
 
-module _ {S : Type 0} (R : S → S → Type 0) (eq : S → S → Bool) (told : (s t : S) → R s t → eq s t ≡ true)
+module _ {S : Type 0} (R : S → S → Type 0) (eq : S → S → Bool) (same_scalars : (s t : S) → R s t → eq s t ≡ true)
     (E : Value S → Value S → Bool) (parts : ComparesParts eq E) where
   mutual
     equal : (d e : Data S) (v w : Value S) → shape v ≡ d → shape w ≡ e → Lifts R d e → E v w ≡ true
     equal null null v w p q l = ap₂ E (null_seen v p) (null_seen w q) ∙ parts.nulls
     equal null e v w p q l = absurd l
     equal (scalar s) (scalar t) v w p q l =
-        ap₂ E (scalar_seen v s p) (scalar_seen w t q) ∙ parts.scalars s t ∙ told s t l
+        ap₂ E (scalar_seen v s p) (scalar_seen w t q) ∙ parts.scalars s t ∙ same_scalars s t l
     equal (scalar s) e v w p q l = absurd l
     equal (list ds) (list es) v w p q l =
         let x = list_seen v ds p in

@@ -65,7 +65,7 @@ name_read (c ∷ cs) n kind text r e =
 only_name : (text : List ℕ) → IsOneName text → IsName text
 only_name text o =
     let s = (by_places text (o.name ∷ o.end ∷ []) o.cut).1 in
-    subst IsName o.same (name_read (drop (0 + s.gap) text) s.size o.name.kind o.name.text s.reads o.kind)
+    subst IsName o.same (name_read (drop (0 + s.ignored) text) s.size o.name.kind o.name.text s.reads o.kind)
 
 pub name_is_token : (text : List ℕ) → (is_name text ≡ true) ↔ IsOneName text
 name_is_token text = ((λ e. one_token text (spelled text e)), (λ o. tested text (only_name text o)))

@@ -19,7 +19,7 @@ pub trait IntoInputValue<S> {
     // The input value that a value becomes.
     ghost becomes: { Self → InputValue S → Type 0 };
 
-    /// Converts the value to an input value. Returns `AllocError` where memory ran out; the value is dropped then.
+    /// Converts the value to an input value. Returns `AllocError` if memory runs out; the value is dropped then.
     fn into_input_value(self, alloc: Global) -> Result<InputValue<S>, AllocError>
         ensures { IfOk result (λ v. becomes self v) };
 }
@@ -29,7 +29,7 @@ pub trait IntoValue<S> {
     // The answer value that a value becomes.
     ghost becomes: { Self → Value S → Type 0 };
 
-    /// Converts the value to an answer value. Returns `AllocError` where memory ran out; the value is dropped then.
+    /// Converts the value to an answer value. Returns `AllocError` if memory runs out; the value is dropped then.
     fn into_value(self, alloc: Global) -> Result<Value<S>, AllocError>
         ensures { IfOk result (λ v. becomes self v) };
 }
@@ -166,7 +166,7 @@ impl<S: ScalarValue> IntoValue<S> for bool {
     }
 }
 
-/// The input value of a text's scalar. Returns `AllocError` where memory ran out.
+/// The input value of a text's scalar. Returns `AllocError` if memory runs out.
 pub fn input_value_from_str<S: ScalarValue>(
     alloc: Global,
     text: &str,
@@ -176,7 +176,7 @@ pub fn input_value_from_str<S: ScalarValue>(
     Ok(InputValue::Scalar(scalar_from_str(alloc, text)?))
 }
 
-/// The answer value of a text's scalar. Returns `AllocError` where memory ran out.
+/// The answer value of a text's scalar. Returns `AllocError` if memory runs out.
 pub fn value_from_str<S: ScalarValue>(alloc: Global, text: &str) -> Result<Value<S>, AllocError>
     ensures { IfOk result (λ v. view S.content v ≡ scalar (S.of_text (chars text.now))) }
 {

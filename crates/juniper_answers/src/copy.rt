@@ -10,7 +10,7 @@ use std::alloc::{AllocError, Global};
 impl<S: ScalarValue> Value<S> {
     /// A copy: the same lists, the same keys in the same order, and equal scalars.
     ///
-    /// Returns `AllocError` where memory ran out.
+    /// Returns `AllocError` if memory runs out.
     pub fn try_clone(&self, alloc: Global) -> Result<Self, AllocError>
         ensures { IfOk result (λ v. Copies (λ s t. S.content t ≡ S.content s) self.now v) }
     {

@@ -14,7 +14,7 @@ use std::fmt;
 use std::fmt::Write;
 
 /// Displays the value in JSON's form (GraphQL specification, October 2021, section 7.2.1), except that texts and keys
-/// stand between quotes without escaping.
+/// are between quotes without escaping.
 impl<S: ScalarValue> fmt::Display for Value<S> {
     ghost output = { λ v. Some (encode_utf8_all (data_text (scalar_display S.content S.str_in S.shown) (shape v))) };
 

@@ -16,7 +16,7 @@ use std::alloc::{AllocError, Global};
 use std::marker::Model;
 use std::{mem, slice, vec};
 
-/// Each key with the value at its place. A key or a value past the other's end is ignored.
+/// Each key with the value at its index. A key or a value past the other's end is ignored.
 #[derive(Drop)]
 pub struct Entries<V> {
     keys: IndexSet<String>,

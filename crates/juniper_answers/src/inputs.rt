@@ -15,13 +15,13 @@ pub trait ToInputValue<S> {
     // The input value that stands for a value.
     ghost stands_for: { Self → InputValue S → Type 0 };
 
-    /// Converts the value to an input value (GraphQL specification, October 2021, section 2.9). Returns `AllocError`
-    /// where memory ran out.
+    /// Converts the value to an input value (GraphQL specification, October 2021, section 2.9). Returns `AllocError` if
+    /// memory runs out.
     fn to_input_value(&self, alloc: Global) -> Result<InputValue<S>, AllocError>
         ensures { IfOk result (λ v. stands_for self.now v) };
 }
 
-/// The same `null`, an equal scalar, or the items or fields in their order, each with the place `Span::unlocated`.
+/// The same `null`, an equal scalar, or the items or fields in their order, each with the span `Span::unlocated`.
 impl<S: ScalarValue> ToInputValue<S> for Value<S> {
     ghost stands_for = { λ d v. input_view S.content v ≡ as_input (view S.content d) };
 

@@ -12,7 +12,7 @@ impl<S: ScalarValue> Value<S> {
     /// The value with each scalar replaced by what `into_another` makes of it: the same lists, and the same keys in the
     /// same order.
     ///
-    /// Returns `AllocError` where memory ran out. The value is dropped then too.
+    /// Returns `AllocError` if memory runs out. The value is dropped then too.
     pub fn map_scalar_value<T: ScalarValue>(self, alloc: Global) -> Result<Value<T>, AllocError>
         ensures { IfOk result (λ v. Copies (IsAnother S.content S.int_in S.bool_in S.own_string_in T.content T.of_int T.of_bool T.of_text) self v) }
     {

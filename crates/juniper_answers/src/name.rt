@@ -18,14 +18,14 @@ pub struct Name {
     pub ghost valid: { is_name (chars (string_bytes text)) ≡ true },
 }
 
-/// The error that a text is no name, as a text. Two are compared and ordered by their texts.
+/// The error that a text isn't a name, as a text. Two are compared and ordered by their texts.
 #[derive(PartialEq, Eq, PartialOrd, Ord, Debug, Drop)]
 pub struct NameParseError(String);
 
 /// Why no name was made.
 #[derive(Debug, Drop)]
 pub enum NameFailure {
-    /// The text is no name.
+    /// The text isn't a name.
     Invalid(NameParseError),
     /// Memory ran out.
     Memory,
@@ -74,7 +74,7 @@ impl Name {
 
     /// The name with this text.
     ///
-    /// Fails with `Invalid`, which shows the text, where the text is no name, and with `Memory` where memory ran out.
+    /// Fails with `Invalid`, which shows the text, if it isn't a name, and with `Memory` if memory runs out.
     pub fn new(alloc: Global, input: &str) -> Result<Name, NameFailure>
         ensures named { IfOk result (λ name. text_of_name name ≡ input.now) }
         ensures valid { OnOk result (is_name (chars input.now) ≡ true) }

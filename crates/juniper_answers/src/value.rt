@@ -59,7 +59,7 @@ impl<S> Object<S> {
     /// An object without fields, with capacity for some. The size is a hint: more fields may come, and each may be
     /// refused.
     ///
-    /// Returns `AllocError` where memory ran out.
+    /// Returns `AllocError` if memory runs out.
     pub fn with_capacity(alloc: Global, size: usize) -> Result<Self, AllocError>
         ensures { IfOk result (λ o. pairs o ≡ []) }
     {
@@ -71,7 +71,7 @@ impl<S> Object<S> {
     /// Puts a value at a key. A value that is there is replaced in its place and returned, and nothing is merged; a new
     /// key goes last.
     ///
-    /// Where memory ran out, returns the key and the value, and the object is unchanged. A key that is there needs no
+    /// If memory runs out, returns the key and the value, and the object is unchanged. A key that is there needs no
     /// memory.
     pub fn add_field(
         &mut self,
@@ -89,7 +89,7 @@ impl<S> Object<S> {
 
     /// The object of these pairs: each is put in turn, as `add_field` puts it, into an object without fields.
     ///
-    /// A repeated key keeps its first place and takes the last value. Returns `AllocError` where memory ran out; what
+    /// A repeated key keeps its first place and takes the last value. Returns `AllocError` if memory runs out; what
     /// came until then is dropped. Condition: the iterator may be asked for its items, and ends.
     pub fn from_iter<I: Iterator<Item = (String, Value<S>)>>(
         alloc: Global,

@@ -10,22 +10,22 @@ ghost use Rattle.graphql_lexical.specs.Canonical.{space_if, canonical};
 ghost use Rattle.juniper_tokens.specs.Errors.{view_lexer_error};
 ghost use Rattle.juniper_tokens.specs.Gathering.{IfFault};
 ghost use Rattle.juniper_tokens.specs.Tokens.{kind_text, token_kind, token_text, scalar_kind, scalar_text};
-ghost use Rattle.juniper_canonical.specs.device.Parting.{is_behind_space};
+ghost use Rattle.juniper_canonical.specs.device.Parting.{is_after_space};
 
 use juniper_tokens::text::push_text;
 use juniper_tokens::{Kind, LexFailure, Lexer, ScalarToken, Token};
 use std::alloc::{AllocError, Global};
 
-/// The canonical text of a source: its tokens as they are written, one after another, with one space between two
-/// neighbours of which neither is a punctuator, and before `...` after one that is none.
+/// The canonical text of a source: its tokens as they are written, one after another, with a space between two
+/// non-punctuators, and between a non-punctuator and `...`.
 ///
 /// Ignored tokens are left out: white space, line ends, commas, comments and byte order marks (GraphQL specification,
 /// October 2021, section 2.1.7). Strings and block strings stay as they are written. So two sources have the same
 /// canonical text exactly if their tokens are alike, and are the same document then, or are refused alike. A canonical
 /// text is its own canonical text, and never more than twice as long as its source.
 ///
-/// Returns `LexFailure::Fault` with the source's first lexical error, which has an empty span, where the source can't
-/// be cut into tokens. Whether these make a document is not checked. Returns `LexFailure::Memory` where memory ran out:
+/// Returns `LexFailure::Fault` with the source's first lexical error, which has an empty span, if the source can't be
+/// cut into tokens. Whether the tokens are a document isn't checked. Returns `LexFailure::Memory` if memory runs out:
 /// capacity for as many bytes as the source has is requested at once.
 ///
 /// ```
@@ -57,7 +57,7 @@ pub fn canonical_text(alloc: Global, source: &str) -> Result<String, LexFailure>
 fn write_token(out: &mut String, is_bare: bool, token: Token<'_>) -> Result<bool, AllocError>
     ensures bare { IfOk result (λ next. next ≡ not (is_fixed (token_kind token.entry))) }
     ensures text { IfOk result (λ next. string_bytes out.new ≡ string_bytes out.old
-        ++ encode_utf8_all (space_if (is_behind_space is_bare (token_kind token.entry)) ++ written (token_kind token.entry) (token_text token.entry))) }
+        ++ encode_utf8_all (space_if (is_after_space is_bare (token_kind token.entry)) ++ written (token_kind token.entry) (token_text token.entry))) }
 {
     match token {
         Token::Name(text) => write_word(out, is_bare, text),
@@ -71,7 +71,7 @@ fn write_fixed(out: &mut String, is_bare: bool, kind: Kind) -> Result<bool, Allo
     requires { is_fixed kind ≡ true }
     ensures bare { IfOk result (λ next. next ≡ false) }
     ensures text { IfOk result (λ next. string_bytes out.new ≡ string_bytes out.old
-        ++ encode_utf8_all (space_if (is_behind_space is_bare kind) ++ kind_text kind [])) }
+        ++ encode_utf8_all (space_if (is_after_space is_bare kind) ++ kind_text kind [])) }
 {
     write_space(out, is_bare && kind == Kind::Ellipsis)?;
     write_short(out, kind.spelling().unwrap_or(""))?;

@@ -12,7 +12,7 @@ use Rattle.juniper_complexity.specs.Parts.{Reference, spreads_of_definition, is_
 use Rattle.juniper_complexity.specs.device.BySpreads.{own_of_definition, HasBySpreads, has_by_spreads, SpreadsAdd, none_adds, first_adds}
 use Rattle.juniper_complexity.specs.Faults.{EarlierHave, SpreadFault, OfCycle, OfUnknown, CannotExpand, of_none, of_outer, in_fragment, in_others}
 use Rattle.juniper_complexity.specs.device.Outlines.{coded, IsOutline, AreOutlines}
-use Rattle.juniper_complexity.specs.Faults.{view_failure, FailsRightly}
+use Rattle.juniper_complexity.specs.Faults.{view_failure, FailsWithFirstFault}
 use Rattle.juniper_complexity.specs.declared.complexity.Complexity.{Complexity}
 use Rattle.juniper_complexity.specs.declared.complexity.ComplexityFailure.{ComplexityFailure}
 use Rattle.juniper_complexity.specs.declared.complexity.ComplexityFailure.TheVariants as failure
@@ -129,8 +129,9 @@ module _ {C : Type 0} (ds : List (Definition C)) (g : List Outline) (h : AreOutl
         let m = bridged k in
         let r = w.first in
         let target : fragment_at ds r.name ≡ Some t = sym (ap (λ (z : Spread). z.target) w.is_first) ∙ et in
-        let sum = sum_on a x b m.exact s.level r.level e m.is_capped (ap (λ (z : Spread). z.level) w.is_first) in
-        let n = sum_means more (plus x (at_level r.level m.exact)) w.others sum w.are_others in
+        let sum = sum_on a x b m.exact s.fields_around r.fields_around e m.is_capped
+        (ap (λ (z : Spread). z.fields_around) w.is_first) in
+        let n = sum_means more (plus x (at_level r.fields_around m.exact)) w.others sum w.are_others in
         record {
           exact = n.exact;
           adds =
@@ -227,7 +228,7 @@ found place (f ∷ ds) (p ∷ g) h (suc i) d e = found place ds g h.1 i d e
 module _ (X : Type 0) {C : Type 0} (ds : List (Definition C)) (g : List Outline)
     (h : AreOutlines (fragment_at ds) ds g) (i : ℕ) (d : Definition C)
     (stands : slice_get ds i ≡ Some d) (is_one : is_operation d ≡ true) (before : EarlierHave ds i) where
-  faulty : (f : ComplexityFailure) → BreaksAt g i f → FailsRightly {X = X} ds (Err f)
+  faulty : (f : ComplexityFailure) → BreaksAt g i f → FailsWithFirstFault {X = X} ds (Err f)
   faulty f breaks fault q =
       let o = found (fragment_at ds) ds g h i d stands in
       let m = fault_means ds g h (breaks o.0 o.1) (spreads_of_definition d) o.2.own_spreads in
@@ -243,14 +244,14 @@ module _ (X : Type 0) {C : Type 0} (ds : List (Definition C)) (g : List Outline)
         },
       )
 
-  pub fails : (f : ComplexityFailure) → IsBroken g i (Err f) → FailsRightly {X = X} ds (Err f)
+  pub fails : (f : ComplexityFailure) → IsBroken g i (Err f) → FailsWithFirstFault {X = X} ds (Err f)
   fails failure.Memory b = λ fault q. absurd cc
   fails (failure.Cycle span) b = faulty (failure.Cycle span) b
   fails (failure.Unknown span) b = faulty (failure.Unknown span) b
 
   pub fails_on : (r : Result X ComplexityFailure) (f : ComplexityFailure) (P : ComplexityFailure → Type 0)
       → IsErrAnd r P → ((z : ComplexityFailure) → P z → z ≡ f)
-      → IsBroken g i (Err f) → FailsRightly ds r
+      → IsBroken g i (Err f) → FailsWithFirstFault ds r
   fails_on (Ok x) f P k same b = tt
   fails_on (Err z) f P k same b =
-      subst (λ (y : ComplexityFailure). FailsRightly {X = X} ds (Err y)) (sym (same z k)) (fails f b)
+      subst (λ (y : ComplexityFailure). FailsWithFirstFault {X = X} ds (Err y)) (sym (same z k)) (fails f b)

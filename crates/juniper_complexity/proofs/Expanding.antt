@@ -18,7 +18,7 @@ use Rattle.juniper_complexity.proofs.Levels.{Sums, sums_none, sums_row, sums_lea
 abbrev pub sum : List Reference → List Complexity → Complexity
 sum [] bs = nothing
 sum (r ∷ rs) [] = nothing
-sum (r ∷ rs) (b ∷ bs) = plus (at_level r.level b) (sum rs bs)
+sum (r ∷ rs) (b ∷ bs) = plus (at_level r.fields_around b) (sum rs bs)
 
 module _ {C : Type 0} (ds : List (Definition C)) where
   pub record Expanded (t : ℕ) (b : Complexity) : Type 0 where
@@ -57,8 +57,8 @@ module _ {C : Type 0} (ds : List (Definition C)) where
         two = w.two;
         first = reference t e x w.first;
         second = w.second;
-        sums = ap (λ z. plus (at_level r.level b) z) w.sums
-            ∙ sym (plus_assoc (at_level r.level b) (sum rs w.one) (sum qs w.two));
+        sums = ap (λ z. plus (at_level r.fields_around b) z) w.sums
+            ∙ sym (plus_assoc (at_level r.fields_around b) (sum rs w.one) (sum qs w.two));
       }
 
   record Row (l : ℕ) (ss : Selections C) (o s : Complexity) : Type 0 where
@@ -72,9 +72,9 @@ module _ {C : Type 0} (ds : List (Definition C)) where
     pub sums : Sums l o a complexity
 
   one_spread : (l : ℕ) (name : Word) (dirs : Directives C) (span : Span) (bs : List Complexity)
-      → Had (record { name = name.item; level = l; span = span } ∷ []) bs
+      → Had (record { name = name.item; fields_around = l; span = span } ∷ []) bs
       → One l (tree.FragmentSpread name dirs span) (directives_complexity dirs)
-      (sum (record { name = name.item; level = l; span = span } ∷ []) bs)
+      (sum (record { name = name.item; fields_around = l; span = span } ∷ []) bs)
   one_spread l name dirs span [] k = elim k [ ]
   one_spread l name dirs span (b ∷ (a ∷ more)) (reference t e x k) = elim k [ ]
   one_spread l name dirs span (b ∷ []) (reference t e x k) = record {
@@ -160,7 +160,7 @@ module _ {C : Type 0} (ds : List (Definition C)) where
         record {
           parts = b ∷ w.parts;
           had = reference t e (expanded k) w.had;
-          total = w.total ∙ plus_assoc a (at_level r.level b) (sum rs w.parts);
+          total = w.total ∙ plus_assoc a (at_level r.fields_around b) (sum rs w.parts);
         }
 
   pub expands : (i : ℕ) (c : Complexity) (d : Definition C) → HasBySpreads ds i c → slice_get ds i ≡ Some d

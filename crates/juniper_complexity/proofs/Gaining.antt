@@ -54,15 +54,17 @@ module _ (place : Text → Option ℕ) (level : ℕ) where
   }
 
 same_spread : (t u : Option ℕ) (n m : ℕ) (p : code.Span) → t ≡ u → n ≡ m
-    → ◌≡◌ {A = Spread} (record { target = t; level = n; span = p }) (record { target = u; level = m; span = p })
+    → ◌≡◌ {A = Spread} (record { target = t; fields_around = n; span = p })
+    (record { target = u; fields_around = m; span = p })
 same_spread t u n m p e f = rw (e, f) refl
 
 module _ (place : Text → Option ℕ) (level : ℕ) where
   -- one spread more
   pub gained_spread : (old new : Outline) (target : Option ℕ) (name : Text) (span : code.Span) → target ≡ place name
       → new.own ≡ old.own
-      → new.spreads.items ≡ old.spreads.items ++ record { target = target; level = level; span = span } ∷ []
-      → Gains place level old new (λ _. nothing) (λ l. record { name = name; level = l; span = view_span span } ∷ [])
+      → new.spreads.items ≡ old.spreads.items ++ record { target = target; fields_around = level; span = span } ∷ []
+      → Gains place level old new (λ _. nothing)
+      (λ l. record { name = name; fields_around = l; span = view_span span } ∷ [])
   gained_spread old new target name span e f g = record {
     own_complexity = λ l x k h. f ∙ (h ∙ ap capped_complexity (sym (plus_nothing x)));
     own_spreads = λ l k. g ∙ ap (λ (s : Spread). old.spreads.items ++ s ∷ [])

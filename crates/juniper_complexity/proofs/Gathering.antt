@@ -30,16 +30,16 @@ module _ {C : Type 0} (ds : List (Definition C)) where
       let w = both h k in
       record {
         gathered = reference t e x w.gathered;
-        sums = ap (λ z. plus (at_level r.level b) z) w.sums
-            ∙ sym (plus_assoc (at_level r.level b) (sum rs bs) (sum qs two));
+        sums = ap (λ z. plus (at_level r.fields_around b) z) w.sums
+            ∙ sym (plus_assoc (at_level r.fields_around b) (sum rs bs) (sum qs two));
       }
 
   adds : {rs : List Reference} {bs : List Complexity} → Gathered rs bs → (a : Complexity)
       → SpreadsAdd ds a rs (plus a (sum rs bs))
   adds no_reference a = subst (λ (z : Complexity). SpreadsAdd ds a [] z) (sym (plus_nothing a)) none_adds
   adds (reference {r = r} {rs = rs} {b = b} {bs = bs} t e x k) a =
-      subst (λ (z : Complexity). SpreadsAdd ds a (r ∷ rs) z) (plus_assoc a (at_level r.level b) (sum rs bs))
-      (first_adds t b e x (adds k (plus a (at_level r.level b))))
+      subst (λ (z : Complexity). SpreadsAdd ds a (r ∷ rs) z) (plus_assoc a (at_level r.fields_around b) (sum rs bs))
+      (first_adds t b e x (adds k (plus a (at_level r.fields_around b))))
 
   record Parts (l : ℕ) (rs : List Reference) (o x : Complexity) : Type 0 where
     pub parts : List Complexity

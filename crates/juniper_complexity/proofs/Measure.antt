@@ -41,7 +41,7 @@ pub less_on : (g : List Outline) (old new : List State) (at : ℕ) → IsStep g 
     → left g new < left g old
 less_on g old new at (step_spread n t a b o s next et done_t e) =
     let within = slice_get_within o.spreads.items n s next.spread in
-    rw e (left_set g old at o (state.Open n a) (state.Open (n + 1) (plus_capped a (at_level_capped s.level b)))
+    rw e (left_set g old at o (state.Open n a) (state.Open (n + 1) (plus_capped a (at_level_capped s.fields_around b)))
     next.outline next.open_at (omega arith))
 
 pub less_into : (g : List Outline) (old new : List State) (at t : ℕ) → IsStep g old new at (step.Enter t)

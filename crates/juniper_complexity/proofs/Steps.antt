@@ -54,7 +54,7 @@ module _ (g : List Outline) where
   next_adds : (i n t : ℕ) (a b : Complexity) (o : Outline) (s : Spread) → slice_get g i ≡ Some o
       → slice_get o.spreads.items n ≡ Some s
       → s.target ≡ Some t → OutlineHas g t b → Partly i n a
-      → Partly i (n + 1) (plus_capped a (at_level_capped s.level b))
+      → Partly i (n + 1) (plus_capped a (at_level_capped s.fields_around b))
   next_adds i n t a b o s eo es et k p =
       let same : p.outline ≡ o = cc (p.is, eo) in
       let here : slice_get p.outline.spreads.items n ≡ Some s = rw same es in
@@ -178,7 +178,7 @@ module _ (g : List Outline) where
 
       pub walks_on : IsStep g old new at step.NextSpread → Walks root new at rest
       walks_on (step_spread n t a b o s next et done_t e) =
-          let sum = plus_capped a (at_level_capped s.level b) in
+          let sum = plus_capped a (at_level_capped s.fields_around b) in
           let after = state.Open (n + 1) sum in
           let w = written old new at after (state.Open n a) next.open_at e in
           let more = next_adds at n t a b o s next.outline next.spread et (walks.done t b done_t)

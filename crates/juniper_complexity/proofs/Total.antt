@@ -79,7 +79,7 @@ module _ {C : Type 0} (ds : List (Definition C)) where
           elim (within t d.0 out d.1) [
             | inl k ↦
                 let has : HasBySpreads ds t k.0 = has_by_spreads d.0 d.1 k.1 in
-                elim (others (plus a (at_level r.level k.0))) [
+                elim (others (plus a (at_level r.fields_around k.0))) [
                   | inl m ↦ inl (m.0, first_adds t k.0 e has m.1)
                   | inr m ↦ inr (m.0, in_others t d.0 k.0 e d.1 (expands ds t k.0 d.0 has d.1) m.1)
                 ]

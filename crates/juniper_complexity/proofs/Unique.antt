@@ -30,7 +30,7 @@ module _ {C : Type 0} (ds : List (Definition C)) where
     pub inner : Complexity
     pub is : fragment_at ds r.name ≡ Some target
     pub inner_has : HasBySpreads ds target inner
-    pub rest : SpreadsAdd ds (plus a (at_level r.level inner)) rs c
+    pub rest : SpreadsAdd ds (plus a (at_level r.fields_around inner)) rs c
     pub number : n ≡ suc (height inner_has + heights rest)
 
   begun : {a c : Complexity} {r : Reference} {rs : List Reference} (k : SpreadsAdd ds a (r ∷ rs) c)
@@ -81,10 +81,10 @@ module _ {C : Type 0} (ds : List (Definition C)) where
         let others : rs ≡ qs = cc in
         let target : t ≡ w.target = (let g : fragment_at ds r.name ≡ Some w.target = rw one w.is in cc) in
         let s = same_definition k w.target w.inner target w.inner_has in
-        let u = same_sum more (plus b (at_level q.level w.inner)) d qs
-        (ap (λ z. plus z (at_level r.level x)) e
-        ∙ (ap (λ (z : Reference). plus b (at_level z.level x)) one
-        ∙ ap (λ z. plus b (at_level q.level z)) s.same))
+        let u = same_sum more (plus b (at_level q.fields_around w.inner)) d qs
+        (ap (λ z. plus z (at_level r.fields_around x)) e
+        ∙ (ap (λ (z : Reference). plus b (at_level z.fields_around x)) one
+        ∙ ap (λ z. plus b (at_level q.fields_around z)) s.same))
         others w.rest in
         let n = s.numbers in
         let m = u.numbers in
@@ -135,7 +135,7 @@ module _ {C : Type 0} (ds : List (Definition C)) where
       let w = begun k in
       let o = w.number in
       let others : rs ≡ ps = cc in
-      no_fault more ps others (plus a (at_level p.level w.inner)) c w.rest
+      no_fault more ps others (plus a (at_level p.fields_around w.inner)) c w.rest
       (λ u among x y. let less = higher u among x y in omega arith)
 
   -- A definition being expanded with a fault has no complexity, if none has inside which it is.

@@ -69,7 +69,7 @@ view_failure (failure.Unknown span) = Some (OfUnknown (view_span span))
 view_failure failure.Memory = None
 
 -- If there is a failure, and memory didn't run out, it is the fault of the first operation that can't be expanded.
-abbrev pub FailsRightly : {C X : Type 0} → List (Definition C) → Result X ComplexityFailure → Type 0
-FailsRightly document (Ok x) = Unit {0}
-FailsRightly document (Err f) =
+abbrev pub FailsWithFirstFault : {C X : Type 0} → List (Definition C) → Result X ComplexityFailure → Type 0
+FailsWithFirstFault document (Ok x) = Unit {0}
+FailsWithFirstFault document (Err f) =
     (fault : SpreadFault) → view_failure f ≡ Some fault → (at : ℕ) × FirstFault document at fault

@@ -33,7 +33,7 @@ field_complexity alias = record { fields = 1; aliases = alias_count alias; direc
 -- A fragment spread: the name, the number of fields around it, and its span.
 pub record Reference : Type 0 where
   pub name : Text
-  pub level : ℕ
+  pub fields_around : ℕ
   pub span : Span
 
 module _ {C : Type 0} where
@@ -43,7 +43,7 @@ module _ {C : Type 0} where
     spreads_of level (tree.Field alias name arguments directives selections span) =
         spreads_of_optional (suc level) selections
     spreads_of level (tree.FragmentSpread name directives span) =
-        record { name = name.item; level = level; span = span } ∷ []
+        record { name = name.item; fields_around = level; span = span } ∷ []
     spreads_of level (tree.InlineFragment condition directives selections span) = spreads_of_all level selections
 
     pub spreads_of_optional : ℕ → OptionalSelections C → List Reference

@@ -9,8 +9,8 @@ use std::alloc::{AllocError, AllocFailed};
 /// How large an operation is with every fragment spread expanded (GraphQL specification, October 2021, section 2.8). Each
 /// number saturates: past `u64::MAX` it is `u64::MAX`.
 ///
-/// It is a matter of the text alone. No schema gives a field a weight, equal fields aren't merged, so `{ a a }` has two, and
-/// `@skip` and `@include` leave out nothing.
+/// Depends on the text alone: no schema gives a field a weight, equal fields aren't merged, so `{ a a }` has two, and
+/// `@skip` and `@include` leave nothing out.
 #[derive(Clone, Copy, Debug, PartialEq, Eq)]
 pub struct Complexity {
     /// The number of fields, at every depth.
@@ -22,7 +22,7 @@ pub struct Complexity {
     pub directives: u64,
     /// The number of fields that are in no other field.
     pub root_fields: u64,
-    /// The largest number of fields in one another: 1 in `{ a }`, 2 in `{ a { b } }`.
+    /// The largest number of fields nested in one another: 1 in `{ a }`, 2 in `{ a { b } }`.
     pub depth: u64,
 }
 
@@ -30,8 +30,8 @@ pub struct Complexity {
 /// three dots to the end of its name or of its directives.
 #[derive(Clone, Copy, Debug, PartialEq, Eq)]
 pub enum ComplexityFailure {
-    /// A spread of a fragment that is being expanded: the spread is in the fragment, or in one that it spreads, at whatever
-    /// distance (GraphQL specification, October 2021, section 5.5.2.2).
+    /// A spread of a fragment that is being expanded: the spread is in the fragment, or in one that it spreads,
+    /// directly or through others (GraphQL specification, October 2021, section 5.5.2.2).
     Cycle(Span),
     /// A spread that names no fragment of the document (GraphQL specification, October 2021, section 5.5.2.1).
     Unknown(Span),

@@ -6,12 +6,12 @@ ghost use Rattle.juniper_complexity.specs.Faults.{CannotExpand, SpreadFault};
 ghost use Rattle.juniper_complexity.specs.Parts.{spreads_of_definition};
 ghost use Rattle.juniper_complexity.specs.declared.complexity.Complexity.{Complexity};
 
-/// A definition of a document has one complexity at most.
+/// A definition of a document has at most one complexity.
 pub fn one_complexity<C>()
     ensures { (document : List (Definition C)) (i : ℕ) (d : Definition C) (a b : Complexity) → slice_get document i ≡ Some d → DefinitionHas document d a → DefinitionHas document d b → a ≡ b }
 {}
 
-/// A definition of a document has one first spread at most that can't be expanded.
+/// A definition of a document has at most one first spread that can't be expanded.
 pub fn one_fault<C>()
     ensures { (document : List (Definition C)) (i : ℕ) (d : Definition C) (f g : SpreadFault) → slice_get document i ≡ Some d → CannotExpand document (i ∷ []) (spreads_of_definition d) f → CannotExpand document (i ∷ []) (spreads_of_definition d) g → f ≡ g }
 {}

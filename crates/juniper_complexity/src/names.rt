@@ -26,7 +26,7 @@ pub(crate) fn find<'t>(names: &BTreeMap<&'t str, usize>, name: &'t str) -> Optio
     names.get(&name).copied()
 }
 
-/// The indexes of the fragments among the definitions, by their names. Of several of one name the first is kept.
+/// The indexes of the fragments among the definitions, by their names. If several have one name, the first is kept.
 pub(crate) fn fragment_names<'a, S: ScalarValue>(
     alloc: Global,
     document: &[Definition<'a, S>],

@@ -2,7 +2,7 @@
 ghost use Rattle.std.specs.Prelude.{◌≡◌, ℕ, IfOk, map, length, slice_get, Some};
 ghost use Rattle.juniper.specs.View.{view_definition};
 ghost use Rattle.juniper_complexity.specs.Faults.{OperationsHave};
-ghost use Rattle.juniper_complexity.specs.Faults.{FailsRightly};
+ghost use Rattle.juniper_complexity.specs.Faults.{FailsWithFirstFault};
 ghost use Rattle.juniper_complexity.specs.device.Walk.{AreUnvisited};
 
 use crate::complexity::{Complexity, ComplexityFailure};
@@ -34,14 +34,14 @@ fn unvisited(alloc: Global, count: usize) -> Result<Vec<State>, AllocError>
 /// Returns the complexity of each operation of a document, in the order of the text, with every fragment spread expanded
 /// (GraphQL specification, October 2021, section 2.8). If several fragments have one name, the first is expanded.
 ///
-/// If a spread can't be expanded, returns `ComplexityFailure::Unknown` or `ComplexityFailure::Cycle` with its span. It is the
-/// first of these in the order in which a reader comes to them who begins with the first operation, and goes through each
-/// spread's fragment before going on after the spread. A fragment that no operation reaches is never looked into. Where memory
-/// ran out, returns `ComplexityFailure::Memory`.
+/// If a spread can't be expanded, returns `ComplexityFailure::Unknown` or `ComplexityFailure::Cycle` with its span. It
+/// is the first such spread for a reader who begins with the first operation, and goes through each spread's fragment
+/// before going on after the spread. A fragment that no operation reaches is never looked into. If memory runs out,
+/// returns `ComplexityFailure::Memory`.
 ///
 /// No fragment is expanded twice: time and memory grow with the document, and not with the numbers returned, but for a
-/// look-up of each fragment's and each spread's name in an ordered map. The stack holds the nesting of selection sets alone, and
-/// no chain of spreads.
+/// look-up of each fragment's and each spread's name in an ordered map. Takes stack in proportion to the nesting of
+/// selection sets, whatever the chains of spreads.
 ///
 /// ```
 /// for operation in &operation_complexities(alloc, &document)? {
@@ -55,7 +55,7 @@ pub fn operation_complexities<'a, S: ScalarValue>(
     document: &[Definition<'a, S>],
 ) -> Result<Vec<OperationComplexity>, ComplexityFailure>
     ensures complexities { let definitions = map (view_definition S.content) document.now in IfOk result (λ complexities. OperationsHave definitions 0 definitions complexities.items) }
-    ensures failure { FailsRightly (map (view_definition S.content) document.now) result }
+    ensures failure { FailsWithFirstFault (map (view_definition S.content) document.now) result }
 {
     let names = fragment_names(alloc, document)?;
     let outlines = outlines(alloc, &names, document)?;

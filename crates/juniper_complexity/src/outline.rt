@@ -106,7 +106,7 @@ fn add_spread<'a, S: ScalarValue>(
     let target = find(names, spread.item.name.item);
     outline.spreads.push(Spread {
         target,
-        level,
+        fields_around: level,
         span: spread.span,
     })?;
     Ok(())

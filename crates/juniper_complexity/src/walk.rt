@@ -1,5 +1,5 @@
-//! The walk over definitions by the spreads in them, which finds the complexity of each. It is a loop: a chain of fragments
-//! takes memory, and no stack.
+//! The walk over definitions by the spreads in them, which finds the complexity of each. A chain of fragments takes
+//! memory and no stack, since the walk is a loop.
 ghost use Rattle.std.specs.Prelude.{◌≡◌, ◌<◌, Some, length, IfOk, OnOk};
 ghost use Rattle.juniper_complexity.specs.device.Walk.{OutlineHas, HasNext, AreRight, AreInRange, IsOpen, IsStep, IsBroken, Begins};
 
@@ -13,7 +13,7 @@ pub(crate) struct Spread {
     /// The index of the fragment that it names among the definitions, or None if there is no such fragment.
     pub target: Option<usize>,
     /// The number of fields around it.
-    pub level: u64,
+    pub fields_around: u64,
     pub span: Span,
 }
 
@@ -69,7 +69,10 @@ fn follow(
         }
         State::Open(_, _) => Step::Cycle(spread.span),
         State::Done(inner) => {
-            states[at] = State::Open(next + 1, complexity.plus(inner.at_level(spread.level)));
+            states[at] = State::Open(
+                next + 1,
+                complexity.plus(inner.at_level(spread.fields_around)),
+            );
             Step::NextSpread
         }
     }

@@ -16,7 +16,7 @@ use Rattle.graphql_grammar.specs.Tree.{Definition}
 use Rattle.graphql_nodes.specs.Nodes as nodes
 use Rattle.graphql_nodes.specs.Nodes.{document_nodes}
 use Rattle.graphql_nodes.specs.laws.SpanLaws.{IsPlaceOf, LiesIn, NodesLieIn}
-use Rattle.graphql_nodes.proofs.Public.{few_nodes_of_source, document_forest, descendants_behind, nodes_lie, tokens_lie, token_among, broken_lies}
+use Rattle.graphql_nodes.proofs.Public.{few_nodes_of_source, document_forest, descendants_follow, nodes_lie, tokens_lie, token_among, broken_lies}
 use Rattle.juniper_tokens.specs.Errors as errors
 use Rattle.juniper_tokens.proofs.Public.{chars_within}
 use Rattle.juniper_values.specs.Scalar.{Content}
@@ -116,4 +116,4 @@ nodes_fit text tree u l h =
     (omega (arith, short, ap length (encodes-chars text u), l)) (nodes_lie scalars source h.lexemes tree h.cut h.document)
     (few_descendants ns [] ns refl
     (λ (front after : List (nodes.Node Content)) (n : nodes.Node Content).
-    descendants_behind ns front after n (document_forest tree)))
+    descendants_follow ns front after n (document_forest tree)))

@@ -235,10 +235,10 @@ breaks_scalar : (before left : Text) (e : LexicalError) (at : Place) → BreaksA
     → OfCharacter e IsScalar
 breaks_scalar before left e at (here b) h =
     fails_scalar b.front b.after e b.fails
-    (scalars_back b.front b.after (scalars_back b.gap (b.front ++ b.after) (sym (ap scalars b.left_is) ∙ h)))
+    (scalars_back b.front b.after (scalars_back b.ignored (b.front ++ b.after) (sym (ap scalars b.left_is) ∙ h)))
 breaks_scalar before left e at (later {done = done} {after = after} s n b) h =
     breaks_scalar done after e at b
-    (scalars_back s.whole after (scalars_back s.gap (s.whole ++ after) (sym (ap scalars s.left_is) ∙ h)))
+    (scalars_back s.whole after (scalars_back s.ignored (s.whole ++ after) (sym (ap scalars s.left_is) ∙ h)))
 
 pub error_scalar : (source : List ℕ) → IsUtf8 source → (e : LexicalError) (at : Place) → Breaks (chars source) e at
     → OfCharacter e IsScalar

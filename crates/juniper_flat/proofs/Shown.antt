@@ -36,16 +36,16 @@ ends_in_escape _ _ escape (string_fails {units} {before} {after} l h) = in_strin
 abbrev pub EscapeStands : Text → Text → Place → Type 0
 EscapeStands source escape at = (front rest : Text) × (source ≡ front ++ (escape ++ rest)) × (at.index ≡ suc (length front))
 
-escape_here : (before gap front after source escape : Text) (at : Place) → EndsInEscape front after escape
-    → source ≡ before ++ (gap ++ (front ++ after)) → at ≡ places.position_after (before ++ (gap ++ front))
+escape_here : (before ignored front after source escape : Text) (at : Place) → EndsInEscape front after escape
+    → source ≡ before ++ (ignored ++ (front ++ after)) → at ≡ places.position_after (before ++ (ignored ++ front))
     → EscapeStands source escape at
-escape_here before gap front after source escape at (head, rest, e, f) s p =
-    let start = before ++ (gap ++ head) in
-    let all : before ++ (gap ++ front) ≡ start ++ codes "\\" =
-    ap (λ (t : Text). before ++ (gap ++ t)) e ∙ (ap (λ (t : Text). before ++ t) (sym (append_assoc gap head (codes "\\")))
-    ∙ sym (append_assoc before (gap ++ head) (codes "\\"))) in
-    let whole : before ++ (gap ++ (front ++ after)) ≡ (before ++ (gap ++ front)) ++ after =
-    ap (λ (t : Text). before ++ t) (sym (append_assoc gap front after)) ∙ sym (append_assoc before (gap ++ front) after) in (
+escape_here before ignored front after source escape at (head, rest, e, f) s p =
+    let start = before ++ (ignored ++ head) in
+    let all : before ++ (ignored ++ front) ≡ start ++ codes "\\" =
+    ap (λ (t : Text). before ++ (ignored ++ t)) e ∙ (ap (λ (t : Text). before ++ t) (sym (append_assoc ignored head (codes "\\")))
+    ∙ sym (append_assoc before (ignored ++ head) (codes "\\"))) in
+    let whole : before ++ (ignored ++ (front ++ after)) ≡ (before ++ (ignored ++ front)) ++ after =
+    ap (λ (t : Text). before ++ t) (sym (append_assoc ignored front after)) ∙ sym (append_assoc before (ignored ++ front) after) in (
       start,
       rest,
       s ∙ (whole ∙ (ap (λ (t : Text). t ++ after) all ∙ (append_assoc start (codes "\\") after ∙ ap (λ (t : Text). start ++ t) f))),
@@ -55,7 +55,7 @@ escape_here before gap front after source escape at (head, rest, e, f) s p =
 escape_stands : (before left escape : Text) (at : Place) → BreaksAfter before left (UnknownEscapeSequence escape) at
     → EscapeStands (before ++ left) escape at
 escape_stands before left escape at (here b) =
-    escape_here before b.gap b.front b.after (before ++ left) escape at (ends_in_escape b.front b.after escape b.fails)
+    escape_here before b.ignored b.front b.after (before ++ left) escape at (ends_in_escape b.front b.after escape b.fails)
     (ap (λ (t : Text). before ++ t) b.left_is) b.at_is
 escape_stands before left escape at (later {done = done} {after = after} {x = x} s n b) =
     subst (λ (t : Text). EscapeStands t escape at) (sym (done_whole before left x done after s))
@@ -84,12 +84,12 @@ spelled whole after kind text r n = by_case r.spells
 token_here : (before left : Text) (t : Lexeme) (done after : Text) → Stands before left t done after
     → TokenStands (before ++ left) t
 token_here before left t done after s = (
-  before ++ s.gap,
+  before ++ s.ignored,
   s.whole,
   after,
-  ap (λ (u : Text). before ++ u) s.left_is ∙ sym (append_assoc before s.gap (s.whole ++ after)),
+  ap (λ (u : Text). before ++ u) s.left_is ∙ sym (append_assoc before s.ignored (s.whole ++ after)),
   ap (λ (p : Place). p.index) s.start,
-  ap (λ (p : Place). p.index) s.end ∙ ap length (s.done_is ∙ sym (append_assoc before s.gap s.whole)),
+  ap (λ (p : Place). p.index) s.end ∙ ap length (s.done_is ∙ sym (append_assoc before s.ignored s.whole)),
   spelled s.whole after t.kind t.text s.reads,
 )
 

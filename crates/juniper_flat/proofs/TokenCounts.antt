@@ -16,16 +16,16 @@ pub token_fits : (before left : Text) (x : Lexeme) (done after : Text) → Stand
 token_fits before left x done after s span at l =
     let whole = ap length (done_whole before left x done after s) in
     let end : length done < 2 ^ 32 = omega (arith, l, whole, length-append done after) in
-    let start : length (before ++ s.gap) < 2 ^ 32 = omega (
+    let start : length (before ++ s.ignored) < 2 ^ 32 = omega (
       arith,
       end,
       ap length s.done_is,
-      length-append before s.gap,
-      length-append before (s.gap ++ s.whole),
-      length-append s.gap s.whole,
+      length-append before s.ignored,
+      length-append before (s.ignored ++ s.whole),
+      length-append s.ignored s.whole,
     ) in
     subst SpanFits (sym at) (
-      subst PlaceFits (sym s.start) (position_fits (before ++ s.gap) start),
+      subst PlaceFits (sym s.start) (position_fits (before ++ s.ignored) start),
       subst PlaceFits (sym s.end) (position_fits done end),
     )
 

@@ -54,23 +54,23 @@ middle front marks text rest from size e f =
 
 -- the places of a token that stands in a source
 module _ (source : List ℕ) (k : ℕ) (x : Lexeme) (next : ℕ) (l : k ≤ length source) (s : StandsAt source k x next) where
-  begins_at : x.span.start.index ≡ k + s.gap
+  begins_at : x.span.start.index ≡ k + s.ignored
   begins_at =
-      let before : k + s.gap ≤ length source = omega (arith, l, s.gap_is.within, length-drop k source) in
-      ap (λ (p : Place). p.index) s.start ∙ place_index source (k + s.gap) before
+      let before : k + s.ignored ≤ length source = omega (arith, l, s.ignored_is.within, length-drop k source) in
+      ap (λ (p : Place). p.index) s.start ∙ place_index source (k + s.ignored) before
 
-  ends_at : x.span.end.index ≡ (k + s.gap) + s.size
+  ends_at : x.span.end.index ≡ (k + s.ignored) + s.size
   ends_at =
-      let f = front_read (drop (k + s.gap) source) s.size x.kind x.text s.reads in
-      let before : k + s.gap ≤ length source = omega (arith, l, s.gap_is.within, length-drop k source) in
-      let after : next ≤ length source = omega (arith, before, f.within, s.next_is, length-drop (k + s.gap) source) in
+      let f = front_read (drop (k + s.ignored) source) s.size x.kind x.text s.reads in
+      let before : k + s.ignored ≤ length source = omega (arith, l, s.ignored_is.within, length-drop k source) in
+      let after : next ≤ length source = omega (arith, before, f.within, s.next_is, length-drop (k + s.ignored) source) in
       ap (λ (p : Place). p.index) s.end ∙ (place_index source next after ∙ s.next_is)
 
 tells_text_at : (bytes : List ℕ) → IsUtf8 bytes → (k : ℕ) (x : Lexeme) (next : ℕ) → k ≤ length (chars bytes)
     → StandsAt (chars bytes) k x next → TellsText bytes x
 tells_text_at bytes u k x next l s =
     let source = chars bytes in
-    let from : ℕ = k + s.gap in
+    let from : ℕ = k + s.ignored in
     let marks : List ℕ = quotes (spelling x.kind) in
     let text : List ℕ = encode_utf8_all x.text in
     let front : List ℕ = encode_utf8_all (take from source) in

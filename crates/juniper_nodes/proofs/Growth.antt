@@ -1,4 +1,4 @@
--- Lists that grow behind, and a node that counts what has come behind it.
+-- Lists that grow at their end, and a node that counts what has come after it.
 use Rattle.std.specs.Global.{Vec}
 use Rattle.std.specs.Prelude.{Result, Ok, Err, IsErr}
 use Rattle.std.proofs.Common.{true≢false, ◌≡◌, ◌∙◌, ℕ, ◌-◌, ◌<◌, List, [], ◌∷◌, ◌++◌, length, map, get_or, None, refl, sym, ap, ap₂, append_assoc, append-nil, arith}
@@ -20,7 +20,7 @@ seen_at view xs x place before inner middle r e lt h =
     ∙ get_or_at before middle inner middle place e
 
 module _ {S C : Type 0} (content : S → C) where
-  -- the node at a place, with the number of the nodes behind it
+  -- the node at a place, with the number of the nodes after it
   pub counted : (xs : List (code.Node S)) (x : code.Node S) (place count : ℕ)
       → (before inner : List (Node C)) (node : Node C)
       → x ≡ get_or xs place x → place < length xs → count ≡ length xs - place - 1

@@ -65,6 +65,6 @@ pub shown_back : (t : Text) → characters (map pos t) ≡ t
 shown_back [] = refl
 shown_back (c ∷ cs) = ap (λ r. c ∷ r) (shown_back cs)
 
-pub behind : (t m : Text) → drop (length t) (characters (map pos (t ++ m))) ≡ m
-behind [] m = shown_back m
-behind (c ∷ cs) m = behind cs m
+pub shown_after : (t m : Text) → drop (length t) (characters (map pos (t ++ m))) ≡ m
+shown_after [] m = shown_back m
+shown_after (c ∷ cs) m = shown_after cs m

@@ -1,4 +1,4 @@
--- The place of a node whose parts come behind it, and a list in which memory ran out before them.
+-- The place of a node whose parts come after it, and a list in which memory ran out before them.
 use Rattle.std.specs.Global.{Vec}
 use Rattle.std.specs.Prelude.{Result, Ok, Err, IsErr}
 use Rattle.std.proofs.Common.{true≢false, ◌≡◌, ℕ, ◌<◌, List, [], length, sym, ap, arith}
@@ -10,7 +10,7 @@ use Rattle.juniper_nodes.specs.declared.node.Node as code
 use Rattle.juniper_nodes.specs.NodeViews.{view_nodes, Gains, Grows, StandsInFront}
 
 module _ {S C : Type 0} (content : S → C) where
-  -- the node's place is in the list, whatever has come behind it
+  -- the node's place is in the list, whatever has come after it
   pub place_held : {old opened filled : Vec (code.Node S)} {place : ℕ}
       → {kind : NodeKind} {span : Span} {label : Label} {inner : List (Node C)}
       → (place ≡ length (view_nodes content old)) × Gains content old opened (over kind span label [])

@@ -11,7 +11,7 @@ use Rattle.juniper_values.specs.Scalar.{Content, integer, text, boolean, custom,
 use Rattle.juniper_values.specs.Default as default
 use Rattle.juniper_values.specs.Default.{default_reading}
 use Rattle.juniper_nodes.specs.Literal.{string_reading, str_in, of_block}
-use Rattle.juniper_nodes.proofs.Literals.{behind}
+use Rattle.juniper_nodes.proofs.Literals.{shown_after}
 use Rattle.juniper_nodes.proofs.TextLengths.{size, string_is_short, block_is_short}
 
 -- what the content means is no longer than the text
@@ -46,7 +46,7 @@ string_kept t of means (Ok (custom ns)) short c e = short c e
 string_kept t of means (Err f) short c e = short c e
 
 pub of_block_means : (t u : Text) → str_in (of_block t u) ≡ Some u
-of_block_means t u = ap (λ v. Some v) (behind t u)
+of_block_means t u = ap (λ v. Some v) (shown_after t u)
 
 -- ---- what the default type reads
 

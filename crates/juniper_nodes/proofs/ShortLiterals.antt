@@ -12,12 +12,12 @@ use Rattle.juniper_values.specs.Default.{default_reading}
 use Rattle.juniper.specs.Scalars.{stated}
 use Rattle.juniper_nodes.specs.Literal.{literal_reading, int_reading, str_in, of_int, of_large_int, of_float, of_string, of_block}
 use Rattle.juniper_nodes.specs.NodeTexts.{node_texts}
-use Rattle.juniper_nodes.proofs.Literals.{behind}
+use Rattle.juniper_nodes.proofs.Literals.{shown_after}
 use Rattle.juniper_nodes.proofs.ShortContents.{MakesShort, ReadsShort, without_text, string_kept, of_block_means, default_is_short}
 use Rattle.juniper_nodes.proofs.NodeTexts.{texts_are_short}
 
 of_string_means : (t u : Text) → str_in (of_string t u) ≡ Some u
-of_string_means t u = ap (λ v. Some v) (behind t u)
+of_string_means t u = ap (λ v. Some v) (shown_after t u)
 
 int_kept : (t : Text) (r : Reading) → MakesShort t r → MakesShort t (int_reading t r)
 int_kept t (Ok (integer n)) short c e = without_text t (of_int n t) refl c e

@@ -36,8 +36,8 @@ weight t = max 1 (size t.text)
 between_is_short : (qs whole : Text) → size (between qs whole) ≤ size whole
 between_is_short [] whole = omega arith
 between_is_short (q ∷ qs) whole =
-    let behind = drop (length (q ∷ qs)) whole in
-    omega (arith, take_is_short (length whole - 2 * length (q ∷ qs)) behind, drop_is_short (length (q ∷ qs)) whole)
+    let after = drop (length (q ∷ qs)) whole in
+    omega (arith, take_is_short (length whole - 2 * length (q ∷ qs)) after, drop_is_short (length (q ∷ qs)) whole)
 
 one_or : (m n : ℕ) → 1 ≤ n → m ≤ n → max 1 m ≤ n
 one_or m n h k = omega arith
@@ -57,19 +57,19 @@ pub leads_bytes : (source : Text) (k : ℕ) (ts : List Lexeme) (next : ℕ) → 
     → sum_by weight ts ≤ size (drop k source)
 leads_bytes source k [] next h = search rules
 leads_bytes source k (t ∷ ts) next (m, s, none, h) =
-    let behind_gap = drop (k + s.gap) source in
-    let gap : size behind_gap ≤ size (drop k source) =
-    subst (λ (u : Text). size u ≤ size (drop k source)) (drop-drop s.gap k source)
-    (drop_is_short s.gap (drop k source)) in
-    let rest : drop s.size behind_gap ≡ drop m source =
-    drop-drop s.size (k + s.gap) source ∙ ap (λ i. drop i source) (sym s.next_is) in
+    let after_ignored = drop (k + s.ignored) source in
+    let ignored : size after_ignored ≤ size (drop k source) =
+    subst (λ (u : Text). size u ≤ size (drop k source)) (drop-drop s.ignored k source)
+    (drop_is_short s.ignored (drop k source)) in
+    let rest : drop s.size after_ignored ≡ drop m source =
+    drop-drop s.size (k + s.ignored) source ∙ ap (λ i. drop i source) (sym s.next_is) in
     omega (
       arith,
       sum_by-cons weight t ts,
       leads_bytes source m ts next h,
-      reads_bytes behind_gap s.size t s.reads
+      reads_bytes after_ignored s.size t s.reads
           none,
-      parts_size s.size behind_gap,
+      parts_size s.size after_ignored,
       ap size rest,
-      gap,
+      ignored,
     )

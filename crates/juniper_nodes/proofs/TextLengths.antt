@@ -10,7 +10,7 @@ use Rattle.graphql_lexical.specs.Tokens.{mark}
 use Rattle.juniper_values.specs.Text.{Text}
 use Rattle.juniper_values.specs.Scalar.{text}
 use Rattle.juniper_values.specs.Default.{default_reading, string_reading}
-use Rattle.juniper_values.specs.Escapes.{short_escape, unicode_escape, in_front, unescape, behind_backslash, behind_u}
+use Rattle.juniper_values.specs.Escapes.{short_escape, unicode_escape, in_front, unescape, unescape_backslash, unescape_u}
 use Rattle.juniper_values.specs.BlockStrings.{with_quotes, line_feed, lines, is_blank, common_indent, unindented, drop_blank_front, drop_blank_end, joined, block_value}
 
 -- ---- the bytes of a text
@@ -47,7 +47,7 @@ short_is_one c d = one_byte d 34 (c == 34) _ refl (one_byte d 92 (c == 92) _ ref
     (one_byte d 12 (c == 102) _ refl (one_byte d 10 (c == 110) _ refl
     (one_byte d 13 (c == 114) _ refl (one_byte d 9 (c == 116) _ refl (λ e. absurd (cc e)))))))))
 
--- One character, and what stands behind it, which is no longer than its own text: w bytes are there for the character.
+-- One character, and what stands after it, which is no longer than its own text: w bytes are there for the character.
 in_front_is_short : (c : Option ℕ) (w : ℕ) (t u : Text) → ((d : ℕ) → c ≡ Some d → len_utf8 d ≤ w)
     → ((v : Text) → unescape t ≡ Some v → size v ≤ size t)
     → in_front c (unescape t) ≡ Some u → size u ≤ w + size t
@@ -59,16 +59,16 @@ itself : (c d : ℕ) → Some c ≡ Some d → len_utf8 d ≤ len_utf8 c
 itself c d e = let same : c ≡ d = cc in subst (λ (z : ℕ). len_utf8 z ≤ len_utf8 c) same (le_refl (len_utf8 c))
 
 by_backslash : (c : ℕ) (t u : Text) (b : Bool) → ((v : Text) → unescape t ≡ Some v → size v ≤ size t)
-    → (behind_backslash t ≡ Some u → size u ≤ 1 + size t)
-    → cond b (behind_backslash t) (in_front (Some c) (unescape t)) ≡ Some u → size u ≤ len_utf8 c + size t
-by_backslash c t u true short behind e = omega (arith, behind e, (len_utf8_bounds c).0)
-by_backslash c t u false short behind e = in_front_is_short (Some c) (len_utf8 c) t u (itself c) short e
+    → (unescape_backslash t ≡ Some u → size u ≤ 1 + size t)
+    → cond b (unescape_backslash t) (in_front (Some c) (unescape t)) ≡ Some u → size u ≤ len_utf8 c + size t
+by_backslash c t u true short after e = omega (arith, after e, (len_utf8_bounds c).0)
+by_backslash c t u false short after e = in_front_is_short (Some c) (len_utf8 c) t u (itself c) short e
 
 by_u : (c : ℕ) (t u : Text) (b : Bool) → ((v : Text) → unescape t ≡ Some v → size v ≤ size t)
-    → (behind_u t ≡ Some u → size u ≤ 2 + size t)
-    → cond b (behind_u t) (in_front (short_escape c) (unescape t)) ≡ Some u → size u ≤ 1 + (len_utf8 c + size t)
-by_u c t u true short behind e = omega (arith, behind e, (len_utf8_bounds c).0)
-by_u c t u false short behind e =
+    → (unescape_u t ≡ Some u → size u ≤ 2 + size t)
+    → cond b (unescape_u t) (in_front (short_escape c) (unescape t)) ≡ Some u → size u ≤ 1 + (len_utf8 c + size t)
+by_u c t u true short after e = omega (arith, after e, (len_utf8_bounds c).0)
+by_u c t u false short after e =
     omega (
       arith,
       in_front_is_short (short_escape c) 1 t u (λ d p.
@@ -79,19 +79,19 @@ mutual
   unescape_is_short : (t u : Text) → unescape t ≡ Some u → size u ≤ size t
   unescape_is_short [] u e = let same : [] ≡ u = cc in subst (λ (z : Text). size z ≤ 0) same (le_refl 0)
   unescape_is_short (c ∷ t) u e = by_backslash c t u (c == 92) (λ v p. unescape_is_short t v p)
-      (λ p. behind_backslash_is_short t u p) e
+      (λ p. unescape_backslash_is_short t u p) e
 
-  behind_backslash_is_short : (t u : Text) → behind_backslash t ≡ Some u → size u ≤ 1 + size t
-  behind_backslash_is_short [] u e = absurd (cc e)
-  behind_backslash_is_short (c ∷ t) u e =
-      by_u c t u (c == 117) (λ v p. unescape_is_short t v p) (λ p. behind_u_is_short t u p) e
+  unescape_backslash_is_short : (t u : Text) → unescape_backslash t ≡ Some u → size u ≤ 1 + size t
+  unescape_backslash_is_short [] u e = absurd (cc e)
+  unescape_backslash_is_short (c ∷ t) u e =
+      by_u c t u (c == 117) (λ v p. unescape_is_short t v p) (λ p. unescape_u_is_short t u p) e
 
-  behind_u_is_short : (t u : Text) → behind_u t ≡ Some u → size u ≤ 2 + size t
-  behind_u_is_short [] u e = absurd (cc e)
-  behind_u_is_short (h ∷ []) u e = absurd (cc e)
-  behind_u_is_short (h ∷ i ∷ []) u e = absurd (cc e)
-  behind_u_is_short (h ∷ i ∷ j ∷ []) u e = absurd (cc e)
-  behind_u_is_short (h ∷ i ∷ j ∷ k ∷ t) u e =
+  unescape_u_is_short : (t u : Text) → unescape_u t ≡ Some u → size u ≤ 2 + size t
+  unescape_u_is_short [] u e = absurd (cc e)
+  unescape_u_is_short (h ∷ []) u e = absurd (cc e)
+  unescape_u_is_short (h ∷ i ∷ []) u e = absurd (cc e)
+  unescape_u_is_short (h ∷ i ∷ j ∷ []) u e = absurd (cc e)
+  unescape_u_is_short (h ∷ i ∷ j ∷ k ∷ t) u e =
       let short = in_front_is_short (unicode_escape h i j k) 4 t u (λ d p. (len_utf8_bounds d).1)
       (λ v p. unescape_is_short t v p) e in
       omega (arith, short, (len_utf8_bounds h).0, (len_utf8_bounds i).0, (len_utf8_bounds j).0, (len_utf8_bounds k).0)

@@ -34,7 +34,7 @@ pub struct StringLiteral {
 /// A scalar as a token writes it (GraphQL specification, October 2021, section 2.9).
 #[derive(Debug, Drop)]
 pub enum Literal {
-    /// A scalar that no token wrote: `true`, `false`, and what a program makes.
+    /// A scalar that wasn't read from a token: `true`, `false`, and what a program makes.
     Default(DefaultScalarValue),
     /// An Int of 32 bits.
     Int(IntLiteral),
@@ -98,7 +98,7 @@ impl Eq for Literal {
 impl fmt::Display for Literal {
     ghost output = { λ s. Some (encode_utf8_all (literal_shown (literal_content s))) };
 
-    #[tactic(auto, using(crate::proofs::Literals::shown_back, crate::proofs::Literals::behind))]
+    #[tactic(auto, using(crate::proofs::Literals::shown_back, crate::proofs::Literals::shown_after))]
     fn fmt<W: fmt::Write>(&self, f: &mut fmt::Formatter<W>) -> fmt::Result {
         match self {
             Literal::Default(scalar) => scalar.fmt(f),
@@ -243,7 +243,7 @@ impl ScalarValue for Literal {
         }
     }
 
-    #[tactic(auto, using(crate::proofs::Literals::shown_back, crate::proofs::Literals::behind))]
+    #[tactic(auto, using(crate::proofs::Literals::shown_back, crate::proofs::Literals::shown_after))]
     fn try_as_str(&self) -> Option<&str> {
         match self {
             Literal::Default(scalar) => scalar.try_as_str(),
@@ -252,7 +252,7 @@ impl ScalarValue for Literal {
         }
     }
 
-    #[tactic(auto, using(crate::proofs::Literals::shown_back, crate::proofs::Literals::behind))]
+    #[tactic(auto, using(crate::proofs::Literals::shown_back, crate::proofs::Literals::shown_after))]
     fn try_to_string(&self, alloc: Global) -> Result<Option<String>, AllocError> {
         match self {
             Literal::Default(scalar) => scalar.try_to_string(alloc),
@@ -264,7 +264,7 @@ impl ScalarValue for Literal {
         }
     }
 
-    #[tactic(auto, using(crate::proofs::Literals::shown_back, crate::proofs::Literals::behind))]
+    #[tactic(auto, using(crate::proofs::Literals::shown_back, crate::proofs::Literals::shown_after))]
     fn try_into_string(self, alloc: Global) -> Result<Option<String>, AllocError> {
         match self {
             Literal::Default(scalar) => scalar.try_into_string(alloc),

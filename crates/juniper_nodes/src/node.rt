@@ -7,7 +7,7 @@ use juniper::{Span, Spanning, Type};
 pub enum Label<'t, 'a> {
     /// Nothing.
     Unnamed,
-    /// A name that the source writes, with its place.
+    /// A name that the source writes, with its span.
     Name(&'t Spanning<&'a str>),
     /// A name that is all of its node: an enum, a variable without its `$`, an object's key.
     Text(&'t str),
@@ -21,12 +21,12 @@ pub enum Label<'t, 'a> {
 #[derive(Drop)]
 pub struct Node<'t, 'a, S: Drop> {
     pub kind: NodeKind,
-    /// From the part's first character to the place after its last.
+    /// The span from the part's first character to the position after its last.
     pub span: &'t Span,
     pub label: Label<'t, 'a>,
     /// The scalar, at a node of that kind alone.
     pub scalar: Option<&'t S>,
-    /// The number of the nodes after this one that are of parts in it: the next node that isn't stands at this one's
-    /// index plus one plus this number.
+    /// The number of descendants, which follow this node: the next node outside it is at its index plus one plus this
+    /// number.
     pub descendants: usize,
 }

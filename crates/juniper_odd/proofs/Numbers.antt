@@ -89,12 +89,12 @@ module _ {E : Type 0} where
           (at_minus (cs ++ places) r (all_joined cs places s.0 k) (omega (arith, s.1, length-append cs places))) h
       by_sign false e d = at_digit c (cs ++ places) r (all_joined (c ∷ cs) places d k) h
 
-told : {E : Type 0} (r : Result ℤ E) (b : Bool) (v : ℤ) → OkIff r (b ≡ true) v
+ok_as_some : {E : Type 0} (r : Result ℤ E) (b : Bool) (v : ℤ) → OkIff r (b ≡ true) v
     → result_ok r ≡ (if b then Some v else None)
-told (Ok z) true v h = ap Some h.1
-told (Ok z) false v h = absurd (true≢false (sym h.0))
-told (Err e) true v h = absurd (h refl)
-told (Err e) false v h = refl
+ok_as_some (Ok z) true v h = ap Some h.1
+ok_as_some (Ok z) false v h = absurd (true≢false (sym h.0))
+ok_as_some (Err e) true v h = absurd (h refl)
+ok_as_some (Err e) false v h = refl
 
 pub read : {E : Type 0} (before after : Text) (r : Result ℤ E) → is_decimal before after ≡ true
     → ParsesSigned w64 10 (before ++ filled after) r
@@ -103,6 +103,6 @@ read before after r e h =
     let parts = first_so (is_digits (without_minus before) && is_digits after) _ e in
     let d = first_so (is_digits (without_minus before)) _ parts in
     let k = ((some_digits after).0 (second_so (is_digits (without_minus before)) _ parts)).0 in
-    rw e (told r (is_i64 (thousandths before after)) (thousandths before after)
+    rw e (ok_as_some r (is_i64 (thousandths before after)) (thousandths before after)
     (reads before (filled after) r d (all_joined after (zeros (length after)) k (zeros_are_digits (length after)))
     h))

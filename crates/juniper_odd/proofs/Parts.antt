@@ -33,19 +33,19 @@ no_test c h = by_test (c == 46) refl
     by_test true e = absurd (h (grind (arith, nat_tests)))
     by_test false e = e
 
-behind : (c : ℕ) (cs : Text) → HasNoPoint (c ∷ cs) → HasNoPoint cs
-behind c cs h i l = h (suc i) (omega (arith, l))
+after_first : (c : ℕ) (cs : Text) → HasNoPoint (c ∷ cs) → HasNoPoint cs
+after_first c cs h i l = h (suc i) (omega (arith, l))
 
 pub at_point : (a b : Text) → HasNoPoint a → (whole (a ++ 46 ∷ b) ≡ a) × (fraction (a ++ 46 ∷ b) ≡ b)
 at_point [] b h = (refl, refl)
 at_point (c ∷ cs) b h =
     let here = no_test c (h 0 (omega arith)) in
-    let more = at_point cs b (behind c cs h) in
+    let more = at_point cs b (after_first c cs h) in
     (rw here (ap (λ t. c ∷ t) more.0), rw here more.1)
 
 pub without_point : (t : Text) → HasNoPoint t → fraction t ≡ []
 without_point [] h = refl
-without_point (c ∷ cs) h = rw (no_test c (h 0 (omega arith))) (without_point cs (behind c cs h))
+without_point (c ∷ cs) h = rw (no_test c (h 0 (omega arith))) (without_point cs (after_first c cs h))
 
 -- ---- a decimal number has no character past ASCII
 

@@ -1,4 +1,4 @@
-//! What the parser's contract means where no literal is read.
+//! What the parser's contract means for a scalar type that reads no literal.
 ghost use Rattle.std.specs.Prelude.{IfOk};
 ghost use Rattle.std.specs.Str.{chars};
 ghost use Rattle.juniper_tokens.specs.Errors.{view_fault};
@@ -14,9 +14,9 @@ use std::alloc::Global;
 
 /// Parses a text as a document by `RefuseAll`: it accepts exactly the documents without scalar tokens.
 ///
-/// Any other text is refused as the grammar refuses it: a scalar token where a value may stand as
-/// `ExpectedScalarError("No literals")`, and elsewhere as `UnexpectedToken`. Returns `ParseFailure::Memory` where
-/// memory ran out. The stack holds the nesting of the text.
+/// Any other text is refused as the grammar refuses it: a scalar token where a value may be as `ExpectedScalarError("No
+/// literals")`, and elsewhere as `UnexpectedToken`. Returns `ParseFailure::Memory` if memory runs out. Takes stack in
+/// proportion to the text's nesting.
 pub fn documents_without_scalars<'a>(
     alloc: Global,
     source: &'a str,

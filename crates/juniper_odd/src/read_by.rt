@@ -20,7 +20,7 @@ pub trait TokenReader {
 
     /// Reads the scalar of the token in this way.
     ///
-    /// Fails with `Refused` and the error that is stated of the token, or with `Memory` where memory ran out.
+    /// Fails with `Refused` and the error that is stated of the token, or with `Memory` if memory runs out.
     fn read(alloc: Global, token: ScalarToken<'_>) -> ParseScalarResult<DefaultScalarValue>
         ensures { MeetsReading default_content (reads (scalar_kind token.entry) (scalar_text token.entry)) result };
 }

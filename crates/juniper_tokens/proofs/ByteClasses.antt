@@ -5,12 +5,12 @@ use Rattle.std.specs.Prelude.{slice_index_or, nat_lt, nat_le}
 use denote.Enum.Bare.{sameb}
 use Rattle.graphql_lexical.specs.Characters.{is_name_character, is_digit}
 use Rattle.graphql_lexical.specs.declared.state.State.TheVariants.{Start}
-use Rattle.graphql_lexical.specs.device.Scan.{step, gap_step}
+use Rattle.graphql_lexical.specs.device.Scan.{step, ignored_step}
 use Rattle.juniper_tokens.specs.device.ByteRuns.{is_inner}
 use Rattle.juniper_tokens.specs.contracts.byte_classes.ByteClass.{the_type}
 use Rattle.juniper_tokens.specs.declared.byte_classes.ByteClass.{ByteClass}
 use Rattle.juniper_tokens.specs.declared.byte_classes.ByteClass.TheVariants.{White, LineFeed, Hash, Quote, Dot, Minus, NameStart, Digit, Punctuator, Control, Other, Inner, Lead}
-use Rattle.juniper_tokens.specs.ByteClasses.{tabulate, class_of, name_class, digit_class, inner_class, first_state, gap_class}
+use Rattle.juniper_tokens.specs.ByteClasses.{tabulate, class_of, name_class, digit_class, inner_class, first_state, ignored_class}
 
 first_place : (b : ℕ) → b ≡ b + 0
 first_place b = omega arith
@@ -69,25 +69,25 @@ feed_class_tests b l = agree_at (λ k. sameb the_type (class_of k) LineFeed) (λ
 pub quote_class_tests : (b : ℕ) → b < 256 → sameb the_type (class_of b) Quote ≡ (b == 34)
 quote_class_tests b l = agree_at (λ k. sameb the_type (class_of k) Quote) (λ k. k == 34) refl b l
 
-pub gap_class_tests : (b : ℕ) → b < 256 → gap_class (class_of b) ≡ gap_step false b
-gap_class_tests b l = agree_at (λ k. gap_class (class_of k)) (gap_step false) refl b l
+pub ignored_class_tests : (b : ℕ) → b < 256 → ignored_class (class_of b) ≡ ignored_step false b
+ignored_class_tests b l = agree_at (λ k. ignored_class (class_of k)) (ignored_step false) refl b l
 
--- where a gap doesn't go on
-pub gap_none : (class : ByteClass) → (class ≡ White → ⊥) → (class ≡ LineFeed → ⊥) → (class ≡ Hash → ⊥)
-    → gap_class class ≡ None
-gap_none White w l h = absurd (w refl)
-gap_none LineFeed w l h = absurd (l refl)
-gap_none Hash w l h = absurd (h refl)
-gap_none Inner w l h = refl
-gap_none Quote w l h = refl
-gap_none Dot w l h = refl
-gap_none Minus w l h = refl
-gap_none NameStart w l h = refl
-gap_none Digit w l h = refl
-gap_none Punctuator w l h = refl
-gap_none Control w l h = refl
-gap_none Other w l h = refl
-gap_none Lead w l h = refl
+-- where ignored tokens don't go on
+pub ignored_none : (class : ByteClass) → (class ≡ White → ⊥) → (class ≡ LineFeed → ⊥) → (class ≡ Hash → ⊥)
+    → ignored_class class ≡ None
+ignored_none White w l h = absurd (w refl)
+ignored_none LineFeed w l h = absurd (l refl)
+ignored_none Hash w l h = absurd (h refl)
+ignored_none Inner w l h = refl
+ignored_none Quote w l h = refl
+ignored_none Dot w l h = refl
+ignored_none Minus w l h = refl
+ignored_none NameStart w l h = refl
+ignored_none Digit w l h = refl
+ignored_none Punctuator w l h = refl
+ignored_none Control w l h = refl
+ignored_none Other w l h = refl
+ignored_none Lead w l h = refl
 
 -- ---- at one byte, by its class
 

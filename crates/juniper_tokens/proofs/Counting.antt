@@ -24,8 +24,8 @@ few_here before left most e = record {
 
 module _ (before left : Text) (x : Lexeme) (done after : Text) (s : Stands before left x done after)
     (other : x.kind ≢ EndOfFile) where
-  pub few_behind : (most : ℕ) → HasFew done after most → HasFew before left (suc most)
-  few_behind most h = record {
+  pub has_few_after : (most : ℕ) → HasFew done after most → HasFew before left (suc most)
+  has_few_after most h = record {
     tokens = x ∷ h.tokens;
     done = h.done;
     after = h.after;
@@ -34,8 +34,8 @@ module _ (before left : Text) (x : Lexeme) (done after : Text) (s : Stands befor
     few = omega (arith, h.few);
   }
 
-  pub more_behind : (most : ℕ) (span : Span) → HasMore done after most span → HasMore before left (suc most) span
-  more_behind most span h = record {
+  pub has_more_after : (most : ℕ) (span : Span) → HasMore done after most span → HasMore before left (suc most) span
+  has_more_after most span h = record {
     front = x ∷ h.front;
     done = h.done;
     rest = h.rest;
@@ -70,11 +70,11 @@ module _ (before left : Text) (x : Lexeme) (done after : Text) (s : Stands befor
 abbrev pub FewOrMore : Text → Text → ℕ → Type 0
 FewOrMore before left most = HasFew before left most ⊎ ((span : Span) × HasMore before left most span)
 
-one_behind : (before left : Text) (x : Lexeme) (done after : Text) (most : ℕ) → Stands before left x done after
+one_after : (before left : Text) (x : Lexeme) (done after : Text) (most : ℕ) → Stands before left x done after
     → x.kind ≢ EndOfFile → FewOrMore done after most → FewOrMore before left (suc most)
-one_behind before left x done after most s n (inl h) = inl (few_behind before left x done after s n most h)
-one_behind before left x done after most s n (inr h) =
-    inr (h.0, more_behind before left x done after s n most h.0 h.1)
+one_after before left x done after most s n (inl h) = inl (has_few_after before left x done after s n most h)
+one_after before left x done after most s n (inr h) =
+    inr (h.0, has_more_after before left x done after s n most h.0 h.1)
 
 cut_counted : (most : ℕ) (before left : Text) (xs : List Lexeme) → CutAfter before left xs → FewOrMore before left most
 cut_counted most before left _ (cutting.last {done = done} {after = after} {x = x} s e) =
@@ -82,7 +82,7 @@ cut_counted most before left _ (cutting.last {done = done} {after = after} {x = 
 cut_counted zero before left _ (cutting.token {done = done} {after = after} {x = x} s n c) =
     inr (x.span, more_here before left x done after s n x.span refl)
 cut_counted (suc most) before left _ (cutting.token {done = done} {after = after} {x = x} {xs = xs} s n c) =
-    one_behind before left x done after most s n (cut_counted most done after xs c)
+    one_after before left x done after most s n (cut_counted most done after xs c)
 
 break_counted : (most : ℕ) (before left : Text) (error : LexicalError) (at : Place) → BreaksAfter before left error at
     → FewOrMore before left most
@@ -90,7 +90,7 @@ break_counted most before left error at (cutting.here b) = inl (few_here before 
 break_counted zero before left error at (cutting.later {done = done} {after = after} {x = x} s n b) =
     inr (x.span, more_here before left x done after s n x.span refl)
 break_counted (suc most) before left error at (cutting.later {done = done} {after = after} {x = x} s n b) =
-    one_behind before left x done after most s n (break_counted most done after error at b)
+    one_after before left x done after most s n (break_counted most done after error at b)
 
 pub few_or_more : (source : Text) (most : ℕ) → FewOrMore [] source most
 few_or_more source most = elim (one_cut_or_break source).some [

@@ -87,8 +87,8 @@ module _ (text bytes : List ℕ) (k : ℕ) (u : IsUtf8 text) (same : bytes ≡ t
         plus_none : (n : ℕ) → n + 0 ≡ n
         plus_none n = omega arith
 
-    pub others_behind : is_counted b ≡ false → k ≡ counted cs
-    others_behind e = omega (arith, h.left, first_not_counted (4 - k) (drop k cs) b first e)
+    pub others_after : is_counted b ≡ false → k ≡ counted cs
+    others_after e = omega (arith, h.left, first_not_counted (4 - k) (drop k cs) b first e)
 
     pub one_counted : k < 4 → is_counted b ≡ true → Counted cs (k + 1)
     one_counted few e =

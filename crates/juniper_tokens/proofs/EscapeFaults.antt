@@ -23,22 +23,22 @@ pub backslash_missed : (at x : ℕ) (m t cs ds : List ℕ) → m ≡ 92 ∷ [] �
     → missed at (UnknownEscapeSequence (m ++ t)) ≡ after_backslash at cs
 backslash_missed at x m t cs ds e f g = rw (e, f, g) refl
 
--- the place behind them
-pub letters_room : (at k : ℕ) (rest : List ℕ) → IsUtf8 rest → at + 1 + length rest < 2 ^ 64 → k ≡ counted (chars rest)
+-- the place after them
+pub letters_fit : (at k : ℕ) (rest : List ℕ) → IsUtf8 rest → at + 1 + length rest < 2 ^ 64 → k ≡ counted (chars rest)
     → at + 1 + k < 2 ^ 64
-letters_room at k rest u r e = omega (arith, r, e, (counted_within (chars rest)).1, chars_within rest u)
+letters_fit at k rest u r e = omega (arith, r, e, (counted_within (chars rest)).1, chars_within rest u)
 
--- whether text stands behind so many characters
-pub stands_behind : (k : ℕ) (cs rest : List ℕ) (ends : Bool) → IsUtf8 rest → chars rest ≡ drop k cs
+-- whether text stands after so many characters
+pub stands_after : (k : ℕ) (cs rest : List ℕ) (ends : Bool) → IsUtf8 rest → chars rest ≡ drop k cs
     → (length rest == 0) ≡ ends → cond ends (length cs ≤ k) (k < length cs)
-stands_behind k cs rest true u e h = omega (
+stands_after k cs rest true u e h = omega (
   arith,
   chars_within rest u,
   ap length e,
   length-drop k cs,
   eqb-true (length rest) 0 h,
 )
-stands_behind k cs rest false u e h = elim (below_or_not k (length cs)) [
+stands_after k cs rest false u e h = elim (below_or_not k (length cs)) [
   | inl l ↦ l
   | inr l ↦ absurd (eqb-false (length rest) 0 h (ap length (sym (encodes-chars rest u)
       ∙ ap encodes (e ∙ drop_all k cs l))))
@@ -47,7 +47,7 @@ stands_behind k cs rest false u e h = elim (below_or_not k (length cs)) [
     below_or_not : (a b : ℕ) → (a < b) ⊎ (b ≤ a)
     below_or_not a b = grind arith
 
--- no text behind so many letters and digits, fewer than four
+-- the text ends after so many letters and digits, fewer than four
 pub u_ends : (u k : ℕ) (cs : List ℕ) → k ≡ counted cs → length cs ≤ k → k < 4
     → after_u u cs ≡ missed (u + 1 + k) UnterminatedString
 u_ends u k cs e n l =
@@ -55,7 +55,7 @@ u_ends u k cs e n l =
     u_short u cs (omega (arith, e)) (omega (arith, e, w.1))
     ∙ ap (λ j. missed j UnterminatedString) (omega (arith, e, w.1))
 
--- four, or more text behind them
+-- four, or more text after them
 pub u_goes_on : (u k n : ℕ) (m t cs : List ℕ) → k ≡ counted cs → (4 ≤ k) ⊎ (k < length cs) → n ≡ max 1 k
     → m ≡ 92 ∷ 117 ∷ [] → t ≡ take n cs
     → missed u (UnknownEscapeSequence (m ++ t)) ≡ after_u u cs

@@ -123,7 +123,7 @@ gathered_later s xs t g = elim g.tokens [
   | inr d ↦ inr d.0
 ]
 
--- a fault behind them is passed on
+-- a fault after them is passed on
 pub breaks_passed : (s : LexerState) (ranges : List TokenRange) (t u : LexerState) {X : Type 0}
     (result : Result X LexFailure) (failure : LexFailure)
     → GatheredRanges s ranges t → range_steps t (Some (Err failure)) u → IsErrAnd result (λ x. x ≡ failure)

@@ -30,13 +30,13 @@ stands_nearer s x n h no_end =
       arith,
       size.0,
       ap length h.left_is,
-      length-append h.gap rest,
+      length-append h.ignored rest,
       length-append h.whole (ahead s.source n),
     )
 
-fewer_behind_token : (s t : LexerState) (x : Lexeme) → s.ended ≡ false → t.source ≡ s.source
+fewer_after_token : (s t : LexerState) (x : Lexeme) → s.ended ≡ false → t.source ≡ s.source
     → PassesToken s x t.index → ((t.ended ≡ true) ↔ (x.kind ≡ EndOfFile)) → items_left t < items_left s
-fewer_behind_token s t x going same stands ends = elim (cases_Bool t.ended) [
+fewer_after_token s t x going same stands ends = elim (cases_Bool t.ended) [
   | inl y ↦ omega (arith, left_open s going, left_ended t y)
   | inr n ↦
       let near = stands_nearer s x t.index stands (λ e. let z : true ≡ false = sym (ends.1 e) ∙ n in cc) in
@@ -48,12 +48,12 @@ fewer_at_end s t going ended = omega (arith, left_open s going, left_ended t end
 
 pub items_fewer : (s : LexerState) (item : Result (Spanning Token) LexFailure) (t : LexerState)
     → lexer_steps s (Some item) t → items_left t < items_left s
-items_fewer s (Ok token) t h = fewer_behind_token s t (view_token token) h.0 h.1 h.2.stands h.2.ends
+items_fewer s (Ok token) t h = fewer_after_token s t (view_token token) h.0 h.1 h.2.stands h.2.ends
 items_fewer s (Err (failure.Fault fault)) t h = fewer_at_end s t h.0 h.2.ends
 items_fewer s (Err failure.Memory) t h = fewer_at_end s t h.0 h.2.ends
 
 pub ranges_fewer : (s : LexerState) (item : Result TokenRange LexFailure) (t : LexerState) → range_steps s (Some item) t
     → items_left t < items_left s
-ranges_fewer s (Ok range) t h = fewer_behind_token s t (range_lexeme s.source range) h.0 h.1 h.2.stands h.2.ends
+ranges_fewer s (Ok range) t h = fewer_after_token s t (range_lexeme s.source range) h.0 h.1 h.2.stands h.2.ends
 ranges_fewer s (Err (failure.Fault fault)) t h = fewer_at_end s t h.0 h.2.ends
 ranges_fewer s (Err failure.Memory) t h = fewer_at_end s t h.0 h.2.ends

@@ -12,18 +12,18 @@ use Rattle.graphql_lexical.specs.declared.kind.Kind.TheVariants.{EndOfFile}
 use Rattle.graphql_lexical.specs.Kinds.{same_kind, LexicalError, UnknownEscapeSequence}
 use Rattle.graphql_lexical.specs.Kinds as errors
 use Rattle.graphql_lexical.specs.Place.{Place, place, past_character}
-use Rattle.graphql_lexical.specs.device.Scan.{Found, Missed, scan, gap_size, gap_step}
-use Rattle.graphql_lexical.proofs.Public.{there_to_text, misses_what_fails, gap_longest, reach_is, place_index}
+use Rattle.graphql_lexical.specs.device.Scan.{Found, Missed, scan, ignored_size, ignored_step}
+use Rattle.graphql_lexical.proofs.Public.{there_to_text, misses_what_fails, ignored_is_longest, reach_is, place_index}
 use Rattle.juniper_tokens.specs.declared.span.Spanning.{Spanning}
 use Rattle.juniper_tokens.specs.declared.error.LexerError.{LexerError}
 use Rattle.juniper_tokens.specs.Errors.{view_lexer_error}
 use Rattle.juniper_tokens.specs.device.ByteRuns.{byte_at}
 use Rattle.juniper_tokens.specs.declared.byte_classes.ByteClass.{ByteClass}
-use Rattle.juniper_tokens.specs.device.Walks.{first_class, EndsGap}
+use Rattle.juniper_tokens.specs.device.Walks.{first_class, EndsIgnored}
 use Rattle.juniper_tokens.specs.device.Scans.{IsEscape}
 use Rattle.juniper_tokens.specs.device.Scans as scans
 use Rattle.juniper_tokens.specs.Lexing.{LexerState, MeetsError, GivesFault, WantsMemory}
-use Rattle.juniper_tokens.specs.device.LexingByScan.{IsPlaced, past_gap}
+use Rattle.juniper_tokens.specs.device.LexingByScan.{IsPlaced, past_ignored}
 use Rattle.juniper_tokens.specs.device.Ranges.{FailsThere}
 use Rattle.juniper_tokens.proofs.Offsets.{byte_at_within, byte_at_on}
 use Rattle.juniper_tokens.proofs.Places.{place_on}
@@ -42,46 +42,46 @@ placed_on source at g n p q h l e s =
             ∙ (byte_at_on p.index g (chars source) ∙ ap (λ k. byte_at k (chars source)) (sym index));
         place_is = s ∙ ap (place (chars source)) (sym index);
         within = subst (λ k. k ≤ length (chars source)) (sym index) within;
-        room = h.room;
+        fits = h.fits;
       },
     )
 
-pub chars_room : (at n : ℕ) (p : Place) (source rest : List ℕ) → IsPlaced source at p → at + length rest ≡ length source
+pub chars_fit : (at n : ℕ) (p : Place) (source rest : List ℕ) → IsPlaced source at p → at + length rest ≡ length source
     → IsUtf8 rest → chars rest ≡ drop p.index (chars source) → p.index + length rest < 2 ^ 64
-chars_room at n p source rest h e u c =
+chars_fit at n p source rest h e u c =
     omega (
       arith,
       e,
-      h.room,
+      h.fits,
       h.byte_is,
       length-le-encodes (take p.index (chars source)),
       length-take-le p.index (chars source) h.within,
     )
 
-pub gap_placed : (source rest : List ℕ) (at n : ℕ) (p q : Place) (class : ByteClass) → IsPlaced source at p
+pub ignored_placed : (source rest : List ℕ) (at n : ℕ) (p q : Place) (class : ByteClass) → IsPlaced source at p
     → chars rest ≡ drop p.index (chars source)
-    → EndsGap (chars rest) p n q class → (q.index ≡ p.index + gap_size (drop p.index (chars source)))
+    → EndsIgnored (chars rest) p n q class → (q.index ≡ p.index + ignored_size (drop p.index (chars source)))
     × IsPlaced source (at + n) q
-gap_placed source rest at n p q class h c e =
+ignored_placed source rest at n p q class h c e =
     let d = drop p.index (chars source) in
-    placed_on source at (gap_size d) n p q h (reach_is gap_step false d).within
-    (e.bytes_is ∙ ap (λ t. byte_at (gap_size t) t) c)
-    (e.position_is ∙ (ap₂ (λ s t. fold past_character s (take (gap_size t) t)) h.place_is c
-    ∙ place_on (chars source) p.index (gap_size d)))
+    placed_on source at (ignored_size d) n p q h (reach_is ignored_step false d).within
+    (e.bytes_is ∙ ap (λ t. byte_at (ignored_size t) t) c)
+    (e.position_is ∙ (ap₂ (λ s t. fold past_character s (take (ignored_size t) t)) h.place_is c
+    ∙ place_on (chars source) p.index (ignored_size d)))
 
--- the class of what stands behind the gap
-pub gap_class_there : (source rest : List ℕ) (at n : ℕ) (p q : Place) (class : ByteClass) → IsPlaced source at p
+-- the class of what stands after the ignored tokens
+pub ignored_class_there : (source rest : List ℕ) (at n : ℕ) (p q : Place) (class : ByteClass) → IsPlaced source at p
     → chars rest ≡ drop p.index (chars source)
-    → EndsGap (chars rest) p n q class → class ≡ first_class (drop q.index (chars source))
-gap_class_there source rest at n p q class h c e =
+    → EndsIgnored (chars rest) p n q class → class ≡ first_class (drop q.index (chars source))
+ignored_class_there source rest at n p q class h c e =
     let d = drop p.index (chars source) in
-    e.class_is ∙ (ap (λ t. first_class (drop (gap_size t) t)) c
-    ∙ (ap first_class (drop-drop (gap_size d) p.index (chars source))
-    ∙ ap (λ k. first_class (drop k (chars source))) (sym (gap_placed source rest at n p q class h c e).0)))
+    e.class_is ∙ (ap (λ t. first_class (drop (ignored_size t) t)) c
+    ∙ (ap first_class (drop-drop (ignored_size d) p.index (chars source))
+    ∙ ap (λ k. first_class (drop k (chars source))) (sym (ignored_placed source rest at n p q class h c e).0)))
 
-pub sum_room : (source rest : List ℕ) (at n k : ℕ) → at + length rest ≡ length source → length source < 2 ^ 64
+pub sum_fits : (source rest : List ℕ) (at n k : ℕ) → at + length rest ≡ length source → length source < 2 ^ 64
     → IsUtf8 rest → n ≡ byte_at k (chars rest) → at + n < 2 ^ 64
-sum_room source rest at n k e r u b = omega (arith, e, r, byte_at_within k n rest u b)
+sum_fits source rest at n k e r u b = omega (arith, e, r, byte_at_within k n rest u b)
 
 pub fault_placed : (source rest : List ℕ) (at k : ℕ) (p : Place) → IsPlaced source at p
     → chars rest ≡ drop p.index (chars source)
@@ -94,13 +94,15 @@ fault_placed source rest at k p h c = ap₂ (λ s t. fold past_character s (take
 pub same_end : (kind : Kind) → (same_kind kind EndOfFile ≡ true) ↔ (kind ≡ EndOfFile)
 same_end kind = (λ e. same_true the_type (search rules) kind EndOfFile e, λ e. ap (λ k. same_kind k EndOfFile) e)
 
-pub breaks_by_scan : (s : LexerState) (m : Missed) → scan (drop (past_gap s).index s.source) ≡ Err m
-    → MeetsError s m.error (place s.source ((past_gap s).index + m.at))
+pub breaks_by_scan : (s : LexerState) (m : Missed) → scan (drop (past_ignored s).index s.source) ≡ Err m
+    → MeetsError s m.error (place s.source ((past_ignored s).index + m.at))
 breaks_by_scan s m e =
-    there_to_text s.source s.index (gap_size (drop s.index s.source)) m.at m.error (gap_longest (drop s.index s.source))
-    ((misses_what_fails (drop (past_gap s).index s.source) m).0 e)
+    there_to_text s.source s.index (ignored_size (drop s.index s.source)) m.at m.error
+    (ignored_is_longest (drop s.index s.source))
+    ((misses_what_fails (drop (past_ignored s).index s.source) m).0 e)
 
-pub fault_by_scan : (s : LexerState) (fault : Spanning LexerError) (t : LexerState) → FailsThere (past_gap s) fault t
+pub fault_by_scan : (s : LexerState) (fault : Spanning LexerError) (t : LexerState)
+    → FailsThere (past_ignored s) fault t
     → GivesFault s fault t
 fault_by_scan s fault t h = record {
   breaks =
@@ -110,18 +112,19 @@ fault_by_scan s fault t h = record {
   ends = h.ends;
 }
 
-pub memory_by_scan : (s t : LexerState) → scans.MissesEscape (scan (drop (past_gap s).index s.source)) → t.ended ≡ true
+pub memory_by_scan : (s t : LexerState) → scans.MissesEscape (scan (drop (past_ignored s).index s.source))
+    → t.ended ≡ true
     → WantsMemory s t
-memory_by_scan s t h e = by_scan (scan (drop (past_gap s).index s.source)) refl h
+memory_by_scan s t h e = by_scan (scan (drop (past_ignored s).index s.source)) refl h
   where
     by_error : (m : Missed) (error : LexicalError) → m.error ≡ error → IsEscape error
-        → scan (drop (past_gap s).index s.source) ≡ Err m → WantsMemory s t
+        → scan (drop (past_ignored s).index s.source) ≡ Err m → WantsMemory s t
     by_error m (UnknownEscapeSequence text) i w x =
         record {
           text = text;
-          at = place s.source ((past_gap s).index + m.at);
+          at = place s.source ((past_ignored s).index + m.at);
           breaks =
-              subst (λ (q : LexicalError). MeetsError s q (place s.source ((past_gap s).index + m.at)))
+              subst (λ (q : LexicalError). MeetsError s q (place s.source ((past_ignored s).index + m.at)))
               i (breaks_by_scan s m x);
           ends = e;
         }
@@ -132,7 +135,7 @@ memory_by_scan s t h e = by_scan (scan (drop (past_gap s).index s.source)) refl 
     by_error m errors.UnexpectedEndOfFile i w x = absurd w
     by_error m errors.InvalidNumber i w x = absurd w
 
-    by_scan : (r : Result Found Missed) → scan (drop (past_gap s).index s.source) ≡ r → scans.MissesEscape r
+    by_scan : (r : Result Found Missed) → scan (drop (past_ignored s).index s.source) ≡ r → scans.MissesEscape r
         → WantsMemory s t
     by_scan (Ok f) x w = absurd w
     by_scan (Err m) x w = by_error m m.error refl w x

@@ -56,7 +56,7 @@ module _ {X : Type 0} (f : X → ℕ → X) (along : ℕ → X → X) (along_non
       (walked_line start start bytes bytes 0 b (sym (take_all (length bytes - 0) bytes (omega arith))) h s
       (walked_none (each_machine f) (tt, start) bytes))
 
-  -- a line feed, and a run behind it
+  -- a line feed, and a run after it
   pub walked_feed : (start x : X) (bytes tail : List ℕ) (i : ℕ) (b : Offset) → i < length bytes
       → get_or bytes i 0 ≡ 10
       → tail ≡ take (length bytes - (i + 1)) (drop (i + 1) bytes) → RunsTo run.Line tail b → b.bytes ≤ length tail

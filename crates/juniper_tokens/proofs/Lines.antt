@@ -121,7 +121,7 @@ place_some source k p w e = ap Some e ∙ ap (λ b. cond b (Some (place source k
 
 -- ---- the search
 
--- the line is neither before low nor at or behind high
+-- the line is neither before low nor at or after high
 pub record Narrowed (starts : List ℕ) (k low high : ℕ) : Type 0 where
   pub order : low < high
   pub within : high ≤ length starts

@@ -18,7 +18,7 @@ none_plus k = omega arith
 plus_suc : (a b : ℕ) → (a + 1) + b ≡ a + suc b
 plus_suc a b = omega arith
 
--- ---- of a text and another one behind it
+-- ---- of a text and another one after it
 
 push_feed : (b : Bool) (x : ℕ) (new old more : List ℕ) → new ≡ old ++ more
     → cond b (x ∷ new) new ≡ cond b (x ∷ old) old ++ more

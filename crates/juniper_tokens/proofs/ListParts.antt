@@ -112,11 +112,11 @@ pub item_further : {X R : Type 0} {may_call : MutBor (List Lexeme) → Type 0} {
     → Calls gives now (Ok x) new → IsProperRest now new
 item_further reads further calls = calls_leave reads further calls
 
--- a rest behind an item
-pub behind_item : {X R : Type 0} {may_call : MutBor (List Lexeme) → Type 0} {gives : Giving (Result X R)}
+-- a rest after an item
+pub after_item : {X R : Type 0} {may_call : MutBor (List Lexeme) → Type 0} {gives : Giving (Result X R)}
     {old now middle new : List Lexeme} {x : X} → ReadsItems may_call gives old → IsProperRest old now
     → Calls gives now (Ok x) middle → IsRest middle new → IsProperRest old new
-behind_item reads taken calls rest = properly_further _ _ _ taken
+after_item reads taken calls rest = properly_further _ _ _ taken
     (further _ _ _ (item_further reads taken calls).rest rest)
 
 module _ {X R : Type 0} {gives : Giving (Result X R)} {opening closing : Token} where

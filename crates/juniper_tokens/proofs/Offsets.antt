@@ -87,13 +87,13 @@ bytes_between cs j k m n e f l =
     ∙ (byte_at_on j (k - j) cs ∙ (ap (λ i. byte_at i cs) sum ∙ sym f))
 
 -- what is left from there on is no longer than the text
-pub room_from : (text rest : List ℕ) (k n : ℕ) → n ≡ byte_at k (chars text) → k ≤ length (chars text)
+pub fits_from : (text rest : List ℕ) (k n : ℕ) → n ≡ byte_at k (chars text) → k ≤ length (chars text)
     → n + length rest ≡ length text → length text < 2 ^ 64 → k + length rest < 2 ^ 64
-room_from text rest k n e w l room =
+fits_from text rest k n e w l fits =
     let before : length (take k (chars text)) ≡ k = length-take-le k (chars text) w in
-    omega (arith, e, l, room, length-le-encodes (take k (chars text)), before)
+    omega (arith, e, l, fits, length-le-encodes (take k (chars text)), before)
 
--- the border behind one more character
+-- the border after one more character
 pub offset_on : (text : List ℕ) (i b c n : ℕ) → IsUtf8 text → i < length (chars text) → c ≡ get_or (chars text) i c
     → b ≡ byte_at i (chars text) → n ≡ len_utf8 c
     → (b + n ≡ byte_at (i + 1) (chars text)) × (b + n ≤ length text) × (i + 1 ≤ length text)

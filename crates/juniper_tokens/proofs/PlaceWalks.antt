@@ -7,7 +7,7 @@ use Rattle.graphql_lexical.specs.device.Machines.{reach}
 use Rattle.graphql_lexical.specs.Place.{Place, past_character, next_line, next_column}
 use Rattle.juniper_tokens.specs.declared.lexer.run.Run.TheVariants as run
 use Rattle.juniper_tokens.specs.Positions.{columns_on}
-use Rattle.juniper_tokens.specs.device.Offsets.{IsOffsetBehind}
+use Rattle.juniper_tokens.specs.device.Offsets.{IsOffsetAfter}
 use Rattle.juniper_tokens.specs.device.ByteRuns.{is_inner, byte_at}
 use Rattle.juniper_tokens.specs.device.Walks.{run_test, place_machine, count_to, count_machine}
 use Rattle.juniper_tokens.proofs.ByteRuns.{reach_bytes, in_bytes, step_once}
@@ -74,7 +74,7 @@ counted_to count n l (c ∷ cs) = elim (cases_eq n count) [
 
 pub offset_reached : (text bytes : List ℕ) (count i n : ℕ) → IsUtf8 text → bytes ≡ text
     → reach (count_machine count) 0 bytes ≡ (i, n)
-    → IsOffsetBehind count (chars text) (record { bytes = i; characters = n })
+    → IsOffsetAfter count (chars text) (record { bytes = i; characters = n })
 offset_reached text bytes count i n u same h =
     let cs = chars text in
     let r = reach (count_to count) 0 cs in

@@ -114,8 +114,8 @@ string_ends : (cs t : List ℕ) → cs ≡ 34 ∷ t → reach step InString cs �
 string_ends cs t e = ap (reach step InString) e ∙ step_more InString (Done kinds.String) (Done kinds.String) 34 0 t refl
     (done_stays kinds.String t)
 
-same_behind : (c : ℕ) (cs : List ℕ) → is_plain c ≡ true → reach step Quote (c ∷ cs) ≡ reach step InString (c ∷ cs)
-same_behind c cs e = rw e refl
+same_after : (c : ℕ) (cs : List ℕ) → is_plain c ≡ true → reach step Quote (c ∷ cs) ≡ reach step InString (c ∷ cs)
+same_after c cs e = rw e refl
 
 string_read : (cs t : List ℕ) → 0 < run_size run.Plain cs → drop (run_size run.Plain cs) cs ≡ 34 ∷ t
     → reach step Start (34 ∷ cs) ≡ (suc (run_size run.Plain cs + 1), Done kinds.String)
@@ -125,7 +125,7 @@ string_read (c ∷ cs) t l d = by_plain (is_plain c) refl
     by_plain : (is : Bool) → is_plain c ≡ is
         → reach step Start (34 ∷ (c ∷ cs)) ≡ (suc (run_size run.Plain (c ∷ cs) + 1), Done kinds.String)
     by_plain true e = step_more Start Quote (Done kinds.String) 34 _ (c ∷ cs) refl
-        (same_behind c cs e ∙ in_run run.Plain InString plain_stays (c ∷ cs) 1 (Done kinds.String) (string_ends _ t d))
+        (same_after c cs e ∙ in_run run.Plain InString plain_stays (c ∷ cs) 1 (Done kinds.String) (string_ends _ t d))
     by_plain false e = absurd (omega (arith, l, run_none run.Plain c cs e))
 
 -- Over the bytes of a run after a String's first quote the steps are those within a String.
@@ -178,9 +178,9 @@ module _ (text bytes : List ℕ) (u : IsUtf8 text) (same : bytes ≡ text) (some
     starts : step Start b ≡ first_state class b
     starts = sym (first_state_tests b small) ∙ ap (λ k. first_state k b) (sym class_is)
 
-    -- the bytes behind it
-    behind : (tail : List ℕ) → tail ≡ take (length bytes - 1) (drop 1 bytes) → tail ≡ encodes (drop 1 cs)
-    behind tail e =
+    -- the bytes after it
+    bytes_after : (tail : List ℕ) → tail ≡ take (length bytes - 1) (drop 1 bytes) → tail ≡ encodes (drop 1 cs)
+    bytes_after tail e =
         e ∙ (take_all (length bytes - 1) (drop 1 bytes) (omega (arith, length-drop 1 bytes))
         ∙ (ap (drop 1) (whole ∙ ap encodes front) ∙ ap (λ t. drop 1 (t ++ encodes (drop 1 cs))) (encode_ascii b below)))
 
@@ -226,7 +226,7 @@ module _ (text bytes : List ℕ) (u : IsUtf8 text) (same : bytes ≡ text) (some
       ∙ step_more Start (Done kind) (Done kind) b 0 (drop 1 cs) goes (done_stays kind (drop 1 cs))) refl
       (sym (ap (byte_at 1) f ∙ ascii_first b 0 (drop 1 cs) (below classes.Punctuator c refl)))
 
-  -- at a quote behind the run
+  -- at a quote after the run
   pub string_found : (r : Offset) (tail : List ℕ) → classes.Quote ≡ class_of b
       → tail ≡ take (length bytes - 1) (drop 1 bytes) → RunsTo run.Plain tail r
       → 0 < r.characters → 1 + r.bytes < length bytes → get_or bytes (1 + r.bytes) 0 ≡ 34
@@ -242,7 +242,7 @@ module _ (text bytes : List ℕ) (u : IsUtf8 text) (same : bytes ≡ text) (some
       let n = r.characters in
       let quote : b ≡ 34 = eqb-true b 34 (sym (quote_class_tests b small)
       ∙ ap (λ k. sameb the_type k classes.Quote) (sym c)) in
-      let units = run_of run.Plain ds tail r (behind classes.Quote c refl tail t) h in
+      let units = run_of run.Plain ds tail r (bytes_after classes.Quote c refl tail t) h in
       let f = front classes.Quote c refl in
       let offset : 1 + r.bytes ≡ byte_at (suc n) cs = omega (
         arith,
@@ -282,6 +282,6 @@ module _ (text bytes : List ℕ) (u : IsUtf8 text) (same : bytes ≡ text) (some
       let opens : step Start b ≡ Some Quote = ap (step Start) quote in
       let one : WalkedToken text 1 Quote 1 = walked_on token_machine (Start, 0) (Start, 0) (Quote, 1) text 0 some
       (token_step Start Quote 0 b outer opens) (walked_none token_machine (Start, 0) text) in
-      let steps = begun (drop 1 cs) tail r (behind classes.Quote c refl tail t) h l 1 in
+      let steps = begun (drop 1 cs) tail r (bytes_after classes.Quote c refl tail t) h l 1 in
       walked_further token_machine (Start, 0) (Quote, 1) (InString, 1 + r.characters) text tail 1 r.bytes
       (t ∙ ap (λ bs. take (length bs - 1) (drop 1 bs)) same) within (steps ∙ string_over tail r h 1) one

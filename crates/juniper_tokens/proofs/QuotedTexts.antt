@@ -58,8 +58,8 @@ string_back width cs bytes chars e =
       bytes = ap (λ t. length (encodes t) + width) (before_last width chars cs e.units e.within e.whole) ∙ sym all;
     }
 
-behind_quotes : (width : ℕ) (units : List ℕ) → drop width (quotes width ++ units) ≡ units
-behind_quotes width units =
+after_quotes : (width : ℕ) (units : List ℕ) → drop width (quotes width ++ units) ≡ units
+after_quotes width units =
     ap (λ k. drop k (quotes width ++ units)) (sym (quotes_length width)) ∙ drop-append_seam (quotes width) units
 
 between_quotes : (width : ℕ) (units : List ℕ) → 0 < width
@@ -71,7 +71,7 @@ pub unquoted_text : (width : ℕ) (cs : List ℕ) (b n : ℕ) (t : List ℕ) →
     → t ≡ drop width (take (n - width) cs)
     → t ≡ between (quotes width) (take n cs)
 unquoted_text width cs b n t e h =
-    h ∙ (ap (drop width) (before_last width n cs e.units e.within e.whole) ∙ (behind_quotes width e.units
+    h ∙ (ap (drop width) (before_last width n cs e.units e.within e.whole) ∙ (after_quotes width e.units
     ∙ (sym (between_quotes width e.units e.some) ∙ ap (between (quotes width)) (sym e.whole))))
 
 pub first_quotes : (width : ℕ) (cs : List ℕ) (b n : ℕ) (t : List ℕ) → EndsQuoted width cs b n → t ≡ take (n - width) cs

@@ -14,8 +14,8 @@ use Rattle.graphql_lexical.specs.device.Whole.{Admits, IsToken, between, text_of
 use Rattle.graphql_lexical.specs.Tokens as grammar
 use Rattle.graphql_lexical.specs.device.Indexed.{ReadsAt}
 use Rattle.graphql_lexical.specs.Cutting.{Lexeme}
-use Rattle.graphql_lexical.specs.device.Scan.{found, gap_size}
-use Rattle.graphql_lexical.proofs.Public.{stands_to_text, finds_what_reads, gap_longest, place_index, spells_token, read_end, read_token}
+use Rattle.graphql_lexical.specs.device.Scan.{found, ignored_size}
+use Rattle.graphql_lexical.proofs.Public.{stands_to_text, finds_what_reads, ignored_is_longest, place_index, spells_token, read_end, read_token}
 use Rattle.juniper_tokens.specs.declared.span.Spanning.{Spanning}
 use Rattle.juniper_tokens.specs.declared.token.Token.{Token}
 use Rattle.juniper_tokens.specs.declared.token_range.TokenRange.{TokenRange}
@@ -28,9 +28,9 @@ use Rattle.juniper_tokens.specs.device.Offsets.{EndsQuoted, quotes}
 use Rattle.juniper_tokens.specs.Positions.{columns_on}
 use Rattle.juniper_tokens.specs.device.Scans.{Finds}
 use Rattle.juniper_tokens.specs.Lexing.{PassesToken, LexerState, GivesItem, GivesToken}
-use Rattle.juniper_tokens.specs.device.LexingByScan.{past_gap, IsPlaced}
+use Rattle.juniper_tokens.specs.device.LexingByScan.{past_ignored, IsPlaced}
 use Rattle.juniper_tokens.specs.device.Ranges.{range_of, range_slice, range_lexeme, IsRange, TakesRange, TakesItem, MayTake, GivesRange, GivesRangeItem, range_steps}
-use Rattle.juniper_tokens.proofs.Offsets.{byte_at_within, byte_at_on, bytes_between, room_from}
+use Rattle.juniper_tokens.proofs.Offsets.{byte_at_within, byte_at_on, bytes_between, fits_from}
 use Rattle.juniper_tokens.proofs.LexingByScan.{same_end, fault_by_scan, memory_by_scan}
 use Rattle.juniper_tokens.proofs.Places.{place_on, line_end}
 
@@ -53,10 +53,10 @@ range_width source rest r h e =
     width ∙ ap (byte_at (r.end.characters - r.start.characters)) (sym e)
 
 -- what is left from its start on is no longer than the source
-pub range_room : (source rest : List ℕ) (r : TokenRange) → IsRange (chars source) r → r.start.bytes + length rest ≡ length source
+pub range_fits : (source rest : List ℕ) (r : TokenRange) → IsRange (chars source) r → r.start.bytes + length rest ≡ length source
     → length source < 2 ^ 64
     → r.start.characters + length rest < 2 ^ 64
-range_room source rest r h e l = room_from source rest r.start.characters r.start.bytes h.start
+range_fits source rest r h e l = fits_from source rest r.start.characters r.start.bytes h.start
     (omega (arith, h.forward, h.within)) e l
 
 -- the place of its start
@@ -65,7 +65,7 @@ pub start_index : (source : List ℕ) (r : TokenRange) (p : Place) → IsRange s
 start_index source r p h e = ap (λ (x : Place). x.index) e
     ∙ place_index source r.start.characters (omega (arith, h.forward, h.within))
 
--- the place behind it
+-- the place after it
 pub range_end : (source rest : List ℕ) (r : TokenRange) (p : Place) → IsRange source r → p ≡ place source r.start.characters
     → rest ≡ drop r.start.characters source
     → fold past_character p (take (r.end.characters - r.start.characters) rest) ≡ place source r.end.characters
@@ -81,11 +81,11 @@ pub ends_on_line : (source : List ℕ) (r : TokenRange) (p : Place) → IsRange 
 ends_on_line source r p h at e =
     ap (columns_on (r.end.characters - r.start.characters)) at ∙ h.lined (λ b. absurd (cc (e, ap (λ (k : Kind). same_kind k kinds.BlockString) b)))
 
--- where a lexer stands behind it
-pub placed_behind : (source : List ℕ) (at : ℕ) (p q : Place) (r : TokenRange) → IsPlaced source at p
+-- where a lexer stands after it
+pub placed_after : (source : List ℕ) (at : ℕ) (p q : Place) (r : TokenRange) → IsPlaced source at p
     → IsRange (chars source) r
     → q ≡ place (chars source) r.end.characters → (q.index ≡ r.end.characters) × IsPlaced source r.end.bytes q
-placed_behind source at p q r h i e =
+placed_after source at p q r h i e =
     let index : q.index ≡ r.end.characters = ap (λ (x : Place). x.index) e
     ∙ place_index (chars source) r.end.characters i.within in (
       index,
@@ -93,7 +93,7 @@ placed_behind source at p q r h i e =
         byte_is = i.end ∙ ap (λ k. byte_at k (chars source)) (sym index);
         place_is = e ∙ ap (place (chars source)) (sym index);
         within = omega (arith, index, i.within);
-        room = h.room;
+        fits = h.fits;
       },
     )
 
@@ -147,18 +147,18 @@ found_range source at p f h s =
     }
 
 -- its end is within the source
-pub found_room : (source : List ℕ) (at : ℕ) (p : Place) (f : Found) → IsUtf8 source → IsPlaced source at p
+pub found_fits : (source : List ℕ) (at : ℕ) (p : Place) (f : Found) → IsUtf8 source → IsPlaced source at p
     → Finds (drop p.index (chars source)) f
     → (at + f.end.bytes < 2 ^ 64) × (p.index + f.end.characters < 2 ^ 64)
-found_room source at p f u h s =
+found_fits source at p f u h s =
     let range = found_range source at p f h s in
     let few : length (chars source) ≤ length source = omega (
       arith,
       length-le-encodes (chars source),
       ap length (encodes-chars source u),
     ) in (
-      omega (arith, byte_at_within (p.index + f.end.characters) (at + f.end.bytes) source u range.end, h.room),
-      omega (arith, few, range.within, h.room),
+      omega (arith, byte_at_within (p.index + f.end.characters) (at + f.end.bytes) source u range.end, h.fits),
+      omega (arith, few, range.within, h.fits),
     )
 
 -- what a lexer takes that stands at such a token
@@ -174,7 +174,7 @@ found_taken source at p q f ended was h s e n =
     record {
       scanned = s.0 ∙ ap (λ k. found k f.kind rest) size;
       from = refl;
-      to = (placed_behind source at p q (range_of f at p) h range e).0;
+      to = (placed_after source at p q (range_of f at p) h range e).0;
       is_range = range;
       ends = n;
     }
@@ -203,9 +203,10 @@ read_text (c ∷ cs) n kind text r =
 
 -- ---- in the words of the definitions
 
-pub range_given : (s : LexerState) (r : TokenRange) (t : LexerState) → TakesRange (past_gap s) r t → GivesRange s r t
+pub range_given : (s : LexerState) (r : TokenRange) (t : LexerState) → TakesRange (past_ignored s) r t
+    → GivesRange s r t
 range_given s r t h =
-    let j = (past_gap s).index in
+    let j = (past_ignored s).index in
     let rest = drop j s.source in
     let n = r.end.characters - j in
     let kind = r.kind in
@@ -217,9 +218,9 @@ range_given s r t h =
     let forward : j ≤ r.end.characters = omega (arith, h.from, h.is_range.forward) in
     record {
       stands = stands_to_text s.source s.index (range_lexeme s.source r) t.index (record {
-        gap = gap_size (drop s.index s.source);
+        ignored = ignored_size (drop s.index s.source);
         size = n;
-        gap_is = gap_longest (drop s.index s.source);
+        ignored_is = ignored_is_longest (drop s.index s.source);
         reads = subst (ReadsAt rest n kind) text reads;
         start = ap (place s.source) h.from;
         end = ap (place s.source) (sym h.to);
@@ -231,14 +232,15 @@ range_given s r t h =
       ends = (λ x. (same_end kind).0 (sym h.ends ∙ x), λ x. h.ends ∙ (same_end kind).1 x);
     }
 
-pub item_given : (s : LexerState) (item : Result TokenRange LexFailure) (t : LexerState) → TakesItem (past_gap s) item t
+pub item_given : (s : LexerState) (item : Result TokenRange LexFailure) (t : LexerState)
+    → TakesItem (past_ignored s) item t
     → GivesRangeItem s item t
 item_given s (Ok range) t h = range_given s range t h
 item_given s (Err (failures.Fault fault)) t h = fault_by_scan s fault t h
 item_given s (Err failures.Memory) t h = memory_by_scan s t h.0 h.1
 
 pub token_given : (s : LexerState) (r : TokenRange) (token : Spanning Token) (t : LexerState)
-    → TakesRange (past_gap s) r t
+    → TakesRange (past_ignored s) r t
     → view_token token ≡ range_lexeme s.source r → GivesToken s token t
 token_given s r token t h e =
     let g = range_given s r t h in
@@ -255,7 +257,7 @@ failure_given s failures.Memory t h = h
 -- a failure is passed on
 pub failure_passed : (s : LexerState) (item : Result (Spanning Token) LexFailure) (failure : LexFailure)
     (t : LexerState)
-    → IsErrAnd item (λ x. x ≡ failure) → TakesItem (past_gap s) (Err failure) t → GivesItem s item t
+    → IsErrAnd item (λ x. x ≡ failure) → TakesItem (past_ignored s) (Err failure) t → GivesItem s item t
 failure_passed s (Ok token) failure t e h = absurd e
 failure_passed s (Err x) failure t e h =
     subst (λ f. GivesItem s (Err f) t) (sym e) (failure_given s failure t (item_given s (Err failure) t h))

@@ -6,7 +6,7 @@ use Rattle.graphql_lexical.specs.Characters.{is_digit}
 use Rattle.graphql_lexical.specs.declared.kind.Kind.TheVariants.{Int}
 use Rattle.graphql_lexical.specs.Kinds.{UnexpectedCharacter}
 use Rattle.graphql_lexical.specs.device.Scan.{found, missed, after_zero}
-use Rattle.juniper_tokens.proofs.EscapeFaults.{stands_behind}
+use Rattle.juniper_tokens.proofs.EscapeFaults.{stands_after}
 use Rattle.juniper_tokens.proofs.Runs.{FirstByte, low, high, first_byte}
 
 none_of : (cs : List ℕ) → length cs ≤ 0 → cs ≡ []
@@ -18,11 +18,11 @@ some_of [] l = absurd (omega (arith, l))
 some_of (c ∷ cs) l = refl
 
 pub nothing_stands : (rest : List ℕ) → IsUtf8 rest → (length rest == 0) ≡ true → chars rest ≡ []
-nothing_stands rest u e = none_of (chars rest) (stands_behind 0 (chars rest) rest true u refl e)
+nothing_stands rest u e = none_of (chars rest) (stands_after 0 (chars rest) rest true u refl e)
 
 pub something_stands : (rest : List ℕ) → IsUtf8 rest → (length rest == 0) ≡ false
     → chars rest ≡ get_or (chars rest) 0 0 ∷ drop 1 (chars rest)
-something_stands rest u e = some_of (chars rest) (stands_behind 0 (chars rest) rest false u refl e)
+something_stands rest u e = some_of (chars rest) (stands_after 0 (chars rest) rest false u refl e)
 
 -- ---- after a zero, by the first byte
 

@@ -19,7 +19,7 @@ use Rattle.juniper_tokens.specs.Lexing.{LexerState, passed, ahead, PassesToken, 
 use Rattle.juniper_tokens.specs.Gathering.{BreaksOff}
 use Rattle.juniper_tokens.specs.Counting.{HasFew, HasMore, IfFaultWithin, IfCounted}
 use Rattle.juniper_tokens.specs.device.Ranges.{range_lexeme, range_lexemes, range_steps}
-use Rattle.juniper_tokens.proofs.Counting.{few_here, few_behind}
+use Rattle.juniper_tokens.proofs.Counting.{few_here, has_few_after}
 use Rattle.juniper_tokens.proofs.Gathering.{GatheredRanges, gathered_open, breaks_passed, at_index}
 
 -- the tokens of a cut before the end are one fewer
@@ -30,7 +30,7 @@ cut_few most before left _ (cutting.last {done = done} {after = after} {x = x} s
 cut_few zero before left _ (cutting.token s n (cutting.last t e)) l = absurd (omega (arith, l))
 cut_few zero before left _ (cutting.token s n (cutting.token t m c)) l = absurd (omega (arith, l))
 cut_few (suc most) before left _ (cutting.token {done = done} {after = after} {x = x} {xs = xs} s n c) l =
-    few_behind before left x done after s n most (cut_few most done after xs c (omega (arith, l)))
+    has_few_after before left x done after s n most (cut_few most done after xs c (omega (arith, l)))
 
 -- a span that was made from places is that of the range over which the lexer went
 pub span_of : (u : LexerState) (r : TokenRange) (l : LexerState) (span : spans.Span) → l ≡ u → {s : LexerState}
@@ -49,9 +49,10 @@ module _ (s : LexerState) (ranges : List TokenRange) (t u : LexerState) (gathere
 
   module _ (failure : LexFailure) (step : range_steps t (Some (Err failure)) u) {X : Type 0}
       (result : Result X LimitedLexFailure) (is : IsErrAnd result (λ x. x ≡ limited.Lex failure)) where
-    told : (r : Result X LimitedLexFailure) → IsErrAnd r (λ x. x ≡ limited.Lex failure) → r ≡ Err (limited.Lex failure)
-    told (Ok x) e = absurd e
-    told (Err x) e = ap Err e
+    is_error : (r : Result X LimitedLexFailure) → IsErrAnd r (λ x. x ≡ limited.Lex failure)
+        → r ≡ Err (limited.Lex failure)
+    is_error (Ok x) e = absurd e
+    is_error (Err x) e = ap Err e
 
     broken : (f : LexFailure) → range_steps t (Some (Err f)) u
         → IfFaultWithin {X = X} (Err (limited.Lex f)) (λ fault. BreaksOff s (view_lexer_error fault.item) fault.span.start)
@@ -62,7 +63,7 @@ module _ (s : LexerState) (ranges : List TokenRange) (t u : LexerState) (gathere
     pub breaks_within : IfFaultWithin result (λ fault. BreaksOff s (view_lexer_error fault.item) fault.span.start)
     breaks_within =
         subst (λ (r : Result X LimitedLexFailure). IfFaultWithin r
-        (λ fault. BreaksOff s (view_lexer_error fault.item) fault.span.start)) (sym (told result is))
+        (λ fault. BreaksOff s (view_lexer_error fault.item) fault.span.start)) (sym (is_error result is))
         (broken failure step)
 
     module _ (most : ℕ) (few : length ranges ≤ most) where
@@ -83,7 +84,7 @@ module _ (s : LexerState) (ranges : List TokenRange) (t u : LexerState) (gathere
 
       pub counted_before : IfCounted result (Few most)
       counted_before =
-          subst (λ (r : Result X LimitedLexFailure). IfCounted r (Few most)) (sym (told result is)) (counted failure step)
+          subst (λ (r : Result X LimitedLexFailure). IfCounted r (Few most)) (sym (is_error result is)) (counted failure step)
 
   module _ (r : TokenRange) (step : range_steps t (Some (Ok r)) u) (most : ℕ) (full : length ranges ≡ most)
       (going : u.ended ≡ false) where

@@ -58,7 +58,7 @@ token_step q p n b e g = rw (e, g) refl
 pub token_none : (q : State) (n b : ℕ) → is_inner b ≡ false → step q b ≡ None → token_machine (q, n) b ≡ None
 token_none q n b e g = rw (e, g) refl
 
--- a step, and a run behind it
+-- a step, and a run after it
 pub walked_next : (bytes tail : List ℕ) (i n : ℕ) (q p : State) (b : Offset) → i < length bytes
     → is_inner (get_or bytes i 0) ≡ false → step q (get_or bytes i 0) ≡ Some p
     → tail ≡ take (length bytes - (i + 1)) (drop (i + 1) bytes) → StaysOver p tail b → b.bytes ≤ length tail
@@ -95,7 +95,7 @@ token_reached text bytes i n q u same h =
     none_plus : (k : ℕ) → 0 + k ≡ k
     none_plus k = omega arith
 
--- the first byte of what stands behind an integer part
+-- the first byte of what stands after an integer part
 pub in_float : (text bytes : List ℕ) → IsUtf8 text → bytes ≡ text → 0 < length bytes
     → is_some (step Zero (get_or bytes 0 0)) ≡ is_in_float (chars text)
 in_float text bytes u same l =

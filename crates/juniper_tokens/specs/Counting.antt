@@ -12,7 +12,7 @@ use Rattle.juniper_tokens.specs.declared.error.LimitedLexFailure.TheVariants as 
 use Rattle.juniper_tokens.specs.declared.span.Span as spans
 use Rattle.juniper_tokens.specs.declared.span.Spanning.{Spanning}
 
--- After a gap the text that is left after `before` ends, or a rest begins there with a lexical error.
+-- After ignored tokens the text that is left after `before` ends, or a rest begins there with a lexical error.
 abbrev pub EndsAfter : Text → Text → Type 0
 EndsAfter before left =
     ((token : Lexeme) × (done after : Text) × Stands before left token done after × (token.kind ≡ EndOfFile))

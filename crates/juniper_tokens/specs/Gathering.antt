@@ -21,12 +21,12 @@ IfMemory (Ok x) P Q = Q
 IfMemory (Err (failure.Fault fault)) P Q = Q
 IfMemory (Err failure.Memory) P Q = P
 
--- What a lexer has left is gaps and these tokens in turn, the last one and no other the end.
+-- What a lexer has left is these tokens, each after ignored tokens, the last one and no other the end.
 abbrev pub HasLeft : LexerState → List Lexeme → Type 0
 HasLeft s tokens = CutAfter (passed s.source s.index) (ahead s.source s.index) tokens
 
--- What a lexer has left is gaps and tokens in turn, none of them the end, and then a gap and a rest with this lexical
--- error at this position.
+-- What a lexer has left is tokens, each after ignored tokens, none of them the end, and then ignored tokens and a rest
+-- with this lexical error at this position.
 abbrev pub BreaksOff : LexerState → LexicalError → Place → Type 0
 BreaksOff s error at = BreaksAfter (passed s.source s.index) (ahead s.source s.index) error at
 

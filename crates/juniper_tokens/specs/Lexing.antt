@@ -35,7 +35,7 @@ abbrev pub PassesToken : LexerState → Lexeme → ℕ → Type 0
 PassesToken s x next =
     Stands (passed s.source s.index) (ahead s.source s.index) x (passed s.source next) (ahead s.source next)
 
--- Where the lexer stood a gap comes next, and then a rest with this lexical error at this position.
+-- Where the lexer stood ignored tokens come next, and then a rest with this lexical error at this position.
 abbrev pub MeetsError : LexerState → LexicalError → Place → Type 0
 MeetsError s error at = BreaksThere (passed s.source s.index) (ahead s.source s.index) error at
 

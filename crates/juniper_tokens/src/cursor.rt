@@ -1,4 +1,4 @@
-//! The cursor that the parse functions call: it makes a token's text and places only where they are asked for.
+//! The cursor that the parse functions call: it makes a token's text and positions on request.
 ghost use Rattle.std.specs.Prelude.{◌≡◌, ◌<◌, drop, get_or, false, true, length, IfOk, IsTrue, Ok, OnOk};
 ghost use Rattle.std.specs.Global.{Global as Allocator};
 ghost use Rattle.std.specs.Str.{chars};
@@ -27,8 +27,8 @@ use std::marker::Model;
 
 /// A cursor over the tokens that a `Parser` has left, which it borrows.
 ///
-/// It has no current token: where a token stands and which text it has is found where it is asked for. The last token,
-/// and no other, is the end, which is never taken. `Parser::take_until` makes the parser follow.
+/// Holds no current token: a token's span and text are found on request. The last token, and no other, is the end,
+/// which is never taken. `Parser::take_until` makes the parser follow.
 #[derive(Drop)]
 pub struct Cursor<'p, 'a> {
     alloc: Global,
@@ -107,15 +107,15 @@ impl<'p, 'a> Cursor<'p, 'a> {
         self.ranges[self.taken].kind
     }
 
-    /// The text of the next token: of a String and of a block string what stands between its quotes, as it is written.
-    /// Where the kind leaves no text open it is not said which text is returned.
+    /// The text of the next token: for a String or block string what is between its quotes, as it is written. For
+    /// punctuators and the end, the text is unspecified.
     pub fn text(&self) -> &'a str
         ensures { IsTrue (has_text (kind_at (left self.now))) → chars result.now ≡ (first_of (left self.now)).text }
     {
         self.ranges[self.taken].text(self.source)
     }
 
-    /// Where the next token begins. What begins with it has its span by `span_from`.
+    /// The position at which the next token begins, for a later `span_from`.
     ///
     /// ```
     /// let start = cursor.mark();
@@ -133,7 +133,7 @@ impl<'p, 'a> Cursor<'p, 'a> {
         )
     }
 
-    /// From a place to the end of the token that was taken last.
+    /// The span from a position to the end of the token that was taken last.
     #[inline(always)]
     pub fn span_from(&self, start: SourcePosition) -> Span
         requires { 0 < self.now.taken }
@@ -147,7 +147,7 @@ impl<'p, 'a> Cursor<'p, 'a> {
         }
     }
 
-    /// Where the next token stands.
+    /// The next token's span.
     #[inline(always)]
     pub fn span(&self) -> Span
         ensures { view_span result ≡ (first_of (left self.now)).span }
@@ -155,7 +155,7 @@ impl<'p, 'a> Cursor<'p, 'a> {
         self.ranges[self.taken].span(self.source, self.starts, self.lines.line)
     }
 
-    /// The next token, with its place.
+    /// The next token, with its span.
     pub fn token(&self) -> Spanning<Token<'a>>
         ensures { view_token result ≡ first_of (left self.now) }
     {
@@ -178,7 +178,7 @@ impl<'p, 'a> Cursor<'p, 'a> {
         self.lines.follow(self.starts, index);
     }
 
-    /// The error at the end, where nothing is taken.
+    /// The error at the end. Nothing is taken.
     #[cold]
     pub(crate) fn refuse_end<T: Drop>(&self) -> Result<T, ParseFailure>
         requires { same_kind (kind_at (left self.now)) EndOfFile ≡ true }
@@ -187,7 +187,7 @@ impl<'p, 'a> Cursor<'p, 'a> {
         Err(ParseFailure::Refused(Spanning::new(self.span(), ParseError::UnexpectedEndOfFile)))
     }
 
-    /// Takes the next token. At the end it returns `UnexpectedEndOfFile`, and nothing is taken. It takes no memory.
+    /// Takes the next token. At the end returns `UnexpectedEndOfFile`, and nothing is taken. Takes no memory.
     #[tactic(auto, using(crate::proofs::Taking::stays))]
     pub fn next_token(&mut self) -> ParseResult<Token<'a>>
         ensures gives { Gives view_token result (left self.new) (next_at (left self.old)) }
@@ -203,8 +203,8 @@ impl<'p, 'a> Cursor<'p, 'a> {
         Ok(token)
     }
 
-    /// Takes the next token, and returns the error that it is unexpected. At the end it returns `UnexpectedEndOfFile`, and
-    /// nothing is taken. Where there is no memory for the text of the error, nothing changes.
+    /// Takes the next token, and returns the error that it is unexpected. At the end returns `UnexpectedEndOfFile`, and
+    /// nothing is taken. If there is no memory for the error's text, nothing changes.
     #[inline(always)]
     pub fn refuse<T: Drop>(&mut self) -> Result<T, ParseFailure>
         ensures gives { Gives (λ x. x) result (left self.new) (refused_at (left self.old)) }
@@ -215,7 +215,7 @@ impl<'p, 'a> Cursor<'p, 'a> {
         Err(self.refusal())
     }
 
-    // The error of `refuse`. It is made out of line, and the room for it where that is called.
+    // The error of `refuse`. It is made out of line; its caller makes the place on the stack that it is written to.
     #[tactic(auto, using(crate::proofs::Taking::stays))]
     #[cold]
     fn refusal(&mut self) -> ParseFailure
@@ -237,8 +237,8 @@ impl<'p, 'a> Cursor<'p, 'a> {
         }
     }
 
-    /// Takes the next token if it is a Name, and returns its text and its span, else returns an error. The errors are
-    /// those of `refuse`.
+    /// Takes the next token if it is a Name, and returns its text and its span. Otherwise returns the error of
+    /// `refuse`.
     #[inline(always)]
     pub fn expect_name(&mut self) -> ParseResult<&'a str>
         ensures gives { Gives view_name result (left self.new) (expect_name_at (left self.old)) }

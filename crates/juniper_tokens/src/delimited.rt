@@ -14,9 +14,9 @@ use crate::token::Token;
 impl<'a> Parser<'a> {
     /// Parses the items between an opening and a closing token, each by a call of `f`. There may be none.
     ///
-    /// The span runs from the opening to the closing token. The first refusal of a token or of an item is returned, and
-    /// the cursor then stands where it left it. Where memory ran out, a suffix of the tokens is left; where the list
-    /// can't grow, the item was taken.
+    /// The span runs from the opening to the closing token. The first error of a token or of an item is returned; the
+    /// parser is then where that error left it. If memory runs out, a suffix of the tokens is left; if the list can't
+    /// grow, the item has been taken.
     pub fn delimited_list<
         T: Drop,
         R: Drop + From<ParseFailure>,
@@ -45,7 +45,7 @@ impl<'a> Parser<'a> {
 
     /// Parses one or more items between an opening and a closing token, each by a call of `f`.
     ///
-    /// The span, the refusals and what stands where memory ran out are those of `delimited_list`.
+    /// Span, errors and the state after them are as for `delimited_list`.
     pub fn delimited_nonempty_list<
         T: Drop,
         R: Drop + From<ParseFailure>,
@@ -65,10 +65,10 @@ impl<'a> Parser<'a> {
         self.unlocated_delimited_nonempty_list(opening, f, closing)
     }
 
-    /// Parses one or more items without places of their own between an opening and a closing token, each by a call of
+    /// Parses one or more items without spans of their own between an opening and a closing token, each by a call of
     /// `f`.
     ///
-    /// The span, the refusals and what stands where memory ran out are those of `delimited_list`.
+    /// Span, errors and the state after them are as for `delimited_list`.
     pub fn unlocated_delimited_nonempty_list<
         T: Drop,
         R: Drop + From<ParseFailure>,

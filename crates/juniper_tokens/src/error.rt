@@ -8,7 +8,7 @@ use crate::token::Token;
 use std::alloc::{AllocError, AllocFailed, Global};
 use std::fmt;
 
-/// A lexical error: why a text is no token.
+/// A lexical error: why a text isn't a token.
 #[derive(Debug, Drop, PartialEq, Eq)]
 pub enum LexerError {
     /// The character begins no token.
@@ -17,9 +17,9 @@ pub enum LexerError {
     UnexpectedCharacter(char),
     /// The source or the line ends within a string.
     UnterminatedString,
-    /// The character may not stand in a string.
+    /// The character may not be in a string.
     UnknownCharacterInString(char),
-    /// This text, which begins with a backslash, is no escape.
+    /// This text, which begins with a backslash, isn't an escape.
     UnknownEscapeSequence(String),
     /// The source ends within a token.
     UnexpectedEndOfFile,
@@ -72,18 +72,18 @@ impl Eq for ParseError {
 /// Why a lexer returned no token.
 #[derive(Debug, Drop)]
 pub enum LexFailure {
-    /// A lexical error: the text is no token. Its span is empty.
+    /// A lexical error: the text isn't a token. Its span is empty.
     Fault(Spanning<LexerError>),
     /// Memory ran out.
     Memory,
 }
 
-/// Why a source has no list of so many tokens.
+/// Why a source's tokens can't be listed within a limit.
 #[derive(Debug, Drop)]
 pub enum LimitedLexFailure {
     /// The lexer's failure.
     Lex(LexFailure),
-    /// The span of the first token that is one too many.
+    /// The span of the first token past the limit.
     TooMany(Span),
 }
 
@@ -106,13 +106,13 @@ pub enum ParseFailure {
     Memory,
 }
 
-/// An item with its place, or why there is none.
+/// An item with its span, or why there is none.
 pub type ParseResult<T> = Result<Spanning<T>, ParseFailure>;
 
-/// An item without a place, or why there is none.
+/// An item without a span, or why there is none.
 pub type UnlocatedParseResult<T> = Result<T, ParseFailure>;
 
-/// An item with its place, or None where it is absent, or why the text is refused.
+/// An item with its span, or None if it is absent, or why the text is refused.
 pub type OptionParseResult<T> = Result<Option<Spanning<T>>, ParseFailure>;
 
 impl From<AllocError> for ParseFailure {
@@ -135,7 +135,7 @@ impl<T: Drop> From<AllocFailed<T>> for ParseFailure {
     }
 }
 
-/// A lexical error becomes a refusal at the same place. `Memory` stays `Memory`.
+/// A lexical error becomes a refusal with the same span. `Memory` stays `Memory`.
 impl From<LexFailure> for ParseFailure {
     ghost use Rattle.juniper_tokens.specs.Errors.{failure_of};
 
@@ -196,7 +196,7 @@ impl ParseError {
 
     /// The error `UnexpectedToken` with the token's display.
     ///
-    /// Returns `AllocError` where memory ran out.
+    /// Returns `AllocError` if memory runs out.
     pub fn unexpected_token(alloc: Global, token: Token<'_>) -> Result<Self, AllocError>
         ensures { IfOk result (λ e. view_error e ≡ UnexpectedToken (shown_token token.entry)) }
     {

@@ -5,7 +5,7 @@ ghost use Rattle.std.specs.Str.{chars};
 ghost use Rattle.graphql_lexical.specs.Place.{place};
 ghost use Rattle.juniper_tokens.specs.Lexing.{LexerState, started, GivesItem};
 ghost use Rattle.juniper_tokens.specs.LineTables.{lines_of};
-ghost use Rattle.juniper_tokens.specs.device.LexingByScan.{past_gap};
+ghost use Rattle.juniper_tokens.specs.device.LexingByScan.{past_ignored};
 ghost use Rattle.juniper_tokens.specs.device.LineSteps.{CountsLines, HasLines};
 ghost use Rattle.juniper_tokens.specs.device.Ranges.{TakesRange, TakesItem, TakesPlain, MayTake, IsRange, range_lexeme};
 ghost use Rattle.juniper_tokens.specs.device.Scans.{Finds, IsPlain};
@@ -25,7 +25,7 @@ use crate::error::LexFailure;
 use crate::lexer::plain::plain_token;
 use crate::lexer::scan::{Missed, scan_token};
 use crate::lexer::text::{Offset, text_from};
-use crate::lexer::walk::walk_gap;
+use crate::lexer::walk::walk_ignored;
 use crate::line_table::{LineStarts, LineTable};
 use crate::position::SourcePosition;
 use crate::span::{Span, Spanning};
@@ -38,14 +38,14 @@ use std::marker::Model;
 use walk::walk_characters;
 pub(crate) use walk::walk_text;
 
-/// A token with its place, or why there is none.
+/// A token with its span, or why there is none.
 pub type LexerResult<'a> = Result<Spanning<Token<'a>>, LexFailure>;
 
 /// An iterator over the tokens of a source (GraphQL specification, October 2021, section 2.1).
 ///
-/// Ignored tokens are skipped: white space, line ends, commas and comments. Places count characters, not bytes. The
-/// last item is the token `EndOfFile`, the first lexical error, or the error that memory ran out; after it comes only
-/// None.
+/// Ignored tokens are skipped: white space, line ends, commas and comments. Positions count characters, not bytes. The
+/// last item is the token `EndOfFile`, the first lexical error, or the error that memory ran out; after it, `next`
+/// returns None.
 #[derive(Drop)]
 pub struct Lexer<'a> {
     alloc: Global,
@@ -71,7 +71,7 @@ impl<'a> Model for Lexer<'a> {
 }
 
 impl<'a> Lexer<'a> {
-    /// A lexer at the beginning of a source (GraphQL specification, October 2021, section 2.1). It takes no memory; the
+    /// A lexer at the beginning of a source (GraphQL specification, October 2021, section 2.1). Takes no memory: the
     /// allocator serves the texts of lexical errors alone.
     ///
     /// A lexer is an iterator: each call of `next` returns a token with its span or the source's first lexical error,
@@ -108,7 +108,7 @@ impl<'a> Lexer<'a> {
         self.source
     }
 
-    /// Whether the last item has been given.
+    /// Whether the last item has been returned.
     pub(crate) fn has_ended(&self) -> bool
         ensures { result ≡ self.now.ended }
     {
@@ -117,18 +117,18 @@ impl<'a> Lexer<'a> {
 
     // Skips ignored tokens, and returns the class of the byte after them.
     #[inline(always)]
-    fn skip_gap(&mut self) -> ByteClass
-        ensures passes { self.new ≡ past_gap self.old }
+    fn skip_ignored(&mut self) -> ByteClass
+        ensures passes { self.new ≡ past_ignored self.old }
         ensures class { result ≡ first_class (drop self.new.index self.new.source) }
     {
         let here = Offset {
             bytes: self.at,
             characters: self.position.index(),
         };
-        let gap = walk_gap(text_from(self.source, here), self.position);
-        self.at += gap.bytes;
-        self.position = gap.position;
-        gap.class
+        let ignored = walk_ignored(text_from(self.source, here), self.position);
+        self.at += ignored.bytes;
+        self.position = ignored.position;
+        ignored.class
     }
 
     // Takes the token that was found here.
@@ -162,7 +162,7 @@ impl<'a> Lexer<'a> {
         range
     }
 
-    /// Reads the beginnings of lines up to where the lexer stands.
+    /// Reads the beginnings of lines up to the lexer's position.
     #[inline(always)]
     pub(crate) fn count_lines(&self, lines: &mut LineStarts) -> Result<(), AllocError>
         requires counts { CountsLines self.now.source lines.old }
@@ -172,7 +172,7 @@ impl<'a> Lexer<'a> {
         lines.follow(self.source, self.at, self.position)
     }
 
-    /// The table of the source's lines, of which those up to where the lexer stands have been read.
+    /// The table of the source's lines, read up to the lexer's position.
     pub(crate) fn line_table(&self, lines: LineStarts) -> Result<LineTable, AllocError>
         requires { HasLines self.now.source lines self.now.index }
         ensures { IfOk result (λ table. table ≡ lines_of self.now.source) }
@@ -199,18 +199,18 @@ impl<'a> Lexer<'a> {
 
     /// Skips ignored tokens, and takes the token after them if it is a plain one.
     ///
-    /// Otherwise the lexer stands where a token may begin, which `next_other` takes.
+    /// Otherwise a token may begin at the lexer's position, and `next_other` takes it.
     #[inline(always)]
     pub(crate) fn next_plain(&mut self) -> Option<TokenRange>
         ensures source { self.new.source ≡ self.old.source }
         ensures takes { MayTake self.old result self.new }
         ensures ended { self.old.ended ≡ false → self.new.ended ≡ false }
     {
-        let class = self.skip_gap();
+        let class = self.skip_ignored();
         self.take_if_plain(class)
     }
 
-    // Takes the token that stands here, where a byte of this class does, if it is a plain one.
+    // Takes the token that begins here, with a byte of this class, if it is a plain one.
     #[inline(always)]
     fn take_if_plain(&mut self, class: ByteClass) -> Option<TokenRange>
         requires { class ≡ first_class (drop self.old.index self.old.source) }
@@ -226,7 +226,7 @@ impl<'a> Lexer<'a> {
         Some(self.take_plain(found))
     }
 
-    /// Takes what stands here, which may be the last item: a token, or why there is none.
+    /// Takes what is here, which may be the last item: a token, or why there is none.
     #[inline(always)]
     pub(crate) fn next_other(&mut self) -> Result<TokenRange, LexFailure>
         ensures source { self.new.source ≡ self.old.source }
@@ -242,7 +242,7 @@ impl<'a> Lexer<'a> {
     #[inline(always)]
     fn next_other_token(&mut self) -> LexerResult<'a>
         ensures source { self.new.source ≡ self.old.source }
-        ensures gives { (before : LexerState) → self.old ≡ past_gap before → GivesItem before result self.new }
+        ensures gives { (before : LexerState) → self.old ≡ past_ignored before → GivesItem before result self.new }
     {
         let mut lexer = self.duplicate();
         let item = lexer.scan_next_token();
@@ -254,7 +254,7 @@ impl<'a> Lexer<'a> {
     #[inline(never)]
     fn scan_next_token(&mut self) -> LexerResult<'a>
         ensures source { self.new.source ≡ self.old.source }
-        ensures gives { (before : LexerState) → self.old ≡ past_gap before → GivesItem before result self.new }
+        ensures gives { (before : LexerState) → self.old ≡ past_ignored before → GivesItem before result self.new }
     {
         let start = self.position;
         let range = self.scan_next()?;
@@ -286,8 +286,8 @@ impl<'a> Lexer<'a> {
         }
     }
 
-    /// The span from a character of what has been read to where the lexer stands. It takes no memory: the character's place
-    /// is walked to from the source's beginning.
+    /// The span from a character of what has been read to the lexer's position. Takes no memory: the character's
+    /// position is found by a walk from the source's beginning.
     #[cold]
     pub(crate) fn span_from(&self, index: usize) -> Span
         requires { index ≤ self.now.index }
@@ -327,14 +327,14 @@ impl<'a> Iterator for Lexer<'a> {
 
     ghost remaining = { λ s. at_most (items_left s) };
 
-    /// Returns the next token, with its place. A lexical error has an empty span, at the character where the text goes
-    /// wrong, or at the end. Memory is needed only for the text of an unknown escape.
+    /// Returns the next token with its span. A lexical error has an empty span, at the character that is wrong or at
+    /// the end. Memory is needed only for the text of an unknown escape.
     #[inline(always)]
     fn next(&mut self) -> Option<LexerResult<'a>> {
         if self.has_ended() {
             return None;
         }
-        let class = self.skip_gap();
+        let class = self.skip_ignored();
         let start = self.position;
         match self.take_if_plain(class) {
             Some(range) => Some(Ok(self.token(range, start))),

@@ -1,4 +1,4 @@
-//! A line of a source, and the line on which a character stands.
+//! A line of a source, and the line that a character is on.
 ghost use Rattle.std.specs.Prelude.{◌≡◌, ◌+◌, ◌<◌, ◌≤◌, List, ℕ, length};
 ghost use Rattle.graphql_lexical.specs.Place.{place};
 ghost use Rattle.juniper_tokens.specs.LineTables.{lines_of, StartLines, IsOnLine};
@@ -34,7 +34,7 @@ impl Line {
         }
     }
 
-    /// Goes on to the line of a character that does not stand before the end of this line: to the next one, or beyond by
+    /// Goes on to the line of a character that isn't before the end of this line: to the next one, or beyond by
     /// halving.
     #[inline(always)]
     pub(crate) fn follow(&mut self, starts: &[usize], index: usize)
@@ -64,8 +64,8 @@ impl Line {
     }
 }
 
-/// The line on which the next token begins, and an earlier line, or the same: the one on which a token began before that line
-/// was come to.
+/// The line on which the next token begins, and an earlier line, or the same: the one on which a token began before
+/// that line was reached.
 #[derive(Clone, Copy)]
 pub(crate) struct NearLines {
     pub(crate) line: Line,
@@ -73,7 +73,7 @@ pub(crate) struct NearLines {
 }
 
 impl NearLines {
-    /// Goes on to the line of a character that does not stand before this line.
+    /// Goes on to the line of a character that isn't before this line.
     #[inline(always)]
     pub(crate) fn follow(&mut self, starts: &[usize], index: usize)
         requires starts { StartLines starts.now }
@@ -91,8 +91,8 @@ impl NearLines {
         }
     }
 
-    /// The place after `index` characters of a source, before the end of this line and not before the earlier one: on one of
-    /// the two, or on a line between them, which is searched for.
+    /// The position after `index` characters of a source, before the end of this line and not before the earlier one:
+    /// on one of the two, or on a line between them, which is searched for.
     #[inline(always)]
     pub(crate) fn place_back(self, starts: &[usize], index: usize) -> SourcePosition
         requires starts { StartLines starts.now }
@@ -112,7 +112,7 @@ impl NearLines {
     }
 }
 
-/// The line on which a character stands, looked for from the line of this number on.
+/// The line that a character is on, looked for from the line of this number on.
 pub(crate) fn line_near(starts: &[usize], number: usize, index: usize) -> Line
     requires starts { StartLines starts.now }
     requires number { number < length starts.now }
@@ -129,7 +129,7 @@ pub(crate) fn line_near(starts: &[usize], number: usize, index: usize) -> Line
     line
 }
 
-/// The line on which a character stands, which is searched for by halving.
+/// The line that a character is on, found by binary search.
 pub(crate) fn line_of(starts: &[usize], index: usize) -> Line
     requires { StartLines starts.now }
     ensures line { IsLine starts.now result }
@@ -148,7 +148,8 @@ pub(crate) fn line_of(starts: &[usize], index: usize) -> Line
     Line::new(starts, low)
 }
 
-/// The place after `index` characters of a source, on this line. `starts` has the characters at which the source's lines begin.
+/// The position after `index` characters of a source, on this line. `starts` has the characters at which the source's
+/// lines begin.
 #[inline(always)]
 pub(crate) fn place_on(starts: &[usize], line: Line, index: usize) -> SourcePosition
     requires starts { StartLines starts.now }

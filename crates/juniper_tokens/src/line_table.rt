@@ -16,7 +16,7 @@ use crate::position::SourcePosition;
 use std::alloc::{AllocError, Global};
 use std::marker::Model;
 
-/// Where the lines of a source begin, as far as it has been read.
+/// The beginnings of a source's lines, as far as it has been read.
 #[derive(Drop)]
 pub(crate) struct LineStarts {
     // The index of the character at which each line begins.
@@ -26,11 +26,11 @@ pub(crate) struct LineStarts {
 }
 
 impl LineStarts {
-    /// The beginning of the first line, where no character of a text has been read.
+    /// The beginning of the first line, when no character of a text has been read.
     pub(crate) fn new(alloc: Global, text: &str) -> Result<Self, AllocError>
         ensures { IfOk result (λ lines. (source : List ℕ) → HasLines source lines 0) }
     {
-        let mut starts = room_for_lines(alloc, text);
+        let mut starts = capacity_for_lines(alloc, text);
         starts.push(0)?;
         Ok(LineStarts {
             starts,
@@ -38,7 +38,7 @@ impl LineStarts {
         })
     }
 
-    /// Reads on to a place of the source, before which `at` bytes stand.
+    /// Reads on to a position of the source, before which there are `at` bytes.
     #[inline(always)]
     pub(crate) fn follow(
         &mut self,
@@ -68,7 +68,7 @@ impl LineStarts {
         Ok(())
     }
 
-    // `follow`, where several lines begin.
+    // `follow`, if several lines begin.
     #[inline(never)]
     fn add(&mut self, source: &str, at: usize, place: SourcePosition) -> Result<(), AllocError>
         requires placed { IsPlaced source.now at place }
@@ -84,7 +84,7 @@ impl LineStarts {
         Ok(())
     }
 
-    /// The table of the source, which has been read up to this place, before which `at` bytes stand.
+    /// The table of the source, which has been read up to this position, before which there are `at` bytes.
     pub(crate) fn into_table(
         self,
         source: &str,
@@ -107,11 +107,11 @@ impl LineStarts {
 }
 
 // A list with capacity for a line every eight bytes of a text, if there is as much memory. Most texts have fewer.
-fn room_for_lines(alloc: Global, text: &str) -> Vec<usize>
+fn capacity_for_lines(alloc: Global, text: &str) -> Vec<usize>
     ensures { result.items ≡ [] }
 {
     match Vec::with_capacity(alloc, text.len() / 8 + 1) {
-        Ok(room) => room,
+        Ok(starts) => starts,
         Err(_) => Vec::new(alloc),
     }
 }
@@ -166,7 +166,7 @@ fn push_lines(starts: &mut Vec<usize>, text: &str, count: usize) -> Result<usize
     Ok(after)
 }
 
-/// A table of where the lines of a source begin. Positions are found by a binary search.
+/// A table of the characters at which a source's lines begin. Positions are found by binary search.
 #[derive(Drop)]
 pub struct LineTable {
     // The lines of the whole source.
@@ -186,7 +186,7 @@ impl Model for LineTable {
 impl LineTable {
     /// The table of a source. A line ends at a line feed alone.
     ///
-    /// Returns `AllocError` where memory ran out: the table takes eight bytes a line.
+    /// Returns `AllocError` if memory runs out: the table takes eight bytes a line.
     pub fn new(alloc: Global, source: &str) -> Result<Self, AllocError>
         ensures { IfOk result (λ table. table ≡ lines_of (chars source.now)) }
     {
@@ -195,7 +195,7 @@ impl LineTable {
         Ok(LineTable { lines })
     }
 
-    /// The place after `index` characters of the table's source, or None where it has fewer.
+    /// The position after `index` characters of the table's source, or None if it has fewer.
     pub fn position(&self, index: usize) -> Option<SourcePosition>
         ensures table { IsTable self.now }
         ensures place { (source : List ℕ) → self.now ≡ lines_of source → result ≡ place_within source index }
@@ -206,7 +206,7 @@ impl LineTable {
         Some(self.place(index))
     }
 
-    /// The place after `index` characters of a source that has as many.
+    /// The position after `index` characters of a source that has as many.
     pub(crate) fn place(&self, index: usize) -> SourcePosition
         ensures { (source : List ℕ) → self.now ≡ lines_of source → index ≤ length source → result ≡ place source index }
     {

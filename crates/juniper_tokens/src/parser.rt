@@ -26,7 +26,7 @@ use crate::error::{LexFailure, LimitedLexFailure, OptionParseResult, ParseFailur
 use crate::lexer::Lexer;
 use crate::line::{Line, line_near};
 use crate::line_table::{LineStarts, LineTable};
-use crate::nesting::{end_behind, first_deeper};
+use crate::nesting::{end_after, first_deeper};
 use crate::span::{Span, Spanning};
 use crate::text::same_text;
 use crate::token::Token;
@@ -37,7 +37,7 @@ use std::marker::Model;
 
 /// A cursor over the tokens of a source that are left. The last of them, and no other, is the end.
 ///
-/// The end is never taken: at the end each call that takes a token returns `UnexpectedEndOfFile` with the end's place.
+/// The end is never taken: at the end each call that takes a token returns `UnexpectedEndOfFile` with the end's span.
 #[derive(Drop)]
 pub struct Parser<'a> {
     alloc: Global,
@@ -65,11 +65,11 @@ impl<'a> Model for Parser<'a> {
 }
 
 impl<'a> Parser<'a> {
-    /// A cursor at the first of the tokens that a lexer has left, of which all are taken first.
+    /// A parser at the first of the tokens that a lexer has left, all of which are lexed at once.
     ///
-    /// So the lexer's first lexical error is returned, whatever tokens stand before it. `Memory` is returned where the
-    /// list of tokens or the table of lines could not grow, or the text of an error could not be made. Unless memory ran
-    /// out the lexer has ended. The cursor keeps the lexer's allocator.
+    /// So the lexer's first lexical error is returned, whatever tokens come before it. Returns `Memory` if the list of
+    /// tokens or the table of lines can't grow, or the text of an error can't be made. Unless memory ran out, the lexer
+    /// has ended. The parser keeps the lexer's allocator.
     ///
     /// ```
     /// let mut lexer = Lexer::new(alloc, "{ a }");
@@ -91,11 +91,11 @@ impl<'a> Parser<'a> {
         }
     }
 
-    /// A cursor at the first of the tokens that a lexer has left, which may be no more than `most`, the end not counted.
+    /// A parser at the first of the tokens that a lexer has left, at most `most` of them, the end not counted.
     /// `usize::MAX` is no limit.
     ///
-    /// The tokens are taken up to the first that is one too many, and `TooMany` is returned with its span if it stands before
-    /// the end and before the first lexical error. It takes no memory of its own. Otherwise the result is that of `new`.
+    /// Stops at the first token past the limit and returns `TooMany` with its span, if it comes before the end and
+    /// before the first lexical error. `TooMany` takes no memory. Otherwise the result is that of `new`.
     ///
     /// ```
     /// let mut lexer = Lexer::new(alloc, "{ a }");
@@ -117,7 +117,7 @@ impl<'a> Parser<'a> {
         let alloc = lexer.allocator();
         let source = lexer.source();
         let mut rest = lexer.duplicate();
-        let mut ranges = room_for_ranges(alloc, source, most);
+        let mut ranges = capacity_for_ranges(alloc, source, most);
         let gathered = gather(&mut rest, &mut ranges, most);
         *lexer = rest;
         let lines = gathered?;
@@ -157,8 +157,8 @@ impl<'a> Parser<'a> {
 
     /// Ends the tokens after the first one at which more than `depth` brackets are open, and returns its span.
     ///
-    /// A bracket is `(`, `[` or `{`. The end then stands where that token ends. If there is no such token, returns None
-    /// and changes nothing.
+    /// A bracket is `(`, `[` or `{`. The end is then where that token ends. If there is no such token, returns None and
+    /// changes nothing.
     pub fn end_at_nesting(&mut self, depth: usize) -> Option<Span>
         ensures { EndsAtNesting depth self.old result self.new }
     {
@@ -171,12 +171,12 @@ impl<'a> Parser<'a> {
             range.start.characters,
         );
         let span = range.span(self.source, starts, line);
-        end_behind(&mut self.ranges, last, range.end);
+        end_after(&mut self.ranges, last, range.end);
         Some(span)
     }
 
-    /// A cursor over the tokens that are left, which makes a token's text and places only where they are asked for. The
-    /// parser stays as it is, until `take_until` makes it follow.
+    /// A cursor over the tokens that are left. It makes a token's text and positions on request. The parser stays as it
+    /// is, until `take_until` makes it follow.
     pub fn cursor(&self) -> Cursor<'_, 'a>
         ensures { left result ≡ self.now }
     {
@@ -265,7 +265,7 @@ impl<'a> Parser<'a> {
         cursor.refuse_end()
     }
 
-    /// Takes the next token. At the end it returns `UnexpectedEndOfFile`, and nothing is taken. It takes no memory.
+    /// Takes the next token. At the end returns `UnexpectedEndOfFile`, and nothing is taken. Takes no memory.
     #[tactic(auto, using(crate::proofs::Rests::none_taken, crate::proofs::Rests::one_taken))]
     pub fn next_token(&mut self) -> ParseResult<Token<'a>>
         ensures gives { Gives view_token result self.new (next_at self.old) }
@@ -279,8 +279,8 @@ impl<'a> Parser<'a> {
         Ok(self.take())
     }
 
-    /// Takes the next token, and returns the error that it is unexpected. At the end it returns `UnexpectedEndOfFile`, and
-    /// nothing is taken. Where there is no memory for the text of the error, nothing changes.
+    /// Takes the next token, and returns the error that it is unexpected. At the end returns `UnexpectedEndOfFile`, and
+    /// nothing is taken. If there is no memory for the error's text, nothing changes.
     #[tactic(auto, using(crate::proofs::Rests::rest_is, crate::proofs::Taking::rest_of, crate::proofs::Taking::not_longer))]
     #[cold]
     pub fn refuse<T: Drop>(&mut self) -> Result<T, ParseFailure>
@@ -298,8 +298,8 @@ impl<'a> Parser<'a> {
 
     /// Takes the next token if it equals `wanted` in kind and text, else returns an error.
     ///
-    /// Another token is taken too, and reported as `UnexpectedToken`. At the end, whatever was wanted, it returns
-    /// `UnexpectedEndOfFile`, and nothing is taken. Where there is no memory for the text of an error, nothing changes.
+    /// Another token is taken too, and reported as `UnexpectedToken`. At the end, whatever was wanted, returns
+    /// `UnexpectedEndOfFile`, and nothing is taken. If there is no memory for the error's text, nothing changes.
     #[tactic(auto, unfolding(crate::specs::Cursor::expect_at))]
     pub fn expect(&mut self, wanted: &Token<'_>) -> ParseResult<Token<'a>>
         ensures gives { Gives view_token result self.new (expect_at wanted.now self.old) }
@@ -327,7 +327,7 @@ impl<'a> Parser<'a> {
 
     /// Takes the next token if it equals `wanted`, else returns None and takes nothing.
     ///
-    /// At the end, whatever was wanted, it returns `UnexpectedEndOfFile`, and nothing is taken. It takes no memory.
+    /// At the end, whatever was wanted, returns `UnexpectedEndOfFile`, and nothing is taken. Takes no memory.
     #[tactic(auto, using(crate::proofs::Rests::none_taken), unfolding(crate::specs::Cursor::skip_at))]
     pub fn skip(&mut self, wanted: &Token<'_>) -> OptionParseResult<Token<'a>>
         ensures gives { Gives (option_map view_token) result self.new (skip_at wanted.now self.old) }
@@ -344,8 +344,8 @@ impl<'a> Parser<'a> {
         Ok(None)
     }
 
-    /// Takes the next token if it is a Name, and returns its text, else returns an error. The errors, and what stands
-    /// after them and where memory ran out, are those of `expect`.
+    /// Takes the next token if it is a Name, and returns its text, else returns an error. Errors, and the state after
+    /// them, are as for `expect`.
     #[tactic(auto, using(crate::proofs::Rests::one_taken))]
     pub fn expect_name(&mut self) -> ParseResult<&'a str>
         ensures gives { Gives view_name result self.new (expect_name_at self.old) }
@@ -423,7 +423,7 @@ fn gather(
     }
 }
 
-// The beginnings of lines up to where a lexer stands.
+// The beginnings of lines up to a lexer's position.
 fn first_lines(lexer: &Lexer<'_>) -> Result<LineStarts, LexFailure>
     ensures lines { IfOk result (λ lines. HasLines lexer.now.source lines lexer.now.index) }
     ensures memory { IfErr result (λ e. e ≡ Memory) }
@@ -442,13 +442,13 @@ fn first_lines(lexer: &Lexer<'_>) -> Result<LineStarts, LexFailure>
 
 // A list with capacity for a token every four bytes of a source and some more, if there is as much memory. Few sources
 // have more tokens. It has no more than `most` tokens and the end need.
-fn room_for_ranges(alloc: Global, source: &str, most: usize) -> Vec<TokenRange>
+fn capacity_for_ranges(alloc: Global, source: &str, most: usize) -> Vec<TokenRange>
     ensures { result.items ≡ [] }
 {
     let wanted = source.len() / 4 + 16;
     let capacity = if most < wanted { most + 1 } else { wanted };
     match Vec::with_capacity(alloc, capacity) {
-        Ok(room) => room,
+        Ok(ranges) => ranges,
         Err(_) => Vec::new(alloc),
     }
 }

@@ -1,4 +1,4 @@
-//! Places in a source text.
+//! Positions in a source text.
 ghost use Rattle.std.specs.Prelude.{◌≡◌, ℕ, ◌+◌, ◌<◌, ◌≤◌, ◌^◌, Some};
 ghost use Rattle.graphql_lexical.specs.Place.{Place, origin, next_column, next_line};
 ghost use Rattle.juniper_tokens.specs.Positions.{columns_on, position_text};
@@ -6,7 +6,7 @@ ghost use Rattle.juniper_tokens.specs.Positions.{columns_on, position_text};
 use std::fmt;
 use std::marker::Model;
 
-/// A place in a source text, counted in characters and not in bytes.
+/// A position in a source text, counted in characters and not in bytes.
 ///
 /// A line ends at a line feed alone. All three numbers count from 0. The line plus the column is at most the index.
 #[derive(Clone, Copy, Debug, PartialEq, Eq, PartialOrd, Ord, Hash)]
@@ -27,7 +27,7 @@ impl Model for SourcePosition {
 }
 
 impl SourcePosition {
-    /// The place after `index` characters, at column `col` of line `line`.
+    /// The position after `index` characters, at column `col` of line `line`.
     pub fn new(index: usize, line: usize, col: usize) -> Self
         requires { line + col ≤ index }
         ensures { result ≡ record { index = index; line = line; column = col } }
@@ -35,7 +35,7 @@ impl SourcePosition {
         SourcePosition { index, line, col }
     }
 
-    /// The place where a source begins.
+    /// The position at which a source begins.
     pub fn new_origin() -> Self
         ensures { result ≡ origin }
     {
@@ -65,7 +65,7 @@ impl SourcePosition {
         self.col = 0;
     }
 
-    /// The place `count` characters further on the same line.
+    /// The position `count` characters further on the same line.
     pub(crate) fn columns_on(self, count: usize) -> Self
         requires { self.index + count < 2 ^ 64 }
         ensures { result ≡ columns_on count self }
@@ -77,21 +77,21 @@ impl SourcePosition {
         }
     }
 
-    /// The number of characters before this place.
+    /// The number of characters before this position.
     pub fn index(&self) -> usize
         ensures { result ≡ self.now.index }
     {
         self.index
     }
 
-    /// The number of line feeds before this place.
+    /// The number of line feeds before this position.
     pub fn line(&self) -> usize
         ensures { result ≡ self.now.line }
     {
         self.line
     }
 
-    /// The number of characters between the last line feed and this place.
+    /// The number of characters between the last line feed and this position.
     pub fn column(&self) -> usize
         ensures { result ≡ self.now.column }
     {

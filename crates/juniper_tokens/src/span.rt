@@ -1,4 +1,4 @@
-//! Items with the part of the source that they stand in.
+//! Items with the part of the source that they take up.
 ghost use Rattle.std.specs.Prelude.{◌≡◌, ◌+◌, ◌<◌, Some, None, MatchOption, IfSome, option_map};
 ghost use Rattle.graphql_lexical.specs.Place.{next_column};
 ghost use Rattle.juniper_tokens.specs.Spans.{origin_span, covering_span};
@@ -9,9 +9,9 @@ use std::fmt;
 /// The part of a source from `start` to `end`.
 #[derive(Clone, Copy, Debug, PartialEq, Eq, Hash)]
 pub struct Span {
-    /// The place before the first character.
+    /// The position before the first character.
     pub start: SourcePosition,
-    /// The place after the last character.
+    /// The position after the last character.
     pub end: SourcePosition,
 }
 
@@ -36,7 +36,7 @@ impl Span {
         Span { start: pos, end }
     }
 
-    /// An empty span at the beginning of a source, for what stands in no source.
+    /// An empty span at the beginning of a source, for what is in no source.
     pub fn unlocated() -> Self
         ensures { result ≡ origin_span }
     {
@@ -48,7 +48,7 @@ impl Span {
     }
 }
 
-/// An item and the part of the source that it stands in.
+/// An item and the part of the source that it takes up.
 #[derive(Clone, Copy, Debug, Drop, PartialEq, Eq, Hash)]
 pub struct Spanning<T> {
     pub item: T,
@@ -97,7 +97,7 @@ impl<T> Spanning<T> {
         }
     }
 
-    /// An item that stands in no source, with the span `Span::unlocated`.
+    /// An item that is in no source, with the span `Span::unlocated`.
     pub fn unlocated(item: T) -> Spanning<T>
         ensures { result ≡ record { item = item; span = origin_span } }
     {
@@ -124,14 +124,14 @@ impl<T> Spanning<T> {
         })
     }
 
-    /// Where the item starts.
+    /// The position at which the item starts.
     pub fn start(&self) -> SourcePosition
         ensures { result ≡ self.now.span.start }
     {
         self.span.start
     }
 
-    /// Where the item ends: the place after its last character.
+    /// The position at which the item ends: after its last character.
     pub fn end(&self) -> SourcePosition
         ensures { result ≡ self.now.span.end }
     {
@@ -150,7 +150,7 @@ impl<T> Spanning<T> {
         }
     }
 
-    /// Applies `f` to the item, and keeps the span. Returns None where `f` does.
+    /// Applies `f` to the item, and keeps the span. Returns None if `f` does.
     pub fn and_then<O, F: Fn(T) -> Option<O>>(self, f: F) -> Option<Spanning<O>>
         requires { F.pre f self.item }
         ensures { MatchOption result (F.post f self.item None) (λ s. F.post f self.item (Some s.item) × (s.span ≡ self.span)) }
@@ -163,7 +163,7 @@ impl<T> Spanning<T> {
     }
 }
 
-/// Displays the item, `. At ` and where it starts, as `Unexpected "}". At 0:2`.
+/// Displays the item, `. At ` and the start's line and column from 0, as `Unexpected "}". At 0:2`.
 impl<T: fmt::Display + Drop> fmt::Display for Spanning<T> {
     ghost use Rattle.juniper_tokens.specs.SpanningText.{spanning_text};
 

@@ -24,29 +24,30 @@ pub fn same_string(a: &String, b: &String) -> bool
     same_text(a.as_str(), b.as_str())
 }
 
-/// A copy of a text. Returns `AllocError` where memory ran out.
+/// A copy of a text. Returns `AllocError` if memory runs out.
 pub fn copied(alloc: Global, text: &String) -> Result<String, AllocError>
     ensures { IfOk result (λ copy. chars (string_bytes copy) ≡ chars (string_bytes text.now)) }
 {
     String::from_str(alloc, text.as_str())
 }
 
-/// Writes a text as it stands. Returns the formatter's error where that fails.
+/// Writes `text` as it is. Returns the formatter's error if that fails. The contract speaks of characters, std's of
+/// bytes.
 pub fn write_text<W: fmt::Write>(f: &mut fmt::Formatter<W>, text: &str) -> fmt::Result
     ensures { DisplaysOnOk W.write_str_gives f.old result (Some (encode_utf8_all (chars text.now))) f.new }
 {
     f.write_str(text)
 }
 
-/// Puts a text behind another. Returns `AllocError` where memory ran out.
+/// Appends `text` to `out`. Returns `AllocError` if memory runs out. The contract speaks of characters, std's of bytes.
 pub fn push_text(out: &mut String, text: &str) -> Result<(), AllocError>
     ensures { OnOk result (string_bytes out.new ≡ string_bytes out.old ++ encode_utf8_all (chars text.now)) }
 {
     out.push_str(text)
 }
 
-/// The character that a backslash and this one stand for in a String, or None where they are no escape (GraphQL
-/// specification, October 2021, section 2.9.4). `\u` isn't among them.
+/// The character that a backslash and `c` mean in a String, or None if they aren't an escape (GraphQL specification,
+/// October 2021, section 2.9.4). `\u` isn't among them.
 #[inline(always)]
 pub fn short_escape(c: char) -> Option<char>
     ensures value { result ≡ escapes.short_escape c }

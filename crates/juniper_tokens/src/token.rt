@@ -10,10 +10,10 @@ use crate::token_range::TokenRange;
 use graphql_lexical::Kind;
 use std::fmt;
 
-/// A scalar token, with its text as it stands in the source.
+/// A scalar token, with its text as it is written in the source.
 ///
-/// The text of a String is what stands between its quotes, escapes not replaced. That of a block string is what stands
-/// between its triple quotes, with the lines as they are.
+/// The text of a String is what is between its quotes, escapes not replaced. That of a block string is what is between
+/// its triple quotes, with the lines as they are.
 #[derive(Clone, Copy, Debug)]
 pub enum ScalarToken<'a> {
     /// A text between quotes (GraphQL specification, October 2021, section 2.9.4).
@@ -134,7 +134,7 @@ impl<'a> Token<'a> {
     ghost use Rattle.graphql_lexical.specs.declared.kind.Kind.TheVariants.{EndOfFile};
     ghost use Rattle.graphql_lexical.specs.Kinds.{same_kind};
 
-    // The token's kind, and its text where the kind leaves it open.
+    // The token's kind, and its text if the kind leaves it open.
     fn parts(&self) -> (Kind, &'a str)
         ensures kind { result.0 ≡ token_kind self.now }
         ensures text { kind_text result.0 (chars result.1.now) ≡ token_text self.now }
@@ -166,8 +166,8 @@ impl<'a> Token<'a> {
         self.parts().0
     }
 
-    /// The token's text: of a String and of a block string what stands between its quotes, of the end nothing,
-    /// otherwise the whole token.
+    /// The token's text: of a String and of a block string what is between its quotes, of the end nothing, otherwise
+    /// the whole token.
     pub fn text(&self) -> &'a str
         ensures { chars result.now ≡ token_text self.now }
     {

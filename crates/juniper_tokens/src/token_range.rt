@@ -31,7 +31,7 @@ pub(crate) struct TokenRange {
 }
 
 impl TokenRange {
-    /// The range of a token that was found in a source at the byte `at` and the place `start`.
+    /// The range of a token that was found in a source at the byte `at` and the position `start`.
     #[inline(always)]
     pub(crate) fn from_found(found: Found, source: &str, at: usize, start: SourcePosition) -> Self
         requires placed { IsPlaced source.now at start }
@@ -63,7 +63,7 @@ impl TokenRange {
         }
     }
 
-    /// The place after the last character, on the line of the first, which stands at the place `start`.
+    /// The position after the last character, on the line of the first, which is at the position `start`.
     #[inline(always)]
     pub(crate) fn end_on_line(&self, start: SourcePosition) -> SourcePosition
         requires forward { self.now.start.characters ≤ self.now.end.characters }
@@ -73,7 +73,7 @@ impl TokenRange {
         start.columns_on(self.end.characters - self.start.characters)
     }
 
-    /// The place after the last character; the first stands at the place `start`. A block string alone may end on a
+    /// The position after the last character; the first is at the position `start`. A block string alone may end on a
     /// later line.
     #[inline(always)]
     pub(crate) fn end_position(&self, source: &str, start: SourcePosition) -> SourcePosition
@@ -100,8 +100,8 @@ impl TokenRange {
         walk_text(text_before(rest, size), start)
     }
 
-    /// From the first character, which stands on this line, to the place after the last one. `starts` has the characters at
-    /// which the source's lines begin.
+    /// The span from the first character, which is on this line, to the position after the last one. `starts` has the
+    /// characters at which the source's lines begin.
     #[inline(always)]
     pub(crate) fn span(&self, source: &str, starts: &[usize], line: Line) -> Span
         requires range { IsRange (chars source.now) self.now }
@@ -117,8 +117,8 @@ impl TokenRange {
         }
     }
 
-    // The place after the last character, where the place `start` of the first one is known: the line of a block string's end
-    // alone is searched for.
+    // The position after the last character, if the position `start` of the first one is known: the line of a block
+    // string's end alone is searched for.
     #[inline(always)]
     fn end_from(&self, source: &str, starts: &[usize], start: SourcePosition) -> SourcePosition
         requires range { IsRange (chars source.now) self.now }
@@ -134,7 +134,7 @@ impl TokenRange {
         }
     }
 
-    /// The part of the source, of a String and of a block string what stands between the quotes.
+    /// The part of the source, of a String and of a block string what is between the quotes.
     pub(crate) fn text<'a>(&self, source: &'a str) -> &'a str
         requires { IsRange (chars source.now) self.now }
         ensures { chars result.now ≡ text_of self.now.kind (range_slice (chars source.now) self.now) }
@@ -150,7 +150,7 @@ impl TokenRange {
         }
     }
 
-    /// The token with its places, which are known.
+    /// The token with its span, which is known.
     #[inline(always)]
     pub(crate) fn located_at<'a>(&self, source: &'a str, span: Span) -> Spanning<Token<'a>>
         requires range { IsRange (chars source.now) self.now }
@@ -160,8 +160,8 @@ impl TokenRange {
         Spanning::new(span, self.token(source))
     }
 
-    /// The token with its places. `starts` has the characters at which the source's lines begin; the token's line is looked
-    /// for from that of the number `near` on.
+    /// The token with its span. `starts` has the characters at which the source's lines begin; the token's line is
+    /// looked for from that of the number `near` on.
     #[inline(never)]
     pub(crate) fn located<'a>(
         &self,

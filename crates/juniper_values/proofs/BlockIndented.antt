@@ -5,7 +5,7 @@ use Rattle.std.proofs.lemmas.Bool.{and_parts, and_from}
 use Rattle.std.proofs.lemmas.List.{drop-drop, drop_all, drop_at}
 use Rattle.juniper_values.specs.Text.{Text}
 use Rattle.juniper_values.specs.BlockStrings.{is_indent, is_blank, indent, indents, least, common_indent, unindented, drop_blank_front, drop_blank_end, joined, block_value}
-use Rattle.juniper_values.specs.laws.BlockLaws.{AreIndented, none, empty, behind, IsIndented}
+use Rattle.juniper_values.specs.laws.BlockLaws.{AreIndented, none, empty, after_white, IsIndented}
 use Rattle.juniper_values.proofs.BlockEnds.{inner}
 
 -- ---- indented lines
@@ -28,7 +28,7 @@ white_indent (c ∷ white) line e =
 more_indents : (n : ℕ) (ls ms : List Text) → AreIndented n ls ms → indents ms ≡ map (λ k. n + k) (indents ls)
 more_indents n _ _ none = refl
 more_indents n _ _ (empty ls ms h) = more_indents n ls ms h
-more_indents n _ _ (behind white line ls ms e blank h) = by_test (is_blank line) refl (more_indents n ls ms h)
+more_indents n _ _ (after_white white line ls ms e blank h) = by_test (is_blank line) refl (more_indents n ls ms h)
   where
     by_test : (b : Bool) → is_blank line ≡ b → indents ms ≡ map (λ k. n + k) (indents ls)
         → indents ((white ++ line) ∷ ms) ≡ map (λ k. n + k) (indents (line ∷ ls))
@@ -47,7 +47,7 @@ same_dropped n k _ _ none = refl
 same_dropped n k _ _ (empty ls ms h) =
     ap (λ l. l ∷ map (drop (n + k)) ms) (drop_all (n + k) [] (omega arith) ∙ sym (drop_all k [] (omega arith)))
     ∙ ap (λ rest. drop k [] ∷ rest) (same_dropped n k ls ms h)
-same_dropped n k _ _ (behind white line ls ms e blank h) =
+same_dropped n k _ _ (after_white white line ls ms e blank h) =
     ap (λ l. l ∷ map (drop (n + k)) ms) (sym (drop-drop k n (white ++ line)) ∙ ap (drop k) (drop_at white line n e))
     ∙ ap (λ rest. drop k line ∷ rest) (same_dropped n k ls ms h)
 

@@ -7,7 +7,7 @@ use Rattle.graphql_lexical.specs.Characters.{is_line_end}
 use Rattle.juniper_values.specs.BlockStrings.{is_indent, is_blank, indent, indents, least}
 use Rattle.juniper_values.specs.device.BlockSteps.{is_left_out, white_before, place_after, lesser, least_after}
 use Rattle.juniper_values.specs.declared.block_string.Place.{Place}
-use Rattle.juniper_values.specs.declared.block_string.Place.TheVariants.{First, Indent, Behind}
+use Rattle.juniper_values.specs.declared.block_string.Place.TheVariants.{First, Indent, AfterIndent}
 use Rattle.juniper_values.proofs.BlockLines.{lines_of, left_out, line_ended, line_goes_on}
 
 -- The indents that a text adds, whose first line goes on from a place.
@@ -15,7 +15,7 @@ abbrev pub added : Place → List Text → List ℕ
 added (Indent n) [] = []
 added (Indent n) (line ∷ ls) = if is_blank line then indents ls else (n + indent line) ∷ indents ls
 added First ls = indents (drop 1 ls)
-added Behind ls = indents (drop 1 ls)
+added AfterIndent ls = indents (drop 1 ls)
 
 -- the least of what was seen and of what the text adds
 abbrev pub least_with : Option ℕ → Place → List Text → ℕ
@@ -38,7 +38,7 @@ sooner (Some m) n (k ∷ ns) = omega arith
 at_end : (o : Option ℕ) (place : Place) (ls : List Text) → added place ([] ∷ ls) ≡ indents ls
 at_end o First ls = refl
 at_end o (Indent n) ls = refl
-at_end o Behind ls = refl
+at_end o AfterIndent ls = refl
 
 -- ---- one character
 
@@ -46,7 +46,7 @@ ended : (o : Option ℕ) (place : Place) (c : ℕ) (ls : List Text) → is_line_
     → least_with (least_after o place c) (place_after place c) ls ≡ least_with o place ([] ∷ ls)
 ended o First c ls e = rw e (ap (λ ns. least (option_to_list o ++ ns)) (begins ls))
 ended o (Indent n) c ls e = rw e (ap (λ ns. least (option_to_list o ++ ns)) (begins ls))
-ended o Behind c ls e = rw e (ap (λ ns. least (option_to_list o ++ ns)) (begins ls))
+ended o AfterIndent c ls e = rw e (ap (λ ns. least (option_to_list o ++ ns)) (begins ls))
 
 -- a tab or a space in front of a line
 whiter : (n c : ℕ) (ls : List Text) → is_indent c ≡ true
@@ -56,14 +56,14 @@ whiter n c (line ∷ ls) e = let s : n + 1 + indent line ≡ n + (indent line + 
 
 -- another character in front of a line
 filled : (n c : ℕ) (ls : List Text) → is_indent c ≡ false
-    → n ∷ added Behind ls ≡ added (Indent n) (onto_first c ls)
+    → n ∷ added AfterIndent ls ≡ added (Indent n) (onto_first c ls)
 filled n c [] e = let s : n ≡ n + 0 = omega arith in rw e (ap (λ m. m ∷ []) s)
 filled n c (line ∷ ls) e = let s : n ≡ n + 0 = omega arith in rw e (ap (λ m. m ∷ indents ls) s)
 
 goes_on : (o : Option ℕ) (place : Place) (c : ℕ) (ls : List Text) → is_line_end c ≡ false
     → least_with (least_after o place c) (place_after place c) ls ≡ least_with o place (onto_first c ls)
 goes_on o First c ls e = rw e (ap (λ ms. least (option_to_list o ++ indents ms)) (sym (onto_others c ls)))
-goes_on o Behind c ls e = rw e (ap (λ ms. least (option_to_list o ++ indents ms)) (sym (onto_others c ls)))
+goes_on o AfterIndent c ls e = rw e (ap (λ ms. least (option_to_list o ++ indents ms)) (sym (onto_others c ls)))
 goes_on o (Indent n) c ls e = by_test (is_indent c) refl
   where
     by_test : (b : Bool) → is_indent c ≡ b
@@ -71,7 +71,8 @@ goes_on o (Indent n) c ls e = by_test (is_indent c) refl
         ≡ least_with o (Indent n) (onto_first c ls)
     by_test true w = rw (e, w) (ap (λ ns. least (option_to_list o ++ ns)) (whiter n c ls w))
     by_test false w =
-        rw (e, w) (sym (sooner o n (added Behind ls)) ∙ ap (λ ns. least (option_to_list o ++ ns)) (filled n c ls w))
+        rw (e, w) (sym (sooner o n (added AfterIndent ls))
+        ∙ ap (λ ns. least (option_to_list o ++ ns)) (filled n c ls w))
 
 -- ---- the loop
 
@@ -112,18 +113,18 @@ finished o place u all none so_far =
     ∙ so_far
 
 -- the count rises by one at most
-pub room : (place : Place) (c : ℕ) → white_before (place_after place c) ≤ white_before place + 1
-room First c = by_test (is_line_end c) refl
+pub rises_by_one : (place : Place) (c : ℕ) → white_before (place_after place c) ≤ white_before place + 1
+rises_by_one First c = by_test (is_line_end c) refl
   where
     by_test : (b : Bool) → is_line_end c ≡ b → white_before (place_after First c) ≤ 1
     by_test true e = rw e (omega arith)
     by_test false e = rw e (omega arith)
-room Behind c = by_test (is_line_end c) refl
+rises_by_one AfterIndent c = by_test (is_line_end c) refl
   where
-    by_test : (b : Bool) → is_line_end c ≡ b → white_before (place_after Behind c) ≤ 1
+    by_test : (b : Bool) → is_line_end c ≡ b → white_before (place_after AfterIndent c) ≤ 1
     by_test true e = rw e (omega arith)
     by_test false e = rw e (omega arith)
-room (Indent n) c = by_test (is_line_end c) refl (is_indent c) refl
+rises_by_one (Indent n) c = by_test (is_line_end c) refl (is_indent c) refl
   where
     by_test : (b : Bool) → is_line_end c ≡ b → (w : Bool) → is_indent c ≡ w
         → white_before (place_after (Indent n) c) ≤ n + 1

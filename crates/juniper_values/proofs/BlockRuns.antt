@@ -18,7 +18,7 @@ use Rattle.juniper_values.specs.device.BlockSteps.{is_left_out, least_after, pla
 use Rattle.juniper_values.specs.declared.block_string.Line.{Line}
 use Rattle.juniper_values.specs.declared.block_string.Line.TheVariants.{Filled}
 use Rattle.juniper_values.specs.declared.block_string.Place.{Place}
-use Rattle.juniper_values.specs.declared.block_string.Place.TheVariants.{First, Indent, Behind}
+use Rattle.juniper_values.specs.declared.block_string.Place.TheVariants.{First, Indent, AfterIndent}
 use Rattle.juniper_values.proofs.BlockLines.{lines_of}
 use Rattle.juniper_values.proofs.BlockWritten.{Stands, writes}
 use Rattle.juniper_values.proofs.BlockIndents.{least_with, turned}
@@ -96,7 +96,7 @@ RunsTo bytes n = (n ≤ length bytes) × ((k : ℕ) → k < n → ends_run (get_
 
 pub runs_on : (bytes : List ℕ) (i n : ℕ) → i + n ≤ length bytes → RunsTo bytes i → RunsOver bytes i n
     → RunsTo bytes (i + n)
-runs_on bytes i n room before over = (room, λ k l. by_place k l (ltb k i) refl)
+runs_on bytes i n within before over = (within, λ k l. by_place k l (ltb k i) refl)
   where
     by_place : (k : ℕ) → k < i + n → (b : Bool) → ltb k i ≡ b → ends_run (get_or bytes k 0) ≡ false
     by_place k l true e = before.1 k (grind arith)
@@ -104,7 +104,7 @@ runs_on bytes i n room before over = (room, λ k l. by_place k l (ltb k i) refl)
 
 pub runs_one : (bytes : List ℕ) (i : ℕ) → i < length bytes → RunsTo bytes i → ends_run (get_or bytes i 0) ≡ false
     → RunsTo bytes (i + 1)
-runs_one bytes i room before e = (omega (arith, room), λ k l. by_place k l (ltb k i) refl)
+runs_one bytes i within before e = (omega (arith, within), λ k l. by_place k l (ltb k i) refl)
   where
     by_place : (k : ℕ) → k < i + 1 → (b : Bool) → ltb k i ≡ b → ends_run (get_or bytes k 0) ≡ false
     by_place k l true t = before.1 k (grind arith)
@@ -121,13 +121,13 @@ run_ends bytes i before ends = sym (prefix_len_is (λ b. not (ends_run b)) bytes
 pub over : (bytes : List ℕ) (i r : ℕ) (z : List ℕ) → i + 16 ≤ length bytes → ((k : ℕ) → Fits w8 (get_or bytes k 0))
     → r ≡ first_set (mask_l (map (top 7) z) % 2 ^ 64) 16 → (f : ℕ → ℕ) → z ≡ map f (chunk i 16 bytes)
     → agree_below ends_run (λ x. top 7 (f x)) 256 ≡ true → RunsOver bytes i r
-over bytes i r z room fits found f lanes same =
+over bytes i r z within fits found f lanes same =
     let ends : ℕ → Bool = λ x. top 7 (f x) in
-    let before = counted bytes i r z room found f lanes in
+    let before = counted bytes i r z within found f lanes in
     let here = λ (k : ℕ). agree_below_at ends_run ends 256 (get_or bytes k 0) same (fits k).fits in (
-      run_in_chunk_le ends bytes i 16 r 0 room before,
-      λ k from to. here k ∙ run_in_chunk_fails ends bytes i 16 r 0 room before k from to,
-      λ short. here (i + r) ∙ run_in_chunk_stops ends bytes i 16 r 0 room before short,
+      run_in_chunk_le ends bytes i 16 r 0 within before,
+      λ k from to. here k ∙ run_in_chunk_fails ends bytes i 16 r 0 within before k from to,
+      λ short. here (i + r) ∙ run_in_chunk_stops ends bytes i 16 r 0 within before short,
     )
 
 -- ---- what a run changes
@@ -141,7 +141,7 @@ stays_in c t e =
     let return : (c == 13) ≡ false = (or_parts (c == 10) (c == 13) (in_line c e)).1 in
     rw (backslash, return) refl
 
--- What holds in front of a text, and goes on past each character that ends no run, holds behind the run.
+-- What holds in front of a text, and goes on past each character that ends no run, holds after the run.
 past_run : (P : Text → Text → Type 0)
     → ((front : Text) (c : ℕ) (t : Text) → ends_run c ≡ false → P front (c ∷ t) → P (front ++ c ∷ []) t)
     → (front t : Text) → P front t → P (front ++ take (run_length t) t) (drop (run_length t) t)
@@ -168,12 +168,12 @@ copies_run k all value kept line t after rest full grown is s = rw (full, grown,
 place_stays : (place : Place) (c : ℕ) → is_in_indent place ≡ false → is_line_end c ≡ false → place_after place c ≡ place
 place_stays First c e on = rw on refl
 place_stays (Indent n) c e on = absurd (cc e)
-place_stays Behind c e on = rw on refl
+place_stays AfterIndent c e on = rw on refl
 
 least_stays : (o : Option ℕ) (place : Place) (c : ℕ) → is_in_indent place ≡ false → least_after o place c ≡ o
 least_stays o First c e = refl
 least_stays o (Indent n) c e = absurd (cc e)
-least_stays o Behind c e = refl
+least_stays o AfterIndent c e = refl
 
 pub passes_run : (o : Option ℕ) (place : Place) (t rest : Text) (all : ℕ) → is_in_indent place ≡ false
     → rest ≡ drop (run_length t) t

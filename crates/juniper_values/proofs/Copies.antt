@@ -164,12 +164,12 @@ span_is s t e =
     let to = place_is s.end t.end (second_so (same_place s.start t.start) _ e) in
     λ k. record { start = from k; end = to k }
 
-module _ {S C : Type 0} (f : S → C) (eq : S → S → Bool) (told : (a b : S) → eq a b ≡ true → f a ≡ f b) where
+module _ {S C : Type 0} (f : S → C) (eq : S → S → Bool) (same_by_eq : (a b : S) → eq a b ≡ true → f a ≡ f b) where
   mutual
     pub same_contents : (v w : Value S) → same_value eq v w ≡ true → replaced f v ≡ replaced f w
     same_contents Null Null e = refl
     same_contents Null w e = absurd (true≢false (sym e))
-    same_contents (Scalar a) (Scalar b) e = ap Scalar (told a b e)
+    same_contents (Scalar a) (Scalar b) e = ap Scalar (same_by_eq a b e)
     same_contents (Scalar a) w e = absurd (true≢false (sym e))
     same_contents (Enum a) (Enum b) e = ap Enum (same_key a b e)
     same_contents (Enum a) w e = absurd (true≢false (sym e))

@@ -86,7 +86,8 @@ module _ {S : Type 0} (eq : S → S → Bool) (m : Values S) where
 
 -- ---- by the contents of scalars
 
-module _ {S C : Type 0} (f : S → C) (eq : S → S → Bool) (told : (a b : S) → eq a b ≡ true → f a ≡ f b) (m : Values S)
+module _ {S C : Type 0} (f : S → C) (eq : S → S → Bool) (same_by_eq : (a b : S) → eq a b ≡ true → f a ≡ f b)
+    (m : Values S)
   where
     abbrev contents : Values C
     contents t = option_map (replaced f) (m t)
@@ -96,7 +97,7 @@ module _ {S C : Type 0} (f : S → C) (eq : S → S → Bool) (told : (a b : S) 
     copied None None e = refl
     copied None (Some w) e = absurd (true≢false (sym e))
     copied (Some v) None e = absurd (true≢false (sym e))
-    copied (Some v) (Some w) e = ap Some (sym (same_contents f eq told v w e))
+    copied (Some v) (Some w) e = ap Some (sym (same_contents f eq same_by_eq v w e))
 
     null_replaced : (o : Option (Value S)) → replaced f (or_null o) ≡ or_null (option_map (replaced f) o)
     null_replaced None = refl
@@ -136,12 +137,13 @@ module _ {S C : Type 0} (f : S → C) (eq : S → S → Bool) (told : (a b : S) 
 
 -- what a value becomes scalar by scalar it becomes by their contents
 pub resolved_by_content : {S C H : Type 0} (f : S → C) (eq : S → S → Bool)
-    (told : (a b : S) → eq a b ≡ true → f a ≡ f b) (m : HashMap (String Global) (InputValue S) H) (v : InputValue S)
+    (same_by_eq : (a b : S) → eq a b ≡ true → f a ≡ f b) (m : HashMap (String Global) (InputValue S) H)
+    (v : InputValue S)
     (o : Option (InputValue S))
     → Becomes eq (values_in (λ s. s) m) (view (λ s. s) v) (option_map (view (λ s. s)) o)
     → option_map (view f) o ≡ resolve (values_in f m) (view f v)
-resolved_by_content f eq told m v o b =
-    seen o ∙ resolved f eq told (values_in (λ s. s) m) (view (λ s. s) v) (option_map (view (λ s. s)) o) b
+resolved_by_content f eq same_by_eq m v o b =
+    seen o ∙ resolved f eq same_by_eq (values_in (λ s. s) m) (view (λ s. s) v) (option_map (view (λ s. s)) o) b
     ∙ (λ i. resolve (λ t. sym (seen_value t) i) (sym (view-replaced f v) i))
   where
     seen : (p : Option (InputValue _)) → option_map (view f) p ≡ option_map (replaced f) (option_map (view (λ s. s)) p)

@@ -7,7 +7,7 @@ use Rattle.std.specs.Char.{IsScalar, encode_utf8}
 use Rattle.std.proofs.lemmas.List.{take-append-drop}
 use Rattle.std.proofs.lemmas.Str.{chars-append, chars-nil, chars_past_char, chars_from_encodes, IsUtf8-encode, IsUtf8-string_bytes, IsUtf8-take, IsUtf8-drop, IsCharBoundary-before_ascii}
 use Rattle.juniper_values.specs.Text.{Text}
-use Rattle.juniper_values.specs.Escapes.{in_front, unescape, behind_backslash}
+use Rattle.juniper_values.specs.Escapes.{in_front, unescape, unescape_backslash}
 
 pub chars-push : (s : String Global) (d : ℕ) (all : List ℕ) → IsScalar d → all ≡ string_bytes s ++ encode_utf8 d
     → chars all ≡ chars (string_bytes s) ++ d ∷ []
@@ -49,7 +49,7 @@ module _ (bs : List ℕ) (utf8 : IsUtf8 bs) where
       ∙ ap Some (append-nil (chars bs))
 
   pub around : (front back : List ℕ) → SplitsAroundMatch (FindsChar 92) bs front back
-      → unescape (chars bs) ≡ onto (chars front) (behind_backslash (chars back))
+      → unescape (chars bs) ≡ onto (chars front) (unescape_backslash (chars back))
   around front back cut =
       let i = cut.0 in
       let before = take i bs in
@@ -58,10 +58,10 @@ module _ (bs : List ℕ) (utf8 : IsUtf8 bs) where
       let inside : i < length bs = omega (arith, at.ends, cut.5, cut.7) in
       let offset = IsCharBoundary-before_ascii bs i inside (omega (arith, at.byte (omega arith))) in
       let text = IsUtf8-take bs i utf8 offset in
-      let behind = chars_past_char (drop i bs) rest 92 (IsUtf8-drop bs i utf8 offset) at.split in
+      let after = chars_past_char (drop i bs) rest 92 (IsUtf8-drop bs i utf8 offset) at.split in
       let is : chars bs ≡ chars before ++ 92 ∷ chars rest =
       ap chars (sym (take-append-drop i bs)) ∙ chars-append before (drop i bs) text
-      ∙ ap (λ t. chars before ++ t) behind in
+      ∙ ap (λ t. chars before ++ t) after in
       rw (cut.3, cut.4)
       (ap unescape is ∙ copied (chars before) (92 ∷ chars rest) (no_backslash before text cut.2.0))
 

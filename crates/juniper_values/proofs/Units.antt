@@ -7,7 +7,7 @@ use Rattle.std.proofs.lemmas.Bool.Decides.{nat_tests}
 use Rattle.graphql_lexical.specs.Characters.{is_escape, is_plain}
 use Rattle.graphql_lexical.specs.Tokens.{IsScalar, IsUnit, plain, escape as escape_unit, unicode as unicode_unit, Pieces}
 use Rattle.juniper_values.specs.Text.{Text}
-use Rattle.juniper_values.specs.Escapes.{hex_number, short_escape, is_surrogate, is_scalar, unicode_escape, in_front, unescape, behind_backslash, behind_u}
+use Rattle.juniper_values.specs.Escapes.{hex_number, short_escape, is_surrogate, is_scalar, unicode_escape, in_front, unescape, unescape_backslash, unescape_u}
 use Rattle.juniper_values.specs.laws.ValueLaws.{IsExactlyUnescaped}
 use Rattle.juniper_values.proofs.HexNumbers.{scalar_number, number_scalar}
 use Rattle.juniper_values.specs.Units.{StandsFor, nothing, itself, escape, unicode}
@@ -62,7 +62,7 @@ mutual
   stands : (t u : Text) → unescape t ≡ Some u → StandsFor t u
   stands [] u e = let is : [] ≡ u = cc in subst (StandsFor []) is nothing
   stands (c ∷ t) u e =
-      by_branch (c == 92) (behind_backslash t) (in_front (Some c) (unescape t)) (Some u)
+      by_branch (c == 92) (unescape_backslash t) (in_front (Some c) (unescape t)) (Some u)
       (λ x f. subst (λ d. StandsFor (d ∷ t) u) (sym (eqb-true c 92 x)) (escaped t u f))
       (λ x.
       each_in_front (StandsFor (c ∷ t)) (Some c) (unescape t) u
@@ -70,16 +70,16 @@ mutual
       let same : c ≡ d = cc in
       subst (λ d. StandsFor (c ∷ t) (d ∷ w)) same (itself c t w (eqb-false c 92 x) (stands t w rest)))) e
 
-  escaped : (t u : Text) → behind_backslash t ≡ Some u → StandsFor (92 ∷ t) u
+  escaped : (t u : Text) → unescape_backslash t ≡ Some u → StandsFor (92 ∷ t) u
   escaped [] u e = absurd (cc)
   escaped (c ∷ t) u e =
-      by_branch (c == 117) (behind_u t) (in_front (short_escape c) (unescape t)) (Some u)
+      by_branch (c == 117) (unescape_u t) (in_front (short_escape c) (unescape t)) (Some u)
       (λ x f. subst (λ d. StandsFor (92 ∷ d ∷ t) u) (sym (eqb-true c 117 x)) (numbered t u f))
       (λ x.
       each_in_front (StandsFor (92 ∷ c ∷ t)) (short_escape c) (unescape t) u
       (λ d w is rest. escape c d t w is (stands t w rest))) e
 
-  numbered : (t u : Text) → behind_u t ≡ Some u → StandsFor (92 ∷ 117 ∷ t) u
+  numbered : (t u : Text) → unescape_u t ≡ Some u → StandsFor (92 ∷ 117 ∷ t) u
   numbered (h ∷ i ∷ j ∷ k ∷ t) u e =
       let Whole = StandsFor (92 ∷ 117 ∷ h ∷ i ∷ j ∷ k ∷ t) in
       each_in_front Whole (unicode_escape h i j k) (unescape t) u

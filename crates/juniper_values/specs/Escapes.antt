@@ -32,14 +32,14 @@ abbrev mutual
   -- what the text stands for, or None where a backslash begins no escape
   pub unescape : Text → Option Text
   unescape [] = Some []
-  unescape (c ∷ t) = if c == 92 then behind_backslash t else in_front (Some c) (unescape t)
+  unescape (c ∷ t) = if c == 92 then unescape_backslash t else in_front (Some c) (unescape t)
 
   -- the same of the text after a backslash
-  pub behind_backslash : Text → Option Text
-  behind_backslash [] = None
-  behind_backslash (c ∷ t) = if c == 117 then behind_u t else in_front (short_escape c) (unescape t)
+  pub unescape_backslash : Text → Option Text
+  unescape_backslash [] = None
+  unescape_backslash (c ∷ t) = if c == 117 then unescape_u t else in_front (short_escape c) (unescape t)
 
   -- and after `\u`
-  pub behind_u : Text → Option Text
-  behind_u (h ∷ i ∷ j ∷ k ∷ t) = in_front (unicode_escape h i j k) (unescape t)
-  behind_u t = None
+  pub unescape_u : Text → Option Text
+  unescape_u (h ∷ i ∷ j ∷ k ∷ t) = in_front (unicode_escape h i j k) (unescape t)
+  unescape_u t = None

@@ -1,4 +1,4 @@
-//! The text that a block string stands for (GraphQL specification, October 2021, section 2.9.4).
+//! The text that a block string means (GraphQL specification, October 2021, section 2.9.4).
 ghost use Rattle.std.specs.Prelude.{◌≡◌, ◌+◌, ◌<◌, ◌^◌, drop, ◌==◌, ◌++◌, ◌∷◌, [], IfOk, OnOk, if◌then◌else◌, string_len};
 ghost use Rattle.std.specs.Char.{IsScalar};
 ghost use Rattle.std.specs.Str.{chars};
@@ -22,7 +22,7 @@ pub(crate) enum Line {
     Filled,
 }
 
-// Where in a line the common indent is looked for.
+// The place in a line at which the common indent is looked for.
 #[derive(Clone, Copy)]
 pub(crate) enum Place {
     // In the first line, whose indent does not count.
@@ -30,7 +30,7 @@ pub(crate) enum Place {
     // After this number of tabs and spaces.
     Indent(usize),
     // After another character.
-    Behind,
+    AfterIndent,
 }
 
 // The value of the block string that has this text between its triple quotes. It is never longer than the text, so
@@ -43,8 +43,8 @@ pub(crate) fn block_value(alloc: Global, text: &str) -> Result<String, AllocErro
     let mut kept = 0;
     let mut line = Line::Blank(0);
     let mut rest = text;
-    while let Some((c, behind)) = split_char(rest) {
-        rest = behind;
+    while let Some((c, after)) = split_char(rest) {
+        rest = after;
         if is_left_out(c, rest) {
             continue;
         }
@@ -55,9 +55,9 @@ pub(crate) fn block_value(alloc: Global, text: &str) -> Result<String, AllocErro
         }
         line = write(&mut value, line, c)?;
         if let Line::Filled = line {
-            let (run, behind_run) = split_run(rest);
+            let (run, after_run) = split_run(rest);
             value.push_str(run)?;
-            rest = behind_run;
+            rest = after_run;
         }
     }
     if let Line::Blank(_) = line {
@@ -66,8 +66,8 @@ pub(crate) fn block_value(alloc: Global, text: &str) -> Result<String, AllocErro
     Ok(value)
 }
 
-// Ends a line of the value. The last line that is not blank ends at the byte `kept`, 0 where there is none, and after
-// this line at the result. Blank lines at the beginning are removed.
+// Ends a line of the value. The last line that is not blank ends at the byte `kept`, 0 if there is none, and after this
+// line at the result. Blank lines at the beginning are removed.
 fn end_line(value: &mut String, line: Line, kept: usize) -> Result<usize, AllocError>
     ensures kept { IfOk result (λ n. n ≡ (if is_filled line then string_len value.old else kept)) }
     ensures text { IfOk result (λ n. text_of value.new ≡ (if n == 0 then [] else text_of value.old ++ 10 ∷ [])) }
@@ -109,7 +109,7 @@ fn write(value: &mut String, line: Line, c: char) -> Result<Line, AllocError>
     }
 }
 
-// The least number of tabs and spaces at the beginning of a line but the first that has another character, or 0 where
+// The least number of tabs and spaces at the beginning of a line but the first that has another character, or 0 if
 // there is no such line.
 fn common_indent(text: &str) -> usize
     ensures { result ≡ common_indent (drop 1 (lines (with_quotes (chars text.now)))) }
@@ -117,16 +117,16 @@ fn common_indent(text: &str) -> usize
     let mut least = None;
     let mut place = Place::First;
     let mut rest = text;
-    while let Some((c, behind)) = split_char(rest) {
-        rest = behind;
+    while let Some((c, after)) = split_char(rest) {
+        rest = after;
         if is_left_out(c, rest) {
             continue;
         }
         least = least_after(least, place, c);
         place = place_after(place, c);
         if !is_in_indent(place) {
-            let (_, behind_run) = split_run(rest);
-            rest = behind_run;
+            let (_, after_run) = split_run(rest);
+            rest = after_run;
         }
     }
     least.unwrap_or(0)
@@ -156,7 +156,7 @@ fn place_after(place: Place, c: char) -> Place
     match place {
         Place::Indent(n) if is_indent(c) => Place::Indent(n + 1),
         Place::First => Place::First,
-        _ => Place::Behind,
+        _ => Place::AfterIndent,
     }
 }
 
@@ -166,7 +166,7 @@ fn is_in_indent(place: Place) -> bool
 {
     match place {
         Place::Indent(_) => true,
-        Place::First | Place::Behind => false,
+        Place::First | Place::AfterIndent => false,
     }
 }
 

@@ -51,7 +51,7 @@ impl Eq for DefaultScalarValue {
     ghost laws = { by_content default_content };
 }
 
-/// Displays the decimal number, the text as it stands, or `true` or `false`.
+/// Displays the decimal number, the text as it is, or `true` or `false`.
 impl fmt::Display for DefaultScalarValue {
     ghost output = { λ s. Some (encode_utf8_all (default_shown (default_content s))) };
 

@@ -1,16 +1,16 @@
-//! The text that the slice of a String token stands for (GraphQL specification, October 2021, section 2.9.4).
+//! The text that the slice of a String token means (GraphQL specification, October 2021, section 2.9.4).
 ghost use Rattle.std.specs.Prelude.{◌≡◌, ◌<◌, [], ◌∷◌, length, IfOk, IfSome, MatchOption, option_map, Some, None, IsTrue};
 ghost use Rattle.std.specs.Char.{IsScalar};
 ghost use Rattle.std.specs.Str.{chars, IsUtf8};
 ghost use Rattle.graphql_lexical.specs.Characters.{is_hex};
 ghost use Rattle.juniper_values.specs.View.{text_of};
-ghost use Rattle.juniper_values.specs.Escapes.{unescape, behind_backslash, behind_u, in_front, unicode_escape, hex_value};
+ghost use Rattle.juniper_values.specs.Escapes.{unescape, unescape_backslash, unescape_u, in_front, unicode_escape, hex_value};
 
 use crate::text::split_char;
 use juniper_tokens::text::short_escape;
 use std::alloc::{AllocError, Global};
 
-// The text with each escape replaced, or None where a backslash begins no escape. Most texts have no backslash.
+// The text with each escape replaced, or None if a backslash begins no escape. Most texts have no backslash.
 pub(crate) fn unescape(alloc: Global, text: &str) -> Result<Option<String>, AllocError>
     ensures { IfOk result (λ o. option_map text_of o ≡ unescape (chars text.now)) }
 {
@@ -28,9 +28,9 @@ fn replace_escapes(alloc: Global, text: &str) -> Result<Option<String>, AllocErr
 {
     let mut out = String::with_capacity(alloc, text.len())?;
     let mut rest = text;
-    while let Some((plain, behind)) = rest.split_once('\\') {
+    while let Some((plain, after)) = rest.split_once('\\') {
         out.push_str(plain)?;
-        match escaped(behind) {
+        match escaped(after) {
             Some((c, left)) => {
                 out.push(c)?;
                 rest = left;
@@ -42,10 +42,10 @@ fn replace_escapes(alloc: Global, text: &str) -> Result<Option<String>, AllocErr
     Ok(Some(out))
 }
 
-// The character that the escape after a backslash stands for, and the text after it; None where there is no escape.
+// The character that the escape after a backslash means, and the text after it; None if there is no escape.
 fn escaped(text: &str) -> Option<(char, &str)>
-    ensures value { MatchOption result (behind_backslash (chars text.now) ≡ None)
-        (λ p. behind_backslash (chars text.now) ≡ in_front (Some p.0) (unescape (chars p.1.now))) }
+    ensures value { MatchOption result (unescape_backslash (chars text.now) ≡ None)
+        (λ p. unescape_backslash (chars text.now) ≡ in_front (Some p.0) (unescape (chars p.1.now))) }
     ensures scalar { IfSome result (λ p. IsScalar p.0) }
     ensures shorter { IfSome result (λ p. length p.1.now < length text.now) }
     ensures utf8 { IfSome result (λ p. IsUtf8 p.1.now) }
@@ -60,8 +60,8 @@ fn escaped(text: &str) -> Option<(char, &str)>
 
 // The same after `\u`.
 fn numbered(text: &str) -> Option<(char, &str)>
-    ensures value { MatchOption result (behind_u (chars text.now) ≡ None)
-        (λ p. behind_u (chars text.now) ≡ in_front (Some p.0) (unescape (chars p.1.now))) }
+    ensures value { MatchOption result (unescape_u (chars text.now) ≡ None)
+        (λ p. unescape_u (chars text.now) ≡ in_front (Some p.0) (unescape (chars p.1.now))) }
     ensures scalar { IfSome result (λ p. IsScalar p.0) }
     ensures shorter { IfSome result (λ p. length p.1.now < length text.now) }
     ensures utf8 { IfSome result (λ p. IsUtf8 p.1.now) }

@@ -18,8 +18,8 @@ pub use convert::FromInputValue;
 use juniper_tokens::Spanning;
 pub use resolve::Variables;
 
-/// An input value (GraphQL specification, October 2021, section 2.9), with the places of the items of its lists and of the
-/// keys and values of its objects.
+/// An input value (GraphQL specification, October 2021, section 2.9), with the spans of the items of its lists and of
+/// the keys and values of its objects.
 #[derive(Debug, Drop)]
 pub enum InputValue<S> {
     /// `null`

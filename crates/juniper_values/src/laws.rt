@@ -24,12 +24,12 @@ ghost use Rattle.juniper_values.specs.declared.type_literal.TypeModifier.{TypeMo
 use crate::scalar::ScalarValue;
 use crate::type_literal::NameText;
 
-/// The default scalar reads a String as what its text stands for, unit by unit.
+/// The default scalar reads a String as what its text means, unit by unit.
 pub fn strings_are_unescaped()
     ensures { (t : Text) → IsExactlyUnescaped t }
 {}
 
-/// Each String that a source can hold stands for a text.
+/// Each String that a source can hold means a text.
 pub fn units_stand_for_a_text()
     ensures { (t : Text) → Pieces IsUnit t → (u : Text) × StandsFor t u }
 {}
@@ -39,12 +39,12 @@ pub fn block_strings_have_no_carriage_return()
     ensures { (t : Text) → All (λ c. c ≢ 13) (block_value t) }
 {}
 
-/// The first and the last line of a block string's value are not blank, where it has a character.
+/// The first and the last line of a block string's value are not blank, if it has a character.
 pub fn block_strings_have_no_blank_ends()
     ensures { (t : Text) → block_value t ≢ [] → HasNoBlankEnds (block_value t) }
 {}
 
-/// A block string has the same value where every line but the first is indented by the same number of tabs and spaces
+/// A block string has the same value if every line but the first is indented by the same number of tabs and spaces
 /// more.
 pub fn indented_block_strings_are_alike()
     ensures { (n : ℕ) (t u : Text) → IsIndented n t u → block_value u ≡ block_value t }
@@ -84,25 +84,25 @@ pub fn resolving_keeps_values_without_variables<S: ScalarValue>()
     ensures { (m : Values Content) (v : InputValue S) → HasNoVariable (view S.content v) → resolve m (view S.content v) ≡ Some (view S.content v) }
 {}
 
-/// A value refers to no variables exactly where it has none.
+/// A value refers to no variable exactly if it has none.
 pub fn no_variables<S: ScalarValue>()
     ensures by_scalar { (v : InputValue S) → IsEmptyWithoutVariables (view (λ s. s) v) }
     ensures by_content { (v : InputValue S) → IsEmptyWithoutVariables (view S.content v) }
 {}
 
-/// Equality of values regardless of their places is reflexive, symmetric and transitive, as equality of their scalars
+/// Equality of values regardless of their spans is reflexive, symmetric and transitive, as equality of their scalars
 /// is.
 pub fn values_are_compared_whatever_their_places<S: Eq>()
     ensures { IsEqualityLike (same_but_place S.eq) }
 {}
 
-/// Equal values are equal regardless of their places.
+/// Equal values are equal regardless of their spans.
 pub fn equal_values_are_so_whatever_their_places<S: Eq>()
     ensures { (v w : Value S) → same_value S.eq v w ≡ true → same_but_place S.eq v w ≡ true }
 {}
 
-/// Two objects are equal regardless of their places exactly if they have the same number of fields, and each field of
-/// either has in the other one with its key and an equal value.
+/// Two objects are equal regardless of their spans exactly if they have the same number of fields, and for each field
+/// of either the other has one with the same key and an equal value.
 pub fn objects_are_compared_both_ways<S: Eq>()
     ensures { (fs gs : ObjectFields S) → (same_but_place S.eq (Object fs) (Object gs) ≡ true) ↔ AreSameFields S.eq fs gs }
 {}

@@ -49,7 +49,7 @@ pub trait ParseScalarValue<S> {
 
     /// Reads the scalar of the token (GraphQL specification, October 2021, section 2.9).
     ///
-    /// Fails with `Refused` and the error that the type's reading states, or with `Memory` where memory ran out.
+    /// Fails with `Refused` and the error that the type's reading states, or with `Memory` if memory runs out.
     fn from_str(alloc: Global, token: ScalarToken<'_>) -> ParseScalarResult<S>
         ensures { MeetsReading content (reading (scalar_kind token.entry) (scalar_text token.entry)) result };
 }
@@ -99,21 +99,21 @@ pub trait ScalarValue: Sized + Drop + fmt::Display + Eq + ParseScalarValue<Self>
     fn try_to_int(&self) -> Option<i32>
         ensures { result ≡ int_in (Self.content self.now) };
 
-    /// The text that the scalar is, if it is one that can be borrowed.
+    /// The scalar's text, if it has one that can be borrowed.
     fn try_as_str(&self) -> Option<&str>
         ensures { option_map (λ s. chars s.now) result ≡ str_in (Self.content self.now) };
 
-    /// A copy of the text that the scalar is, if it is one. Returns `AllocError` where memory ran out.
+    /// A copy of the scalar's text, if it has one. Returns `AllocError` if memory runs out.
     fn try_to_string(&self, alloc: Global) -> Result<Option<String>, AllocError>
         ensures { IfOk result
             (λ o. option_map (λ s. chars (string_bytes s)) o ≡ string_in (Self.content self.now)) };
 
-    /// The text that the scalar is, if it is one. The scalar is dropped, also where memory ran out.
+    /// The scalar's text, if it has one. The scalar is dropped, also if memory runs out.
     fn try_into_string(self, alloc: Global) -> Result<Option<String>, AllocError>
         ensures { IfOk result
             (λ o. option_map (λ s. chars (string_bytes s)) o ≡ own_string_in (Self.content self)) };
 
-    /// A copy, which equals the scalar. Returns `AllocError` where memory ran out.
+    /// A copy, which equals the scalar. Returns `AllocError` if memory runs out.
     fn try_clone(&self, alloc: Global) -> Result<Self, AllocError>
         ensures { IfOk result (λ s. Self.content s ≡ Self.content self.now) };
 
@@ -126,7 +126,7 @@ pub trait ScalarValue: Sized + Drop + fmt::Display + Eq + ParseScalarValue<Self>
 
     /// Converts the scalar to another scalar type: by its integer, else by its boolean, else by its text.
     ///
-    /// The scalar is dropped, also where memory ran out.
+    /// The scalar is dropped, also if memory runs out.
     final fn into_another<S2: ScalarValue>(self, alloc: Global) -> Result<S2, AllocError>
         ensures { IfOk result
             (λ s. Some (S2.content s)
@@ -222,7 +222,7 @@ impl<'s, S> FromScalarValue<'s, S> for Scalar<'s, S> {
     }
 }
 
-/// A text stands between quotes, without escaping.
+/// A text is between quotes, without escaping.
 impl<'a, S: ScalarValue> fmt::Display for Scalar<'a, S> {
     ghost output = { λ s. Some (encode_utf8_all (scalar_display S.content S.str_in S.shown s)) };
 
@@ -275,7 +275,7 @@ pub trait ToScalarValue<S> {
     // What the scalar of a value is.
     ghost gives: { Self → S → Type 0 };
 
-    /// Converts the value to a scalar. Returns `AllocError` where memory ran out, for the copy of a text.
+    /// Converts the value to a scalar. Returns `AllocError` if memory runs out, for the copy of a text.
     fn to_scalar_value(&self, alloc: Global) -> Result<S, AllocError>
         ensures { IfOk result (λ s. gives self.now s) };
 }
@@ -304,7 +304,7 @@ impl<S: ScalarValue> ToScalarValue<S> for String {
     }
 }
 
-/// The scalar of a text, which is copied. Returns `AllocError` where memory ran out.
+/// The scalar of a text, which is copied. Returns `AllocError` if memory runs out.
 pub fn scalar_from_str<S: ScalarValue>(alloc: Global, text: &str) -> Result<S, AllocError>
     ensures { IfOk result (λ s. S.content s ≡ S.of_text (chars text.now)) }
 {

@@ -77,7 +77,7 @@ impl TypeModifiers {
         }
     }
 
-    // The list with one more modifier at its end, or as it was where memory ran out.
+    // The list with one more modifier at its end, or as it was if memory runs out.
     fn wrapped(self, alloc: Global, outer: TypeModifier) -> Result<TypeModifiers, TypeModifiers>
         ensures value { MatchResult result
             (λ ms. modifiers_of ms ≡ modifiers_of self ++ outer ∷ [])
@@ -194,7 +194,7 @@ impl<N: NameText + Drop> TypeLiteral<N> {
 
     /// The list type of this type, with that length, if one is given.
     ///
-    /// Where memory ran out, returns the type. `[T]` and `[T!]` without a length need no memory.
+    /// If memory runs out, returns the type unchanged. `[T]` and `[T!]` without a length need no memory.
     pub fn wrap_list(self, alloc: Global, size: Option<usize>) -> Result<Self, Self>
         ensures value { MatchResult result
             (λ t. t ≡ record { name = self.name; modifiers = self.modifiers ++ TypeModifier.List size ∷ [] })
@@ -206,7 +206,7 @@ impl<N: NameText + Drop> TypeLiteral<N> {
 
     /// The non-null type of this type.
     ///
-    /// Where memory ran out, returns the type. `T!` needs no memory.
+    /// If memory runs out, returns the type unchanged. `T!` needs no memory.
     pub fn wrap_non_null(self, alloc: Global) -> Result<Self, Self>
         ensures value { MatchResult result
             (λ t. t ≡ record { name = self.name; modifiers = self.modifiers ++ TypeModifier.NonNull ∷ [] })

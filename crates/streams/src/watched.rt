@@ -63,8 +63,8 @@ impl<R: Read> Watched<R> {
 impl<W: Write> Watched<W> {
     ghost use Rattle.streams.specs.Watched.{inner_of, has_failed, last_failure, is_refused};
 
-    /// Writes once to the writer inside, and returns its result. An error of any kind is a failure, and so is to take
-    /// no byte of some.
+    /// Writes once to the writer inside, and returns its result. An error of any kind is a failure, and so is a write
+    /// that takes no byte of a buffer that isn't empty.
     pub fn write(&mut self, buf: &[u8]) -> io::Result<usize>
         ensures bound { WritesAtMost result buf.now }
         ensures bytes { WriteAppends (W.contents (inner_of self.old)) (W.contents (inner_of self.new)) result buf.now }

@@ -18,10 +18,10 @@ pub enum Stop {
 
 const CHUNK: usize = 4096;
 
-/// Reads the bytes of the reader, to its end.
+/// Reads a reader's bytes, to its end.
 ///
-/// Fails with `Stop::Device` where a read failed, and with `Stop::Memory` where memory ran out; a reader that neither
-/// ends nor fails leads to the latter. Condition: the reader has not failed yet.
+/// Fails with `Stop::Device` if a read fails, and with `Stop::Memory` if memory runs out, as it does for a reader that
+/// neither ends nor fails. Condition: the reader has not failed yet.
 pub fn read_all<R: Read>(alloc: Global, reader: &mut Watched<R>) -> Result<Vec<u8>, Stop>
     requires { has_failed reader.old ≡ false }
     ensures all { IfOk result (λ source.

@@ -58,7 +58,7 @@ class Document(Parts[Node]):
         return first_named(operations, name)
 
     def fragment(self, name: str) -> Optional[Fragment]:
-        """Returns the first fragment of this name; None where there is none."""
+        """Returns the first fragment of this name; None if there is none."""
         return first_named(self.fragments, name)
 
     def _siblings(self, index: int, end: int, kinds: Optional[FrozenSet[int]] = None) -> Nodes:

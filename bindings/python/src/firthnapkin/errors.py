@@ -13,7 +13,7 @@ __all__ = ["ErrorDetail", "ErrorKind", "FirthnapkinError"]
 
 
 class ErrorKind(enum.Enum):
-    """Why a text is no document within the limits."""
+    """Why a text isn't a document within the limits."""
 
     #: No document can go on with this token.
     UNEXPECTED_TOKEN = 0
@@ -27,7 +27,7 @@ class ErrorKind(enum.Enum):
     TOO_MANY_TOKENS = 4
     #: Never reported.
     INVALID_SCALAR = 5
-    #: There is half of a surrogate pair alone: such a str is no text.
+    #: There is half of a surrogate pair alone: such a str can't be encoded as UTF-8.
     SURROGATE = 6
 
 
@@ -46,7 +46,7 @@ class ErrorDetail(enum.Enum):
 
 
 class FirthnapkinError(ValueError):
-    """Why a text is no document within the limits, and where. It can be pickled and copied, with its source."""
+    """Why a text isn't a document within the limits, and where. It can be pickled and copied, with its source."""
 
     def __init__(
         self,

@@ -38,7 +38,7 @@ class PartWithArguments(NamedPart):
         return SyntaxParts(self._listed(_ARGUMENT_LISTS, Argument._KINDS), Argument)
 
     def argument(self, name: str) -> Optional[Argument]:
-        """Returns the first argument of this name; None where there is none."""
+        """Returns the first argument of this name; None if there is none."""
         return first_named(self.arguments, name)
 
 

@@ -76,7 +76,7 @@ class SyntaxPart:
         return self._node._children(kinds)
 
     def _child(self, kinds: FrozenSet[int]) -> Optional[Node]:
-        """The first of these nodes; None where there is none."""
+        """The first of these nodes; None if there is none."""
         return next(iter(self._children(kinds)), None)
 
     def _listed(self, lists: FrozenSet[int], kinds: FrozenSet[int]) -> Nodes:
@@ -165,7 +165,7 @@ class SyntaxParts(Sequence[Of]):
 
 
 def first_named(parts: SyntaxParts[S], name: str) -> Optional[S]:
-    """Returns the first of the parts that has this name; None where there is none."""
+    """Returns the first of the parts that has this name; None if there is none."""
     return next((part for part in parts if part.node.name == name), None)
 
 

@@ -15,10 +15,10 @@ pub data Fault (F : Type 0) : Type 0 where
   ScalarError : F → Fault F
 
 -- the error of a fault, by that of the end and that of another token
-abbrev pub told : {F : Type 0} → F → (Kind → Text → F) → Fault F → F
-told at_end unexpected UnexpectedEndOfFile = at_end
-told at_end unexpected (UnexpectedToken kind text) = unexpected kind text
-told at_end unexpected (ScalarError e) = e
+abbrev pub as_error : {F : Type 0} → F → (Kind → Text → F) → Fault F → F
+as_error at_end unexpected UnexpectedEndOfFile = at_end
+as_error at_end unexpected (UnexpectedToken kind text) = unexpected kind text
+as_error at_end unexpected (ScalarError e) = e
 
 module _ (Allowed : Lexeme → Type 0) where
   -- The fault of t, which is refused after the tokens before it.

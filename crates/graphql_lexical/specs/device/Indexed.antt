@@ -6,7 +6,7 @@ use Rattle.graphql_lexical.specs.Characters.{is_source, is_digit, is_alphanumeri
 use Rattle.graphql_lexical.specs.Kinds.{Kind, EndOfFile, LexicalError, UnknownCharacter, UnexpectedCharacter, UnterminatedString, UnknownCharacterInString, UnknownEscapeSequence, UnexpectedEndOfFile}
 use Rattle.graphql_lexical.specs.Tokens.{These, Spells, Starts, IsNumber, StartsNumber, IsZero, Pieces, IsUnit, mark, AreBlockUnits}
 use Rattle.graphql_lexical.specs.Place.{Place, place}
-use Rattle.graphql_lexical.specs.Cutting.{IsGap, Lexeme}
+use Rattle.graphql_lexical.specs.Cutting.{AreIgnored, Lexeme}
 use Rattle.graphql_lexical.specs.Nesting.{nesting}
 
 -- the longest prefix of the rest with P has n characters
@@ -39,7 +39,7 @@ pub data StringFailsAt : List ℕ → ℕ → LexicalError → Type 0 where
 
 -- The lexical error at the front of a rest, and its place, counted from the rest's start.
 pub data FailsAt : List ℕ → ℕ → LexicalError → Type 0 where
-  -- what begins a number, and is none
+  -- what begins like a number, and isn't one
   number_ends : {rest : List ℕ} {n : ℕ} → 0 < n → LongestAt StartsNumber rest n → (IsNumber (take n rest) → ⊥) → drop n rest ≡ [] → FailsAt rest n UnexpectedEndOfFile
   number_stops : {rest : List ℕ} {n c : ℕ} {after : List ℕ} → 0 < n → LongestAt StartsNumber rest n → (IsNumber (take n rest) → ⊥) → drop n rest ≡ c ∷ after → FailsAt rest n (UnexpectedCharacter c)
   zero_goes_on : {rest : List ℕ} {n c : ℕ} {after : List ℕ} → LongestAt StartsNumber rest n → IsZero (take n rest) → drop n rest ≡ c ∷ after → IsTrue (is_digit c) → FailsAt rest n (UnexpectedCharacter c)
@@ -54,31 +54,31 @@ pub data FailsAt : List ℕ → ℕ → LexicalError → Type 0 where
   -- any other character that begins no token
   unknown : {c : ℕ} {after : List ℕ} → (Starts (c ∷ []) → ⊥) → FailsAt (c ∷ after) 0 (UnknownCharacter c)
 
--- From place k on stand a gap and this token, which ends at place next.
+-- From place k on stand ignored tokens and this token, which ends at place next.
 pub record StandsAt (source : List ℕ) (k : ℕ) (lexeme : Lexeme) (next : ℕ) : Type 0 where
-  pub gap : ℕ
+  pub ignored : ℕ
   pub size : ℕ
-  pub gap_is : LongestAt IsGap (drop k source) gap
-  pub reads : ReadsAt (drop (k + gap) source) size lexeme.kind lexeme.text
-  pub start : lexeme.span.start ≡ place source (k + gap)
+  pub ignored_is : LongestAt AreIgnored (drop k source) ignored
+  pub reads : ReadsAt (drop (k + ignored) source) size lexeme.kind lexeme.text
+  pub start : lexeme.span.start ≡ place source (k + ignored)
   pub end : lexeme.span.end ≡ place source next
-  pub next_is : next ≡ (k + gap) + size
+  pub next_is : next ≡ (k + ignored) + size
 
--- From place k to place next stand gaps and these tokens in turn, none of them the end.
+-- From place k to place next stand these tokens, each after ignored tokens, none of them the end.
 abbrev pub LeadsAt : List ℕ → ℕ → List Lexeme → ℕ → Type 0
 LeadsAt source k [] next = k ≡ next
 LeadsAt source k (x ∷ xs) next = (middle : ℕ) × StandsAt source k x middle × (x.kind ≢ EndOfFile) × LeadsAt source middle xs next
 
--- From place k on the source is gaps and these tokens in turn, the last one and no other the end.
+-- From place k on the source is these tokens, each after ignored tokens, the last one and no other the end.
 abbrev pub CutFrom : List ℕ → ℕ → List Lexeme → Type 0
 CutFrom source k [] = ⊥
 CutFrom source k (x ∷ xs) = (next : ℕ) × StandsAt source k x next × (((x.kind ≡ EndOfFile) × (xs ≡ [])) ⊎ ((x.kind ≢ EndOfFile) × CutFrom source next xs))
 
--- From place k on: gaps and tokens in turn, none of them the end, then a gap and a rest with this lexical error at this
--- place.
+-- From place k on: tokens, each after ignored tokens, none of them the end, then ignored tokens and a rest with this
+-- lexical error at this place.
 pub data BreaksFrom : List ℕ → ℕ → LexicalError → Place → Type 0 where
-  here : {source : List ℕ} {k gap size : ℕ} {error : LexicalError} → LongestAt IsGap (drop k source) gap → FailsAt (drop (k + gap) source) size error → BreaksFrom source k error (place source ((k + gap) + size))
-  behind : {source : List ℕ} {k next : ℕ} {x : Lexeme} {error : LexicalError} {at : Place} → StandsAt source k x next → x.kind ≢ EndOfFile → BreaksFrom source next error at → BreaksFrom source k error at
+  here : {source : List ℕ} {k ignored size : ℕ} {error : LexicalError} → LongestAt AreIgnored (drop k source) ignored → FailsAt (drop (k + ignored) source) size error → BreaksFrom source k error (place source ((k + ignored) + size))
+  later : {source : List ℕ} {k next : ℕ} {x : Lexeme} {error : LexicalError} {at : Place} → StandsAt source k x next → x.kind ≢ EndOfFile → BreaksFrom source next error at → BreaksFrom source k error at
 
 -- how many more brackets the tokens up to token i, and with it, open than close
 abbrev pub nesting_at : List Lexeme → ℕ → ℤ

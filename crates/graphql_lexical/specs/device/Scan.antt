@@ -84,7 +84,7 @@ found n kind rest = Ok (record { size = n; kind = kind; text = text_of kind (tak
 abbrev pub missed : ℕ → LexicalError → Result Found Missed
 missed n error = Err (record { at = n; error = error })
 
--- a number that is none
+-- what isn't a number after all
 abbrev pub stopped : ℕ → List ℕ → Result Found Missed
 stopped n [] = missed n UnexpectedEndOfFile
 stopped n (c ∷ after) = missed n (UnexpectedCharacter c)
@@ -157,13 +157,15 @@ scan rest = let r = reach step Start rest in answer r.1 r.0 rest
 
 -- ---- sources
 
--- whether a gap stands within a comment
-abbrev pub gap_step : Bool → ℕ → Option Bool
-gap_step true c = if is_comment_character c then Some true else (if is_white c then Some false else (if c == 35 then Some true else None))
-gap_step false c = if is_white c then Some false else (if c == 35 then Some true else None)
+-- whether the ignored tokens end within a comment
+abbrev pub ignored_step : Bool → ℕ → Option Bool
+ignored_step true c =
+    if is_comment_character c then Some true
+    else (if is_white c then Some false else (if c == 35 then Some true else None))
+ignored_step false c = if is_white c then Some false else (if c == 35 then Some true else None)
 
-abbrev pub gap_size : List ℕ → ℕ
-gap_size rest = (reach gap_step false rest).0
+abbrev pub ignored_size : List ℕ → ℕ
+ignored_size rest = (reach ignored_step false rest).0
 
 pub record Broken : Type 0 where
   pub at : Place
@@ -192,7 +194,7 @@ next_cut source j go (Err m) = Err (record { at = place source (j + m.at); error
 abbrev pub cut_from : ℕ → List ℕ → ℕ → Result (List Lexeme) Broken
 cut_from zero source k = Ok []
 cut_from (suc fuel) source k =
-    let j = k + gap_size (drop k source) in
+    let j = k + ignored_size (drop k source) in
     next_cut source j (λ next. cut_from fuel source next) (scan (drop j source))
 
 -- the source's tokens, or its first lexical error

@@ -71,7 +71,7 @@ slice_of source span = take (span.end.index - span.start.index) (drop span.start
 -- The token stands at or after character k: its places are places of the source, and what stands between them is its
 -- text, of a String and of a block string its text between the quotes.
 pub record IsSliceFrom (source : List ℕ) (k : ℕ) (x : Lexeme) : Type 0 where
-  pub behind : k ≤ x.span.start.index
+  pub not_before : k ≤ x.span.start.index
   pub forward : x.span.start.index ≤ x.span.end.index
   pub within : x.span.end.index ≤ length source
   pub start : x.span.start ≡ place source x.span.start.index

@@ -64,7 +64,7 @@ fn next_operation(tokens: &Cursor<'_, '_>) -> Option<OperationType>
     }
 }
 
-/// `SelectionSet`, which stands at `start`.
+/// `SelectionSet`, which begins at `start`.
 #[tactic(auto, unfolding(graphql_grammar::specs::device::Productions::shorthand))]
 fn parse_shorthand<'a, S: ScalarValue>(
     tokens: &mut Cursor<'_, 'a>,
@@ -88,7 +88,7 @@ fn parse_shorthand<'a, S: ScalarValue>(
     )))
 }
 
-/// `Name? Variables? Directive* SelectionSet`, after the word of this type, which stands at `start`.
+/// `Name? Variables? Directive* SelectionSet`, after the word of this type, which begins at `start`.
 #[tactic(auto, unfolding(graphql_grammar::specs::device::Productions::operation))]
 fn parse_operation<'a, S: ScalarValue>(
     tokens: &mut Cursor<'_, 'a>,
@@ -129,7 +129,7 @@ fn parse_optional_name<'a>(tokens: &mut Cursor<'_, 'a>) -> OptionParseResult<&'a
     }
 }
 
-/// `FragmentName "on" Name Directive* SelectionSet`, after the word `fragment`, which stands at `start`.
+/// `FragmentName "on" Name Directive* SelectionSet`, after the word `fragment`, which begins at `start`.
 #[tactic(auto, unfolding(graphql_grammar::specs::device::Productions::fragment))]
 fn parse_fragment<'a, S: ScalarValue>(
     tokens: &mut Cursor<'_, 'a>,

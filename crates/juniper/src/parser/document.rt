@@ -23,15 +23,16 @@ use std::alloc::Global;
 
 /// Parses a source text as a document: `Document = Definition+ EndOfFile`
 ///
-/// A tree is returned exactly where the text is a document of the grammar. It is then the text's one tree, in which
-/// each span runs from the first character of its part's first token to the place after its last one. A text that can't
-/// be cut into tokens is refused as `ParseError::LexerError` at its first lexical error, whatever stands before it. Any
+/// A tree is returned exactly if the text is a document of the grammar. It is then the text's one tree, in which each
+/// span runs from the first character of its part's first token to the position after its last one. A text that can't
+/// be cut into tokens is refused as `ParseError::LexerError` at its first lexical error, whatever comes before it. Any
 /// other text is refused at the first token that cannot continue a document: at the end as `UnexpectedEndOfFile`, at a
 /// scalar that the scalar type refuses with that type's error, and otherwise as `UnexpectedToken`. The text up to the
-/// end of the token before, and a space, can be completed to a document's text with the same tokens in the same places.
+/// end of the token before, and a space, can be completed to a document's text with the same tokens at the same
+/// positions.
 ///
-/// Returns `ParseFailure::Memory` where memory ran out. The stack holds the nesting of the text; parse a text from an
-/// untrusted sender by `parse_document_source_within`.
+/// Returns `ParseFailure::Memory` if memory runs out. The call takes stack in proportion to the text's nesting; parse a
+/// text from an untrusted sender by `parse_document_source_within`.
 ///
 /// ```
 /// match parse_document_source::<DefaultScalarValue>(alloc, "{ a { b } }") {

@@ -32,8 +32,8 @@ impl<'a, S: Drop> Arguments<'a, S> {
         self.items.len()
     }
 
-    /// The value of the first argument of this name, or None (GraphQL specification, October 2021, section 2.6). It
-    /// takes time in proportion to the number of arguments.
+    /// The value of the first argument of this name, or None (GraphQL specification, October 2021, section 2.6). Takes
+    /// time in proportion to the number of arguments.
     ///
     /// ```
     /// // of `user(id: 1, first: 10)`

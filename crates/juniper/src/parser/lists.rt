@@ -6,7 +6,7 @@ use std::alloc::AllocError;
 // The capacity that is requested at the first of several items. Most lists have no more.
 const FEW: usize = 3;
 
-/// Appends an item. The first one of a list requests capacity for as many as are expected.
+/// Appends an item. The first item of a list requests capacity for the expected length.
 #[inline(always)]
 pub(crate) fn push_item<T: Drop>(
     items: &mut Vec<T>,
@@ -22,7 +22,7 @@ pub(crate) fn push_item<T: Drop>(
     Ok(())
 }
 
-/// How many items a list is expected to have, of which the first has just been read.
+/// The expected length of a list whose first item has just been read.
 #[inline(always)]
 pub(crate) fn expected(is_last: bool) -> usize {
     if is_last { 1 } else { FEW }

@@ -1,4 +1,4 @@
-//! The next token: it is looked at by `next_is` and `next_is_word`, taken where it is of a kind by `take_if`, and one that
+//! The next token: it is looked at by `next_is` and `next_is_word`, taken if it is of a kind by `take_if`, and one that
 //! has to be there is taken by `expect`, or by the cursor's `expect_name`.
 ghost use Rattle.std.specs.Prelude.{◌≡◌, ◌<◌, ◌≤◌, length, true, false, Some, None, IfOk, OnOk, if◌then◌else◌};
 ghost use Rattle.std.specs.Str.{chars};

@@ -22,7 +22,7 @@ use juniper_tokens::{
 };
 use juniper_values::ScalarValue;
 
-// What is left of a document is short where it has fewer tokens.
+// What is left of a document is short if it has fewer tokens.
 const MANY_TOKENS: usize = 128;
 
 /// `SelectionSet = "{" Selection+ "}"`
@@ -145,8 +145,8 @@ fn parse_field<'a, S: ScalarValue>(
     Ok(Selection::Field(Spanning::new(span, field)))
 }
 
-/// How many selections a set is expected to have, of which the first has just been read. In a short document a request for
-/// less memory is quicker.
+/// The expected length of a set whose first selection has just been read. In a short document a request for less memory
+/// is quicker.
 #[inline(always)]
 fn expected_selections(tokens: &Cursor<'_, '_>) -> usize {
     if next_is(tokens, Kind::CurlyClose) {
@@ -205,7 +205,7 @@ fn next_is_fragment_name(tokens: &Cursor<'_, '_>) -> bool
     tokens.kind() == Kind::Name && !same_text(tokens.text(), "on")
 }
 
-/// `FragmentName Directive*`, after three dots that stand at `start`. The name is known not to be `on`.
+/// `FragmentName Directive*`, after three dots that begin at `start`. The name is known not to be `on`.
 #[tactic(auto, unfolding(graphql_grammar::specs::device::Productions::named_spread))]
 fn parse_named_spread<'a, S: ScalarValue>(
     tokens: &mut Cursor<'_, 'a>,
@@ -224,7 +224,7 @@ fn parse_named_spread<'a, S: ScalarValue>(
     )))
 }
 
-/// `("on" Name)? Directive* SelectionSet`, after three dots that stand at `start`.
+/// `("on" Name)? Directive* SelectionSet`, after three dots that begin at `start`.
 #[cycle(selection)]
 #[tactic(auto, using(crate::proofs::SelectionViews::view_of_inline), unfolding(graphql_grammar::specs::device::Productions::inline))]
 fn parse_inline_fragment<'a, S: ScalarValue>(

@@ -14,8 +14,8 @@ use juniper_values::Type;
 
 /// Parses the longest prefix of the tokens that is a type (GraphQL specification, October 2021, section 2.11).
 ///
-/// It succeeds exactly where some prefix is a type. Otherwise it fails at the first token that cannot continue one,
-/// which is taken, unless it is the end. Where memory ran out, a suffix of the tokens is left. The stack holds the
+/// Succeeds exactly if some prefix is a type. Otherwise fails at the first token that can't continue one, which is
+/// taken, unless it is the end. If memory runs out, a suffix of the tokens is left. Takes stack in proportion to the
 /// type's nesting.
 ///
 /// ```

@@ -26,8 +26,8 @@ use std::alloc::{AllocError, Global};
 /// Parses the prefix of the tokens that is a value; a constant one has no variables (GraphQL specification, October
 /// 2021, section 2.9).
 ///
-/// It succeeds exactly where some prefix is a value. Otherwise it fails at the first token that cannot continue one,
-/// which is taken, unless it is the end. Where memory ran out, a suffix of the tokens is left. The stack holds the
+/// Succeeds exactly if some prefix is a value. Otherwise fails at the first token that can't continue one, which is
+/// taken, unless it is the end. If memory runs out, a suffix of the tokens is left. Takes stack in proportion to the
 /// value's nesting.
 ///
 /// ```

@@ -48,12 +48,11 @@ pub struct FragmentSpread<'a, S: Drop> {
     pub directives: Option<Vec<Spanning<Directive<'a, S>>>>,
 }
 
-/// Selections that stand under a type condition or under directives
-/// (GraphQL specification, October 2021, section 2.8.2).
+/// Selections under a type condition or under directives (GraphQL specification, October 2021, section 2.8.2).
 #[derive(Drop, PartialEq)]
 #[cycle(ast)]
 pub struct InlineFragment<'a, S: Drop> {
-    /// The type on which the selections apply, or None where they apply on any.
+    /// The type condition, or None if the selections apply on any type.
     pub type_condition: Option<Spanning<&'a str>>,
     /// None if there are none, otherwise not empty.
     pub directives: Option<Vec<Spanning<Directive<'a, S>>>>,

@@ -45,5 +45,6 @@ module _ {C : Type 0} (document : List (Definition C)) where
     pub data SpreadsAdd : Complexity → List Reference → Complexity → Type 0 where
       none_adds : {a : Complexity} → SpreadsAdd a [] a
       first_adds : {a c : Complexity} {r : Reference} {rs : List Reference} (t : ℕ) (b : Complexity)
-          → fragment_at document r.name ≡ Some t → HasBySpreads t b → SpreadsAdd (plus a (at_level r.level b)) rs c
+          → fragment_at document r.name ≡ Some t → HasBySpreads t b
+          → SpreadsAdd (plus a (at_level r.fields_around b)) rs c
           → SpreadsAdd a (r ∷ rs) c

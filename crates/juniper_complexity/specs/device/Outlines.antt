@@ -27,7 +27,7 @@ pub record Knows (names : BTreeMap (Bor (List ℕ)) ℕ) (place : Text → Optio
 abbrev pub coded : (Text → Option ℕ) → Reference → Spread
 coded place r = record {
   target = place r.name;
-  level = capped r.level;
+  fields_around = capped r.fields_around;
   span = record { start = r.span.start; end = r.span.end };
 }
 

@@ -23,7 +23,7 @@ module _ (g : List Outline) where
     pub data AddsUpTo : Complexity → List Spread → Complexity → Type 0 where
       no_spread : {a : Complexity} → AddsUpTo a [] a
       spread_first : {a c : Complexity} {s : Spread} {ss : List Spread} (t : ℕ) (b : Complexity)
-          → s.target ≡ Some t → OutlineHas t b → AddsUpTo (plus_capped a (at_level_capped s.level b)) ss c
+          → s.target ≡ Some t → OutlineHas t b → AddsUpTo (plus_capped a (at_level_capped s.fields_around b)) ss c
           → AddsUpTo a (s ∷ ss) c
 
   -- The first of these spreads that can't be expanded has this failure, as `CannotExpand` says of the document's.
@@ -96,7 +96,7 @@ pub data IsStep (g : List Outline) (old new : List State) (at : ℕ) : Step → 
       → IsStep g old new at (step.Done a)
   step_spread : (n t : ℕ) (a b : Complexity) (o : Outline) (s : Spread) → IsNext g old at n a o s → s.target ≡ Some t
       → slice_get old t ≡ Some (state.Done b)
-      → new ≡ set old at (state.Open (n + 1) (plus_capped a (at_level_capped s.level b)))
+      → new ≡ set old at (state.Open (n + 1) (plus_capped a (at_level_capped s.fields_around b)))
       → IsStep g old new at step.NextSpread
   step_enter : (n t : ℕ) (a : Complexity) (o p : Outline) (s : Spread) → IsNext g old at n a o s → s.target ≡ Some t
       → slice_get old t ≡ Some state.Unvisited → slice_get g t ≡ Some p

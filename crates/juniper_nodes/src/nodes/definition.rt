@@ -16,7 +16,7 @@ use std::alloc::{AllocError, Global};
 /// The nodes of a document: each part of its tree before the parts in it, in the order in which the source writes them
 /// (GraphQL specification, October 2021, section 2.2).
 ///
-/// Returns `AllocError` where memory ran out. The stack holds the tree's nesting.
+/// Returns `AllocError` if memory runs out. The stack holds the tree's nesting.
 ///
 /// ```
 /// for node in &document_nodes(alloc, &document)? {
@@ -39,8 +39,8 @@ pub fn document_nodes<'t, 'a, S: ScalarValue>(
 
 /// Appends the nodes of a definition (GraphQL specification, October 2021, section 2.2).
 ///
-/// Returns `AllocError` where memory ran out: the nodes from before still stand at the front then, and some of the
-/// definition's nodes may stand after them.
+/// Returns `AllocError` if memory runs out: the earlier nodes are still at the front then, and some of the definition's
+/// nodes may follow them.
 pub fn push_definition<'t, 'a, S: ScalarValue>(
     nodes: &mut Vec<Node<'t, 'a, S>>,
     definition: &'t Definition<'a, S>,

@@ -72,7 +72,7 @@ pub(crate) fn label_of<'t, 'a>(name: &'t Option<Spanning<&'a str>>) -> Label<'t,
     }
 }
 
-/// Counts the nodes after the one at this index, all of which are of parts in it.
+/// Counts the nodes after the one at this index, all of which are its descendants.
 pub(crate) fn close<S: ScalarValue>(nodes: &mut Vec<Node<'_, '_, S>>, place: usize)
     requires { place < length (view_nodes S.content nodes.old) }
     ensures { CountsInner S.content nodes.old nodes.new place }

@@ -14,7 +14,7 @@ use std::alloc::{AllocError, Global};
 
 /// The nodes of a value (GraphQL specification, October 2021, section 2.9).
 ///
-/// Returns `AllocError` where memory ran out.
+/// Returns `AllocError` if memory runs out.
 pub fn value_nodes<'t, S: ScalarValue>(
     alloc: Global,
     value: &'t Spanning<InputValue<S>>,

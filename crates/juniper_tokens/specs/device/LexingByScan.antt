@@ -1,4 +1,4 @@
--- A device: the gap of ignored tokens before a token, by the computed scan.
+-- A device: the ignored tokens before a token, by the computed scan.
 use Rattle.std.specs.Prelude.{◌≡◌, ℕ, ◌+◌, ◌≤◌, ◌<◌, ◌^◌, ◌==◌, Bool, false, List, [], ◌∷◌, drop, length}
 use Rattle.std.specs.Str.{chars}
 use Rattle.graphql_lexical.specs.Place.{Place, place}
@@ -6,8 +6,9 @@ use Rattle.graphql_lexical.specs.device.Scan as scans
 use Rattle.juniper_tokens.specs.device.ByteRuns.{byte_at}
 use Rattle.juniper_tokens.specs.Lexing.{LexerState}
 
-abbrev pub past_gap : LexerState → LexerState
-past_gap s = record { source = s.source; index = s.index + scans.gap_size (drop s.index s.source); ended = s.ended }
+abbrev pub past_ignored : LexerState → LexerState
+past_ignored s =
+    record { source = s.source; index = s.index + scans.ignored_size (drop s.index s.source); ended = s.ended }
 
 -- a byte order mark stands first
 abbrev pub begins_with_mark : List ℕ → Bool
@@ -19,4 +20,4 @@ pub record IsPlaced (source : List ℕ) (at : ℕ) (p : Place) : Type 0 where
   pub byte_is : at ≡ byte_at p.index (chars source)
   pub place_is : p ≡ place (chars source) p.index
   pub within : p.index ≤ length (chars source)
-  pub room : length source < 2 ^ 64
+  pub fits : length source < 2 ^ 64

@@ -8,7 +8,7 @@ abbrev pub IsOffset : Offset → List ℕ → Type 0
 IsOffset b cs = b.bytes ≡ byte_at b.characters cs
 
 -- this many characters stand before it, or all where there are fewer
-pub record IsOffsetBehind (count : ℕ) (cs : List ℕ) (b : Offset) : Type 0 where
+pub record IsOffsetAfter (count : ℕ) (cs : List ℕ) (b : Offset) : Type 0 where
   pub offset : IsOffset b cs
   pub front : take b.characters cs ≡ take count cs
   pub rest : drop b.characters cs ≡ drop count cs

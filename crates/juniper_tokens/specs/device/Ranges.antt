@@ -24,7 +24,7 @@ use Rattle.juniper_tokens.specs.LineTables.{lines_of, IsOnLine}
 use Rattle.juniper_tokens.specs.declared.line.NearLines.{NearLines}
 use Rattle.juniper_tokens.specs.device.LineSteps.{IsLine}
 use Rattle.juniper_tokens.specs.Lexing.{LexerState, PassesToken, GivesFault, WantsMemory}
-use Rattle.juniper_tokens.specs.device.LexingByScan.{past_gap}
+use Rattle.juniper_tokens.specs.device.LexingByScan.{past_ignored}
 use Rattle.juniper_tokens.specs.Cursor.{EndsOnce, first_of}
 
 -- the characters of a range
@@ -109,9 +109,9 @@ abbrev pub TakesPlain : LexerState → Option TokenRange → LexerState → Type
 TakesPlain s None t = t ≡ s
 TakesPlain s (Some range) t = TakesRange s range t
 
--- The lexer went over a gap, and over the token after it or no further.
+-- The lexer went over ignored tokens, and over the token after it or no further.
 abbrev pub MayTake : LexerState → Option TokenRange → LexerState → Type 0
-MayTake s range t = TakesPlain (past_gap s) range t
+MayTake s range t = TakesPlain (past_ignored s) range t
 
 -- ---- cursors
 

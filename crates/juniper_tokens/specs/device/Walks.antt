@@ -7,7 +7,7 @@ use Rattle.graphql_lexical.specs.device.Machines.{reach}
 use Rattle.graphql_lexical.specs.Place.{Place, past_character}
 use Rattle.graphql_lexical.specs.declared.state.State.{State}
 use Rattle.graphql_lexical.specs.declared.state.State.TheVariants.{Start, Zero}
-use Rattle.graphql_lexical.specs.device.Scan.{gap_size, step}
+use Rattle.graphql_lexical.specs.device.Scan.{ignored_size, step}
 use Rattle.juniper_tokens.specs.declared.lexer.run.Run.{Run}
 use Rattle.juniper_tokens.specs.declared.lexer.run.Run.TheVariants as run
 use Rattle.juniper_tokens.specs.declared.lexer.text.Offset.{Offset}
@@ -76,8 +76,8 @@ is_in_float (c ∷ cs) = is_some (step Zero c)
 abbrev pub first_class : List ℕ → ByteClass
 first_class cs = class_of (get_or (encodes cs) 0 0)
 
--- the byte at which a gap ends, its place, and its class
-pub record EndsGap (cs : List ℕ) (start : Place) (bytes : ℕ) (position : Place) (class : ByteClass) : Type 0 where
-  pub bytes_is : bytes ≡ byte_at (gap_size cs) cs
-  pub position_is : position ≡ fold past_character start (take (gap_size cs) cs)
-  pub class_is : class ≡ first_class (drop (gap_size cs) cs)
+-- the byte at which ignored tokens end, its place, and its class
+pub record EndsIgnored (cs : List ℕ) (start : Place) (bytes : ℕ) (position : Place) (class : ByteClass) : Type 0 where
+  pub bytes_is : bytes ≡ byte_at (ignored_size cs) cs
+  pub position_is : position ≡ fold past_character start (take (ignored_size cs) cs)
+  pub class_is : class ≡ first_class (drop (ignored_size cs) cs)

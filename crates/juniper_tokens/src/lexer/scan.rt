@@ -9,7 +9,7 @@ ghost use Rattle.juniper_tokens.specs.device.Scans.{MeetsScan, Misses};
 
 use crate::error::LexerError;
 use crate::lexer::text::{
-    Offset, count_alphanumerics, first_character, first_characters, joined, text_behind, text_from,
+    Offset, count_alphanumerics, first_character, first_characters, joined, text_after, text_from,
 };
 use crate::lexer::walk::{Reached, walk_token};
 use graphql_lexical::{Block, Kind, State};
@@ -19,7 +19,7 @@ use std::alloc::Global;
 #[derive(Clone, Copy)]
 pub(crate) struct Found {
     pub(crate) kind: Kind,
-    /// The offset of the end, from where the token begins.
+    /// The offset of the end, from the token's beginning.
     pub(crate) end: Offset,
 }
 
@@ -32,7 +32,7 @@ pub(crate) enum Missed {
     Memory,
 }
 
-// The error where what begins a number is none.
+// The error if what begins like a number isn't one.
 fn number_fault(rest: &str, at: usize) -> Missed
     ensures { Misses result (stopped at (chars rest.now)) }
 {
@@ -53,7 +53,7 @@ fn dots_fault(rest: &str, at: usize) -> Missed
     }
 }
 
-// The error where a string continues neither with a character that stands for itself nor with an escape.
+// The error if a string continues neither with a character that stands for itself nor with an escape.
 fn string_fault(rest: &str, at: usize) -> Missed
     ensures { Misses result (after_units at (chars rest.now)) }
 {
@@ -69,7 +69,7 @@ fn string_fault(rest: &str, at: usize) -> Missed
     }
 }
 
-// The error where a block string has no end.
+// The error if a block string has no end.
 fn block_fault(rest: &str, at: usize) -> Missed
     ensures { Misses result (after_block at (chars rest.now)) }
 {
@@ -79,7 +79,7 @@ fn block_fault(rest: &str, at: usize) -> Missed
     }
 }
 
-// The error where the text after `marks`, a backslash or a backslash and `u`, makes no escape with them.
+// The error if the text after `marks`, a backslash or a backslash and `u`, makes no escape with them.
 fn escape_fault(alloc: Global, marks: &str, rest: &str, at: usize) -> Missed
     ensures { Misses result (missed at (UnknownEscapeSequence (chars marks.now ++ chars rest.now))) }
 {
@@ -106,20 +106,20 @@ fn unicode_fault(alloc: Global, rest: &str, at: usize) -> Missed
     ensures { Misses result (after_u at (chars rest.now)) }
 {
     let count = count_alphanumerics(rest);
-    if count < 4 && text_behind(rest, count).is_empty() {
+    if count < 4 && text_after(rest, count).is_empty() {
         Missed::Fault(LexerError::UnterminatedString, at + 1 + count)
     } else {
         escape_fault(alloc, "\\u", first_characters(rest, count.max(1)), at)
     }
 }
 
-// The same, where `end` characters of the text have been read, `digits` digits after the `u` among them.
+// The same, if `end` characters of the text have been read, `digits` digits after the `u` among them.
 fn digits_fault(alloc: Global, text: &str, end: usize, digits: usize) -> Missed
     requires end { end ≤ length text.now }
     requires digits { digits < 4 }
     ensures { Misses result (after_u (end - (digits + 1)) (drop (end - digits) (chars text.now))) }
 {
-    let rest = text_behind(text, end.saturating_sub(digits));
+    let rest = text_after(text, end.saturating_sub(digits));
     unicode_fault(alloc, rest, end.saturating_sub(digits + 1))
 }
 
@@ -143,7 +143,7 @@ fn scan_zero(text: &str, end: Offset) -> Result<Found, Missed>
     token_of(Kind::Int, end)
 }
 
-// Where no token begins: at the end, or at a character.
+// If no token begins: at the end, or at a character.
 fn scan_unknown(text: &str) -> Result<Found, Missed>
     ensures { MeetsScan result (chars text.now) (answer Start 0 (chars text.now)) }
 {
@@ -156,7 +156,7 @@ fn scan_unknown(text: &str) -> Result<Found, Missed>
     }
 }
 
-// The token or the lexical error where the steps have stopped.
+// The token or the lexical error at which the steps have stopped.
 fn scan_reached(alloc: Global, text: &str, reached: Reached) -> Result<Found, Missed>
     requires offset { IsOffset reached.end (chars text.now) }
     requires within { reached.end.characters ≤ length text.now }
@@ -189,7 +189,7 @@ fn scan_reached(alloc: Global, text: &str, reached: Reached) -> Result<Found, Mi
     }
 }
 
-// The same, where they have stopped in a block string or after it.
+// The same, if they have stopped in a block string or after it.
 fn scan_block(text: &str, part: Block, end: Offset) -> Result<Found, Missed>
     requires { IsOffset end (chars text.now) }
     ensures { MeetsScan result (chars text.now) (answer_in_block part end.characters (chars text.now)) }

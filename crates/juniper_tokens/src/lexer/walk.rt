@@ -9,7 +9,7 @@ ghost use Rattle.graphql_lexical.specs.device.Scan.{step as next_state};
 ghost use Rattle.juniper_tokens.specs.device.Offsets.{IsOffset};
 ghost use Rattle.juniper_tokens.specs.device.ByteRuns.{byte_at};
 ghost use Rattle.juniper_tokens.specs.device.LexingByScan.{begins_with_mark};
-ghost use Rattle.juniper_tokens.specs.device.Walks.{EndsGap, StaysOver, WalkedToken};
+ghost use Rattle.juniper_tokens.specs.device.Walks.{EndsIgnored, StaysOver, WalkedToken};
 
 use crate::byte_classes::{ByteClass, byte_class};
 use crate::lexer::machine::step;
@@ -18,16 +18,16 @@ use crate::lexer::text::{Offset, begins_with_mark, first_characters, text_from};
 use crate::position::SourcePosition;
 use graphql_lexical::{Block, State};
 
-/// The end of ignored tokens, a gap.
+/// The end of ignored tokens.
 #[derive(Clone, Copy)]
-pub(crate) struct GapEnd {
+pub(crate) struct IgnoredEnd {
     pub(crate) bytes: usize,
     pub(crate) position: SourcePosition,
     /// The class of the byte there, or of a zero byte at the end.
     pub(crate) class: ByteClass,
 }
 
-/// Where the steps of a token stop, and in which state.
+/// The offset at which the steps of a token stop, and their state there.
 #[derive(Clone, Copy)]
 pub(crate) struct Reached {
     pub(crate) state: State,
@@ -36,9 +36,9 @@ pub(crate) struct Reached {
 
 /// Skips the ignored tokens at the front of a text.
 #[inline(always)]
-pub(crate) fn walk_gap(text: &str, start: SourcePosition) -> GapEnd
+pub(crate) fn walk_ignored(text: &str, start: SourcePosition) -> IgnoredEnd
     requires { start.index + length text.now < 2 ^ 64 }
-    ensures { EndsGap (chars text.now) start result.bytes result.position result.class }
+    ensures { EndsIgnored (chars text.now) start result.bytes result.position result.class }
 {
     let bytes = text.as_bytes();
     let mut position = start;
@@ -63,7 +63,7 @@ pub(crate) fn walk_gap(text: &str, start: SourcePosition) -> GapEnd
             }
             ByteClass::Lead => {
                 if !is_mark_at(text, i, position.index() - start.index()) {
-                    return GapEnd {
+                    return IgnoredEnd {
                         bytes: i,
                         position,
                         class,
@@ -73,7 +73,7 @@ pub(crate) fn walk_gap(text: &str, start: SourcePosition) -> GapEnd
                 i += 3;
             }
             _ => {
-                return GapEnd {
+                return IgnoredEnd {
                     bytes: i,
                     position,
                     class,
@@ -81,7 +81,7 @@ pub(crate) fn walk_gap(text: &str, start: SourcePosition) -> GapEnd
             }
         }
     }
-    GapEnd {
+    IgnoredEnd {
         bytes: i,
         position,
         class: ByteClass::Control,
@@ -167,7 +167,7 @@ pub(crate) fn walk_on(text: &str, from: State, start: Offset) -> Reached
     }
 }
 
-/// The place at the end of a text that begins at `start`.
+/// The position at the end of a text that begins at `start`.
 pub(crate) fn walk_text(text: &str, start: SourcePosition) -> SourcePosition
     requires { start.index + length text.now < 2 ^ 64 }
     ensures { result ≡ fold past_character start (chars text.now) }
@@ -194,7 +194,7 @@ pub(crate) fn walk_text(text: &str, start: SourcePosition) -> SourcePosition
     position
 }
 
-/// The place `count` characters after `start`, or at the end of the text.
+/// The position `count` characters after `start`, or at the end of the text.
 pub(crate) fn walk_characters(text: &str, start: SourcePosition, count: usize) -> SourcePosition
     requires { start.index + length text.now < 2 ^ 64 }
     ensures { result ≡ fold past_character start (take count (chars text.now)) }

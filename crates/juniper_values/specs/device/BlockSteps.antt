@@ -8,7 +8,7 @@ use Rattle.juniper_values.specs.BlockStrings.{line_feed, is_indent}
 use Rattle.juniper_values.specs.declared.block_string.Line.{Line}
 use Rattle.juniper_values.specs.declared.block_string.Line.TheVariants.{Blank, Filled}
 use Rattle.juniper_values.specs.declared.block_string.Place.{Place}
-use Rattle.juniper_values.specs.declared.block_string.Place.TheVariants.{First, Indent, Behind}
+use Rattle.juniper_values.specs.declared.block_string.Place.TheVariants.{First, Indent, AfterIndent}
 
 -- a backslash before a triple quote, and a CR before LF
 abbrev pub is_left_out : ℕ → Text → Bool
@@ -18,13 +18,13 @@ is_left_out c t = (c == 92 && starts_with nat_eq t mark) || (c == 13 && starts_w
 abbrev pub white_before : Place → ℕ
 white_before First = 0
 white_before (Indent n) = n
-white_before Behind = 0
+white_before AfterIndent = 0
 
 -- the place after a character
 abbrev pub place_after : Place → ℕ → Place
 place_after First c = if is_line_end c then Indent 0 else First
-place_after (Indent n) c = if is_line_end c then Indent 0 else if is_indent c then Indent (n + 1) else Behind
-place_after Behind c = if is_line_end c then Indent 0 else Behind
+place_after (Indent n) c = if is_line_end c then Indent 0 else if is_indent c then Indent (n + 1) else AfterIndent
+place_after AfterIndent c = if is_line_end c then Indent 0 else AfterIndent
 
 abbrev pub lesser : Option ℕ → ℕ → ℕ
 lesser None n = n
@@ -34,7 +34,7 @@ lesser (Some m) n = min m n
 abbrev pub least_after : Option ℕ → Place → ℕ → Option ℕ
 least_after o First c = o
 least_after o (Indent n) c = if is_line_end c || is_indent c then o else Some (lesser o n)
-least_after o Behind c = o
+least_after o AfterIndent c = o
 
 -- what is written of a character within a line, and the line after it
 abbrev pub written : Line → ℕ → Text
@@ -55,7 +55,7 @@ is_filled Filled = true
 abbrev pub is_in_indent : Place → Bool
 is_in_indent First = false
 is_in_indent (Indent n) = true
-is_in_indent Behind = false
+is_in_indent AfterIndent = false
 
 -- ---- runs
 

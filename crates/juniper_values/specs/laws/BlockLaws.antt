@@ -12,7 +12,7 @@ pub record HasNoBlankEnds (t : Text) : Type 0 where
 pub data AreIndented (n : ℕ) : List Text → List Text → Type 0 where
   none : AreIndented n [] []
   empty : (ls ms : List Text) → AreIndented n ls ms → AreIndented n ([] ∷ ls) ([] ∷ ms)
-  behind : (white line : Text) (ls ms : List Text) → length white ≡ n → is_blank white ≡ true → AreIndented n ls ms
+  after_white : (white line : Text) (ls ms : List Text) → length white ≡ n → is_blank white ≡ true → AreIndented n ls ms
       → AreIndented n (line ∷ ls) ((white ++ line) ∷ ms)
 
 -- the same of two texts, and of every line but the first

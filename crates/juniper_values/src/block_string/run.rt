@@ -11,7 +11,7 @@ const LANES: usize = 16;
 // Splits a text after its longest prefix without a backslash and without a line end.
 pub(crate) fn split_run(text: &str) -> (&str, &str)
     ensures run { chars result.0.now ≡ take (run_length (chars text.now)) (chars text.now) }
-    ensures behind { chars result.1.now ≡ drop (run_length (chars text.now)) (chars text.now) }
+    ensures after { chars result.1.now ≡ drop (run_length (chars text.now)) (chars text.now) }
     ensures no_longer { length result.1.now ≤ length text.now }
     ensures utf8 { IsUtf8 result.1.now }
 {

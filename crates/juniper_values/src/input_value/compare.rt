@@ -1,4 +1,4 @@
-//! Equality of input values regardless of their places.
+//! Equality of input values regardless of their spans.
 ghost use Rattle.std.specs.Prelude.{◌≡◌, ◌<◌, ◌≤◌, ◌+◌, ℕ, length, drop, true, false};
 ghost use Rattle.juniper_values.specs.Same.{same_but_place, same_items_but_place, wanted, is_found, is_wanted, all_found, all_wanted};
 ghost use Rattle.juniper_values.specs.device.Keys.{has_key, keys_differ, found_at, wanted_at};
@@ -11,10 +11,10 @@ use juniper_tokens::Spanning;
 use juniper_tokens::text::same_string;
 
 impl<S: PartialEq> InputValue<S> {
-    /// Whether the values are equal regardless of their places. Fields of objects may stand in any order.
+    /// Whether the values are equal regardless of their spans. Fields of objects may be in any order.
     ///
-    /// If this value consists of `m` values and the other of `n`, at most `m * n * n` pairs of values are compared. No
-    /// memory is taken. The stack holds the nesting of both.
+    /// If this value consists of `m` values and the other of `n`, at most `m * n * n` pairs of values are compared.
+    /// Takes no memory, and stack in proportion to the nesting of both.
     ///
     /// ```
     /// // of `{a: 1, b: [true]}` and `{ b:[ true ] a:1 }`: true
@@ -61,9 +61,9 @@ fn same_list<S: PartialEq>(
 }
 
 // Each field of either object is looked for in the other. A comparison that went twice into each field would take 2^d
-// steps at depth d. So where the keys of `b` differ from each other, the second search goes by keys alone; where some
-// repeat, the largest field of `b`, the one at `once`, is compared with each field of `a` once, and `met` keeps whether
-// it was equal to one of them. That bounds the values compared by the size of `a` times the square of the size of `b`.
+// steps at depth d. So if the keys of `b` differ from each other, the second search goes by keys alone; if some repeat,
+// the largest field of `b`, the one at `once`, is compared with each field of `a` once, and `met` keeps whether it was
+// equal to one of them. That bounds the values compared by the size of `a` times the square of the size of `b`.
 #[cycle(compare)]
 fn same_object<S: PartialEq>(
     a: &Vec<(Spanning<String>, Spanning<InputValue<S>>)>,
@@ -225,7 +225,7 @@ fn keys_differ<S>(fields: &Vec<(Spanning<String>, Spanning<InputValue<S>>)>) -> 
     true
 }
 
-// The index of the field that is compared once: where keys repeat, of the largest. Which one it is changes what a
+// The index of the field that is compared once: if keys repeat, of the largest. Which one it is changes what a
 // comparison costs, not its result.
 fn compared_once<S>(
     fields: &Vec<(Spanning<String>, Spanning<InputValue<S>>)>,

@@ -14,15 +14,15 @@ pub trait FromInputValue<S: Drop>: Sized {
     // What the conversion may return for a value.
     ghost answers: { Value S → Result Self Self.Error → Type 0 };
 
-    // What it may return where no value is given.
+    // What it may return if no value is given.
     ghost implicit: { Result Self Self.Error → Type 0 };
 
-    /// Converts the value to this type. Its own error says where memory ran out.
+    /// Converts the value to this type. Running out of memory is an error of the type's own.
     fn from_input_value(alloc: Global, value: &InputValue<S>) -> Result<Self, Self::Error>
         ensures { answers (view (λ s. s) value.now) result };
 
-    /// Converts a value that is not given: as `null`, unless the type says otherwise. Its own error says where memory
-    /// ran out.
+    /// Converts an absent value: as `null`, unless the type says otherwise. Running out of memory is an error of the
+    /// type's own.
     fn from_implicit_null(alloc: Global) -> Result<Self, Self::Error>
         ensures { implicit result }
     {
@@ -35,7 +35,7 @@ pub trait FromInputValue<S: Drop>: Sized {
 
 impl<S: Drop> InputValue<S> {
     /// Converts the value to the type `T`. This promises what `T` itself states, and no more. The error is that of `T`,
-    /// which says where memory ran out.
+    /// also if memory runs out.
     pub fn convert<T: FromInputValue<S>>(&self, alloc: Global) -> Result<T, T::Error>
         ensures { T.answers (view (λ s. s) self.now) result }
     {

@@ -9,9 +9,9 @@ use juniper_tokens::text::copied;
 use std::alloc::{AllocError, Global};
 
 impl<S: ScalarValue> InputValue<S> {
-    /// A copy, which equals the value, its places included.
+    /// A copy, which equals the value, its spans included.
     ///
-    /// Returns `AllocError` where memory ran out. The stack holds the value's nesting.
+    /// Returns `AllocError` if memory runs out. Takes stack in proportion to the value's nesting.
     pub fn try_clone(&self, alloc: Global) -> Result<Self, AllocError>
         ensures { IfOk result (λ v. view S.content v ≡ view S.content self.now) }
     {

@@ -13,7 +13,7 @@ use juniper_tokens::text::write_text;
 use std::fmt;
 use std::fmt::Write;
 
-/// Displays the value in GraphQL's own form, except that texts stand between quotes without escaping.
+/// Displays the value in GraphQL's own form, except that texts are between quotes without escaping.
 impl<S: ScalarValue> fmt::Display for InputValue<S> {
     ghost output = { λ v. Some (encode_utf8_all (value_text (scalar_display S.content S.str_in S.shown) (view (λ s. s) v))) };
 

@@ -1,4 +1,4 @@
-//! Equality of input values, their places included.
+//! Equality of input values, their spans included.
 ghost use Rattle.std.specs.Prelude.{◌≡◌, ◌&&◌};
 ghost use Rattle.juniper_tokens.specs.Spans.{view_span};
 ghost use Rattle.juniper_values.specs.Equality.{same_span, same_value, same_items, same_fields};
@@ -9,7 +9,7 @@ use crate::input_value::InputValue;
 use juniper_tokens::text::same_string;
 use juniper_tokens::{Span, Spanning};
 
-/// Values are equal if their scalars, names and places are, fields in their order.
+/// Values are equal if their scalars, names and spans are, fields in their order.
 impl<S: PartialEq> PartialEq for InputValue<S> {
     ghost use Rattle.juniper_values.specs.laws.EqualityLaws.{same_value-laws};
 

@@ -26,28 +26,28 @@ impl<S> InputValue<S> {
         InputValue::Scalar(scalar)
     }
 
-    /// The list of these items, with their places.
+    /// The list of these items, with their spans.
     pub fn parsed_list(items: Vec<Spanning<Self>>) -> Self
         ensures { result ≡ InputValue.List items }
     {
         InputValue::List(items)
     }
 
-    /// The object of these fields, with the places of their keys and values.
+    /// The object of these fields, with the spans of their keys and values.
     pub fn parsed_object(fields: Vec<(Spanning<String>, Spanning<Self>)>) -> Self
         ensures { result ≡ InputValue.Object fields }
     {
         InputValue::Object(fields)
     }
 
-    /// The enum value of this name, which is copied. Returns `AllocError` where memory ran out.
+    /// The enum value of this name, which is copied. Returns `AllocError` if memory runs out.
     pub fn enum_value(alloc: Global, name: &str) -> Result<Self, AllocError>
         ensures { IfOk result (λ v. view (λ s. s) v ≡ Enum (chars name.now)) }
     {
         Ok(InputValue::Enum(String::from_str(alloc, name)?))
     }
 
-    /// The variable of this name, which is given without its `$` and copied. Returns `AllocError` where memory ran out.
+    /// The variable of this name, which is given without its `$` and copied. Returns `AllocError` if memory runs out.
     pub fn variable(alloc: Global, name: &str) -> Result<Self, AllocError>
         ensures { IfOk result (λ v. view (λ s. s) v ≡ Variable (chars name.now)) }
     {
@@ -56,23 +56,23 @@ impl<S> InputValue<S> {
 }
 
 impl<S: Drop> InputValue<S> {
-    /// The list of these items, each with the place `Span::unlocated`.
+    /// The list of these items, each with the span `Span::unlocated`.
     ///
-    /// Where memory ran out, returns the items.
+    /// If memory runs out, returns the items.
     pub fn list(alloc: Global, items: Vec<Self>) -> Result<Self, Vec<Self>>
         ensures { MatchResult result
             (λ v. view (λ s. s) v ≡ ListOf (unlocated_items (map (view (λ s. s)) items.items)))
             (λ back. back ≡ items) }
     {
         match Vec::with_capacity(alloc, items.len()) {
-            Ok(room) => Ok(InputValue::List(placed_items(room, items))),
+            Ok(empty) => Ok(InputValue::List(placed_items(empty, items))),
             Err(_) => Err(items),
         }
     }
 
-    /// The object of these fields, each key and value with the place `Span::unlocated`.
+    /// The object of these fields, each key and value with the span `Span::unlocated`.
     ///
-    /// Where memory ran out, returns the fields.
+    /// If memory runs out, returns the fields.
     pub fn object(
         alloc: Global,
         fields: IndexMap<String, Self>,
@@ -82,39 +82,39 @@ impl<S: Drop> InputValue<S> {
             (λ back. back ≡ fields) }
     {
         match Vec::with_capacity(alloc, fields.len()) {
-            Ok(room) => Ok(InputValue::Object(placed_fields(room, fields))),
+            Ok(empty) => Ok(InputValue::Object(placed_fields(empty, fields))),
             Err(_) => Err(fields),
         }
     }
 }
 
-// The items with a place, in a list that has capacity for them.
+// The items with spans, in a list that has capacity for them.
 fn placed_items<S: Drop>(
-    room: Vec<Spanning<InputValue<S>>>,
+    empty: Vec<Spanning<InputValue<S>>>,
     items: Vec<InputValue<S>>,
 ) -> Vec<Spanning<InputValue<S>>>
-    requires empty { room.items ≡ [] }
-    requires fits { vec_len items ≤ vec_capacity room }
+    requires empty { empty.items ≡ [] }
+    requires fits { vec_len items ≤ vec_capacity empty }
     ensures { view_items (λ s. s) result.items ≡ unlocated_items (map (view (λ s. s)) items.items) }
 {
-    let mut placed = room;
+    let mut placed = empty;
     for item in items {
         placed.push_reserved(Spanning::unlocated(item));
     }
     placed
 }
 
-// The fields with places, in a list that has capacity for them.
+// The fields with spans, in a list that has capacity for them.
 fn placed_fields<S: Drop>(
-    room: Vec<(Spanning<String>, Spanning<InputValue<S>>)>,
+    empty: Vec<(Spanning<String>, Spanning<InputValue<S>>)>,
     fields: IndexMap<String, InputValue<S>>,
 ) -> Vec<(Spanning<String>, Spanning<InputValue<S>>)>
-    requires empty { room.items ≡ [] }
-    requires fits { index_map_len fields ≤ vec_capacity room }
+    requires empty { empty.items ≡ [] }
+    requires fits { index_map_len fields ≤ vec_capacity empty }
     ensures { view_fields (λ s. s) result.items
         ≡ unlocated_fields (map (λ e. (text_of e.0, view (λ s. s) e.1)) fields.entries) }
 {
-    let mut placed = room;
+    let mut placed = empty;
     for (key, value) in fields {
         placed.push_reserved((Spanning::unlocated(key), Spanning::unlocated(value)));
     }

@@ -13,9 +13,9 @@ impl<S> InputValue<S> {
     /// The fields of an object as a map, or None for another value. A repeated key keeps its first place and takes the
     /// last value.
     ///
-    /// Returns `AllocError` where memory ran out. The map hashes with a fixed seed: whoever picks the keys can make
-    /// them collide, and n of them then take time in proportion to the square of n. So limit the fields of an object
-    /// that comes from an untrusted sender.
+    /// Returns `AllocError` if memory runs out. The map hashes with a fixed seed: whoever picks the keys can make them
+    /// collide, and n of them then take time in proportion to the square of n. So limit the fields of an object that
+    /// comes from an untrusted sender.
     pub fn to_object_value(
         &self,
         alloc: Global,
@@ -31,7 +31,7 @@ impl<S> InputValue<S> {
 
     /// The items of a list, or None for another value.
     ///
-    /// Returns `AllocError` where memory ran out.
+    /// Returns `AllocError` if memory runs out.
     pub fn to_list_value(&self, alloc: Global) -> Result<Option<Vec<&Self>>, AllocError>
         ensures { IfOk result
             (λ o. option_map (λ v. map (λ x. view (λ s. s) x.now) v.items) o ≡ list_of (view (λ s. s) self.now)) }

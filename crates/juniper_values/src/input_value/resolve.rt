@@ -18,13 +18,13 @@ use std::collections::HashMap;
 pub type Variables<S> = HashMap<String, InputValue<S>>;
 
 impl<S: ScalarValue> InputValue<S> {
-    /// Replaces each variable in the value by a copy of its value, in which no variable is replaced. All else is moved:
-    /// its scalars are the given ones.
+    /// Replaces each variable in the value by a copy of its value, in which no variable is replaced. All else is moved,
+    /// its scalars too.
     ///
     /// A variable without a value is removed: a value that is one gives `None`, an item of a list becomes `null`, and a
-    /// field of an object is left out (GraphQL specification, October 2021, section 2.10). Returns `AllocError` where
-    /// memory ran out; the value is dropped then. The stack holds the nesting of the value and of what replaces a
-    /// variable.
+    /// field of an object is left out (GraphQL specification, October 2021, section 2.10). Returns `AllocError` if
+    /// memory runs out; the value is dropped then. Takes stack in proportion to the nesting of the value and of what
+    /// replaces a variable.
     ///
     /// Each use of a variable is a copy of its whole value, so time and memory grow with the number of uses times the
     /// size of the value. Whoever takes both from an untrusted sender limits that product: a hundred thousand uses of a

@@ -12,7 +12,7 @@ impl<S> InputValue<S> {
     /// The names of the variables in the value, from left to right, repeats kept (GraphQL specification, October 2021,
     /// section 2.10).
     ///
-    /// Returns `AllocError` where memory ran out. The stack holds the value's nesting.
+    /// Returns `AllocError` if memory runs out. Takes stack in proportion to the value's nesting.
     pub fn referenced_variables(&self, alloc: Global) -> Result<Vec<&str>, AllocError>
         ensures { IfOk result (λ v. map (λ s. chars s.now) v.items ≡ variables (view (λ s. s) self.now)) }
     {

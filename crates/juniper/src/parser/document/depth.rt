@@ -29,11 +29,10 @@ pub enum DepthFailure {
 ///
 /// A bracket is `(`, `[` or `{`. The nesting at a token is the number of brackets opened up to and including it, less
 /// the number of those closed. `TooDeep` is returned with the span of the first token whose nesting exceeds `depth`,
-/// exactly where the text can be cut into tokens and those up to that one begin a document. Otherwise the result is
-/// that of `parse_document_source`: so a lexical error anywhere wins, and so does an error of the grammar at or before
-/// that token. No token after it is parsed, so the calls that read the parts of a part go no deeper than `depth`
-/// allows, and the stack holds that nesting at most. `TooDeep` itself takes no memory; where memory ran out, returns
-/// `DepthFailure::Parse` with `ParseFailure::Memory`.
+/// exactly if the text can be cut into tokens and those up to that one begin a document. Otherwise the result is that
+/// of `parse_document_source`, so a lexical error anywhere wins, and so does an error of the grammar at or before that
+/// token. No token after it is parsed, so the recursion goes no deeper than `depth`. `TooDeep` itself takes no memory;
+/// if memory runs out, returns `DepthFailure::Parse` with `ParseFailure::Memory`.
 ///
 /// ```
 /// match parse_document_source_within::<DefaultScalarValue>(alloc, source, 200) {
@@ -78,7 +77,7 @@ pub(crate) fn parse_within<'a, S: ScalarValue>(
     }
 }
 
-/// The failure for tokens that were ended after one nested too deep, which has this span: where they are refused at that
+/// The failure for tokens that were ended after one nested too deep, which has this span: if they are refused at that
 /// end, they are too deep. No other token begins where that one ends.
 pub(crate) fn depth_failure(deep: Option<Span>, failure: ParseFailure) -> DepthFailure
     ensures { result ≡ failure_within deep failure }

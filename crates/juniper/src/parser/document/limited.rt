@@ -15,7 +15,7 @@ use juniper_tokens::{Lexer, LimitedLexFailure, ParseFailure, Parser, Span};
 use juniper_values::ScalarValue;
 use std::alloc::Global;
 
-/// The depth of `Limits::default`: how deep brackets may be nested where nobody says otherwise.
+/// The depth of `Limits::default`: how deep brackets may be nested by default.
 pub const DEFAULT_DEPTH: usize = 200;
 
 /// What a source may have at most.
@@ -46,7 +46,7 @@ pub enum LimitFailure {
     Parse(ParseFailure),
     /// The span of the first token that is nested too deep.
     TooDeep(Span),
-    /// The span of the first token that is one too many.
+    /// The span of the first token past the limit.
     TooMany(Span),
 }
 
@@ -64,7 +64,7 @@ impl From<DepthFailure> for LimitFailure {
     }
 }
 
-/// A source without so many tokens has no tree within limits.
+/// A source whose tokens can't be listed within the limit has no tree within limits.
 impl From<LimitedLexFailure> for LimitFailure {
     ghost use Rattle.juniper.specs.Limited.{tokens_limited};
 
@@ -80,13 +80,13 @@ impl From<LimitedLexFailure> for LimitFailure {
 
 /// Parses a source text as a document within limits.
 ///
-/// The tokens are taken first. If there are more than `limits.tokens` before the end and before the first lexical error,
-/// `TooMany` is returned with the span of the first one too many: nothing after it is read, and nothing is parsed. Otherwise
-/// the result is that of `parse_document_source_within` with `limits.depth`. So a lexical error among the first
-/// `limits.tokens` tokens comes before a token too many, that token before any other lexical error, and this one before
-/// a token that is nested too deep and before an error of the grammar. Of these two the one comes first whose token does.
-/// `TooMany` and `TooDeep` themselves take no memory; if memory ran out, returns `LimitFailure::Parse` with
-/// `ParseFailure::Memory`.
+/// The tokens are taken first. If there are more than `limits.tokens` before the end and before the first lexical
+/// error, `TooMany` is returned with the span of the first token past the limit: nothing after it is read, and nothing
+/// is parsed. Otherwise the result is that of `parse_document_source_within` with `limits.depth`. So a lexical error
+/// among the first `limits.tokens` tokens comes before a token past the limit, that token before any other lexical
+/// error, and this one before a token that is nested too deep and before an error of the grammar. Of the last two, the
+/// one at the earlier token comes first. `TooMany` and `TooDeep` themselves take no memory; if memory runs out, returns
+/// `LimitFailure::Parse` with `ParseFailure::Memory`.
 ///
 /// ```
 /// let limits = Limits { depth: 200, tokens: 10_000 };

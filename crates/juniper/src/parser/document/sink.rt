@@ -1,4 +1,4 @@
-//! Documents whose definitions are given away one by one.
+//! Documents whose definitions are passed on one by one.
 ghost use Rattle.std.specs.Prelude.{◌-◌, ◌<◌, ◌^◌, ◌∷◌, [], ℕ, List, IfOk, OnOk, OnErr};
 ghost use Rattle.std.specs.Str.{chars};
 ghost use Rattle.graphql_lexical.specs.Cutting.{Cut};
@@ -32,20 +32,20 @@ pub trait DefinitionSink<S: ScalarValue> {
 
     /// Takes a definition, after the others.
     ///
-    /// Returns `AllocError` where memory ran out. The sink then holds what it held before.
+    /// Returns `AllocError` if memory runs out. The sink then holds what it held before.
     fn take(&mut self, definition: Definition<'_, S>) -> Result<(), AllocError>
         ensures taken { OnOk result (Gains holds self.old self.new (view_definition S.content definition.entry ∷ [])) }
         ensures kept { OnErr result (Gains holds self.old self.new []) };
 }
 
-/// Parses a source text within limits, and gives its definitions to a sink, each as soon as it is read: so no more than one
+/// Parses a source text within limits, and passes each definition to a sink as soon as it is read, so no more than one
 /// needs to be in memory at a time.
 ///
-/// The result is that of `parse_document_source_limited`, and if that is a tree, its definitions have been given in order.
-/// Whatever the result, what was given are definitions that stand at the front of the source's tokens, in order: before
-/// an error, and if memory ran out, there may be some. If the source can't be cut into tokens, or has too many, none
-/// were given. The stack holds a nesting of `limits.depth` at most; if memory ran out, in the parser or in the sink, returns
-/// `LimitFailure::Parse` with `ParseFailure::Memory`.
+/// The result is that of `parse_document_source_limited`, and if that is a tree, its definitions have been passed in
+/// order. Whatever the result, the definitions passed are definitions at the beginning of the source, in order, also
+/// before an error or if memory runs out. If the source has a lexical error, none were passed. Takes stack for a
+/// nesting of `limits.depth` at most; if memory runs out, in the parser or in the sink, returns `LimitFailure::Parse`
+/// with `ParseFailure::Memory`.
 ///
 /// ```
 /// // `Fields` is a type of the program's own that counts fields, and is a `DefinitionSink`

@@ -2,7 +2,7 @@ use Rattle.std.proofs.Common.{◌≡◌, ℕ, List, [], ◌++◌, false, Some, O
 use Rattle.std.specs.Prelude.{string_bytes, chars, encode_utf8_all}
 use Rattle.juniper_tokens.specs.Tokens.{view_token}
 use Rattle.juniper_tokens.specs.Lexing.{LexerState, lexer_steps}
-use Rattle.juniper_canonical.proofs.Loop.{Kept, added_behind, kept_first, kept_more, kept_fault, kept_cut}
+use Rattle.juniper_canonical.proofs.Loop.{Kept, added_after, kept_first, kept_more, kept_fault, kept_cut}
 use Rattle.juniper_canonical.proofs.text.canonical_text.Goals as goal
 
 pub returns-in_err-token-clause-fault : goal.returns-in_err-token-clause-fault
@@ -15,7 +15,7 @@ pub loop-item-preserved : goal.loop-item-preserved
 loop-item-preserved c =
     let step : lexer_steps c.loop-item.lexer (Some (Ok c.in_ok-token.field-0)) c.next.new.self = search rules in
     let grows : string_bytes c.write_token.new.out ≡ string_bytes c.loop-item.text
-    ++ encode_utf8_all (added_behind c.loop-item.is_bare (view_token c.in_ok-token.field-0)) =
+    ++ encode_utf8_all (added_after c.loop-item.is_bare (view_token c.in_ok-token.field-0)) =
     c.in-Ok-write_token.ensures.text in (
       (tt, tt),
       subst (Kept (chars c.args.source.now) c.next.new.self (string_bytes c.write_token.new.out))

@@ -8,7 +8,7 @@ use Rattle.graphql_lexical.specs.Kinds.{LexicalError}
 use Rattle.juniper_tokens.specs.Lexing.{LexerState, passed, ahead}
 use Rattle.juniper_tokens.specs.Spans.{view_span}
 use Rattle.juniper_tokens.specs.Counting.{EndsAfter, HasFew, HasMore}
-use Rattle.juniper_tokens.proofs.Public.{few_behind, few_here, more_behind, more_here}
+use Rattle.juniper_tokens.proofs.Public.{has_few_after, few_here, has_more_after, more_here}
 use Rattle.juniper_flat.proofs.TokenCounts.{token_fits}
 use Rattle.juniper_flat.proofs.Fitting.{few_characters}
 use Rattle.juniper_flat.proofs.count.count_of_text.Goals as goal
@@ -57,10 +57,10 @@ loop-span-preserved c =
           sym (done_whole (passed text k) (ahead text k) step.0 (passed text m) (ahead text m) stands) ∙ l.invariant.whole;
       few = λ h.
           l.invariant.few (subst (HasFew (passed text k) (ahead text k)) one
-          (few_behind (passed text k) (ahead text k) step.0 (passed text m) (ahead text m) stands step.2 (l.left - 1) h));
+          (has_few_after (passed text k) (ahead text k) step.0 (passed text m) (ahead text m) stands step.2 (l.left - 1) h));
       more = λ span h.
           l.invariant.more span (subst (λ (n : ℕ). HasMore (passed text k) (ahead text k) n span) one
-          (more_behind (passed text k) (ahead text k) step.0 (passed text m) (ahead text m) stands step.2 (l.left - 1) span h));
+          (has_more_after (passed text k) (ahead text k) step.0 (passed text m) (ahead text m) stands step.2 (l.left - 1) span h));
     }
 
 pub returns-in-End : goal.returns-in-End

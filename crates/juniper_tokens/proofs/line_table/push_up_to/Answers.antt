@@ -5,7 +5,7 @@ use Rattle.std.proofs.lemmas.Str.{encodes-chars}
 use lib.Utf8.{encodes}
 use Rattle.juniper_tokens.specs.device.ByteRuns.{byte_at}
 use Rattle.juniper_tokens.specs.device.LineSteps.{made_table, past}
-use Rattle.juniper_tokens.proofs.Offsets.{byte_at_within, bytes_between, room_from}
+use Rattle.juniper_tokens.proofs.Offsets.{byte_at_within, bytes_between, fits_from}
 use Rattle.juniper_tokens.proofs.LinesSoFar.{lines_more}
 use Rattle.juniper_tokens.proofs.line_table.push_up_to.Goals as goal
 
@@ -40,8 +40,8 @@ push_lines-requires c =
       arith,
       byte_at_within _ (length front) rest c.text_from-rest.utf8
           (ap length (sym (encodes-chars front c.text_before.utf8) ∙ ap encodes c.text_before.ensures)),
-      room_from c.args.source.now rest c.args.from.characters c.args.from.bytes c.requires.offset within
-          c.text_from-rest.ensures.length c.requires.placed.room,
+      fits_from c.args.source.now rest c.args.from.characters c.args.from.bytes c.requires.offset within
+          c.text_from-rest.ensures.length c.requires.placed.fits,
     )
 
 pub returns : goal.returns

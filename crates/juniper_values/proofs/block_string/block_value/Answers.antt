@@ -52,7 +52,7 @@ loop-c-preserved-in-Filled c =
     record {
       utf8 = run.utf8;
       stands =
-          copies_run _ _ _ _ _ _ _ _ c.in-Filled.is copied run.behind
+          copies_run _ _ _ _ _ _ _ _ c.in-Filled.is copied run.after
           (writes _ _ _ _ _ c.in-Some.c _ _ _ here goes_on wrote.text wrote.line
           (rw read.parts at c.loop-c.invariant.stands));
     }

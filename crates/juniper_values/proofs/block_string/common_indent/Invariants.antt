@@ -9,7 +9,7 @@ use Rattle.juniper_values.proofs.block_string.common_indent.Given as goal
 abbrev pub invariant-loop-c : goal.invariant-loop-c
 invariant-loop-c l = record {
   utf8 : IsUtf8 l.rest;
-  room : white_before l.place + length l.rest ≤ length l.fn.text;
+  fits : white_before l.place + length l.rest ≤ length l.fn.text;
   least : least_with l.least l.place (lines_of (chars l.rest)) ≡ common_indent (drop 1 (lines_of (chars l.fn.text)));
 }
 

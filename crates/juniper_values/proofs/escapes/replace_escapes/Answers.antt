@@ -15,7 +15,7 @@ loop-plain-preserved c =
     let out = string_bytes before.out in
     let plain = c.in-Some.plain.now in
     let found = c.in-Some-escaped in
-    let here = around before.rest.now before.invariant.0 plain c.in-Some.behind.now c.in-Some.ensures.cases in
+    let here = around before.rest.now before.invariant.0 plain c.in-Some.after.now c.in-Some.ensures.cases in
     let copied = ap chars c.in_ok-push_str.ensures.bytes ∙ chars-append out plain (IsUtf8-string_bytes before.out) in
     let pushed = c.in_ok-push-in-Some-escaped.ensures.bytes in
     let grown =
@@ -30,7 +30,7 @@ pub returns-in-None : goal.returns-in-None
 returns-in-None c =
     let before = c.loop-plain in
     let plain = c.in-Some.plain.now in
-    let here = around before.rest.now before.invariant.0 plain c.in-Some.behind.now c.in-Some.ensures.cases in
+    let here = around before.rest.now before.invariant.0 plain c.in-Some.after.now c.in-Some.ensures.cases in
     sym (ap (onto (text_of before.out)) (here ∙ ap (onto (chars plain)) c.in-None.ensures.value)) ∙ before.invariant.1
 
 pub returns : goal.returns

@@ -5,11 +5,11 @@ use Rattle.graphql_lexical.specs.Place.{place}
 use Rattle.graphql_lexical.specs.Kinds.{LexicalError}
 use Rattle.graphql_lexical.specs.device.Scan.{Found, Missed, scan}
 use Rattle.juniper_tokens.specs.Errors.{view_lexer_error}
-use Rattle.juniper_tokens.proofs.LexingByScan.{chars_room, fault_placed}
+use Rattle.juniper_tokens.proofs.LexingByScan.{chars_fit, fault_placed}
 use Rattle.juniper_tokens.proofs.lexer.Lexer.scan_next.Goals as goal
 
 pub walk_characters-place-requires : goal.walk_characters-place-requires
-walk_characters-place-requires c = chars_room _ 0 _ _ _ c.self.invariant c.text_from-rest.ensures.length
+walk_characters-place-requires c = chars_fit _ 0 _ _ _ c.self.invariant c.text_from-rest.ensures.length
     c.text_from-rest.utf8 (c.text_from-rest.ensures.characters ∙ ap (λ k. drop k (chars c.self.inside.source.now))
     c.index.ensures)
 

@@ -8,7 +8,7 @@ use Rattle.juniper_tokens.specs.Lexing.{LexerState}
 use Rattle.juniper_tokens.specs.device.LexingByScan.{IsPlaced}
 use Rattle.juniper_tokens.specs.device.Scans.{Finds}
 use Rattle.juniper_tokens.specs.device.Ranges.{IsRange, TakesRange}
-use Rattle.juniper_tokens.proofs.Ranges.{found_range, found_taken, placed_behind}
+use Rattle.juniper_tokens.proofs.Ranges.{found_range, found_taken, placed_after}
 use Rattle.juniper_tokens.proofs.lexer.Lexer.take.Goals as goal
 
 pub from_found-range-requires-clause-found : goal.from_found-range-requires-clause-found
@@ -36,7 +36,7 @@ invariant_of-self c =
     ∙ ap (λ (r : TokenRange). place (chars c.self.inside.source.now) r.end.characters) c.from_found-range.ensures in
     subst (λ b. IsPlaced c.self.inside.source.now b c.end_position-self-inside.result)
     (sym (ap (λ (r : TokenRange). r.end.bytes) c.from_found-range.ensures))
-    (placed_behind _ _ _ _ _ c.self.invariant range place).1
+    (placed_after _ _ _ _ _ c.self.invariant range place).1
 
 pub returns-clause-takes : goal.returns-clause-takes
 returns-clause-takes c =

@@ -13,11 +13,11 @@ token-requires-clause-start c =
 
 pub returns-in-Some-clause-steps : goal.returns-in-Some-clause-steps
 returns-in-Some-clause-steps c =
-    let same = c.in-Some.ensures.source ∙ ap (λ (s : LexerState). s.source) c.skip_gap-class.ensures.passes in (
+    let same = c.in-Some.ensures.source ∙ ap (λ (s : LexerState). s.source) c.skip_ignored-class.ensures.passes in (
       sym c.has_ended.ensures ∙ c.if-has_ended.false,
       same,
       token_given c.args.self.now c.in-Some.range c.token.result c.take_if_plain.new.self
-          (subst (λ (s : LexerState). TakesRange s c.in-Some.range c.take_if_plain.new.self) c.skip_gap-class.ensures.passes
+          (subst (λ (s : LexerState). TakesRange s c.in-Some.range c.take_if_plain.new.self) c.skip_ignored-class.ensures.passes
           c.in-Some.ensures.takes)
           (c.token.ensures ∙ ap (λ t. range_lexeme t c.in-Some.range) same),
     )
@@ -32,7 +32,7 @@ returns-in-None-clause-goes c =
     let less = items_fewer c.args.self.now c.next_other_token.result c.next_other_token.new.self (
       sym c.has_ended.ensures ∙ c.if-has_ended.false,
       c.next_other_token.ensures.source ∙ (c.in-None.ensures.source
-          ∙ ap (λ (s : LexerState). s.source) c.skip_gap-class.ensures.passes),
-      c.next_other_token.ensures.gives c.args.self.now (c.in-None.ensures.takes ∙ c.skip_gap-class.ensures.passes),
+          ∙ ap (λ (s : LexerState). s.source) c.skip_ignored-class.ensures.passes),
+      c.next_other_token.ensures.gives c.args.self.now (c.in-None.ensures.takes ∙ c.skip_ignored-class.ensures.passes),
     ) in
     record { on = λ _. search (rules, less); keeps = search rules; rests = λ _. search rules }

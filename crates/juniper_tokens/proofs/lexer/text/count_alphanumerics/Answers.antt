@@ -1,5 +1,5 @@
 use Rattle.std.proofs.Common.{◌<◌, get_or, sym, ap, ◌∙◌, arith}
-use Rattle.juniper_tokens.proofs.Counts.{byte_counted, others_behind, one_counted, all_counted}
+use Rattle.juniper_tokens.proofs.Counts.{byte_counted, others_after, one_counted, all_counted}
 use Rattle.juniper_tokens.proofs.lexer.text.count_alphanumerics.Goals as goal
 
 pub returns-then-not-is_ascii_alphanumeric : goal.returns-then-not-is_ascii_alphanumeric
@@ -11,7 +11,7 @@ returns-then-not-is_ascii_alphanumeric c =
       c.type_inv.text c.loop-count.count,
       ap (λ t. get_or t c.loop-count.count 0) c.as_bytes-bytes.ensures.value,
     ) in
-    others_behind c.args.text.now bytes c.loop-count.count c.utf8.text c.as_bytes-bytes.ensures.value
+    others_after c.args.text.now bytes c.loop-count.count c.utf8.text c.as_bytes-bytes.ensures.value
     c.loop-count.invariant c.if-count-bytes.true
     (sym (byte_counted b small) ∙ (sym c.is_ascii_alphanumeric.ensures.value ∙ c.if-not-is_ascii_alphanumeric.true))
 

@@ -2,7 +2,7 @@ use Rattle.std.proofs.Common.{ap, ap₂, ◌∙◌, ℕ, List, drop, arith}
 use Rattle.std.specs.List.{fold}
 use Rattle.std.specs.Str.{chars}
 use Rattle.juniper_tokens.specs.device.LineSteps.{made_table, past}
-use Rattle.juniper_tokens.proofs.LexingByScan.{chars_room}
+use Rattle.juniper_tokens.proofs.LexingByScan.{chars_fit}
 use Rattle.juniper_tokens.proofs.LinesSoFar.{all_lines}
 use Rattle.juniper_tokens.proofs.line_table.LineStarts.into_table.Goals as goal
 
@@ -10,7 +10,7 @@ pub push_lines-requires : goal.push_lines-requires
 push_lines-requires c = omega (
   arith,
   c.index.ensures,
-  chars_room _ 0 _ _ _ c.requires.placed c.text_from-rest.ensures.length c.text_from-rest.utf8
+  chars_fit _ 0 _ _ _ c.requires.placed c.text_from-rest.ensures.length c.text_from-rest.utf8
       (c.text_from-rest.ensures.characters ∙ ap (λ k. drop k (chars c.args.source.now)) c.index.ensures),
 )
 

@@ -1,4 +1,4 @@
-use Rattle.juniper_tokens.proofs.ListParts.{behind_item, nonempty_done, nonempty_closing, nonempty_item, nonempty_more, no_item_rest, passed_on}
+use Rattle.juniper_tokens.proofs.ListParts.{after_item, nonempty_done, nonempty_closing, nonempty_item, nonempty_more, no_item_rest, passed_on}
 use Rattle.juniper_tokens.proofs.parser.Parser.unlocated_delimited_nonempty_list.Goals as goal
 
 pub returns-in_err-take_item-clause-refused : goal.returns-in_err-take_item-clause-refused
@@ -26,15 +26,15 @@ loop-items-preserved g c =
     nonempty_more c.requires c.loop-items.invariant c.in_ok-take_item.ensures goes
 
 pub returns-in_err-end-clause-rest : goal.returns-in_err-end-clause-rest
-returns-in_err-end-clause-rest g c = (behind_item c.requires c.loop-items.invariant.further c.in_ok-take_item.ensures.1
+returns-in_err-end-clause-rest g c = (after_item c.requires c.loop-items.invariant.further c.in_ok-take_item.ensures.1
     c.in_err-end.ensures.1).rest
 
 pub returns-in-Some-clause-taken : goal.returns-in-Some-clause-taken
 returns-in-Some-clause-taken g c =
     let closed = rw c.in-Some.is at c.in_ok-end.ensures in
-    behind_item c.requires c.loop-items.invariant.further c.in_ok-take_item.ensures.1 closed.3
+    after_item c.requires c.loop-items.invariant.further c.in_ok-take_item.ensures.1 closed.3
 
 pub returns-in-Some-clause-rest : goal.returns-in-Some-clause-rest
 returns-in-Some-clause-rest g c =
     let closed = rw c.in-Some.is at c.in_ok-end.ensures in
-    (behind_item c.requires c.loop-items.invariant.further c.in_ok-take_item.ensures.1 closed.3).rest
+    (after_item c.requires c.loop-items.invariant.further c.in_ok-take_item.ensures.1 closed.3).rest

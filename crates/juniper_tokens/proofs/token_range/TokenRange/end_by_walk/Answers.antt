@@ -7,7 +7,7 @@ use lib.Utf8.{encodes}
 use Rattle.juniper_tokens.specs.declared.lexer.text.Offset.{Offset}
 use Rattle.juniper_tokens.specs.device.Offsets.{IsOffset}
 use Rattle.juniper_tokens.proofs.Offsets.{byte_at_within}
-use Rattle.juniper_tokens.proofs.Ranges.{range_room, range_end, range_order, range_width, start_index}
+use Rattle.juniper_tokens.proofs.Ranges.{range_fits, range_end, range_order, range_width, start_index}
 use Rattle.juniper_tokens.proofs.token_range.TokenRange.end_by_walk.Goals as goal
 
 pub size-size-requires-clause-bytes : goal.size-size-requires-clause-bytes
@@ -20,7 +20,7 @@ text_before-requires c =
 
 pub walk_text-requires : goal.walk_text-requires
 walk_text-requires c =
-    let room : length c.args.source.now < 2 ^ 64 = search rules in
+    let fits : length c.args.source.now < 2 ^ 64 = search rules in
     let front = c.text_before.result.now in
     let rest = c.text_from-rest.result.now in
     omega (
@@ -28,7 +28,7 @@ walk_text-requires c =
       start_index (chars c.args.source.now) c.args.self.now c.args.start c.requires.range c.requires.start,
       byte_at_within c.size-size.result.characters (length front) rest c.text_from-rest.utf8
           (ap length (sym (encodes-chars front c.text_before.utf8) ∙ ap encodes c.text_before.ensures)),
-      range_room c.args.source.now _ c.args.self.now c.requires.range c.text_from-rest.ensures.length room,
+      range_fits c.args.source.now _ c.args.self.now c.requires.range c.text_from-rest.ensures.length fits,
     )
 
 pub returns : goal.returns

@@ -15,7 +15,7 @@ returns-clause-run c =
     let n = run_offset c.args.text.now _ c.utf8.text (c.run_length.ensures ∙ ap run_length c.as_bytes.ensures.value) in
     ap chars c.split_at.ensures.front ∙ chars_take _ _ _ c.utf8.text n
 
-pub returns-clause-behind : goal.returns-clause-behind
-returns-clause-behind c =
+pub returns-clause-after : goal.returns-clause-after
+returns-clause-after c =
     let n = run_offset c.args.text.now _ c.utf8.text (c.run_length.ensures ∙ ap run_length c.as_bytes.ensures.value) in
     ap chars c.split_at.ensures.back ∙ chars_drop _ _ _ c.utf8.text n

@@ -8,7 +8,7 @@ pub loop-key-init : goal.loop-key-init
 loop-key-init g c =
     let all = c.into_iter-key-iterator.ensures.into_iter_gives.0 in
     record {
-      room = omega (arith, ap length all, ap length c.requires.empty, c.args.room.ok.0, c.requires.fits);
+      capacity = omega (arith, ap length all, ap length c.requires.empty, c.args.empty.ok.0, c.requires.fits);
       made = ap (λ ys. prepend (put_field (λ s. s)) ys (placed c.into_iter-key-iterator.result)) c.requires.empty
           ∙ ap placed all;
     }
@@ -17,12 +17,12 @@ pub loop-key-preserved : goal.loop-key-preserved
 loop-key-preserved g c =
     let s = c.in-Some.ensures.steps in
     record {
-      room = omega (
+      capacity = omega (
         arith,
         ap length s,
         c.push_reserved.ensures.len,
         c.push_reserved.ensures.capacity,
-        c.loop-key.invariant.room,
+        c.loop-key.invariant.capacity,
       );
       made =
           turn (put_field (λ s. s)) _ _ (c.unlocated.result, c.unlocated-in-loop-key.result) _ _ _

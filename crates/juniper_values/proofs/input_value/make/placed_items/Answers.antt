@@ -9,12 +9,12 @@ pub loop-item-preserved : goal.loop-item-preserved
 loop-item-preserved g c =
     let s = c.in-Some.ensures.steps in
     record {
-      room = omega (
+      capacity = omega (
         arith,
         s.1,
         c.push_reserved.ensures.len,
         c.push_reserved.ensures.capacity,
-        c.loop-item.invariant.room,
+        c.loop-item.invariant.capacity,
       );
       made =
           turn (put_item (λ s. s)) _ _ c.unlocated.result _ _ _ c.loop-item.invariant.made c.push_reserved.ensures.items

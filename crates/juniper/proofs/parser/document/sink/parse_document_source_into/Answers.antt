@@ -4,7 +4,7 @@ use Rattle.graphql_grammar.specs.Tree.{Definition}
 use Rattle.graphql_lexical.specs.Cutting.{Lexeme}
 use Rattle.juniper_values.specs.Scalar.{Content}
 use Rattle.juniper.specs.Scalars.{stated}
-use Rattle.juniper.proofs.BothLimits.{tokens_told}
+use Rattle.juniper.proofs.BothLimits.{tokens_failed}
 use Rattle.juniper.proofs.Promises.{cut_from_start}
 use Rattle.juniper.proofs.Sinks.{gains_tree, none_given}
 use Rattle.juniper.proofs.parser.document.sink.parse_document_source_into.Goals as goal
@@ -15,7 +15,7 @@ returns-in_err-parser g c =
     let source = chars c.args.s.now in
     let view : Unit {0} → List (Definition Content) = λ x. [] in
     let failed = c.in_err-parser in
-    let q = tokens_told S c.args.limits.depth c.args.limits.tokens source view (List Lexeme) failed.field-0.0
+    let q = tokens_failed S c.args.limits.depth c.args.limits.tokens source view (List Lexeme) failed.field-0.0
     c.from_residual.result c.from_residual.ensures.1 c.new-lexer.result c.new-lexer.ensures failed.ensures.fault
     failed.ensures.zero_width failed.ensures.few failed.ensures.many failed.ensures.limited in
     record {

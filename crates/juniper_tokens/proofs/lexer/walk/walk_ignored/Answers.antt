@@ -1,8 +1,8 @@
 use Rattle.std.proofs.Common.{◌<◌, sym, ap, refl, ◌∙◌, arith, get_or, subst}
 use Rattle.graphql_lexical.specs.Place.{Place}
 use Rattle.juniper_tokens.specs.Positions.{columns_on}
-use Rattle.juniper_tokens.proofs.GapWalks.{gap_room, size_is, white_on, feed_on, comment_on, mark_on, lead_ends, other_ends, all_read}
-use Rattle.juniper_tokens.proofs.lexer.walk.walk_gap.Goals as goal
+use Rattle.juniper_tokens.proofs.IgnoredWalks.{ignored_fit, size_is, white_on, feed_on, comment_on, mark_on, lead_ends, other_ends, all_read}
+use Rattle.juniper_tokens.proofs.lexer.walk.walk_ignored.Goals as goal
 
 pub loop-i-preserved-in-White : goal.loop-i-preserved-in-White
 loop-i-preserved-in-White c =
@@ -45,7 +45,7 @@ overflow_sub-index c =
       arith,
       c.index.ensures,
       c.index-in-Lead.ensures,
-      (gap_room c.args.text.now c.as_bytes-bytes.result.now c.args.start c.loop-i.position c.loop-i.i c.utf8.text
+      (ignored_fit c.args.text.now c.as_bytes-bytes.result.now c.args.start c.loop-i.position c.loop-i.i c.utf8.text
           c.as_bytes-bytes.ensures.value c.loop-i.invariant.0 c.requires).1,
     )
 

@@ -4,7 +4,7 @@ use Rattle.juniper_tokens.specs.device.Walks.{count_machine}
 use Rattle.juniper_tokens.proofs.ByteRuns.{walked_on, walked_stop, walked_end}
 use Rattle.juniper_tokens.proofs.ByteClasses.{outer}
 use Rattle.juniper_tokens.proofs.PlaceWalks.{count_on, count_stops, offset_reached}
-use Rattle.juniper_tokens.proofs.lexer.text.offset_behind.Goals as goal
+use Rattle.juniper_tokens.proofs.lexer.text.offset_after.Goals as goal
 
 pub returns-then-characters-count : goal.returns-then-characters-count
 returns-then-characters-count c =
