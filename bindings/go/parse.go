@@ -28,10 +28,10 @@ package firthnapkin
 typedef struct {
 	size_t nodes_length, texts_length;
 	firthnapkin_error error;
-} told;
+} outcome;
 
 static uint32_t parse(const char *source, size_t length, uint32_t depth, uint32_t tokens, void *nodes, size_t nodes_capacity,
-                      char *texts, size_t texts_capacity, told *t) {
+                      char *texts, size_t texts_capacity, outcome *t) {
 	firthnapkin_limits limits = {depth, tokens, {0}};
 	return parse_on_stack((const uint8_t *)source, length, &limits, nodes, nodes_capacity, &t->nodes_length, (uint8_t *)texts,
 	                      texts_capacity, &t->texts_length, &t->error);
@@ -118,17 +118,17 @@ func parse(source string, depth, tokens C.uint32_t) (*Document, error) {
 	first := atFirst(source)
 	nodesCapacity, textsCapacity := first+16, first+64
 	for {
-		nodes, texts, told := make([]Node, nodesCapacity), make([]byte, textsCapacity), new(C.told)
+		nodes, texts, result := make([]Node, nodesCapacity), make([]byte, textsCapacity), new(C.outcome)
 		status := C.parse(bytesOf(source), C.size_t(len(source)), depth, tokens, unsafe.Pointer(&nodes[0]),
-			C.size_t(nodesCapacity), (*C.char)(unsafe.Pointer(&texts[0])), C.size_t(textsCapacity), told)
+			C.size_t(nodesCapacity), (*C.char)(unsafe.Pointer(&texts[0])), C.size_t(textsCapacity), result)
 		runtime.KeepAlive(source)
 		switch status {
 		case C.FIRTHNAPKIN_OK:
-			return &Document{source, nodes[:told.nodes_length:told.nodes_length], string(texts[:told.texts_length])}, nil
+			return &Document{source, nodes[:result.nodes_length:result.nodes_length], string(texts[:result.texts_length])}, nil
 		case C.FIRTHNAPKIN_BUFFER_TOO_SMALL:
-			nodesCapacity, textsCapacity = int(told.nodes_length)+1, int(told.texts_length)+1
+			nodesCapacity, textsCapacity = int(result.nodes_length)+1, int(result.texts_length)+1
 		default:
-			return nil, errorOf(status, source, &told.error)
+			return nil, errorOf(status, source, &result.error)
 		}
 	}
 }

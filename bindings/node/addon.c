@@ -43,7 +43,7 @@ static napi_status copied(napi_env env, napi_value allocate, const void *from, s
 }
 
 /* What a call found: so many bytes of parts, or the error. Frees the result. */
-static napi_value told(napi_env env, whole *w, const void *parts, size_t size, napi_value allocate) {
+static napi_value result_of(napi_env env, whole *w, const void *parts, size_t size, napi_value allocate) {
     int is_error = w->status == FIRTHNAPKIN_SYNTAX_ERROR || w->status == FIRTHNAPKIN_TOO_DEEP
         || w->status == FIRTHNAPKIN_TOO_MANY_TOKENS;
     napi_value result, value;
@@ -93,28 +93,28 @@ static napi_value parse(napi_env env, napi_callback_info info) {
     if (!are_read(env, info, 2, &a)) return failed(env, "parse takes a buffer, a depth, a number of tokens and a function");
     firthnapkin_limits limits = {number_of(a.numbers[0]), number_of(a.numbers[1]), {0}};
     whole w = parse_whole(a.source, a.length, &limits);
-    return told(env, &w, w.nodes, w.nodes_count * sizeof *w.nodes, a.allocate);
+    return result_of(env, &w, w.nodes, w.nodes_count * sizeof *w.nodes, a.allocate);
 }
 
 static napi_value tokens(napi_env env, napi_callback_info info) {
     call_arguments a;
     if (!are_read(env, info, 1, &a)) return failed(env, "tokens takes a buffer, a number of tokens and a function");
     whole w = cut_whole(a.source, a.length, number_of(a.numbers[0]));
-    return told(env, &w, w.tokens, w.tokens_count * sizeof *w.tokens, a.allocate);
+    return result_of(env, &w, w.tokens, w.tokens_count * sizeof *w.tokens, a.allocate);
 }
 
 static napi_value canonical(napi_env env, napi_callback_info info) {
     call_arguments a;
     if (!are_read(env, info, 0, &a)) return failed(env, "canonical takes a buffer and a function");
     whole w = canonical_whole(a.source, a.length);
-    return told(env, &w, NULL, 0, a.allocate);
+    return result_of(env, &w, NULL, 0, a.allocate);
 }
 
 static napi_value excerpt(napi_env env, napi_callback_info info) {
     call_arguments a;
     if (!are_read(env, info, 1, &a)) return failed(env, "excerpt takes a buffer, a byte and a function");
     whole w = excerpt_whole(a.source, a.length, number_of(a.numbers[0]));
-    return told(env, &w, NULL, 0, a.allocate);
+    return result_of(env, &w, NULL, 0, a.allocate);
 }
 
 /* The names of the numbers from 0, as an array. */

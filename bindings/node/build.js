@@ -44,11 +44,11 @@ function isBuilt() {
 }
 
 function build() {
-  for (const [file, told] of [
+  for (const [file, hint] of [
     [library, "./c-library builds it, in the repository's folder"],
     [path.join(headers, "node_api.h"), "it comes with Node's headers"],
   ]) {
-    if (!fs.existsSync(file)) fail(`: ${file} is not there: ${told}`);
+    if (!fs.existsSync(file)) fail(`: ${file} is not there: ${hint}`);
   }
   const folders = isRelease ? [inside, headers] : [path.join(root, "include"), path.join(root, "bindings"), headers];
   const words = ["-O2", "-Wall", "-Wextra", "-fPIC", "-shared", "-pthread", ...folders.map((folder) => `-I${folder}`)];

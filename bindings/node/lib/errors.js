@@ -16,16 +16,16 @@ const WITH_CHARACTER = ["unknownCharacter", "unexpectedCharacter", "unknownChara
 class FirthnapkinError extends Error {
   #source;
 
-  constructor(reason, told, source) {
-    const [line, column] = [told.start.line + 1, told.start.column + 1];
+  constructor(reason, found, source) {
+    const [line, column] = [found.start.line + 1, found.start.column + 1];
     super(`${reason}. At ${line}:${column}`);
     this.name = "FirthnapkinError";
     this.reason = reason;
-    this.kind = told.kind;
-    this.detail = told.detail;
-    this.character = told.character;
-    this.start = told.start;
-    this.end = told.end;
+    this.kind = found.kind;
+    this.detail = found.detail;
+    this.character = found.character;
+    this.start = found.start;
+    this.end = found.end;
     this.locations = [{ line, column }];
     this.#source = source;
   }
@@ -42,14 +42,14 @@ function surrogate(source, index) {
   const column = index - (source.lastIndexOf("\n", index) + 1);
   const byte = Buffer.byteLength(source.slice(0, index));
   const number = source.charCodeAt(index).toString(16).toUpperCase();
-  const told = {
+  const found = {
     kind: "surrogate",
     detail: null,
     character: null,
     start: { index, line, column, byte },
     end: { index: index + 1, line, column: column + 1, byte: byte + 3 },
   };
-  return new FirthnapkinError(`Lone surrogate U+${number}`, told, source);
+  return new FirthnapkinError(`Lone surrogate U+${number}`, found, source);
 }
 
 // The error that a call found: its numbers and its words.
@@ -57,7 +57,7 @@ function errorOf(source, numbers, texts) {
   const words = new Uint32Array(numbers);
   const units = new Units(source);
   const detail = DETAILS[words[1]];
-  const told = {
+  const found = {
     kind: KINDS[words[0]],
     detail,
     character: WITH_CHARACTER.includes(detail) ? String.fromCodePoint(words[2]) : null,
@@ -65,9 +65,9 @@ function errorOf(source, numbers, texts) {
     end: units.position(words, 7),
   };
   let reason = Buffer.from(texts).utf8Slice();
-  if (told.kind === "unexpectedToken" && beginsSchema(source, told.start.index, told.end.index))
+  if (found.kind === "unexpectedToken" && beginsSchema(source, found.start.index, found.end.index))
     reason += ": this is a schema's definition, not a request's";
-  return new FirthnapkinError(reason, told, source);
+  return new FirthnapkinError(reason, found, source);
 }
 
 // The source as bytes, or an error where half of a surrogate pair is alone.

@@ -89,9 +89,9 @@ mod bounds {
             if pthread_getattr_np(pthread_self(), &mut attributes) != 0 {
                 return None;
             }
-            let told = pthread_attr_getstack(&attributes, &mut start, &mut size);
+            let status = pthread_attr_getstack(&attributes, &mut start, &mut size);
             pthread_attr_destroy(&mut attributes);
-            told == 0
+            status == 0
         };
         is_found.then_some((start as usize, start as usize + size))
     }

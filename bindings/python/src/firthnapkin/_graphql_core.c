@@ -42,7 +42,7 @@ static bool is_read_otherwise(const builder *b) {
         const firthnapkin_node *n = &b->nodes[i];
         bool is_number = n->kind == FIRTHNAPKIN_INT || n->kind == FIRTHNAPKIN_LARGE_INT || n->kind == FIRTHNAPKIN_FLOAT;
         char next = is_number && n->end.byte < b->length ? b->source[n->end.byte] : ' ';
-        if (n->kind == FIRTHNAPKIN_VARIABLE_DEFINITIONS) constant = behind(b, i);
+        if (n->kind == FIRTHNAPKIN_VARIABLE_DEFINITIONS) constant = node_after(b, i);
         if (begins_name(next) || (n->kind == FIRTHNAPKIN_VARIABLE && i < constant)) return true;
     }
     return false;

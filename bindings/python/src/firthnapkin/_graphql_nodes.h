@@ -162,7 +162,7 @@ static bool begins_name(char c) {
 }
 
 /* Where the next token of the source begins, or the source ends. */
-static spot token_behind(const builder *b, spot from) {
+static spot token_after(const builder *b, spot from) {
     uint32_t at = from.byte;
     bool is_comment = false;
     for (; at < b->length; at++) {
@@ -178,7 +178,7 @@ static spot token_behind(const builder *b, spot from) {
     return spot_at(b, from, at);
 }
 
-static size_t behind(const builder *b, size_t i) {
+static size_t node_after(const builder *b, size_t i) {
     return i + 1 + b->nodes[i].descendants;
 }
 
@@ -199,7 +199,7 @@ static PyObject *take(const builder *b, parts *p) {
     PyObject *made = b->made[p->next];
     b->made[p->next] = NULL;
     p->last = spot_of(b->nodes[p->next].end);
-    p->next = behind(b, p->next);
+    p->next = node_after(b, p->next);
     return made;
 }
 
@@ -214,7 +214,7 @@ static PyObject *take_if(const builder *b, parts *p, uint32_t kind, PyObject *ot
 static PyObject *take_all(const builder *b, parts *p, bool directives) {
     Py_ssize_t count = 0;
     size_t i = p->next;
-    for (; i < p->end && (!directives || b->nodes[i].kind == FIRTHNAPKIN_DIRECTIVE); i = behind(b, i)) count++;
+    for (; i < p->end && (!directives || b->nodes[i].kind == FIRTHNAPKIN_DIRECTIVE); i = node_after(b, i)) count++;
     PyObject *tuple = PyTuple_New(count);
     for (Py_ssize_t k = 0; tuple != NULL && k < count; k++)
         if (PyTuple_SetItem(tuple, k, take(b, p)) != 0) Py_CLEAR(tuple);
@@ -244,7 +244,7 @@ static PyObject *named_type(const builder *b, spot *last, uint32_t start, uint32
 
 /* The parts that are left, as a selection set. It ends where the node around it does. */
 static PyObject *selections(const builder *b, parts *p, const firthnapkin_node *n) {
-    span at = {token_behind(b, p->last).index, n->end.index};
+    span at = {token_after(b, p->last).index, n->end.index};
     return NODE(b, SELECTION_SET, at, take_all(b, p, false));
 }
 
@@ -252,11 +252,11 @@ static PyObject *selections(const builder *b, parts *p, const firthnapkin_node *
 static PyObject *type_of(const builder *b, const firthnapkin_node *n) {
     uint32_t opened[FIRTHNAPKIN_MAX_DEPTH], count = 0;
     spot at = spot_of(n->start);
-    for (; b->source[at.byte] == '['; at = token_behind(b, (spot){at.index + 1, at.byte + 1})) opened[count++] = at.index;
+    for (; b->source[at.byte] == '['; at = token_after(b, (spot){at.index + 1, at.byte + 1})) opened[count++] = at.index;
     uint32_t end = at.byte, start = at.index;
     while (begins_name(b->source[end]) || ('0' <= b->source[end] && b->source[end] <= '9')) end++;
     PyObject *type = named_type(b, &at, at.byte, end);
-    for (at = token_behind(b, at); at.byte < n->end.byte; at = token_behind(b, (spot){at.index + 1, at.byte + 1})) {
+    for (at = token_after(b, at); at.byte < n->end.byte; at = token_after(b, (spot){at.index + 1, at.byte + 1})) {
         bool is_list = b->source[at.byte] == ']';
         if (is_list) start = opened[--count];
         type = NODE(b, is_list ? LIST_TYPE : NON_NULL_TYPE, ((span){start, at.index + 1}), type);
@@ -341,7 +341,7 @@ static PyObject *directive(const builder *b, const firthnapkin_node *n, parts *p
 
 static PyObject *made_of(const builder *b, size_t i) {
     const firthnapkin_node *n = &b->nodes[i];
-    parts p = {i + 1, behind(b, i), spot_of(n->start)};
+    parts p = {i + 1, node_after(b, i), spot_of(n->start)};
     switch (n->kind) {
     case FIRTHNAPKIN_QUERY:
     case FIRTHNAPKIN_MUTATION:

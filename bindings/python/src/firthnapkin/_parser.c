@@ -12,7 +12,7 @@ static PyObject *pair_of(uint32_t status, const void *first, size_t first_length
 
 /* The result of a call: its status, and two bytes objects. The first one is `first`, or the error. The memory of the call is
  * freed. */
-static PyObject *told(whole *w, const void *first, size_t first_length) {
+static PyObject *result_of(whole *w, const void *first, size_t first_length) {
     PyObject *result;
     if (w->status == FIRTHNAPKIN_OUT_OF_MEMORY)
         result = PyErr_NoMemory();
@@ -49,7 +49,7 @@ static PyObject *parse(PyObject *module, PyObject *arguments) {
     PyThreadState *state = PyEval_SaveThread();
     whole w = parse_whole((const uint8_t *)bytes, (size_t)length, &limits);
     PyEval_RestoreThread(state);
-    return told(&w, w.nodes, w.nodes_count * sizeof *w.nodes);
+    return result_of(&w, w.nodes, w.nodes_count * sizeof *w.nodes);
 }
 
 PyDoc_STRVAR(tokens_doc, "tokens(source, tokens, /)\n--\n\n"
@@ -68,7 +68,7 @@ static PyObject *tokens(PyObject *module, PyObject *arguments) {
     PyThreadState *state = PyEval_SaveThread();
     whole w = cut_whole((const uint8_t *)bytes, (size_t)length, limit_of(most));
     PyEval_RestoreThread(state);
-    return told(&w, w.tokens, w.tokens_count * sizeof *w.tokens);
+    return result_of(&w, w.tokens, w.tokens_count * sizeof *w.tokens);
 }
 
 PyDoc_STRVAR(canonical_doc, "canonical(source, /)\n--\n\n"
@@ -84,7 +84,7 @@ static PyObject *canonical(PyObject *module, PyObject *source) {
     PyThreadState *state = PyEval_SaveThread();
     whole w = canonical_whole((const uint8_t *)bytes, (size_t)length);
     PyEval_RestoreThread(state);
-    return told(&w, NULL, 0);
+    return result_of(&w, NULL, 0);
 }
 
 PyDoc_STRVAR(excerpt_doc, "excerpt(source, byte, /)\n--\n\n"
@@ -102,7 +102,7 @@ static PyObject *excerpt(PyObject *module, PyObject *arguments) {
     PyThreadState *state = PyEval_SaveThread();
     whole w = excerpt_whole((const uint8_t *)bytes, (size_t)length, limit_of(byte));
     PyEval_RestoreThread(state);
-    return told(&w, NULL, 0);
+    return result_of(&w, NULL, 0);
 }
 
 static PyMethodDef methods[] = {{"parse", parse, METH_VARARGS, parse_doc},

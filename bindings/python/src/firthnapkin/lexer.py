@@ -53,13 +53,13 @@ class Token(Part):
 
     @property
     def kind(self) -> TokenKind:
-        return _KINDS[self._told[0]]
+        return _KINDS[self._numbers[0]]
 
     @property
     def unquoted(self) -> str:
         """The text without the quotes of a string: escapes and lines are as they are written."""
-        quotes = self._told[1]
-        return self._whole.text[self._told[2] + quotes : self._told[6] - quotes]
+        quotes = self._numbers[1]
+        return self._whole.text[self._numbers[2] + quotes : self._numbers[6] - quotes]
 
     def __repr__(self) -> str:
         return f"<{self.kind.name} {self.text!r}>"
@@ -93,8 +93,8 @@ def tokens(source: str, *, max_tokens: Optional[int] = None) -> Tokens:
     """
     require_text(source)
     most = most_of(max_tokens)
-    told, _ = given(source, *_parser.tokens(encoded(source), most))
-    return Tokens(source, told)
+    parts, _ = given(source, *_parser.tokens(encoded(source), most))
+    return Tokens(source, parts)
 
 
 def canonical(source: str) -> str:

@@ -78,20 +78,20 @@ class Node(Part):
 
     @property
     def kind(self) -> Kind:
-        return _KINDS[self._told[0]]
+        return _KINDS[self._numbers[0]]
 
     @property
     def descendants(self) -> int:
         """How many of the nodes after this one are of parts in it."""
-        return self._told[1]
+        return self._numbers[1]
 
     @property
     def name(self) -> Optional[str]:
         """The name, without `$` and `@`; of an inline fragment its type condition."""
-        told = self._told
-        if self.kind in _WITHOUT_NAME or told[10] == told[11]:
+        numbers = self._numbers
+        if self.kind in _WITHOUT_NAME or numbers[10] == numbers[11]:
             return None
-        return self._whole._source[told[10] : told[11]].decode()
+        return self._whole._source[numbers[10] : numbers[11]].decode()
 
     @property
     def value(self) -> Union[None, bool, int, float, str]:
@@ -99,19 +99,19 @@ class Node(Part):
 
         Raises OverflowError for an Int of more digits than Python accepts, and for a Float beyond a float. `text` has both.
         """
-        told, kind = self._told, self.kind
+        numbers, kind = self._numbers, self.kind
         if kind is Kind.INT:
-            return told[12]
+            return numbers[12]
         if kind is Kind.BOOLEAN:
-            return told[12] == 1
+            return numbers[12] == 1
         if kind is Kind.LARGE_INT:
             return _int(self.text)
         if kind is Kind.FLOAT:
             return _float(self.text)
         if kind in (Kind.STRING, Kind.BLOCK_STRING, Kind.TYPE):
-            return self._whole._texts[told[12] : told[12] + told[13]].decode()
+            return self._whole._texts[numbers[12] : numbers[12] + numbers[13]].decode()
         if kind is Kind.FRAGMENT_DEFINITION:
-            return self._whole._source[told[12] : told[12] + told[13]].decode()
+            return self._whole._source[numbers[12] : numbers[12] + numbers[13]].decode()
         if kind in (Kind.ENUM, Kind.VARIABLE):
             return self.name
         return None

@@ -85,8 +85,8 @@ def given(source: str, status: int, first: bytes, texts: bytes) -> Tuple[bytes, 
     raise SystemError(f"the parser returned {status}")
 
 
-def _error(source: str, told: bytes, words: bytes) -> FirthnapkinError:
-    kind, detail, character, *positions = _ERROR.unpack(told)[:11]
+def _error(source: str, numbers: bytes, words: bytes) -> FirthnapkinError:
+    kind, detail, character, *positions = _ERROR.unpack(numbers)[:11]
     start, end = Position(*positions[:4]), Position(*positions[4:])
     message = words.decode()
     if kind == ErrorKind.UNEXPECTED_TOKEN.value and begins_schema(source, start.index, end.index):

@@ -23,12 +23,12 @@ class Position(NamedTuple):
 class Part:
     """A part of a text. Its numbers are two of its own, the eight of its positions, and further ones of its own."""
 
-    __slots__ = ("_whole", "_index", "_told", "__weakref__")
+    __slots__ = ("_whole", "_index", "_numbers", "__weakref__")
 
     def __init__(self, whole: Parts[Any], index: int) -> None:
         self._whole = whole
         self._index = index
-        self._told: Tuple[int, ...] = whole._LAYOUT.unpack_from(whole._parts, whole._LAYOUT.size * index)
+        self._numbers: Tuple[int, ...] = whole._LAYOUT.unpack_from(whole._parts, whole._LAYOUT.size * index)
 
     @property
     def index(self) -> int:
@@ -37,32 +37,32 @@ class Part:
 
     @property
     def start(self) -> Position:
-        return Position(*self._told[2:6])
+        return Position(*self._numbers[2:6])
 
     @property
     def end(self) -> Position:
         """The position after the last character."""
-        return Position(*self._told[6:10])
+        return Position(*self._numbers[6:10])
 
     @property
     def text(self) -> str:
         """The source from the start to the end: a number as it is written, a string with its quotes."""
-        return self._whole.text[self._told[2] : self._told[6]]
+        return self._whole.text[self._numbers[2] : self._numbers[6]]
 
     @property
     def line(self) -> int:
         """The line of the start, counted from 1. Lines end at line feeds."""
-        return self._told[3] + 1
+        return self._numbers[3] + 1
 
     @property
     def column(self) -> int:
         """The column of the start in characters, counted from 1."""
-        return self._told[4] + 1
+        return self._numbers[4] + 1
 
     @property
     def excerpt(self) -> str:
         """The lines around the start, with a caret below its character, as `FirthnapkinError.excerpt`. It is made each time."""
-        return excerpt_of(self._whole._written(), self._told[5])
+        return excerpt_of(self._whole._written(), self._numbers[5])
 
     def __eq__(self, other: object) -> bool:
         """Whether both are the same part of the result of one call."""
