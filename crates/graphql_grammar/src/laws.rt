@@ -44,7 +44,7 @@ pub fn begun_by_alike_tokens<C, F>()
     ensures begins { (S : Scalars C F) (ts : List Lexeme) → BeginsAlike IsSpelled (IsDocument S) ts → Begins S ts }
 {}
 
-/// Tokens that a text spells, with one end, the last, are a document or are refused at one place, and never both.
+/// Tokens that a text spells, with one end, the last, are a document or are refused at one token, and never both.
 pub fn document_or_fault<C, F>()
     ensures either { (at_end : F) (unexpected : Kind → Text → F) (S : Scalars C F) (ts : List Lexeme) → AllByRecursion IsSpelled ts → EndsOnce ts → ((ds : List (Definition C)) × IsDocument S ds ts) ⊎ ((before : List Lexeme) × (t : Lexeme) × (e : F) × DocumentRefusedAt at_end unexpected S ts before t e) }
     ensures one { (S : Scalars C F) (ts us vs : List Lexeme) (t u : Lexeme) → AtFault (Begins S) ts us t → AtFault (Begins S) ts vs u → (us ≡ vs) × (t ≡ u) }

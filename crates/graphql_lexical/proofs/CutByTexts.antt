@@ -151,7 +151,8 @@ breaks_from_text before left error at (form.later {done = done} {after = after} 
 
 pub there_to_text : (source : Text) (k ignored size : ℕ) (error : LexicalError)
     → LongestAt AreIgnored (drop k source) ignored
-    → FailsAt (drop (k + ignored) source) size error → BreaksThere (take k source) (drop k source) error (place source ((k + ignored) + size))
+    → FailsAt (drop (k + ignored) source) size error
+    → BreaksThere (take k source) (drop k source) error (place source ((k + ignored) + size))
 there_to_text source k ignored size error g f =
     let t = fails_to_text (drop (k + ignored) source) size error f in
     let text : Text = take ignored (drop k source) in

@@ -2,7 +2,7 @@
 ghost use Rattle.std.specs.Prelude.{◌≡◌};
 ghost use Rattle.graphql_nodes.specs.Kinds.{kind_name};
 
-/// What a node stands for.
+/// The kind of a node: which part of a document it is.
 #[derive(Clone, Copy, Debug, PartialEq, Eq)]
 pub enum NodeKind {
     /// An operation that only reads.

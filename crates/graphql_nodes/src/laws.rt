@@ -25,8 +25,8 @@ pub fn few_nodes<C, F>()
     ensures characters { (S : Scalars C F) (source : List ℕ) (ts : List Lexeme) (a : List (Definition C)) → Cut source ts → IsDocument S a ts → length (document_nodes a) ≤ length source }
 {}
 
-/// Each node of a document is within its source: it begins and ends at places of the source, each with the line and the
-/// column that it has there.
+/// Each node of a document is within its source: it begins and ends at positions of the source, each with the line and
+/// the column that it has there.
 pub fn nodes_lie_in_the_source<C, F>()
     ensures { (S : Scalars C F) (source : List ℕ) (ts : List Lexeme) (a : List (Definition C)) → Cut source ts → IsDocument S a ts → NodesLieIn source (document_nodes a) }
 {}

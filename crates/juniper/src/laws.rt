@@ -49,7 +49,7 @@ pub fn lexer_failures_are_reported()
     ensures { (source : List ℕ) (failed : LexFailure) → FailsAtBreak source failed → IsRefusedAtBreak source (failure_of failed) }
 {}
 
-/// A source text is a document or is refused at one place with one error, and never both.
+/// A source text is a document or is refused at one position with one error, and never both.
 pub fn document_or_fault<S: ScalarValue>()
     ensures either { (source : List ℕ) → ((tree : List (Definition Content)) × HasTree (stated S.reading S.of_bool) source tree) ⊎ ((fault : Fault) × IsRefusal (stated S.reading S.of_bool) source fault) }
     ensures one { (source : List ℕ) (f g : Fault) → IsRefusal (stated S.reading S.of_bool) source f → IsRefusal (stated S.reading S.of_bool) source g → f ≡ g }
@@ -97,7 +97,7 @@ pub fn scalar_tokens<S: ScalarValue>()
         → AllByRecursion (IsReadAlso T (stated S.reading S.of_bool)) ts → IsDocument T tree ts → IsDocument (stated S.reading S.of_bool) tree ts }
 {}
 
-/// The display of a type is read back as that type, if its name is a Name, no `!` stands directly after another, and no
+/// The display of a type is read back as that type, if its name is a Name, no `!` is directly after another, and no
 /// list has a size.
 pub fn type_display_is_read_back()
     ensures { (name : Text) (ms : List TypeModifier) → IsName name → AreWritable ms → IsReadAsType (type_text name ms) (type_of name ms) }

@@ -109,7 +109,7 @@ abbrev pub TakesPlain : LexerState → Option TokenRange → LexerState → Type
 TakesPlain s None t = t ≡ s
 TakesPlain s (Some range) t = TakesRange s range t
 
--- The lexer went over ignored tokens, and over the token after it or no further.
+-- The lexer went over ignored tokens, and over the token after them or no further.
 abbrev pub MayTake : LexerState → Option TokenRange → LexerState → Type 0
 MayTake s range t = TakesPlain (past_ignored s) range t
 

@@ -41,9 +41,9 @@ module _ (g : Over) where
     ),
   )
 
-  compared : (c d : Choice parts) → (selection.ghosts g.row.S g.S.PartialEq g.S.PartialEq-dict g.S.Destruct-dict).eq
+  by_kind : (c d : Choice parts) → (selection.ghosts g.row.S g.S.PartialEq g.S.PartialEq-dict g.S.Destruct-dict).eq
       (the_make static_lft g.row.S c) (the_make static_lft g.row.S d) ≡ by false false parts each c d
-  compared c d =
+  by_kind c d =
       is g.row.S g.S.PartialEq g.S.PartialEq-dict g.S.Destruct-dict (record { laws = g.met.S.PartialEq.laws }) _ _
       ∙ ap₂ (λ x y. by false false parts each x y) (the_beta static_lft g.row.S c) (the_beta static_lft g.row.S d)
 
@@ -66,24 +66,24 @@ module _ (g : Over) where
 
 pub returns-clause-fields : goal.returns-clause-fields
 returns-clause-fields g c a b =
-    compared g (inl (a, tt)) (inl (b, tt))
+    by_kind g (inl (a, tt)) (inl (b, tt))
     ∙ ap (λ step. compared _ _ (the_depth g.row.S.Denot) _ true step member-Field a.item b.item
     && (spans.ghosts).eq a.span b.span) (to_field g)
 
 pub returns-clause-spreads : goal.returns-clause-spreads
-returns-clause-spreads g c a b = compared g (inr (inl (a, tt))) (inr (inl (b, tt)))
+returns-clause-spreads g c a b = by_kind g (inr (inl (a, tt))) (inr (inl (b, tt)))
 
 pub returns-clause-inlines : goal.returns-clause-inlines
 returns-clause-inlines g c a b =
-    compared g (inr (inr (inl (a, tt)))) (inr (inr (inl (b, tt))))
+    by_kind g (inr (inr (inl (a, tt)))) (inr (inr (inl (b, tt))))
     ∙ ap (λ step. compared _ _ (the_depth g.row.S.Denot) _ true step member-InlineFragment a.item b.item
     && (spans.ghosts).eq a.span b.span) (to_inline g)
 
 pub returns-clause-field_and_spread : goal.returns-clause-field_and_spread
-returns-clause-field_and_spread g c a b = compared g (inl (a, tt)) (inr (inl (b, tt)))
+returns-clause-field_and_spread g c a b = by_kind g (inl (a, tt)) (inr (inl (b, tt)))
 
 pub returns-clause-field_and_inline : goal.returns-clause-field_and_inline
-returns-clause-field_and_inline g c a b = compared g (inl (a, tt)) (inr (inr (inl (b, tt))))
+returns-clause-field_and_inline g c a b = by_kind g (inl (a, tt)) (inr (inr (inl (b, tt))))
 
 pub returns-clause-spread_and_inline : goal.returns-clause-spread_and_inline
-returns-clause-spread_and_inline g c a b = compared g (inr (inl (a, tt))) (inr (inr (inl (b, tt))))
+returns-clause-spread_and_inline g c a b = by_kind g (inr (inl (a, tt))) (inr (inr (inl (b, tt))))
