@@ -264,8 +264,9 @@ uint32_t firthnapkin_message(const uint8_t *source, size_t length, const firthna
  *
  * They are the line before, if there is one, the line, the caret, and the line after, if there is one, with a line feed between
  * two of them. Lines are numbered from 1 and end at line feeds. A carriage return before a line feed isn't shown, and any other
- * is shown as a space. Of a line of more than 120 characters the 80 from 40 before the error's column are shown. Only
- * error->start.byte is read of the error: the line and the column are those of that byte of the source.
+ * is shown as a space. Of a line of more than 120 characters the 80 from 40 before the error's column are shown. A row ends at
+ * its bar if nothing of its line is shown. Only error->start.byte is read of the error: the line and the column are those of
+ * that byte of the source.
  *
  * Its statuses are those of firthnapkin_message. FIRTHNAPKIN_INVALID_ERROR: that byte is within a character of the source, or
  * after its end. */

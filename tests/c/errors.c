@@ -181,6 +181,14 @@ static void long_lines(void) {
     end += sprintf(end, "\n2 | )\n  | ^\n3 | ");
     letters(end, 80);
     writes("the lines", firthnapkin_excerpt, source, &error, wanted);
+
+    /* A row ends at its bar if its line ends before what is shown. */
+    end = letters(source, 121);
+    letters(end + sprintf(end, "\n"), 300);
+    error.start.byte = 122 + 200;
+    end = letters(wanted + sprintf(wanted, "1 |\n2 | "), 80);
+    sprintf(end, "\n  | %41s", "^");
+    writes("the lines", firthnapkin_excerpt, source, &error, wanted);
 }
 
 /* So many characters of two bytes. */

@@ -1,7 +1,7 @@
 //! The lines of a source around an error, in the caller's memory.
-ghost use Rattle.std.specs.Prelude.{◌≡◌, ◌≢◌, ◌<◌, ◌≤◌, ◌^◌, ◌↔◌, List, ℕ, length, IsUtf8};
+ghost use Rattle.std.specs.Prelude.{◌≡◌, ◌≢◌, ◌<◌, ◌≤◌, ◌^◌, ◌↔◌, length, IsUtf8};
 ghost use Rattle.juniper_flat.specs.Answers.{Begins};
-ghost use Rattle.juniper_flat.specs.Excerpts.{IsBorder};
+ghost use Rattle.juniper_flat.specs.Excerpts.{IsBorder, excerpt_bytes};
 ghost use Rattle.juniper_flat.specs.Messages.{IsWordsStatus};
 
 use juniper_flat::excerpt::excerpt_of;
@@ -23,11 +23,15 @@ pub extern "C" fn firthnapkin_excerpt(
 ) -> u32
     ensures statuses { IsWordsStatus result }
 
-    // The error begins where a character does, or at the end, and the buffer begins with the lines around that.
-    ensures lines { result ≡ OK → IsUtf8 source.now × (IsBorder source.now fault.now.start.byte × ((lines : List ℕ) × Begins lines buffer.old buffer.new × (buffer_length.new ≡ length lines))) }
+    // The error begins where a character does, or at the end, and the buffer begins with the source's excerpt around that.
+    ensures lines { result ≡ OK → IsUtf8 source.now × (IsBorder source.now fault.now.start.byte
+        × (Begins (excerpt_bytes source.now fault.now.start.byte) buffer.old buffer.new
+        × (buffer_length.new ≡ length (excerpt_bytes source.now fault.now.start.byte)))) }
 
-    // The buffer is too short for them.
-    ensures too_small { result ≡ BUFFER_TOO_SMALL → IsUtf8 source.now × (IsBorder source.now fault.now.start.byte × (length buffer.old < buffer_length.new)) }
+    // The buffer is too short for it.
+    ensures too_small { result ≡ BUFFER_TOO_SMALL → IsUtf8 source.now × (IsBorder source.now fault.now.start.byte
+        × ((length buffer.old < length (excerpt_bytes source.now fault.now.start.byte))
+        × (buffer_length.new ≡ length (excerpt_bytes source.now fault.now.start.byte)))) }
     ensures invalid { result ≡ INVALID_ERROR → IsUtf8 source.now × ¬ IsBorder source.now fault.now.start.byte }
     ensures memory { result ≡ OUT_OF_MEMORY → IsUtf8 source.now }
     ensures no_text { result ≡ NOT_UTF8 → ¬ IsUtf8 source.now }

@@ -14,3 +14,7 @@ pub mod Quotes
 pub mod Shown
 pub mod Messages
 pub mod Public
+pub mod TextLines
+pub mod AroundPositions
+pub mod Appended
+pub mod ExcerptRows

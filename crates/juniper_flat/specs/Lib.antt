@@ -15,3 +15,4 @@ pub mod TokenCounts
 pub mod Tokens
 pub mod CutTokens
 pub mod CanonicalTexts
+pub mod device

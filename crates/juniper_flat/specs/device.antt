@@ -1,0 +1,2 @@
+-- What private contracts and proofs compute with.
+pub mod Excerpts
