@@ -11,9 +11,9 @@ ghost use Rattle.juniper_flat.specs.Answers.{Begins};
 ghost use Rattle.juniper_flat.specs.Tokens.{HasTokens};
 ghost use Rattle.juniper_flat.specs.CanonicalTexts.{IsCanonicalStatus};
 
+use juniper_flat::buffer::fill;
 use juniper_flat::canonical::{Canonical, canonical_of};
 use juniper_flat::fault::Fault;
-use juniper_flat::room::fill;
 use juniper_flat::status::{
     BUFFER_TOO_SMALL, NOT_UTF8, OK, OUT_OF_MEMORY, SOURCE_TOO_LONG, SYNTAX_ERROR,
 };
@@ -45,7 +45,7 @@ pub extern "C" fn firthnapkin_canonical(
     ensures refused { result ≡ SYNTAX_ERROR → IsUtf8 source.now × ((error : LexicalError) × (at : places.Place)
         × Breaks (chars source.now) error at × (fault.new ≡ written_fault (chars source.now) (lexical_fault error at))) }
     ensures memory { result ≡ OUT_OF_MEMORY → IsUtf8 source.now }
-    ensures no_text { result ≡ NOT_UTF8 → ¬ IsUtf8 source.now }
+    ensures not_utf8 { result ≡ NOT_UTF8 → ¬ IsUtf8 source.now }
     ensures too_long { result ≡ SOURCE_TOO_LONG ↔ 2 ^ 32 ≤ length source.now }
 
     // What is left unchanged.

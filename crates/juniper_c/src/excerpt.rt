@@ -4,9 +4,9 @@ ghost use Rattle.juniper_flat.specs.Answers.{Begins};
 ghost use Rattle.juniper_flat.specs.Excerpts.{IsBorder, excerpt_bytes};
 ghost use Rattle.juniper_flat.specs.Messages.{IsWordsStatus};
 
+use juniper_flat::buffer::fill;
 use juniper_flat::excerpt::excerpt_of;
 use juniper_flat::fault::Fault;
-use juniper_flat::room::fill;
 use juniper_flat::status::{
     BUFFER_TOO_SMALL, INVALID_ERROR, NOT_UTF8, OK, OUT_OF_MEMORY, SOURCE_TOO_LONG,
 };
@@ -34,7 +34,7 @@ pub extern "C" fn firthnapkin_excerpt(
         × (buffer_length.new ≡ length (excerpt_bytes source.now fault.now.start.byte)))) }
     ensures invalid { result ≡ INVALID_ERROR → IsUtf8 source.now × ¬ IsBorder source.now fault.now.start.byte }
     ensures memory { result ≡ OUT_OF_MEMORY → IsUtf8 source.now }
-    ensures no_text { result ≡ NOT_UTF8 → ¬ IsUtf8 source.now }
+    ensures not_utf8 { result ≡ NOT_UTF8 → ¬ IsUtf8 source.now }
     ensures too_long { result ≡ SOURCE_TOO_LONG ↔ 2 ^ 32 ≤ length source.now }
 
     // What is left unchanged.

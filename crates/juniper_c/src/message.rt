@@ -3,9 +3,9 @@ ghost use Rattle.std.specs.Prelude.{◌≡◌, ◌≢◌, ◌<◌, ◌≤◌, �
 ghost use Rattle.juniper_flat.specs.Answers.{Begins};
 ghost use Rattle.juniper_flat.specs.Messages.{AreWords, IsNoErrorOf, IsWordsStatus};
 
+use juniper_flat::buffer::fill;
 use juniper_flat::fault::Fault;
 use juniper_flat::message::message_of;
-use juniper_flat::room::fill;
 use juniper_flat::status::{
     BUFFER_TOO_SMALL, INVALID_ERROR, NOT_UTF8, OK, OUT_OF_MEMORY, SOURCE_TOO_LONG,
 };
@@ -33,7 +33,7 @@ pub extern "C" fn firthnapkin_message(
     // No call on the source gives the error.
     ensures invalid { result ≡ INVALID_ERROR → IsUtf8 source.now × IsNoErrorOf source.now fault.now }
     ensures memory { result ≡ OUT_OF_MEMORY → IsUtf8 source.now }
-    ensures no_text { result ≡ NOT_UTF8 → ¬ IsUtf8 source.now }
+    ensures not_utf8 { result ≡ NOT_UTF8 → ¬ IsUtf8 source.now }
     ensures too_long { result ≡ SOURCE_TOO_LONG ↔ 2 ^ 32 ≤ length source.now }
 
     // What is left unchanged.

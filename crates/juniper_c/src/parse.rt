@@ -9,11 +9,11 @@ ghost use Rattle.juniper_flat.specs.Limits.{AreInvalid};
 ghost use Rattle.juniper_flat.specs.Faults.{written_fault, deep_fault, many_fault};
 ghost use Rattle.juniper_flat.specs.Answers.{HasDocument, HasRefusal, HasDeepToken, HasTokenTooMany, nodes_of, texts_of, Begins, IsStatus};
 
+use juniper_flat::buffer::fill_both;
 use juniper_flat::fault::Fault;
 use juniper_flat::flat::{Parsed, flat_of};
 use juniper_flat::limits::{Limits, are_refused};
 use juniper_flat::node::Node;
-use juniper_flat::room::fill_both;
 use juniper_flat::status::{
     BUFFER_TOO_SMALL, INVALID_LIMIT, NOT_UTF8, OK, OUT_OF_MEMORY, SOURCE_TOO_LONG, SYNTAX_ERROR,
     TOO_DEEP, TOO_MANY_TOKENS,
@@ -50,7 +50,7 @@ pub extern "C" fn firthnapkin_parse(
     ensures too_deep { result ≡ TOO_DEEP → (span : places.Span) × HasDeepToken source.now limits.now span × (fault.new ≡ deep_fault (chars source.now) span) }
     ensures too_many { result ≡ TOO_MANY_TOKENS → (span : places.Span) × HasTokenTooMany source.now limits.now span × (fault.new ≡ many_fault (chars source.now) span) }
     ensures memory { result ≡ OUT_OF_MEMORY → IsUtf8 source.now }
-    ensures no_text { result ≡ NOT_UTF8 → ¬ IsUtf8 source.now }
+    ensures not_utf8 { result ≡ NOT_UTF8 → ¬ IsUtf8 source.now }
     ensures too_long { result ≡ SOURCE_TOO_LONG ↔ 2 ^ 32 ≤ length source.now }
     ensures limits_refused { result ≡ INVALID_LIMIT ↔ (AreInvalid limits.now × (length source.now < 2 ^ 32)) }
 

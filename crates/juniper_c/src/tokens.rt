@@ -9,7 +9,7 @@ ghost use Rattle.juniper.specs.Promise.{lexical_fault};
 ghost use Rattle.juniper_flat.specs.Faults.{written_fault, many_fault};
 ghost use Rattle.juniper_flat.specs.Answers.{Begins, Fills};
 ghost use Rattle.juniper_tokens.specs.Counting.{HasMore};
-ghost use Rattle.juniper_flat.specs.Tokens.{written_tokens, TellsText, HasTokens, HasFaultBehind, IsTokensStatus};
+ghost use Rattle.juniper_flat.specs.Tokens.{written_tokens, TellsText, HasTokens, HasFaultAfter, IsTokensStatus};
 
 use juniper_flat::fault::Fault;
 use juniper_flat::status::{
@@ -19,8 +19,8 @@ use juniper_flat::token::Token;
 use juniper_flat::tokens::{Written, tokens_of};
 use std::alloc::Global;
 
-/// Writes the tokens of a source into the caller's buffer, its end among them, or where it has a lexical error or more
-/// tokens than the limit.
+/// Writes the tokens of a source into the caller's buffer, its end among them; or those before its first lexical error or
+/// before the first token past the limit, which is the error.
 #[unsafe(no_mangle)]
 pub extern "C" fn firthnapkin_tokens(
     alloc: Global,
@@ -43,7 +43,7 @@ pub extern "C" fn firthnapkin_tokens(
 
     // It begins with the tokens before the source's first lexical error, as many as it has capacity for.
     ensures refused { result ≡ SYNTAX_ERROR → (before : List Lexeme) × (error : LexicalError) × (at : places.Place)
-        × HasFaultBehind source.now before error at × (length before ≤ max_tokens)
+        × HasFaultAfter source.now before error at × (length before ≤ max_tokens)
         × Fills (written_tokens (chars source.now) before) tokens.old tokens.new × (tokens_length.new ≡ length before)
         × Breaks (chars source.now) error at × (fault.new ≡ written_fault (chars source.now) (lexical_fault error at)) }
 
@@ -55,7 +55,7 @@ pub extern "C" fn firthnapkin_tokens(
     // It may begin with some of the source's first tokens.
     ensures memory { result ≡ OUT_OF_MEMORY → IsUtf8 source.now × ((some : List Lexeme) × (done after : Text)
         × Leads [] (chars source.now) some done after × Fills (written_tokens (chars source.now) some) tokens.old tokens.new) }
-    ensures no_text { result ≡ NOT_UTF8 → ¬ IsUtf8 source.now }
+    ensures not_utf8 { result ≡ NOT_UTF8 → ¬ IsUtf8 source.now }
     ensures too_long { result ≡ SOURCE_TOO_LONG ↔ 2 ^ 32 ≤ length source.now }
 
     // So a buffer of one token more than the source has bytes is never too short.

@@ -18,16 +18,16 @@ use Rattle.juniper_flat.specs.declared.source.Unread.{Unread}
 use Rattle.juniper_flat.specs.Answers.{ReturnsFlat, IfTree, HasDocument, scalars, nodes_of, texts_of}
 use Rattle.juniper_flat.proofs.ShortScalars.{short_texts}
 
-told-length : (source : List ℕ) (at : ℕ) (ns : List (nodes.Node Content)) → length (written_nodes source at ns) ≡ length ns
-told-length source at [] = refl
-told-length source at (n ∷ ns) = ap suc (told-length source (at + byte_count (text_of_node n)) ns)
+written-length : (source : List ℕ) (at : ℕ) (ns : List (nodes.Node Content)) → length (written_nodes source at ns) ≡ length ns
+written-length source at [] = refl
+written-length source at (n ∷ ns) = ap suc (written-length source (at + byte_count (text_of_node n)) ns)
 
 pub within_source : (source : List ℕ) (limits : Limits) (tree : List (Definition Content)) → HasDocument source limits tree
     → (length (nodes_of source tree) ≤ length source) × (length (texts_of tree) ≤ length source)
 within_source source limits tree h =
     let few = few_nodes_of_source scalars (chars source) h.has_tree.lexemes tree h.has_tree.cut h.has_tree.document in
     let short = short_texts (chars source) h.has_tree.lexemes tree h.has_tree.cut h.has_tree.document in (
-      omega (arith, few, told-length (chars source) 0 (document_nodes tree), chars_within source h.utf8),
+      omega (arith, few, written-length (chars source) 0 (document_nodes tree), chars_within source h.utf8),
       omega (arith, short, ap length (encodes-chars source h.utf8)),
     )
 

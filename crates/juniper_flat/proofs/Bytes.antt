@@ -11,10 +11,10 @@ use Rattle.std.proofs.lemmas.Str.{chars-IsAscii, encodes-IsAscii, encodes-chars,
 use Rattle.juniper_tokens.specs.device.ByteRuns.{is_inner}
 use Rattle.juniper_tokens.proofs.Public.{wide, inner_low, inner_high, low_or_high}
 use Rattle.juniper_flat.specs.ByteTables.{starts_in}
-use Rattle.juniper_flat.specs.Places.{byte_behind}
+use Rattle.juniper_flat.specs.Places.{bytes_before}
 
 -- of a text that is ASCII
-pub ascii_bytes : (bs : List ℕ) → IsAscii bs → (k : ℕ) → min k (length bs) ≡ byte_behind (chars bs) k
+pub ascii_bytes : (bs : List ℕ) → IsAscii bs → (k : ℕ) → min k (length bs) ≡ bytes_before (chars bs) k
 ascii_bytes bs a k =
     sym (length-take k bs)
     ∙ (ap length (sym (encodes-IsAscii (take k bs) (IsAscii-take bs k a)))
@@ -78,7 +78,7 @@ start_is at (c ∷ cs) (suc k) =
 
 -- the table of all bytes of a text is that of its characters
 pub starts_whole : (text starts : List ℕ) → IsUtf8 text → starts ≡ starts_in 0 text
-    → (k : ℕ) → unwrap_or (slice_get starts k) (length text) ≡ byte_behind (chars text) k
+    → (k : ℕ) → unwrap_or (slice_get starts k) (length text) ≡ bytes_before (chars text) k
 starts_whole text starts u e k =
     let cs = chars text in
     let whole = encodes-chars text u in

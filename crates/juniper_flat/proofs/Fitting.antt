@@ -1,4 +1,4 @@
--- The numbers that C is told of a source of less than 4 GiB fit in 32 bits.
+-- The numbers that C gets of a source of less than 4 GiB fit in 32 bits.
 use Rattle.std.proofs.Common.{◌≡◌, ◌∙◌, ℕ, ◌+◌, ◌^◌, ◌<◌, ◌≤◌, List, [], ◌∷◌, ◌++◌, length, take, reverse, sym, ap, subst, arith, append_assoc, length-append, refl}
 use Rattle.std.specs.List.{AllByRecursion, prefix_len, take_while}
 use Rattle.std.specs.Prelude.{not, Bool}

@@ -11,7 +11,7 @@ use Rattle.juniper_flat.specs.Nodes.{byte_count, written_nodes}
 use Rattle.juniper_flat.specs.FlatWriters.{Holds, NodesFit}
 use Rattle.juniper_flat.specs.declared.flat.Flat.{Flat}
 use Rattle.juniper_flat.specs.declared.flat.FlatWriter.{FlatWriter}
-use Rattle.juniper_flat.proofs.Written.{told-next, fits-append, texts-append, document-more}
+use Rattle.juniper_flat.proofs.Written.{written-next, fits-append, texts-append, document-more}
 
 -- what holds in any case holds where there is an error
 pub holds_on_err : {X E P : Type 0} (result : Result X E) → P → OnErr result P
@@ -38,7 +38,7 @@ gains-definition (Ok x) old flat d nodes texts = record {
             let at : 0 + byte_count (node_texts done) ≡ length (string_bytes old.flat.texts) =
             omega (arith, ap length h.texts) in
             let behind = subst (λ (k : ℕ). NodesFit k ns) at fits.1 in
-            told-next source done ns _ _ _ (h.nodes fits.0) h.texts (nodes source h.table behind)
+            written-next source done ns _ _ _ (h.nodes fits.0) h.texts (nodes source h.table behind)
             ∙ ap (written_nodes source 0) all;
         texts =
             texts ∙ (ap (λ bs. bs ++ encode_utf8_all (node_texts ns)) h.texts

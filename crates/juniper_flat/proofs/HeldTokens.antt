@@ -1,4 +1,4 @@
--- What a room holds of a source's tokens while a lexer goes over it.
+-- What a buffer has of a source's tokens while a lexer goes over it.
 use Rattle.std.proofs.Common.{◌≡◌, ◌∙◌, ℕ, ◌+◌, ◌≤◌, false, List, [], ◌∷◌, ◌++◌, length, set, inl, inr, refl, sym, ap, ap₂, subst, arith, length-append, zero-le}
 use Rattle.std.specs.Prelude.{◌<◌, ◌^◌, IsUtf8, chars, Result, Ok, Err}
 use Rattle.std.specs.Result.{IsErrAnd}
@@ -14,21 +14,22 @@ use Rattle.juniper_tokens.proofs.Public.{chars_within}
 use Rattle.juniper_flat.specs.Answers.{Fills}
 use Rattle.juniper_flat.specs.CutTokens.{ReturnsTokens}
 use Rattle.juniper_tokens.specs.Counting.{HasMore}
-use Rattle.juniper_flat.specs.Tokens.{written_token, written_tokens, HasTokens, HasFaultBehind}
+use Rattle.juniper_flat.specs.Tokens.{written_token, written_tokens, HasTokens, HasFaultAfter}
 use Rattle.juniper_flat.specs.declared.source.Unread.{Unread}
 use Rattle.juniper_flat.specs.declared.source.Unread.TheVariants as unread
 use Rattle.juniper_flat.specs.declared.token.Token.{Token}
 use Rattle.juniper_flat.specs.declared.tokens.Written.{Written}
-use Rattle.juniper_flat.proofs.Rooms.{fills_none, fills_more}
+use Rattle.juniper_flat.proofs.Buffers.{fills_none, fills_more}
 use Rattle.graphql_lexical.proofs.Public.{by_places}
 
--- The lexer stands behind these tokens, none of them the end, and the room is filled with them.
-pub record Held (source : List ℕ) (old : List Token) (lexer : LexerState) (room : List Token) (count : ℕ) : Type 0 where
+-- The lexer is after these tokens, none of them the end, and the buffer is filled with them.
+pub record Held (source : List ℕ) (old : List Token) (lexer : LexerState) (buffer : List Token) (count : ℕ)
+    : Type 0 where
   pub tokens : List Lexeme
   pub leads : Leads [] source tokens (passed source lexer.index) (ahead source lexer.index)
   pub same : lexer.source ≡ source
   pub going : lexer.ended ≡ false
-  pub fills : Fills (written_tokens source tokens) old room
+  pub fills : Fills (written_tokens source tokens) old buffer
   pub count_is : count ≡ length tokens
 
 pub held_first : (source : List ℕ) (old : List Token) → Held source old (started source) old 0
@@ -41,18 +42,19 @@ held_first source old = record {
   count_is = refl;
 }
 
-fills_next : (source : List ℕ) (xs : List Lexeme) (x : Lexeme) (old room : List Token) (count : ℕ) (told : Token)
-    → Fills (written_tokens source xs) old room → count ≡ length xs → told ≡ written_token source x
-    → Fills (written_tokens source (xs ++ x ∷ [])) old (set room count told)
-fills_next source xs x old room count told f e is =
+fills_next : (source : List ℕ) (xs : List Lexeme) (x : Lexeme) (old buffer : List Token) (count : ℕ) (written : Token)
+    → Fills (written_tokens source xs) old buffer → count ≡ length xs → written ≡ written_token source x
+    → Fills (written_tokens source (xs ++ x ∷ [])) old (set buffer count written)
+fills_next source xs x old buffer count written f e is =
     let ts = written_tokens source xs in
     let at : count ≡ length ts = e ∙ sym (length-map xs (written_token source)) in
-    let more = fills_more ts old room (written_token source x) f in
-    subst (λ (ys : List Token). Fills ys old (set room count told)) (sym (map-append (written_token source) xs (x ∷ [])))
+    let more = fills_more ts old buffer (written_token source x) f in
+    subst (λ (ys : List Token). Fills ys old (set buffer count written))
+    (sym (map-append (written_token source) xs (x ∷ [])))
     (subst (λ (new : List Token). Fills (ts ++ written_token source x ∷ []) old new)
-    (ap₂ (λ (n : ℕ) (t : Token). set room n t) (sym at) (sym is)) more)
+    (ap₂ (λ (n : ℕ) (t : Token). set buffer n t) (sym at) (sym is)) more)
 
-module _ (source : List ℕ) (old room : List Token) (s : LexerState) (count : ℕ) (h : Held source old s room count) where
+module _ (source : List ℕ) (old buffer : List Token) (s : LexerState) (count : ℕ) (h : Held source old s buffer count) where
   -- the token that stands in the source where the lexer does
   abbrev pub StandsHere : Lexeme → ℕ → Type 0
   StandsHere x next = Stands (passed source s.index) (ahead source s.index) x (passed source next) (ahead source next)
@@ -70,29 +72,30 @@ module _ (source : List ℕ) (old room : List Token) (s : LexerState) (count : �
   pub all_there : passed source s.index ++ ahead source s.index ≡ source
   all_there = sym (leads_whole [] source (passed source s.index) (ahead source s.index) h.tokens h.leads)
 
-  -- one token more is put behind those
-  pub held_told : (new : List Token) (told : Token) (x : Lexeme) → told ≡ written_token source x → new ≡ set room count told
+  -- one token more is put after those
+  pub held_written : (new : List Token) (written : Token) (x : Lexeme) → written ≡ written_token source x
+      → new ≡ set buffer count written
       → Fills (written_tokens source (h.tokens ++ x ∷ [])) old new
-  held_told new told x is put = subst (Fills (written_tokens source (h.tokens ++ x ∷ [])) old) (sym put)
-      (fills_next source h.tokens x old room count told h.fills h.count_is is)
+  held_written new written x is put = subst (Fills (written_tokens source (h.tokens ++ x ∷ [])) old) (sym put)
+      (fills_next source h.tokens x old buffer count written h.fills h.count_is is)
 
   -- and it is not the end
-  pub held_more : (t : LexerState) (new : List Token) (told : Token) (x : Lexeme) → StandsHere x t.index
-      → (x.kind ≡ EndOfFile → ⊥) → t.source ≡ s.source → t.ended ≡ false → told ≡ written_token source x
-      → new ≡ set room count told → Held source old t new (count + 1)
-  held_more t new told x stands other same going is put = record {
+  pub held_more : (t : LexerState) (new : List Token) (written : Token) (x : Lexeme) → StandsHere x t.index
+      → (x.kind ≡ EndOfFile → ⊥) → t.source ≡ s.source → t.ended ≡ false → written ≡ written_token source x
+      → new ≡ set buffer count written → Held source old t new (count + 1)
+  held_more t new written x stands other same going is put = record {
     tokens = h.tokens ++ x ∷ [];
     leads = leads_more _ _ _ _ _ _ h.tokens x h.leads stands other;
     same = same ∙ h.same;
     going = going;
-    fills = held_told new told x is put;
+    fills = held_written new written x is put;
     count_is = omega (arith, h.count_is, length-append h.tokens (x ∷ []));
   }
 
-  -- the token behind those is one too many
+  -- the token after those is one too many
   pub held_many : (most : ℕ) (x : Lexeme) (next : ℕ) (span : Span) → count ≡ most → StandsHere x next
       → (x.kind ≡ EndOfFile → ⊥) → span ≡ x.span
-      → (more : HasMore [] source most span) × Fills (written_tokens source more.front) old room
+      → (more : HasMore [] source most span) × Fills (written_tokens source more.front) old buffer
   held_many most x next span e stands other at = (
     record {
       front = h.tokens;
@@ -110,7 +113,7 @@ module _ (source : List ℕ) (old room : List Token) (s : LexerState) (count : �
     h.fills,
   )
 
-  -- the token behind those is the end
+  -- the token after those is the end
   pub held_all : (x : Lexeme) (next : ℕ) → StandsHere x next → x.kind ≡ EndOfFile → Cut source (h.tokens ++ x ∷ [])
   held_all x next stands end = cut_leads _ _ _ _ h.tokens (x ∷ []) h.leads (last stands end)
 
@@ -118,7 +121,7 @@ module _ (source : List ℕ) (old room : List Token) (s : LexerState) (count : �
 
 pub none_held : (source : List ℕ) (most : ℕ) (old : List Token) (result : Result Written Unread) → length source < 2 ^ 32
     → IsUtf8 source → IsErrAnd result (λ e. e ≡ unread.OutOfMemory) → ReturnsTokens source most old old result
-none_held source most old (Ok written) l u e = absurd e
+none_held source most old (Ok x) l u e = absurd e
 none_held source most old (Err unread.NotUtf8) l u e = absurd (cc)
 none_held source most old (Err unread.TooLong) l u e = absurd (cc)
 none_held source most old (Err unread.OutOfMemory) l u e = ((l, u), ([], [], chars source, none, fills_none old))
@@ -144,7 +147,7 @@ module _ (source : List ℕ) where
       let z = leads_size (chars source) before 0 (length done) zero-le (leads_from_text [] (chars source) done after before l) in
       omega (arith, z.0, z.1, chars_within source u)
 
-  pub few_before : (before : List Lexeme) (error : LexicalError) (at : Place) → HasFaultBehind source before error at
+  pub few_before : (before : List Lexeme) (error : LexicalError) (at : Place) → HasFaultAfter source before error at
       → length before ≤ length source
   few_before before error at h = few_leading before h.done h.after h.utf8 h.leads
 
@@ -154,6 +157,6 @@ module _ (source : List ℕ) where
 
 -- ---- faults
 
-pub fault_behind : (source : List ℕ) (before : List Lexeme) (error : LexicalError) (at : Place)
-    → HasFaultBehind source before error at → Breaks (chars source) error at
-fault_behind source before error at h = breaks_lead [] (chars source) h.done h.after before error at h.leads (here h.breaks)
+pub fault_after : (source : List ℕ) (before : List Lexeme) (error : LexicalError) (at : Place)
+    → HasFaultAfter source before error at → Breaks (chars source) error at
+fault_after source before error at h = breaks_lead [] (chars source) h.done h.after before error at h.leads (here h.breaks)

@@ -6,7 +6,7 @@ pub mod Bounds
 pub mod FlatWriters
 pub mod Fitting
 pub mod TokenCounts
-pub mod Rooms
+pub mod Buffers
 pub mod TokenTexts
 pub mod HeldTokens
 pub mod CanonicalTexts

@@ -101,8 +101,8 @@ block_not_quoted whole text e (c ∷ cs) q = q.1 cs (ap (λ d. d ∷ cs) (quote_
 
 -- Of a String the text between its quotes, with escapes; of any other token all of it.
 abbrev pub IsShown : Text → Text → Text → Type 0
-IsShown whole text told =
-    (IsQuoted whole text × (told ≡ shown String text)) ⊎ (((t : Text) → IsQuoted whole t → ⊥) × (told ≡ whole))
+IsShown whole text seen =
+    (IsQuoted whole text × (seen ≡ shown String text)) ⊎ (((t : Text) → IsQuoted whole t → ⊥) × (seen ≡ whole))
 
 fixed_shown : (c : ℕ) (cs whole text : Text) → c ≢ 34 → whole ≡ c ∷ cs → text ≡ whole → IsShown whole text text
 fixed_shown c cs whole text n e f = inr (not_quoted whole (c, cs, e, n), f)
@@ -134,17 +134,17 @@ quoted_once whole s t q e =
     sym (unquoted 34 [] t) ∙ (ap (between (codes "\"")) (sym e ∙ q.0) ∙ unquoted 34 [] s)
 
 -- what is shown of a String, by what stands between its quotes
-pub shown_string : (whole text between told : Text) → IsQuoted whole between → IsShown whole text told
-    → shown String between ≡ told
-shown_string whole text between told q (inl (r, e)) =
+pub shown_string : (whole text between seen : Text) → IsQuoted whole between → IsShown whole text seen
+    → shown String between ≡ seen
+shown_string whole text between seen q (inl (r, e)) =
     ap (shown String) (quoted_once whole text between r q.0) ∙ sym e
-shown_string whole text between told q (inr (n, e)) = absurd (n between q)
+shown_string whole text between seen q (inr (n, e)) = absurd (n between q)
 
 -- what is shown of any other token, by its bytes
-pub shown_plain : (bytes text told : List ℕ) → IsUtf8 bytes → ((t : Text) → IsQuoted (chars bytes) t → ⊥)
-    → IsShown (chars bytes) text told → bytes ≡ encode_utf8_all told
-shown_plain bytes text told u n (inl (q, e)) = absurd (n text q)
-shown_plain bytes text told u n (inr (m, e)) = sym (encodes-chars bytes u) ∙ ap encode_utf8_all (sym e)
+pub shown_plain : (bytes text seen : List ℕ) → IsUtf8 bytes → ((t : Text) → IsQuoted (chars bytes) t → ⊥)
+    → IsShown (chars bytes) text seen → bytes ≡ encode_utf8_all seen
+shown_plain bytes text seen u n (inl (q, e)) = absurd (n text q)
+shown_plain bytes text seen u n (inr (m, e)) = sym (encodes-chars bytes u) ∙ ap encode_utf8_all (sym e)
 
 -- ---- the bytes between quotes
 

@@ -191,5 +191,5 @@ bytes_within bytes u front middle rest start end e s f =
     let both = ap length (encodes-append front middle) ∙ length-append (encode_utf8_all front) (encode_utf8_all middle) in
     let whole = ap length (sym (encodes-chars bytes u) ∙ ap encode_utf8_all e) in
     let parts = ap length (encodes-append front (middle ++ rest)) ∙ length-append (encode_utf8_all front) (encode_utf8_all (middle ++ rest)) in
-    let behind = ap length (encodes-append middle rest) ∙ length-append (encode_utf8_all middle) (encode_utf8_all rest) in
-    (omega (arith, first, last, both), omega (arith, last, both, whole, parts, behind))
+    let after = ap length (encodes-append middle rest) ∙ length-append (encode_utf8_all middle) (encode_utf8_all rest) in
+    (omega (arith, first, last, both), omega (arith, last, both, whole, parts, after))

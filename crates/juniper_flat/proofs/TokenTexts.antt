@@ -11,7 +11,7 @@ use Rattle.graphql_lexical.specs.Tokens.{mark, quotes, around}
 use Rattle.graphql_lexical.specs.Cutting.{Lexeme, Stands}
 use Rattle.graphql_lexical.specs.device.Indexed.{StandsAt}
 use Rattle.graphql_lexical.proofs.Public.{front_read, place_index, stands_from_text}
-use Rattle.juniper_flat.specs.Places.{byte_behind}
+use Rattle.juniper_flat.specs.Places.{bytes_before}
 use Rattle.juniper_flat.specs.Tokens.{TellsText}
 
 one_quote : encode_utf8_all (34 ∷ []) ≡ 34 ∷ []
@@ -40,17 +40,17 @@ written_bytes Ints text = sym (append-nil (encode_utf8_all text))
 written_bytes (Fixed fixed) text = sym (append-nil (encode_utf8_all text))
 written_bytes NoText text = sym (append-nil (encode_utf8_all text))
 
--- what stands between two marks behind a front
+-- what is between two marks after a front
 middle : (front marks text rest : List ℕ) (from size : ℕ) → from ≡ length front + length marks → size ≡ length text
     → take size (drop from (front ++ ((marks ++ (text ++ marks)) ++ rest))) ≡ text
 middle front marks text rest from size e f =
     let whole = (marks ++ (text ++ marks)) ++ rest in
-    let behind : drop (length front + length marks) (front ++ whole) ≡ text ++ (marks ++ rest) =
+    let after_front : drop (length front + length marks) (front ++ whole) ≡ text ++ (marks ++ rest) =
     drop-append-add front whole (length marks)
     ∙ (ap (drop (length marks)) (append_assoc marks (text ++ marks) rest)
     ∙ (drop-append_seam marks ((text ++ marks) ++ rest) ∙ append_assoc text marks rest)) in
     ap₂ (λ i j. take i (drop j (front ++ whole))) f e
-    ∙ (ap (take (length text)) behind ∙ take-append_seam text (marks ++ rest))
+    ∙ (ap (take (length text)) after_front ∙ take-append_seam text (marks ++ rest))
 
 -- the places of a token that stands in a source
 module _ (source : List ℕ) (k : ℕ) (x : Lexeme) (next : ℕ) (l : k ≤ length source) (s : StandsAt source k x next) where
@@ -78,29 +78,30 @@ tells_text_at bytes u k x next l s =
     let f = front_read (drop from source) s.size x.kind x.text s.reads in
     let token : encode_utf8_all (take s.size (drop from source)) ≡ marks ++ (text ++ marks) =
     ap encode_utf8_all f.front ∙ written_bytes (spelling x.kind) x.text in
-    let behind : encode_utf8_all (drop from source) ≡ (marks ++ (text ++ marks)) ++ rest =
+    let after_front : encode_utf8_all (drop from source) ≡ (marks ++ (text ++ marks)) ++ rest =
     ap encode_utf8_all (sym (take-append-drop s.size (drop from source)))
     ∙ (encodes-append (take s.size (drop from source)) (drop s.size (drop from source)) ∙ ap (λ t. t ++ rest) token) in
     let whole : bytes ≡ front ++ ((marks ++ (text ++ marks)) ++ rest) =
     sym (encodes-chars bytes u)
     ∙ (ap encode_utf8_all (sym (take-append-drop from source))
-    ∙ (encodes-append (take from source) (drop from source) ∙ ap (λ t. front ++ t) behind)) in
-    let start : byte_behind source x.span.start.index ≡ length front =
-    ap (byte_behind source) (begins_at source k x next l s) in
-    let end : byte_behind source x.span.end.index ≡ length front + length (marks ++ (text ++ marks)) =
-    ap (byte_behind source) (ends_at source k x next l s)
+    ∙ (encodes-append (take from source) (drop from source) ∙ ap (λ t. front ++ t) after_front)) in
+    let start : bytes_before source x.span.start.index ≡ length front =
+    ap (bytes_before source) (begins_at source k x next l s) in
+    let end : bytes_before source x.span.end.index ≡ length front + length (marks ++ (text ++ marks)) =
+    ap (bytes_before source) (ends_at source k x next l s)
     ∙ (ap (λ t. length (encode_utf8_all t)) (take-add from s.size source)
     ∙ (ap length (encodes-append (take from source) (take s.size (drop from source)))
     ∙ (length-append front (encode_utf8_all (take s.size (drop from source)))
     ∙ ap (λ (t : List ℕ). length front + length t) token))) in
     let long : length (marks ++ (text ++ marks)) ≡ length marks + (length text + length marks) =
     length-append marks (text ++ marks) ∙ ap (λ n. length marks + n) (length-append text marks) in
-    let at : byte_behind source x.span.start.index + length marks ≡ length front + length marks =
+    let at : bytes_before source x.span.start.index + length marks ≡ length front + length marks =
     ap (λ n. n + length marks) start in
-    let size : (byte_behind source x.span.end.index - byte_behind source x.span.start.index) - 2 * length marks
+    let size : (bytes_before source x.span.end.index - bytes_before source x.span.start.index) - 2 * length marks
     ≡ length text = omega (arith, start, end, long) in
-    ap (λ (t : List ℕ). take ((byte_behind source x.span.end.index - byte_behind source x.span.start.index) - 2 * length marks)
-    (drop (byte_behind source x.span.start.index + length marks) t)) whole
+    ap (λ (t : List ℕ).
+    take ((bytes_before source x.span.end.index - bytes_before source x.span.start.index) - 2 * length marks)
+    (drop (bytes_before source x.span.start.index + length marks) t)) whole
     ∙ middle front marks text rest _ _ at size
 
 pub tells_text : (bytes : List ℕ) → IsUtf8 bytes → (before left : List ℕ) (x : Lexeme) (done after : List ℕ)

@@ -1,4 +1,4 @@
--- One node more is told.
+-- One node more is written.
 use Rattle.std.proofs.Common.{◌≡◌, ◌∙◌, ℕ, ◌+◌, ◌-◌, List, [], ◌∷◌, ◌++◌, length, sym, ap, ap₂, arith, append_assoc, append-nil, length-append, subst}
 use Rattle.std.specs.Prelude.{encode_utf8_all}
 use Rattle.std.specs.Str.{chars, IsUtf8}
@@ -17,15 +17,16 @@ use Rattle.juniper_flat.specs.declared.node.Node.{Node}
 pub before_end : (end : ℕ) (text : List ℕ) → IsUtf8 text → end - length text ≡ end - byte_count (chars text)
 before_end end text u = ap (λ bs. end - length bs) (sym (encodes-chars text u))
 
-pub next_told : (source : List ℕ) (at next : ℕ) (ns rest : List (nodes.Node Content)) (n : nodes.Node Content)
-    → (all told new : List Node) (t : Node)
-    → all ≡ told ++ written_nodes source at ns → ns ≡ n ∷ rest → new ≡ told ++ t ∷ [] → t ≡ written_node source at n
+pub next_written : (source : List ℕ) (at next : ℕ) (ns rest : List (nodes.Node Content)) (n : nodes.Node Content)
+    → (all written new : List Node) (t : Node)
+    → all ≡ written ++ written_nodes source at ns → ns ≡ n ∷ rest → new ≡ written ++ t ∷ []
+    → t ≡ written_node source at n
     → next ≡ at + byte_count (text_of_node n)
     → all ≡ new ++ written_nodes source next rest
-next_told source at next ns rest n all told new t h here grown is on =
-    h ∙ (ap (λ ms. told ++ written_nodes source at ms) here
-    ∙ (ap₂ (λ (x : Node) (k : ℕ). told ++ x ∷ written_nodes source k rest) (sym is) (sym on)
-    ∙ (sym (append_assoc told (t ∷ []) (written_nodes source next rest))
+next_written source at next ns rest n all written new t h here grown is on =
+    h ∙ (ap (λ ms. written ++ written_nodes source at ms) here
+    ∙ (ap₂ (λ (x : Node) (k : ℕ). written ++ x ∷ written_nodes source k rest) (sym is) (sym on)
+    ∙ (sym (append_assoc written (t ∷ []) (written_nodes source next rest))
     ∙ ap (λ xs. xs ++ written_nodes source next rest) (sym grown))))
 
 pub next_texts : (ns rest : List (nodes.Node Content)) (n : nodes.Node Content) (all bytes new : List ℕ)
@@ -41,16 +42,16 @@ pub bytes-append : (t u : List ℕ) → byte_count (t ++ u) ≡ byte_count t + b
 bytes-append t u = ap length (encodes-append t u) ∙ length-append (encode_utf8_all t) (encode_utf8_all u)
 
 -- some nodes, and then others
-pub told-append : (source : List ℕ) (at : ℕ) (ns ms : List (nodes.Node Content))
+pub written-append : (source : List ℕ) (at : ℕ) (ns ms : List (nodes.Node Content))
     → written_nodes source at ns ++ written_nodes source (at + byte_count (node_texts ns)) ms
     ≡ written_nodes source at (ns ++ ms)
-told-append source at [] ms = ap (λ k. written_nodes source k ms) (omega arith)
-told-append source at (n ∷ ns) ms =
+written-append source at [] ms = ap (λ k. written_nodes source k ms) (omega arith)
+written-append source at (n ∷ ns) ms =
     let next = at + byte_count (text_of_node n) in
     let same : at + byte_count (node_texts (n ∷ ns)) ≡ next + byte_count (node_texts ns) =
     omega (arith, bytes-append (text_of_node n) (node_texts ns)) in
     ap (λ ts. written_node source at n ∷ ts) (ap (λ k. written_nodes source next ns ++ written_nodes source k ms) same
-    ∙ told-append source next ns ms)
+    ∙ written-append source next ns ms)
 
 pub texts-append : (ns ms : List (nodes.Node Content))
     → encode_utf8_all (node_texts ns) ++ encode_utf8_all (node_texts ms) ≡ encode_utf8_all (node_texts (ns ++ ms))
@@ -68,13 +69,13 @@ fits-append at (n ∷ ns) ms h =
     let others = fits-append next ns ms h.1 in
     ((h.0, others.0), subst (λ (k : ℕ). NodesFit k ms) same others.1)
 
--- behind the nodes of some definitions, those of one more
-pub told-next : (source : List ℕ) (done ns : List (nodes.Node Content)) (told new : List Node) (bytes : List ℕ)
-    → told ≡ written_nodes source 0 done → bytes ≡ encode_utf8_all (node_texts done)
-    → new ≡ told ++ written_nodes source (length bytes) ns → new ≡ written_nodes source 0 (done ++ ns)
-told-next source done ns told new bytes a b e =
+-- after the nodes of some definitions, those of one more
+pub written-next : (source : List ℕ) (done ns : List (nodes.Node Content)) (written new : List Node) (bytes : List ℕ)
+    → written ≡ written_nodes source 0 done → bytes ≡ encode_utf8_all (node_texts done)
+    → new ≡ written ++ written_nodes source (length bytes) ns → new ≡ written_nodes source 0 (done ++ ns)
+written-next source done ns written new bytes a b e =
     let at : length bytes ≡ 0 + byte_count (node_texts done) = omega (arith, ap length b) in
-    e ∙ (ap₂ (λ ts k. ts ++ written_nodes source k ns) a at ∙ told-append source 0 done ns)
+    e ∙ (ap₂ (λ ts k. ts ++ written_nodes source k ns) a at ∙ written-append source 0 done ns)
 
 pub document-more : (ds : List (Definition Content)) (d : Definition Content)
     → document_nodes (ds ++ d ∷ []) ≡ document_nodes ds ++ definition_nodes d

@@ -68,11 +68,11 @@ nodes_of source tree = written_nodes (chars source) 0 (document_nodes tree)
 abbrev pub texts_of : List (Definition Content) → List ℕ
 texts_of tree = encode_utf8_all (node_texts (document_nodes tree))
 
--- these stand at the beginning of the buffer, and the rest of it is unchanged
+-- the buffer begins with these, and the rest of it is unchanged
 abbrev pub Begins : {A : Type 0} → List A → List A → List A → Type 0
 Begins xs old new = new ≡ xs ++ drop (length xs) old
 
--- as many of these as the buffer is long stand at its beginning, and the rest of it is unchanged
+-- the buffer begins with as many of these as it is long, and the rest of it is unchanged
 abbrev pub Fills : {A : Type 0} → List A → List A → List A → Type 0
 Fills xs old new = new ≡ take (length old) xs ++ drop (length xs) old
 

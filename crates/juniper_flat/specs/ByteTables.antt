@@ -5,7 +5,7 @@ use Rattle.std.specs.Global.{Vec}
 use Rattle.std.specs.Vec.{vec_len, vec_capacity}
 use Rattle.juniper_tokens.specs.device.ByteRuns.{is_inner}
 use Rattle.juniper_flat.specs.declared.byte_table.ByteTable.{ByteTable}
-use Rattle.juniper_flat.specs.Places.{byte_behind}
+use Rattle.juniper_flat.specs.Places.{bytes_before}
 
 abbrev pub byte_from : Option (Vec ℕ) → ℕ → ℕ → ℕ
 byte_from None length index = min index length
@@ -16,7 +16,7 @@ byte_in table index = byte_from table.starts table.length index
 
 -- the table returns for each index what the source has
 abbrev pub IsTableOf : List ℕ → ByteTable → Type 0
-IsTableOf source table = (index : ℕ) → byte_in table index ≡ byte_behind source index
+IsTableOf source table = (index : ℕ) → byte_in table index ≡ bytes_before source index
 
 -- A device: where the characters of these bytes begin, the first byte being at a place.
 abbrev pub starts_in : ℕ → List ℕ → List ℕ
@@ -27,8 +27,8 @@ starts_in at (b ∷ bs) = if is_inner b then starts_in (suc at) bs else at ∷ s
 abbrev pub AreAscii : List ℕ → ℕ → ℕ → Type 0
 AreAscii bytes from to = (k : ℕ) → from ≤ k → k < to → slice_index bytes k < 128
 
--- A device: a list has where the characters of the bytes before a place begin, and room for one at each byte.
+-- A device: a list has where the characters of the bytes before a place begin, and capacity for one at each byte.
 pub record HasStarts (bytes : List ℕ) (at : ℕ) (starts : Vec ℕ) : Type 0 where
   pub begun : starts.items ≡ starts_in 0 (take at bytes)
   pub few : vec_len starts ≤ at
-  pub room : length bytes ≤ vec_capacity starts
+  pub capacity : length bytes ≤ vec_capacity starts

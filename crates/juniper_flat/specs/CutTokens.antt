@@ -10,10 +10,10 @@ use Rattle.juniper_tokens.specs.Counting.{HasMore}
 use Rattle.juniper_flat.specs.Sources.{IsUnread}
 use Rattle.juniper_flat.specs.declared.source.Unread.{Unread}
 use Rattle.juniper_flat.specs.declared.source.Unread.TheVariants as unread
-use Rattle.juniper_flat.specs.Tokens.{written_tokens, HasTokens, HasFaultBehind}
+use Rattle.juniper_flat.specs.Tokens.{written_tokens, HasTokens, HasFaultAfter}
 use Rattle.juniper_flat.specs.declared.token.Token.{Token}
 use Rattle.juniper_flat.specs.declared.tokens.Written.{Written}
-use Rattle.juniper_flat.specs.declared.tokens.Written.TheVariants as told
+use Rattle.juniper_flat.specs.declared.tokens.Written.TheVariants as written
 
 -- What the buffer has where nothing is known of the source: what it had, or some of the first tokens, where memory ran out.
 abbrev pub IsLeft : List ℕ → List Token → List Token → Unread → Type 0
@@ -24,15 +24,15 @@ IsLeft source old new unread.OutOfMemory = (some : List Lexeme) × (done after :
 
 -- For a source and a limit on its tokens: the buffer before, the buffer then, and what is returned.
 abbrev pub ReturnsTokens : List ℕ → ℕ → List Token → List Token → Result Written Unread → Type 0
-ReturnsTokens source most old new (Ok (told.Tokens count)) = (length source < 2 ^ 32)
+ReturnsTokens source most old new (Ok (written.Tokens count)) = (length source < 2 ^ 32)
     × ((lexemes : List Lexeme) × HasTokens source lexemes
     × (length lexemes ≤ most + 1) × Fills (written_tokens (chars source) lexemes) old new × (count ≡ length lexemes))
-ReturnsTokens source most old new (Ok (told.Refused count fault)) = (length source < 2 ^ 32)
+ReturnsTokens source most old new (Ok (written.Refused count fault)) = (length source < 2 ^ 32)
     × ((before : List Lexeme) × (error : LexicalError) × (at : Place)
-    × HasFaultBehind source before error at × (length before ≤ most)
+    × HasFaultAfter source before error at × (length before ≤ most)
     × Fills (written_tokens (chars source) before) old new
     × (count ≡ length before) × (fault ≡ written_fault (chars source) (lexical_fault error at)))
-ReturnsTokens source most old new (Ok (told.Many fault)) = (length source < 2 ^ 32) × IsUtf8 source × ((span : Span)
+ReturnsTokens source most old new (Ok (written.Many fault)) = (length source < 2 ^ 32) × IsUtf8 source × ((span : Span)
     × (more : HasMore [] (chars source) most span) × Fills (written_tokens (chars source) more.front) old new
     × (fault ≡ many_fault (chars source) span))
 ReturnsTokens source most old new (Err unread) = IsUnread source unread × IsLeft source old new unread

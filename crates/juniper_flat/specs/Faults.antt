@@ -4,7 +4,7 @@ use Rattle.graphql_lexical.specs.Place.{Span}
 use Rattle.graphql_lexical.specs.Kinds.{LexicalError, UnknownCharacter, UnexpectedCharacter, UnterminatedString, UnknownCharacterInString, UnknownEscapeSequence, UnexpectedEndOfFile, InvalidNumber}
 use Rattle.juniper_tokens.specs.Errors as errors
 use Rattle.juniper_tokens.specs.Errors.{Error}
-use Rattle.juniper_flat.specs.Places.{byte_behind, written_place}
+use Rattle.juniper_flat.specs.Places.{bytes_before, written_place}
 use Rattle.juniper_flat.specs.declared.fault.Fault.{Fault}
 use Rattle.juniper_flat.specs.declared.fault.Reason.{Reason}
 use Rattle.juniper_flat.specs.declared.fault.Shown.{Shown}
@@ -68,8 +68,8 @@ fault_at source reason span shown = record {
   character = reason.character;
   start = written_place source span.start;
   end = written_place source span.end;
-  text_start = byte_behind source shown.start;
-  text_end = byte_behind source shown.end;
+  text_start = bytes_before source shown.start;
+  text_end = bytes_before source shown.end;
 }
 
 -- a refusal

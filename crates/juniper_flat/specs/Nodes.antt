@@ -11,7 +11,7 @@ use Rattle.juniper_values.specs.Default.{bool_in}
 use Rattle.juniper_values.specs.Scalar.{Content, integer, text, boolean, custom}
 use Rattle.juniper_nodes.specs.Literal.{int_in, str_in}
 use Rattle.juniper_nodes.specs.NodeTexts.{text_of_node}
-use Rattle.juniper_flat.specs.Places.{byte_behind, written_place}
+use Rattle.juniper_flat.specs.Places.{bytes_before, written_place}
 use Rattle.juniper_flat.specs.declared.node.Node.{Node}
 use Rattle.juniper_flat.specs.declared.node.Extent.{Extent}
 use Rattle.juniper_flat.specs.declared.node.Value.{Value}
@@ -67,18 +67,18 @@ byte_count t = length (encode_utf8_all t)
 abbrev pub word_extent : List ℕ → Word → Extent
 word_extent source word =
     record {
-      start = byte_behind source word.span.end.index - byte_count word.item;
-      end = byte_behind source word.span.end.index;
+      start = bytes_before source word.span.end.index - byte_count word.item;
+      end = bytes_before source word.span.end.index;
     }
 
 abbrev pub span_extent : List ℕ → Span → Extent
 span_extent source span =
-    record { start = byte_behind source span.start.index; end = byte_behind source span.end.index }
+    record { start = bytes_before source span.start.index; end = bytes_before source span.end.index }
 
 -- no bytes, where the part starts
 abbrev pub no_extent : List ℕ → Span → Extent
 no_extent source span =
-    record { start = byte_behind source span.start.index; end = byte_behind source span.start.index }
+    record { start = bytes_before source span.start.index; end = bytes_before source span.start.index }
 
 -- a part without a name: all of a scalar and of null is what names it
 abbrev pub unnamed_extent : NodeKind → List ℕ → Span → Extent

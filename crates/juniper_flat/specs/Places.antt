@@ -4,9 +4,9 @@ use Rattle.graphql_lexical.specs.Place as places
 use Rattle.juniper_flat.specs.declared.place.Place.{Place}
 
 -- the number of bytes of a source before the character of this index, or of all bytes where there is none
-abbrev pub byte_behind : List ℕ → ℕ → ℕ
-byte_behind source index = length (encode_utf8_all (take index source))
+abbrev pub bytes_before : List ℕ → ℕ → ℕ
+bytes_before source index = length (encode_utf8_all (take index source))
 
 -- a place, in characters, and the byte of the source
 abbrev pub written_place : List ℕ → places.Place → Place
-written_place source p = record { index = p.index; line = p.line; column = p.column; byte = byte_behind source p.index }
+written_place source p = record { index = p.index; line = p.line; column = p.column; byte = bytes_before source p.index }

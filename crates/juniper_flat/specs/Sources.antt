@@ -3,7 +3,7 @@ use Rattle.std.specs.Prelude.{◌<◌, ◌≤◌, ◌^◌, ℕ, List, length, Is
 use Rattle.juniper_flat.specs.declared.source.Unread.{Unread}
 use Rattle.juniper_flat.specs.declared.source.Unread.TheVariants as unread
 
--- why nothing is known of these bytes: they are no text, or there are too many, or they are a text and memory ran out
+-- why nothing is known of these bytes: they are not UTF-8, or there are too many, or they are UTF-8 and memory ran out
 abbrev pub IsUnread : List ℕ → Unread → Type 0
 IsUnread source unread.NotUtf8 = (length source < 2 ^ 32) × ¬ IsUtf8 source
 IsUnread source unread.TooLong = 2 ^ 32 ≤ length source

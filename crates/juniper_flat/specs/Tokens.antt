@@ -67,8 +67,8 @@ pub record HasTokens (source : List ℕ) (lexemes : List Lexeme) : Type 0 where
   pub utf8 : IsUtf8 source
   pub cut : Cut (chars source) lexemes
 
--- The source is a text that begins with these tokens, none of them the end, and after them stands this lexical error.
-pub record HasFaultBehind (source : List ℕ) (before : List Lexeme) (error : LexicalError) (at : Place) : Type 0 where
+-- The source is a text that begins with these tokens, none of them the end, and after them is this lexical error.
+pub record HasFaultAfter (source : List ℕ) (before : List Lexeme) (error : LexicalError) (at : Place) : Type 0 where
   pub utf8 : IsUtf8 source
   pub done : List ℕ
   pub after : List ℕ

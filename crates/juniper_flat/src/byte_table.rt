@@ -10,7 +10,7 @@ use std::simd::prelude::*;
 // So many bytes are looked at together.
 const STRETCH: usize = 16;
 
-/// A table of where the characters of a text begin in its bytes.
+/// A table of the bytes at which the characters of a text begin.
 #[derive(Drop)]
 pub(crate) struct ByteTable {
     // The first byte of each character; None where each character is one byte.
@@ -20,7 +20,7 @@ pub(crate) struct ByteTable {
 }
 
 impl ByteTable {
-    /// The table of a text. It takes no memory where the text is ASCII.
+    /// The table of a text. Takes no memory if the text is ASCII.
     pub(crate) fn new(alloc: Global, source: &str) -> Result<Self, AllocError>
         requires { length source.now < 2 ^ 32 }
         ensures { IfOk result (λ table. IsTableOf (chars source.now) table) }
@@ -42,7 +42,7 @@ impl ByteTable {
         })
     }
 
-    /// The number of bytes before the character of this index, or of all bytes where there is none.
+    /// The number of bytes before the character of this index, or of all bytes if there is none.
     pub(crate) fn byte(&self, index: usize) -> u32
         ensures { result ≡ byte_in self.now index }
     {
@@ -56,7 +56,7 @@ impl ByteTable {
     }
 }
 
-// Appends where the characters of all whole stretches begin, and returns the place behind these.
+// Appends where the characters of all whole stretches begin, and returns the place after these.
 #[inline(always)]
 fn push_stretches(starts: &mut Vec<u32>, bytes: &[u8]) -> usize
     requires short { length bytes.now < 2 ^ 32 }

@@ -24,8 +24,8 @@ pub enum Canonical {
     Refused(Fault),
 }
 
-/// Returns the canonical text of a source, or that a lexical error stands in it. Nothing is known where the bytes are no
-/// text or are 4 GiB or more, and where memory runs out.
+/// Returns the canonical text of a source, or its first lexical error. Nothing is known if the bytes aren't UTF-8 or are
+/// 4 GiB or more, or if memory runs out.
 pub fn canonical_of(alloc: Global, source: &[u8]) -> Result<Canonical, Unread>
     ensures { ReturnsCanonical source.now result }
 {

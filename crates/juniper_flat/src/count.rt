@@ -17,15 +17,15 @@ use std::alloc::{AllocError, Global};
 /// Whether a source has more tokens than a limit.
 #[derive(Clone, Copy)]
 pub enum Counted {
-    /// No more than the limit stand before the source's end, or before its first lexical error.
+    /// No more than the limit are before the source's end, or before its first lexical error.
     Few,
-    /// There are more, and the fault is at the first that is one too many.
+    /// There are more; the fault is at the first token past the limit.
     Many(Fault),
 }
 
-/// Returns whether a source has more tokens than the limit, besides its end. It is read up to the first that is one too
-/// many, or to its first lexical error. Nothing is known where the bytes are no text or are 4 GiB or more, and where
-/// memory runs out.
+/// Returns whether a source has more tokens than the limit, besides its end. The source is read up to the first token
+/// past the limit, or to its first lexical error. Nothing is known if the bytes aren't UTF-8 or are 4 GiB or more, or
+/// if memory runs out.
 pub fn count_of(alloc: Global, source: &[u8], most: u32) -> Result<Counted, Unread>
     ensures { ReturnsCounted source.now most result }
 {

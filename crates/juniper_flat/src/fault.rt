@@ -47,7 +47,7 @@ pub const INVALID_NUMBER: u32 = 7;
 pub struct Fault {
     /// One of the kinds of errors.
     pub kind: u32,
-    /// Which lexical error it is; `NO_DETAIL` where it is none.
+    /// Which lexical error it is; `NO_DETAIL` if the error isn't lexical.
     pub detail: u32,
     /// The character that the lexical error names, or 0.
     pub character: u32,
@@ -98,7 +98,7 @@ pub(crate) fn deep_fault(table: &ByteTable, span: Span) -> Fault
     )
 }
 
-/// The fault of a source with too many tokens, at the first that is one.
+/// The fault of a source with too many tokens, at the first token past the limit.
 pub(crate) fn many_fault(table: &ByteTable, span: Span) -> Fault
     ensures { (source : List ℕ) → IsTableOf source table.now → SpanFits (view_span span) → result ≡ many_fault source (view_span span) }
 {

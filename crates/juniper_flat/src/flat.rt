@@ -63,17 +63,17 @@ const CHARACTERS_OF_A_NODE: usize = 4;
 pub enum Parsed {
     /// The source is a document within the limits.
     Tree(Flat),
-    /// The source is no document.
+    /// The source isn't a document.
     Refused(Fault),
     /// A token is nested too deep, and those up to it begin a document.
     TooDeep(Fault),
-    /// A token is one too many, and stands before the first lexical error.
+    /// There is a token past the limit, before the first lexical error.
     TooMany(Fault),
 }
 
-/// Returns the nodes of a source's tree and their texts, or that the source is no document, or that a token is nested too
-/// deep or is one too many. Nothing is known where the bytes are no text or are 4 GiB or more, and where memory runs out. A
-/// depth above `MAX_DEPTH` may need more stack than there is.
+/// Returns the nodes of a source's tree and their texts, or that the source isn't a document, or the first token that is
+/// nested too deep or past the limit. Nothing is known if the bytes aren't UTF-8 or are 4 GiB or more, or if memory runs
+/// out. A depth above `MAX_DEPTH` may need more stack than there is.
 pub fn flat_of(alloc: Global, source: &[u8], limits: &Limits) -> Result<Parsed, Unread>
     ensures answer { ReturnsFlat source.now limits.now result }
     ensures bounds { IfTree result (λ flat. (length flat.nodes.items ≤ length source.now) × (length (string_bytes flat.texts) ≤ length source.now)) }
@@ -94,7 +94,7 @@ fn flat_of_text(alloc: Global, text: &str, limits: &Limits) -> Result<Parsed, Un
         alloc,
         table: &table,
         flat: Flat {
-            nodes: room_for(alloc, within.tokens.min(text.len() / BYTES_OF_A_NODE)),
+            nodes: list_for(alloc, within.tokens.min(text.len() / BYTES_OF_A_NODE)),
             texts: String::new(alloc),
         },
     };
@@ -110,11 +110,11 @@ fn flat_of_text(alloc: Global, text: &str, limits: &Limits) -> Result<Parsed, Un
 }
 
 // A list with capacity for so many items, if there is as much memory; otherwise the list grows as it must.
-fn room_for<T: Drop>(alloc: Global, count: usize) -> Vec<T>
+fn list_for<T: Drop>(alloc: Global, count: usize) -> Vec<T>
     ensures { result.items ≡ [] }
 {
     match Vec::with_capacity(alloc, count) {
-        Ok(room) => room,
+        Ok(list) => list,
         Err(_) => Vec::new(alloc),
     }
 }
@@ -140,7 +140,7 @@ fn write_definition<'t, 'a>(
     ensures same_nodes { OnErr result (flat.new.nodes.items ≡ flat.old.nodes.items) }
     ensures same_texts { OnErr result (string_bytes flat.new.texts ≡ string_bytes flat.old.texts) }
 {
-    let mut nodes: Vec<juniper_nodes::Node<'t, 'a, Scalar>> = room_for(
+    let mut nodes: Vec<juniper_nodes::Node<'t, 'a, Scalar>> = list_for(
         alloc,
         length_of(definition) / CHARACTERS_OF_A_NODE + 1,
     );

@@ -4,6 +4,7 @@
 //! and returns its status.
 #![tactic(auto)]
 
+pub mod buffer;
 mod byte_table;
 pub mod canonical;
 pub mod count;
@@ -14,7 +15,6 @@ pub mod limits;
 pub mod message;
 pub mod node;
 pub mod place;
-pub mod room;
 mod scalar;
 pub mod source;
 pub mod status;

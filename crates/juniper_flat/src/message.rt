@@ -26,9 +26,9 @@ use juniper::{LexerError, ParseError};
 use juniper_tokens::ScalarToken;
 use std::alloc::{AllocError, Global};
 
-/// Returns an error of a source in words, or `None` where there are none for such an error: it has a number that no error
-/// has, or the bytes that it shows are no text of the source. Nothing is known where the bytes of the source are no text
-/// or are 4 GiB or more, and where memory runs out. The source isn't parsed.
+/// Returns an error of a source in words, or `None` if there are none for such an error: it has a number that no error
+/// has, or the bytes that it shows aren't UTF-8 or aren't in the source. Nothing is known if the bytes of the source
+/// aren't UTF-8 or are 4 GiB or more, or if memory runs out. The source isn't parsed.
 pub fn message_of(alloc: Global, source: &[u8], fault: &Fault) -> Result<Option<String>, Unread>
     ensures { ReturnsMessage source.now fault.now result }
 {
@@ -53,8 +53,8 @@ fn message_of_text(alloc: Global, text: &str, fault: &Fault) -> Result<Option<St
 
 // The error that a fault of this source was made of.
 fn error_of(alloc: Global, source: &str, fault: &Fault) -> Result<Option<ParseError>, AllocError>
-    ensures told { (found : errors.Fault) → IsRefusal scalars (chars source.now) found → fault.now ≡ written_fault (chars source.now) found → IfOk result (λ told. MatchOption told ⊥ (λ error. view_error error ≡ found.error)) }
-    ensures own { IfOk result (λ told. MatchOption told (Unit {0}) (λ error. IsOfGrammar (view_error error))) }
+    ensures exact { (found : errors.Fault) → IsRefusal scalars (chars source.now) found → fault.now ≡ written_fault (chars source.now) found → IfOk result (λ made. MatchOption made ⊥ (λ error. view_error error ≡ found.error)) }
+    ensures own { IfOk result (λ made. MatchOption made (Unit {0}) (λ error. IsOfGrammar (view_error error))) }
 {
     if fault.kind == UNEXPECTED_TOKEN {
         match text_shown(source, fault) {
@@ -78,7 +78,7 @@ fn lexical_error_of(
     source: &str,
     fault: &Fault,
 ) -> Result<Option<LexerError>, AllocError>
-    ensures { (error : kinds.LexicalError) (at : Place) → Breaks (chars source.now) error at → fault.now ≡ written_fault (chars source.now) (lexical_fault error at) → IfOk result (λ told. MatchOption told ⊥ (λ it. view_lexer_error it ≡ error)) }
+    ensures { (error : kinds.LexicalError) (at : Place) → Breaks (chars source.now) error at → fault.now ≡ written_fault (chars source.now) (lexical_fault error at) → IfOk result (λ made. MatchOption made ⊥ (λ it. view_lexer_error it ≡ error)) }
 {
     match fault.detail {
         UNKNOWN_CHARACTER => Ok(named(fault).map(LexerError::UnknownCharacter)),
@@ -120,7 +120,7 @@ fn text_shown<'s>(source: &'s str, fault: &Fault) -> Option<&'s str>
 
 // What is shown of a token that is written so: a quote and a backslash within a String have a backslash before them.
 fn shown_token(alloc: Global, written: &str) -> Result<String, AllocError>
-    ensures { (k : kind.Kind) (text : Text) → Spells (chars written.now) k text → IfOk result (λ told. string_bytes told ≡ encode_utf8_all (shown k text)) }
+    ensures { (k : kind.Kind) (text : Text) → Spells (chars written.now) k text → IfOk result (λ made. string_bytes made ≡ encode_utf8_all (shown k text)) }
 {
     match within_quotes(written) {
         Some(text) => format!(in alloc; "{}", ScalarToken::String(text)),

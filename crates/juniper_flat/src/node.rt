@@ -11,7 +11,7 @@ ghost use Rattle.juniper_nodes.specs.NodeTexts.{text_of_node};
 ghost use Rattle.juniper_nodes.specs.NodeViews.{view_label, view_node};
 ghost use Rattle.juniper_flat.specs.FlatWriters.{NodeFits};
 ghost use Rattle.juniper_flat.specs.ByteTables.{IsTableOf};
-ghost use Rattle.juniper_flat.specs.Places.{byte_behind};
+ghost use Rattle.juniper_flat.specs.Places.{bytes_before};
 ghost use Rattle.juniper_flat.specs.Nodes.{kind_number, node_number, content_number, byte_count, word_extent, span_extent, no_extent, unnamed_extent, node_extent, scalar_value, condition_value, node_value, written_node};
 ghost use Rattle.juniper_flat.specs.Scalars.{scalar_content};
 
@@ -27,10 +27,10 @@ use std::alloc::AllocError;
 #[repr(C)]
 #[derive(Clone, Copy)]
 pub struct Node {
-    /// What it stands for: a number for each `NodeKind` but that of scalars, in their order, and after these one for each
-    /// kind of literal.
+    /// Its kind: a number for each `NodeKind` but that of scalars, in their order, and after these one for each kind of
+    /// literal.
     pub kind: u32,
-    /// The number of the nodes after it that are of parts in it.
+    /// The number of its descendants, which follow it.
     pub descendants: u32,
     pub start: Place,
     pub end: Place,
@@ -205,7 +205,7 @@ fn unnamed_extent(kind: NodeKind, whole: Extent) -> Extent
 }
 
 fn no_extent(start: u32) -> Extent
-    ensures { (source : List ℕ) (span : places.Span) → start ≡ byte_behind source span.start.index → result ≡ no_extent source span }
+    ensures { (source : List ℕ) (span : places.Span) → start ≡ bytes_before source span.start.index → result ≡ no_extent source span }
 {
     Extent { start, end: start }
 }

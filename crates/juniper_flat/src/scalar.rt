@@ -12,8 +12,8 @@ use juniper_tokens::text::{copied, same_text, write_text};
 use std::alloc::{AllocError, Global};
 use std::fmt;
 
-/// A scalar as C gets it: what it means; of a number beyond the default type, its kind alone, since its text stands in
-/// the source.
+/// A scalar as C gets it: what it means; of a number beyond the default type, its kind alone, since its text is in the
+/// source.
 #[derive(Debug, Drop)]
 pub(crate) enum Scalar {
     /// What the default type reads, except block strings.

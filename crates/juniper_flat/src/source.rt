@@ -9,16 +9,16 @@ use std::alloc::AllocError;
 /// Why nothing is known of a source.
 #[derive(Clone, Copy)]
 pub enum Unread {
-    /// The bytes are no text.
+    /// The bytes are not UTF-8.
     NotUtf8,
     /// There are 4 GiB or more, and they were not looked at.
     TooLong,
-    /// Memory ran out. The bytes are a text.
+    /// Memory ran out. The bytes are UTF-8.
     OutOfMemory,
 }
 
 impl Unread {
-    /// What a call returns then.
+    /// The status that a call returns then.
     pub fn status(self) -> u32
         ensures { result ≡ unread_status self }
     {
@@ -40,7 +40,7 @@ impl From<AllocError> for Unread {
     }
 }
 
-/// These bytes as a text, or why they are not read as one. It takes no memory.
+/// The bytes as a text, or why they are not read as one. Takes no memory.
 pub(crate) fn text_of(source: &[u8]) -> Result<&str, Unread>
     ensures text { IfOk result (λ text. (text.now ≡ source.now) × (length source.now < 2 ^ 32)) }
     ensures unread { IfErr result (IsUnread source.now) }

@@ -3,7 +3,7 @@
 /// Success: the source is a document, has no more tokens than the limit, or can be cut into tokens.
 pub const OK: u32 = 0;
 
-/// The source is a text that is no document, or that can't be cut into tokens where tokens are all that is wanted.
+/// The source is UTF-8 but not a document or, for calls that only want tokens, can't be cut into tokens.
 pub const SYNTAX_ERROR: u32 = 1;
 
 /// The source is not UTF-8.
@@ -27,7 +27,7 @@ pub const SOURCE_TOO_LONG: u32 = 7;
 /// The depth is above `MAX_DEPTH`, or a reserved word of the limits isn't 0. The source was not read.
 pub const INVALID_LIMIT: u32 = 8;
 
-/// The error that the caller gave is none of the source.
+/// The error that the caller gave isn't one of the source.
 pub const INVALID_ERROR: u32 = 9;
 
 /// The least number of bytes of a source that is too many: an offset in it has 32 bits.

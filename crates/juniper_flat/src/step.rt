@@ -5,7 +5,7 @@ ghost use Rattle.juniper_flat.specs.Steps.{Steps};
 use juniper::{LexerError, Span, Spanning};
 use juniper_tokens::{Kind, LexFailure, Lexer};
 
-/// What stands after the next ignored tokens: a token that isn't the end, the end, or a lexical error.
+/// What is after the next ignored tokens: a token that isn't the end, the end, or a lexical error.
 #[derive(Drop)]
 pub(crate) enum Step {
     Token(Kind, Span),
@@ -14,7 +14,7 @@ pub(crate) enum Step {
     Memory,
 }
 
-/// Skips the next ignored tokens, and takes what stands after them. The lexer has not ended.
+/// Skips the next ignored tokens, and takes what is after them. The lexer has not ended.
 #[inline(always)]
 pub(crate) fn next_step(lexer: &mut Lexer<'_>) -> Step
     requires { lexer.old.ended ≡ false }

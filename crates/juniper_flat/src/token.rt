@@ -22,7 +22,7 @@ pub struct Token {
     pub end: Place,
 }
 
-/// The token of this kind that stands there.
+/// The token of this kind with this span.
 pub(crate) fn token_at(table: &ByteTable, kind: Kind, span: &Span) -> Token
     ensures { (source : List ℕ) → IsTableOf source table.now → SpanFits (view_span span.now) → result ≡ token_at source kind (view_span span.now) }
 {

@@ -2,9 +2,9 @@
 ghost use Rattle.std.specs.Prelude.{◌<◌, ◌^◌, length};
 ghost use Rattle.juniper_flat.specs.CutTokens.{ReturnsTokens};
 
+use crate::buffer::put;
 use crate::byte_table::ByteTable;
 use crate::fault::{Fault, lexical_fault, many_fault};
-use crate::room::put;
 use crate::source::{Unread, text_of};
 use crate::step::{Step, next_step};
 use crate::token::{Token, token_at};
@@ -18,32 +18,32 @@ pub enum Written {
     Tokens(usize),
     /// Those before the first lexical error, so many, and the error.
     Refused(usize, Fault),
-    /// As many as the limit, and the fault is at the first that is one too many.
+    /// As many as the limit; the fault is at the first token past it.
     Many(Fault),
 }
 
-/// Puts the tokens of a source into a buffer, as many as it has capacity for, and returns how many there are. The call
-/// stops at a lexical error, and at the first token that is more than the limit. The buffer stays as it is where the bytes
-/// are no text or are 4 GiB or more. Where memory runs out, some tokens may stand in it.
+/// Puts the tokens of a source into a buffer, as many as it has capacity for, and returns how many there are. Stops at
+/// a lexical error and at the first token past the limit. The buffer stays as it is if the bytes aren't UTF-8 or are
+/// 4 GiB or more. If memory runs out, it may hold some tokens.
 pub fn tokens_of(
     alloc: Global,
     source: &[u8],
     most: u32,
-    room: &mut [Token],
+    buffer: &mut [Token],
 ) -> Result<Written, Unread>
-    ensures { ReturnsTokens source.now most room.old room.new result }
+    ensures { ReturnsTokens source.now most buffer.old buffer.new result }
 {
-    tokens_of_text(alloc, text_of(source)?, most, room)
+    tokens_of_text(alloc, text_of(source)?, most, buffer)
 }
 
 fn tokens_of_text(
     alloc: Global,
     text: &str,
     most: u32,
-    room: &mut [Token],
+    buffer: &mut [Token],
 ) -> Result<Written, Unread>
     requires { length text.now < 2 ^ 32 }
-    ensures { ReturnsTokens text.now most room.old room.new result }
+    ensures { ReturnsTokens text.now most buffer.old buffer.new result }
 {
     let table = ByteTable::new(alloc, text)?;
     let mut lexer = Lexer::new(alloc, text);
@@ -54,11 +54,11 @@ fn tokens_of_text(
                 if count == most as usize {
                     return Ok(Written::Many(many_fault(&table, span)));
                 }
-                put(room, count, token_at(&table, kind, &span));
+                put(buffer, count, token_at(&table, kind, &span));
                 count += 1;
             }
             Step::End(span) => {
-                put(room, count, token_at(&table, Kind::EndOfFile, &span));
+                put(buffer, count, token_at(&table, Kind::EndOfFile, &span));
                 return Ok(Written::Tokens(count + 1));
             }
             Step::Fault(fault) => {

@@ -29,9 +29,9 @@ all_low (x ∷ xs) h =
 -- the mask of sixteen bytes
 mask_is : (bytes : List ℕ) (at : ℕ) → at + 16 ≤ length bytes
     → mask_l (map (top 7) (zip2 at_least (replicate 16 128) (chunk at 16 bytes))) % 2 ^ 64 ≡ mask_l (map is_high (chunk at 16 bytes))
-mask_is bytes at room =
+mask_is bytes at within =
     let v = chunk at 16 bytes in
-    let long = length-chunk at 16 bytes room in
+    let long = length-chunk at 16 bytes within in
     let lanes : map (top 7) (zip2 at_least (replicate 16 128) v) ≡ map is_high v =
     ap (map (top 7)) (zip2_splat_left at_least 128 16 v long) ∙ map-map (top 7) (at_least 128) v in
     let few : length (map is_high v) ≤ 64 = omega (arith, length-map v is_high, long) in
@@ -39,10 +39,10 @@ mask_is bytes at room =
 
 is_empty : (bytes : List ℕ) (at : ℕ) → at + 16 ≤ length bytes
     → (mask_l (map is_high (chunk at 16 bytes)) ≡ 0) ↔ AreAscii bytes at (at + 16)
-is_empty bytes at room = (
-  λ empty k from to. (low (get_or bytes k 0)).0 (none_from_empty_mask is_high bytes at 16 0 room empty k from to),
+is_empty bytes at within = (
+  λ empty k from to. (low (get_or bytes k 0)).0 (none_from_empty_mask is_high bytes at 16 0 within empty k from to),
   λ ascii. all_low (chunk at 16 bytes) (λ i l.
-      let inside : i < 16 = omega (arith, length-chunk at 16 bytes room, l) in
+      let inside : i < 16 = omega (arith, length-chunk at 16 bytes within, l) in
       omega (arith, get_or-chunk at 16 bytes i 0 inside, ascii (at + i) (omega arith) (omega arith))),
 )
 

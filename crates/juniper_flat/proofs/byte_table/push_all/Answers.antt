@@ -14,5 +14,5 @@ loop-more-preserved c =
     subst (λ to. HasStarts bytes to c.push_reserved.new.self) next record {
       begun = next_start bytes c.loop-more.starts.items _ at 0 (omega arith) h.begun begins push.items;
       few = omega (arith, h.few, push.len);
-      room = omega (arith, h.room, push.capacity);
+      capacity = omega (arith, h.capacity, push.capacity);
     }

@@ -17,13 +17,13 @@ loop-at-preserved c =
           rw w.starts-is record {
             begun = next_start bytes starts _ at 0 (omega arith) h.begun begun push.items;
             few = omega (arith, h.few, push.len);
-            room = omega (arith, h.room, push.capacity);
+            capacity = omega (arith, h.capacity, push.capacity);
           }
       | else-begins_character w ↦
           let inner = begins ∙ w.if-begins_character.false in
           rw w.starts-is record {
             begun = same_starts bytes starts at 0 (omega arith) h.begun inner;
             few = omega (arith, h.few);
-            room = h.room;
+            capacity = h.capacity;
           }
     ]

@@ -11,18 +11,18 @@ returns-in-Ok c =
     let source = chars c.args.text.now in
     let given = c.in-Ok.ensures in
     let tree = given.accepted in
-    let told = tree.gains.definitions source []
+    let written = tree.gains.definitions source []
     record {
       table = c.in_ok-table.ensures;
-      nodes = λ fit. c.room_for.ensures;
+      nodes = λ fit. c.list_for.ensures;
       texts = c.new-2.ensures.bytes;
     } in (
       c.requires,
       (
         tree.tree,
         record { utf8 = c.utf8.text; has_tree = tree.has_tree; within = given.within; few = given.few },
-        told.nodes (nodes_fit c.args.text.now tree.tree c.utf8.text c.requires tree.has_tree),
-        told.texts,
+        written.nodes (nodes_fit c.args.text.now tree.tree c.utf8.text c.requires tree.has_tree),
+        written.texts,
       ),
     )
 

@@ -1,4 +1,5 @@
--- What is told so far, and of the nodes that are left, is what was told and is told of all. The texts wait apart.
+-- What is written so far, with what will be written of the nodes that are left, is what was written before and all of
+-- the nodes. The texts wait apart.
 use Rattle.std.proofs.Common.{◌≡◌, ◌+◌, ◌++◌, ℕ, List, drop, length, map, string_bytes, encode_utf8_all}
 use Rattle.graphql_nodes.specs.Nodes as nodes
 use Rattle.juniper_values.specs.Scalar.{Content}
@@ -18,11 +19,11 @@ invariant-loop-node l =
     let before = l.initial.flat.nodes.items in
     let first = string_bytes l.initial.flat.texts in record {
       from : l.from ≡ length first;
-      told : (source : List ℕ) → IsTableOf source l.table → NodesFit (length first) seen
+      written : (source : List ℕ) → IsTableOf source l.table → NodesFit (length first) seen
           → NodesFit (length first + length (string_bytes l.texts)) left
           × (before ++ written_nodes source (length first) seen
           ≡ l.flat.nodes.items ++ written_nodes source (length first + length (string_bytes l.texts)) left);
       texts : encode_utf8_all (node_texts seen) ≡ string_bytes l.texts ++ encode_utf8_all (node_texts left);
-      more : (told : List Node) × (l.flat.nodes.items ≡ before ++ told);
+      more : (written : List Node) × (l.flat.nodes.items ≡ before ++ written);
       same_texts : string_bytes l.flat.texts ≡ first;
     }

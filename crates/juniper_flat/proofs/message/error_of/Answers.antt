@@ -9,8 +9,8 @@ use Rattle.juniper_tokens.specs.Errors as errors
 use Rattle.juniper_flat.proofs.Messages.{refusal_told, tells_token, tells_lexical, tells_some, token_shown, token_characters}
 use Rattle.juniper_flat.proofs.message.error_of.Goals as goal
 
-pub returns-in_ok-shown_token-in-Some-clause-told : goal.returns-in_ok-shown_token-in-Some-clause-told
-returns-in_ok-shown_token-in-Some-clause-told c = λ found r f.
+pub returns-in_ok-shown_token-in-Some-clause-exact : goal.returns-in_ok-shown_token-in-Some-clause-exact
+returns-in_ok-shown_token-in-Some-clause-exact c = λ found r f.
     let source = c.args.source.now in
     let fault = c.args.fault.now in
     let it = tells_token (chars source) fault found (refusal_told (chars source) found r) f c.if-fault-eq-UNEXPECTED_TOKEN.true in
@@ -23,28 +23,28 @@ returns-in_ok-shown_token-in-Some-clause-told c = λ found r f.
     (sym (chars_from_encodes (shown it.token.kind it.token.text) (string_bytes text) (IsUtf8-string_bytes text) (sym bytes)))
     ∙ sym it.is
 
-pub returns-in-None-clause-told : goal.returns-in-None-clause-told
-returns-in-None-clause-told c = λ found r f.
+pub returns-in-None-clause-exact : goal.returns-in-None-clause-exact
+returns-in-None-clause-exact c = λ found r f.
     let source = c.args.source.now in
     let fault = c.args.fault.now in
     let it = tells_token (chars source) fault found (refusal_told (chars source) found r) f c.if-fault-eq-UNEXPECTED_TOKEN.true in
     c.in-None.ensures (token_shown source c.utf8.source fault found.error it).is_text
 
-pub returns-in-Some-2-clause-told : goal.returns-in-Some-2-clause-told
-returns-in-Some-2-clause-told c = λ found r f.
+pub returns-in-Some-2-clause-exact : goal.returns-in-Some-2-clause-exact
+returns-in-Some-2-clause-exact c = λ found r f.
     let source = c.args.source.now in
     let it = tells_lexical (chars source) c.args.fault.now found (refusal_told (chars source) found r) f c.if-fault-eq-LEXICAL.true in
     let same = rw c.in-Some-2.is at c.in_ok-error.ensures it.lexical_error it.at it.breaks it.fault_is in
     ap errors.Lexical same ∙ sym it.is
 
-pub returns-in-None-2-clause-told : goal.returns-in-None-2-clause-told
-returns-in-None-2-clause-told c = λ found r f.
+pub returns-in-None-2-clause-exact : goal.returns-in-None-2-clause-exact
+returns-in-None-2-clause-exact c = λ found r f.
     let source = c.args.source.now in
     let it = tells_lexical (chars source) c.args.fault.now found (refusal_told (chars source) found r) f c.if-fault-eq-LEXICAL.true in
     rw c.in-None-2.is at c.in_ok-error.ensures it.lexical_error it.at it.breaks it.fault_is
 
-pub returns-else-fault-eq-LEXICAL-clause-told : goal.returns-else-fault-eq-LEXICAL-clause-told
-returns-else-fault-eq-LEXICAL-clause-told c = λ found r f.
+pub returns-else-fault-eq-LEXICAL-clause-exact : goal.returns-else-fault-eq-LEXICAL-clause-exact
+returns-else-fault-eq-LEXICAL-clause-exact c = λ found r f.
     let source = c.args.source.now in
     let few = tells_some (chars source) c.args.fault.now found (refusal_told (chars source) found r) f in
     omega (arith, few, c.if-fault-eq-UNEXPECTED_TOKEN.false, c.if-fault-eq-UNEXPECTED_END.false, c.if-fault-eq-LEXICAL.false)

@@ -1,4 +1,4 @@
--- The room is filled with the tokens so far, and there are no more of them than that.
+-- The buffer is filled with the tokens so far, and there are no more of them than that.
 use Rattle.std.proofs.Common.{◌-◌, ◌≤◌}
 use Rattle.std.specs.Str.{chars}
 use Rattle.juniper_flat.proofs.HeldTokens.{Held}
@@ -6,7 +6,7 @@ use Rattle.juniper_flat.proofs.tokens.tokens_of_text.Given as goal
 
 abbrev pub invariant-loop-kind : goal.invariant-loop-kind
 invariant-loop-kind l = record {
-  held : Held (chars l.fn.text) l.fn.room l.lexer l.room l.count;
+  held : Held (chars l.fn.text) l.fn.buffer l.lexer l.buffer l.count;
   few : l.count ≤ l.fn.most;
 }
 

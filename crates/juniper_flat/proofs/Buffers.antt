@@ -1,4 +1,4 @@
--- Rooms that are filled from their beginning on.
+-- Buffers that are filled from their beginning on.
 use Rattle.std.proofs.Common.{◌∙◌, suc, ◌≤◌, List, [], ◌∷◌, ◌++◌, length, take, drop, set, refl, sym, ap}
 use Rattle.std.proofs.lemmas.List.{take_all}
 use Rattle.std.proofs.Math.Seq.{take-nil}
@@ -9,7 +9,7 @@ pub fills_none : {A : Type 0} (old : List A) → Fills [] old old
 fills_none [] = refl
 fills_none (x ∷ xs) = refl
 
--- with one more, if there is room for it
+-- with one more, if there is capacity for it
 pub fills_more : {A : Type 0} (xs old new : List A) (x : A) → Fills xs old new
     → Fills (xs ++ x ∷ []) old (set new (length xs) x)
 fills_more [] [] new x e = ap (λ l. set l 0 x) e
