@@ -7,7 +7,7 @@ use Rattle.std.proofs.lemmas.List.{map-append, map-id}
 use Rattle.graphql_lexical.specs.Characters.{Text}
 use Rattle.juniper_flat.specs.Excerpts.{visible}
 use Rattle.juniper_flat.proofs.Appended.{both_appended, one_appended}
-use Rattle.juniper_flat.proofs.excerpt.push_part.Goals as goal
+use Rattle.juniper_flat.proofs.excerpt.rows.push_part.Goals as goal
 
 pub loop-c-preserved : goal.loop-c-preserved
 loop-c-preserved c =

@@ -3,7 +3,7 @@ use Rattle.juniper_flat.specs.Excerpts.{after_bar, first_shown, part_shown, visi
 use Rattle.juniper_flat.specs.device.Excerpts.{line_of}
 use Rattle.juniper_flat.proofs.Appended.{one_appended, then_appended, then_same}
 use Rattle.juniper_flat.proofs.ExcerptRows.{most, some_shown}
-use Rattle.juniper_flat.proofs.excerpt.push_text.Goals as goal
+use Rattle.juniper_flat.proofs.excerpt.rows.push_text.Goals as goal
 
 pub returns : goal.returns
 returns c =

@@ -2,7 +2,7 @@ use Rattle.std.proofs.Common.{◌∙◌, ◌++◌, ◌∷◌, [], sym, ap, add-o
 use Rattle.graphql_lexical.specs.Characters.{Text}
 use Rattle.juniper_flat.specs.Excerpts.{spaces}
 use Rattle.juniper_flat.proofs.Appended.{both_appended, one_appended, spaces_more}
-use Rattle.juniper_flat.proofs.excerpt.push_spaces.Goals as goal
+use Rattle.juniper_flat.proofs.excerpt.rows.push_spaces.Goals as goal
 
 pub loop-preserved : goal.loop-preserved
 loop-preserved c =

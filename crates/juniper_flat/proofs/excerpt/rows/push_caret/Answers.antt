@@ -6,7 +6,7 @@ use Rattle.juniper_flat.specs.Excerpts.{aligned, caret_row, first_shown, spaces}
 use Rattle.juniper_flat.specs.device.Excerpts.{line_of}
 use Rattle.juniper_flat.proofs.Appended.{one_appended, one_then, then_appended, then_same, pushed}
 use Rattle.juniper_flat.proofs.ExcerptRows.{caret_after_bar}
-use Rattle.juniper_flat.proofs.excerpt.push_caret.Goals as goal
+use Rattle.juniper_flat.proofs.excerpt.rows.push_caret.Goals as goal
 
 pub returns : goal.returns
 returns c =

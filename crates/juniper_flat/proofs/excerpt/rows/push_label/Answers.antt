@@ -2,7 +2,7 @@ use Rattle.std.proofs.Common.{◌≡◌, ◌∙◌, ◌++◌, ◌∷◌, ◌-◌
 use Rattle.std.specs.Str.{chars}
 use Rattle.juniper_flat.specs.Excerpts.{spaces}
 use Rattle.juniper_flat.proofs.Appended.{ascii_encoded, bytes_then, text_appended, then_appended, pushed}
-use Rattle.juniper_flat.proofs.excerpt.push_label.Goals as goal
+use Rattle.juniper_flat.proofs.excerpt.rows.push_label.Goals as goal
 
 pub returns : goal.returns
 returns c =

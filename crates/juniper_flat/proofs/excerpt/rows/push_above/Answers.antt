@@ -4,7 +4,7 @@ use Rattle.std.specs.Str.{chars}
 use Rattle.graphql_lexical.specs.Characters.{Text}
 use Rattle.juniper_flat.specs.Excerpts.{line_row}
 use Rattle.juniper_flat.proofs.Appended.{one_then, then_appended, pushed}
-use Rattle.juniper_flat.proofs.excerpt.push_above.Goals as goal
+use Rattle.juniper_flat.proofs.excerpt.rows.push_above.Goals as goal
 
 pub returns-in_ok-push_line-in-Some : goal.returns-in_ok-push_line-in-Some
 returns-in_ok-push_line-in-Some c =

@@ -1,6 +1,6 @@
 use Rattle.std.proofs.lemmas.Iterator.{YieldsList-from_chars}
 use Rattle.std.proofs.lemmas.Iterator.Consumers.{count_from_yields_List}
-use Rattle.juniper_flat.proofs.excerpt.character_count.Goals as goal
+use Rattle.juniper_flat.proofs.excerpt.rows.character_count.Goals as goal
 
 pub returns-clause-count : goal.returns-clause-count
 returns-clause-count c = count_from_yields_List c.chars.result c.count.result c.count.ensures.ran

@@ -3,7 +3,7 @@ use Rattle.std.specs.Fmt.{decimal}
 use Rattle.juniper_flat.specs.Excerpts.{caret_row, last_number, line_row, row_above, row_below, shown}
 use Rattle.juniper_flat.specs.device.Excerpts.{view_excerpt}
 use Rattle.juniper_flat.proofs.Appended.{both_appended, one_appended}
-use Rattle.juniper_flat.proofs.excerpt.written.Goals as goal
+use Rattle.juniper_flat.proofs.excerpt.rows.written.Goals as goal
 
 pub returns : goal.returns
 returns c =

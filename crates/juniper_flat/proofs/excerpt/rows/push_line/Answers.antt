@@ -7,7 +7,7 @@ use Rattle.graphql_lexical.specs.Characters.{Text}
 use Rattle.juniper_flat.specs.Excerpts.{after_bar, aligned, part_shown, visible}
 use Rattle.juniper_flat.specs.device.Excerpts.{line_of}
 use Rattle.juniper_flat.proofs.Appended.{then_appended}
-use Rattle.juniper_flat.proofs.excerpt.push_line.Goals as goal
+use Rattle.juniper_flat.proofs.excerpt.rows.push_line.Goals as goal
 
 pub returns : goal.returns
 returns c =
