@@ -1,13 +1,12 @@
 //! A parse of a document, reported as it comes.
 
+use crate::parsing::{Document, document};
 use juniper::{
-    DefaultScalarValue, Definition, DefinitionSink, LimitFailure, Limits, OwnedDocument,
-    ParseFailure, parse_document_source, parse_document_source_into, parse_document_source_within,
+    DefaultScalarValue, Definition, DefinitionSink, LimitFailure, Limits, ParseFailure,
+    parse_document_source_into, parse_document_source_within,
 };
 use std::alloc::{AllocError, Global};
 use std::io;
-
-type Document<'a> = OwnedDocument<'a, DefaultScalarValue>;
 
 // The number of definitions that were given.
 #[derive(Drop)]
@@ -36,7 +35,7 @@ impl DefinitionSink<DefaultScalarValue> for Given {
 fn parsed<'a>(alloc: Global, word: &str, text: &'a str) -> Result<Document<'a>, LimitFailure> {
     match word.parse::<usize>() {
         Ok(depth) => Ok(parse_document_source_within(alloc, text, depth)?),
-        Err(_) => match parse_document_source(alloc, text) {
+        Err(_) => match document(alloc, text) {
             Ok(document) => Ok(document),
             Err(failure) => Err(LimitFailure::Parse(failure)),
         },

@@ -1,31 +1,56 @@
-//! What is read by a parser: value literals, and delimited lists of Names.
+//! What is read by a parser: documents, literals, and delimited lists of Names.
 ghost use Rattle.juniper_tokens.specs.Delimited.{Leaves};
 
 use juniper::{
-    DefaultScalarValue, InputValue, LexFailure, Lexer, ParseFailure, ParseResult, Parser, Spanning,
-    Token, UnlocatedParseResult, parse_value_literal,
+    DefaultScalarValue, InputValue, Lexer, OwnedDocument, ParseFailure, ParseResult, Parser,
+    Spanning, Token, Type, UnlocatedParseResult, parse_document_source, parse_type,
+    parse_value_literal,
 };
 use std::alloc::{AllocError, Global};
 
+pub type Document<'a> = OwnedDocument<'a, DefaultScalarValue>;
+
 pub type Input = InputValue<DefaultScalarValue>;
+
+/// The fields of an object literal.
+pub type Fields = Vec<(Spanning<String>, Spanning<Input>)>;
+
+/// The document that a text is.
+pub fn document(alloc: Global, source: &str) -> UnlocatedParseResult<Document<'_>> {
+    parse_document_source(alloc, source)
+}
 
 /// The value literal that a text begins with, if any.
 pub fn literal(alloc: Global, text: &str) -> Result<Option<Input>, AllocError> {
-    let mut lexer = Lexer::new(alloc, text);
-    match Parser::new(&mut lexer) {
-        Ok(mut parser) => match value_in(&mut parser, false) {
-            Ok(value) => Ok(Some(value.item)),
-            Err(ParseFailure::Memory) => Err(AllocError),
-            Err(ParseFailure::Refused(_)) => Ok(None),
-        },
-        Err(LexFailure::Memory) => Err(AllocError),
-        Err(LexFailure::Fault(_)) => Ok(None),
+    match first_value(alloc, text) {
+        Ok(value) => Ok(Some(value.item)),
+        Err(ParseFailure::Memory) => Err(AllocError),
+        Err(ParseFailure::Refused(_)) => Ok(None),
     }
+}
+
+/// The fields of the object that a text begins with, if any.
+pub fn fields_of(alloc: Global, text: &str) -> Result<Option<Fields>, AllocError> {
+    match literal(alloc, text)? {
+        Some(InputValue::Object(fields)) => Ok(Some(fields)),
+        _ => Ok(None),
+    }
+}
+
+fn first_value(alloc: Global, text: &str) -> ParseResult<Input> {
+    let mut lexer = Lexer::new(alloc, text);
+    let mut parser = Parser::new(&mut lexer)?;
+    value_in(&mut parser, false)
 }
 
 /// The value literal that the tokens begin with.
 pub fn value_in(parser: &mut Parser<'_>, is_const: bool) -> ParseResult<Input> {
     parse_value_literal(parser, is_const)
+}
+
+/// The type literal that the tokens begin with.
+pub fn type_in<'a>(parser: &mut Parser<'a>) -> ParseResult<Type<&'a str>> {
+    parse_type(parser)
 }
 
 // The Name that stands next.

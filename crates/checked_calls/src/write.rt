@@ -65,8 +65,8 @@ pub fn write_error(out: &mut String, error: &ParseError) -> Written {
 }
 
 /// Writes why a parser returned nothing: a refusal's span and error, or that memory ran out.
-pub fn write_failure(out: &mut String, failure: &ParseFailure) -> Written {
-    match failure {
+pub fn write_failure(out: &mut String, failure: ParseFailure) -> Written {
+    match &failure {
         ParseFailure::Refused(fault) => {
             write_span(out, &fault.span)?;
             write_error(out, &fault.item)
@@ -78,7 +78,7 @@ pub fn write_failure(out: &mut String, failure: &ParseFailure) -> Written {
 /// Writes what was made, or `Memory`.
 pub fn write_made<T: fmt::Display + Drop>(
     out: &mut String,
-    made: &Result<T, AllocError>,
+    made: Result<T, AllocError>,
 ) -> Written {
     match made {
         Ok(made) => write!(out, "{made}"),
@@ -89,12 +89,20 @@ pub fn write_made<T: fmt::Display + Drop>(
 /// Writes what was made, `None` where nothing was, or `Memory`.
 pub fn write_found<T: fmt::Display + Drop>(
     out: &mut String,
-    made: &Result<Option<T>, AllocError>,
+    made: Result<Option<T>, AllocError>,
 ) -> Written {
     match made {
         Ok(Some(made)) => write!(out, "{made}"),
         Ok(None) => out.push_str("None"),
         Err(_) => out.push_str("Memory"),
+    }
+}
+
+/// Writes what there is, or `None`.
+pub fn write_optional<T: fmt::Display + Drop>(out: &mut String, found: Option<T>) -> Written {
+    match found {
+        Some(found) => write!(out, "{found}"),
+        None => out.push_str("None"),
     }
 }
 
@@ -121,6 +129,11 @@ pub fn write_truth(out: &mut String, truth: bool) -> Written {
     write!(out, "{truth}")
 }
 
+/// Writes what a comparison returns, and what it returns the other way round.
+pub fn write_both(out: &mut String, there: bool, back: bool) -> Written {
+    write!(out, "{there} {back}")
+}
+
 /// Writes a text, or `None`.
 pub fn write_optional_text(out: &mut String, text: Option<&str>) -> Written {
     match text {
@@ -130,7 +143,7 @@ pub fn write_optional_text(out: &mut String, text: Option<&str>) -> Written {
 }
 
 /// Writes a line that says why a parser returned nothing.
-pub fn write_refusal(out: &mut String, failure: &ParseFailure) -> Written {
+pub fn write_refusal(out: &mut String, failure: ParseFailure) -> Written {
     write_failure(out, failure)?;
     out.push('\n')
 }

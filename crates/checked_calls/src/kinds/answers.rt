@@ -1,11 +1,12 @@
 //! Answer values, objects and names.
 
+use crate::kinds::input_values::is_unlocated;
 use crate::kinds::word_of;
-use crate::parsing::{Input, literal};
-use crate::write::{Written, write_made, write_separator, write_truth};
+use crate::parsing::{Input, fields_of, literal};
+use crate::write::{Written, write_both, write_made, write_optional, write_separator, write_truth};
 use juniper::{
-    DefaultScalarValue, InputValue, IntoValue, Name, NameFailure, Object, ParseError, Span,
-    Spanning, ToInputValue, Token, Value, value_from_str,
+    DefaultScalarValue, InputValue, IntoValue, Name, NameFailure, Object, ParseError, Spanning,
+    ToInputValue, Token, Value, value_from_str,
 };
 use std::alloc::{AllocError, Global};
 use std::borrow::CowStr;
@@ -15,12 +16,16 @@ type Answer = Value<DefaultScalarValue>;
 /// `answer`: calls, one after another, on the answer value that is made of the text, a value literal: of an enum its
 /// text, of a variable null.
 pub fn write_calls(alloc: Global, out: &mut String, text: &str, calls: &str) -> Written {
-    let Some(mut value) = answer_in(alloc, text)? else {
-        return out.push_str("no value\n");
-    };
+    match answer_in(alloc, text)? {
+        Some(mut value) => answer_calls(alloc, out, &mut value, calls),
+        None => out.push_str("no value\n"),
+    }
+}
+
+fn answer_calls(alloc: Global, out: &mut String, value: &mut Answer, calls: &str) -> Written {
     for call in calls.lines() {
         write!(out, "{call} -> ")?;
-        answer_call(alloc, out, &mut value, call)?;
+        answer_call(alloc, out, value, call)?;
         out.push('\n')?;
     }
     Ok(())
@@ -42,7 +47,7 @@ fn answer_of(alloc: Global, value: &Input) -> Result<Answer, AllocError> {
         InputValue::Enum(name) => CowStr::Borrowed(name.as_str()).into_value(alloc),
         InputValue::Variable(_) => None::<i32>.into_value(alloc),
         InputValue::List(items) => list_of(alloc, items),
-        InputValue::Object(fields) => object_of(alloc, fields),
+        InputValue::Object(fields) => object_from(alloc, pairs_of(alloc, fields)?),
     }
 }
 
@@ -61,14 +66,6 @@ fn list_of(alloc: Global, items: &[Spanning<Input>]) -> Result<Answer, AllocErro
         list.push(answer_of(alloc, &item.item)?)?;
     }
     Ok(Value::list(list))
-}
-
-#[cycle(answers)]
-fn object_of(
-    alloc: Global,
-    fields: &[(Spanning<String>, Spanning<Input>)],
-) -> Result<Answer, AllocError> {
-    object_from(alloc, pairs_of(alloc, fields)?)
 }
 
 #[cycle(answers)]
@@ -91,15 +88,18 @@ fn object_from(alloc: Global, pairs: Vec<(String, Answer)>) -> Result<Answer, Al
 /// `object`: a call that makes an object: `with_capacity` of a number of fields, or `from_iter` of the fields of the value
 /// literal that is the text.
 pub fn answer_made(alloc: Global, out: &mut String, text: &str, call: &str) -> Written {
-    match word_of(call) {
-        ("with_capacity", number) => write_made(out, &empty(alloc, number)),
-        ("from_iter", _) => match literal(alloc, text)? {
-            Some(InputValue::Object(fields)) => {
-                write_made(out, &object_from(alloc, pairs_of(alloc, &fields)?))
-            }
-            _ => out.push_str("no object"),
-        },
+    let (word, number) = word_of(call);
+    match word {
+        "with_capacity" => write_made(out, empty(alloc, number)),
+        "from_iter" => write_object_of(alloc, out, text),
         _ => out.push_str("no such call"),
+    }
+}
+
+fn write_object_of(alloc: Global, out: &mut String, text: &str) -> Written {
+    match fields_of(alloc, text)? {
+        Some(fields) => write_made(out, object_from(alloc, pairs_of(alloc, &fields)?)),
+        None => out.push_str("no object"),
     }
 }
 
@@ -131,7 +131,7 @@ fn answer_whole(
     rest: &str,
 ) -> Written {
     match word {
-        "try_clone" => write_made(out, &is_copied(alloc, value)),
+        "try_clone" => write_made(out, is_copied(alloc, value)),
         "into_object" => write_taken_apart(out, value.try_clone(alloc)?),
         "map_scalar_value" => write_mapped(alloc, out, value),
         "==" => write_compared(alloc, out, value, rest),
@@ -157,7 +157,8 @@ fn is_copied(alloc: Global, value: &Answer) -> Result<bool, AllocError> {
 }
 
 fn write_mapped(alloc: Global, out: &mut String, value: &Answer) -> Written {
-    match mapped(alloc, value.try_clone(alloc)?) {
+    let mapped: Result<Answer, AllocError> = value.try_clone(alloc)?.map_scalar_value(alloc);
+    match mapped {
         Ok(mapped) => {
             let is_equal = mapped == *value;
             write!(out, "{mapped} {is_equal}")
@@ -166,20 +167,12 @@ fn write_mapped(alloc: Global, out: &mut String, value: &Answer) -> Written {
     }
 }
 
-fn mapped(alloc: Global, value: Answer) -> Result<Answer, AllocError> {
-    value.map_scalar_value(alloc)
-}
-
 // Whether an answer value equals the one that is written, and the other way round.
 fn write_compared(alloc: Global, out: &mut String, value: &Answer, other: &str) -> Written {
     match answer_in(alloc, other)? {
         Some(other) => write_both(out, *value == other, other == *value),
         None => out.push_str("no value"),
     }
-}
-
-fn write_both(out: &mut String, there: bool, back: bool) -> Written {
-    write!(out, "{there} {back}")
 }
 
 // The input value of an answer value, and whether it has no place.
@@ -196,17 +189,6 @@ fn write_unlocated(out: &mut String, input: &Input) -> Written {
         return out.push_str(", unlocated");
     }
     Ok(())
-}
-
-// Whether the items, keys and values of a value have no place.
-fn is_unlocated(value: &Input) -> bool {
-    match value {
-        InputValue::List(items) => items.iter().all(|item| item.span == Span::unlocated()),
-        InputValue::Object(fields) => fields.iter().all(|field| {
-            field.0.span == Span::unlocated() && field.1.span == Span::unlocated()
-        }),
-        _ => true,
-    }
 }
 
 // Which variant a value is, as its calls report it.
@@ -289,13 +271,6 @@ fn write_old(out: &mut String, old: &Result<Option<Answer>, (String, Answer)>) -
     }
 }
 
-fn write_optional(out: &mut String, value: Option<&Answer>) -> Written {
-    match value {
-        Some(value) => write!(out, "{value}"),
-        None => out.push_str("None"),
-    }
-}
-
 fn write_pairs(out: &mut String, object: &Object<DefaultScalarValue>) -> Written {
     let before = out.len();
     for (key, value) in object.iter() {
@@ -336,7 +311,7 @@ pub fn answer_name(alloc: Global, out: &mut String, text: &str, call: &str) -> W
             Err(NameFailure::Memory) => out.push_str("Memory"),
         },
         "unexpected_token" => {
-            write_made(out, &ParseError::unexpected_token(alloc, Token::Name(text)))
+            write_made(out, ParseError::unexpected_token(alloc, Token::Name(text)))
         }
         _ => out.push_str("no such call"),
     }

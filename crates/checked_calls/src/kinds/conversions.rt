@@ -18,10 +18,10 @@ pub fn answer(alloc: Global, out: &mut String, text: &str, call: &str) -> Writte
         "borrowed" => write_borrowed(alloc, out, text),
         "owned" => write_owned(alloc, out, text),
         "values" => write_values(alloc, out, text),
-        "value_from_str" => write_made(out, &value_from_str::<DefaultScalarValue>(alloc, text)),
+        "value_from_str" => write_made(out, value_from_str::<DefaultScalarValue>(alloc, text)),
         "into_value" => write_lent(alloc, out, text),
         "enum_value" | "variable" | "input_value_from_str" | "into_input_value" => {
-            write_made(out, &input_of(alloc, text, call))
+            write_made(out, input_of(alloc, text, call))
         }
         _ => out.push_str("no such call"),
     }
@@ -31,7 +31,7 @@ pub fn answer(alloc: Global, out: &mut String, text: &str, call: &str) -> Writte
 fn write_lent(alloc: Global, out: &mut String, text: &str) -> Written {
     let owned = String::from_str(alloc, text)?;
     let lent: Result<Value<DefaultScalarValue>, AllocError> = Some(&owned).into_value(alloc);
-    write_made(out, &lent)
+    write_made(out, lent)
 }
 
 // The input value that a call makes of the text.

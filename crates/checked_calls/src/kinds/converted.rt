@@ -38,7 +38,7 @@ impl fmt::Display for Shown {
 /// `convert`: what that type makes of the value. Any other word: what it makes of a value that is not given.
 pub fn answer(alloc: Global, out: &mut String, call: &str, value: &Input) -> Written {
     match call {
-        "convert" => write_made(out, &value.convert::<Shown>(alloc)),
-        _ => write_made(out, &Shown::from_implicit_null(alloc)),
+        "convert" => write_made(out, value.convert::<Shown>(alloc)),
+        _ => write_made(out, Shown::from_implicit_null(alloc)),
     }
 }

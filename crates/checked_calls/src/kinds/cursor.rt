@@ -2,11 +2,10 @@
 
 use crate::kinds::lexing::write_left;
 use crate::kinds::word_of;
-use crate::parsing::{names, some_names, some_texts, value_in};
+use crate::parsing::{names, some_names, some_texts, type_in, value_in};
 use crate::write::{Written, write_failure, write_refusal, write_span, write_token};
 use juniper::{
-    LexFailure, Lexer, LexerResult, OptionParseResult, ParseFailure, ParseResult, Parser, Spanning,
-    Token, Type, parse_type,
+    LexFailure, Lexer, OptionParseResult, ParseFailure, ParseResult, Parser, Span, Spanning, Token,
 };
 use std::alloc::{AllocError, Global};
 use std::fmt;
@@ -20,7 +19,7 @@ pub fn write_tokens(alloc: Global, out: &mut String, text: &str) -> Written {
             out.push('\n')
         }
         Err(failure) => {
-            write_refusal(out, &ParseFailure::from(failure))?;
+            write_refusal(out, ParseFailure::from(failure))?;
             write_left(out, &mut lexer, text.len())
         }
     }
@@ -34,7 +33,7 @@ pub fn write_calls(alloc: Global, out: &mut String, text: &str, calls: &str) -> 
     match Parser::new(&mut lexer) {
         Ok(mut parser) => answer_calls(out, &mut parser, calls),
         Err(LexFailure::Memory) => Err(AllocError),
-        Err(failure) => write_refusal(out, &ParseFailure::from(failure)),
+        Err(failure) => write_refusal(out, ParseFailure::from(failure)),
     }
 }
 
@@ -51,8 +50,8 @@ fn answer_call(out: &mut String, parser: &mut Parser<'_>, call: &str) -> Written
     let (word, rest) = word_of(call);
     match word {
         "peek" => write_token(out, parser.peek()),
-        "next_token" => write_taken(out, &parser.next_token()),
-        "expect_name" => write_read(out, &parser.expect_name()),
+        "next_token" => write_taken(out, parser.next_token()),
+        "expect_name" => write_read(out, parser.expect_name()),
         "expect" => expect(out, parser, rest),
         "skip" => skip(out, parser, rest),
         "rest" => write_rest(out, parser),
@@ -63,15 +62,11 @@ fn answer_call(out: &mut String, parser: &mut Parser<'_>, call: &str) -> Written
 // A call that reads more than one token.
 fn answer_read(out: &mut String, parser: &mut Parser<'_>, call: &str) -> Written {
     match call {
-        "parse_type" => write_read(out, &type_in(parser)),
-        "parse_value_literal" => write_read(out, &value_in(parser, false)),
-        "parse_value_literal_const" => write_read(out, &value_in(parser, true)),
+        "parse_type" => write_read(out, type_in(parser)),
+        "parse_value_literal" => write_read(out, value_in(parser, false)),
+        "parse_value_literal_const" => write_read(out, value_in(parser, true)),
         _ => answer_list(out, parser, call),
     }
-}
-
-fn type_in<'a>(parser: &mut Parser<'a>) -> ParseResult<Type<&'a str>> {
-    parse_type(parser)
 }
 
 // Writes the texts of the tokens that are left.
@@ -88,43 +83,46 @@ fn write_rest(out: &mut String, parser: &mut Parser<'_>) -> Written {
 }
 
 fn expect(out: &mut String, parser: &mut Parser<'_>, wanted: &str) -> Written {
-    match &first_item(parser.allocator(), wanted) {
-        Some(Ok(token)) => write_taken(out, &parser.expect(&token.item)),
-        _ => out.push_str("no token"),
+    match first_token(parser.allocator(), wanted) {
+        Some(token) => write_taken(out, parser.expect(&token)),
+        None => out.push_str("no token"),
     }
 }
 
 fn skip(out: &mut String, parser: &mut Parser<'_>, wanted: &str) -> Written {
-    match &first_item(parser.allocator(), wanted) {
-        Some(Ok(token)) => write_skipped(out, &parser.skip(&token.item)),
-        _ => out.push_str("no token"),
+    match first_token(parser.allocator(), wanted) {
+        Some(token) => write_skipped(out, parser.skip(&token)),
+        None => out.push_str("no token"),
     }
 }
 
-// The first item of a text.
-fn first_item(alloc: Global, text: &str) -> Option<LexerResult<'_>> {
+// The first token of a text, if it begins with one.
+fn first_token(alloc: Global, text: &str) -> Option<Token<'_>> {
     let mut lexer = Lexer::new(alloc, text);
-    lexer.next()
+    match &lexer.next() {
+        Some(Ok(token)) => Some(token.item),
+        _ => None,
+    }
 }
 
-fn write_taken(out: &mut String, taken: &ParseResult<Token<'_>>) -> Written {
+fn write_taken(out: &mut String, taken: ParseResult<Token<'_>>) -> Written {
     match taken {
-        Ok(token) => write_token(out, token),
+        Ok(token) => write_token(out, &token),
         Err(failure) => write_failure(out, failure),
     }
 }
 
-fn write_skipped(out: &mut String, taken: &OptionParseResult<Token<'_>>) -> Written {
+fn write_skipped(out: &mut String, taken: OptionParseResult<Token<'_>>) -> Written {
     match taken {
-        Ok(Some(token)) => write_token(out, token),
+        Ok(Some(token)) => write_token(out, &token),
         Ok(None) => out.push_str("None"),
         Err(failure) => write_failure(out, failure),
     }
 }
 
-fn write_read<T: fmt::Display + Drop>(out: &mut String, read: &ParseResult<T>) -> Written {
+fn write_read<T: fmt::Display + Drop>(out: &mut String, read: ParseResult<T>) -> Written {
     match read {
-        Ok(read) => write_spanned(out, read),
+        Ok(read) => write_spanned(out, &read),
         Err(failure) => write_failure(out, failure),
     }
 }
@@ -138,23 +136,13 @@ fn write_spanned<T: fmt::Display>(out: &mut String, read: &Spanning<T>) -> Writt
 fn answer_list(out: &mut String, parser: &mut Parser<'_>, call: &str) -> Written {
     let (word, brackets) = word_of(call);
     let (opening, closing) = word_of(brackets);
-    match &first_item(parser.allocator(), opening) {
-        Some(Ok(opening)) => answer_closed(out, parser, word, &opening.item, closing),
-        _ => out.push_str("no opening token"),
-    }
-}
-
-fn answer_closed(
-    out: &mut String,
-    parser: &mut Parser<'_>,
-    word: &str,
-    opening: &Token<'_>,
-    closing: &str,
-) -> Written {
-    match &first_item(parser.allocator(), closing) {
-        Some(Ok(closing)) => answer_between(out, parser, word, opening, &closing.item),
-        _ => out.push_str("no closing token"),
-    }
+    let Some(opening) = first_token(parser.allocator(), opening) else {
+        return out.push_str("no opening token");
+    };
+    let Some(closing) = first_token(parser.allocator(), closing) else {
+        return out.push_str("no closing token");
+    };
+    answer_between(out, parser, word, &opening, &closing)
 }
 
 fn answer_between(
@@ -165,38 +153,42 @@ fn answer_between(
     closing: &Token<'_>,
 ) -> Written {
     match word {
-        "delimited_list" => write_names(out, &names(parser, opening, closing)),
-        "delimited_nonempty_list" => write_names(out, &some_names(parser, opening, closing)),
+        "delimited_list" => write_names(out, names(parser, opening, closing)),
+        "delimited_nonempty_list" => write_names(out, some_names(parser, opening, closing)),
         "unlocated_delimited_nonempty_list" => {
-            write_texts(out, &some_texts(parser, opening, closing))
+            write_texts(out, some_texts(parser, opening, closing))
         }
         _ => out.push_str("no such call"),
     }
 }
 
-fn write_names(out: &mut String, list: &ParseResult<Vec<Spanning<&str>>>) -> Written {
+fn write_names(out: &mut String, list: ParseResult<Vec<Spanning<&str>>>) -> Written {
     match list {
-        Ok(list) => {
-            write_span(out, &list.span)?;
-            for name in list.item.iter() {
-                out.push_str(", ")?;
-                write_spanned(out, name)?;
-            }
-            Ok(())
-        }
+        Ok(list) => write_name_list(out, &list.span, &list.item),
         Err(failure) => write_failure(out, failure),
     }
 }
 
-fn write_texts(out: &mut String, list: &ParseResult<Vec<&str>>) -> Written {
+fn write_name_list(out: &mut String, span: &Span, names: &[Spanning<&str>]) -> Written {
+    write_span(out, span)?;
+    for name in names {
+        out.push_str(", ")?;
+        write_spanned(out, name)?;
+    }
+    Ok(())
+}
+
+fn write_texts(out: &mut String, list: ParseResult<Vec<&str>>) -> Written {
     match list {
-        Ok(list) => {
-            write_span(out, &list.span)?;
-            for text in list.item.iter() {
-                write!(out, ", {text}")?;
-            }
-            Ok(())
-        }
+        Ok(list) => write_text_list(out, &list.span, &list.item),
         Err(failure) => write_failure(out, failure),
     }
+}
+
+fn write_text_list(out: &mut String, span: &Span, texts: &[&str]) -> Written {
+    write_span(out, span)?;
+    for text in texts {
+        write!(out, ", {text}")?;
+    }
+    Ok(())
 }

@@ -2,24 +2,17 @@
 
 use crate::kinds::tree::{write_document, write_pushed, write_value};
 use crate::kinds::word_of;
-use crate::parsing::{Input, literal};
+use crate::parsing::{Input, document, fields_of};
 use crate::write::{Written, write_refusal, write_separator, write_span};
 use juniper::{
-    Arguments, DefaultScalarValue, DepthFailure, InputValue, LimitFailure, Limits, OwnedDocument,
-    ParseFailure, Spanning, parse_document_source, parse_document_source_limited,
-    parse_document_source_within,
+    Arguments, DefaultScalarValue, DepthFailure, InputValue, LimitFailure, Limits, ParseFailure,
+    Span, Spanning, parse_document_source_limited, parse_document_source_within,
 };
 use std::alloc::{AllocError, Global};
 
-type Document<'a> = OwnedDocument<'a, DefaultScalarValue>;
-
-fn document(alloc: Global, source: &str) -> Result<Document<'_>, ParseFailure> {
-    parse_document_source(alloc, source)
-}
-
 /// `document`: the lines of the tree, or the refusal.
 pub fn write_tree(alloc: Global, out: &mut String, text: &str) -> Written {
-    match &document(alloc, text) {
+    match document(alloc, text) {
         Ok(document) => write_document(alloc, out, document),
         Err(failure) => write_refusal(out, failure),
     }
@@ -27,41 +20,22 @@ pub fn write_tree(alloc: Global, out: &mut String, text: &str) -> Written {
 
 /// `pushed`: how many nodes there are after each definition of the document was appended by `push_definition`.
 pub fn write_counts(alloc: Global, out: &mut String, text: &str) -> Written {
-    match &document(alloc, text) {
-        Ok(document) => write_pushed(alloc, out, document),
+    match document(alloc, text) {
+        Ok(document) => write_pushed(alloc, out, &document),
         Err(ParseFailure::Memory) => Err(AllocError),
         Err(failure) => write_refusal(out, failure),
     }
-}
-
-fn document_within(
-    alloc: Global,
-    source: &str,
-    depth: usize,
-) -> Result<Document<'_>, DepthFailure> {
-    parse_document_source_within(alloc, source, depth)
 }
 
 /// `within`: the same within a limit on nesting, which is the text's first word.
 pub fn write_tree_within(alloc: Global, out: &mut String, text: &str) -> Written {
     let (depth, source) = word_of(text);
     let depth = depth.parse::<usize>().unwrap_or(0);
-    match &document_within(alloc, source, depth) {
+    match parse_document_source_within::<DefaultScalarValue>(alloc, source, depth) {
         Ok(document) => write_document(alloc, out, document),
         Err(DepthFailure::Parse(failure)) => write_refusal(out, failure),
-        Err(DepthFailure::TooDeep(span)) => {
-            write_span(out, span)?;
-            out.push_str(" TooDeep\n")
-        }
+        Err(DepthFailure::TooDeep(span)) => write_limit(out, &span, " TooDeep\n"),
     }
-}
-
-fn document_limited(
-    alloc: Global,
-    source: &str,
-    limits: Limits,
-) -> Result<Document<'_>, LimitFailure> {
-    parse_document_source_limited(alloc, source, limits)
 }
 
 /// `limited`: the same within limits on nesting and on tokens, which are the text's first two words.
@@ -72,18 +46,18 @@ pub fn write_tree_limited(alloc: Global, out: &mut String, text: &str) -> Writte
         depth: depth.parse::<usize>().unwrap_or(0),
         tokens: tokens.parse::<usize>().unwrap_or(0),
     };
-    match &document_limited(alloc, source, limits) {
+    match parse_document_source_limited::<DefaultScalarValue>(alloc, source, limits) {
         Ok(document) => write_document(alloc, out, document),
         Err(LimitFailure::Parse(failure)) => write_refusal(out, failure),
-        Err(LimitFailure::TooDeep(span)) => {
-            write_span(out, span)?;
-            out.push_str(" TooDeep\n")
-        }
-        Err(LimitFailure::TooMany(span)) => {
-            write_span(out, span)?;
-            out.push_str(" TooMany\n")
-        }
+        Err(LimitFailure::TooDeep(span)) => write_limit(out, &span, " TooDeep\n"),
+        Err(LimitFailure::TooMany(span)) => write_limit(out, &span, " TooMany\n"),
     }
+}
+
+// Writes where a limit was passed, and which.
+fn write_limit(out: &mut String, span: &Span, word: &str) -> Written {
+    write_span(out, span)?;
+    out.push_str(word)
 }
 
 /// `equal`: whether the trees of two texts, between which ` == ` stands, are equal, both ways.
@@ -91,7 +65,7 @@ pub fn write_equal(alloc: Global, out: &mut String, text: &str) -> Written {
     let Some((one, other)) = text.split_once(" == ") else {
         return out.push_str("no two texts\n");
     };
-    match &compared(alloc, one, other) {
+    match compared(alloc, one, other) {
         Ok((there, back)) => writeln!(out, "{there} {back}"),
         Err(_) => out.push_str("refused\n"),
     }
@@ -107,9 +81,9 @@ type Given<'a> = Arguments<'a, DefaultScalarValue>;
 
 /// `arguments`: calls on the arguments that are written as the fields of an object.
 pub fn write_calls(alloc: Global, out: &mut String, text: &str, calls: &str) -> Written {
-    match literal(alloc, text)? {
-        Some(InputValue::Object(fields)) => answer_calls(alloc, out, &fields, calls),
-        _ => out.push_str("no object\n"),
+    match fields_of(alloc, text)? {
+        Some(fields) => answer_calls(alloc, out, &fields, calls),
+        None => out.push_str("no object\n"),
     }
 }
 

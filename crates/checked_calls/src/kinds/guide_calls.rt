@@ -6,17 +6,10 @@ use crate::guide::{
 };
 use crate::kinds::input_values::variables_of;
 use crate::kinds::word_of;
-use crate::parsing::{Input, literal};
-use crate::write::{
-    Written, write_failure, write_optional_text, write_separator, write_span, write_truth,
-};
-use juniper::{
-    DefaultScalarValue, Definition, Field, OwnedDocument, ParseFailure, Selection, Span,
-    UnlocatedParseResult, parse_document_source,
-};
+use crate::parsing::{Document, Input, document, literal};
+use crate::write::{Written, write_failure, write_items, write_optional, write_span, write_truth};
+use juniper::{DefaultScalarValue, Definition, Field, ParseFailure, Selection, Span};
 use std::alloc::Global;
-
-type Document<'a> = OwnedDocument<'a, DefaultScalarValue>;
 
 /// `guide`: calls on the text. `is_document_within` takes a limit, `same_literal` another text, `argument_value` the name
 /// of an argument of the first field of the first operation, and the variables as the fields of an object.
@@ -24,22 +17,14 @@ pub fn answer(alloc: Global, out: &mut String, text: &str, call: &str) -> Writte
     let (word, rest) = word_of(call);
     match word {
         "is_document" => write_truth(out, is_document(alloc, text)?),
-        "is_document_within" => write_truth(out, is_document_within(alloc, text, limit(rest))?),
-        "fault_line" => write_line(out, &fault_line(alloc, text)?),
+        "is_document_within" => {
+            let limit = rest.parse::<usize>().unwrap_or(0);
+            write_truth(out, is_document_within(alloc, text, limit)?)
+        }
+        "fault_line" => write_optional(out, fault_line(alloc, text)?),
         "kept_up_to" => write_place(out, kept_up_to(alloc, text)?),
-        "same_literal" => write_same(out, &same_literal::<DefaultScalarValue>(alloc, text, rest)),
+        "same_literal" => write_same(out, same_literal::<DefaultScalarValue>(alloc, text, rest)),
         _ => answer_tree(alloc, out, text, word, rest),
-    }
-}
-
-fn limit(text: &str) -> usize {
-    text.parse::<usize>().unwrap_or(0)
-}
-
-fn write_line(out: &mut String, line: &Option<String>) -> Written {
-    match line {
-        Some(line) => out.push_str(line.as_str()),
-        None => out.push_str("None"),
     }
 }
 
@@ -50,18 +35,17 @@ fn write_place(out: &mut String, span: Option<Span>) -> Written {
     }
 }
 
-fn write_same(out: &mut String, same: &Result<bool, ParseFailure>) -> Written {
+fn write_same(out: &mut String, same: Result<bool, ParseFailure>) -> Written {
     match same {
-        Ok(same) => write_truth(out, *same),
+        Ok(same) => write_truth(out, same),
         Err(failure) => write_failure(out, failure),
     }
 }
 
 // A call on the text's tree.
 fn answer_tree(alloc: Global, out: &mut String, text: &str, word: &str, rest: &str) -> Written {
-    let parsed: UnlocatedParseResult<Document<'_>> = parse_document_source(alloc, text);
-    match &parsed {
-        Ok(document) => answer_document(alloc, out, document, word, rest),
+    match document(alloc, text) {
+        Ok(document) => answer_document(alloc, out, &document, word, rest),
         Err(failure) => write_failure(out, failure),
     }
 }
@@ -74,27 +58,21 @@ fn answer_document(
     rest: &str,
 ) -> Written {
     match word {
-        "field_names" => write_names(out, &field_names(alloc, document)?),
+        "field_names" => write_items(out, &field_names(alloc, document)?),
         "argument_value" => write_argument(alloc, out, document, rest),
         _ => out.push_str("no such call"),
     }
 }
 
-fn write_names(out: &mut String, names: &[&str]) -> Written {
-    let before = out.len();
-    for name in names {
-        write_separator(out, before)?;
-        out.push_str(name)?;
-    }
-    Ok(())
-}
-
 // The value of an argument of the first field.
 fn write_argument(alloc: Global, out: &mut String, document: &Document<'_>, call: &str) -> Written {
     let (name, variables) = word_of(call);
-    match (first_field(document), literal(alloc, variables)?) {
-        (Some(field), Some(variables)) => write_worth(alloc, out, field, name, variables),
-        _ => out.push_str("no field, or no variables"),
+    let Some(field) = first_field(document) else {
+        return out.push_str("no field, or no variables");
+    };
+    match literal(alloc, variables)? {
+        Some(variables) => write_worth(alloc, out, field, name, variables),
+        None => out.push_str("no field, or no variables"),
     }
 }
 
@@ -117,8 +95,5 @@ fn write_worth(
     variables: Input,
 ) -> Written {
     let variables = variables_of(alloc, variables)?;
-    match argument_value(alloc, field, name, &variables)? {
-        Some(value) => write!(out, "{value}"),
-        None => out.push_str("None"),
-    }
+    write_optional(out, argument_value(alloc, field, name, &variables)?)
 }

@@ -3,15 +3,14 @@
 use crate::kinds::{converted, handed_back, word_of};
 use crate::parsing::{Input, literal};
 use crate::write::{
-    Written, write_found, write_items, write_made, write_optional_text, write_separator,
-    write_truth,
+    Written, write_both, write_found, write_items, write_made, write_optional, write_optional_text,
+    write_separator, write_truth,
 };
 use indexmap::IndexMap;
 use juniper::{
     DefaultScalarValue, InputValue, IntoInputValue, Span, Spanning, Variables, input_value_from_str,
 };
 use std::alloc::{AllocError, Global};
-use std::borrow::CowStr;
 use std::collections::HashMap;
 use std::fmt;
 use std::hash::Hash;
@@ -38,7 +37,7 @@ fn answer_call(alloc: Global, out: &mut String, value: &Input, call: &str) -> Wr
 // A call that gives a part of the value.
 fn answer_parts(alloc: Global, out: &mut String, value: &Input, word: &str, rest: &str) -> Written {
     match word {
-        "as_scalar" => write_scalar(out, value),
+        "as_scalar" => write_optional(out, value.as_scalar()),
         "to_list_value" => write_list(alloc, out, value),
         "to_object_value" => write_object(alloc, out, value),
         "referenced_variables" => write_variables(alloc, out, value),
@@ -50,19 +49,12 @@ fn answer_parts(alloc: Global, out: &mut String, value: &Input, word: &str, rest
 fn answer_whole(alloc: Global, out: &mut String, value: &Input, word: &str, rest: &str) -> Written {
     match word {
         "made_anew" => write_made_anew(alloc, out, value),
-        "try_clone" => write_made(out, &is_copied(alloc, value)),
+        "try_clone" => write_made(out, is_copied(alloc, value)),
         "list" => handed_back::write_list(alloc, out, value),
         "object" => handed_back::write_object(alloc, out, value),
         "convert" | "from_implicit_null" => converted::answer(alloc, out, word, value),
         "unlocated_eq" if rest.is_empty() => write_both_ways(out, value, value),
         _ => answer_two(alloc, out, value, word, rest),
-    }
-}
-
-fn write_scalar(out: &mut String, value: &Input) -> Written {
-    match value.as_scalar() {
-        Some(scalar) => write!(out, "{scalar}"),
-        None => out.push_str("None"),
     }
 }
 
@@ -78,24 +70,18 @@ fn answer_two(alloc: Global, out: &mut String, value: &Input, word: &str, rest: 
     match word {
         "==" => write_truth(out, *value == other),
         "unlocated_eq" => write_both_ways(out, value, &other),
-        "into_const" => write_resolved(alloc, out, value, &variables_of(alloc, other)?),
+        "into_const" => write_resolved(alloc, out, value, other),
         _ => out.push_str("no such call"),
     }
 }
 
 fn write_both_ways(out: &mut String, value: &Input, other: &Input) -> Written {
-    let there = value.unlocated_eq(other);
-    let back = other.unlocated_eq(value);
-    write!(out, "{there} {back}")
+    write_both(out, value.unlocated_eq(other), other.unlocated_eq(value))
 }
 
-fn write_resolved(
-    alloc: Global,
-    out: &mut String,
-    value: &Input,
-    variables: &Variables<DefaultScalarValue>,
-) -> Written {
-    write_found(out, &value.try_clone(alloc)?.into_const(alloc, variables))
+fn write_resolved(alloc: Global, out: &mut String, value: &Input, variables: Input) -> Written {
+    let variables = variables_of(alloc, variables)?;
+    write_found(out, value.try_clone(alloc)?.into_const(alloc, &variables))
 }
 
 fn write_list(alloc: Global, out: &mut String, value: &Input) -> Written {
@@ -188,7 +174,10 @@ fn made_list(alloc: Global, items: &[Spanning<Input>]) -> Result<Input, AllocErr
     for item in items {
         made.push(made_anew(alloc, &item.item)?)?;
     }
-    InputValue::list(alloc, made).map_err(|_items| AllocError)
+    match InputValue::list(alloc, made) {
+        Ok(list) => Ok(list),
+        Err(_) => Err(AllocError),
+    }
 }
 
 #[cycle(made)]
@@ -200,12 +189,15 @@ fn made_object(
     for (key, value) in fields {
         made.insert(key.item.clone()?, made_anew(alloc, &value.item)?)?;
     }
-    InputValue::object(alloc, made).map_err(|_fields| AllocError)
+    match InputValue::object(alloc, made) {
+        Ok(object) => Ok(object),
+        Err(_) => Err(AllocError),
+    }
 }
 
-// Whether no item, key or value has a place.
+/// Whether no item, key or value has a place.
 #[cycle(unlocated)]
-fn is_unlocated(value: &Input) -> bool {
+pub(crate) fn is_unlocated(value: &Input) -> bool {
     match value {
         InputValue::List(items) => are_unlocated(items),
         InputValue::Object(fields) => fields_are_unlocated(fields),
@@ -234,11 +226,4 @@ fn fields_are_unlocated(fields: &[(Spanning<String>, Spanning<Input>)]) -> bool 
         }
     }
     true
-}
-
-/// The input values that the conversions of a text make.
-pub(crate) fn converted(alloc: Global, text: &str) -> Result<(Input, Input), AllocError> {
-    let owned = String::from_str(alloc, text)?.into_input_value(alloc)?;
-    let lent = CowStr::Borrowed(text).into_input_value(alloc)?;
-    Ok((owned, lent))
 }

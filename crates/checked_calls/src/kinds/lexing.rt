@@ -15,16 +15,16 @@ pub fn write_left(out: &mut String, lexer: &mut Lexer<'_>, len: usize) -> Writte
         let Some(item) = lexer.next() else {
             return out.push_str("None\n");
         };
-        write_item(out, &item)?;
+        write_item(out, item)?;
         out.push('\n')?;
     }
     Ok(())
 }
 
-fn write_item(out: &mut String, item: &LexerResult<'_>) -> Written {
+fn write_item(out: &mut String, item: LexerResult<'_>) -> Written {
     match item {
-        Ok(token) => write_token(out, token),
-        Err(LexFailure::Fault(fault)) => write_fault(out, fault),
+        Ok(token) => write_token(out, &token),
+        Err(LexFailure::Fault(fault)) => write_fault(out, &fault),
         Err(LexFailure::Memory) => out.push_str("Memory"),
     }
 }

@@ -1,11 +1,9 @@
 //! Type literals and value literals: the lines of what is read, or the refusal, and what `peek` shows then.
 
 use crate::kinds::tree::{write_type, write_value};
+use crate::parsing::{Input, type_in, value_in};
 use crate::write::{Written, write_refusal, write_token};
-use juniper::{
-    DefaultScalarValue, InputValue, Lexer, ParseFailure, ParseResult, Parser, Type, parse_type,
-    parse_value_literal,
-};
+use juniper::{Lexer, ParseFailure, ParseResult, Parser, Type};
 use std::alloc::Global;
 
 /// `type`: what `parse_type` returns.
@@ -13,16 +11,16 @@ pub fn write_type_in(alloc: Global, out: &mut String, text: &str) -> Written {
     let mut lexer = Lexer::new(alloc, text);
     match Parser::new(&mut lexer) {
         Ok(mut parser) => {
-            write_type_read(out, &parse_type(&mut parser))?;
+            write_type_read(out, type_in(&mut parser))?;
             write_next(out, &parser)
         }
-        Err(failure) => write_refusal(out, &ParseFailure::from(failure)),
+        Err(failure) => write_refusal(out, ParseFailure::from(failure)),
     }
 }
 
-fn write_type_read(out: &mut String, literal: &ParseResult<Type<&str>>) -> Written {
+fn write_type_read(out: &mut String, literal: ParseResult<Type<&str>>) -> Written {
     match literal {
-        Ok(literal) => write_type(out, literal),
+        Ok(literal) => write_type(out, &literal),
         Err(failure) => write_refusal(out, failure),
     }
 }
@@ -32,20 +30,16 @@ pub fn write_value_in(alloc: Global, out: &mut String, text: &str, is_const: boo
     let mut lexer = Lexer::new(alloc, text);
     match Parser::new(&mut lexer) {
         Ok(mut parser) => {
-            write_value_read(alloc, out, &parse_value_literal(&mut parser, is_const))?;
+            write_value_read(alloc, out, value_in(&mut parser, is_const))?;
             write_next(out, &parser)
         }
-        Err(failure) => write_refusal(out, &ParseFailure::from(failure)),
+        Err(failure) => write_refusal(out, ParseFailure::from(failure)),
     }
 }
 
-fn write_value_read(
-    alloc: Global,
-    out: &mut String,
-    literal: &ParseResult<InputValue<DefaultScalarValue>>,
-) -> Written {
+fn write_value_read(alloc: Global, out: &mut String, literal: ParseResult<Input>) -> Written {
     match literal {
-        Ok(literal) => write_value(alloc, out, literal),
+        Ok(literal) => write_value(alloc, out, &literal),
         Err(failure) => write_refusal(out, failure),
     }
 }

@@ -27,7 +27,7 @@ pub fn answer(alloc: Global, out: &mut String, text: &str, call: &str) -> Writte
 pub fn write_arguments_of(alloc: Global, out: &mut String, text: &str) -> Written {
     let (name, source) = word_of(text);
     match name {
-        "RefuseAll" => write_told(out, &documents_without_scalars(alloc, source)),
+        "RefuseAll" => write_told(out, documents_without_scalars(alloc, source)),
         "Thousandths" => write_arguments_at::<Thousandths>(alloc, out, source),
         "OddError" => write_arguments_at::<OddError>(alloc, out, source),
         "Literal" => write_arguments_at::<Literal>(alloc, out, source),
@@ -36,27 +36,26 @@ pub fn write_arguments_of(alloc: Global, out: &mut String, text: &str) -> Writte
 }
 
 fn write_arguments_at<S: ScalarValue>(alloc: Global, out: &mut String, source: &str) -> Written {
-    write_told::<S>(out, &parse_document_source(alloc, source))
+    write_told::<S>(out, parse_document_source(alloc, source))
 }
 
 fn write_told<S: ScalarValue>(
     out: &mut String,
-    parsed: &UnlocatedParseResult<OwnedDocument<'_, S>>,
+    parsed: UnlocatedParseResult<OwnedDocument<'_, S>>,
 ) -> Written {
     match parsed {
-        Ok(document) => write_definitions(out, document),
+        Ok(document) => write_definitions(out, &document),
         Err(failure) => write_refusal(out, failure),
     }
 }
 
 fn write_definitions<S: ScalarValue>(out: &mut String, document: &[Definition<'_, S>]) -> Written {
     for definition in document {
-        match definition {
-            Definition::Operation(operation) => {
-                write_fields(out, &operation.item.selection_set)?
-            }
-            Definition::Fragment(fragment) => write_fields(out, &fragment.item.selection_set)?,
-        }
+        let selections = match definition {
+            Definition::Operation(operation) => &operation.item.selection_set,
+            Definition::Fragment(fragment) => &fragment.item.selection_set,
+        };
+        write_fields(out, selections)?;
     }
     Ok(())
 }

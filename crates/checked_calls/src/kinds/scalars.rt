@@ -1,15 +1,16 @@
 //! Scalars.
 
-use crate::kinds::input_values::converted;
 use crate::kinds::word_of;
 use crate::write::{
-    Written, write_error, write_found, write_made, write_optional_text, write_truth,
+    Written, write_error, write_found, write_made, write_optional, write_optional_text, write_truth,
 };
 use juniper::{
-    DefaultScalarValue, InputValue, ParseError, ParseScalarResult, ParseScalarValue, ReadFailure,
-    Scalar, ScalarToken, ScalarValue, ToScalarValue, WrongInputScalarTypeError, scalar_from_str,
+    DefaultScalarValue, InputValue, IntoInputValue, ParseError, ParseScalarResult,
+    ParseScalarValue, ReadFailure, Scalar, ScalarToken, ScalarValue, ToScalarValue,
+    WrongInputScalarTypeError, scalar_from_str,
 };
 use std::alloc::{AllocError, Global};
+use std::borrow::CowStr;
 
 /// `scalar`: a call on the scalar that a token is read as. The row's text is the token's kind, a space and its text. After
 /// `text` a text stands that is no token: the call is on it, or on the scalar that is made of it.
@@ -18,10 +19,9 @@ pub fn answer<S: ScalarValue>(alloc: Global, out: &mut String, text: &str, call:
     if kind == "text" {
         return answer_text::<S>(alloc, out, text, call);
     }
-    let scalar: ParseScalarResult<S> = read(alloc, kind, text);
-    match &scalar {
-        Ok(scalar) => answer_call(alloc, out, scalar, call),
-        Err(ReadFailure::Refused(error)) => write_refused(out, error, call),
+    match read::<S>(alloc, kind, text) {
+        Ok(scalar) => answer_call(alloc, out, &scalar, call),
+        Err(ReadFailure::Refused(error)) => write_refused(out, &error, call),
         Err(ReadFailure::Memory) if call == "from_str" => out.push_str("Memory"),
         Err(ReadFailure::Memory) => Err(AllocError),
     }
@@ -29,9 +29,9 @@ pub fn answer<S: ScalarValue>(alloc: Global, out: &mut String, text: &str, call:
 
 fn answer_text<S: ScalarValue>(alloc: Global, out: &mut String, text: &str, call: &str) -> Written {
     match call {
-        "scalar_from_str" => write_made(out, &scalar_from_str::<S>(alloc, text)),
+        "scalar_from_str" => write_made(out, scalar_from_str::<S>(alloc, text)),
         "to_scalar_value" => {
-            write_made(out, &scalar_of::<S>(alloc, &String::from_str(alloc, text)?))
+            write_made(out, scalar_of::<S>(alloc, &String::from_str(alloc, text)?))
         }
         _ => answer_call(alloc, out, &scalar_from_str::<S>(alloc, text)?, call),
     }
@@ -64,8 +64,8 @@ fn answer_call<S: ScalarValue>(alloc: Global, out: &mut String, scalar: &S, call
     let (word, rest) = word_of(call);
     match word {
         "from_str" => write!(out, "{scalar}"),
-        "try_to_int" => write_int(out, scalar.try_to_int()),
-        "try_to_bool" => write_bool(out, scalar.try_to_bool()),
+        "try_to_int" => write_optional(out, scalar.try_to_int()),
+        "try_to_bool" => write_optional(out, scalar.try_to_bool()),
         "try_as_str" => write_optional_text(out, scalar.try_as_str()),
         "try_to" => write_lent(out, scalar),
         "wrong_type" => write_wrong_type(out, scalar, rest),
@@ -82,10 +82,10 @@ fn answer_owned<S: ScalarValue>(
     rest: &str,
 ) -> Written {
     match word {
-        "try_to_string" => write_found(out, &scalar.try_to_string(alloc)),
-        "try_into_string" => write_found(out, &scalar.try_clone(alloc)?.try_into_string(alloc)),
-        "try_clone" => write_made(out, &is_copied(alloc, scalar)),
-        "into_another" => write_made(out, &another(alloc, scalar.try_clone(alloc)?)),
+        "try_to_string" => write_found(out, scalar.try_to_string(alloc)),
+        "try_into_string" => write_found(out, scalar.try_clone(alloc)?.try_into_string(alloc)),
+        "try_clone" => write_made(out, is_copied(alloc, scalar)),
+        "into_another" => write_another(alloc, out, scalar.try_clone(alloc)?),
         "made" => write_all_made(alloc, out, rest),
         _ => out.push_str("no such call"),
     }
@@ -95,22 +95,8 @@ fn is_copied<S: ScalarValue>(alloc: Global, scalar: &S) -> Result<bool, AllocErr
     Ok(scalar.try_clone(alloc)? == *scalar)
 }
 
-fn another<S: ScalarValue>(alloc: Global, scalar: S) -> Result<DefaultScalarValue, AllocError> {
-    scalar.into_another(alloc)
-}
-
-fn write_int(out: &mut String, number: Option<i32>) -> Written {
-    match number {
-        Some(number) => write!(out, "{number}"),
-        None => out.push_str("None"),
-    }
-}
-
-fn write_bool(out: &mut String, truth: Option<bool>) -> Written {
-    match truth {
-        Some(truth) => write_truth(out, truth),
-        None => out.push_str("None"),
-    }
+fn write_another<S: ScalarValue>(alloc: Global, out: &mut String, scalar: S) -> Written {
+    write_made::<DefaultScalarValue>(out, scalar.into_another(alloc))
 }
 
 fn write_wrong_type<S: ScalarValue>(out: &mut String, scalar: &S, type_name: &str) -> Written {
@@ -135,10 +121,12 @@ fn write_lent<S: ScalarValue>(out: &mut String, scalar: &S) -> Written {
 
 // The scalars that are made of a text, of an integer and of a boolean, and the input values of a text.
 fn write_all_made(alloc: Global, out: &mut String, text: &str) -> Written {
-    write_made(out, &scalar_from_str::<DefaultScalarValue>(alloc, text))?;
+    write_made(out, scalar_from_str::<DefaultScalarValue>(alloc, text))?;
     out.push(' ')?;
-    let owned = String::from_str(alloc, text)?;
-    write_made(out, &scalar_of::<DefaultScalarValue>(alloc, &owned))?;
+    write_made(
+        out,
+        scalar_of::<DefaultScalarValue>(alloc, &String::from_str(alloc, text)?),
+    )?;
     out.push(' ')?;
     write_constants(alloc, out)?;
     write_truth(out, is_converted(alloc, text)?)
@@ -146,8 +134,12 @@ fn write_all_made(alloc: Global, out: &mut String, text: &str) -> Written {
 
 // Whether the input values of a text are the one of its scalar.
 fn is_converted(alloc: Global, text: &str) -> Result<bool, AllocError> {
-    let (one, other) = converted(alloc, text)?;
-    Ok(one == other && one == InputValue::scalar(scalar_from_str(alloc, text)?))
+    let owned: InputValue<DefaultScalarValue> = String::from_str(alloc, text)?.into_input_value(
+        alloc,
+    )?;
+    let lent = CowStr::Borrowed(text).into_input_value(alloc)?;
+    let scalar = InputValue::scalar(scalar_from_str(alloc, text)?);
+    Ok(owned == lent && owned == scalar)
 }
 
 fn write_constants(alloc: Global, out: &mut String) -> Written {

@@ -1,7 +1,7 @@
 //! The lines of nodes: a span, the kind or the scalar, and what names the node, with its span where that is another one.
 
 use crate::write::{Written, write_span};
-use juniper::{DefaultScalarValue, Definition, InputValue, Span, Spanning, Type};
+use juniper::{DefaultScalarValue, Definition, InputValue, OwnedDocument, Span, Spanning, Type};
 use juniper_nodes::{Label, Node, document_nodes, push_definition, value_nodes};
 use std::alloc::Global;
 
@@ -11,9 +11,9 @@ type Scalars = DefaultScalarValue;
 pub fn write_document(
     alloc: Global,
     out: &mut String,
-    document: &[Definition<'_, Scalars>],
+    document: OwnedDocument<'_, Scalars>,
 ) -> Written {
-    write_nodes(out, &document_nodes(alloc, document)?)
+    write_nodes(out, &document_nodes(alloc, &document)?)
 }
 
 /// Writes the lines of a value.

@@ -1,7 +1,7 @@
 //! Type literals that are made by their calls.
 
 use crate::kinds::word_of;
-use crate::write::{Written, write_optional_text};
+use crate::write::{Written, write_optional_text, write_truth};
 use juniper::{Type, TypeModifier};
 use std::alloc::{AllocError, Global};
 
@@ -14,7 +14,10 @@ fn made(alloc: Global, text: &str) -> Result<Type<String>, AllocError> {
             None if word == "list" => literal.wrap_list(alloc, None),
             None => literal.wrap_non_null(alloc),
         };
-        literal = wrapped.map_err(|_literal| AllocError)?;
+        literal = match wrapped {
+            Ok(literal) => literal,
+            Err(_) => return Err(AllocError),
+        };
     }
     Ok(literal)
 }
@@ -25,6 +28,16 @@ pub fn answer(alloc: Global, out: &mut String, text: &str, call: &str) -> Writte
     let literal = made(alloc, text)?;
     let (word, rest) = word_of(call);
     match word {
+        "==" => write_truth(out, literal == made(alloc, rest)?),
+        "wrap_list" => write_wrapped(out, literal.wrap_list(alloc, Some(3))),
+        "wrap_non_null" => write_wrapped(out, literal.wrap_non_null(alloc)),
+        _ => answer_lent(out, &literal, word),
+    }
+}
+
+// A call that takes the type by reference.
+fn answer_lent(out: &mut String, literal: &Type<String>, word: &str) -> Written {
+    match word {
         "display" => write!(out, "{literal}"),
         "name" => write_optional_text(out, literal.name()),
         "innermost_name" => out.push_str(literal.innermost_name()),
@@ -33,26 +46,14 @@ pub fn answer(alloc: Global, out: &mut String, text: &str, call: &str) -> Writte
             None => out.push_str("None"),
         },
         "modifiers" => write_modifiers(out, literal.modifiers()),
-        "is_list" => {
-            let is_list = literal.is_list();
-            write!(out, "{is_list}")
-        }
-        "is_non_null" => {
-            let is_non_null = literal.is_non_null();
-            write!(out, "{is_non_null}")
-        }
-        "==" => {
-            let is_equal = literal == made(alloc, rest)?;
-            write!(out, "{is_equal}")
-        }
-        "wrap_list" => write_wrapped(out, &literal.wrap_list(alloc, Some(3))),
-        "wrap_non_null" => write_wrapped(out, &literal.wrap_non_null(alloc)),
+        "is_list" => write_truth(out, literal.is_list()),
+        "is_non_null" => write_truth(out, literal.is_non_null()),
         _ => out.push_str("no such call"),
     }
 }
 
 // Writes the type, or after `Memory` the one that was handed back.
-fn write_wrapped(out: &mut String, wrapped: &Result<Type<String>, Type<String>>) -> Written {
+fn write_wrapped(out: &mut String, wrapped: Result<Type<String>, Type<String>>) -> Written {
     match wrapped {
         Ok(literal) => write!(out, "{literal}"),
         Err(literal) => write!(out, "Memory {literal}"),
