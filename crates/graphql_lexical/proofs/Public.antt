@@ -3,7 +3,7 @@ pub use Rattle.graphql_lexical.proofs.Answers.{finds_what_reads, misses_what_fai
 pub use Rattle.graphql_lexical.proofs.CanonicalSizes.{has_canonical_sizes}
 pub use Rattle.graphql_lexical.proofs.Cuts.{cut_front, each_stands, leads_size, one_cut_or_break, reads_size, stands_size}
 pub use Rattle.graphql_lexical.proofs.DeepTokens.{closed_push, crossed, deep_count, one_deep, opened_push, opening_goes_on, opening_no_end, opens, take_next}
-pub use Rattle.graphql_lexical.proofs.EachKind.{other_kind}
+pub use Rattle.graphql_lexical.proofs.EachKind.{kind_is, other_kind}
 pub use Rattle.graphql_lexical.proofs.Escapes.{counted_within, u_short}
 pub use Rattle.graphql_lexical.proofs.Ignored.{ignored_is_longest}
 pub use Rattle.graphql_lexical.proofs.Joints.{few_tokens}

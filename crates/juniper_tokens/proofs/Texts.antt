@@ -10,7 +10,10 @@ use Rattle.std.specs.declared.string.String.{String}
 use Rattle.std.proofs.lemmas.Bool.Decides.{same_from_decides}
 use lib.Utf8.{encode, encodes}
 use Rattle.graphql_lexical.specs.declared.kind.Kind.{Kind}
-use Rattle.graphql_lexical.specs.Kinds.{UnknownEscapeSequence, spelling, fixed_text}
+use Rattle.graphql_lexical.specs.Kinds.{UnknownEscapeSequence, same_kind, spelling, fixed_text}
+use Rattle.graphql_lexical.specs.declared.kind.Kind.TheVariants.{Name}
+use Rattle.graphql_lexical.specs.device.Whole.{text_of}
+use Rattle.graphql_lexical.proofs.Public.{kind_is}
 use Rattle.graphql_lexical.specs.Tokens.{mark}
 use Rattle.graphql_lexical.specs.Display.{quoted, escape, escaped, error_text as lexical_text}
 use Rattle.juniper_tokens.specs.Errors.{error_text, UnexpectedToken}
@@ -70,6 +73,14 @@ pub chars-from_bytes : {Z : Type 0} (s : String Z) (cs : List ℕ) → string_by
 chars-from_bytes s cs e = encodes_same _ _ (encodes-chars _ (IsUtf8-string_bytes s) ∙ e)
 
 -- of a kind that leaves the text open
+-- a Name's text is the whole of it
+pub whole_name : (kind : Kind) (text : List ℕ) → same_kind kind Name ≡ true → text ≡ text_of kind text
+whole_name kind text e = ap (λ (k : Kind). text_of k text) (sym (kind_is kind Name e))
+
+-- a Name has a text
+pub name_has_text : (kind : Kind) → same_kind kind Name ≡ true → has_text kind ≡ true
+name_has_text kind e = ap has_text (kind_is kind Name e)
+
 pub open_text : (kind : Kind) (text : List ℕ) → has_text kind ≡ true → text ≡ kind_text kind text
 open_text kind text e = by_spelling (fixed_text (spelling kind)) e
   where

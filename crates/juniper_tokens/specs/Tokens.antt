@@ -72,8 +72,12 @@ shown_scalar t = shown (scalar_kind t) (scalar_text t)
 abbrev pub view_token : Spanning Token → Lexeme
 view_token t = record { kind = token_kind t.item; text = token_text t.item; span = view_span t.span }
 
+-- a Name with its span, whose characters are found so
+abbrev pub name_of : {W : Type 0} → (W → List ℕ) → Spanning W → Lexeme
+name_of characters s = record { kind = kinds.Name; text = characters s.item; span = view_span s.span }
+
 abbrev pub view_name : Spanning (Bor (List ℕ)) → Lexeme
-view_name s = record { kind = kinds.Name; text = chars s.item.now; span = view_span s.span }
+view_name = name_of (λ s. chars s.now)
 
 abbrev pub same_text : List ℕ → List ℕ → Bool
 same_text = pointwise nat_eq

@@ -3,7 +3,7 @@ ghost use Rattle.std.specs.Prelude.{◌≡◌, ◌<◌, drop, get_or, false, tru
 ghost use Rattle.std.specs.Global.{Global as Allocator};
 ghost use Rattle.std.specs.Str.{chars};
 ghost use Rattle.graphql_lexical.specs.Cutting.{Lexeme};
-ghost use Rattle.graphql_lexical.specs.declared.kind.Kind.TheVariants.{EndOfFile};
+ghost use Rattle.graphql_lexical.specs.declared.kind.Kind.TheVariants.{EndOfFile, Name};
 ghost use Rattle.graphql_lexical.specs.Kinds.{same_kind};
 ghost use Rattle.juniper_tokens.specs.Cursor.{Fails, Gives, RefusesEnd, OnMemory, Unmoved, EndsOnce, first_of, kind_at, has_text, next_at, refused_at, expect_name_at};
 ghost use Rattle.juniper_tokens.specs.Taking.{left, next_taken, last_end, GoesOn};
@@ -13,11 +13,12 @@ ghost use Rattle.juniper_tokens.specs.device.Ranges.{range_lexemes, AreLeft};
 ghost use Rattle.juniper_tokens.specs.device.LineSteps.{IsLine};
 ghost use Rattle.juniper_tokens.specs.LineTables.{IsOnLine};
 ghost use Rattle.juniper_tokens.specs.declared.token_range.TokenRange.{TokenRange};
-ghost use Rattle.juniper_tokens.specs.Tokens.{view_token, view_name};
+ghost use Rattle.juniper_tokens.specs.Tokens.{name_of, view_token};
 
 use crate::error::{ParseError, ParseFailure, ParseResult};
 use crate::line::{Line, NearLines, place_on};
 use crate::position::SourcePosition;
+use crate::source_text::SourceText;
 use crate::span::{Span, Spanning};
 use crate::token::Token;
 use crate::token_range::TokenRange;
@@ -30,9 +31,9 @@ use std::marker::Model;
 /// Holds no current token: a token's span and text are found on request. The last token, and no other, is the end,
 /// which is never taken. `Parser::take_until` makes the parser follow.
 #[derive(Drop)]
-pub struct Cursor<'p, 'a> {
+pub struct Cursor<'p, W: SourceText> {
     alloc: Global,
-    source: &'a str,
+    source: W,
     ranges: &'p [TokenRange],
     // The characters at which the lines of the source begin.
     starts: &'p [usize],
@@ -42,33 +43,32 @@ pub struct Cursor<'p, 'a> {
     lines: NearLines,
 }
 
-impl<'p, 'a> Model for Cursor<'p, 'a> {
-    ghost use Rattle.std.specs.Str.{chars};
+impl<'p, W: SourceText> Model for Cursor<'p, W> {
     ghost use Rattle.juniper_tokens.specs.Taking.{Taking};
     ghost use Rattle.juniper_tokens.specs.device.Ranges.{range_lexemes, StandsOn};
 
     ghost Value = { Taking };
 
-    ghost view = { λ c. record { tokens = range_lexemes (chars c.source.now) c.ranges.now; taken = c.taken } };
+    ghost view = { λ c. record { tokens = range_lexemes (W.characters c.source) c.ranges.now; taken = c.taken } };
 
-    ghost invariant = { λ c. StandsOn (chars c.source.now) c.ranges.now c.starts.now c.taken c.lines };
+    ghost invariant = { λ c. StandsOn (W.characters c.source) c.ranges.now c.starts.now c.taken c.lines };
 }
 
-impl<'p, 'a> Cursor<'p, 'a> {
+impl<'p, W: SourceText> Cursor<'p, W> {
     // A cursor over what is left of these ranges once so many have been taken. `starts` has the characters at which the
     // source's lines begin.
     pub(crate) fn from_ranges(
         alloc: Global,
-        source: &'a str,
+        source: W,
         ranges: &'p [TokenRange],
         starts: &'p [usize],
         taken: usize,
         line: Line,
     ) -> Self
-        requires left { AreLeft (chars source.now) ranges.now starts.now taken }
+        requires left { AreLeft (W.characters source) ranges.now starts.now taken }
         requires line { IsLine starts.now line }
         requires on { (r : TokenRange) → IsOnLine starts.now (get_or ranges.now taken r).start.characters line.number line.start }
-        ensures { result ≡ record { tokens = range_lexemes (chars source.now) ranges.now; taken = taken } }
+        ensures { result ≡ record { tokens = range_lexemes (W.characters source) ranges.now; taken = taken } }
     {
         Cursor {
             alloc,
@@ -109,10 +109,20 @@ impl<'p, 'a> Cursor<'p, 'a> {
 
     /// The text of the next token: for a String or block string what is between its quotes, as it is written. For
     /// punctuators and the end, the text is unspecified.
-    pub fn text(&self) -> &'a str
+    pub fn text(&self) -> &str
         ensures { IsTrue (has_text (kind_at (left self.now))) → chars result.now ≡ (first_of (left self.now)).text }
     {
-        self.ranges[self.taken].text(self.source)
+        self.ranges[self.taken].text(self.source.as_str())
+    }
+
+    /// The text of the next token, which must be a Name, as a part of the source.
+    #[inline(always)]
+    pub fn name(&self) -> W
+        requires { same_kind (kind_at (left self.now)) Name ≡ true }
+        ensures { W.characters result ≡ (first_of (left self.now)).text }
+    {
+        let range = self.ranges[self.taken];
+        self.source.part(range.start, range.end)
     }
 
     /// The position at which the next token begins, for a later `span_from`.
@@ -152,14 +162,14 @@ impl<'p, 'a> Cursor<'p, 'a> {
     pub fn span(&self) -> Span
         ensures { view_span result ≡ (first_of (left self.now)).span }
     {
-        self.ranges[self.taken].span(self.source, self.starts, self.lines.line)
+        self.ranges[self.taken].span(self.source.as_str(), self.starts, self.lines.line)
     }
 
-    /// The next token, with its span.
-    pub fn token(&self) -> Spanning<Token<'a>>
+    // The next token, with its span.
+    fn located(&self) -> Spanning<Token<'_>>
         ensures { view_token result ≡ first_of (left self.now) }
     {
-        self.ranges[self.taken].located_at(self.source, self.span())
+        self.ranges[self.taken].located_at(self.source.as_str(), self.span())
     }
 
     /// Takes the next token, which must not be the end.
@@ -187,22 +197,6 @@ impl<'p, 'a> Cursor<'p, 'a> {
         Err(ParseFailure::Refused(Spanning::new(self.span(), ParseError::UnexpectedEndOfFile)))
     }
 
-    /// Takes the next token. At the end returns `UnexpectedEndOfFile`, and nothing is taken. Takes no memory.
-    #[tactic(auto, using(crate::proofs::Taking::stays))]
-    pub fn next_token(&mut self) -> ParseResult<Token<'a>>
-        ensures gives { Gives view_token result (left self.new) (next_at (left self.old)) }
-        ensures shorter { OnOk result (length (left self.new) < length (left self.old)) }
-        ensures memory { OnMemory result ⊥ }
-        ensures on { GoesOn self.old self.new }
-    {
-        if self.kind() == Kind::EndOfFile {
-            return self.refuse_end();
-        }
-        let token = self.token();
-        self.advance();
-        Ok(token)
-    }
-
     /// Takes the next token, and returns the error that it is unexpected. At the end returns `UnexpectedEndOfFile`, and
     /// nothing is taken. If there is no memory for the error's text, nothing changes.
     #[inline(always)]
@@ -227,11 +221,11 @@ impl<'p, 'a> Cursor<'p, 'a> {
             let end = Spanning::new(self.span(), ParseError::UnexpectedEndOfFile);
             return ParseFailure::Refused(end);
         }
-        let token = self.token();
-        match ParseError::unexpected_token(self.alloc, token.item) {
+        let span = self.span();
+        match ParseError::unexpected_token(self.alloc, self.located().item) {
             Ok(error) => {
                 self.advance();
-                ParseFailure::Refused(Spanning::new(token.span, error))
+                ParseFailure::Refused(Spanning::new(span, error))
             }
             Err(_) => ParseFailure::Memory,
         }
@@ -240,8 +234,8 @@ impl<'p, 'a> Cursor<'p, 'a> {
     /// Takes the next token if it is a Name, and returns its text and its span. Otherwise returns the error of
     /// `refuse`.
     #[inline(always)]
-    pub fn expect_name(&mut self) -> ParseResult<&'a str>
-        ensures gives { Gives view_name result (left self.new) (expect_name_at (left self.old)) }
+    pub fn expect_name(&mut self) -> ParseResult<W>
+        ensures gives { Gives (name_of W.characters) result (left self.new) (expect_name_at (left self.old)) }
         ensures shorter { OnOk result (length (left self.new) < length (left self.old)) }
         ensures memory { OnMemory result (Unmoved (left self.old) (left self.new) (expect_name_at (left self.old))) }
         ensures on { GoesOn self.old self.new }
@@ -250,9 +244,34 @@ impl<'p, 'a> Cursor<'p, 'a> {
         if self.kind() != Kind::Name {
             return self.refuse();
         }
-        let text = self.text();
+        let name = self.name();
         let span = self.span();
         self.advance();
-        Ok(Spanning::new(span, text))
+        Ok(Spanning::new(span, name))
+    }
+}
+
+impl<'p, 'a> Cursor<'p, &'a str> {
+    /// The next token, with its span.
+    pub fn token(&self) -> Spanning<Token<'a>>
+        ensures { view_token result ≡ first_of (left self.now) }
+    {
+        self.ranges[self.taken].located_at(self.source, self.span())
+    }
+
+    /// Takes the next token. At the end returns `UnexpectedEndOfFile`, and nothing is taken. Takes no memory.
+    #[tactic(auto, using(crate::proofs::Taking::stays))]
+    pub fn next_token(&mut self) -> ParseResult<Token<'a>>
+        ensures gives { Gives view_token result (left self.new) (next_at (left self.old)) }
+        ensures shorter { OnOk result (length (left self.new) < length (left self.old)) }
+        ensures memory { OnMemory result ⊥ }
+        ensures on { GoesOn self.old self.new }
+    {
+        if self.kind() == Kind::EndOfFile {
+            return self.refuse_end();
+        }
+        let token = self.token();
+        self.advance();
+        Ok(token)
     }
 }

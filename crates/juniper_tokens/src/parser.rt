@@ -177,7 +177,7 @@ impl<'a> Parser<'a> {
 
     /// A cursor over the tokens that are left. It makes a token's text and positions on request. The parser stays as it
     /// is, until `take_until` makes it follow.
-    pub fn cursor(&self) -> Cursor<'_, 'a>
+    pub fn cursor(&self) -> Cursor<'_, &'a str>
         ensures { left result ≡ self.now }
     {
         let starts = self.lines.starts();

@@ -1,5 +1,4 @@
 use Rattle.std.proofs.Common.{ap, ◌∙◌}
-use Rattle.std.specs.Str.{chars}
 use Rattle.graphql_lexical.specs.Cutting.{Lexeme}
 use Rattle.juniper_tokens.proofs.Texts.{open_text}
 use Rattle.juniper_tokens.proofs.Taking.{first_is_range, seen_first}
@@ -7,15 +6,16 @@ use Rattle.juniper_tokens.specs.Cursor.{has_text}
 use Rattle.juniper_tokens.proofs.cursor.Cursor.text.Goals as goal
 
 pub text-requires : goal.text-requires
-text-requires c =
+text-requires g c =
     let here = c.self.inside in
-    first_is_range (chars here.source.now) here.ranges.now here.starts.now here.taken c.self.invariant.left c.args.self.now
-    c.self.view_is _
+    rw c.as_str.ensures (first_is_range (g.W.SourceText.characters here.source) here.ranges.now here.starts.now here.taken
+    c.self.invariant.left c.args.self.now c.self.view_is _)
 
 pub returns : goal.returns
-returns c open_kind =
+returns g c open_kind =
     let here = c.self.inside in
-    let first = seen_first (chars here.source.now) here.ranges.now here.starts.now here.taken c.self.invariant.left c.args.self.now
-    c.self.view_is _ in
+    let first = seen_first (g.W.SourceText.characters here.source) here.ranges.now here.starts.now here.taken
+    c.self.invariant.left c.args.self.now c.self.view_is _ in
     c.text.ensures
-    ∙ (open_text _ _ (ap (λ (t : Lexeme). has_text t.kind) first ∙ open_kind) ∙ ap (λ (t : Lexeme). t.text) first)
+    ∙ rw c.as_str.ensures
+    (open_text _ _ (ap (λ (t : Lexeme). has_text t.kind) first ∙ open_kind) ∙ ap (λ (t : Lexeme). t.text) first)

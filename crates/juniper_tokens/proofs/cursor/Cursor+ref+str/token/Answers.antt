@@ -2,7 +2,7 @@ use Rattle.std.proofs.Common.{◌∙◌, ap, sym}
 use Rattle.std.specs.Str.{chars}
 use Rattle.graphql_lexical.specs.Cutting.{Lexeme}
 use Rattle.juniper_tokens.proofs.Taking.{first_is_range, seen_first}
-use Rattle.juniper_tokens.proofs.cursor.Cursor.token.Goals as goal
+use Rattle.juniper_tokens.proofs.cursor.Cursor+ref+str.token.Goals as goal
 
 pub located_at-requires-clause-range : goal.located_at-requires-clause-range
 located_at-requires-clause-range c =
