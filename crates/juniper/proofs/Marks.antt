@@ -10,9 +10,12 @@ use Rattle.graphql_lexical.proofs.Public.{last_next}
 use Rattle.juniper_tokens.specs.declared.error.ParseFailure.{ParseFailure}
 use Rattle.juniper_tokens.specs.declared.error.ParseFailure.TheVariants as failures
 use Rattle.juniper_tokens.specs.Errors.{view_fault}
-use Rattle.juniper_tokens.specs.Cursor.{Read, Gives, ◌>>=◌, first_of}
+use Rattle.juniper_tokens.specs.Cursor.{Read, ◌>>=◌, first_of}
+use Rattle.juniper_tokens.specs.declared.error.ParseError.{ParseError}
+use Rattle.juniper_tokens.specs.declared.span.Spanning.{Spanning}
 use Rattle.juniper_tokens.specs.Taking.{Taking, left, last_end, next_taken, GoesOn}
 use Rattle.juniper_tokens.proofs.Public.{more_taken}
+use Rattle.juniper.specs.Building.{Builds}
 use Rattle.juniper.specs.device.Steps.{at_span}
 use Rattle.juniper.proofs.Cursors.{ok_is}
 
@@ -86,18 +89,24 @@ pub on_ok : {X P Q : Type 0} (result : Result X ParseFailure) → (P → Q) → 
 on_ok (Ok x) f h = f h
 on_ok (Err e) f h = h
 
--- The same of what another function read from a mark on, and returns.
-module _ {X A : Type 0} (view : X → A) (old new : Taking) (start : Place)
-    (place : start ≡ (first_of (left old)).span.start) where
-  refused : (e : _) (r : Read (Span → A)) → at_span start (last_end new) r ≡ Err (view_fault e, left new)
-      → spanning (left old) r ≡ Err (view_fault e, left new)
-  refused e (Ok y) h = absurd (cc h)
-  refused e (Err y) h = h
+-- What another function read from a mark on, and refused.
+refused : {A : Type 0} (old new : Taking) (start : Place) (e : Spanning ParseError) (r : Read (Span → A))
+    → at_span start (last_end new) r ≡ Err (view_fault e, left new) → spanning (left old) r ≡ Err (view_fault e, left new)
+refused old new start e (Ok y) h = absurd (cc h)
+refused old new start e (Err y) h = h
 
-  pub marked_result : (r : Read (Span → A)) (result : Result X ParseFailure) → OnOk result (GoesOn old new)
+-- What another function built from a mark on, and returns.
+module _ {X A : Type 0} (built : X → A → Type 0) (old new : Taking) (start : Place)
+    (place : start ≡ (first_of (left old)).span.start) where
+  pub marked_builds : (r : Read (Span → A)) (result : Result X ParseFailure) → OnOk result (GoesOn old new)
       → OnOk result (length (left new) < length (left old)) → OnOk result (new.taken < length new.tokens)
-      → Gives view result (left new) (at_span start (last_end new) r)
-      → Gives view result (left new) (spanning (left old) r)
-  marked_result r (Ok x) on shorter within gives = marked old new on shorter within r (view x) start place gives
-  marked_result r (Err (failures.Refused e)) on shorter within gives = refused e r gives
-  marked_result r (Err failures.Memory) on shorter within gives = tt
+      → Builds built result (left new) (at_span start (last_end new) r)
+      → Builds built result (left new) (spanning (left old) r)
+  marked_builds r (Ok x) on shorter within made = record {
+    part = made.part;
+    reads = marked old new on shorter within r made.part start place made.reads;
+    is_built = made.is_built;
+  }
+  marked_builds r (Err (failures.Refused e)) on shorter within gives =
+      refused old new start e r gives
+  marked_builds r (Err failures.Memory) on shorter within gives = tt

@@ -1,14 +1,10 @@
 -- The view of a selection, by its variant.
-use Rattle.std.proofs.Common.{◌≡◌, List, [], ◌∷◌, map, Option, Some, None, Result, Ok, Err, refl, sym, ap, ◌∙◌}
+use Rattle.std.proofs.Common.{◌≡◌, List, [], ◌∷◌, map, Option, Some, None, refl, sym, ap, ◌∙◌}
 use Rattle.std.specs.Prelude.{option_map}
 use Rattle.std.specs.Global.{Vec}
 use Rattle.graphql_grammar.specs.Tree as tree
 use Rattle.graphql_grammar.specs.Tree.{selections_of}
 use Rattle.graphql_grammar.specs.device.Productions.{optional_of}
-use Rattle.graphql_lexical.specs.Cutting.{Lexeme}
-use Rattle.juniper_tokens.specs.declared.error.ParseFailure.{ParseFailure}
-use Rattle.juniper_tokens.specs.declared.error.ParseFailure.TheVariants as failures
-use Rattle.juniper_tokens.specs.Cursor.{Read, Gives, ◌>>=◌}
 use Rattle.juniper_tokens.specs.Spans.{view_span}
 use Rattle.juniper_tokens.specs.declared.span.Spanning.{Spanning}
 use Rattle.juniper.specs.declared.tree.ast.Selection.{Selection, Row_of-Selection, end_of-Selection, more_of-Selection, items-the_row-Selection, items_hidden-the_row-Selection-0, back-Field-selection_set}
@@ -17,7 +13,7 @@ use Rattle.juniper.specs.declared.tree.ast.Selection.TheVariants.{Field, InlineF
 use Rattle.juniper.specs.declared.tree.ast.Field.{Field as FieldOf}
 use Rattle.juniper.specs.declared.tree.ast.InlineFragment.{InlineFragment as InlineOf}
 use Rattle.juniper.specs.View.{view_word, view_arguments, view_directives, view_selection, view_held, view_row, view_selections, view_set, view_field, view_inline}
-use Rattle.juniper.specs.device.PartViews.{view_items, view_whole_set}
+use Rattle.juniper.specs.device.PartViews.{view_whole_set}
 
 module _ {S C : Type 0} (content : S → C) where
   -- the selections of a row are those of its list
@@ -63,14 +59,3 @@ module _ {S C : Type 0} (content : S → C) where
       ap (λ (z : tree.OptionalSelections C). tree.Field (option_map view_word f.item.alias) (view_word f.item.name)
       (option_map (view_arguments content) f.item.arguments) (view_directives content f.item.directives) z
       (view_span f.span)) (sym (set_is f.item.selection_set)) ∙ sym (view_of_field f)
-
-  -- a list of selections, read as a set
-  pub set_gives : (result : Result (Vec (Selection S)) ParseFailure) (left : List Lexeme)
-      (r : Read (List (tree.Selection C))) → Gives (view_items (view_selection content)) result left r
-      → Gives (view_whole_set content) result left (r >>= λ ss. Ok (selections_of ss.0, ss.1))
-  set_gives (Ok v) left r h =
-      ap (λ (z : Read (List (tree.Selection C))). z >>= λ ss. Ok (selections_of ss.0, ss.1)) h
-      ∙ ap (λ (s : tree.Selections C). Ok (s, left)) (selections_are v.items)
-  set_gives (Err (failures.Refused e)) left r h =
-      ap (λ (z : Read (List (tree.Selection C))). z >>= λ ss. Ok (selections_of ss.0, ss.1)) h
-  set_gives (Err failures.Memory) left r h = tt

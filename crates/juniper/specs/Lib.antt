@@ -1,4 +1,7 @@
 pub mod View
+pub mod Building
+pub mod Trees
+pub mod NamedVariables
 pub mod Scalars
 pub mod device
 pub mod Promise

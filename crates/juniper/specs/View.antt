@@ -50,8 +50,12 @@ wrapped type [] = type
 wrapped type (modifier.NonNull ∷ ms) = wrapped (NonNullType type) ms
 wrapped type (modifier.List size ∷ ms) = wrapped (ListType size type) ms
 
+-- a type whose name has these characters
+abbrev pub type_of : {W : Type 0} → (W → List ℕ) → TypeShape W → TypeRef
+type_of characters type = wrapped (NamedType (characters type.name)) type.modifiers
+
 abbrev pub view_type : TypeShape (Bor (List ℕ)) → TypeRef
-view_type type = wrapped (NamedType (chars type.name.now)) type.modifiers
+view_type = type_of (λ name. chars name.now)
 
 abbrev pub view_spanned_type : Spanning (TypeShape (Bor (List ℕ))) → Located TypeRef
 view_spanned_type = view_located view_type

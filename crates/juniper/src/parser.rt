@@ -1,4 +1,5 @@
 //! The parser: a function for each rule of the document grammar.
+pub(crate) mod builder;
 pub(crate) mod definition;
 pub(crate) mod directives;
 pub(crate) mod document;

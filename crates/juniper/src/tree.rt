@@ -1,2 +1,3 @@
 //! The tree of a document.
 pub(crate) mod ast;
+pub(crate) mod trees;

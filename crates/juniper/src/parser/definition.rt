@@ -3,31 +3,60 @@ ghost use Rattle.std.specs.Prelude.{◌≡◌, ◌<◌, ◌≤◌, length, Some,
 ghost use Rattle.std.specs.Str.{chars};
 ghost use Rattle.graphql_grammar.specs.device.Reading.{passes};
 ghost use Rattle.graphql_grammar.specs.device.Productions.{optional_name, fragment_name, operation, fragment, shorthand, operation_word, operation_of, definition};
-ghost use Rattle.juniper_tokens.specs.Tokens.{view_name};
 ghost use Rattle.juniper_tokens.specs.Cursor.{EndsOnce, Gives, first_of, refused_at};
-ghost use Rattle.juniper.specs.View.{view_word, view_definition};
+ghost use Rattle.juniper.specs.Building.{Builds, BuildsOr};
+ghost use Rattle.juniper.specs.View.{view_located, view_definition};
 ghost use Rattle.juniper.specs.Scalars.{stated};
 ghost use Rattle.juniper_tokens.specs.Taking.{left, last_end, GoesOn};
 ghost use Rattle.juniper.specs.device.Steps.{no_scalars, cursor, at_span};
 
+use crate::parser::builder::Builder;
 use crate::parser::next::{next_is, next_is_word};
 use crate::parser::selection::{parse_inline_parts, parse_selection_set, parse_type_condition};
 use crate::parser::variables::parse_optional_variables;
-use crate::tree::ast::{Definition, Fragment, Operation};
+use crate::tree::ast::Definition;
+use crate::tree::trees::Trees;
 use graphql_grammar::OperationType;
 use juniper_tokens::{
-    Cursor, Kind, OptionParseResult, ParseResult, SourcePosition, Spanning, UnlocatedParseResult,
+    Cursor, Kind, OptionParseResult, ParseFailure, ParseResult, SourcePosition, SourceText,
+    UnlocatedParseResult,
 };
 use juniper_values::ScalarValue;
+
+/// `Definition`, as juniper's tree.
+pub(crate) fn parse_definition_tree<'a, S: ScalarValue>(
+    tokens: &mut Cursor<'_, &'a str>,
+) -> UnlocatedParseResult<Definition<'a, S>>
+    ensures gives { Gives (view_definition S.content) result (left tokens.new) (cursor (stated S.reading S.of_bool) definition (left tokens.old)) }
+    ensures shorter { OnOk result (length (left tokens.new) < length (left tokens.old)) }
+    ensures on { OnOk result (GoesOn tokens.old tokens.new) }
+{
+    let mut trees = Trees::<'a>::new(tokens.allocator());
+    parse_definition_or::<S, Trees<'a>, ParseFailure>(tokens, &mut trees)
+}
+
+/// `Definition`, with an error of any type that is made of a parser's.
+// A call whose builder names a lifetime and a scalar type can't name the type of the error, which has a lifetime, too.
+fn parse_definition_or<S: ScalarValue, B: Builder<S>, F: Drop + From<ParseFailure>>(
+    tokens: &mut Cursor<'_, B::Name>,
+    builder: &mut B,
+) -> Result<B::Definition, F>
+    ensures gives { BuildsOr F.from_gives (B.builds_definition builder.old builder.new) result (left tokens.new) (cursor (stated S.reading S.of_bool) definition (left tokens.old)) }
+    ensures shorter { OnOk result (length (left tokens.new) < length (left tokens.old)) }
+    ensures on { OnOk result (GoesOn tokens.old tokens.new) }
+{
+    Ok(parse_definition::<S, B>(tokens, builder)?)
+}
 
 /// `Definition = SelectionSet
 ///            | ("query" | "mutation" | "subscription") Name? Variables? Directive* SelectionSet
 ///            | "fragment" FragmentName "on" Name Directive* SelectionSet`
 #[tactic(auto, using(crate::proofs::Names::fragment_is, crate::proofs::Cursors::word_is_no_end), unfolding(graphql_grammar::specs::device::Productions::definition))]
-pub(crate) fn parse_definition<'a, S: ScalarValue>(
-    tokens: &mut Cursor<'_, 'a>,
-) -> UnlocatedParseResult<Definition<'a, S>>
-    ensures gives { Gives (view_definition S.content) result (left tokens.new) (cursor (stated S.reading S.of_bool) definition (left tokens.old)) }
+pub(crate) fn parse_definition<S: ScalarValue, B: Builder<S>>(
+    tokens: &mut Cursor<'_, B::Name>,
+    builder: &mut B,
+) -> Result<B::Definition, ParseFailure>
+    ensures gives { Builds (B.builds_definition builder.old builder.new) result (left tokens.new) (cursor (stated S.reading S.of_bool) definition (left tokens.old)) }
     ensures shorter { OnOk result (length (left tokens.new) < length (left tokens.old)) }
     ensures on { OnOk result (GoesOn tokens.old tokens.new) }
 {
@@ -35,14 +64,14 @@ pub(crate) fn parse_definition<'a, S: ScalarValue>(
     match next_operation(tokens) {
         Some(operation_type) => {
             tokens.advance();
-            parse_operation(tokens, operation_type, start)
+            parse_operation::<S, B>(tokens, builder, operation_type, start)
         }
         None => {
             if next_is_word(tokens, "fragment") {
                 tokens.advance();
-                parse_fragment(tokens, start)
+                parse_fragment::<S, B>(tokens, builder, start)
             } else {
-                parse_shorthand(tokens, start)
+                parse_shorthand::<S, B>(tokens, builder, start)
             }
         }
     }
@@ -50,7 +79,7 @@ pub(crate) fn parse_definition<'a, S: ScalarValue>(
 
 /// The type of the operation that the next token begins, or None. The token is not taken.
 #[tactic(auto, using(crate::proofs::Names::query_is, crate::proofs::Names::mutation_is, crate::proofs::Names::subscription_is, crate::proofs::Names::operation_type_is))]
-fn next_operation(tokens: &Cursor<'_, '_>) -> Option<OperationType>
+fn next_operation<W: SourceText>(tokens: &Cursor<'_, W>) -> Option<OperationType>
     ensures { result ≡ (if passes operation_word (first_of (left tokens.now)) then Some (operation_of (first_of (left tokens.now)).text) else None) }
 {
     if next_is_word(tokens, "mutation") {
@@ -66,59 +95,63 @@ fn next_operation(tokens: &Cursor<'_, '_>) -> Option<OperationType>
 
 /// `SelectionSet`, which begins at `start`.
 #[tactic(auto, unfolding(graphql_grammar::specs::device::Productions::shorthand))]
-fn parse_shorthand<'a, S: ScalarValue>(
-    tokens: &mut Cursor<'_, 'a>,
+fn parse_shorthand<S: ScalarValue, B: Builder<S>>(
+    tokens: &mut Cursor<'_, B::Name>,
+    builder: &mut B,
     start: SourcePosition,
-) -> UnlocatedParseResult<Definition<'a, S>>
-    ensures gives { Gives (view_definition S.content) result (left tokens.new) (at_span start (last_end tokens.new) (cursor (stated S.reading S.of_bool) shorthand (left tokens.old))) }
+) -> Result<B::Definition, ParseFailure>
+    ensures gives { Builds (B.builds_definition builder.old builder.new) result (left tokens.new) (at_span start (last_end tokens.new) (cursor (stated S.reading S.of_bool) shorthand (left tokens.old))) }
     ensures shorter { OnOk result (length (left tokens.new) < length (left tokens.old)) }
     ensures on { OnOk result (GoesOn tokens.old tokens.new) }
     ensures within { OnOk result (tokens.new.taken < length tokens.new.tokens) }
 {
-    let selection_set = parse_selection_set(tokens)?;
-    Ok(Definition::Operation(Spanning::new(
-        tokens.span_from(start),
-        Operation {
-            operation_type: OperationType::Query,
-            name: None,
-            variable_definitions: None,
-            directives: None,
-            selection_set,
-        },
-    )))
+    let part = builder.open_operation(OperationType::Query, &None)?;
+    let selection_set = parse_selection_set::<S, B>(tokens, builder)?;
+    let span = tokens.span_from(start);
+    Ok(builder.operation(
+        part,
+        OperationType::Query,
+        &None,
+        None,
+        None,
+        selection_set,
+        span,
+    ))
 }
 
 /// `Name? Variables? Directive* SelectionSet`, after the word of this type, which begins at `start`.
 #[tactic(auto, unfolding(graphql_grammar::specs::device::Productions::operation))]
-fn parse_operation<'a, S: ScalarValue>(
-    tokens: &mut Cursor<'_, 'a>,
+fn parse_operation<S: ScalarValue, B: Builder<S>>(
+    tokens: &mut Cursor<'_, B::Name>,
+    builder: &mut B,
     operation_type: OperationType,
     start: SourcePosition,
-) -> UnlocatedParseResult<Definition<'a, S>>
-    ensures gives { Gives (view_definition S.content) result (left tokens.new) (at_span start (last_end tokens.new) (cursor (stated S.reading S.of_bool) (operation operation_type) (left tokens.old))) }
+) -> Result<B::Definition, ParseFailure>
+    ensures gives { Builds (B.builds_definition builder.old builder.new) result (left tokens.new) (at_span start (last_end tokens.new) (cursor (stated S.reading S.of_bool) (operation operation_type) (left tokens.old))) }
     ensures shorter { OnOk result (length (left tokens.new) < length (left tokens.old)) }
     ensures on { OnOk result (GoesOn tokens.old tokens.new) }
     ensures within { OnOk result (tokens.new.taken < length tokens.new.tokens) }
 {
     let name = parse_optional_name(tokens)?;
-    let variable_definitions = parse_optional_variables(tokens)?;
-    let (directives, selection_set) = parse_inline_parts(tokens)?;
-    Ok(Definition::Operation(Spanning::new(
-        tokens.span_from(start),
-        Operation {
-            operation_type,
-            name,
-            variable_definitions,
-            directives,
-            selection_set,
-        },
-    )))
+    let part = builder.open_operation(operation_type, &name)?;
+    let variable_definitions = parse_optional_variables::<S, B>(tokens, builder)?;
+    let (directives, selection_set) = parse_inline_parts::<S, B>(tokens, builder)?;
+    let span = tokens.span_from(start);
+    Ok(builder.operation(
+        part,
+        operation_type,
+        &name,
+        variable_definitions,
+        directives,
+        selection_set,
+        span,
+    ))
 }
 
 /// `Name?`
 #[tactic(auto, using(juniper_tokens::proofs::Public::stays))]
-fn parse_optional_name<'a>(tokens: &mut Cursor<'_, 'a>) -> OptionParseResult<&'a str>
-    ensures gives { Gives (option_map view_word) result (left tokens.new) (cursor no_scalars optional_name (left tokens.old)) }
+fn parse_optional_name<W: SourceText + Drop>(tokens: &mut Cursor<'_, W>) -> OptionParseResult<W>
+    ensures gives { Gives (option_map (view_located W.characters)) result (left tokens.new) (cursor no_scalars optional_name (left tokens.old)) }
     ensures not_longer { OnOk result (length (left tokens.new) ≤ length (left tokens.old)) }
     ensures on { OnOk result (GoesOn tokens.old tokens.new) }
 {
@@ -131,33 +164,35 @@ fn parse_optional_name<'a>(tokens: &mut Cursor<'_, 'a>) -> OptionParseResult<&'a
 
 /// `FragmentName "on" Name Directive* SelectionSet`, after the word `fragment`, which begins at `start`.
 #[tactic(auto, unfolding(graphql_grammar::specs::device::Productions::fragment))]
-fn parse_fragment<'a, S: ScalarValue>(
-    tokens: &mut Cursor<'_, 'a>,
+fn parse_fragment<S: ScalarValue, B: Builder<S>>(
+    tokens: &mut Cursor<'_, B::Name>,
+    builder: &mut B,
     start: SourcePosition,
-) -> UnlocatedParseResult<Definition<'a, S>>
-    ensures gives { Gives (view_definition S.content) result (left tokens.new) (at_span start (last_end tokens.new) (cursor (stated S.reading S.of_bool) fragment (left tokens.old))) }
+) -> Result<B::Definition, ParseFailure>
+    ensures gives { Builds (B.builds_definition builder.old builder.new) result (left tokens.new) (at_span start (last_end tokens.new) (cursor (stated S.reading S.of_bool) fragment (left tokens.old))) }
     ensures shorter { OnOk result (length (left tokens.new) < length (left tokens.old)) }
     ensures on { OnOk result (GoesOn tokens.old tokens.new) }
     ensures within { OnOk result (tokens.new.taken < length tokens.new.tokens) }
 {
     let name = parse_fragment_name(tokens)?;
     let type_condition = parse_type_condition(tokens)?;
-    let (directives, selection_set) = parse_inline_parts(tokens)?;
-    Ok(Definition::Fragment(Spanning::new(
-        tokens.span_from(start),
-        Fragment {
-            name,
-            type_condition,
-            directives,
-            selection_set,
-        },
-    )))
+    let part = builder.open_fragment(&name, &type_condition)?;
+    let (directives, selection_set) = parse_inline_parts::<S, B>(tokens, builder)?;
+    let span = tokens.span_from(start);
+    Ok(builder.fragment(
+        part,
+        &name,
+        &type_condition,
+        directives,
+        selection_set,
+        span,
+    ))
 }
 
 /// `FragmentName = a Name other than "on"`
 #[tactic(auto, using(crate::proofs::Names::on_is))]
-fn parse_fragment_name<'a>(tokens: &mut Cursor<'_, 'a>) -> ParseResult<&'a str>
-    ensures gives { Gives view_word result (left tokens.new) (cursor no_scalars fragment_name (left tokens.old)) }
+fn parse_fragment_name<W: SourceText + Drop>(tokens: &mut Cursor<'_, W>) -> ParseResult<W>
+    ensures gives { Gives (view_located W.characters) result (left tokens.new) (cursor no_scalars fragment_name (left tokens.old)) }
     ensures shorter { OnOk result (length (left tokens.new) < length (left tokens.old)) }
     ensures on { OnOk result (GoesOn tokens.old tokens.new) }
 {

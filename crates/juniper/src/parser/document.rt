@@ -13,7 +13,7 @@ pub(crate) mod depth;
 pub(crate) mod limited;
 pub(crate) mod sink;
 
-use crate::parser::definition::parse_definition;
+use crate::parser::definition::parse_definition_tree;
 use crate::parser::lists::{expected, push_item};
 use crate::parser::next::next_is;
 use crate::tree::ast::OwnedDocument;
@@ -55,13 +55,13 @@ pub fn parse_document_source<'a, S: ScalarValue>(
 
 /// `Definition+`, up to the end, which is left there.
 pub(crate) fn parse_definitions<'a, S: ScalarValue>(
-    tokens: &mut Cursor<'_, 'a>,
+    tokens: &mut Cursor<'_, &'a str>,
 ) -> UnlocatedParseResult<OwnedDocument<'a, S>>
     ensures { ReturnsAs (view_document S.content) result (cursor (stated S.reading S.of_bool) document (left tokens.old)) }
 {
     let mut definitions = Vec::new(tokens.allocator());
     loop {
-        let definition = parse_definition(tokens)?;
+        let definition = parse_definition_tree(tokens)?;
         let is_last = next_is(tokens, Kind::EndOfFile);
         push_item(&mut definitions, definition, expected(is_last))?;
         if is_last {

@@ -30,19 +30,20 @@ pub(crate) fn expected(is_last: bool) -> usize {
 
 /// Returns `Item+ close`: a list of one item or more, up to a closing token, which is taken.
 macro_rules! many {
-    ($tokens:ident, $item:expr, $close:expr) => {
+    ($tokens:ident, $items:expr, $item:expr, $close:expr) => {
         many!(
             $tokens,
+            $items,
             $item,
             $close,
             $crate::parser::lists::expected($crate::parser::next::next_is($tokens, $close))
         )
     };
-    ($tokens:ident, $item:expr, $close:expr, $expected:expr) => {{
-        let mut items = Vec::new($tokens.allocator());
+    ($tokens:ident, $items:expr, $item:expr, $close:expr, $expected:expr) => {{
+        let mut items = $items;
         loop {
             let item = $item?;
-            $crate::parser::lists::push_item(&mut items, item, $expected)?;
+            items.gather(item, $expected)?;
             if $crate::parser::next::take_if($tokens, $close) {
                 return Ok(items);
             }
@@ -52,15 +53,15 @@ macro_rules! many {
 
 /// Returns `Item* close`: a list of any number of items, up to a closing token, which is taken.
 macro_rules! any {
-    ($tokens:ident, $item:expr, $close:expr) => {{
-        let mut items = Vec::new($tokens.allocator());
+    ($tokens:ident, $items:expr, $item:expr, $close:expr) => {{
+        let mut items = $items;
         loop {
             if $crate::parser::next::take_if($tokens, $close) {
                 return Ok(items);
             }
             let item = $item?;
             let is_last = $crate::parser::next::next_is($tokens, $close);
-            $crate::parser::lists::push_item(&mut items, item, $crate::parser::lists::expected(is_last))?;
+            items.gather(item, $crate::parser::lists::expected(is_last))?;
         }
     }};
 }

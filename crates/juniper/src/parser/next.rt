@@ -5,7 +5,6 @@ ghost use Rattle.std.specs.Str.{chars};
 ghost use Rattle.graphql_lexical.specs.Kinds.{same_kind};
 ghost use Rattle.graphql_lexical.specs.declared.kind.Kind.TheVariants.{EndOfFile, Name};
 ghost use Rattle.juniper_tokens.specs.Cursor.{EndsOnce, Fails, Gives, first_of, kind_at, next_if, refused_at};
-ghost use Rattle.juniper_tokens.specs.Tokens.{view_name};
 ghost use Rattle.graphql_lexical.specs.Cutting.{Lexeme};
 ghost use Rattle.graphql_grammar.specs.device.Reading.{passes, word};
 ghost use Rattle.juniper_tokens.specs.Spans.{view_span};
@@ -13,10 +12,10 @@ ghost use Rattle.juniper_tokens.specs.Taking.{left, last_end, GoesOn};
 ghost use Rattle.juniper.specs.device.Steps.{closing_at, GivesNext};
 
 use juniper_tokens::text::same_text;
-use juniper_tokens::{Cursor, Kind, ParseFailure, ParseResult, Spanning};
+use juniper_tokens::{Cursor, Kind, ParseFailure, SourceText};
 
 /// Whether the next token is of this kind. It is not taken.
-pub(crate) fn next_is(tokens: &Cursor<'_, '_>, kind: Kind) -> bool
+pub(crate) fn next_is<W: SourceText>(tokens: &Cursor<'_, W>, kind: Kind) -> bool
     ensures is { result ≡ same_kind (kind_at (left tokens.now)) kind }
     ensures ended { EndsOnce (left tokens.now) }
 {
@@ -24,7 +23,7 @@ pub(crate) fn next_is(tokens: &Cursor<'_, '_>, kind: Kind) -> bool
 }
 
 /// Whether the next token is a Name of this text. It is not taken.
-pub(crate) fn next_is_word(tokens: &Cursor<'_, '_>, text: &str) -> bool
+pub(crate) fn next_is_word<W: SourceText>(tokens: &Cursor<'_, W>, text: &str) -> bool
     ensures is { result ≡ passes (word (chars text.now)) (first_of (left tokens.now)) }
     ensures ended { EndsOnce (left tokens.now) }
 {
@@ -34,7 +33,7 @@ pub(crate) fn next_is_word(tokens: &Cursor<'_, '_>, text: &str) -> bool
 /// Takes the next token if it is of this kind, and returns whether it is.
 #[tactic(auto, using(crate::proofs::Cursors::closing_is_no_end, crate::proofs::Marks::last_taken, juniper_tokens::proofs::Public::stays))]
 #[inline(always)]
-pub(crate) fn take_if(tokens: &mut Cursor<'_, '_>, kind: Kind) -> bool
+pub(crate) fn take_if<W: SourceText>(tokens: &mut Cursor<'_, W>, kind: Kind) -> bool
     requires { same_kind kind EndOfFile ≡ false }
     ensures takes { (if result then Some (first_of (left tokens.old)).span else None, left tokens.new) ≡ closing_at kind (left tokens.old) }
     ensures ended { EndsOnce (left tokens.old) }
@@ -55,7 +54,10 @@ pub(crate) fn take_if(tokens: &mut Cursor<'_, '_>, kind: Kind) -> bool
 /// Another token is taken too, and reported as unexpected. At the end nothing is taken.
 #[tactic(auto, using(crate::proofs::Cursors::closing_is_no_end, crate::proofs::Marks::last_taken))]
 #[inline(always)]
-pub(crate) fn expect(tokens: &mut Cursor<'_, '_>, kind: Kind) -> Result<(), ParseFailure>
+pub(crate) fn expect<W: SourceText>(
+    tokens: &mut Cursor<'_, W>,
+    kind: Kind,
+) -> Result<(), ParseFailure>
     requires { same_kind kind EndOfFile ≡ false }
     ensures gives { GivesNext result (left tokens.old) (left tokens.new) (next_if (same_kind (kind_at (left tokens.old)) kind) (left tokens.old)) }
     ensures shorter { OnOk result (length (left tokens.new) < length (left tokens.old)) }

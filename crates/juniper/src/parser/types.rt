@@ -5,12 +5,12 @@ ghost use Rattle.juniper_tokens.specs.Cursor.{EndsOnce, Gives, OnMemory};
 ghost use Rattle.juniper_tokens.specs.Delimited.{IsRest};
 ghost use Rattle.juniper_tokens.specs.Taking.{left, GoesOn};
 ghost use Rattle.juniper.specs.Promise.{ReturnsType};
-ghost use Rattle.juniper.specs.View.{view_spanned_type};
+ghost use Rattle.juniper.specs.View.{type_of, view_located, view_spanned_type};
 ghost use Rattle.juniper.specs.device.Steps.{no_scalars, cursor, type_read};
 
 use crate::parser::next::{expect, next_is, take_if};
-use juniper_tokens::{Cursor, Kind, ParseFailure, ParseResult, Parser, Spanning};
-use juniper_values::Type;
+use juniper_tokens::{Cursor, Kind, ParseFailure, ParseResult, Parser, SourceText, Spanning};
+use juniper_values::{NameText, Type};
 
 /// Parses the longest prefix of the tokens that is a type (GraphQL specification, October 2021, section 2.11).
 ///
@@ -36,8 +36,10 @@ pub fn parse_type<'a>(parser: &mut Parser<'a>) -> ParseResult<Type<&'a str>>
 /// `Type = Name "!"? | "[" Type "]" "!"?`
 #[cycle(types)]
 #[tactic(auto, using(juniper_tokens::proofs::Public::goes_further))]
-pub(crate) fn parse_any_type<'a>(tokens: &mut Cursor<'_, 'a>) -> ParseResult<Type<&'a str>>
-    ensures gives { Gives view_spanned_type result (left tokens.new) (type_read (left tokens.old)) }
+pub(crate) fn parse_any_type<W: SourceText + NameText + Drop>(
+    tokens: &mut Cursor<'_, W>,
+) -> ParseResult<Type<W>>
+    ensures gives { Gives (view_located (type_of W.characters)) result (left tokens.new) (type_read (left tokens.old)) }
     ensures ended { EndsOnce (left tokens.old) }
     ensures shorter { OnOk result (length (left tokens.new) < length (left tokens.old)) }
     ensures on { GoesOn tokens.old tokens.new }
@@ -49,8 +51,10 @@ pub(crate) fn parse_any_type<'a>(tokens: &mut Cursor<'_, 'a>) -> ParseResult<Typ
 /// `Name | "[" Type "]"`
 #[cycle(types)]
 #[tactic(auto, unfolding(graphql_grammar::specs::device::Productions::nullable_type))]
-fn parse_nullable_type<'a>(tokens: &mut Cursor<'_, 'a>) -> ParseResult<Type<&'a str>>
-    ensures gives { Gives view_spanned_type result (left tokens.new) (cursor no_scalars nullable_type (left tokens.old)) }
+fn parse_nullable_type<W: SourceText + NameText + Drop>(
+    tokens: &mut Cursor<'_, W>,
+) -> ParseResult<Type<W>>
+    ensures gives { Gives (view_located (type_of W.characters)) result (left tokens.new) (cursor no_scalars nullable_type (left tokens.old)) }
     ensures ended { EndsOnce (left tokens.old) }
     ensures shorter { OnOk result (length (left tokens.new) < length (left tokens.old)) }
     ensures on { GoesOn tokens.old tokens.new }
@@ -64,8 +68,10 @@ fn parse_nullable_type<'a>(tokens: &mut Cursor<'_, 'a>) -> ParseResult<Type<&'a 
 
 /// `Name`
 #[tactic(auto, unfolding(graphql_grammar::specs::device::Productions::named_type))]
-fn parse_named_type<'a>(tokens: &mut Cursor<'_, 'a>) -> ParseResult<Type<&'a str>>
-    ensures gives { Gives view_spanned_type result (left tokens.new) (cursor no_scalars named_type (left tokens.old)) }
+fn parse_named_type<W: SourceText + NameText + Drop>(
+    tokens: &mut Cursor<'_, W>,
+) -> ParseResult<Type<W>>
+    ensures gives { Gives (view_located (type_of W.characters)) result (left tokens.new) (cursor no_scalars named_type (left tokens.old)) }
     ensures shorter { OnOk result (length (left tokens.new) < length (left tokens.old)) }
     ensures on { GoesOn tokens.old tokens.new }
 {
@@ -76,8 +82,10 @@ fn parse_named_type<'a>(tokens: &mut Cursor<'_, 'a>) -> ParseResult<Type<&'a str
 /// `"[" Type "]"`
 #[cycle(types)]
 #[tactic(auto, using(juniper_tokens::proofs::Public::goes_further, crate::proofs::Wrapping::wrapped_list), unfolding(graphql_grammar::specs::device::Productions::list_type))]
-fn parse_list_type<'a>(tokens: &mut Cursor<'_, 'a>) -> ParseResult<Type<&'a str>>
-    ensures gives { Gives view_spanned_type result (left tokens.new) (cursor no_scalars list_type (left tokens.old)) }
+fn parse_list_type<W: SourceText + NameText + Drop>(
+    tokens: &mut Cursor<'_, W>,
+) -> ParseResult<Type<W>>
+    ensures gives { Gives (view_located (type_of W.characters)) result (left tokens.new) (cursor no_scalars list_type (left tokens.old)) }
     ensures shorter { OnOk result (length (left tokens.new) < length (left tokens.old)) }
     ensures on { GoesOn tokens.old tokens.new }
 {
@@ -93,11 +101,11 @@ fn parse_list_type<'a>(tokens: &mut Cursor<'_, 'a>) -> ParseResult<Type<&'a str>
 
 /// `"!"?`, after this type.
 #[tactic(auto, using(crate::proofs::Wrapping::wrapped_non_null), unfolding(graphql_grammar::specs::device::Productions::non_null))]
-fn parse_non_null<'a>(
-    tokens: &mut Cursor<'_, 'a>,
-    inner: Spanning<Type<&'a str>>,
-) -> ParseResult<Type<&'a str>>
-    ensures gives { Gives view_spanned_type result (left tokens.new) (cursor no_scalars (non_null (view_spanned_type inner.entry)) (left tokens.old)) }
+fn parse_non_null<W: SourceText + NameText + Drop>(
+    tokens: &mut Cursor<'_, W>,
+    inner: Spanning<Type<W>>,
+) -> ParseResult<Type<W>>
+    ensures gives { Gives (view_located (type_of W.characters)) result (left tokens.new) (cursor no_scalars (non_null (view_located (type_of W.characters) inner)) (left tokens.old)) }
     ensures not_longer { OnOk result (length (left tokens.new) ≤ length (left tokens.old)) }
     ensures on { GoesOn tokens.old tokens.new }
 {

@@ -1,6 +1,5 @@
 //! Value literals (GraphQL specification, October 2021, section 2.9).
 ghost use Rattle.std.specs.Prelude.{◌≡◌, ◌<◌, length, false, MatchOption, OnOk, IfOk, not};
-ghost use Rattle.std.specs.Str.{chars};
 ghost use Rattle.graphql_lexical.specs.Kinds.{same_kind};
 ghost use Rattle.graphql_lexical.specs.declared.kind.Kind.TheVariants.{BracketOpen, BracketClose, CurlyOpen, CurlyClose, Dollar, Name};
 ghost use Rattle.graphql_grammar.specs.device.Reading.{of, symbol, a_value, passes, scalar_token, wants, gives};
@@ -10,18 +9,21 @@ ghost use Rattle.juniper_tokens.specs.Cursor.{EndsOnce, Gives, OnMemory, first_o
 ghost use Rattle.juniper_tokens.specs.Delimited.{IsRest};
 ghost use Rattle.juniper_tokens.specs.Taking.{left, GoesOn};
 ghost use Rattle.juniper.specs.Promise.{ReturnsValue};
-ghost use Rattle.juniper.specs.View.{view_value, view_object_field};
-ghost use Rattle.juniper.specs.device.Steps.{cursor, value_read, scalar_read, closed_read, IsScalarAt, GivesClosed};
+ghost use Rattle.juniper.specs.Building.{Builds, BuildsClosed, BuildsEach, BuildsOr};
+ghost use Rattle.juniper.specs.View.{view_value};
+ghost use Rattle.juniper.specs.device.Steps.{cursor, value_read, scalar_read, closed_read, IsScalarAt};
 ghost use Rattle.juniper.specs.Scalars.{stated};
 
+use crate::parser::builder::{Builder, Gather};
 use crate::parser::lists::any;
 use crate::parser::next::expect;
+use crate::tree::trees::Trees;
 use juniper_tokens::text::same_text;
 use juniper_tokens::{
-    Cursor, Kind, ParseFailure, ParseResult, Parser, ScalarToken, Spanning, UnlocatedParseResult,
+    Cursor, Kind, ParseFailure, ParseResult, Parser, ScalarToken, SourceText, Spanning,
 };
-use juniper_values::{InputValue, ReadFailure, ScalarValue};
-use std::alloc::{AllocError, Global};
+use juniper_values::{InputValue, ParseScalarValue, ReadFailure, ScalarValue};
+use std::alloc::AllocError;
 
 /// Parses the prefix of the tokens that is a value; a constant one has no variables (GraphQL specification, October
 /// 2021, section 2.9).
@@ -43,18 +45,15 @@ pub fn parse_value_literal<'a, S: ScalarValue>(
     ensures memory { OnMemory result (IsRest parser.old parser.new) }
 {
     let mut tokens = parser.cursor();
-    let result = parse_value(&mut tokens, is_const);
+    let result = parse_value_tree(&mut tokens, is_const);
     let left = tokens.count();
     parser.take_until(left);
     result
 }
 
-/// `Value(c) = a scalar token that the scalar type reads | Name | "$" Name where c is free
-///           | "[" Value(c)* "]" | "{" (Name ":" Value(c))* "}"`
-#[cycle(value)]
-#[tactic(auto, using(crate::proofs::Readings::value_is), unfolding(graphql_grammar::specs::device::Productions::value))]
-pub(crate) fn parse_value<'a, S: ScalarValue>(
-    tokens: &mut Cursor<'_, 'a>,
+/// `Value(c)`, as juniper's tree.
+fn parse_value_tree<'a, S: ScalarValue>(
+    tokens: &mut Cursor<'_, &'a str>,
     is_const: bool,
 ) -> ParseResult<InputValue<S>>
     ensures gives { Gives (view_value S.content) result (left tokens.new) (value_read (stated S.reading S.of_bool) (not is_const) (left tokens.old)) }
@@ -62,78 +61,123 @@ pub(crate) fn parse_value<'a, S: ScalarValue>(
     ensures shorter { OnOk result (length (left tokens.new) < length (left tokens.old)) }
     ensures on { GoesOn tokens.old tokens.new }
 {
+    let mut trees = Trees::<'a>::new(tokens.allocator());
+    parse_value_or::<S, Trees<'a>, ParseFailure>(tokens, &mut trees, is_const)
+}
+
+/// `Value(c)`, with an error of any type that is made of a parser's.
+// A call whose builder names a lifetime and a scalar type can't name the type of the error, which has a lifetime, too.
+fn parse_value_or<S: ScalarValue, B: Builder<S>, F: Drop + From<ParseFailure>>(
+    tokens: &mut Cursor<'_, B::Name>,
+    builder: &mut B,
+    is_const: bool,
+) -> Result<B::Value, F>
+    ensures gives { BuildsOr F.from_gives (B.builds_value builder.old builder.new) result (left tokens.new) (value_read (stated S.reading S.of_bool) (not is_const) (left tokens.old)) }
+    ensures ended { EndsOnce (left tokens.old) }
+    ensures shorter { OnOk result (length (left tokens.new) < length (left tokens.old)) }
+    ensures on { GoesOn tokens.old tokens.new }
+{
+    Ok(parse_value::<S, B>(tokens, builder, is_const)?)
+}
+
+/// `Value(c) = a scalar token that the scalar type reads | Name | "$" Name where c is free
+///           | "[" Value(c)* "]" | "{" (Name ":" Value(c))* "}"`
+#[cycle(value)]
+#[tactic(auto, using(crate::proofs::Readings::value_is), unfolding(graphql_grammar::specs::device::Productions::value))]
+pub(crate) fn parse_value<S: ScalarValue, B: Builder<S>>(
+    tokens: &mut Cursor<'_, B::Name>,
+    builder: &mut B,
+    is_const: bool,
+) -> Result<B::Value, ParseFailure>
+    ensures gives { Builds (B.builds_value builder.old builder.new) result (left tokens.new) (value_read (stated S.reading S.of_bool) (not is_const) (left tokens.old)) }
+    ensures ended { EndsOnce (left tokens.old) }
+    ensures shorter { OnOk result (length (left tokens.new) < length (left tokens.old)) }
+    ensures on { GoesOn tokens.old tokens.new }
+{
     match tokens.kind() {
-        Kind::BracketOpen => parse_list(tokens, is_const),
-        Kind::CurlyOpen => parse_object(tokens, is_const),
-        Kind::Dollar if !is_const => parse_variable(tokens),
-        Kind::Name => parse_named_value(tokens),
+        Kind::BracketOpen => parse_list::<S, B>(tokens, builder, is_const),
+        Kind::CurlyOpen => parse_object::<S, B>(tokens, builder, is_const),
+        Kind::Dollar if !is_const => parse_variable::<S, B>(tokens, builder),
+        Kind::Name => parse_named_value::<S, B>(tokens, builder),
         // a scalar token, or one that begins no value and is refused
-        _ => parse_scalar(tokens),
+        _ => parse_scalar::<S, B>(tokens, builder),
     }
 }
 
 /// `"[" Value(c)* "]"`
 #[cycle(value)]
 #[tactic(auto, using(juniper_tokens::proofs::Public::goes_further), unfolding(graphql_grammar::specs::device::Productions::list))]
-fn parse_list<'a, S: ScalarValue>(
-    tokens: &mut Cursor<'_, 'a>,
+fn parse_list<S: ScalarValue, B: Builder<S>>(
+    tokens: &mut Cursor<'_, B::Name>,
+    builder: &mut B,
     is_const: bool,
-) -> ParseResult<InputValue<S>>
-    ensures gives { Gives (view_value S.content) result (left tokens.new) (cursor (stated S.reading S.of_bool) (wants (of BracketOpen) (λ o. list (not is_const) o.span)) (left tokens.old)) }
+) -> Result<B::Value, ParseFailure>
+    ensures gives { Builds (B.builds_value builder.old builder.new) result (left tokens.new) (cursor (stated S.reading S.of_bool) (wants (of BracketOpen) (λ o. list (not is_const) o.span)) (left tokens.old)) }
     ensures shorter { OnOk result (length (left tokens.new) < length (left tokens.old)) }
     ensures on { GoesOn tokens.old tokens.new }
 {
     let start = tokens.mark();
     expect(tokens, Kind::BracketOpen)?;
-    let items = parse_items(tokens, is_const)?;
-    Ok(Spanning::new(tokens.span_from(start), InputValue::List(items)))
+    let part = builder.open_list()?;
+    let items = parse_items::<S, B>(tokens, builder, is_const)?;
+    Ok(builder.list(part, items, tokens.span_from(start)))
 }
 
 /// `Value(c)* "]"`
 #[cycle(value)]
 #[tactic(auto, using(juniper_tokens::proofs::Public::goes_further))]
-fn parse_items<'a, S: ScalarValue>(
-    tokens: &mut Cursor<'_, 'a>,
+fn parse_items<S: ScalarValue, B: Builder<S>>(
+    tokens: &mut Cursor<'_, B::Name>,
+    builder: &mut B,
     is_const: bool,
-) -> UnlocatedParseResult<Vec<Spanning<InputValue<S>>>>
-    ensures gives { GivesClosed (view_value S.content) result tokens.new (closed_read (stated S.reading S.of_bool) (of BracketClose) (symbol (a_value (not is_const))) (left tokens.old)) }
-    ensures shorter { OnOk result (length (left tokens.new) < length (left tokens.old)) }
-    ensures on { GoesOn tokens.old tokens.new }
-{
-    any!(tokens, parse_value(tokens, is_const), Kind::BracketClose)
-}
-
-/// `"{" (Name ":" Value(c))* "}"`
-#[cycle(value)]
-#[tactic(auto, using(juniper_tokens::proofs::Public::goes_further), unfolding(graphql_grammar::specs::device::Productions::object))]
-fn parse_object<'a, S: ScalarValue>(
-    tokens: &mut Cursor<'_, 'a>,
-    is_const: bool,
-) -> ParseResult<InputValue<S>>
-    ensures gives { Gives (view_value S.content) result (left tokens.new) (cursor (stated S.reading S.of_bool) (wants (of CurlyOpen) (λ o. object (not is_const) o.span)) (left tokens.old)) }
-    ensures shorter { OnOk result (length (left tokens.new) < length (left tokens.old)) }
-    ensures on { GoesOn tokens.old tokens.new }
-{
-    let start = tokens.mark();
-    expect(tokens, Kind::CurlyOpen)?;
-    let fields = parse_fields(tokens, is_const)?;
-    Ok(Spanning::new(tokens.span_from(start), InputValue::Object(fields)))
-}
-
-/// `(Name ":" Value(c))* "}"`
-#[cycle(value)]
-#[tactic(auto, using(juniper_tokens::proofs::Public::goes_further))]
-fn parse_fields<'a, S: ScalarValue>(
-    tokens: &mut Cursor<'_, 'a>,
-    is_const: bool,
-) -> UnlocatedParseResult<Vec<(Spanning<String>, Spanning<InputValue<S>>)>>
-    ensures gives { GivesClosed (view_object_field S.content) result tokens.new (closed_read (stated S.reading S.of_bool) (of CurlyClose) (key_and_value (not is_const)) (left tokens.old)) }
+) -> Result<B::Items, ParseFailure>
+    ensures gives { BuildsClosed (λ items. BuildsEach B.builds_value builder.old builder.new (B.Items.gathered items)) result tokens.new (closed_read (stated S.reading S.of_bool) (of BracketClose) (symbol (a_value (not is_const))) (left tokens.old)) }
     ensures shorter { OnOk result (length (left tokens.new) < length (left tokens.old)) }
     ensures on { GoesOn tokens.old tokens.new }
 {
     any!(
         tokens,
-        parse_object_field(tokens, is_const),
+        B::Items::none(tokens.allocator()),
+        parse_value::<S, B>(tokens, builder, is_const),
+        Kind::BracketClose
+    )
+}
+
+/// `"{" (Name ":" Value(c))* "}"`
+#[cycle(value)]
+#[tactic(auto, using(juniper_tokens::proofs::Public::goes_further), unfolding(graphql_grammar::specs::device::Productions::object))]
+fn parse_object<S: ScalarValue, B: Builder<S>>(
+    tokens: &mut Cursor<'_, B::Name>,
+    builder: &mut B,
+    is_const: bool,
+) -> Result<B::Value, ParseFailure>
+    ensures gives { Builds (B.builds_value builder.old builder.new) result (left tokens.new) (cursor (stated S.reading S.of_bool) (wants (of CurlyOpen) (λ o. object (not is_const) o.span)) (left tokens.old)) }
+    ensures shorter { OnOk result (length (left tokens.new) < length (left tokens.old)) }
+    ensures on { GoesOn tokens.old tokens.new }
+{
+    let start = tokens.mark();
+    expect(tokens, Kind::CurlyOpen)?;
+    let part = builder.open_object()?;
+    let fields = parse_fields::<S, B>(tokens, builder, is_const)?;
+    Ok(builder.object(part, fields, tokens.span_from(start)))
+}
+
+/// `(Name ":" Value(c))* "}"`
+#[cycle(value)]
+#[tactic(auto, using(juniper_tokens::proofs::Public::goes_further))]
+fn parse_fields<S: ScalarValue, B: Builder<S>>(
+    tokens: &mut Cursor<'_, B::Name>,
+    builder: &mut B,
+    is_const: bool,
+) -> Result<B::Fields, ParseFailure>
+    ensures gives { BuildsClosed (λ fields. BuildsEach B.builds_field builder.old builder.new (B.Fields.gathered fields)) result tokens.new (closed_read (stated S.reading S.of_bool) (of CurlyClose) (key_and_value (not is_const)) (left tokens.old)) }
+    ensures shorter { OnOk result (length (left tokens.new) < length (left tokens.old)) }
+    ensures on { GoesOn tokens.old tokens.new }
+{
+    any!(
+        tokens,
+        B::Fields::none(tokens.allocator()),
+        parse_object_field::<S, B>(tokens, builder, is_const),
         Kind::CurlyClose
     )
 }
@@ -141,49 +185,56 @@ fn parse_fields<'a, S: ScalarValue>(
 /// `Name ":" Value(c)`
 #[cycle(value)]
 #[tactic(auto, using(juniper_tokens::proofs::Public::goes_further), unfolding(graphql_grammar::specs::device::Productions::key_and_value))]
-fn parse_object_field<'a, S: ScalarValue>(
-    tokens: &mut Cursor<'_, 'a>,
+fn parse_object_field<S: ScalarValue, B: Builder<S>>(
+    tokens: &mut Cursor<'_, B::Name>,
+    builder: &mut B,
     is_const: bool,
-) -> UnlocatedParseResult<(Spanning<String>, Spanning<InputValue<S>>)>
-    ensures gives { Gives (view_object_field S.content) result (left tokens.new) (cursor (stated S.reading S.of_bool) (key_and_value (not is_const)) (left tokens.old)) }
+) -> Result<B::ObjectField, ParseFailure>
+    ensures gives { Builds (B.builds_field builder.old builder.new) result (left tokens.new) (cursor (stated S.reading S.of_bool) (key_and_value (not is_const)) (left tokens.old)) }
     ensures shorter { OnOk result (length (left tokens.new) < length (left tokens.old)) }
     ensures on { GoesOn tokens.old tokens.new }
 {
     let key = tokens.expect_name()?;
     expect(tokens, Kind::Colon)?;
-    let value = parse_value(tokens, is_const)?;
-    let text = String::from_str(tokens.allocator(), key.item)?;
-    Ok((Spanning::new(key.span, text), value))
+    let part = builder.open_object_field(&key)?;
+    let value = parse_value::<S, B>(tokens, builder, is_const)?;
+    Ok(builder.object_field(part, &key, value)?)
 }
 
 /// `"$" Name`
-#[tactic(auto, using(crate::proofs::ValueViews::view_of_variable), unfolding(graphql_grammar::specs::device::Productions::variable))]
-fn parse_variable<'a, S: ScalarValue>(tokens: &mut Cursor<'_, 'a>) -> ParseResult<InputValue<S>>
-    ensures gives { Gives (view_value S.content) result (left tokens.new) (cursor (stated S.reading S.of_bool) (wants (of Dollar) (λ d. variable d.span)) (left tokens.old)) }
+#[tactic(auto, unfolding(graphql_grammar::specs::device::Productions::variable))]
+fn parse_variable<S: ScalarValue, B: Builder<S>>(
+    tokens: &mut Cursor<'_, B::Name>,
+    builder: &mut B,
+) -> Result<B::Value, ParseFailure>
+    ensures gives { Builds (B.builds_value builder.old builder.new) result (left tokens.new) (cursor (stated S.reading S.of_bool) (wants (of Dollar) (λ d. variable d.span)) (left tokens.old)) }
     ensures shorter { OnOk result (length (left tokens.new) < length (left tokens.old)) }
     ensures on { GoesOn tokens.old tokens.new }
 {
     let start = tokens.mark();
     expect(tokens, Kind::Dollar)?;
     let name = tokens.expect_name()?;
-    let text = String::from_str(tokens.allocator(), name.item)?;
-    Ok(Spanning::new(tokens.span_from(start), InputValue::Variable(text)))
+    Ok(builder.variable(name.item, tokens.span_from(start))?)
 }
 
 /// A scalar token. Another token is refused.
-#[tactic(auto, using(crate::proofs::ValueViews::view_of_scalar), unfolding(crate::specs::device::Steps::scalar_read))]
-fn parse_scalar<'a, S: ScalarValue>(tokens: &mut Cursor<'_, 'a>) -> ParseResult<InputValue<S>>
-    ensures gives { Gives (view_value S.content) result (left tokens.new) (scalar_read (stated S.reading S.of_bool) (left tokens.old)) }
+#[tactic(auto, unfolding(crate::specs::device::Steps::scalar_read))]
+fn parse_scalar<S: ScalarValue, B: Builder<S>>(
+    tokens: &mut Cursor<'_, B::Name>,
+    builder: &mut B,
+) -> Result<B::Value, ParseFailure>
+    ensures gives { Builds (B.builds_value builder.old builder.new) result (left tokens.new) (scalar_read (stated S.reading S.of_bool) (left tokens.old)) }
     ensures shorter { OnOk result (length (left tokens.new) < length (left tokens.old)) }
     ensures on { GoesOn tokens.old tokens.new }
 {
     let Some(token) = next_scalar(tokens) else {
         return tokens.refuse();
     };
+    let read = S::from_str(tokens.allocator(), token);
     let span = tokens.span();
     tokens.advance();
-    match S::from_str(tokens.allocator(), token) {
-        Ok(scalar) => Ok(Spanning::new(span, InputValue::Scalar(scalar))),
+    match read {
+        Ok(scalar) => Ok(builder.scalar(scalar, span)?),
         Err(ReadFailure::Refused(error)) => {
             Err(ParseFailure::Refused(Spanning::new(span, error)))
         }
@@ -193,7 +244,7 @@ fn parse_scalar<'a, S: ScalarValue>(tokens: &mut Cursor<'_, 'a>) -> ParseResult<
 
 /// The next token, if it is a scalar one. It is not taken.
 #[inline(always)]
-fn next_scalar<'a>(tokens: &Cursor<'_, 'a>) -> Option<ScalarToken<'a>>
+fn next_scalar<'t, W: SourceText>(tokens: &'t Cursor<'_, W>) -> Option<ScalarToken<'t>>
     ensures is { MatchOption result (passes scalar_token (first_of (left tokens.now)) ≡ false) (IsScalarAt (first_of (left tokens.now))) }
     ensures ended { EndsOnce (left tokens.now) }
 {
@@ -207,30 +258,33 @@ fn next_scalar<'a>(tokens: &Cursor<'_, 'a>) -> Option<ScalarToken<'a>>
 }
 
 /// A Name: `true` and `false` are scalars, `null` is null, any other name is an enum value.
-fn parse_named_value<'a, S: ScalarValue>(tokens: &mut Cursor<'_, 'a>) -> ParseResult<InputValue<S>>
-    ensures gives { Gives (view_value S.content) result (left tokens.new) (cursor (stated S.reading S.of_bool) (wants (of Name) (λ t. gives (record { item = by_name (stated S.reading S.of_bool) t.text; span = t.span }))) (left tokens.old)) }
+fn parse_named_value<S: ScalarValue, B: Builder<S>>(
+    tokens: &mut Cursor<'_, B::Name>,
+    builder: &mut B,
+) -> Result<B::Value, ParseFailure>
+    ensures gives { Builds (B.builds_value builder.old builder.new) result (left tokens.new) (cursor (stated S.reading S.of_bool) (wants (of Name) (λ t. gives (record { item = by_name (stated S.reading S.of_bool) t.text; span = t.span }))) (left tokens.old)) }
     ensures shorter { OnOk result (length (left tokens.new) < length (left tokens.old)) }
     ensures on { GoesOn tokens.old tokens.new }
 {
     let name = tokens.expect_name()?;
-    Ok(value_of_name(tokens.allocator(), name)?)
+    Ok(value_of_name::<S, B>(builder, name)?)
 }
 
 /// `true` and `false` are scalars, `null` is null, any other name is an enum value.
-fn value_of_name<'a, S: ScalarValue>(
-    alloc: Global,
-    name: Spanning<&'a str>,
-) -> Result<Spanning<InputValue<S>>, AllocError>
-    ensures { IfOk result (λ v. view_value S.content v ≡ record { item = by_name (stated S.reading S.of_bool) (chars name.entry.item.now); span = view_span name.entry.span }) }
+fn value_of_name<S: ScalarValue, B: Builder<S>>(
+    builder: &mut B,
+    name: Spanning<B::Name>,
+) -> Result<B::Value, AllocError>
+    ensures { IfOk result (λ v. B.builds_value builder.old builder.new v (record { item = by_name (stated S.reading S.of_bool) (B.Name.characters name.item); span = view_span name.span })) }
 {
-    if same_text(name.item, "true") {
-        Ok(Spanning::new(name.span, InputValue::Scalar(S::from_bool(true))))
-    } else if same_text(name.item, "false") {
-        Ok(Spanning::new(name.span, InputValue::Scalar(S::from_bool(false))))
-    } else if same_text(name.item, "null") {
-        Ok(Spanning::new(name.span, InputValue::Null))
+    let text = name.item.as_str();
+    if same_text(text, "true") {
+        builder.scalar(S::from_bool(true), name.span)
+    } else if same_text(text, "false") {
+        builder.scalar(S::from_bool(false), name.span)
+    } else if same_text(text, "null") {
+        builder.null(name.span)
     } else {
-        let text = String::from_str(alloc, name.item)?;
-        Ok(Spanning::new(name.span, InputValue::Enum(text)))
+        builder.enum_value(name.item, name.span)
     }
 }

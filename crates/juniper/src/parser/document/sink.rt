@@ -16,7 +16,7 @@ ghost use Rattle.juniper.specs.Limited.{HasFewTokens, HasTooManyTokens, IfDecide
 ghost use Rattle.juniper.specs.Sinks.{Gains, GainsTree, GainsFront, GainsBeforeEnd, GivesAs, GivesWithin};
 ghost use Rattle.juniper.specs.Promise.{IsRefusal};
 
-use crate::parser::definition::parse_definition;
+use crate::parser::definition::parse_definition_tree;
 use crate::parser::document::depth::{DepthFailure, depth_failure};
 use crate::parser::document::limited::{LimitFailure, Limits};
 use crate::parser::next::next_is;
@@ -92,14 +92,14 @@ fn give_within<S: ScalarValue, D: DefinitionSink<S>>(
 
 /// `Definition+`, up to the end, which is left there.
 fn give_definitions<S: ScalarValue, D: DefinitionSink<S>>(
-    tokens: &mut Cursor<'_, '_>,
+    tokens: &mut Cursor<'_, &str>,
     definitions: &mut D,
 ) -> UnlocatedParseResult<()>
     ensures answer { GivesAs D.holds definitions.old definitions.new result (cursor (stated S.reading S.of_bool) document (left tokens.old)) }
     ensures given { GainsBeforeEnd D.holds definitions.old definitions.new (stated S.reading S.of_bool) (left tokens.old) }
 {
     loop {
-        definitions.take(parse_definition(tokens)?)?;
+        definitions.take(parse_definition_tree(tokens)?)?;
         if next_is(tokens, Kind::EndOfFile) {
             return Ok(());
         }

@@ -4,9 +4,8 @@ use Rattle.juniper_tokens.specs.Cursor.{first_of}
 use Rattle.juniper_tokens.specs.Taking.{left}
 use Rattle.juniper_tokens.proofs.Public.{goes_further}
 use Rattle.juniper.specs.Scalars.{stated}
-use Rattle.juniper.specs.View.{view_definition}
 use Rattle.juniper.specs.device.Steps.{cursor}
-use Rattle.juniper.proofs.Marks.{marked_result, on_ok}
+use Rattle.juniper.proofs.Marks.{marked_builds, on_ok}
 use Rattle.juniper.proofs.Names.{says_fragment}
 use Rattle.juniper.proofs.Readings.{operation_begins, operation_is_no_end, fragment_begins, shorthand_begins}
 use Rattle.juniper.proofs.parser.definition.parse_definition.Goals as goal
@@ -21,7 +20,7 @@ unfolding definition
 returns-in-Some-clause-gives g c =
     let S = stated g.S.ParseScalarValue.reading g.S.ScalarValue.of_bool in
     let read = c.parse_operation in
-    marked_result (view_definition g.S.ParseScalarValue.content) c.args.tokens.now read.new.tokens _ c.mark-start.ensures
+    marked_builds (g.B.Builder.builds_definition _ _) c.args.tokens.now read.new.tokens _ c.mark-start.ensures
     (cursor S definition_parts (left c.args.tokens.now)) read.result
     (on_ok read.result (λ h. goes_further _ _ _ c.advance.ensures.on h) read.ensures.on)
     (on_ok read.result (λ h. omega (arith, h, c.advance.ensures.shorter)) read.ensures.shorter) read.ensures.within
@@ -36,7 +35,7 @@ returns-then-next_is_word-clause-gives g c =
     let took = c.advance-then-next_is_word in
     let says = says_fragment (first_of (left c.args.tokens.now)) _ _ c.next_is_word.ensures.is
     c.if-next_is_word.true in
-    marked_result (view_definition g.S.ParseScalarValue.content) c.args.tokens.now read.new.tokens _ c.mark-start.ensures
+    marked_builds (g.B.Builder.builds_definition _ _) c.args.tokens.now read.new.tokens _ c.mark-start.ensures
     (cursor S definition_parts (left c.args.tokens.now)) read.result
     (on_ok read.result (λ h. goes_further _ _ _ took.ensures.on h) read.ensures.on)
     (on_ok read.result (λ h. omega (arith, h, took.ensures.shorter)) read.ensures.shorter) read.ensures.within
@@ -50,7 +49,7 @@ returns-else-next_is_word-clause-gives g c =
     let read = c.parse_shorthand in
     let says = says_fragment (first_of (left c.args.tokens.now)) _ _ c.next_is_word.ensures.is
     c.if-next_is_word.false in
-    marked_result (view_definition g.S.ParseScalarValue.content) c.args.tokens.now read.new.tokens _ c.mark-start.ensures
+    marked_builds (g.B.Builder.builds_definition _ _) c.args.tokens.now read.new.tokens _ c.mark-start.ensures
     (cursor S definition_parts (left c.args.tokens.now)) read.result read.ensures.on
     read.ensures.shorter read.ensures.within
     (rw (shorthand_begins S (left c.args.tokens.now) (sym c.next_operation.ensures ∙ c.in-None.is) says)

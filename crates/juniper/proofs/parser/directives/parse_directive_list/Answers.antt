@@ -1,18 +1,28 @@
-use Rattle.std.proofs.Common.{rules, ◌∙◌, refl, sym, ap, Ok, List, map}
+use Rattle.std.proofs.Common.{rules, ◌∙◌, refl, sym, ap, Ok, Some, List, [], ◌∷◌, ◌++◌}
 use Rattle.std.proofs.lemmas.Result.{err_from_is_err_and}
-use Rattle.std.proofs.lemmas.List.{map-append}
 use Rattle.graphql_grammar.specs.Tokens.{Located}
 use Rattle.graphql_grammar.specs.Tree.{Directive, Directives}
 use Rattle.graphql_grammar.specs.device.Productions.{directives_of, directives}
 use Rattle.juniper_tokens.specs.Cursor.{Read, ◌>>=◌}
 use Rattle.juniper_tokens.specs.Taking.{left}
-use Rattle.juniper_tokens.proofs.Public.{goes_further}
+use Rattle.juniper_tokens.proofs.Public.{goes_further, stays}
 use Rattle.juniper_values.specs.Scalar.{Content}
-use Rattle.juniper.specs.View.{view_directive}
+use Rattle.juniper.proofs.Building.{each_more}
 use Rattle.juniper.proofs.Directives.{some_directives}
-use Rattle.juniper.proofs.Loops.{before_go_on, before_end, before_fail, after_fails}
+use Rattle.juniper.proofs.Loops.{before_none, before_go_on, before_end, before_fail, after_fails}
 use Rattle.juniper.proofs.Readings.{directives_repeat}
 use Rattle.juniper.proofs.parser.directives.parse_directive_list.Goals as goal
+
+pub loop-items-init : goal.loop-items-init
+loop-items-init g c = record {
+  parts = [];
+  so_far = before_none _;
+  built = rw c.none-items.ensures refl;
+  not_longer = search rules;
+  on = stays _;
+  at = c.requires.at;
+  ended = c.requires.ended;
+}
 
 pub returns-in_err-directive-clause-gives : goal.returns-in_err-directive-clause-gives
 unfolding directives
@@ -23,27 +33,30 @@ returns-in_err-directive-clause-gives g c =
     c.loop-items.invariant.at c.in_err-directive.field-0.0 _ c.in_err-directive.ensures.gives))
 
 pub loop-items-preserved : goal.loop-items-preserved
-loop-items-preserved g c =
-    let item = c.in_ok-directive.ensures.gives in record {
-      so_far = rw (c.in_ok-push_item.ensures.items, map-append)
-          (before_go_on (directives_repeat _) _ _ c.loop-items.invariant.ended c.loop-items.invariant.so_far
-          c.loop-items.invariant.at item);
-      not_longer = search rules;
-      on = goes_further _ _ _ c.loop-items.invariant.on c.in_ok-directive.ensures.on;
-      at = sym c.next_is-has_more.ensures.is ∙ c.if-not-has_more.false;
-      ended = c.next_is-has_more.ensures.ended;
-    }
+loop-items-preserved g c = let made = c.in_ok-directive.ensures.gives in record {
+  parts = c.loop-items.invariant.parts ++ made.part ∷ [];
+  so_far = before_go_on (directives_repeat _) _ _ c.loop-items.invariant.ended c.loop-items.invariant.so_far
+      c.loop-items.invariant.at made.reads;
+  built = rw c.in_ok-gather.ensures
+      (each_more g.B.Builder.builds_directive _ _ _ _ _ _ _ c.loop-items.invariant.built made.is_built);
+  not_longer = search rules;
+  on = goes_further _ _ _ c.loop-items.invariant.on c.in_ok-directive.ensures.on;
+  at = sym c.next_is-has_more.ensures.is ∙ c.if-not-has_more.false;
+  ended = c.next_is-has_more.ensures.ended;
+}
 
 pub returns-then-not-has_more-clause-gives : goal.returns-then-not-has_more-clause-gives
 unfolding directives
 returns-then-not-has_more-clause-gives g c =
-    let view = view_directive g.S.ParseScalarValue.content in
-    let item = c.in_ok-directive.ensures.gives in
+    let made = c.in_ok-directive.ensures.gives in
     let none = sym c.next_is-has_more.ensures.is ∙ c.if-not-has_more.true in
     let so_far = before_go_on (directives_repeat _) _ _ c.loop-items.invariant.ended c.loop-items.invariant.so_far
-    c.loop-items.invariant.at item in
-    ap (λ (r : Read (List (Located (Directive Content)))). r >>= λ ds. Ok (directives_of ds.0, ds.1))
-    (before_end (directives_repeat _) _ _ c.next_is-has_more.ensures.ended so_far none)
-    ∙ ap (λ (o : Directives Content). Ok (o, left c.parse_directive.new.tokens))
-    (some_directives (map view c.loop-items.items.items) (view c.in_ok-directive.directive))
-    ∙ rw (c.in_ok-push_item.ensures.items, map-append) refl
+    c.loop-items.invariant.at made.reads in record {
+      part = Some (c.loop-items.invariant.parts ++ made.part ∷ []);
+      reads = ap (λ (r : Read (List (Located (Directive Content)))). r >>= λ ds. Ok (directives_of ds.0, ds.1))
+          (before_end (directives_repeat _) _ _ c.next_is-has_more.ensures.ended so_far none)
+          ∙ ap (λ (o : Directives Content). Ok (o, left c.parse_directive.new.tokens))
+          (some_directives c.loop-items.invariant.parts made.part);
+      is_built = rw c.in_ok-gather.ensures
+          (each_more g.B.Builder.builds_directive _ _ _ _ _ _ _ c.loop-items.invariant.built made.is_built);
+    }

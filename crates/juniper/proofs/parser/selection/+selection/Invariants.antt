@@ -1,8 +1,10 @@
-use Rattle.std.proofs.Common.{◌≡◌, ◌≤◌, length, map, ◌+◌, ◌*◌}
+use Rattle.std.proofs.Common.{◌≡◌, ◌≤◌, List, length, ◌+◌, ◌*◌}
+use Rattle.graphql_grammar.specs.Tree.{Selection}
 use Rattle.graphql_grammar.specs.device.Productions.{selections_inner}
 use Rattle.juniper_tokens.specs.Taking.{left, GoesOn}
+use Rattle.juniper_values.specs.Scalar.{Content}
+use Rattle.juniper.specs.Building.{BuildsList}
 use Rattle.juniper.specs.Scalars.{stated}
-use Rattle.juniper.specs.View.{view_selection}
 use Rattle.juniper.specs.device.Steps.{cursor}
 use Rattle.juniper.proofs.Loops.{before_others}
 use Rattle.juniper.proofs.parser.selection.+selection.Given as goal
@@ -31,8 +33,9 @@ decreases-parse_selection_list g l = 6 * length (left l.tokens.now) + 5
 abbrev pub invariant-parse_selection_list-loop-items : goal.invariant-parse_selection_list-loop-items
 invariant-parse_selection_list-loop-items g l =
     let read = cursor (stated g.S.ParseScalarValue.reading g.S.ScalarValue.of_bool) selections_inner in record {
-      so_far : before_others (map (view_selection g.S.ParseScalarValue.content) l.items.items)
-          (read (left l.tokens)) ≡ read (left l.fn.tokens);
+      parts : List (Selection Content);
+      so_far : before_others parts (read (left l.tokens)) ≡ read (left l.fn.tokens);
+      built : BuildsList g.B.Builder.builds_selection g.B.Selections.Gather.gathered l.fn.builder l.builder l.items parts;
       not_longer : length (left l.tokens) ≤ length (left l.fn.tokens);
       on : GoesOn l.fn.tokens l.tokens;
     }

@@ -6,9 +6,9 @@ use Rattle.juniper.proofs.parser.types.+types.Goals as goal
 
 pub parse_any_type-returns-clause-gives : goal.parse_any_type-returns-clause-gives
 unfolding type
-parse_any_type-returns-clause-gives t c = rw (type_is (left c.args.tokens.now)) (search rules)
+parse_any_type-returns-clause-gives g t c = rw (type_is (left c.args.tokens.now)) (search rules)
 
 pub parse_any_type-returns-in_err-inner-clause-gives :
     goal.parse_any_type-returns-in_err-inner-clause-gives
 unfolding type
-parse_any_type-returns-in_err-inner-clause-gives t c = rw (type_is (left c.args.tokens.now)) (search rules)
+parse_any_type-returns-in_err-inner-clause-gives g t c = rw (type_is (left c.args.tokens.now)) (search rules)

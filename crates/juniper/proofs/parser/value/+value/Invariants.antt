@@ -1,10 +1,13 @@
-use Rattle.std.proofs.Common.{◌≡◌, ◌≤◌, length, not, map, ◌+◌, ◌*◌}
+use Rattle.std.proofs.Common.{◌≡◌, ◌≤◌, List, length, not, ◌+◌, ◌*◌}
 use Rattle.graphql_lexical.specs.declared.kind.Kind.TheVariants.{BracketClose, CurlyClose}
+use Rattle.graphql_grammar.specs.Tokens.{Located, Word}
+use Rattle.graphql_grammar.specs.Tree.{Value}
 use Rattle.graphql_grammar.specs.device.Productions.{key_and_value}
 use Rattle.graphql_grammar.specs.device.Reading.{of, symbol, a_value}
 use Rattle.juniper_tokens.specs.Taking.{left, GoesOn}
+use Rattle.juniper_values.specs.Scalar.{Content}
+use Rattle.juniper.specs.Building.{BuildsEach}
 use Rattle.juniper.specs.Scalars.{stated}
-use Rattle.juniper.specs.View.{view_value, view_object_field}
 use Rattle.juniper.specs.device.Steps.{closed_read}
 use Rattle.juniper.proofs.Loops.{with_front}
 use Rattle.juniper.proofs.parser.value.+value.Given as goal
@@ -31,8 +34,9 @@ abbrev pub invariant-parse_items-loop-items : goal.invariant-parse_items-loop-it
 invariant-parse_items-loop-items g l =
     let S = stated g.S.ParseScalarValue.reading g.S.ScalarValue.of_bool in
     let read = closed_read S (of BracketClose) (symbol (a_value (not l.is_const))) in record {
-      so_far : with_front (map (view_value g.S.ParseScalarValue.content) l.items.items)
-          (read (left l.tokens)) ≡ read (left l.fn.tokens);
+      parts : List (Located (Value Content));
+      so_far : with_front parts (read (left l.tokens)) ≡ read (left l.fn.tokens);
+      built : BuildsEach g.B.Builder.builds_value l.fn.builder l.builder (g.B.Items.Gather.gathered l.items) parts;
       not_longer : length (left l.tokens) ≤ length (left l.fn.tokens);
       on : GoesOn l.fn.tokens l.tokens;
     }
@@ -44,8 +48,9 @@ abbrev pub invariant-parse_fields-loop-items : goal.invariant-parse_fields-loop-
 invariant-parse_fields-loop-items g l =
     let S = stated g.S.ParseScalarValue.reading g.S.ScalarValue.of_bool in
     let read = closed_read S (of CurlyClose) (key_and_value (not l.is_const)) in record {
-      so_far : with_front (map (view_object_field g.S.ParseScalarValue.content) l.items.items)
-          (read (left l.tokens)) ≡ read (left l.fn.tokens);
+      parts : List (Word × Located (Value Content));
+      so_far : with_front parts (read (left l.tokens)) ≡ read (left l.fn.tokens);
+      built : BuildsEach g.B.Builder.builds_field l.fn.builder l.builder (g.B.Fields.Gather.gathered l.items) parts;
       not_longer : length (left l.tokens) ≤ length (left l.fn.tokens);
       on : GoesOn l.fn.tokens l.tokens;
     }

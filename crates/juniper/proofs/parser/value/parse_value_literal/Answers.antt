@@ -15,7 +15,7 @@ pub returns-clause-answers : goal.returns-clause-answers
 returns-clause-answers g c =
     let S = stated g.S.ParseScalarValue.reading g.S.ScalarValue.of_bool in
     let view = view_value g.S.ParseScalarValue.content in
-    let parsed = c.parse_value-result in
+    let parsed = c.parse_value_tree-result in
     follows (ReturnsValue S (not c.args.is_const) view parsed.result) _ _ _ _ _ c.cursor-tokens.ensures
     (rest_of _ _ parsed.ensures.on) c.count-left.ensures.is c.take_until.ensures
     (answers_value S (not c.args.is_const) view parsed.result (left c.cursor-tokens.result) (left parsed.new.tokens)
@@ -23,7 +23,7 @@ returns-clause-answers g c =
 
 pub returns-clause-memory : goal.returns-clause-memory
 returns-clause-memory g c =
-    let parsed = c.parse_value-result in
+    let parsed = c.parse_value_tree-result in
     follows (λ (old new : List Lexeme). OnMemory parsed.result (IsRest old new)) _ _ _ _ _ c.cursor-tokens.ensures
     (rest_of _ _ parsed.ensures.on) c.count-left.ensures.is c.take_until.ensures
     (on_memory parsed.result (left c.cursor-tokens.result) (left parsed.new.tokens) (rest_of _ _ parsed.ensures.on))

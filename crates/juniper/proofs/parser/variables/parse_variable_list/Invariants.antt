@@ -1,8 +1,10 @@
-use Rattle.std.proofs.Common.{◌≡◌, ◌≤◌, length, map}
+use Rattle.std.proofs.Common.{◌≡◌, ◌≤◌, List, length}
+use Rattle.graphql_grammar.specs.Tree.{VariableDefinition}
 use Rattle.graphql_grammar.specs.device.Productions.{variables_inner}
 use Rattle.juniper_tokens.specs.Taking.{left, GoesOn}
+use Rattle.juniper_values.specs.Scalar.{Content}
+use Rattle.juniper.specs.Building.{BuildsList}
 use Rattle.juniper.specs.Scalars.{stated}
-use Rattle.juniper.specs.View.{view_variable}
 use Rattle.juniper.specs.device.Steps.{cursor}
 use Rattle.juniper.proofs.Loops.{before_others}
 use Rattle.juniper.proofs.parser.variables.parse_variable_list.Given as goal
@@ -10,8 +12,9 @@ use Rattle.juniper.proofs.parser.variables.parse_variable_list.Given as goal
 abbrev pub invariant-loop-items : goal.invariant-loop-items
 invariant-loop-items g l =
     let read = cursor (stated g.S.ParseScalarValue.reading g.S.ScalarValue.of_bool) variables_inner in record {
-      so_far : before_others (map (view_variable g.S.ParseScalarValue.content) l.items.items)
-          (read (left l.tokens)) ≡ read (left l.fn.tokens);
+      parts : List (VariableDefinition Content);
+      so_far : before_others parts (read (left l.tokens)) ≡ read (left l.fn.tokens);
+      built : BuildsList g.B.Builder.builds_variable g.B.VariableList.Gather.gathered l.fn.builder l.builder l.items parts;
       not_longer : length (left l.tokens) ≤ length (left l.fn.tokens);
       on : GoesOn l.fn.tokens l.tokens;
     }

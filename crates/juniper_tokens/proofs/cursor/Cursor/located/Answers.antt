@@ -1,6 +1,5 @@
-use Rattle.std.proofs.Common.{◌∙◌, ap, sym, subst}
+use Rattle.std.proofs.Common.{◌∙◌, ap, sym}
 use Rattle.graphql_lexical.specs.Cutting.{Lexeme}
-use Rattle.juniper_tokens.specs.device.Ranges.{IsRange, range_lexeme}
 use Rattle.juniper_tokens.proofs.Taking.{first_is_range, seen_first}
 use Rattle.juniper_tokens.proofs.cursor.Cursor.located.Goals as goal
 

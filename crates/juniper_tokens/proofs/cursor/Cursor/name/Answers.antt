@@ -3,7 +3,7 @@ use Rattle.graphql_lexical.specs.declared.kind.Kind.TheVariants.{Name}
 use Rattle.graphql_lexical.specs.Kinds.{same_kind}
 use Rattle.graphql_lexical.specs.Cutting.{Lexeme}
 use Rattle.juniper_tokens.proofs.Texts.{name_has_text, open_text, whole_name}
-use Rattle.juniper_tokens.proofs.Taking.{first_is_range, seen_first}
+use Rattle.juniper_tokens.proofs.Taking.{seen_first}
 use Rattle.juniper_tokens.proofs.cursor.Cursor.name.Goals as goal
 
 pub returns : goal.returns

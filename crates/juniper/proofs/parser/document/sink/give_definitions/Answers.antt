@@ -23,7 +23,7 @@ pub loop-tokens-preserved : goal.loop-tokens-preserved
 loop-tokens-preserved g c =
     let S = stated g.S.ParseScalarValue.reading g.S.ScalarValue.of_bool in
     let l = c.loop-tokens in
-    let read = c.in_ok-parse_definition in
+    let read = c.in_ok-parse_definition_tree in
     let ended = c.next_is.ensures.ended in record {
       front = l.invariant.front ++ view_definition g.S.ParseScalarValue.content read.field-0 ∷ [];
       so_far = go_on _ _ _ l.invariant.so_far read.ensures.gives ended (sym c.next_is.ensures.is ∙ c.if-next_is.false);
@@ -31,14 +31,14 @@ loop-tokens-preserved g c =
       were_read = one_more_read S _ _ l.invariant.were_read read.ensures.gives ended;
     }
 
-pub returns-in_err-parse_definition : goal.returns-in_err-parse_definition
-returns-in_err-parse_definition g c =
+pub returns-in_err-parse_definition_tree : goal.returns-in_err-parse_definition_tree
+returns-in_err-parse_definition_tree g c =
     let S = stated g.S.ParseScalarValue.reading g.S.ScalarValue.of_bool in
     let l = c.loop-tokens in
     let p = err_from_is_err_and c.from_residual.result c.from_residual.ensures.1 in
-    let failed = c.in_err-parse_definition in record {
+    let failed = c.in_err-parse_definition_tree in record {
       answer = rw (p.1, p.2) (
-        left c.parse_definition.new.tokens,
+        left c.parse_definition_tree.new.tokens,
         fail _ _ _ l.invariant.so_far failed.field-0.0 _ failed.ensures.gives,
       );
       given = record {
@@ -61,13 +61,13 @@ pub returns-then-next_is : goal.returns-then-next_is
 returns-then-next_is g c =
     let S = stated g.S.ParseScalarValue.reading g.S.ScalarValue.of_bool in
     let l = c.loop-tokens in
-    let read = c.in_ok-parse_definition in
+    let read = c.in_ok-parse_definition_tree in
     let ended = c.next_is.ensures.ended in
     let given = l.invariant.front ++ view_definition g.S.ParseScalarValue.content read.field-0 ∷ [] in
     let gains = grown g.D.DefinitionSink.holds l.invariant.gains c.in_ok-take.ensures.taken in record {
       answer = (
         given,
-        drop 1 (left c.parse_definition.new.tokens),
+        drop 1 (left c.parse_definition_tree.new.tokens),
         end _ _ _ l.invariant.so_far read.ensures.gives ended (sym c.next_is.ensures.is ∙ c.if-next_is.true),
         gains,
       );
