@@ -88,6 +88,19 @@ OBJECT = lambda part: repeated("{", part, "}")
 WORDS = lambda part: repeated("", part)
 TOKEN = lambda kind, part: repeated(kind + " ", part)
 
+
+
+def chain(n, part, last):
+    """Fragments of some n bytes, each of which spreads the next one as the part says."""
+    count = max(1, n // len(part("000000", "000000")))
+    return "".join(part(f"{i:06}", f"{i + 1:06}") for i in range(count)) + f"fragment F{count:06} on T {{a {last}}}"
+
+
+CHAINED = lambda last: lambda n: "{...F000000}" + chain(n, lambda i, next: f"fragment F{i} on T {{a{{...F{next}}}}}", last)
+DOUBLINGS = lambda n: "{...F000000}" + chain(n, lambda i, next: f"fragment F{i} on T {{a ...F{next} ...F{next}}}", "")
+OPERATIONS = lambda n: times(n // 2, "query Q№ {...F000000} ") + chain(n // 2, lambda i, next: f"fragment F{i} on T {{...F{next}}}", "")
+LONG_NAMES = lambda n: "{" + times(n // 2, "..." + "F" * 1000 + "№" + " " * 19) + "}" + times(n // 2, "fragment " + "F" * 1000 + "№ on T {a} ")
+
 # The calls of `check_calls calls`: the kind, the call if the kind has any, its input, and how many times as much twice the
 # size may take. `unlocated_eq` compares the value with itself.
 VALUES = [
@@ -114,6 +127,13 @@ VALUES = [
 CALLS = [(("input_value", call), name, text, most) for call, name, text, most in VALUES] + [
     (("arguments", "get v"), "objects in a list", repeated("{v: [", "{k: [1]} ", "]}"), LINEAR),
     (("pushed",), "definitions", TEXTS["definitions"], LINEAR),
+    (("complexities",), "fields", TEXTS["fields"], LINEAR),
+    (("complexities",), "fields in fields", TEXTS["fields in fields"], LINEAR),
+    (("complexities",), "a chain of fragments", CHAINED(""), LINEAR),
+    (("complexities",), "a cycle of fragments", CHAINED("...F000000"), LINEAR),
+    (("complexities",), "fragments that are spread twice", DOUBLINGS, LINEAR),
+    (("complexities",), "operations over a chain", OPERATIONS, LINEAR),
+    (("complexities",), "long names with one beginning", LONG_NAMES, LINEAR),
     (("cursor", "rest"), "punctuators", LISTS("a "), LINEAR),
     (("cursor", "delimited_list [ ]"), "names", LISTS("a "), LINEAR),
     (("cursor", "delimited_nonempty_list [ ]"), "names", LISTS("a "), LINEAR),

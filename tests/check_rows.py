@@ -11,7 +11,8 @@
 
 The kinds of the rows of tests/rows/calls are those of check_calls; crates/checked_calls/src/kinds.rt says which there are. The
 answer is the output of a run on the text. A kind that makes calls is given them, and its answer has a line for each: the call,
-` -> ` and what it returns. One kind is made of others:
+` -> ` and what it returns. Those of the kind `complexities` are compared with an expansion here, too: `complexities` makes documents.
+One kind is made of others:
 
     large WORD N      a large literal: how long it is, and which calls on its value return what is expected. `string` is a
                       String of N escapes, `block_string` a block string of N lines after its first, `name` an enum value of N
@@ -36,6 +37,7 @@ from concurrent.futures import ThreadPoolExecutor
 from pathlib import Path
 from typing import List, NamedTuple, Optional, Tuple
 
+from complexities import made
 from cutting import cut, joined
 from rows import Row, plain, rows
 
@@ -47,7 +49,7 @@ COMPLETION = "completion of a refused text"
 SAME = "canonical text of a row"
 COUNTS = {"gqlcheck": 2127, "built": 4, "completed": 8, "canonical": 29, COMPLETION: 462, SAME: 636}
 COUNTS.update(lexer=73, line_table=1, type=5, value=34, const=1, document=44, within=14, limited=23, equal=25, large=4)
-COUNTS.update(odd_document=25)
+COUNTS.update(odd_document=25, complexities=2010)
 
 # Of the kinds of check_calls those whose rows make calls, with the number of their rows.
 CALLS = {"cursor": 14, "arguments": 7, "answer": 17, "devices": 2, "input_value": 22, "scalar": 24, "odd_scalar": 42,
@@ -306,6 +308,7 @@ def main() -> int:
     folder = ROOT / "tests/rows"
     names = [str(path.relative_to(folder)) for path in sorted(folder.rglob("*.rows"))]
     work = [(name, row) for name in names for row in rows(name)]
+    work += [("made by complexities.py", row) for row in made(2000)]
     held, tried = dict.fromkeys(COUNTS, 0), dict.fromkeys(COUNTS, 0)
     with ThreadPoolExecutor(os.cpu_count()) as pool:
         for shown in pool.map(lambda it: try_row(program, canon, calls, library, *it), work):

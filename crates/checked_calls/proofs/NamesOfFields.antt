@@ -18,7 +18,7 @@ use Rattle.checked_calls.specs.Fields.{texts, fields_of, fields_within, fields_a
 pub grown : (old mid new xs ys : List Text) → mid ≡ old ++ xs → new ≡ mid ++ ys → new ≡ old ++ (xs ++ ys)
 grown old mid new xs ys p q = q ∙ rw (p, append_assoc) refl
 
--- a name that is pushed is noted behind the others
+-- a name that is pushed is noted after the others
 pub noted : (old new : List (Bor (List ℕ))) (name : Bor (List ℕ)) → new ≡ old ++ name ∷ []
     → texts new ≡ texts old ++ chars name.now ∷ []
 noted old new name e = rw (e, map-append) refl

@@ -4,6 +4,7 @@
 //! out is returned where what the call is made on could not be made.
 
 mod answers;
+mod complexities;
 mod conversions;
 mod converted;
 mod cursor;
@@ -46,6 +47,7 @@ pub fn write_answer(
         "parser" => cursor::write_tokens(alloc, out, text),
         "cursor" => cursor::write_calls(alloc, out, text, calls),
         "arguments" => documents::write_calls(alloc, out, text, calls),
+        "complexities" => complexities::write_complexities(alloc, out, text),
         "answer" => answers::write_calls(alloc, out, text, calls),
         _ => write_calls(alloc, out, kind, text, calls),
     }

@@ -37,8 +37,8 @@ gains-definition (Ok x) old flat d nodes texts = record {
             let fits = fits-append 0 done ns (subst (NodesFit 0) (document-more before d) fit) in
             let at : 0 + byte_count (node_texts done) ≡ length (string_bytes old.flat.texts) =
             omega (arith, ap length h.texts) in
-            let behind = subst (λ (k : ℕ). NodesFit k ns) at fits.1 in
-            written-next source done ns _ _ _ (h.nodes fits.0) h.texts (nodes source h.table behind)
+            let following = subst (λ (k : ℕ). NodesFit k ns) at fits.1 in
+            written-next source done ns _ _ _ (h.nodes fits.0) h.texts (nodes source h.table following)
             ∙ ap (written_nodes source 0) all;
         texts =
             texts ∙ (ap (λ bs. bs ++ encode_utf8_all (node_texts ns)) h.texts

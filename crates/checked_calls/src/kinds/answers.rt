@@ -103,7 +103,7 @@ fn write_object_of(alloc: Global, out: &mut String, text: &str) -> Written {
     }
 }
 
-// An object with room for a number of fields.
+// An object with capacity for a number of fields.
 fn empty(alloc: Global, number: &str) -> Result<Answer, AllocError> {
     let object: Object<DefaultScalarValue> = Object::with_capacity(
         alloc,

@@ -65,11 +65,11 @@ impl Write for Target {
 /// whether the reader or the writer has failed, and how many bytes of the report were written.
 pub fn answer(alloc: Global, out: &mut String, text: &str, call: &str) -> Written {
     let bytes = text.as_bytes();
-    let is_interrupted = told(call, "interrupted_read=", 0) > 0;
+    let is_interrupted = number_in(call, "interrupted_read=", 0) > 0;
     let mut reader = Watched::new(Source {
         rest: bytes,
-        step: told(call, "read=", 1000),
-        failing: told(call, "failed_read=", 0).max(told(call, "interrupted_read=", 0)),
+        step: number_in(call, "read=", 1000),
+        failing: number_in(call, "failed_read=", 0).max(number_in(call, "interrupted_read=", 0)),
         kind: if is_interrupted {
             ErrorKind::Interrupted
         } else {
@@ -79,7 +79,7 @@ pub fn answer(alloc: Global, out: &mut String, text: &str, call: &str) -> Writte
     });
     let mut writer = Watched::new(Target {
         taken: Vec::new(alloc),
-        step: told(call, "write=", 1000),
+        step: number_in(call, "write=", 1000),
         failing: failing_write(call),
         kind: kind_of_write(call),
         calls: 0,
@@ -108,9 +108,9 @@ fn end_word(end: RunEnd) -> &'static str {
 
 // The number of the write that fails.
 fn failing_write(call: &str) -> usize {
-    told(call, "failed_write=", 0)
-        .max(told(call, "interrupted_write=", 0))
-        .max(told(call, "empty_write=", 0))
+    number_in(call, "failed_write=", 0)
+        .max(number_in(call, "interrupted_write=", 0))
+        .max(number_in(call, "empty_write=", 0))
 }
 
 // The error with which a write fails; None where it takes no byte.
@@ -140,7 +140,7 @@ fn write_beginning(alloc: Global, out: &mut String, bytes: &[u8], written: &[u8]
 }
 
 // The number that a call gives after a word, or another one where it gives none.
-fn told(call: &str, word: &str, other: usize) -> usize {
+fn number_in(call: &str, word: &str, other: usize) -> usize {
     for part in call.split_whitespace() {
         if let Some(number) = part.strip_prefix(word) {
             return number.parse::<usize>().unwrap_or(other);
