@@ -10,7 +10,7 @@
 #include <pthread.h>
 #include <signal.h>
 
-/* How many bytes of this thread's stack are left: 0 where that isn't known, as on a stack that the program made itself. */
+/* How many bytes of this thread's stack are left: 0 if that isn't known, as on a stack that the program made itself. */
 static inline size_t stack_left(void) {
     static __thread char *lowest, *highest;
     char here;
@@ -72,8 +72,8 @@ static inline void run_in_thread(stack_call call) {
         run_thread((call.size + margin) / PAGE * PAGE, &call);
 }
 
-/* Makes a call that takes at most so many bytes of stack: on this thread's where enough is left, otherwise in a thread of its
- * own. Where none can be made, the call isn't either. */
+/* Makes a call that takes at most so many bytes of stack: on this thread's if enough is left, otherwise in a thread of its
+ * own. If no thread can be made, the call isn't made either. */
 static inline void run_on_stack(size_t size, void (*run)(void *), void *argument) {
     if (stack_left() >= size)
         run(argument);
@@ -129,7 +129,7 @@ static inline void run_canonical(void *call) {
     c->status = firthnapkin_canonical(c->source, c->length, c->texts, c->texts_capacity, c->texts_length, c->error);
 }
 
-/* firthnapkin_parse; FIRTHNAPKIN_OUT_OF_MEMORY where no stack can be made. */
+/* firthnapkin_parse; FIRTHNAPKIN_OUT_OF_MEMORY if no stack can be made. */
 static inline uint32_t parse_on_stack(const uint8_t *source, size_t length, const firthnapkin_limits *limits,
                                       firthnapkin_node *nodes, size_t nodes_capacity, size_t *nodes_length, uint8_t *texts,
                                       size_t texts_capacity, size_t *texts_length, firthnapkin_error *error) {

@@ -5,7 +5,7 @@
 #include "calls.h"
 #include <stdlib.h>
 
-/* The result for a source. The texts are those of the nodes, or the canonical text. Where there is an error they are its
+/* The result for a source. The texts are those of the nodes, or the canonical text. If there is an error they are its
  * words. */
 typedef struct {
     uint32_t status;
@@ -49,7 +49,7 @@ static inline uint32_t find_words(whole *w, const uint8_t *source, size_t length
     return status;
 }
 
-/* Puts the words of the source's error into the texts, where the status says that there is one. */
+/* Puts the words of the source's error into the texts, if the status says that there is one. */
 static inline void add_words(whole *w, const uint8_t *source, size_t length) {
     if (w->status != FIRTHNAPKIN_SYNTAX_ERROR && w->status != FIRTHNAPKIN_TOO_DEEP && w->status != FIRTHNAPKIN_TOO_MANY_TOKENS)
         return;

@@ -1,16 +1,16 @@
 /* A proved parser of GraphQL's executable documents (October 2021), for C and for programs that call C.
  *
- * Nothing is kept between two calls, and nothing has to be freed: everything that a call gives is in the caller's own
- * memory. Calls may run in any number of threads at once.
+ * Nothing is kept between two calls, and nothing has to be freed: everything that a call returns is written to the caller's
+ * own memory. Calls may run in any number of threads at once.
  *
  * The caller has to keep these conditions, since no proof does:
  * - A pointer refers to memory for as many bytes, nodes or tokens as its length or its capacity says. If that is 0 the
  *   pointer may be NULL. The pointers to limits, lengths and errors are never NULL.
  * - The source, limits, buffers, lengths and error of one call don't overlap, and nothing else writes to them meanwhile.
- * - The stack is large enough for the call: FIRTHNAPKIN_STACK_SIZE(depth) bytes are enough, whatever the source, and
+ * - The stack is large enough for the call: FIRTHNAPKIN_STACK_SIZE(depth) bytes suffice, whatever the source, and
  *   FIRTHNAPKIN_STACK_SIZE(0) for a call that takes no limits.
  * - malloc, realloc and free are of one allocator, and a block is aligned to each power of two up to 16 that divides its
- *   size. A call is not made from a signal handler, nor in the forked child of a process with threads.
+ *   size. No call is made from a signal handler, or in the forked child of a process with threads.
  */
 #ifndef FIRTHNAPKIN_H
 #define FIRTHNAPKIN_H
@@ -26,7 +26,7 @@ extern "C" {
 #define FIRTHNAPKIN_VERSION 100
 #define FIRTHNAPKIN_VERSION_STRING "0.1.0"
 
-/* The largest depth that a call takes. */
+/* The largest depth that a call accepts. */
 #define FIRTHNAPKIN_MAX_DEPTH 1000
 
 /* The limits of a call. A later version may give a reserved word a meaning, in which 0 is no limit. */
@@ -39,15 +39,15 @@ typedef struct {
 /* Brackets nested 200 deep, and any number of tokens. */
 #define FIRTHNAPKIN_LIMITS_DEFAULT {200, UINT32_MAX, {0}}
 
-/* So many bytes of stack are enough for a call with this depth; measured on x86-64, where a level takes at most 2,100. */
+/* The bytes of stack that suffice for a call with this depth; measured on x86-64, where a level takes at most 2,100. */
 #define FIRTHNAPKIN_STACK_SIZE(depth) ((size_t)32768 + (size_t)2304 * (depth))
 
 /* What a call returns. Each call says which of these it returns, and what FIRTHNAPKIN_OK and FIRTHNAPKIN_SYNTAX_ERROR mean
- * there. Where several hold, the first line of this table that holds is the answer:
+ * there. If several hold, the first line of this table that holds is returned:
  *
  *   1. FIRTHNAPKIN_SOURCE_TOO_LONG     the source isn't read
  *   2. FIRTHNAPKIN_INVALID_LIMIT       the source isn't read
- *   3. FIRTHNAPKIN_NOT_UTF8            the whole source is checked, also what is after an error or after the last token wanted
+ *   3. FIRTHNAPKIN_NOT_UTF8            all of the source is checked, also what is after an error or after the last token wanted
  *   4. FIRTHNAPKIN_INVALID_ERROR
  *   5. FIRTHNAPKIN_TOO_MANY_TOKENS     the first token too many is before the first lexical error
  *   6. FIRTHNAPKIN_SYNTAX_ERROR        a lexical error, wherever it is: also after a token that is nested too deep
@@ -58,7 +58,7 @@ typedef struct {
  * FIRTHNAPKIN_OUT_OF_MEMORY may be returned in place of lines 5 to 9. */
 enum firthnapkin_status {
     FIRTHNAPKIN_OK = 0,               /* success */
-    FIRTHNAPKIN_SYNTAX_ERROR = 1,     /* the source is a text, and has a syntax error */
+    FIRTHNAPKIN_SYNTAX_ERROR = 1,     /* the source is UTF-8, and has a syntax error */
     FIRTHNAPKIN_NOT_UTF8 = 2,         /* the source is not UTF-8 */
     FIRTHNAPKIN_OUT_OF_MEMORY = 3,    /* memory ran out */
     FIRTHNAPKIN_TOO_DEEP = 4,         /* a token is nested too deep */
@@ -155,7 +155,7 @@ typedef struct {
 
 /* The kind of an error. */
 enum firthnapkin_error_kind {
-    FIRTHNAPKIN_ERROR_UNEXPECTED_TOKEN = 0, /* no document has the token after those before it */
+    FIRTHNAPKIN_ERROR_UNEXPECTED_TOKEN = 0, /* no document could have the token there */
     FIRTHNAPKIN_ERROR_UNEXPECTED_END = 1,   /* the source ends within a document */
     FIRTHNAPKIN_ERROR_LEXICAL = 2,          /* there is no token here; `detail` says why */
     FIRTHNAPKIN_ERROR_TOO_DEEP = 3,         /* the token is nested too deep */
@@ -228,18 +228,19 @@ static inline const char *firthnapkin_error_detail_name(uint32_t detail) {
  *
  * FIRTHNAPKIN_OK: the source is a document. Its nodes are at the beginning of `nodes`, and their texts, one after the other,
  * at the beginning of `texts`; the rest of both is as it was. FIRTHNAPKIN_BUFFER_TOO_SMALL: it is a document, and one of the
- * two is too small. Both statuses set the lengths to the number of nodes and of bytes of texts; all others set both lengths
- * to 0. All statuses but FIRTHNAPKIN_OK leave `nodes` and `texts` as they were.
+ * two is too small; both begin with as many as fit. Both statuses set the lengths to the number of nodes and of bytes of
+ * texts; all others set both lengths to 0. Nodes are written while the source is parsed, so after any other status the
+ * buffers hold unspecified values, but for FIRTHNAPKIN_NOT_UTF8, FIRTHNAPKIN_SOURCE_TOO_LONG and FIRTHNAPKIN_INVALID_LIMIT,
+ * which leave them as they were. Buffers of `length` nodes and `length` bytes always suffice.
  *
- * FIRTHNAPKIN_SYNTAX_ERROR: the source is a text, and no document. The error is its first lexical error, wherever that is;
- * without one it is at the first token that no document has there. FIRTHNAPKIN_TOO_DEEP: the source has no lexical error, not
- * even after the token that is nested too deep. That token is the error, and those up to it begin a document.
+ * FIRTHNAPKIN_SYNTAX_ERROR: the source is UTF-8, and isn't a document. The error is its first lexical error, wherever that is;
+ * without one it is at the first token that no document could have there. FIRTHNAPKIN_TOO_DEEP: the source has no lexical
+ * error, not even after the token that is nested too deep. That token is the error, and those up to it begin a document.
  * FIRTHNAPKIN_TOO_MANY_TOKENS: the source has more tokens than limits->tokens, before its end or its first lexical error. The
  * first one too many is the error, and nothing was parsed. These three statuses write the error, the others leave it as it was.
  *
  * It also returns FIRTHNAPKIN_NOT_UTF8, FIRTHNAPKIN_OUT_OF_MEMORY, FIRTHNAPKIN_SOURCE_TOO_LONG and FIRTHNAPKIN_INVALID_LIMIT.
- * Before the first token is judged it holds 40 bytes for each token; the most that was seen is 388 bytes for a byte of a source
- * of the shape {a{a}a{a}..}. */
+ * Before the first token is judged it holds 40 bytes for each token, and no tree is built. */
 uint32_t firthnapkin_parse(const uint8_t *source, size_t length, const firthnapkin_limits *limits, firthnapkin_node *nodes,
                            size_t nodes_capacity, size_t *nodes_length, uint8_t *texts, size_t texts_capacity,
                            size_t *texts_length, firthnapkin_error *error);
@@ -249,7 +250,7 @@ uint32_t firthnapkin_parse(const uint8_t *source, size_t length, const firthnapk
  *
  * FIRTHNAPKIN_OK: the words are at the beginning of `buffer`, the rest of which is as it was, and `buffer_length` is the number
  * of their bytes. FIRTHNAPKIN_BUFFER_TOO_SMALL: they have `buffer_length` bytes, more than `buffer_capacity`.
- * FIRTHNAPKIN_INVALID_ERROR: there are no words for this error in this source. Any other error has some, also where it is of
+ * FIRTHNAPKIN_INVALID_ERROR: there are no words for this error in this source. Any other error has some, even if it is of
  * another source. It also returns FIRTHNAPKIN_NOT_UTF8, FIRTHNAPKIN_OUT_OF_MEMORY and FIRTHNAPKIN_SOURCE_TOO_LONG. All statuses
  * but FIRTHNAPKIN_OK leave `buffer` as it was, and all but the first two set `buffer_length` to 0. */
 uint32_t firthnapkin_message(const uint8_t *source, size_t length, const firthnapkin_error *error, uint8_t *buffer,
@@ -275,7 +276,7 @@ uint32_t firthnapkin_excerpt(const uint8_t *source, size_t length, const firthna
 
 /* Says whether a source has more tokens than `max_tokens`, its end not counted. The whole source is checked as UTF-8, then
  * cut into tokens up to the first one too many. No memory is taken but for the positions of the error. firthnapkin_parse takes
- * the same limit; this call is for those who parse elsewhere.
+ * the same limit; this call is for programs that parse elsewhere.
  *
  * FIRTHNAPKIN_OK: there are no more before the end, or before the first lexical error. FIRTHNAPKIN_TOO_MANY_TOKENS: there are
  * more before either, and the error is at the first one too many; what is after it is UTF-8, and may have lexical errors. It
@@ -293,9 +294,9 @@ uint32_t firthnapkin_count(const uint8_t *source, size_t length, uint32_t max_to
  * the one after these; what is after it is UTF-8, and may have lexical errors.
  *
  * It also returns FIRTHNAPKIN_NOT_UTF8 and FIRTHNAPKIN_SOURCE_TOO_LONG, which leave `tokens` as it was, and
- * FIRTHNAPKIN_OUT_OF_MEMORY, where it may begin with some of the source's first tokens; then `tokens_length` is 0. All
- * statuses but FIRTHNAPKIN_SYNTAX_ERROR and FIRTHNAPKIN_TOO_MANY_TOKENS leave the error as it was. An array of one token more
- * than the source has bytes is never too short. */
+ * FIRTHNAPKIN_OUT_OF_MEMORY, after which it may begin with some of the source's first tokens, and `tokens_length` is 0. All
+ * statuses but FIRTHNAPKIN_SYNTAX_ERROR and FIRTHNAPKIN_TOO_MANY_TOKENS leave the error as it was. An array of
+ * length + 1 tokens always suffices. */
 uint32_t firthnapkin_tokens(const uint8_t *source, size_t length, uint32_t max_tokens, firthnapkin_token *tokens,
                             size_t tokens_capacity, size_t *tokens_length, firthnapkin_error *error);
 
@@ -308,7 +309,7 @@ uint32_t firthnapkin_tokens(const uint8_t *source, size_t length, uint32_t max_t
  * there is none, and `buffer_length` is 0. FIRTHNAPKIN_SYNTAX_ERROR: the source can't be cut into tokens, and the error is its
  * first lexical error, of the kind FIRTHNAPKIN_ERROR_LEXICAL. It also returns FIRTHNAPKIN_NOT_UTF8, FIRTHNAPKIN_OUT_OF_MEMORY
  * and FIRTHNAPKIN_SOURCE_TOO_LONG. All statuses but FIRTHNAPKIN_OK leave `buffer` as it was, and all but
- * FIRTHNAPKIN_SYNTAX_ERROR the error. A buffer twice as long as the source is never too short. */
+ * FIRTHNAPKIN_SYNTAX_ERROR the error. A buffer of 2 * length bytes always suffices. */
 uint32_t firthnapkin_canonical(const uint8_t *source, size_t length, uint8_t *buffer, size_t buffer_capacity,
                                size_t *buffer_length, firthnapkin_error *error);
 

@@ -1,6 +1,7 @@
 # The functions that ./gqlcheck, ./gqlcanon, ./prove, ./c-library, ./test and scripts/release share: which crates a crate depends
 # on, which sources a built file was made of, how crates are proved in parallel, and how a program is run. It is sourced, with
 # the repository's folder in $root.
+# shellcheck shell=bash
 
 # crates_below NAME ..: these crates and the crates of this repository that they depend on, the lowest first, each once.
 crates_below() {
@@ -54,7 +55,7 @@ sources_of() {
         \( -name '*.rt' -o -name '*.antt' -o -name crates.txt \) -print0 | LC_ALL=C sort -z
 }
 
-# sums_of NAME ..: the sum and the name of each of these sources. False where one can't be read.
+# sums_of NAME ..: the sum and the name of each of these sources. False if one can't be read.
 sums_of() {
     (cd "$root" && sources_of "$@" | xargs -0 sha256sum 2>&1)
 }
@@ -77,7 +78,7 @@ times_of() {
     (cd "$root" && sources_of $(crates_below "$1") | xargs -0 stat -c '%n %.9Z' 2>&1)
 }
 
-# keep_list FOLDER NAME: keeps beside this crate's product the list of the sources that were noted before it was built. Where
+# keep_list FOLDER NAME: keeps beside this crate's product the list of the sources that were noted before it was built. If
 # one was changed since, the product may be of either text, so it gets no list.
 keep_list() {
     local product list
@@ -89,7 +90,7 @@ keep_list() {
     fi
 }
 
-# The sums of what ./c-library links, of that script, which says how, and of what it made. False where one is missing.
+# The sums of what ./c-library links, of that script, which says how, and of what it made. False if one is missing.
 sums_of_link() {
     (cd "$root" && sha256sum crates/juniper_c/out/libjuniper_c.a c-library out/libfirthnapkin.{a,so.0,so} 2> /dev/null)
 }
@@ -111,7 +112,7 @@ sys.exit(not (sys.version_info >= (3, 9) and makes_wheels and has_header))' 2> /
     python=
 }
 
-# can_write WHO FOLDER ..: ends with a line on standard error, and status 125, where no file can be written in one of these
+# can_write WHO FOLDER ..: ends with a line on standard error, and status 125, if no file can be written in one of these
 # folders.
 can_write() {
     local who=$1 folder probe
@@ -123,7 +124,7 @@ can_write() {
     done
 }
 
-# has_kit WHO: ends with a line on standard error, and status 127, where the kit's command is missing.
+# has_kit WHO: ends with a line on standard error, and status 127, if the kit's command is missing.
 has_kit() {
     if ! command -v rt > /dev/null; then
         echo "$1: the command rt of the Rattle kit is not on this machine's PATH" >&2
@@ -135,7 +136,7 @@ has_kit() {
 waits_for() { :; }
 
 # prove_crates WHO LOG NAME ..: proves these crates, each as soon as those that it waits for are proved, and reports each when
-# its proof begins. The kit skips a crate that was proved before, of the same sources. False where one fails.
+# its proof begins. The kit skips a crate that was proved before, of the same sources. False if one fails.
 prove_crates() {
     local who=$1 log=$2 begin=$SECONDS number=0 name marks
     shift 2
@@ -151,7 +152,7 @@ prove_crates() {
     [ "$proved" = $# ]
 }
 
-# Proves one of them. It does nothing where one that it waits for has failed.
+# Proves one of them. It does nothing if one that it waits for has failed.
 prove_after_others() {
     local who=$1 log=$2 name=$3 number=$4 begin=$5 marks=$6 below
     shift 6
@@ -185,7 +186,7 @@ prove_crate() {
 # The longest text of a checked run, in bytes. Much shorter ones already get no result in time.
 longest=$((1 << 24))
 
-# run_program NAME WORD ..: runs the program of this crate on standard input, where it was built of the sources that are there.
+# run_program NAME WORD ..: runs the program of this crate on standard input, if it was built of the sources that are there.
 # Otherwise it makes the kit's checked run, which proves nothing and checks every access as it runs. A line on standard error says so.
 # The statuses are the program's. The status 125 says that the checked run gave no result, and 127 that the kit is missing.
 run_program() {
@@ -207,17 +208,17 @@ run_program() {
 # then its output is a report.
 run_checked() {
     local name=$1 status last
-    (cd "$root/crates/$name" && rt try) < "$folder/text" > "$folder/report" 2> "$folder/told"
+    (cd "$root/crates/$name" && rt try) < "$folder/text" > "$folder/report" 2> "$folder/messages"
     status=$?
-    last=$(tail -n 1 "$folder/told")
+    last=$(tail -n 1 "$folder/messages")
     case $last in
         "run=ended status=$status "*)
             write_report "$name" $status 2> /dev/null || ends_with "$name: input or output failed" 3
-            grep "^$name: " "$folder/told" >&2
+            grep "^$name: " "$folder/messages" >&2
             exit $status
             ;;
     esac
-    ends_with "$name: the checked run gave no answer: ${last:-it told nothing}" 125
+    ends_with "$name: the checked run gave no answer: ${last:-it wrote nothing}" 125
 }
 
 # write_report NAME STATUS: writes the output of a checked run. The kit adds a line end to an output that ends without one,

@@ -67,7 +67,7 @@ TEXTS = {
     "a lexical fault at the end": repeated("{", "a ", "?"),
     "a string without an end": repeated('{a(b:"', "x"),
     "a block string without an end": repeated('{a(b:"""', "x"),
-    "an escape that is none, at the end": repeated('{a(b:"', "x", r'\q")}'),
+    "an unknown escape, at the end": repeated('{a(b:"', "x", r'\q")}'),
     "a long token that is refused": repeated('{ "', "x\\\\", '" }'),
     "too deep at the end": repeated("{", "a ", "a{" * 201),
     "brackets without an end": repeated("", "{a"),
@@ -76,7 +76,15 @@ TEXTS = {
 }
 
 # The texts that each program reads in a bounded run. C's call reads all of them.
-SOME = {"fields", "fields in fields", "definitions", "types in types", "a long string", "an object of many fields", "a fault at the end"}
+SOME = {
+    "fields",
+    "fields in fields",
+    "definitions",
+    "types in types",
+    "a long string",
+    "an object of many fields",
+    "a fault at the end",
+}
 
 # A value in a value, and so on, deeper for a larger size. The second has two fields of one key on each level.
 CHAIN = lambda n: "{k:" * (n // 200) + "1" + "}" * (n // 200)
@@ -89,7 +97,6 @@ WORDS = lambda part: repeated("", part)
 TOKEN = lambda kind, part: repeated(kind + " ", part)
 
 
-
 def chain(n, part, last):
     """Fragments of some n bytes, each of which spreads the next one as the part says."""
     count = max(1, n // len(part("000000", "000000")))
@@ -98,8 +105,15 @@ def chain(n, part, last):
 
 CHAINED = lambda last: lambda n: "{...F000000}" + chain(n, lambda i, next: f"fragment F{i} on T {{a{{...F{next}}}}}", last)
 DOUBLINGS = lambda n: "{...F000000}" + chain(n, lambda i, next: f"fragment F{i} on T {{a ...F{next} ...F{next}}}", "")
-OPERATIONS = lambda n: times(n // 2, "query Q№ {...F000000} ") + chain(n // 2, lambda i, next: f"fragment F{i} on T {{...F{next}}}", "")
-LONG_NAMES = lambda n: "{" + times(n // 2, "..." + "F" * 1000 + "№" + " " * 19) + "}" + times(n // 2, "fragment " + "F" * 1000 + "№ on T {a} ")
+OPERATIONS = lambda n: times(n // 2, "query Q№ {...F000000} ") + chain(
+    n // 2, lambda i, next: f"fragment F{i} on T {{...F{next}}}", ""
+)
+LONG_NAMES = (
+    lambda n: "{"
+    + times(n // 2, "..." + "F" * 1000 + "№" + " " * 19)
+    + "}"
+    + times(n // 2, "fragment " + "F" * 1000 + "№ on T {a} ")
+)
 
 # The calls of `check_calls calls`: the kind, the call if the kind has any, its input, and how many times as much twice the
 # size may take. `unlocated_eq` compares the value with itself.
@@ -170,9 +184,18 @@ REQUESTING = {
     "objects of two fields": repeated("{a(b:[", "{k: 1 l: 1} ", "])}"),
     **{
         name: TEXTS[name]
-        for name in ("an object of many fields", "a block string of many lines", "a block string of quotes", "line feeds", "definitions")
+        for name in (
+            "an object of many fields",
+            "a block string of many lines",
+            "a block string of quotes",
+            "line feeds",
+            "definitions",
+        )
     },
-    **{name: TEXTS[name] for name in ("a long name", "escapes", "text past ASCII", "a fault at the end", "a lexical fault at the end")},
+    **{
+        name: TEXTS[name]
+        for name in ("a long name", "escapes", "text past ASCII", "a fault at the end", "a lexical fault at the end")
+    },
 }
 
 # The texts on which the system calls of each program are counted: one is long when read, the other when written, too.

@@ -1,5 +1,6 @@
 # How ./c-library installs: what is put below PREFIX, the file for pkg-config, and the list of what was installed. scripts/release
 # puts the same files into what it makes for C. It is sourced after scripts/building.sh, with the repository's folder in $root.
+# shellcheck shell=bash
 
 # The files of the library: for each its mode, its name below PREFIX, and the file of the repository.
 LIBRARY='644 include/firthnapkin.h include/firthnapkin.h
@@ -14,7 +15,7 @@ is_tellable() {
 }
 
 # Installs below $prefix, which is absolute and without `..`, or below $DESTDIR and there below $prefix. It sets $below to the
-# folder where it does. False where something couldn't be installed. A program that isn't built of the sources that are there is
+# folder where it does. False if something couldn't be installed. A program that isn't built of the sources that are there is
 # left out with its man page, and a line on standard error says so.
 install_below() {
     local name left='' installed=()

@@ -1,7 +1,7 @@
 #!/usr/bin/env python3
 """Compares what the bindings repeat with include/firthnapkin.h: the numbers of kinds, details and statuses, the
-fields of nodes, tokens and errors, the depths, and the stack that a call takes. It compares the default limits, too. The last
-line is 'N passed, M failed'.
+fields of nodes, tokens and errors, the depths, and the stack that a call takes. It compares the limits and their defaults, too.
+The last line is 'N passed, M failed'.
 
     tests/check_bindings.py
 """
@@ -105,12 +105,13 @@ found = {upper(word): int(n) for n, word in re.findall(r"(\d+) => Some\(ErrorDet
 check("Rust's details", {"NONE": 0, **found}, reported_details)
 for word, number in re.findall(r"^const (\w+): u32 = (\d+);", call, re.M):
     check(f"Rust's status {word}", int(number), statuses[word])
-RUST_TYPES = {"u32": "uint32_t", "i64": "int64_t", "Position": "firthnapkin_position", "[u32; 6]": "uint32_t[6]"}
-for name, text in (("RawNode", rust), ("RawError", call), ("RawLimits", call), ("RawToken", lexer), ("Position", rust)):
-    body = part(text, rf"#\[repr\(C\)\]\n#\[derive\([^\n]*\n(?:pub(?:\(crate\))? )?struct {name} \{{", r"\n}")
-    found = [(field, RUST_TYPES[kind]) for field, kind in re.findall(r"^    (?:pub )?(\w+): (\w+|\[u32; 6\]),$", body, re.M)]
-    check(f"the fields of Rust's {name}", found, declared(f"firthnapkin_{name.replace('Raw', '').lower()}"))
 library = read("bindings/rust/src/lib.rs")
+RUST_TYPES = {"u32": "uint32_t", "i64": "int64_t", "Position": "firthnapkin_position"}
+for name, text in (("RawNode", rust), ("RawError", call), ("Limits", library), ("RawToken", lexer), ("Position", rust)):
+    body = part(text, rf"#\[repr\(C\)\]\n#\[derive\([^\n]*\n(?:pub(?:\(crate\))? )?struct {name} \{{", r"\n}")
+    found = [(field, RUST_TYPES[kind]) for field, kind in re.findall(r"^    (?:pub )?(\w+): (\w+),$", body, re.M)]
+    wanted = [it for it in declared(f"firthnapkin_{name.replace('Raw', '').lower()}") if it[0] != "reserved"]
+    check(f"the fields of Rust's {name}", found, wanted)
 check("Rust's largest depth", re.search(r"MAX_DEPTH: u32 = (\d+);", library)[1], defined("FIRTHNAPKIN_MAX_DEPTH"))
 stack = re.search(r"^    (\d+) \+ (\d+) \* depth as usize", read("bindings/rust/src/stack.rs"), re.M).groups()
 check("the stack that Rust gives", stack, re.search(r"\(size_t\)(\d+) \+ \(size_t\)(\d+) \*", defined("FIRTHNAPKIN_STACK_SIZE(depth)")).groups())
@@ -128,22 +129,34 @@ for name, constants, others in (
     typed = set(re.findall(r'"(\w+)"', part(types, f"export type {name} =", r";\n")))
     check(f"the words of Node's {name} in its types", {upper(word) for word in typed}, {*constants, *others})
 
-# ---- the default limits
+# ---- the limits, in the header's order, and their defaults
 
+limits = [field for field, _ in declared("firthnapkin_limits") if field != "reserved"]
 for path, pattern in (
-    ("python/src/firthnapkin/parser.py", r"depth: int = (\d+),"),
+    ("python/src/firthnapkin/parser.py", r"^    (\w+): Annotated\[.*Limit\("),
+    ("go/parse.go", r"^\t\t(\w+): +checked\("),
+    ("node/lib/calls.js", r"^  (\w+): \[.*\],$"),
+    ("node/index.d.ts", r"^  (\w+)\?: number;$"),
+):
+    text = read(f"bindings/{path}")
+    if path.endswith(".d.ts"):
+        text = part(text, r"export interface Options \{", r"\n}")
+    check(f"the limits of {path}", [upper(name).lower().removeprefix("max_") for name in re.findall(pattern, text, re.M)], limits)
+for path, pattern in (
+    ("python/src/firthnapkin/parser.py", r"^    depth: Annotated\[.*\] = (\d+),"),
     ("go/parse.go", r"DefaultLimits = Limits\{Depth: (\d+), "),
     ("rust/src/lib.rs", r"DEFAULT_DEPTH: u32 = (\d+);"),
     ("node/lib/calls.js", r"depth: \[(\d+), "),
 ):
-    check(f"the default depth of {path}", re.search(pattern, read(f"bindings/{path}"))[1], "200")
-check("the default depth that Node's types name", re.search(r"from 0 to MAX_DEPTH; (\d+) where it isn't given", types)[1], "200")
+    check(f"the default depth of {path}", re.search(pattern, read(f"bindings/{path}"), re.M)[1], "200")
+check("the default depth that Node's types name", re.search(r"from 0 to MAX_DEPTH; (\d+) if it isn't given", types)[1], "200")
 for path, pattern, wanted in (
-    ("go/parse.go", r"DefaultLimits = Limits\{Depth: 200, Tokens: (\w+)\}", "AnyTokens"),
+    ("python/src/firthnapkin/parser.py", r"^    max_tokens: Annotated\[.*\] = (\w+),", "None"),
+    ("go/parse.go", r"DefaultLimits = Limits\{Depth: 200, Tokens: (\w+)", "AnyTokens"),
     ("go/parse.go", r"const AnyTokens = (.*)", "1<<32 - 1"),
-    ("rust/src/lib.rs", r"Limits \{ depth: DEFAULT_DEPTH, tokens: ([\w:]+) \}", "u32::MAX"),
+    ("rust/src/lib.rs", r"Limits \{ depth: DEFAULT_DEPTH, tokens: ([\w:]+)", "u32::MAX"),
     ("node/lib/calls.js", r"maxTokens: \[([\w.]+), ", "Number.MAX_SAFE_INTEGER"),
 ):
-    check(f"the default number of tokens of {path}", re.search(pattern, read(f"bindings/{path}"))[1], wanted)
+    check(f"the default number of tokens of {path}", re.search(pattern, read(f"bindings/{path}"), re.M)[1], wanted)
 
 checks.end()

@@ -23,8 +23,11 @@ def source(name, crate="juniper_flat"):
 # ---- types
 
 # For each type of a field its size and alignment, and its name in C.
-SIZES = {"u32": (4, 4), "i64": (8, 8), "[u32; 6]": (24, 4)}
-C_NAMES = {"u32": "uint32_t", "i64": "int64_t", "Place": "firthnapkin_position", "[u32; 6]": "uint32_t[6]"}
+SIZES = {"u32": (4, 4), "i64": (8, 8)}
+C_NAMES = {"u32": "uint32_t", "i64": "int64_t", "Place": "firthnapkin_position"}
+# The reserved words of limits.
+SIZES.update({f"[u32; {count}]": (4 * count, 4) for count in range(8)})
+C_NAMES.update({f"[u32; {count}]": f"uint32_t[{count}]" for count in range(8)})
 # What the header calls them where the crates have another word.
 WORDS = {"Place": "position", "Fault": "error"}
 
@@ -32,7 +35,7 @@ WORDS = {"Place": "position", "Fault": "error"}
 def fields_of(name, text):
     """The fields of a struct with C's layout, each with its type."""
     body = re.search(rf"#\[repr\(C\)\][^{{]*pub struct {name} \{{(.*?)\n\}}", text, re.S)[1]
-    return re.findall(r"^    pub (\w+): (\w+|\[u32; 6\]),$", body, re.M)
+    return re.findall(r"^    pub (\w+): (\w+|\[u32; \d\]),$", body, re.M)
 
 
 def laid_out(name, text):
@@ -107,7 +110,9 @@ details["NONE"] = details.pop("NO_DETAIL")
 check("details", enum("firthnapkin_error_detail"), {f"DETAIL_{word}": number for word, number in details.items()})
 check("the largest depth", defined("FIRTHNAPKIN_MAX_DEPTH"), re.search(r"const MAX_DEPTH: u32 = (\d+);", source("limits"))[1])
 default = re.search(r"const DEFAULT_DEPTH: usize = (\d+);", read("crates/juniper/src/parser/document/limited.rt"))[1]
-check("the default limits", defined("FIRTHNAPKIN_LIMITS_DEFAULT"), f"{{{default}, UINT32_MAX, {{0}}}}")
+# In the words after the first two 0 is no limit.
+others = ["0" for field, _ in fields_of("Limits", source("limits"))[2:-1]]
+check("the default limits", defined("FIRTHNAPKIN_LIMITS_DEFAULT"), f"{{{', '.join([default, 'UINT32_MAX', *others, '{0}'])}}}")
 
 # ---- names of numbers
 

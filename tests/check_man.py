@@ -1,7 +1,7 @@
 #!/usr/bin/env python3
 """Compares the man pages with what they describe. Of firthnapkin(3) these are the calls of the header, their parameters, and its
-statuses in the header's words and order; of gqlcheck(1) and gqlcanon(1) the exit statuses of their definitions and, where the program is
-built, what it writes. The last line is 'N passed, M failed', with ', K skipped' where one isn't built.
+statuses in the header's words and order; of gqlcheck(1) and gqlcanon(1) the exit statuses of their definitions and, if the program is
+built, what it writes. The last line is 'N passed, M failed', with ', K skipped' if one isn't built.
 
     tests/check_man.py              compares
     tests/check_man.py --program    writes a C program, which is the example of firthnapkin(3)
@@ -106,15 +106,17 @@ def check_program(checks, name):
     page = sections(f"{name}.1")
     defined_ends = dict(re.findall(r"^status_at (\w+) = (\d+)$", read(f"crates/{name}/specs/Ends.antt"), re.M))
     wanted = {int(number): ENDS[name][end] for end, number in defined_ends.items()}
-    checks.check(f"the statuses of {name}(1)", {int(label): text for label, text in entries(page["EXIT STATUS"])}, {**wanted, **NO_RESULT})
+    checks.check(
+        f"the statuses of {name}(1)", {int(label): text for label, text in entries(page["EXIT STATUS"])}, {**wanted, **NO_RESULT}
+    )
     checks.check(f"the name of {name}(1)", (plain(page["SYNOPSIS"][0]), joined(page["NAME"]).split(" - ")[0]), (name, name))
     built = ROOT / f"crates/{name}/out/{name}"
     if not built.exists():
         checks.skip(f"{name} is not built, so the examples of {name}(1) are not run")
         return
     for command, shown in examples(page["EXAMPLES"]):
-        told = subprocess.run(["bash", "-c", f'{name}() {{ "{built}"; }}; {command}'], capture_output=True, text=True, check=False)
-        checks.check(f"what {command} writes", told.stdout.splitlines(), shown)
+        ran = subprocess.run(["bash", "-c", f'{name}() {{ "{built}"; }}; {command}'], capture_output=True, text=True, check=False)
+        checks.check(f"what {command} writes", ran.stdout.splitlines(), shown)
     if "TooDeep" in defined_ends:
         depth = int(re.search(r"nested (\d+) deep", joined(page["DESCRIPTION"]))[1])
         for deeper, end in ((0, "Tree"), (1, "TooDeep")):

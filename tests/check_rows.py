@@ -49,14 +49,14 @@ COMPLETION = "completion of a refused text"
 SAME = "canonical text of a row"
 COUNTS = {"gqlcheck": 2127, "built": 4, "completed": 8, "canonical": 29, COMPLETION: 462, SAME: 636}
 COUNTS.update(lexer=73, line_table=1, type=5, value=34, const=1, document=44, within=14, limited=23, equal=25, large=4)
-COUNTS.update(odd_document=25, complexities=2010)
+COUNTS.update(odd_document=25, complexities=2010, bytes=2)
 
 # Of the kinds of check_calls those whose rows make calls, with the number of their rows.
-CALLS = {"cursor": 14, "arguments": 7, "answer": 17, "devices": 2, "input_value": 22, "scalar": 24, "odd_scalar": 42,
-         "type_literal": 4, "name": 11, "into": 4, "guide": 18}  # fmt: skip
+CALLS = {"cursor": 14, "requests": 7, "arguments": 12, "answer": 17, "devices": 2, "input_value": 22, "scalar": 24,
+         "odd_scalar": 42, "type_literal": 4, "name": 11, "into": 4, "guide": 18}  # fmt: skip
 COUNTS.update(CALLS)
 
-# The word of a run's end, by the program's exit status. Where gqlcheck ends in a tree gqlcanon ends in a text.
+# The word of a run's end, by the program's exit status. If gqlcheck ends in a tree, gqlcanon ends in a text.
 ENDS = ("Tree", "Refused", "NotUtf8", "Device", "Memory", "TooDeep")
 SECONDS = 20
 
@@ -90,7 +90,7 @@ class Run(NamedTuple):
     written: str
     end: str
 
-    def told(self) -> str:
+    def text(self) -> str:
         return f"{self.written}{self.end}\n"
 
 
@@ -111,9 +111,9 @@ def run(program: str, source: bytes) -> Run:
     return Run(written, end + errors)
 
 
-def refusal_of(text: str, told: str) -> Optional[Refusal]:
-    """The place where a run refuses a text; None where that is neither at a token nor at the end."""
-    place = re.search(r"\. At (\d+):(\d+)\nRefused\n$", told)
+def refusal_of(text: str, answer: str) -> Optional[Refusal]:
+    """The place where a run refuses a text; None if that is neither at a token nor at the end."""
+    place = re.search(r"\. At (\d+):(\d+)\nRefused\n$", answer)
     if place is None:
         return None
     line, column = int(place[1]), int(place[2])
@@ -133,10 +133,10 @@ def called(calls: str, kind: str, source: bytes, *lines: str) -> str:
         ran = subprocess.run(command, input=source, stdout=subprocess.PIPE, stderr=subprocess.STDOUT, timeout=SECONDS)
     except subprocess.TimeoutExpired:
         return f"no end within {SECONDS} seconds\n"
-    told = ran.stdout.decode("utf-8", "backslashreplace")
-    if ran.returncode or not told.startswith("calling\n"):
-        return f"status {ran.returncode}: {told}\n"
-    return told[len("calling\n") :]
+    answer = ran.stdout.decode("utf-8", "backslashreplace")
+    if ran.returncode or not answer.startswith("calling\n"):
+        return f"status {ran.returncode}: {answer}\n"
+    return answer[len("calling\n") :]
 
 
 def answer_of_calls(calls: str, row: Row, wanted: List[str]) -> str:
@@ -162,19 +162,19 @@ def answer_of_large(calls: str, text: str) -> str:
         ("converted", "into", shown.encode(), "values", f'"{shown}" "{shown}"'),
         ("answered", "answer", source, "display", answered),
     ]
-    held = [name for name, kind, given, call, told in wanted if called(calls, kind, given, call) == f"{call} -> {told}\n"]
+    held = [name for name, kind, given, call, result in wanted if called(calls, kind, given, call) == f"{call} -> {result}\n"]
     return f"{len(source)} bytes\n{', '.join(held)}\n"
 
 
 def answer_of_built(program: str, text: str) -> str:
     word, _, number = text.partition(" ")
     source = BUILT[word](int(number)).encode()
-    told = run(program, source).told().split("\n")[:-1]
-    return "\n".join([f"{len(source)} bytes", f"{told[-1]}, {len(told)} lines", *told[:1], *told[-2:-1], ""])
+    lines = run(program, source).text().split("\n")[:-1]
+    return "\n".join([f"{len(source)} bytes", f"{lines[-1]}, {len(lines)} lines", *lines[:1], *lines[-2:-1], ""])
 
 
 def answer_of_completed(program: str, text: str, wanted: List[str]) -> str:
-    refusal = refusal_of(text, run(program, text.encode()).told())
+    refusal = refusal_of(text, run(program, text.encode()).text())
     if refusal is None:
         return "not refused, or it cannot be cut\n"
     return "".join(completed(program, refusal, line.partition(" -> ")[0]) + "\n" for line in wanted)
@@ -203,16 +203,16 @@ class Library:
 
     def __init__(self) -> None:
         self.parse = ctypes.CDLL(str(LIBRARY)).firthnapkin_parse
-        room = [ctypes.c_void_p, ctypes.c_size_t, ctypes.POINTER(ctypes.c_size_t)]
-        self.parse.argtypes = [ctypes.c_char_p, ctypes.c_size_t, ctypes.c_void_p, *room, *room, ctypes.c_void_p]
+        buffer = [ctypes.c_void_p, ctypes.c_size_t, ctypes.POINTER(ctypes.c_size_t)]
+        self.parse.argtypes = [ctypes.c_char_p, ctypes.c_size_t, ctypes.c_void_p, *buffer, *buffer, ctypes.c_void_p]
         self.parse.restype = ctypes.c_uint32
 
     def outcome(self, text: str) -> str:
         """Whether a text is a document, begins one, can't be cut, or none of these: it is refused before its end."""
         source, needed, fault = text.encode(), ctypes.c_size_t(), (ctypes.c_uint32 * 13)()
         limits = (ctypes.c_uint32 * 8)(self.DEPTH, 2**32 - 1)
-        room = [None, 0, ctypes.byref(needed)]
-        status = self.parse(source, len(source), limits, *room, *room, fault)
+        buffer = [None, 0, ctypes.byref(needed)]
+        status = self.parse(source, len(source), limits, *buffer, *buffer, fault)
         if status in (self.OK, self.BUFFER_TOO_SMALL):
             return "document"
         if status != self.SYNTAX_ERROR:
@@ -234,9 +234,9 @@ def completion_of(library: Library, front: str) -> Optional[str]:
     return None
 
 
-def fault_of_completion(program: str, library: Library, text: str, told: str) -> Optional[str]:
-    """What is wrong with the completion of a refused text; None where nothing is wrong."""
-    refusal = refusal_of(text, told)
+def fault_of_completion(program: str, library: Library, text: str, answer: str) -> Optional[str]:
+    """What is wrong with the completion of a refused text; None if nothing is wrong."""
+    refusal = refusal_of(text, answer)
     if refusal is None:
         return "the fault is neither at a token nor at the end"
     further = completion_of(library, refusal.front)
@@ -252,29 +252,35 @@ def canonical(canon: str, source: bytes) -> Run:
     return Run(ran.written + "\n", "Text" + ran.end[4:]) if ran.end.startswith("Tree") else ran
 
 
-def fault_of_canonical(program: str, canon: str, text: str, told: Run) -> Optional[str]:
-    """What is wrong with the canonical text of a text that can be cut; None where nothing is wrong."""
+def fault_of_canonical(program: str, canon: str, text: str, tree: Run) -> Optional[str]:
+    """What is wrong with the canonical text of a text that can be cut; None if nothing is wrong."""
     ran = canonical(canon, text.encode())
     made = ran.written[:-1]
     if ran.end != "Text":
-        return f"no canonical text: {ran.told()}"
+        return f"no canonical text: {ran.text()}"
     if made != joined([token for _, token in cut(text)]):
         return f"another canonical text: {made}"
     if canonical(canon, made.encode()) != ran:
         return f"the canonical text is not its own: {made}"
     again = run(program, made.encode())
-    placeless = [re.sub(r"^(\w+) \d+ \d+|At \d+:\d+$", r"\1", it.written, flags=re.M) for it in (told, again)]
-    return None if placeless[0] == placeless[1] and told.end == again.end else f"the canonical text is told otherwise: {again.told()}"
+    placeless = [re.sub(r"^(\w+) \d+ \d+|At \d+:\d+$", r"\1", it.written, flags=re.M) for it in (tree, again)]
+    return (
+        None
+        if placeless[0] == placeless[1] and tree.end == again.end
+        else f"the canonical text gives another result: {again.text()}"
+    )
 
 
-def try_row(program: str, canon: str, calls: str, library: Optional[Library], name: str, row: Row) -> List[Tuple[str, Optional[str]]]:
-    """For each check of a row its kind, and what is wrong; None where nothing is wrong."""
+def try_row(
+    program: str, canon: str, calls: str, library: Optional[Library], name: str, row: Row
+) -> List[Tuple[str, Optional[str]]]:
+    """For each check of a row its kind, and what is wrong; None if nothing is wrong."""
     wanted = [plain(line).decode() for line in row.wanted]
     if row.kind == "gqlcheck":
         ran = run(program, row.text)
-        found = ran.told()
+        found = ran.text()
     elif row.kind == "canonical":
-        found = canonical(canon, row.text).told()
+        found = canonical(canon, row.text).text()
     elif row.kind == "built":
         found = answer_of_built(program, row.text.decode())
     elif row.kind == "completed":

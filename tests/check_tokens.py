@@ -1,10 +1,10 @@
 #!/usr/bin/env python3
 """Cuts the texts of the rows of tests/rows with the library for C. Kinds, texts and places are compared with the tokens that
 `cutting` finds, and canonical texts with these tokens joined. The canonical texts of the rows of gqlcanon are compared with the
-rows. Where a row says that a text can't be cut, the error is compared with the row, and the tokens before it with those that
+rows. If a row says that a text can't be cut, the error is compared with the row, and the tokens before it with those that
 `cutting` finds. The last line is 'N passed, M failed'.
 
-    tests/check_tokens.py [LIBRARY]     out/libfirthnapkin.so.0 where none is named
+    tests/check_tokens.py [LIBRARY]     out/libfirthnapkin.so.0 if none is named
 """
 
 import ctypes
@@ -49,13 +49,13 @@ class Answer:
 
     def __init__(self, library: ctypes.CDLL, source: bytes) -> None:
         needed, self.error, self.other_error = ctypes.c_size_t(), Error(), Error()
-        # Buffers that are never too short.
-        room = (Token * (len(source) + 1))()
+        # Buffers that always suffice.
+        tokens = (Token * (len(source) + 1))()
         self.status = library.firthnapkin_tokens(
-            source, ctypes.c_size_t(len(source)), ctypes.c_uint32(2**32 - 1), room, ctypes.c_size_t(len(room)),
+            source, ctypes.c_size_t(len(source)), ctypes.c_uint32(2**32 - 1), tokens, ctypes.c_size_t(len(tokens)),
             ctypes.byref(needed), ctypes.byref(self.error),
         )  # fmt: skip
-        self.tokens = room[: needed.value]
+        self.tokens = tokens[: needed.value]
         text = ctypes.create_string_buffer(2 * len(source) + 1)
         self.canonical_status = library.firthnapkin_canonical(
             source, ctypes.c_size_t(len(source)), text, ctypes.c_size_t(2 * len(source)), ctypes.byref(needed),
@@ -70,7 +70,7 @@ def place(text: str, index: int) -> Tuple[int, ...]:
     return index, before.count("\n"), index - (before.rfind("\n") + 1), len(before.encode())
 
 
-def told(source: bytes, token: Token) -> Tuple[str, str, str, Tuple[int, ...], Tuple[int, ...]]:
+def returned(source: bytes, token: Token) -> Tuple[str, str, str, Tuple[int, ...], Tuple[int, ...]]:
     """A token as the library returns it: its kind, how it is written, its text, and both places."""
     start, end = token.start.byte, token.end.byte
     text = source[start + token.quotes : end - token.quotes]
@@ -83,7 +83,7 @@ def wanted(text: str, begin: int, token: str) -> Tuple[str, str, str, Tuple[int,
 
 
 def is_cut_by_row(row: Row) -> Optional[bool]:
-    """Whether a row says that its text can be cut; None where it doesn't say."""
+    """Whether a row says that its text can be cut; None if it doesn't say."""
     words, end = (row.wanted[0], row.wanted[-1]) if row.wanted else ("", "")
     if row.kind == "canonical":
         return end == "Text"
@@ -93,20 +93,20 @@ def is_cut_by_row(row: Row) -> Optional[bool]:
 
 
 def tokens_fault(answer: Answer, source: bytes, text: str) -> Optional[str]:
-    """What is wrong with the tokens that are returned; None where nothing is wrong."""
-    found = [told(source, token) for token in answer.tokens]
+    """What is wrong with the tokens that are returned; None if nothing is wrong."""
+    found = [returned(source, token) for token in answer.tokens]
     here = [wanted(text, *token) for token in cut(text)]
     if answer.status == STATUS["OK"]:
         here.append(("END_OF_FILE", "", "", place(text, len(text)), place(text, len(text))))
     elif here[len(found) :] and here[len(found)][3][0] > answer.error.start.index:
-        return "a token stands before the error, and is not told"
+        return "a token stands before the error, and is not returned"
     else:
         here = here[: len(found)]
-    return None if found == here else f"{found} is told, {here} is wanted"
+    return None if found == here else f"{found} is returned, {here} is wanted"
 
 
 def row_fault(answer: Answer, row: Row) -> Optional[str]:
-    """What is wrong with the results according to the row itself; None where nothing is wrong."""
+    """What is wrong with the results according to the row itself; None if nothing is wrong."""
     says = is_cut_by_row(row)
     is_cut = answer.status == STATUS["OK"]
     if answer.status not in (STATUS["OK"], STATUS["SYNTAX_ERROR"]) or answer.canonical_status != answer.status:

@@ -1,5 +1,6 @@
 # The functions by which ./test and the scripts of tests/ count what passed, what failed, and what was skipped. It is sourced,
 # with a folder for temporary files in $folder. A script that counts ends with the line 'N passed, M failed', or 'N passed, M failed, K skipped'.
+# shellcheck shell=bash
 passed=0
 failed=0
 skipped=0
@@ -27,9 +28,9 @@ finish() {
     exit
 }
 
-# add_numbers FILE STATUS NAME: adds the numbers of the last line that a command wrote to this file. It fails where there is no
-# such line, where no case was tried and none was skipped, where the command ended with another status than 0 though it
-# counted no failure, and where a sanitizer reported something.
+# add_numbers FILE STATUS NAME: adds the numbers of the last line that a command wrote to this file. It fails if there is no
+# such line, if no case was tried and none was skipped, if the command ended with another status than 0 though it
+# counted no failure, and if a sanitizer reported something.
 add_numbers() {
     local last
     last=$(tail -n 1 "$1")
@@ -47,30 +48,30 @@ add_numbers() {
 }
 
 # counted COMMAND ..: runs it, adds the numbers of its last line, and sets $status to its exit status. What it wrote is shown
-# where something failed.
+# if something failed.
 counted() {
     local failed_before=$failed
-    "$@" > "$folder/told" 2>&1
+    "$@" > "$folder/output" 2>&1
     status=$?
-    add_numbers "$folder/told" "$status" "$*"
-    [ "$failed" = "$failed_before" ] || cat "$folder/told"
+    add_numbers "$folder/output" "$status" "$*"
+    [ "$failed" = "$failed_before" ] || cat "$folder/output"
 }
 
 # tested NAME PASSED FAILED COMMAND ..: runs it, and counts the lines of each pattern, without those of tests that were skipped.
-# Where the command fails that is reported, and where it has no line of the first pattern, though there is one.
+# If the command fails, that is reported; so is a run without a line of the first pattern, if there is a pattern.
 SKIPPED='^ *--- SKIP|^test .*\.\.\. ignored|^ok .* # (SKIP|TODO)'
 tested() {
     local name=$1 good=$2 bad=$3 status good_count bad_count
     shift 3
-    "$@" > "$folder/told" 2>&1
+    "$@" > "$folder/output" 2>&1
     status=$?
-    good_count=$(grep -vE "$SKIPPED" "$folder/told" | grep -cE "$good")
-    bad_count=$(grep -cE "$bad" "$folder/told")
+    good_count=$(grep -vE "$SKIPPED" "$folder/output" | grep -cE "$good")
+    bad_count=$(grep -cE "$bad" "$folder/output")
     [ -n "$good" ] || good_count=$((status == 0))
     passed=$((passed + good_count))
-    skipped=$((skipped + $(grep -cE "$SKIPPED" "$folder/told")))
+    skipped=$((skipped + $(grep -cE "$SKIPPED" "$folder/output")))
     if [ "$status" != 0 ] || [ "$bad_count" != 0 ] || [ "$good_count" = 0 ]; then
-        cat "$folder/told"
+        cat "$folder/output"
         fails "$name, status $status, $good_count of its parts passed, $bad_count failed"
     fi
 }

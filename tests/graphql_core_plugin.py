@@ -1,8 +1,8 @@
-"""A plugin for pytest, which tests/check_graphql_core runs. It puts firthnapkin's parse in graphql-core's place where
+"""A plugin for pytest, which tests/check_graphql_core runs. It puts firthnapkin's parse in graphql-core's place if
 FIRTHNAPKIN_PARSE is 'ours', and writes the outcome of each test into the file that FIRTHNAPKIN_OUTCOMES names, a line of JSON
 each.
 
-Where FIRTHNAPKIN_OLD_NAMES is set it defines the names that tests of graphql-core 2.3 import, as far as 3.2 has the same under
+If FIRTHNAPKIN_OLD_NAMES is set it defines the names that tests of graphql-core 2.3 import, as far as 3.2 has the same under
 another name.
 """
 

@@ -1,5 +1,6 @@
 # What the scripts that test processes share: the comparison of a run's results, and texts of many parts. It is sourced, with a
 # folder for temporary files in $folder.
+# shellcheck shell=bash
 . "$root/tests/counting.sh"
 
 DEVICE='gqlcheck: input or output failed'
@@ -13,7 +14,7 @@ expect() {
     if [ "$status" = "$2" ] && [ "$out" = "$3" ] && [ "$err" = "$4" ]; then
         passes
     else
-        fails "$1: status $status, not $2; wrote '$(head -c 200 <<< "$out")'; told '$err'"
+        fails "$1: status $status, not $2; wrote '$(head -c 200 <<< "$out")'; on standard error '$err'"
     fi
 }
 

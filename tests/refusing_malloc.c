@@ -1,11 +1,11 @@
 /* An allocator that refuses requests, and measures: a library for LD_PRELOAD that calls the allocator of glibc.
  *
  * It counts the requests for memory that a program makes between the first and the second line that it writes to
- * standard output or, where REFUSALS_FROM_START is set, all of them. It refuses the request of number REFUSED_REQUEST,
- * counted from 1, and where REFUSED_ONWARDS is set each counted one after it. At the end it writes five numbers to the file
- * that REFUSALS_TOLD names: the requests that were counted, those that were refused, the blocks that were not freed, how
+ * standard output or, if REFUSALS_FROM_START is set, all of them. It refuses the request of number REFUSED_REQUEST,
+ * counted from 1, and if REFUSED_ONWARDS is set each counted one after it. At the end it writes five numbers to the file
+ * that REFUSALS_FILE names: the requests that were counted, those that were refused, the blocks that were not freed, how
  * many more bytes the program held at most while requests were counted than it held before, and how many bytes the counted
- * requests asked for, the whole block where one is resized.
+ * requests asked for, the whole block if one is resized.
  */
 #define _GNU_SOURCE
 #include <errno.h>
@@ -123,7 +123,7 @@ ssize_t __write(int file, const void *bytes, size_t count) {
 }
 
 __attribute__((destructor)) static void end(void) {
-    const char *name = getenv("REFUSALS_TOLD");
+    const char *name = getenv("REFUSALS_FILE");
     char line[120];
     int length = snprintf(line, sizeof line, "%lu %lu %ld %ld %lu\n", requests, refusals, blocks, most_held, requested);
     int file = name == NULL ? -1 : open(name, O_WRONLY | O_CREAT | O_TRUNC, 0600);

@@ -64,8 +64,8 @@ def rows(name: str) -> Iterator[Row]:
 
 def is_other_scalar(wanted: List[str]) -> bool:
     """Whether a refusal is one of gqlcheck's scalar type, which reads no Float and no Int beyond 32 bits."""
-    told = wanted[0] if wanted else ""
-    return told.startswith("There needs to be") or re.match(r'Unexpected "-?[0-9]{10,}"\. At ', told) is not None
+    first = wanted[0] if wanted else ""
+    return first.startswith("There needs to be") or re.match(r'Unexpected "-?[0-9]{10,}"\. At ', first) is not None
 
 
 def gqlcheck(name: str) -> Iterator[Row]:

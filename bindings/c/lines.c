@@ -55,15 +55,14 @@ int main(void) {
     size_t length, nodes_length, texts_length;
     uint8_t *source = all(stdin, &length);
     if (source == NULL) return FIRTHNAPKIN_OUT_OF_MEMORY;
-    /* Buffers as long as the source are never too short. */
+    /* Buffers as long as the source always suffice. */
     firthnapkin_node *nodes = malloc((length + 1) * sizeof *nodes);
     uint8_t *texts = malloc(length + 1);
     uint32_t status = FIRTHNAPKIN_OUT_OF_MEMORY;
     firthnapkin_error error;
     const firthnapkin_limits limits = FIRTHNAPKIN_LIMITS_DEFAULT;
     if (nodes != NULL && texts != NULL)
-        status = firthnapkin_parse(source, length, &limits, nodes, length, &nodes_length, texts, length, &texts_length,
-                                   &error);
+        status = firthnapkin_parse(source, length, &limits, nodes, length, &nodes_length, texts, length, &texts_length, &error);
     if (status == FIRTHNAPKIN_OK)
         for (size_t i = 0; i < nodes_length;) i = write_node(source, nodes, i, 0);
     if (status == FIRTHNAPKIN_SYNTAX_ERROR || status == FIRTHNAPKIN_TOO_DEEP) {

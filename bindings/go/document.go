@@ -72,7 +72,7 @@ func (d *Document) Text(i int) string {
 }
 
 // Name returns the name of node i, without $ and @: of a scalar, null and a type all of it, of an inline fragment its type
-// condition, and nothing where there is no name.
+// condition, and nothing if there is no name.
 func (d *Document) Name(i int) string {
 	return d.Source[d.Nodes[i].NameStart:d.Nodes[i].NameEnd]
 }
@@ -91,7 +91,7 @@ func (d *Document) Meaning(i int) string {
 	return ""
 }
 
-// Next returns the index after node i and the parts in it: the index of its next sibling, where it has one.
+// Next returns the index after node i and the parts in it: the index of its next sibling, if it has one.
 func (d *Document) Next(i int) int {
 	return i + 1 + int(d.Nodes[i].Descendants)
 }

@@ -28,7 +28,7 @@ type ErrorKind uint32
 
 // The kinds of errors.
 const (
-	UnexpectedToken ErrorKind = C.FIRTHNAPKIN_ERROR_UNEXPECTED_TOKEN // no document has the token after those before it
+	UnexpectedToken ErrorKind = C.FIRTHNAPKIN_ERROR_UNEXPECTED_TOKEN // no document could have the token there
 	UnexpectedEnd   ErrorKind = C.FIRTHNAPKIN_ERROR_UNEXPECTED_END   // the source ends within a document
 	Lexical         ErrorKind = C.FIRTHNAPKIN_ERROR_LEXICAL          // there is no token here; the ErrorDetail says why
 	TooDeep         ErrorKind = C.FIRTHNAPKIN_ERROR_TOO_DEEP         // the token is nested too deep
@@ -111,7 +111,7 @@ func syntaxErrorOf(source string, found *C.firthnapkin_error) error {
 	}
 }
 
-// excerptAt returns the lines around a byte of a source, or nothing where there are none.
+// excerptAt returns the lines around a byte of a source, or nothing if there are none.
 func excerptAt(source string, byteIndex uint32) string {
 	found := new(C.firthnapkin_error)
 	found.start.byte = C.uint32_t(byteIndex)

@@ -32,7 +32,7 @@ func TestAllocations(t *testing.T) {
 	same(t, "of a hundred requests", allocations(strings.Repeat(request, 100))-once, 1)
 	for _, source := range []string{"{" + strings.Repeat("a ", 1000) + "}", "{a(b:\"" + strings.Repeat("c", 1000) + "\")}"} {
 		if found := allocations(source); found < once+3 {
-			t.Errorf("%d allocations where two calls are needed, %d where one is", found, once)
+			t.Errorf("%d allocations if two calls are needed, %d if one is", found, once)
 		}
 	}
 }
@@ -103,7 +103,7 @@ func TestTokens(t *testing.T) {
 		}
 	}
 	if _, err := ParseWithin("{\xff", Limits{Depth: 5, Tokens: 0}); !errors.Is(err, ErrNotUTF8) {
-		t.Errorf("what is no text: %v", err)
+		t.Errorf("not UTF-8: %v", err)
 	}
 }
 
@@ -156,7 +156,31 @@ func TestSmallStacks(t *testing.T) {
 	}
 	command := exec.Command(shell, "-c", `ulimit -s 256 && exec "$0" -test.run '^TestSmallStacks$'`, os.Args[0])
 	command.Env = append(os.Environ(), "FIRTHNAPKIN_SMALL_STACK=yes")
-	if told, err := command.CombinedOutput(); err != nil {
-		t.Errorf("%v: %s", err, told)
+	if output, err := command.CombinedOutput(); err != nil {
+		t.Errorf("%v: %s", err, output)
 	}
+}
+
+// Each limit goes to its word, and the words that no limit has are 0.
+func TestWords(t *testing.T) {
+	for _, it := range []struct {
+		limits Limits
+		wanted []uint32
+	}{
+		{DefaultLimits, []uint32{200, 1<<32 - 1}}, {Limits{}, []uint32{0, 0}}, {Limits{Depth: 7, Tokens: 9}, []uint32{7, 9}},
+		{Limits{Depth: 1000, Tokens: 1<<32 - 2}, []uint32{1000, 1<<32 - 2}}, {Limits{Tokens: 1 << 32}, []uint32{0, 1<<32 - 1}},
+		{Limits{Tokens: 1<<63 - 1}, []uint32{0, 1<<32 - 1}}, {loosest, []uint32{1000, 1<<32 - 1}},
+	} {
+		words, err := it.limits.words()
+		found := []uint32{uint32(words.depth), uint32(words.tokens)}
+		same(t, fmt.Sprint("the words of ", it.limits), []any{err, found}, []any{nil, it.wanted})
+		for i, word := range words.reserved {
+			same(t, fmt.Sprint("the reserved word ", i), uint32(word), uint32(0))
+		}
+	}
+	// The first limit that is out of its range is named.
+	_, err := ParseWithin("{a}", Limits{Depth: -1, Tokens: -1})
+	same(t, "the words of both", err.Error(), "firthnapkin: invalid limit: the depth -1 is not from 0 to 1000")
+	_, err = TokensWithin("{a}", -1)
+	same(t, "the words of a number of tokens", err.Error(), "firthnapkin: invalid limit: the number of tokens -1 is below 0")
 }

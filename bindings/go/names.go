@@ -26,7 +26,7 @@ func namesOf(nameOf func(C.uint32_t) *C.char) []string {
 	}
 }
 
-// nameOf returns the name of a number, and the number of a type where it has none.
+// nameOf returns the name of a number, and the number of a type if it has none.
 func nameOf(names []string, number uint32, typeName string) string {
 	if uint64(number) < uint64(len(names)) {
 		return names[number]

@@ -30,9 +30,8 @@ typedef struct {
 	firthnapkin_error error;
 } outcome;
 
-static uint32_t parse(const char *source, size_t length, uint32_t depth, uint32_t tokens, void *nodes, size_t nodes_capacity,
+static uint32_t parse(const char *source, size_t length, firthnapkin_limits limits, void *nodes, size_t nodes_capacity,
                       char *texts, size_t texts_capacity, outcome *t) {
-	firthnapkin_limits limits = {depth, tokens, {0}};
 	return parse_on_stack((const uint8_t *)source, length, &limits, nodes, nodes_capacity, &t->nodes_length, (uint8_t *)texts,
 	                      texts_capacity, &t->texts_length, &t->error);
 }
@@ -78,35 +77,47 @@ var (
 	ErrInvalidLimit = errors.New("firthnapkin: invalid limit")
 )
 
-// Parse returns the document that a source is within DefaultLimits, or an error: a *SyntaxError where the source is no such
+// Parse returns the document that a source is within DefaultLimits, or an error: a *SyntaxError if the source is no such
 // document, otherwise one of the Err values.
 func Parse(source string) (*Document, error) {
 	return ParseWithin(source, DefaultLimits)
 }
 
+// words returns limits as the library takes them: each has a line here. In the words that have no limit 0 is none.
+func (limits Limits) words() (C.firthnapkin_limits, error) {
+	var err error
+	words := C.firthnapkin_limits{
+		depth:  checked("depth", limits.Depth, MaxDepth, &err),
+		tokens: checked("number of tokens", limits.Tokens, AnyTokens, &err),
+	}
+	return words, err
+}
+
+// checked returns a limit as the library takes it, and sets the error, unless there is one, where it is out of its range. A limit
+// whose largest number is AnyTokens has none: larger ones are as good.
+func checked(name string, value, largest int, err *error) C.uint32_t {
+	isBelow, isAbove := value < 0, value > largest && largest < AnyTokens
+	switch {
+	case *err != nil:
+	case isBelow && largest == AnyTokens:
+		*err = fmt.Errorf("%w: the %s %d is below 0", ErrInvalidLimit, name, value)
+	case isBelow || isAbove:
+		*err = fmt.Errorf("%w: the %s %d is not from 0 to %d", ErrInvalidLimit, name, value, largest)
+	case value > largest:
+		return C.uint32_t(largest)
+	}
+	return C.uint32_t(value)
+}
+
 // ParseWithin is Parse with other limits. The source is read once. One with too many tokens is refused at the first one too
-// many, before anything is built. An error that wraps ErrInvalidLimit is returned, and the source isn't read, where the depth
+// many, before anything is built. An error that wraps ErrInvalidLimit is returned, and the source isn't read, if the depth
 // is not from 0 to MaxDepth, or the number of tokens is below 0.
 func ParseWithin(source string, limits Limits) (*Document, error) {
-	if limits.Depth < 0 || limits.Depth > MaxDepth {
-		return nil, fmt.Errorf("%w: the depth %d is not from 0 to %d", ErrInvalidLimit, limits.Depth, MaxDepth)
-	}
-	tokens, err := tokensOf(limits.Tokens)
+	words, err := limits.words()
 	if err != nil {
 		return nil, err
 	}
-	return parse(source, C.uint32_t(limits.Depth), tokens)
-}
-
-// tokensOf returns a number of tokens as the library takes it.
-func tokensOf(tokens int) (C.uint32_t, error) {
-	if tokens < 0 {
-		return 0, fmt.Errorf("%w: the number of tokens %d is below 0", ErrInvalidLimit, tokens)
-	}
-	if tokens > AnyTokens {
-		tokens = AnyTokens
-	}
-	return C.uint32_t(tokens), nil
+	return parse(source, words)
 }
 
 // How many nodes or tokens are allocated for the first call, at most.
@@ -114,12 +125,12 @@ const mostAtFirst = 1 << 20
 
 // Few sources have more nodes than one for six bytes; for others, and for the largest, the second call has the capacity that
 // the first returns.
-func parse(source string, depth, tokens C.uint32_t) (*Document, error) {
+func parse(source string, limits C.firthnapkin_limits) (*Document, error) {
 	first := atFirst(source)
 	nodesCapacity, textsCapacity := first+16, first+64
 	for {
 		nodes, texts, result := make([]Node, nodesCapacity), make([]byte, textsCapacity), new(C.outcome)
-		status := C.parse(bytesOf(source), C.size_t(len(source)), depth, tokens, unsafe.Pointer(&nodes[0]),
+		status := C.parse(bytesOf(source), C.size_t(len(source)), limits, unsafe.Pointer(&nodes[0]),
 			C.size_t(nodesCapacity), (*C.char)(unsafe.Pointer(&texts[0])), C.size_t(textsCapacity), result)
 		runtime.KeepAlive(source)
 		switch status {
@@ -161,7 +172,7 @@ func bytesOf(source string) *C.char {
 	return *(**C.char)(unsafe.Pointer(&source))
 }
 
-// The nodes of a slice are laid out as the library writes them; each of these lines is a compile error where that is wrong.
+// The nodes of a slice are laid out as the library writes them; each of these lines is a compile error if that is wrong.
 var (
 	_ = [1]struct{}{}[unsafe.Sizeof(Node{})-C.sizeof_firthnapkin_node]
 	_ = [1]struct{}{}[unsafe.Offsetof(Node{}.Descendants)-unsafe.Offsetof(C.firthnapkin_node{}.descendants)]

@@ -11,7 +11,7 @@ import (
 	"testing"
 )
 
-// parsed returns a source's document, and fails where it has none.
+// parsed returns a source's document, and fails if it has none.
 func parsed(t *testing.T, source string) *Document {
 	t.Helper()
 	document, err := Parse(source)
@@ -21,7 +21,7 @@ func parsed(t *testing.T, source string) *Document {
 	return document
 }
 
-// refused returns why a source has no document, and fails where it has one.
+// refused returns why a source has no document, and fails if it has one.
 func refused(t *testing.T, source string, depth int) *SyntaxError {
 	t.Helper()
 	_, err := ParseWithin(source, Limits{Depth: depth, Tokens: AnyTokens})
@@ -32,10 +32,10 @@ func refused(t *testing.T, source string, depth int) *SyntaxError {
 	return found
 }
 
-func same(t *testing.T, told string, found, wanted any) {
+func same(t *testing.T, message string, found, wanted any) {
 	t.Helper()
 	if !reflect.DeepEqual(found, wanted) {
-		t.Errorf("%s: %v, not %v", told, found, wanted)
+		t.Errorf("%s: %v, not %v", message, found, wanted)
 	}
 }
 
@@ -176,7 +176,7 @@ func TestSyntaxErrors(t *testing.T) {
 		detail     ErrorDetail
 		character  rune
 		start, end Position
-		told       string
+		message    string
 	}{
 		{"{\n  a )\n}", UnexpectedToken, NoDetail, 0, Position{6, 1, 4, 6}, Position{7, 1, 5, 7}, `Unexpected ")". At 2:5`},
 		{"", UnexpectedEnd, NoDetail, 0, Position{}, Position{}, "Unexpected end of input. At 1:1"},
@@ -206,10 +206,10 @@ func TestSyntaxErrors(t *testing.T) {
 			Position{140003, 70000, 70001, 140004}, Position{140004, 70000, 70002, 140005}, `Unexpected ")". At 70001:70002`},
 	} {
 		found := refused(t, row.source, DefaultLimits.Depth)
-		message := row.told[:strings.LastIndex(row.told, ". At ")]
+		message := row.message[:strings.LastIndex(row.message, ". At ")]
 		same(t, row.source, *found, SyntaxError{message, row.kind, row.detail, row.character, row.start, row.end, row.source})
-		same(t, row.source, found.Error(), row.told)
-		same(t, row.source, fmt.Sprintf("%s. At %d:%d", message, found.Line(), found.Column()), row.told)
+		same(t, row.source, found.Error(), row.message)
+		same(t, row.source, fmt.Sprintf("%s. At %d:%d", message, found.Line(), found.Column()), row.message)
 	}
 	for _, length := range []int{1, 200, 242, 243, 244, 255, 256, 257, 5000} {
 		name := strings.Repeat("n", length)
@@ -261,13 +261,13 @@ func TestSources(t *testing.T) {
 func TestStatuses(t *testing.T) {
 	same(t, "the errors of statuses", []error{errorOf(2, "", nil), errorOf(3, "", nil), errorOf(7, "", nil)},
 		[]error{ErrNotUTF8, ErrOutOfMemory, ErrSourceTooLong})
-	for err, told := range map[error]string{
+	for err, message := range map[error]string{
 		ErrNotUTF8:       "the source is not UTF-8",
 		ErrOutOfMemory:   "memory ran out",
 		ErrSourceTooLong: "the source has 4 GiB or more",
 		ErrInvalidLimit:  "invalid limit",
 	} {
-		same(t, "the words of an error", err.Error(), "firthnapkin: "+told)
+		same(t, "the words of an error", err.Error(), "firthnapkin: "+message)
 	}
 	same(t, "the error of another", errorOf(9, "", nil).Error(), "firthnapkin: the parser returned invalid_error")
 }

@@ -142,8 +142,8 @@ func (d *Document) Fragments() []Fragment {
 	return found
 }
 
-// Operation returns the first operation of a name. Where the name is "" it returns the document's only operation, whatever its
-// name, and none where there are several.
+// Operation returns the first operation of a name. If the name is "" it returns the document's only operation, whatever its
+// name, and none if there are several.
 func (d *Document) Operation(name string) (Operation, bool) {
 	operations := d.Operations()
 	if name == "" {

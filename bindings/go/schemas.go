@@ -13,15 +13,17 @@ var schemaKeywords = map[string]bool{
 	"input": true,
 }
 
-// beginsSchema says whether an unexpected token begins a definition of a schema, or its description: where what is before it is a
-// document, or has no tokens.
+var loosest = Limits{Depth: MaxDepth, Tokens: AnyTokens}
+
+// beginsSchema says whether an unexpected token begins a definition of a schema, or its description: it does if what is before it
+// is a document, or has no tokens.
 func beginsSchema(source string, start, end Position) bool {
 	token := source[start.Byte:end.Byte]
 	if !schemaKeywords[token] && !strings.HasPrefix(token, `"`) {
 		return false
 	}
 	before := source[:start.Byte]
-	if _, err := parse(before, MaxDepth, AnyTokens); err == nil {
+	if _, err := ParseWithin(before, loosest); err == nil {
 		return true
 	}
 	canonical, err := Canonical(before)

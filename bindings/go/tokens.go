@@ -73,9 +73,10 @@ func Tokens(source string) ([]Token, error) {
 }
 
 // TokensWithin is Tokens of a source that may have no more than so many tokens, its end not counted. One with more is refused at
-// the first one too many. Where the number is below 0 the error wraps ErrInvalidLimit, and the source isn't read.
+// the first one too many. If the number is below 0 the error wraps ErrInvalidLimit, and the source isn't read.
 func TokensWithin(source string, maxTokens int) ([]Token, error) {
-	most, err := tokensOf(maxTokens)
+	var err error
+	most := checked("number of tokens", maxTokens, AnyTokens, &err)
 	if err != nil {
 		return nil, err
 	}

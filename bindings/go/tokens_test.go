@@ -75,7 +75,7 @@ func TestCanonical(t *testing.T) {
 
 func TestLexicalErrors(t *testing.T) {
 	long := strings.Repeat("a", 5000)
-	for source, told := range map[string]string{
+	for source, message := range map[string]string{
 		"} é ?":            `Unknown character "é". At 1:3`,
 		"a\n01":            `Unexpected character "1". At 2:2`,
 		`{{{ "é`:           "Unterminated string literal. At 1:7",
@@ -86,7 +86,7 @@ func TestLexicalErrors(t *testing.T) {
 		_, other := Canonical(source)
 		for _, err := range []error{err, other} {
 			var found *SyntaxError
-			same(t, source, []any{errors.As(err, &found), err.Error()}, []any{true, told})
+			same(t, source, []any{errors.As(err, &found), err.Error()}, []any{true, message})
 			same(t, source, found.Kind, Lexical)
 		}
 	}

@@ -1,9 +1,10 @@
-/* The library's calls for lib/calls.js, which checks the types of arguments. `allocate` makes an ArrayBuffer of so many bytes:
+/* The library's calls for lib/calls.js, which checks the types of arguments. The limits are an Uint32Array of the words of a
+ * firthnapkin_limits, and `allocate` makes an ArrayBuffer of so many bytes:
  *
- *     parse(buffer, depth, tokens, allocate)    the nodes, and their texts
- *     tokens(buffer, tokens, allocate)          the tokens
- *     canonical(buffer, allocate)               the canonical text
- *     excerpt(buffer, byte, allocate)           the lines around a byte
+ *     parse(buffer, limits, allocate)     the nodes, and their texts
+ *     tokens(buffer, tokens, allocate)    the tokens
+ *     canonical(buffer, allocate)         the canonical text
+ *     excerpt(buffer, byte, allocate)     the lines around a byte
  *
  * Each returns { status, parts, texts }: the name of its status, an ArrayBuffer of nodes, of tokens or of the error, and one of
  * texts or of the error's words. */
@@ -19,7 +20,7 @@ static napi_value failed(napi_env env, const char *words) {
     return NULL;
 }
 
-/* Adds a property to an object; false where that failed. */
+/* Adds a property to an object; false if that failed. */
 static int has(napi_env env, napi_value object, const char *name, napi_status made, const napi_value *value) {
     return made == napi_ok && napi_set_named_property(env, object, name, *value) == napi_ok;
 }
@@ -28,7 +29,7 @@ static napi_status text_of(napi_env env, const char *text, napi_value *result) {
     return napi_create_string_utf8(env, text, NAPI_AUTO_LENGTH, result);
 }
 
-/* Copies bytes into an ArrayBuffer that JavaScript allocates: it throws where memory is short, where napi_create_arraybuffer ends
+/* Copies bytes into an ArrayBuffer that JavaScript allocates: it throws if memory is short, while napi_create_arraybuffer ends
  * the process. */
 static napi_status copied(napi_env env, napi_value allocate, const void *from, size_t size, napi_value *result) {
     napi_value receiver, argument;
@@ -62,58 +63,74 @@ static napi_value result_of(napi_env env, whole *w, const void *parts, size_t si
     return result;
 }
 
-/* A call's arguments: a buffer, numbers, and a function that allocates. */
-enum { MOST_NUMBERS = 2 };
+/* A call's arguments: a buffer, a function that allocates, and perhaps another one between them. */
+enum { MOST_ARGUMENTS = 3 };
 typedef struct {
     void *source;
     size_t length;
-    double numbers[MOST_NUMBERS];
-    napi_value allocate;
+    napi_value other, allocate;
 } call_arguments;
 
-static int are_read(napi_env env, napi_callback_info info, size_t numbers, call_arguments *a) {
-    napi_value values[MOST_NUMBERS + 2];
-    size_t count = numbers + 2;
-    if (napi_get_cb_info(env, info, &count, values, NULL, NULL) != napi_ok || count < numbers + 2
-        || napi_get_buffer_info(env, values[0], &a->source, &a->length) != napi_ok)
+static int are_read(napi_env env, napi_callback_info info, size_t wanted, call_arguments *a) {
+    napi_value values[MOST_ARGUMENTS];
+    size_t count = wanted;
+    if (napi_get_cb_info(env, info, &count, values, NULL, NULL) != napi_ok || count < wanted) return 0;
+    a->other = values[1];
+    a->allocate = values[wanted - 1];
+    return napi_get_buffer_info(env, values[0], &a->source, &a->length) == napi_ok;
+}
+
+/* Reads the limits between the two; false where they are others than a firthnapkin_limits has. */
+static int are_limits(napi_env env, napi_value value, firthnapkin_limits *limits) {
+    napi_typedarray_type type;
+    size_t length;
+    void *words;
+    if (napi_get_typedarray_info(env, value, &type, &length, &words, NULL, NULL) != napi_ok || type != napi_uint32_array
+        || length != sizeof *limits / sizeof(uint32_t))
         return 0;
-    for (size_t i = 0; i < numbers; i++)
-        if (napi_get_value_double(env, values[i + 1], &a->numbers[i]) != napi_ok) return 0;
-    a->allocate = values[numbers + 1];
+    memcpy(limits, words, sizeof *limits);
     return 1;
 }
 
-/* A number as the library takes it; the largest for one that is out of its range. NaN is neither less than 0 nor more. */
-static uint32_t number_of(double number) {
-    return number >= 0 && number < UINT32_MAX ? (uint32_t)number : UINT32_MAX;
+/* Reads a number as the library takes it; the largest for one that is out of its range. NaN is neither less than 0 nor more. */
+static int is_number(napi_env env, napi_value value, uint32_t *number) {
+    double given;
+    if (napi_get_value_double(env, value, &given) != napi_ok) return 0;
+    *number = given >= 0 && given < UINT32_MAX ? (uint32_t)given : UINT32_MAX;
+    return 1;
 }
 
 static napi_value parse(napi_env env, napi_callback_info info) {
     call_arguments a;
-    if (!are_read(env, info, 2, &a)) return failed(env, "parse takes a buffer, a depth, a number of tokens and a function");
-    firthnapkin_limits limits = {number_of(a.numbers[0]), number_of(a.numbers[1]), {0}};
+    firthnapkin_limits limits;
+    if (!are_read(env, info, 3, &a) || !are_limits(env, a.other, &limits))
+        return failed(env, "parse takes a buffer, limits and a function");
     whole w = parse_whole(a.source, a.length, &limits);
     return result_of(env, &w, w.nodes, w.nodes_count * sizeof *w.nodes, a.allocate);
 }
 
 static napi_value tokens(napi_env env, napi_callback_info info) {
     call_arguments a;
-    if (!are_read(env, info, 1, &a)) return failed(env, "tokens takes a buffer, a number of tokens and a function");
-    whole w = cut_whole(a.source, a.length, number_of(a.numbers[0]));
+    uint32_t most;
+    if (!are_read(env, info, 3, &a) || !is_number(env, a.other, &most))
+        return failed(env, "tokens takes a buffer, a number of tokens and a function");
+    whole w = cut_whole(a.source, a.length, most);
     return result_of(env, &w, w.tokens, w.tokens_count * sizeof *w.tokens, a.allocate);
 }
 
 static napi_value canonical(napi_env env, napi_callback_info info) {
     call_arguments a;
-    if (!are_read(env, info, 0, &a)) return failed(env, "canonical takes a buffer and a function");
+    if (!are_read(env, info, 2, &a)) return failed(env, "canonical takes a buffer and a function");
     whole w = canonical_whole(a.source, a.length);
     return result_of(env, &w, NULL, 0, a.allocate);
 }
 
 static napi_value excerpt(napi_env env, napi_callback_info info) {
     call_arguments a;
-    if (!are_read(env, info, 1, &a)) return failed(env, "excerpt takes a buffer, a byte and a function");
-    whole w = excerpt_whole(a.source, a.length, number_of(a.numbers[0]));
+    uint32_t byte;
+    if (!are_read(env, info, 3, &a) || !is_number(env, a.other, &byte))
+        return failed(env, "excerpt takes a buffer, a byte and a function");
+    whole w = excerpt_whole(a.source, a.length, byte);
     return result_of(env, &w, NULL, 0, a.allocate);
 }
 
@@ -137,6 +154,7 @@ NAPI_MODULE_INIT() {
         || !has(env, exports, "TOKEN_KINDS", names(env, firthnapkin_token_kind_name, &value), &value)
         || !has(env, exports, "ERROR_KINDS", names(env, firthnapkin_error_kind_name, &value), &value)
         || !has(env, exports, "ERROR_DETAILS", names(env, firthnapkin_error_detail_name, &value), &value)
+        || !has(env, exports, "LIMITS_LENGTH", napi_create_uint32(env, sizeof(firthnapkin_limits) / sizeof(uint32_t), &value), &value)
         || !has(env, exports, "MAX_DEPTH", napi_create_uint32(env, FIRTHNAPKIN_MAX_DEPTH, &value), &value)
         || !has(env, exports, "VERSION", text_of(env, FIRTHNAPKIN_VERSION_STRING, &value), &value))
         return failed(env, "the module was not made");

@@ -1,5 +1,5 @@
 // Builds the addon with a C compiler, over the archive and the headers that Node comes with. A release has the archive inside, and
-// an addon that is built: where this Node loads it, nothing is left to do. In the repository ./c-library builds the archive.
+// an addon that is built: if this Node loads it, nothing is left to do. In the repository ./c-library builds the archive.
 "use strict";
 
 const { execFileSync } = require("child_process");

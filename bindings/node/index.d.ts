@@ -67,13 +67,13 @@ export interface Node extends Shown {
   readonly name: string | null;
   /**
    * What a scalar means; of an Int that a number doesn't hold exactly a bigint. A type without spaces; the name of an enum or a
-   * variable; a fragment's type condition. Throws a RangeError where a Float is beyond the largest number, and where an Int has
+   * variable; a fragment's type condition. Throws a RangeError if a Float is beyond the largest number, and if an Int has
    * more than 4,300 digits.
    */
   readonly value: null | boolean | number | bigint | string;
   /** The nodes of the parts in this one that are in no other part in it. */
   readonly children: Node[];
-  /** The node of the part that this one is in; null of a definition. */
+  /** The node of the part that this one is in; null for a definition. */
   readonly parent: Node | null;
   /** What JSON.stringify writes: the parts that console.log shows, too. */
   toJSON(): NodeParts;
@@ -97,7 +97,7 @@ export interface Document extends Iterable<Node> {
   readonly length: number;
   readonly operations: Operation[];
   readonly fragments: Fragment[];
-  /** The first operation of a name; without a name the only operation, whatever its name, and null where there are several. */
+  /** The first operation of a name; without a name the only operation, whatever its name, and null if there are several. */
   operation(name?: string | null): Operation | null;
   /** The first fragment of a name. */
   fragment(name: string): Fragment | null;
@@ -111,7 +111,7 @@ export interface Document extends Iterable<Node> {
 
 /** A part of a document by its name. */
 export interface Part extends Shown {
-  /** What the part stands on: it has the positions, as numbers from 0. */
+  /** The part's node, whose positions count from 0. */
   readonly node: Node;
   /** What JSON.stringify writes: that of the node. console.log shows the part's text. */
   toJSON(): NodeParts;
@@ -193,7 +193,7 @@ export interface Directive extends Part {
 export interface Argument extends Part {
   readonly kind: "argument";
   readonly name: string;
-  /** The value. Throws a RangeError where a Float in it is beyond the largest number, or an Int has more than 4,300 digits. */
+  /** The value. Throws a RangeError if a Float in it is beyond the largest number, or an Int has more than 4,300 digits. */
   readonly value: Value;
 }
 
@@ -251,7 +251,7 @@ export class FirthnapkinError extends Error {
   /** The message without the position. */
   readonly reason: string;
   readonly kind: ErrorKind;
-  /** Where the kind is `lexical`. */
+  /** What is wrong, if the kind is `lexical`. */
   readonly detail: ErrorDetail | null;
   /** The character of the detail. */
   readonly character: string | null;
@@ -264,16 +264,16 @@ export class FirthnapkinError extends Error {
 }
 
 export interface Options {
-  /** How deep brackets may be nested: an integer from 0 to MAX_DEPTH; 200 where it isn't given. */
+  /** How deep brackets may be nested: an integer from 0 to MAX_DEPTH; 200 if it isn't given. */
   depth?: number;
-  /** How many tokens the source may have, its end not counted; any number where it isn't given. */
+  /** How many tokens the source may have, its end not counted; any number if it isn't given. */
   maxTokens?: number;
 }
 
 /**
  * The document that a source is. Throws a FirthnapkinError if it isn't one, a bracket is nested deeper, or a token is one too many,
- * before anything is built; a TypeError where the source is no string, a limit no number, or the options are no object or
- * have a name that `Options` lacks; a RangeError where a limit is no integer of its range; an Error if memory runs out.
+ * before anything is built; a TypeError if the source is no string, a limit no number, or the options are no object or
+ * have a name that `Options` lacks; a RangeError if a limit is no integer of its range; an Error if memory runs out.
  */
 export function parse(source: string, options?: Options): Document;
 
@@ -312,7 +312,7 @@ export interface Tokens extends Iterable<Token> {
 }
 
 export interface TokenOptions {
-  /** How many tokens the source may have, its end not counted; any number where it isn't given. */
+  /** How many tokens the source may have, its end not counted; any number if it isn't given. */
   maxTokens?: number;
 }
 
@@ -326,7 +326,7 @@ export function tokens(source: string, options?: TokenOptions): Tokens;
 /**
  * The canonical text of a source, one for each query whatever its white space and comments: its tokens as they are written, with a
  * space between two neighbours of which neither is a punctuator, and before `...` after a token that is no punctuator. Throws a
- * FirthnapkinError at the first position that has no token; a TypeError where the source is no string; an Error if memory runs out.
+ * FirthnapkinError at the first position that has no token; a TypeError if the source is no string; an Error if memory runs out.
  */
 export function canonical(source: string): string;
 

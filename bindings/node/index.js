@@ -18,9 +18,9 @@ const { MAX_DEPTH, VERSION: version } = addon;
 /** The document that a source is; index.d.ts says what is thrown. */
 function parse(source, options = {}) {
   requireString("source", source);
-  const [depth, maxTokens] = limitsOf(options, ["depth", "maxTokens"]);
+  const limits = limitsOf(options);
   const bytes = bytesOf(source);
-  const found = checked(source, addon.parse(bytes, depth, maxTokens, allocate));
+  const found = checked(source, addon.parse(bytes, limits, allocate));
   return new Document(source, bytes, found.parts, found.texts);
 }
 

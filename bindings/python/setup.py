@@ -1,6 +1,6 @@
 """Builds the package with the library included, on the stable ABI: the wheel works with Python 3.9 and later.
 
-There is no pyproject.toml. With one, each release of pip fetches setuptools from a registry even where it is installed, unless
+There is no pyproject.toml. With one, each release of pip fetches setuptools from a registry even if it is installed, unless
 it gets --no-build-isolation. Without one only the newer releases do.
 """
 

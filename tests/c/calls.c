@@ -1,5 +1,5 @@
 /* What bindings/calls.h and bindings/whole.h do around the library's calls: which stack each call gets, what becomes of the
- * thread's signals, how many calls are made, and what is returned where no thread can be made.
+ * thread's signals, how many calls are made, and what is returned if no thread can be made.
  *
  * THREAD_LOCAL is how many bytes each thread has of its own. */
 #define _GNU_SOURCE
@@ -107,8 +107,8 @@ static uint32_t seen_tokens(const uint8_t *source, size_t length, uint32_t max_t
     return firthnapkin_tokens(source, length, max_tokens, tokens, tokens_capacity, tokens_length, error);
 }
 
-static uint32_t seen_canonical(const uint8_t *source, size_t length, uint8_t *buffer, size_t buffer_capacity, size_t *buffer_length,
-                               firthnapkin_error *error) {
+static uint32_t seen_canonical(const uint8_t *source, size_t length, uint8_t *buffer, size_t buffer_capacity,
+                               size_t *buffer_length, firthnapkin_error *error) {
     seen.canonicals++;
     look(0);
     return firthnapkin_canonical(source, length, buffer, buffer_capacity, buffer_length, error);
@@ -311,7 +311,7 @@ typedef struct {
     threads wanted;
 } depth_of_stack;
 
-/* Calls where so many bytes of this thread's stack are left. */
+/* Calls with so many bytes of this thread's stack left. */
 static void descend(size_t left, void (*run)(const depth_of_stack *), const depth_of_stack *argument) {
     volatile char taken[left_here() - left];
     taken[0] = 0;
@@ -383,7 +383,7 @@ static void on_stack_of_program(void) {
     free(stack);
 }
 
-/* ---- Where no thread can be made, or its stack isn't known */
+/* ---- If no thread can be made, or its stack isn't known */
 
 static int never_made;
 
@@ -398,8 +398,8 @@ static void no_calls(const depth_of_stack *d) {
     for (size_t i = 0; i < sizeof PARSES / sizeof *PARSES; i++) {
         begin();
         whole w = parsed(PARSES[i]);
-        check(w.status == FIRTHNAPKIN_OUT_OF_MEMORY && w.nodes_count == 0 && w.texts_count == 0, "%u is returned without a stack",
-              w.status);
+        check(w.status == FIRTHNAPKIN_OUT_OF_MEMORY && w.nodes_count == 0 && w.texts_count == 0,
+              "%u is returned without a stack", w.status);
         check(seen.parses + seen.messages == 0, "a call is made without a stack, for %.20s", PARSES[i].source);
         check_seen("no stack", PARSES[i].source, d->wanted, &before);
         give_back(&w);
@@ -412,7 +412,8 @@ static void no_calls(const depth_of_stack *d) {
           w.status);
     give_back(&w);
     w = excerpt_whole((const uint8_t *)"{a}", 3, 0);
-    check(w.status == FIRTHNAPKIN_OUT_OF_MEMORY && w.texts_count == 0, "%u is returned without a stack, by an excerpt", w.status);
+    check(w.status == FIRTHNAPKIN_OUT_OF_MEMORY && w.texts_count == 0, "%u is returned without a stack, by an excerpt",
+          w.status);
     give_back(&w);
 }
 

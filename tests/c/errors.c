@@ -215,7 +215,7 @@ static void wide_lines(void) {
 
 /* ---- errors that no call gave */
 
-/* Either call returns one of its statuses, and keeps the buffer where it returns no words. */
+/* Either call returns one of its statuses, and keeps the buffer if it returns no words. */
 static void survives(const char *source, size_t length, const firthnapkin_error *error) {
     words_call *calls[] = {firthnapkin_message, firthnapkin_excerpt};
     for (size_t i = 0; i < 2; i++) {
@@ -297,7 +297,7 @@ static void sources(void) {
     void *source = too_long_source();
     for (size_t i = 0; i < 2; i++) {
         size_t needed = 1;
-        check(calls[i]((const uint8_t *)"{\xff", 2, &error, NULL, 0, &needed) == FIRTHNAPKIN_NOT_UTF8 && needed == 0, "bytes that are no text");
+        check(calls[i]((const uint8_t *)"{\xff", 2, &error, NULL, 0, &needed) == FIRTHNAPKIN_NOT_UTF8 && needed == 0, "bytes that are not UTF-8");
         check(calls[i](NULL, 0, &error, NULL, 0, &needed) == FIRTHNAPKIN_BUFFER_TOO_SMALL && needed == (i ? 9 : 17), "no source: %zu", needed);
         if (source == NULL) continue;
         check(calls[i](source, FOUR_GIB, &error, NULL, 0, &needed) == FIRTHNAPKIN_SOURCE_TOO_LONG && needed == 0, "4 GiB");

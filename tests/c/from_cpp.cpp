@@ -6,12 +6,12 @@
 
 static long passed, failed;
 
-static void check(bool holds, const char *told) {
+static void check(bool holds, const char *what) {
     if (holds) {
         passed++;
     } else {
         failed++;
-        std::printf("FAILED %s\n", told);
+        std::printf("FAILED %s\n", what);
     }
 }
 
@@ -27,14 +27,14 @@ int main() {
     firthnapkin_error error;
     const firthnapkin_limits limits = FIRTHNAPKIN_LIMITS_DEFAULT;
     std::uint32_t status = firthnapkin_parse(bytes(source), source.size(), &limits, nodes.data(), nodes.size(), &nodes_length,
-                                         texts.data(), texts.size(), &texts_length, &error);
+                                             texts.data(), texts.size(), &texts_length, &error);
     check(status == FIRTHNAPKIN_OK && nodes_length == 5 && texts_length == 0, "a document's nodes");
     check(nodes[0].kind == FIRTHNAPKIN_QUERY && nodes[0].descendants == 4, "the first node");
     check(nodes[4].kind == FIRTHNAPKIN_INT && nodes[4].value == -7 && nodes[4].start.byte == 15, "the last node");
 
     const std::string other = "{ a ) }";
     status = firthnapkin_parse(bytes(other), other.size(), &limits, nodes.data(), nodes.size(), &nodes_length, texts.data(),
-                           texts.size(), &texts_length, &error);
+                               texts.size(), &texts_length, &error);
     check(status == FIRTHNAPKIN_SYNTAX_ERROR && error.kind == FIRTHNAPKIN_ERROR_UNEXPECTED_TOKEN && error.start.column == 4,
           "an error");
     std::size_t needed = 0;
@@ -43,7 +43,8 @@ int main() {
     check(status == FIRTHNAPKIN_OK && std::string(buffer.begin(), buffer.begin() + needed) == "Unexpected \")\"",
           "an error's words");
     status = firthnapkin_excerpt(bytes(other), other.size(), &error, buffer.data(), buffer.size(), &needed);
-    check(status == FIRTHNAPKIN_OK && std::string(buffer.begin(), buffer.begin() + needed) == "1 | { a ) }\n  |     ^", "an excerpt");
+    check(status == FIRTHNAPKIN_OK && std::string(buffer.begin(), buffer.begin() + needed) == "1 | { a ) }\n  |     ^",
+          "an excerpt");
     check(std::string(firthnapkin_kind_name(nodes[0].kind)) == "query", "a kind's name");
     check(firthnapkin_count(bytes(other), other.size(), 2, &error) == FIRTHNAPKIN_TOO_MANY_TOKENS && error.start.column == 4,
           "a count");

@@ -34,7 +34,8 @@ int main(int argc, char **argv) {
     uint32_t status;
     firthnapkin_limits limits = FIRTHNAPKIN_LIMITS_DEFAULT;
     if (strcmp(argv[1], "few") == 0) limits.tokens = 10;
-    firthnapkin_error end = {.kind = FIRTHNAPKIN_ERROR_UNEXPECTED_TOKEN, .start.byte = (uint32_t)length, .text_end = (uint32_t)length};
+    firthnapkin_error end = {
+        .kind = FIRTHNAPKIN_ERROR_UNEXPECTED_TOKEN, .start.byte = (uint32_t)length, .text_end = (uint32_t)length};
     if (strcmp(argv[1], "parse") == 0 || strcmp(argv[1], "few") == 0)
         status = firthnapkin_parse(source, length, &limits, nodes, length, &nodes_length, texts, length, &texts_length, &error);
     else if (strcmp(argv[1], "message") == 0)

@@ -53,9 +53,26 @@ static void give_back(run r) {
     free(r.texts);
 }
 
-/* Nothing is written after the buffer, nor after what is needed, and nothing at all where there is no tree. */
+/* How much of a buffer of this capacity may be written: of a document as much as fits, nothing if the source wasn't read, and
+ * after an error any of it. */
+static size_t written(uint32_t status, size_t capacity, size_t length) {
+    switch (status) {
+    case FIRTHNAPKIN_OK:
+    case FIRTHNAPKIN_BUFFER_TOO_SMALL:
+        return length < capacity ? length : capacity;
+    case FIRTHNAPKIN_NOT_UTF8:
+    case FIRTHNAPKIN_SOURCE_TOO_LONG:
+    case FIRTHNAPKIN_INVALID_LIMIT:
+        return 0;
+    default:
+        return capacity;
+    }
+}
+
+/* Nothing is written after the buffer, nor after what is needed, and nothing at all if the source wasn't read. */
 static int is_kept(run r) {
-    size_t nodes = r.status == FIRTHNAPKIN_OK ? r.nodes_length : 0, texts = r.status == FIRTHNAPKIN_OK ? r.texts_length : 0;
+    size_t nodes = written(r.status, r.nodes_capacity, r.nodes_length);
+    size_t texts = written(r.status, r.texts_capacity, r.texts_length);
     return are_canaries(r.nodes + nodes, (r.nodes_capacity - nodes) * sizeof *r.nodes + BEYOND)
         && are_canaries(r.texts + texts, r.texts_capacity - texts + BEYOND);
 }
@@ -76,9 +93,8 @@ static void every_capacity(const char *source) {
             check(r.status == (fits ? FIRTHNAPKIN_OK : FIRTHNAPKIN_BUFFER_TOO_SMALL) && r.nodes_length == whole.nodes_length
                       && r.texts_length == whole.texts_length && is_kept(r) && is_error_kept(r),
                   "capacity for %zu nodes and %zu bytes, for %s", nodes, texts, source);
-            if (r.status == FIRTHNAPKIN_OK)
-                check(same_nodes(r.nodes, whole.nodes, nodes) && !memcmp(r.texts, whole.texts, texts),
-                      "the same in exact buffers, for %s", source);
+            check(same_nodes(r.nodes, whole.nodes, nodes) && !memcmp(r.texts, whole.texts, texts),
+                  "as many as fit into buffers for %zu nodes and %zu bytes, for %s", nodes, texts, source);
             give_back(r);
         }
     }
@@ -119,12 +135,12 @@ static void statuses(void) {
     refused("{a)a{b}}", 1, FIRTHNAPKIN_SYNTAX_ERROR, FIRTHNAPKIN_ERROR_UNEXPECTED_TOKEN, 0, 0, 0, 2, 2);
 
     run r = parsed("\xff{", 2, DEPTH, 3, 3);
-    check(r.status == FIRTHNAPKIN_NOT_UTF8 && is_kept(r) && is_error_kept(r) && !r.nodes_length, "bytes that are no text");
+    check(r.status == FIRTHNAPKIN_NOT_UTF8 && is_kept(r) && is_error_kept(r) && !r.nodes_length, "bytes that are not UTF-8");
     give_back(r);
     check(firthnapkin_version() == FIRTHNAPKIN_VERSION, "the number of the interface");
 }
 
-/* Where a count is 0 no memory is needed. */
+/* If a count is 0 no memory is needed. */
 static void no_memory(void) {
     size_t nodes_length = 1, texts_length = 1;
     firthnapkin_error error;
@@ -141,7 +157,7 @@ static void no_memory(void) {
     check(firthnapkin_parse((const uint8_t *)"{a}", 3, &DEFAULT, nodes, 2, &nodes_length, NULL, 0, &texts_length, &error)
                   == FIRTHNAPKIN_OK
               && nodes[0].kind == FIRTHNAPKIN_QUERY && nodes[1].kind == FIRTHNAPKIN_FIELD,
-          "no capacity for texts where there are none");
+          "no capacity for texts that aren't there");
 }
 
 /* A source that is too long is not read. */
@@ -201,7 +217,7 @@ static void parse_of_few(const char *source, uint32_t tokens, uint32_t max_token
     give_back(any);
 }
 
-/* Every limit from 0 to above the number of tokens: where the limit is below it, the error is the first token too many. */
+/* Every limit from 0 to above the number of tokens: if the limit is below it, the error is the first token too many. */
 static void every_count(const char *source, uint32_t tokens, const uint32_t *starts, const uint32_t *ends) {
     for (uint32_t max_tokens = 0; max_tokens < tokens + 3; max_tokens++) {
         firthnapkin_error error;
@@ -228,9 +244,9 @@ static void counts(void) {
     every_count("a b \"", 2, (const uint32_t[]){0, 2}, (const uint32_t[]){1, 3});
     firthnapkin_error error;
     memset(&error, CANARY, sizeof error);
-    check(firthnapkin_count((const uint8_t *)"{\xff", 2, 0, &error) == FIRTHNAPKIN_NOT_UTF8, "a count of what is no text");
+    check(firthnapkin_count((const uint8_t *)"{\xff", 2, 0, &error) == FIRTHNAPKIN_NOT_UTF8, "a count of bytes that are not UTF-8");
     check(firthnapkin_count((const uint8_t *)"a b \xff", 5, 1, &error) == FIRTHNAPKIN_NOT_UTF8,
-          "bytes that are no text after the first token too many");
+          "bytes that are not UTF-8 after the first token too many");
     check(firthnapkin_count(NULL, 0, 0, &error) == FIRTHNAPKIN_OK, "a count of nothing");
     check(firthnapkin_count((const uint8_t *)"{a}", 3, UINT32_MAX, &error) == FIRTHNAPKIN_OK, "the largest limit");
     check(are_canaries(&error, sizeof error), "an error is left");

@@ -27,7 +27,7 @@ static int are_canaries(const void *block, size_t length) {
 
 static const size_t FOUR_GIB = (size_t)1 << 32;
 
-/* A source of 4 GiB of which no byte can be read; NULL, and skipped, where there is no address space for it. */
+/* A source of 4 GiB of which no byte can be read; NULL, and skipped, if there is no address space for it. */
 static void *too_long_source(void) {
     void *source = mmap(NULL, FOUR_GIB, PROT_NONE, MAP_PRIVATE | MAP_ANONYMOUS | MAP_NORESERVE, -1, 0);
     if (source != MAP_FAILED) return source;
@@ -55,8 +55,8 @@ static inline void on_stack(uint32_t depth, void *(*run)(void *), void *argument
     pthread_attr_t attributes;
     pthread_t thread;
     if (memory == MAP_FAILED || mprotect(memory, GUARD, PROT_NONE) || pthread_attr_init(&attributes)
-        || pthread_attr_setstack(&attributes, memory + GUARD, size)
-        || pthread_create(&thread, &attributes, run, argument) || pthread_join(thread, NULL))
+        || pthread_attr_setstack(&attributes, memory + GUARD, size) || pthread_create(&thread, &attributes, run, argument)
+        || pthread_join(thread, NULL))
         abort();
     pthread_attr_destroy(&attributes);
     munmap(memory, GUARD + size);

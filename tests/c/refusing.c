@@ -1,5 +1,5 @@
 /* Refuses each request for memory of each call in turn, and of each call of bindings/whole.h: that one alone, or it and all
- * after it. The call reports that memory ran out, or returns what it returns where memory is ample, and frees what it was given.
+ * after it. The call reports that memory ran out, or returns what it returns with ample memory, and frees what it was given.
  * Linked with --wrap. */
 #define _GNU_SOURCE
 #include "../../bindings/whole.h"
@@ -13,28 +13,21 @@ extern void __real_free(void *);
 
 static long asked, refused_request, live;
 static int is_onwards;
-/* Requests of this many bytes are refused, too, and counted. */
-static size_t refused_size;
-static long refused_sizes;
 
-static int is_refused(size_t size) {
+static int is_refused(void) {
     asked++;
-    if (refused_size != 0 && size == refused_size) {
-        refused_sizes++;
-        return 1;
-    }
     return refused_request != 0 && (asked == refused_request || (is_onwards && asked > refused_request));
 }
 
 void *__wrap_malloc(size_t size) {
-    if (is_refused(size)) return NULL;
+    if (is_refused()) return NULL;
     void *block = __real_malloc(size);
     if (block != NULL) live++;
     return block;
 }
 
 void *__wrap_realloc(void *block, size_t size) {
-    if (is_refused(size)) return NULL;
+    if (is_refused()) return NULL;
     void *grown = __real_realloc(block, size);
     if (block == NULL && grown != NULL) live++;
     return grown;
@@ -60,11 +53,11 @@ static answer parse(const char *source) {
     answer a = {.nodes_length = 1, .texts_length = 1};
     firthnapkin_error error;
     a.status = firthnapkin_parse((const uint8_t *)source, strlen(source), &DEFAULT, nodes, 4096, &a.nodes_length, words, 4096,
-                             &a.texts_length, &error);
+                                 &a.texts_length, &error);
     return a;
 }
 
-/* An error of the source, found where memory is ample. */
+/* An error of the source, found with ample memory. */
 static firthnapkin_error error_of(const char *source) {
     long number = refused_request;
     size_t nodes_length, texts_length;
@@ -153,7 +146,7 @@ static answer with_refused(answer (*call)(const char *), const char *source, lon
     is_onwards = onwards;
     answer a = call(source);
     refused_request = 0;
-    check(live == 0, "%ld blocks kept where request %ld is refused, of %s", live, number, source);
+    check(live == 0, "%ld blocks kept if request %ld is refused, of %s", live, number, source);
     return a;
 }
 
@@ -166,28 +159,14 @@ static void each(answer (*call)(const char *), const char *source) {
             answer a = with_refused(call, source, number, onwards);
             if (a.status == FIRTHNAPKIN_OUT_OF_MEMORY) {
                 memory++;
-                check(a.nodes_length == 0 && a.texts_length == 0, "the lengths where memory ran out, for %s", source);
+                check(a.nodes_length == 0 && a.texts_length == 0, "the lengths after memory ran out, for %s", source);
             } else {
-                check(a.status == ample.status && a.nodes_length == ample.nodes_length
-                          && a.texts_length == ample.texts_length,
-                      "the answer for %s where request %ld is refused: %u", source, number, a.status);
+                check(a.status == ample.status && a.nodes_length == ample.nodes_length && a.texts_length == ample.texts_length,
+                      "the answer for %s if request %ld is refused: %u", source, number, a.status);
             }
         }
     }
-    check(requests == 0 || memory > 0, "want of memory is answered, for %s", source);
-}
-
-/* The capacity for nodes that is requested before the first token is a hint: where it is refused, the result stays. That for
-   a definition's nodes is one, too, and may be of the same size. */
-static void capacity_is_a_hint(const char *source) {
-    answer ample = with_refused(parse, source, 0, 0);
-    refused_size = strlen(source) / 8 * sizeof(firthnapkin_node);
-    refused_sizes = 0;
-    answer a = with_refused(parse, source, 0, 0);
-    refused_size = 0;
-    check(refused_sizes > 0, "%ld requests for the first buffer are refused, of %s", refused_sizes, source);
-    check(a.status == ample.status && a.nodes_length == ample.nodes_length && a.texts_length == ample.texts_length,
-          "the answer for %s where the first buffer for nodes is refused: %u", source, a.status);
+    check(requests == 0 || memory > 0, "memory is said to have run out, for %s", source);
 }
 
 #define TEN(text) text text text text text text text text text text
@@ -222,7 +201,5 @@ int main(void) {
         each(whole_canonical, sources[i]);
         each(whole_excerpt, sources[i]);
     }
-    capacity_is_a_hint(sources[1]);
-    capacity_is_a_hint(sources[2]);
     return counted();
 }

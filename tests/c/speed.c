@@ -24,7 +24,8 @@ int main(int argc, char **argv) {
     double best = 0;
     for (long round = atol(argv[2]); round > 0; round--) {
         double start = now();
-        uint32_t status = firthnapkin_parse(source, length, &limits, nodes, length, &nodes_length, texts, length, &texts_length, &error);
+        uint32_t status =
+            firthnapkin_parse(source, length, &limits, nodes, length, &nodes_length, texts, length, &texts_length, &error);
         double speed = (double)length / (now() - start) / 1e6;
         if (status != FIRTHNAPKIN_OK) return 1;
         if (speed > best) best = speed;

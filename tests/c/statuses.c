@@ -1,4 +1,4 @@
-/* Which status comes first where several hold: a row for each two lines of the header's table that can hold at once in a call, and
+/* Which status comes first if several hold: a row for each two lines of the header's table that can hold at once in a call, and
  * some for three and four. */
 #define _GNU_SOURCE
 #include "../../include/firthnapkin.h"
@@ -16,8 +16,12 @@ typedef struct {
     int byte;
 } row;
 
-#define WITHIN(most_depth, most_tokens) {.depth = most_depth, .tokens = most_tokens}
-#define UNKNOWN {.depth = 200, .tokens = UINT32_MAX, .reserved = {0, 0, 1}}
+#define WITHIN(most_depth, most_tokens)                                                                                        \
+    { .depth = most_depth, .tokens = most_tokens }
+#define UNKNOWN                                                                                                                \
+    {                                                                                                                          \
+        .depth = 200, .tokens = UINT32_MAX, .reserved = { 0, 0, 1 }                                                            \
+    }
 #define ANY WITHIN(200, UINT32_MAX)
 
 static const row PARSES[] = {
@@ -97,7 +101,8 @@ static size_t nodes_length, texts_length;
 typedef uint32_t some_call(const uint8_t *, size_t, const row *, firthnapkin_error *);
 
 static uint32_t parse(const uint8_t *source, size_t length, const row *r, firthnapkin_error *error) {
-    return firthnapkin_parse(source, length, &r->limits, nodes, r->capacity, &nodes_length, texts, r->capacity, &texts_length, error);
+    return firthnapkin_parse(source, length, &r->limits, nodes, r->capacity, &nodes_length, texts, r->capacity, &texts_length,
+                             error);
 }
 
 static uint32_t count(const uint8_t *source, size_t length, const row *r, firthnapkin_error *error) {
@@ -158,9 +163,10 @@ static void too_long(void) {
         check(count(source, FOUR_GIB, &r, &error) == FIRTHNAPKIN_SOURCE_TOO_LONG, "a count of 4 GiB");
         check(canonical(source, FOUR_GIB, &r, &error) == FIRTHNAPKIN_SOURCE_TOO_LONG, "the canonical text of 4 GiB");
     }
-    /* One byte less is not too long, and nothing of it is read where a limit is invalid. */
+    /* One byte less is not too long, and nothing of it is read if a limit is invalid. */
     row invalid_limit = {"", WITHIN(1001, 0), MOST, 0, 0};
-    check(parse(source, FOUR_GIB - 1, &invalid_limit, &error) == FIRTHNAPKIN_INVALID_LIMIT, "a parse of a byte less, 1001 deep");
+    check(parse(source, FOUR_GIB - 1, &invalid_limit, &error) == FIRTHNAPKIN_INVALID_LIMIT,
+          "a parse of a byte less, 1001 deep");
     check(firthnapkin_message(source, FOUR_GIB, &invalid, texts, MOST, &texts_length) == FIRTHNAPKIN_SOURCE_TOO_LONG, "words");
     invalid.start.byte = UINT32_MAX;
     check(firthnapkin_excerpt(source, FOUR_GIB, &invalid, texts, MOST, &texts_length) == FIRTHNAPKIN_SOURCE_TOO_LONG, "lines");
@@ -171,8 +177,10 @@ static void too_long(void) {
 static void words(void) {
     firthnapkin_error invalid = {.kind = 99, .start.byte = 99}, valid = {.kind = FIRTHNAPKIN_ERROR_TOO_DEEP};
     const uint8_t *text = (const uint8_t *)"a", *none = (const uint8_t *)"\xff";
-    check(firthnapkin_message(none, 1, &invalid, texts, 0, &texts_length) == FIRTHNAPKIN_NOT_UTF8, "words of what is no text");
-    check(firthnapkin_excerpt(none, 1, &invalid, texts, 0, &texts_length) == FIRTHNAPKIN_NOT_UTF8, "lines of what is no text");
+    check(firthnapkin_message(none, 1, &invalid, texts, 0, &texts_length) == FIRTHNAPKIN_NOT_UTF8,
+          "words of bytes that are not UTF-8");
+    check(firthnapkin_excerpt(none, 1, &invalid, texts, 0, &texts_length) == FIRTHNAPKIN_NOT_UTF8,
+          "lines of bytes that are not UTF-8");
     check(firthnapkin_message(text, 1, &invalid, texts, 0, &texts_length) == FIRTHNAPKIN_INVALID_ERROR, "words of no error");
     check(firthnapkin_excerpt(text, 1, &invalid, texts, 0, &texts_length) == FIRTHNAPKIN_INVALID_ERROR, "lines of no error");
     check(firthnapkin_message(text, 1, &valid, texts, 16, &texts_length) == FIRTHNAPKIN_BUFFER_TOO_SMALL, "words in 16 bytes");

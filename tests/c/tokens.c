@@ -237,7 +237,7 @@ static void canonical_texts(void) {
 
 /* ---- both */
 
-/* Where a count is 0 no memory is needed. */
+/* If a count is 0 no memory is needed. */
 static void no_memory(void) {
     size_t needed = 99;
     firthnapkin_error error;
@@ -261,11 +261,11 @@ static void no_memory(void) {
 
 static void not_looked_at(void) {
     run r = cut("{\xff", 2, UINT32_MAX, 9);
-    check(r.status == FIRTHNAPKIN_NOT_UTF8 && r.needed == 0 && holds(r, NULL, 0) && is_error_kept(r), "bytes that are no text");
+    check(r.status == FIRTHNAPKIN_NOT_UTF8 && r.needed == 0 && holds(r, NULL, 0) && is_error_kept(r), "bytes that are not UTF-8");
     free(r.tokens);
     r = cut("a b \xff", 5, 1, 9);
     check(r.status == FIRTHNAPKIN_NOT_UTF8 && r.needed == 0 && holds(r, NULL, 0) && is_error_kept(r),
-          "bytes that are no text after the first token too many");
+          "bytes that are not UTF-8 after the first token too many");
     free(r.tokens);
     r = cut("{a\0}", 4, UINT32_MAX, 9);
     check(r.status == FIRTHNAPKIN_SYNTAX_ERROR && r.needed == 2 && r.error.detail == FIRTHNAPKIN_DETAIL_UNKNOWN_CHARACTER

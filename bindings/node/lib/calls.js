@@ -3,6 +3,8 @@
 
 const addon = require("../firthnapkin.node");
 
+const LARGEST_WORD = 2 ** 32 - 1;
+
 // `curlyOpen` for `curly_open`.
 function camelCase(name) {
   return name.replace(/_(.)/g, (_, letter) => letter.toUpperCase());
@@ -17,7 +19,7 @@ function typeOf(value) {
   return Array.isArray(value) ? "array" : typeof value;
 }
 
-// What a function returns that allocates: V8 throws a RangeError where memory is short.
+// What a function returns that allocates: V8 throws a RangeError if memory is short.
 function allocated(allocate) {
   try {
     return allocate();
@@ -47,11 +49,14 @@ function integer(name, value, largest) {
   return value;
 }
 
-// The options that are known, each with its default and its largest number.
-const LIMITS = { depth: [200, addon.MAX_DEPTH], maxTokens: [Number.MAX_SAFE_INTEGER, Number.MAX_SAFE_INTEGER] };
+// The limits, each with its default and its largest number, in the order of firthnapkin_limits.
+const LIMITS = {
+  depth: [200, addon.MAX_DEPTH],
+  maxTokens: [Number.MAX_SAFE_INTEGER, Number.MAX_SAFE_INTEGER],
+};
 
-// The limits that options are, of those with these names: those that aren't given are the default ones.
-function limitsOf(options, names) {
+// The numbers of the limits with these names, of which those that options don't have are the default ones.
+function numbersOf(options, names) {
   if (typeOf(options) !== "object") throw new TypeError(`options must be an object, not ${typeOf(options)}`);
   for (const name of Reflect.ownKeys(options)) {
     if (!names.includes(name)) throw new TypeError(`there is no option ${String(name)}, only ${names.join(" and ")}`);
@@ -63,6 +68,18 @@ function limitsOf(options, names) {
   });
 }
 
+// Limits as the library takes them. In the words that have no limit 0 is none. No source has more of anything than a word holds.
+function wordsOf(numbers) {
+  const words = allocated(() => new Uint32Array(addon.LIMITS_LENGTH));
+  words.set(numbers.map((number) => Math.min(number, LARGEST_WORD)));
+  return words;
+}
+
+// The limits of options.
+function limitsOf(options) {
+  return wordsOf(numbersOf(options, Object.keys(LIMITS)));
+}
+
 // The lines around a byte of a source that is encoded.
 function excerptAt(bytes, byte) {
   const { status, texts } = addon.excerpt(bytes, byte, allocate);
@@ -70,4 +87,4 @@ function excerptAt(bytes, byte) {
   return Buffer.from(texts).utf8Slice();
 }
 
-module.exports = { addon, allocate, allocated, encoded, excerptAt, limitsOf, namesOf, requireString, typeOf };
+module.exports = { addon, allocate, allocated, encoded, excerptAt, limitsOf, namesOf, numbersOf, requireString, typeOf, wordsOf };

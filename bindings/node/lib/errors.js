@@ -70,7 +70,7 @@ function errorOf(source, numbers, texts) {
   return new FirthnapkinError(reason, found, source);
 }
 
-// The source as bytes, or an error where half of a surrogate pair is alone.
+// The source as bytes, or an error if half of a surrogate pair is alone.
 function bytesOf(source) {
   const alone = source.isWellFormed?.() ? -1 : source.search(/\p{Surrogate}/u);
   if (alone >= 0) throw surrogate(source, alone);

@@ -1,7 +1,7 @@
 // The tokens of a source, and its canonical text.
 "use strict";
 
-const { addon, allocate, excerptAt, limitsOf, namesOf, requireString } = require("./calls");
+const { addon, allocate, excerptAt, namesOf, numbersOf, requireString } = require("./calls");
 const { bytesOf, checked } = require("./errors");
 const { Units } = require("./positions");
 
@@ -87,7 +87,7 @@ class Tokens {
 /** The tokens of a source; index.d.ts says what is thrown. */
 function tokens(source, options = {}) {
   requireString("source", source);
-  const [maxTokens] = limitsOf(options, ["maxTokens"]);
+  const [maxTokens] = numbersOf(options, ["maxTokens"]);
   const bytes = bytesOf(source);
   return new Tokens(source, bytes, checked(source, addon.tokens(bytes, maxTokens, allocate)).parts);
 }

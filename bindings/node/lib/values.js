@@ -18,7 +18,7 @@ class Variable {
   }
 }
 
-// The number of an Int; a bigint where a number doesn't hold it.
+// The number of an Int; a bigint if a number doesn't hold it.
 function integerOf(text) {
   const number = Number(text);
   if (Number.isSafeInteger(number)) return number;

@@ -1,4 +1,4 @@
-// What becomes of memory: nothing is kept after a call, and a process where it is short goes on.
+// What becomes of memory: nothing is kept after a call, and a process that is short of it goes on.
 "use strict";
 
 const assert = require("assert");
@@ -95,22 +95,29 @@ test("memory that JavaScript can't allocate", () => {
     }
     console.log(JSON.stringify(results), parse("{ a }").length);
   `;
-  const told = written(program).trim();
-  assert.strictEqual(told, `${JSON.stringify(new Array(9).fill("Error: memory ran out"))} 2`);
+  const lines = written(program).trim();
+  assert.strictEqual(lines, `${JSON.stringify(new Array(9).fill("Error: memory ran out"))} 2`);
 });
 
 test("the addon takes no other arguments", () => {
   const addon = require("../firthnapkin.node");
   const allocate = (size) => new ArrayBuffer(size);
   const source = Buffer.from("{ a }");
-  assert.strictEqual(addon.parse(source, 5, 5, allocate).parts.byteLength, 128);
-  for (const words of [[], [source], [source, 5, 5], ["{ a }", 5, 5, allocate], [source, "5", 5, allocate], [source, 5, 5n, allocate]])
-    assert.throws(() => addon.parse(...words), { message: /^parse takes a buffer, a depth, a number of tokens and a function$/ });
+  const limits = Uint32Array.of(5, 5, 0, 0, 0, 0, 0, 0);
+  assert.strictEqual(addon.parse(source, limits, allocate).parts.byteLength, 128);
+  const others = [5, 5n, "5", null, undefined, {}, Array.from(limits), limits.subarray(1), new Uint32Array(9), new Uint32Array(0)];
+  others.push(limits.buffer, new Int32Array(8), new Float32Array(8), new Uint8Array(8), new Uint8Array(32), new DataView(limits.buffer));
+  for (const words of [[], [source], [source, limits], ["{ a }", limits, allocate], ...others.map((other) => [source, other, allocate])])
+    assert.throws(() => addon.parse(...words), { message: "parse takes a buffer, limits and a function" });
   for (const other of [5, () => 5, () => new ArrayBuffer(0), (size) => new ArrayBuffer(size + 1), (size) => Buffer.alloc(size)])
-    assert.throws(() => addon.parse(source, 5, 5, other), { message: "the result was not made" });
-  // A depth out of range is refused by the library, and a number of tokens beyond it is no limit.
-  for (const depth of [-1, NaN, Infinity, 1001, 2 ** 32, 1e300]) assert.strictEqual(addon.parse(source, depth, 5, allocate).status, "invalid_limit");
-  for (const tokens of [-1, NaN, Infinity, 2 ** 32, 1e300]) assert.strictEqual(addon.parse(source, 5, tokens, allocate).status, "ok");
+    assert.throws(() => addon.parse(source, limits, other), { message: "the result was not made" });
+  // A depth out of range is refused by the library, and so is a word that has no limit. A number out of range is the largest one.
+  const status = (...words) => addon.parse(source, Uint32Array.from({ length: 8 }, (_, word) => words[word] ?? 0), allocate).status;
+  for (const depth of [1001, 2 ** 31, 2 ** 32 - 1]) assert.strictEqual(status(depth, 5), "invalid_limit");
+  for (let reserved = 0; reserved < 6; reserved++)
+    assert.strictEqual(status(5, 5, ...new Array(reserved).fill(0), 1), "invalid_limit");
+  assert.deepStrictEqual([status(0, 5), status(1, 2), status(1000, 2 ** 32 - 1)], ["too_deep", "too_many_tokens", "ok"]);
+  for (const tokens of [-1, NaN, Infinity, 2 ** 32, 1e300]) assert.strictEqual(addon.tokens(source, tokens, allocate).status, "ok");
   for (const words of [[], [source], [source, 5], [source, "5", allocate], ["{ a }", 5, allocate]]) {
     assert.throws(() => addon.tokens(...words), { message: "tokens takes a buffer, a number of tokens and a function" });
     assert.throws(() => addon.excerpt(...words), { message: "excerpt takes a buffer, a byte and a function" });

@@ -124,7 +124,7 @@ test("children, parents and definitions", () => {
 });
 
 test("errors, with their positions", () => {
-  for (const [source, kind, detail, character, start, end, told] of [
+  for (const [source, kind, detail, character, start, end, words] of [
     ["{\n  a )\n}", "unexpectedToken", null, null, [6, 1, 4, 6], [7, 1, 5, 7], 'Unexpected ")". At 2:5'],
     ["", "unexpectedEnd", null, null, [0, 0, 0, 0], [0, 0, 0, 0], "Unexpected end of input. At 1:1"],
     ["{ é }", "lexical", "unknownCharacter", "é", [2, 0, 2, 2], [2, 0, 2, 2], 'Unknown character "é". At 1:3'],
@@ -159,7 +159,7 @@ test("errors, with their positions", () => {
     const position = ([index, line, column, byte]) => ({ index, line, column, byte });
     assert.deepStrictEqual([error.kind, error.detail, error.character], [kind, detail, character]);
     assert.deepStrictEqual([error.start, error.end], [position(start), position(end)]);
-    assert.deepStrictEqual([error.name, error.message, error.reason], ["FirthnapkinError", told, told.slice(0, told.lastIndexOf(". At "))]);
+    assert.deepStrictEqual([error.name, error.message, error.reason], ["FirthnapkinError", words, words.slice(0, words.lastIndexOf(". At "))]);
     assert.deepStrictEqual(error.locations, [{ line: start[1] + 1, column: start[2] + 1 }]);
   }
   for (const length of [1, 200, 243, 244, 255, 256, 257, 1024, 5000]) {
@@ -204,11 +204,11 @@ test("large positions, and a document of 70,001 nodes", () => {
 });
 
 test("options", () => {
-  for (const [options, told] of [
+  for (const [options, words] of [
     [null, "null"], [5, "number"], [5n, "bigint"], ["5", "string"], ["", "string"], [true, "boolean"], [[], "array"], [[5], "array"],
     [() => 5, "function"], [Symbol("depth"), "symbol"],
   ])
-    assert.throws(() => parse("{a}", options), { name: "TypeError", message: `options must be an object, not ${told}` });
+    assert.throws(() => parse("{a}", options), { name: "TypeError", message: `options must be an object, not ${words}` });
   for (const options of [{ dept: 5 }, { depth: 5, maxToken: 5 }, { Depth: 5 }, { [Symbol("depth")]: 5 }, { 0: 5 }, new Map(), ["a"]]) {
     if (options instanceof Map) assert.strictEqual(parse("{a}", options).length, 2);
     else assert.throws(() => parse("{a}", options), TypeError);
@@ -273,7 +273,7 @@ test("sources", () => {
   assert.strictEqual(parse("\ufeff{a}").node(1).start.byte, 4);
   const large = parse(`{${" ".repeat(2 ** 26 - 3)}a}`);
   assert.strictEqual(large.node(1).start.index, 2 ** 26 - 2);
-  // Any number of tokens, where no limit is given.
+  // Any number of tokens, if no limit is given.
   assert.strictEqual(parse(`{${"a ".repeat(2 ** 20)}}`).length, 2 ** 20 + 1);
   assert.strictEqual(errorOf(`{${"a".repeat(2 ** 26)}`).start.byte, 2 ** 26 + 1);
   const strings = parse(`{a(b:[${'"\\n0123456789" '.repeat(5000)}])}`);

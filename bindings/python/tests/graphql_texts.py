@@ -1,4 +1,4 @@
-"""What the tests in graphql-core's place share. Its import skips where graphql-core 3.2 is not installed."""
+"""What the tests in graphql-core's place share. Its import skips if graphql-core 3.2 is not installed."""
 
 import importlib.util
 import os
@@ -76,7 +76,7 @@ def row_texts() -> Iterator[str]:
 
 
 def answer(parse: Any, *arguments: Any, **options: Any) -> Any:
-    """A document, or the error that is raised. Formatting graphql-core's error fails where it cannot find the place itself."""
+    """A document, or the error that is raised. Formatting graphql-core's error fails if it cannot find the place itself."""
     try:
         return parse(*arguments, **options)
     except GraphQLSyntaxError as error:

@@ -2,12 +2,13 @@
 
 import os
 import resource
+import struct
 import subprocess
 import sys
 import threading
 import time
 import unittest
-from typing import Any, Callable, List
+from typing import Any, Callable, List, Tuple
 
 # Arguments of the wrong type, for a source and for a limit, and limits that are too low.
 NO_SOURCES = (None, b"{a}", bytearray(b"{a}"), b"\xff{", 5, 1.5, ["{a}"], object())
@@ -24,6 +25,11 @@ class Text(str):
         return b"\xff"
 
 
+def words_of(limits: bytes) -> Tuple[int, ...]:
+    """The words of limits, as the extensions take them."""
+    return struct.unpack("=8I", limits)
+
+
 def process(program: str) -> "subprocess.CompletedProcess[bytes]":
     """A run of another Python on a program."""
     here = os.path.dirname(os.path.abspath(__file__))
@@ -31,7 +37,7 @@ def process(program: str) -> "subprocess.CompletedProcess[bytes]":
 
 
 def resident() -> int:
-    """How many bytes of memory this process has, where /proc says it."""
+    """How many bytes of memory this process has, if /proc says it."""
     with open("/proc/self/statm", encoding="ascii") as file:
         return int(file.read().split()[1]) * resource.getpagesize()
 
@@ -86,7 +92,7 @@ def longest_wait(call: Callable[[], object]) -> float:
 
 
 def require_graphql_core() -> None:
-    """Skips, with the reason, where graphql-core 3.2 is not installed."""
+    """Skips, with the reason, if graphql-core 3.2 is not installed."""
     try:
         import graphql
     except ImportError as error:

@@ -8,7 +8,12 @@ from unittest import mock
 
 import firthnapkin
 from firthnapkin import MAX_DEPTH, ErrorKind, FirthnapkinError, Kind, Position, __version__, canonical, parse, tokens
+from firthnapkin.limits import packed
 from helpers import LARGE_LIMITS, LOW_LIMITS, NO_LIMITS, NO_SOURCES, Text, on_stack, process
+
+
+# The limits of a call that is given none, as the extension takes them.
+USUAL = packed(200, 2**32 - 1)
 
 
 class Index:
@@ -197,15 +202,21 @@ class Statuses(unittest.TestCase):
                         part.excerpt
                     self.assertIn("4 GiB" if status == 7 else str(status), str(raised.exception))
 
-    def test_refused_depth(self) -> None:
-        """The extension by itself checks its depth and the types of its arguments, too."""
-        for depth in (1001, 2**32 - 1, 2**32 + 5, -1, 2**64 - 1):
-            self.assertEqual(firthnapkin._parser.parse(b"{a" * 200000, depth, 2**32 - 1)[0], 8)
-        self.assertEqual(firthnapkin._parser.parse(b"\xff", 200, 2**32 - 1)[0], 2)
+    def test_refused_limits(self) -> None:
+        """The library refuses limits, and the extension by itself checks their size and the types of its arguments."""
+        for depth in (1001, 2**31, 2**32 - 1):
+            self.assertEqual(firthnapkin._parser.parse(b"{a" * 200000, packed(depth, 2**32 - 1))[0], 8)
+        for reserved in range(6):
+            self.assertEqual(firthnapkin._parser.parse(b"{a}", packed(5, 5, *[0] * reserved, 1))[0], 8)
+        self.assertEqual(firthnapkin._parser.parse(b"\xff", USUAL)[0], 2)
+        for limits in (b"", USUAL[:31], USUAL + b"\0", USUAL * 2):
+            with self.assertRaises(ValueError) as raised:
+                firthnapkin._parser.parse(b"{a}", limits)
+            self.assertEqual(str(raised.exception), "limits must have 32 bytes")
         for byte in (4, 2**32 - 1, 2**32, 2**64 - 1, -1):
             self.assertEqual(firthnapkin._parser.excerpt(b"{a}", byte), (9, b"", b""))
-        for arguments in ((), ("{a}", 5, 5), (None, 5, 5), (b"{a}", None, 5), (b"{a}", 1.5, 5), (b"{a}", 5, None), (b"{a}", 5),
-                          (b"{a}", 5, 5, 5), (bytearray(b"{a}"), 5, 5)):  # fmt: skip
+        for arguments in ((), ("{a}", USUAL), (None, USUAL), (b"{a}", None), (b"{a}", 5), (b"{a}", USUAL.decode("latin-1")), (b"{a}",),
+                          (b"{a}", USUAL, 5), (b"{a}", bytearray(USUAL)), (bytearray(b"{a}"), USUAL)):  # fmt: skip
             with self.assertRaises(TypeError):
                 firthnapkin._parser.parse(*arguments)  # type: ignore[arg-type]
         for arguments in ((), (b"{a}",), ("{a}", 1), (b"{a}", None), (b"{a}", 1.5), (b"{a}", 1, 1)):
@@ -214,12 +225,12 @@ class Statuses(unittest.TestCase):
 
     def test_memory(self) -> None:
         """The process goes on after memory has run out."""
-        for call, room in (("parse(source, 200, 2**32 - 1)", 25), ("tokens(source, 2**32 - 1)", 24), ("canonical(source)", 24)):
+        for call, exponent in ((f"parse(source, {USUAL!r})", 25), ("tokens(source, 2**32 - 1)", 24), ("canonical(source)", 24)):
             found = process(
                 "import resource, firthnapkin\n"
                 "source = b'{' + b'a ' * 2**24 + b'}'\n"
                 "taken = int(open('/proc/self/statm').read().split()[0]) * resource.getpagesize()\n"
-                f"resource.setrlimit(resource.RLIMIT_AS, (taken + 2**{room}, resource.RLIM_INFINITY))\n"
+                f"resource.setrlimit(resource.RLIMIT_AS, (taken + 2**{exponent}, resource.RLIM_INFINITY))\n"
                 f"try: firthnapkin._parser.{call}\n"
                 "except MemoryError: print('memory', len(firthnapkin.parse('{a}')), firthnapkin.canonical('a  b'))\n"
             )

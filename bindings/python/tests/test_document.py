@@ -9,6 +9,7 @@ from typing import List, Optional
 
 import firthnapkin
 from firthnapkin import FirthnapkinError, Kind, Node, Step, Visitor, parse
+from firthnapkin.limits import packed
 from helpers import in_threads, longest_wait
 
 
@@ -158,7 +159,7 @@ class Nodes(unittest.TestCase):
     def test_other_threads_go_on(self) -> None:
         """While a long text is parsed or shown, another thread never waits for as long as half of that time."""
         text = ("{" + "a " * 1000000 + "}").encode()
-        for call in (lambda: firthnapkin._parser.parse(text, 200, 2**32 - 1), lambda: firthnapkin._parser.excerpt(text, 1000000)):
+        for call in (lambda: firthnapkin._parser.parse(text, packed(200, 2**32 - 1)), lambda: firthnapkin._parser.excerpt(text, 1000000)):
             self.assertLess(longest_wait(call), 0.5)
 
 

@@ -20,13 +20,13 @@ def error_of(text: str, **options: Any) -> FirthnapkinError:
 
 def parts(error: FirthnapkinError) -> Dict[str, Any]:
     names = "message kind start end source detail character line column lineno colno utf16_column excerpt".split()
-    return {"told": str(error), **{name: getattr(error, name) for name in names}}
+    return {"words": str(error), **{name: getattr(error, name) for name in names}}
 
 
 class Errors(unittest.TestCase):
     def test_kinds(self) -> None:
         """Each kind and each detail, with its message, its character and both its positions."""
-        for text, kind, detail, character, start, end, told in [
+        for text, kind, detail, character, start, end, words in [
             ("{\n  a )\n}", ErrorKind.UNEXPECTED_TOKEN, ErrorDetail.NONE, None, (6, 1, 4, 6), (7, 1, 5, 7), 'Unexpected ")". At 2:5'),
             ("{ a: }", ErrorKind.UNEXPECTED_TOKEN, ErrorDetail.NONE, None, (5, 0, 5, 5), (6, 0, 6, 6), 'Unexpected "}". At 1:6'),
             ("{ ... on on }", ErrorKind.UNEXPECTED_TOKEN, ErrorDetail.NONE, None, (12, 0, 12, 12), (13, 0, 13, 13),
@@ -57,8 +57,8 @@ class Errors(unittest.TestCase):
             with self.subTest(text=text):
                 error = error_of(text)
                 self.assertEqual((error.kind, error.detail, error.character), (kind, detail, character))
-                self.assertEqual((error.start, error.end, str(error)), (Position(*start), Position(*end), told))
-                self.assertEqual((error.message, error.source), (told.rpartition(". At ")[0], text))
+                self.assertEqual((error.start, error.end, str(error)), (Position(*start), Position(*end), words))
+                self.assertEqual((error.message, error.source), (words.rpartition(". At ")[0], text))
                 self.assertEqual((error.line, error.column), (start[1] + 1, start[2] + 1))
                 self.assertEqual((error.lineno, error.colno), (start[1] + 1, start[2] + 1))
 
@@ -76,14 +76,14 @@ class Errors(unittest.TestCase):
             self.assertEqual(str(error_of("query a " + name)), f'Unexpected "{name}". At 1:9')
 
     def test_lone_surrogates(self) -> None:
-        for text, start, told in [
+        for text, start, words in [
             ("\ud800", (0, 0, 0, 0), "Lone surrogate U+D800. At 1:1"),
             ("{é\n a(b: \"\udfff\") }", (10, 1, 7, 11), "Lone surrogate U+DFFF. At 2:8"),
             ("} \udc00 \ud800", (2, 0, 2, 2), "Lone surrogate U+DC00. At 1:3"),
         ]:  # fmt: skip
             error = error_of(text)
             index, line, column, byte = start
-            self.assertEqual((error.kind, error.start, str(error)), (ErrorKind.SURROGATE, Position(*start), told))
+            self.assertEqual((error.kind, error.start, str(error)), (ErrorKind.SURROGATE, Position(*start), words))
             self.assertEqual(error.end, Position(index + 1, line, column + 1, byte + 3))
             error.excerpt.encode()
             self.assertEqual(parts(pickle.loads(pickle.dumps(error))), parts(error))

@@ -1,4 +1,4 @@
-"""In graphql-core's place: results and errors for every text. Skipped where graphql-core 3.2 is not installed."""
+"""In graphql-core's place: results and errors for every text. Skipped if graphql-core 3.2 is not installed."""
 
 import copy
 import gc
@@ -9,7 +9,7 @@ import unittest
 from typing import Any, Iterator, List, Tuple
 from unittest import mock
 
-from graphql_texts import WHOLE, answer, made_texts, row_texts  # skips where graphql-core 3.2 is not installed
+from graphql_texts import WHOLE, answer, made_texts, row_texts  # skips if graphql-core 3.2 is not installed
 
 import graphql
 from firthnapkin import graphql_core

@@ -1,4 +1,4 @@
-"""In graphql-core's place: where `parse` is put, and what each release of 3.2 has for itself. Skipped where graphql-core 3.2 is not
+"""In graphql-core's place: where `parse` is put, and what each release of 3.2 has for itself. Skipped if graphql-core 3.2 is not
 installed."""
 
 import copy
@@ -13,10 +13,11 @@ from typing import Any
 from unittest import mock
 
 from helpers import resident
-from graphql_texts import WHOLE, answer, extension, made_texts, row_texts  # skips where graphql-core 3.2 is not installed
+from graphql_texts import WHOLE, answer, extension, made_texts, row_texts  # skips if graphql-core 3.2 is not installed
 
 import graphql
 from firthnapkin import graphql_core
+from firthnapkin.limits import packed
 from graphql.language import ast, parser
 from graphql.language.parser import parse as own_parse
 
@@ -193,7 +194,7 @@ class Rules(unittest.TestCase):
 
     @staticmethod
     def places(module: Any, text: str, limit: int) -> Any:
-        found = module.document(text.encode(), len(text), 200, None, limit)
+        found = module.document(text.encode(), len(text), packed(200), None, limit)
         return found if found is None or isinstance(found, tuple) else None
 
     def test_written_rows(self) -> None:
@@ -206,7 +207,7 @@ class Rules(unittest.TestCase):
                 for limit in (count, count + 1, 2**32 - 1, 2**40):
                     with self.subTest(text=text, limit=limit, count=count):
                         self.assertIsNone(self.places(module, text, limit))
-                found = module.document(text.encode(), len(text), 200, None, 2**32 - 1)
+                found = module.document(text.encode(), len(text), packed(200), None, 2**32 - 1)
                 if tokens:
                     self.assertEqual(found.token_count, count)
 
@@ -216,7 +217,7 @@ class Rules(unittest.TestCase):
         for text, limit, place in [("#\n{a}", 3, 4), ("#\n{a}", 2, 3), ("{a#\n}#", 3, 4), ("", -1, None), ("#", 0, None)]:
             self.assertEqual(self.places(module, text, limit), None if place is None else (place, False), (text, limit))
         for text, limit in (("{a}#", 3), ("#\n{a}#", 4)):
-            found = module.document(text.encode(), len(text), 200, None, limit)
+            found = module.document(text.encode(), len(text), packed(200), None, limit)
             self.assertEqual(found.token_count, len(text.replace("\n", "")))
 
     @unittest.skipUnless(os.path.exists("/proc/self/statm"), "no /proc")
@@ -227,13 +228,13 @@ class Rules(unittest.TestCase):
         for text, limit, kind in [(many, 10**6, type(None)), (many, 150_000, type(None)), (whole, 2**32 - 1, ast.DocumentNode),
                                   (b"{" + many[2:], 200_001, tuple)]:  # fmt: skip
             for i in range(14):
-                self.assertIsInstance(module.document(text, len(text), 200, None, limit), kind)
+                self.assertIsInstance(module.document(text, len(text), packed(200), None, limit), kind)
                 before = before if i > 3 else resident()
             self.assertLess(resident() - before, 2**23)
 
     def test_no_count(self) -> None:
-        """Where documents of a release have no such number, none is set."""
-        found = extension((False, False, 0)).document(b"{a}", 3, 200, None, 9)
+        """If documents of a release have no such number, none is set."""
+        found = extension((False, False, 0)).document(b"{a}", 3, packed(200), None, 9)
         self.assertNotIn("token_count", vars(found))
 
     @unittest.skipUnless("max_tokens" in inspect.signature(own_parse).parameters, "this graphql-core counts no tokens")

@@ -1,4 +1,4 @@
-"""Limits in graphql-core's place: the errors, their places, and which parser reports them. Skipped where graphql-core 3.2 is
+"""Limits in graphql-core's place: the errors, their places, and which parser reports them. Skipped if graphql-core 3.2 is
 not installed."""
 
 import inspect
@@ -13,11 +13,12 @@ from contextlib import ExitStack, contextmanager
 from typing import Any, Iterator, List, Tuple
 from unittest import mock
 
-from helpers import process, resident
-from graphql_texts import WHOLE, answer, extension, made_texts, row_texts  # skips where graphql-core 3.2 is not installed
+from helpers import process, resident, words_of
+from graphql_texts import WHOLE, answer, extension, made_texts, row_texts  # skips if graphql-core 3.2 is not installed
 
 import graphql
 from firthnapkin import graphql_core
+from firthnapkin.parser import LIMITS
 from graphql import GraphQLSyntaxError, Source
 from graphql.language import Lexer, TokenKind, ast
 from graphql.language.parser import Parser
@@ -73,7 +74,7 @@ def releases() -> List[Any]:
 
 
 def counts(text: str) -> List[Tuple[int, int]]:
-    """Where graphql-core's tokens start, its end among them where that counts, and what is counted up to each."""
+    """Where graphql-core's tokens start, its end among them if that counts, and what is counted up to each."""
     lexer, found, count = Lexer(Source(text)), [], 0
     while lexer.token.kind is not TokenKind.EOF:
         last, token = lexer.token, lexer.advance()
@@ -85,7 +86,7 @@ def counts(text: str) -> List[Tuple[int, int]]:
     return found
 
 
-def told(most: object) -> str:
+def too_many(most: object) -> str:
     return f"Syntax Error: Document contains more than {most} tokens. Parsing aborted."
 
 
@@ -118,7 +119,7 @@ class TooMany(unittest.TestCase):
             graphql_core.parse(text, max_tokens=most)
         error = raised.exception
         self.assertIs(type(error), GraphQLSyntaxError)
-        self.assertEqual((error.message, error.positions, error.source.body), (told(most), [index], text))
+        self.assertEqual((error.message, error.positions, error.source.body), (too_many(most), [index], text))
         self.assertEqual(error.locations, GraphQLSyntaxError(Source(text), index, "").locations)
 
     def test_written_places(self) -> None:
@@ -133,7 +134,7 @@ class TooMany(unittest.TestCase):
                 self.refused(text, most, index)
 
     def test_every_token(self) -> None:
-        """Each token is the first one too many for one limit. None is where the limit is not below the number of tokens."""
+        """Each token is the first one too many for one limit. None is, if the limit is not below the number of tokens."""
         for text in READ:
             places = counts(text)
             total = places[-1][1]
@@ -167,7 +168,7 @@ class TooMany(unittest.TestCase):
 
     @unittest.skipUnless(os.path.exists("/proc/self/statm"), "no /proc")
     def test_nothing_is_left_of_comments(self) -> None:
-        """The same where comments may count, by which a text is read again: in a process that has freed nothing before."""
+        """The same if comments may count, by which a text is read again: in a process that has freed nothing before."""
         found = process(
             "from firthnapkin import graphql_core\n"
             "from graphql import GraphQLSyntaxError\n"
@@ -212,8 +213,8 @@ class TooMany(unittest.TestCase):
             "try: graphql_core.parse(text, max_tokens=2**24)\n"
             "except MemoryError: print('memory', len(graphql_core.parse('{a}', max_tokens=3).definitions))\n"
         )
-        told = subprocess.run([sys.executable, "-B", "-c", program], capture_output=True, check=False)
-        self.assertEqual((told.stdout, told.stderr), (b"memory 1\n", b""))
+        ran = subprocess.run([sys.executable, "-B", "-c", program], capture_output=True, check=False)
+        self.assertEqual((ran.stdout, ran.stderr), (b"memory 1\n", b""))
 
     def test_other_arguments(self) -> None:
         source = Source("{\n a b}", "a name", (7, 3))
@@ -221,12 +222,12 @@ class TooMany(unittest.TestCase):
             with self.assertRaises(GraphQLSyntaxError) as raised, nobody_else():
                 graphql_core.parse(source, max_tokens=2, **options)
             self.assertIs(raised.exception.source, source)
-            self.assertEqual(str(raised.exception), str(GraphQLSyntaxError(source, 5, told(2)[len("Syntax Error: ") :])))
+            self.assertEqual(str(raised.exception), str(GraphQLSyntaxError(source, 5, too_many(2)[len("Syntax Error: ") :])))
 
     def test_installed(self) -> None:
         graphql_core.install()
         try:
-            self.assertEqual(answer(graphql.parse, "{a b}", max_tokens=2), (GraphQLSyntaxError, told(2), [3]))
+            self.assertEqual(answer(graphql.parse, "{a b}", max_tokens=2), (GraphQLSyntaxError, too_many(2), [3]))
             self.assertEqual(graphql.parse("{a b}", max_tokens=4), own_parse("{a b}"))
         finally:
             graphql_core.uninstall()
@@ -258,7 +259,7 @@ class Verdicts(unittest.TestCase):
         for text in [*row_texts(), *made_texts()]:
             most = random.choice([random.randrange(12), random.randrange(230)])
             own = self.same(text, most)
-            if isinstance(own, tuple) and own[1] == told(most):
+            if isinstance(own, tuple) and own[1] == too_many(most):
                 refused += 1
                 with mock.patch.object(graphql_core, "own_parse", return_value="asked"):
                     ours += answer(graphql_core.parse, text, max_tokens=most, depth=1000) == own
@@ -295,8 +296,8 @@ class Verdicts(unittest.TestCase):
             ("query($a:Int=$b){c}", 9, "Unexpected variable '$b' in constant value.", 13),
             ("query($a:Int@d(x:$b)){c}", 13, "Unexpected variable '$b' in constant value.", 17),
             ("#é𝄞\n{a(b:\"𝄞\"] c}", 7 + COMMENT, "Expected Name, found ']'.", 12),
-            ("type T { a: B }", 6, told(6)[len("Syntax Error: ") :], 14),
-            ('{a(b:"\\u{1F600}") c}', 7, told(7)[len("Syntax Error: ") :], 18),
+            ("type T { a: B }", 6, too_many(6)[len("Syntax Error: ") :], 14),
+            ('{a(b:"\\u{1F600}") c}', 7, too_many(7)[len("Syntax Error: ") :], 18),
         ]:  # fmt: skip
             for release in releases():
                 with self.subTest(text=text, most=most, release=release.__name__), release():
@@ -307,7 +308,7 @@ class Verdicts(unittest.TestCase):
                 self.assertEqual(graphql_core.parse("type T { a: B }", max_tokens=7), own_parse("type T { a: B }"))
 
     def test_what_is_asked(self) -> None:
-        """The limit is passed on. Where it can't be, tokens are counted."""
+        """The limit is passed on. If it can't be, tokens are counted."""
         self.assertIs(graphql_core._COUNTS_TOKENS, HAS_OPTION)
         with mock.patch.object(graphql_core, "own_parse", return_value="asked") as asked:
             with mock.patch.object(graphql_core, "_COUNTS_TOKENS", True):
@@ -321,11 +322,11 @@ class Verdicts(unittest.TestCase):
 class BothLimits(unittest.TestCase):
     """The first token beyond either limit is reported. A token beyond both is reported as one too many."""
 
-    def test_which_is_told(self) -> None:
+    def test_which_is_reported(self) -> None:
         deep = "Syntax Error: Brackets are nested deeper than 1."
         for text, most, message, index in [
-            ("{a{b}}", 1, told(1), 1), ("{a{b}}", 2, told(2), 2), ("{a{b}}", 3, deep, 2), ("{a{b}}", 4, deep, 2),
-            ("#é𝄞\n{a(b:1)}", 3 + COMMENT, deep, 6), ("#é𝄞\n{a(b:1)}", 2 + COMMENT, told(2 + COMMENT), 6), ("{a ? {b}}", 9, "?", 3), ("{a ) {b}}", 9, ")", 3),
+            ("{a{b}}", 1, too_many(1), 1), ("{a{b}}", 2, too_many(2), 2), ("{a{b}}", 3, deep, 2), ("{a{b}}", 4, deep, 2),
+            ("#é𝄞\n{a(b:1)}", 3 + COMMENT, deep, 6), ("#é𝄞\n{a(b:1)}", 2 + COMMENT, too_many(2 + COMMENT), 6), ("{a ? {b}}", 9, "?", 3), ("{a ) {b}}", 9, ")", 3),
             ("query($a:T=1c:{}){d}", 20, "'c'", 12), ("query($a:T){d(b:$a)}", 20, deep, 13),
         ]:  # fmt: skip
             with self.subTest(text=text, most=most):
@@ -335,7 +336,7 @@ class BothLimits(unittest.TestCase):
 
     def test_deep_texts(self) -> None:
         text = "{a" * 200_000
-        for most, message, index in [(400, told(400), 400), (401, "200", 400), (100, told(100), 100), (10**6, "200", 400)]:
+        for most, message, index in [(400, too_many(400), 400), (401, "200", 400), (100, too_many(100), 100), (10**6, "200", 400)]:
             with nobody_else():
                 error = answer(graphql_core.parse, text, max_tokens=most)
             self.assertIn(message, error[1])
@@ -355,3 +356,14 @@ class BothLimits(unittest.TestCase):
             self.assertRaises(TypeError, graphql_core.parse, "{a}", max_tokens=1, depth=depth)
         for depth in (-1, 1001, 2**32 - 1, 2**32 + 5, 10**30):
             self.assertRaises(ValueError, graphql_core.parse, "{a}", max_tokens=1, depth=depth)
+
+    def test_words(self) -> None:
+        """The depth goes to its word. The number of tokens is passed beside the limits, for what counts in the installed release."""
+        self.assertEqual(inspect.signature(graphql_core.parse).parameters["depth"].default, LIMITS.defaults["depth"])
+        for given, depth, most in [
+            ({}, 200, 2**32 - 1), ({"depth": 0}, 0, 2**32 - 1), ({"depth": 7, "max_tokens": 9}, 7, 9),
+            ({"depth": 1000, "max_tokens": 0}, 1000, 0), ({"max_tokens": 2**40}, 200, 2**32 - 1), ({"max_tokens": -5}, 200, -1),
+        ]:  # fmt: skip
+            with mock.patch.object(graphql_core._graphql_core, "document", return_value=ast.DocumentNode()) as call:
+                graphql_core.parse("{a}", **given)
+            self.assertEqual((words_of(call.call_args[0][2]), call.call_args[0][4]), ((depth, 2**32 - 1, 0, 0, 0, 0, 0, 0), most))

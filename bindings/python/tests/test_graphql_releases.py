@@ -1,4 +1,4 @@
-"""In graphql-core's place: what is said where another release than one of 3.2 is installed, or one with other nodes."""
+"""In graphql-core's place: what is said if another release than one of 3.2 is installed, or one with other nodes."""
 
 import unittest
 
@@ -8,7 +8,7 @@ from helpers import process, require_graphql_core
 class OtherReleases(unittest.TestCase):
     """Another release, or one with other nodes, is reported when firthnapkin.graphql_core is imported."""
 
-    def told(self, before: str) -> str:
+    def import_error(self, before: str) -> str:
         """The error of the import, after a program's first lines."""
         found = process(
             f"{before}\ntry: import firthnapkin.graphql_core\nexcept ImportError as error: print(error)\nelse: print('imported')\n"
@@ -25,10 +25,10 @@ class OtherReleases(unittest.TestCase):
             ("", "a package without a version"),
         ]:
             fake = f"import sys, types\nsys.modules['graphql'] = types.ModuleType('graphql')\nvars(sys.modules['graphql']).update({attributes})"
-            self.assertEqual(self.told(fake), f"firthnapkin.graphql_core is for graphql-core 3.2, not {version}")
+            self.assertEqual(self.import_error(fake), f"firthnapkin.graphql_core is for graphql-core 3.2, not {version}")
 
     def test_no_version_at_all(self) -> None:
-        self.assertIn("graphql", self.told("import sys\nsys.modules['graphql'] = None"))
+        self.assertIn("graphql", self.import_error("import sys\nsys.modules['graphql'] = None"))
 
     def test_other_attributes(self) -> None:
         """Further attributes that a request's nodes don't have are None. Others, and missing ones, are reported."""
@@ -44,7 +44,7 @@ class OtherReleases(unittest.TestCase):
             ("node.keys = tuple(key for key in node.keys if key not in ('alias', 'arguments'))", f"{known} lacks alias, arguments"),
         ]:
             with self.subTest(change=change):
-                self.assertEqual(self.told(begin + change), wanted)
+                self.assertEqual(self.import_error(begin + change), wanted)
 
     def test_further_attributes_are_none(self) -> None:
         require_graphql_core()
@@ -68,4 +68,4 @@ class OtherReleases(unittest.TestCase):
         change = "from graphql.language.parser import Parser\nown = Parser.parse_document\ndef parse(self):\n    found = own(self)\n"
         change += "    found.token_count = 4\n    return found\nParser.parse_document = parse"
         wanted = f"firthnapkin.graphql_core does not know how graphql-core {graphql.version} counts tokens"
-        self.assertEqual(self.told(change), wanted)
+        self.assertEqual(self.import_error(change), wanted)

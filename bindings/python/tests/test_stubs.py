@@ -1,4 +1,4 @@
-"""The stubs of the extensions say what the extensions have: names, parameters, types. That of _graphql_core is compared where
+"""The stubs of the extensions say what the extensions have: names, parameters, types. That of _graphql_core is compared if
 graphql-core 3.2 is installed."""
 
 import ast
@@ -11,10 +11,13 @@ from types import ModuleType
 from typing import Any, Callable, Dict, List, Tuple
 
 import firthnapkin
+from firthnapkin.limits import packed
 from helpers import require_graphql_core
 
-# An argument of each type that a parameter may have.
-SAMPLES: Dict[Any, Any] = {bytes: b"{a}", int: 5, bool: True, str: "{a}", float: 1.5, bytearray: bytearray(b"{a}"), type(None): None}
+# An argument of each type that a parameter may have. The bytes are as many as limits have, which the library refuses.
+SAMPLES: Dict[Any, Any] = {
+    bytes: b"{a}".ljust(32), int: 5, bool: True, str: "{a}", float: 1.5, bytearray: bytearray(b"{a}"), type(None): None,
+}  # fmt: skip
 
 
 class Stub:
@@ -101,12 +104,14 @@ class Compared(unittest.TestCase):
         stub = self.same_names(_graphql_core)
         kinds, returned = stub.types_of("document")
         self.assertTrue(is_of(Source("{a}"), kinds[3]) and is_of(None, kinds[3]) and not is_of("{a}", kinds[3]))
-        self.same_types(_graphql_core.document, kinds[:3], [b"{a}", 3, 5, None, 9])
-        self.same_types(lambda tokens: _graphql_core.document(b"{a}", 3, 5, None, tokens), kinds[4:], [9])
-        found = [_graphql_core.document(text, 3, 1, None, 9) for text in (b"{a}", b"{{{", b"?")]
+        self.same_types(_graphql_core.document, kinds[:3], [b"{a}", 3, packed(5), None, 9])
+        self.same_types(lambda tokens: _graphql_core.document(b"{a}", 3, packed(5), None, tokens), kinds[4:], [9])
+        found = [_graphql_core.document(text, 3, packed(1), None, 9) for text in (b"{a}", b"{{{", b"?")]
         self.assertEqual([type(it) for it in found], [DocumentNode, type(None), type(None)])
-        found.append(_graphql_core.document(b"{a{", 3, 1, None, 9))
+        found.append(_graphql_core.document(b"{a{", 3, packed(1), None, 9))
         self.assertEqual(found[-1], (2, True))
+        for limits in (b"", packed(1)[:31], packed(1) + b"\0"):
+            self.assertRaises(ValueError, _graphql_core.document, b"{a}", 3, limits, None, 9)
         # Each of the types is returned.
         for kind in typing.get_args(returned):
             self.assertTrue(any(is_of(it, kind) for it in found), kind)
@@ -151,8 +156,8 @@ class Setup(unittest.TestCase):
         ]:  # fmt: skip
             module = fresh()
             self.assertRaises(error, module.setup, classes, OPERATIONS, rules)
-            self.assertRaises(SystemError, module.document, b"{a}", 3, 5, None, 9)
+            self.assertRaises(SystemError, module.document, b"{a}", 3, packed(5), None, 9)
             module.setup(rows, OPERATIONS, rules)
-            self.assertIsInstance(module.document(b"{a}", 3, 5, None, 9), nodes.DocumentNode)
+            self.assertIsInstance(module.document(b"{a}", 3, packed(5), None, 9), nodes.DocumentNode)
         for arguments in ((rows, (), rules), (rows, OPERATIONS, ()), (rows, OPERATIONS, (1, 2, "3")), (rows,)):
             self.assertRaises(TypeError, fresh().setup, *arguments)

@@ -176,9 +176,9 @@ class Extremes(unittest.TestCase):
 
     def test_numbers_of_more_than_16_bits(self) -> None:
         """Both positions of a token, a node and each kind of error, past 65,536 lines and, on a line, past as many characters."""
-        for gap in ("\n" * 2**17, " " * 2**17):
-            start, end = position_at(gap, len(gap)), position_at(gap + "{a}", len(gap) + 3)
-            found, document = tokens(gap + "{a}"), firthnapkin.parse(gap + "{a}")
+        for ignored in ("\n" * 2**17, " " * 2**17):
+            start, end = position_at(ignored, len(ignored)), position_at(ignored + "{a}", len(ignored) + 3)
+            found, document = tokens(ignored + "{a}"), firthnapkin.parse(ignored + "{a}")
             self.assertEqual((found[0].start, found[2].end), (start, end))
             self.assertEqual((document[0].start, document[0].end), (start, end))
             for call, text, length, options in [
@@ -190,8 +190,8 @@ class Extremes(unittest.TestCase):
                 (firthnapkin.parse, "a", 1, {"max_tokens": 0}),
                 (tokens, "a", 1, {"max_tokens": 0}),
             ]:
-                error = error_of(call, gap + text, **options)
-                self.assertEqual((error.start, error.end), (start, position_at(gap + text, len(gap) + length)))
+                error = error_of(call, ignored + text, **options)
+                self.assertEqual((error.start, error.end), (start, position_at(ignored + text, len(ignored) + length)))
 
     def test_the_extension_alone(self) -> None:
         """The extension checks the types of its arguments, too."""

@@ -36,33 +36,33 @@ class Tool(unittest.TestCase):
             env={**os.environ, "PYTHONIOENCODING": encoding}, timeout=60, check=False,
         )  # fmt: skip
 
-    def told(self, *words: Union[str, bytes], given: bytes = b"") -> Tuple[int, str]:
+    def tool(self, *words: Union[str, bytes], given: bytes = b"") -> Tuple[int, str]:
         """The exit status, and what is on standard output. Nothing else is written to standard error."""
         found = self.run_tool(*words, given=given)
         self.assertEqual(found.stderr, b"")
         return found.returncode, found.stdout.decode()
 
     def objects(self, *words: str, given: bytes = b"") -> Tuple[int, List[Dict[str, Any]]]:
-        status, written = self.told("--json", *words, given=given)
+        status, written = self.tool("--json", *words, given=given)
         return status, [json.loads(line) for line in written.splitlines()]
 
 
 class Checks(Tool):
     def test_passes(self) -> None:
-        self.assertEqual(self.told("check", "good.graphql"), (0, ""))
-        self.assertEqual(self.told("check", "-", given=GOOD), (0, ""))
+        self.assertEqual(self.tool("check", "good.graphql"), (0, ""))
+        self.assertEqual(self.tool("check", "-", given=GOOD), (0, ""))
 
     def test_fails(self) -> None:
         """The file, the line and the column from 1, the message without its position, and the excerpt."""
-        self.assertEqual(self.told("check", "bad.graphql"), (1, REFUSED))
-        self.assertEqual(self.told("check", "-", given=BAD), (1, REFUSED.replace("bad.graphql", "<stdin>")))
+        self.assertEqual(self.tool("check", "bad.graphql"), (1, REFUSED))
+        self.assertEqual(self.tool("check", "-", given=BAD), (1, REFUSED.replace("bad.graphql", "<stdin>")))
         path = os.path.join(self.folder, "bad.graphql")
-        self.assertEqual(self.told("check", path), (1, REFUSED.replace("bad.graphql", path)))
+        self.assertEqual(self.tool("check", path), (1, REFUSED.replace("bad.graphql", path)))
         for text, place, message in [
             ("", "1:1", "Unexpected end of input"), ("# é𝄞\n  𝄞", "2:3", 'Unknown character "𝄞"'), ("{ é𝄞 }", "1:3", 'Unknown character "é"'),
             ('{ a(b: "𝄞é") ) }', "1:14", 'Unexpected ")"'), ("\ufeff{ a ) }", "1:6", 'Unexpected ")"'),
         ]:  # fmt: skip
-            status, written = self.told("check", "-", given=text.encode())
+            status, written = self.tool("check", "-", given=text.encode())
             self.assertEqual((status, written.split("\n")[0]), (1, f"<stdin>:{place}: {message}"))
 
     def test_each_literal(self) -> None:
@@ -70,15 +70,15 @@ class Checks(Tool):
         text = b"query ($v: T = 1.5) { a(b: 1e999, c: 99999999999999999999, d: -0.0, e: " + b"9" * 5000 + b") }"
         for command in ("check", "nodes", "tokens", "canonical"):
             for words in ((), ("--json",)):
-                status, written = self.told(command, "-", *words, given=text)
+                status, written = self.tool(command, "-", *words, given=text)
                 self.assertEqual((status, "1e999" in written), (0, command != "check"))
 
     def test_not_utf8(self) -> None:
         self.write("latin.graphql", "{ é }\n{ 𝄞 ".encode() + b"\xe9 }")
         excerpt = "1 | { é }\n2 | { 𝄞 \ufffd }\n  |     ^\n"
-        self.assertEqual(self.told("check", "latin.graphql"), (1, "latin.graphql:2:5: Not UTF-8\n" + excerpt))
+        self.assertEqual(self.tool("check", "latin.graphql"), (1, "latin.graphql:2:5: Not UTF-8\n" + excerpt))
         for given, place in ((b"\xff", "1:1"), (b"{ a }\n\xed\xa0\x80", "2:1"), (b"{a} #\xc3", "1:6")):
-            self.assertEqual(self.told("check", "-", given=given)[1].split("\n")[0], f"<stdin>:{place}: Not UTF-8")
+            self.assertEqual(self.tool("check", "-", given=given)[1].split("\n")[0], f"<stdin>:{place}: Not UTF-8")
 
     def test_several(self) -> None:
         found = self.run_tool("check", "good.graphql", "bad.graphql", "good.graphql")
@@ -91,17 +91,17 @@ class Checks(Tool):
             (("--max-tokens", "9" * 5000), 0), (("--max-tokens", "0" * 30 + "2"), 1), (("--depth=1000", "--max-tokens=3"), 0),
         ]:  # fmt: skip
             for command in ("check", "canonical", "nodes", "tokens"):
-                self.assertEqual(self.told(command, "good.graphql", *words)[0], status, (command, words))
+                self.assertEqual(self.tool(command, "good.graphql", *words)[0], status, (command, words))
         deep = b"{a" * 201 + b"}" * 201
-        self.assertEqual(self.told("check", "-", given=deep)[1].split("\n")[0], "<stdin>:1:401: Too deeply nested")
-        self.assertEqual(self.told("check", "-", "--depth", "201", given=deep), (0, ""))
-        self.assertEqual(self.told("check", "-", given=deep[2:-1]), (0, ""))
-        many = self.told("check", "good.graphql", "--max-tokens", "2")[1]
+        self.assertEqual(self.tool("check", "-", given=deep)[1].split("\n")[0], "<stdin>:1:401: Too deeply nested")
+        self.assertEqual(self.tool("check", "-", "--depth", "201", given=deep), (0, ""))
+        self.assertEqual(self.tool("check", "-", given=deep[2:-1]), (0, ""))
+        many = self.tool("check", "good.graphql", "--max-tokens", "2")[1]
         self.assertEqual(many, "good.graphql:1:5: Too many tokens\n1 | { a }\n  |     ^\n")
 
     def test_wrong_arguments(self) -> None:
         """Each is an error before a file is read: the status is 2, and a line says which argument it is."""
-        for words, told in [
+        for words, named in [
             ((), "FILE"), (("check",), "FILE"), (("checks", "good.graphql"), "checks"), (("good.graphql",), "good.graphql"),
             *((("check", "bad.graphql", "--depth", it), "--depth") for it in ("-1", "1001", "9" * 5000, "1.5", "nan", "", " 5", "1_0", "٣")),
             *((("check", "bad.graphql", "--max-tokens", it), "--max-tokens") for it in ("-1", "1e3", "x", "")),
@@ -111,11 +111,11 @@ class Checks(Tool):
             with self.subTest(words=words):
                 found = self.run_tool(*words)
                 self.assertEqual((found.returncode, found.stdout), (2, b""))
-                self.assertIn(told, found.stderr.decode().splitlines()[-1])
+                self.assertIn(named, found.stderr.decode().splitlines()[-1])
 
     def test_order_of_arguments(self) -> None:
         for words in (("--depth", "1", "check", "bad.graphql"), ("check", "--depth", "1", "bad.graphql"), ("check", "--", "bad.graphql")):
-            self.assertEqual(self.told(*words), (1, REFUSED))
+            self.assertEqual(self.tool(*words), (1, REFUSED))
         found = self.run_tool("check", "good.graphql", "--depth", "1", "bad.graphql")
         self.assertEqual((found.returncode, found.stdout.decode()), (1, REFUSED))
         self.assertEqual(self.run_tool("--help").returncode, 0)
@@ -141,14 +141,14 @@ class Schemas(Tool):
                          "1 file: 0 passed, 0 failed, 1 skipped as schemas, 0 not read\n")  # fmt: skip
 
     def test_strict(self) -> None:
-        self.assertEqual(self.told("check", "schema.graphql", "--strict"), (
+        self.assertEqual(self.tool("check", "schema.graphql", "--strict"), (
             1, "schema.graphql:1:1: Unexpected \"type\": this is a schema's definition, not a request's\n1 | type A { b: C }\n  | ^\n"))  # fmt: skip
-        self.assertEqual(self.told("check", "good.graphql", "--strict"), (0, ""))
+        self.assertEqual(self.tool("check", "good.graphql", "--strict"), (0, ""))
 
     def test_other_files(self) -> None:
         """The same words elsewhere are errors like others."""
         for text in (b"query type { a } }", b"{ a } types A", b"query Q type A"):
-            self.assertEqual(self.told("check", "-", given=text)[0], 1)
+            self.assertEqual(self.tool("check", "-", given=text)[0], 1)
 
 
 class Files(Tool):
@@ -206,7 +206,7 @@ class Files(Tool):
     def test_a_deep_folder(self) -> None:
         """Folders nested deeper than Python's limit on recursion."""
         self.nest(1200)
-        status, written = self.told("check", "d")
+        status, written = self.tool("check", "d")
         self.assertEqual((status, written.split(":")[0]), (1, "d/" * 1200 + "a.graphql"))
 
     def test_a_folder_that_is_too_deep(self) -> None:
@@ -229,7 +229,7 @@ class Files(Tool):
     def test_names(self) -> None:
         """Any name is shown in one line, and a character that the output's encoding lacks ends nothing."""
         self.write("a\nb\x1b[31m.graphql", BAD)
-        self.assertEqual(self.told("check", "a\nb\x1b[31m.graphql")[1].split("\n")[0], 'a\ufffdb\ufffd[31m.graphql:2:5: Unexpected ")"')
+        self.assertEqual(self.tool("check", "a\nb\x1b[31m.graphql")[1].split("\n")[0], 'a\ufffdb\ufffd[31m.graphql:2:5: Unexpected ")"')
         with open(os.path.join(os.fsencode(self.folder), b"\xff.graphql"), "wb") as file:
             file.write("{ é }".encode())
         found = self.run_tool("check", b"\xff.graphql", encoding="ascii")
@@ -242,12 +242,12 @@ class Outputs(Tool):
     TEXT = 'query Q($v: [T ! ] = null) @d {\n  a: b(c: [1, "é\\n", E, $v, 1.5, true], d: {k: """\n x"""}) { ...F } }\nfragment F on T { ... on U { x } }'
 
     def test_canonical(self) -> None:
-        self.assertEqual(self.told("canonical", "good.graphql"), (0, "{a}\n"))
+        self.assertEqual(self.tool("canonical", "good.graphql"), (0, "{a}\n"))
         found = self.run_tool("canonical", "good.graphql", "bad.graphql", "-", given=b"{ a, b # c\n }")
         self.assertEqual((found.returncode, found.stdout.decode()), (1, "{a}\n" + REFUSED + "{a b}\n"))
 
     def test_nodes(self) -> None:
-        status, written = self.told("nodes", "-", given=self.TEXT.encode())
+        status, written = self.tool("nodes", "-", given=self.TEXT.encode())
         self.assertEqual(status, 0)
         self.assertEqual([line.replace("<stdin>:", "") for line in written.splitlines()], [
             "1:1: QUERY Q", "1:8: VARIABLE_DEFINITIONS", "1:9: VARIABLE_DEFINITION v", "1:13: TYPE [T!]", "1:22: NULL null", "1:28: DIRECTIVE d",
@@ -257,7 +257,7 @@ class Outputs(Tool):
         ])  # fmt: skip
 
     def test_tokens(self) -> None:
-        status, written = self.told("tokens", "-", given=b'{ a(b: "c\\n") ...F }\nfragment F on T { x(y: """\nz""") }')
+        status, written = self.tool("tokens", "-", given=b'{ a(b: "c\\n") ...F }\nfragment F on T { x(y: """\nz""") }')
         self.assertEqual(status, 0)
         lines = written.splitlines()
         self.assertEqual(lines[:6], ["<stdin>:1:1: CURLY_OPEN {", "<stdin>:1:3: NAME a", "<stdin>:1:4: PAREN_OPEN (", "<stdin>:1:5: NAME b",
@@ -267,7 +267,7 @@ class Outputs(Tool):
     def test_a_file_that_fails(self) -> None:
         """Nothing is written of it but its error."""
         for command in ("canonical", "nodes", "tokens"):
-            self.assertEqual(self.told(command, "bad.graphql"), (1, REFUSED))
+            self.assertEqual(self.tool(command, "bad.graphql"), (1, REFUSED))
 
     def test_json(self) -> None:
         status, found = self.objects("check", "good.graphql", "bad.graphql", "schema.graphql", "missing")
@@ -297,7 +297,7 @@ class Outputs(Tool):
 
     def test_controls(self) -> None:
         """What a terminal might obey is not shown as it is, and each character takes one place, so that the caret is right."""
-        status, written = self.told("check", "-", given="{ # \u202e\x9b\n a \x1b[31m }".encode())
+        status, written = self.tool("check", "-", given="{ # \u202e\x9b\n a \x1b[31m }".encode())
         self.assertEqual((status, written), (1, '<stdin>:2:4: Unknown character "\ufffd"\n'
                          "1 | { # \ufffd\ufffd\n2 |  a \ufffd[31m }\n  |    ^\n"))  # fmt: skip
 
@@ -318,10 +318,10 @@ class Outputs(Tool):
 
     def test_large_and_deep(self) -> None:
         """A million tokens, and brackets nested 1,000 deep."""
-        status, written = self.told("check", "-", given=b"{" + b"a " * 1_000_000 + b") }")
+        status, written = self.tool("check", "-", given=b"{" + b"a " * 1_000_000 + b") }")
         self.assertEqual((status, written.split("\n")[0]), (1, '<stdin>:1:2000002: Unexpected ")"'))
         self.assertLess(len(written), 300)
-        status, written = self.told("nodes", "-", "--depth", "1000", "--json", given=b"{a" * 1000 + b"}" * 1000)
+        status, written = self.tool("nodes", "-", "--depth", "1000", "--json", given=b"{a" * 1000 + b"}" * 1000)
         self.assertEqual((status, len(json.loads(written)["nodes"])), (0, 1001))
         self.assertLess(len(written), 200_000)
 
@@ -342,7 +342,7 @@ class Progress(Tool):
         return found.returncode, shown[:-3].decode(), found.stdout.decode()
 
     def test_many(self) -> None:
-        """On a terminal a line says how many of many files are done, and makes room for others; elsewhere there is none."""
+        """On a terminal a line says how many of many files are done, and is removed before others; elsewhere there is none."""
         for i in range(60):
             self.write(f"many/{i:02}.graphql", GOOD)
         status, shown, written = self.on_terminal("check", "many")

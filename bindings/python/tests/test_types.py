@@ -70,6 +70,23 @@ REVEALED = ["SyntaxParts[Operation]", "Operation | None", "Fragment | None", "Sy
             "InlineFragment"]  # fmt: skip
 
 
+# The lines with a call that has a wrong option.
+CALLS = """
+from firthnapkin import parse, tokens
+
+parse("{ a }", depth=5, max_tokens=None)
+parse(source="{ a }", max_tokens=5)
+tokens("{ a }", max_tokens=5)
+parse("{ a }", depth="5")
+parse("{ a }", depth=None)
+parse("{ a }", max_tokens=5.0)
+parse("{ a }", dept=5)
+parse("{ a }", 5)
+tokens("{ a }", depth=5)
+"""
+REFUSED = [7, 8, 9, 10, 11, 12]
+
+
 def plain(revealed: str) -> str:
     """A type without its modules, and with a bar before None, as newer releases of mypy write it."""
     return re.sub(r"Union\[(.*), None\]$", r"\1 | None", re.sub(r"\b[a-z_]+\.", "", revealed))
@@ -103,7 +120,7 @@ class Mypy(unittest.TestCase):
         if importlib.util.find_spec("mypy") is None:
             self.skipTest("no mypy")
 
-    def told(self, *words: str) -> "subprocess.CompletedProcess[str]":
+    def mypy(self, *words: str) -> "subprocess.CompletedProcess[str]":
         """What mypy says of files, strictly, and without keeping anything."""
         command = [sys.executable, "-m", "mypy", "--strict", "--cache-dir", os.devnull, *words]
         package = os.path.dirname(os.path.dirname(firthnapkin.__file__))
@@ -114,15 +131,24 @@ class Mypy(unittest.TestCase):
             path = os.path.join(folder, "program.py")
             with open(path, "w", encoding="utf-8") as file:
                 file.write(PROGRAM)
-            told = self.told(path)
-        found = [plain(line.split('"')[1]) for line in told.stdout.splitlines() if "Revealed type" in line]
+            ran = self.mypy(path)
+        found = [plain(line.split('"')[1]) for line in ran.stdout.splitlines() if "Revealed type" in line]
         self.assertEqual(found, REVEALED)
-        self.assertEqual(told.returncode, 0, told.stdout)
+        self.assertEqual(ran.returncode, 0, ran.stdout)
+
+    def test_options(self) -> None:
+        """An option of the wrong type is an error, and so is one that a call doesn't have."""
+        with tempfile.TemporaryDirectory() as folder:
+            path = os.path.join(folder, "calls.py")
+            with open(path, "w", encoding="utf-8") as file:
+                file.write(CALLS)
+            ran = self.mypy(path)
+        self.assertEqual([int(line) for line in re.findall(r"calls\.py:(\d+): error", ran.stdout)], REFUSED, ran.stdout)
 
     def test_the_package(self) -> None:
         """The package's own modules, but for those that need graphql-core."""
         folder = os.path.dirname(firthnapkin.__file__)
         names = [name for name in sorted(os.listdir(folder)) if name.endswith(".py") and "graphql" not in name]
         self.assertGreater(len(names), 10)
-        told = self.told(*(os.path.join("firthnapkin", name) for name in names))
-        self.assertEqual(told.returncode, 0, told.stdout)
+        ran = self.mypy(*(os.path.join("firthnapkin", name) for name in names))
+        self.assertEqual(ran.returncode, 0, ran.stdout)

@@ -4,6 +4,7 @@ use crate::document::{Document, Position, RawNode};
 use crate::error::{Error, ErrorDetail, ErrorKind, SyntaxError};
 use crate::lexer::{RawToken, Tokens};
 use crate::{stack, Limits, MAX_DEPTH};
+use std::mem::size_of;
 
 const OK: u32 = 0;
 const SYNTAX_ERROR: u32 = 1;
@@ -13,12 +14,21 @@ const BUFFER_TOO_SMALL: u32 = 6;
 const SOURCE_TOO_LONG: u32 = 7;
 const INVALID_LIMIT: u32 = 8;
 
+/// The number of words of limits, and of those that have no limit.
+const WORDS: usize = 8;
+const RESERVED: usize = WORDS - size_of::<Limits>() / size_of::<u32>();
+
+/// Limits as the library takes them. In the words that have no limit 0 is none.
 #[repr(C)]
-#[derive(Clone, Copy)]
 struct RawLimits {
-    depth: u32,
-    tokens: u32,
-    reserved: [u32; 6],
+    given: Limits,
+    reserved: [u32; RESERVED],
+}
+
+impl From<Limits> for RawLimits {
+    fn from(given: Limits) -> Self {
+        RawLimits { given, reserved: [0; RESERVED] }
+    }
 }
 
 #[repr(C)]
@@ -126,7 +136,7 @@ pub fn canonical(source: &str) -> Result<String, Error> {
     stack::with(0, || canonical_here(source)).unwrap_or(Err(Error::OutOfMemory))
 }
 
-/// The lines around a byte of a source; nothing where it is within a character or after the end, or memory ran out.
+/// The lines around a byte of a source; nothing if it is within a character or after the end, or memory ran out.
 pub(crate) fn excerpt(source: &str, byte: u32) -> Option<String> {
     let error = RawError { start: Position { byte, ..Position::default() }, ..RawError::default() };
     stack::with(0, || words(firthnapkin_excerpt, source, &error)).ok()?.ok()
@@ -143,7 +153,7 @@ fn at_first(source: &str) -> usize {
 
 /// A parse on this thread's stack.
 fn parse_here(source: &str, limits: Limits) -> Result<Document<'_>, Error> {
-    let limits = RawLimits { depth: limits.depth, tokens: limits.tokens, reserved: [0; 6] };
+    let limits = RawLimits::from(limits);
     let (mut nodes_length, mut texts_length) = (at_first(source) + 16, at_first(source) + 64);
     loop {
         let mut nodes: Vec<RawNode> = with_capacity(nodes_length)?;
@@ -254,7 +264,7 @@ fn with_capacity<T>(count: usize) -> Result<Vec<T>, Error> {
     Ok(items)
 }
 
-/// The error of a status; none where a buffer was too small.
+/// The error of a status; none if a buffer was too small.
 fn refused(status: u32, source: &str, error: &RawError) -> Result<(), Error> {
     match status {
         BUFFER_TOO_SMALL => Ok(()),
@@ -291,8 +301,8 @@ fn error_of(source: &str, error: &RawError) -> Result<SyntaxError, Error> {
 const SCHEMA_WORDS: [&str; 9] =
     ["type", "schema", "extend", "directive", "scalar", "interface", "union", "enum", "input"];
 
-/// Whether an unexpected token, from one byte to another, begins a definition of a schema, or its description: where what is
-/// before it is a document, or has no tokens.
+/// Whether an unexpected token, from one byte to another, begins a definition of a schema, or its description: it does if what
+/// is before it is a document, or has no tokens.
 fn begins_schema(source: &str, start: usize, end: usize) -> bool {
     let token = &source[start..end];
     if !SCHEMA_WORDS.contains(&token) && !token.starts_with('"') {
@@ -311,5 +321,14 @@ mod tests {
     fn statuses() {
         assert_eq!([failure(3), failure(SOURCE_TOO_LONG)], [Error::OutOfMemory, Error::SourceTooLong]);
         assert!(matches!(with_capacity::<u64>(usize::MAX / 16), Err(Error::OutOfMemory)));
+    }
+
+    /// Each limit goes to its word, and the words that no limit has are 0.
+    #[test]
+    fn words() {
+        let words = |limits: Limits| -> [u32; WORDS] { unsafe { std::mem::transmute(RawLimits::from(limits)) } };
+        assert_eq!(words(Limits::default()), [200, u32::MAX, 0, 0, 0, 0, 0, 0]);
+        assert_eq!(words(Limits { depth: 7, tokens: 9 }), [7, 9, 0, 0, 0, 0, 0, 0]);
+        assert_eq!(words(Limits { depth: 0, tokens: u32::MAX - 1 }), [0, u32::MAX - 1, 0, 0, 0, 0, 0, 0]);
     }
 }

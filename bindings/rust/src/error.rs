@@ -25,7 +25,7 @@ pub struct SyntaxError {
     /// The error, without its position.
     pub message: String,
     pub kind: ErrorKind,
-    /// Where the kind is [`ErrorKind::Lexical`].
+    /// What is wrong, if the kind is [`ErrorKind::Lexical`].
     pub detail: Option<ErrorDetail>,
     /// The positions of a token, or of zero width. Lines and columns are counted from 0.
     pub start: Position,
@@ -53,7 +53,7 @@ impl SyntaxError {
     /// }
     /// ```
     ///
-    /// The source is the one that has the error. Nothing where the error starts within a character of it or after its end, or
+    /// The source is the one that has the error. Nothing if the error starts within a character of it or after its end, or
     /// memory ran out.
     pub fn excerpt(&self, source: &str) -> Option<String> {
         call::excerpt(source, self.start.byte)
@@ -64,7 +64,7 @@ impl SyntaxError {
 #[derive(Clone, Copy, Debug, PartialEq, Eq)]
 #[non_exhaustive]
 pub enum ErrorKind {
-    /// No document has the token after those before it.
+    /// No document could have the token there.
     UnexpectedToken,
     /// The source ends within a document.
     UnexpectedEnd,
@@ -76,7 +76,7 @@ pub enum ErrorKind {
     TooManyTokens,
 }
 
-/// Why there is no token, with the character where there is one.
+/// Why there is no token, with the character if there is one.
 #[derive(Clone, Copy, Debug, PartialEq, Eq)]
 #[non_exhaustive]
 pub enum ErrorDetail {

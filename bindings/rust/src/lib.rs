@@ -32,12 +32,13 @@ pub const DEFAULT_DEPTH: u32 = 200;
 /// The largest depth that [`parse_within`] takes.
 pub const MAX_DEPTH: u32 = 1000;
 
-/// What a source may have.
+/// What a source may have. The library reads the fields as they are here, in their order.
 ///
 /// ```
 /// use firthnapkin::{parse_within, Limits};
 /// assert!(parse_within("{ a { b } }", Limits { tokens: 5, ..Limits::default() }).is_err());
 /// ```
+#[repr(C)]
 #[derive(Clone, Copy, Debug, PartialEq, Eq)]
 pub struct Limits {
     /// How deep brackets may be nested: from 0 to [`MAX_DEPTH`].

@@ -11,7 +11,7 @@ macro_rules! part {
         pub struct $name<'d, 'a>(pub(crate) Node<'d, 'a>);
 
         impl<'d, 'a> $name<'d, 'a> {
-            /// What the part stands on: it has the positions, as numbers from 0.
+            /// The part's node, whose positions count from 0.
             pub fn node(&self) -> Node<'d, 'a> {
                 self.0
             }
@@ -31,7 +31,7 @@ macro_rules! part {
                 self.0.column()
             }
 
-            /// The lines around its start, as [`SyntaxError::excerpt`](crate::SyntaxError::excerpt) has them; nothing where memory
+            /// The lines around its start, as [`SyntaxError::excerpt`](crate::SyntaxError::excerpt) has them; nothing if memory
             /// ran out.
             pub fn excerpt(&self) -> Option<String> {
                 self.0.excerpt()
@@ -107,7 +107,7 @@ impl<'d, 'a> Selection<'d, 'a> {
         }
     }
 
-    /// What the part stands on.
+    /// The part's node.
     pub fn node(&self) -> Node<'d, 'a> {
         match self {
             Selection::Field(Field(node))
@@ -164,7 +164,7 @@ impl<'a> Document<'a> {
         self.definitions().filter(|node| node.kind() == Kind::FragmentDefinition).map(Fragment)
     }
 
-    /// The first operation of a name. Without a name the only operation, whatever its name, and none where there are several.
+    /// The first operation of a name. Without a name the only operation, whatever its name, and none if there are several.
     pub fn operation(&self, name: Option<&str>) -> Option<Operation<'_, 'a>> {
         let mut operations = self.operations();
         match name {

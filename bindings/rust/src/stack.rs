@@ -13,8 +13,8 @@ const OWN: usize = 1 << 14;
 /// only the thread knows how much they leave. Memory that is not written to costs nothing.
 const MARGINS: (usize, usize) = (1 << 16, 1 << 28);
 
-/// Runs a call with this depth on this thread's stack, or, where less is left or it isn't known, in a thread of its own.
-/// An error where no thread can be made.
+/// Runs a call with this depth on this thread's stack, or, if less is left or it isn't known, in a thread of its own.
+/// An error if no thread can be made.
 pub(crate) fn with<R: Send>(depth: u32, call: impl FnOnce() -> R + Send) -> io::Result<R> {
     let needed = needed(depth);
     if left().is_some_and(|left| left >= needed) {
@@ -31,7 +31,7 @@ pub(crate) fn with<R: Send>(depth: u32, call: impl FnOnce() -> R + Send) -> io::
     Err(io::ErrorKind::OutOfMemory.into())
 }
 
-/// The result of the call in a thread of its own; nothing where the thread's stack is too small, and the call is left.
+/// The result of the call in a thread of its own; nothing if the thread's stack is too small for it.
 fn in_thread<R: Send>(
     needed: usize,
     margin: usize,

@@ -111,7 +111,7 @@ fn syntax<T: std::fmt::Debug>(result: Result<T, Error>) -> SyntaxError {
 #[test]
 fn lexical_errors() {
     let long = "a".repeat(5000) + "\"\\é";
-    for (source, told) in [
+    for (source, words) in [
         ("} é ?", "Unknown character \"é\". At 1:3"),
         ("a\n01", "Unexpected character \"1\". At 2:2"),
         ("{{{ \"é", "Unterminated string literal. At 1:7"),
@@ -119,7 +119,7 @@ fn lexical_errors() {
         (&long, "Unknown escape sequence \"\\é\" in string. At 1:5003"),
     ] {
         for error in [syntax(tokens(source)), syntax(canonical(source)), syntax(parse(source))] {
-            assert_eq!((error.kind, error.to_string().as_str()), (ErrorKind::Lexical, told));
+            assert_eq!((error.kind, error.to_string().as_str()), (ErrorKind::Lexical, words));
         }
     }
 }

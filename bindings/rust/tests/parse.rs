@@ -166,7 +166,7 @@ fn errors() {
     use ErrorKind::*;
     let deep = "{a".repeat(201);
     let far = format!("#é{}{})", "\n".repeat(70_000), " ".repeat(70_001));
-    for (source, kind, detail, start, end, told) in [
+    for (source, kind, detail, start, end, words) in [
         ("{\n  a )\n}", UnexpectedToken, None, (6, 1, 4, 6), (7, 1, 5, 7), "Unexpected \")\". At 2:5"),
         ("", UnexpectedEnd, None, (0, 0, 0, 0), (0, 0, 0, 0), "Unexpected end of input. At 1:1"),
         ("#é\n{ a", UnexpectedEnd, None, (6, 1, 3, 7), (6, 1, 3, 7), "Unexpected end of input. At 2:4"),
@@ -242,14 +242,14 @@ fn errors() {
         let error = error_of(source, 200);
         assert_eq!((error.kind, error.detail), (kind, detail), "{source}");
         let (a, b) = (position(start.0, start.1, start.2, start.3), position(end.0, end.1, end.2, end.3));
-        assert_eq!((error.start, error.end, error.to_string()), (a, b, told.to_string()));
+        assert_eq!((error.start, error.end, error.to_string()), (a, b, words.to_string()));
         assert_eq!(
-            told.rsplit_once(". At ").map(|it| it.1.to_string()),
+            words.rsplit_once(". At ").map(|it| it.1.to_string()),
             Some(format!("{}:{}", error.line(), error.column()))
         );
-        assert_eq!(Some(error.message.as_str()), told.rsplit_once(". At ").map(|it| it.0));
+        assert_eq!(Some(error.message.as_str()), words.rsplit_once(". At ").map(|it| it.0));
         let error: Box<dyn std::error::Error> = Box::new(Error::Syntax(error));
-        assert_eq!(error.to_string(), told);
+        assert_eq!(error.to_string(), words);
     }
     for length in [1, 200, 242, 243, 244, 255, 256, 257, 5000] {
         let name = "n".repeat(length);

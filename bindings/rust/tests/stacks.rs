@@ -68,7 +68,7 @@ fn address() -> usize {
     black_box(std::ptr::addr_of!(here)) as usize
 }
 
-/// Calls where so many bytes of the stack are taken since an address.
+/// Calls with so many bytes of the stack taken since an address.
 fn deeper(begin: usize, taken: usize, call: &dyn Fn()) {
     let frame = [0u8; 1024];
     black_box(&frame);

@@ -16,6 +16,7 @@ mod input_values;
 mod lexing;
 mod literals;
 mod odd;
+mod requests;
 mod scalars;
 mod tree;
 mod types;
@@ -47,6 +48,8 @@ pub fn write_answer(
         "parser" => cursor::write_tokens(alloc, out, text),
         "cursor" => cursor::write_calls(alloc, out, text, calls),
         "arguments" => documents::write_calls(alloc, out, text, calls),
+        "requests" => requests::write_calls(alloc, out, text, calls),
+        "bytes" => requests::write_bytes(alloc, out, text),
         "complexities" => complexities::write_complexities(alloc, out, text),
         "answer" => answers::write_calls(alloc, out, text, calls),
         _ => write_calls(alloc, out, kind, text, calls),

@@ -19,7 +19,8 @@ use Rattle.juniper.specs.declared.parser.document.depth.DepthFailure.TheVariants
 use Rattle.juniper.specs.declared.parser.document.limited.LimitFailure.{LimitFailure}
 use Rattle.juniper.specs.declared.parser.document.limited.LimitFailure.TheVariants as limited
 use Rattle.juniper.specs.Within.{ReturnsWithin}
-use Rattle.juniper.specs.Limited.{HasFewTokens, HasOneResultLimited, HasTreeLimited, IsRefusedLimited, IsTooDeepLimited, IsTooLarge, IfParsed, ReturnsLimited, failure_limited, tokens_limited}
+use Rattle.juniper.specs.Limited.{HasFewTokens, HasOneResultLimited, HasTreeLimited, IsRefusedLimited, IsTooDeepLimited}
+use Rattle.juniper.specs.Limited.{IsTooLarge, IfParsed, FailsLimited, ReturnsLimited, failure_limited, tokens_limited}
 use Rattle.juniper.proofs.DepthLimits.{lexical_within, one_answer}
 
 module _ {C : Type 0} (S : Scalars C Error) (depth most : ℕ) (source : List ℕ) where
@@ -104,6 +105,26 @@ module _ {C : Type 0} (S : Scalars C Error) (depth most : ℕ) (source : List �
     tokens_failed Y failed r is state from breaks wide few many limit =
         subst (ReturnsLimited S depth most source view) (sym (is_error r (tokens_limited failed) is))
         (tokens_so Y failed state from breaks wide few many limit)
+
+    -- what a failure says
+    fails_limited : (e : LimitFailure) → ReturnsLimited S depth most source view (Err e)
+        → FailsLimited S depth most source e
+    fails_limited (limited.Parse (failure.Refused fault)) p = (p.refused, p.within, p.few)
+    fails_limited (limited.Parse failure.Memory) p = tt
+    fails_limited (limited.TooDeep span) p = (p.too_deep, p.few)
+    fails_limited (limited.TooMany span) p = (p.too_many, p.limited)
+
+  -- what a failure to take the tokens says
+  pub tokens_fail : (Y : Type 0) (failed : LimitedLexFailure) (state : LexerState) → state ≡ started source
+      → IfFaultWithin {X = Y} (Err failed) (λ fault. BreaksOff state (view_lexer_error fault.item) fault.span.start)
+      → IfFaultWithin {X = Y} (Err failed) (λ fault. fault.span.end ≡ fault.span.start)
+      → IfCounted {X = Y} (Err failed) (Few state)
+      → IfTooMany {X = Y} (Err failed) (λ span. HasMore (passed state.source state.index) (ahead state.source state.index) most (view_span span))
+      → IfTooMany {X = Y} (Err failed) (λ _. most < 2 ^ 63)
+      → FailsLimited S depth most source (tokens_limited failed)
+  tokens_fail Y failed state is breaks wide few many limit =
+      let none : Unit {0} → List (Definition C) = λ x. [] in
+      fails_limited none (tokens_limited failed) (tokens_so none Y failed state is breaks wide few many limit)
 
   -- ---- a text has one answer
 

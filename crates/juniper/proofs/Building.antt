@@ -1,11 +1,16 @@
 -- What is built of parts one after another.
-use Rattle.std.proofs.Common.{◌≡◌, List, [], ◌∷◌, ◌++◌, map, Result, Ok, Err, refl, sym, ap, ap₂, subst, ◌∙◌}
+use Rattle.std.proofs.Common.{◌≡◌, ℕ, List, [], ◌∷◌, ◌++◌, map, Option, Some, None, Result, Ok, Err, IfOk, refl, sym}
+use Rattle.std.proofs.Common.{ap, ap₂, subst, ◌∙◌}
 use Rattle.graphql_lexical.specs.Cutting.{Lexeme}
-use Rattle.graphql_grammar.specs.Tree.{Selection, selections_of}
+use Rattle.graphql_grammar.specs.Tree.{Scalars, Selection, Selections, selections_of, Definition}
+use Rattle.graphql_grammar.specs.device.Productions.{optional_of}
 use Rattle.juniper_tokens.specs.declared.error.ParseFailure.{ParseFailure}
 use Rattle.juniper_tokens.specs.declared.error.ParseFailure.TheVariants as failures
 use Rattle.juniper_tokens.specs.Cursor.{Read, Fails, Gives, ◌>>=◌}
-use Rattle.juniper.specs.Building.{Builds, BuildsOr, BuildsEach, BuildsList, BuildsSet}
+use Rattle.juniper.specs.Building.{BuildsEach, BuildsList, BuildsOptional, BuildsOptionalSet, BuildsSet, BuildsTree}
+use Rattle.juniper.specs.device.Builds.{Builds, BuildsAs, BuildsOr}
+use Rattle.juniper.specs.Promise.{HasTree, ReturnsAs}
+use Rattle.juniper_tokens.specs.Errors.{Error}
 use Rattle.juniper.proofs.Loops.{with_front}
 
 -- no items in front
@@ -50,3 +55,36 @@ set_builds built gathered old new (Ok l) left read made = record {
 set_builds built gathered old new (Err (failures.Refused e)) left read fails =
     ap (λ z. z >>= λ ss. Ok (selections_of ss.0, ss.1)) fails
 set_builds built gathered old new (Err failures.Memory) left read fails = tt
+
+-- a set that was built, if there is one, is an optional one
+pub optional_set_builds : {B L X C : Type 0} (built : B → B → X → Selection C → Type 0) (gathered : L → List X) (old new : B)
+    (parts : Option L) (set : Option (Selections C))
+    → BuildsOptional (BuildsSet built gathered) old new parts set
+    → BuildsOptionalSet built gathered old new parts (optional_of set)
+optional_set_builds built gathered old new None None same = same
+optional_set_builds built gathered old new None (Some s) some = absurd some
+optional_set_builds built gathered old new (Some x) None some = absurd some
+optional_set_builds built gathered old new (Some x) (Some s) one = one
+
+-- a call returned what is seen as the parts that the reading gives, or the parser's error
+pub seen_returns : {B X Y A : Type 0} (view : X → A) (items : Y → List X) (old new : B) (result : Result Y ParseFailure)
+    (read : Read (List A))
+    → BuildsAs (λ (a b : ParseFailure). b ≡ a) (BuildsList (λ (o n : B) x p. view x ≡ p) items old new) result read
+    → ReturnsAs (λ y. map view (items y)) result read
+seen_returns view items old new (Ok y) read h =
+    (h.0, h.1.reads ∙ ap (λ ps. Ok (ps, h.0)) (sym (each_seen view old new (items y) h.1.part h.1.is_built)))
+seen_returns view items old new (Err e) read h = (h.0, subst (λ (f : ParseFailure). Fails f h.0 read) (sym h.1.1) h.1.2)
+
+-- the tree that was built of a source's is its tree
+seen_tree : {B X Y C : Type 0} (view : X → Definition C) (items : Y → List X) (S : Scalars C Error) (source : List ℕ)
+    (old new : B) (y : Y) → BuildsTree (λ (o n : B) x p. view x ≡ p) items S source old new y
+    → HasTree S source (map view (items y))
+seen_tree view items S source old new y h =
+    subst (HasTree S source) (sym (each_seen view old new (items y) h.tree h.are_built)) h.has_tree
+
+-- the same of what a call returned
+pub seen_trees : {B X Y C E : Type 0} (view : X → Definition C) (items : Y → List X) (S : Scalars C Error) (source : List ℕ)
+    (old new : B) (result : Result Y E) → IfOk result (BuildsTree (λ (o n : B) x p. view x ≡ p) items S source old new)
+    → IfOk result (λ y. HasTree S source (map view (items y)))
+seen_trees view items S source old new (Ok y) h = seen_tree view items S source old new y h
+seen_trees view items S source old new (Err e) h = tt

@@ -1,6 +1,8 @@
 -- What is answered for tokens that were ended after a deep one is answered for their text.
-use Rattle.std.proofs.Common.{◌≡◌, ℕ, suc, ◌<◌, ◌≤◌, ◌⊎◌, true, false, List, [], ◌∷◌, ◌++◌, length, take, inl, inr, refl, sym, ap, subst, ◌∙◌, arith, append_assoc, append-nil, Result, Ok, Err, Option, Some, None, length-append}
-use Rattle.std.specs.Prelude.{◌==◌, pos, ◌≤ℤ◌}
+use Rattle.std.proofs.Common.{◌≡◌, ℕ, suc, ◌<◌, ◌≤◌, ◌⊎◌, true, false, List, [], ◌∷◌, ◌++◌, length, take, inl, inr}
+use Rattle.std.proofs.Common.{refl, sym, ap, subst, ◌∙◌, arith, append_assoc, append-nil, Result, Ok, Err, Option, Some}
+use Rattle.std.proofs.Common.{None, length-append}
+use Rattle.std.specs.Prelude.{◌==◌, pos, ◌≤ℤ◌, IfOk}
 use Rattle.std.proofs.Math.Nat.{eq-or-lt_of_le}
 use Rattle.std.proofs.lemmas.Int.{by_lt_z}
 use Rattle.std.specs.List.{AllByRecursion}
@@ -8,7 +10,8 @@ use Rattle.graphql_lexical.specs.Place.{Place, Span}
 use Rattle.graphql_lexical.specs.Kinds.{LexicalError}
 use Rattle.graphql_lexical.specs.Cutting.{Lexeme, Cut, Breaks, EndsOnce}
 use Rattle.graphql_lexical.specs.device.Indexed.{nesting_at, IsFirstDeeperAt}
-use Rattle.graphql_lexical.proofs.Public.{one_cut_or_break, one_deep, crossed, IsWide, tokens_wide, tokens_in_order, after_deeper, before_is, fronts_shallow}
+use Rattle.graphql_lexical.proofs.Public.{one_cut_or_break, one_deep, crossed, IsWide, tokens_wide, tokens_in_order}
+use Rattle.graphql_lexical.proofs.Public.{after_deeper, before_is, fronts_shallow}
 use Rattle.graphql_lexical.specs.Nesting.{ended_by}
 use Rattle.graphql_grammar.specs.Tree.{Scalars, Definition}
 use Rattle.graphql_grammar.specs.Tokens.{IsSpelled}
@@ -16,7 +19,9 @@ use Rattle.graphql_grammar.specs.Faults.{DocumentRefusedAt}
 use Rattle.graphql_grammar.specs.device.Faults.{Fault, as_error}
 use Rattle.graphql_grammar.specs.Depth.{IsTooDeep}
 use Rattle.graphql_grammar.specs.device.AlikeFaults.{BeginsDocument, IsTooDeepAt}
-use Rattle.graphql_grammar.proofs.Public.{after_too_deep, too_deep_after, same_parts, document_error, document_fault, document_or_fault, cut_spelled, cut_ends, short_spelled, short_ends, TellsDepth, t_goes_on, front_is, short_no_document, short_tells, middle_of}
+use Rattle.graphql_grammar.proofs.Public.{after_too_deep, too_deep_after, same_parts, document_error, document_fault}
+use Rattle.graphql_grammar.proofs.Public.{document_or_fault, cut_spelled, cut_ends, short_spelled, short_ends}
+use Rattle.graphql_grammar.proofs.Public.{TellsDepth, t_goes_on, front_is, short_no_document, short_tells, middle_of}
 use Rattle.juniper_tokens.specs.declared.error.ParseError.{ParseError}
 use Rattle.juniper_tokens.specs.declared.error.ParseFailure.{ParseFailure}
 use Rattle.juniper_tokens.specs.declared.error.ParseFailure.TheVariants as failure
@@ -34,10 +39,13 @@ use Rattle.juniper.specs.declared.parser.document.depth.DepthFailure.{DepthFailu
 use Rattle.juniper.specs.declared.parser.document.depth.DepthFailure.TheVariants as limited
 use Rattle.juniper.specs.Promise.{HasTree, ReturnsAs, lexical_fault, unexpected}
 use Rattle.juniper.specs.laws.RefusalClauses.{IsRefusedAt, IsRefusalByClauses}
-use Rattle.juniper.specs.Within.{HasTooDeep, IsWithin, ReturnsWithin, HasTreeWithin, IsRefusedWithin, IsNestedTooDeep, HasOneResult, result_within}
+use Rattle.juniper.specs.Limited.{FailsAs}
+use Rattle.juniper.specs.Within.{HasTooDeep, IsWithin, ReturnsWithin, HasTreeWithin, IsRefusedWithin, IsNestedTooDeep}
+use Rattle.juniper.specs.Within.{HasOneResult, FailsWithin, result_within}
 use Rattle.graphql_grammar.specs.device.Productions.{document}
 use Rattle.juniper.specs.device.Steps.{cursor}
-use Rattle.juniper.proofs.Promises.{document_is, refused_is, refusal_at, accepts, refuses, lexical, break_from_start, lexical_reported}
+use Rattle.juniper.proofs.Promises.{document_is, refused_is, refusal_at, accepts, refuses, lexical, break_from_start}
+use Rattle.juniper.proofs.Promises.{lexical_reported}
 use Rattle.juniper.proofs.Refusals.{by_clauses}
 use Rattle.juniper.proofs.Sources.{either_refused, never_both_refused, refusal_of}
 
@@ -140,6 +148,25 @@ module _ {C : Type 0} (S : Scalars C Error) (depth : ℕ) (source : List ℕ) wh
     deep_within : (span : spans.Span) → HasTooDeep S depth source (view_span span)
         → Promised (Err (limited.TooDeep span))
     deep_within span h = record { accepted = tt; refused = tt; within = tt; too_deep = h }
+
+    -- what a failure says
+    pub fails_within : (e : DepthFailure) → Promised (Err e) → FailsWithin S depth source e
+    fails_within (limited.Parse (failure.Refused fault)) p = (p.refused, p.within)
+    fails_within (limited.Parse failure.Memory) p = tt
+    fails_within (limited.TooDeep span) p = p.too_deep
+
+    -- what is promised by outcome, of what a failure says
+    err_returns : (e : DepthFailure) → FailsWithin S depth source e → Promised (Err e)
+    err_returns (limited.Parse (failure.Refused fault)) p =
+        record { accepted = tt; refused = p.0; within = p.1; too_deep = tt }
+    err_returns (limited.Parse failure.Memory) p = memory_within
+    err_returns (limited.TooDeep span) p = deep_within span p
+
+    pub within_returns : (result : Result X DepthFailure) → IfOk result (λ x. HasTree S source (view x))
+        → IfOk result (λ _. IsWithin S depth source)
+        → FailsAs (λ (a b : DepthFailure). b ≡ a) result (FailsWithin S depth source) → Promised result
+    within_returns (Ok x) tree shallow failed = tree_within x tree shallow
+    within_returns (Err e) tree shallow failed = err_returns e (subst (FailsWithin S depth source) (sym failed.1) failed.2)
 
     -- ---- what is answered for the tokens of the text, or for those up to a deep one
 

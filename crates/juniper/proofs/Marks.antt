@@ -15,7 +15,7 @@ use Rattle.juniper_tokens.specs.declared.error.ParseError.{ParseError}
 use Rattle.juniper_tokens.specs.declared.span.Spanning.{Spanning}
 use Rattle.juniper_tokens.specs.Taking.{Taking, left, last_end, next_taken, GoesOn}
 use Rattle.juniper_tokens.proofs.Public.{more_taken}
-use Rattle.juniper.specs.Building.{Builds}
+use Rattle.juniper.specs.device.Builds.{Builds}
 use Rattle.juniper.specs.device.Steps.{at_span}
 use Rattle.juniper.proofs.Cursors.{ok_is}
 

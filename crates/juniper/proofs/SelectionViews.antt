@@ -1,10 +1,9 @@
 -- The view of a selection, by its variant.
-use Rattle.std.proofs.Common.{◌≡◌, List, [], ◌∷◌, map, Option, Some, None, refl, sym, ap, ◌∙◌}
+use Rattle.std.proofs.Common.{◌≡◌, List, [], ◌∷◌, map, Option, Some, None, refl, ap, ◌∙◌}
 use Rattle.std.specs.Prelude.{option_map}
 use Rattle.std.specs.Global.{Vec}
 use Rattle.graphql_grammar.specs.Tree as tree
 use Rattle.graphql_grammar.specs.Tree.{selections_of}
-use Rattle.graphql_grammar.specs.device.Productions.{optional_of}
 use Rattle.juniper_tokens.specs.Spans.{view_span}
 use Rattle.juniper_tokens.specs.declared.span.Spanning.{Spanning}
 use Rattle.juniper.specs.declared.tree.ast.Selection.{Selection, Row_of-Selection, end_of-Selection, more_of-Selection, items-the_row-Selection, items_hidden-the_row-Selection-0, back-Field-selection_set}
@@ -13,7 +12,6 @@ use Rattle.juniper.specs.declared.tree.ast.Selection.TheVariants.{Field, InlineF
 use Rattle.juniper.specs.declared.tree.ast.Field.{Field as FieldOf}
 use Rattle.juniper.specs.declared.tree.ast.InlineFragment.{InlineFragment as InlineOf}
 use Rattle.juniper.specs.View.{view_word, view_arguments, view_directives, view_selection, view_held, view_row, view_selections, view_set, view_field, view_inline}
-use Rattle.juniper.specs.device.PartViews.{view_whole_set}
 
 module _ {S C : Type 0} (content : S → C) where
   -- the selections of a row are those of its list
@@ -44,18 +42,3 @@ module _ {S C : Type 0} (content : S → C) where
       → selections_of (map (view_selection content) ss) ≡ view_selections content ss
   selections_are [] = refl
   selections_are (s ∷ ss) = ap (tree.selection (view_selection content s)) (selections_are ss)
-
-  set_is : (o : Option (Vec (Selection S))) → view_set content o ≡ optional_of (option_map (view_whole_set content) o)
-  set_is None = refl
-  set_is (Some v) = refl
-
-  -- a field of these parts
-  pub field_view : (f : Spanning (FieldOf S))
-      → tree.Field (option_map view_word f.item.alias) (view_word f.item.name)
-      (option_map (view_arguments content) f.item.arguments) (view_directives content f.item.directives)
-      (optional_of (option_map (view_whole_set content) f.item.selection_set)) (view_span f.span)
-      ≡ view_selection content (Field f)
-  field_view f =
-      ap (λ (z : tree.OptionalSelections C). tree.Field (option_map view_word f.item.alias) (view_word f.item.name)
-      (option_map (view_arguments content) f.item.arguments) (view_directives content f.item.directives) z
-      (view_span f.span)) (sym (set_is f.item.selection_set)) ∙ sym (view_of_field f)

@@ -9,10 +9,10 @@ use Rattle.juniper_tokens.specs.declared.span.Spanning.{Spanning}
 use Rattle.juniper.specs.declared.tree.ast.Directive.{Directive}
 use Rattle.juniper.specs.declared.tree.ast.Selection.{Selection}
 use Rattle.juniper.specs.Building.{BuildsOptional}
-use Rattle.juniper.specs.Trees.{Shows, ShowsEach, ShowsDirectives, ShowsSet}
+use Rattle.juniper.specs.Trees.{Shows, ShowsEach, ShowsDirectives, ShowsOptionalSet, ShowsSet}
 use Rattle.juniper.specs.declared.tree.ast.VariableDefinition.{VariableDefinition}
 use Rattle.juniper.specs.NamedVariables.{named, view_named}
-use Rattle.juniper.specs.View.{view_directive, view_directives, view_selection, view_variable}
+use Rattle.juniper.specs.View.{view_directive, view_directives, view_selection, view_set, view_variable}
 use Rattle.juniper.specs.device.PartViews.{view_whole_set}
 use Rattle.juniper.proofs.Building.{each_seen}
 use Rattle.juniper.proofs.SelectionViews.{selections_are}
@@ -45,9 +45,12 @@ module _ {B S C : Type 0} (content : S → C) where
       sym (selections_are content x.items)
       ∙ (ap selections_of (each_seen (view_selection content) a b x.items h.selections h.are_built) ∙ h.are)
 
-  pub optional_set_shows : (a b : B) (x : Option (Vec (Selection S))) (p : Option (tree.Selections C))
-      → BuildsOptional (ShowsSet content) a b x p → option_map (view_whole_set content) x ≡ p
-  optional_set_shows = optional (ShowsSet content) (view_whole_set content) set_shows
+  pub optional_set_shows : (a b : B) (x : Option (Vec (Selection S))) (p : tree.OptionalSelections C)
+      → ShowsOptionalSet content a b x p → view_set content x ≡ p
+  optional_set_shows a b None tree.absent same = refl
+  optional_set_shows a b None (tree.present p) some = absurd some
+  optional_set_shows a b (Some x) tree.absent some = absurd some
+  optional_set_shows a b (Some x) (tree.present p) one = ap tree.present (set_shows a b x p one)
 
 -- definitions of variables are seen as they are with their names
 pub named_views : {S C : Type 0} (content : S → C) (vs : List (Spanning (Bor (List ℕ)) × VariableDefinition S))

@@ -1,13 +1,11 @@
 -- What is built of the parts of a document while they are read. A builder goes from one state to another as it builds a part.
-use Rattle.std.specs.Prelude.{◌≡◌, List, [], ◌∷◌, Option, Some, None, Result, Ok, Err}
-use Rattle.graphql_lexical.specs.Cutting.{Lexeme}
-use Rattle.graphql_lexical.specs.Place.{Span}
+use Rattle.std.specs.Prelude.{◌≡◌, ℕ, List, [], ◌∷◌, Option, Some, None}
 use Rattle.graphql_grammar.specs.Tokens.{Word, Located}
-use Rattle.graphql_grammar.specs.Tree.{TypeRef, Selection, Selections, selections_of}
+use Rattle.graphql_grammar.specs.Tree.{Scalars, TypeRef, Selection, Selections, selections_of, OptionalSelections}
+use Rattle.graphql_grammar.specs.Tree.{absent, present, Definition}
 use Rattle.graphql_grammar.specs.declared.operation.OperationType.{OperationType}
-use Rattle.juniper_tokens.specs.declared.error.ParseFailure.{ParseFailure}
-use Rattle.juniper_tokens.specs.Cursor.{Read, Fails}
-use Rattle.juniper_tokens.specs.Taking.{Taking, left, last_end}
+use Rattle.juniper_tokens.specs.Errors.{Error}
+use Rattle.juniper.specs.Promise.{HasTree}
 
 -- A part whose children are built next, by what is known of it then.
 pub data Opened : Type 0 where
@@ -29,34 +27,6 @@ pub data Opened : Type 0 where
   an_operation : OperationType → Option Word → Opened
   -- name and type condition
   a_fragment : Word → Word → Opened
-
--- This was built of what the step gives, and those lexemes are left.
-pub record Makes {X A : Type 0} (built : X → A → Type 0) (x : X) (left : List Lexeme) (read : Read A) : Type 0 where
-  pub part : A
-  pub reads : read ≡ Ok (part, left)
-  pub is_built : built x part
-
--- A call returned what it built of what the step gives, or the step's fault, and left those lexemes, unless memory ran out.
-abbrev pub Builds : {X A : Type 0} → (X → A → Type 0) → Result X ParseFailure → List Lexeme → Read A → Type 0
-Builds built (Ok x) left read = Makes built x left read
-Builds built (Err e) left read = Fails e left read
-
--- The same with an error that is made of a parser's.
-abbrev pub BuildsOr : {X A F : Type 0} → (ParseFailure → F → Type 0) → (X → A → Type 0) → Result X F → List Lexeme → Read A → Type 0
-BuildsOr from built (Ok x) left read = Makes built x left read
-BuildsOr from built (Err e) left read = (failure : ParseFailure) × from failure e × Fails failure left read
-
--- The same of items up to a closing token, which was taken last.
-pub record MakesClosed {X A : Type 0} (built : X → List A → Type 0) (x : X) (new : Taking) (read : Read (List A × Span)) : Type 0 where
-  pub parts : List A
-  pub closing : Span
-  pub last : closing.end ≡ last_end new
-  pub reads : read ≡ Ok ((parts, closing), left new)
-  pub is_built : built x parts
-
-abbrev pub BuildsClosed : {X A : Type 0} → (X → List A → Type 0) → Result X ParseFailure → Taking → Read (List A × Span) → Type 0
-BuildsClosed built (Ok x) new read = MakesClosed built x new read
-BuildsClosed built (Err e) new read = Fails e (left new) read
 
 module _ {B X A : Type 0} (built : B → B → X → A → Type 0) where
   -- One after another, from one state to another, these were built of these parts.
@@ -85,6 +55,16 @@ module _ {B L X C : Type 0} (built : B → B → X → Selection C → Type 0) (
     pub are : selections_of selections ≡ set
     pub are_built : BuildsEach built old new (gathered parts) selections
 
--- One thing was built, and then another.
-abbrev pub BuildsBoth : {B X Y P Q : Type 0} → (B → B → X → P → Type 0) → (B → B → Y → Q → Type 0) → B → B → X × Y → P × Q → Type 0
-BuildsBoth {B} first second old new xs ps = (between : B) × first old between xs.0 ps.0 × second between new xs.1 ps.1
+  -- The same of a set, or nothing of none.
+  abbrev pub BuildsOptionalSet : B → B → Option L → OptionalSelections C → Type 0
+  BuildsOptionalSet old new None absent = old ≡ new
+  BuildsOptionalSet old new None (present set) = ⊥
+  BuildsOptionalSet old new (Some parts) absent = ⊥
+  BuildsOptionalSet old new (Some parts) (present set) = BuildsSet old new parts set
+
+module _ {B L X C : Type 0} (built : B → B → X → Definition C → Type 0) (gathered : L → List X) where
+  -- The source has a tree, and this was built of its definitions.
+  pub record BuildsTree (S : Scalars C Error) (source : List ℕ) (old new : B) (parts : L) : Type 0 where
+    pub tree : List (Definition C)
+    pub has_tree : HasTree S source tree
+    pub are_built : BuildsEach built old new (gathered parts) tree

@@ -9,6 +9,7 @@ pub mod Within
 pub mod Limited
 pub mod Sinks
 pub mod Named
+pub mod SameArguments
 pub mod ReadBack
 pub mod Sources
 pub mod laws

@@ -64,6 +64,11 @@ HasFewTokens most source = HasFew [] source most
 abbrev pub HasTooManyTokens : ℕ → List ℕ → Span → Type 0
 HasTooManyTokens most source span = HasMore [] source most span
 
+-- An error was made of a failure of which P holds.
+abbrev pub FailsAs : {X F G : Type 0} → (G → F → Type 0) → Result X F → (G → Type 0) → Type 0
+FailsAs from (Ok x) P = Unit {0}
+FailsAs {G = G} from (Err e) P = (failure : G) × from failure e × P failure
+
 -- a failure within a limit on nesting alone
 abbrev pub failure_limited : DepthFailure → LimitFailure
 failure_limited (within.Parse e) = limited.Parse e
@@ -98,6 +103,14 @@ module _ {C : Type 0} (S : Scalars C Error) (depth most : ℕ) (source : List �
     pub refused_or_too_deep : IsRefusedLimited → IsTooDeepLimited → ⊥
     pub refused_or_too_large : IsRefusedLimited → IsTooLarge → ⊥
     pub too_deep_or_too_large : IsTooDeepLimited → IsTooLarge → ⊥
+
+  -- What a failure says of the text.
+  abbrev pub FailsLimited : LimitFailure → Type 0
+  FailsLimited (limited.Parse (failure.Refused fault)) = IsRefusal S source (view_fault fault)
+      × IsWithin S depth source × HasFewTokens most source
+  FailsLimited (limited.Parse failure.Memory) = Unit {0}
+  FailsLimited (limited.TooDeep span) = HasTooDeep S depth source (view_span span) × HasFewTokens most source
+  FailsLimited (limited.TooMany span) = HasTooManyTokens most source (view_span span) × (most < 2 ^ 63)
 
   -- What is promised of a result, by outcome.
   pub record ReturnsLimited {X : Type 0} (view : X → List (Definition C)) (result : Result X LimitFailure) : Type 0 where

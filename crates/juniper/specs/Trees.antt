@@ -5,7 +5,7 @@ use Rattle.graphql_grammar.specs.Tree as tree
 use Rattle.juniper_tokens.specs.declared.span.Spanning.{Spanning}
 use Rattle.juniper.specs.declared.tree.ast.Directive.{Directive}
 use Rattle.juniper.specs.declared.tree.ast.Selection.{Selection}
-use Rattle.juniper.specs.Building.{BuildsList, BuildsOptional, BuildsSet}
+use Rattle.juniper.specs.Building.{BuildsList, BuildsOptional, BuildsOptionalSet, BuildsSet}
 use Rattle.juniper.specs.View.{view_directive, view_selection}
 
 abbrev pub Shows : {B X A : Type 0} → (X → A) → B → B → X → A → Type 0
@@ -20,3 +20,6 @@ module _ {B S C : Type 0} (content : S → C) where
 
   abbrev pub ShowsSet : B → B → Vec (Selection S) → tree.Selections C → Type 0
   ShowsSet = BuildsSet (Shows (view_selection content)) (λ xs. xs.items)
+
+  abbrev pub ShowsOptionalSet : B → B → Option (Vec (Selection S)) → tree.OptionalSelections C → Type 0
+  ShowsOptionalSet = BuildsOptionalSet (Shows (view_selection content)) (λ xs. xs.items)

@@ -69,6 +69,12 @@ module _ {C : Type 0} (S : Scalars C Error) (depth : ℕ) (source : List ℕ) wh
     pub tree_or_too_deep : HasTreeWithin → IsNestedTooDeep → ⊥
     pub refused_or_too_deep : IsRefusedWithin → IsNestedTooDeep → ⊥
 
+  -- What a failure says of the text.
+  abbrev pub FailsWithin : DepthFailure → Type 0
+  FailsWithin (limited.Parse (failure.Refused fault)) = IsRefusal S source (view_fault fault) × IsWithin
+  FailsWithin (limited.Parse failure.Memory) = Unit {0}
+  FailsWithin (limited.TooDeep span) = HasTooDeep (view_span span)
+
   -- What is promised of a result, by outcome.
   pub record ReturnsWithin {X : Type 0} (view : X → List (Definition C)) (result : Result X DepthFailure) : Type 0 where
     pub accepted : IfOk result (λ x. HasTree S source (view x))

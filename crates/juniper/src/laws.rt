@@ -35,7 +35,10 @@ ghost use Rattle.juniper.specs.Limited.{HasOneResultLimited};
 
 mod equality;
 
-pub use equality::{kinds_are_compared_apart, parts_are_compared_whole};
+pub use equality::{
+    arguments_are_compared_whatever_their_places, kinds_are_compared_apart,
+    parts_are_compared_whole,
+};
 pub use graphql_grammar::laws as grammar;
 pub use graphql_lexical::laws as lexical;
 pub use graphql_lexical::laws::one_cut_or_break;

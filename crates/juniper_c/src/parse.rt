@@ -7,11 +7,10 @@ ghost use Rattle.juniper_tokens.specs.Errors as errors;
 ghost use Rattle.juniper_values.specs.Scalar.{Content};
 ghost use Rattle.juniper_flat.specs.Limits.{AreInvalid};
 ghost use Rattle.juniper_flat.specs.Faults.{written_fault, deep_fault, many_fault};
-ghost use Rattle.juniper_flat.specs.Answers.{HasDocument, HasRefusal, HasDeepToken, HasTokenTooMany, nodes_of, texts_of, Begins, IsStatus};
+ghost use Rattle.juniper_flat.specs.Answers.{HasDocument, HasRefusal, HasDeepToken, HasTokenTooMany, nodes_of, texts_of, Begins, Fills, IsStatus};
 
-use juniper_flat::buffer::fill_both;
 use juniper_flat::fault::Fault;
-use juniper_flat::flat::{Parsed, flat_of};
+use juniper_flat::flat::{Parsed, write_nodes};
 use juniper_flat::limits::{Limits, are_refused};
 use juniper_flat::node::Node;
 use juniper_flat::status::{
@@ -20,7 +19,7 @@ use juniper_flat::status::{
 };
 use std::alloc::Global;
 
-/// Writes the nodes of a source's tree and their texts into the caller's buffers, or its fault.
+/// Writes the nodes of a source's tree and their texts into the caller's buffers, as far as they fit, or its fault.
 #[unsafe(no_mangle)]
 pub extern "C" fn firthnapkin_parse(
     alloc: Global,
@@ -39,9 +38,10 @@ pub extern "C" fn firthnapkin_parse(
         × Begins (nodes_of source.now tree) nodes.old nodes.new × Begins (texts_of tree) texts.old texts.new
         × (nodes_length.new ≡ length (nodes_of source.now tree)) × (texts_length.new ≡ length (texts_of tree)) }
 
-    // One of the two is too short for them.
+    // One of the two is too short for them, and both begin with as many as fit.
     ensures too_small { result ≡ BUFFER_TOO_SMALL → (tree : List (Definition Content)) × HasDocument source.now limits.now tree
         × ((length nodes.old < length (nodes_of source.now tree)) ⊎ (length texts.old < length (texts_of tree)))
+        × Fills (nodes_of source.now tree) nodes.old nodes.new × Fills (texts_of tree) texts.old texts.new
         × (nodes_length.new ≡ length (nodes_of source.now tree)) × (texts_length.new ≡ length (texts_of tree)) }
 
     // So buffers as long as the source are never too short.
@@ -54,8 +54,8 @@ pub extern "C" fn firthnapkin_parse(
     ensures too_long { result ≡ SOURCE_TOO_LONG ↔ 2 ^ 32 ≤ length source.now }
     ensures limits_refused { result ≡ INVALID_LIMIT ↔ (AreInvalid limits.now × (length source.now < 2 ^ 32)) }
 
-    // What is left unchanged.
-    ensures buffers_kept { result ≢ OK → (nodes.new ≡ nodes.old) × (texts.new ≡ texts.old) }
+    // What is left unchanged: the buffers where the source isn't read. While it is parsed nodes are written into them.
+    ensures buffers_kept { (result ≡ NOT_UTF8) ⊎ ((result ≡ SOURCE_TOO_LONG) ⊎ (result ≡ INVALID_LIMIT)) → (nodes.new ≡ nodes.old) × (texts.new ≡ texts.old) }
     ensures no_counts { result ≢ OK → result ≢ BUFFER_TOO_SMALL → (nodes_length.new ≡ 0) × (texts_length.new ≡ 0) }
     ensures fault_kept { result ≢ SYNTAX_ERROR → result ≢ TOO_DEEP → result ≢ TOO_MANY_TOKENS → fault.new ≡ fault.old }
 {
@@ -64,11 +64,11 @@ pub extern "C" fn firthnapkin_parse(
     if are_refused(source, limits) {
         return INVALID_LIMIT;
     }
-    match flat_of(alloc, source, limits) {
-        Ok(Parsed::Tree(flat)) => {
-            *nodes_length = flat.nodes.len();
-            *texts_length = flat.texts.len();
-            if fill_both(nodes, texts, &flat.nodes, flat.texts.as_bytes()) {
+    match write_nodes(alloc, source, limits, nodes, texts) {
+        Ok(Parsed::Tree(lengths)) => {
+            *nodes_length = lengths.nodes;
+            *texts_length = lengths.texts;
+            if lengths.nodes <= nodes.len() && lengths.texts <= texts.len() {
                 OK
             } else {
                 BUFFER_TOO_SMALL

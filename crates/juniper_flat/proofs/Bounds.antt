@@ -1,6 +1,6 @@
 -- A source is as long as what there is to tell of it.
 use Rattle.std.proofs.Common.{◌≡◌, ℕ, suc, ◌+◌, ◌≤◌, List, [], ◌∷◌, length, refl, ap, arith}
-use Rattle.std.specs.Prelude.{Result, Ok, Err, string_bytes}
+use Rattle.std.specs.Prelude.{Result, Ok, Err}
 use Rattle.std.specs.Str.{chars}
 use Rattle.std.proofs.lemmas.Str.{encodes-chars}
 use Rattle.graphql_grammar.specs.Tree.{Definition}
@@ -12,13 +12,14 @@ use Rattle.juniper_values.specs.Scalar.{Content}
 use Rattle.juniper_flat.specs.Nodes.{byte_count, written_nodes}
 use Rattle.juniper_nodes.specs.NodeTexts.{text_of_node}
 use Rattle.juniper_flat.specs.declared.flat.Parsed.{Parsed}
+use Rattle.juniper_flat.specs.declared.node.Node.{Node}
 use Rattle.juniper_flat.specs.declared.flat.Parsed.TheVariants as parsed
 use Rattle.juniper_flat.specs.declared.limits.Limits.{Limits}
 use Rattle.juniper_flat.specs.declared.source.Unread.{Unread}
-use Rattle.juniper_flat.specs.Answers.{ReturnsFlat, IfTree, HasDocument, scalars, nodes_of, texts_of}
+use Rattle.juniper_flat.specs.Answers.{ReturnsParsed, IfTree, HasDocument, scalars, nodes_of, texts_of}
 use Rattle.juniper_flat.proofs.ShortScalars.{short_texts}
 
-written-length : (source : List ℕ) (at : ℕ) (ns : List (nodes.Node Content)) → length (written_nodes source at ns) ≡ length ns
+pub written-length : (source : List ℕ) (at : ℕ) (ns : List (nodes.Node Content)) → length (written_nodes source at ns) ≡ length ns
 written-length source at [] = refl
 written-length source at (n ∷ ns) = ap suc (written-length source (at + byte_count (text_of_node n)) ns)
 
@@ -31,13 +32,14 @@ within_source source limits tree h =
       omega (arith, short, ap length (encodes-chars source h.utf8)),
     )
 
-pub flat_within : (source : List ℕ) (limits : Limits) (result : Result Parsed Unread) → ReturnsFlat source limits result
-    → IfTree result (λ flat.
-    (length flat.nodes.items ≤ length source) × (length (string_bytes flat.texts) ≤ length source))
-flat_within source limits (Ok (parsed.Tree flat)) h =
+pub lengths_within : (source : List ℕ) (limits : Limits) (old_nodes new_nodes : List Node) (old_texts new_texts : List ℕ)
+    (result : Result Parsed Unread)
+    → ReturnsParsed source limits old_nodes new_nodes old_texts new_texts result
+    → IfTree result (λ lengths. (lengths.nodes ≤ length source) × (lengths.texts ≤ length source))
+lengths_within source limits on nn ot nt (Ok (parsed.Tree lengths)) h =
     let within = within_source source limits h.1.0 h.1.1 in
-    (omega (arith, within.0, ap length h.1.2), omega (arith, within.1, ap length h.1.3))
-flat_within source limits (Ok (parsed.Refused fault)) h = tt
-flat_within source limits (Ok (parsed.TooDeep fault)) h = tt
-flat_within source limits (Ok (parsed.TooMany fault)) h = tt
-flat_within source limits (Err unread) h = tt
+    (omega (arith, within.0, h.1.4), omega (arith, within.1, h.1.5))
+lengths_within source limits on nn ot nt (Ok (parsed.Refused fault)) h = tt
+lengths_within source limits on nn ot nt (Ok (parsed.TooDeep fault)) h = tt
+lengths_within source limits on nn ot nt (Ok (parsed.TooMany fault)) h = tt
+lengths_within source limits on nn ot nt (Err unread) h = tt

@@ -24,7 +24,7 @@ use Rattle.juniper.specs.Promise.{HasTree, IsRefusal, lexical, grammatical}
 use Rattle.juniper.specs.Within.{HasTooDeep}
 use Rattle.juniper_nodes.specs.NodeTexts.{text_of_node, node_texts}
 use Rattle.juniper_flat.specs.Nodes.{byte_count}
-use Rattle.juniper_flat.specs.FlatWriters.{PlaceFits, SpanFits, NodesFit}
+use Rattle.juniper_flat.specs.Fits.{PlaceFits, SpanFits, NodesFit}
 use Rattle.juniper_flat.specs.Answers.{scalars}
 use Rattle.juniper_flat.proofs.ShortScalars.{short_texts}
 use Rattle.juniper_flat.proofs.Written.{bytes-append}

@@ -3,7 +3,9 @@ pub mod Written
 pub mod Scalars
 pub mod ShortScalars
 pub mod Bounds
-pub mod FlatWriters
+pub mod Writing
+pub mod Builders
+pub mod Flats
 pub mod Fitting
 pub mod TokenCounts
 pub mod Buffers

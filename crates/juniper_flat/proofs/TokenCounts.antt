@@ -7,7 +7,7 @@ use Rattle.graphql_lexical.specs.Characters.{Text}
 use Rattle.graphql_lexical.specs.Cutting.{Lexeme, Stands}
 use Rattle.graphql_lexical.proofs.Public.{done_whole, leads_whole}
 use Rattle.juniper_tokens.specs.Counting.{HasMore}
-use Rattle.juniper_flat.specs.FlatWriters.{PlaceFits, SpanFits}
+use Rattle.juniper_flat.specs.Fits.{PlaceFits, SpanFits}
 use Rattle.juniper_flat.proofs.Fitting.{few_characters, position_fits}
 
 -- the numbers of a token

@@ -1,5 +1,6 @@
 -- What a call returns for a source, and what it leaves in the caller's memory.
-use Rattle.std.specs.Prelude.{◌≡◌, ◌<◌, ◌≤◌, ◌^◌, ℕ, List, [], ◌++◌, take, drop, length, encode_utf8_all, IsUtf8, chars, Result, Ok, Err, string_bytes}
+use Rattle.std.specs.Prelude.{◌≡◌, ◌≢◌, ◌<◌, ◌≤◌, ◌^◌, ℕ, List, [], ◌++◌, take, drop, length, encode_utf8_all, IsUtf8}
+use Rattle.std.specs.Prelude.{chars, Result, Ok, Err}
 use Rattle.graphql_lexical.specs.Place.{Span}
 use Rattle.graphql_grammar.specs.Tree.{Scalars, Definition}
 use Rattle.graphql_nodes.specs.Nodes.{document_nodes}
@@ -15,7 +16,8 @@ use Rattle.juniper_flat.specs.Scalars.{scalar_reading}
 use Rattle.juniper_flat.specs.Faults.{written_fault, deep_fault, many_fault}
 use Rattle.juniper_flat.specs.Sources.{IsUnread}
 use Rattle.juniper_flat.specs.declared.source.Unread.{Unread}
-use Rattle.juniper_flat.specs.declared.flat.Flat.{Flat}
+use Rattle.juniper_flat.specs.declared.source.Unread.TheVariants.{OutOfMemory}
+use Rattle.juniper_flat.specs.declared.flat.Lengths.{Lengths}
 use Rattle.juniper_flat.specs.declared.flat.Parsed.{Parsed}
 use Rattle.juniper_flat.specs.declared.flat.Parsed.TheVariants as parsed
 use Rattle.juniper_flat.specs.declared.limits.Limits.{Limits}
@@ -76,24 +78,26 @@ Begins xs old new = new ≡ xs ++ drop (length xs) old
 abbrev pub Fills : {A : Type 0} → List A → List A → List A → Type 0
 Fills xs old new = new ≡ take (length old) xs ++ drop (length xs) old
 
--- ---- before the buffers are looked at
+-- ---- what is written
 
--- the nodes of a source, or why it has none
-abbrev pub ReturnsFlat : List ℕ → Limits → Result Parsed Unread → Type 0
-ReturnsFlat source limits (Ok (parsed.Tree flat)) = (length source < 2 ^ 32)
+-- How many nodes and bytes of texts a source has, with as many of them in the buffers as fit; or why it has none.
+abbrev pub ReturnsParsed : List ℕ → Limits → List Node → List Node → List ℕ → List ℕ → Result Parsed Unread → Type 0
+ReturnsParsed source limits old_nodes new_nodes old_texts new_texts (Ok (parsed.Tree lengths)) = (length source < 2 ^ 32)
     × ((tree : List (Definition Content)) × HasDocument source limits tree
-    × (flat.nodes.items ≡ nodes_of source tree) × (string_bytes flat.texts ≡ texts_of tree))
-ReturnsFlat source limits (Ok (parsed.Refused fault)) = (length source < 2 ^ 32)
+    × Fills (nodes_of source tree) old_nodes new_nodes × Fills (texts_of tree) old_texts new_texts
+    × (lengths.nodes ≡ length (nodes_of source tree)) × (lengths.texts ≡ length (texts_of tree)))
+ReturnsParsed source limits old_nodes new_nodes old_texts new_texts (Ok (parsed.Refused fault)) = (length source < 2 ^ 32)
     × ((found : errors.Fault) × HasRefusal source limits found × (fault ≡ written_fault (chars source) found))
-ReturnsFlat source limits (Ok (parsed.TooDeep fault)) = (length source < 2 ^ 32)
+ReturnsParsed source limits old_nodes new_nodes old_texts new_texts (Ok (parsed.TooDeep fault)) = (length source < 2 ^ 32)
     × ((span : Span) × HasDeepToken source limits span × (fault ≡ deep_fault (chars source) span))
-ReturnsFlat source limits (Ok (parsed.TooMany fault)) = (length source < 2 ^ 32)
+ReturnsParsed source limits old_nodes new_nodes old_texts new_texts (Ok (parsed.TooMany fault)) = (length source < 2 ^ 32)
     × ((span : Span) × HasTokenTooMany source limits span × (fault ≡ many_fault (chars source) span))
-ReturnsFlat source limits (Err unread) = IsUnread source unread
+ReturnsParsed source limits old_nodes new_nodes old_texts new_texts (Err unread) = IsUnread source unread
+    × (unread ≢ OutOfMemory → (new_nodes ≡ old_nodes) × (new_texts ≡ old_texts))
 
--- of the nodes of a source, where it has some
-abbrev pub IfTree : Result Parsed Unread → (Flat → Type 0) → Type 0
-IfTree (Ok (parsed.Tree flat)) P = P flat
+-- of the numbers of nodes and bytes of a source, where it has some
+abbrev pub IfTree : Result Parsed Unread → (Lengths → Type 0) → Type 0
+IfTree (Ok (parsed.Tree lengths)) P = P lengths
 IfTree (Ok (parsed.Refused fault)) P = Unit {0}
 IfTree (Ok (parsed.TooDeep fault)) P = Unit {0}
 IfTree (Ok (parsed.TooMany fault)) P = Unit {0}

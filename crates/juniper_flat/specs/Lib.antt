@@ -8,7 +8,8 @@ pub mod Faults
 pub mod Limits
 pub mod Messages
 pub mod Answers
-pub mod FlatWriters
+pub mod Fits
+pub mod Builders
 pub mod Sources
 pub mod Steps
 pub mod TokenCounts

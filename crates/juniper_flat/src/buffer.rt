@@ -1,8 +1,8 @@
 //! The caller's buffers.
-ghost use Rattle.std.specs.Prelude.{◌≡◌, ◌<◌, ◌≤◌, ◌⊎◌, length, slice_set, true, false};
+ghost use Rattle.std.specs.Prelude.{◌≡◌, ◌<◌, ◌≤◌, length, slice_set};
 ghost use Rattle.juniper_flat.specs.Answers.{Begins};
+ghost use Rattle.juniper_flat.specs.Builders.{with_written};
 
-use crate::node::Node;
 use crate::status::BUFFER_TOO_SMALL;
 use crate::token::Token;
 
@@ -21,20 +21,6 @@ pub fn fill(buffer: &mut [u8], needed: &mut usize, bytes: &[u8], status: u32) ->
     status
 }
 
-/// Copies both to the beginnings of their buffers, if both are long enough, and returns whether they are. Otherwise it
-/// leaves both buffers as they are.
-pub fn fill_both(nodes: &mut [Node], texts: &mut [u8], new_nodes: &[Node], new_texts: &[u8]) -> bool
-    ensures filled { result ≡ true → Begins new_nodes.now nodes.old nodes.new × Begins new_texts.now texts.old texts.new }
-    ensures short { result ≡ false → ((length nodes.old < length new_nodes.now) ⊎ (length texts.old < length new_texts.now)) × (nodes.new ≡ nodes.old) × (texts.new ≡ texts.old) }
-{
-    if nodes.len() < new_nodes.len() || texts.len() < new_texts.len() {
-        return false;
-    }
-    nodes[..new_nodes.len()].copy_from_slice(new_nodes);
-    texts[..new_texts.len()].copy_from_slice(new_texts);
-    true
-}
-
 /// Puts a token into the buffer after `others` tokens, if it has capacity for it.
 pub(crate) fn put(buffer: &mut [Token], others: usize, token: Token)
     ensures { buffer.new ≡ slice_set buffer.old others token }
@@ -42,4 +28,19 @@ pub(crate) fn put(buffer: &mut [Token], others: usize, token: Token)
     if others < buffer.len() {
         buffer[others] = token;
     }
+}
+
+/// Writes bytes into the buffer from an index on, as far as they fit.
+pub(crate) fn write_bytes(buffer: &mut [u8], at: usize, bytes: &[u8])
+    ensures { buffer.new ≡ with_written buffer.old at bytes.now }
+{
+    if buffer.len() <= at {
+        return;
+    }
+    let left = buffer.len() - at;
+    if bytes.len() <= left {
+        buffer[at..at + bytes.len()].copy_from_slice(bytes);
+        return;
+    }
+    buffer[at..].copy_from_slice(&bytes[..left]);
 }

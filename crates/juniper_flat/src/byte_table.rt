@@ -43,6 +43,7 @@ impl ByteTable {
     }
 
     /// The number of bytes before the character of this index, or of all bytes if there is none.
+    #[inline(always)]
     pub(crate) fn byte(&self, index: usize) -> u32
         ensures { result ≡ byte_in self.now index }
     {

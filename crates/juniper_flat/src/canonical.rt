@@ -5,7 +5,7 @@ ghost use Rattle.juniper_tokens.specs.Errors.{view_lexer_error};
 ghost use Rattle.juniper.specs.Promise.{lexical_fault};
 ghost use Rattle.juniper_flat.specs.CanonicalTexts.{ReturnsCanonical};
 ghost use Rattle.juniper_flat.specs.Faults.{written_fault};
-ghost use Rattle.juniper_flat.specs.FlatWriters.{PlaceFits};
+ghost use Rattle.juniper_flat.specs.Fits.{PlaceFits};
 
 use crate::byte_table::ByteTable;
 use crate::fault::{Fault, lexical_fault};

@@ -3,7 +3,7 @@ ghost use Rattle.std.specs.Prelude.{◌≡◌, ◌<◌, ◌^◌, length, IfOk};
 ghost use Rattle.std.specs.Str.{chars};
 ghost use Rattle.juniper_tokens.specs.Spans.{view_span};
 ghost use Rattle.juniper_flat.specs.Faults.{many_fault};
-ghost use Rattle.juniper_flat.specs.FlatWriters.{SpanFits};
+ghost use Rattle.juniper_flat.specs.Fits.{SpanFits};
 ghost use Rattle.juniper_flat.specs.TokenCounts.{ReturnsCounted};
 
 use crate::byte_table::ByteTable;

@@ -4,7 +4,7 @@ ghost use Rattle.juniper_tokens.specs.Errors.{view_error, view_fault, view_lexer
 ghost use Rattle.juniper_tokens.specs.Spans.{view_span};
 ghost use Rattle.juniper_flat.specs.ByteTables.{IsTableOf};
 ghost use Rattle.juniper.specs.Promise.{lexical_fault};
-ghost use Rattle.juniper_flat.specs.FlatWriters.{PlaceFits, SpanFits};
+ghost use Rattle.juniper_flat.specs.Fits.{PlaceFits, SpanFits};
 ghost use Rattle.juniper_flat.specs.Faults.{lexical_reason, error_reason, shown_of_error, shown_of_lexical, fault_at, written_fault, deep_fault, many_fault};
 
 use crate::byte_table::ByteTable;

@@ -1,68 +1,37 @@
-//! What is known of a source before the caller's buffers are looked at.
-ghost use Rattle.std.specs.Prelude.{◌≡◌, ◌<◌, ◌≤◌, ◌^◌, ◌++◌, ℕ, List, [], length, map, OnOk, OnErr, string_bytes, encode_utf8_all};
-ghost use Rattle.graphql_nodes.specs.Nodes.{definition_nodes};
-ghost use Rattle.juniper.specs.View.{view_definition};
-ghost use Rattle.juniper_nodes.specs.NodeTexts.{node_texts};
-ghost use Rattle.juniper_nodes.specs.NodeViews.{view_node};
+//! The nodes of a source, in the caller's buffers.
+ghost use Rattle.std.specs.Prelude.{◌<◌, ◌≤◌, ◌^◌, ℕ, List, length, IfErr, IfOk};
+ghost use Rattle.std.specs.Str.{chars, IsUtf8};
+ghost use Rattle.graphql_lexical.specs.Cutting.{Cut};
+ghost use Rattle.juniper.specs.Limited.{FailsLimited, HasFewTokens};
+ghost use Rattle.juniper.specs.Within.{FailsWithin, IsWithin};
+ghost use Rattle.juniper_flat.specs.Builders.{BuildsNodes, KeepsBuffers};
+ghost use Rattle.juniper_flat.specs.Answers.{ReturnsParsed, IfTree, scalars};
 ghost use Rattle.juniper_flat.specs.ByteTables.{IsTableOf};
-ghost use Rattle.juniper_flat.specs.Scalars.{scalar_content};
-ghost use Rattle.juniper_flat.specs.Nodes.{written_nodes};
-ghost use Rattle.juniper_flat.specs.FlatWriters.{NodesFit};
+ghost use Rattle.juniper_flat.specs.declared.limits.Limits.{Limits as Bounds};
 ghost use Rattle.juniper_flat.specs.declared.node.Node.{Node as Written};
-ghost use Rattle.juniper_flat.specs.Answers.{ReturnsFlat, IfTree};
 
+use crate::builder::NodeBuilder;
 use crate::byte_table::ByteTable;
 use crate::fault::{Fault, deep_fault, many_fault, written_fault};
 use crate::limits::Limits;
-use crate::node::{Node, write_node, written_node};
+use crate::node::Node;
 use crate::scalar::Scalar;
 use crate::source::{Unread, text_of};
-use juniper::{Definition, DefinitionSink, LimitFailure, ParseFailure, parse_document_source_into};
-use juniper_nodes::push_definition;
-use std::alloc::{AllocError, Global};
+use juniper::{DepthFailure, Lexer, LimitFailure, ParseFailure, Parser, build_document};
+use std::alloc::Global;
 
-/// The nodes of a document, each before those of the parts in it, and their texts one after another.
-#[derive(Drop)]
-pub struct Flat {
-    pub nodes: Vec<Node>,
-    pub texts: String,
+/// How many nodes a document has, and how many bytes their texts have one after another.
+#[derive(Clone, Copy)]
+pub struct Lengths {
+    pub nodes: usize,
+    pub texts: usize,
 }
-
-// A sink that takes the definitions of a source and keeps what C gets of them, so that no tree is larger than a
-// definition.
-#[derive(Drop)]
-struct FlatWriter<'b> {
-    alloc: Global,
-    table: &'b ByteTable,
-    flat: Flat,
-}
-
-impl DefinitionSink<Scalar> for FlatWriter<'_> {
-    ghost use Rattle.std.specs.Prelude.{◌∷◌, []};
-    ghost use Rattle.juniper.specs.Sinks.{Gains};
-    ghost use Rattle.juniper_flat.specs.FlatWriters.{Holds};
-
-    ghost holds = { Holds };
-
-    fn take(&mut self, definition: Definition<'_, Scalar>) -> Result<(), AllocError>
-        ensures taken { OnOk result (Gains Holds self.old self.new (view_definition scalar_content definition.entry ∷ [])) }
-        ensures kept { OnErr result (Gains Holds self.old self.new []) }
-    {
-        write_definition(self.alloc, &mut self.flat, self.table, &definition)
-    }
-}
-
-// About how many bytes of a source there are for a node: more nodes need more memory.
-const BYTES_OF_A_NODE: usize = 8;
-
-// About how many characters of a definition there are for a node: more nodes need more memory.
-const CHARACTERS_OF_A_NODE: usize = 4;
 
 /// What is known of a source.
-#[derive(Drop)]
+#[derive(Clone, Copy)]
 pub enum Parsed {
     /// The source is a document within the limits.
-    Tree(Flat),
+    Tree(Lengths),
     /// The source isn't a document.
     Refused(Fault),
     /// A token is nested too deep, and those up to it begin a document.
@@ -71,110 +40,109 @@ pub enum Parsed {
     TooMany(Fault),
 }
 
-/// Returns the nodes of a source's tree and their texts, or that the source isn't a document, or the first token that is
-/// nested too deep or past the limit. Nothing is known if the bytes aren't UTF-8 or are 4 GiB or more, or if memory runs
-/// out. A depth above `MAX_DEPTH` may need more stack than there is.
-pub fn flat_of(alloc: Global, source: &[u8], limits: &Limits) -> Result<Parsed, Unread>
-    ensures answer { ReturnsFlat source.now limits.now result }
-    ensures bounds { IfTree result (λ flat. (length flat.nodes.items ≤ length source.now) × (length (string_bytes flat.texts) ≤ length source.now)) }
+/// Writes the nodes of a source's tree, each before those of the parts in it, and their texts one after another, as far as
+/// the buffers reach, and returns how many there are; or returns that the source isn't a document, or the first token that
+/// is nested too deep or past the limit.
+///
+/// Nothing is known if the bytes aren't UTF-8 or are 4 GiB or more, or if memory runs out. What the buffers hold after an
+/// error is unspecified; if the bytes aren't read, they are unchanged. A depth above `MAX_DEPTH` may need more stack than
+/// there is.
+pub fn write_nodes(
+    alloc: Global,
+    source: &[u8],
+    limits: &Limits,
+    nodes: &mut [Node],
+    texts: &mut [u8],
+) -> Result<Parsed, Unread>
+    ensures answer { ReturnsParsed source.now limits.now nodes.old nodes.new texts.old texts.new result }
+    ensures bounds { IfTree result (λ lengths. (lengths.nodes ≤ length source.now) × (lengths.texts ≤ length source.now)) }
 {
-    flat_of_text(alloc, text_of(source)?, limits)
+    write_nodes_of_text(alloc, text_of(source)?, limits, nodes, texts)
 }
 
-fn flat_of_text(alloc: Global, text: &str, limits: &Limits) -> Result<Parsed, Unread>
+fn write_nodes_of_text(
+    alloc: Global,
+    text: &str,
+    limits: &Limits,
+    nodes: &mut [Node],
+    texts: &mut [u8],
+) -> Result<Parsed, Unread>
     requires { length text.now < 2 ^ 32 }
-    ensures { ReturnsFlat text.now limits.now result }
+    ensures { ReturnsParsed text.now limits.now nodes.old nodes.new texts.old texts.new result }
 {
     let table = ByteTable::new(alloc, text)?;
-    let within = juniper::Limits {
-        depth: limits.depth as usize,
-        tokens: limits.tokens as usize,
-    };
-    let mut writer = FlatWriter {
-        alloc,
-        table: &table,
-        flat: Flat {
-            nodes: list_for(alloc, within.tokens.min(text.len() / BYTES_OF_A_NODE)),
-            texts: String::new(alloc),
-        },
-    };
-    match parse_document_source_into::<Scalar, FlatWriter<'_>>(alloc, text, within, &mut writer) {
-        Ok(()) => Ok(Parsed::Tree(writer.flat)),
-        Err(LimitFailure::Parse(ParseFailure::Refused(found))) => {
-            Ok(Parsed::Refused(written_fault(&table, &found)))
-        }
-        Err(LimitFailure::TooDeep(span)) => Ok(Parsed::TooDeep(deep_fault(&table, span))),
-        Err(LimitFailure::TooMany(span)) => Ok(Parsed::TooMany(many_fault(&table, span))),
-        Err(LimitFailure::Parse(ParseFailure::Memory)) => Err(Unread::OutOfMemory),
-    }
+    write_nodes_of_table(alloc, &table, text, limits, nodes, texts)
 }
 
-// A list with capacity for so many items, if there is as much memory; otherwise the list grows as it must.
-fn list_for<T: Drop>(alloc: Global, count: usize) -> Vec<T>
-    ensures { result.items ≡ [] }
-{
-    match Vec::with_capacity(alloc, count) {
-        Ok(list) => list,
-        Err(_) => Vec::new(alloc),
-    }
-}
-
-// The number of characters from a definition's first to its last.
-fn length_of(definition: &Definition<'_, Scalar>) -> usize {
-    let span = match definition {
-        Definition::Operation(operation) => operation.span,
-        Definition::Fragment(fragment) => fragment.span,
-    };
-    span.end.index().saturating_sub(span.start.index())
-}
-
-// Appends the nodes of a definition, or none of them.
-fn write_definition<'t, 'a>(
+fn write_nodes_of_table<'b>(
     alloc: Global,
-    flat: &mut Flat,
-    table: &ByteTable,
-    definition: &'t Definition<'a, Scalar>,
-) -> Result<(), AllocError>
-    ensures nodes { (source : List ℕ) → IsTableOf source table.now → NodesFit (length (string_bytes flat.old.texts)) (definition_nodes (view_definition scalar_content definition.now)) → OnOk result (flat.new.nodes.items ≡ flat.old.nodes.items ++ written_nodes source (length (string_bytes flat.old.texts)) (definition_nodes (view_definition scalar_content definition.now))) }
-    ensures texts { OnOk result (string_bytes flat.new.texts ≡ string_bytes flat.old.texts ++ encode_utf8_all (node_texts (definition_nodes (view_definition scalar_content definition.now)))) }
-    ensures same_nodes { OnErr result (flat.new.nodes.items ≡ flat.old.nodes.items) }
-    ensures same_texts { OnErr result (string_bytes flat.new.texts ≡ string_bytes flat.old.texts) }
+    table: &'b ByteTable,
+    text: &'b str,
+    limits: &Limits,
+    nodes: &'b mut [Node],
+    texts: &'b mut [u8],
+) -> Result<Parsed, Unread>
+    requires short { length text.now < 2 ^ 32 }
+    requires table { IsTableOf (chars text.now) table.now }
+    ensures { ReturnsParsed text.now limits.now nodes.old nodes.new texts.old texts.new result }
 {
-    let mut nodes: Vec<juniper_nodes::Node<'t, 'a, Scalar>> = list_for(
-        alloc,
-        length_of(definition) / CHARACTERS_OF_A_NODE + 1,
-    );
-    push_definition(&mut nodes, definition)?;
-    let before = flat.nodes.len();
-    match write_nodes(alloc, flat, table, &nodes) {
-        Ok(()) => Ok(()),
-        Err(error) => {
-            flat.nodes.truncate(before);
-            Err(error)
-        }
+    let mut builder = NodeBuilder::new(table, nodes, texts);
+    match build_nodes(alloc, text, limits, &mut builder) {
+        Ok(_) => Ok(Parsed::Tree(builder.lengths())),
+        Err(failure) => failed(table, failure),
     }
 }
 
-// Appends these nodes. Where memory runs out, some may stand there, and none of their texts.
-fn write_nodes(
+// Builds the nodes of a text within limits.
+fn build_nodes<'b>(
     alloc: Global,
-    flat: &mut Flat,
-    table: &ByteTable,
-    nodes: &[juniper_nodes::Node<'_, '_, Scalar>],
-) -> Result<(), AllocError>
-    ensures nodes { (source : List ℕ) → IsTableOf source table.now → NodesFit (length (string_bytes flat.old.texts)) (map (view_node scalar_content) nodes.now) → OnOk result (flat.new.nodes.items ≡ flat.old.nodes.items ++ written_nodes source (length (string_bytes flat.old.texts)) (map (view_node scalar_content) nodes.now)) }
-    ensures texts { OnOk result (string_bytes flat.new.texts ≡ string_bytes flat.old.texts ++ encode_utf8_all (node_texts (map (view_node scalar_content) nodes.now))) }
-    ensures more_nodes { OnErr result ((more : List Written) × (flat.new.nodes.items ≡ flat.old.nodes.items ++ more)) }
-    ensures same_texts { OnErr result (string_bytes flat.new.texts ≡ string_bytes flat.old.texts) }
+    text: &'b str,
+    limits: &Limits,
+    builder: &mut NodeBuilder<'b>,
+) -> Result<(), LimitFailure>
+    ensures accepted { IfOk result (λ _. BuildsNodes (chars text.now) builder.old builder.new) }
+    ensures kept { IfOk result (λ _. KeepsBuffers builder.old builder.new) }
+    ensures within { IfOk result (λ _. IsWithin scalars limits.now.depth (chars text.now)) }
+    ensures few { IfOk result (λ _. HasFewTokens limits.now.tokens (chars text.now)) }
+    ensures failed { IfErr result (FailsLimited scalars limits.now.depth limits.now.tokens (chars text.now)) }
 {
-    let from = flat.texts.len();
-    let mut texts = String::new(alloc);
-    for node in nodes {
-        let at = texts.len();
-        write_node(&mut texts, node)?;
-        let length = texts.len() - at;
-        flat.nodes
-            .push(written_node(table, node, from + at, length))?;
+    let mut lexer = Lexer::new(alloc, text);
+    let mut parser = Parser::new_within(&mut lexer, limits.tokens as usize)?;
+    Ok(build_nodes_within(&mut parser, limits.depth as usize, builder)?)
+}
+
+// Builds the nodes of the tokens of a source.
+fn build_nodes_within<'b>(
+    parser: &mut Parser<'b>,
+    depth: usize,
+    builder: &mut NodeBuilder<'b>,
+) -> Result<(), DepthFailure>
+    ensures accepted { (source : List ℕ) → Cut source parser.old → IfOk result (λ _. BuildsNodes source builder.old builder.new) }
+    ensures kept { (source : List ℕ) → Cut source parser.old → IfOk result (λ _. KeepsBuffers builder.old builder.new) }
+    ensures within { (source : List ℕ) → Cut source parser.old → IfOk result (λ _. IsWithin scalars depth source) }
+    ensures failed { (source : List ℕ) → Cut source parser.old → IfErr result (FailsWithin scalars depth source) }
+{
+    let deep = parser.end_at_nesting(depth);
+    match build_document::<Scalar, NodeBuilder<'b>, DepthFailure>(
+        &mut parser.cursor(),
+        deep,
+        builder,
+    ) {
+        Ok(_) => Ok(()),
+        Err(failure) => Err(failure),
     }
-    flat.texts.push_str(texts.as_str())
+}
+
+// What is known of a source that has no tree within the limits.
+fn failed(table: &ByteTable, failure: LimitFailure) -> Result<Parsed, Unread>
+    ensures { (text : List ℕ) (limits : Bounds) → IsUtf8 text → length text < 2 ^ 32 → IsTableOf (chars text) table.now → FailsLimited scalars limits.depth limits.tokens (chars text) failure → (old_nodes new_nodes : List Written) (old_texts new_texts : List ℕ) → ReturnsParsed text limits old_nodes new_nodes old_texts new_texts result }
+{
+    match failure {
+        LimitFailure::Parse(ParseFailure::Refused(found)) => {
+            Ok(Parsed::Refused(written_fault(table, &found)))
+        }
+        LimitFailure::TooDeep(span) => Ok(Parsed::TooDeep(deep_fault(table, span))),
+        LimitFailure::TooMany(span) => Ok(Parsed::TooMany(many_fault(table, span))),
+        LimitFailure::Parse(ParseFailure::Memory) => Err(Unread::OutOfMemory),
+    }
 }

@@ -5,6 +5,7 @@
 #![tactic(auto)]
 
 pub mod buffer;
+mod builder;
 mod byte_table;
 pub mod canonical;
 pub mod count;

@@ -1,15 +1,14 @@
 //! Nodes, as C gets them.
-ghost use Rattle.std.specs.Prelude.{◌≡◌, ◌-◌, ◌+◌, ◌^◌, ◌<◌, ◌++◌, ℕ, List, [], length, pos, option_map, option_and_then, OnOk, string_bytes, encode_utf8_all};
+ghost use Rattle.std.specs.Prelude.{◌≡◌, ◌-◌, ◌+◌, ◌^◌, ◌<◌, ℕ, List, [], pos, option_map, option_and_then};
 ghost use Rattle.std.specs.Option.{unwrap_or};
 ghost use Rattle.std.specs.Str.{chars};
 ghost use Rattle.graphql_lexical.specs.Place as places;
-ghost use Rattle.graphql_nodes.specs.Types.{type_text};
 ghost use Rattle.juniper_tokens.specs.Spans.{view_span};
-ghost use Rattle.juniper.specs.View.{view_type, view_word};
+ghost use Rattle.juniper.specs.View.{view_word};
 ghost use Rattle.juniper_nodes.specs.Literal.{str_in};
 ghost use Rattle.juniper_nodes.specs.NodeTexts.{text_of_node};
 ghost use Rattle.juniper_nodes.specs.NodeViews.{view_label, view_node};
-ghost use Rattle.juniper_flat.specs.FlatWriters.{NodeFits};
+ghost use Rattle.juniper_flat.specs.Fits.{NodeFits};
 ghost use Rattle.juniper_flat.specs.ByteTables.{IsTableOf};
 ghost use Rattle.juniper_flat.specs.Places.{bytes_before};
 ghost use Rattle.juniper_flat.specs.Nodes.{kind_number, node_number, content_number, byte_count, word_extent, span_extent, no_extent, unnamed_extent, node_extent, scalar_value, condition_value, node_value, written_node};
@@ -18,10 +17,8 @@ ghost use Rattle.juniper_flat.specs.Scalars.{scalar_content};
 use crate::byte_table::ByteTable;
 use crate::place::{Place, in_word, place_at};
 use crate::scalar::Scalar;
-use juniper::{DefaultScalarValue, ScalarValue, Span, Spanning, Type};
+use juniper::{DefaultScalarValue, Spanning};
 use juniper_nodes::{Label, NodeKind};
-use juniper_tokens::text::push_text;
-use std::alloc::AllocError;
 
 /// A part of a document.
 #[repr(C)]
@@ -63,6 +60,7 @@ const NO_VALUE: Value = Value {
 };
 
 /// The node of a part whose text begins at the byte `at` of the texts and has `length` bytes.
+#[inline(always)]
 pub(crate) fn written_node(
     table: &ByteTable,
     node: &juniper_nodes::Node<'_, '_, Scalar>,
@@ -94,23 +92,9 @@ pub(crate) fn written_node(
     }
 }
 
-/// Appends what the node has in the texts.
-pub(crate) fn write_node(
-    texts: &mut String,
-    node: &juniper_nodes::Node<'_, '_, Scalar>,
-) -> Result<(), AllocError>
-    ensures { OnOk result (string_bytes texts.new ≡ string_bytes texts.old ++ encode_utf8_all (text_of_node (view_node scalar_content node.now))) }
-{
-    match node.label {
-        Label::Type(literal) => write_type(texts, literal),
-        Label::Unnamed | Label::Name(_) | Label::Text(_) | Label::Fragment(..) => {
-            write_scalar(texts, node.scalar)
-        }
-    }
-}
-
 // ---- kinds
 
+#[inline(always)]
 fn node_number(kind: NodeKind, scalar: Option<&Scalar>) -> u32
     ensures { result ≡ node_number kind (option_map (λ scalar. scalar_content scalar.now) scalar.entry) }
 {
@@ -120,6 +104,7 @@ fn node_number(kind: NodeKind, scalar: Option<&Scalar>) -> u32
     }
 }
 
+#[inline(always)]
 fn kind_number(kind: NodeKind) -> u32
     ensures { result ≡ kind_number kind }
 {
@@ -165,6 +150,7 @@ fn scalar_number(scalar: &Scalar) -> u32
 // ---- names
 
 // `whole` has the bytes from the node's first to its last.
+#[inline(always)]
 fn extent_of(table: &ByteTable, node: &juniper_nodes::Node<'_, '_, Scalar>, whole: Extent) -> Extent
     ensures { (source : List ℕ) → IsTableOf source table.now → whole ≡ span_extent source (view_span node.now.span.now) → result ≡ node_extent source node.now.kind (view_span node.now.span.now) (view_label (view_span node.now.span.now) node.now.label) }
 {
@@ -177,6 +163,7 @@ fn extent_of(table: &ByteTable, node: &juniper_nodes::Node<'_, '_, Scalar>, whol
     }
 }
 
+#[inline(always)]
 fn unnamed_extent(kind: NodeKind, whole: Extent) -> Extent
     ensures { (source : List ℕ) (span : places.Span) → whole ≡ span_extent source span → result ≡ unnamed_extent kind source span }
 {
@@ -204,12 +191,14 @@ fn unnamed_extent(kind: NodeKind, whole: Extent) -> Extent
     }
 }
 
+#[inline(always)]
 fn no_extent(start: u32) -> Extent
     ensures { (source : List ℕ) (span : places.Span) → start ≡ bytes_before source span.start.index → result ≡ no_extent source span }
 {
     Extent { start, end: start }
 }
 
+#[inline(always)]
 fn word_extent(table: &ByteTable, word: &Spanning<&str>) -> Extent
     ensures { (source : List ℕ) → IsTableOf source table.now → result ≡ word_extent source (view_word word.now) }
 {
@@ -217,6 +206,7 @@ fn word_extent(table: &ByteTable, word: &Spanning<&str>) -> Extent
 }
 
 // The bytes of a text that ends there.
+#[inline(always)]
 fn text_extent(end: u32, text: &str) -> Extent
     ensures { result ≡ record { start = end - byte_count (chars text.now); end = end } }
 {
@@ -228,6 +218,7 @@ fn text_extent(end: u32, text: &str) -> Extent
 
 // ---- values
 
+#[inline(always)]
 fn value_of(
     table: &ByteTable,
     node: &juniper_nodes::Node<'_, '_, Scalar>,
@@ -243,6 +234,7 @@ fn value_of(
     }
 }
 
+#[inline(always)]
 fn scalar_value(scalar: Option<&Scalar>, at: usize, length: usize) -> Value
     ensures { let content = option_map (λ scalar. scalar_content scalar.now) scalar.entry in at + length < 2 ^ 32 → length ≡ byte_count (unwrap_or (option_and_then str_in content) []) → result ≡ scalar_value at content }
 {
@@ -262,6 +254,7 @@ fn scalar_value(scalar: Option<&Scalar>, at: usize, length: usize) -> Value
     }
 }
 
+#[inline(always)]
 fn condition_value(extent: Extent) -> Value
     ensures { result ≡ condition_value extent }
 {
@@ -271,6 +264,7 @@ fn condition_value(extent: Extent) -> Value
     }
 }
 
+#[inline(always)]
 fn text_value(at: usize, length: usize) -> Value
     ensures { at + length < 2 ^ 32 → result ≡ record { number = pos at; length = length } }
 {
@@ -278,21 +272,4 @@ fn text_value(at: usize, length: usize) -> Value
         number: i64::from(in_word(at)),
         length: in_word(length),
     }
-}
-
-// ---- texts
-
-fn write_scalar(texts: &mut String, scalar: Option<&Scalar>) -> Result<(), AllocError>
-    ensures { let content = option_map (λ scalar. scalar_content scalar.now) scalar.entry in OnOk result (string_bytes texts.new ≡ string_bytes texts.old ++ encode_utf8_all (unwrap_or (option_and_then str_in content) [])) }
-{
-    match scalar.and_then(|scalar| scalar.try_as_str()) {
-        Some(text) => push_text(texts, text),
-        None => Ok(()),
-    }
-}
-
-fn write_type(texts: &mut String, literal: &Type<&str>) -> Result<(), AllocError>
-    ensures { OnOk result (string_bytes texts.new ≡ string_bytes texts.old ++ encode_utf8_all (type_text (view_type literal.now))) }
-{
-    write!(texts, "{literal}")
 }

@@ -1,7 +1,7 @@
 //! Places of a source, as C gets them.
 ghost use Rattle.std.specs.Prelude.{◌≡◌, ℕ, ◌<◌, ◌^◌, List};
 ghost use Rattle.juniper_flat.specs.Places.{written_place};
-ghost use Rattle.juniper_flat.specs.FlatWriters.{PlaceFits};
+ghost use Rattle.juniper_flat.specs.Fits.{PlaceFits};
 ghost use Rattle.juniper_flat.specs.ByteTables.{IsTableOf};
 
 use crate::byte_table::ByteTable;
@@ -17,6 +17,7 @@ pub struct Place {
     pub byte: u32,
 }
 
+#[inline(always)]
 pub(crate) fn place_at(table: &ByteTable, position: SourcePosition) -> Place
     ensures { (source : List ℕ) → IsTableOf source table.now → PlaceFits position → result ≡ written_place source position }
 {
@@ -30,6 +31,7 @@ pub(crate) fn place_at(table: &ByteTable, position: SourcePosition) -> Place
 }
 
 /// The lowest 32 bits of a number. No number of a source of less than 4 GiB is larger.
+#[inline(always)]
 pub(crate) fn in_word(number: usize) -> u32
     ensures { number < 2 ^ 32 → result ≡ number }
 {

@@ -2,7 +2,7 @@
 ghost use Rattle.std.specs.Prelude.{◌≡◌, ℕ, List};
 ghost use Rattle.juniper_tokens.specs.Spans.{view_span};
 ghost use Rattle.juniper_flat.specs.ByteTables.{IsTableOf};
-ghost use Rattle.juniper_flat.specs.FlatWriters.{SpanFits};
+ghost use Rattle.juniper_flat.specs.Fits.{SpanFits};
 ghost use Rattle.juniper_flat.specs.Tokens.{kind_number, quote_count, token_at};
 
 use crate::byte_table::ByteTable;

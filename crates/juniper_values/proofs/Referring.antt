@@ -1,9 +1,11 @@
 -- Values with and without variables.
-use Rattle.std.proofs.Common.{◌≡◌, List, [], ◌∷◌, ◌++◌, Option, Some, None, refl}
+use Rattle.std.proofs.Common.{◌≡◌, List, [], ◌∷◌, ◌++◌, map, Option, Some, None, refl, ◌∙◌}
+use Rattle.std.proofs.lemmas.List.{map-append}
 use Rattle.graphql_lexical.specs.Place.{Span}
 use Rattle.juniper_values.specs.Text.{Text}
 use Rattle.graphql_grammar.specs.Tree.{Value, Null, Scalar, Enum, Variable, ListOf, Object, Items, no_items, item, ObjectFields, no_fields, object_field}
 use Rattle.juniper_values.specs.Variables.{variables, item_variables, field_variables, here, in_list, in_object, ItemRefers, first_item, later_item, FieldRefers, first_field, later_field, HasNoVariable}
+use Rattle.juniper_values.specs.Variables.{variable_uses, item_uses, field_uses}
 use Rattle.juniper_values.specs.Resolve.{Values, resolve, resolve_items, resolve_fields, or_null, field_if}
 use Rattle.juniper_values.specs.laws.ValueLaws.{HaveNoVariables, LeavesNoVariable, RemovesVariables, IsEmptyWithoutVariables}
 use Rattle.graphql_grammar.specs.Tokens.{Word}
@@ -98,6 +100,30 @@ module _ {C : Type 0} where
 
   pub empty_without_variables : (v : Value C) → IsEmptyWithoutVariables v
   empty_without_variables v = (none v, no_names v)
+
+  -- ---- the uses of variables
+
+  mutual
+    pub uses_name_variables : (span : Span) (v : Value C)
+        → map (λ word. word.item) (variable_uses span v) ≡ variables v
+    uses_name_variables span Null = refl
+    uses_name_variables span (Scalar s) = refl
+    uses_name_variables span (Enum n) = refl
+    uses_name_variables span (Variable n) = refl
+    uses_name_variables span (ListOf xs) = item_uses_name_variables xs
+    uses_name_variables span (Object fs) = field_uses_name_variables fs
+
+    item_uses_name_variables : (xs : Items C) → map (λ word. word.item) (item_uses xs) ≡ item_variables xs
+    item_uses_name_variables no_items = refl
+    item_uses_name_variables (item v s xs) =
+        map-append (λ word. word.item) (variable_uses s v) (item_uses xs)
+        ∙ (λ i. uses_name_variables s v i ++ item_uses_name_variables xs i)
+
+    field_uses_name_variables : (fs : ObjectFields C) → map (λ word. word.item) (field_uses fs) ≡ field_variables fs
+    field_uses_name_variables no_fields = refl
+    field_uses_name_variables (object_field k v t fs) =
+        map-append (λ word. word.item) (variable_uses t v) (field_uses fs)
+        ∙ (λ i. uses_name_variables t v i ++ field_uses_name_variables fs i)
 
   -- ---- resolving
 

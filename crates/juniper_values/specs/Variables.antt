@@ -23,6 +23,24 @@ abbrev mutual
   field_variables no_fields = []
   field_variables (object_field k v t fs) = variables v ++ field_variables fs
 
+-- their uses: each name with its span, from left to right, repeats kept. The value itself has this span.
+abbrev mutual
+  pub variable_uses : {C : Type 0} → Span → Value C → List Word
+  variable_uses span Null = []
+  variable_uses span (Scalar s) = []
+  variable_uses span (Enum t) = []
+  variable_uses span (Variable t) = record { item = t; span = span } ∷ []
+  variable_uses span (ListOf xs) = item_uses xs
+  variable_uses span (Object fs) = field_uses fs
+
+  pub item_uses : {C : Type 0} → Items C → List Word
+  item_uses no_items = []
+  item_uses (item v s xs) = variable_uses s v ++ item_uses xs
+
+  pub field_uses : {C : Type 0} → ObjectFields C → List Word
+  field_uses no_fields = []
+  field_uses (object_field k v t fs) = variable_uses t v ++ field_uses fs
+
 -- A variable of this name stands in the value.
 mutual
   pub data Refers {C : Type 0} : Value C → Text → Type 0 where

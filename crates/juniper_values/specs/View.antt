@@ -1,5 +1,6 @@
 -- The tree that an `InputValue` stands for.
-use Rattle.std.specs.Prelude.{List, [], ◌∷◌, map, String, string_bytes, Option, option_map}
+use Rattle.std.specs.Prelude.{ℕ, List, [], ◌∷◌, map, String, string_bytes, Option, option_map}
+use Rattle.std.specs.Borrow.{Bor}
 use Rattle.std.specs.Str.{chars}
 use Rattle.std.specs.HashMap.{HashMap, get_by}
 use Rattle.std.specs.declared.alloc.Global.{Global}
@@ -9,7 +10,7 @@ use Rattle.juniper_tokens.specs.declared.span.Spanning.{Spanning}
 use Rattle.graphql_grammar.specs.Tree.{Value, Null, Scalar, Enum, Variable, ListOf, Object, Items, no_items, item, ObjectFields, no_fields, object_field}
 use Rattle.juniper_values.specs.declared.input_value.InputValue.{InputValue, fold-InputValue}
 use Rattle.juniper_values.specs.declared.input_value.InputValue.TheOpen.{InputValue-F}
-use Rattle.graphql_grammar.specs.Tokens.{Located}
+use Rattle.graphql_grammar.specs.Tokens.{Located, Word}
 
 abbrev pub text_of : String Global → Text
 text_of s = chars (string_bytes s)
@@ -17,6 +18,13 @@ text_of s = chars (string_bytes s)
 -- a part of the code where it stands, by its view
 abbrev pub view_located : {X A : Type 0} → (X → A) → Spanning X → Located A
 view_located view x = record { item = view x.item; span = view_span x.span }
+
+-- a name that is borrowed, by its characters, and these alone
+abbrev pub view_name : Spanning (Bor (List ℕ)) → Word
+view_name = view_located (λ name. chars name.now)
+
+abbrev pub name_characters : Spanning (Bor (List ℕ)) → Text
+name_characters name = chars name.item.now
 
 module _ {C : Type 0} where
   abbrev pub items_of : List (Spanning (Value C)) → Items C

@@ -12,6 +12,7 @@ mod equal;
 mod make;
 mod maps;
 mod resolve;
+mod uses;
 mod variables;
 
 pub use convert::FromInputValue;

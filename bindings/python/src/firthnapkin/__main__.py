@@ -1,7 +1,7 @@
 """A tool for people: `python -m firthnapkin check FILE ..` and the like.
 
-The exit status is 0 where each file has a request or is a schema that is skipped, 1 where one has an error, and 2 where one
-can't be read, where the output can't be written, and where the arguments are wrong.
+The exit status is 0 if each file has a request or is a schema that is skipped, 1 if one has an error, and 2 if one
+can't be read, the output can't be written, or the arguments are wrong.
 """
 
 from __future__ import annotations
@@ -11,16 +11,15 @@ import io
 import os
 import sys
 import time
-from typing import Callable, Optional, Sequence, Union
+from typing import Any, Callable, Mapping, Optional, Sequence, Union
 
 from ._files import File, Unreadable, files_of, read
-from ._parser import MAX_DEPTH
 from ._reports import Counts, Lines, Objects, Refusal
 from .document import Document
 from .errors import FirthnapkinError
 from .excerpts import excerpt_of
 from .lexer import canonical, tokens
-from .parser import parse
+from .parser import LIMITS, parse
 
 _NAME = "python -m firthnapkin"
 _FAILED, _TROUBLE = 1, 2
@@ -56,8 +55,8 @@ Reads requests of GraphQL. Each error is reported as file:line:column: message, 
 
 EPILOG = """
 
-A file in which a definition is a schema's is skipped, and counted. The exit status is 1 where a file has an error,
-and 2 where one can't be read."""
+A file in which a definition is a schema's is skipped, and counted. The exit status is 1 if a file has an error,
+and 2 if one can't be read."""
 
 
 def options_of(arguments: Optional[Sequence[str]]) -> argparse.Namespace:
@@ -69,8 +68,10 @@ def options_of(arguments: Optional[Sequence[str]]) -> argparse.Namespace:
     add = parser.add_argument
     add("command", choices=COMMANDS, metavar="|".join(COMMANDS))
     add("files", nargs="+", metavar="FILE", help="a file, - for standard input, or a folder with .graphql files below it")
-    add("--depth", type=number(MAX_DEPTH), default=200, metavar="N", help="how deep brackets may be nested; 200 by default")
-    add("--max-tokens", type=number(), metavar="N", help="how many tokens a request may have")
+    for name, limit in LIMITS.by_name.items():
+        default = LIMITS.defaults[name]
+        words = limit.words if default is None else f"{limit.words}; {default} by default"
+        add(f"--{name.replace('_', '-')}", type=number(limit.largest), default=default, metavar="N", help=words)
     add("--json", action="store_true", help="write a JSON object for each file, in a line of its own")
     add("--strict", action="store_true", help="report schemas as errors, in place of skipping them")
     return parser.parse_intermixed_args(arguments)
@@ -94,7 +95,7 @@ class Progress:
             self._write(f"\r{done} of {self._count} files")
 
     def clear(self) -> None:
-        """Makes room for a line."""
+        """Removes what is shown of the progress, before a line is written."""
         if self._is_shown:
             self._is_shown = False
             self._write("\r\x1b[K")
@@ -105,9 +106,9 @@ class Progress:
         sys.stderr.flush()
 
 
-def request_of(written: bytes, depth: int, max_tokens: Optional[int]) -> Document:
-    """Returns the document of a file. Raises FirthnapkinError as parse does, and UnicodeDecodeError where it is not UTF-8."""
-    return parse(written.decode(), depth=depth, max_tokens=max_tokens)
+def request_of(written: bytes, limits: Mapping[str, Any]) -> Document:
+    """Returns the document of a file. Raises FirthnapkinError as parse does, and UnicodeDecodeError if it is not UTF-8."""
+    return parse(written.decode(), **limits)
 
 
 def refusal_of(error: FirthnapkinError) -> Refusal:
@@ -127,6 +128,7 @@ class Run:
 
     def __init__(self, options: argparse.Namespace) -> None:
         self._options = options
+        self._limits = {name: getattr(options, name) for name in LIMITS.by_name}
         self._report: Report = Objects() if options.json else Lines()
         self._counts = Counts()
 
@@ -144,7 +146,7 @@ class Run:
     def _read(self, file: File, progress: Progress) -> None:
         try:
             written = read(file)
-            document = request_of(written, self._options.depth, self._options.max_tokens)
+            document = request_of(written, self._limits)
         except FirthnapkinError as error:
             progress.clear()
             if error.is_schema and not self._options.strict:

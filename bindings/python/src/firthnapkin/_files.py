@@ -20,7 +20,7 @@ class File(NamedTuple):
     """A file that is to be read, or a folder or a file of which it is known already that it can't be."""
 
     name: str
-    #: None for standard input, and where there is a problem.
+    #: None for standard input, and if there is a problem.
     path: Optional[str]
     #: Whether it was found below a folder. Such a file is read if it is a regular one: any other might never end.
     is_found: bool = False
@@ -60,7 +60,7 @@ def _files_below(folder: str) -> Iterator[File]:
 
 
 def read(file: File) -> bytes:
-    """Returns the bytes of a file. Raises Unreadable where it can't be read. Standard input can be read once."""
+    """Returns the bytes of a file. Raises Unreadable if it can't be read. Standard input can be read once."""
     if file.problem is not None:
         raise Unreadable(file.problem)
     try:

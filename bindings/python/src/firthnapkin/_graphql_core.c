@@ -1,5 +1,6 @@
 /* graphql-core's nodes of a source that both parsers read alike, for graphql_core.py. */
 #include "_graphql_limits.h"
+#include "_limits.h"
 
 /* ---- the document */
 
@@ -32,9 +33,9 @@ static PyObject *document_at_once(builder *b, Py_ssize_t characters) {
     return result;
 }
 
-/* ---- where graphql-core's own parser has to be called */
+/* ---- when graphql-core's own parser has to be called */
 
-/* Whether graphql-core may read the source otherwise: where a character that begins a name follows a number, and where a
+/* Whether graphql-core may read the source otherwise: if a character that begins a name follows a number, or a
  * variable is in a constant part. No document has a number that is followed by a dot. */
 static bool is_read_otherwise(const builder *b) {
     size_t constant = 0;
@@ -51,12 +52,13 @@ static bool is_read_otherwise(const builder *b) {
 /* ---- the module */
 
 PyDoc_STRVAR(document_doc,
-             "document(source, characters, depth, origin, tokens, /)\n--\n\n"
+             "document(source, characters, limits, origin, tokens, /)\n--\n\n"
              "Returns the DocumentNode of a str of that many characters, which source has as UTF-8.\n\n"
-             "The origin is the Source of its locations, or None where it has no locations. A limit of MAX_TOKENS tokens is none,\n"
-             "and one below 0 is -1. Returns None where graphql-core's own parser has to be called. Where a limit is exceeded,\n"
-             "returns the index of the first token beyond it, and whether that token is nested too deep. Raises MemoryError where\n"
-             "memory runs out.");
+             "The limits are the bytes of a firthnapkin_limits, whose number of tokens isn't read. The origin is the Source of its\n"
+             "locations, or None if it has no locations. A limit of MAX_TOKENS tokens is none, and one below 0 is -1. Returns\n"
+             "None if graphql-core's own parser has to be called. If a limit is exceeded, returns the index of the first\n"
+             "token beyond it, and whether that token is nested too deep. Raises ValueError if the limits have another size,\n"
+             "and MemoryError if memory runs out.");
 
 /* What document returns for a source that was parsed so. */
 static PyObject *answer(builder *b, const whole *w, Py_ssize_t characters) {
@@ -69,19 +71,18 @@ static PyObject *answer(builder *b, const whole *w, Py_ssize_t characters) {
 
 static PyObject *document_in(PyObject *module, PyObject *arguments) {
     module_state *state = PyModule_GetState(module);
-    PyObject *source, *origin;
+    PyObject *source, *given, *origin;
+    firthnapkin_limits limits;
     Py_ssize_t characters, length;
-    unsigned long depth;
     long long tokens;
     char *bytes;
-    if (!PyArg_ParseTuple(arguments, "SnkOL:document", &source, &characters, &depth, &origin, &tokens)) return NULL;
-    if (PyBytes_AsStringAndSize(source, &bytes, &length) != 0) return NULL;
+    if (!PyArg_ParseTuple(arguments, "SnSOL:document", &source, &characters, &given, &origin, &tokens)) return NULL;
+    if (PyBytes_AsStringAndSize(source, &bytes, &length) != 0 || !are_limits(given, &limits)) return NULL;
     if (!state->is_set) return PyErr_Format(PyExc_SystemError, "setup is to be called first");
-    uint32_t limit = depth <= FIRTHNAPKIN_MAX_DEPTH ? (uint32_t)depth : UINT32_MAX;
     int64_t most = tokens < -1 ? -1 : tokens < UINT32_MAX ? tokens : UINT32_MAX;
     size_t counted = 0;
     PyThreadState *thread = PyEval_SaveThread();
-    whole w = within(&state->rules, (const uint8_t *)bytes, (size_t)length, limit, most);
+    whole w = within(&state->rules, (const uint8_t *)bytes, (size_t)length, &limits, most);
     if (w.status == FIRTHNAPKIN_OK) w.status = count_for(&state->rules, (const uint8_t *)bytes, (size_t)length, &counted);
     PyEval_RestoreThread(thread);
     builder b = {.state = state, .nodes = w.nodes, .count = w.nodes_count, .source = bytes, .texts = (const char *)w.texts,
@@ -169,7 +170,7 @@ PyDoc_STRVAR(setup_doc, "setup(classes, operations, rules, /)\n--\n\n"
                         "The classes are a tuple of triples: a class, a tuple of the names of its attributes, and how many of these\n"
                         "are given; the others are None in each object. The rules are whether comments count against a limit on\n"
                         "tokens, whether the limit is looked at when the end is read, and what a document's token_count counts: 0\n"
-                        "where there is none, 1 for tokens, 2 for tokens and comments. Raises AttributeError where a class lacks an\n"
+                        "if there is none, 1 for tokens, 2 for tokens and comments. Raises AttributeError if a class lacks an\n"
                         "attribute.");
 
 static PyObject *setup(PyObject *module, PyObject *arguments) {

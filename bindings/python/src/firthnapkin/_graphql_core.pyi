@@ -6,5 +6,5 @@ def setup(
     classes: Tuple[Tuple[type, Tuple[str, ...], int], ...], operations: Tuple[Any, Any, Any], rules: Tuple[bool, bool, int], /
 ) -> None: ...
 def document(
-    source: bytes, characters: int, depth: int, origin: Optional[Source], tokens: int, /
+    source: bytes, characters: int, limits: bytes, origin: Optional[Source], tokens: int, /
 ) -> Union[DocumentNode, Tuple[int, bool], None]: ...

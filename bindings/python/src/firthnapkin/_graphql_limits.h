@@ -43,7 +43,7 @@ static size_t comments_between(const uint8_t *source, uint32_t from, uint32_t to
     return count;
 }
 
-/* The number of tokens of a source, and of its comments where these count. Where memory runs out that is the status. */
+/* The number of tokens of a source, and of its comments if these count. If memory runs out that is the status. */
 static uint32_t count_all(const uint8_t *source, size_t length, bool with_comments, size_t *count) {
     firthnapkin_error error;
     uint32_t last = 0, status;
@@ -64,7 +64,7 @@ static uint32_t count_all(const uint8_t *source, size_t length, bool with_commen
     return status;
 }
 
-/* What a document of this source has as its token_count, and 0 where documents have none. The status is FIRTHNAPKIN_OK, or
+/* What a document of this source has as its token_count, and 0 if documents have none. The status is FIRTHNAPKIN_OK, or
  * says that memory ran out. */
 static uint32_t count_for(const counting_rules *rules, const uint8_t *source, size_t length, size_t *count) {
     *count = 0;
@@ -73,7 +73,7 @@ static uint32_t count_for(const counting_rules *rules, const uint8_t *source, si
     return status == FIRTHNAPKIN_OUT_OF_MEMORY ? FIRTHNAPKIN_OUT_OF_MEMORY : FIRTHNAPKIN_OK;
 }
 
-/* ---- where graphql-core's own parser has to be called */
+/* ---- when graphql-core's own parser has to be called */
 
 /* Whether graphql-core refuses one of these tokens, of which it looks at the first so many. All but the last one begin a
  * document. It refuses a number that goes on, and a variable that is nested deeper than those that an operation defines. */
@@ -110,7 +110,7 @@ static bool has_refused_token(const whole *cut, size_t looked_at, const uint8_t 
 }
 
 /* Whether graphql-core reports an error before it reports the token beyond a limit, or the end, at which the error is. It
- * reads that one, too, before it looks at the limit. Where memory runs out that is the status. */
+ * reads that one, too, before it looks at the limit. If memory runs out that is the status. */
 static bool is_refused_before(const uint8_t *source, size_t length, const firthnapkin_error *error, uint32_t *status) {
     whole cut = tokens_found(source, error->end.byte, UINT32_MAX);
     size_t looked_at = 0;
@@ -123,7 +123,7 @@ static bool is_refused_before(const uint8_t *source, size_t length, const firthn
 
 /* ---- limits */
 
-/* Sets the error to the first of these tokens, or the end, up to which more is counted than the limit. False where there is
+/* Sets the error to the first of these tokens, or the end, up to which more is counted than the limit. False if there is
  * none. */
 static bool find_too_many(const counting_rules *rules, whole *cut, const uint8_t *source, int64_t most) {
     int64_t count = 0;
@@ -154,20 +154,28 @@ static size_t most_comments(const uint8_t *source, size_t length) {
     return count;
 }
 
-static whole parse_within(const uint8_t *source, size_t length, uint32_t depth, uint32_t tokens) {
-    firthnapkin_limits limits = {.depth = depth, .tokens = tokens};
-    return parse_whole(source, length, &limits);
+/* The same limits, with another one on tokens. */
+static firthnapkin_limits with_tokens(const firthnapkin_limits *limits, uint32_t tokens) {
+    firthnapkin_limits others = *limits;
+    others.tokens = tokens;
+    return others;
+}
+
+static whole parse_within(const uint8_t *source, size_t length, const firthnapkin_limits *limits, uint32_t tokens) {
+    firthnapkin_limits others = with_tokens(limits, tokens);
+    return parse_whole(source, length, &others);
 }
 
 /* The nodes of a source whose tokens, and the comments and the end if they are looked at, are counted one by one. Otherwise as
  * with_few_tokens. */
-static whole counted_first(const counting_rules *rules, const uint8_t *source, size_t length, uint32_t depth, int64_t most) {
+static whole counted_first(const counting_rules *rules, const uint8_t *source, size_t length, const firthnapkin_limits *limits,
+                           int64_t most) {
     whole cut = tokens_found(source, length, most < 0 ? 0 : (uint32_t)most);
     if (find_too_many(rules, &cut, source, most))
         cut.status = FIRTHNAPKIN_TOO_MANY_TOKENS;
     else if (cut.status != FIRTHNAPKIN_OUT_OF_MEMORY) {
         give_back(&cut);
-        return parse_within(source, length, depth, UINT32_MAX);
+        return parse_within(source, length, limits, UINT32_MAX);
     }
     return cut;
 }
@@ -175,24 +183,25 @@ static whole counted_first(const counting_rules *rules, const uint8_t *source, s
 /* The nodes of a source that keeps a limit on its tokens. Otherwise the status is FIRTHNAPKIN_TOO_MANY_TOKENS, and the error is
  * at the first token too many, or at the end. A limit of UINT32_MAX is none. A source whose tokens keep what the comments leave
  * of the limit is read once. */
-static whole with_few_tokens(const counting_rules *rules, const uint8_t *source, size_t length, uint32_t depth, int64_t most) {
+static whole with_few_tokens(const counting_rules *rules, const uint8_t *source, size_t length,
+                             const firthnapkin_limits *limits, int64_t most) {
     size_t comments = rules->limits_comments && most < UINT32_MAX ? most_comments(source, length) : 0;
     bool is_counted = comments > 0 || (most < 0 && rules->limits_end);
-    if (!is_counted) return parse_within(source, length, depth, most < 0 ? 0 : (uint32_t)most);
-    if (most < 0 || comments > (uint64_t)most) return counted_first(rules, source, length, depth, most);
-    whole w = parse_within(source, length, depth, (uint32_t)(most - (int64_t)comments));
+    if (!is_counted) return parse_within(source, length, limits, most < 0 ? 0 : (uint32_t)most);
+    if (most < 0 || comments > (uint64_t)most) return counted_first(rules, source, length, limits, most);
+    whole w = parse_within(source, length, limits, (uint32_t)(most - (int64_t)comments));
     if (w.status != FIRTHNAPKIN_TOO_MANY_TOKENS) return w;
     give_back(&w);
-    return counted_first(rules, source, length, depth, most);
+    return counted_first(rules, source, length, limits, most);
 }
 
-/* What the tokens before the first one too many are: FIRTHNAPKIN_TOO_MANY_TOKENS where a document begins with them, and
+/* What the tokens before the first one too many are: FIRTHNAPKIN_TOO_MANY_TOKENS if a document begins with them, and
  * otherwise the status that is returned for them, with its error. No buffers are passed, so nothing is built from them. */
-static uint32_t begun(const uint8_t *source, uint32_t depth, firthnapkin_error *error) {
+static uint32_t begun(const uint8_t *source, const firthnapkin_limits *limits, firthnapkin_error *error) {
     size_t nodes, texts;
     firthnapkin_error found;
-    firthnapkin_limits limits = {.depth = depth, .tokens = UINT32_MAX};
-    uint32_t status = parse_on_stack(source, error->start.byte, &limits, NULL, 0, &nodes, NULL, 0, &texts, &found);
+    firthnapkin_limits others = with_tokens(limits, UINT32_MAX);
+    uint32_t status = parse_on_stack(source, error->start.byte, &others, NULL, 0, &nodes, NULL, 0, &texts, &found);
     bool is_whole = status == FIRTHNAPKIN_BUFFER_TOO_SMALL || status == FIRTHNAPKIN_OK;
     bool is_at_end = status == FIRTHNAPKIN_SYNTAX_ERROR && found.kind == FIRTHNAPKIN_ERROR_UNEXPECTED_END;
     if (is_whole || is_at_end) return FIRTHNAPKIN_TOO_MANY_TOKENS;
@@ -200,11 +209,12 @@ static uint32_t begun(const uint8_t *source, uint32_t depth, firthnapkin_error *
     return status;
 }
 
-/* The nodes of a source that keeps both limits. Where it doesn't, the status says which one, and the error is at the first
- * token beyond it. But the status is FIRTHNAPKIN_SYNTAX_ERROR where graphql-core reports an earlier token. */
-static whole within(const counting_rules *rules, const uint8_t *source, size_t length, uint32_t depth, int64_t most) {
-    whole w = with_few_tokens(rules, source, length, depth, most);
-    if (w.status == FIRTHNAPKIN_TOO_MANY_TOKENS) w.status = begun(source, depth, &w.error);
+/* The nodes of a source that keeps both limits. If it doesn't, the status says which one, and the error is at the first
+ * token beyond it. But the status is FIRTHNAPKIN_SYNTAX_ERROR if graphql-core reports an earlier token. */
+static whole within(const counting_rules *rules, const uint8_t *source, size_t length, const firthnapkin_limits *limits,
+                    int64_t most) {
+    whole w = with_few_tokens(rules, source, length, limits, most);
+    if (w.status == FIRTHNAPKIN_TOO_MANY_TOKENS) w.status = begun(source, limits, &w.error);
     bool is_beyond = w.status == FIRTHNAPKIN_TOO_MANY_TOKENS || w.status == FIRTHNAPKIN_TOO_DEEP;
     if (is_beyond && is_refused_before(source, length, &w.error, &w.status)) w.status = FIRTHNAPKIN_SYNTAX_ERROR;
     return w;

@@ -43,7 +43,7 @@ enum {
 
 enum { MOST_ATTRIBUTES = 12, OPERATIONS = 3 };
 
-/* An attribute, and how it is set. Where that isn't known, it is set by its name. */
+/* An attribute, and how it is set. If that isn't known, it is set by its name. */
 typedef struct {
     PyObject *name, *descriptor;
     descrsetfunc set;
@@ -85,9 +85,9 @@ typedef struct {
     size_t length;
     /* Each character is a byte. */
     bool is_ascii;
-    /* What graphql-core counts in the source, where documents have that number. */
+    /* What graphql-core counts in the source, if documents have that number. */
     size_t counted;
-    /* The Source, or None where no locations are made. */
+    /* The Source, or None if no locations are made. */
     PyObject *origin;
     /* The object that was made of each node, until a node around it takes it. */
     PyObject **made;
@@ -374,7 +374,7 @@ static PyObject *made_of(const builder *b, size_t i) {
     }
 }
 
-/* Sets what was counted as an attribute of the document. The document is freed where that fails. */
+/* Sets what was counted as an attribute of the document. The document is freed if that fails. */
 static PyObject *with_count(const builder *b, PyObject *document) {
     PyObject *number = document == NULL ? NULL : PyLong_FromSize_t(b->counted);
     if (document != NULL && (number == NULL || PyObject_GenericSetAttr(document, b->state->token_count, number) != 0))

@@ -125,7 +125,7 @@ def _samples() -> Dict[type, List[ast.Node]]:
 def _rows() -> Iterator[Tuple[Any, Tuple[str, ...], int]]:
     """The classes with all attributes that this release gives them. The first so many are set, and the others are None.
 
-    Raises ImportError where the release lacks an attribute, or gives one of the others something else than None.
+    Raises ImportError if the release lacks an attribute, or gives one of the others something else than None.
     """
     samples = _samples()
     for node_class, given in _CLASSES:

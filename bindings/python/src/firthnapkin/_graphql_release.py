@@ -33,9 +33,9 @@ class Rules(NamedTuple):
     has_limit: bool
     #: Whether comments count against it.
     limits_comments: bool
-    #: Whether it is looked at when the end of the text is read, too: after comments, or where it is below 0.
+    #: Whether it is looked at when the end of the text is read, too: after comments, or if it is below 0.
     limits_end: bool
-    #: 0 where documents have no `token_count`, 1 where it is the number of tokens, 2 where comments are counted, too.
+    #: 0 if documents have no `token_count`, 1 if it is the number of tokens, 2 if comments are counted, too.
     token_count: int
 
 
@@ -68,7 +68,7 @@ _FURTHER = inspect.Signature(
 def further_options(others: Tuple[Any, ...], options: Mapping[str, Any]) -> Mapping[str, Any]:
     """Returns arguments by their names in graphql-core's `parse`, which has them beside those that are named here.
 
-    Raises TypeError where it has not.
+    Raises TypeError if it has not.
     """
     try:
         return _FURTHER.bind(*others, **options).arguments

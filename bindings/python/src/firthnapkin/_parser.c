@@ -2,6 +2,7 @@
 #define PY_SSIZE_T_CLEAN
 #include <Python.h>
 
+#include "_limits.h"
 #include "whole.h"
 
 static PyObject *pair_of(uint32_t status, const void *first, size_t first_length, const whole *w) {
@@ -31,21 +32,20 @@ static uint32_t limit_of(unsigned long number) {
     return number < UINT32_MAX ? (uint32_t)number : UINT32_MAX;
 }
 
-PyDoc_STRVAR(parse_doc, "parse(source, depth, tokens, /)\n--\n\n"
+PyDoc_STRVAR(parse_doc, "parse(source, limits, /)\n--\n\n"
                         "Returns the status, the bytes of the nodes, and the bytes of the texts.\n\n"
-                        "For an error the bytes are those of a firthnapkin_error and of its message. Raises MemoryError where\n"
-                        "memory runs out.");
+                        "The limits are the bytes of a firthnapkin_limits. For an error the bytes are those of a\n"
+                        "firthnapkin_error and of its message. Raises ValueError if the limits have another size, and\n"
+                        "MemoryError if memory runs out.");
 
 static PyObject *parse(PyObject *module, PyObject *arguments) {
-    PyObject *source;
-    unsigned long depth, tokens;
+    PyObject *source, *given;
+    firthnapkin_limits limits;
     char *bytes;
     Py_ssize_t length;
     (void)module;
-    if (!PyArg_ParseTuple(arguments, "Skk:parse", &source, &depth, &tokens)) return NULL;
-    if (PyBytes_AsStringAndSize(source, &bytes, &length) != 0) return NULL;
-    uint32_t limit = depth <= FIRTHNAPKIN_MAX_DEPTH ? (uint32_t)depth : UINT32_MAX;
-    firthnapkin_limits limits = {.depth = limit, .tokens = limit_of(tokens)};
+    if (!PyArg_ParseTuple(arguments, "SS:parse", &source, &given)) return NULL;
+    if (PyBytes_AsStringAndSize(source, &bytes, &length) != 0 || !are_limits(given, &limits)) return NULL;
     PyThreadState *state = PyEval_SaveThread();
     whole w = parse_whole((const uint8_t *)bytes, (size_t)length, &limits);
     PyEval_RestoreThread(state);
@@ -54,7 +54,7 @@ static PyObject *parse(PyObject *module, PyObject *arguments) {
 
 PyDoc_STRVAR(tokens_doc, "tokens(source, tokens, /)\n--\n\n"
                          "Returns the status, the bytes of the tokens, and no bytes.\n\n"
-                         "For an error the bytes are those of a firthnapkin_error and of its message. Raises MemoryError where\n"
+                         "For an error the bytes are those of a firthnapkin_error and of its message. Raises MemoryError if\n"
                          "memory runs out.");
 
 static PyObject *tokens(PyObject *module, PyObject *arguments) {
@@ -74,7 +74,7 @@ static PyObject *tokens(PyObject *module, PyObject *arguments) {
 PyDoc_STRVAR(canonical_doc, "canonical(source, /)\n--\n\n"
                             "Returns the status, no bytes, and the bytes of the canonical text.\n\n"
                             "For an error the bytes are those of a firthnapkin_error and of its message. Raises MemoryError\n"
-                            "where memory runs out.");
+                            "if memory runs out.");
 
 static PyObject *canonical(PyObject *module, PyObject *source) {
     char *bytes;
@@ -89,7 +89,7 @@ static PyObject *canonical(PyObject *module, PyObject *source) {
 
 PyDoc_STRVAR(excerpt_doc, "excerpt(source, byte, /)\n--\n\n"
                           "Returns the status, no bytes, and the bytes of the lines around a byte of the source.\n\n"
-                          "Raises MemoryError where memory runs out.");
+                          "Raises MemoryError if memory runs out.");
 
 static PyObject *excerpt(PyObject *module, PyObject *arguments) {
     PyObject *source;
@@ -112,7 +112,8 @@ static PyMethodDef methods[] = {{"parse", parse, METH_VARARGS, parse_doc},
                                 {NULL, NULL, 0, NULL}};
 
 static int begin(PyObject *module) {
-    return PyModule_AddIntConstant(module, "MAX_DEPTH", FIRTHNAPKIN_MAX_DEPTH) != 0
+    return PyModule_AddIntConstant(module, "LIMITS_SIZE", sizeof(firthnapkin_limits)) != 0
+            || PyModule_AddIntConstant(module, "MAX_DEPTH", FIRTHNAPKIN_MAX_DEPTH) != 0
             || PyModule_AddObject(module, "MAX_TOKENS", PyLong_FromUnsignedLong(UINT32_MAX)) != 0
             || PyModule_AddStringConstant(module, "VERSION", FIRTHNAPKIN_VERSION_STRING) != 0
         ? -1

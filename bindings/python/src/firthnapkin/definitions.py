@@ -36,7 +36,7 @@ class VariableDefinition(PartWithDirectives, PartWithValue):
 
     @property
     def default_value(self) -> Value:
-        """What the default value means; None where it has none. It is made each time.
+        """What the default value means; None if it has none. It is made each time.
 
         Raises OverflowError for an Int of more digits than Python accepts, and for a Float beyond a float. `text` has both.
         """
@@ -58,7 +58,7 @@ class Operation(PartWithSelections):
 
     @property
     def name(self) -> Optional[str]:
-        """The name; None where it has none."""
+        """The name; None if it has none."""
         return self._node.name
 
     @property

@@ -50,7 +50,7 @@ class Document(Parts[Node]):
     def operation(self, name: Optional[str] = None) -> Optional[Operation]:
         """Returns the first operation of this name, and without a name the only operation.
 
-        Returns None where no operation has the name, and without a name where there are several operations or none.
+        Returns None if no operation has the name, or if no name is given and there are several operations or none.
         """
         operations = self.operations
         if name is None:

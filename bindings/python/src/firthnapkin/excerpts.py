@@ -10,7 +10,7 @@ _OK, _SOURCE_TOO_LONG = 0, 7
 def excerpt_of(source: bytes, byte: int) -> str:
     """Returns the lines around a byte of a source, which is UTF-8, with a caret below its character.
 
-    Raises MemoryError where memory runs out, ValueError where the source has 4 GiB or more.
+    Raises MemoryError if memory runs out, ValueError if the source has 4 GiB or more.
     """
     status, _, lines = _parser.excerpt(source, byte)
     if status == _OK:

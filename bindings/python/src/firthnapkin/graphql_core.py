@@ -4,12 +4,13 @@
     graphql_core.install()
 
 `parse` gives the results of graphql-core's own: its nodes, with their locations, and its errors. graphql-core's own parser is
-called where a text is no document for this package's parser, and where graphql-core may read it otherwise. Only texts beyond a
+called if a text is no document for this package's parser, and if graphql-core may read it otherwise. Only texts beyond a
 limit, on nesting or on the number of tokens, are reported here.
 """
 
 from __future__ import annotations
 
+import operator
 import sys
 from typing import Any, Dict, List, Mapping, Optional, Tuple, Union
 
@@ -22,7 +23,7 @@ from graphql.language.parser import parse as own_parse
 
 from . import _graphql_core, _parser
 from ._graphql_nodes import Location
-from .parser import limit_of
+from .parser import LIMITS
 
 __all__ = ["Location", "install", "parse", "uninstall"]
 
@@ -44,25 +45,27 @@ def parse(
     The arguments are those of the installed graphql-core's parse, `max_tokens` with every release, and `depth`, which is how
     deep brackets may be nested. Raises GraphQLSyntaxError as graphql-core does, and at the first token that is nested deeper.
     With `max_tokens` a text with more is refused at the first token too many, before any node is made. What counts against
-    it, comments for instance, is what counts in the installed release. Raises TypeError where the depth is no int, and for an
-    argument that graphql-core's parse doesn't have; ValueError where the depth is below 0 or above MAX_DEPTH. A `max_tokens`
+    it, comments for instance, is what counts in the installed release. Raises TypeError if the depth is no int, and for an
+    argument that graphql-core's parse doesn't have; ValueError if the depth is below 0 or above MAX_DEPTH. A `max_tokens`
     that is no int is passed to graphql-core, which accepts or refuses it.
     """
-    limit = limit_of(depth)
+    limits = LIMITS.packed({**LIMITS.defaults, "depth": depth})
     further = further_options(others, options) if others or options else {}
     body = source.body if isinstance(source, Source) else source
     is_limit = max_tokens is None or type(max_tokens) is int
     if type(body) is str and is_limit and not allow_legacy_fragment_variables and not may_change_requests(further):
-        found = _document(source if isinstance(source, Source) else Source(body), no_location, max_tokens, limit)
+        found = _document(source if isinstance(source, Source) else Source(body), no_location, max_tokens, depth, limits)
         if found is not None:
             return found
     return _own_document(source, no_location, max_tokens, allow_legacy_fragment_variables, further)
 
 
-def _document(origin: Source, no_location: bool, max_tokens: Optional[int], depth: int) -> Optional[ast.DocumentNode]:
-    """Returns the document of a source, or None where graphql-core's own parser has to be called.
+def _document(
+    origin: Source, no_location: bool, max_tokens: Optional[int], depth: int, limits: bytes
+) -> Optional[ast.DocumentNode]:
+    """Returns the document of a source, or None if graphql-core's own parser has to be called.
 
-    Raises GraphQLSyntaxError where a limit is exceeded.
+    Raises GraphQLSyntaxError if a limit is exceeded.
     """
     try:
         written = origin.body.encode()
@@ -70,12 +73,12 @@ def _document(origin: Source, no_location: bool, max_tokens: Optional[int], dept
         # A lone surrogate: graphql-core's own parser decides.
         return None
     most = _parser.MAX_TOKENS if max_tokens is None else min(max(max_tokens, -1), _parser.MAX_TOKENS)
-    found = _graphql_core.document(written, len(origin.body), depth, None if no_location else origin, most)
+    found = _graphql_core.document(written, len(origin.body), limits, None if no_location else origin, most)
     if not isinstance(found, tuple):
         return found
     index, is_deep = found
     if is_deep:
-        raise GraphQLSyntaxError(origin, index, f"Brackets are nested deeper than {depth}.")
+        raise GraphQLSyntaxError(origin, index, f"Brackets are nested deeper than {operator.index(depth)}.")
     raise _too_many(origin, index, max_tokens)
 
 

@@ -7,7 +7,7 @@ import struct
 from typing import Optional
 
 from . import _parser
-from .parser import encoded, given, most_of, require_text
+from .parser import LIMITS, encoded, given, require_text
 from .parts import Part, Parts
 
 __all__ = ["Token", "TokenKind", "Tokens", "canonical", "tokens"]
@@ -88,11 +88,11 @@ def tokens(source: str, *, max_tokens: Optional[int] = None) -> Tokens:
     a lone surrogate.
 
     Raises FirthnapkinError, a ValueError, at the first position that has no token, or at the first token too many; TypeError
-    where the source is no str, or max_tokens neither an int nor None; ValueError where max_tokens is below 0, or the text has
-    4 GiB or more; MemoryError where memory runs out.
+    if the source is no str, or max_tokens neither an int nor None; ValueError if max_tokens is below 0, or the text has
+    4 GiB or more; MemoryError if memory runs out.
     """
     require_text(source)
-    most = most_of(max_tokens)
+    most = LIMITS.by_name["max_tokens"].word("max_tokens", max_tokens)
     parts, _ = given(source, *_parser.tokens(encoded(source), most))
     return Tokens(source, parts)
 
@@ -104,8 +104,8 @@ def canonical(source: str) -> str:
     before `...` after a token that is no punctuator. It is never more than twice as long as the text. The call doesn't check
     whether the text is a document.
 
-    Raises FirthnapkinError, a ValueError, at the first position that has no token; TypeError where the source is no str;
-    ValueError where the text has 4 GiB or more; MemoryError where memory runs out.
+    Raises FirthnapkinError, a ValueError, at the first position that has no token; TypeError if the source is no str;
+    ValueError if the text has 4 GiB or more; MemoryError if memory runs out.
     """
     require_text(source)
     _, text = given(source, *_parser.canonical(encoded(source)))

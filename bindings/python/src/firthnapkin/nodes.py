@@ -138,7 +138,7 @@ class Node(Part):
 class Nodes(Sequence[Node]):
     """Some nodes of a document, in its order. A node object is made each time that one is asked for.
 
-    Two are equal, and have the same hash, where they are the same nodes of the same document. A slice is such a sequence, too.
+    Two are equal, and have the same hash, if they are the same nodes of the same document. A slice is such a sequence, too.
     """
 
     __slots__ = ("_document", "_indexes", "__weakref__")

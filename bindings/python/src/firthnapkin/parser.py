@@ -2,13 +2,13 @@
 
 from __future__ import annotations
 
-import operator
 import struct
-from typing import Optional, Tuple
+from typing import Annotated, Optional, Tuple
 
 from . import _parser
 from .document import Document
 from .errors import ErrorDetail, ErrorKind, FirthnapkinError
+from .limits import Limit, Limits
 from .parts import Position
 from .schemas import begins_schema
 
@@ -21,21 +21,31 @@ _OK, _SYNTAX_ERROR, _TOO_DEEP, _TOO_MANY_TOKENS, _SOURCE_TOO_LONG = 0, 1, 4, 5, 
 _ERROR = struct.Struct("=3I8I2I")
 
 
-def parse(source: str, *, depth: int = 200, max_tokens: Optional[int] = None) -> Document:
+def parse(
+    source: str,
+    *,
+    depth: Annotated[int, Limit("how deep brackets may be nested", largest=_parser.MAX_DEPTH)] = 200,
+    max_tokens: Annotated[Optional[int], Limit("how many tokens a request may have", unlimited=_parser.MAX_TOKENS)] = None,
+) -> Document:
     """Returns the document of a text, with brackets nested at most `depth` deep. Other threads run meanwhile.
 
     With `max_tokens` the text may have no more tokens than that. A text with more is refused at the first token too many,
     before anything is built from it, whatever comes after it but a lone surrogate.
 
-    Raises FirthnapkinError, a ValueError, where the text is no document, a bracket is nested deeper, or a token is one too many;
-    TypeError where the source is no str, the depth no int, or max_tokens neither an int nor None; ValueError where the depth
-    is below 0 or above MAX_DEPTH, max_tokens is below 0, or the text has 4 GiB or more; MemoryError where memory runs out.
+    Raises FirthnapkinError, a ValueError, if the text is no document, a bracket is nested deeper, or a token is one too many;
+    TypeError if the source is no str, the depth no int, or max_tokens neither an int nor None; ValueError if the depth
+    is below 0 or above MAX_DEPTH, max_tokens is below 0, or the text has 4 GiB or more; MemoryError if memory runs out.
     """
     require_text(source)
-    limit, most = limit_of(depth), most_of(max_tokens)
+    limits = LIMITS.packed(locals())
     written = encoded(source)
-    nodes, texts = given(source, *_parser.parse(written, limit, most))
+    nodes, texts = given(source, *_parser.parse(written, limits))
     return Document(source, written, nodes, texts)
+
+
+# The signature is the place where limits are written: each is a line of it, and they go to the library in its order. A TypedDict
+# of them would be shorter where several functions have them all, but mypy before 1.7 reads such options as any.
+LIMITS = Limits(parse)
 
 
 def require_text(source: str) -> None:
@@ -43,31 +53,8 @@ def require_text(source: str) -> None:
         raise TypeError(f"source must be a str, not {type(source).__name__}")
 
 
-def limit_of(depth: int) -> int:
-    """Returns a depth as a number. Raises TypeError or ValueError where it is not accepted."""
-    limit = _number("depth", depth)
-    if not 0 <= limit <= _parser.MAX_DEPTH:
-        raise ValueError(f"depth must be from 0 to {_parser.MAX_DEPTH}")
-    return limit
-
-
-def most_of(max_tokens: Optional[int]) -> int:
-    """Returns a limit on tokens as a number, at most MAX_TOKENS. Raises TypeError or ValueError where it is not accepted."""
-    most = _parser.MAX_TOKENS if max_tokens is None else _number("max_tokens", max_tokens)
-    if most < 0:
-        raise ValueError("max_tokens must not be below 0")
-    return min(most, _parser.MAX_TOKENS)
-
-
-def _number(name: str, value: int) -> int:
-    try:
-        return operator.index(value)
-    except TypeError:
-        raise TypeError(f"{name} must be an int, not {type(value).__name__}") from None
-
-
 def encoded(source: str) -> bytes:
-    """Returns the UTF-8 of a str. Raises FirthnapkinError where it has a lone surrogate."""
+    """Returns the UTF-8 of a str. Raises FirthnapkinError if it has a lone surrogate."""
     try:
         return str.encode(source)
     except UnicodeEncodeError as error:
@@ -75,7 +62,7 @@ def encoded(source: str) -> bytes:
 
 
 def given(source: str, status: int, first: bytes, texts: bytes) -> Tuple[bytes, bytes]:
-    """Returns the results of a call. Raises its error where the status says that it failed."""
+    """Returns the results of a call. Raises its error if the status says that it failed."""
     if status == _OK:
         return first, texts
     if status in (_SYNTAX_ERROR, _TOO_DEEP, _TOO_MANY_TOKENS):

@@ -122,7 +122,7 @@ class Parts(Sequence[P]):
 
 
 def from_start(index: int, count: int) -> int:
-    """Returns an index of a sequence, counted from its start. Raises TypeError where it is no int, IndexError out of range."""
+    """Returns an index of a sequence, counted from its start. Raises TypeError if it is no int, IndexError out of range."""
     try:
         found = operator.index(index)
     except TypeError:

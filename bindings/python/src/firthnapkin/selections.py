@@ -71,7 +71,7 @@ class PartWithSelections(PartWithDirectives):
 
     @property
     def selections(self) -> SyntaxParts[Selection]:
-        """The selections of its selection set; none where it has no selection set."""
+        """The selections of its selection set; none if it has no selection set."""
         return SyntaxParts(self._children(_SELECTIONS), selection_of)
 
 
@@ -84,13 +84,13 @@ class Field(PartWithSelections, PartWithArguments):
 
     @property
     def alias(self) -> Optional[str]:
-        """The alias; None where it has none."""
+        """The alias; None if it has none."""
         alias = self._child(_ALIASES)
         return None if alias is None else alias.name
 
     @property
     def response_key(self) -> str:
-        """The key that it has in a response: its alias, and its name where it has none."""
+        """The key that it has in a response: its alias, and its name if it has none."""
         return self.alias or self.name
 
 
@@ -114,7 +114,7 @@ class InlineFragment(PartWithSelections):
 
     @property
     def type_condition(self) -> Optional[str]:
-        """The name of the type that it is for; None where it has none."""
+        """The name of the type that it is for; None if it has none."""
         return self._node.name
 
 

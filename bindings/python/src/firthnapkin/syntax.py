@@ -16,8 +16,8 @@ __all__ = ["SyntaxPart", "SyntaxParts"]
 class SyntaxPart:
     """A part of a document. It has its node alone, and what it is asked for comes from that one.
 
-    Two are equal, and have the same hash, where they are the same part of the same document. Raises TypeError where it is made of
-    something else than a node, ValueError where the node is of another part.
+    Two are equal, and have the same hash, if they are the same part of the same document. Raises TypeError if it is made of
+    something else than a node, ValueError if the node is of another part.
     """
 
     __slots__ = ("_node", "__weakref__")
@@ -126,7 +126,7 @@ Of = TypeVar("Of", bound=SyntaxPart, covariant=True)
 class SyntaxParts(Sequence[Of]):
     """Some parts of a document, in its order. A part's object is made each time that one is asked for.
 
-    Two are equal, and have the same hash, where they are the same parts of the same document. A slice is such a sequence, too.
+    Two are equal, and have the same hash, if they are the same parts of the same document. A slice is such a sequence, too.
     """
 
     __slots__ = ("_nodes", "_make", "__weakref__")

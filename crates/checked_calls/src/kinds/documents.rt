@@ -3,7 +3,7 @@
 use crate::kinds::tree::{write_document, write_pushed, write_value};
 use crate::kinds::word_of;
 use crate::parsing::{Input, document, fields_of};
-use crate::write::{Written, write_refusal, write_separator, write_span};
+use crate::write::{Written, write_both, write_refusal, write_separator, write_span};
 use juniper::{
     Arguments, DefaultScalarValue, DepthFailure, InputValue, LimitFailure, Limits, ParseFailure,
     Span, Spanning, parse_document_source_limited, parse_document_source_within,
@@ -96,7 +96,7 @@ fn answer_calls(
     let mut given = given_of(alloc, fields)?;
     for call in calls.lines() {
         write!(out, "{call} -> ")?;
-        answer_call(alloc, out, &mut given, call)?;
+        answer_call(alloc, out, &mut given, fields, call)?;
         out.push('\n')?;
     }
     Ok(())
@@ -114,7 +114,13 @@ fn given_of(
     Ok(Arguments { items })
 }
 
-fn answer_call(alloc: Global, out: &mut String, given: &mut Given<'_>, call: &str) -> Written {
+fn answer_call(
+    alloc: Global,
+    out: &mut String,
+    given: &mut Given<'_>,
+    fields: &[(Spanning<String>, Spanning<Input>)],
+    call: &str,
+) -> Written {
     let (word, name) = word_of(call);
     match word {
         "len" => {
@@ -133,8 +139,52 @@ fn answer_call(alloc: Global, out: &mut String, given: &mut Given<'_>, call: &st
             }
             None => out.push_str("None"),
         },
+        "unlocated_eq" => write_compared(alloc, out, fields, name),
+        "variable_uses" => write_uses(alloc, out, given, name),
         _ => out.push_str("no such call"),
     }
+}
+
+// Whether other arguments, the fields of this object, are equal regardless of places, both ways.
+fn write_compared(
+    alloc: Global,
+    out: &mut String,
+    fields: &[(Spanning<String>, Spanning<Input>)],
+    other: &str,
+) -> Written {
+    let Some(others) = fields_of(alloc, other)? else {
+        return out.push_str("no object");
+    };
+    write_compared_fields(alloc, out, fields, &others)
+}
+
+fn write_compared_fields<'a>(
+    alloc: Global,
+    out: &mut String,
+    fields: &'a [(Spanning<String>, Spanning<Input>)],
+    others: &'a [(Spanning<String>, Spanning<Input>)],
+) -> Written {
+    let given = given_of(alloc, fields)?;
+    let other = given_of(alloc, others)?;
+    write_both(out, given.unlocated_eq(&other), other.unlocated_eq(&given))
+}
+
+// The variables in the value of the argument of this name, each with the span of its use.
+fn write_uses(alloc: Global, out: &mut String, given: &Given<'_>, name: &str) -> Written {
+    let Some(value) = given.get(name) else {
+        return out.push_str("None");
+    };
+    let Ok(uses) = value.item.variable_uses(alloc, value.span) else {
+        return out.push_str("Memory");
+    };
+    let before = out.len();
+    for variable in &uses {
+        let name = variable.item;
+        write_separator(out, before)?;
+        write_span(out, &variable.span)?;
+        write!(out, " {name}")?;
+    }
+    Ok(())
 }
 
 fn write_names(out: &mut String, given: &Given<'_>) -> Written {

@@ -2,6 +2,8 @@
 ghost use Rattle.std.specs.Prelude.{◌≡◌, ◌&&◌, ◌↔◌, false, IsTrue};
 ghost use Rattle.graphql_grammar.specs.declared.operation.OperationType.{OperationType};
 ghost use Rattle.juniper_tokens.specs.declared.span.Spanning.{Spanning};
+ghost use Rattle.juniper_values.specs.laws.ValueLaws.{IsEqualityLike};
+ghost use Rattle.juniper.specs.SameArguments.{same_arguments};
 ghost use Rattle.juniper.specs.declared.tree.ast.Arguments.{Arguments};
 ghost use Rattle.juniper.specs.declared.tree.ast.Definition.{Definition};
 ghost use Rattle.juniper.specs.declared.tree.ast.Directive.{Directive};
@@ -20,6 +22,7 @@ use crate::tree::ast::{
 };
 use graphql_grammar::OperationType;
 use juniper_tokens::Spanning;
+use juniper_values::laws::values_are_compared_whatever_their_places;
 use juniper_values::{InputValue, Type};
 
 // What several parts hold.
@@ -32,6 +35,15 @@ type Directives<'a, S> = Option<Vec<Spanning<Directive<'a, S>>>>;
 type Selections<'a, S> = Vec<Selection<'a, S>>;
 
 type Variable<'a, S> = (Word<'a>, VariableDefinition<'a, S>);
+
+/// Equality of arguments regardless of their order and spans is reflexive, symmetric and transitive, as equality of their
+/// scalars is.
+pub fn arguments_are_compared_whatever_their_places<S: Eq>()
+    ensures { IsEqualityLike (same_arguments S.eq) }
+{
+    // The law that the proof cites.
+    values_are_compared_whatever_their_places::<S>();
+}
 
 /// Two parts of a tree are equal exactly if all their fields are, spans included.
 pub fn parts_are_compared_whole<'a, S: PartialEq + Drop>()

@@ -3,11 +3,10 @@ ghost use Rattle.std.specs.Prelude.{◌≡◌, ◌++◌, ◌∷◌, [], List, Op
 ghost use Rattle.graphql_grammar.specs.Tokens.{Located, Word};
 ghost use Rattle.graphql_grammar.specs.Tree as tree;
 ghost use Rattle.graphql_grammar.specs.Tree.{Value as Seen, Null, Scalar as SeenScalar, Enum, Variable, ListOf, Object, items_of, fields_of, TypeRef};
-ghost use Rattle.graphql_grammar.specs.device.Productions.{optional_of};
 ghost use Rattle.juniper_tokens.specs.Spans.{view_span};
 ghost use Rattle.juniper_values.specs.Scalar.{Content};
 ghost use Rattle.juniper_values.specs.View.{view_located};
-ghost use Rattle.juniper.specs.Building.{Opened, a_list, an_object, an_object_field, some_arguments, an_argument, a_directive, a_field, a_spread, an_inline_fragment, some_variables, a_variable, an_operation, a_fragment, BuildsEach, BuildsList, BuildsOptional, BuildsSet};
+ghost use Rattle.juniper.specs.Building.{Opened, a_list, an_object, an_object_field, some_arguments, an_argument, a_directive, a_field, a_spread, an_inline_fragment, some_variables, a_variable, an_operation, a_fragment, BuildsEach, BuildsList, BuildsOptional, BuildsOptionalSet, BuildsSet};
 ghost use Rattle.juniper.specs.View.{type_of};
 
 use crate::parser::lists::push_item;
@@ -87,6 +86,8 @@ pub trait Builder<S: ScalarValue> {
     type Variables: Drop;
 
     type Definition: Drop;
+
+    type Definitions: Gather<Self::Definition> + Drop;
 
     // Going from one state to another it opened this part, or built that of this part.
     ghost opens: { Self → Self → Self.Open → Opened → Type 0 };
@@ -213,7 +214,7 @@ pub trait Builder<S: ScalarValue> {
         selection_set: Option<Self::Selections>,
         span: Span,
     ) -> Self::Selection
-        ensures { (first opened with_arguments with_directives : Self) (xs : Option (tree.Arguments Content)) (ds : tree.Directives Content) (set : Option (tree.Selections Content)) → opens first opened part (a_field (option_map (view_located Self.Name.characters) alias.now) (view_located Self.Name.characters name.now)) → BuildsOptional builds_arguments opened with_arguments arguments xs → BuildsOptional (BuildsList builds_directive Self.Directives.gathered) with_arguments with_directives directives ds → BuildsOptional (BuildsSet builds_selection Self.Selections.gathered) with_directives self.old selection_set set → builds_selection first self.new result (tree.Field (option_map (view_located Self.Name.characters) alias.now) (view_located Self.Name.characters name.now) xs ds (optional_of set) (view_span span)) };
+        ensures { (first opened with_arguments with_directives : Self) (xs : Option (tree.Arguments Content)) (ds : tree.Directives Content) (set : tree.OptionalSelections Content) → opens first opened part (a_field (option_map (view_located Self.Name.characters) alias.now) (view_located Self.Name.characters name.now)) → BuildsOptional builds_arguments opened with_arguments arguments xs → BuildsOptional (BuildsList builds_directive Self.Directives.gathered) with_arguments with_directives directives ds → BuildsOptionalSet builds_selection Self.Selections.gathered with_directives self.old selection_set set → builds_selection first self.new result (tree.Field (option_map (view_located Self.Name.characters) alias.now) (view_located Self.Name.characters name.now) xs ds set (view_span span)) };
 
     /// Opens the spread of a fragment.
     fn open_fragment_spread(

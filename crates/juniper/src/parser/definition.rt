@@ -4,7 +4,7 @@ ghost use Rattle.std.specs.Str.{chars};
 ghost use Rattle.graphql_grammar.specs.device.Reading.{passes};
 ghost use Rattle.graphql_grammar.specs.device.Productions.{optional_name, fragment_name, operation, fragment, shorthand, operation_word, operation_of, definition};
 ghost use Rattle.juniper_tokens.specs.Cursor.{EndsOnce, Gives, first_of, refused_at};
-ghost use Rattle.juniper.specs.Building.{Builds, BuildsOr};
+ghost use Rattle.juniper.specs.device.Builds.{Builds, BuildsOr};
 ghost use Rattle.juniper.specs.View.{view_located, view_definition};
 ghost use Rattle.juniper.specs.Scalars.{stated};
 ghost use Rattle.juniper_tokens.specs.Taking.{left, last_end, GoesOn};

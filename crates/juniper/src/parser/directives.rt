@@ -6,7 +6,8 @@ ghost use Rattle.graphql_lexical.specs.declared.kind.Kind.TheVariants.{At};
 ghost use Rattle.graphql_grammar.specs.device.Productions.{argument, arguments_inner, arguments, optional_arguments, directive, directives};
 ghost use Rattle.juniper_tokens.specs.Cursor.{EndsOnce, kind_at};
 ghost use Rattle.juniper_tokens.specs.Taking.{left, GoesOn};
-ghost use Rattle.juniper.specs.Building.{Builds, BuildsList, BuildsOptional};
+ghost use Rattle.juniper.specs.Building.{BuildsList, BuildsOptional};
+ghost use Rattle.juniper.specs.device.Builds.{Builds};
 ghost use Rattle.juniper.specs.Scalars.{stated};
 ghost use Rattle.juniper.specs.device.Steps.{cursor};
 

@@ -11,13 +11,13 @@ ghost use Rattle.juniper.specs.Promise.{HasTree, IfRefused, ReturnsAs, IsRefusal
 
 pub(crate) mod depth;
 pub(crate) mod limited;
+pub(crate) mod parts;
 pub(crate) mod sink;
 
-use crate::parser::definition::parse_definition_tree;
-use crate::parser::lists::{expected, push_item};
-use crate::parser::next::next_is;
+use crate::parser::document::parts::build_definitions_or;
 use crate::tree::ast::OwnedDocument;
-use juniper_tokens::{Cursor, Kind, Lexer, Parser, UnlocatedParseResult};
+use crate::tree::trees::Trees;
+use juniper_tokens::{Cursor, Lexer, ParseFailure, Parser, UnlocatedParseResult};
 use juniper_values::ScalarValue;
 use std::alloc::Global;
 
@@ -53,19 +53,12 @@ pub fn parse_document_source<'a, S: ScalarValue>(
     parse_definitions(&mut parser.cursor())
 }
 
-/// `Definition+`, up to the end, which is left there.
-pub(crate) fn parse_definitions<'a, S: ScalarValue>(
+/// `Definition+`, up to the end, which is left there, as juniper's tree.
+fn parse_definitions<'a, S: ScalarValue>(
     tokens: &mut Cursor<'_, &'a str>,
 ) -> UnlocatedParseResult<OwnedDocument<'a, S>>
     ensures { ReturnsAs (view_document S.content) result (cursor (stated S.reading S.of_bool) document (left tokens.old)) }
 {
-    let mut definitions = Vec::new(tokens.allocator());
-    loop {
-        let definition = parse_definition_tree(tokens)?;
-        let is_last = next_is(tokens, Kind::EndOfFile);
-        push_item(&mut definitions, definition, expected(is_last))?;
-        if is_last {
-            return Ok(definitions);
-        }
-    }
+    let mut trees = Trees::<'a>::new(tokens.allocator());
+    build_definitions_or::<S, Trees<'a>, ParseFailure>(tokens, &mut trees)
 }

@@ -9,7 +9,8 @@ ghost use Rattle.juniper_tokens.specs.Cursor.{EndsOnce, Gives, OnMemory, first_o
 ghost use Rattle.juniper_tokens.specs.Delimited.{IsRest};
 ghost use Rattle.juniper_tokens.specs.Taking.{left, GoesOn};
 ghost use Rattle.juniper.specs.Promise.{ReturnsValue};
-ghost use Rattle.juniper.specs.Building.{Builds, BuildsClosed, BuildsEach, BuildsOr};
+ghost use Rattle.juniper.specs.Building.{BuildsEach};
+ghost use Rattle.juniper.specs.device.Builds.{Builds, BuildsClosed, BuildsOr};
 ghost use Rattle.juniper.specs.View.{view_value};
 ghost use Rattle.juniper.specs.device.Steps.{cursor, value_read, scalar_read, closed_read, IsScalarAt};
 ghost use Rattle.juniper.specs.Scalars.{stated};

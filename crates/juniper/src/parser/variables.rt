@@ -2,7 +2,8 @@
 ghost use Rattle.std.specs.Prelude.{◌≡◌, ◌<◌, ◌≤◌, length, OnOk};
 ghost use Rattle.graphql_grammar.specs.device.Productions.{default, variable_definition, variables_inner, variables, optional_variables};
 ghost use Rattle.juniper_tokens.specs.Taking.{left, GoesOn};
-ghost use Rattle.juniper.specs.Building.{Builds, BuildsList, BuildsOptional};
+ghost use Rattle.juniper.specs.Building.{BuildsList, BuildsOptional};
+ghost use Rattle.juniper.specs.device.Builds.{Builds};
 ghost use Rattle.juniper.specs.Scalars.{stated};
 ghost use Rattle.juniper.specs.device.Steps.{cursor};
 

@@ -3,11 +3,10 @@ ghost use Rattle.std.specs.Prelude.{◌≡◌, ◌++◌, ◌∷◌, [], List, Op
 ghost use Rattle.graphql_grammar.specs.Tokens.{Located};
 ghost use Rattle.graphql_grammar.specs.Tree as tree;
 ghost use Rattle.graphql_grammar.specs.Tree.{Value as Seen};
-ghost use Rattle.graphql_grammar.specs.device.Productions.{optional_of};
 ghost use Rattle.juniper_tokens.specs.Spans.{view_span};
 ghost use Rattle.juniper_values.specs.Scalar.{Content};
 ghost use Rattle.juniper.specs.Building.{BuildsList, BuildsOptional};
-ghost use Rattle.juniper.specs.Trees.{Shows, ShowsEach, ShowsDirectives, ShowsSet};
+ghost use Rattle.juniper.specs.Trees.{Shows, ShowsEach, ShowsDirectives, ShowsOptionalSet, ShowsSet};
 ghost use Rattle.juniper.specs.NamedVariables.{gathered_variables, view_named};
 ghost use Rattle.juniper.specs.View.{view_value, view_object_field, view_word, view_spanned_type, view_argument, view_arguments, view_directive, view_selection, view_variables, view_definition};
 ghost use Rattle.juniper.specs.declared.tree.trees.Trees.{Trees};
@@ -119,6 +118,8 @@ impl<'a, S: ScalarValue> Builder<S> for Trees<'a> {
     type Variables = Spanning<VariableDefinitions<'a, S>>;
 
     type Definition = Definition<'a, S>;
+
+    type Definitions = Vec<Definition<'a, S>>;
 
     ghost opens = { λ old new part what. Unit {0} };
 
@@ -294,7 +295,7 @@ impl<'a, S: ScalarValue> Builder<S> for Trees<'a> {
         selection_set: Option<Vec<Selection<'a, S>>>,
         span: Span,
     ) -> Selection<'a, S>
-        ensures { (first opened with_arguments with_directives : Trees) (xs : Option (tree.Arguments Content)) (ds : tree.Directives Content) (set : Option (tree.Selections Content)) → Unit {0} → BuildsOptional (Shows (view_arguments S.content)) opened with_arguments arguments.entry xs → ShowsDirectives S.content with_arguments with_directives directives.entry ds → BuildsOptional (ShowsSet S.content) with_directives self.old selection_set.entry set → view_selection S.content result ≡ tree.Field (option_map view_word alias.now) (view_word name.now) xs ds (optional_of set) (view_span span) }
+        ensures { (first opened with_arguments with_directives : Trees) (xs : Option (tree.Arguments Content)) (ds : tree.Directives Content) (set : tree.OptionalSelections Content) → Unit {0} → BuildsOptional (Shows (view_arguments S.content)) opened with_arguments arguments.entry xs → ShowsDirectives S.content with_arguments with_directives directives.entry ds → ShowsOptionalSet S.content with_directives self.old selection_set.entry set → view_selection S.content result ≡ tree.Field (option_map view_word alias.now) (view_word name.now) xs ds set (view_span span) }
     {
         let field = Field {
             alias: copied_option(alias),

@@ -10,8 +10,9 @@ ghost use Rattle.juniper.specs.Promise.{HasTree, IsRefusal};
 ghost use Rattle.juniper.specs.Within.{IfRefusedWithin, IfTooDeep, IfDecided, HasTooDeep, IsWithin, ReturnsWithin, failure_within};
 
 use crate::parser::document::limited::{LimitFailure, Limits, parse_document_source_limited};
-use crate::parser::document::parse_definitions;
+use crate::parser::document::parts::build_document;
 use crate::tree::ast::OwnedDocument;
+use crate::tree::trees::Trees;
 use juniper_tokens::{ParseFailure, Parser, Span};
 use juniper_values::ScalarValue;
 use std::alloc::Global;
@@ -71,10 +72,8 @@ pub(crate) fn parse_within<'a, S: ScalarValue>(
     ensures { (source : List ℕ) → Cut source parser.old → ReturnsWithin (stated S.reading S.of_bool) depth source (view_document S.content) result }
 {
     let deep = parser.end_at_nesting(depth);
-    match parse_definitions(&mut parser.cursor()) {
-        Ok(tree) => Ok(tree),
-        Err(failure) => Err(depth_failure(deep, failure)),
-    }
+    let mut trees = Trees::<'a>::new(parser.allocator());
+    build_document::<S, Trees<'a>, DepthFailure>(&mut parser.cursor(), deep, &mut trees)
 }
 
 /// The failure for tokens that were ended after one nested too deep, which has this span: if they are refused at that

@@ -11,7 +11,7 @@ use Rattle.juniper_tokens.proofs.Public.{goes_further, some_taken, stays}
 use Rattle.juniper.specs.View.{view_located}
 use Rattle.juniper.specs.Scalars.{stated}
 use Rattle.juniper.specs.device.Steps.{cursor}
-use Rattle.juniper.proofs.Building.{each_more, set_builds}
+use Rattle.juniper.proofs.Building.{each_more, optional_set_builds, set_builds}
 use Rattle.juniper.proofs.Loops.{before_none, some_go_on, some_end, some_item_fails}
 use Rattle.juniper.proofs.Marks.{marked, marked_builds, on_ok}
 use Rattle.juniper.proofs.Fragments.{inline_is, other_is_a_name, other_is_not_on}
@@ -95,7 +95,8 @@ parse_field-returns-clause-gives g t c =
                 (view_located characters c.in_ok-alias.name) arguments.part directives.part (optional_of set.part) p,
             left c.parse_optional_selection_set.new.tokens,
           )) (sym c.span_from-span.ensures.span)));
-      is_built = c.field.ensures _ _ _ _ _ _ _ c.in_ok-part.ensures arguments.is_built directives.is_built set.is_built;
+      is_built = c.field.ensures _ _ _ _ _ _ _ c.in_ok-part.ensures arguments.is_built directives.is_built
+          (optional_set_builds g.B.Builder.builds_selection g.B.Selections.Gather.gathered _ _ _ _ set.is_built);
     }
 
 pub parse_field-span_from-span-requires : goal.parse_field-span_from-span-requires

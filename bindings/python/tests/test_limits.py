@@ -1,0 +1,99 @@
+"""The limits of the calls: their names, types and defaults, and the words of the library that each goes to."""
+
+import inspect
+import typing
+import unittest
+from typing import Annotated, Any, Optional, Tuple
+from unittest import mock
+
+import firthnapkin
+from firthnapkin import MAX_DEPTH, parse, tokens
+from firthnapkin.__main__ import options_of
+from firthnapkin.limits import Limit, Limits
+from firthnapkin.parser import LIMITS
+from helpers import words_of
+
+NAMES = {"depth": (int, 200), "max_tokens": (Optional[int], None)}
+LARGEST_WORD = 2**32 - 1
+
+
+def with_more(
+    *, depth: Annotated[int, Limit("a", largest=7)] = 5, fields: Annotated[Optional[int], Limit("b", unlimited=0)] = None
+) -> None:
+    """A function of other limits."""
+
+
+class Signatures(unittest.TestCase):
+    def same(self, call: Any, names: Any) -> None:
+        """The parameters that are given by name are those, of these types and defaults."""
+        parameters = [it for it in inspect.signature(call).parameters.values() if it.kind is it.KEYWORD_ONLY]
+        hints = typing.get_type_hints(call)
+        self.assertEqual({it.name: (hints[it.name], it.default) for it in parameters}, {name: NAMES[name] for name in names})
+
+    def test_signatures(self) -> None:
+        self.same(parse, ["depth", "max_tokens"])
+        self.same(tokens, ["max_tokens"])
+        self.assertEqual(list(inspect.signature(parse).parameters), ["source", "depth", "max_tokens"])
+
+
+class Words(unittest.TestCase):
+    def words(self, **limits: Any) -> Tuple[int, ...]:
+        """What the library is given by `parse`."""
+        with mock.patch.object(firthnapkin._parser, "parse", wraps=firthnapkin._parser.parse) as call:
+            try:
+                parse("{a}", **limits)
+            except firthnapkin.FirthnapkinError:
+                pass
+        return words_of(call.call_args[0][1])
+
+    def test_each(self) -> None:
+        """Each limit goes to its word, and the words that no limit has are 0."""
+        for given, depth, most in [
+            ({}, 200, LARGEST_WORD), ({"depth": 7, "max_tokens": 9}, 7, 9), ({"max_tokens": 9}, 200, 9), ({"depth": 7}, 7, LARGEST_WORD),
+            ({"depth": 0, "max_tokens": 0}, 0, 0), ({"depth": MAX_DEPTH, "max_tokens": LARGEST_WORD - 1}, 1000, LARGEST_WORD - 1),
+            *(({"max_tokens": it}, 200, LARGEST_WORD) for it in (None, LARGEST_WORD, 2**32, 2**64 + 5, 10**30)),
+        ]:  # fmt: skip
+            with self.subTest(given=given):
+                self.assertEqual(self.words(**given), (depth, most, 0, 0, 0, 0, 0, 0))
+
+    def test_tokens(self) -> None:
+        for given, most in ((None, LARGEST_WORD), (0, 0), (9, 9), (LARGEST_WORD, LARGEST_WORD), (2**32, LARGEST_WORD)):
+            with mock.patch.object(firthnapkin._parser, "tokens", return_value=(0, b"", b"")) as call:
+                tokens("{a}", max_tokens=given)
+            call.assert_called_once_with(b"{a}", most)
+
+    def test_schemas(self) -> None:
+        """What is before a schema's definition is parsed within the loosest limits, whatever those of the call are."""
+        with mock.patch.object(firthnapkin._parser, "parse", wraps=firthnapkin._parser.parse) as call:
+            self.assertRaises(firthnapkin.FirthnapkinError, parse, "{a} type", depth=5, max_tokens=9)
+        self.assertEqual([words_of(it[0][1])[:2] for it in call.call_args_list], [(5, 9), (1000, LARGEST_WORD)])
+
+
+class Tables(unittest.TestCase):
+    def test_other_limits(self) -> None:
+        """A limit is a line of a signature: its name, its type, what it accepts, and its default."""
+        limits = Limits(with_more)
+        for given, wanted in (
+            ({}, (5, 0)),
+            ({"fields": 9}, (5, 9)),
+            ({"fields": 0, "depth": 7}, (7, 0)),
+            ({"fields": 2**40}, (5, LARGEST_WORD)),
+        ):
+            self.assertEqual(words_of(limits.packed({**limits.defaults, **given})), (*wanted, 0, 0, 0, 0, 0, 0))
+        for given, error, words in [
+            ({"depth": 8}, ValueError, "depth must be from 0 to 7"), ({"depth": -1}, ValueError, "depth must be from 0 to 7"),
+            ({"depth": None}, TypeError, "depth must be an int, not NoneType"), ({"fields": -1}, ValueError, "fields must not be below 0"),
+            ({"fields": "5"}, TypeError, "fields must be an int, not str"), ({"depth": True, "fields": 1.0}, TypeError, "fields must be an int, not float"),
+        ]:  # fmt: skip
+            with self.assertRaises(error) as raised:
+                limits.packed({**limits.defaults, **given})
+            self.assertEqual(str(raised.exception), words)
+
+    def test_tool(self) -> None:
+        """The tool has an option for each limit, with its default."""
+        for words, wanted in [
+            ([], {"depth": 200, "max_tokens": None}), (["--depth", "1000"], {"depth": 1000, "max_tokens": None}),
+            (["--max-tokens", "9"], {"depth": 200, "max_tokens": 9}), (["--depth=0", "--max-tokens=0"], {"depth": 0, "max_tokens": 0}),
+        ]:  # fmt: skip
+            found = vars(options_of(["check", "-", *words]))
+            self.assertEqual({name: found[name] for name in LIMITS.by_name}, wanted)

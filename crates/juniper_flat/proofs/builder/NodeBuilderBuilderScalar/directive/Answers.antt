@@ -1,0 +1,15 @@
+use Rattle.graphql_nodes.specs.Nodes.{Named, arguments_nodes, directive_nodes}
+use Rattle.juniper_flat.specs.Builders.{counted}
+use Rattle.juniper.specs.View.{view_word}
+use Rattle.juniper_flat.proofs.Builders.{adds_more, adds_optional, closes, named_text}
+use Rattle.graphql_nodes.specs.declared.kind.NodeKind.TheVariants as kind
+use Rattle.juniper_tokens.specs.Spans.{view_span}
+use Rattle.juniper_flat.proofs.builder.NodeBuilderBuilderScalar.directive.Goals as goal
+
+pub returns : goal.returns
+unfolding directive_nodes
+returns c first opened xs is_open some =
+    let it = c.args.self.now in
+    let more = adds_more (counted first) opened it _ _ is_open.adds (adds_optional arguments_nodes opened it _ xs some) in
+    closes kind.Directive (view_span c.args.span) (Named (view_word c.args.name.now)) (named_text (view_word c.args.name.now)) first it c.close.new.self c.args.part _ is_open.index_is more c.close.ensures.puts
+    (λ source table fits short inside. c.close.ensures.node source table fits (named_text (view_word c.args.name.now)) short inside)

@@ -1,0 +1,16 @@
+use Rattle.graphql_nodes.specs.Nodes.{Named, directive_nodes, directives_nodes, selection_nodes, selections_nodes}
+use Rattle.graphql_nodes.specs.Nodes.{optional_nodes}
+use Rattle.juniper_flat.specs.Builders.{counted, gathered}
+use Rattle.juniper.specs.View.{view_word}
+use Rattle.juniper_flat.proofs.Builders.{adds_more, adds_list, closes, named_text}
+use Rattle.graphql_nodes.specs.declared.kind.NodeKind.TheVariants as kind
+use Rattle.juniper_tokens.specs.Spans.{view_span}
+use Rattle.juniper_flat.proofs.builder.NodeBuilderBuilderScalar.fragment_spread.Goals as goal
+
+pub returns : goal.returns
+unfolding selection_nodes selections_nodes optional_nodes directives_nodes
+returns c first opened ds is_open each =
+    let it = c.args.self.now in
+    let more = adds_more (counted first) opened it _ _ is_open.adds (adds_list directive_nodes gathered opened it _ ds each) in
+    closes kind.Spread (view_span c.args.span) (Named (view_word c.args.name.now)) (named_text (view_word c.args.name.now)) first it c.close.new.self c.args.part _ is_open.index_is more c.close.ensures.puts
+    (λ source table fits short inside. c.close.ensures.node source table fits (named_text (view_word c.args.name.now)) short inside)

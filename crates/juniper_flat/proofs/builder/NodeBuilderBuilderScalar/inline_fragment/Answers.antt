@@ -1,0 +1,24 @@
+use Rattle.std.proofs.Common.{◌++◌, subst, sym}
+use Rattle.std.specs.Prelude.{option_map}
+use Rattle.graphql_nodes.specs.Nodes.{Label, over, directive_nodes, directives_nodes, selection_nodes, selections_nodes}
+use Rattle.graphql_nodes.specs.Nodes.{optional_nodes}
+use Rattle.juniper.specs.View.{view_word}
+use Rattle.juniper_flat.specs.Builders.{Adds, HasNoText, counted, gathered}
+use Rattle.juniper_flat.proofs.Builders.{adds_more, adds_list, adds_set, closes, optional_name_text}
+use Rattle.graphql_nodes.specs.declared.kind.NodeKind.TheVariants as kind
+use Rattle.juniper_tokens.specs.Spans.{view_span}
+use Rattle.juniper_flat.proofs.builder.NodeBuilderBuilderScalar.inline_fragment.Goals as goal
+
+pub returns : goal.returns
+unfolding selection_nodes selections_nodes optional_nodes directives_nodes
+returns c first opened with_directives ds set is_open each all =
+    let it = c.args.self.now in
+    let span = view_span c.args.span in
+    let name = option_map view_word c.args.type_condition.now in
+    let tells = c.label_of.ensures span in
+    let text = subst HasNoText (sym tells) (optional_name_text name) in
+    let more = adds_more (counted first) opened it _ _ is_open.adds (adds_more opened with_directives it _ _
+    (adds_list directive_nodes gathered opened with_directives _ ds each) (adds_set gathered with_directives it _ set all)) in
+    subst (λ (label : Label). Adds first c.close.new.self (over kind.Inline span label (directives_nodes ds ++ selections_nodes set))) tells
+    (closes kind.Inline span _ text first it c.close.new.self c.args.part _ is_open.index_is more c.close.ensures.puts
+    (λ source table fits short inside. c.close.ensures.node source table fits text short inside))

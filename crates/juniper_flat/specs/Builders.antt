@@ -1,0 +1,139 @@
+-- What is written into the caller's buffers while a source is parsed.
+use Rattle.std.specs.Prelude.{◌≡◌, ◌+◌, ◌^◌, ◌<◌, ℕ, suc, List, [], ◌∷◌, length, set, replicate, Option, None}
+use Rattle.std.specs.Prelude.{encode_utf8_all}
+use Rattle.graphql_lexical.specs.Place.{Span}
+use Rattle.graphql_grammar.specs.Tokens.{Located, Word}
+use Rattle.graphql_grammar.specs.Tree.{Value, Arguments, Directives, Variables, Selections, OptionalSelections}
+use Rattle.graphql_grammar.specs.Tree.{Definition}
+use Rattle.graphql_nodes.specs.Nodes.{Node, Label, Named, Typed, over, if_present, alias_nodes, document_nodes}
+use Rattle.graphql_nodes.specs.Nodes.{value_nodes, arguments_nodes, directive_nodes, variables_nodes, selection_nodes}
+use Rattle.graphql_nodes.specs.declared.kind.NodeKind.{NodeKind}
+use Rattle.graphql_nodes.specs.declared.kind.NodeKind.TheVariants as kind
+use Rattle.juniper.specs.Building.{BuildsList, BuildsOptional, BuildsOptionalSet, BuildsSet, Opened, a_list, an_object}
+use Rattle.juniper.specs.Building.{an_object_field, some_arguments, an_argument, a_directive, a_field, a_spread}
+use Rattle.juniper.specs.Building.{an_inline_fragment, some_variables, a_variable, an_operation, a_fragment}
+use Rattle.juniper.specs.Promise.{HasTree}
+use Rattle.juniper_values.specs.Scalar.{Content}
+use Rattle.juniper_nodes.specs.NodeTexts.{node_texts, text_of_label}
+use Rattle.juniper_flat.specs.Answers.{scalars}
+use Rattle.juniper_flat.specs.ByteTables.{IsTableOf}
+use Rattle.juniper_flat.specs.Fits.{NodesFit}
+use Rattle.juniper_flat.specs.Nodes.{byte_count, node_value, written_nodes}
+use Rattle.juniper_flat.specs.declared.builder.NodeBuilder.{NodeBuilder}
+use Rattle.juniper_flat.specs.declared.builder.Parts.{Parts}
+
+-- a buffer with these written into it from an index on, as far as they fit
+abbrev pub with_written : {A : Type 0} → List A → ℕ → List A → List A
+with_written buffer at [] = buffer
+with_written buffer at (x ∷ xs) = with_written (set buffer at x) (suc at) xs
+
+-- A builder has the same buffers and the same table.
+pub record KeepsBuffers (old new : NodeBuilder) : Type 0 where
+  pub table : new.table ≡ old.table
+  pub nodes : new.nodes.ghost_name ≡ old.nodes.ghost_name
+  pub texts : new.texts.ghost_name ≡ old.texts.ghost_name
+
+-- ---- texts
+
+-- This was appended to the texts, and no node was written.
+pub record AddsText (old new : NodeBuilder) (bytes : List ℕ) : Type 0 where
+  pub keeps : KeepsBuffers old new
+  pub nodes : new.nodes.now ≡ old.nodes.now
+  pub nodes_count : new.nodes_length ≡ old.nodes_length
+  pub texts : old.texts_length + length bytes < 2 ^ 32 → new.texts.now ≡ with_written old.texts.now old.texts_length bytes
+  pub texts_count : old.texts_length + length bytes < 2 ^ 32 → new.texts_length ≡ old.texts_length + length bytes
+
+-- ---- nodes
+
+-- the numbers of these nodes, which come after those before
+abbrev pub Fit : NodeBuilder → List (Node Content) → Type 0
+Fit it ns = (it.nodes_length + length ns < 2 ^ 32) × NodesFit it.texts_length ns
+
+-- These nodes of the source and their texts were written after those before, as far as the buffers reach, and counted.
+pub record Written (source : List ℕ) (old new : NodeBuilder) (ns : List (Node Content)) : Type 0 where
+  pub nodes : new.nodes.now ≡ with_written old.nodes.now old.nodes_length (written_nodes source old.texts_length ns)
+  pub nodes_count : new.nodes_length ≡ old.nodes_length + length ns
+  pub texts : new.texts.now ≡ with_written old.texts.now old.texts_length (encode_utf8_all (node_texts ns))
+  pub texts_count : new.texts_length ≡ old.texts_length + byte_count (node_texts ns)
+
+-- From one state to another a builder wrote these nodes, where their numbers fit.
+pub record Adds (old new : NodeBuilder) (ns : List (Node Content)) : Type 0 where
+  pub keeps : KeepsBuffers old new
+  pub written : (source : List ℕ) → IsTableOf source old.table.now → Fit old ns → Written source old new ns
+
+-- one node more is counted, which isn't written yet
+abbrev pub counted : NodeBuilder → NodeBuilder
+counted it = record it { nodes_length = it.nodes_length + 1 }
+
+-- the nodes that are written when a part is opened: a field's alias, and the type of a variable
+abbrev pub first_nodes : Opened → List (Node Content)
+first_nodes a_list = []
+first_nodes an_object = []
+first_nodes (an_object_field key) = []
+first_nodes some_arguments = []
+first_nodes (an_argument name) = []
+first_nodes (a_directive name) = []
+first_nodes (a_field alias name) = if_present alias_nodes alias
+first_nodes (a_spread name) = []
+first_nodes (an_inline_fragment condition) = []
+first_nodes some_variables = []
+first_nodes (a_variable name type) = over kind.Type type.span (Typed type.item) []
+first_nodes (an_operation type name) = []
+first_nodes (a_fragment name condition) = []
+
+-- A part is opened: its node was counted, which comes at this index, and its first nodes were written.
+pub record Opens (old new : NodeBuilder) (index : ℕ) (what : Opened) : Type 0 where
+  pub index_is : index ≡ old.nodes_length
+  pub adds : Adds (counted old) new (first_nodes what)
+
+-- the nodes of an object's field
+abbrev pub field_nodes : Word × Located (Value Content) → List (Node Content)
+field_nodes field = over kind.Key field.0.span (Named field.0) (value_nodes field.1)
+
+-- Nothing but a node's place in the buffer changed.
+pub record PutsNode (old new : NodeBuilder) : Type 0 where
+  pub keeps : KeepsBuffers old new
+  pub nodes_count : new.nodes_length ≡ old.nodes_length
+  pub texts : new.texts.now ≡ old.texts.now
+  pub texts_count : new.texts_length ≡ old.texts_length
+
+-- A node without a scalar that has this label has no text, and so the same value wherever its text would begin.
+abbrev pub HasNoText : Label → Type 0
+HasNoText label = (text_of_label label None ≡ [])
+    × ((source : List ℕ) (at : ℕ) → node_value source at None label ≡ node_value source 0 None label)
+
+-- a node without descendants
+abbrev pub leaf : NodeKind → Span → Label → Option Content → Node Content
+leaf kind span label content = record { kind = kind; span = span; label = label; content = content; descendants = 0 }
+
+-- ---- parts that may be absent
+
+-- what a list of parts has gathered
+abbrev pub gathered : Parts → List (Unit {0})
+gathered parts = replicate parts.count tt
+
+abbrev pub AddsValue : NodeBuilder → NodeBuilder → Option (Unit {0}) → Option (Located (Value Content)) → Type 0
+AddsValue = BuildsOptional (λ old new x v. Adds old new (value_nodes v))
+
+abbrev pub AddsArguments : NodeBuilder → NodeBuilder → Option (Unit {0}) → Option (Arguments Content) → Type 0
+AddsArguments = BuildsOptional (λ old new x a. Adds old new (arguments_nodes a))
+
+abbrev pub AddsDirectives : NodeBuilder → NodeBuilder → Option Parts → Directives Content → Type 0
+AddsDirectives = BuildsOptional (BuildsList (λ (old new : NodeBuilder) (x : Unit {0}) d. Adds old new (directive_nodes d)) gathered)
+
+abbrev pub AddsVariables : NodeBuilder → NodeBuilder → Option (Unit {0}) → Option (Variables Content) → Type 0
+AddsVariables = BuildsOptional (λ old new x v. Adds old new (variables_nodes v))
+
+abbrev pub AddsSet : NodeBuilder → NodeBuilder → Parts → Selections Content → Type 0
+AddsSet = BuildsSet (λ (old new : NodeBuilder) (x : Unit {0}) s. Adds old new (selection_nodes s)) gathered
+
+abbrev pub AddsOptionalSet : NodeBuilder → NodeBuilder → Option Parts → OptionalSelections Content → Type 0
+AddsOptionalSet = BuildsOptionalSet (λ (old new : NodeBuilder) (x : Unit {0}) s. Adds old new (selection_nodes s)) gathered
+
+-- ---- a document
+
+-- The source has a tree, and its nodes were written.
+pub record BuildsNodes (source : List ℕ) (old new : NodeBuilder) : Type 0 where
+  pub tree : List (Definition Content)
+  pub has_tree : HasTree scalars source tree
+  pub adds : Adds old new (document_nodes tree)

@@ -1,0 +1,5 @@
+pub mod OneOperation
+pub mod Named
+pub mod Variables
+pub mod FirstDefaults
+pub mod Borders

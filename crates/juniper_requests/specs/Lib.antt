@@ -1,0 +1,5 @@
+pub mod Operations
+pub mod Fragments
+pub mod Defaults
+pub mod Bytes
+pub mod device
