@@ -1,7 +1,8 @@
 -- The canonical text of a source is cut into tokens alike with the source's.
 use Rattle.std.proofs.Common.{◌≡◌, ℕ, ◌+◌, ◌⊎◌, inl, inr, Bool, true, false, not, ◌&&◌, ◌||◌, List, [], ◌∷◌, ◌++◌, take, drop, Result, Ok, IsTrue, refl, sym, ap, ap₂, ◌∙◌, subst}
 use Rattle.std.specs.List.{AllZip}
-use Rattle.graphql_lexical.specs.Kinds.{Kind, ExclamationMark, Dollar, ParenOpen, ParenClose, BracketOpen, BracketClose, CurlyOpen, CurlyClose, Ellipsis, Colon, Equals, At, Pipe, EndOfFile, Fixed, spelling, is_fixed, same_kind}
+use Rattle.std.specs.Option.{is_some}
+use Rattle.graphql_lexical.specs.Kinds.{Kind, Name, Ellipsis, EndOfFile, Spelling, Fixed, NoText, spelling, fixed_text, is_fixed, same_kind}
 use Rattle.graphql_lexical.specs.Tokens.{Spells, quotes, written}
 use Rattle.graphql_lexical.specs.device.Whole.{Admits, IsToken, between, text_of}
 use Rattle.graphql_lexical.specs.device.Indexed.{ReadsAt, CutFrom}
@@ -11,7 +12,7 @@ use Rattle.graphql_lexical.specs.device.Scan.{Broken}
 use Rattle.graphql_lexical.specs.laws.Alike.{Alike}
 use Rattle.graphql_lexical.specs.laws.Joining.{BeginsApart}
 use Rattle.graphql_lexical.specs.laws.Canonical.{KeepsTokens, TellsTokens, IsItsOwn}
-use Rattle.graphql_lexical.proofs.EachKind.{each_kind}
+use Rattle.graphql_lexical.proofs.SameKind.{kind_is}
 use Rattle.graphql_lexical.proofs.Slices.{front_read}
 use Rattle.graphql_lexical.proofs.Cuts.{cut_computes}
 use Rattle.graphql_lexical.proofs.Writing.{nothing_cut, no_lexeme, lone_lexeme, token_cut, white_cut}
@@ -51,33 +52,31 @@ fixed_begins kind c e f whole rest s =
     let is : whole ≡ c ∷ [] = subst (λ w. Admits w whole) e s in
     subst (λ (t : List ℕ). BeginsApart (t ++ rest)) (sym is) (inr (kind, f, token_spells (c ∷ []) kind (c ∷ []) (subst (λ (t : List ℕ). IsToken t kind) is s) (sym (ap (λ w. between (quotes w) (c ∷ [])) e))))
 
--- each punctuator but `...` stands apart
-abbrev BeginsOrDots : Kind → Type 0
-BeginsOrDots kind =
-    (whole rest : List ℕ) → IsTrue (is_fixed kind) → IsToken whole kind → BeginsApart (whole ++ rest) ⊎ (kind ≡ Ellipsis)
+-- whether what has a fixed text is spelled by one character
+fixed_is_lone : Spelling → Bool
+fixed_is_lone (Fixed []) = false
+fixed_is_lone (Fixed (c ∷ d ∷ cs)) = false
+fixed_is_lone _ = true
 
-begins_or_dots : (kind : Kind) → BeginsOrDots kind
-begins_or_dots = each_kind BeginsOrDots (
-  λ w r f s. absurd cc,
-  λ w r f s. absurd cc,
-  λ w r f s. absurd cc,
-  λ w r f s. absurd cc,
-  λ w r f s. absurd cc,
-  λ w r f s. inl (fixed_begins ExclamationMark 33 refl f w r s),
-  λ w r f s. inl (fixed_begins Dollar 36 refl f w r s),
-  λ w r f s. inl (fixed_begins ParenOpen 40 refl f w r s),
-  λ w r f s. inl (fixed_begins ParenClose 41 refl f w r s),
-  λ w r f s. inl (fixed_begins BracketOpen 91 refl f w r s),
-  λ w r f s. inl (fixed_begins BracketClose 93 refl f w r s),
-  λ w r f s. inl (fixed_begins CurlyOpen 123 refl f w r s),
-  λ w r f s. inl (fixed_begins CurlyClose 125 refl f w r s),
-  λ w r f s. inr refl,
-  λ w r f s. inl (fixed_begins Colon 58 refl f w r s),
-  λ w r f s. inl (fixed_begins Equals 61 refl f w r s),
-  λ w r f s. inl (fixed_begins At 64 refl f w r s),
-  λ w r f s. inl (fixed_begins Pipe 124 refl f w r s),
-  λ w r f s. absurd s,
-)
+-- each punctuator but `...` is one character
+lone_or_dots : (kind : Kind) → IsTrue (fixed_is_lone (spelling kind) || same_kind kind Ellipsis)
+unfolding fixed_is_lone
+lone_or_dots Name = refl
+lone_or_dots _ = refl
+
+-- each punctuator but `...` stands apart
+begins_or_dots : (kind : Kind) (whole rest : List ℕ) → IsTrue (is_fixed kind) → IsToken whole kind
+    → BeginsApart (whole ++ rest) ⊎ (kind ≡ Ellipsis)
+unfolding fixed_is_lone
+begins_or_dots kind whole rest f s = by_spelling (spelling kind) refl (lone_or_dots kind) f s
+  where
+    by_spelling : (w : Spelling) → spelling kind ≡ w → IsTrue (fixed_is_lone w || same_kind kind Ellipsis)
+        → IsTrue (is_some (fixed_text w)) → Admits w whole → BeginsApart (whole ++ rest) ⊎ (kind ≡ Ellipsis)
+    by_spelling (Fixed []) e h g a = inr (kind_is kind Ellipsis h)
+    by_spelling (Fixed (c ∷ [])) e h g a = inl (fixed_begins kind c e f whole rest s)
+    by_spelling (Fixed (c ∷ d ∷ cs)) e h g a = inr (kind_is kind Ellipsis h)
+    by_spelling NoText e h g a = absurd a
+    by_spelling _ e h g a = absurd cc
 
 -- after a token that is no punctuator stands a space, a punctuator of one character, or nothing
 open_parting : (source : List ℕ) (kind : Kind) (xs : List Lexeme) (k : ℕ) → is_fixed kind ≡ false → CutFrom source k xs

@@ -1,17 +1,16 @@
 -- What has been read, at each state.
 use Rattle.std.proofs.Common.{◌≡◌, ℕ, ◌⊎◌, inl, inr, Bool, true, false, cond, eqb, List, [], ◌∷◌, ◌++◌, Option, Some, None, IsTrue, refl, sym, ap, ◌∙◌, subst, arith, append_assoc, append-nil, length-append}
-use Rattle.std.specs.Prelude.{option_map}
+use Rattle.std.specs.Prelude.{option_map, option_and_then}
 use Rattle.std.specs.Option.{IfSome, option_map_or}
 use Rattle.std.specs.List.{AllByRecursion, concat, find}
 use Rattle.std.proofs.lemmas.Bool.{eqb-true}
 use Rattle.std.proofs.lemmas.Option.{none-some, same_Some}
 use Rattle.graphql_lexical.specs.Characters.{is_digit, is_name_character, is_exponent_mark, is_sign, is_hex}
-use Rattle.graphql_lexical.specs.Kinds.{Kind, String, Ellipsis, all_kinds, Fixed, spelling, character_of}
+use Rattle.graphql_lexical.specs.Kinds.{Kind, String, Ellipsis, all_kinds, Spelling, Fixed, spelling, fixed_text, only_character, character_of}
 use Rattle.graphql_lexical.specs.Tokens.{IsZero, IsUnit, plain, escape, unicode, Pieces, is_character, punctuator, mark}
 use Rattle.graphql_lexical.specs.device.Whole.{Admits, IsToken}
 use Rattle.graphql_lexical.specs.device.Numbers.{ReadName, ReadDigits, ReadLongInteger, ReadInteger, ReadFraction, ReadExponent}
 use Rattle.graphql_lexical.specs.device.Scan.{State, Start, Done, OneDot, TwoDots, InName, Minus, Zero, Digits, Point, Fraction, ExponentMark, ExponentSign, Exponent, InString, Backslash, NoHexDigit, OneHexDigit, HexDigitD, TwoHexDigits, ThreeHexDigits, is_hex_d, step, Quote, EmptyString, InBlock, Block, Inside, block_step}
-use Rattle.graphql_lexical.proofs.EachKind.{lone_spelling}
 use Rattle.graphql_lexical.proofs.Runs.{run, kept_run, run_on}
 use Rattle.graphql_lexical.proofs.Numbers.{IsPair, pair_d, pair_other, scalar_from}
 
@@ -137,9 +136,16 @@ found_passes test [] x e = absurd (none-some x e)
 found_passes test (y ∷ ys) x e =
     if_then (λ z. test z ≡ true) (test y) y (find test ys) (λ h. h) (found_passes test ys) x e
 
+-- what is spelled by one character is spelled by that character
+lone_spelling : (s : Spelling) → IfSome (option_and_then only_character (fixed_text s)) (λ c. s ≡ Fixed (c ∷ []))
+lone_spelling (Fixed []) = tt
+lone_spelling (Fixed (c ∷ [])) = refl
+lone_spelling (Fixed (c ∷ d ∷ cs)) = tt
+lone_spelling _ = tt
+
 pub punctuator_spells : (c : ℕ) (kind : Kind) → punctuator c ≡ Some kind → IsToken (c ∷ []) kind
 punctuator_spells c kind e =
-    by_character (character_of kind) (lone_spelling kind) (found_passes (is_character c) all_kinds kind e)
+    by_character (character_of kind) (lone_spelling (spelling kind)) (found_passes (is_character c) all_kinds kind e)
   where
     by_character : (o : Option ℕ) → IfSome o (λ d. spelling kind ≡ Fixed (d ∷ []))
         → option_map_or (λ d. eqb c d) o false ≡ true → IsToken (c ∷ []) kind

@@ -3,7 +3,6 @@ pub use Rattle.graphql_lexical.proofs.Answers.{finds_what_reads, misses_what_fai
 pub use Rattle.graphql_lexical.proofs.CanonicalSizes.{has_canonical_sizes}
 pub use Rattle.graphql_lexical.proofs.Cuts.{cut_front, each_stands, leads_size, one_cut_or_break, reads_size, stands_size}
 pub use Rattle.graphql_lexical.proofs.DeepTokens.{closed_push, crossed, deep_count, one_deep, opened_push, opening_goes_on, opening_no_end, opens, take_next}
-pub use Rattle.graphql_lexical.proofs.EachKind.{kind_is, other_kind}
 pub use Rattle.graphql_lexical.proofs.Escapes.{counted_within, u_short}
 pub use Rattle.graphql_lexical.proofs.Ignored.{ignored_is_longest}
 pub use Rattle.graphql_lexical.proofs.Joints.{few_tokens}
@@ -14,6 +13,7 @@ pub use Rattle.graphql_lexical.proofs.Places.{place_after, place_push, steps_by_
 pub use Rattle.graphql_lexical.proofs.ReadByTexts.{from_reads_text}
 pub use Rattle.graphql_lexical.proofs.Readings.{answer_finds, read_end, read_token, same_Ok}
 pub use Rattle.graphql_lexical.proofs.Runs.{Stops, reach_is}
+pub use Rattle.graphql_lexical.proofs.SameKind.{kind_is, other_kind}
 pub use Rattle.graphql_lexical.proofs.Slices.{front_read, place_index, slices_in_order}
 pub use Rattle.graphql_lexical.proofs.Spacing.{goes_on_spaced, last_next}
 pub use Rattle.graphql_lexical.proofs.Spelled.{RunsAs, accepts, runs_as}
