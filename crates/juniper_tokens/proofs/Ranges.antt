@@ -2,7 +2,6 @@
 use Rattle.std.proofs.Common.{◌≡◌, ℕ, ◌+◌, ◌-◌, ◌<◌, ◌≤◌, ◌^◌, Bool, true, false, List, [], ◌∷◌, ◌++◌, length, take, drop, refl, sym, ap, ap₂, subst, ◌∙◌, arith, length-drop}
 use Rattle.std.specs.Prelude.{Result, Ok, Err, Some, None, ◌↔◌}
 use Rattle.std.specs.Option.{unwrap_or}
-use Rattle.std.specs.Result.{IsErrAnd}
 use Rattle.std.specs.List.{fold}
 use Rattle.std.proofs.lemmas.Str.{length-le-encodes, encodes-chars}
 use Rattle.std.specs.Str.{chars, IsUtf8}
@@ -249,18 +248,10 @@ token_given s r token t h e =
       ends = subst (λ k. (t.ended ≡ true) ↔ (k ≡ kinds.EndOfFile)) (sym (ap (λ (x : Lexeme). x.kind) e)) g.ends;
     }
 
-failure_given : (s : LexerState) (failure : LexFailure) (t : LexerState) → GivesRangeItem s (Err failure) t
+pub failure_given : (s : LexerState) (failure : LexFailure) (t : LexerState) → TakesItem (past_ignored s) (Err failure) t
     → GivesItem s (Err failure) t
-failure_given s (failures.Fault fault) t h = h
-failure_given s failures.Memory t h = h
-
--- a failure is passed on
-pub failure_passed : (s : LexerState) (item : Result (Spanning Token) LexFailure) (failure : LexFailure)
-    (t : LexerState)
-    → IsErrAnd item (λ x. x ≡ failure) → TakesItem (past_ignored s) (Err failure) t → GivesItem s item t
-failure_passed s (Ok token) failure t e h = absurd e
-failure_passed s (Err x) failure t e h =
-    subst (λ f. GivesItem s (Err f) t) (sym e) (failure_given s failure t (item_given s (Err failure) t h))
+failure_given s (failures.Fault fault) t h = fault_by_scan s fault t h
+failure_given s failures.Memory t h = memory_by_scan s t h.0 h.1
 
 -- ---- the steps of a lexer that goes past plain tokens, and else takes what stands there
 

@@ -3,7 +3,7 @@ ghost use Rattle.std.specs.Prelude.{◌≡◌, ◌≤◌, false, drop, IfOk, OnO
 ghost use Rattle.std.specs.Global.{Global as Allocator};
 ghost use Rattle.std.specs.Str.{chars};
 ghost use Rattle.graphql_lexical.specs.Place.{place};
-ghost use Rattle.juniper_tokens.specs.Lexing.{LexerState, started, GivesItem};
+ghost use Rattle.juniper_tokens.specs.Lexing.{started};
 ghost use Rattle.juniper_tokens.specs.LineTables.{lines_of};
 ghost use Rattle.juniper_tokens.specs.device.LexingByScan.{past_ignored};
 ghost use Rattle.juniper_tokens.specs.device.LineSteps.{CountsLines, HasLines};
@@ -131,8 +131,8 @@ impl<'a> Lexer<'a> {
         ignored.class
     }
 
-    // Takes the token that was found here.
-    fn take(&mut self, found: Found) -> TokenRange
+    // Advances past the token that was found here.
+    fn advance(&mut self, found: Found) -> TokenRange
         requires { Finds (drop self.old.index self.old.source) found }
         ensures source { self.new.source ≡ self.old.source }
         ensures takes { TakesRange self.old result self.new }
@@ -145,9 +145,9 @@ impl<'a> Lexer<'a> {
         range
     }
 
-    // The same, of a plain token.
+    // The same, past a plain token, which ends on its line and is not the end.
     #[inline(always)]
-    fn take_plain(&mut self, found: Found) -> TokenRange
+    fn advance_on_line(&mut self, found: Found) -> TokenRange
         requires finds { Finds (drop self.old.index self.old.source) found }
         requires plain { IsPlain found.kind }
         ensures source { self.new.source ≡ self.old.source }
@@ -199,7 +199,7 @@ impl<'a> Lexer<'a> {
 
     /// Skips ignored tokens, and takes the token after them if it is a plain one.
     ///
-    /// Otherwise a token may begin at the lexer's position, and `next_other` takes it.
+    /// Otherwise a token may begin at the lexer's position, and `scan` takes it.
     #[inline(always)]
     pub(crate) fn next_plain(&mut self) -> Option<TokenRange>
         ensures source { self.new.source ≡ self.old.source }
@@ -207,12 +207,12 @@ impl<'a> Lexer<'a> {
         ensures ended { self.old.ended ≡ false → self.new.ended ≡ false }
     {
         let class = self.skip_ignored();
-        self.take_if_plain(class)
+        self.take_plain(class)
     }
 
     // Takes the token that begins here, with a byte of this class, if it is a plain one.
     #[inline(always)]
-    fn take_if_plain(&mut self, class: ByteClass) -> Option<TokenRange>
+    fn take_plain(&mut self, class: ByteClass) -> Option<TokenRange>
         requires { class ≡ first_class (drop self.old.index self.old.source) }
         ensures source { self.new.source ≡ self.old.source }
         ensures takes { TakesPlain self.old result self.new }
@@ -223,47 +223,24 @@ impl<'a> Lexer<'a> {
             characters: self.position.index(),
         };
         let found = plain_token(class, text_from(self.source, here))?;
-        Some(self.take_plain(found))
+        Some(self.advance_on_line(found))
     }
 
     /// Takes what is here, which may be the last item: a token, or why there is none.
     #[inline(always)]
-    pub(crate) fn next_other(&mut self) -> Result<TokenRange, LexFailure>
+    pub(crate) fn scan(&mut self) -> Result<TokenRange, LexFailure>
         ensures source { self.new.source ≡ self.old.source }
         ensures takes { TakesItem self.old result self.new }
     {
         let mut lexer = self.duplicate();
-        let item = lexer.scan_next();
+        let item = lexer.scan_out_of_line();
         *self = lexer;
         item
     }
 
-    // The same, with the token's text and places.
-    #[inline(always)]
-    fn next_other_token(&mut self) -> LexerResult<'a>
-        ensures source { self.new.source ≡ self.old.source }
-        ensures gives { (before : LexerState) → self.old ≡ past_ignored before → GivesItem before result self.new }
-    {
-        let mut lexer = self.duplicate();
-        let item = lexer.scan_next_token();
-        *self = lexer;
-        item
-    }
-
-    // `next_other_token`, out of line.
+    // The same. Most tokens are plain, so the code for all others stands out of the way.
     #[inline(never)]
-    fn scan_next_token(&mut self) -> LexerResult<'a>
-        ensures source { self.new.source ≡ self.old.source }
-        ensures gives { (before : LexerState) → self.old ≡ past_ignored before → GivesItem before result self.new }
-    {
-        let start = self.position;
-        let range = self.scan_next()?;
-        Ok(self.token(range, start))
-    }
-
-    // `next_other`, out of line.
-    #[inline(never)]
-    fn scan_next(&mut self) -> Result<TokenRange, LexFailure>
+    fn scan_out_of_line(&mut self) -> Result<TokenRange, LexFailure>
         ensures source { self.new.source ≡ self.old.source }
         ensures takes { TakesItem self.old result self.new }
     {
@@ -273,7 +250,7 @@ impl<'a> Lexer<'a> {
         };
         let rest = text_from(self.source, here);
         match scan_token(self.alloc, rest) {
-            Ok(found) => Ok(self.take(found)),
+            Ok(found) => Ok(self.advance(found)),
             Err(Missed::Fault(error, at)) => {
                 self.ended = true;
                 let place = walk_characters(rest, self.position, at);
@@ -336,9 +313,12 @@ impl<'a> Iterator for Lexer<'a> {
         }
         let class = self.skip_ignored();
         let start = self.position;
-        match self.take_if_plain(class) {
+        match self.take_plain(class) {
             Some(range) => Some(Ok(self.token(range, start))),
-            None => Some(self.next_other_token()),
+            None => match self.scan() {
+                Ok(range) => Some(Ok(self.token(range, start))),
+                Err(failure) => Some(Err(failure)),
+            },
         }
     }
 }

@@ -398,7 +398,7 @@ fn gather(
                 ranges.push(range)
             }
             None => {
-                let range = lexer.next_other()?;
+                let range = lexer.scan()?;
                 if range.kind == Kind::EndOfFile {
                     if ranges.push(range).is_err() || lexer.count_lines(&mut lines).is_err() {
                         return Err(LimitedLexFailure::Lex(LexFailure::Memory));

@@ -9,7 +9,7 @@ use Rattle.juniper_tokens.specs.device.LexingByScan.{IsPlaced}
 use Rattle.juniper_tokens.specs.device.Scans.{Finds}
 use Rattle.juniper_tokens.specs.device.Ranges.{IsRange, TakesRange}
 use Rattle.juniper_tokens.proofs.Ranges.{found_range, found_taken, placed_after, ends_on_line}
-use Rattle.juniper_tokens.proofs.lexer.Lexer.take_plain.Goals as goal
+use Rattle.juniper_tokens.proofs.lexer.Lexer.advance_on_line.Goals as goal
 
 pub from_found-range-requires-clause-found : goal.from_found-range-requires-clause-found
 from_found-range-requires-clause-found c =

@@ -6,7 +6,7 @@ use Rattle.graphql_lexical.specs.Kinds.{LexicalError}
 use Rattle.graphql_lexical.specs.device.Scan.{Found, Missed, scan}
 use Rattle.juniper_tokens.specs.Errors.{view_lexer_error}
 use Rattle.juniper_tokens.proofs.LexingByScan.{chars_fit, fault_placed}
-use Rattle.juniper_tokens.proofs.lexer.Lexer.scan_next.Goals as goal
+use Rattle.juniper_tokens.proofs.lexer.Lexer.scan_out_of_line.Goals as goal
 
 pub walk_characters-place-requires : goal.walk_characters-place-requires
 walk_characters-place-requires c = chars_fit _ 0 _ _ _ c.self.invariant c.text_from-rest.ensures.length
