@@ -1,5 +1,5 @@
 //! Positions found by the beginnings of lines.
-ghost use Rattle.std.specs.Prelude.{◌≡◌, ◌+◌, ◌<◌, ◌≤◌, ◌^◌, [], List, ℕ, length, IfOk, OnOk, MatchOption};
+ghost use Rattle.std.specs.Prelude.{◌≡◌, ◌+◌, ◌<◌, ◌≤◌, ◌^◌, List, ℕ, length, IfOk, OnOk, MatchOption};
 ghost use Rattle.std.specs.List.{fold};
 ghost use Rattle.std.specs.Str.{chars};
 ghost use Rattle.graphql_lexical.specs.Place.{place};
@@ -12,6 +12,7 @@ use crate::byte_classes::{ByteClass, byte_class};
 use crate::lexer::run::{Run, run_over};
 use crate::lexer::text::{Offset, text_before, text_from};
 use crate::line::{line_of, place_on};
+use crate::lists::list_with_capacity;
 use crate::position::SourcePosition;
 use std::alloc::{AllocError, Global};
 use std::marker::Model;
@@ -30,7 +31,8 @@ impl LineStarts {
     pub(crate) fn new(alloc: Global, text: &str) -> Result<Self, AllocError>
         ensures { IfOk result (λ lines. (source : List ℕ) → HasLines source lines 0) }
     {
-        let mut starts = capacity_for_lines(alloc, text);
+        // Most texts have fewer lines than one every eight bytes.
+        let mut starts = list_with_capacity(alloc, text.len() / 8 + 1);
         starts.push(0)?;
         Ok(LineStarts {
             starts,
@@ -103,16 +105,6 @@ impl LineStarts {
         let rest = text_from(source, here);
         lines.at.characters = push_lines(&mut lines.starts, rest, here.characters)?;
         Ok(LineTable { lines })
-    }
-}
-
-// A list with capacity for a line every eight bytes of a text, if there is as much memory. Most texts have fewer.
-fn capacity_for_lines(alloc: Global, text: &str) -> Vec<usize>
-    ensures { result.items ≡ [] }
-{
-    match Vec::with_capacity(alloc, text.len() / 8 + 1) {
-        Ok(starts) => starts,
-        Err(_) => Vec::new(alloc),
     }
 }
 

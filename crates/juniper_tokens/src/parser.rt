@@ -26,6 +26,7 @@ use crate::error::{LexFailure, LimitedLexFailure, OptionParseResult, ParseFailur
 use crate::lexer::Lexer;
 use crate::line::{Line, line_near};
 use crate::line_table::{LineStarts, LineTable};
+use crate::lists::list_with_capacity;
 use crate::nesting::{end_after, first_deeper};
 use crate::span::{Span, Spanning};
 use crate::text::same_text;
@@ -117,7 +118,7 @@ impl<'a> Parser<'a> {
         let alloc = lexer.allocator();
         let source = lexer.source();
         let mut rest = lexer.duplicate();
-        let mut ranges = capacity_for_ranges(alloc, source, most);
+        let mut ranges = list_with_capacity(alloc, expected_ranges(source, most));
         let gathered = gather(&mut rest, &mut ranges, most);
         *lexer = rest;
         let lines = gathered?;
@@ -440,15 +441,9 @@ fn first_lines(lexer: &Lexer<'_>) -> Result<LineStarts, LexFailure>
     }
 }
 
-// A list with capacity for a token every four bytes of a source and some more, if there is as much memory. Few sources
-// have more tokens. It has no more than `most` tokens and the end need.
-fn capacity_for_ranges(alloc: Global, source: &str, most: usize) -> Vec<TokenRange>
-    ensures { result.items ≡ [] }
-{
-    let wanted = source.len() / 4 + 16;
-    let capacity = if most < wanted { most + 1 } else { wanted };
-    match Vec::with_capacity(alloc, capacity) {
-        Ok(ranges) => ranges,
-        Err(_) => Vec::new(alloc),
-    }
+// How many ranges a list should have capacity for: one every four bytes of a source and some more, since few sources have
+// more tokens, but no more than `most` and the end.
+fn expected_ranges(source: &str, most: usize) -> usize {
+    let expected = source.len() / 4 + 16;
+    if most < expected { most + 1 } else { expected }
 }
