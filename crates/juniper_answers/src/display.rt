@@ -45,6 +45,7 @@ fn write_value<S: ScalarValue, W: Write>(f: &mut fmt::Formatter<W>, value: &Valu
 }
 
 #[cycle(display)]
+#[tactic(auto, using(juniper_values::proofs::Public::none_written))]
 fn write_items<S: ScalarValue, W: Write>(
     f: &mut fmt::Formatter<W>,
     items: &Vec<Value<S>>,

@@ -52,6 +52,7 @@ fn write_value<S: ScalarValue, W: Write>(
 }
 
 #[cycle(display)]
+#[tactic(auto, using(crate::proofs::Displays::none_written))]
 fn write_items<S: ScalarValue, W: Write>(
     f: &mut fmt::Formatter<W>,
     items: &Vec<Spanning<InputValue<S>>>,
@@ -69,6 +70,7 @@ fn write_items<S: ScalarValue, W: Write>(
 }
 
 #[cycle(display)]
+#[tactic(auto, using(crate::proofs::Displays::none_written))]
 fn write_fields<S: ScalarValue, W: Write>(
     f: &mut fmt::Formatter<W>,
     fields: &Vec<(Spanning<String>, Spanning<InputValue<S>>)>,

@@ -1,29 +1,24 @@
 use Rattle.std.proofs.Common.{◌≡◌, ◌+◌, ◌*◌, ◌++◌, List, String, Global, drop}
-use Rattle.std.specs.Fmt.{IsPlainFormatter}
-use Rattle.juniper_values.specs.Display.{joined}
 use Rattle.juniper_values.specs.ScalarDisplay.{scalar_display}
-use Rattle.juniper_values.proofs.Public.{IsWritten, left}
-use Rattle.juniper_answers.specs.Display.{item_texts, field_texts}
-use Rattle.juniper_answers.specs.View.{items_view, fields_view, pairs}
+use Rattle.juniper_values.proofs.Public.{TextsLeft}
+use Rattle.juniper_answers.specs.View.{pairs}
 use Rattle.juniper_answers.specs.declared.value.Value.{Value}
+use Rattle.juniper_answers.proofs.DataTexts.{texts_of_items, texts_of_fields}
 use Rattle.juniper_answers.proofs.display.+display.Given as goal
 
 abbrev pub invariant-write_items-loop-item : goal.invariant-write_items-loop-item
 invariant-write_items-loop-item g l =
     let shown = scalar_display g.S.ParseScalarValue.content g.S.ScalarValue.str_in g.S.ScalarValue.shown in
-    IsPlainFormatter l.initial.f
-    → IsWritten g.W.Write.write_str_gives l.initial.f (joined (item_texts shown (items_view (λ s. s) l.item-items)))
-    (left l.first (item_texts shown (items_view (λ s. s) (drop l.item-index l.item-items)))) l.f
+    TextsLeft g.W.Write.write_str_gives l.initial.f (texts_of_items shown l.item-items) l.first
+    (texts_of_items shown (drop l.item-index l.item-items)) l.f
 
 abbrev pub invariant-write_fields-loop-key : goal.invariant-write_fields-loop-key
 invariant-write_fields-loop-key g l =
     let shown = scalar_display g.S.ParseScalarValue.content g.S.ScalarValue.str_in g.S.ScalarValue.shown in
     record {
       split : (done : List (String Global × Value g.row.S.Denot)) × (pairs l.object ≡ done ++ l.key-iterator);
-      written : IsPlainFormatter l.initial.f
-          → IsWritten g.W.Write.write_str_gives l.initial.f
-          (joined (field_texts shown (fields_view (λ s. s) (pairs l.object))))
-          (left l.first (field_texts shown (fields_view (λ s. s) l.key-iterator))) l.f;
+      written : TextsLeft g.W.Write.write_str_gives l.initial.f
+          (texts_of_fields shown (pairs l.object)) l.first (texts_of_fields shown l.key-iterator) l.f;
     }
 
 abbrev pub decreases-write_value : goal.decreases-write_value
