@@ -104,7 +104,7 @@ def check_words(check, page, calls):
 
 def check_program(checks, name):
     page = sections(f"{name}.1")
-    defined_ends = dict(re.findall(r"^status_at (\w+) = (\d+)$", read(f"crates/{name}/specs/Ends.antt"), re.M))
+    defined_ends = dict(re.findall(r"^status_at \(?(?:Ok |Err )?(\w+)\)? = (\d+)$", read(f"crates/{name}/specs/Ends.antt"), re.M))
     wanted = {int(number): ENDS[name][end] for end, number in defined_ends.items()}
     checks.check(
         f"the statuses of {name}(1)", {int(label): text for label, text in entries(page["EXIT STATUS"])}, {**wanted, **NO_RESULT}

@@ -6,30 +6,17 @@ use Rattle.graphql_lexical.specs.Display.{error_text}
 use Rattle.graphql_lexical.specs.Cutting.{Lexeme, Cut, Breaks}
 use Rattle.graphql_lexical.specs.Canonical.{canonical}
 use Rattle.juniper_tokens.specs.Positions.{position_text}
-use Rattle.streams.specs.Reports.{HasOneReport}
-use Rattle.gqlcanon.specs.declared.run.RunEnd.{RunEnd}
-use Rattle.gqlcanon.specs.declared.run.RunEnd.TheVariants.{Text, Refused, NotUtf8, Device, Memory}
-
--- a run that ends so has written a whole report
-abbrev pub IsReportEnd : RunEnd → Type 0
-IsReportEnd Text = Unit {0}
-IsReportEnd Refused = Unit {0}
-IsReportEnd NotUtf8 = Unit {0}
-IsReportEnd Device = ⊥
-IsReportEnd Memory = ⊥
+use Rattle.gqlcanon.specs.declared.report.CanonicalEnd.{CanonicalEnd}
+use Rattle.gqlcanon.specs.declared.report.CanonicalEnd.TheVariants.{Text, Refused, NotUtf8}
 
 -- an error, and the line and column where it stands
 abbrev pub fault_line : LexicalError → Place → List ℕ
 fault_line error at = encode_utf8_all (error_text error) ++ (codes ". At " ++ (position_text at ++ 10 ∷ []))
 
--- a run over these bytes ends so, and writes this text
-abbrev pub Report : List ℕ → RunEnd → List ℕ → Type 0
-Report bytes Text text = IsUtf8 bytes × ((tokens : List Lexeme) × Cut (chars bytes) tokens × (text ≡ encode_utf8_all (canonical tokens)))
-Report bytes Refused text = IsUtf8 bytes × ((error : LexicalError) × (at : Place) × Breaks (chars bytes) error at × (text ≡ fault_line error at))
+-- the report on these bytes ends so, and is this text
+abbrev pub Report : List ℕ → CanonicalEnd → List ℕ → Type 0
+Report bytes Text text = IsUtf8 bytes
+    × ((tokens : List Lexeme) × Cut (chars bytes) tokens × (text ≡ encode_utf8_all (canonical tokens)))
+Report bytes Refused text = IsUtf8 bytes
+    × ((error : LexicalError) × (at : Place) × Breaks (chars bytes) error at × (text ≡ fault_line error at))
 Report bytes NotUtf8 text = ¬ IsUtf8 bytes × (text ≡ codes "Not UTF-8\n")
-Report bytes Device text = ⊥
-Report bytes Memory text = ⊥
-
--- bytes have exactly one report
-abbrev pub OneReport : Type 0
-OneReport = HasOneReport Report

@@ -2,54 +2,34 @@
 #![tactic(auto)]
 
 ghost use Rattle.std.specs.Prelude.{◌≡◌};
-ghost use Rattle.gqlcanon.specs.Ends.{fault_at, status_at};
+ghost use Rattle.gqlcanon.specs.Ends.{status_at};
 
-mod run;
+mod report;
 
-use run::{RunEnd, run};
+use report::CanonicalEnd;
 use std::process::ExitCode;
-use streams::Watched;
-use thiserror::Error;
-
-#[derive(Debug, Drop, Error)]
-enum Fault {
-    #[error("gqlcanon: input or output failed")]
-    Device,
-    #[error("gqlcanon: out of memory")]
-    Memory,
-}
+use streams::{Stop, Watched, run};
 
 fn main(rt: HostRuntime) -> ExitCode {
     let mut reader = Watched::new(rt.stdin());
     let mut writer = Watched::new(rt.stdout());
     let end = run(rt.alloc(), &mut reader, &mut writer);
-    if let Some(fault) = fault_of(end) {
+    if let Err(stop) = &end {
         // If standard error fails too, nothing is left to report to.
-        let _ = eprintln!(rt; "{fault}");
+        let _ = eprintln!(rt; "gqlcanon: {stop}");
     }
     ExitCode::from(status_of(end))
 }
 
-// What is written to standard error if a run has no report.
-fn fault_of(end: RunEnd) -> Option<Fault>
-    ensures { result ≡ fault_at end }
-{
-    match end {
-        RunEnd::Text | RunEnd::Refused | RunEnd::NotUtf8 => None,
-        RunEnd::Device => Some(Fault::Device),
-        RunEnd::Memory => Some(Fault::Memory),
-    }
-}
-
 // The exit status of a run.
-fn status_of(end: RunEnd) -> u8
+fn status_of(end: Result<CanonicalEnd, Stop>) -> u8
     ensures { result ≡ status_at end }
 {
     match end {
-        RunEnd::Text => 0,
-        RunEnd::Refused => 1,
-        RunEnd::NotUtf8 => 2,
-        RunEnd::Device => 3,
-        RunEnd::Memory => 4,
+        Ok(CanonicalEnd::Text) => 0,
+        Ok(CanonicalEnd::Refused) => 1,
+        Ok(CanonicalEnd::NotUtf8) => 2,
+        Err(Stop::Device) => 3,
+        Err(Stop::Memory) => 4,
     }
 }

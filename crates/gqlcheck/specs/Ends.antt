@@ -1,7 +1,7 @@
--- The exit status of a run's end, and what is written to standard error.
+-- The exit status of a run's end, and why a run has no whole report.
 use Rattle.std.specs.Prelude.{ℕ, Option, Some, None}
-use Rattle.gqlcheck.specs.declared.Fault.{Fault}
-use Rattle.gqlcheck.specs.declared.Fault.TheVariants as fault
+use Rattle.streams.specs.declared.whole.Stop.{Stop}
+use Rattle.streams.specs.declared.whole.Stop.TheVariants as stop
 use Rattle.gqlcheck_report.specs.declared.report.RunEnd.{RunEnd}
 use Rattle.gqlcheck_report.specs.declared.report.RunEnd.TheVariants.{Tree, Refused, NotUtf8, TooDeep, Device, Memory}
 
@@ -14,11 +14,11 @@ status_at Device = 3
 status_at Memory = 4
 status_at TooDeep = 5
 
--- what is written to standard error, where a run has no report
-abbrev pub fault_at : RunEnd → Option Fault
-fault_at Tree = None
-fault_at Refused = None
-fault_at NotUtf8 = None
-fault_at TooDeep = None
-fault_at Device = Some fault.Device
-fault_at Memory = Some fault.Memory
+-- what is written to standard error
+abbrev pub stop_at : RunEnd → Option Stop
+stop_at Tree = None
+stop_at Refused = None
+stop_at NotUtf8 = None
+stop_at TooDeep = None
+stop_at Device = Some stop.Device
+stop_at Memory = Some stop.Memory

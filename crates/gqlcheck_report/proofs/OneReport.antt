@@ -1,8 +1,6 @@
 -- Bytes have exactly one report: the definitions leave no choice of a tree or a fault.
-use Rattle.std.proofs.Common.{◌≡◌, ◌⊎◌, inl, inr, ℕ, Bool, true, false, List, chars, codes, refl, sym, ap, ◌∙◌, encode_utf8_all}
+use Rattle.std.proofs.Common.{◌≡◌, ◌⊎◌, inl, inr, ℕ, List, chars, codes, refl, sym, ap, ◌∙◌, encode_utf8_all}
 use Rattle.std.specs.Prelude.{IsUtf8}
-use Rattle.std.specs.Str.{is_utf8}
-use Rattle.std.proofs.lemmas.Str.{IsUtf8-from_is_utf8, is_utf8-from_IsUtf8}
 use Rattle.graphql_lexical.specs.Place.{Span}
 use Rattle.graphql_grammar.specs.Tree.{Definition}
 use Rattle.juniper_tokens.specs.Errors.{Fault}
@@ -10,12 +8,13 @@ use Rattle.juniper_values.specs.Scalar.{Content}
 use Rattle.juniper.specs.Scalars.{default_scalars}
 use Rattle.juniper.specs.Promise.{HasTree, IsRefusal}
 use Rattle.juniper.specs.Within.{HasTooDeep, HasTreeWithin, IsRefusedWithin, IsNestedTooDeep, HasOneResult}
+use Rattle.streams.proofs.Public.{utf8_or_not}
 use Rattle.gqlcheck_report.specs.Lines.{document_lines}
 use Rattle.gqlcheck_report.specs.Report.{Report, OneReport, fault_line, deep_line, limit}
 use Rattle.gqlcheck_report.specs.declared.report.RunEnd.{RunEnd}
 use Rattle.gqlcheck_report.specs.declared.report.RunEnd.TheVariants.{Tree, Refused, NotUtf8, TooDeep, Device, Memory}
 
--- as texts have one fault, or a tree and no fault, and one token at most that is nested too deep, and always one of these
+-- as texts have one fault, or a tree and no fault, and one token at most that is nested too deep, and one of these
 module _ (one_fault : (source : List ℕ) (f g : Fault) → IsRefusal default_scalars source f
     → IsRefusal default_scalars source g → f ≡ g)
     (never_both : (source : List ℕ) (tree : List (Definition Content)) (fault : Fault)
@@ -58,28 +57,21 @@ module _ (one_fault : (source : List ℕ) (f g : Fault) → IsRefusal default_sc
   same_report bytes Device end s t a b = absurd a
   same_report bytes Memory end s t a b = absurd a
 
-  abbrev SomeReport : List ℕ → Type 0
-  SomeReport bytes = (end : RunEnd) × (text : List ℕ) × Report bytes end text
-
   report_of : (bytes : List ℕ) → IsUtf8 bytes
       → HasTreeWithin default_scalars limit (chars bytes)
       ⊎ (IsRefusedWithin default_scalars limit (chars bytes) ⊎ IsNestedTooDeep default_scalars limit (chars bytes))
-      → SomeReport bytes
+      → (end : RunEnd) × (text : List ℕ) × Report bytes end text
   report_of bytes utf8 (inl (within, (tree, has))) =
       (Tree, encode_utf8_all (document_lines tree), (utf8, (tree, has, refl), within))
-  report_of bytes utf8 (inr (inl (within, (fault, is)))) = (Refused, fault_line fault, (utf8, (fault, is, refl), within))
+  report_of bytes utf8 (inr (inl (within, (fault, is)))) =
+      (Refused, fault_line fault, (utf8, (fault, is, refl), within))
   report_of bytes utf8 (inr (inr (span, deep))) = (TooDeep, deep_line span, (utf8, (span, deep, refl)))
 
-  some_report : (bytes : List ℕ) → SomeReport bytes
-  some_report bytes = by_test (is_utf8 bytes) refl
-    where
-      by_test : (b : Bool) → is_utf8 bytes ≡ b → SomeReport bytes
-      by_test true e = report_of bytes (IsUtf8-from_is_utf8 bytes e) (answers limit (chars bytes)).some
-      by_test false e = (
-        NotUtf8,
-        codes "Not UTF-8\n",
-        ((λ utf8. let both : true ≡ false = sym (is_utf8-from_IsUtf8 bytes utf8) ∙ e in absurd (cc both)), refl),
-      )
+  some_report : (bytes : List ℕ) → (end : RunEnd) × (text : List ℕ) × Report bytes end text
+  some_report bytes = elim (utf8_or_not bytes) [
+    | inl utf8 ↦ report_of bytes utf8 (answers limit (chars bytes)).some
+    | inr none ↦ (NotUtf8, codes "Not UTF-8\n", (none, refl))
+  ]
 
   pub one_report : OneReport
   one_report = record { some = some_report; one = same_report }

@@ -1,5 +1,5 @@
 //! The whole work of the program, over any reader and writer.
-ghost use Rattle.std.specs.Prelude.{◌≡◌, ℕ, ◌↔◌, ◌⊎◌, true, false, not, List, take, IfOk, IsTrue, length, string_bytes};
+ghost use Rattle.std.specs.Prelude.{◌≡◌, ℕ, ◌↔◌, ◌⊎◌, true, false, List, take, IfOk, string_bytes};
 ghost use Rattle.std.specs.Io.KnownBytes.{Appends, Consumes, IsAtEnd, Keeps};
 ghost use Rattle.streams.specs.Watched.{inner_of, has_failed};
 ghost use Rattle.juniper_tokens.specs.Errors.{view_fault};
@@ -14,7 +14,7 @@ use juniper::{
 };
 use std::alloc::{AllocError, Global};
 use std::io::{Read, Write};
-use streams::{Stop, Watched, read_all, write_all};
+use streams::{ReportEnd, Stop, Watched};
 
 /// How a run ended, and what it has then written.
 #[derive(Clone, Copy, Debug, PartialEq, Eq)]
@@ -73,45 +73,35 @@ pub fn run<R: Read, W: Write>(
     ensures memory { result ≡ RunEnd.Memory
         → Keeps (W.contents (inner_of writer.old)) (W.contents (inner_of writer.new)) }
 {
-    one_report();
-    let source = match read_all(alloc, reader) {
-        Ok(source) => source,
-        Err(Stop::Device) => return RunEnd::Device,
-        Err(Stop::Memory) => return RunEnd::Memory,
-    };
-    let Ok((end, text)) = report(alloc, source.as_slice()) else {
-        return RunEnd::Memory;
-    };
-    if write_all(writer, text.as_bytes()) {
-        end
-    } else {
-        RunEnd::Device
+    match streams::run(alloc, reader, writer) {
+        Ok(end) => end,
+        Err(Stop::Device) => RunEnd::Device,
+        Err(Stop::Memory) => RunEnd::Memory,
     }
 }
 
-// Bytes have one report, since a text within the limit has one tree or one fault, or one token that is nested too deep.
-fn one_report()
-    ensures { OneReport }
-{
-    document_or_fault::<DefaultScalarValue>();
-    one_too_deep::<DefaultScalarValue>();
-    one_answer_within::<DefaultScalarValue>();
-}
+impl ReportEnd for RunEnd {
+    ghost reports = { Report };
 
-// How a run over these bytes ends, and what it writes.
-fn report(alloc: Global, bytes: &[u8]) -> Result<(RunEnd, String), AllocError>
-    ensures { IfOk result (λ answer. Report bytes.now answer.0 (string_bytes answer.1)) }
-{
-    let Ok(source) = std::str::from_utf8(bytes) else {
-        return Ok((RunEnd::NotUtf8, String::from_str(alloc, NOT_UTF8)?));
-    };
-    match parse_document_source_within::<DefaultScalarValue>(alloc, source, LIMIT) {
-        Ok(document) => Ok((RunEnd::Tree, document_text(alloc, &document)?)),
-        Err(DepthFailure::Parse(ParseFailure::Refused(fault))) => {
-            Ok((RunEnd::Refused, fault_text(alloc, &fault)?))
+    fn report(alloc: Global, bytes: &[u8]) -> Result<(RunEnd, String), AllocError> {
+        let Ok(source) = std::str::from_utf8(bytes) else {
+            return Ok((RunEnd::NotUtf8, String::from_str(alloc, NOT_UTF8)?));
+        };
+        match parse_document_source_within::<DefaultScalarValue>(alloc, source, LIMIT) {
+            Ok(document) => Ok((RunEnd::Tree, document_text(alloc, &document)?)),
+            Err(DepthFailure::Parse(ParseFailure::Refused(fault))) => {
+                Ok((RunEnd::Refused, fault_text(alloc, &fault)?))
+            }
+            Err(DepthFailure::TooDeep(span)) => Ok((RunEnd::TooDeep, deep_text(alloc, span)?)),
+            Err(DepthFailure::Parse(ParseFailure::Memory)) => Err(AllocError),
         }
-        Err(DepthFailure::TooDeep(span)) => Ok((RunEnd::TooDeep, deep_text(alloc, span)?)),
-        Err(DepthFailure::Parse(ParseFailure::Memory)) => Err(AllocError),
+    }
+
+    // A text within the limit has one tree or one fault, and any other has one token that is nested too deep.
+    fn one_report() {
+        document_or_fault::<DefaultScalarValue>();
+        one_too_deep::<DefaultScalarValue>();
+        one_answer_within::<DefaultScalarValue>();
     }
 }
 

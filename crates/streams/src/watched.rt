@@ -1,5 +1,5 @@
 //! A reader or a writer that remembers its last failure.
-ghost use Rattle.std.specs.Prelude.{◌≡◌, ◌&&◌, ◌||◌, ◌==◌, ◌<◌, Some, IfErr, false, not, length, is_err, nat_lt};
+ghost use Rattle.std.specs.Prelude.{◌≡◌, ◌||◌, Some, IfErr, false, length, is_err};
 ghost use Rattle.std.specs.Io.{ReadsAtMost, WritesAtMost};
 ghost use Rattle.std.specs.Io.KnownBytes.{ReadConsumes, WriteAppends};
 

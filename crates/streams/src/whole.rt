@@ -6,13 +6,16 @@ ghost use Rattle.streams.specs.Watched.{inner_of, has_failed};
 use crate::watched::Watched;
 use std::alloc::Global;
 use std::io::{Read, Write};
+use thiserror::Error;
 
-/// Why a reader was not read to its end.
-#[derive(Clone, Copy, Debug, PartialEq, Eq)]
+/// Why a reader was not read to its end, or a program has no whole report.
+#[derive(Clone, Copy, Debug, PartialEq, Eq, Error)]
 pub enum Stop {
-    /// A read failed.
+    /// A read or a write failed.
+    #[error("input or output failed")]
     Device,
     /// Memory ran out.
+    #[error("out of memory")]
     Memory,
 }
 

@@ -1,5 +1,5 @@
 use Rattle.std.proofs.Common.{append_assoc}
-use Rattle.gqlcanon.proofs.run.fault_text.Goals as goal
+use Rattle.gqlcanon.proofs.report.fault_text.Goals as goal
 
 pub returns : goal.returns
 returns c = simp append_assoc (simp append_assoc at c.format.ensures.ok)

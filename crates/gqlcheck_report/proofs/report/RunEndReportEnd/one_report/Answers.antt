@@ -1,5 +1,5 @@
 use Rattle.gqlcheck_report.proofs.OneReport.{one_report}
-use Rattle.gqlcheck_report.proofs.report.one_report.Goals as goal
+use Rattle.gqlcheck_report.proofs.report.RunEndReportEnd.one_report.Goals as goal
 
 pub returns : goal.returns
 returns c =
