@@ -9,7 +9,7 @@ use Rattle.graphql_lexical.specs.Cutting.{Lexeme}
 use Rattle.graphql_grammar.specs.Tokens.{Word, Text, span_of, from_to}
 use Rattle.graphql_grammar.specs.device.Reading.{Test, passes, of, Read, Took, Reader, after, seq, done, on, want, many, look, choose, maybe, with_span, give_span, one_or_more}
 use Rattle.graphql_lexical.specs.Parts.{◌·◌}
-use Rattle.graphql_grammar.specs.Grammar.{Is, IsName, Says, Each, Optional, Listed}
+use Rattle.graphql_grammar.specs.Grammar.{Is, IsWord, Says, Each, Optional, Listed}
 use Rattle.graphql_grammar.proofs.Sequences.{token_in, enclosed_span, row_as, row_front, row_back, one_takes, back_takes, row_length, row_before, row_right}
 use Rattle.graphql_grammar.proofs.TokenRules.{on_passed, on_failed, want_passed}
 use Rattle.graphql_grammar.proofs.PartRules.{front_is}
@@ -59,7 +59,7 @@ front_starts s ts h =
 pub starts_takes : {k : Kind} (ts : List Lexeme) → StartsWith k ts → 0 < length ts
 starts_takes ts s = rw s.3 (omega arith)
 
-pub word_starts : (ts : List Lexeme) (w : Word) → IsName w ts → StartsWith Name ts
+pub word_starts : (ts : List Lexeme) (w : Word) → IsWord w ts → StartsWith Name ts
 word_starts ts w h = (w.item, w.span, [], h)
 
 pub says_starts : {w : Text} (ts : List Lexeme) → Says w ts → StartsWith Name ts
@@ -236,7 +236,7 @@ pub want_found : {F : Type 0} {n : ℕ} {After : List Lexeme → Type 0} (test :
 want_found test t e = record { at = λ ts rest le h g. rw h (want_passed test t rest e) }
 
 pub word_found : {F : Type 0} {n : ℕ} {After : List Lexeme → Type 0} (w : Word)
-    → Finds {F = F} n (want (of Name)) (IsName w) After (token Name w.item w.span)
+    → Finds {F = F} n (want (of Name)) (IsWord w) After (token Name w.item w.span)
 word_found w = want_found (of Name) (token Name w.item w.span) refl
 
 pub done_found : {F A : Type 0} {n : ℕ} {After : List Lexeme → Type 0} {a : A}

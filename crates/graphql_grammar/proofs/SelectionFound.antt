@@ -10,7 +10,7 @@ use Rattle.graphql_grammar.specs.Tree.{Scalars, Arguments, Variables, Selection,
 use Rattle.graphql_grammar.specs.declared.operation.OperationType.{OperationType}
 use Rattle.graphql_grammar.specs.declared.operation.OperationType.TheVariants.{Query, Mutation, Subscription}
 use Rattle.graphql_lexical.specs.Parts.{◌·◌}
-use Rattle.graphql_grammar.specs.Grammar.{Is, Says, Each, Optional, IsName, IsArguments, IsDirectives, IsVariables, IsAlias, IsTypeCondition, IsFragmentName, IsSelection, IsOptionalSelectionSet, IsSelectionSet, AreSelections, IsDefinition, IsDocument}
+use Rattle.graphql_grammar.specs.Grammar.{Is, Says, Each, Optional, IsWord, IsArguments, IsDirectives, IsVariables, IsAlias, IsTypeCondition, IsFragmentName, IsSelection, IsOptionalSelectionSet, IsSelectionSet, AreSelections, IsDefinition, IsDocument}
 use Rattle.graphql_grammar.proofs.Sequences.{row_front, row_back, row_right, row_left, back_takes, nothing_first, nothing_last}
 use Rattle.graphql_grammar.proofs.TokenTests.{text_other}
 use Rattle.graphql_grammar.proofs.Finds.{Any, NotAt, token, Finds, Before, StartsWith, is_starts, says_starts, front_starts, word_starts, Rejects, starts_before, only_before, nothing_before, both_before, front_before, any_before, found_as, found_if, found_is, map_found, on_apart, look_apart, look_found, given_found, either_found, seq_found, then_found, seq_past, want_found, word_found, done_found, is_found, says_found, closed_found, on_found, is_past, is_then, span_found, maybe_found, several_found, one_or_more_found}
@@ -32,7 +32,7 @@ operation_is Subscription = refl
 module _ {C F : Type 0} (S : Scalars C F) where
   -- a fragment's name, and then the others
   fragment_name_found : {A : Type 0} {n : ℕ} {f : Reader F A} {Q After : List Lexeme → Type 0} {a : A} (w : Word)
-      → ((w.item ≡ codes "on" → ⊥) → Finds n f (IsName w · Q) After a)
+      → ((w.item ≡ codes "on" → ⊥) → Finds n f (IsWord w · Q) After a)
       → Finds n f (IsFragmentName S w · Q) After a
   fragment_name_found w q = found_as (λ ts h. (row_front (λ us k. k.0) ts h, h.first.1)) (given_found q)
 
@@ -48,7 +48,7 @@ module _ {C F : Type 0} (S : Scalars C F) where
   }
 
   field_starts : (alias : Option Word) (name : Word) {Q : List Lexeme → Type 0} (ts : List Lexeme)
-      → (Optional (IsAlias S) alias · IsName name · Q) ts → StartsWith Name ts
+      → (Optional (IsAlias S) alias · IsWord name · Q) ts → StartsWith Name ts
   field_starts None name ts h = front_starts (λ us w. word_starts us name w) ts (nothing_first ts h)
   field_starts (Some x) name ts h = front_starts (front_starts (λ us w. word_starts us x w)) ts h
 
@@ -143,7 +143,7 @@ module _ {C F : Type 0} (S : Scalars C F) where
           (look_found CurlyOpen _ (λ ts h. set_starts ts ss h) (map_found (λ a. Some a) (set_found ss)))
 
       name_found : {m : ℕ} (alias : Option Word) (name : Word)
-          → Finds m (reads S n names) (Optional (IsAlias S) alias · IsName name) (NotAt (of Colon))
+          → Finds m (reads S n names) (Optional (IsAlias S) alias · IsWord name) (NotAt (of Colon))
           (alias, name)
       name_found None name = found_as (λ ts h. nothing_last ts (nothing_first ts h)) (seq_found _ (word_found name)
           (nothing_before (λ rest g. g)) (on_apart (of Colon) _ (nothing_before (λ rest g. g)) done_found))
@@ -191,7 +191,7 @@ module _ {C F : Type 0} (S : Scalars C F) where
       field_found : (alias : Option Word) (name : Word) (args : Option (Arguments C)) (ds : Directives C)
           (ss : OptionalSelections C) (p : Span)
           → Finds (suc n) (reads S n field)
-          (λ ts. (Optional (IsAlias S) alias · IsName name · Optional (IsArguments S) args
+          (λ ts. (Optional (IsAlias S) alias · IsWord name · Optional (IsArguments S) args
           · IsDirectives S ds · IsOptionalSelectionSet S ss) ts × (p ≡ span_of ts)) AfterSelection
           (Field alias name args ds ss p)
       unfolding field
@@ -226,7 +226,7 @@ module _ {C F : Type 0} (S : Scalars C F) where
     where
       cases : (ts rest : List Lexeme)
           → (IsSelectionSet S ss ts × (type ≡ Query) × (name ≡ None) × (vars ≡ None) × (ds ≡ None))
-          ⊎ (Says (operation_name type) · Optional IsName name · Optional (IsVariables S) vars
+          ⊎ (Says (operation_name type) · Optional IsWord name · Optional (IsVariables S) vars
           · IsDirectives S ds · IsSelectionSet S ss) ts
           → NotAt (of EndOfFile) (ts ++ rest)
       cases ts rest (inl h) = rw (set_starts ts ss h.0).3
@@ -252,7 +252,7 @@ module _ {C F : Type 0} (S : Scalars C F) where
     }
 
     optional_name_found : (name : Option Word)
-        → Finds n (reads S n optional_name) (Optional IsName name) (NotAt (of Name)) name
+        → Finds n (reads S n optional_name) (Optional IsWord name) (NotAt (of Name)) name
     optional_name_found None = look_apart (of Name) _ (nothing_before (λ rest g. g)) done_found
     optional_name_found (Some w) = look_found Name _ (λ ts h. word_starts ts w h)
         (map_found (λ t. Some (word_of t)) (word_found w))
@@ -260,7 +260,7 @@ module _ {C F : Type 0} (S : Scalars C F) where
     operation_found : (type : OperationType) (name : Option Word) (vars : Option (Variables C)) (ds : Directives C)
         (ss : Selections C)
         → Finds n (reads S n definition_parts)
-        (Says (operation_name type) · Optional IsName name · Optional (IsVariables S) vars
+        (Says (operation_name type) · Optional IsWord name · Optional (IsVariables S) vars
         · IsDirectives S ds · IsSelectionSet S ss) Any (λ p. Operation type name vars ds ss p)
     unfolding operation optional_variables
     operation_found type name vars ds ss = says_found (λ p.

@@ -11,7 +11,7 @@ use Rattle.graphql_grammar.specs.device.Productions.{selections_inner, selection
 use Rattle.graphql_grammar.specs.Tree.{Scalars, Selection, Field, FragmentSpread, InlineFragment, Selections, no_selections, selection, Definition, Operation, Fragment, absent, operation_name, Directives, selections_of}
 use Rattle.graphql_grammar.specs.declared.operation.OperationType.TheVariants.{Query}
 use Rattle.graphql_lexical.specs.Parts.{◌·◌}
-use Rattle.graphql_grammar.specs.Grammar.{Each, Optional, Is, IsName, Says, IsArguments, IsDirectives, IsVariables, IsAlias, IsTypeCondition, IsFragmentName, IsSelection, IsOptionalSelectionSet, IsSelectionSet, AreSelections, IsDefinition, IsDocument}
+use Rattle.graphql_grammar.specs.Grammar.{Each, Optional, Is, IsWord, Says, IsArguments, IsDirectives, IsVariables, IsAlias, IsTypeCondition, IsFragmentName, IsSelection, IsOptionalSelectionSet, IsSelectionSet, AreSelections, IsDefinition, IsDocument}
 use Rattle.graphql_grammar.proofs.Rules.{less, Rule, Some_of, done_rule}
 use Rattle.graphql_grammar.proofs.TokenRules.{on_rule, look_rule}
 use Rattle.graphql_grammar.proofs.PartRules.{span_rule, maybe_rule, some_rule, one_or_more_rule, step, want_step, lower, less_short, ClosedSome}
@@ -20,7 +20,7 @@ use Rattle.graphql_grammar.proofs.TokenTests.{of_kind, both, text_yes, says, oth
 use Rattle.graphql_grammar.proofs.DocumentRules.{low1, low2, low3, optional_arguments_rule, directives_rule, optional_variables_rule}
 
 module _ {C F : Type 0} (S : Scalars C F) where
-  pub word_takes : (ts : List Lexeme) (w : Word) → IsName w ts → 0 < length ts
+  pub word_takes : (ts : List Lexeme) (w : Word) → IsWord w ts → 0 < length ts
   word_takes ts w h = one_takes ts _ h
 
   selections_are : (ts : List Lexeme) (xs : List (Selection C)) → Each (IsSelection S) xs ts
@@ -57,7 +57,7 @@ module _ {C F : Type 0} (S : Scalars C F) where
       x = sample Name
 
   abbrev pub IsFieldName : Option Word × Word → List Lexeme → Type 0
-  IsFieldName h ts = (Optional (IsAlias S) h.0 · IsName h.1) ts
+  IsFieldName h ts = (Optional (IsAlias S) h.0 · IsWord h.1) ts
 
   pub field_name_takes : (ts : List Lexeme) (h : Option Word × Word) → IsFieldName h ts → 0 < length ts
   field_name_takes ts h k = back_takes (λ us w. word_takes us h.1 w) ts k
@@ -189,11 +189,11 @@ module _ {C F : Type 0} (S : Scalars C F) where
   definition_takes ts (Operation kind name vars ds ss p) (inr h, q) = front_takes (says_takes _) ts h
   definition_takes ts (Fragment name condition ds ss p) h = front_takes (says_takes _) ts h.0
 
-  pub optional_name_rule : (k n m : ℕ) → Rule k (reads S n optional_name) (reads S m optional_name) (Optional IsName)
-  optional_name_rule k n m = look_rule k (of Name) _ _ _ _ (Optional IsName)
-      (want_step k (of Name) (sample Name) _ _ (Optional IsName) refl (inl refl)
+  pub optional_name_rule : (k n m : ℕ) → Rule k (reads S n optional_name) (reads S m optional_name) (Optional IsWord)
+  optional_name_rule k n m = look_rule k (of Name) _ _ _ _ (Optional IsWord)
+      (want_step k (of Name) (sample Name) _ _ (Optional IsWord) refl (inl refl)
       (λ t t' p. done_rule _ (Some (word_of t)) (Some (word_of t')) _ (word_is t (of_kind Name t p))))
-      (done_rule k None None (Optional IsName) refl)
+      (done_rule k None None (Optional IsWord) refl)
 
   pub type_condition_rule : (k n m : ℕ)
       → Rule k (reads S n type_condition) (reads S m type_condition) (IsTypeCondition S)
@@ -223,7 +223,7 @@ module _ {C F : Type 0} (S : Scalars C F) where
         → Rule (less n (t ∷ [])) (reads S n (operation (operation_of t.text)))
         (reads S m (operation (operation_of t'.text))) (λ k us. IsOperation k (t ∷ us))
     unfolding operation
-    operation_rule t t' p = step n (less n (t ∷ [])) _ _ _ _ (Optional IsName) _ (low1 S n m le (t ∷ []))
+    operation_rule t t' p = step n (less n (t ∷ [])) _ _ _ _ (Optional IsWord) _ (low1 S n m le (t ∷ []))
         (optional_name_rule n n m) (λ us name name' a.
         step n _ _ _ _ _ (Optional (IsVariables S)) _ (low2 S n m le (t ∷ []) us)
         (optional_variables_rule S n m le) (λ vs vars vars' b.

@@ -6,7 +6,7 @@ use Rattle.graphql_lexical.specs.Cutting.{Lexeme, last_of}
 use Rattle.graphql_lexical.proofs.Public.{last_next}
 use Rattle.graphql_grammar.specs.Tokens.{Text, word_of, over, span_of}
 use Rattle.graphql_lexical.specs.Parts.{◌·◌}
-use Rattle.graphql_grammar.specs.Grammar.{Token, Is, IsName, Says}
+use Rattle.graphql_grammar.specs.Grammar.{Token, Is, IsWord, Says}
 
 -- ---- one token
 
@@ -25,7 +25,7 @@ pub token_is : (kind : Kind) (text : Text) (t : Lexeme) → t.kind ≡ kind → 
     → Token kind text t.span (t ∷ [])
 token_is kind text t e h = ap₂ (λ (k : Kind) (w : Text). record { kind = k; text = w; span = t.span } ∷ []) e h
 
-pub word_is : (t : Lexeme) → t.kind ≡ Name → IsName (word_of t) (t ∷ [])
+pub word_is : (t : Lexeme) → t.kind ≡ Name → IsWord (word_of t) (t ∷ [])
 word_is t e = token_is Name t.text t e refl
 
 pub says_is : (text : Text) (t : Lexeme) → t.kind ≡ Name → t.text ≡ text → Says text (t ∷ [])

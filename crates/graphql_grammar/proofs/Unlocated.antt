@@ -10,7 +10,7 @@ use Rattle.graphql_lexical.specs.laws.Alike.{Alike}
 use Rattle.graphql_grammar.specs.Tokens.{Text, Located, Word, nowhere, span_of}
 use Rattle.graphql_grammar.specs.Tree.{Scalars, Value, Null, Scalar, Enum, Variable, ListOf, Object, Items, no_items, item, ObjectFields, no_fields, object_field, TypeRef, NamedType, ListType, NonNullType, Argument, Arguments, Directive, Directives, VariableDefinition, Variables, Selection, Field, FragmentSpread, InlineFragment, Selections, no_selections, selection, OptionalSelections, absent, present, Definition, Operation, Fragment}
 use Rattle.graphql_lexical.specs.Parts.{◌·◌}
-use Rattle.graphql_grammar.specs.Grammar.{IsLocated, Token, Is, IsVariable, IsValue, AreItems, AreFields, Each, Optional, Several, IsName, Says, Listed, IsType, IsArgument, IsArguments, IsDirective, IsDirectives, IsDefault, IsVariableDefinition, IsVariables, IsAlias, IsTypeCondition, IsFragmentName, IsSelection, IsOptionalSelectionSet, IsSelectionSet, AreSelections, IsDefinition, IsDocument, Over}
+use Rattle.graphql_grammar.specs.Grammar.{IsLocated, Token, Is, IsVariable, IsValue, AreItems, AreFields, Each, Optional, Several, IsWord, Says, Listed, IsType, IsArgument, IsArguments, IsDirective, IsDirectives, IsDefault, IsVariableDefinition, IsVariables, IsAlias, IsTypeCondition, IsFragmentName, IsSelection, IsOptionalSelectionSet, IsSelectionSet, AreSelections, IsDefinition, IsDocument, Over}
 use Rattle.graphql_grammar.specs.Unlocated.{if_some, unlocated_word, unlocated_value, unlocated_items, unlocated_fields, unlocated_argument, unlocated_arguments, unlocated_directive, unlocated_directives, unlocated_variable, unlocated_variables, unlocated_selection, unlocated_selections, unlocated_optional, unlocated_definition, unlocated}
 use Rattle.graphql_lexical.proofs.Public.{last_next}
 
@@ -53,7 +53,7 @@ is kind ts h = (h.0, nowhere, ap all_bare h.2)
 says : (text : Text) → Bares (Says text) (Says text)
 says text ts h = (nowhere, ap all_bare h.1)
 
-word : (w : Word) → Bares (IsName w) (IsName (unlocated_word w))
+word : (w : Word) → Bares (IsWord w) (IsWord (unlocated_word w))
 word w = token Name w.item w.span
 
 both : {A B A' B' : List Lexeme → Type 0} → Bares A A' → Bares B B' → Bares (A · B) (A' · B')

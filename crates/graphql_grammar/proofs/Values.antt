@@ -9,7 +9,7 @@ use Rattle.graphql_grammar.specs.device.Reading.{passes, of, Took, Refused, refu
 use Rattle.graphql_grammar.specs.device.Productions.{by_name, variable_start, variable, list, key_and_value, object, value, symbol_at, reads}
 use Rattle.graphql_grammar.specs.Tree.{Scalars, Value, Null, Scalar, Enum, Variable, ListOf, Object, no_items, no_fields, items_of, fields_of}
 use Rattle.graphql_lexical.specs.Parts.{◌·◌}
-use Rattle.graphql_grammar.specs.Grammar.{IsScalarKind, Is, IsName, IsValue, AreItems, AreFields, Each, IsLocated, Says}
+use Rattle.graphql_grammar.specs.Grammar.{IsScalarKind, Is, IsWord, IsValue, AreItems, AreFields, Each, IsLocated, Says}
 use Rattle.graphql_grammar.proofs.Sequences.{row, row_back, row_right, enclosed, over_enclosed, kind_is, word_is, says_is, one_takes, is_takes, front_takes}
 use Rattle.graphql_grammar.specs.device.Faults.{ScalarError}
 use Rattle.graphql_grammar.proofs.Rules.{SameHead, less, Agrees, Fails, Meets, Rule, Some_of, done_rule, seq_rule, turn, weaken, less_below, IsOpener, More}
@@ -112,7 +112,7 @@ module _ {C F : Type 0} (S : Scalars C F) (free : Bool) where
 
   -- one field of an object, as it is read
   abbrev pub IsField : Word × Located (Value C) → List Lexeme → Type 0
-  IsField x ts = (IsName x.0 · Is Colon · IsLocated (IsValue S free) x.1) ts
+  IsField x ts = (IsWord x.0 · Is Colon · IsLocated (IsValue S free) x.1) ts
 
   items_are : (ts : List Lexeme) (vs : List (Located (Value C))) → Each (IsLocated (IsValue S free)) vs ts
       → AreItems S free (items_of vs) ts

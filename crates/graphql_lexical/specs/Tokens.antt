@@ -60,15 +60,15 @@ IsFloat = IsInteger · (IsFraction or Maybe IsFraction · IsExponent)
 
 -- Four hexadecimal digits, where a D comes before an octal digit: their number isn't from D800 to DFFF. October 2021
 -- (section 2.9.4) takes any four; here a surrogate is no character.
-abbrev pub IsScalar : ℕ → ℕ → ℕ → ℕ → Type 0
-IsScalar h i j k = Any is_hex (h ∷ i ∷ j ∷ k ∷ [])
+abbrev pub AreScalarDigits : ℕ → ℕ → ℕ → ℕ → Type 0
+AreScalarDigits h i j k = Any is_hex (h ∷ i ∷ j ∷ k ∷ [])
     × (IsTrue (is_among (codes "Dd") h) → IsTrue (is_among (codes "01234567") i))
 
 -- what a string is made of
 pub data IsUnit : List ℕ → Type 0 where
   plain : {c : ℕ} → IsTrue (is_plain c) → IsUnit (c ∷ [])
   escape : {c : ℕ} → IsTrue (is_escape c) → IsUnit (codes "\\" ++ c ∷ [])
-  unicode : {h i j k : ℕ} → IsScalar h i j k → IsUnit (codes "\\u" ++ h ∷ i ∷ j ∷ k ∷ [])
+  unicode : {h i j k : ℕ} → AreScalarDigits h i j k → IsUnit (codes "\\u" ++ h ∷ i ∷ j ∷ k ∷ [])
 
 -- ---- block strings
 

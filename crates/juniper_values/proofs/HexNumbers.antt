@@ -2,7 +2,7 @@
 use Rattle.std.proofs.Common.{inl, inr, ◌≡◌, ℕ, ◌+◌, ◌-◌, ◌*◌, ◌<◌, ◌≤◌, ◌⊎◌, Bool, true, false, IsTrue, arith, refl, codes}
 use Rattle.std.proofs.lemmas.Bool.Decides.{nat_tests}
 use Rattle.graphql_lexical.specs.Characters.{is_among, is_hex}
-use Rattle.graphql_lexical.specs.Tokens.{IsScalar}
+use Rattle.graphql_lexical.specs.Tokens.{AreScalarDigits}
 use Rattle.juniper_values.specs.Escapes.{hex_value, hex_number}
 
 -- a hexadecimal digit and its value
@@ -26,7 +26,8 @@ octal_value c h = grind (arith, nat_tests)
 octal_from : (c : ℕ) → IsTrue (is_hex c) → hex_value c < 8 → IsTrue (is_among (codes "01234567") c)
 octal_from c x y = let k = hex_is c x in grind (arith, nat_tests)
 
-pub scalar_number : (h i j k : ℕ) → IsScalar h i j k → (hex_number h i j k < 55296) ⊎ (57343 < hex_number h i j k)
+pub scalar_number : (h i j k : ℕ) → AreScalarDigits h i j k
+    → (hex_number h i j k < 55296) ⊎ (57343 < hex_number h i j k)
 scalar_number h i j k s = by_d (is_among (codes "Dd") h) refl
   where
     number : (a b c d : ℕ) → b < 16 → c < 16 → d < 16 → (a < 13) ⊎ ((13 < a) ⊎ (b < 8))
@@ -43,7 +44,7 @@ scalar_number h i j k s = by_d (is_among (codes "Dd") h) refl
     by_d false e = by (elim (value_not_d h s.0.0 e) [ inl x ↦ inl x | inr x ↦ inr (inl x) ])
 
 pub number_scalar : (h i j k : ℕ) → IsTrue (is_hex h) → IsTrue (is_hex i) → IsTrue (is_hex j) → IsTrue (is_hex k)
-    → (hex_number h i j k < 55296) ⊎ (57343 < hex_number h i j k) → IsScalar h i j k
+    → (hex_number h i j k < 55296) ⊎ (57343 < hex_number h i j k) → AreScalarDigits h i j k
 number_scalar h i j k a b c d n = (
   (a, (b, (c, (d, tt)))),
   (λ e.

@@ -5,7 +5,8 @@ use Rattle.std.specs.List.{AllByRecursion, concat}
 use Rattle.std.proofs.lemmas.Bool.{and_parts, eqb-true, eqb-false, ne_eqb}
 use Rattle.std.proofs.lemmas.Bool.Decides.{nat_tests}
 use Rattle.graphql_lexical.specs.Characters.{is_escape, is_plain}
-use Rattle.graphql_lexical.specs.Tokens.{IsScalar, IsUnit, plain, escape as escape_unit, unicode as unicode_unit, Pieces}
+use Rattle.graphql_lexical.specs.Tokens.{AreScalarDigits, IsUnit, plain, escape as escape_unit}
+use Rattle.graphql_lexical.specs.Tokens.{unicode as unicode_unit, Pieces}
 use Rattle.juniper_values.specs.Text.{Text}
 use Rattle.juniper_values.specs.Escapes.{hex_number, short_escape, is_surrogate, is_scalar, unicode_escape, in_front, unescape, unescape_backslash, unescape_u}
 use Rattle.juniper_values.specs.laws.ValueLaws.{IsExactlyUnescaped}
@@ -35,10 +36,10 @@ apart n h = grind (arith, nat_tests, h)
 apart_from : (n : ℕ) → not (is_surrogate n) ≡ true → (n < 55296) ⊎ (57343 < n)
 apart_from n e = grind (arith, nat_tests, e)
 
-of_scalar : (h i j k : ℕ) → IsScalar h i j k → unicode_escape h i j k ≡ Some (hex_number h i j k)
+of_scalar : (h i j k : ℕ) → AreScalarDigits h i j k → unicode_escape h i j k ≡ Some (hex_number h i j k)
 of_scalar h i j k q = rw (q.0.0, q.0.1.0, q.0.1.1.0, q.0.1.1.1.0, apart (hex_number h i j k) (scalar_number h i j k q)) refl
 
-scalar_from : (h i j k c : ℕ) → unicode_escape h i j k ≡ Some c → IsScalar h i j k × (hex_number h i j k ≡ c)
+scalar_from : (h i j k c : ℕ) → unicode_escape h i j k ≡ Some c → AreScalarDigits h i j k × (hex_number h i j k ≡ c)
 scalar_from h i j k c =
     by_branch (is_scalar h i j k) (Some (hex_number h i j k)) None (Some c)
     (λ t e.
