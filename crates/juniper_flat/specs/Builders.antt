@@ -1,5 +1,5 @@
 -- What is written into the caller's buffers while a source is parsed.
-use Rattle.std.specs.Prelude.{◌≡◌, ◌+◌, ◌^◌, ◌<◌, ℕ, suc, List, [], ◌∷◌, length, set, replicate, Option, None}
+use Rattle.std.specs.Prelude.{◌≡◌, ◌+◌, ◌^◌, ◌<◌, ℕ, suc, List, [], ◌∷◌, ◌++◌, length, set, replicate, Option, None}
 use Rattle.std.specs.Prelude.{encode_utf8_all}
 use Rattle.graphql_lexical.specs.Place.{Span}
 use Rattle.graphql_grammar.specs.Tokens.{Located, Word}
@@ -90,6 +90,11 @@ pub record Opens (old new : NodeBuilder) (index : ℕ) (what : Opened) : Type 0 
 abbrev pub field_nodes : Word × Located (Value Content) → List (Node Content)
 field_nodes field = over kind.Key field.0.span (Named field.0) (value_nodes field.1)
 
+-- A node without a scalar that has this label has no text, and so the same value wherever its text would begin.
+abbrev pub HasNoText : Label → Type 0
+HasNoText label = (text_of_label label None ≡ [])
+    × ((source : List ℕ) (at : ℕ) → node_value source at None label ≡ node_value source 0 None label)
+
 -- Nothing but a node's place in the buffer changed.
 pub record PutsNode (old new : NodeBuilder) : Type 0 where
   pub keeps : KeepsBuffers old new
@@ -97,10 +102,11 @@ pub record PutsNode (old new : NodeBuilder) : Type 0 where
   pub texts : new.texts.now ≡ old.texts.now
   pub texts_count : new.texts_length ≡ old.texts_length
 
--- A node without a scalar that has this label has no text, and so the same value wherever its text would begin.
-abbrev pub HasNoText : Label → Type 0
-HasNoText label = (text_of_label label None ≡ [])
-    × ((source : List ℕ) (at : ℕ) → node_value source at None label ≡ node_value source 0 None label)
+-- A part that was opened is closed: if its label has no text, its node is written before its first nodes and those of its parts.
+abbrev pub Closes : NodeBuilder → NodeBuilder → ℕ → NodeKind → Span → Label → Type 0
+Closes old new index kind span label = (first opened : NodeBuilder) (what : Opened) (inner : List (Node Content))
+    → HasNoText label → Opens first opened index what → Adds opened old inner
+    → Adds first new (over kind span label (first_nodes what ++ inner))
 
 -- a node without descendants
 abbrev pub leaf : NodeKind → Span → Label → Option Content → Node Content
