@@ -126,23 +126,23 @@ class Mypy(unittest.TestCase):
         package = os.path.dirname(os.path.dirname(firthnapkin.__file__))
         return subprocess.run(command, cwd=package, env={**os.environ, "MYPYPATH": package}, capture_output=True, text=True, check=False)
 
-    def test_a_program(self) -> None:
+    def mypy_of(self, name: str, text: str) -> "subprocess.CompletedProcess[str]":
+        """What mypy says of a file of this name with this text."""
         with tempfile.TemporaryDirectory() as folder:
-            path = os.path.join(folder, "program.py")
+            path = os.path.join(folder, name)
             with open(path, "w", encoding="utf-8") as file:
-                file.write(PROGRAM)
-            ran = self.mypy(path)
+                file.write(text)
+            return self.mypy(path)
+
+    def test_a_program(self) -> None:
+        ran = self.mypy_of("program.py", PROGRAM)
         found = [plain(line.split('"')[1]) for line in ran.stdout.splitlines() if "Revealed type" in line]
         self.assertEqual(found, REVEALED)
         self.assertEqual(ran.returncode, 0, ran.stdout)
 
     def test_options(self) -> None:
         """An option of the wrong type is an error, and so is one that a call doesn't have."""
-        with tempfile.TemporaryDirectory() as folder:
-            path = os.path.join(folder, "calls.py")
-            with open(path, "w", encoding="utf-8") as file:
-                file.write(CALLS)
-            ran = self.mypy(path)
+        ran = self.mypy_of("calls.py", CALLS)
         self.assertEqual([int(line) for line in re.findall(r"calls\.py:(\d+): error", ran.stdout)], REFUSED, ran.stdout)
 
     def test_the_package(self) -> None:
