@@ -7,11 +7,11 @@ use Rattle.juniper_values.specs.Scalar.{Content, Reading}
 use Rattle.juniper_values.specs.Default.{default_content, default_reading}
 use Rattle.juniper_values.specs.View.{text_of}
 use Rattle.juniper_nodes.specs.Literal.{string_reading, of_large_int, of_float, of_block}
-use Rattle.juniper_flat.specs.declared.scalar.Scalar.{Scalar}
-use Rattle.juniper_flat.specs.declared.scalar.Scalar.TheVariants as scalar
+use Rattle.juniper_flat.specs.declared.scalar.SourceScalar.{SourceScalar}
+use Rattle.juniper_flat.specs.declared.scalar.SourceScalar.TheVariants as scalar
 
 -- the default type's contents, and otherwise those of literals, with no text written
-abbrev pub scalar_content : Scalar → Content
+abbrev pub scalar_content : SourceScalar → Content
 scalar_content (scalar.Default s) = default_content s
 scalar_content scalar.LargeInt = of_large_int []
 scalar_content scalar.Float = of_float []

@@ -19,7 +19,7 @@ use crate::buffer::write_bytes;
 use crate::byte_table::ByteTable;
 use crate::flat::Lengths;
 use crate::node::{Node, written_node};
-use crate::scalar::Scalar;
+use crate::scalar::SourceScalar;
 use juniper::{Gather, ScalarValue, Span, Type};
 use juniper_nodes::{Label, NodeKind};
 use std::alloc::{AllocError, Global};
@@ -160,7 +160,7 @@ impl NodeBuilder<'_> {
         kind: NodeKind,
         span: &'t Span,
         label: Label<'t, '_>,
-        scalar: Option<&'t Scalar>,
+        scalar: Option<&'t SourceScalar>,
         at: usize,
     )
         ensures { (before : Writer) → let node = leaf kind (view_span span.now) (view_label (view_span span.now) label.entry) (option_map (λ scalar. scalar_content scalar.now) scalar.entry) in AddsText before self.old (encode_utf8_all (text_of_node node)) → at ≡ before.texts_length → Adds before self.new (node ∷ []) }
@@ -204,7 +204,7 @@ impl NodeBuilder<'_> {
     }
 
     // Appends to the texts what a String or a block string means, and of another scalar nothing.
-    fn push_scalar(&mut self, scalar: &Scalar)
+    fn push_scalar(&mut self, scalar: &SourceScalar)
         ensures { AddsText self.old self.new (encode_utf8_all (unwrap_or (str_in (scalar_content scalar.now)) [])) }
     {
         match scalar.try_as_str() {

@@ -15,7 +15,7 @@ use crate::byte_table::ByteTable;
 use crate::fault::{Fault, deep_fault, many_fault, written_fault};
 use crate::limits::Limits;
 use crate::node::Node;
-use crate::scalar::Scalar;
+use crate::scalar::SourceScalar;
 use crate::source::{Unread, text_of};
 use juniper::{DepthFailure, Lexer, LimitFailure, ParseFailure, Parser, build_document};
 use std::alloc::Global;
@@ -123,7 +123,7 @@ fn build_nodes_within<'b>(
     ensures failed { (source : List ℕ) → Cut source parser.old → IfErr result (FailsWithin scalars depth source) }
 {
     let deep = parser.end_at_nesting(depth);
-    match build_document::<Scalar, NodeBuilder<'b>, DepthFailure>(
+    match build_document::<SourceScalar, NodeBuilder<'b>, DepthFailure>(
         &mut parser.cursor(),
         deep,
         builder,

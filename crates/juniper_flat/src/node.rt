@@ -16,7 +16,7 @@ ghost use Rattle.juniper_flat.specs.Scalars.{scalar_content};
 
 use crate::byte_table::ByteTable;
 use crate::place::{Place, in_word, place_at};
-use crate::scalar::Scalar;
+use crate::scalar::SourceScalar;
 use juniper::{DefaultScalarValue, Spanning};
 use juniper_nodes::{Label, NodeKind};
 
@@ -63,7 +63,7 @@ const NO_VALUE: Value = Value {
 #[inline(always)]
 pub(crate) fn written_node(
     table: &ByteTable,
-    node: &juniper_nodes::Node<'_, '_, Scalar>,
+    node: &juniper_nodes::Node<'_, '_, SourceScalar>,
     at: usize,
     length: usize,
 ) -> Node
@@ -95,7 +95,7 @@ pub(crate) fn written_node(
 // ---- kinds
 
 #[inline(always)]
-fn node_number(kind: NodeKind, scalar: Option<&Scalar>) -> u32
+fn node_number(kind: NodeKind, scalar: Option<&SourceScalar>) -> u32
     ensures { result ≡ node_number kind (option_map (λ scalar. scalar_content scalar.now) scalar.entry) }
 {
     match scalar {
@@ -134,16 +134,16 @@ fn kind_number(kind: NodeKind) -> u32
     }
 }
 
-fn scalar_number(scalar: &Scalar) -> u32
+fn scalar_number(scalar: &SourceScalar) -> u32
     ensures { result ≡ content_number (scalar_content scalar.now) }
 {
     match scalar {
-        Scalar::Default(DefaultScalarValue::Int(_)) => 20,
-        Scalar::LargeInt => 21,
-        Scalar::Float => 22,
-        Scalar::Default(DefaultScalarValue::String(_)) => 23,
-        Scalar::BlockString(_) => 24,
-        Scalar::Default(DefaultScalarValue::Boolean(_)) => 25,
+        SourceScalar::Default(DefaultScalarValue::Int(_)) => 20,
+        SourceScalar::LargeInt => 21,
+        SourceScalar::Float => 22,
+        SourceScalar::Default(DefaultScalarValue::String(_)) => 23,
+        SourceScalar::BlockString(_) => 24,
+        SourceScalar::Default(DefaultScalarValue::Boolean(_)) => 25,
     }
 }
 
@@ -151,7 +151,11 @@ fn scalar_number(scalar: &Scalar) -> u32
 
 // `whole` has the bytes from the node's first to its last.
 #[inline(always)]
-fn extent_of(table: &ByteTable, node: &juniper_nodes::Node<'_, '_, Scalar>, whole: Extent) -> Extent
+fn extent_of(
+    table: &ByteTable,
+    node: &juniper_nodes::Node<'_, '_, SourceScalar>,
+    whole: Extent,
+) -> Extent
     ensures { (source : List ℕ) → IsTableOf source table.now → whole ≡ span_extent source (view_span node.now.span.now) → result ≡ node_extent source node.now.kind (view_span node.now.span.now) (view_label (view_span node.now.span.now) node.now.label) }
 {
     match node.label {
@@ -221,7 +225,7 @@ fn text_extent(end: u32, text: &str) -> Extent
 #[inline(always)]
 fn value_of(
     table: &ByteTable,
-    node: &juniper_nodes::Node<'_, '_, Scalar>,
+    node: &juniper_nodes::Node<'_, '_, SourceScalar>,
     at: usize,
     length: usize,
 ) -> Value
@@ -235,22 +239,21 @@ fn value_of(
 }
 
 #[inline(always)]
-fn scalar_value(scalar: Option<&Scalar>, at: usize, length: usize) -> Value
+fn scalar_value(scalar: Option<&SourceScalar>, at: usize, length: usize) -> Value
     ensures { let content = option_map (λ scalar. scalar_content scalar.now) scalar.entry in at + length < 2 ^ 32 → length ≡ byte_count (unwrap_or (option_and_then str_in content) []) → result ≡ scalar_value at content }
 {
     match scalar {
-        Some(Scalar::Default(DefaultScalarValue::Int(number))) => Value {
+        Some(SourceScalar::Default(DefaultScalarValue::Int(number))) => Value {
             number: i64::from(*number),
             length: 0,
         },
-        Some(Scalar::Default(DefaultScalarValue::Boolean(truth))) => Value {
+        Some(SourceScalar::Default(DefaultScalarValue::Boolean(truth))) => Value {
             number: if *truth { 1 } else { 0 },
             length: 0,
         },
-        Some(Scalar::Default(DefaultScalarValue::String(_)) | Scalar::BlockString(_)) => {
-            text_value(at, length)
-        }
-        Some(Scalar::LargeInt | Scalar::Float) | None => NO_VALUE,
+        Some(SourceScalar::Default(DefaultScalarValue::String(_)) | SourceScalar::BlockString(_)) =>
+            { text_value(at, length) }
+        Some(SourceScalar::LargeInt | SourceScalar::Float) | None => NO_VALUE,
     }
 }
 

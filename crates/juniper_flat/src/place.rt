@@ -5,6 +5,7 @@ ghost use Rattle.juniper_flat.specs.Fits.{PlaceFits};
 ghost use Rattle.juniper_flat.specs.ByteTables.{IsTableOf};
 
 use crate::byte_table::ByteTable;
+use crate::status::TOO_LONG_FROM;
 use juniper_tokens::SourcePosition;
 
 /// A place of the source: the number of characters, line feeds, characters of its line and bytes before it.
@@ -35,5 +36,5 @@ pub(crate) fn place_at(table: &ByteTable, position: SourcePosition) -> Place
 pub(crate) fn in_word(number: usize) -> u32
     ensures { number < 2 ^ 32 → result ≡ number }
 {
-    (number % 4294967296) as u32
+    (number % TOO_LONG_FROM) as u32
 }

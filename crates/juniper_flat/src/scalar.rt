@@ -15,7 +15,7 @@ use std::fmt;
 /// A scalar as C gets it: what it means; of a number beyond the default type, its kind alone, since its text is in the
 /// source.
 #[derive(Debug, Drop)]
-pub(crate) enum Scalar {
+pub(crate) enum SourceScalar {
     /// What the default type reads, except block strings.
     Default(DefaultScalarValue),
     /// An Int beyond 32 bits.
@@ -26,7 +26,7 @@ pub(crate) enum Scalar {
     BlockString(String),
 }
 
-impl PartialEq for Scalar {
+impl PartialEq for SourceScalar {
     ghost use Rattle.juniper_values.specs.laws.ScalarLaws.{partial_by_content};
 
     ghost eq = { λ a b. same_content (scalar_content a) (scalar_content b) };
@@ -34,11 +34,15 @@ impl PartialEq for Scalar {
     ghost laws = { partial_by_content scalar_content };
 
     #[tactic(auto, using(juniper_nodes::proofs::Public::no_custom, juniper_nodes::proofs::Public::custom_no))]
-    fn eq(&self, other: &Scalar) -> bool {
+    fn eq(&self, other: &SourceScalar) -> bool {
         match (self, other) {
-            (Scalar::Default(a), Scalar::Default(b)) => a == b,
-            (Scalar::LargeInt, Scalar::LargeInt) | (Scalar::Float, Scalar::Float) => true,
-            (Scalar::BlockString(a), Scalar::BlockString(b)) => same_block(a.as_str(), b.as_str()),
+            (SourceScalar::Default(a), SourceScalar::Default(b)) => a == b,
+            (SourceScalar::LargeInt, SourceScalar::LargeInt)
+            | (SourceScalar::Float, SourceScalar::Float) => true,
+            (SourceScalar::BlockString(a), SourceScalar::BlockString(b)) => same_block(
+                a.as_str(),
+                b.as_str(),
+            ),
             _ => false,
         }
     }
@@ -51,39 +55,39 @@ fn same_block(a: &str, b: &str) -> bool
     same_text(a, b)
 }
 
-impl Eq for Scalar {
+impl Eq for SourceScalar {
     ghost use Rattle.juniper_values.specs.laws.ScalarLaws.{by_content};
 
     ghost laws = { by_content scalar_content };
 }
 
 /// Displays what the scalar means; nothing of a number beyond the default type.
-impl fmt::Display for Scalar {
+impl fmt::Display for SourceScalar {
     ghost output = { λ s. Some (encode_utf8_all (literal_shown (scalar_content s))) };
 
     #[tactic(auto, using(juniper_nodes::proofs::Public::shown_back))]
     fn fmt<W: fmt::Write>(&self, f: &mut fmt::Formatter<W>) -> fmt::Result {
         match self {
-            Scalar::Default(scalar) => scalar.fmt(f),
-            Scalar::LargeInt | Scalar::Float => Ok(()),
-            Scalar::BlockString(text) => write_text(f, text.as_str()),
+            SourceScalar::Default(scalar) => scalar.fmt(f),
+            SourceScalar::LargeInt | SourceScalar::Float => Ok(()),
+            SourceScalar::BlockString(text) => write_text(f, text.as_str()),
         }
     }
 }
 
 /// A number beyond the default type takes no memory.
-impl ParseScalarValue<Scalar> for Scalar {
+impl ParseScalarValue<SourceScalar> for SourceScalar {
     ghost use Rattle.juniper_flat.specs.Scalars.{scalar_reading};
 
     ghost content = { scalar_content };
 
     ghost reading = { scalar_reading };
 
-    fn from_str(alloc: Global, token: ScalarToken<'_>) -> ParseScalarResult<Scalar> {
+    fn from_str(alloc: Global, token: ScalarToken<'_>) -> ParseScalarResult<SourceScalar> {
         match token {
-            ScalarToken::Float(_) => Ok(Scalar::Float),
+            ScalarToken::Float(_) => Ok(SourceScalar::Float),
             ScalarToken::Int(text) => Ok(read_int(text)),
-            ScalarToken::String(text) => Ok(Scalar::Default(DefaultScalarValue::from_str(
+            ScalarToken::String(text) => Ok(SourceScalar::Default(DefaultScalarValue::from_str(
                 alloc,
                 ScalarToken::String(text),
             )?)),
@@ -92,26 +96,26 @@ impl ParseScalarValue<Scalar> for Scalar {
     }
 }
 
-fn read_int(text: &str) -> Scalar
+fn read_int(text: &str) -> SourceScalar
     ensures { int_reading (default_reading Int (chars text.now)) ≡ Ok (scalar_content result) }
 {
     match text.parse::<i32>() {
-        Ok(value) => Scalar::Default(DefaultScalarValue::Int(value)),
-        Err(_) => Scalar::LargeInt,
+        Ok(value) => SourceScalar::Default(DefaultScalarValue::Int(value)),
+        Err(_) => SourceScalar::LargeInt,
     }
 }
 
-fn read_block(alloc: Global, text: &str) -> ParseScalarResult<Scalar>
+fn read_block(alloc: Global, text: &str) -> ParseScalarResult<SourceScalar>
     ensures { let reading = string_reading (of_block []) (default_reading Block (chars text.now)) in
         MeetsReading scalar_content reading result }
 {
     match DefaultScalarValue::from_str(alloc, ScalarToken::BlockString(text))? {
-        DefaultScalarValue::String(value) => Ok(Scalar::BlockString(value)),
-        scalar => Ok(Scalar::Default(scalar)),
+        DefaultScalarValue::String(value) => Ok(SourceScalar::BlockString(value)),
+        scalar => Ok(SourceScalar::Default(scalar)),
     }
 }
 
-impl ScalarValue for Scalar {
+impl ScalarValue for SourceScalar {
     ghost use Rattle.std.specs.Prelude.{refl};
     ghost use Rattle.juniper_values.specs.Scalar.{boolean, integer, text};
     ghost use Rattle.juniper_values.specs.Default.{bool_in};
@@ -149,27 +153,27 @@ impl ScalarValue for Scalar {
     ghost lent_is_handed_out = { λ a t e. lent-is_string (scalar_content a) t e };
 
     fn from_bool(value: bool) -> Self {
-        Scalar::Default(DefaultScalarValue::from_bool(value))
+        SourceScalar::Default(DefaultScalarValue::from_bool(value))
     }
 
     fn from_int(value: i32) -> Self {
-        Scalar::Default(DefaultScalarValue::from_int(value))
+        SourceScalar::Default(DefaultScalarValue::from_int(value))
     }
 
     fn from_string(value: String) -> Self {
-        Scalar::Default(DefaultScalarValue::from_string(value))
+        SourceScalar::Default(DefaultScalarValue::from_string(value))
     }
 
     fn try_to_bool(&self) -> Option<bool> {
         match self {
-            Scalar::Default(scalar) => scalar.try_to_bool(),
+            SourceScalar::Default(scalar) => scalar.try_to_bool(),
             _ => None,
         }
     }
 
     fn try_to_int(&self) -> Option<i32> {
         match self {
-            Scalar::Default(scalar) => scalar.try_to_int(),
+            SourceScalar::Default(scalar) => scalar.try_to_int(),
             _ => None,
         }
     }
@@ -177,36 +181,36 @@ impl ScalarValue for Scalar {
     #[tactic(auto, using(juniper_nodes::proofs::Public::shown_back))]
     fn try_as_str(&self) -> Option<&str> {
         match self {
-            Scalar::Default(scalar) => scalar.try_as_str(),
-            Scalar::BlockString(text) => Some(text.as_str()),
-            Scalar::LargeInt | Scalar::Float => None,
+            SourceScalar::Default(scalar) => scalar.try_as_str(),
+            SourceScalar::BlockString(text) => Some(text.as_str()),
+            SourceScalar::LargeInt | SourceScalar::Float => None,
         }
     }
 
     #[tactic(auto, using(crate::proofs::Scalars::texts))]
     fn try_to_string(&self, alloc: Global) -> Result<Option<String>, AllocError> {
         match self {
-            Scalar::Default(scalar) => scalar.try_to_string(alloc),
-            Scalar::LargeInt | Scalar::Float => Ok(Some(String::new(alloc))),
-            Scalar::BlockString(text) => Ok(Some(copied(alloc, text)?)),
+            SourceScalar::Default(scalar) => scalar.try_to_string(alloc),
+            SourceScalar::LargeInt | SourceScalar::Float => Ok(Some(String::new(alloc))),
+            SourceScalar::BlockString(text) => Ok(Some(copied(alloc, text)?)),
         }
     }
 
     #[tactic(auto, using(crate::proofs::Scalars::texts))]
     fn try_into_string(self, alloc: Global) -> Result<Option<String>, AllocError> {
         match self {
-            Scalar::Default(scalar) => scalar.try_into_string(alloc),
-            Scalar::LargeInt | Scalar::Float => Ok(Some(String::new(alloc))),
-            Scalar::BlockString(text) => Ok(Some(text)),
+            SourceScalar::Default(scalar) => scalar.try_into_string(alloc),
+            SourceScalar::LargeInt | SourceScalar::Float => Ok(Some(String::new(alloc))),
+            SourceScalar::BlockString(text) => Ok(Some(text)),
         }
     }
 
     fn try_clone(&self, alloc: Global) -> Result<Self, AllocError> {
         match self {
-            Scalar::Default(scalar) => Ok(Scalar::Default(scalar.try_clone(alloc)?)),
-            Scalar::LargeInt => Ok(Scalar::LargeInt),
-            Scalar::Float => Ok(Scalar::Float),
-            Scalar::BlockString(text) => Ok(Scalar::BlockString(copied(alloc, text)?)),
+            SourceScalar::Default(scalar) => Ok(SourceScalar::Default(scalar.try_clone(alloc)?)),
+            SourceScalar::LargeInt => Ok(SourceScalar::LargeInt),
+            SourceScalar::Float => Ok(SourceScalar::Float),
+            SourceScalar::BlockString(text) => Ok(SourceScalar::BlockString(copied(alloc, text)?)),
         }
     }
 }

@@ -14,7 +14,7 @@ ghost use Rattle.juniper_values.specs.Scalar.{Content};
 ghost use Rattle.juniper.specs.Building.{a_directive, a_field, a_spread, an_inline_fragment, a_variable, an_operation, a_fragment};
 
 use crate::builder::{NodeBuilder, Parts};
-use crate::scalar::Scalar;
+use crate::scalar::SourceScalar;
 use juniper::{Builder, OperationType, Span, Spanning, Type};
 use juniper_nodes::{Label, NodeKind};
 use std::alloc::AllocError;
@@ -40,7 +40,7 @@ fn operation_kind(operation_type: OperationType) -> NodeKind
     }
 }
 
-impl<'b> Builder<Scalar> for NodeBuilder<'b> {
+impl<'b> Builder<SourceScalar> for NodeBuilder<'b> {
     ghost use Rattle.graphql_nodes.specs.Nodes.{value_nodes, argument_nodes, arguments_nodes, directive_nodes, selection_nodes, variable_nodes, variables_nodes, definition_nodes};
     ghost use Rattle.juniper_flat.specs.Builders.{Adds, Opens, field_nodes};
 
@@ -108,7 +108,7 @@ impl<'b> Builder<Scalar> for NodeBuilder<'b> {
     }
 
     #[inline(always)]
-    fn scalar(&mut self, scalar: Scalar, span: Span) -> Result<(), AllocError> {
+    fn scalar(&mut self, scalar: SourceScalar, span: Span) -> Result<(), AllocError> {
         let at = self.texts_length;
         self.push_scalar(&scalar);
         self.push_with_text(NodeKind::Scalar, &span, Label::Unnamed, Some(&scalar), at);
