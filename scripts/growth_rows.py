@@ -115,7 +115,7 @@ LONG_NAMES = (
     + times(n // 2, "fragment " + "F" * 1000 + "№ on T {a} ")
 )
 
-# The calls of `check_calls calls`: the kind, the call if the kind has any, its input, and how many times as much twice the
+# The calls of `run_calls calls`: the kind, the call if the kind has any, its input, and how many times as much twice the
 # size may take. `unlocated_eq` compares the value with itself.
 VALUES = [
     (call, name, text, LINEAR)
@@ -210,7 +210,7 @@ SPREAD = ("spaces", "fields")
 # For calls on a hundred thousand definitions of twelve bytes: the least and the most bytes that they may hold for each byte
 # of the source. A call that builds the whole tree holds more than is allowed to one that passes on each definition.
 HELD = [
-    (["check_calls", "calls", "parse", "into"], 1, 60),
+    (["run_calls", "calls", "parse", "into"], 1, 60),
     (["c", "parse"], 1, 70),
-    (["check_calls", "calls", "parse", "200"], 80, 130),
+    (["run_calls", "calls", "parse", "200"], 80, 130),
 ]

@@ -1,4 +1,4 @@
-"""Tests the programs gqlcheck, gqlcanon and check_calls on the rows of tests/rows.
+"""Tests the programs gqlcheck, gqlcanon and run_calls on the rows of tests/rows.
 
     gqlcheck TEXT     the output of a run on the text, and the word of its end
     built WORD N      the same for a large text: how long it is, how the run ends, how many lines there are with that word, the
@@ -9,7 +9,7 @@
                       whether these tokens are the same in it, places included
     canonical TEXT    the output of a run of gqlcanon on the text, and the word of its end
 
-The kinds of the rows of tests/rows/calls are those of check_calls; crates/checked_calls/src/kinds.rt says which there are. The
+The kinds of the rows of tests/rows/calls are those of run_calls; crates/test_harness/src/kinds.rt says which there are. The
 answer is the output of a run on the text. A kind that makes calls is given them, and its answer has a line for each: the call,
 ` -> ` and what it returns. Those of the kind `complexities` are compared with an expansion here, too: `complexities` makes documents.
 One kind is made of others:
@@ -51,7 +51,7 @@ COUNTS = {"gqlcheck": 2127, "built": 4, "completed": 8, "canonical": 29, COMPLET
 COUNTS.update(lexer=73, line_table=1, type=5, value=34, const=1, document=44, within=14, limited=23, equal=25, large=4)
 COUNTS.update(odd_document=25, complexities=2010, bytes=2)
 
-# Of the kinds of check_calls those whose rows make calls, with the number of their rows.
+# Of the kinds of run_calls those whose rows make calls, with the number of their rows.
 CALLS = {"cursor": 14, "requests": 7, "arguments": 12, "answer": 17, "devices": 2, "input_value": 22, "scalar": 24,
          "odd_scalar": 42, "type_literal": 4, "name": 11, "into": 4, "guide": 18}  # fmt: skip
 COUNTS.update(CALLS)
@@ -127,7 +127,7 @@ def refusal_of(text: str, answer: str) -> Optional[Refusal]:
 
 
 def called(calls: str, kind: str, source: bytes, *lines: str) -> str:
-    """What check_calls returns for these calls on a text. Its first line says that the calls come now."""
+    """What run_calls returns for these calls on a text. Its first line says that the calls come now."""
     command = [calls, "calls", kind, *lines]
     try:
         ran = subprocess.run(command, input=source, stdout=subprocess.PIPE, stderr=subprocess.STDOUT, timeout=SECONDS)
@@ -140,7 +140,7 @@ def called(calls: str, kind: str, source: bytes, *lines: str) -> str:
 
 
 def answer_of_calls(calls: str, row: Row, wanted: List[str]) -> str:
-    """The answer of a row of check_calls. What is expected says which calls are made."""
+    """The answer of a row of run_calls. What is expected says which calls are made."""
     if row.kind == "large":
         return answer_of_large(calls, row.text.decode())
     lines = [line.partition(" -> ")[0] for line in wanted] if row.kind in CALLS else []
