@@ -7,7 +7,8 @@ use Rattle.std.specs.List.{prefix_len}
 use lib.Lanes.{chunk, mask_l, top}
 use Rattle.juniper_tokens.specs.declared.lexer.run.Run.{Run}
 use Rattle.juniper_tokens.specs.device.ByteRuns.{Walked}
-use Rattle.juniper_tokens.specs.device.Lanes.{first_set, goes, GoesOver, GoesOverLanes}
+use Rattle.juniper_tokens.specs.LaneMasks.{first_set}
+use Rattle.juniper_tokens.specs.device.Lanes.{goes, GoesOver, GoesOverLanes}
 use Rattle.juniper_tokens.specs.device.Walks.{run_machine}
 use Rattle.juniper_tokens.proofs.ByteRuns.{walked_on}
 use Rattle.juniper_tokens.proofs.Runs.{run_goes}

@@ -11,6 +11,7 @@ pub mod Delimited
 pub mod Nesting
 pub mod DelimitedParts
 pub mod ByteClasses
+pub mod LaneMasks
 pub mod LineTables
 pub mod Lexing
 pub mod Gathering

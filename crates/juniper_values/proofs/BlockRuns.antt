@@ -10,8 +10,8 @@ use lib.Dec.{ltb}
 use lib.Lanes.{chunk, mask_l, top}
 use lib.Utf8.{encode, encodes}
 use Rattle.graphql_lexical.specs.Characters.{is_line_end}
+use Rattle.juniper_tokens.specs.LaneMasks.{first_set}
 use Rattle.juniper_tokens.specs.device.ByteRuns.{is_inner, byte_at}
-use Rattle.juniper_tokens.specs.device.Lanes.{first_set}
 use Rattle.juniper_tokens.proofs.Public.{ascii_first, wide, low_or_high, counted}
 use Rattle.juniper_values.specs.Text.{Text}
 use Rattle.juniper_values.specs.device.BlockSteps.{is_left_out, least_after, place_after, is_in_indent, ends_run, run_length, RunsOver}

@@ -1,24 +1,11 @@
 //! Runs within sixteen bytes, all compared at once.
-ghost use Rattle.std.specs.Prelude.{◌≡◌, ◌+◌, ◌≤◌, length};
+ghost use Rattle.std.specs.Prelude.{◌+◌, ◌≤◌, length};
 ghost use Rattle.juniper_tokens.specs.declared.lexer.run.Run.TheVariants as runs;
-ghost use Rattle.juniper_tokens.specs.device.Lanes.{first_set, GoesOverLanes};
+ghost use Rattle.juniper_tokens.specs.device.Lanes.{GoesOverLanes};
 
+use crate::lane_mask::{LANES, first_set};
 use crate::lexer::run::Run;
 use std::simd::prelude::*;
-
-pub(crate) const LANES: usize = 16;
-
-// The first lane at which a run stops, or the number of lanes: the lowest bit that is set.
-#[inline(always)]
-fn first_set(mask: u64) -> usize
-    ensures { result ≡ first_set mask 16 }
-{
-    if mask == 0 {
-        LANES
-    } else {
-        mask.trailing_zeros() as usize
-    }
-}
 
 // A byte is among n consecutive ones if it is below n after their first is subtracted, since what is below the first
 // wraps. With the bit 0x20 a capital letter is its small one, and no other byte becomes a letter.

@@ -1,12 +1,10 @@
 //! Runs of characters that end no line of a block string and begin no `\"""`.
 ghost use Rattle.std.specs.Prelude.{◌≡◌, ◌+◌, ◌≤◌, length, take, drop};
 ghost use Rattle.std.specs.Str.{chars, IsUtf8};
-ghost use Rattle.juniper_tokens.specs.device.Lanes.{first_set};
 ghost use Rattle.juniper_values.specs.device.BlockSteps.{ends_run, run_length, RunsOver};
 
+use juniper_tokens::lane_mask::{LANES, first_set};
 use std::simd::prelude::*;
-
-const LANES: usize = 16;
 
 // Splits a text after its longest prefix without a backslash and without a line end.
 pub(crate) fn split_run(text: &str) -> (&str, &str)
@@ -47,18 +45,6 @@ fn over_lanes(bytes: &[u8], at: usize) -> usize
         | v.simd_eq(u8x16::splat(b'\n'))
         | v.simd_eq(u8x16::splat(b'\r'));
     first_set(ends.to_bitmask())
-}
-
-// The first lane that is set, or how many lanes there are.
-#[inline(always)]
-fn first_set(mask: u64) -> usize
-    ensures { result ≡ first_set mask 16 }
-{
-    if mask == 0 {
-        LANES
-    } else {
-        mask.trailing_zeros() as usize
-    }
 }
 
 fn ends_run(byte: u8) -> bool
