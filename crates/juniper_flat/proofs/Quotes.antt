@@ -1,5 +1,5 @@
 -- Which tokens a quote begins, and what is shown of each.
-use Rattle.std.proofs.Common.{◌≡◌, ◌≢◌, ◌∙◌, ◌⊎◌, ℕ, List, [], ◌∷◌, ◌++◌, length, inl, inr, refl, sym, ap, ap₂, subst, arith, codes, get_or, length-append, append-nil}
+use Rattle.std.proofs.Common.{◌≡◌, ◌≢◌, ◌∙◌, ◌⊎◌, ℕ, ◌==◌, Bool, true, false, not, List, [], ◌∷◌, ◌++◌, length, inl, inr, refl, sym, ap, ap₂, subst, arith, codes, get_or, length-append, append-nil}
 use Rattle.std.specs.Prelude.{◌<◌, IsTrue, encode_utf8_all}
 use Rattle.std.specs.Str.{chars, IsUtf8}
 use Rattle.std.proofs.lemmas.Str.{chars-append, chars-encodes, chars_past_char, char_from_byte, encodes-append, encodes-chars, length-le-encodes}
@@ -9,12 +9,13 @@ use Rattle.std.proofs.lemmas.Bool.Decides.{nat_tests}
 use Rattle.graphql_lexical.specs.Characters.{Text, is_name_start, is_nonzero_digit, is_plain}
 use Rattle.graphql_lexical.specs.Display.{shown}
 use Rattle.graphql_lexical.specs.declared.kind.Kind.{Kind}
-use Rattle.graphql_lexical.specs.declared.kind.Kind.TheVariants.{Name, String, BlockString, Float, Int, ExclamationMark, Dollar, ParenOpen, ParenClose, BracketOpen, BracketClose, CurlyOpen, CurlyClose, Ellipsis, Colon, Equals, At, Pipe, EndOfFile}
+use Rattle.graphql_lexical.specs.declared.kind.Kind.TheVariants.{Name, String, BlockString, EndOfFile}
+use Rattle.graphql_lexical.specs.Kinds.{Spelling, Names, Strings, BlockStrings, Floats, Ints, Fixed, NoText, spelling}
+use Rattle.graphql_lexical.specs.Tokens.{Spells, IsName, IsInteger, IsFloat, Pieces, IsUnit, plain, escape, unicode, mark, quotes}
 use Rattle.graphql_lexical.specs.device.Numbers.{ReadInteger}
-use Rattle.graphql_lexical.specs.device.Whole.{between}
-use Rattle.graphql_lexical.specs.Tokens.{Spells, IsName, IsInteger, IsFloat, Pieces, IsUnit, plain, escape, unicode, mark}
+use Rattle.graphql_lexical.specs.device.Whole.{Admits, between}
 use Rattle.juniper_flat.specs.Messages.{IsQuoted}
-use Rattle.graphql_lexical.proofs.Public.{name_same, integer_same, unquoted}
+use Rattle.graphql_lexical.proofs.Public.{name_same, integer_same, spells_token, unquoted}
 
 abbrev first : List ℕ → ℕ
 first [] = 0
@@ -46,9 +47,6 @@ plain_other c h e = grind (arith, nat_tests)
 
 name_begins : (t : Text) → IsName t → BeginsOther t
 name_begins t h = let r = (name_same t).0 h in (r.0, r.1, r.2, name_other r.0 r.3)
-
-fixed_begins : (c : ℕ) (cs t : Text) → c ≢ 34 → t ≡ c ∷ cs → BeginsOther t
-fixed_begins c cs t n e = (c, cs, e, n)
 
 zero_other : (c : ℕ) → c ≡ 48 → c ≢ 34
 zero_other c e f = omega (arith, e, f)
@@ -104,29 +102,64 @@ abbrev pub IsShown : Text → Text → Text → Type 0
 IsShown whole text seen =
     (IsQuoted whole text × (seen ≡ shown String text)) ⊎ (((t : Text) → IsQuoted whole t → ⊥) × (seen ≡ whole))
 
-fixed_shown : (c : ℕ) (cs whole text : Text) → c ≢ 34 → whole ≡ c ∷ cs → text ≡ whole → IsShown whole text text
-fixed_shown c cs whole text n e f = inr (not_quoted whole (c, cs, e, n), f)
+-- what is shown of a token's text, by how the token is spelled
+abbrev shown_as : Spelling → Text → Text
+shown_as Names text = text
+shown_as Strings text = shown String text
+shown_as BlockStrings text = shown BlockString text
+shown_as Floats text = text
+shown_as Ints text = text
+shown_as (Fixed fixed) text = text
+shown_as NoText text = shown EndOfFile text
+
+by_spelling : (kind : Kind) (text : Text) → shown kind text ≡ shown_as (spelling kind) text
+by_spelling Name text = refl
+by_spelling _ text = refl
+
+-- no fixed text begins with a quote
+begins_otherwise : Text → Bool
+begins_otherwise [] = false
+begins_otherwise (c ∷ cs) = not (c == 34)
+
+fixed_otherwise : Spelling → Bool
+fixed_otherwise (Fixed fixed) = begins_otherwise fixed
+fixed_otherwise _ = true
+
+each_otherwise : (kind : Kind) → fixed_otherwise (spelling kind) ≡ true
+unfolding begins_otherwise fixed_otherwise
+each_otherwise Name = refl
+each_otherwise _ = refl
+
+fixed_begins : (fixed whole : Text) → begins_otherwise fixed ≡ true → whole ≡ fixed → BeginsOther whole
+unfolding begins_otherwise
+fixed_begins [] whole o e = absurd (cc o)
+fixed_begins (c ∷ cs) whole o e = (c, cs, e, λ f. grind (arith, nat_tests))
+
+other_shown : (whole text : Text) → BeginsOther whole → text ≡ whole → IsShown whole text text
+other_shown whole text b e = inr (not_quoted whole b, e)
+
+shown_by : (s : Spelling) (whole text : Text) → fixed_otherwise s ≡ true → Admits s whole
+    → text ≡ between (quotes s) whole → IsShown whole text (shown_as s text)
+unfolding fixed_otherwise
+shown_by Names whole text o h e = other_shown whole text (name_begins whole h) e
+shown_by Strings whole text o (units, f, are) e =
+    let same : units ≡ text = sym (e ∙ (ap (between (codes "\"")) f ∙ unquoted 34 [] units)) in
+    let is : whole ≡ codes "\"" ++ (text ++ codes "\"") = subst (λ t. whole ≡ codes "\"" ++ (t ++ codes "\"")) same f in
+    inl (string_quoted whole text is (subst (Pieces IsUnit) same are), refl)
+shown_by BlockStrings whole text o (units, f, are) e =
+    let same : units ≡ text = sym (e ∙ (ap (between mark) f ∙ unquoted 34 (34 ∷ 34 ∷ []) units)) in
+    let is : whole ≡ mark ++ (text ++ mark) = subst (λ t. whole ≡ mark ++ (t ++ mark)) same f in
+    inr (block_not_quoted whole text is, sym is)
+shown_by Floats whole text o h e = other_shown whole text (float_begins whole h) e
+shown_by Ints whole text o h e = other_shown whole text (integer_begins whole h) e
+shown_by (Fixed fixed) whole text o h e = other_shown whole text (fixed_begins fixed whole o h) e
+shown_by NoText whole text o h e = absurd h
 
 pub is_shown : (whole : Text) (kind : Kind) (text : Text) → Spells whole kind text → IsShown whole text (shown kind text)
-is_shown whole Name text h = inr (not_quoted whole (name_begins whole h.0), h.1)
-is_shown whole String text h = inl (string_quoted whole text h.0 h.1, refl)
-is_shown whole BlockString text h = inr (block_not_quoted whole text h.0, sym h.0)
-is_shown whole Float text h = inr (not_quoted whole (float_begins whole h.0), h.1)
-is_shown whole Int text h = inr (not_quoted whole (integer_begins whole h.0), h.1)
-is_shown whole ExclamationMark text h = fixed_shown 33 [] whole text (λ e. omega (arith, e)) h.0 h.1
-is_shown whole Dollar text h = fixed_shown 36 [] whole text (λ e. omega (arith, e)) h.0 h.1
-is_shown whole ParenOpen text h = fixed_shown 40 [] whole text (λ e. omega (arith, e)) h.0 h.1
-is_shown whole ParenClose text h = fixed_shown 41 [] whole text (λ e. omega (arith, e)) h.0 h.1
-is_shown whole BracketOpen text h = fixed_shown 91 [] whole text (λ e. omega (arith, e)) h.0 h.1
-is_shown whole BracketClose text h = fixed_shown 93 [] whole text (λ e. omega (arith, e)) h.0 h.1
-is_shown whole CurlyOpen text h = fixed_shown 123 [] whole text (λ e. omega (arith, e)) h.0 h.1
-is_shown whole CurlyClose text h = fixed_shown 125 [] whole text (λ e. omega (arith, e)) h.0 h.1
-is_shown whole Ellipsis text h = fixed_shown 46 (46 ∷ 46 ∷ []) whole text (λ e. omega (arith, e)) h.0 h.1
-is_shown whole Colon text h = fixed_shown 58 [] whole text (λ e. omega (arith, e)) h.0 h.1
-is_shown whole Equals text h = fixed_shown 61 [] whole text (λ e. omega (arith, e)) h.0 h.1
-is_shown whole At text h = fixed_shown 64 [] whole text (λ e. omega (arith, e)) h.0 h.1
-is_shown whole Pipe text h = fixed_shown 124 [] whole text (λ e. omega (arith, e)) h.0 h.1
-is_shown whole EndOfFile text h = absurd h
+is_shown whole kind text h =
+    let t = spells_token whole kind text h in
+    subst (IsShown whole text) (sym (by_spelling kind text))
+    (shown_by (spelling kind) whole text (each_otherwise kind) t.0 t.1)
 
 -- one text alone is quoted so
 pub quoted_once : (whole s t : Text) → IsQuoted whole s → whole ≡ codes "\"" ++ (t ++ codes "\"") → t ≡ s
