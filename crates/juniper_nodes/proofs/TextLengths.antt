@@ -3,7 +3,8 @@ use Rattle.std.proofs.Common.{◌≡◌, ℕ, zero, suc, ◌+◌, ◌≤◌, ◌
 use Rattle.std.specs.Prelude.{◌==◌, encode_utf8_all, encode_utf8, nat_eq}
 use Rattle.std.specs.Char.{len_utf8}
 use Rattle.std.specs.List.{list_all, starts_with, onto_first}
-use Rattle.std.proofs.lemmas.Str.{length-encode, len_utf8_bounds}
+use Rattle.std.proofs.lemmas.Bool.Decides.{nat_tests}
+use Rattle.std.proofs.lemmas.Str.{length-encode, len_utf8_ascii, len_utf8_bounds}
 use Rattle.graphql_lexical.specs.declared.kind.Kind.TheVariants.{String, BlockString}
 use Rattle.graphql_lexical.specs.Characters.{is_line_end}
 use Rattle.graphql_lexical.specs.Tokens.{mark}
@@ -35,17 +36,12 @@ front_is None t u e = absurd (cc e)
 front_is (Some d) None u e = absurd (cc e)
 front_is (Some d) (Some v) u e = (d, v, refl, refl, cc)
 
--- a character that takes one byte in place of two
-one_byte : (d n : ℕ) (b : Bool) (others : Option ℕ) → len_utf8 n ≡ 1 → (others ≡ Some d → len_utf8 d ≡ 1)
-    → cond b (Some n) others ≡ Some d → len_utf8 d ≡ 1
-one_byte d n true others one h e = let same : n ≡ d = cc in subst (λ (z : ℕ). len_utf8 z ≡ 1) same one
-one_byte d n false others one h e = h e
+-- what a backslash and a character stand for takes one byte in place of two
+short_is_low : (c d : ℕ) → short_escape c ≡ Some d → d < 128
+short_is_low c d e = grind (arith, nat_tests)
 
 short_is_one : (c d : ℕ) → short_escape c ≡ Some d → len_utf8 d ≡ 1
-short_is_one c d = one_byte d 34 (c == 34) _ refl (one_byte d 92 (c == 92) _ refl
-    (one_byte d 47 (c == 47) _ refl (one_byte d 8 (c == 98) _ refl
-    (one_byte d 12 (c == 102) _ refl (one_byte d 10 (c == 110) _ refl
-    (one_byte d 13 (c == 114) _ refl (one_byte d 9 (c == 116) _ refl (λ e. absurd (cc e)))))))))
+short_is_one c d e = len_utf8_ascii d (short_is_low c d e)
 
 -- One character, and what stands after it, which is no longer than its own text: w bytes are there for the character.
 in_front_is_short : (c : Option ℕ) (w : ℕ) (t u : Text) → ((d : ℕ) → c ≡ Some d → len_utf8 d ≤ w)
