@@ -1,5 +1,5 @@
 -- The nodes of parts in a row, over a loop that adds those of one part a turn.
-use Rattle.std.proofs.Common.{◌≡◌, ◌∙◌, ℕ, ◌+◌, ◌<◌, ◌≤◌, List, [], ◌∷◌, ◌++◌, length, take, map, get_or, sym, ap, append_assoc, append-nil, add-one}
+use Rattle.std.proofs.Common.{◌≡◌, ◌∙◌, ℕ, ◌+◌, ◌<◌, ◌≤◌, List, [], ◌∷◌, ◌++◌, length, take, map, get_or, flat_map, refl, sym, ap, append_assoc, append-nil, add-one}
 use Rattle.std.specs.Global.{Vec}
 use Rattle.std.proofs.lemmas.List.{take_all}
 use Rattle.std.proofs.Math.Seq.{take-suc}
@@ -7,6 +7,13 @@ use Rattle.graphql_nodes.specs.Nodes.{Node, each}
 use Rattle.juniper_nodes.specs.declared.node.Node as code
 use Rattle.juniper_nodes.specs.NodeViews.{view_nodes, Gains}
 use Rattle.juniper_nodes.proofs.Growth.{grown_none}
+
+-- each part is seen first
+pub each_seen : {A B N : Type 0} (nodes : B → List N) (view : A → B) (xs : List A)
+    → flat_map (λ x. nodes (view x)) xs ≡ each nodes (map view xs)
+unfolding each
+each_seen nodes view [] = refl
+each_seen nodes view (x ∷ xs) = ap (λ ns. nodes (view x) ++ ns) (each_seen nodes view xs)
 
 module _ {S C A B : Type 0} (content : S → C) (nodes : B → List (Node C)) (view : A → B) where
   -- the nodes so far are those of the parts so far

@@ -29,6 +29,22 @@ view_label span (label.Type type) = nodes.Typed (view_type type.now)
 abbrev pub TellsName : Label → Option Word → Type 0
 TellsName label name = (span : Span) → view_label span label ≡ nodes.name_of name
 
+-- see says how a node is seen
+module _ {N C : Type 0} (see : N → nodes.Node C) where
+  -- the new list has these nodes after the old ones
+  pub record GainsBy (old new : Vec N) (added : List (nodes.Node C)) : Type 0 where
+    pub nodes : map see new.items ≡ map see old.items ++ added
+
+  -- what stood before still stands in front
+  pub record StandsBy (old new : Vec N) : Type 0 where
+    pub added : List (nodes.Node C)
+    pub gains : GainsBy old new added
+
+  -- The list has gained these nodes; where memory ran out, what stood before still stands in front.
+  abbrev pub GrowsBy : {X E : Type 0} → Result X E → Vec N → Vec N → List (nodes.Node C) → Type 0
+  GrowsBy (Ok x) old new added = GainsBy old new added
+  GrowsBy (Err e) old new added = StandsBy old new
+
 -- content says what a scalar is known by
 module _ {S C : Type 0} (content : S → C) where
   abbrev pub view_node : Node S → nodes.Node C
@@ -43,19 +59,15 @@ module _ {S C : Type 0} (content : S → C) where
   abbrev pub view_nodes : Vec (Node S) → List (nodes.Node C)
   view_nodes ns = map view_node ns.items
 
-  -- the new list has these nodes after the old ones
-  pub record Gains (old new : Vec (Node S)) (added : List (nodes.Node C)) : Type 0 where
-    pub nodes : view_nodes new ≡ view_nodes old ++ added
+  -- the same of nodes of the code
+  abbrev pub Gains : Vec (Node S) → Vec (Node S) → List (nodes.Node C) → Type 0
+  Gains = GainsBy view_node
 
-  -- what stood before still stands in front
-  pub record StandsInFront (old new : Vec (Node S)) : Type 0 where
-    pub added : List (nodes.Node C)
-    pub gains : Gains old new added
+  abbrev pub StandsInFront : Vec (Node S) → Vec (Node S) → Type 0
+  StandsInFront = StandsBy view_node
 
-  -- The list has gained these nodes; where memory ran out, what stood before still stands in front.
   abbrev pub Grows : {X E : Type 0} → Result X E → Vec (Node S) → Vec (Node S) → List (nodes.Node C) → Type 0
-  Grows (Ok x) old new added = Gains old new added
-  Grows (Err e) old new added = StandsInFront old new
+  Grows result = GrowsBy view_node result
 
   -- The node at this place has its number of descendants: all nodes after it.
   pub record CountsInner (old new : Vec (Node S)) (place : ℕ) : Type 0 where

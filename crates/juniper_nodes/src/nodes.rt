@@ -3,6 +3,7 @@
 
 mod definition;
 mod directives;
+mod part;
 mod push;
 mod selection;
 mod value;

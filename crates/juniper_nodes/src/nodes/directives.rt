@@ -1,10 +1,11 @@
 //! The nodes of arguments and directives.
-ghost use Rattle.std.specs.Prelude.{map, option_map};
-ghost use Rattle.graphql_nodes.specs.Nodes.{each, if_present, argument_nodes, arguments_nodes, directive_nodes, directives_nodes};
+ghost use Rattle.std.specs.Prelude.{option_map};
+ghost use Rattle.graphql_nodes.specs.Nodes.{if_present, argument_nodes, arguments_nodes, directive_nodes, directives_nodes};
 ghost use Rattle.juniper.specs.View.{view_argument, view_arguments, view_directive, view_directives};
-ghost use Rattle.juniper_nodes.specs.NodeViews.{Grows};
+ghost use Rattle.juniper_nodes.specs.NodeViews.{view_node, Grows};
 
 use crate::node::{Label, Node};
+use crate::nodes::part::{Part, push_each};
 use crate::nodes::push::{close, push_open};
 use crate::nodes::value::push_value;
 use graphql_nodes::NodeKind;
@@ -24,16 +25,15 @@ fn push_argument<'t, 'a, S: ScalarValue>(
     Ok(())
 }
 
-fn push_each_argument<'t, 'a, S: ScalarValue>(
-    nodes: &mut Vec<Node<'t, 'a, S>>,
-    arguments: &'t [(Spanning<&'a str>, Spanning<InputValue<S>>)],
-) -> Result<(), AllocError>
-    ensures { Grows S.content result nodes.old nodes.new (each argument_nodes (map (view_argument S.content) arguments.now)) }
-{
-    for argument in arguments {
-        push_argument(nodes, argument)?;
+impl<'t, 'a, S: ScalarValue> Part<'t, Node<'t, 'a, S>>
+    for (Spanning<&'a str>, Spanning<InputValue<S>>) {
+    ghost see = { view_node S.content };
+
+    ghost part_nodes = { λ argument. argument_nodes (view_argument S.content argument) };
+
+    fn push_onto(&'t self, nodes: &mut Vec<Node<'t, 'a, S>>) -> Result<(), AllocError> {
+        push_argument(nodes, self)
     }
-    Ok(())
 }
 
 fn push_arguments<'t, 'a, S: ScalarValue>(
@@ -43,7 +43,7 @@ fn push_arguments<'t, 'a, S: ScalarValue>(
     ensures { Grows S.content result nodes.old nodes.new (arguments_nodes (view_arguments S.content arguments.now)) }
 {
     let place = push_open(nodes, NodeKind::Arguments, &arguments.span, Label::Unnamed)?;
-    push_each_argument(nodes, &arguments.item.items)?;
+    push_each(nodes, &arguments.item.items)?;
     close(nodes, place);
     Ok(())
 }
@@ -74,16 +74,14 @@ fn push_directive<'t, 'a, S: ScalarValue>(
     Ok(())
 }
 
-fn push_each_directive<'t, 'a, S: ScalarValue>(
-    nodes: &mut Vec<Node<'t, 'a, S>>,
-    directives: &'t [Spanning<Directive<'a, S>>],
-) -> Result<(), AllocError>
-    ensures { Grows S.content result nodes.old nodes.new (each directive_nodes (map (view_directive S.content) directives.now)) }
-{
-    for directive in directives {
-        push_directive(nodes, directive)?;
+impl<'t, 'a, S: ScalarValue> Part<'t, Node<'t, 'a, S>> for Spanning<Directive<'a, S>> {
+    ghost see = { view_node S.content };
+
+    ghost part_nodes = { λ directive. directive_nodes (view_directive S.content directive) };
+
+    fn push_onto(&'t self, nodes: &mut Vec<Node<'t, 'a, S>>) -> Result<(), AllocError> {
+        push_directive(nodes, self)
     }
-    Ok(())
 }
 
 /// Appends the nodes of directives, if there are any (GraphQL specification, October 2021, section 2.12).
@@ -95,6 +93,6 @@ pub(crate) fn push_directives<'t, 'a, S: ScalarValue>(
 {
     match directives {
         None => Ok(()),
-        Some(directives) => push_each_directive(nodes, directives),
+        Some(directives) => push_each(nodes, directives),
     }
 }

@@ -1,11 +1,12 @@
 //! The nodes of variable definitions.
-ghost use Rattle.std.specs.Prelude.{map, option_map};
-ghost use Rattle.graphql_nodes.specs.Nodes.{each, if_present, value_nodes, variable_nodes, variables_nodes};
+ghost use Rattle.std.specs.Prelude.{option_map};
+ghost use Rattle.graphql_nodes.specs.Nodes.{if_present, value_nodes, variable_nodes, variables_nodes};
 ghost use Rattle.juniper.specs.View.{view_value, view_variable, view_variables};
-ghost use Rattle.juniper_nodes.specs.NodeViews.{Grows};
+ghost use Rattle.juniper_nodes.specs.NodeViews.{view_node, Grows};
 
 use crate::node::{Label, Node};
 use crate::nodes::directives::push_directives;
+use crate::nodes::part::{Part, push_each};
 use crate::nodes::push::{close, push_leaf, push_open};
 use crate::nodes::value::push_value;
 use graphql_nodes::NodeKind;
@@ -45,16 +46,15 @@ fn push_variable<'t, 'a, S: ScalarValue>(
     Ok(())
 }
 
-fn push_each_variable<'t, 'a, S: ScalarValue>(
-    nodes: &mut Vec<Node<'t, 'a, S>>,
-    variables: &'t [(Spanning<&'a str>, VariableDefinition<'a, S>)],
-) -> Result<(), AllocError>
-    ensures { Grows S.content result nodes.old nodes.new (each variable_nodes (map (view_variable S.content) variables.now)) }
-{
-    for variable in variables {
-        push_variable(nodes, variable)?;
+impl<'t, 'a, S: ScalarValue> Part<'t, Node<'t, 'a, S>>
+    for (Spanning<&'a str>, VariableDefinition<'a, S>) {
+    ghost see = { view_node S.content };
+
+    ghost part_nodes = { λ variable. variable_nodes (view_variable S.content variable) };
+
+    fn push_onto(&'t self, nodes: &mut Vec<Node<'t, 'a, S>>) -> Result<(), AllocError> {
+        push_variable(nodes, self)
     }
-    Ok(())
 }
 
 fn push_variables<'t, 'a, S: ScalarValue>(
@@ -64,7 +64,7 @@ fn push_variables<'t, 'a, S: ScalarValue>(
     ensures { Grows S.content result nodes.old nodes.new (variables_nodes (view_variables S.content variables.now)) }
 {
     let place = push_open(nodes, NodeKind::Variables, &variables.span, Label::Unnamed)?;
-    push_each_variable(nodes, &variables.item.items)?;
+    push_each(nodes, &variables.item.items)?;
     close(nodes, place);
     Ok(())
 }

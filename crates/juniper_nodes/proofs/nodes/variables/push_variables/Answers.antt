@@ -1,23 +1,26 @@
-use Rattle.graphql_nodes.specs.Nodes.{variables_nodes}
-use Rattle.juniper_nodes.proofs.Growth.{closed, grown, grown_on_error}
+use Rattle.graphql_nodes.specs.Nodes.{variable_nodes, variables_nodes}
+use Rattle.juniper.specs.View.{view_variable}
+use Rattle.juniper_nodes.proofs.Growth.{closed, grown_on_error}
 use Rattle.juniper_nodes.proofs.Places.{place_held, kept_on_error}
+use Rattle.juniper_nodes.proofs.Rows.{each_seen}
 use Rattle.juniper_nodes.proofs.nodes.variables.push_variables.Goals as goal
 
 pub returns : goal.returns
 unfolding variables_nodes
 returns g c =
-    rw (← c.deref.ensures.value)
-    (closed g.S.ParseScalarValue.content c.in_ok-place.ensures.opened c.in_ok-push_each_variable.ensures c.close.ensures)
+    let content = g.S.ParseScalarValue.content in
+    rw (← c.deref.ensures.value, ← each_seen variable_nodes (view_variable content) c.deref.result.now)
+    (closed content c.in_ok-place.ensures.opened c.in_ok-push_each.ensures c.close.ensures)
 
-pub returns-in_err-push_each_variable : goal.returns-in_err-push_each_variable
-returns-in_err-push_each_variable g c =
+pub returns-in_err-push_each : goal.returns-in_err-push_each
+returns-in_err-push_each g c =
     let content = g.S.ParseScalarValue.content in
     let before = c.in_ok-place.ensures.opened.1 in
-    grown_on_error content _ _ c.from_residual-in_err-push_each_variable.ensures.0 before c.in_err-push_each_variable.ensures
+    grown_on_error content _ _ c.from_residual-in_err-push_each.ensures.0 before c.in_err-push_each.ensures
 
 pub close-requires : goal.close-requires
 close-requires g c =
-    place_held g.S.ParseScalarValue.content c.in_ok-place.ensures.opened c.in_ok-push_each_variable.ensures
+    place_held g.S.ParseScalarValue.content c.in_ok-place.ensures.opened c.in_ok-push_each.ensures
 
 pub returns-in_err-place : goal.returns-in_err-place
 returns-in_err-place g c =
