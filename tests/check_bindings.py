@@ -107,11 +107,10 @@ for word, number in re.findall(r"^const (\w+): u32 = (\d+);", call, re.M):
     check(f"Rust's status {word}", int(number), statuses[word])
 library = read("bindings/rust/src/lib.rs")
 RUST_TYPES = {"u32": "uint32_t", "i64": "int64_t", "Position": "firthnapkin_position"}
-for name, text in (("RawNode", rust), ("RawError", call), ("Limits", library), ("RawToken", lexer), ("Position", rust)):
+for name, text in (("RawNode", rust), ("RawError", call), ("RawToken", lexer), ("Position", rust)):
     body = part(text, rf"#\[repr\(C\)\]\n#\[derive\([^\n]*\n(?:pub(?:\(crate\))? )?struct {name} \{{", r"\n}")
     found = [(field, RUST_TYPES[kind]) for field, kind in re.findall(r"^    (?:pub )?(\w+): (\w+),$", body, re.M)]
-    wanted = [it for it in declared(f"firthnapkin_{name.replace('Raw', '').lower()}") if it[0] != "reserved"]
-    check(f"the fields of Rust's {name}", found, wanted)
+    check(f"the fields of Rust's {name}", found, declared(f"firthnapkin_{name.replace('Raw', '').lower()}"))
 check("Rust's largest depth", re.search(r"MAX_DEPTH: u32 = (\d+);", library)[1], defined("FIRTHNAPKIN_MAX_DEPTH"))
 stack = re.search(r"^    (\d+) \+ (\d+) \* depth as usize", read("bindings/rust/src/stack.rs"), re.M).groups()
 check("the stack that Rust gives", stack, re.search(r"\(size_t\)(\d+) \+ \(size_t\)(\d+) \*", defined("FIRTHNAPKIN_STACK_SIZE(depth)")).groups())
@@ -134,28 +133,27 @@ for name, constants, others in (
 limits = [field for field, _ in declared("firthnapkin_limits") if field != "reserved"]
 for path, pattern in (
     ("python/src/firthnapkin/parser.py", r"^    (\w+): Annotated\[.*Limit\("),
-    ("go/parse.go", r"^\t\t(\w+): +checked\("),
-    ("node/lib/calls.js", r"^  (\w+): \[.*\],$"),
-    ("node/index.d.ts", r"^  (\w+)\?: number;$"),
+    ("go/parse.go", r"^\t(\w+) +int // how "),
+    ("rust/src/lib.rs", r'^    (\w+): u32 = .*, "How .*";$'),
+    ("node/lib/limits.js", r'^  (\w+): \[.*, "How .*"\],$'),
 ):
-    text = read(f"bindings/{path}")
-    if path.endswith(".d.ts"):
-        text = part(text, r"export interface Options \{", r"\n}")
-    check(f"the limits of {path}", [upper(name).lower().removeprefix("max_") for name in re.findall(pattern, text, re.M)], limits)
+    names = re.findall(pattern, read(f"bindings/{path}"), re.M)
+    check(f"the limits of {path}", [upper(name).lower().removeprefix("max_") for name in names], limits)
 for path, pattern in (
     ("python/src/firthnapkin/parser.py", r"^    depth: Annotated\[.*\] = (\d+),"),
     ("go/parse.go", r"DefaultLimits = Limits\{Depth: (\d+), "),
     ("rust/src/lib.rs", r"DEFAULT_DEPTH: u32 = (\d+);"),
-    ("node/lib/calls.js", r"depth: \[(\d+), "),
+    ("node/lib/limits.js", r"depth: \[(\d+), "),
+    ("node/lib/limits.js", r"from 0 to MAX_DEPTH; (\d+) if it isn't given"),
 ):
     check(f"the default depth of {path}", re.search(pattern, read(f"bindings/{path}"), re.M)[1], "200")
-check("the default depth that Node's types name", re.search(r"from 0 to MAX_DEPTH; (\d+) if it isn't given", types)[1], "200")
 for path, pattern, wanted in (
     ("python/src/firthnapkin/parser.py", r"^    max_tokens: Annotated\[.*\] = (\w+),", "None"),
     ("go/parse.go", r"DefaultLimits = Limits\{Depth: 200, Tokens: (\w+)", "AnyTokens"),
     ("go/parse.go", r"const AnyTokens = (.*)", "1<<32 - 1"),
-    ("rust/src/lib.rs", r"Limits \{ depth: DEFAULT_DEPTH, tokens: ([\w:]+)", "u32::MAX"),
-    ("node/lib/calls.js", r"maxTokens: \[([\w.]+), ", "Number.MAX_SAFE_INTEGER"),
+    ("rust/src/lib.rs", r"tokens: u32 = ([\w:]+), ", "u32::MAX"),
+    ("node/lib/limits.js", r"maxTokens: \[(\w+), ", "ANY"),
+    ("node/lib/limits.js", r"const ANY = (.*);", "Number.MAX_SAFE_INTEGER"),
 ):
     check(f"the default number of tokens of {path}", re.search(pattern, read(f"bindings/{path}"), re.M)[1], wanted)
 

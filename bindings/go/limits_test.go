@@ -5,6 +5,7 @@ import (
 	"fmt"
 	"os"
 	"os/exec"
+	"reflect"
 	"strings"
 	"sync"
 	"syscall"
@@ -47,9 +48,9 @@ func TestDepths(t *testing.T) {
 		}
 	}
 	_, err := ParseWithin("{a}", Limits{Depth: 1001, Tokens: 5})
-	same(t, "the words of a depth", err.Error(), "firthnapkin: invalid limit: the depth 1001 is not from 0 to 1000")
+	same(t, "the words of a depth", err.Error(), "firthnapkin: invalid limit: Depth 1001 is not from 0 to 1000")
 	_, err = ParseWithin("{a}", Limits{Depth: 5, Tokens: -7})
-	same(t, "the words of a number of tokens", err.Error(), "firthnapkin: invalid limit: the number of tokens -7 is below 0")
+	same(t, "the words of a number of tokens", err.Error(), "firthnapkin: invalid limit: Tokens -7 is below 0")
 	for _, depth := range []int{0, 1, 2, 199, 200, MaxDepth} {
 		if d, err := ParseWithin(strings.Repeat("{a", depth)+strings.Repeat("}", depth), Limits{Depth: depth, Tokens: AnyTokens}); depth > 0 &&
 			(err != nil || len(d.Nodes) != depth+1) {
@@ -178,9 +179,20 @@ func TestWords(t *testing.T) {
 			same(t, fmt.Sprint("the reserved word ", i), uint32(word), uint32(0))
 		}
 	}
+	// Each field is an int, with the name of its word.
+	words, _ := DefaultLimits.words()
+	fields, named := reflect.TypeOf(DefaultLimits), reflect.TypeOf(words)
+	for i := 0; i < fields.NumField(); i++ {
+		found := []any{fields.Field(i).Type.Kind(), strings.ToLower(fields.Field(i).Name)}
+		same(t, "a field", found, []any{reflect.Int, strings.ReplaceAll(named.Field(i).Name, "_", "")})
+	}
+	// A word that the library refuses is an invalid limit.
+	words.reserved[len(words.reserved)-1] = 1
+	_, err := parse("{a}", words)
+	same(t, "a reserved word", err, ErrInvalidLimit)
 	// The first limit that is out of its range is named.
-	_, err := ParseWithin("{a}", Limits{Depth: -1, Tokens: -1})
-	same(t, "the words of both", err.Error(), "firthnapkin: invalid limit: the depth -1 is not from 0 to 1000")
+	_, err = ParseWithin("{a}", Limits{Depth: -1, Tokens: -1})
+	same(t, "the words of both", err.Error(), "firthnapkin: invalid limit: Depth -1 is not from 0 to 1000")
 	_, err = TokensWithin("{a}", -1)
-	same(t, "the words of a number of tokens", err.Error(), "firthnapkin: invalid limit: the number of tokens -1 is below 0")
+	same(t, "the words of a number of tokens", err.Error(), "firthnapkin: invalid limit: maxTokens -1 is below 0")
 }

@@ -41,6 +41,7 @@ import "C"
 import (
 	"errors"
 	"fmt"
+	"reflect"
 	"runtime"
 	"unsafe"
 )
@@ -56,13 +57,11 @@ const Version = C.FIRTHNAPKIN_VERSION_STRING
 
 // Limits are what a source may have. The zero value allows no bracket and no token, so begin with DefaultLimits.
 type Limits struct {
-	// Depth is how deep brackets may be nested: from 0 to MaxDepth.
-	Depth int
-	// Tokens is how many tokens there may be, the end of the source not counted. AnyTokens and more are no limit.
-	Tokens int
+	Depth  int // how deep brackets may be nested: from 0 to MaxDepth
+	Tokens int // how many tokens there may be, the end of the source not counted; AnyTokens and more are no limit
 }
 
-// DefaultLimits are those of Parse: brackets nested 200 deep, and any number of tokens.
+// DefaultLimits are those of Parse: brackets nested 200 deep, and no other limit.
 var DefaultLimits = Limits{Depth: 200, Tokens: AnyTokens}
 
 // What the calls return besides a *SyntaxError.
@@ -83,30 +82,34 @@ func Parse(source string) (*Document, error) {
 	return ParseWithin(source, DefaultLimits)
 }
 
-// words returns limits as the library takes them: each has a line here. In the words that have no limit 0 is none.
-func (limits Limits) words() (C.firthnapkin_limits, error) {
-	var err error
-	words := C.firthnapkin_limits{
-		depth:  checked("depth", limits.Depth, MaxDepth, &err),
-		tokens: checked("number of tokens", limits.Tokens, AnyTokens, &err),
+// numbers are the fields of Limits: ints, in the order of the library's words. In later ones 0 is no limit.
+type numbers [unsafe.Sizeof(Limits{}) / unsafe.Sizeof(0)]int
+
+// words returns limits as the library takes them: a word for each field, and 0 in the words that have none.
+func (limits Limits) words() (words C.firthnapkin_limits, err error) {
+	if limits.Depth < 0 || limits.Depth > MaxDepth {
+		return words, fmt.Errorf("%w: Depth %d is not from 0 to %d", ErrInvalidLimit, limits.Depth, MaxDepth)
 	}
-	return words, err
+	for i, value := range *(*numbers)(unsafe.Pointer(&limits)) {
+		if value < 0 {
+			return words, belowZero(reflect.TypeOf(limits).Field(i).Name, value)
+		}
+		(*[C.sizeof_firthnapkin_limits / C.sizeof_uint32_t]C.uint32_t)(unsafe.Pointer(&words))[i] = word(value)
+	}
+	return words, nil
 }
 
-// checked returns a limit as the library takes it, and sets the error, unless there is one, where it is out of its range. A limit
-// whose largest number is AnyTokens has none: larger ones are as good.
-func checked(name string, value, largest int, err *error) C.uint32_t {
-	isBelow, isAbove := value < 0, value > largest && largest < AnyTokens
-	switch {
-	case *err != nil:
-	case isBelow && largest == AnyTokens:
-		*err = fmt.Errorf("%w: the %s %d is below 0", ErrInvalidLimit, name, value)
-	case isBelow || isAbove:
-		*err = fmt.Errorf("%w: the %s %d is not from 0 to %d", ErrInvalidLimit, name, value, largest)
-	case value > largest:
-		return C.uint32_t(largest)
+// word returns a number as the library takes it. No source has more of anything than a word holds.
+func word(value int) C.uint32_t {
+	if value > AnyTokens {
+		return AnyTokens
 	}
 	return C.uint32_t(value)
+}
+
+// belowZero returns the error of a limit that is below 0.
+func belowZero(name string, value int) error {
+	return fmt.Errorf("%w: %s %d is below 0", ErrInvalidLimit, name, value)
 }
 
 // ParseWithin is Parse with other limits. The source is read once. One with too many tokens is refused at the first one too
@@ -163,6 +166,8 @@ func errorOf(status C.uint32_t, source string, found *C.firthnapkin_error) error
 		return ErrOutOfMemory
 	case C.FIRTHNAPKIN_SOURCE_TOO_LONG:
 		return ErrSourceTooLong
+	case C.FIRTHNAPKIN_INVALID_LIMIT:
+		return ErrInvalidLimit
 	}
 	return fmt.Errorf("firthnapkin: the parser returned %s", C.GoString(C.firthnapkin_status_name(status)))
 }
@@ -172,8 +177,10 @@ func bytesOf(source string) *C.char {
 	return *(**C.char)(unsafe.Pointer(&source))
 }
 
-// The nodes of a slice are laid out as the library writes them; each of these lines is a compile error if that is wrong.
+// The nodes of a slice are laid out as the library writes them, and Limits has a field for each of its limits; each of these lines is
+// a compile error if that is wrong.
 var (
+	_ = [1]struct{}{}[C.sizeof_uint32_t*uintptr(len(numbers{}))-unsafe.Offsetof(C.firthnapkin_limits{}.reserved)]
 	_ = [1]struct{}{}[unsafe.Sizeof(Node{})-C.sizeof_firthnapkin_node]
 	_ = [1]struct{}{}[unsafe.Offsetof(Node{}.Descendants)-unsafe.Offsetof(C.firthnapkin_node{}.descendants)]
 	_ = [1]struct{}{}[unsafe.Offsetof(Node{}.Start)-unsafe.Offsetof(C.firthnapkin_node{}.start)]

@@ -75,14 +75,12 @@ func Tokens(source string) ([]Token, error) {
 // TokensWithin is Tokens of a source that may have no more than so many tokens, its end not counted. One with more is refused at
 // the first one too many. If the number is below 0 the error wraps ErrInvalidLimit, and the source isn't read.
 func TokensWithin(source string, maxTokens int) ([]Token, error) {
-	var err error
-	most := checked("number of tokens", maxTokens, AnyTokens, &err)
-	if err != nil {
-		return nil, err
+	if maxTokens < 0 {
+		return nil, belowZero("maxTokens", maxTokens)
 	}
 	for capacity := atFirst(source) + 16; ; {
 		tokens, length, found := make([]Token, capacity), new(C.size_t), new(C.firthnapkin_error)
-		status := C.cut(bytesOf(source), C.size_t(len(source)), most, unsafe.Pointer(&tokens[0]), C.size_t(capacity), length, found)
+		status := C.cut(bytesOf(source), C.size_t(len(source)), word(maxTokens), unsafe.Pointer(&tokens[0]), C.size_t(capacity), length, found)
 		runtime.KeepAlive(source)
 		switch status {
 		case C.FIRTHNAPKIN_OK:

@@ -1,5 +1,5 @@
-// Builds the addon with a C compiler, over the archive and the headers that Node comes with. A release has the archive inside, and
-// an addon that is built: if this Node loads it, nothing is left to do. In the repository ./c-library builds the archive.
+// Builds the addon with a C compiler, over the archive and the headers that Node comes with, and writes lib/limits.d.ts. A release has
+// both, and the archive: if this Node loads the addon, nothing is left to do. In the repository ./c-library builds the archive.
 "use strict";
 
 const { execFileSync } = require("child_process");
@@ -53,6 +53,7 @@ function build() {
   const folders = isRelease ? [inside, headers] : [path.join(root, "include"), path.join(root, "bindings"), headers];
   const words = ["-O2", "-Wall", "-Wextra", "-fPIC", "-shared", "-pthread", ...folders.map((folder) => `-I${folder}`)];
   execFileSync(process.env.CC || "cc", [...words, "-o", output, path.join(__dirname, "addon.c"), library], { stdio: "inherit" });
+  fs.writeFileSync(path.join(__dirname, "lib", "limits.d.ts"), require("./lib/limits").declaration());
 }
 
 checkMachine();

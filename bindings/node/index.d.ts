@@ -263,12 +263,8 @@ export class FirthnapkinError extends Error {
   readonly excerpt: string;
 }
 
-export interface Options {
-  /** How deep brackets may be nested: an integer from 0 to MAX_DEPTH; 200 if it isn't given. */
-  depth?: number;
-  /** How many tokens the source may have, its end not counted; any number if it isn't given. */
-  maxTokens?: number;
-}
+import { Options } from "./lib/limits.js";
+export { Options };
 
 /**
  * The document that a source is. Throws a FirthnapkinError if it isn't one, a bracket is nested deeper, or a token is one too many,

@@ -2,6 +2,7 @@
 "use strict";
 
 const addon = require("../firthnapkin.node");
+const { LIMITS } = require("./limits");
 
 const LARGEST_WORD = 2 ** 32 - 1;
 
@@ -48,12 +49,6 @@ function integer(name, value, largest) {
     throw new RangeError(`${name} must be an integer from 0 to ${largest}`);
   return value;
 }
-
-// The limits, each with its default and its largest number, in the order of firthnapkin_limits.
-const LIMITS = {
-  depth: [200, addon.MAX_DEPTH],
-  maxTokens: [Number.MAX_SAFE_INTEGER, Number.MAX_SAFE_INTEGER],
-};
 
 // The numbers of the limits with these names, of which those that options don't have are the default ones.
 function numbersOf(options, names) {

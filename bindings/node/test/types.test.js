@@ -1,4 +1,4 @@
-// Compares index.d.ts with what the package returns: names, types, and each alternative of a type, over samples of each kind.
+// Compares index.d.ts, and limits.d.ts, with what the package returns: names, types, and each alternative of a type, over samples of each kind.
 "use strict";
 
 const assert = require("assert");
@@ -8,13 +8,15 @@ const path = require("path");
 const { inspect } = require("util");
 
 const firthnapkin = require("..");
+const { declaration } = require("../lib/limits");
 
 const { parse, tokens, FirthnapkinError } = firthnapkin;
 
 // What a program may find at run time and has no use for.
 const INTERNAL = { Document: ["units", "parents", "between"], Tokens: ["units"] };
 
-const text = fs.readFileSync(path.join(__dirname, "..", "index.d.ts"), "utf8").replace(/\/\*[^]*?\*\//g, "");
+const [index, ofLimits] = ["index.d.ts", "lib/limits.d.ts"].map((name) => fs.readFileSync(path.join(__dirname, "..", name), "utf8"));
+const text = (index + ofLimits).replace(/\/\*[^]*?\*\//g, "");
 
 /** The members of a type between braces: for each name its type and the names of its parameters, where it has some. */
 function membersOf(body) {
@@ -188,10 +190,16 @@ test("a module imports each name", async () => {
   for (const name of Object.keys(firthnapkin)) assert.strictEqual(imported[name], firthnapkin[name], name);
 });
 
+test("limits.d.ts is of the list of limits, and index.d.ts exports its type", () => {
+  assert.strictEqual(ofLimits, declaration());
+  assert.match(index, /^import \{ Options \} from "\.\/lib\/limits\.js";\nexport \{ Options \};$/m);
+});
+
 test("the options are those of index.d.ts", () => {
   for (const [type, call, wanted] of [["Options", parse, ["depth", "maxTokens"]], ["TokenOptions", tokens, ["maxTokens"]]]) {
     const options = objects.get(type);
     assert.deepStrictEqual(Array.from(options.keys()).sort(), wanted);
+    assert.strictEqual(functions.get(call.name).parameters, `source: string, options?: ${type}`);
     for (const [name, member] of options) {
       assert.ok(member.isOptional, name);
       for (const value of [5, 5n, "5", true, null, undefined]) {

@@ -10,7 +10,7 @@ import sys
 import tracemalloc
 import unittest
 from contextlib import ExitStack, contextmanager
-from typing import Any, Iterator, List, Tuple
+from typing import Any, Iterator, List, Tuple, get_type_hints
 from unittest import mock
 
 from helpers import process, resident, words_of
@@ -18,7 +18,7 @@ from graphql_texts import WHOLE, answer, extension, made_texts, row_texts  # ski
 
 import graphql
 from firthnapkin import graphql_core
-from firthnapkin.parser import LIMITS
+from firthnapkin.parser import LIMITS, parse
 from graphql import GraphQLSyntaxError, Source
 from graphql.language import Lexer, TokenKind, ast
 from graphql.language.parser import Parser
@@ -359,7 +359,11 @@ class BothLimits(unittest.TestCase):
 
     def test_words(self) -> None:
         """The depth goes to its word. The number of tokens is passed beside the limits, for what counts in the installed release."""
-        self.assertEqual(inspect.signature(graphql_core.parse).parameters["depth"].default, LIMITS.defaults["depth"])
+        limits = [it for it in inspect.signature(graphql_core.parse).parameters.values() if it.kind is it.KEYWORD_ONLY]
+        hints, wanted = get_type_hints(graphql_core.parse), get_type_hints(parse)
+        self.assertEqual([it.name for it in limits], ["depth"])
+        for it in limits:
+            self.assertEqual((it.default, hints[it.name]), (LIMITS.defaults[it.name], wanted[it.name]), it.name)
         for given, depth, most in [
             ({}, 200, 2**32 - 1), ({"depth": 0}, 0, 2**32 - 1), ({"depth": 7, "max_tokens": 9}, 7, 9),
             ({"depth": 1000, "max_tokens": 0}, 1000, 0), ({"max_tokens": 2**40}, 200, 2**32 - 1), ({"max_tokens": -5}, 200, -1),

@@ -23,6 +23,10 @@ def with_more(
     """A function of other limits."""
 
 
+def with_fewer(depth: int, *, fields: Optional[int] = None) -> None:
+    """A function that has one of them by name."""
+
+
 class Signatures(unittest.TestCase):
     def same(self, call: Any, names: Any) -> None:
         """The parameters that are given by name are those, of these types and defaults."""
@@ -88,6 +92,14 @@ class Tables(unittest.TestCase):
             with self.assertRaises(error) as raised:
                 limits.packed({**limits.defaults, **given})
             self.assertEqual(str(raised.exception), words)
+
+    def test_shared_limits(self) -> None:
+        """A function may have fewer of the limits. The others are the default ones, whatever is given, and these limits stay."""
+        limits = Limits(with_more)
+        shared = limits.shared_with(with_fewer)
+        self.assertEqual(words_of(shared.packed({"fields": 9, "depth": 6})), (5, 9, 0, 0, 0, 0, 0, 0))
+        self.assertEqual(words_of(limits.packed({"fields": 9, "depth": 6})), (6, 9, 0, 0, 0, 0, 0, 0))
+        self.assertEqual(words_of(shared.packed({"fields": None})), (5, 0, 0, 0, 0, 0, 0, 0))
 
     def test_tool(self) -> None:
         """The tool has an option for each limit, with its default."""

@@ -32,24 +32,32 @@ pub const DEFAULT_DEPTH: u32 = 200;
 /// The largest depth that [`parse_within`] takes.
 pub const MAX_DEPTH: u32 = 1000;
 
-/// What a source may have. The library reads the fields as they are here, in their order.
-///
-/// ```
-/// use firthnapkin::{parse_within, Limits};
-/// assert!(parse_within("{ a { b } }", Limits { tokens: 5, ..Limits::default() }).is_err());
-/// ```
-#[repr(C)]
-#[derive(Clone, Copy, Debug, PartialEq, Eq)]
-pub struct Limits {
-    /// How deep brackets may be nested: from 0 to [`MAX_DEPTH`].
-    pub depth: u32,
-    /// How many tokens there may be, the end of the source not counted; [`u32::MAX`] is no limit.
-    pub tokens: u32,
+/// Declares [`Limits`] and its default of what the list below says of each limit.
+macro_rules! limits {
+    ($($name:ident: $type:ty = $default:expr, $about:literal;)*) => {
+        /// What a source may have. The library reads the fields as they are here, in their order.
+        ///
+        /// ```
+        /// use firthnapkin::{parse_within, Limits};
+        /// assert!(parse_within("{ a { b } }", Limits { tokens: 5, ..Limits::default() }).is_err());
+        /// ```
+        #[repr(C)]
+        #[derive(Clone, Copy, Debug, PartialEq, Eq)]
+        pub struct Limits {
+            $(#[doc = $about] pub $name: $type,)*
+        }
+
+        /// Brackets nested [`DEFAULT_DEPTH`] deep, and no other limit.
+        impl Default for Limits {
+            fn default() -> Self {
+                Limits { $($name: $default,)* }
+            }
+        }
+    };
 }
 
-/// [`DEFAULT_DEPTH`], and any number of tokens.
-impl Default for Limits {
-    fn default() -> Self {
-        Limits { depth: DEFAULT_DEPTH, tokens: u32::MAX }
-    }
+// A limit is a line, in the order of the library's words. In later ones 0 is no limit.
+limits! {
+    depth: u32 = DEFAULT_DEPTH, "How deep brackets may be nested: from 0 to [`MAX_DEPTH`].";
+    tokens: u32 = u32::MAX, "How many tokens there may be, the end of the source not counted; [`u32::MAX`] is no limit.";
 }

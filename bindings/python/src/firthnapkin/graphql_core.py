@@ -49,15 +49,19 @@ def parse(
     argument that graphql-core's parse doesn't have; ValueError if the depth is below 0 or above MAX_DEPTH. A `max_tokens`
     that is no int is passed to graphql-core, which accepts or refuses it.
     """
-    limits = LIMITS.packed({**LIMITS.defaults, "depth": depth})
+    limits = _LIMITS.packed(locals())
     further = further_options(others, options) if others or options else {}
     body = source.body if isinstance(source, Source) else source
     is_limit = max_tokens is None or type(max_tokens) is int
-    if type(body) is str and is_limit and not allow_legacy_fragment_variables and not may_change_requests(further):
+    if type(body) is str and is_limit and not allow_legacy_fragment_variables and not (further and may_change_requests(further)):
         found = _document(source if isinstance(source, Source) else Source(body), no_location, max_tokens, depth, limits)
         if found is not None:
             return found
     return _own_document(source, no_location, max_tokens, allow_legacy_fragment_variables, further)
+
+
+# `max_tokens` is none of them: the extension has it beside them, for what counts in the installed release.
+_LIMITS = LIMITS.shared_with(parse)
 
 
 def _document(

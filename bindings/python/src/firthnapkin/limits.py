@@ -2,10 +2,11 @@
 
 from __future__ import annotations
 
+import copy
 import inspect
 import operator
 import struct
-from typing import Any, Callable, Dict, Mapping, Optional, get_args, get_type_hints
+from typing import Any, Callable, Dict, List, Mapping, Optional, get_args, get_type_hints
 
 from . import _parser
 
@@ -44,19 +45,26 @@ class Limits:
 
     def __init__(self, function: Callable[..., object]) -> None:
         hints = get_type_hints(function, include_extras=True)
-        parameters = [it for it in inspect.signature(function).parameters.values() if it.kind is it.KEYWORD_ONLY]
-        self.by_name: Dict[str, Limit] = {it.name: _limit_in(hints[it.name]) for it in parameters}
-        self.defaults: Dict[str, Optional[int]] = {it.name: it.default for it in parameters}
-        self._rows = list(self.by_name.items())
-        self._pack = _layout(len(parameters)).pack
+        self.by_name: Dict[str, Limit] = {it.name: _limit_in(hints[it.name]) for it in _named(function)}
+        self.defaults: Dict[str, Optional[int]] = {it.name: it.default for it in _named(function)}
+        self._words = [self.by_name[name].word(name, value) for name, value in self.defaults.items()]
+        self._rows = [(i, name, limit.most, limit) for i, (name, limit) in enumerate(self.by_name.items())]
+        self._pack = _layout(len(self._words)).pack
+
+    def shared_with(self, function: Callable[..., object]) -> "Limits":
+        """Returns these limits for a function that may have fewer of them. Those that it lacks are the default ones."""
+        names = [it.name for it in _named(function)]
+        shared = copy.copy(self)
+        shared._rows = [row for row in self._rows if row[1] in names]
+        return shared
 
     def packed(self, given: Mapping[str, Any]) -> bytes:
         """Returns limits as the library takes them. Raises TypeError or ValueError where one is not accepted."""
-        words = []
-        for name, limit in self._rows:
+        words = self._words.copy()
+        for i, name, most, limit in self._rows:
             value = given[name]
             # Most numbers are such ones, and each call costs as much as a good part of a short text.
-            words.append(value if type(value) is int and 0 <= value <= limit.most else limit.word(name, value))
+            words[i] = value if type(value) is int and 0 <= value <= most else limit.word(name, value)
         return self._pack(*words)
 
 
@@ -68,6 +76,11 @@ def packed(*words: int) -> bytes:
 def _layout(count: int) -> struct.Struct:
     """How a firthnapkin_limits is written that begins with so many words, and has 0 in the others."""
     return struct.Struct(f"={count}I{_parser.LIMITS_SIZE - 4 * count}x")
+
+
+def _named(function: Callable[..., object]) -> List[inspect.Parameter]:
+    """Returns the parameters of a function that are given by name."""
+    return [it for it in inspect.signature(function).parameters.values() if it.kind is it.KEYWORD_ONLY]
 
 
 def _limit_in(hint: Any) -> Limit:
