@@ -4,3 +4,5 @@ pub mod Fronts
 pub mod Literals
 pub mod FaultLines
 pub mod ArgumentValues
+pub mod Affordable
+pub mod Stores

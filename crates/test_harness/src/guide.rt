@@ -5,7 +5,9 @@ mod compare;
 mod documents;
 mod faults;
 mod kept;
+mod limiter;
 mod limits;
+mod store;
 mod walk;
 
 pub use arguments::argument_value;
@@ -13,5 +15,7 @@ pub use compare::same_literal;
 pub use documents::is_document;
 pub use faults::fault_line;
 pub use kept::kept_up_to;
+pub use limiter::{CostFailure, parse_affordable};
 pub use limits::is_document_within;
+pub use store::{Store, store_query, stored_query};
 pub use walk::field_names;

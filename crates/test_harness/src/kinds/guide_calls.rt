@@ -1,18 +1,25 @@
 //! The functions of the guide.
 
 use crate::guide::{
-    argument_value, fault_line, field_names, is_document, is_document_within, kept_up_to,
-    same_literal,
+    CostFailure, Store, argument_value, fault_line, field_names, is_document, is_document_within,
+    kept_up_to, parse_affordable, same_literal, store_query, stored_query,
 };
 use crate::kinds::input_values::variables_of;
 use crate::kinds::word_of;
 use crate::parsing::{Document, Input, document, literal};
 use crate::write::{Written, write_failure, write_items, write_optional, write_span, write_truth};
-use juniper::{DefaultScalarValue, Definition, Field, ParseFailure, Selection, Span};
+use juniper::{
+    DefaultScalarValue, Definition, Field, LimitFailure, Limits, ParseFailure, Selection, Span,
+};
+use juniper_complexity::ComplexityFailure;
+use juniper_tokens::LexFailure;
 use std::alloc::Global;
+use std::collections::BTreeMap;
 
 /// `guide`: calls on the text. `is_document_within` takes a limit, `same_literal` another text, `argument_value` the name
-/// of an argument of the first field of the first operation, and the variables as the fields of an object.
+/// of an argument of the first field of the first operation, and the variables as the fields of an object. `stored` takes
+/// another text, which is looked for in a store of the text, `parse_affordable` the largest number of fields, within a depth
+/// of 3 and 20 tokens.
 pub fn answer(alloc: Global, out: &mut String, text: &str, call: &str) -> Written {
     let (word, rest) = word_of(call);
     match word {
@@ -24,6 +31,8 @@ pub fn answer(alloc: Global, out: &mut String, text: &str, call: &str) -> Writte
         "fault_line" => write_optional(out, fault_line(alloc, text)?),
         "kept_up_to" => write_place(out, kept_up_to(alloc, text)?),
         "same_literal" => write_same(out, same_literal::<DefaultScalarValue>(alloc, text, rest)),
+        "stored" => write_stored(out, stored(alloc, text, rest)),
+        "parse_affordable" => write_affordable(alloc, out, text, rest),
         _ => answer_tree(alloc, out, text, word, rest),
     }
 }
@@ -40,6 +49,54 @@ fn write_same(out: &mut String, same: Result<bool, ParseFailure>) -> Written {
         Ok(same) => write_truth(out, same),
         Err(failure) => write_failure(out, failure),
     }
+}
+
+// The number of the one text in a store of the other, which has the number 1.
+fn stored(alloc: Global, text: &str, other: &str) -> Result<Option<usize>, LexFailure> {
+    let mut store: Store = BTreeMap::new(alloc);
+    store_query(alloc, &mut store, text, 1)?;
+    stored_query(alloc, &store, other)
+}
+
+fn write_stored(out: &mut String, number: Result<Option<usize>, LexFailure>) -> Written {
+    match number {
+        Ok(number) => write_optional(out, number),
+        Err(failure) => write_failure(out, ParseFailure::from(failure)),
+    }
+}
+
+fn write_affordable(alloc: Global, out: &mut String, text: &str, most: &str) -> Written {
+    let limits = Limits {
+        depth: 3,
+        tokens: 20,
+    };
+    match parse_affordable(alloc, text, limits, most.parse::<u64>().unwrap_or(0)) {
+        Ok(document) => write!(out, "{} definitions", document.len()),
+        Err(CostFailure::Text(failure)) => write_limit(out, failure),
+        Err(CostFailure::Spread(failure)) => write_spread(out, failure),
+        Err(CostFailure::Operation(at)) => write!(out, "Operation {at}"),
+    }
+}
+
+fn write_limit(out: &mut String, failure: LimitFailure) -> Written {
+    match failure {
+        LimitFailure::Parse(failure) => write_failure(out, failure),
+        LimitFailure::TooDeep(span) => write_named(out, "TooDeep ", &span),
+        LimitFailure::TooMany(span) => write_named(out, "TooMany ", &span),
+    }
+}
+
+fn write_spread(out: &mut String, failure: ComplexityFailure) -> Written {
+    match failure {
+        ComplexityFailure::Cycle(span) => write_named(out, "Cycle ", &span),
+        ComplexityFailure::Unknown(span) => write_named(out, "Unknown ", &span),
+        ComplexityFailure::Memory => out.push_str("Memory"),
+    }
+}
+
+fn write_named(out: &mut String, name: &str, span: &Span) -> Written {
+    out.push_str(name)?;
+    write_span(out, span)
 }
 
 // A call on the text's tree.
