@@ -12,22 +12,41 @@ use Rattle.juniper_complexity.specs.declared.operations.OperationComplexity.{Ope
 use Rattle.test_harness.specs.declared.guide.limiter.CostFailure.{CostFailure}
 use Rattle.test_harness.specs.declared.guide.limiter.CostFailure.TheVariants as failure
 
+-- None of these operations has more fields.
+abbrev pub NoneAbove : ℕ → List OperationComplexity → Type 0
+NoneAbove most complexities = (k : ℕ) (c : OperationComplexity) → slice_get complexities k ≡ Some c
+    → c.complexity.fields ≤ most
+
+-- Of these operations the definition at this index is the first that has more fields.
+pub record IsFirstAbove (most : ℕ) (complexities : List OperationComplexity) (at : ℕ) : Type 0 where
+  pub number : ℕ
+  pub operation : OperationComplexity
+  pub stands : slice_get complexities number ≡ Some operation
+  pub is_at : operation.definition ≡ at
+  pub above : most < operation.complexity.fields
+  pub earlier : (k : ℕ) (c : OperationComplexity) → k < number → slice_get complexities k ≡ Some c
+      → c.complexity.fields ≤ most
+
 module _ (limits : Limits) (most : ℕ) (source : List ℕ) where
-  -- the text is a document within the limits, with this tree, no operation of which has more fields
-  pub record IsAffordable (tree : List (Definition Content)) : Type 0 where
+  -- the text is a document within the limits, with this tree
+  pub record IsRead (tree : List (Definition Content)) : Type 0 where
     pub tree_is : HasTree default_scalars source tree
     pub few : HasFewTokens limits.tokens source
     pub shallow : IsWithin default_scalars limits.depth source
+
+  -- it is, and no operation has more fields
+  pub record IsAffordable (tree : List (Definition Content)) : Type 0 where
+    pub read : IsRead tree
     pub complexities : List OperationComplexity
     pub have : OperationsHave tree 0 tree complexities
-    pub below : (k : ℕ) (c : OperationComplexity) → slice_get complexities k ≡ Some c → c.complexity.fields ≤ most
+    pub below : NoneAbove most complexities
 
-  -- Why not: the parser says so, a spread can't be expanded, or the operation at this index has more fields.
+  -- Why not: the parser says so, a spread can't be expanded, or the definition at this index is the first operation
+  -- that has more fields.
   abbrev pub IsUnaffordable : CostFailure → Type 0
   IsUnaffordable (failure.Text e) = FailsLimited default_scalars limits.depth limits.tokens source e
-  IsUnaffordable (failure.Spread e) = (tree : List (Definition Content)) × HasTree default_scalars source tree
+  IsUnaffordable (failure.Spread e) = (tree : List (Definition Content)) × IsRead tree
       × ((fault : SpreadFault) → view_failure e ≡ Some fault → (at : ℕ) × FirstFault tree at fault)
-  IsUnaffordable (failure.Operation at) = (tree : List (Definition Content)) × HasTree default_scalars source tree
+  IsUnaffordable (failure.Operation at) = (tree : List (Definition Content)) × IsRead tree
       × (complexities : List OperationComplexity) × OperationsHave tree 0 tree complexities
-      × (k : ℕ) × (c : OperationComplexity) × (slice_get complexities k ≡ Some c) × (c.definition ≡ at)
-      × (most < c.complexity.fields)
+      × IsFirstAbove most complexities at

@@ -7,6 +7,7 @@ mod faults;
 mod kept;
 mod limiter;
 mod limits;
+mod rules;
 mod store;
 mod walk;
 
@@ -17,5 +18,6 @@ pub use faults::fault_line;
 pub use kept::kept_up_to;
 pub use limiter::{CostFailure, parse_affordable};
 pub use limits::is_document_within;
+pub use rules::broken_rules;
 pub use store::{Store, store_query, stored_query};
 pub use walk::field_names;

@@ -1,9 +1,9 @@
 //! A limiter: what a server accepts before it executes anything.
-ghost use Rattle.std.specs.Prelude.{◌≡◌, ◌<◌, ◌≤◌, ℕ, Some, None, IfSome, IfOk, IfErr, slice_get};
+ghost use Rattle.std.specs.Prelude.{◌≡◌, None, IfSome, IfOk, IfErr};
 ghost use Rattle.std.specs.Str.{chars};
 ghost use Rattle.juniper_values.specs.Default.{default_content};
 ghost use Rattle.juniper.specs.View.{view_document};
-ghost use Rattle.test_harness.specs.Affordable.{IsAffordable, IsUnaffordable};
+ghost use Rattle.test_harness.specs.Affordable.{IsAffordable, IsFirstAbove, IsUnaffordable, NoneAbove};
 
 use juniper::{
     DefaultScalarValue, LimitFailure, Limits, OwnedDocument, parse_document_source_limited,
@@ -14,11 +14,11 @@ use std::alloc::Global;
 /// Why a server doesn't execute a request.
 #[derive(Debug, Drop)]
 pub enum CostFailure {
-    /// The text has no tree within the limits.
+    /// The text has no tree within the limits, or memory ran out.
     Text(LimitFailure),
     /// A spread can't be expanded, or memory ran out.
     Spread(ComplexityFailure),
-    /// The definition at this index has too many fields.
+    /// The definition at this index is the first operation with too many fields.
     Operation(usize),
 }
 
@@ -48,8 +48,8 @@ pub fn parse_affordable<'a>(
 
 // The definition of the first operation with more fields.
 fn first_above(complexities: &[OperationComplexity], most: u64) -> Option<usize>
-    ensures none { result ≡ None → (k : ℕ) (c : OperationComplexity) → slice_get complexities.now k ≡ Some c → c.complexity.fields ≤ most }
-    ensures some { IfSome result (λ at. (k : ℕ) × (c : OperationComplexity) × (slice_get complexities.now k ≡ Some c) × (c.definition ≡ at) × (most < c.complexity.fields)) }
+    ensures none { result ≡ None → NoneAbove most complexities.now }
+    ensures some { IfSome result (IsFirstAbove most complexities.now) }
 {
     for i in 0..complexities.len() {
         if most < complexities[i].complexity.fields {

@@ -1,8 +1,8 @@
 //! The functions of the guide.
 
 use crate::guide::{
-    CostFailure, Store, argument_value, fault_line, field_names, is_document, is_document_within,
-    kept_up_to, parse_affordable, same_literal, store_query, stored_query,
+    CostFailure, Store, argument_value, broken_rules, fault_line, field_names, is_document,
+    is_document_within, kept_up_to, parse_affordable, same_literal, store_query, stored_query,
 };
 use crate::kinds::input_values::variables_of;
 use crate::kinds::word_of;
@@ -33,6 +33,7 @@ pub fn answer(alloc: Global, out: &mut String, text: &str, call: &str) -> Writte
         "same_literal" => write_same(out, same_literal::<DefaultScalarValue>(alloc, text, rest)),
         "stored" => write_stored(out, stored(alloc, text, rest)),
         "parse_affordable" => write_affordable(alloc, out, text, rest),
+        "broken_rules" => write_broken(out, broken_rules(alloc, text)),
         _ => answer_tree(alloc, out, text, word, rest),
     }
 }
@@ -75,6 +76,14 @@ fn write_affordable(alloc: Global, out: &mut String, text: &str, most: &str) -> 
         Err(CostFailure::Text(failure)) => write_limit(out, failure),
         Err(CostFailure::Spread(failure)) => write_spread(out, failure),
         Err(CostFailure::Operation(at)) => write!(out, "Operation {at}"),
+    }
+}
+
+fn write_broken(out: &mut String, broken: Result<Vec<String>, ParseFailure>) -> Written {
+    match broken {
+        Ok(broken) if broken.is_empty() => out.push_str("None"),
+        Ok(broken) => write_items(out, &broken),
+        Err(failure) => write_failure(out, failure),
     }
 }
 

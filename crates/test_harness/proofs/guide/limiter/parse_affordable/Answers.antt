@@ -5,24 +5,17 @@ use Rattle.test_harness.proofs.guide.limiter.parse_affordable.Goals as goal
 
 pub returns-clause-accepted : goal.returns-clause-accepted
 returns-clause-accepted c = record {
-  tree_is = c.in-Ok.ensures.accepted;
-  few = c.in-Ok.ensures.few;
-  shallow = c.in-Ok.ensures.within;
+  read = record { tree_is = c.in-Ok.ensures.accepted; few = c.in-Ok.ensures.few; shallow = c.in-Ok.ensures.within };
   complexities = c.in-Ok-operation_complexities.complexities.items;
   have = rw (c.deref.ensures.value) at (c.in-Ok-operation_complexities.ensures.complexities);
   below = rw (c.deref-2.ensures.value) at (c.in_default.ensures.none refl);
 }
 
 pub returns-in-Some-clause-refused : goal.returns-in-Some-clause-refused
-returns-in-Some-clause-refused c =
-    let found = c.in-Some.ensures.some in (
-      view_document default_content c.in-Ok.document,
-      c.in-Ok.ensures.accepted,
-      c.in-Ok-operation_complexities.complexities.items,
-      rw (c.deref.ensures.value) at (c.in-Ok-operation_complexities.ensures.complexities),
-      found.0,
-      found.1,
-      rw (c.deref-2.ensures.value) at (found.2),
-      found.3,
-      found.4,
-    )
+returns-in-Some-clause-refused c = (
+  view_document default_content c.in-Ok.document,
+  record { tree_is = c.in-Ok.ensures.accepted; few = c.in-Ok.ensures.few; shallow = c.in-Ok.ensures.within },
+  c.in-Ok-operation_complexities.complexities.items,
+  rw (c.deref.ensures.value) at (c.in-Ok-operation_complexities.ensures.complexities),
+  rw (c.deref-2.ensures.value) at (c.in-Some.ensures.some),
+)
