@@ -4,7 +4,7 @@
  * own memory. Calls may run in any number of threads at once.
  *
  * The caller has to keep these conditions, since no proof does:
- * - A pointer refers to memory for as many bytes, nodes or tokens as its length or its capacity says. If that is 0 the
+ * - A pointer refers to memory for as many bytes, nodes or others as its length or its capacity says. If that is 0 the
  *   pointer may be NULL. The pointers to limits, lengths and errors are never NULL.
  * - The source, limits, buffers, lengths and error of one call don't overlap, and nothing else writes to them meanwhile.
  * - The stack is large enough for the call: FIRTHNAPKIN_STACK_SIZE(depth) bytes suffice, whatever the source, and
@@ -52,21 +52,24 @@ typedef struct {
  *   5. FIRTHNAPKIN_TOO_MANY_TOKENS     the first token too many is before the first lexical error
  *   6. FIRTHNAPKIN_SYNTAX_ERROR        a lexical error, wherever it is: also after a token that is nested too deep
  *   7. FIRTHNAPKIN_TOO_DEEP or FIRTHNAPKIN_SYNTAX_ERROR, by which token is first: nested too deep, or with an error before it
- *   8. FIRTHNAPKIN_BUFFER_TOO_SMALL
- *   9. FIRTHNAPKIN_OK
+ *   8. FIRTHNAPKIN_UNKNOWN_FRAGMENT or FIRTHNAPKIN_FRAGMENT_CYCLE, by which spread is reached first
+ *   9. FIRTHNAPKIN_BUFFER_TOO_SMALL
+ *  10. FIRTHNAPKIN_OK
  *
- * FIRTHNAPKIN_OUT_OF_MEMORY may be returned in place of lines 5 to 9. */
+ * FIRTHNAPKIN_OUT_OF_MEMORY may be returned in place of lines 5 to 10. */
 enum firthnapkin_status {
-    FIRTHNAPKIN_OK = 0,               /* success */
-    FIRTHNAPKIN_SYNTAX_ERROR = 1,     /* the source is UTF-8, and has a syntax error */
-    FIRTHNAPKIN_NOT_UTF8 = 2,         /* the source is not UTF-8 */
-    FIRTHNAPKIN_OUT_OF_MEMORY = 3,    /* memory ran out */
-    FIRTHNAPKIN_TOO_DEEP = 4,         /* a token is nested too deep */
-    FIRTHNAPKIN_TOO_MANY_TOKENS = 5,  /* the source has more tokens than the limit, before its first lexical error */
-    FIRTHNAPKIN_BUFFER_TOO_SMALL = 6, /* a buffer or an array is too small */
-    FIRTHNAPKIN_SOURCE_TOO_LONG = 7,  /* the source has 4 GiB or more */
-    FIRTHNAPKIN_INVALID_LIMIT = 8,    /* the depth is above FIRTHNAPKIN_MAX_DEPTH, or a reserved word isn't 0 */
-    FIRTHNAPKIN_INVALID_ERROR = 9     /* the error that was given has no words, or no lines, in this source */
+    FIRTHNAPKIN_OK = 0,                /* success */
+    FIRTHNAPKIN_SYNTAX_ERROR = 1,      /* the source is UTF-8, and has a syntax error */
+    FIRTHNAPKIN_NOT_UTF8 = 2,          /* the source is not UTF-8 */
+    FIRTHNAPKIN_OUT_OF_MEMORY = 3,     /* memory ran out */
+    FIRTHNAPKIN_TOO_DEEP = 4,          /* a token is nested too deep */
+    FIRTHNAPKIN_TOO_MANY_TOKENS = 5,   /* the source has more tokens than the limit, before its first lexical error */
+    FIRTHNAPKIN_BUFFER_TOO_SMALL = 6,  /* a buffer or an array is too small */
+    FIRTHNAPKIN_SOURCE_TOO_LONG = 7,   /* the source has 4 GiB or more */
+    FIRTHNAPKIN_INVALID_LIMIT = 8,     /* the depth is above FIRTHNAPKIN_MAX_DEPTH, or a reserved word isn't 0 */
+    FIRTHNAPKIN_INVALID_ERROR = 9,     /* the error that was given has no words, or no lines, in this source */
+    FIRTHNAPKIN_UNKNOWN_FRAGMENT = 10, /* the source is a document, and a spread names no fragment of it */
+    FIRTHNAPKIN_FRAGMENT_CYCLE = 11    /* the source is a document, and a spread is within the fragment that it names */
 };
 
 /* The kind of a node. The kinds of literals are last. */
@@ -153,6 +156,17 @@ typedef struct {
     firthnapkin_position start, end;
 } firthnapkin_token;
 
+/* How large an operation is with every fragment expanded. A number above UINT32_MAX is UINT32_MAX. They are those of the text
+ * alone: no schema gives a field a weight, equal fields aren't merged, and @skip and @include leave nothing out. */
+typedef struct {
+    uint32_t definition;  /* the index of the operation's node */
+    uint32_t fields;      /* the fields, at every depth */
+    uint32_t aliases;     /* the fields with an alias */
+    uint32_t directives;  /* those of the operation, of what is selected, and of a fragment each time that it is spread */
+    uint32_t root_fields; /* the fields that are in no other field */
+    uint32_t depth;       /* how many fields are nested in one another at most: 1 if no field is in another */
+} firthnapkin_complexity;
+
 /* The kind of an error. */
 enum firthnapkin_error_kind {
     FIRTHNAPKIN_ERROR_UNEXPECTED_TOKEN = 0, /* no document could have the token there */
@@ -160,7 +174,9 @@ enum firthnapkin_error_kind {
     FIRTHNAPKIN_ERROR_LEXICAL = 2,          /* there is no token here; `detail` says why */
     FIRTHNAPKIN_ERROR_TOO_DEEP = 3,         /* the token is nested too deep */
     FIRTHNAPKIN_ERROR_TOO_MANY_TOKENS = 4,  /* the token is one too many */
-    FIRTHNAPKIN_ERROR_INVALID_SCALAR = 5    /* never reported, since every token of a literal is read */
+    FIRTHNAPKIN_ERROR_INVALID_SCALAR = 5,   /* never reported, since every token of a literal is read */
+    FIRTHNAPKIN_ERROR_UNKNOWN_FRAGMENT = 6, /* the spread names no fragment of the document */
+    FIRTHNAPKIN_ERROR_FRAGMENT_CYCLE = 7    /* the spread is within the fragment that it names, itself or through others */
 };
 
 /* Why there is no token. */
@@ -175,7 +191,7 @@ enum firthnapkin_error_detail {
     FIRTHNAPKIN_DETAIL_INVALID_NUMBER = 7               /* never reported */
 };
 
-/* An error: what it is, and where. The positions are those of a token, or of zero width. */
+/* An error: what it is, and where. The positions are those of a token or of a spread, or of zero width. */
 typedef struct {
     uint32_t kind;      /* a firthnapkin_error_kind */
     uint32_t detail;    /* a firthnapkin_error_detail; FIRTHNAPKIN_DETAIL_NONE if the error isn't lexical */
@@ -191,7 +207,7 @@ typedef struct {
 static inline const char *firthnapkin_status_name(uint32_t status) {
     static const char *const names[] = {
         "ok", "syntax_error", "not_utf8", "out_of_memory", "too_deep", "too_many_tokens", "buffer_too_small",
-        "source_too_long", "invalid_limit", "invalid_error"};
+        "source_too_long", "invalid_limit", "invalid_error", "unknown_fragment", "fragment_cycle"};
     return status < sizeof names / sizeof *names ? names[status] : "unknown";
 }
 
@@ -213,7 +229,8 @@ static inline const char *firthnapkin_token_kind_name(uint32_t kind) {
 
 static inline const char *firthnapkin_error_kind_name(uint32_t kind) {
     static const char *const names[] = {
-        "unexpected_token", "unexpected_end", "lexical", "too_deep", "too_many_tokens", "invalid_scalar"};
+        "unexpected_token", "unexpected_end", "lexical", "too_deep", "too_many_tokens", "invalid_scalar", "unknown_fragment",
+        "fragment_cycle"};
     return kind < sizeof names / sizeof *names ? names[kind] : "unknown";
 }
 
@@ -244,6 +261,25 @@ static inline const char *firthnapkin_error_detail_name(uint32_t detail) {
 uint32_t firthnapkin_parse(const uint8_t *source, size_t length, const firthnapkin_limits *limits, firthnapkin_node *nodes,
                            size_t nodes_capacity, size_t *nodes_length, uint8_t *texts, size_t texts_capacity,
                            size_t *texts_length, firthnapkin_error *error);
+
+/* Parses a source within limits as firthnapkin_parse does, and finds how large each of its operations is. No fragment is
+ * expanded twice: time and memory grow with the source, and not with the numbers. Of two fragments of one name the first is
+ * expanded.
+ *
+ * FIRTHNAPKIN_OK: as there, and the operations' numbers are at the beginning of `complexities`, in the order of the source;
+ * the rest of it is as it was. FIRTHNAPKIN_BUFFER_TOO_SMALL: as there, and it may be this array that is too small. Both set
+ * `complexities_length` to the number of operations, at most `length`. All others set it to 0, and leave the array as it was.
+ *
+ * FIRTHNAPKIN_UNKNOWN_FRAGMENT and FIRTHNAPKIN_FRAGMENT_CYCLE: the source is a document, and an operation can't be expanded.
+ * The error is at the first spread that can't be, from its dots to its end, for a reader who begins with the first operation
+ * and goes through each spread's fragment before what is after the spread. What no operation reaches isn't looked at. The nodes
+ * and texts are in the buffers as far as they fit, and their lengths are set, as with FIRTHNAPKIN_BUFFER_TOO_SMALL.
+ *
+ * It also returns the other statuses of firthnapkin_parse, and then does as that. */
+uint32_t firthnapkin_parse_complexities(const uint8_t *source, size_t length, const firthnapkin_limits *limits,
+                                        firthnapkin_node *nodes, size_t nodes_capacity, size_t *nodes_length, uint8_t *texts,
+                                        size_t texts_capacity, size_t *texts_length, firthnapkin_complexity *complexities,
+                                        size_t complexities_capacity, size_t *complexities_length, firthnapkin_error *error);
 
 /* Writes an error in words, as `Unexpected "}"`, in UTF-8, with no byte 0 at its end. The source is the one that another call
  * found the error in; it isn't parsed again. Neither the position nor the line is in the words: an excerpt shows these.

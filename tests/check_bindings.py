@@ -21,6 +21,9 @@ def without_prefix(prefix, constants):
 
 kinds, statuses = enum("firthnapkin_kind"), enum("firthnapkin_status")
 errors = without_prefix("ERROR_", enum("firthnapkin_error_kind"))
+# The packages don't make the call that reports these two.
+for word in ("UNKNOWN_FRAGMENT", "FRAGMENT_CYCLE"):
+    check(f"{word} in the header", errors.pop(word, None) is not None, True)
 details = without_prefix("DETAIL_", enum("firthnapkin_error_detail"))
 # The library never reports these two.
 reported_errors = {word: number for word, number in errors.items() if word != "INVALID_SCALAR"}

@@ -29,7 +29,7 @@ C_NAMES = {"u32": "uint32_t", "i64": "int64_t", "Place": "firthnapkin_position"}
 SIZES.update({f"[u32; {count}]": (4 * count, 4) for count in range(8)})
 C_NAMES.update({f"[u32; {count}]": f"uint32_t[{count}]" for count in range(8)})
 # What the header calls them where the crates have another word.
-WORDS = {"Place": "position", "Fault": "error"}
+WORDS = {"Place": "position", "Fault": "error", "Numbers": "complexity"}
 
 
 def fields_of(name, text):
@@ -55,7 +55,14 @@ def laid_out(name, text):
 
 with open(sys.argv[1], encoding="utf-8") as file:
     layout = file.read().splitlines()
-for name, file in (("Place", "place"), ("Node", "node"), ("Token", "token"), ("Fault", "fault"), ("Limits", "limits")):
+for name, file in (
+    ("Place", "place"),
+    ("Node", "node"),
+    ("Token", "token"),
+    ("Numbers", "numbers"),
+    ("Fault", "fault"),
+    ("Limits", "limits"),
+):
     wanted = laid_out(name, source(file))
     word = f"firthnapkin_{WORDS.get(name, name.lower())}"
     found = [line for line in layout if line.split()[0] == word]
@@ -132,6 +139,8 @@ C_TYPES = {
     "nodes_length: &mut usize": ["size_t *nodes_length"],
     "texts: &mut [u8]": ["uint8_t *texts", "size_t texts_capacity"],
     "texts_length: &mut usize": ["size_t *texts_length"],
+    "complexities: &mut [Numbers]": ["firthnapkin_complexity *complexities", "size_t complexities_capacity"],
+    "complexities_length: &mut usize": ["size_t *complexities_length"],
     "fault: &mut Fault": ["firthnapkin_error *error"],
     "fault: &Fault": ["const firthnapkin_error *error"],
     "buffer: &mut [u8]": ["uint8_t *buffer", "size_t buffer_capacity"],
@@ -142,7 +151,7 @@ C_TYPES = {
     "alloc: Global": [],
 }
 exported = 0
-for name in ("parse", "message", "excerpt", "count", "tokens", "canonical", "version"):
+for name in ("parse", "parse_complexities", "message", "excerpt", "count", "tokens", "canonical", "version"):
     text = source(name, "juniper_c")
     for call, parameters, result in re.findall(r'pub extern "C" fn (\w+)\((.*?)\) -> (\w+)', text, re.S):
         exported += 1

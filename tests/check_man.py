@@ -86,8 +86,8 @@ def check_statuses(check, page, calls):
 
 def lines_of_statuses(text):
     """The statuses of each numbered line, and those of the sentence after the last that may come in place of some."""
-    lines = re.findall(r"^(?: \*   )?(\d)\. (FIRTHNAPKIN_\w+)(?: or (FIRTHNAPKIN_\w+))?", text, re.M)
-    return lines, re.findall(r"(FIRTHNAPKIN_\w+)\s+may be returned in place of lines (\d) to (\d)", text)
+    lines = re.findall(r"^(?: \* +)?(\d+)\. (FIRTHNAPKIN_\w+)(?: or (FIRTHNAPKIN_\w+))?", text, re.M)
+    return lines, re.findall(r"(FIRTHNAPKIN_\w+)\s+may be returned in place of lines (\d+) to (\d+)", text)
 
 
 def check_words(check, page, calls):
@@ -95,7 +95,11 @@ def check_words(check, page, calls):
     text = "\n".join(plain(line) for lines in page.values() for line in lines)
     for word in sorted(set(re.findall(r"FIRTHNAPKIN_\w+|firthnapkin_\w+", text))):
         check(f"{word}, which firthnapkin(3) names", re.search(rf"\b{word}\b", header) is not None, True)
-    fields = {name for word in ("position", "node", "token", "error", "limits") for name, _ in declared(f"firthnapkin_{word}")}
+    fields = {
+        name
+        for word in ("position", "node", "token", "complexity", "error", "limits")
+        for name, _ in declared(f"firthnapkin_{word}")
+    }
     parameters = {parameter.split()[-1].lstrip("*") for words in calls.values() for parameter in words}
     for line in page["DESCRIPTION"]:
         for word in re.findall(r"^\.I (\w+)$", line):

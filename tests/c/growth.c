@@ -1,5 +1,5 @@
-/* One call on the text of standard input: growth parse, few, message, excerpt, count, tokens, or canonical; few is a parse of no more
- * than ten tokens, and the error that a message and an excerpt are given is one at the source's end. Without a word it makes none. The
+/* One call on the text of standard input: growth parse, few, complexities, message, excerpt, count, tokens, or canonical; few is a
+ * parse of no more than ten tokens, and the error that a message and an excerpt are given is one at the source's end. Without a word it makes none. The
  * first line that is written says that the call comes now, the second what it returns. */
 #include "../../include/firthnapkin.h"
 #include <stdio.h>
@@ -22,14 +22,15 @@ static uint8_t *input(size_t *length) {
 }
 
 int main(int argc, char **argv) {
-    size_t length, nodes_length, texts_length;
+    size_t length, nodes_length, texts_length, complexities_length;
     uint8_t *source = input(&length);
     firthnapkin_error error;
     /* Memory that nothing is written to costs nothing. */
     uint8_t *texts = malloc(2 * length + 1);
     firthnapkin_node *nodes = malloc((length + 1) * sizeof *nodes);
     firthnapkin_token *tokens = malloc((length + 1) * sizeof *tokens);
-    if (texts == NULL || nodes == NULL || tokens == NULL || argc < 2) return 0;
+    firthnapkin_complexity *complexities = malloc((length + 1) * sizeof *complexities);
+    if (texts == NULL || nodes == NULL || tokens == NULL || complexities == NULL || argc < 2) return 0;
     if (write(STDOUT_FILENO, "calling\n", 8) != 8) return 1;
     uint32_t status;
     firthnapkin_limits limits = FIRTHNAPKIN_LIMITS_DEFAULT;
@@ -38,6 +39,9 @@ int main(int argc, char **argv) {
         .kind = FIRTHNAPKIN_ERROR_UNEXPECTED_TOKEN, .start.byte = (uint32_t)length, .text_end = (uint32_t)length};
     if (strcmp(argv[1], "parse") == 0 || strcmp(argv[1], "few") == 0)
         status = firthnapkin_parse(source, length, &limits, nodes, length, &nodes_length, texts, length, &texts_length, &error);
+    else if (strcmp(argv[1], "complexities") == 0)
+        status = firthnapkin_parse_complexities(source, length, &limits, nodes, length, &nodes_length, texts, length,
+                                                &texts_length, complexities, length, &complexities_length, &error);
     else if (strcmp(argv[1], "message") == 0)
         status = firthnapkin_message(source, length, &end, texts, 2 * length, &texts_length);
     else if (strcmp(argv[1], "excerpt") == 0)

@@ -26,6 +26,13 @@ int main(void) {
     FIELD(firthnapkin_token, start);
     FIELD(firthnapkin_token, end);
     SIZE(firthnapkin_token);
+    FIELD(firthnapkin_complexity, definition);
+    FIELD(firthnapkin_complexity, fields);
+    FIELD(firthnapkin_complexity, aliases);
+    FIELD(firthnapkin_complexity, directives);
+    FIELD(firthnapkin_complexity, root_fields);
+    FIELD(firthnapkin_complexity, depth);
+    SIZE(firthnapkin_complexity);
     FIELD(firthnapkin_error, kind);
     FIELD(firthnapkin_error, detail);
     FIELD(firthnapkin_error, character);

@@ -15,13 +15,6 @@ static const char *const SOURCES[] = {
     "mutation { m }\nsubscription S { s }",
 };
 
-/* The bytes after a node's last field have no meaning. */
-static int same_nodes(const firthnapkin_node *a, const firthnapkin_node *b, size_t count) {
-    for (size_t i = 0; i < count; i++)
-        if (memcmp(&a[i], &b[i], offsetof(firthnapkin_node, value_length) + sizeof a[i].value_length)) return 0;
-    return 1;
-}
-
 /* A parse into buffers of these sizes. */
 typedef struct {
     uint32_t status;

@@ -25,6 +25,13 @@ static int are_canaries(const void *block, size_t length) {
     return 1;
 }
 
+/* The bytes after a node's last field have no meaning. */
+static inline int same_nodes(const firthnapkin_node *a, const firthnapkin_node *b, size_t count) {
+    for (size_t i = 0; i < count; i++)
+        if (memcmp(&a[i], &b[i], offsetof(firthnapkin_node, value_length) + sizeof a[i].value_length)) return 0;
+    return 1;
+}
+
 static const size_t FOUR_GIB = (size_t)1 << 32;
 
 /* A source of 4 GiB of which no byte can be read; NULL, and skipped, if there is no address space for it. */

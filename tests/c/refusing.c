@@ -57,6 +57,18 @@ static answer parse(const char *source) {
     return a;
 }
 
+/* With the number of operations among the lengths. */
+static answer parse_complexities(const char *source) {
+    static firthnapkin_complexity complexities[64];
+    answer a = {.nodes_length = 1, .texts_length = 1};
+    size_t operations = 1;
+    firthnapkin_error error;
+    a.status = firthnapkin_parse_complexities((const uint8_t *)source, strlen(source), &DEFAULT, nodes, 4096, &a.nodes_length,
+                                              words, 4096, &a.texts_length, complexities, 64, &operations, &error);
+    a.texts_length += operations;
+    return a;
+}
+
 /* An error of the source, found with ample memory. */
 static firthnapkin_error error_of(const char *source) {
     long number = refused_request;
@@ -186,10 +198,13 @@ int main(void) {
         "{a a a a a a a a a a a a a a a a a a a a a a a a a a a a a a a a a a a a a a a a a a}",
         "{a(b:\"ccccccccccccccccccccccccccccccccccccccccccccccccccccccccccccccccccccccccccccccccccccccccccccccccccccccccccccc\")}",
         "1a\"\"2b\"\"3c",
+        "{ ...A b { ...B } } fragment A on T { a @c ...B } fragment B on T { b ...C } fragment C on T { c } query Q { ...C }",
+        "{ ...A } fragment A on T { b { ...B } } fragment B on T { ...A }",
         LONG_ERROR,
     };
     for (size_t i = 0; i < sizeof sources / sizeof *sources; i++) {
         each(parse, sources[i]);
+        each(parse_complexities, sources[i]);
         each(message, sources[i]);
         each(excerpt, sources[i]);
         each(count, sources[i]);

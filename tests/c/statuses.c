@@ -65,6 +65,21 @@ static const row PARSES[] = {
     {"{a b}", WITHIN(1, 4), 3, FIRTHNAPKIN_OK, NO_ERROR},
 };
 
+/* A spread that can't be expanded, in what isn't UTF-8, isn't a document or is within no limit, and in an array that is too small. */
+static const row SPREADS[] = {
+    {"{...A} \xff", ANY, MOST, FIRTHNAPKIN_NOT_UTF8, NO_ERROR},
+    {"{...A}", UNKNOWN, MOST, FIRTHNAPKIN_INVALID_LIMIT, NO_ERROR},
+    {"{...A}", WITHIN(200, 3), MOST, FIRTHNAPKIN_TOO_MANY_TOKENS, 5},
+    {"{...A} ?", ANY, MOST, FIRTHNAPKIN_SYNTAX_ERROR, 7},
+    {"{...A} )", ANY, MOST, FIRTHNAPKIN_SYNTAX_ERROR, 7},
+    {"{...A b{c}}", WITHIN(1, UINT32_MAX), MOST, FIRTHNAPKIN_TOO_DEEP, 7},
+    {"{...A}", ANY, 0, FIRTHNAPKIN_UNKNOWN_FRAGMENT, 1},
+    {"{...A} fragment A on T{...A}", ANY, 0, FIRTHNAPKIN_FRAGMENT_CYCLE, 23},
+    {"{...A ...A} fragment A on T{...B ...A}", ANY, MOST, FIRTHNAPKIN_UNKNOWN_FRAGMENT, 28},
+    {"{...A ...B} fragment A on T{...A ...B}", ANY, MOST, FIRTHNAPKIN_FRAGMENT_CYCLE, 28},
+    {"{...A} fragment A on T{a} fragment B on T{...B}", ANY, 2, FIRTHNAPKIN_BUFFER_TOO_SMALL, NO_ERROR},
+};
+
 /* Of the limits the number of tokens alone is taken. */
 static const row COUNTS[] = {
     {"a b \xff", WITHIN(0, 1), 0, FIRTHNAPKIN_NOT_UTF8, NO_ERROR},
@@ -96,13 +111,19 @@ static const row CANONICALS[] = {
 static firthnapkin_node nodes[MOST];
 static firthnapkin_token tokens[MOST];
 static uint8_t texts[MOST];
-static size_t nodes_length, texts_length;
+static firthnapkin_complexity complexities[MOST];
+static size_t nodes_length, texts_length, complexities_length;
 
 typedef uint32_t some_call(const uint8_t *, size_t, const row *, firthnapkin_error *);
 
 static uint32_t parse(const uint8_t *source, size_t length, const row *r, firthnapkin_error *error) {
     return firthnapkin_parse(source, length, &r->limits, nodes, r->capacity, &nodes_length, texts, r->capacity, &texts_length,
                              error);
+}
+
+static uint32_t parse_complexities(const uint8_t *source, size_t length, const row *r, firthnapkin_error *error) {
+    return firthnapkin_parse_complexities(source, length, &r->limits, nodes, r->capacity, &nodes_length, texts, r->capacity,
+                                          &texts_length, complexities, r->capacity, &complexities_length, error);
 }
 
 static uint32_t count(const uint8_t *source, size_t length, const row *r, firthnapkin_error *error) {
@@ -142,9 +163,13 @@ static void limits(void) {
             nodes_length = texts_length = 1;
             check(parse((const uint8_t *)"{a}", 3, &r, &error) == FIRTHNAPKIN_INVALID_LIMIT && nodes_length + texts_length == 0,
                   "%u in reserved word %zu", bit, i);
+            check(parse_complexities((const uint8_t *)"{a}", 3, &r, &error) == FIRTHNAPKIN_INVALID_LIMIT,
+                  "%u in reserved word %zu, with complexities", bit, i);
         }
         row r = {"", WITHIN(bit > 512 ? bit : 1000 + bit, UINT32_MAX), MOST, 0, 0};
         check(parse((const uint8_t *)"{a}", 3, &r, &error) == FIRTHNAPKIN_INVALID_LIMIT, "a depth of %u", r.limits.depth);
+        check(parse_complexities((const uint8_t *)"{a}", 3, &r, &error) == FIRTHNAPKIN_INVALID_LIMIT,
+              "a depth of %u, with complexities", r.limits.depth);
         r.limits = (firthnapkin_limits)WITHIN(bit > 512 ? 1000 : bit, bit);
         check(parse((const uint8_t *)"{a}", 3, &r, &error) == (bit < 3 ? FIRTHNAPKIN_TOO_MANY_TOKENS : FIRTHNAPKIN_OK),
               "%u deep with %u tokens", r.limits.depth, bit);
@@ -159,6 +184,8 @@ static void too_long(void) {
     for (uint32_t depth = 1000; depth < 1002; depth++) {
         row r = {"", WITHIN(depth, 0), MOST, 0, 0};
         check(parse(source, FOUR_GIB, &r, &error) == FIRTHNAPKIN_SOURCE_TOO_LONG, "a parse of 4 GiB, %u deep", depth);
+        check(parse_complexities(source, FOUR_GIB, &r, &error) == FIRTHNAPKIN_SOURCE_TOO_LONG, "complexities of 4 GiB, %u deep",
+              depth);
         check(cut(source, FOUR_GIB, &r, &error) == FIRTHNAPKIN_SOURCE_TOO_LONG, "tokens of 4 GiB");
         check(count(source, FOUR_GIB, &r, &error) == FIRTHNAPKIN_SOURCE_TOO_LONG, "a count of 4 GiB");
         check(canonical(source, FOUR_GIB, &r, &error) == FIRTHNAPKIN_SOURCE_TOO_LONG, "the canonical text of 4 GiB");
@@ -191,6 +218,8 @@ static void words(void) {
 
 int main(void) {
     each("a parse", parse, PARSES, sizeof PARSES / sizeof *PARSES);
+    each("a parse with complexities", parse_complexities, PARSES, sizeof PARSES / sizeof *PARSES);
+    each("a parse with complexities", parse_complexities, SPREADS, sizeof SPREADS / sizeof *SPREADS);
     each("a count", count, COUNTS, sizeof COUNTS / sizeof *COUNTS);
     each("a cut", cut, CUTS, sizeof CUTS / sizeof *CUTS);
     each("a canonical text", canonical, CANONICALS, sizeof CANONICALS / sizeof *CANONICALS);

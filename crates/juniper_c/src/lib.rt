@@ -6,5 +6,6 @@ mod count;
 mod excerpt;
 mod message;
 mod parse;
+mod parse_complexities;
 mod tokens;
 mod version;

@@ -4,6 +4,9 @@ pub mod Measure
 pub mod Elements
 pub mod Algebra
 pub mod Gaining
+pub mod OutlineBuilders
+pub mod ResolvedOutlines
+pub mod OwnComplexities
 pub mod Selecting
 pub mod Bridge
 pub mod Counting
@@ -13,3 +16,4 @@ pub mod Expanding
 pub mod Gathering
 pub mod OneFault
 pub mod Total
+pub mod Public

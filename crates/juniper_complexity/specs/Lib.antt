@@ -2,4 +2,5 @@ pub mod Complexities
 pub mod Parts
 pub mod Expansion
 pub mod Faults
+pub mod Gathered
 pub mod device

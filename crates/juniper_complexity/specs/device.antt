@@ -1,4 +1,5 @@
 pub mod Sums
 pub mod BySpreads
 pub mod Outlines
+pub mod Resolved
 pub mod Walk

@@ -7,9 +7,12 @@ pub mod laws;
 mod names;
 mod operations;
 mod outline;
+mod outline_builder;
+mod resolving;
 #[cfg(test)]
 mod tests;
 mod walk;
 
 pub use complexity::{Complexity, ComplexityFailure};
-pub use operations::{OperationComplexity, operation_complexities};
+pub use operations::{OperationComplexity, gathered_complexities, operation_complexities};
+pub use outline_builder::{DefinitionOutline, DefinitionOutlines, OutlineBuilder, PartCount};

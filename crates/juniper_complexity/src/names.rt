@@ -6,8 +6,10 @@ ghost use Rattle.graphql_grammar.specs.Tokens.{Text};
 ghost use Rattle.juniper.specs.View.{view_definition};
 ghost use Rattle.juniper_complexity.specs.Parts.{fragment_at};
 ghost use Rattle.juniper_complexity.specs.device.Outlines.{Knows};
+ghost use Rattle.juniper_complexity.specs.device.Resolved.{place_of};
 ghost use Rattle.std.specs.Prelude.{map};
 
+use crate::outline_builder::DefinitionOutline;
 use juniper::{Definition, ScalarValue};
 use std::alloc::{AllocError, Global};
 use std::collections::BTreeMap;
@@ -38,6 +40,23 @@ pub(crate) fn fragment_names<'a, S: ScalarValue>(
         match &document[i] {
             Definition::Operation(_) => {}
             Definition::Fragment(fragment) => put(&mut names, fragment.item.name.item, i)?,
+        }
+    }
+    Ok(names)
+}
+
+/// The same of definitions that were gathered.
+pub(crate) fn gathered_names<'a>(
+    alloc: Global,
+    definitions: &[DefinitionOutline<'a>],
+) -> Result<BTreeMap<&'a str, usize>, AllocError>
+    ensures { IfOk result (λ names. Knows names (place_of definitions.now)) }
+{
+    let mut names = BTreeMap::new(alloc);
+    for i in (0..definitions.len()).rev() {
+        match definitions[i].fragment {
+            None => {}
+            Some(name) => put(&mut names, name, i)?,
         }
     }
     Ok(names)

@@ -1,14 +1,22 @@
 //! The complexities of a document's operations.
-ghost use Rattle.std.specs.Prelude.{◌≡◌, ℕ, IfOk, map, length, slice_get, Some};
+ghost use Rattle.std.specs.Prelude.{◌≡◌, IfOk, List, map, length, true, false};
+ghost use Rattle.graphql_grammar.specs.Tree.{Definition as Seen};
+ghost use Rattle.juniper_values.specs.Scalar.{Content};
 ghost use Rattle.juniper.specs.View.{view_definition};
 ghost use Rattle.juniper_complexity.specs.Faults.{OperationsHave};
 ghost use Rattle.juniper_complexity.specs.Faults.{FailsWithFirstFault};
-ghost use Rattle.juniper_complexity.specs.device.Walk.{AreUnvisited};
+ghost use Rattle.juniper_complexity.specs.Gathered.{AreGathered};
+ghost use Rattle.juniper_complexity.specs.Parts.{fragment_at};
+ghost use Rattle.juniper_complexity.specs.device.Outlines.{AreOutlines};
+ghost use Rattle.juniper_complexity.specs.device.Resolved.{SpreadNothing};
+ghost use Rattle.juniper_complexity.specs.device.Walk.{AreInRange, AreUnvisited};
 
 use crate::complexity::{Complexity, ComplexityFailure};
-use crate::names::fragment_names;
+use crate::names::{fragment_names, gathered_names};
 use crate::outline::outlines;
-use crate::walk::{State, complexity_of};
+use crate::outline_builder::DefinitionOutline;
+use crate::resolving::resolved_outlines;
+use crate::walk::{Outline, State, complexity_of};
 use juniper::{Definition, ScalarValue};
 use std::alloc::{AllocError, Global};
 
@@ -24,7 +32,7 @@ fn unvisited(alloc: Global, count: usize) -> Result<Vec<State>, AllocError>
     ensures many { IfOk result (λ states. length states.items ≡ count) }
     ensures unvisited { IfOk result (λ states. AreUnvisited states.items) }
 {
-    let mut states = Vec::new(alloc);
+    let mut states = Vec::with_capacity(alloc, count)?;
     for _i in 0..count {
         states.push(State::Unvisited)?;
     }
@@ -59,19 +67,83 @@ pub fn operation_complexities<'a, S: ScalarValue>(
 {
     let names = fragment_names(alloc, document)?;
     let outlines = outlines(alloc, &names, document)?;
-    let mut states = unvisited(alloc, document.len())?;
+    outlined_complexities(alloc, &outlines)
+}
+
+/// The complexity of each operation of a document, of whose definitions these are the outlines.
+pub(crate) fn outlined_complexities(
+    alloc: Global,
+    outlines: &[Outline],
+) -> Result<Vec<OperationComplexity>, ComplexityFailure>
+    requires { AreInRange outlines.now }
+    ensures complexities { (document : List (Seen Content)) → AreOutlines (fragment_at document) document outlines.now → IfOk result (λ complexities. OperationsHave document 0 document complexities.items) }
+    ensures failure { (document : List (Seen Content)) → AreOutlines (fragment_at document) document outlines.now → FailsWithFirstFault document result }
+{
+    let mut states = unvisited(alloc, outlines.len())?;
     let mut complexities = Vec::new(alloc);
-    for i in 0..document.len() {
-        match &document[i] {
-            Definition::Fragment(_) => {}
-            Definition::Operation(_) => {
-                let complexity = complexity_of(alloc, &outlines, &mut states, i)?;
-                complexities.push(OperationComplexity {
-                    definition: i,
-                    complexity,
-                })?;
-            }
+    for i in 0..outlines.len() {
+        if outlines[i].is_operation {
+            let complexity = complexity_of(alloc, outlines, &mut states, i)?;
+            complexities.push(OperationComplexity {
+                definition: i,
+                complexity,
+            })?;
         }
     }
     Ok(complexities)
+}
+
+/// Whether no operation among these definitions has a spread.
+fn spread_nothing(definitions: &[DefinitionOutline<'_>]) -> bool
+    ensures yes { result ≡ true → SpreadNothing definitions.now }
+    ensures no { result ≡ false → ¬ SpreadNothing definitions.now }
+{
+    for i in 0..definitions.len() {
+        match definitions[i].fragment {
+            Some(_) => {}
+            None => {
+                if !definitions[i].spreads.is_empty() {
+                    return false;
+                }
+            }
+        }
+    }
+    true
+}
+
+/// The complexities of operations that spread nothing.
+fn own_complexities(
+    alloc: Global,
+    definitions: &[DefinitionOutline<'_>],
+) -> Result<Vec<OperationComplexity>, AllocError>
+    requires { SpreadNothing definitions.now }
+    ensures { (document : List (Seen Content)) → AreGathered definitions.now document → IfOk result (λ complexities. OperationsHave document 0 document complexities.items) }
+{
+    let mut complexities = Vec::new(alloc);
+    for i in 0..definitions.len() {
+        match definitions[i].fragment {
+            Some(_) => {}
+            None => complexities.push(OperationComplexity {
+                definition: i,
+                complexity: definitions[i].own,
+            })?,
+        }
+    }
+    Ok(complexities)
+}
+
+/// The same of a document whose definitions were gathered while it was parsed, as `OutlineBuilder` gathers them.
+pub fn gathered_complexities(
+    alloc: Global,
+    definitions: &[DefinitionOutline<'_>],
+) -> Result<Vec<OperationComplexity>, ComplexityFailure>
+    ensures complexities { (document : List (Seen Content)) → AreGathered definitions.now document → IfOk result (λ complexities. OperationsHave document 0 document complexities.items) }
+    ensures failure { (document : List (Seen Content)) → AreGathered definitions.now document → FailsWithFirstFault document result }
+{
+    if spread_nothing(definitions) {
+        return Ok(own_complexities(alloc, definitions)?);
+    }
+    let names = gathered_names(alloc, definitions)?;
+    let outlines = resolved_outlines(alloc, &names, definitions)?;
+    outlined_complexities(alloc, &outlines)
 }

@@ -1,5 +1,5 @@
 //! The outlines of definitions.
-ghost use Rattle.std.specs.Prelude.{◌≡◌, ◌∷◌, [], ℕ, OnOk, IfOk, Option, option_map, map};
+ghost use Rattle.std.specs.Prelude.{◌≡◌, ℕ, OnOk, IfOk, Option, option_map, map};
 ghost use Rattle.graphql_grammar.specs.Tokens.{Text};
 ghost use Rattle.juniper.specs.View.{view_word, view_directives, view_selection, view_selections, view_field, view_inline, view_definition};
 ghost use Rattle.juniper_complexity.specs.device.Outlines.{view_spread};
@@ -40,7 +40,7 @@ fn directives_complexity<'a, S: ScalarValue>(
 }
 
 /// The complexity of a field inside so many others, without its directives and what it selects.
-fn field_complexity(alias: &Option<Spanning<&str>>, level: u64) -> Complexity
+pub(crate) fn field_complexity(alias: &Option<Spanning<&str>>, level: u64) -> Complexity
     ensures { (l : ℕ) → level ≡ capped l → result ≡ capped_complexity (at_level l (parts.field_complexity (option_map view_word alias.now))) }
 {
     Complexity {
@@ -151,6 +151,7 @@ fn outline_of<'a, S: ScalarValue>(
     ensures { IfOk result (λ outline. (place : Text → Option ℕ) → Knows names.now place → IsOutline place (view_definition S.content definition.now) outline) }
 {
     let mut outline = Outline {
+        is_operation: false,
         own: Complexity::nothing(),
         spreads: Vec::new(alloc),
     };
@@ -160,12 +161,14 @@ fn outline_of<'a, S: ScalarValue>(
                 .own
                 .plus(directives_complexity(&operation.item.directives));
             add_selections(names, &mut outline, 0, &operation.item.selection_set)?;
+            outline.is_operation = true;
         }
         Definition::Fragment(fragment) => {
             outline.own = outline
                 .own
                 .plus(directives_complexity(&fragment.item.directives));
             add_selections(names, &mut outline, 0, &fragment.item.selection_set)?;
+            outline.is_operation = false;
         }
     }
     Ok(outline)

@@ -17,9 +17,11 @@ pub(crate) struct Spread {
     pub span: Span,
 }
 
-/// A definition: its complexity with no spread expanded, and the spreads in the order of the text.
+/// A definition: whether it is an operation, its complexity with no spread expanded, and the spreads in the order of the
+/// text.
 #[derive(Drop)]
 pub(crate) struct Outline {
+    pub is_operation: bool,
     pub own: Complexity,
     pub spreads: Vec<Spread>,
 }

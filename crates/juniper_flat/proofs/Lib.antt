@@ -5,6 +5,10 @@ pub mod ShortScalars
 pub mod Bounds
 pub mod Writing
 pub mod Builders
+pub mod Both
+pub mod OperationNumbers
+pub mod WeighedBounds
+pub mod SpreadSpans
 pub mod Flats
 pub mod Fitting
 pub mod TokenCounts

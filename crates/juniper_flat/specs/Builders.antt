@@ -1,5 +1,5 @@
 -- What is written into the caller's buffers while a source is parsed.
-use Rattle.std.specs.Prelude.{◌≡◌, ◌+◌, ◌^◌, ◌<◌, ℕ, suc, List, [], ◌∷◌, ◌++◌, length, set, replicate, Option, None}
+use Rattle.std.specs.Prelude.{◌≡◌, ◌+◌, ◌^◌, ◌<◌, ℕ, suc, List, [], ◌∷◌, ◌++◌, length, set, Option, None}
 use Rattle.std.specs.Prelude.{encode_utf8_all}
 use Rattle.graphql_lexical.specs.Place.{Span}
 use Rattle.graphql_grammar.specs.Tokens.{Located, Word}
@@ -10,6 +10,8 @@ use Rattle.graphql_nodes.specs.Nodes.{value_nodes, arguments_nodes, directive_no
 use Rattle.graphql_nodes.specs.declared.kind.NodeKind.{NodeKind}
 use Rattle.graphql_nodes.specs.declared.kind.NodeKind.TheVariants as kind
 use Rattle.juniper.specs.Building.{BuildsList, BuildsOptional, BuildsOptionalSet, BuildsSet, Opened, a_list, an_object}
+use Rattle.juniper_complexity.specs.Gathered.{gathered}
+use Rattle.juniper_complexity.specs.declared.outline_builder.PartCount.{PartCount}
 use Rattle.juniper.specs.Building.{an_object_field, some_arguments, an_argument, a_directive, a_field, a_spread}
 use Rattle.juniper.specs.Building.{an_inline_fragment, some_variables, a_variable, an_operation, a_fragment}
 use Rattle.juniper.specs.Promise.{HasTree}
@@ -20,7 +22,6 @@ use Rattle.juniper_flat.specs.ByteTables.{IsTableOf}
 use Rattle.juniper_flat.specs.Fits.{NodesFit}
 use Rattle.juniper_flat.specs.Nodes.{byte_count, node_value, written_nodes}
 use Rattle.juniper_flat.specs.declared.builder.NodeBuilder.{NodeBuilder}
-use Rattle.juniper_flat.specs.declared.builder.Parts.{Parts}
 
 -- a buffer with these written into it from an index on, as far as they fit
 abbrev pub with_written : {A : Type 0} → List A → ℕ → List A → List A
@@ -114,26 +115,22 @@ leaf kind span label content = record { kind = kind; span = span; label = label;
 
 -- ---- parts that may be absent
 
--- what a list of parts has gathered
-abbrev pub gathered : Parts → List (Unit {0})
-gathered parts = replicate parts.count tt
-
 abbrev pub AddsValue : NodeBuilder → NodeBuilder → Option (Unit {0}) → Option (Located (Value Content)) → Type 0
 AddsValue = BuildsOptional (λ old new x v. Adds old new (value_nodes v))
 
 abbrev pub AddsArguments : NodeBuilder → NodeBuilder → Option (Unit {0}) → Option (Arguments Content) → Type 0
 AddsArguments = BuildsOptional (λ old new x a. Adds old new (arguments_nodes a))
 
-abbrev pub AddsDirectives : NodeBuilder → NodeBuilder → Option Parts → Directives Content → Type 0
+abbrev pub AddsDirectives : NodeBuilder → NodeBuilder → Option PartCount → Directives Content → Type 0
 AddsDirectives = BuildsOptional (BuildsList (λ (old new : NodeBuilder) (x : Unit {0}) d. Adds old new (directive_nodes d)) gathered)
 
 abbrev pub AddsVariables : NodeBuilder → NodeBuilder → Option (Unit {0}) → Option (Variables Content) → Type 0
 AddsVariables = BuildsOptional (λ old new x v. Adds old new (variables_nodes v))
 
-abbrev pub AddsSet : NodeBuilder → NodeBuilder → Parts → Selections Content → Type 0
+abbrev pub AddsSet : NodeBuilder → NodeBuilder → PartCount → Selections Content → Type 0
 AddsSet = BuildsSet (λ (old new : NodeBuilder) (x : Unit {0}) s. Adds old new (selection_nodes s)) gathered
 
-abbrev pub AddsOptionalSet : NodeBuilder → NodeBuilder → Option Parts → OptionalSelections Content → Type 0
+abbrev pub AddsOptionalSet : NodeBuilder → NodeBuilder → Option PartCount → OptionalSelections Content → Type 0
 AddsOptionalSet = BuildsOptionalSet (λ (old new : NodeBuilder) (x : Unit {0}) s. Adds old new (selection_nodes s)) gathered
 
 -- ---- a document

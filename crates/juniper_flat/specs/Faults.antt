@@ -1,7 +1,9 @@
 -- Why a source has no tree, as C gets it.
 use Rattle.std.specs.Prelude.{ℕ, ◌+◌, ◌-◌, List, length}
 use Rattle.graphql_lexical.specs.Place.{Span}
-use Rattle.graphql_lexical.specs.Kinds.{LexicalError, UnknownCharacter, UnexpectedCharacter, UnterminatedString, UnknownCharacterInString, UnknownEscapeSequence, UnexpectedEndOfFile, InvalidNumber}
+use Rattle.graphql_lexical.specs.Kinds.{LexicalError, UnknownCharacter, UnexpectedCharacter, UnterminatedString}
+use Rattle.graphql_lexical.specs.Kinds.{UnknownCharacterInString, UnknownEscapeSequence, UnexpectedEndOfFile}
+use Rattle.graphql_lexical.specs.Kinds.{InvalidNumber}
 use Rattle.juniper_tokens.specs.Errors as errors
 use Rattle.juniper_tokens.specs.Errors.{Error}
 use Rattle.juniper_flat.specs.Places.{bytes_before, written_place}
@@ -33,6 +35,12 @@ deep_reason = because 3 0 0
 
 abbrev pub many_reason : Reason
 many_reason = because 4 0 0
+
+abbrev pub unknown_reason : Reason
+unknown_reason = because 6 0 0
+
+abbrev pub cycle_reason : Reason
+cycle_reason = because 7 0 0
 
 -- ---- which characters of the source an error's words show
 
@@ -83,3 +91,11 @@ deep_fault source span = fault_at source deep_reason span (nothing_at span.start
 -- a token that is one too many
 abbrev pub many_fault : List ℕ → Span → Fault
 many_fault source span = fault_at source many_reason span (nothing_at span.start.index)
+
+-- a spread that names no fragment
+abbrev pub unknown_fault : List ℕ → Span → Fault
+unknown_fault source span = fault_at source unknown_reason span (nothing_at span.start.index)
+
+-- a spread of a fragment in which it stands
+abbrev pub cycle_fault : List ℕ → Span → Fault
+cycle_fault source span = fault_at source cycle_reason span (nothing_at span.start.index)

@@ -8,6 +8,8 @@ pub mod Faults
 pub mod Limits
 pub mod Messages
 pub mod Answers
+pub mod Weighed
+pub mod Both
 pub mod Fits
 pub mod Builders
 pub mod Sources

@@ -1,5 +1,6 @@
 -- The words of an error.
-use Rattle.std.specs.Prelude.{◌≡◌, ◌≢◌, ◌<◌, ◌≤◌, ◌-◌, ◌^◌, ◌⊎◌, ℕ, List, ◌++◌, take, drop, length, codes, encode_utf8_all, IsUtf8, chars, Option, Some, None, Result, Ok, Err, String, string_bytes}
+use Rattle.std.specs.Prelude.{◌≡◌, ◌≢◌, ◌<◌, ◌≤◌, ◌-◌, ◌^◌, ◌⊎◌, ℕ, List, ◌++◌, take, drop, length, codes}
+use Rattle.std.specs.Prelude.{encode_utf8_all, IsUtf8, chars, Option, Some, None, Result, Ok, Err, String, string_bytes}
 use Rattle.std.specs.declared.alloc.Global.{Global}
 use Rattle.graphql_lexical.specs.Characters.{Text}
 use Rattle.graphql_lexical.specs.Place.{Span}
@@ -7,7 +8,7 @@ use Rattle.juniper_tokens.specs.Errors as errors
 use Rattle.juniper_tokens.specs.Errors.{error_text}
 use Rattle.juniper.specs.Promise.{IsRefusal}
 use Rattle.juniper_flat.specs.Answers.{scalars}
-use Rattle.juniper_flat.specs.Faults.{written_fault, deep_fault, many_fault}
+use Rattle.juniper_flat.specs.Faults.{written_fault, deep_fault, many_fault, unknown_fault, cycle_fault}
 use Rattle.juniper_flat.specs.Sources.{IsUnread}
 use Rattle.juniper_flat.specs.declared.fault.Fault.{Fault}
 use Rattle.juniper_flat.specs.declared.source.Unread.{Unread}
@@ -18,6 +19,10 @@ pub data IsErrorOf (source : List ℕ) (fault : Fault) : List ℕ → Type 0 whe
       → IsErrorOf source fault (encode_utf8_all (error_text found.error))
   too_deep : {span : Span} → fault ≡ deep_fault (chars source) span → IsErrorOf source fault (codes "Too deeply nested")
   too_many : {span : Span} → fault ≡ many_fault (chars source) span → IsErrorOf source fault (codes "Too many tokens")
+  unknown : {span : Span} → fault ≡ unknown_fault (chars source) span → IsErrorOf source fault
+      (codes "Unknown fragment")
+  cycle : {span : Span} → fault ≡ cycle_fault (chars source) span
+      → IsErrorOf source fault (codes "Fragment spread within itself")
 
 -- If the error is one that calls give, these are its words.
 abbrev pub AreWords : List ℕ → Fault → List ℕ → Type 0

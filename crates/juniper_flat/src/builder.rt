@@ -13,6 +13,7 @@ ghost use Rattle.juniper_flat.specs.Builders.{Adds, AddsText, Closes, HasNoText,
 ghost use Rattle.juniper_flat.specs.Scalars.{scalar_content};
 ghost use Rattle.juniper_flat.specs.declared.builder.NodeBuilder.{NodeBuilder as Writer};
 
+pub(crate) mod both;
 mod building;
 
 use crate::buffer::write_bytes;
@@ -20,39 +21,11 @@ use crate::byte_table::ByteTable;
 use crate::flat::Lengths;
 use crate::node::{Node, written_node};
 use crate::scalar::SourceScalar;
-use juniper::{Gather, ScalarValue, Span, Type};
+use juniper::{ScalarValue, Span, Type};
 use juniper_nodes::{Label, NodeKind};
-use std::alloc::{AllocError, Global};
+use std::alloc::AllocError;
 use std::fmt;
 use std::fmt::Write;
-
-/// Parts that are built: how many.
-#[derive(Drop)]
-pub(crate) struct Parts {
-    count: usize,
-}
-
-impl Gather<()> for Parts {
-    ghost use Rattle.std.specs.Prelude.{replicate};
-
-    ghost gathered = { λ parts. replicate parts.count tt };
-
-    #[inline(always)]
-    fn none(alloc: Global) -> Parts {
-        Parts { count: 0 }
-    }
-
-    #[inline(always)]
-    fn gather(&mut self, part: (), expected: usize) -> Result<(), AllocError> {
-        match self.count.checked_add(1) {
-            Some(count) => {
-                self.count = count;
-                Ok(())
-            }
-            None => Err(AllocError),
-        }
-    }
-}
 
 /// Writes the nodes of a document and their texts into buffers as far as they fit, and counts all of them.
 #[derive(Drop)]

@@ -5,7 +5,7 @@ ghost use Rattle.juniper_tokens.specs.Spans.{view_span};
 ghost use Rattle.juniper_flat.specs.ByteTables.{IsTableOf};
 ghost use Rattle.juniper.specs.Promise.{lexical_fault};
 ghost use Rattle.juniper_flat.specs.Fits.{PlaceFits, SpanFits};
-ghost use Rattle.juniper_flat.specs.Faults.{lexical_reason, error_reason, shown_of_error, shown_of_lexical, fault_at, written_fault, deep_fault, many_fault};
+ghost use Rattle.juniper_flat.specs.Faults.{lexical_reason, error_reason, shown_of_error, shown_of_lexical, fault_at, written_fault, deep_fault, many_fault, unknown_fault, cycle_fault};
 
 use crate::byte_table::ByteTable;
 use crate::place::{Place, place_at};
@@ -23,6 +23,10 @@ pub const TOO_DEEP: u32 = 3;
 pub const TOO_MANY_TOKENS: u32 = 4;
 
 pub const INVALID_SCALAR: u32 = 5;
+
+pub const UNKNOWN_FRAGMENT: u32 = 6;
+
+pub const FRAGMENT_CYCLE: u32 = 7;
 
 /// Which lexical error it is.
 pub const NO_DETAIL: u32 = 0;
@@ -105,6 +109,30 @@ pub(crate) fn many_fault(table: &ByteTable, span: Span) -> Fault
     fault_at(
         table,
         because(TOO_MANY_TOKENS, NO_DETAIL, 0),
+        &span,
+        nothing_at(span.start.index()),
+    )
+}
+
+/// The fault of a document with a spread that names no fragment.
+pub(crate) fn unknown_fault(table: &ByteTable, span: Span) -> Fault
+    ensures { (source : List ℕ) → IsTableOf source table.now → SpanFits (view_span span) → result ≡ unknown_fault source (view_span span) }
+{
+    fault_at(
+        table,
+        because(UNKNOWN_FRAGMENT, NO_DETAIL, 0),
+        &span,
+        nothing_at(span.start.index()),
+    )
+}
+
+/// The fault of a document with a spread of a fragment in which it stands.
+pub(crate) fn cycle_fault(table: &ByteTable, span: Span) -> Fault
+    ensures { (source : List ℕ) → IsTableOf source table.now → SpanFits (view_span span) → result ≡ cycle_fault source (view_span span) }
+{
+    fault_at(
+        table,
+        because(FRAGMENT_CYCLE, NO_DETAIL, 0),
         &span,
         nothing_at(span.start.index()),
     )

@@ -17,9 +17,10 @@ ghost use Rattle.juniper_flat.specs.Faults.{written_fault};
 ghost use Rattle.juniper_flat.specs.Messages.{ReturnsMessage, IsOfGrammar, ShowsText, shown_bytes, IsQuoted};
 
 use crate::fault::{
-    Fault, INVALID_NUMBER, LEXICAL, TOO_DEEP, TOO_MANY_TOKENS, UNEXPECTED_CHARACTER,
-    UNEXPECTED_END, UNEXPECTED_END_IN_TOKEN, UNEXPECTED_TOKEN, UNKNOWN_CHARACTER,
-    UNKNOWN_CHARACTER_IN_STRING, UNKNOWN_ESCAPE, UNTERMINATED_STRING,
+    FRAGMENT_CYCLE, Fault, INVALID_NUMBER, LEXICAL, TOO_DEEP, TOO_MANY_TOKENS,
+    UNEXPECTED_CHARACTER, UNEXPECTED_END, UNEXPECTED_END_IN_TOKEN, UNEXPECTED_TOKEN,
+    UNKNOWN_CHARACTER, UNKNOWN_CHARACTER_IN_STRING, UNKNOWN_ESCAPE, UNKNOWN_FRAGMENT,
+    UNTERMINATED_STRING,
 };
 use crate::source::{Unread, text_of};
 use juniper::{LexerError, ParseError};
@@ -44,6 +45,12 @@ fn message_of_text(alloc: Global, text: &str, fault: &Fault) -> Result<Option<St
     }
     if fault.kind == TOO_MANY_TOKENS {
         return Ok(Some(String::from_str(alloc, "Too many tokens")?));
+    }
+    if fault.kind == UNKNOWN_FRAGMENT {
+        return Ok(Some(String::from_str(alloc, "Unknown fragment")?));
+    }
+    if fault.kind == FRAGMENT_CYCLE {
+        return Ok(Some(String::from_str(alloc, "Fragment spread within itself")?));
     }
     match error_of(alloc, text, fault)? {
         Some(error) => Ok(Some(format!(in alloc; "{error}")?)),

@@ -30,5 +30,11 @@ pub const INVALID_LIMIT: u32 = 8;
 /// The error that the caller gave isn't one of the source.
 pub const INVALID_ERROR: u32 = 9;
 
+/// The source is a document, and an operation has a spread that names no fragment, itself or through others.
+pub const UNKNOWN_FRAGMENT: u32 = 10;
+
+/// The source is a document, and an operation has a spread of a fragment in which it stands, itself or through others.
+pub const FRAGMENT_CYCLE: u32 = 11;
+
 /// The least number of bytes of a source that is too many: an offset in it has 32 bits.
 pub const TOO_LONG_FROM: usize = 1 << 32;

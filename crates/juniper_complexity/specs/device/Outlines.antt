@@ -13,7 +13,7 @@ use Rattle.juniper_tokens.specs.declared.span.Spanning.{Spanning}
 use Rattle.juniper.specs.View.{view_word, view_directives}
 use Rattle.juniper.specs.declared.tree.ast.FragmentSpread.{FragmentSpread}
 use Rattle.juniper_complexity.specs.Complexities.{plus, capped, capped_complexity}
-use Rattle.juniper_complexity.specs.Parts.{Reference, spreads_of_definition}
+use Rattle.juniper_complexity.specs.Parts.{Reference, spreads_of_definition, is_operation}
 use Rattle.juniper_complexity.specs.device.BySpreads.{own_of_definition}
 use Rattle.juniper_complexity.specs.declared.complexity.Complexity.{Complexity}
 use Rattle.juniper_complexity.specs.declared.walk.Outline.{Outline}
@@ -41,6 +41,7 @@ pub record Gains (place : Text → Option ℕ) (level : ℕ) (old new : Outline)
 
 module _ {C : Type 0} (place : Text → Option ℕ) where
   pub record IsOutline (d : Definition C) (o : Outline) : Type 0 where
+    pub is_one : o.is_operation ≡ is_operation d
     pub own_complexity : o.own ≡ capped_complexity (own_of_definition d)
     pub own_spreads : o.spreads.items ≡ map (coded place) (spreads_of_definition d)
 

@@ -13,9 +13,10 @@ ghost use Rattle.graphql_nodes.specs.Nodes.{directive_nodes, selection_nodes, va
 ghost use Rattle.juniper_values.specs.Scalar.{Content};
 ghost use Rattle.juniper.specs.Building.{a_directive, a_field, a_spread, an_inline_fragment, a_variable, an_operation, a_fragment};
 
-use crate::builder::{NodeBuilder, Parts};
+use crate::builder::NodeBuilder;
 use crate::scalar::SourceScalar;
 use juniper::{Builder, OperationType, Span, Spanning, Type};
+use juniper_complexity::PartCount;
 use juniper_nodes::{Label, NodeKind};
 use std::alloc::AllocError;
 
@@ -50,35 +51,35 @@ impl<'b> Builder<SourceScalar> for NodeBuilder<'b> {
 
     type Value = ();
 
-    type Items = Parts;
+    type Items = PartCount;
 
     type ObjectField = ();
 
-    type Fields = Parts;
+    type Fields = PartCount;
 
     type Argument = ();
 
-    type ArgumentList = Parts;
+    type ArgumentList = PartCount;
 
     type Arguments = ();
 
     type Directive = ();
 
-    type Directives = Parts;
+    type Directives = PartCount;
 
     type Selection = ();
 
-    type Selections = Parts;
+    type Selections = PartCount;
 
     type VariableDefinition = ();
 
-    type VariableList = Parts;
+    type VariableList = PartCount;
 
     type Variables = ();
 
     type Definition = ();
 
-    type Definitions = Parts;
+    type Definitions = PartCount;
 
     ghost opens = { Opens };
 
@@ -133,7 +134,7 @@ impl<'b> Builder<SourceScalar> for NodeBuilder<'b> {
     }
 
     #[inline(always)]
-    fn list(&mut self, part: usize, items: Parts, span: Span) {
+    fn list(&mut self, part: usize, items: PartCount, span: Span) {
         self.close_unnamed(part, NodeKind::List, &span);
     }
 
@@ -143,7 +144,7 @@ impl<'b> Builder<SourceScalar> for NodeBuilder<'b> {
     }
 
     #[inline(always)]
-    fn object(&mut self, part: usize, fields: Parts, span: Span) {
+    fn object(&mut self, part: usize, fields: PartCount, span: Span) {
         self.close_unnamed(part, NodeKind::Object, &span);
     }
 
@@ -169,7 +170,7 @@ impl<'b> Builder<SourceScalar> for NodeBuilder<'b> {
     }
 
     #[inline(always)]
-    fn arguments(&mut self, part: usize, items: Parts, span: Span) {
+    fn arguments(&mut self, part: usize, items: PartCount, span: Span) {
         self.close_unnamed(part, NodeKind::Arguments, &span);
     }
 
@@ -221,8 +222,8 @@ impl<'b> Builder<SourceScalar> for NodeBuilder<'b> {
         alias: &Option<Spanning<&'b str>>,
         name: &Spanning<&'b str>,
         arguments: Option<()>,
-        directives: Option<Parts>,
-        selection_set: Option<Parts>,
+        directives: Option<PartCount>,
+        selection_set: Option<PartCount>,
         span: Span,
     )
         ensures { (first opened with_arguments with_directives : Writer) (xs : Option (tree.Arguments Content)) (ds : tree.Directives Content) (set : tree.OptionalSelections Content) → Opens first opened part (a_field (option_map view_word alias.now) (view_word name.now)) → AddsArguments opened with_arguments arguments xs → AddsDirectives with_arguments with_directives directives ds → AddsOptionalSet with_directives self.old selection_set set → Adds first self.new (selection_nodes (tree.Field (option_map view_word alias.now) (view_word name.now) xs ds set (view_span span))) }
@@ -240,7 +241,7 @@ impl<'b> Builder<SourceScalar> for NodeBuilder<'b> {
         &mut self,
         part: usize,
         name: &Spanning<&'b str>,
-        directives: Option<Parts>,
+        directives: Option<PartCount>,
         span: Span,
     )
         ensures { (first opened : Writer) (ds : tree.Directives Content) → Opens first opened part (a_spread (view_word name.now)) → AddsDirectives opened self.old directives ds → Adds first self.new (selection_nodes (tree.FragmentSpread (view_word name.now) ds (view_span span))) }
@@ -261,8 +262,8 @@ impl<'b> Builder<SourceScalar> for NodeBuilder<'b> {
         &mut self,
         part: usize,
         type_condition: &Option<Spanning<&'b str>>,
-        directives: Option<Parts>,
-        selection_set: Parts,
+        directives: Option<PartCount>,
+        selection_set: PartCount,
         span: Span,
     )
         ensures { (first opened with_directives : Writer) (ds : tree.Directives Content) (set : tree.Selections Content) → Opens first opened part (an_inline_fragment (option_map view_word type_condition.now)) → AddsDirectives opened with_directives directives ds → AddsSet with_directives self.old selection_set set → Adds first self.new (selection_nodes (tree.InlineFragment (option_map view_word type_condition.now) ds set (view_span span))) }
@@ -276,7 +277,7 @@ impl<'b> Builder<SourceScalar> for NodeBuilder<'b> {
     }
 
     #[inline(always)]
-    fn variables(&mut self, part: usize, items: Parts, span: Span) {
+    fn variables(&mut self, part: usize, items: PartCount, span: Span) {
         self.close_unnamed(part, NodeKind::Variables, &span);
     }
 
@@ -306,7 +307,7 @@ impl<'b> Builder<SourceScalar> for NodeBuilder<'b> {
         name: &Spanning<&'b str>,
         var_type: Spanning<Type<&'b str>>,
         default_value: Option<()>,
-        directives: Option<Parts>,
+        directives: Option<PartCount>,
     )
         ensures { (first opened with_default : Writer) (v : Option (Located (Seen Content))) (ds : tree.Directives Content) → Opens first opened part (a_variable (view_word name.now) (view_spanned_type var_type.entry)) → AddsValue opened with_default default_value v → AddsDirectives with_default self.old directives ds → Adds first self.new (variable_nodes (record { name = view_word name.now; of_type = view_spanned_type var_type.entry; default = v; directives = ds })) }
     {
@@ -329,8 +330,8 @@ impl<'b> Builder<SourceScalar> for NodeBuilder<'b> {
         operation_type: OperationType,
         name: &Option<Spanning<&'b str>>,
         variable_definitions: Option<()>,
-        directives: Option<Parts>,
-        selection_set: Parts,
+        directives: Option<PartCount>,
+        selection_set: PartCount,
         span: Span,
     )
         ensures { (first opened with_variables with_directives : Writer) (vs : Option (tree.Variables Content)) (ds : tree.Directives Content) (set : tree.Selections Content) → Opens first opened part (an_operation operation_type (option_map view_word name.now)) → AddsVariables opened with_variables variable_definitions vs → AddsDirectives with_variables with_directives directives ds → AddsSet with_directives self.old selection_set set → Adds first self.new (definition_nodes (tree.Operation operation_type (option_map view_word name.now) vs ds set (view_span span))) }
@@ -353,8 +354,8 @@ impl<'b> Builder<SourceScalar> for NodeBuilder<'b> {
         part: usize,
         name: &Spanning<&'b str>,
         type_condition: &Spanning<&'b str>,
-        directives: Option<Parts>,
-        selection_set: Parts,
+        directives: Option<PartCount>,
+        selection_set: PartCount,
         span: Span,
     )
         ensures { (first opened with_directives : Writer) (ds : tree.Directives Content) (set : tree.Selections Content) → Opens first opened part (a_fragment (view_word name.now) (view_word type_condition.now)) → AddsDirectives opened with_directives directives ds → AddsSet with_directives self.old selection_set set → Adds first self.new (definition_nodes (tree.Fragment (view_word name.now) (view_word type_condition.now) ds set (view_span span))) }

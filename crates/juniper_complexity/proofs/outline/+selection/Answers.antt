@@ -16,8 +16,8 @@ add_field-returns-in-None g t c place knows =
     let f = c.args.field.now in
     let level = c.args.level in
     let old = c.args.outline.now in
-    let middle : Outline = record { own = c.plus-outline.result; spreads = old.spreads } in
-    let new : Outline = record { own = c.plus-outline-2.result; spreads = old.spreads } in
+    let middle : Outline = record old { own = c.plus-outline.result } in
+    let new : Outline = record old { own = c.plus-outline-2.result } in
     let one = gained_own place level old middle c.field_complexity.result
     (λ l. at_level l (field_complexity (option_map view_word f.item.alias)))
     (λ l k. c.field_complexity.ensures l k) c.plus-outline.ensures refl in
@@ -33,8 +33,8 @@ add_field-returns-in_ok-add_selections-in-Some g t c place knows =
     let f = c.args.field.now in
     let level = c.args.level in
     let old = c.args.outline.now in
-    let middle : Outline = record { own = c.plus-outline.result; spreads = old.spreads } in
-    let above : Outline = record { own = c.plus-outline-2.result; spreads = old.spreads } in
+    let middle : Outline = record old { own = c.plus-outline.result } in
+    let above : Outline = record old { own = c.plus-outline-2.result } in
     let new = c.add_selections.new.outline in
     let v = c.in-Some.selections in
     let one = gained_own place level old middle c.field_complexity.result
@@ -59,7 +59,7 @@ add_inline-returns g t c place knows =
     let f = c.args.fragment.now in
     let level = c.args.level in
     let old = c.args.outline.now in
-    let middle : Outline = record { own = c.plus-outline.result; spreads = old.spreads } in
+    let middle : Outline = record old { own = c.plus-outline.result } in
     let new = c.add_selections.new.outline in
     let one = gained_own place level old middle c.directives_complexity.result
     (λ _. directives_complexity (view_directives content f.item.directives))

@@ -16,8 +16,8 @@ returns g c place knows =
     let s = c.args.spread.now in
     let counted = directives_complexity (view_directives content s.item.directives) in
     let old = c.args.outline.now in
-    let middle : Outline = record { own = c.plus-outline.result; spreads = old.spreads } in
-    let new : Outline = record { own = c.plus-outline.result; spreads = c.push.new.self } in
+    let middle : Outline = record old { own = c.plus-outline.result } in
+    let new : Outline = record old { own = c.plus-outline.result; spreads = c.push.new.self } in
     let one = gained_own place level old middle c.directives_complexity.result (λ _. counted)
     (λ l k. c.directives_complexity.ensures) c.plus-outline.ensures refl in
     let two = gained_spread place level middle new c.find-target.result (chars s.item.name.item.now) s.span

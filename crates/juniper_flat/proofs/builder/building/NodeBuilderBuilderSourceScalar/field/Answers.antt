@@ -1,6 +1,7 @@
-use Rattle.graphql_nodes.specs.Nodes.{arguments_nodes, directive_nodes, directives_nodes, selection_nodes, selections_nodes}
+use Rattle.graphql_nodes.specs.Nodes.{arguments_nodes, directive_nodes, directives_nodes, selection_nodes}
+use Rattle.graphql_nodes.specs.Nodes.{selections_nodes}
 use Rattle.graphql_nodes.specs.Nodes.{optional_nodes}
-use Rattle.juniper_flat.specs.Builders.{gathered}
+use Rattle.juniper_complexity.specs.Gathered.{gathered}
 use Rattle.juniper.specs.View.{view_word}
 use Rattle.juniper_flat.proofs.Builders.{adds_more, adds_list, adds_optional, adds_optional_set, named_text}
 use Rattle.juniper_flat.proofs.builder.building.NodeBuilderBuilderSourceScalar.field.Goals as goal

@@ -1,5 +1,5 @@
 use Rattle.graphql_nodes.specs.Nodes.{directive_nodes, directives_nodes, definition_nodes}
-use Rattle.juniper_flat.specs.Builders.{gathered}
+use Rattle.juniper_complexity.specs.Gathered.{gathered}
 use Rattle.juniper.specs.View.{view_word}
 use Rattle.juniper_flat.proofs.Builders.{adds_more, adds_list, adds_set, fragment_text}
 use Rattle.juniper_flat.proofs.builder.building.NodeBuilderBuilderSourceScalar.fragment.Goals as goal

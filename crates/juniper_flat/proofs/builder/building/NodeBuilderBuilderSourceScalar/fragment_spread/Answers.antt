@@ -1,5 +1,6 @@
-use Rattle.graphql_nodes.specs.Nodes.{directive_nodes, directives_nodes, selection_nodes, selections_nodes, optional_nodes}
-use Rattle.juniper_flat.specs.Builders.{gathered}
+use Rattle.graphql_nodes.specs.Nodes.{directive_nodes, directives_nodes, selection_nodes, selections_nodes}
+use Rattle.graphql_nodes.specs.Nodes.{optional_nodes}
+use Rattle.juniper_complexity.specs.Gathered.{gathered}
 use Rattle.juniper.specs.View.{view_word}
 use Rattle.juniper_flat.proofs.Builders.{adds_list, named_text}
 use Rattle.juniper_flat.proofs.builder.building.NodeBuilderBuilderSourceScalar.fragment_spread.Goals as goal

@@ -5,7 +5,8 @@ use Rattle.graphql_nodes.specs.Nodes.{optional_nodes}
 use Rattle.graphql_nodes.specs.declared.kind.NodeKind.TheVariants as kind
 use Rattle.juniper_tokens.specs.Spans.{view_span}
 use Rattle.juniper.specs.View.{view_word}
-use Rattle.juniper_flat.specs.Builders.{Adds, HasNoText, gathered}
+use Rattle.juniper_flat.specs.Builders.{Adds, HasNoText}
+use Rattle.juniper_complexity.specs.Gathered.{gathered}
 use Rattle.juniper_flat.proofs.Builders.{adds_more, adds_list, adds_set, optional_name_text}
 use Rattle.juniper_flat.proofs.builder.building.NodeBuilderBuilderSourceScalar.inline_fragment.Goals as goal
 

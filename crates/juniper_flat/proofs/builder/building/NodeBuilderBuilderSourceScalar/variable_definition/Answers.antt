@@ -1,5 +1,5 @@
 use Rattle.graphql_nodes.specs.Nodes.{value_nodes, directive_nodes, directives_nodes, variable_nodes}
-use Rattle.juniper_flat.specs.Builders.{gathered}
+use Rattle.juniper_complexity.specs.Gathered.{gathered}
 use Rattle.juniper.specs.View.{view_word}
 use Rattle.juniper_flat.proofs.Builders.{adds_more, adds_list, adds_optional, named_text}
 use Rattle.juniper_flat.proofs.builder.building.NodeBuilderBuilderSourceScalar.variable_definition.Goals as goal

@@ -1,0 +1,229 @@
+//! The outlines of a document's definitions, gathered while it is parsed.
+ghost use Rattle.std.specs.Prelude.{◌≡◌, ◌++◌, ◌∷◌, [], List, OnOk, option_map};
+ghost use Rattle.juniper.specs.View.{view_word};
+ghost use Rattle.juniper_complexity.specs.Complexities.{capped_complexity};
+ghost use Rattle.juniper_complexity.specs.device.Sums.{plus_capped};
+ghost use Rattle.juniper_complexity.specs.Gathered.{Begins, OpensField, OpensSpread, counted_directives, outlines_in};
+ghost use Rattle.juniper_complexity.specs.declared.outline_builder.NamedSpread.{NamedSpread as Spread};
+
+use crate::complexity::Complexity;
+use crate::outline::field_complexity;
+use juniper::{Gather, Span, Spanning};
+use std::alloc::{AllocError, Global};
+use std::mem;
+
+/// Parts that are read: how many.
+#[derive(Clone, Copy, Debug)]
+pub struct PartCount {
+    pub count: usize,
+}
+
+impl Gather<()> for PartCount {
+    ghost use Rattle.std.specs.Prelude.{replicate};
+
+    ghost gathered = { λ parts. replicate parts.count tt };
+
+    #[inline(always)]
+    fn none(alloc: Global) -> PartCount {
+        PartCount { count: 0 }
+    }
+
+    #[inline(always)]
+    fn gather(&mut self, part: (), expected: usize) -> Result<(), AllocError> {
+        match self.count.checked_add(1) {
+            Some(count) => {
+                self.count = count;
+                Ok(())
+            }
+            None => Err(AllocError),
+        }
+    }
+}
+
+/// A spread in a definition.
+#[derive(Clone, Copy, Debug)]
+pub(crate) struct NamedSpread<'a> {
+    pub name: &'a str,
+    /// The number of fields around it.
+    pub fields_around: u64,
+    pub span: Span,
+}
+
+/// A definition of a document with its numbers and its spreads, none of them expanded.
+#[derive(Drop)]
+pub struct DefinitionOutline<'a> {
+    /// The name of a fragment; None of an operation.
+    pub(crate) fragment: Option<&'a str>,
+    pub(crate) own: Complexity,
+    pub(crate) spreads: Vec<NamedSpread<'a>>,
+    /// A number for the caller to keep.
+    pub mark: usize,
+}
+
+/// The outlines of definitions.
+#[derive(Drop)]
+pub struct DefinitionOutlines<'a> {
+    pub items: Vec<DefinitionOutline<'a>>,
+}
+
+impl<'a> Gather<DefinitionOutline<'a>> for DefinitionOutlines<'a> {
+    ghost use Rattle.juniper_complexity.specs.Gathered.{outlines_in};
+
+    ghost gathered = { outlines_in };
+
+    #[inline(always)]
+    fn none(alloc: Global) -> DefinitionOutlines<'a>
+        ensures { outlines_in result ≡ [] }
+    {
+        DefinitionOutlines {
+            items: Vec::new(alloc),
+        }
+    }
+
+    #[inline(always)]
+    fn gather(&mut self, part: DefinitionOutline<'a>, expected: usize) -> Result<(), AllocError>
+        ensures { OnOk result (outlines_in self.new ≡ outlines_in self.old ++ part.entry ∷ []) }
+    {
+        push(&mut self.items, part)
+    }
+}
+
+/// Gathers the outlines of a document's definitions, one after another, while a builder builds something else of it.
+///
+/// The builder reports the beginning of a definition, each field, spread and inline fragment in it as it begins and ends, and
+/// the definition's end, which gives its outline. What it gathers is that of the parts that were reported.
+#[derive(Drop)]
+pub struct OutlineBuilder<'a> {
+    alloc: Global,
+    // Of the definition that is being read, as far as it has been.
+    own: Complexity,
+    spreads: Vec<NamedSpread<'a>>,
+    // The number of fields around what is read next.
+    level: u64,
+}
+
+// The complexity of so many directives.
+fn counted_directives(directives: &Option<PartCount>) -> Complexity
+    ensures { result ≡ capped_complexity (counted_directives directives.now) }
+{
+    Complexity {
+        fields: 0,
+        aliases: 0,
+        directives: match directives {
+            None => 0,
+            Some(directives) => directives.count as u64,
+        },
+        root_fields: 0,
+        depth: 0,
+    }
+}
+
+impl<'a> OutlineBuilder<'a> {
+    /// A builder that has gathered nothing.
+    pub fn new(alloc: Global) -> Self {
+        OutlineBuilder {
+            alloc,
+            own: Complexity::nothing(),
+            spreads: Vec::new(alloc),
+            level: 0,
+        }
+    }
+
+    /// Begins a definition.
+    #[inline(always)]
+    pub fn begin(&mut self)
+        ensures { Begins self.new }
+    {
+        self.own = Complexity::nothing();
+        self.spreads = Vec::new(self.alloc);
+        self.level = 0;
+    }
+
+    /// Counts a field and enters it. Returns the number of fields around it, which `leave_field` takes.
+    #[inline(always)]
+    pub fn enter_field(&mut self, alias: &Option<Spanning<&'a str>>) -> u64
+        ensures around { result ≡ self.old.level }
+        ensures opens { OpensField self.old self.new (option_map view_word alias.now) }
+    {
+        let around = self.level;
+        self.own = self.own.plus(field_complexity(alias, around));
+        self.level = around.saturating_add(1);
+        around
+    }
+
+    /// Leaves the field that this many fields are around, and counts its directives.
+    #[inline(always)]
+    pub fn leave_field(&mut self, around: u64, directives: &Option<PartCount>)
+        ensures own { self.new.own ≡ plus_capped self.old.own (capped_complexity (counted_directives directives.now)) }
+        ensures spreads { self.new.spreads ≡ self.old.spreads }
+        ensures level { self.new.level ≡ around }
+    {
+        self.own = self.own.plus(counted_directives(directives));
+        self.level = around;
+    }
+
+    /// Begins a fragment spread.
+    #[inline(always)]
+    pub fn begin_spread(&mut self, name: &Spanning<&'a str>) -> Result<(), AllocError>
+        ensures { OnOk result (OpensSpread self.old self.new (view_word name.now)) }
+    {
+        let spread = NamedSpread {
+            name: name.item,
+            fields_around: self.level,
+            span: name.span,
+        };
+        push(&mut self.spreads, spread)
+    }
+
+    /// Ends the fragment spread that was begun last, and counts its directives.
+    #[inline(always)]
+    pub fn end_spread(&mut self, directives: &Option<PartCount>, span: &Span)
+        ensures own { self.new.own ≡ plus_capped self.old.own (capped_complexity (counted_directives directives.now)) }
+        ensures level { self.new.level ≡ self.old.level }
+        ensures spreads { (others : List Spread) (spread : Spread) → self.old.spreads.items ≡ others ++ spread ∷ [] → self.new.spreads.items ≡ others ++ record spread { span = span.now } ∷ [] }
+    {
+        self.own = self.own.plus(counted_directives(directives));
+        let last = self.spreads.len().saturating_sub(1);
+        if last < self.spreads.len() {
+            self.spreads[last].span = *span;
+        }
+    }
+
+    /// Ends an inline fragment, and counts its directives.
+    #[inline(always)]
+    pub fn end_inline_fragment(&mut self, directives: &Option<PartCount>)
+        ensures own { self.new.own ≡ plus_capped self.old.own (capped_complexity (counted_directives directives.now)) }
+        ensures spreads { self.new.spreads ≡ self.old.spreads }
+        ensures level { self.new.level ≡ self.old.level }
+    {
+        self.own = self.own.plus(counted_directives(directives));
+    }
+
+    /// Ends a definition, which is a fragment of this name, or an operation, and counts its directives.
+    pub fn end(
+        &mut self,
+        fragment: Option<&'a str>,
+        directives: &Option<PartCount>,
+        mark: usize,
+    ) -> DefinitionOutline<'a>
+        ensures fragment { result.fragment ≡ fragment.entry }
+        ensures own { result.own ≡ plus_capped self.old.own (capped_complexity (counted_directives directives.now)) }
+        ensures spreads { result.spreads.items ≡ self.old.spreads.items }
+        ensures mark { result.mark ≡ mark }
+    {
+        DefinitionOutline {
+            fragment,
+            own: self.own.plus(counted_directives(directives)),
+            spreads: mem::replace(&mut self.spreads, Vec::new(self.alloc)),
+            mark,
+        }
+    }
+}
+
+// Appends to a list.
+fn push<T: Drop>(items: &mut Vec<T>, item: T) -> Result<(), AllocError>
+    ensures { OnOk result (items.new.items ≡ items.old.items ++ item ∷ []) }
+{
+    items.push(item)?;
+    Ok(())
+}

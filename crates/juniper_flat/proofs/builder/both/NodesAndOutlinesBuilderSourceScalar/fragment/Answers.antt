@@ -1,0 +1,37 @@
+use Rattle.std.proofs.Common.{◌∙◌, ap, map, refl, subst, sym}
+use Rattle.graphql_nodes.specs.Nodes.{directive_nodes, selection_nodes}
+use Rattle.juniper_complexity.specs.Gathered.{Gathers, GathersSelection, Keeps, counted_directives, gathered}
+use Rattle.juniper_complexity.specs.Gathered.{seen_spread}
+use Rattle.juniper_complexity.specs.Parts.{spreads_of_all}
+use Rattle.juniper_complexity.specs.declared.outline_builder.OutlineBuilder.{OutlineBuilder}
+use Rattle.juniper_complexity.specs.device.BySpreads.{own_of_all}
+use Rattle.juniper_complexity.proofs.Public.{kept_directives, directives_counted, gathers_set, gathers_definition}
+use Rattle.juniper_flat.specs.Builders.{Adds}
+use Rattle.juniper_flat.proofs.Both.{nodes_list, outlines_list, nodes_set, outlines_set}
+use Rattle.juniper_flat.proofs.builder.both.NodesAndOutlinesBuilderSourceScalar.fragment.Goals as goal
+
+pub returns : goal.returns
+returns c first opened with_directives ds set is_open each all =
+    let old = c.args.self.now in
+    let directives = outlines_list (λ a b x p. Adds a b (directive_nodes p)) Keeps gathered opened with_directives _
+    ds each in
+    let same = kept_directives opened.outlines with_directives.outlines c.args.directives ds directives in
+    let inner = subst (λ (z : OutlineBuilder). Gathers z old.outlines (λ l. own_of_all l set)
+    (λ l. spreads_of_all l set))
+    (sym same) (gathers_set with_directives.outlines old.outlines c.args.selection_set set
+    (outlines_set (λ a b x p. Adds a b (selection_nodes p)) GathersSelection gathered with_directives old _ set all)) in
+    let whole = gathers_definition (counted_directives c.args.directives) ds
+    (directives_counted opened.outlines with_directives.outlines c.args.directives ds directives)
+    opened.outlines old.outlines set _ is_open.1 inner c.end.ensures.own in (
+      c.fragment.ensures first.nodes opened.nodes with_directives.nodes ds set is_open.0
+          (nodes_list (λ a b x p. Adds a b (directive_nodes p)) Keeps gathered opened with_directives _ ds each)
+          (nodes_set (λ a b x p. Adds a b (selection_nodes p)) GathersSelection gathered with_directives old _ set all),
+      (
+        record {
+          fragment = rw c.end.ensures.fragment refl;
+          own_complexity = whole.0;
+          own_spreads = ap (map seen_spread) c.end.ensures.spreads ∙ whole.1;
+        },
+        c.end.ensures.mark ∙ is_open.0.index_is,
+      ),
+    )
