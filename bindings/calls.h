@@ -100,6 +100,8 @@ typedef struct {
     size_t tokens_capacity, *tokens_length;
     uint8_t *texts;
     size_t texts_capacity, *texts_length;
+    firthnapkin_complexity *complexities;
+    size_t complexities_capacity, *complexities_length;
     firthnapkin_error *error;
 } whole_call;
 
@@ -107,6 +109,13 @@ static inline void run_parse(void *call) {
     whole_call *c = call;
     c->status = firthnapkin_parse(c->source, c->length, c->limits, c->nodes, c->nodes_capacity, c->nodes_length, c->texts,
                                   c->texts_capacity, c->texts_length, c->error);
+}
+
+static inline void run_parse_complexities(void *call) {
+    whole_call *c = call;
+    c->status = firthnapkin_parse_complexities(c->source, c->length, c->limits, c->nodes, c->nodes_capacity, c->nodes_length,
+                                               c->texts, c->texts_capacity, c->texts_length, c->complexities,
+                                               c->complexities_capacity, c->complexities_length, c->error);
 }
 
 static inline void run_message(void *call) {
@@ -138,6 +147,22 @@ static inline uint32_t parse_on_stack(const uint8_t *source, size_t length, cons
                        .texts_capacity = texts_capacity, .texts_length = texts_length, .error = error};
     *nodes_length = *texts_length = 0;
     run_on_stack(stack_for(limits->depth), run_parse, &call);
+    return call.status;
+}
+
+/* firthnapkin_parse_complexities, in the same way. */
+static inline uint32_t parse_complexities_on_stack(const uint8_t *source, size_t length, const firthnapkin_limits *limits,
+                                                   firthnapkin_node *nodes, size_t nodes_capacity, size_t *nodes_length,
+                                                   uint8_t *texts, size_t texts_capacity, size_t *texts_length,
+                                                   firthnapkin_complexity *complexities, size_t complexities_capacity,
+                                                   size_t *complexities_length, firthnapkin_error *error) {
+    whole_call call = {.source = source, .length = length, .limits = limits, .status = FIRTHNAPKIN_OUT_OF_MEMORY, .nodes = nodes,
+                       .nodes_capacity = nodes_capacity, .nodes_length = nodes_length, .texts = texts,
+                       .texts_capacity = texts_capacity, .texts_length = texts_length, .complexities = complexities,
+                       .complexities_capacity = complexities_capacity, .complexities_length = complexities_length,
+                       .error = error};
+    *nodes_length = *texts_length = *complexities_length = 0;
+    run_on_stack(stack_for(limits->depth), run_parse_complexities, &call);
     return call.status;
 }
 

@@ -3,6 +3,7 @@
 #define FIRTHNAPKIN_WHOLE_H
 
 #include "calls.h"
+#include "sizes.h"
 #include <stdlib.h>
 
 /* The result for a source. The texts are those of the nodes, or the canonical text. If there is an error they are its
@@ -13,6 +14,8 @@ typedef struct {
     size_t nodes_count;
     firthnapkin_token *tokens;
     size_t tokens_count;
+    firthnapkin_complexity *complexities;
+    size_t complexities_count;
     uint8_t *texts;
     size_t texts_count;
     firthnapkin_error error;
@@ -21,9 +24,11 @@ typedef struct {
 static inline void give_back(whole *w) {
     free(w->nodes);
     free(w->tokens);
+    free(w->complexities);
     free(w->texts);
     w->nodes = NULL;
     w->tokens = NULL;
+    w->complexities = NULL;
     w->texts = NULL;
 }
 
@@ -49,10 +54,15 @@ static inline uint32_t find_words(whole *w, const uint8_t *source, size_t length
     return status;
 }
 
+/* Whether a status of the library comes with an error. */
+static inline int has_error(uint32_t status) {
+    return status == FIRTHNAPKIN_SYNTAX_ERROR || status == FIRTHNAPKIN_TOO_DEEP || status == FIRTHNAPKIN_TOO_MANY_TOKENS
+           || status == FIRTHNAPKIN_UNKNOWN_FRAGMENT || status == FIRTHNAPKIN_FRAGMENT_CYCLE;
+}
+
 /* Puts the words of the source's error into the texts, if the status says that there is one. */
 static inline void add_words(whole *w, const uint8_t *source, size_t length) {
-    if (w->status != FIRTHNAPKIN_SYNTAX_ERROR && w->status != FIRTHNAPKIN_TOO_DEEP && w->status != FIRTHNAPKIN_TOO_MANY_TOKENS)
-        return;
+    if (!has_error(w->status)) return;
     uint32_t status = find_words(w, source, length, message_on_stack);
     if (status != FIRTHNAPKIN_OK) w->status = status;
 }
@@ -86,6 +96,82 @@ static inline whole parse_whole(const uint8_t *source, size_t length, const firt
         nodes = w.nodes_count;
         texts = w.texts_count;
     } while (w.status == FIRTHNAPKIN_BUFFER_TOO_SMALL);
+    add_words(&w, source, length);
+    return w;
+}
+
+/* Makes the status and the error those of the first operation that exceeds a limit, if one does, and puts its words into the
+ * texts. The nodes stay. */
+static inline void refuse_large(whole *w, const uint8_t *source, const size_limits *sizes) {
+    excess found = first_beyond(w->complexities, w->complexities_count, sizes);
+    if (found.operation == w->complexities_count) return;
+    const firthnapkin_complexity *complexity = &w->complexities[found.operation];
+    const firthnapkin_node *operation = &w->nodes[complexity->definition];
+    uint8_t *words = malloc(bytes_of_words(operation->name_end - operation->name_start));
+    w->status = words != NULL ? OPERATION_TOO_LARGE : FIRTHNAPKIN_OUT_OF_MEMORY;
+    if (words == NULL) return;
+    w->error = error_at(operation);
+    w->texts_count = write_words(words, source, operation, complexity, sizes, found.number);
+    free(w->texts);
+    w->texts = words;
+}
+
+/* Allocates an array of so many operations, too, as make_buffers does. */
+static inline int make_all_buffers(whole *w, size_t nodes, size_t texts, size_t operations) {
+    if (!make_buffers(w, nodes, texts)) return 0;
+    w->complexities = malloc((operations + 1) * sizeof *w->complexities);
+    return w->complexities != NULL;
+}
+
+/* Parses a source as parse_whole does, and finds how large its operations are. The status is OPERATION_TOO_LARGE if one exceeds
+ * a limit, with an error that says which. A source has few operations for its nodes. */
+static inline whole measure_whole(const uint8_t *source, size_t length, const firthnapkin_limits *limits,
+                                  const size_limits *sizes) {
+    whole w = {.status = FIRTHNAPKIN_OUT_OF_MEMORY};
+    size_t nodes = at_first(length) + 16, texts = at_first(length) + 64, operations = at_first(length) / 8 + 4;
+    do {
+        if (!make_all_buffers(&w, nodes, texts, operations)) {
+            w.status = FIRTHNAPKIN_OUT_OF_MEMORY;
+            return w;
+        }
+        w.status = parse_complexities_on_stack(source, length, limits, w.nodes, nodes, &w.nodes_count, w.texts, texts,
+                                               &w.texts_count, w.complexities, operations, &w.complexities_count, &w.error);
+        nodes = w.nodes_count;
+        texts = w.texts_count;
+        operations = w.complexities_count;
+    } while (w.status == FIRTHNAPKIN_BUFFER_TOO_SMALL);
+    if (w.status == FIRTHNAPKIN_OK) refuse_large(&w, source, sizes);
+    /* The nodes of one that can't be expanded make room for its words. */
+    if (has_error(w.status)) w.nodes_count = 0;
+    add_words(&w, source, length);
+    return w;
+}
+
+/* The document that a source is within these limits: measured if one of the sizes has a limit, and otherwise only parsed. */
+static inline whole document_whole(const uint8_t *source, size_t length, const firthnapkin_limits *limits,
+                                   const size_limits *sizes) {
+    return has_limit(sizes) ? measure_whole(source, length, limits, sizes) : parse_whole(source, length, limits);
+}
+
+/* How large the operations of a document are, whatever its depth: no nodes, and no texts but those of an error. The result has
+ * to be freed, whatever the status. */
+static inline whole complexities_whole(const uint8_t *source, size_t length) {
+    static const firthnapkin_limits loosest = {.depth = FIRTHNAPKIN_MAX_DEPTH, .tokens = UINT32_MAX};
+    whole w = {.status = FIRTHNAPKIN_OUT_OF_MEMORY};
+    size_t capacity, needed = at_first(length) / 8 + 4;
+    do {
+        capacity = needed;
+        if (!make_all_buffers(&w, 0, 0, capacity)) {
+            w.status = FIRTHNAPKIN_OUT_OF_MEMORY;
+            return w;
+        }
+        w.status = parse_complexities_on_stack(source, length, &loosest, NULL, 0, &w.nodes_count, NULL, 0, &w.texts_count,
+                                               w.complexities, capacity, &w.complexities_count, &w.error);
+        needed = w.complexities_count;
+    } while (needed > capacity);
+    w.nodes_count = w.texts_count = 0;
+    /* There was no capacity for nodes. */
+    if (w.status == FIRTHNAPKIN_BUFFER_TOO_SMALL) w.status = FIRTHNAPKIN_OK;
     add_words(&w, source, length);
     return w;
 }

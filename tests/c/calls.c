@@ -37,7 +37,7 @@ static size_t left_here(void) {
 
 static struct {
     pthread_t caller;
-    int parses, messages, excerpts, cuts, canonicals;
+    int parses, measures, messages, excerpts, cuts, canonicals;
     /* Calls in another thread, those of them that got signals, and calls with too little stack. */
     int in_threads, with_signals, narrow;
 } seen;
@@ -86,6 +86,16 @@ static uint32_t seen_parse(const uint8_t *source, size_t length, const firthnapk
                              error);
 }
 
+static uint32_t seen_parse_complexities(const uint8_t *source, size_t length, const firthnapkin_limits *limits,
+                                        firthnapkin_node *nodes, size_t nodes_capacity, size_t *nodes_length, uint8_t *texts,
+                                        size_t texts_capacity, size_t *texts_length, firthnapkin_complexity *complexities,
+                                        size_t complexities_capacity, size_t *complexities_length, firthnapkin_error *error) {
+    seen.measures++;
+    look(limits->depth);
+    return firthnapkin_parse_complexities(source, length, limits, nodes, nodes_capacity, nodes_length, texts, texts_capacity,
+                                          texts_length, complexities, complexities_capacity, complexities_length, error);
+}
+
 static uint32_t seen_message(const uint8_t *source, size_t length, const firthnapkin_error *error, uint8_t *buffer,
                              size_t buffer_capacity, size_t *buffer_length) {
     seen.messages++;
@@ -124,6 +134,7 @@ static int get_attributes(pthread_t thread, pthread_attr_t *attributes) {
 
 /* The headers make their calls by these. */
 #define firthnapkin_parse seen_parse
+#define firthnapkin_parse_complexities seen_parse_complexities
 #define firthnapkin_message seen_message
 #define firthnapkin_excerpt seen_excerpt
 #define firthnapkin_tokens seen_tokens
@@ -207,7 +218,7 @@ static void begin(void) {
 static void check_seen(const char *where, const char *source, threads wanted, const sigset_t *before) {
     sigset_t after;
     pthread_sigmask(SIG_SETMASK, NULL, &after);
-    int calls = seen.parses + seen.messages + seen.excerpts + seen.cuts + seen.canonicals;
+    int calls = seen.parses + seen.measures + seen.messages + seen.excerpts + seen.cuts + seen.canonicals;
     check(seen.narrow == 0, "%s: %d calls with too little stack, for %.20s", where, seen.narrow, source);
     check(seen.with_signals == 0, "%s: %d calls with signals, for %.20s", where, seen.with_signals, source);
     check(wanted == SOME || seen.in_threads == (wanted == ALL ? calls : 0), "%s: %d of %d calls in threads, for %.20s", where,
@@ -255,6 +266,111 @@ static void text_rows(const char *where, threads wanted, const sigset_t *mask) {
     }
 }
 
+/* Sources within limits on the fields of an operation, and on how deep these are; or the numbers alone if there are none. */
+typedef struct {
+    const char *source;
+    uint32_t depth, fields, levels, status;
+    size_t count;
+    int calls, messages;
+    uint32_t byte;
+    const char *words;
+} measure_row;
+
+static const measure_row MEASURES[] = {
+    {"{a}", 200, 1, 1, FIRTHNAPKIN_OK, 1, 1, 0, 0, ""},
+    {"{a}", 200, 0, UINT32_MAX, OPERATION_TOO_LARGE, 1, 1, 0, 0,
+     "Too many fields in an operation without a name: 1, with a limit of 0"},
+    {"query A {b} # \xc3\xa9\nquery C { a {b} }", 200, 2, 1, OPERATION_TOO_LARGE, 2, 1, 0, 17,
+     "Too many levels of fields in operation \"C\": 2, with a limit of 1"},
+    {"query A {b} query C { a b }", 200, 1, 9, OPERATION_TOO_LARGE, 2, 1, 0, 12,
+     "Too many fields in operation \"C\": 2, with a limit of 1"},
+    {"{...A}", 200, 0, 0, FIRTHNAPKIN_UNKNOWN_FRAGMENT, 0, 1, 1, 1, "Unknown fragment"},
+    {"{...A} fragment A on T {...A}", 200, 9, 9, FIRTHNAPKIN_FRAGMENT_CYCLE, 0, 1, 1, 24, "Fragment spread within itself"},
+    {"{a{b}}", 1, 1, 1, FIRTHNAPKIN_TOO_DEEP, 0, 1, 1, 2, "Too deeply nested"},
+    {"{ a b ) }", 200, 1, 1, FIRTHNAPKIN_SYNTAX_ERROR, 0, 1, 1, 6, "Unexpected \")\""},
+    {"fragment A on T {...A}", 200, 0, 0, FIRTHNAPKIN_OK, 0, 1, 0, 0, ""},
+    /* More operations than are expected, and more nodes and texts. */
+    {THOUSAND("{a}"), 200, 1, 1, FIRTHNAPKIN_OK, 1000, 2, 0, 0, ""},
+    {THOUSAND("{a}") "{a b}", 200, 1, 1, OPERATION_TOO_LARGE, 1001, 2, 0, 3000,
+     "Too many fields in an operation without a name: 2, with a limit of 1"},
+    {"{a(b:\"" THOUSAND("c") "\")}", 200, 1, 1, FIRTHNAPKIN_OK, 1, 2, 0, 0, ""},
+    {THOUSAND(DEEPER) THOUSAND(CLOSING), 1000, 1000, 1000, FIRTHNAPKIN_OK, 1, 1, 0, 0, ""},
+};
+
+static void measure_rows(const char *where, threads wanted, const sigset_t *mask) {
+    for (size_t i = 0; i < sizeof MEASURES / sizeof *MEASURES; i++) {
+        measure_row row = MEASURES[i];
+        firthnapkin_limits limits = {.depth = row.depth, .tokens = UINT32_MAX};
+        size_limits sizes = {{row.fields, UINT32_MAX, UINT32_MAX, UINT32_MAX, row.levels}};
+        begin();
+        whole w = document_whole((const uint8_t *)row.source, strlen(row.source), &limits, &sizes);
+        int has_nodes = w.status == FIRTHNAPKIN_OK || w.status == OPERATION_TOO_LARGE;
+        check(w.status == row.status && (w.nodes_count > 0) == has_nodes && w.complexities_count == row.count,
+              "%s: %u, %zu nodes and %zu numbers for %.20s", where, w.status, w.nodes_count, w.complexities_count, row.source);
+        check(seen.measures == row.calls && seen.parses == 0 && seen.messages == row.messages, "%s: %d calls for %.20s", where,
+              seen.measures, row.source);
+        check(row.words[0] == 0
+                  || (w.error.start.byte == row.byte && w.texts_count == strlen(row.words)
+                      && !memcmp(w.texts, row.words, w.texts_count)),
+              "%s: the words for %.20s: %.*s", where, row.source, (int)w.texts_count, w.texts);
+        check_seen(where, row.source, wanted, mask);
+        give_back(&w);
+    }
+}
+
+/* The numbers alone: whatever the depth, and with as many calls as the number of operations needs. */
+static void complexity_rows(const char *where, threads wanted, const sigset_t *mask) {
+    static const measure_row rows[] = {
+        {"{a{b}}", 0, 2, 2, FIRTHNAPKIN_OK, 1, 1, 0, 0, ""},
+        {"fragment A on T {...A}", 0, 0, 0, FIRTHNAPKIN_OK, 0, 1, 0, 0, ""},
+        {THOUSAND("{a}"), 0, 1, 1, FIRTHNAPKIN_OK, 1000, 2, 0, 0, ""},
+        {THOUSAND(DEEPER) THOUSAND(CLOSING), 0, 1000, 1000, FIRTHNAPKIN_OK, 1, 1, 0, 0, ""},
+        {"{...A}", 0, 0, 0, FIRTHNAPKIN_UNKNOWN_FRAGMENT, 0, 1, 1, 1, ""},
+        {"{...A} fragment A on T {...A}", 0, 0, 0, FIRTHNAPKIN_FRAGMENT_CYCLE, 0, 1, 1, 24, ""},
+        {"{ a ) }", 0, 0, 0, FIRTHNAPKIN_SYNTAX_ERROR, 0, 1, 1, 4, ""},
+    };
+    for (size_t i = 0; i < sizeof rows / sizeof *rows; i++) {
+        measure_row row = rows[i];
+        begin();
+        whole w = complexities_whole((const uint8_t *)row.source, strlen(row.source));
+        check(w.status == row.status && w.nodes_count == 0 && w.complexities_count == row.count && seen.measures == row.calls
+                  && seen.messages == row.messages && (row.messages == 0 || w.error.start.byte == row.byte),
+              "%s: %u, %zu numbers by %d calls for %.20s", where, w.status, w.complexities_count, seen.measures, row.source);
+        for (size_t k = 0; k < row.count; k++)
+            check(w.complexities[k].fields == row.fields && w.complexities[k].depth == row.levels, "%s: numbers of %.20s",
+                  where, row.source);
+        check_seen(where, row.source, wanted, mask);
+        give_back(&w);
+    }
+}
+
+/* Without a limit a source is only parsed. The largest number is no limit, and each number has its own. */
+static void size_rows(const char *where) {
+    static const char source[] = "query Q @d { x: a { y: b c } z: e { f } ...F } fragment F on T { g: a { h } }";
+    static const char *const names[] = {"fields", "aliases", "directives", "root fields", "levels of fields"};
+    static const uint32_t numbers[] = {7, 4, 1, 3, 2};
+    const firthnapkin_limits limits = FIRTHNAPKIN_LIMITS_DEFAULT;
+    for (size_t i = 0; i < SIZES; i++) {
+        for (uint32_t limit = 0; limit <= 8; limit++) {
+            char words[80];
+            size_limits sizes;
+            memset(&sizes, 0xFF, sizeof sizes);
+            if (limit < 8) sizes.most[i] = limit;
+            begin();
+            whole w = document_whole((const uint8_t *)source, strlen(source), &limits, &sizes);
+            int is_large = limit < numbers[i];
+            snprintf(words, sizeof words, "Too many %s in operation \"Q\": %u, with a limit of %u", names[i], numbers[i],
+                     limit);
+            check(w.status == (is_large ? OPERATION_TOO_LARGE : FIRTHNAPKIN_OK) && seen.measures == (limit < 8)
+                      && seen.parses == (limit == 8),
+                  "%s: %u for %u %s", where, w.status, limit, names[i]);
+            check(!is_large || (w.texts_count == strlen(words) && !memcmp(w.texts, words, w.texts_count)),
+                  "%s: the words of %u %s", where, limit, names[i]);
+            give_back(&w);
+        }
+    }
+}
+
 /* An excerpt of a line that is longer than the first buffer, and of one that isn't. */
 static void excerpt_rows(const char *where, threads wanted, const sigset_t *mask) {
     static const text_row rows[] = {
@@ -298,6 +414,9 @@ static void all_rows(const char *where, threads wanted) {
     sigset_t mask;
     pthread_sigmask(SIG_SETMASK, NULL, &mask);
     parse_rows(where, wanted, &mask);
+    measure_rows(where, wanted, &mask);
+    complexity_rows(where, wanted, &mask);
+    size_rows(where);
     text_rows(where, wanted, &mask);
     excerpt_rows(where, wanted, &mask);
     words_rows(where);

@@ -138,6 +138,26 @@ static answer whole_parse_of_few(const char *source) {
     return answer_of(w, w.nodes_count);
 }
 
+/* With a limit that most operations keep, and with one that none with a field keeps. */
+static answer whole_measured_within(const char *source, uint32_t fields) {
+    size_limits sizes = {{fields, UINT32_MAX, UINT32_MAX, UINT32_MAX, UINT32_MAX}};
+    whole w = document_whole((const uint8_t *)source, strlen(source), &DEFAULT, &sizes);
+    return answer_of(w, w.nodes_count + w.complexities_count);
+}
+
+static answer whole_measured(const char *source) {
+    return whole_measured_within(source, 1000);
+}
+
+static answer whole_measured_of_none(const char *source) {
+    return whole_measured_within(source, 0);
+}
+
+static answer whole_complexities(const char *source) {
+    whole w = complexities_whole((const uint8_t *)source, strlen(source));
+    return answer_of(w, w.complexities_count);
+}
+
 static answer whole_tokens(const char *source) {
     whole w = cut_whole((const uint8_t *)source, strlen(source), UINT32_MAX);
     return answer_of(w, w.tokens_count);
@@ -212,6 +232,9 @@ int main(void) {
         each(canonical, sources[i]);
         each(whole_parse, sources[i]);
         each(whole_parse_of_few, sources[i]);
+        each(whole_measured, sources[i]);
+        each(whole_measured_of_none, sources[i]);
+        each(whole_complexities, sources[i]);
         each(whole_tokens, sources[i]);
         each(whole_canonical, sources[i]);
         each(whole_excerpt, sources[i]);

@@ -25,9 +25,13 @@ class Text(str):
         return b"\xff"
 
 
+# The words of no limits on sizes.
+NO_SIZES = (2**32 - 1,) * 5
+
+
 def words_of(limits: bytes) -> Tuple[int, ...]:
-    """The words of limits, as the extensions take them."""
-    return struct.unpack("=8I", limits)
+    """The words of limits, as the extensions take them: eight, and then those on sizes."""
+    return struct.unpack("=13I", limits)
 
 
 def process(program: str) -> "subprocess.CompletedProcess[bytes]":

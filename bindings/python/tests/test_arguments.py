@@ -186,7 +186,8 @@ class Statuses(unittest.TestCase):
         """The error that is raised for each status of the library."""
         for status, error in ((9, SystemError), (7, ValueError), (2, SystemError), (3, SystemError), (6, SystemError), (8, SystemError)):
             for call in (parse, tokens, canonical):
-                with mock.patch.object(firthnapkin._parser, call.__name__, return_value=(status, b"", b"")):
+                found = (status, *[b""] * (3 if call is parse else 2))
+                with mock.patch.object(firthnapkin._parser, call.__name__, return_value=found):
                     with self.subTest(status=status, call=call.__name__), self.assertRaises(error) as raised:
                         call("{a}")  # type: ignore[operator]
                     self.assertNotIsInstance(raised.exception, FirthnapkinError)
@@ -209,10 +210,10 @@ class Statuses(unittest.TestCase):
         for reserved in range(6):
             self.assertEqual(firthnapkin._parser.parse(b"{a}", packed(5, 5, *[0] * reserved, 1))[0], 8)
         self.assertEqual(firthnapkin._parser.parse(b"\xff", USUAL)[0], 2)
-        for limits in (b"", USUAL[:31], USUAL + b"\0", USUAL * 2):
+        for limits in (b"", USUAL[:32], USUAL[:-1], USUAL + b"\0", USUAL * 2):
             with self.assertRaises(ValueError) as raised:
                 firthnapkin._parser.parse(b"{a}", limits)
-            self.assertEqual(str(raised.exception), "limits must have 32 bytes")
+            self.assertEqual(str(raised.exception), "limits must have 52 bytes")
         for byte in (4, 2**32 - 1, 2**32, 2**64 - 1, -1):
             self.assertEqual(firthnapkin._parser.excerpt(b"{a}", byte), (9, b"", b""))
         for arguments in ((), ("{a}", USUAL), (None, USUAL), (b"{a}", None), (b"{a}", 5), (b"{a}", USUAL.decode("latin-1")), (b"{a}",),
@@ -225,7 +226,8 @@ class Statuses(unittest.TestCase):
 
     def test_memory(self) -> None:
         """The process goes on after memory has run out."""
-        for call, exponent in ((f"parse(source, {USUAL!r})", 25), ("tokens(source, 2**32 - 1)", 24), ("canonical(source)", 24)):
+        weighed = packed(200, 2**32 - 1, 0, 0, 0, 0, 0, 0, 2**30)
+        for call, exponent in ((f"parse(source, {USUAL!r})", 25), (f"parse(source, {weighed!r})", 25), ("complexities(source)", 24), ("tokens(source, 2**32 - 1)", 24), ("canonical(source)", 24)):
             found = process(
                 "import resource, firthnapkin\n"
                 "source = b'{' + b'a ' * 2**24 + b'}'\n"

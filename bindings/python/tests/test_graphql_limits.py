@@ -13,7 +13,7 @@ from contextlib import ExitStack, contextmanager
 from typing import Any, Iterator, List, Tuple, get_type_hints
 from unittest import mock
 
-from helpers import process, resident, words_of
+from helpers import NO_SIZES, process, resident, words_of
 from graphql_texts import WHOLE, answer, extension, made_texts, row_texts  # skips if graphql-core 3.2 is not installed
 
 import graphql
@@ -358,10 +358,10 @@ class BothLimits(unittest.TestCase):
             self.assertRaises(ValueError, graphql_core.parse, "{a}", max_tokens=1, depth=depth)
 
     def test_words(self) -> None:
-        """The depth goes to its word. The number of tokens is passed beside the limits, for what counts in the installed release."""
+        """Each goes to its word. The number of tokens is passed beside the limits, for what counts in the installed release."""
         limits = [it for it in inspect.signature(graphql_core.parse).parameters.values() if it.kind is it.KEYWORD_ONLY]
         hints, wanted = get_type_hints(graphql_core.parse), get_type_hints(parse)
-        self.assertEqual([it.name for it in limits], ["depth"])
+        self.assertEqual([it.name for it in limits], [it for it in LIMITS.by_name if it != "max_tokens"])
         for it in limits:
             self.assertEqual((it.default, hints[it.name]), (LIMITS.defaults[it.name], wanted[it.name]), it.name)
         for given, depth, most in [
@@ -370,4 +370,5 @@ class BothLimits(unittest.TestCase):
         ]:  # fmt: skip
             with mock.patch.object(graphql_core._graphql_core, "document", return_value=ast.DocumentNode()) as call:
                 graphql_core.parse("{a}", **given)
-            self.assertEqual((words_of(call.call_args[0][2]), call.call_args[0][4]), ((depth, 2**32 - 1, 0, 0, 0, 0, 0, 0), most))
+            words = (depth, 2**32 - 1, 0, 0, 0, 0, 0, 0, *NO_SIZES)
+            self.assertEqual((words_of(call.call_args[0][2]), call.call_args[0][4]), (words, most))

@@ -9,11 +9,12 @@ from unittest import mock
 import firthnapkin
 from firthnapkin import MAX_DEPTH, parse, tokens
 from firthnapkin.__main__ import options_of
-from firthnapkin.limits import Limit, Limits
+from firthnapkin.limits import Limit, Limits, SizeLimit, has_sizes, packed, with_loosest
 from firthnapkin.parser import LIMITS
-from helpers import words_of
+from helpers import LOW_LIMITS, NO_LIMITS, NO_SIZES, words_of
 
-NAMES = {"depth": (int, 200), "max_tokens": (Optional[int], None)}
+SIZES = ["max_fields", "max_aliases", "max_directives", "max_root_fields", "max_field_depth"]
+NAMES = {"depth": (int, 200), "max_tokens": (Optional[int], None), **{name: (Optional[int], None) for name in SIZES}}
 LARGEST_WORD = 2**32 - 1
 
 
@@ -27,6 +28,15 @@ def with_fewer(depth: int, *, fields: Optional[int] = None) -> None:
     """A function that has one of them by name."""
 
 
+def with_sizes(
+    *,
+    aliases: Annotated[Optional[int], SizeLimit("c")] = None,
+    depth: Annotated[int, Limit("a", largest=7)] = 5,
+    roots: Annotated[Optional[int], SizeLimit("d")] = 3,
+) -> None:
+    """A function with limits on sizes, too."""
+
+
 class Signatures(unittest.TestCase):
     def same(self, call: Any, names: Any) -> None:
         """The parameters that are given by name are those, of these types and defaults."""
@@ -35,9 +45,9 @@ class Signatures(unittest.TestCase):
         self.assertEqual({it.name: (hints[it.name], it.default) for it in parameters}, {name: NAMES[name] for name in names})
 
     def test_signatures(self) -> None:
-        self.same(parse, ["depth", "max_tokens"])
+        self.same(parse, ["depth", "max_tokens", *SIZES])
         self.same(tokens, ["max_tokens"])
-        self.assertEqual(list(inspect.signature(parse).parameters), ["source", "depth", "max_tokens"])
+        self.assertEqual(list(inspect.signature(parse).parameters), ["source", "depth", "max_tokens", *SIZES])
 
 
 class Words(unittest.TestCase):
@@ -58,7 +68,28 @@ class Words(unittest.TestCase):
             *(({"max_tokens": it}, 200, LARGEST_WORD) for it in (None, LARGEST_WORD, 2**32, 2**64 + 5, 10**30)),
         ]:  # fmt: skip
             with self.subTest(given=given):
-                self.assertEqual(self.words(**given), (depth, most, 0, 0, 0, 0, 0, 0))
+                self.assertEqual(self.words(**given), (depth, most, 0, 0, 0, 0, 0, 0, *NO_SIZES))
+
+    def test_sizes(self) -> None:
+        """Each limit on operations goes to its word, and no limit is the largest word."""
+        for i, name in enumerate(SIZES):
+            for given, wanted in ((0, 0), (7, 7), (LARGEST_WORD - 1, LARGEST_WORD - 1), (None, LARGEST_WORD), (True, 1)):
+                words = [*NO_SIZES]
+                words[i] = wanted
+                self.assertEqual(self.words(**{name: given}), (200, LARGEST_WORD, 0, 0, 0, 0, 0, 0, *words), (name, given))
+        self.assertEqual(self.words(**dict(zip(SIZES, range(5))), depth=9), (9, LARGEST_WORD, 0, 0, 0, 0, 0, 0, 0, 1, 2, 3, 4))
+
+    def test_wrong_sizes(self) -> None:
+        """They are refused before the text is read. The largest word is none, since it stands for all numbers above it, too."""
+        for name in SIZES:
+            for given in NO_LIMITS:
+                with self.subTest(name=name, given=given), self.assertRaises(TypeError) as raised:
+                    parse("\ud800", **{name: given})  # type: ignore[arg-type]
+                self.assertEqual(str(raised.exception), f"{name} must be an int, not {type(given).__name__}")
+            for number in (*LOW_LIMITS, LARGEST_WORD, 2**32, 10**30):
+                with self.subTest(name=name, given=number), self.assertRaises(ValueError) as refused:
+                    parse("\ud800", **{name: number})  # type: ignore[arg-type]
+                self.assertEqual(str(refused.exception), f"{name} must be from 0 to 4294967294")
 
     def test_tokens(self) -> None:
         for given, most in ((None, LARGEST_WORD), (0, 0), (9, 9), (LARGEST_WORD, LARGEST_WORD), (2**32, LARGEST_WORD)):
@@ -83,7 +114,7 @@ class Tables(unittest.TestCase):
             ({"fields": 0, "depth": 7}, (7, 0)),
             ({"fields": 2**40}, (5, LARGEST_WORD)),
         ):
-            self.assertEqual(words_of(limits.packed({**limits.defaults, **given})), (*wanted, 0, 0, 0, 0, 0, 0))
+            self.assertEqual(words_of(limits.packed({**limits.defaults, **given})), (*wanted, 0, 0, 0, 0, 0, 0, *NO_SIZES))
         for given, error, words in [
             ({"depth": 8}, ValueError, "depth must be from 0 to 7"), ({"depth": -1}, ValueError, "depth must be from 0 to 7"),
             ({"depth": None}, TypeError, "depth must be an int, not NoneType"), ({"fields": -1}, ValueError, "fields must not be below 0"),
@@ -97,15 +128,38 @@ class Tables(unittest.TestCase):
         """A function may have fewer of the limits. The others are the default ones, whatever is given, and these limits stay."""
         limits = Limits(with_more)
         shared = limits.shared_with(with_fewer)
-        self.assertEqual(words_of(shared.packed({"fields": 9, "depth": 6})), (5, 9, 0, 0, 0, 0, 0, 0))
-        self.assertEqual(words_of(limits.packed({"fields": 9, "depth": 6})), (6, 9, 0, 0, 0, 0, 0, 0))
-        self.assertEqual(words_of(shared.packed({"fields": None})), (5, 0, 0, 0, 0, 0, 0, 0))
+        self.assertEqual(words_of(shared.packed({"fields": 9, "depth": 6})), (5, 9, 0, 0, 0, 0, 0, 0, *NO_SIZES))
+        self.assertEqual(words_of(limits.packed({"fields": 9, "depth": 6})), (6, 9, 0, 0, 0, 0, 0, 0, *NO_SIZES))
+        self.assertEqual(words_of(shared.packed({"fields": None})), (5, 0, 0, 0, 0, 0, 0, 0, *NO_SIZES))
+        # Numbers that only a closer look reads.
+        self.assertEqual(words_of(limits.packed({"fields": 9, "depth": True})), (1, 9, 0, 0, 0, 0, 0, 0, *NO_SIZES))
+        self.assertEqual(words_of(shared.packed({"fields": True, "depth": 6})), (5, 1, 0, 0, 0, 0, 0, 0, *NO_SIZES))
+
+    def test_sizes_of_a_table(self) -> None:
+        """They go behind the library's other limits, in their order, wherever they are written."""
+        limits = Limits(with_sizes)
+        for given, own, sizes in (
+            ({}, 5, (2**32 - 1, 3)),
+            ({"aliases": 9, "depth": 6}, 6, (9, 3)),
+            ({"roots": None}, 5, (2**32 - 1,) * 2),
+        ):
+            self.assertEqual(words_of(limits.packed({**limits.defaults, **given})), (own, *[0] * 7, *sizes, *NO_SIZES[2:]))
+
+    def test_parts(self) -> None:
+        """Whether there is a limit on sizes, and the same ones with the loosest others."""
+        self.assertFalse(has_sizes(packed(5, 6)) or has_sizes(LIMITS.packed(LIMITS.defaults)))
+        for name in SIZES:
+            limits = LIMITS.packed({**LIMITS.defaults, name: 4, "depth": 3, "max_tokens": 2})
+            self.assertTrue(has_sizes(limits))
+            words = words_of(limits)
+            self.assertEqual(words_of(with_loosest(limits)), (1000, LARGEST_WORD, *words[2:]))
 
     def test_tool(self) -> None:
         """The tool has an option for each limit, with its default."""
         for words, wanted in [
-            ([], {"depth": 200, "max_tokens": None}), (["--depth", "1000"], {"depth": 1000, "max_tokens": None}),
-            (["--max-tokens", "9"], {"depth": 200, "max_tokens": 9}), (["--depth=0", "--max-tokens=0"], {"depth": 0, "max_tokens": 0}),
+            ([], {}), (["--depth", "1000"], {"depth": 1000}), (["--max-tokens", "9"], {"max_tokens": 9}),
+            (["--depth=0", "--max-tokens=0"], {"depth": 0, "max_tokens": 0}), (["--max-root-fields", "3"], {"max_root_fields": 3}),
+            (["--max-fields", "4294967294", "--max-field-depth=0"], {"max_fields": 2**32 - 2, "max_field_depth": 0}),
         ]:  # fmt: skip
             found = vars(options_of(["check", "-", *words]))
-            self.assertEqual({name: found[name] for name in LIMITS.by_name}, wanted)
+            self.assertEqual({name: found[name] for name in LIMITS.by_name}, {**LIMITS.defaults, **wanted})

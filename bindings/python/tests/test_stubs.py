@@ -16,7 +16,7 @@ from helpers import require_graphql_core
 
 # An argument of each type that a parameter may have. The bytes are as many as limits have, which the library refuses.
 SAMPLES: Dict[Any, Any] = {
-    bytes: b"{a}".ljust(32), int: 5, bool: True, str: "{a}", float: 1.5, bytearray: bytearray(b"{a}"), type(None): None,
+    bytes: b"{a}".ljust(52), int: 5, bool: True, str: "{a}", float: 1.5, bytearray: bytearray(b"{a}"), type(None): None,
 }  # fmt: skip
 
 
@@ -89,12 +89,35 @@ class Compared(unittest.TestCase):
 
     def test_parser(self) -> None:
         stub = self.same_names(firthnapkin._parser)
-        for name in [it.name for it in stub.functions]:
+        for name in [it.name for it in stub.functions if it.name != "packed"]:
             function, (kinds, returned) = getattr(firthnapkin._parser, name), stub.types_of(name)
             arguments = [SAMPLES[kind] for kind in kinds]
             self.same_types(function, kinds, arguments)
             for source in (b"{a}", b"?", b"\xff"):
                 self.assertTrue(is_of(function(source, *arguments[1:]), returned), name)
+
+    def test_packed(self) -> None:
+        """Each parameter is of its type, and both results are returned."""
+        packed_limits, (kinds, returned) = firthnapkin._parser.packed, Stub(firthnapkin._parser).types_of("packed")
+        usual, rows = bytes(range(52)), bytes((1, 0, 0, 0, 7, 0, 0, 0))
+        given: List[Any] = [{"a": 5}, usual, ("a",), (None,), rows]
+        self.assertEqual([typing.get_origin(it) or it for it in kinds], [type(it) for it in given])
+        self.assertTrue(is_of(packed_limits(*given), returned) and is_of(None, returned))
+        for a, wanted in ((5, 5), (0, 0), (7, 7), (None, usual[4])):
+            self.assertEqual(
+                packed_limits({"a": a}, *given[1:]),
+                usual[:4] + bytes((wanted,)) + (usual[5:8] if a is None else b"\0\0\0") + usual[8:],
+            )
+        for b in (8, -1, 2**32, 2**64 + 5, True, 5.0, "5"):
+            self.assertIsNone(packed_limits({"a": b}, *given[1:]))
+        self.assertIsNone(packed_limits({}, *given[1:]))
+        for i, others in enumerate(
+            ((None, []), (b"", usual[:-1]), (["a"], (), ("a", "b")), ([None], ()), (b"", rows[1:], rows * 2))
+        ):
+            for other in others:
+                with self.subTest(parameter=i, argument=other), self.assertRaises((TypeError, ValueError)):
+                    packed_limits(*given[:i], other, *given[i + 1 :])
+        self.assertIsNone(packed_limits(*given[:4], bytes((13,)) + rows[1:]))
 
     def test_graphql_core(self) -> None:
         require_graphql_core()
@@ -110,7 +133,9 @@ class Compared(unittest.TestCase):
         self.assertEqual([type(it) for it in found], [DocumentNode, type(None), type(None)])
         found.append(_graphql_core.document(b"{a{", 3, packed(1), None, 9))
         self.assertEqual(found[-1], (2, True))
-        for limits in (b"", packed(1)[:31], packed(1) + b"\0"):
+        found.append(_graphql_core.document(b"{...A}", 6, packed(1, 1, 0, 0, 0, 0, 0, 0, 1), None, 9))
+        self.assertEqual(found[-1], (1, "Unknown fragment"))
+        for limits in (b"", packed(1)[:32], packed(1)[:-1], packed(1) + b"\0"):
             self.assertRaises(ValueError, _graphql_core.document, b"{a}", 3, limits, None, 9)
         # Each of the types is returned.
         for kind in typing.get_args(returned):

@@ -13,6 +13,7 @@ from typing import Any, Dict, Optional
 import firthnapkin
 from firthnapkin import (
     Argument,
+    Complexity,
     Directive,
     Document,
     Field,
@@ -34,7 +35,7 @@ EACH = {"node": Node, "document": Document, "start": Position, "end": Position, 
 
 PROPERTIES: Dict[type, Dict[str, Any]] = {
     Operation: {"kind": Kind, "name": Optional[str], "variables": SyntaxParts[VariableDefinition], "directives": SyntaxParts[Directive],
-                "selections": SyntaxParts[Selection]},
+                "selections": SyntaxParts[Selection], "complexity": Complexity},
     Fragment: {"name": str, "type_condition": str, "directives": SyntaxParts[Directive], "selections": SyntaxParts[Selection]},
     Field: {"alias": Optional[str], "name": str, "response_key": str, "arguments": SyntaxParts[Argument],
             "directives": SyntaxParts[Directive], "selections": SyntaxParts[Selection]},
@@ -54,6 +55,7 @@ def count(parts: SyntaxParts[SyntaxPart]) -> int:
 document = parse("{ a(b: 1) }")
 reveal_type(document.operations)
 reveal_type(document.operation())
+reveal_type(document.operations[0].complexity.depth)
 reveal_type(document.fragment("F"))
 for selection in document.operations[0].selections:
     if isinstance(selection, Field):
@@ -66,7 +68,7 @@ for selection in document.operations[0].selections:
 count(document.operations[0].selections)
 """
 
-REVEALED = ["SyntaxParts[Operation]", "Operation | None", "Fragment | None", "SyntaxParts[Argument]", "Argument | None", "str",
+REVEALED = ["SyntaxParts[Operation]", "Operation | None", "int", "Fragment | None", "SyntaxParts[Argument]", "Argument | None", "str",
             "InlineFragment"]  # fmt: skip
 
 
@@ -76,6 +78,7 @@ from firthnapkin import parse, tokens
 
 parse("{ a }", depth=5, max_tokens=None)
 parse(source="{ a }", max_tokens=5)
+parse("{ a }", max_fields=5, max_aliases=5, max_directives=5, max_root_fields=5, max_field_depth=None)
 tokens("{ a }", max_tokens=5)
 parse("{ a }", depth="5")
 parse("{ a }", depth=None)
@@ -83,8 +86,10 @@ parse("{ a }", max_tokens=5.0)
 parse("{ a }", dept=5)
 parse("{ a }", 5)
 tokens("{ a }", depth=5)
+tokens("{ a }", max_fields=5)
+parse("{ a }", max_fields="5")
 """
-REFUSED = [7, 8, 9, 10, 11, 12]
+REFUSED = [8, 9, 10, 11, 12, 13, 14, 15]
 
 
 def plain(revealed: str) -> str:

@@ -6,6 +6,7 @@
 """
 
 from ._parser import MAX_DEPTH, VERSION as __version__
+from .complexities import Complexity
 from .definitions import Fragment, Operation, VariableDefinition
 from .document import Document
 from .errors import ErrorDetail, ErrorKind, FirthnapkinError
@@ -19,7 +20,7 @@ from .values import EnumValue, Value, Variable
 from .visitor import Step, Visitor
 
 __all__ = [
-    "MAX_DEPTH", "Argument", "Directive", "Document", "EnumValue", "ErrorDetail", "ErrorKind", "Field",
+    "MAX_DEPTH", "Argument", "Complexity", "Directive", "Document", "EnumValue", "ErrorDetail", "ErrorKind", "Field",
     "FirthnapkinError", "Fragment", "FragmentSpread", "InlineFragment", "Kind", "Node", "Nodes", "Operation",
     "Position", "Selection", "Step", "SyntaxPart", "SyntaxParts", "Token", "TokenKind", "Tokens", "Value", "Variable",
     "VariableDefinition", "Visitor", "__version__", "canonical", "parse", "tokens",

@@ -1,6 +1,5 @@
 /* graphql-core's nodes of a source that both parsers read alike, for graphql_core.py. */
 #include "_graphql_limits.h"
-#include "_limits.h"
 
 /* ---- the document */
 
@@ -54,11 +53,34 @@ static bool is_read_otherwise(const builder *b) {
 PyDoc_STRVAR(document_doc,
              "document(source, characters, limits, origin, tokens, /)\n--\n\n"
              "Returns the DocumentNode of a str of that many characters, which source has as UTF-8.\n\n"
-             "The limits are the bytes of a firthnapkin_limits, whose number of tokens isn't read. The origin is the Source of its\n"
-             "locations, or None if it has no locations. A limit of MAX_TOKENS tokens is none, and one below 0 is -1. Returns\n"
-             "None if graphql-core's own parser has to be called. If a limit is exceeded, returns the index of the first\n"
-             "token beyond it, and whether that token is nested too deep. Raises ValueError if the limits have another size,\n"
-             "and MemoryError if memory runs out.");
+             "The limits are the bytes of a firthnapkin_limits, whose number of tokens isn't read, and of limits on sizes. The\n"
+             "origin is the Source of its locations, or None if it has no locations. A limit of MAX_TOKENS tokens is none, and one\n"
+             "below 0 is -1. Returns None if graphql-core's own parser has to be called. If a limit is exceeded, returns the index\n"
+             "of the first token beyond it, and whether that token is nested too deep; or the index of an operation beyond it,\n"
+             "or of a spread that can't be expanded, and the words of that error. Raises ValueError if the limits have\n"
+             "another size, and MemoryError if memory runs out.");
+
+/* Whether the status of a document says that an operation can't be expanded, or is beyond a limit. */
+static bool is_large(uint32_t status) {
+    return status == OPERATION_TOO_LARGE || status == FIRTHNAPKIN_UNKNOWN_FRAGMENT || status == FIRTHNAPKIN_FRAGMENT_CYCLE;
+}
+
+/* What document returns for a document that has such a status. Its nodes are made once more, since its words took their place. */
+static PyObject *answer_of_large(builder *b, const whole *w) {
+    static const firthnapkin_limits loosest = {.depth = FIRTHNAPKIN_MAX_DEPTH, .tokens = UINT32_MAX};
+    whole again = parse_whole((const uint8_t *)b->source, b->length, &loosest);
+    b->nodes = again.nodes;
+    b->count = again.nodes_count;
+    PyObject *result;
+    if (again.status == FIRTHNAPKIN_OUT_OF_MEMORY)
+        result = PyErr_NoMemory();
+    else if (again.status != FIRTHNAPKIN_OK || is_read_otherwise(b))
+        result = none();
+    else
+        result = Py_BuildValue("ks#", (unsigned long)w->error.start.index, (const char *)w->texts, (Py_ssize_t)w->texts_count);
+    give_back(&again);
+    return result;
+}
 
 /* What document returns for a source that was parsed so. */
 static PyObject *answer(builder *b, const whole *w, Py_ssize_t characters) {
@@ -66,13 +88,14 @@ static PyObject *answer(builder *b, const whole *w, Py_ssize_t characters) {
     if (w->status == FIRTHNAPKIN_OUT_OF_MEMORY) return PyErr_NoMemory();
     if (is_deep || w->status == FIRTHNAPKIN_TOO_MANY_TOKENS)
         return Py_BuildValue("kO", (unsigned long)w->error.start.index, is_deep ? Py_True : Py_False);
+    if (is_large(w->status)) return answer_of_large(b, w);
     return w->status != FIRTHNAPKIN_OK || is_read_otherwise(b) ? none() : document_at_once(b, characters);
 }
 
 static PyObject *document_in(PyObject *module, PyObject *arguments) {
     module_state *state = PyModule_GetState(module);
     PyObject *source, *given, *origin;
-    firthnapkin_limits limits;
+    package_limits limits;
     Py_ssize_t characters, length;
     long long tokens;
     char *bytes;

@@ -4,6 +4,7 @@
 #define FIRTHNAPKIN_GRAPHQL_LIMITS_H
 
 #include "_graphql_nodes.h"
+#include "_limits.h"
 #include "whole.h"
 
 /* ---- tokens and comments */
@@ -161,14 +162,14 @@ static firthnapkin_limits with_tokens(const firthnapkin_limits *limits, uint32_t
     return others;
 }
 
-static whole parse_within(const uint8_t *source, size_t length, const firthnapkin_limits *limits, uint32_t tokens) {
-    firthnapkin_limits others = with_tokens(limits, tokens);
-    return parse_whole(source, length, &others);
+static whole parse_within(const uint8_t *source, size_t length, const package_limits *limits, uint32_t tokens) {
+    firthnapkin_limits others = with_tokens(&limits->call, tokens);
+    return document_whole(source, length, &others, &limits->sizes);
 }
 
 /* The nodes of a source whose tokens, and the comments and the end if they are looked at, are counted one by one. Otherwise as
  * with_few_tokens. */
-static whole counted_first(const counting_rules *rules, const uint8_t *source, size_t length, const firthnapkin_limits *limits,
+static whole counted_first(const counting_rules *rules, const uint8_t *source, size_t length, const package_limits *limits,
                            int64_t most) {
     whole cut = tokens_found(source, length, most < 0 ? 0 : (uint32_t)most);
     if (find_too_many(rules, &cut, source, most))
@@ -183,8 +184,8 @@ static whole counted_first(const counting_rules *rules, const uint8_t *source, s
 /* The nodes of a source that keeps a limit on its tokens. Otherwise the status is FIRTHNAPKIN_TOO_MANY_TOKENS, and the error is
  * at the first token too many, or at the end. A limit of UINT32_MAX is none. A source whose tokens keep what the comments leave
  * of the limit is read once. */
-static whole with_few_tokens(const counting_rules *rules, const uint8_t *source, size_t length,
-                             const firthnapkin_limits *limits, int64_t most) {
+static whole with_few_tokens(const counting_rules *rules, const uint8_t *source, size_t length, const package_limits *limits,
+                             int64_t most) {
     size_t comments = rules->limits_comments && most < UINT32_MAX ? most_comments(source, length) : 0;
     bool is_counted = comments > 0 || (most < 0 && rules->limits_end);
     if (!is_counted) return parse_within(source, length, limits, most < 0 ? 0 : (uint32_t)most);
@@ -209,12 +210,13 @@ static uint32_t begun(const uint8_t *source, const firthnapkin_limits *limits, f
     return status;
 }
 
-/* The nodes of a source that keeps both limits. If it doesn't, the status says which one, and the error is at the first
- * token beyond it. But the status is FIRTHNAPKIN_SYNTAX_ERROR if graphql-core reports an earlier token. */
-static whole within(const counting_rules *rules, const uint8_t *source, size_t length, const firthnapkin_limits *limits,
+/* The nodes of a source that keeps all limits. If it doesn't, the status says which one, and the error is at the first
+ * token beyond it, or says which operation is. But the status is FIRTHNAPKIN_SYNTAX_ERROR if graphql-core reports an earlier
+ * token. */
+static whole within(const counting_rules *rules, const uint8_t *source, size_t length, const package_limits *limits,
                     int64_t most) {
     whole w = with_few_tokens(rules, source, length, limits, most);
-    if (w.status == FIRTHNAPKIN_TOO_MANY_TOKENS) w.status = begun(source, limits, &w.error);
+    if (w.status == FIRTHNAPKIN_TOO_MANY_TOKENS) w.status = begun(source, &limits->call, &w.error);
     bool is_beyond = w.status == FIRTHNAPKIN_TOO_MANY_TOKENS || w.status == FIRTHNAPKIN_TOO_DEEP;
     if (is_beyond && is_refused_before(source, length, &w.error, &w.status)) w.status = FIRTHNAPKIN_SYNTAX_ERROR;
     return w;

@@ -5,23 +5,26 @@
 #include "_limits.h"
 #include "whole.h"
 
-static PyObject *pair_of(uint32_t status, const void *first, size_t first_length, const whole *w) {
+/* A call's status and its bytes objects: `first`, the texts, and the complexities if `count` is 3. */
+static PyObject *results(const whole *w, const void *first, size_t first_length, int count) {
     const char *texts = w->texts_count != 0 ? (const char *)w->texts : "";
-    return Py_BuildValue("Iy#y#", (unsigned)status, first_length != 0 ? (const char *)first : "", (Py_ssize_t)first_length,
-                         texts, (Py_ssize_t)w->texts_count);
+    size_t operations = w->status == FIRTHNAPKIN_OK && w->complexities != NULL ? w->complexities_count : 0;
+    return Py_BuildValue(count == 3 ? "Iy#y#y#" : "Iy#y#", (unsigned)w->status, first_length != 0 ? (const char *)first : "",
+                         (Py_ssize_t)first_length, texts, (Py_ssize_t)w->texts_count,
+                         operations != 0 ? (const char *)w->complexities : "",
+                         (Py_ssize_t)(operations * sizeof *w->complexities));
 }
 
-/* The result of a call: its status, and two bytes objects. The first one is `first`, or the error. The memory of the call is
+/* The result of a call: its status, and so many bytes objects. The first one is `first`, or the error. The memory of the call is
  * freed. */
-static PyObject *result_of(whole *w, const void *first, size_t first_length) {
+static PyObject *result_of(whole *w, const void *first, size_t first_length, int count) {
     PyObject *result;
     if (w->status == FIRTHNAPKIN_OUT_OF_MEMORY)
         result = PyErr_NoMemory();
-    else if (w->status == FIRTHNAPKIN_SYNTAX_ERROR || w->status == FIRTHNAPKIN_TOO_DEEP
-             || w->status == FIRTHNAPKIN_TOO_MANY_TOKENS)
-        result = pair_of(w->status, &w->error, sizeof w->error, w);
+    else if (has_error(w->status) || w->status == OPERATION_TOO_LARGE)
+        result = results(w, &w->error, sizeof w->error, count);
     else
-        result = pair_of(w->status, first, first_length, w);
+        result = results(w, first, first_length, count);
     give_back(w);
     return result;
 }
@@ -33,23 +36,39 @@ static uint32_t limit_of(unsigned long number) {
 }
 
 PyDoc_STRVAR(parse_doc, "parse(source, limits, /)\n--\n\n"
-                        "Returns the status, the bytes of the nodes, and the bytes of the texts.\n\n"
-                        "The limits are the bytes of a firthnapkin_limits. For an error the bytes are those of a\n"
-                        "firthnapkin_error and of its message. Raises ValueError if the limits have another size, and\n"
-                        "MemoryError if memory runs out.");
+                        "Returns the status, and the bytes of the nodes, of the texts, and of the operations' complexities.\n\n"
+                        "The limits are the bytes of a firthnapkin_limits and of limits on sizes. Without any on sizes there are\n"
+                        "no complexities. For an error the bytes are those of a firthnapkin_error and of its message. Raises\n"
+                        "ValueError if the limits have another size, and MemoryError if memory runs out.");
 
 static PyObject *parse(PyObject *module, PyObject *arguments) {
     PyObject *source, *given;
-    firthnapkin_limits limits;
+    package_limits limits;
     char *bytes;
     Py_ssize_t length;
     (void)module;
     if (!PyArg_ParseTuple(arguments, "SS:parse", &source, &given)) return NULL;
     if (PyBytes_AsStringAndSize(source, &bytes, &length) != 0 || !are_limits(given, &limits)) return NULL;
     PyThreadState *state = PyEval_SaveThread();
-    whole w = parse_whole((const uint8_t *)bytes, (size_t)length, &limits);
+    whole w = document_whole((const uint8_t *)bytes, (size_t)length, &limits.call, &limits.sizes);
     PyEval_RestoreThread(state);
-    return result_of(&w, w.nodes, w.nodes_count * sizeof *w.nodes);
+    return result_of(&w, w.nodes, w.nodes_count * sizeof *w.nodes, 3);
+}
+
+PyDoc_STRVAR(complexities_doc, "complexities(source, /)\n--\n\n"
+                               "Returns the status, the bytes of the complexities of a document's operations, and no bytes.\n\n"
+                               "For an error the bytes are those of a firthnapkin_error and of its message. Raises MemoryError\n"
+                               "if memory runs out.");
+
+static PyObject *complexities(PyObject *module, PyObject *source) {
+    char *bytes;
+    Py_ssize_t length;
+    (void)module;
+    if (PyBytes_AsStringAndSize(source, &bytes, &length) != 0) return NULL;
+    PyThreadState *state = PyEval_SaveThread();
+    whole w = complexities_whole((const uint8_t *)bytes, (size_t)length);
+    PyEval_RestoreThread(state);
+    return result_of(&w, w.complexities, w.complexities_count * sizeof *w.complexities, 2);
 }
 
 PyDoc_STRVAR(tokens_doc, "tokens(source, tokens, /)\n--\n\n"
@@ -68,7 +87,7 @@ static PyObject *tokens(PyObject *module, PyObject *arguments) {
     PyThreadState *state = PyEval_SaveThread();
     whole w = cut_whole((const uint8_t *)bytes, (size_t)length, limit_of(most));
     PyEval_RestoreThread(state);
-    return result_of(&w, w.tokens, w.tokens_count * sizeof *w.tokens);
+    return result_of(&w, w.tokens, w.tokens_count * sizeof *w.tokens, 2);
 }
 
 PyDoc_STRVAR(canonical_doc, "canonical(source, /)\n--\n\n"
@@ -84,7 +103,7 @@ static PyObject *canonical(PyObject *module, PyObject *source) {
     PyThreadState *state = PyEval_SaveThread();
     whole w = canonical_whole((const uint8_t *)bytes, (size_t)length);
     PyEval_RestoreThread(state);
-    return result_of(&w, NULL, 0);
+    return result_of(&w, NULL, 0, 2);
 }
 
 PyDoc_STRVAR(excerpt_doc, "excerpt(source, byte, /)\n--\n\n"
@@ -102,17 +121,71 @@ static PyObject *excerpt(PyObject *module, PyObject *arguments) {
     PyThreadState *state = PyEval_SaveThread();
     whole w = excerpt_whole((const uint8_t *)bytes, (size_t)length, limit_of(byte));
     PyEval_RestoreThread(state);
-    return result_of(&w, NULL, 0);
+    return result_of(&w, NULL, 0, 2);
+}
+
+/* ---- limits */
+
+/* What is known of a limit: its word, and the largest number. */
+typedef struct {
+    uint32_t place, most;
+} limit_row;
+
+enum { WORDS = sizeof(package_limits) / sizeof(uint32_t) };
+
+/* Reads a limit into its word; false where it is neither the default nor an int of its range. */
+static int is_usual(PyObject *value, PyObject *usual, const limit_row *row, uint32_t *words) {
+    if (value == usual) return 1;
+    if (value == NULL || !PyLong_CheckExact(value) || row->place >= WORDS) return 0;
+    unsigned long number = PyLong_AsUnsignedLong(value);
+    if (number > row->most) {
+        PyErr_Clear();
+        return 0;
+    }
+    words[row->place] = (uint32_t)number;
+    return 1;
+}
+
+PyDoc_STRVAR(packed_doc, "packed(given, usual, names, defaults, rows, /)\n--\n\n"
+                         "Returns the bytes of limits that are given by name, over those of the usual ones.\n\n"
+                         "Each limit has a name, a default, and a row: the bytes of the index of its word, and of the largest\n"
+                         "number. Returns None where one is neither its default nor an int up to that number. Raises ValueError\n"
+                         "if the usual limits have another size.");
+
+static PyObject *packed(PyObject *module, PyObject *arguments) {
+    PyObject *given, *usual, *names, *defaults, *table;
+    package_limits limits;
+    limit_row row;
+    (void)module;
+    if (!PyArg_ParseTuple(arguments, "O!SO!O!S:packed", &PyDict_Type, &given, &usual, &PyTuple_Type, &names, &PyTuple_Type,
+                          &defaults, &table)
+        || !are_limits(usual, &limits))
+        return NULL;
+    Py_ssize_t count = PyTuple_Size(names);
+    if (PyTuple_Size(defaults) != count || PyBytes_Size(table) != count * (Py_ssize_t)sizeof row)
+        return PyErr_Format(PyExc_ValueError, "each limit must have a name, a default and a row");
+    const char *rows = PyBytes_AsString(table);
+    uint32_t words[WORDS];
+    memcpy(words, &limits, sizeof words);
+    for (Py_ssize_t i = 0; i < count; i++) {
+        memcpy(&row, rows + i * (Py_ssize_t)sizeof row, sizeof row);
+        PyObject *value = PyDict_GetItem(given, PyTuple_GetItem(names, i));
+        if (!is_usual(value, PyTuple_GetItem(defaults, i), &row, words)) Py_RETURN_NONE;
+    }
+    return PyBytes_FromStringAndSize((const char *)words, sizeof words);
 }
 
 static PyMethodDef methods[] = {{"parse", parse, METH_VARARGS, parse_doc},
+                                {"complexities", complexities, METH_O, complexities_doc},
                                 {"tokens", tokens, METH_VARARGS, tokens_doc},
                                 {"canonical", canonical, METH_O, canonical_doc},
                                 {"excerpt", excerpt, METH_VARARGS, excerpt_doc},
+                                {"packed", packed, METH_VARARGS, packed_doc},
                                 {NULL, NULL, 0, NULL}};
 
 static int begin(PyObject *module) {
     return PyModule_AddIntConstant(module, "LIMITS_SIZE", sizeof(firthnapkin_limits)) != 0
+            || PyModule_AddIntConstant(module, "SIZES", SIZES) != 0
             || PyModule_AddIntConstant(module, "MAX_DEPTH", FIRTHNAPKIN_MAX_DEPTH) != 0
             || PyModule_AddObject(module, "MAX_TOKENS", PyLong_FromUnsignedLong(UINT32_MAX)) != 0
             || PyModule_AddStringConstant(module, "VERSION", FIRTHNAPKIN_VERSION_STRING) != 0

@@ -4,6 +4,7 @@ from __future__ import annotations
 
 from typing import Optional
 
+from .complexities import Complexity
 from .nodes import Kind
 from .selections import PartWithDirectives, PartWithSelections
 from .syntax import NamedPart, PartWithValue, SyntaxParts, numbers_of
@@ -65,6 +66,15 @@ class Operation(PartWithSelections):
     def variables(self) -> SyntaxParts[VariableDefinition]:
         """The definitions of its variables, as they are written."""
         return SyntaxParts(self._listed(_VARIABLE_LISTS, VariableDefinition._KINDS), VariableDefinition)
+
+    @property
+    def complexity(self) -> Complexity:
+        """How large it is with every fragment expanded. Those of all operations are found at once, when one is first asked for.
+
+        Raises FirthnapkinError if an operation of the document reaches a spread that names no fragment, or that is within the
+        fragment that it names; MemoryError if memory runs out.
+        """
+        return self.document._complexity(self._node.index)
 
 
 class Fragment(PartWithSelections, NamedPart):

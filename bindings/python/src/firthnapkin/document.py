@@ -6,6 +6,9 @@ import struct
 from array import array
 from typing import FrozenSet, Optional
 
+from . import _parser
+from .calls import given
+from .complexities import Complexity, complexity_of
 from .definitions import FRAGMENTS, OPERATIONS, Fragment, Operation
 from .nodes import Node, Nodes
 from .parts import Parts
@@ -17,17 +20,19 @@ __all__ = ["Document"]
 class Document(Parts[Node]):
     """A document's nodes, each part before the parts in it. A node object is made each time that one is asked for."""
 
-    __slots__ = ("_source", "_texts", "_parent")
+    __slots__ = ("_source", "_texts", "_parent", "_complexities")
 
     # kind, descendants, the start's and the end's index, line, column and byte, the name's bytes, value, value's length
     _LAYOUT = struct.Struct("=2I8I2IqI4x")
     _HEAD = struct.Struct("=2I")
 
-    def __init__(self, text: str, source: bytes, nodes: bytes, texts: bytes) -> None:
+    def __init__(self, text: str, source: bytes, nodes: bytes, texts: bytes, complexities: bytes) -> None:
         super().__init__(text, nodes)
         self._source = source
         self._texts = texts
         self._parent: Optional[array[int]] = None
+        # Nothing if they aren't found yet.
+        self._complexities = complexities
 
     def _part(self, index: int) -> Node:
         return Node(self, index)
@@ -73,6 +78,12 @@ class Document(Parts[Node]):
 
     def _written(self) -> bytes:
         return self._source
+
+    def _complexity(self, operation: int) -> Complexity:
+        """Returns how large the operation of this node is. They are found when one is first asked for, and kept."""
+        if not self._complexities:
+            self._complexities, _ = given(self._text, *_parser.complexities(self._source))
+        return complexity_of(self._complexities, operation)
 
     def _parents(self) -> array[int]:
         """The index of each node's parent, and -1 for a definition. They are computed when one is first asked for."""

@@ -27,8 +27,14 @@ class ErrorKind(enum.Enum):
     TOO_MANY_TOKENS = 4
     #: Never reported.
     INVALID_SCALAR = 5
+    #: The spread names no fragment of the document.
+    UNKNOWN_FRAGMENT = 6
+    #: The spread is within the fragment that it names, itself or through others.
+    FRAGMENT_CYCLE = 7
     #: There is half of a surrogate pair alone: such a str can't be encoded as UTF-8.
-    SURROGATE = 6
+    SURROGATE = 100
+    #: The operation exceeds a limit, with every fragment expanded.
+    OPERATION_TOO_LARGE = 101
 
 
 class ErrorDetail(enum.Enum):

@@ -7,7 +7,8 @@ import struct
 from typing import Optional
 
 from . import _parser
-from .parser import LIMITS, encoded, given, require_text
+from .calls import encoded, given, require_text
+from .parser import LIMITS
 from .parts import Part, Parts
 
 __all__ = ["Token", "TokenKind", "Tokens", "canonical", "tokens"]

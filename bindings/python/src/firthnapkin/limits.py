@@ -6,7 +6,7 @@ import copy
 import inspect
 import operator
 import struct
-from typing import Any, Callable, Dict, List, Mapping, Optional, get_args, get_type_hints
+from typing import Any, Callable, Dict, List, Optional, get_args, get_type_hints
 
 from . import _parser
 
@@ -40,42 +40,81 @@ class Limit:
         return min(number, self.most)
 
 
+class SizeLimit(Limit):
+    """What a parameter's annotation says of its limit on a number of each operation.
+
+    The library's largest number stands for all above it, so a limit is below it, and None is no limit.
+    """
+
+    def __init__(self, words: str) -> None:
+        super().__init__(words, largest=_parser.MAX_TOKENS - 1, unlimited=_parser.MAX_TOKENS)
+
+
+# How limits are written: the words of a firthnapkin_limits, and those on sizes after them.
+_WORDS = _parser.LIMITS_SIZE // 4
+_LAYOUT = struct.Struct(f"={_WORDS + _parser.SIZES}I")
+
+# What is unlimited: 0 in a firthnapkin_limits, and the largest number for sizes.
+_UNLIMITED = (*[0] * _WORDS, *[_parser.MAX_TOKENS] * _parser.SIZES)
+
+
 class Limits:
-    """The limits that a function has: the parameters that are given by name, in the order of firthnapkin_limits."""
+    """The limits that a function has: the parameters that are given by name, in the order of firthnapkin_limits, and then those on
+    sizes, in the order of firthnapkin_complexity."""
 
     def __init__(self, function: Callable[..., object]) -> None:
         hints = get_type_hints(function, include_extras=True)
         self.by_name: Dict[str, Limit] = {it.name: _limit_in(hints[it.name]) for it in _named(function)}
         self.defaults: Dict[str, Optional[int]] = {it.name: it.default for it in _named(function)}
-        self._words = [self.by_name[name].word(name, value) for name, value in self.defaults.items()]
-        self._rows = [(i, name, limit.most, limit) for i, (name, limit) in enumerate(self.by_name.items())]
-        self._pack = _layout(len(self._words)).pack
+        sizes = [name for name, limit in self.by_name.items() if isinstance(limit, SizeLimit)]
+        others = [name for name in self.by_name if name not in sizes]
+        self._places = {name: i for i, name in (*enumerate(others), *enumerate(sizes, _WORDS))}
+        self._words = list(_UNLIMITED)
+        for name, i in self._places.items():
+            self._words[i] = self.by_name[name].word(name, self.defaults[name])
+        self._usual = _LAYOUT.pack(*self._words)
+        self._prepare()
+
+    def _prepare(self) -> None:
+        """What the extension needs: names, defaults, and the place and the largest number of each."""
+        rows = b"".join(struct.pack("=2I", i, self.by_name[name].most) for name, i in self._places.items())
+        self._rows = tuple(self._places), tuple(self.defaults[name] for name in self._places), rows
 
     def shared_with(self, function: Callable[..., object]) -> "Limits":
         """Returns these limits for a function that may have fewer of them. Those that it lacks are the default ones."""
         names = [it.name for it in _named(function)]
         shared = copy.copy(self)
-        shared._rows = [row for row in self._rows if row[1] in names]
+        shared._places = {name: i for name, i in self._places.items() if name in names}
+        shared._prepare()
         return shared
 
-    def packed(self, given: Mapping[str, Any]) -> bytes:
+    def packed(self, given: Dict[str, Any]) -> bytes:
         """Returns limits as the library takes them. Raises TypeError or ValueError where one is not accepted."""
+        # Each step of Python costs as much as a good part of a short text, so the extension reads the usual ones.
+        found = _parser.packed(given, self._usual, *self._rows)
+        return self._read(given) if found is None else found
+
+    def _read(self, given: Dict[str, Any]) -> bytes:
+        """The same for any limits."""
         words = self._words.copy()
-        for i, name, most, limit in self._rows:
-            value = given[name]
-            # Most numbers are such ones, and each call costs as much as a good part of a short text.
-            words[i] = value if type(value) is int and 0 <= value <= most else limit.word(name, value)
-        return self._pack(*words)
+        for name, i in self._places.items():
+            words[i] = self.by_name[name].word(name, given[name])
+        return _LAYOUT.pack(*words)
 
 
 def packed(*words: int) -> bytes:
-    """Returns a firthnapkin_limits that begins with these words. In the others 0 is no limit."""
-    return _layout(len(words)).pack(*words)
+    """Returns limits that begin with these words. In the others nothing is limited."""
+    return _LAYOUT.pack(*words, *_UNLIMITED[len(words) :])
 
 
-def _layout(count: int) -> struct.Struct:
-    """How a firthnapkin_limits is written that begins with so many words, and has 0 in the others."""
-    return struct.Struct(f"={count}I{_parser.LIMITS_SIZE - 4 * count}x")
+def has_sizes(limits: bytes) -> bool:
+    """Whether one of these limits is on a size."""
+    return limits[_parser.LIMITS_SIZE :] != packed()[_parser.LIMITS_SIZE :]
+
+
+def with_loosest(limits: bytes) -> bytes:
+    """Returns the limits on sizes of these, with the loosest of the others."""
+    return packed(_parser.MAX_DEPTH, _parser.MAX_TOKENS)[: _parser.LIMITS_SIZE] + limits[_parser.LIMITS_SIZE :]
 
 
 def _named(function: Callable[..., object]) -> List[inspect.Parameter]:
@@ -85,5 +124,5 @@ def _named(function: Callable[..., object]) -> List[inspect.Parameter]:
 
 def _limit_in(hint: Any) -> Limit:
     """Returns the limit of an annotation. Before Python 3.11 those of parameters that are None by default are within Optional."""
-    found: Limit = next(it for part in (hint, *get_args(hint)) for it in getattr(part, "__metadata__", ()) if type(it) is Limit)
+    found: Limit = next(it for part in (hint, *get_args(hint)) for it in getattr(part, "__metadata__", ()) if isinstance(it, Limit))
     return found

@@ -1,0 +1,79 @@
+"""What the package's calls of the library share: their sources, and the errors of their statuses."""
+
+from __future__ import annotations
+
+import struct
+from typing import Tuple
+
+from .errors import ErrorDetail, ErrorKind, FirthnapkinError
+from .parts import Position
+from .schemas import begins_schema
+
+# The statuses of the library.
+_OK, _SYNTAX_ERROR, _TOO_DEEP, _TOO_MANY_TOKENS, _SOURCE_TOO_LONG, _UNKNOWN_FRAGMENT, _FRAGMENT_CYCLE = 0, 1, 4, 5, 7, 10, 11
+
+# That of an operation beyond a limit, which this package adds.
+_OPERATION_TOO_LARGE = 101
+
+_WITH_ERROR = (_SYNTAX_ERROR, _TOO_DEEP, _TOO_MANY_TOKENS, _UNKNOWN_FRAGMENT, _FRAGMENT_CYCLE, _OPERATION_TOO_LARGE)
+
+# kind, detail, character, the positions, and the bytes that the words show
+_ERROR = struct.Struct("=3I8I2I")
+
+
+def require_text(source: str) -> None:
+    if not isinstance(source, str):
+        raise TypeError(f"source must be a str, not {type(source).__name__}")
+
+
+def encoded(source: str) -> bytes:
+    """Returns the UTF-8 of a str. Raises FirthnapkinError if it has a lone surrogate."""
+    try:
+        return str.encode(source)
+    except UnicodeEncodeError as error:
+        raise _surrogate(source, error.start) from None
+
+
+def given(source: str, status: int, first: bytes, texts: bytes) -> Tuple[bytes, bytes]:
+    """Returns the results of a call. Raises its error if the status says that it failed."""
+    if status == _OK:
+        return first, texts
+    if status in _WITH_ERROR:
+        raise _error(source, first, texts)
+    if status == _SOURCE_TOO_LONG:
+        raise ValueError("source must have less than 4 GiB")
+    raise SystemError(f"the parser returned {status}")
+
+
+def _error(source: str, numbers: bytes, words: bytes) -> FirthnapkinError:
+    kind, detail, character, *positions = _ERROR.unpack(numbers)[:11]
+    start, end = Position(*positions[:4]), Position(*positions[4:])
+    message = words.decode()
+    if kind == ErrorKind.UNEXPECTED_TOKEN.value and begins_schema(source, start.index, end.index):
+        message += ": this is a schema's definition, not a request's"
+    return FirthnapkinError(
+        message,
+        ErrorKind(kind),
+        start,
+        end,
+        source,
+        ErrorDetail(detail),
+        chr(character) if detail in _WITH_CHARACTER else None,
+    )
+
+
+_WITH_CHARACTER = (
+    ErrorDetail.UNKNOWN_CHARACTER.value,
+    ErrorDetail.UNEXPECTED_CHARACTER.value,
+    ErrorDetail.UNKNOWN_CHARACTER_IN_STRING.value,
+)
+
+
+def _surrogate(source: str, index: int) -> FirthnapkinError:
+    """Returns the error of a str that can't be written as UTF-8."""
+    before = source[:index]
+    line, column = before.count("\n"), index - (before.rfind("\n") + 1)
+    start = Position(index, line, column, len(str.encode(before)))
+    # It would take three bytes.
+    end = Position(index + 1, line, column + 1, start.byte + 3)
+    return FirthnapkinError(f"Lone surrogate U+{ord(source[index]):04X}", ErrorKind.SURROGATE, start, end, source)
